@@ -1,0 +1,9 @@
+pub mod WhiteLemmas
+pub mod NumberLemmas
+pub mod EachLemmas
+pub mod SplitLemmas
+pub mod RecordLemmas
+pub mod WordLemmas
+pub mod TableLemmas
+pub mod RoundLemmas
+pub mod CheckLemmas

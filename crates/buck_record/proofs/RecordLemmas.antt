@@ -1,0 +1,73 @@
+-- The items of a file, piece by piece.
+use Rattle.std.proofs.Common.{◌≡◌, ℕ, ◌+◌, ◌<◌, List, [], ◌∷◌, ◌++◌, Some, None, Result, Ok, Err, length, refl, sym, ap, ◌∙◌}
+use Rattle.std.proofs.lemmas.List.{length_push}
+use Rattle.std.proofs.lemmas.Bool.{lt-ltb, cond-true}
+use Rattle.bstr.specs.Find.{matches}
+use Rattle.bstr.specs.Text.{split_at}
+use Rattle.buck_record.specs.Item.{ItemParts}
+use Rattle.buck_record.specs.White.{trimmed, words}
+use Rattle.buck_record.specs.Reading.{with_front, each_from}
+use Rattle.buck_record.specs.Record.{item_of, items_of, filled, number_at_most, numbers_of, number_of}
+use Rattle.buck_record.proofs.EachLemmas.{each_more, each_stop, each_done, each_start}
+use Rattle.buck_record.proofs.SplitLemmas.{splits}
+
+-- what is read before, and what is still to be read
+abbrev pub reads_on : List ItemParts → List (List ℕ) → Result (List ItemParts) ℕ
+reads_on held parts = with_front held (each_from item_of (length held + 1) (filled parts))
+
+pub start : (bytes : List ℕ) → reads_on [] (split_at bytes 1 0 (matches bytes (126 ∷ []) 0)) ≡ items_of bytes
+unfolding items_of
+start bytes = each_start _ ∙ ap (λ parts. each_from item_of 1 (filled parts)) (splits 126 bytes)
+
+filled-cons : (part : List ℕ) (parts : List (List ℕ)) → 0 < length (trimmed part) → filled (part ∷ parts) ≡ trimmed part ∷ filled parts
+filled-cons part parts h = cond-true _ _ _ (lt-ltb _ _ h)
+
+pub more : (held : List ItemParts) (part : List ℕ) (parts : List (List ℕ)) (item : ItemParts) → 0 < length (trimmed part) → item_of (trimmed part) ≡ Some item
+    → reads_on held (part ∷ parts) ≡ reads_on (held ++ item ∷ []) parts
+more held part parts item h e =
+    rw (filled-cons part parts h)
+    (each_more item_of held (length held + 1) (trimmed part) (filled parts) item e
+    ∙ ap (λ k. with_front (held ++ item ∷ []) (each_from item_of (k + 1) (filled parts))) (sym (length_push held item)))
+
+pub stop : (held : List ItemParts) (part : List ℕ) (parts : List (List ℕ)) → 0 < length (trimmed part) → item_of (trimmed part) ≡ None
+    → reads_on held (part ∷ parts) ≡ Err (length held + 1)
+stop held part parts h e = rw (filled-cons part parts h) (each_stop item_of held (length held + 1) (trimmed part) (filled parts) e)
+
+pub done : (held : List ItemParts) → reads_on held [] ≡ Ok held
+done held = each_done item_of held (length held + 1)
+
+-- the same of numbers
+abbrev pub counts_on : List ℕ → List (List ℕ) → Result (List ℕ) ℕ
+counts_on held rest = with_front held (each_from (number_at_most 4294967295) (length held + 1) rest)
+
+pub counts-start : (text : List ℕ) → counts_on [] (words text) ≡ numbers_of text
+unfolding numbers_of
+counts-start text = each_start _
+
+pub counts-more : (held : List ℕ) (word : List ℕ) (rest : List (List ℕ)) (n : ℕ) → number_at_most 4294967295 word ≡ Some n → counts_on held (word ∷ rest) ≡ counts_on (held ++ n ∷ []) rest
+counts-more held word rest n e =
+    each_more (number_at_most 4294967295) held (length held + 1) word rest n e
+    ∙ ap (λ k. with_front (held ++ n ∷ []) (each_from (number_at_most 4294967295) (k + 1) rest)) (sym (length_push held n))
+
+pub counts-stop : (held : List ℕ) (word : List ℕ) (rest : List (List ℕ)) → number_at_most 4294967295 word ≡ None → counts_on held (word ∷ rest) ≡ Err (length held + 1)
+counts-stop held word rest e = each_stop (number_at_most 4294967295) held (length held + 1) word rest e
+
+pub counts-done : (held : List ℕ) → counts_on held [] ≡ Ok held
+counts-done held = each_done (number_at_most 4294967295) held (length held + 1)
+
+-- the one number of a text
+pub number_of-none : (most : ℕ) (text : List ℕ) → words text ≡ [] → number_of most text ≡ Err 1
+unfolding number_of
+number_of-none most text h = rw h refl
+
+pub number_of-bad : (most : ℕ) (text word : List ℕ) (rest : List (List ℕ)) → words text ≡ word ∷ rest → number_at_most most word ≡ None → number_of most text ≡ Err 1
+unfolding number_of
+number_of-bad most text word rest h e = rw (h, e) refl
+
+pub number_of-one : (most : ℕ) (text word : List ℕ) (rest : List (List ℕ)) (n : ℕ) → words text ≡ word ∷ rest → rest ≡ [] → number_at_most most word ≡ Some n → number_of most text ≡ Ok n
+unfolding number_of
+number_of-one most text word rest n h r e = rw (h, e, r) refl
+
+pub number_of-more : (most : ℕ) (text word second : List ℕ) (rest more : List (List ℕ)) (n : ℕ) → words text ≡ word ∷ rest → rest ≡ second ∷ more → number_at_most most word ≡ Some n → number_of most text ≡ Err 2
+unfolding number_of
+number_of-more most text word second rest more n h r e = rw (h, e, r) refl

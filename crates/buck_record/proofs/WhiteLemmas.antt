@@ -1,0 +1,64 @@
+-- Searches for a white byte, or for one that isn't, as the trims and words.
+use Rattle.std.proofs.Common.{◌≡◌, ℕ, ◌+◌, ◌-◌, Bool, true, false, not, List, [], ◌∷◌, Some, None, length, slice_index, refl, sym, ap, ◌∙◌, arith}
+use Rattle.std.specs.List.{prefix_len, suffix_len, position_or_len}
+use Rattle.std.proofs.lemmas.List.Sums.{prefix_len_is, suffix_len_is, position_or_len_is}
+use Rattle.std.proofs.lemmas.Bool.{false≢true}
+use Rattle.std.proofs.lemmas.Bool.Decides.{nat_tests}
+use Rattle.bstr.specs.Find.{IsFirstByte, IsLastByte}
+use Rattle.bstr.specs.Bytes.{is_in, not_in}
+use Rattle.buck_record.specs.White.{is_white}
+
+abbrev pub white : List ℕ
+white = 32 ∷ 9 ∷ 10 ∷ 13 ∷ []
+
+pub white_is : (b : ℕ) → is_in white b ≡ is_white b
+unfolding is_in
+white_is b = grind (arith, nat_tests)
+
+not_not : (b : Bool) → (not b ≡ true → ⊥) → b ≡ true
+not_not true h = refl
+not_not false h = absurd (h refl)
+
+not_false : (b : Bool) → not b ≡ true → b ≡ false
+not_false true h = absurd (false≢true h)
+not_false false h = refl
+
+no_true : (b : Bool) → (b ≡ true → ⊥) → b ≡ false
+no_true true h = absurd (h refl)
+no_true false h = refl
+
+pub trim_start-found : (bs : List ℕ) (k : ℕ) → IsFirstByte (not_in white) bs (Some k) → prefix_len is_white bs ≡ k
+trim_start-found bs k h =
+    prefix_len_is is_white bs k 0 (omega (arith, h.0.high))
+    (λ j lt. sym (white_is _) ∙ not_not _ (h.0.before j (omega arith) lt))
+    (λ lt. sym (white_is _) ∙ not_false _ h.1)
+
+pub trim_start-none : (bs : List ℕ) → IsFirstByte (not_in white) bs None → prefix_len is_white bs ≡ length bs
+trim_start-none bs h =
+    prefix_len_is is_white bs (length bs) 0 (omega arith)
+    (λ j lt. sym (white_is _) ∙ not_not _ (h j (omega arith) lt))
+    (λ lt. absurd (omega arith))
+
+pub trim_end-found : (bs : List ℕ) (k : ℕ) → IsLastByte (not_in white) bs (Some k) → suffix_len is_white bs ≡ length bs - (k + 1)
+trim_end-found bs k h =
+    suffix_len_is is_white bs (k + 1) 0 (omega (arith, h.0.high))
+    (λ j le lt. sym (white_is _) ∙ not_not _ (h.0.after j le lt))
+    (λ lt. let e : k + 1 - 1 ≡ k = omega arith in ap (λ i. is_white (slice_index bs i)) e ∙ sym (white_is _) ∙ not_false _ h.1)
+
+pub trim_end-none : (bs : List ℕ) → IsLastByte (not_in white) bs None → suffix_len is_white bs ≡ length bs - 0
+trim_end-none bs h =
+    suffix_len_is is_white bs 0 0 (omega arith)
+    (λ j le lt. sym (white_is _) ∙ not_not _ (h j le lt))
+    (λ lt. absurd (omega arith))
+
+pub word-found : (bs : List ℕ) (k : ℕ) → IsFirstByte (is_in white) bs (Some k) → position_or_len is_white bs ≡ k
+word-found bs k h =
+    position_or_len_is is_white bs k 0 (omega (arith, h.0.high))
+    (λ j lt. sym (white_is _) ∙ no_true _ (h.0.before j (omega arith) lt))
+    (λ lt. sym (white_is _) ∙ h.1)
+
+pub word-none : (bs : List ℕ) → IsFirstByte (is_in white) bs None → position_or_len is_white bs ≡ length bs
+word-none bs h =
+    position_or_len_is is_white bs (length bs) 0 (omega arith)
+    (λ j lt. sym (white_is _) ∙ no_true _ (h j (omega arith) lt))
+    (λ lt. absurd (omega arith))

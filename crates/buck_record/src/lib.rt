@@ -1,0 +1,30 @@
+//! Files of items: what stands between tildes, each with a number, a kind and a rest.
+//!
+//! [`pieces`] and [`items`] read a file, [`numbers`], [`number`] and [`wide`] the rest of an item. [`table`] looks items
+//! up by number and kind, [`check`] chains the checks of a reader that stands on this crate, and [`laws`] says that what
+//! is written is read again.
+#![tactic(auto)]
+
+pub mod check;
+mod digits;
+mod fault;
+mod group;
+mod item;
+pub mod laws;
+mod listed;
+mod memory;
+mod reading;
+mod slot;
+pub mod table;
+#[cfg(test)]
+mod tests;
+mod white;
+mod words;
+
+pub use fault::RecordFault;
+pub use group::Group;
+pub use item::{Item, Piece};
+pub use listed::Listed;
+pub use memory::Memory;
+pub use reading::{items, number, numbers, pieces, wide};
+pub use slot::Slot;
