@@ -1,0 +1,4 @@
+pub mod Standing
+pub mod Relation
+pub mod Ready
+pub mod Stored

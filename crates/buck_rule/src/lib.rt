@@ -1,0 +1,17 @@
+//! Price rules: a caller's closure that answers what a class is worth by how it stands against its target, and the
+//! price relation that each of its answers keeps.
+#![tactic(auto)]
+
+mod callers;
+pub mod laws;
+mod ready;
+mod relation;
+mod rule;
+mod standing;
+#[cfg(test)]
+mod tests;
+
+pub use ready::{linear, steady, step};
+pub use relation::meets;
+pub use rule::Rule;
+pub use standing::Standing;
