@@ -1,0 +1,226 @@
+-- What the lines of refusals that passed say: the numbers are within the limits.
+use Rattle.std.proofs.Common.{◌≡◌, ◌≢◌, ℕ, ◌*◌, ◌<◌, ◌≤◌, Bool, true, false, not, List, [], ◌∷◌, ◌&&◌, ◌==◌, Result, Ok, Err, Option, Some, None, length, sum, slice_index, refl, sym, ◌∙◌, arith, eqb-true, All, zero, suc, add-one, inl, inr, nat_lt, nat_le, ◌%◌}
+use Rattle.std.specs.Prelude.{position, find}
+use Rattle.std.specs.List.{AllByRecursion, list_all}
+use Rattle.std.specs.List.Sorted.{IsStrictlyIncreasing}
+use Rattle.std.proofs.lemmas.List.Elements.{All-from_recursion, All-map}
+use Rattle.std.proofs.lemmas.List.{length-map}
+use Rattle.std.proofs.lemmas.List.Sums.{AllPass-from_list_all, fails_before_first}
+use Rattle.buck_record.proofs.TableLemmas.{place-none}
+use Rattle.std.proofs.lemmas.Bool.{false≢true, ltb-true, ltb-false, leb-true, eqb-false, cases_Bool, cond-true, cond-false}
+use Rattle.buck_record.specs.Check.{◌>>=◌, check, each}
+use Rattle.buck_apt.specs.declared.fault.AptFault.{AptFault}
+use Rattle.buck_apt.specs.declared.fault.AptFault.TheVariants.{Range, Order, Count, Module, Targets}
+use Rattle.buck_apt.specs.declared.draft.Draft.{Draft}
+use Rattle.buck_apt.specs.declared.draft.Sheet.{Sheet}
+use Rattle.buck_apt.specs.Instruction.{IsAssortment, IsWithin, IsNameByte, IsOnModule}
+use Rattle.buck_apt.specs.Apt.{within, all_within, is_name, is_name_byte, is_rising, all_above, is_one, is_number_of, none_found, off_module, draft_range, draft_order, draft_count, in_range, in_order, in_number, on_module, in_targets, assortment_of}
+use Rattle.buck_apt.specs.Draft.{IsReadyDraft, IsReadySheet}
+
+Passes : Result (Unit {0}) AptFault → Type 0
+Passes r = r ≡ Ok tt
+
+-- a check that passed, and what stands after it
+passed : (b : Bool) (e : AptFault) (r : Result (Unit {0}) AptFault) → (check b e >>= λ _. r) ≡ Ok tt → (b ≡ true) × (r ≡ Ok tt)
+passed true e r h = (refl, h)
+passed false e r h = cc
+
+check_ok : (b : Bool) (e : AptFault) → check b e ≡ Ok tt → b ≡ true
+check_ok true e h = refl
+check_ok false e h = cc
+
+-- a check of each element that passed
+then_ok : (r q : Result (Unit {0}) AptFault) → (r >>= λ _. q) ≡ Ok tt → (r ≡ Ok tt) × (q ≡ Ok tt)
+then_ok (Ok x) q h = (refl, h)
+then_ok (Err e) q h = cc
+
+each_rec : {X : Type 0} (f : X → Result (Unit {0}) AptFault) (xs : List X) → each f xs ≡ Ok tt → AllByRecursion (λ x. f x ≡ Ok tt) xs
+unfolding each
+each_rec f [] h = tt
+each_rec f (x ∷ xs) h = let p = then_ok (f x) (each f xs) h in (p.0, each_rec f xs p.1)
+
+each_ok : {X : Type 0} (f : X → Result (Unit {0}) AptFault) (xs : List X) → each f xs ≡ Ok tt → All (λ x. f x ≡ Ok tt) xs
+each_ok f xs h = All-from_recursion _ xs (each_rec f xs h)
+
+both : (a b : Bool) → (a && b) ≡ true → (a ≡ true) × (b ≡ true)
+both true b h = (refl, h)
+both false b h = absurd (false≢true h)
+
+within_ok : (low high n : ℕ) → within low high n ≡ true → IsWithin low high n
+within_ok low high n h = let p = both (nat_le low n) (nat_le n high) h in (leb-true _ _ p.0, leb-true _ _ p.1)
+
+all_within_ok : (low high : ℕ) (ns : List ℕ) → all_within low high ns ≡ true → All (λ n. IsWithin low high n) ns
+all_within_ok low high ns h = λ k d lt. within_ok low high _ (AllPass-from_list_all (within low high) ns h k d lt)
+
+one_within : (low high : ℕ) (ns : List ℕ) → all_within low high ns ≡ true → length ns ≡ 1 → IsWithin low high (slice_index ns 0)
+one_within low high ns h one = all_within_ok low high ns h 0 0 (omega arith)
+
+not_true : (b : Bool) → not b ≡ true → b ≡ false
+not_true true h = absurd (false≢true h)
+not_true false h = refl
+
+not_false : (b : Bool) → not b ≡ false → b ≡ true
+not_false true h = refl
+not_false false h = absurd (false≢true (sym h))
+
+differs : (a b : ℕ) → not (a == b) ≡ true → a ≢ b
+differs a b h = λ e. eqb-false a b (not_true _ h) e
+
+name_byte_ok : (b : ℕ) → is_name_byte b ≡ true → IsNameByte b
+name_byte_ok b h =
+    let p = both (nat_le 32 b) _ h in
+    let q = both (not (b == 124)) _ p.1 in
+    let r = both (not (b == 126)) _ q.1 in
+    (leb-true _ _ p.0, differs b 124 q.0, differs b 126 r.0, differs b 127 r.1)
+
+rising_at : (ns : List ℕ) → is_rising ns ≡ true → (k : ℕ) → suc k < length ns → slice_index ns k < slice_index ns (suc k)
+rising_at [] h k lt = absurd (omega arith)
+rising_at (n ∷ []) h k lt = absurd (omega arith)
+rising_at (m ∷ n ∷ ns) h zero lt = ltb-true _ _ (both (nat_lt m n) _ h).0
+rising_at (m ∷ n ∷ ns) h (suc k) lt = rising_at (n ∷ ns) (both (nat_lt m n) _ h).1 k (omega arith)
+
+rising_ok : (ns : List ℕ) → is_rising ns ≡ true → IsStrictlyIncreasing ns
+rising_ok ns h = λ k lt. rw add-one (rising_at ns h k (omega arith))
+
+above_ok : (lows highs : List ℕ) → all_above lows highs ≡ true → length highs ≡ 1 → All (λ low. low < slice_index highs 0) lows
+above_ok lows highs h one =
+    λ k d lt. ltb-true _ _ (AllPass-from_list_all (λ low. nat_lt low (slice_index highs 0)) lows (AllPass-from_list_all (λ high. list_all (λ low. nat_lt low high) lows) highs h 0 0 (omega arith)) k d lt)
+
+none_found_ok : (o : Option ℕ) (fault : ℕ → AptFault) → none_found o fault ≡ Ok tt → o ≡ None
+none_found_ok None fault h = refl
+none_found_ok (Some n) fault h = cc
+
+find_rec : {X : Type 0} (p : X → Bool) (xs : List X) → find p xs ≡ None → AllByRecursion (λ x. p x ≡ false) xs
+find_rec p [] h = tt
+find_rec p (x ∷ xs) h =
+    elim (cases_Bool (p x)) [
+      | inl found ↦ let s : find p (x ∷ xs) ≡ Some x = cond-true _ _ _ found in cc
+      | inr other ↦ (other, find_rec p xs (sym (cond-false _ _ _ other) ∙ h))
+    ]
+
+find_none : {X : Type 0} (p : X → Bool) (xs : List X) → find p xs ≡ None → All (λ x. p x ≡ false) xs
+find_none p xs h = All-from_recursion _ xs (find_rec p xs h)
+
+position_none : {X : Type 0} (p : X → Bool) (xs : List X) → position p xs ≡ None → All (λ x. p x ≡ false) xs
+position_none p xs h = λ k d lt. fails_before_first p xs k d (omega (arith, place-none p xs h))
+
+-- an assortment that passed
+draft_ready : (d : Draft) → draft_range d ≡ Ok tt → draft_order d ≡ Ok tt → draft_count d ≡ Ok tt → sum d.targets ≤ 1000000000 → IsReadyDraft d
+unfolding draft_range draft_order draft_count
+draft_ready d ranged ordered counted few =
+    let r1 = passed (is_name d.name) (Range 911 1) _ ranged in
+    let r2 = passed (all_within 1 255 d.species) (Range 912 1) _ r1.1 in
+    let r3 = passed (all_within 1 8 d.grades) (Range 913 1) _ r2.1 in
+    let r4 = passed (all_within 1 2 d.price_kind) (Range 914 1) _ r3.1 in
+    let r5 = passed (all_within 0 1500 d.diameters) (Range 915 1) _ r4.1 in
+    let r6 = passed (all_within 1 2000 d.upper) (Range 915 2) _ r5.1 in
+    let r7 = passed (all_within 500 30000 d.lengths) (Range 916 1) _ r6.1 in
+    let r8 = passed (all_within 0 10000000 d.prices) (Range 917 1) _ r7.1 in
+    let r9 = check_ok (all_within 0 1000000 d.targets) (Range 918 1) r8.1 in
+    let o1 = passed (is_rising d.grades) (Order 913 1) _ ordered in
+    let o2 = passed (is_rising d.diameters) (Order 915 1) _ o1.1 in
+    let o3 = passed (all_above d.diameters d.upper) (Order 915 2) _ o2.1 in
+    let o4 = check_ok (is_rising d.lengths) (Order 916 1) o3.1 in
+    let c1 = passed (is_one d.species) (Count 912 1) _ counted in
+    let c2 = passed (within 1 8 (length d.grades)) (Count 913 1) _ c1.1 in
+    let c3 = passed (is_one d.price_kind) (Count 914 1) _ c2.1 in
+    let c4 = passed (within 1 32 (length d.diameters)) (Count 915 1) _ c3.1 in
+    let c5 = passed (is_one d.upper) (Count 915 2) _ c4.1 in
+    let c6 = passed (within 1 32 (length d.lengths)) (Count 916 1) _ c5.1 in
+    let c7 = passed (length d.prices == length d.diameters * length d.lengths) (Count 917 1) _ c6.1 in
+    let c8 = check_ok (length d.targets == length d.diameters * length d.lengths) (Count 918 1) c7.1 in
+    let name = both (within 1 32 (length d.name)) (list_all is_name_byte d.name) r1.0 in
+    let species = eqb-true (length d.species) 1 c1.0 in
+    let price_kind = eqb-true (length d.price_kind) 1 c3.0 in
+    let upper = eqb-true (length d.upper) 1 c5.0 in
+    record {
+      species = species;
+      price_kind = price_kind;
+      upper = upper;
+      valid = record {
+        name_length = within_ok 1 32 (length d.name) name.0;
+        name_bytes = λ k b lt. name_byte_ok _ (AllPass-from_list_all is_name_byte d.name name.1 k b lt);
+        species = one_within 1 255 d.species r2.0 species;
+        grades_number = within_ok 1 8 (length d.grades) c2.0;
+        grades_range = all_within_ok 1 8 d.grades r3.0;
+        grades_rise = rising_ok d.grades o1.0;
+        price_kind = one_within 1 2 d.price_kind r4.0 price_kind;
+        rows = within_ok 1 32 (length d.diameters) c4.0;
+        diameters_range = λ k x lt. (all_within_ok 0 1500 d.diameters r5.0 k x lt).1;
+        diameters_rise = rising_ok d.diameters o2.0;
+        upper_range = one_within 1 2000 d.upper r6.0 upper;
+        upper_above = above_ok d.diameters d.upper o3.0 upper;
+        columns = within_ok 1 32 (length d.lengths) c6.0;
+        lengths_range = all_within_ok 500 30000 d.lengths r7.0;
+        lengths_rise = rising_ok d.lengths o4;
+        prices_number = eqb-true _ _ c7.0;
+        prices_range = λ k x lt. (all_within_ok 0 10000000 d.prices r8.0 k x lt).1;
+        targets_number = eqb-true _ _ c8;
+        targets_range = λ k x lt. (all_within_ok 0 1000000 d.targets r9 k x lt).1;
+        targets_sum = few;
+      };
+    }
+
+-- the numbers of the head, which passed
+pub record HeadReady (s : Sheet) : Type 0 where
+  pub «module» : length s.«module» ≡ 1
+  pub module_range : IsWithin 10 1000 (slice_index s.«module» 0)
+  pub period : length s.period ≡ 1
+  pub period_range : IsWithin 1 1000 (slice_index s.period 0)
+  pub limit : length s.limit ≡ 1
+  pub limit_range : IsWithin 0 1000 (slice_index s.limit 0)
+  pub count_range : IsWithin 1 16 (length s.drafts)
+  pub ranges : All (λ d. draft_range d ≡ Ok tt) s.drafts
+  pub counts : All (λ d. draft_count d ≡ Ok tt) s.drafts
+
+pub head_ready : (s : Sheet) → in_range s ≡ Ok tt → in_number s ≡ Ok tt → HeadReady s
+unfolding in_range in_number
+head_ready s ranged counted =
+    let r1 = passed (all_within 10 1000 s.«module») (Range 901 1) _ ranged in
+    let r2 = passed (all_within 1 1000 s.period) (Range 902 1) _ r1.1 in
+    let r3 = passed (all_within 0 1000 s.limit) (Range 903 1) _ r2.1 in
+    let r4 = passed (all_within 1 16 s.count) (Range 910 1) _ r3.1 in
+    let c1 = passed (is_one s.«module») (Count 901 1) _ counted in
+    let c2 = passed (is_one s.period) (Count 902 1) _ c1.1 in
+    let c3 = passed (is_one s.limit) (Count 903 1) _ c2.1 in
+    let c4 = passed (is_number_of s.drafts s.count) (Count 910 1) _ c3.1 in
+    let number = both (is_one s.count) (slice_index s.count 0 == length s.drafts) c4.0 in
+    let same = eqb-true (slice_index s.count 0) (length s.drafts) number.1 in
+    let range = one_within 1 16 s.count r4.0 (eqb-true _ _ number.0) in
+    record {
+      «module» = eqb-true _ _ c1.0;
+      module_range = one_within 10 1000 s.«module» r1.0 (eqb-true _ _ c1.0);
+      period = eqb-true _ _ c2.0;
+      period_range = one_within 1 1000 s.period r2.0 (eqb-true _ _ c2.0);
+      limit = eqb-true _ _ c3.0;
+      limit_range = one_within 0 1000 s.limit r3.0 (eqb-true _ _ c3.0);
+      count_range = rw same at range;
+      ranges = each_ok draft_range s.drafts r4.1;
+      counts = each_ok draft_count s.drafts c4.1;
+    }
+
+lengths_ok : (step : ℕ) (lengths : List ℕ) → none_found (off_module step lengths) Module ≡ Ok tt → All (λ l. l % step ≡ 0) lengths
+lengths_ok step lengths h = λ k d lt. eqb-true _ _ (not_false _ (find_none (λ l. not (l % step == 0)) lengths (none_found_ok _ Module h) k d lt))
+
+-- a file that passed each line
+pub sheet_ready : (s : Sheet) → in_range s ≡ Ok tt → in_order s ≡ Ok tt → in_number s ≡ Ok tt → on_module s ≡ Ok tt → in_targets s ≡ Ok tt → IsReadySheet s
+unfolding in_order on_module in_targets
+sheet_ready s ranged ordered counted stepped wanted =
+    let head = head_ready s ranged counted in
+    let orders = each_ok draft_order s.drafts ordered in
+    let few = position_none (λ d. nat_lt 1000000000 (sum d.targets)) s.drafts (none_found_ok _ Targets wanted) in
+    let ready : All IsReadyDraft s.drafts = λ k d lt. draft_ready _ (head.ranges k d lt) (orders k d lt) (head.counts k d lt) (ltb-false _ _ (few k d lt)) in
+    record {
+      «module» = head.«module»;
+      period = head.period;
+      limit = head.limit;
+      drafts = ready;
+      valid = record {
+        module_range = head.module_range;
+        period_range = head.period_range;
+        limit_range = head.limit_range.1;
+        assortments_number = rw length-map head.count_range;
+        assortments_valid = All-map IsAssortment assortment_of s.drafts (λ k d lt. (ready k d lt).valid);
+        on_module = All-map (λ a. IsOnModule (slice_index s.«module» 0) a) assortment_of s.drafts (λ k d lt. lengths_ok (slice_index s.«module» 0) _ (each_ok _ s.drafts stepped k d lt));
+      };
+    }

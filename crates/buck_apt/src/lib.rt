@@ -1,0 +1,22 @@
+//! Bucking instructions: what may be cut, at which prices, and how much of it is wanted.
+#![tactic(auto)]
+
+mod assortment;
+mod class;
+mod draft;
+mod fault;
+mod instruction;
+mod limits;
+mod numbers;
+mod presence;
+mod reading;
+mod rules;
+mod slots;
+#[cfg(test)]
+mod tests;
+
+pub use assortment::Assortment;
+pub use class::Class;
+pub use fault::AptFault;
+pub use instruction::Instruction;
+pub use reading::read_apt;
