@@ -1,0 +1,7 @@
+pub mod Zones
+pub mod Lows
+pub mod Masks
+pub mod ZoneWords
+pub mod PassLemmas
+pub mod Tables
+pub mod Diameters

@@ -1,0 +1,36 @@
+use Rattle.std.proofs.Common.{arith}
+use Rattle.buck_stem.proofs.PassLemmas.{range_ok, count_ok, at_within, is_stem, parts_are}
+use Rattle.buck_stem.proofs.reading.stem_from.Goals as goal
+
+pub bounds-as_slice-0 : goal.bounds-as_slice-0
+bounds-as_slice-0 c =
+    let counted = count_ok c.args.draft.now c.requires.count in
+    rw c.as_slice.ensures (omega (arith, counted.number))
+
+pub bounds-as_slice-0-2 : goal.bounds-as_slice-0-2
+bounds-as_slice-0-2 c =
+    let counted = count_ok c.args.draft.now c.requires.count in
+    rw c.as_slice-2.ensures (omega (arith, counted.species))
+
+pub overflow_cast-species : goal.overflow_cast-species
+overflow_cast-species c =
+    let counted = count_ok c.args.draft.now c.requires.count in
+    let ranged = range_ok c.args.draft.now c.requires.range in
+    let fits = at_within 1 255 c.args.draft.now.species 0 0 ranged.species (omega (arith, counted.species)) in
+    rw c.as_slice-2.ensures (omega (arith, fits.1))
+
+pub samples_of-requires : goal.samples_of-requires
+samples_of-requires c = rw c.as_slice-3.ensures (range_ok c.args.draft.now c.requires.range).samples
+
+pub zones_of-requires : goal.zones_of-requires
+zones_of-requires c = rw c.as_slice-4.ensures (range_ok c.args.draft.now c.requires.range).grades
+
+pub measured-requires : goal.measured-requires
+measured-requires c =
+    rw (c.in_ok-samples.ensures, c.in_ok-zones.ensures, c.as_slice.ensures, c.as_slice-2.ensures, c.as_slice-3.ensures, c.as_slice-4.ensures)
+    (is_stem c.args.draft.now c.requires.range c.requires.order c.requires.count)
+
+pub returns : goal.returns
+returns c =
+    rw (parts_are c.args.draft.now)
+    (rw (c.in_ok-samples.ensures, c.in_ok-zones.ensures, c.as_slice.ensures, c.as_slice-2.ensures, c.as_slice-3.ensures, c.as_slice-4.ensures) at c.measured.ensures)

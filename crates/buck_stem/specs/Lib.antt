@@ -1,0 +1,5 @@
+pub mod Stem
+pub mod Zones
+pub mod Stm
+pub mod Profile
+pub mod ProfileTables

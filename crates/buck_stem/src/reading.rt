@@ -1,0 +1,106 @@
+//! The stems of a file.
+ghost use Rattle.std.specs.Prelude.{◌≡◌, IfOk, map, codes, Ok, true};
+ghost use Rattle.std.specs.Str.{bytes_eq};
+ghost use Rattle.buck_record.specs.Reading.{Gives, listed, with_fault};
+ghost use Rattle.buck_record.specs.Record.{items_of};
+ghost use Rattle.buck_record.specs.Table.{rest_in};
+ghost use Rattle.buck_stem.specs.declared.fault.StmFault.TheVariants.{Memory, Head};
+ghost use Rattle.buck_stem.specs.Stem.{IsStem};
+ghost use Rattle.buck_stem.specs.Stm.{slot, stm_of, parts_of, zones_of, grades, all_within, draft_range, draft_order, draft_count, in_range, in_order, in_number};
+
+use crate::draft::Draft;
+use crate::fault::StmFault;
+use crate::lines::{STEM, drafts_of, in_number, in_order, in_range, present, single};
+use crate::stem::{Stem, measured};
+use buck_record::check::check;
+use buck_record::table::{groups, rest};
+use buck_record::{Listed, Piece, RecordFault, Slot, pieces};
+use std::alloc::{AllocError, Global};
+
+fn items_in<'a>(alloc: Global, bytes: &'a [u8]) -> Result<Listed<Piece<'a>>, StmFault>
+    ensures { Gives Memory result (with_fault (λ k. Head k) (items_of bytes.now)) }
+{
+    match pieces(alloc, bytes) {
+        Ok(found) => Ok(Listed::of(found)),
+        Err(RecordFault::Head { item }) => Err(StmFault::Head { item }),
+        Err(_) => Err(StmFault::Memory),
+    }
+}
+
+fn says_stm<'a>(items: &'a [Piece<'a>]) -> bool
+    ensures { result ≡ bytes_eq (rest_in (slot 1 2) items.now) (codes "STM") }
+{
+    rest(items, Slot { number: 1, kind: 2 }) == b"STM".as_slice()
+}
+
+/// The samples as they are kept.
+fn samples_of(alloc: Global, numbers: &[u32]) -> Result<Vec<u16>, AllocError>
+    requires { all_within 0 1500 numbers.now ≡ true }
+    ensures { IfOk result (λ samples. samples.items ≡ numbers.now) }
+{
+    let mut samples = Vec::with_capacity(alloc, numbers.len())?;
+    for number in numbers {
+        samples.push(*number as u16)?;
+    }
+    Ok(samples)
+}
+
+/// Starts and grades, two by two.
+fn zones_of(alloc: Global, numbers: &[u32]) -> Result<Vec<(u32, u8)>, AllocError>
+    requires { all_within 1 8 (grades numbers.now) ≡ true }
+    ensures { IfOk result (λ zones. zones.items ≡ zones_of numbers.now) }
+{
+    let mut zones = Vec::with_capacity(alloc, numbers.len() / 2)?;
+    for k in 0..numbers.len() / 2 {
+        zones.push((numbers[2 * k], numbers[2 * k + 1] as u8))?;
+    }
+    Ok(zones)
+}
+
+/// The stem of numbers that are as they should be.
+fn stem_from(alloc: Global, draft: &Draft) -> Result<Stem, AllocError>
+    requires range { draft_range draft.now ≡ Ok tt }
+    requires order { draft_order draft.now ≡ Ok tt }
+    requires count { draft_count draft.now ≡ Ok tt }
+    ensures { IfOk result (λ stem. stem ≡ parts_of draft.now) }
+{
+    let number = draft.number.as_slice()[0];
+    let species = draft.species.as_slice()[0] as u8;
+    let samples = samples_of(alloc, draft.samples.as_slice())?;
+    let zones = zones_of(alloc, draft.zones.as_slice())?;
+    measured(alloc, number, species, samples, zones)
+}
+
+/// The stems of drafts that passed the last three lines.
+fn stems_from(alloc: Global, drafts: &[Draft]) -> Result<Vec<Stem>, AllocError>
+    requires range { in_range drafts.now ≡ Ok tt }
+    requires order { in_order drafts.now ≡ Ok tt }
+    requires count { in_number drafts.now ≡ Ok tt }
+    ensures { IfOk result (λ stems. stems.items ≡ map parts_of drafts.now) }
+{
+    let mut stems = Vec::with_capacity(alloc, drafts.len())?;
+    for draft in drafts {
+        stems.push(stem_from(alloc, draft)?)?;
+    }
+    Ok(stems)
+}
+
+/// The stems of a stem file's bytes, in file order, or the first refusal that applies, as [`StmFault`] says; and
+/// `Memory` where a growth was refused. Items that aren't in the table are skipped; each must have a number and a
+/// kind.
+#[tactic(auto, unfolding(crate::specs::Stm::stm_of))]
+pub fn read_stm(alloc: Global, bytes: &[u8]) -> Result<Vec<Stem>, StmFault>
+    ensures { Gives Memory (listed result) (stm_of bytes.now) }
+{
+    let found = items_in(alloc, bytes)?;
+    let items = found.as_slice();
+    check(says_stm(items), StmFault::NotStm)?;
+    let stems = groups(alloc, items, STEM)?;
+    present(items, stems.as_slice())?;
+    single(items, stems.as_slice())?;
+    let drafts = drafts_of(alloc, stems.as_slice())?;
+    in_range(drafts.as_slice())?;
+    in_order(drafts.as_slice())?;
+    in_number(drafts.as_slice())?;
+    Ok(stems_from(alloc, drafts.as_slice())?)
+}

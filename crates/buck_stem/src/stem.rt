@@ -1,0 +1,306 @@
+//! A felled stem: diameters and grades along it.
+
+ghost use Rattle.std.specs.Int.{bit_at};
+ghost use Rattle.std.specs.Prelude.{◌≡◌, ◌<◌, ◌≤◌, ◌-◌, ◌⊎◌, ℕ, length, ◌↔◌, IfOk, IsOk, Err, IsTrue, Contains, All};
+ghost use Rattle.buck_stem.specs.Stem.{stem_of, stem_length, diameter_at, grade_at, HasGradesOf, HasGrade, IsGrade, IsRisingFrom, IsStem};
+ghost use Rattle.buck_stem.specs.Zones.{HasZone, ZonesFit, IsRunningLeast};
+
+use std::alloc::{AllocError, Global};
+use std::marker::Model;
+use thiserror::Error;
+
+/// A felled stem, within the limits of the stem file.
+#[derive(Drop)]
+pub struct Stem {
+    number: u32,
+    species: u8,
+    /// In mm under bark, one per 100 mm from the butt.
+    samples: Vec<u16>,
+    /// The place in mm where each zone starts, and the grade from there on.
+    zones: Vec<(u32, u8)>,
+    /// The least of the samples so far, at each sample.
+    lows: Vec<u16>,
+}
+
+impl Model for Stem {
+    ghost use Rattle.std.specs.Prelude.{};
+    ghost use Rattle.buck_stem.specs.Stem.{StemParts, IsStem};
+    ghost use Rattle.buck_stem.specs.Zones.{IsRunningLeast};
+
+    ghost Value = { StemParts };
+
+    ghost view = { λ s. record { number = s.number; species = s.species; samples = s.samples.items; zones = s.zones.items } };
+
+    ghost invariant = { λ s.
+        IsStem (record { number = s.number; species = s.species; samples = s.samples.items; zones = s.zones.items })
+        × IsRunningLeast s.samples.items s.lows.items };
+}
+
+/// The least of the samples so far, at each sample.
+fn running_least(alloc: Global, samples: &[u16]) -> Result<Vec<u16>, AllocError>
+    ensures { IfOk result (λ lows. IsRunningLeast samples.now lows.items) }
+{
+    let mut lows = Vec::with_capacity(alloc, samples.len())?;
+    let mut low = u16::MAX;
+    for sample in samples {
+        low = low.min(*sample);
+        lows.push(low)?;
+    }
+    Ok(lows)
+}
+
+fn has_grade(grades: &[u8], grade: u8) -> bool
+    ensures { IsTrue result ↔ Contains grades.now grade }
+{
+    grades.contains(&grade)
+}
+
+/// The grade of the last zone that starts at or before `x`, else 1.
+fn grade_in(zones: &[(u32, u8)], x: u32) -> u8
+    requires { All (λ z. IsGrade z.1) zones.now }
+    ensures grade { result ≡ grade_at zones.now x }
+    ensures range { IsGrade result }
+{
+    let mut grade = 1;
+    for zone in zones {
+        if zone.0 <= x {
+            grade = zone.1;
+        }
+    }
+    grade
+}
+
+/// The mask with one more grade.
+pub(crate) fn with_grade(mask: u8, grade: u8) -> u8
+    requires { IsGrade grade }
+    ensures { (g : ℕ) → 1 ≤ g → (bit_at result (g - 1) ≡ 1) ↔ ((g ≡ grade) ⊎ (bit_at mask (g - 1) ≡ 1)) }
+{
+    mask | (1 << (grade - 1))
+}
+
+/// The mask with the grade of a zone, where that begins past `a` and before `b`.
+fn with_zone(mask: u8, zone: (u32, u8), a: u32, b: u32) -> u8
+    requires { IsGrade zone.1 }
+    ensures { (g : ℕ) → 1 ≤ g → (bit_at result (g - 1) ≡ 1) ↔ (((a < zone.0) × (zone.0 < b) × (zone.1 ≡ g)) ⊎ (bit_at mask (g - 1) ≡ 1)) }
+{
+    if a < zone.0 && zone.0 < b {
+        return with_grade(mask, zone.1);
+    }
+    mask
+}
+
+/// The mask with the grades of the zones that begin past `a` and before `b`.
+fn with_zones(mask: u8, zones: &[(u32, u8)], a: u32, b: u32) -> u8
+    requires { All (λ z. IsGrade z.1) zones.now }
+    ensures { (g : ℕ) → 1 ≤ g → (bit_at result (g - 1) ≡ 1) ↔ (HasZone zones.now (length zones.now) a b g ⊎ (bit_at mask (g - 1) ≡ 1)) }
+{
+    let mut mask = mask;
+    for zone in zones {
+        mask = with_zone(mask, *zone, a, b);
+    }
+    mask
+}
+
+/// Whether each zone that begins past `a` and before `b` has one of these grades.
+fn zones_fit(zones: &[(u32, u8)], a: u32, b: u32, grades: &[u8]) -> bool
+    ensures { IsTrue result ↔ ZonesFit a b grades.now zones.now }
+{
+    for zone in zones {
+        if a < zone.0 && zone.0 < b && !has_grade(grades, zone.1) {
+            return false;
+        }
+    }
+    true
+}
+
+/// Why the parts of a stem are refused.
+#[derive(Clone, Copy, Debug, PartialEq, Eq, Error)]
+pub enum StemFault {
+    /// They are outside the limits of the stem file's table.
+    #[error("the stem is outside its limits")]
+    Limits,
+    /// A growth was refused.
+    #[error("out of memory")]
+    Memory,
+}
+
+/// Whether each zone starts after the one before.
+fn is_rising(zones: &[(u32, u8)]) -> bool
+    ensures { IsTrue result ↔ IsRisingFrom 0 zones.now }
+{
+    let mut low: u64 = 0;
+    for zone in zones {
+        let start = u64::from(zone.0);
+        if start < low {
+            return false;
+        }
+        low = start + 1;
+    }
+    true
+}
+
+/// Whether each zone has a grade from 1 to 8.
+fn is_graded(zones: &[(u32, u8)]) -> bool
+    ensures { IsTrue result ↔ All (λ z. IsGrade z.1) zones.now }
+{
+    zones.iter().all(|z| 1 <= z.1 && z.1 <= 8)
+}
+
+/// Whether each zone starts within 40,000 mm.
+fn starts_fit(zones: &[(u32, u8)]) -> bool
+    ensures { IsTrue result ↔ All (λ z. z.0 ≤ 40000) zones.now }
+{
+    zones.iter().all(|z| z.0 <= 40_000)
+}
+
+/// Whether each sample is at most 1,500 mm.
+fn is_thin(samples: &[u16]) -> bool
+    ensures { IsTrue result ↔ All (λ d. d ≤ 1500) samples.now }
+{
+    samples.iter().all(|d| *d <= 1500)
+}
+
+/// Whether these are the parts of a stem, whatever its number.
+fn is_stem(species: u8, samples: &[u16], zones: &[(u32, u8)]) -> bool
+    ensures { (number : ℕ) → IsTrue result ↔ IsStem (stem_of number species samples.now zones.now) }
+{
+    species > 0
+        && (1 <= samples.len() && samples.len() <= 401)
+        && is_thin(samples)
+        && zones.len() <= 100
+        && starts_fit(zones)
+        && is_rising(zones)
+        && is_graded(zones)
+}
+
+/// The stem of parts that are within the limits, with the least of its samples so far at each of them.
+pub fn measured(
+    alloc: Global,
+    number: u32,
+    species: u8,
+    samples: Vec<u16>,
+    zones: Vec<(u32, u8)>,
+) -> Result<Stem, AllocError>
+    requires { IsStem (stem_of number species samples.items zones.items) }
+    ensures { IfOk result (λ s. s ≡ stem_of number species samples.items zones.items) }
+{
+    let lows = running_least(alloc, samples.as_slice())?;
+    Ok(Stem {
+        number,
+        species,
+        samples,
+        zones,
+        lows,
+    })
+}
+
+impl Stem {
+    /// The stem of these parts: its number, its species, its diameters in mm under bark, one per 100 mm from the
+    /// butt, and its zones, each the place in mm where it starts and the grade from there on. Refused as `Limits`
+    /// where they are outside the limits of a stem file, and as `Memory` where no list of the least diameters could
+    /// be made; the lists are then dropped.
+    pub fn make(
+        alloc: Global,
+        number: u32,
+        species: u8,
+        samples: Vec<u16>,
+        zones: Vec<(u32, u8)>,
+    ) -> Result<Stem, StemFault>
+        ensures made { IfOk result (λ s. s ≡ stem_of number species samples.items zones.items) }
+        ensures within { IsOk result → IsStem (stem_of number species samples.items zones.items) }
+        ensures limits { (result ≡ Err StemFault.Limits) ↔ (IsStem (stem_of number species samples.items zones.items) → ⊥) }
+    {
+        if !is_stem(species, samples.as_slice(), zones.as_slice()) {
+            return Err(StemFault::Limits);
+        }
+        match measured(alloc, number, species, samples, zones) {
+            Ok(stem) => Ok(stem),
+            Err(_) => Err(StemFault::Memory),
+        }
+    }
+
+    /// The stem's number in its file.
+    pub fn number(&self) -> u32
+        ensures { result ≡ self.now.number }
+    {
+        self.number
+    }
+
+    /// The diameters in mm under bark, one per 100 mm from the butt.
+    pub fn samples(&self) -> &[u16]
+        ensures { result.now ≡ self.now.samples }
+    {
+        self.samples.as_slice()
+    }
+
+    /// The zones: the place in mm where each starts, and the grade from there on.
+    pub fn zones(&self) -> &[(u32, u8)]
+        ensures { result.now ≡ self.now.zones }
+    {
+        self.zones.as_slice()
+    }
+
+    /// The length in millimetres.
+    pub fn length(&self) -> u32
+        ensures length { result ≡ stem_length self.now.samples }
+        ensures valid { IsStem self.now }
+    {
+        100 * (self.samples.len() as u32 - 1)
+    }
+
+    /// The species, from 1 to 255.
+    pub fn species(&self) -> u8
+        ensures { result ≡ self.now.species }
+    {
+        self.species
+    }
+
+    /// The diameter in mm under bark at `x` millimetres from the butt, `x` being at most the length: at a sample the
+    /// least of the samples so far, between two on the straight line from the one to the other, rounded down.
+    pub fn diameter_at(&self, x: u32) -> u32
+        requires { x ≤ stem_length self.now.samples }
+        ensures { result ≡ diameter_at self.now.samples x }
+    {
+        let i = (x / 100) as usize;
+        let part = x % 100;
+        let low = self.lows[i] as u32;
+        if part == 0 {
+            return low;
+        }
+        (low * (100 - part) + self.lows[i + 1] as u32 * part) / 100
+    }
+
+    /// The grade at `x` millimetres from the butt, from 1 to 8: that of the last zone that starts at or before `x`,
+    /// else 1.
+    pub fn grade_at(&self, x: u32) -> u8
+        ensures grade { result ≡ grade_at self.now.zones x }
+        ensures range { IsGrade result }
+    {
+        grade_in(self.zones.as_slice(), x)
+    }
+
+    /// The grades of the places from `a` up to `b`, in mm, without `b`: bit g - 1 for grade g. Where `a` is `b` or
+    /// more there is none.
+    pub fn grades_between(&self, a: u32, b: u32) -> u8
+        ensures { (g : ℕ) → 1 ≤ g → (bit_at result (g - 1) ≡ 1) ↔ HasGrade self.now.zones a b g }
+    {
+        if a >= b {
+            return 0;
+        }
+        let mask = with_grade(0, self.grade_at(a));
+        with_zones(mask, self.zones.as_slice(), a, b)
+    }
+
+    /// Whether each place from `a` up to `b`, in mm, without `b`, has one of these grades.
+    pub fn has_grades_of(&self, a: u32, b: u32, grades: &[u8]) -> bool
+        ensures { IsTrue result ↔ HasGradesOf self.now.zones a b grades.now }
+    {
+        if a >= b {
+            return true;
+        }
+        if !has_grade(grades, self.grade_at(a)) {
+            return false;
+        }
+        zones_fit(self.zones.as_slice(), a, b, grades)
+    }
+}
