@@ -1,0 +1,137 @@
+-- Which logs an assortment allows, as the code tests it, and their classes.
+use Rattle.std.proofs.Common.{◌≡◌, ◌≢◌, ℕ, ◌+◌, ◌*◌, ◌%◌, ◌<◌, ◌≤◌, ◌==◌, List, Contains, Option, Some, None, IfSome, IsTrue, true, false, true≢false, length, get_or, slice_get, slice_index, unwrap_or, position, refl, sym, ◌∙◌, ap, subst, inl, inr, arith, eqb-true, eq-eqb, cond, nat_lt, nat_le}
+use Rattle.std.proofs.lemmas.Option.{none-some, slice_get_within, get_or_from_slice_get}
+use Rattle.std.proofs.lemmas.Bool.{cases_lt}
+use Rattle.std.proofs.lemmas.Bool.Decides.{nat_tests}
+use Rattle.std.proofs.lemmas.List.Quantifiers.{position-Some}
+use Rattle.std.proofs.lemmas.List.Elements.{All-get_or, All-contains}
+use Rattle.std.proofs.lemmas.List.Sums.{fails_before_first, count_by-le-length}
+use Rattle.std.specs.List.{position_or_len}
+use Rattle.buck_apt.specs.Instruction.{InstructionParts, AssortmentParts, IsAssortment, IsInstruction, IsClass}
+use Rattle.buck_apt.specs.declared.class.Class.{Class}
+use Rattle.buck_stem.specs.Stem.{StemParts, stem_length, HasGradesOf, grade_at}
+use Rattle.buck_value.specs.declared.log.Log.{Log}
+use Rattle.buck_value.specs.Sheet.{SheetParts, price_of}
+use Rattle.buck_value.specs.Volume.{volume, worth_at}
+use Rattle.buck_value.specs.Allowed.{IsAllowed, Allows, worth_of, kind_in, class_in, class_of, top_diameter, row_at, place_in, column_of, end_of}
+
+pub column_some : (xs : List ℕ) (l i : ℕ) → position (λ x. x == l) xs ≡ Some i → (i < length xs) × Contains xs l
+column_some xs l i e =
+    let h = position-Some (λ x. x == l) xs i l e in
+    (h.0, (i, h.0, eqb-true (get_or xs i l) l h.1))
+
+pub column_none : (xs : List ℕ) (l : ℕ) → position (λ x. x == l) xs ≡ None → Contains xs l → ⊥
+column_none xs l e c = elim (cases_lt c.0 (position_or_len (λ x. x == l) xs)) [
+  | inl before ↦
+      let fails = fails_before_first (λ x. x == l) xs c.0 l before in
+      let passes : (get_or xs c.0 l == l) ≡ true = eq-eqb (get_or xs c.0 l) l c.2 in
+      true≢false (sym passes ∙ fails)
+  | inr past ↦
+      let in_list : position_or_len (λ x. x == l) xs < length xs = omega arith in
+      let test : nat_lt (position_or_len (λ x. x == l) xs) (length xs) ≡ true = grind (arith, nat_tests) in
+      none-some (position_or_len (λ x. x == l) xs) (sym e ∙ ap (λ b. cond b (Some (position_or_len (λ x. x == l) xs)) None) test)
+]
+
+-- the column by its place
+pub column_is : (a : AssortmentParts) (l column : ℕ) → position (λ x. x == l) a.lengths ≡ Some column → column_of a l ≡ column
+column_is a l column at = ap (λ o. unwrap_or o 0) at
+
+-- a test that failed, over equal values
+pub grades_fail : (zones : List (ℕ × ℕ)) (a b e : ℕ) (grades gs : List ℕ)
+    → (IsTrue false → HasGradesOf zones a e gs) × (HasGradesOf zones a e gs → IsTrue false)
+    → gs ≡ grades → e ≡ b
+    → HasGradesOf zones a b grades → ⊥
+grades_fail zones a b e grades gs iff same end has =
+    true≢false (sym (iff.1 (λ x le lt. subst (λ g. Contains g (grade_at zones x)) (sym same) (has x le (omega arith)))))
+
+pub grades_pass : (zones : List (ℕ × ℕ)) (a b e : ℕ) (grades gs : List ℕ)
+    → (IsTrue true → HasGradesOf zones a e gs) × (HasGradesOf zones a e gs → IsTrue true)
+    → gs ≡ grades → e ≡ b
+    → HasGradesOf zones a b grades
+grades_pass zones a b e grades gs iff same end x le lt =
+    subst (λ g. Contains g (grade_at zones x)) same (iff.0 refl x le (omega arith))
+
+-- what the code has tested makes the log allowed
+pub allows_by_tests : (step : ℕ) (a : AssortmentParts) (stem : StemParts) (log : Log) (column row price top : ℕ)
+    → a.species ≡ stem.species
+    → log.start % step ≡ 0
+    → position (λ x. x == log.length) a.lengths ≡ Some column
+    → end_of log ≤ stem_length stem.samples
+    → HasGradesOf stem.zones log.start (end_of log) a.grades
+    → top ≡ top_diameter stem log
+    → slice_index a.diameters 0 ≤ top
+    → top < a.upper
+    → row ≡ row_at a top
+    → price ≡ slice_index a.prices (row * length a.lengths + column)
+    → price ≢ 0
+    → Allows step a stem log
+allows_by_tests step a stem log column row price top species grid at within grades is_top low high is_row is_price priced =
+    let place : row * length a.lengths + column ≡ place_in a stem log =
+    rw (is_row, is_top, column_is a log.length column at) refl in
+    record {
+      species = species;
+      on_module = grid;
+      length_offered = (column_some a.lengths log.length column at).1;
+      within = within;
+      grades = grades;
+      thick_enough = rw (← is_top) low;
+      thin_enough = rw (← is_top) high;
+      priced = λ z. priced (is_price ∙ ap (slice_index a.prices) place ∙ z);
+    }
+
+-- the assortment of an allowed log is valid
+pub valid_of : (i : InstructionParts) (stem : StemParts) (g : Log) → IsInstruction i → (a : IsAllowed i stem g) → IsAssortment a.assortment
+valid_of i stem g v a =
+    let lt : g.assortment < length i.assortments = slice_get_within i.assortments g.assortment a.assortment a.exists in
+    subst IsAssortment (get_or_from_slice_get i.assortments g.assortment a.assortment a.assortment a.exists) (All-get_or IsAssortment i.assortments g.assortment a.assortment lt v.assortments_valid)
+
+-- a row of an assortment
+pub row_within : (a : AssortmentParts) (d : ℕ) → IsAssortment a → row_at a d < length a.diameters
+row_within a d v = omega (arith, count_by-le-length (λ limit. nat_le limit d) a.diameters, v.rows)
+
+-- the class of an allowed log is one of the instruction's
+pub class_is_class : (i : InstructionParts) (stem : StemParts) (g : Log) → IsInstruction i → IsAllowed i stem g → IsClass i (class_of i stem g)
+class_is_class i stem g v a =
+    let valid : IsAssortment a.assortment = valid_of i stem g v a in
+    let column : column_of a.assortment g.length < length a.assortment.lengths = column_within a.assortment g.length a.allows.length_offered in
+    subst (λ o. IsClass i (class_in o stem g)) (sym a.exists)
+    (record { assortment = a.assortment; exists = a.exists; row = row_within a.assortment (top_diameter stem g) valid; column = column })
+  where
+    column_cases : (xs : List ℕ) (l : ℕ) (o : Option ℕ) → position (λ x. x == l) xs ≡ o → Contains xs l → unwrap_or o 0 < length xs
+    column_cases xs l None e c = absurd (column_none xs l e c)
+    column_cases xs l (Some k) e c = (column_some xs l k e).0
+
+    column_within : (a : AssortmentParts) (l : ℕ) → Contains a.lengths l → column_of a l < length a.lengths
+    column_within a l c = column_cases a.lengths l (position (λ x. x == l) a.lengths) refl c
+
+-- the same of a class that may have been found
+pub found_is_class : (i : InstructionParts) (stem : StemParts) (g : Log) (found : Option Class) → IsInstruction i
+    → IfSome found (λ _. IsAllowed i stem g)
+    → IfSome found (λ c. c ≡ class_of i stem g)
+    → IfSome found (λ c. IsClass i c)
+found_is_class i stem g None v a e = a
+found_is_class i stem g (Some c) v a e = subst (λ k. IsClass i k) (sym e) (class_is_class i stem g v a)
+
+-- the measures of an allowed log are small
+pub allowed_low : (i : InstructionParts) (stem : StemParts) (g : Log) → IsInstruction i → IsAllowed i stem g
+    → (500 ≤ g.length) × (g.length ≤ 30000) × (top_diameter stem g ≤ 2000)
+allowed_low i stem g v a =
+    let valid : IsAssortment a.assortment = valid_of i stem g v a in
+    let range : (500 ≤ g.length) × (g.length ≤ 30000) = All-contains (λ l. (500 ≤ l) × (l ≤ 30000)) a.assortment.lengths g.length valid.lengths_range a.allows.length_offered in
+    let thin : top_diameter stem g < a.assortment.upper = a.allows.thin_enough in
+    (range.0, range.1, omega (arith, valid.upper_range))
+
+-- what an allowed log is worth, by its assortment's price kind
+pub worth_by_parts : (s : SheetParts) (stem : StemParts) (g : Log) (kind price cubic : ℕ) (all : List AssortmentParts) (x : AssortmentParts)
+    → (a : IsAllowed s.instruction stem g)
+    → all ≡ s.instruction.assortments
+    → x ≡ get_or all g.assortment x
+    → kind ≡ x.price_kind
+    → price ≡ price_of s (class_of s.instruction stem g)
+    → cubic ≡ volume (top_diameter stem g) g.length
+    → worth_at kind price cubic ≡ worth_of s stem g
+unfolding worth_of
+worth_by_parts s stem g kind price cubic all x a same is is_kind is_price is_cubic =
+    let here : x ≡ a.assortment = is ∙ ap (λ xs. get_or xs g.assortment x) same ∙ get_or_from_slice_get s.instruction.assortments g.assortment a.assortment x a.exists in
+    let kinds : kind ≡ kind_in (slice_get s.instruction.assortments g.assortment) = is_kind ∙ ap (λ y. y.price_kind) here ∙ ap kind_in (sym a.exists) in
+    rw (kinds, is_price, is_cubic) refl

@@ -1,0 +1,5 @@
+pub mod Sheet
+pub mod Volume
+pub mod Allowed
+pub mod Prepared
+pub mod Offers

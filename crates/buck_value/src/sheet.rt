@@ -1,0 +1,169 @@
+//! Price sheets.
+ghost use Rattle.std.specs.Prelude.{◌≡◌, ℕ, ◌+◌, ◌<◌, ◌≤◌, ◌↔◌, IsTrue, IfOk, IfErr, IfSome, IfNone, OnOk, length, slice_index, All, EachIndex};
+ghost use Rattle.std.specs.List.{flat_map};
+ghost use Rattle.buck_apt.specs.Instruction.{IsInstruction, IsClass, classes};
+ghost use Rattle.buck_value.specs.Sheet.{IsSheet, IsInSpan, IsPriceAt, IsFirstOutside, IsSheetFault, base_prices, sheet_of, price_of};
+
+use crate::fault::SheetFault;
+use buck_apt::{Assortment, Class, Instruction};
+use buck_record::Memory;
+use std::alloc::{AllocError, Global};
+use std::marker::Model;
+use std::sync::Arc;
+
+/// The prices in force from a version on: one for each class of the instruction, each within its span. The span of a
+/// class goes down and up from its base price by that price times the instruction's limit per mille, rounded down.
+#[derive(Drop)]
+pub struct Sheet {
+    version: u32,
+    instruction: Arc<Instruction>,
+    prices: Vec<u32>,
+}
+
+impl Model for Sheet {
+    ghost use Rattle.buck_value.specs.Sheet.{SheetParts, IsSheet, sheet_of};
+
+    ghost Value = { SheetParts };
+
+    ghost view = { λ s. sheet_of s.version s.instruction.value s.prices.items };
+
+    ghost invariant = { λ s. IsSheet (sheet_of s.version s.instruction.value s.prices.items) };
+}
+
+/// The base prices, class by class.
+fn base_prices_of(alloc: Global, instruction: &Instruction) -> Result<Vec<u32>, AllocError>
+    ensures prices { IfOk result (λ prices. prices.items ≡ base_prices instruction.now) }
+    ensures valid { IsInstruction instruction.now }
+{
+    let mut prices = Vec::new(alloc);
+    for assortment in instruction.assortments() {
+        prices.extend_from_slice(assortment.prices())?;
+    }
+    Ok(prices)
+}
+
+/// Whether a price lies within the span of its base price.
+fn is_in_span(limit: u32, base: u32, price: u32) -> bool
+    requires limit { limit ≤ 1000 }
+    requires base { base ≤ 10000000 }
+    ensures { IsTrue result ↔ IsInSpan limit base price }
+{
+    let span = (u64::from(base) * u64::from(limit) / 1000) as u32;
+    base - span <= price && price <= base + span
+}
+
+impl Sheet {
+    /// The sheet of version 0: each class has its base price. `Memory` where no list of the prices could be made.
+    pub fn base(alloc: Global, instruction: Arc<Instruction>) -> Result<Sheet, Memory>
+        ensures { IfOk result (λ s. s ≡ sheet_of 0 instruction.value (base_prices instruction.value)) }
+    {
+        let prices = base_prices_of(alloc, &instruction)?;
+        Ok(Sheet {
+            version: 0,
+            instruction,
+            prices,
+        })
+    }
+
+    /// The sheet of these prices, one for each class, assortment by assortment and row by row. Refused as `Count` where
+    /// there are more or fewer, else as `Price` with the least place of a price outside its span, both ends of which
+    /// are inside. It takes no memory; the prices are dropped where they are refused.
+    pub fn with_prices(
+        instruction: Arc<Instruction>,
+        version: u32,
+        prices: Vec<u32>,
+    ) -> Result<Sheet, SheetFault>
+        ensures made { IfOk result (λ s. s ≡ sheet_of version instruction.value prices.items) }
+        ensures valid { OnOk result (IsSheet (sheet_of version instruction.value prices.items)) }
+        ensures refused { IfErr result (IsSheetFault instruction.value prices.items) }
+    {
+        if prices.len() != instruction.classes() {
+            return Err(SheetFault::Count);
+        }
+        match first_outside(&instruction, prices.as_slice()) {
+            Some(at) => Err(SheetFault::Price { at }),
+            None => Ok(Sheet {
+                version,
+                instruction,
+                prices,
+            }),
+        }
+    }
+
+    /// The version: how many sheets came before.
+    pub fn version(&self) -> u32
+        ensures version { result ≡ self.now.version }
+        ensures valid { IsSheet self.now }
+    {
+        self.version
+    }
+
+    /// The instruction whose classes are priced.
+    pub fn instruction(&self) -> &Arc<Instruction>
+        ensures instruction { result.now.value ≡ self.now.instruction }
+        ensures valid { IsSheet self.now }
+    {
+        &self.instruction
+    }
+
+    /// The price in force of each class, assortment by assortment and row by row.
+    pub fn prices(&self) -> &[u32]
+        ensures prices { result.now ≡ self.now.prices }
+        ensures valid { IsSheet self.now }
+    {
+        self.prices.as_slice()
+    }
+
+    /// The price in force of a class of the instruction, at most 20,000,000, per cubic metre or per piece by its
+    /// assortment's price kind.
+    pub fn price(&self, class: Class) -> u32
+        requires { IsClass self.now.instruction class }
+        ensures price { result ≡ price_of self.now class }
+    {
+        self.prices[self.instruction.index(class)]
+    }
+
+    /// Whether version, prices and instruction are all equal: all parts of the instruction, not where it is stored.
+    pub fn same(&self, other: &Sheet) -> bool
+        ensures { IsTrue result ↔ (self.now ≡ other.now) }
+    {
+        self.version == other.version
+            && self.prices == other.prices
+            && self.instruction.same(&other.instruction)
+    }
+}
+
+/// The least place among some base prices at which the price, after those of the classes before, is outside its
+/// span.
+fn first_outside_of(limit: u32, bases: &[u32], prices: &[u32], before: usize) -> Option<usize>
+    requires limit { limit ≤ 1000 }
+    requires bases { All (λ p. p ≤ 10000000) bases.now }
+    requires room { before + length bases.now ≤ length prices.now }
+    ensures found { IfSome result (λ at. IsFirstOutside limit bases.now prices.now before at) }
+    ensures none { IfNone result (EachIndex bases.now (λ k. IsInSpan limit (slice_index bases.now k) (slice_index prices.now (before + k)))) }
+{
+    for i in 0..bases.len() {
+        if !is_in_span(limit, bases[i], prices[before + i]) {
+            return Some(i);
+        }
+    }
+    None
+}
+
+/// The least place of a price outside its span, where there is one price for each class.
+fn first_outside(instruction: &Instruction, prices: &[u32]) -> Option<usize>
+    requires { length prices.now ≡ classes instruction.now }
+    ensures found { IfSome result (λ at. IsSheetFault instruction.now prices.now (SheetFault.Price at)) }
+    ensures none { IfNone result (EachIndex prices.now (λ k. IsPriceAt instruction.now prices.now k)) }
+{
+    let limit = instruction.limit();
+    let mut before = 0;
+    for assortment in instruction.assortments() {
+        let bases = assortment.prices();
+        if let Some(at) = first_outside_of(limit, bases, prices, before) {
+            return Some(before + at);
+        }
+        before += bases.len();
+    }
+    None
+}

@@ -1,0 +1,73 @@
+//! Tests: sheets, classes and worths worked out by hand.
+mod classes;
+mod prepared_stems;
+mod sheets;
+mod worths;
+
+use super::*;
+use buck_apt::{Class, Instruction, read_apt};
+use buck_stem::Stem;
+use std::sync::Arc;
+use std::test::Fail;
+
+/// The saw instruction: one assortment of two rows and two columns.
+const SAW: &str = "1 2 APT~901 1 100~902 1 1~903 1 0~910 1 1~
+911 1 saw~912 1 1~913 1 1~914 1 1~915 1 100 200~915 2 400~
+916 1 3000 4000~917 1 400 500 600 800~918 1 1 1 1 1~
+";
+
+/// The saw instruction with a second assortment, of pieces: the same but for its name, price kind and prices.
+const SAW_AND_POLE: &str = "1 2 APT~901 1 100~902 1 1~903 1 0~910 1 2~
+911 1 saw~912 1 1~913 1 1~914 1 1~915 1 100 200~915 2 400~
+916 1 3000 4000~917 1 400 500 600 800~918 1 1 1 1 1~
+911 1 pole~912 1 1~913 1 1~914 1 2~915 1 100 200~915 2 400~
+916 1 3000 4000~917 1 0 0 100 0~918 1 1 1 1 1~
+";
+
+/// The instruction of the largest numbers.
+const MAX: &str = "1 2 APT~901 1 10~902 1 1~903 1 1000~910 1 1~
+911 1 max~912 1 1~913 1 1~914 1 1~915 1 0~915 2 2000~
+916 1 500 30000~917 1 10000000 10000000~918 1 1 1~
+";
+
+/// The instruction of a text.
+fn instruction_of(rt: &HostRuntime, text: &str) -> Result<Arc<Instruction>, Fail> {
+    let Ok(instruction) = Arc::new(rt.alloc(), read_apt(rt.alloc(), text.as_bytes())?) else {
+        return Err("out of memory".into());
+    };
+    Ok(instruction)
+}
+
+/// A text with its first part `old` replaced by `new`.
+fn edited(rt: &HostRuntime, text: &str, old: &str, new: &str) -> Result<String, Fail> {
+    let (before, after) = text.split_once(old).ok_or("no such part")?;
+    Ok(format!(in rt.alloc(); "{before}{new}{after}")?)
+}
+
+/// The sheet of the base prices of a text's instruction.
+fn base_of(rt: &HostRuntime, text: &str) -> Result<Sheet, Fail> {
+    Ok(Sheet::base(rt.alloc(), instruction_of(rt, text)?)?)
+}
+
+/// The sheet of a text's instruction and these prices, of version 1.
+fn sheet_with(
+    rt: &HostRuntime,
+    text: &str,
+    prices: &[u32],
+) -> Result<Result<Sheet, SheetFault>, Fail> {
+    let prices = prices.to_vec(rt.alloc())?;
+    Ok(Sheet::with_prices(instruction_of(rt, text)?, 1, prices))
+}
+
+/// A stem of species 1 with this many samples of one diameter, and no zones.
+fn uniform_stem(rt: &HostRuntime, count: usize, diameter: u16) -> Result<Stem, Fail> {
+    let samples = vec![in rt.alloc(); diameter; count]?;
+    Ok(Stem::make(rt.alloc(), 1, 1, samples, Vec::new(rt.alloc()))?)
+}
+
+/// A stem of 41 samples of 250 mm, of this species, with these zones.
+fn zoned_stem(rt: &HostRuntime, species: u8, zones: &[(u32, u8)]) -> Result<Stem, Fail> {
+    let samples = vec![in rt.alloc(); 250; 41]?;
+    let zones = zones.to_vec(rt.alloc())?;
+    Ok(Stem::make(rt.alloc(), 1, species, samples, zones)?)
+}

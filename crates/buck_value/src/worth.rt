@@ -1,0 +1,183 @@
+//! Which logs are allowed, their classes and their worth.
+//!
+//! A log is allowed where its assortment is there and is of the stem's species, it starts at a multiple of the module,
+//! its length is one of the assortment's, it ends within the stem, each grade along it is one of the assortment's, its
+//! top diameter is at or above the first lower limit and below the upper diameter, and the base price of its class
+//! isn't 0. Its row is the last whose lower limit is at most its top diameter, its column the place of its length.
+ghost use Rattle.std.specs.Prelude.{◌≡◌, ◌+◌, ◌*◌, ◌<◌, ◌≤◌, ◌%◌, ◌^◌, ◌==◌, Some, IfSome, IfNone, slice_get, length, position};
+ghost use Rattle.buck_apt.specs.Instruction.{IsClass};
+ghost use Rattle.buck_value.specs.Allowed.{IsAllowed, Allows, log_of, row_at, class_in, class_of, worth_of};
+ghost use Rattle.buck_value.specs.Volume.{volume, worth_at};
+
+use crate::log::Log;
+use crate::sheet::Sheet;
+use buck_apt::{Assortment, Class};
+use buck_stem::Stem;
+
+/// The volume in cm³ of a cylinder, rounded down, from its diameter and its length in mm. A quarter of pi is 0.7854.
+fn volume_of(diameter: u32, length: u32) -> u64
+    requires diameter { diameter ≤ 2000 }
+    requires length { length ≤ 30000 }
+    ensures value { result ≡ volume diameter length }
+    ensures high { result ≤ 3142 * length }
+{
+    let d = u64::from(diameter);
+    let l = u64::from(length);
+    d * d * l * 7854 / 10_000_000
+}
+
+/// The worth of a piece in millionths of the price unit, by its price kind, its price and its volume in cm³.
+fn worth_of_piece(kind: u8, price: u32, cubic: u64) -> u64
+    requires price { price ≤ 20000000 }
+    requires cubic { cubic ≤ 100000000 }
+    ensures { result ≡ worth_at kind price cubic }
+{
+    if kind == 1 {
+        u64::from(price) * cubic
+    } else {
+        u64::from(price) * 1_000_000
+    }
+}
+
+/// The row of a top diameter.
+pub(crate) fn row_of(assortment: &Assortment, diameter: u32) -> usize
+    ensures row { result ≡ row_at assortment.now diameter }
+    ensures within { result < length assortment.now.diameters }
+{
+    assortment
+        .diameters()
+        .iter()
+        .filter(|limit| **limit <= diameter)
+        .count()
+        .saturating_sub(1)
+}
+
+/// The column of a length, if the assortment has it.
+fn column_of(assortment: &Assortment, length: u32) -> Option<usize>
+    ensures { result ≡ position (λ x. x == length) assortment.now.lengths }
+{
+    assortment.lengths().iter().position(|l| *l == length)
+}
+
+/// The class of a log of an assortment, or `None` where that doesn't allow it.
+fn class_in(step: u32, assortment: &Assortment, stem: &Stem, log: &Log) -> Option<Class>
+    requires { 0 < step }
+    ensures allowed { IfSome result (λ _. Allows step assortment.now stem.now log.now) }
+    ensures class { IfSome result (λ c. c ≡ class_in (Some assortment.now) stem.now log.now) }
+    ensures none { IfNone result (Allows step assortment.now stem.now log.now → ⊥) }
+{
+    let whole = stem.length();
+    if assortment.species() != stem.species() {
+        return None;
+    }
+    if log.start % step != 0 {
+        return None;
+    }
+    let Some(column) = column_of(assortment, log.length) else {
+        return None;
+    };
+    let Some(end) = log.start.checked_add(log.length) else {
+        return None;
+    };
+    if end > whole {
+        return None;
+    }
+    if !stem.has_grades_of(log.start, end, assortment.grades()) {
+        return None;
+    }
+    let top = stem.diameter_at(end);
+    if top < assortment.diameters()[0] {
+        return None;
+    }
+    if assortment.upper() <= top {
+        return None;
+    }
+    let row = row_of(assortment, top);
+    if assortment.price(row, column) == 0 {
+        return None;
+    }
+    Some(Class {
+        assortment: log.assortment,
+        row: row as u8,
+        column: column as u8,
+    })
+}
+
+/// The class of a log, or `None` where it isn't allowed.
+fn class_of_log(sheet: &Sheet, stem: &Stem, log: &Log) -> Option<Class>
+    ensures allowed { IfSome result (λ _. IsAllowed sheet.now.instruction stem.now log.now) }
+    ensures class { IfSome result (λ c. c ≡ class_of sheet.now.instruction stem.now log.now) }
+    ensures none { IfNone result (IsAllowed sheet.now.instruction stem.now log.now → ⊥) }
+{
+    let instruction = sheet.instruction();
+    let all = instruction.assortments();
+    let place = log.assortment as usize;
+    if place >= all.len() {
+        return None;
+    }
+    class_in(instruction.module(), &all[place], stem, log)
+}
+
+/// The class of the log that starts `start` mm from the butt, is `length` mm long and of the assortment at this place,
+/// counted from 0; `None` where that log isn't allowed. The base prices have a part in it, the prices in force have
+/// none. Any numbers may be asked for; it takes no memory.
+pub fn class_of(
+    sheet: &Sheet,
+    stem: &Stem,
+    start: u32,
+    assortment: u8,
+    length: u32,
+) -> Option<Class>
+    ensures allowed { IfSome result (λ _. IsAllowed sheet.now.instruction stem.now (log_of start length assortment)) }
+    ensures class { IfSome result (λ c. c ≡ class_of sheet.now.instruction stem.now (log_of start length assortment)) }
+    ensures exists { IfSome result (λ c. IsClass sheet.now.instruction c) }
+    ensures none { IfNone result (IsAllowed sheet.now.instruction stem.now (log_of start length assortment) → ⊥) }
+{
+    let _valid = sheet.version();
+    let log = Log {
+        start,
+        length,
+        assortment,
+    };
+    class_of_log(sheet, stem, &log)
+}
+
+/// What an allowed log of a class is worth.
+fn worth_in_class(sheet: &Sheet, stem: &Stem, log: &Log, class: Class) -> u64
+    requires allowed { IsAllowed sheet.now.instruction stem.now log.now }
+    requires class { class ≡ class_of sheet.now.instruction stem.now log.now }
+    ensures { result ≡ worth_of sheet.now stem.now log.now }
+{
+    let _length = stem.length();
+    let all = sheet.instruction().assortments();
+    let kind = all[log.assortment as usize].price_kind();
+    let price = sheet.price(class);
+    let top = stem.diameter_at(log.start + log.length);
+    worth_of_piece(kind, price, volume_of(top, log.length))
+}
+
+/// What a log is worth under a sheet, in millionths of the price unit, or `None` where it isn't allowed; see
+/// [`log_worth`]. Any log may be asked for.
+pub fn worth_if_allowed(sheet: &Sheet, stem: &Stem, log: &Log) -> Option<u64>
+    ensures allowed { IfSome result (λ _. IsAllowed sheet.now.instruction stem.now log.now) }
+    ensures worth { IfSome result (λ w. w ≡ worth_of sheet.now stem.now log.now) }
+    ensures none { IfNone result (IsAllowed sheet.now.instruction stem.now log.now → ⊥) }
+{
+    match class_of_log(sheet, stem, log) {
+        None => None,
+        Some(class) => Some(worth_in_class(sheet, stem, log, class)),
+    }
+}
+
+/// What an allowed log is worth under a sheet, in millionths of the price unit: the price in force of its class, times
+/// its volume in cm³ where the price is per cubic metre, times 1,000,000 where it is per piece. The volume is that of
+/// the cylinder of its top diameter and its length, rounded down. It takes no memory.
+pub fn log_worth(sheet: &Sheet, stem: &Stem, log: &Log) -> u64
+    requires { IsAllowed sheet.now.instruction stem.now log.now }
+    ensures { result ≡ worth_of sheet.now stem.now log.now }
+{
+    match worth_if_allowed(sheet, stem, log) {
+        Some(worth) => worth,
+        None => unreachable!(),
+    }
+}
