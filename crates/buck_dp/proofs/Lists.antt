@@ -1,0 +1,88 @@
+-- That the logs of a cutting are allowed, how many there can be, and that one cutting alone is the first of the best.
+use Rattle.std.proofs.Common.{◌≡◌, ◌≢◌, ◌+◌, ◌*◌, ◌≤◌, ◌⊎◌, inl, inr, List, [], ◌∷◌, All, length, sum_by, refl, sym, subst, arith}
+use Rattle.std.proofs.lemmas.List.Sums.{sum_by-cons}
+use Rattle.std.proofs.lemmas.Bool.{cases_order}
+use Rattle.buck_stem.specs.Stem.{StemParts, IsStem, stem_length}
+use Rattle.buck_value.specs.declared.log.Log.{Log}
+use Rattle.buck_value.specs.Sheet.{SheetParts, IsSheet}
+use Rattle.buck_value.specs.Allowed.{IsAllowed, end_of}
+use Rattle.buck_value.proofs.Classes.{allowed_low}
+use Rattle.buck_dp.specs.Order.{IsLogBefore, IsBefore}
+use Rattle.buck_dp.specs.Best.{IsAdmissible, IsFirstBest, cutting_worth}
+use Rattle.buck_dp.proofs.Bounds.{cut_worth-le, end_within}
+use Rattle.buck_dp.proofs.Optimal.{worth_within, same_log}
+use Rattle.buck_dp.proofs.Walk.{cut_each}
+
+pub each_allowed : (sheet : SheetParts) (stem : StemParts) (logs : List Log) → IsAdmissible sheet stem logs
+    → All (λ g. IsAllowed sheet.instruction stem g) logs
+each_allowed sheet stem logs c = λ k d lt. cut_each sheet stem 0 k logs d lt c
+
+sum_each_500 : (gs : List Log) → sum_by (λ _. 500) gs ≡ 500 * length gs
+sum_each_500 [] = refl
+sum_each_500 (g ∷ gs) = omega (arith, sum_each_500 gs, sum_by-cons (λ _. 500) g gs)
+
+pub at_most_80 : (sheet : SheetParts) (stem : StemParts) (logs : List Log) → IsSheet sheet → IsStem stem
+    → IsAdmissible sheet stem logs → length logs ≤ 80
+at_most_80 sheet stem logs s t c =
+    let h : sum_by (λ _. 500) logs + 1 * 0 ≤ 1 * stem_length stem.samples =
+    worth_within (IsAllowed sheet.instruction stem) end_of (λ _. 500) 1 (stem_length stem.samples)
+    (λ d a. (let low = allowed_low sheet.instruction stem d s.valid a in omega (arith, low.0), end_within sheet.instruction stem d a)) 0 logs (omega arith) c in
+    let n : stem_length stem.samples ≤ 40000 = omega (arith, t.samples_number) in
+    omega (arith, sum_each_500 logs)
+
+pub worth_bounded : (sheet : SheetParts) (stem : StemParts) (logs : List Log) → IsSheet sheet → IsStem stem
+    → IsAdmissible sheet stem logs → cutting_worth sheet stem logs ≤ 2800000000000000
+worth_bounded sheet stem logs s t c = cut_worth-le sheet stem 0 logs s t (omega arith) c
+
+log_asym : (a b : Log) → IsLogBefore a b → IsLogBefore b a → ⊥
+log_asym a b p q = grind arith
+
+log_order : (a b : Log) → (a ≡ b) ⊎ (IsLogBefore a b ⊎ IsLogBefore b a)
+log_order a b =
+    elim (cases_order a.start b.start) [
+      | inr o ↦ elim o [ inl p ↦ inr (inl (inl p)) | inr p ↦ inr (inr (inl p)) ]
+      | inl p ↦ elim (cases_order a.length b.length) [
+        | inr o ↦ elim o [ inl q ↦ inr (inl (inr (p, inl q))) | inr q ↦ inr (inr (inr (sym p, inl q))) ]
+        | inl q ↦ elim (cases_order a.assortment b.assortment) [
+          | inr o ↦ elim o [ inl r ↦ inr (inl (inr (p, inr (q, r)))) | inr r ↦ inr (inr (inr (sym p, inr (sym q, r)))) ]
+          | inl r ↦ inl (same_log a b p q r)
+        ]
+      ]
+    ]
+
+same_lists : (g h : Log) (gs hs : List Log) → g ≡ h → gs ≡ hs → g ∷ gs ≡ h ∷ hs
+same_lists g h gs hs e f = cc
+
+-- of two lists of logs one is before the other, or they are the same
+order : (gs hs : List Log) → (gs ≡ hs) ⊎ (IsBefore gs hs ⊎ IsBefore hs gs)
+order [] [] = inl refl
+order [] (h ∷ hs) = inr (inr tt)
+order (g ∷ gs) [] = inr (inl tt)
+order (g ∷ gs) (h ∷ hs) = elim (log_order g h) [
+  | inr o ↦ elim o [ inl p ↦ inr (inl (inl p)) | inr p ↦ inr (inr (inl p)) ]
+  | inl e ↦ elim (order gs hs) [
+    | inl f ↦ inl (same_lists g h gs hs e f)
+    | inr o ↦ elim o [ inl p ↦ inr (inl (inr (e, p))) | inr p ↦ inr (inr (inr (sym e, p))) ]
+  ]
+]
+
+-- and not both
+asym : (gs hs : List Log) → IsBefore gs hs → IsBefore hs gs → ⊥
+asym [] hs p q = absurd p
+asym (g ∷ gs) [] p q = absurd q
+asym (g ∷ gs) (h ∷ hs) (inl p) (inl q) = log_asym g h p q
+asym (g ∷ gs) (h ∷ hs) (inl p) (inr q) = (let r : IsLogBefore g g = subst (λ x. IsLogBefore g x) q.0 p in log_asym g g r r)
+asym (g ∷ gs) (h ∷ hs) (inr p) (inl q) = (let r : IsLogBefore h h = subst (λ x. IsLogBefore h x) p.0 q in log_asym h h r r)
+asym (g ∷ gs) (h ∷ hs) (inr p) (inr q) = asym gs hs p.1 q.1
+
+others : (gs hs : List Log) → IsBefore gs hs → gs ≢ hs
+others gs hs p e = (let r : IsBefore gs gs = subst (λ x. IsBefore gs x) (sym e) p in asym gs gs r r)
+
+pub only_one : (sheet : SheetParts) (stem : StemParts) (gs hs : List Log) → IsFirstBest sheet stem gs → IsFirstBest sheet stem hs → gs ≡ hs
+only_one sheet stem gs hs a b = elim (order gs hs) [
+  | inl e ↦ e
+  | inr o ↦ elim o [
+    | inl p ↦ absurd (asym gs hs p (b.first gs a.best (others gs hs p)))
+    | inr p ↦ absurd (asym hs gs p (a.first hs b.best (others hs gs p)))
+  ]
+]

@@ -1,0 +1,12 @@
+//! The best cutting of one stem: a dynamic programme over cutting positions.
+#![tactic(auto)]
+
+mod cutting;
+pub mod laws;
+mod row;
+mod table;
+#[cfg(test)]
+mod tests;
+
+pub use cutting::Cutting;
+pub use table::{admissible, best, worth};

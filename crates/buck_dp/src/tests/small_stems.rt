@@ -1,0 +1,118 @@
+//! The best cutting of many small stems, against the plain search.
+ghost use Rattle.std.specs.Prelude.{◌<◌};
+
+use super::slow::slow_best;
+use super::*;
+
+/// Two assortments by volume and one by the piece, with like prices and one class that isn't bought.
+const SMALL: &str = "1 2 APT~901 1 100~902 1 1~903 1 1000~910 1 3~
+911 1 saw~912 1 1~913 1 1~914 1 1~915 1 100 200~915 2 400~
+916 1 500 700~917 1 400 400 600 600~918 1 1 1 1 1~
+911 1 pulp~912 1 1~913 1 1 2 3~914 1 1~915 1 50~915 2 500~
+916 1 500 600 1200~917 1 400 0 300~918 1 1 1 1~
+911 1 pole~912 1 1~913 1 1 3~914 1 2~915 1 80 150~915 2 300~
+916 1 500 1000~917 1 4 8 5 9~918 1 1 1 1 1~
+";
+
+/// The next number of a row that looks like chance.
+fn next(seed: u64) -> u64 {
+    seed.wrapping_mul(6_364_136_223_846_793_005)
+        .wrapping_add(1_442_695_040_888_963_407)
+}
+
+/// A number below `limit` of a seed.
+fn below(seed: u64, limit: u64) -> u64
+    requires { 0 < limit }
+    ensures { result < limit }
+{
+    (seed >> 33) % limit
+}
+
+/// A stem of 1,000 to 1,600 mm that mostly tapers, with up to two zones.
+fn small_stem(rt: &HostRuntime, seed: u64) -> Result<Stem, Fail> {
+    let mut seed = next(seed);
+    let mut samples = Vec::new(rt.alloc());
+    let butt = 120 + below(seed, 320);
+    for i in 0..17 {
+        seed = next(seed);
+        let taper: u64 = i * 12;
+        samples.push((butt + below(seed, 15)).saturating_sub(taper) as u16)?;
+    }
+    samples.truncate(11 + below(seed, 7) as usize);
+    seed = next(seed);
+    let first = below(seed, 900) as u32;
+    let zones = [(first, 1 + below(next(seed), 3) as u8), (first + 400, 1)];
+    let count = below(next(next(seed)), 3) as usize;
+    stem_of(
+        rt,
+        samples.as_slice(),
+        zones.as_slice().get(..count).unwrap_or(&[]),
+    )
+}
+
+/// Prices of a seed: each is 0, its base price or twice that.
+fn some_prices(rt: &HostRuntime, bases: &[u32], seed: u64) -> Result<Vec<u32>, Fail> {
+    let mut seed = seed;
+    let mut prices = Vec::new(rt.alloc());
+    for base in bases {
+        seed = next(seed);
+        prices.push(base.saturating_mul(below(seed, 3) as u32))?;
+    }
+    Ok(prices)
+}
+
+/// Whether `best` gives the first of the best lists of logs, and its worth.
+fn agrees(rt: &HostRuntime, sheet: &Sheet, stem: &Stem) -> Result<bool, Fail> {
+    let (cutting, worth) = best(rt.alloc(), sheet, stem)?;
+    let (first, most) = slow_best(rt, sheet, stem)?;
+    Ok(cutting.logs == first && worth == most)
+}
+
+#[test]
+fn at_base_prices(rt: HostRuntime) -> Result<(), Fail> {
+    let sheet = base_of(&rt, SMALL)?;
+    for seed in 0..30 {
+        let stem = small_stem(&rt, seed)?;
+        assert!(rt; agrees(&rt, &sheet, &stem)?, "seed {seed}");
+    }
+    Ok(())
+}
+
+#[test]
+fn at_other_prices(rt: HostRuntime) -> Result<(), Fail> {
+    let bases = base_of(&rt, SMALL)?;
+    for seed in 100..130 {
+        let prices = some_prices(&rt, bases.prices(), seed)?;
+        let sheet = sheet_with(&rt, SMALL, prices.as_slice())?;
+        let stem = small_stem(&rt, seed)?;
+        assert!(rt; agrees(&rt, &sheet, &stem)?, "seed {seed}");
+    }
+    Ok(())
+}
+
+#[test]
+fn where_all_is_worth_nothing(rt: HostRuntime) -> Result<(), Fail> {
+    let sheet = sheet_with(&rt, SMALL, &[0; 11])?;
+    for seed in 200..210 {
+        let stem = small_stem(&rt, seed)?;
+        assert!(rt; agrees(&rt, &sheet, &stem)?, "seed {seed}");
+    }
+    Ok(())
+}
+
+#[test]
+fn of_one_diameter(rt: HostRuntime) -> Result<(), Fail> {
+    let sheet = base_of(&rt, SMALL)?;
+    for (count, diameter) in [
+        (6, 250),
+        (11, 250),
+        (13, 250),
+        (15, 90),
+        (16, 160),
+        (17, 450),
+    ] {
+        let stem = uniform_stem(&rt, count, diameter)?;
+        assert!(rt; agrees(&rt, &sheet, &stem)?, "{count} of {diameter}");
+    }
+    Ok(())
+}
