@@ -1,0 +1,167 @@
+-- Running counts of entries, one entry on.
+use Rattle.std.proofs.Common.{◌≡◌, ℕ, ◌+◌, ◌-◌, ◌<◌, ◌≤◌, ◌==◌, true, false, cond, List, [], ◌∷◌, ◌++◌, length, get_or, set, count_by, take, replicate, ◌^◌, sym, ◌∙◌, ap, inl, inr, arith, eq-eqb}
+use Rattle.std.proofs.lemmas.Bool.{ne_eqb, cases_eq, cases_lt}
+use Rattle.std.proofs.lemmas.List.{get_or-set_same, get_or-set_other, length-set, length-take-le, get_or_past, get_or-replicate, length-replicate}
+use Rattle.std.proofs.lemmas.List.Sums.{sum_by-cons, sum_by_push, count_by-le-length, count_by_more_yes, count_by_more_no}
+use Rattle.std.proofs.lemmas.Option.{slice_get_within}
+use Rattle.buck_apt.specs.declared.class.Class.{Class}
+use Rattle.buck_apt.specs.Instruction.{InstructionParts, IsInstruction, classes, index_of}
+use Rattle.buck_value.specs.declared.log.Log.{Log}
+use Rattle.buck_value.specs.Allowed.{IsAllowed, end_of}
+use Rattle.buck_dp.specs.Cutting.{IsCutFrom}
+use Rattle.buck_book.specs.Entry.{EntryParts}
+use Rattle.buck_book.specs.Counts.{class_logs, assortment_logs, count_of, assortment_count_of, calls_of}
+use Rattle.buck_book.specs.Running.{AreCounts, AreAtMost, AreCalls, AreGrown, AreGrownBy, tally_of}
+use Rattle.buck_book.specs.Pricing.{CanStand}
+use Rattle.buck_book.proofs.Cuts.{tallied, class_logs-le}
+
+-- all counts are 0 before the first entry
+pub none_counted : (i : InstructionParts) (n m : ℕ) → n ≡ classes i → m ≡ length i.assortments → AreCounts i [] (replicate {A = ℕ} n 0) (replicate {A = ℕ} m 0)
+none_counted i n m e f = record {
+  classes_number = length-replicate {A = ℕ} n 0 ∙ e;
+  assortments_number = length-replicate {A = ℕ} m 0 ∙ f;
+  class_counts = λ c k. all_zero n (index_of i c);
+  assortment_counts = λ a lt. all_zero m a;
+}
+  where
+    all_zero : (n k : ℕ) → get_or (replicate {A = ℕ} n 0) k 0 ≡ 0
+    all_zero n k = elim (cases_lt k n) [
+      | inl lt ↦ get_or-replicate {A = ℕ} n k 0 0 lt
+      | inr ge ↦ get_or_past (replicate {A = ℕ} n 0) k 0 (omega (arith, length-replicate {A = ℕ} n 0))
+    ]
+
+pub none_low : (n m : ℕ) → AreAtMost 0 (replicate {A = ℕ} n 0) (replicate {A = ℕ} m 0)
+none_low n m = record { class_counts = λ k. zero_low n k; assortment_counts = λ k. zero_low m k }
+  where
+    zero_low : (n k : ℕ) → get_or (replicate {A = ℕ} n 0) k 0 ≤ 0
+    zero_low n k = elim (cases_lt k n) [
+      | inl lt ↦ omega (arith, get_or-replicate {A = ℕ} n k 0 0 lt)
+      | inr ge ↦ omega (arith, get_or_past (replicate {A = ℕ} n 0) k 0 (omega (arith, length-replicate {A = ℕ} n 0)))
+    ]
+
+-- the counts after one entry more
+pub counts_more : (i : InstructionParts) (es : List EntryParts) (e : EntryParts) (by_class by_assortment places by_class' by_assortment' : List ℕ)
+    → IsInstruction i
+    → IsCutFrom (IsAllowed i e.stem) end_of 0 e.logs
+    → AreCounts i es by_class by_assortment
+    → places ≡ tally_of i e.stem e.logs
+    → AreGrown by_class places by_class' → AreGrownBy by_assortment e.logs by_assortment'
+    → AreCounts i (es ++ e ∷ []) by_class' by_assortment'
+counts_more i es e by_class by_assortment places by_class' by_assortment' v cut counts tally classes_grown assortments_grown = record {
+  classes_number = classes_grown.number ∙ counts.classes_number;
+  assortments_number = assortments_grown.number ∙ counts.assortments_number;
+  class_counts = λ c k.
+      let own : count_by (λ p. p == index_of i c) places ≡ class_logs i c e.stem e.logs = ap (λ ps. count_by (λ p. p == index_of i c) ps) tally ∙ tallied i c e.stem 0 e.logs v k cut in
+      classes_grown.each (index_of i c)
+      ∙ (λ j. counts.class_counts c k j + own j)
+      ∙ sym (sum_by_push (λ x. class_logs i c x.stem x.logs) es e);
+  assortment_counts = λ a lt.
+      assortments_grown.each a
+      ∙ ap (λ n. n + assortment_logs a e.logs) (counts.assortment_counts a lt)
+      ∙ sym (sum_by_push (λ x. assortment_logs a x.logs) es e);
+}
+
+-- counts grow by at most the logs of a cutting
+pub low_more : (most few : ℕ) (by_class by_assortment places by_class' by_assortment' : List ℕ) (logs : List Log)
+    → AreAtMost most by_class by_assortment
+    → length places ≤ few → length logs ≤ few
+    → AreGrown by_class places by_class' → AreGrownBy by_assortment logs by_assortment'
+    → AreAtMost (most + few) by_class' by_assortment'
+low_more most few by_class by_assortment places by_class' by_assortment' logs low p l cg ag = record {
+  class_counts = λ k. omega (arith, cg.each k, low.class_counts k, count_by-le-length (λ x. x == k) places);
+  assortment_counts = λ a. omega (arith, ag.each a, low.assortment_counts a, count_by-le-length (λ (g : Log). g.assortment == a) logs);
+}
+
+count_of-le : (i : InstructionParts) (c : Class) (es : List EntryParts) → count_of i c es ≤ assortment_count_of c.assortment es
+count_of-le i c [] = omega arith
+count_of-le i c (e ∷ es) =
+    omega (
+      arith,
+      class_logs-le i c e.stem e.logs,
+      count_of-le i c es,
+      sum_by-cons (λ x. class_logs i c x.stem x.logs) e es,
+      sum_by-cons (λ x. assortment_logs c.assortment x.logs) e es,
+    )
+
+-- counts of entries can be answered
+pub can_stand : (i : InstructionParts) (es : List EntryParts) (by_class by_assortment : List ℕ) → AreCounts i es by_class by_assortment → AreAtMost 80000000 by_class by_assortment → CanStand i by_class by_assortment
+can_stand i es by_class by_assortment counts low = record {
+  class_within = λ c k.
+      let there : c.assortment < length i.assortments = slice_get_within i.assortments c.assortment k.assortment k.exists in
+      omega (arith, counts.class_counts c k, counts.assortment_counts c.assortment there, count_of-le i c es);
+  bounded = low.assortment_counts;
+}
+
+-- the numbers of calls after one entry more
+pub calls_more : (es : List EntryParts) (e : EntryParts) (calls : List ℕ) (h number : ℕ)
+    → AreCalls es calls → e.harvester ≡ h → 0 < h → h ≤ 64 → number ≡ calls_of h es + 1
+    → AreCalls (es ++ e ∷ []) (set calls (h - 1) number)
+calls_more es e calls h number are is pos most next = record {
+  number = length-set calls (h - 1) number ∙ are.number;
+  each = λ k lt. elim (cases_eq k (h - 1)) [
+    | inl same ↦
+        let here : h ≡ k + 1 = omega arith in
+        let own : (e.harvester == k + 1) ≡ true = eq-eqb e.harvester (k + 1) (is ∙ here) in
+        let value : get_or (set calls (h - 1) number) k 0 ≡ number = ap (λ x. get_or (set calls (h - 1) number) x 0) same ∙ get_or-set_same calls (h - 1) number 0 (omega (arith, are.number)) in
+        value ∙ next ∙ ap (λ x. calls_of x es + 1) here ∙ sym (sum_by_push (λ x. cond (x.harvester == k + 1) 1 0) es e ∙ ap (λ b. calls_of (k + 1) es + cond b 1 0) own)
+    | inr other ↦
+        let not_own : (e.harvester == k + 1) ≡ false = ne_eqb e.harvester (k + 1) (λ z. other (omega (arith, is))) in
+        let plus : calls_of (k + 1) (es ++ e ∷ []) ≡ calls_of (k + 1) es + 0 = sum_by_push (λ x. cond (x.harvester == k + 1) 1 0) es e ∙ ap (λ b. calls_of (k + 1) es + cond b 1 0) not_own in
+        get_or-set_other calls (h - 1) k number 0 other ∙ are.each k lt ∙ omega arith
+  ];
+}
+
+-- before the first entry nobody has called
+pub no_calls : AreCalls [] (replicate {A = ℕ} 64 0)
+no_calls = record { number = length-replicate {A = ℕ} 64 0; each = λ k lt. get_or-replicate {A = ℕ} 64 k 0 0 lt }
+
+pub calls-le : (h : ℕ) (es : List EntryParts) → calls_of h es ≤ length es
+calls-le h es = count_by-le-length (λ x. x.harvester == h) es
+
+-- one place more
+pub grown_more : (before after places : List ℕ) (i p n : ℕ) → i < length places → p ≡ get_or places i 0 → p < length after → n ≡ get_or after p 0
+    → AreGrown before (take i places) after → AreGrown before (take (i + 1) places) (set after p (n + 1))
+grown_more before after places i p n lt is within value grown = record {
+  number = length-set after p (n + 1) ∙ grown.number;
+  each = λ k. elim (cases_eq k p) [
+    | inl same ↦
+        let test : (get_or places i 0 == k) ≡ true = eq-eqb (get_or places i 0) k (sym is ∙ sym same) in
+        let more : count_by (λ x. x == k) (take (i + 1) places) ≡ count_by (λ x. x == k) (take i places) + 1 = count_by_more_yes (λ x. x == k) places i 0 lt test in
+        let here : get_or (set after p (n + 1)) k 0 ≡ n + 1 = ap (λ x. get_or (set after p (n + 1)) x 0) same ∙ get_or-set_same after p (n + 1) 0 within in
+        let was : n ≡ get_or after k 0 = value ∙ ap (λ x. get_or after x 0) (sym same) in
+        omega (arith, grown.each k)
+    | inr other ↦
+        let test : (get_or places i 0 == k) ≡ false = ne_eqb (get_or places i 0) k (λ z. other (sym z ∙ sym is)) in
+        let more : count_by (λ x. x == k) (take (i + 1) places) ≡ count_by (λ x. x == k) (take i places) = count_by_more_no (λ x. x == k) places i 0 lt test in
+        let here : get_or (set after p (n + 1)) k 0 ≡ get_or after k 0 = get_or-set_other after p k (n + 1) 0 other in
+        omega (arith, grown.each k)
+  ];
+}
+
+pub grown_fits : (before after places : List ℕ) (i p n : ℕ) → i < length places → n ≡ get_or after p 0 → AreGrown before (take i places) after → get_or before p 0 + length places < 2 ^ 32 → n + 1 < 2 ^ 32
+grown_fits before after places i p n lt value grown low =
+    omega (arith, grown.each p, count_by-le-length (λ x. x == p) (take i places), length-take-le i places (omega arith))
+
+-- one log more
+pub grown_by_more : (before after : List ℕ) (logs : List Log) (i n : ℕ) (g : Log) → i < length logs → g ≡ get_or logs i g → g.assortment < length after → n ≡ get_or after g.assortment 0
+    → AreGrownBy before (take i logs) after → AreGrownBy before (take (i + 1) logs) (set after g.assortment (n + 1))
+grown_by_more before after logs i n g lt is within value grown = record {
+  number = length-set after g.assortment (n + 1) ∙ grown.number;
+  each = λ a. elim (cases_eq a g.assortment) [
+    | inl same ↦
+        let test : ((get_or logs i g).assortment == a) ≡ true = eq-eqb (get_or logs i g).assortment a (ap (λ x. x.assortment) (sym is) ∙ sym same) in
+        let more : assortment_logs a (take (i + 1) logs) ≡ assortment_logs a (take i logs) + 1 = count_by_more_yes (λ (x : Log). x.assortment == a) logs i g lt test in
+        let here : get_or (set after g.assortment (n + 1)) a 0 ≡ n + 1 = ap (λ x. get_or (set after g.assortment (n + 1)) x 0) same ∙ get_or-set_same after g.assortment (n + 1) 0 within in
+        let was : n ≡ get_or after a 0 = value ∙ ap (λ x. get_or after x 0) (sym same) in
+        omega (arith, grown.each a)
+    | inr other ↦
+        let test : ((get_or logs i g).assortment == a) ≡ false = ne_eqb (get_or logs i g).assortment a (λ z. other (sym z ∙ ap (λ x. x.assortment) (sym is))) in
+        let more : assortment_logs a (take (i + 1) logs) ≡ assortment_logs a (take i logs) = count_by_more_no (λ (x : Log). x.assortment == a) logs i g lt test in
+        let here : get_or (set after g.assortment (n + 1)) a 0 ≡ get_or after a 0 = get_or-set_other after g.assortment a (n + 1) 0 other in
+        omega (arith, grown.each a)
+  ];
+}
+
+pub grown_by_fits : (before after : List ℕ) (logs : List Log) (i a n : ℕ) → i < length logs → n ≡ get_or after a 0 → AreGrownBy before (take i logs) after → get_or before a 0 + length logs < 2 ^ 32 → n + 1 < 2 ^ 32
+grown_by_fits before after logs i a n lt value grown low =
+    omega (arith, grown.each a, count_by-le-length (λ (x : Log). x.assortment == a) (take i logs), length-take-le i logs (omega arith))

@@ -1,0 +1,112 @@
+-- The logs of an admissible cutting: each is allowed, and there are at most 80.
+use Rattle.std.proofs.Common.{◌≡◌, ℕ, ◌+◌, ◌*◌, ◌<◌, ◌≤◌, ◌==◌, ◌&&◌, true, cond, List, [], ◌∷◌, All, length, count_by, refl, sym, ◌∙◌, ap, subst, inl, inr, arith, eqb-true, eq-eqb}
+use Rattle.std.proofs.lemmas.Bool.{and_parts, and_from, ne_eqb, cases_eq, false_from_ne_true, cases_Bool}
+use Rattle.std.proofs.lemmas.List.Elements.{All-nil, All-cons}
+use Rattle.std.proofs.lemmas.List.Sums.{sum_by-cons}
+use Rattle.std.proofs.lemmas.Option.{slice_get_within}
+use Rattle.buck_apt.specs.declared.class.Class.{Class}
+use Rattle.buck_apt.specs.Instruction.{InstructionParts, IsInstruction, IsClass, classes, index_of}
+use Rattle.buck_stem.specs.Stem.{StemParts, IsStem, stem_length}
+use Rattle.buck_value.specs.declared.log.Log.{Log}
+use Rattle.buck_value.specs.Allowed.{IsAllowed, class_of, end_of}
+use Rattle.buck_value.proofs.Classes.{class_is_class, allowed_low}
+use Rattle.buck_dp.specs.Cutting.{IsCutFrom}
+use Rattle.buck_dp.proofs.Bounds.{end_within}
+use Rattle.buck_book.specs.Counts.{is_class, class_logs, assortment_logs}
+use Rattle.buck_book.specs.Running.{tally_of}
+use Rattle.buck_book.proofs.Places.{one_place, class_of_assortment, place_lt}
+
+pub each_allowed : (i : InstructionParts) (stem : StemParts) (from : ℕ) (gs : List Log) → IsCutFrom (IsAllowed i stem) end_of from gs → All (IsAllowed i stem) gs
+each_allowed i stem from [] c = All-nil (IsAllowed i stem)
+each_allowed i stem from (g ∷ gs) c = All-cons (IsAllowed i stem) g gs c.1 (each_allowed i stem (end_of g) gs c.2)
+
+long_enough : (i : InstructionParts) (stem : StemParts) (from : ℕ) (gs : List Log) → IsInstruction i → from ≤ stem_length stem.samples → IsCutFrom (IsAllowed i stem) end_of from gs
+    → 500 * length gs + from ≤ stem_length stem.samples
+long_enough i stem from [] v le c = omega arith
+long_enough i stem from (g ∷ gs) v le c =
+    let low = allowed_low i stem g v c.1 in
+    let high : end_of g ≤ stem_length stem.samples = end_within i stem g c.1 in
+    let rest : 500 * length gs + end_of g ≤ stem_length stem.samples = long_enough i stem (end_of g) gs v high c.2 in
+    let starts : from ≤ g.start = c.0 in
+    omega (arith, low.0)
+
+-- a cutting has at most 80 logs
+pub few_logs : (i : InstructionParts) (stem : StemParts) (gs : List Log) → IsInstruction i → IsStem stem → IsCutFrom (IsAllowed i stem) end_of 0 gs → length gs ≤ 80
+few_logs i stem gs v s c =
+    let h : 500 * length gs + 0 ≤ stem_length stem.samples = long_enough i stem 0 gs v (omega arith) c in
+    omega (arith, s.samples_number)
+
+is_class_same : (c d : Class) → is_class c d ≡ true → c ≡ d
+is_class_same c d e =
+    let outer = and_parts ((c.assortment == d.assortment) && (c.row == d.row)) (c.column == d.column) e in
+    let inner = and_parts (c.assortment == d.assortment) (c.row == d.row) outer.0 in
+    let a : c.assortment ≡ d.assortment = eqb-true c.assortment d.assortment inner.0 in
+    let r : c.row ≡ d.row = eqb-true c.row d.row inner.1 in
+    let o : c.column ≡ d.column = eqb-true c.column d.column outer.1 in
+    λ j. record { assortment = a j; row = r j; column = o j }
+
+is_class_itself : (c : Class) → is_class c c ≡ true
+is_class_itself c =
+    and_from ((c.assortment == c.assortment) && (c.row == c.row)) (c.column == c.column)
+    (and_from (c.assortment == c.assortment) (c.row == c.row) (eq-eqb c.assortment c.assortment refl) (eq-eqb c.row c.row refl))
+    (eq-eqb c.column c.column refl)
+
+-- classes are compared by their places
+place_tells : (i : InstructionParts) (c d : Class) → IsClass i c → IsClass i d → (index_of i d == index_of i c) ≡ is_class c d
+place_tells i c d k l = elim (cases_eq (index_of i d) (index_of i c)) [
+  | inl same ↦
+      let one : d ≡ c = one_place i d c l k same in
+      eq-eqb (index_of i d) (index_of i c) same ∙ sym (subst (λ x. is_class c x ≡ true) (sym one) (is_class_itself c))
+  | inr other ↦
+      ne_eqb (index_of i d) (index_of i c) other ∙ sym (false_from_ne_true (is_class c d) (λ e. other (ap (λ x. index_of i x) (sym (is_class_same c d e)))))
+]
+
+-- a class's logs are counted by their places
+pub tallied : (i : InstructionParts) (c : Class) (stem : StemParts) (from : ℕ) (gs : List Log) → IsInstruction i → IsClass i c → IsCutFrom (IsAllowed i stem) end_of from gs
+    → count_by (λ p. p == index_of i c) (tally_of i stem gs) ≡ class_logs i c stem gs
+tallied i c stem from [] v k cut = refl
+tallied i c stem from (g ∷ gs) v k cut =
+    let d : Class = class_of i stem g in
+    let test : (index_of i d == index_of i c) ≡ is_class c d = place_tells i c d k (class_is_class i stem g v cut.1) in
+    let rest = tallied i c stem (end_of g) gs v k cut.2 in
+    sum_by-cons (λ p. cond (p == index_of i c) 1 0) (index_of i d) (tally_of i stem gs)
+    ∙ (λ j. cond (test j) 1 0 + rest j)
+    ∙ sym (sum_by-cons (λ x. cond (is_class c (class_of i stem x)) 1 0) g gs)
+
+one_log : (i : InstructionParts) (c : Class) (stem : StemParts) (g : Log) → cond (is_class c (class_of i stem g)) 1 0 ≤ cond (g.assortment == c.assortment) 1 0
+one_log i c stem g = elim (cases_Bool (is_class c (class_of i stem g))) [
+  | inl yes_ ↦
+      let same : c ≡ class_of i stem g = is_class_same c (class_of i stem g) yes_ in
+      let a : g.assortment ≡ c.assortment = sym (class_of_assortment i stem g) ∙ sym (ap (λ x. x.assortment) same) in
+      let e : (g.assortment == c.assortment) ≡ true = eq-eqb g.assortment c.assortment a in
+      rw (yes_, e) (omega arith)
+  | inr no_ ↦ rw no_ (omega arith)
+]
+
+-- a class's logs are of its assortment
+pub class_logs-le : (i : InstructionParts) (c : Class) (stem : StemParts) (gs : List Log) → class_logs i c stem gs ≤ assortment_logs c.assortment gs
+class_logs-le i c stem [] = omega arith
+class_logs-le i c stem (g ∷ gs) =
+    omega (
+      arith,
+      one_log i c stem g,
+      class_logs-le i c stem gs,
+      sum_by-cons (λ x. cond (is_class c (class_of i stem x)) 1 0) g gs,
+      sum_by-cons (λ x. cond (x.assortment == c.assortment) 1 0) g gs,
+    )
+
+-- the places of a cutting's logs are places of classes
+pub places_within : (i : InstructionParts) (stem : StemParts) (n from : ℕ) (gs : List Log) → IsInstruction i → n ≡ classes i → IsCutFrom (IsAllowed i stem) end_of from gs → All (λ p. p < n) (tally_of i stem gs)
+places_within i stem n from [] v e c = All-nil (λ p. p < n)
+places_within i stem n from (g ∷ gs) v e c =
+    All-cons (λ p. p < n) (index_of i (class_of i stem g)) (tally_of i stem gs)
+    (rw e (place_lt i (class_of i stem g) (class_is_class i stem g v c.1)))
+    (places_within i stem n (end_of g) gs v e c.2)
+
+-- their assortments are there
+pub assortments_within : (i : InstructionParts) (stem : StemParts) (n from : ℕ) (gs : List Log) → n ≡ length i.assortments → IsCutFrom (IsAllowed i stem) end_of from gs → All (λ g. g.assortment < n) gs
+assortments_within i stem n from [] e c = All-nil (λ g. g.assortment < n)
+assortments_within i stem n from (g ∷ gs) e c =
+    All-cons (λ x. x.assortment < n) g gs
+    (rw e (slice_get_within i.assortments g.assortment c.1.assortment c.1.exists))
+    (assortments_within i stem n (end_of g) gs e c.2)

@@ -1,0 +1,45 @@
+-- The sheets of a book, and the plans that are made under the one in force.
+use Rattle.std.proofs.Common.{◌≡◌, ℕ, zero, suc, ◌+◌, ◌*◌, ◌<◌, ◌≤◌, List, [], ◌∷◌, ◌++◌, All, length, get_or, refl, ◌∙◌, ap, subst, arith, mul-le-mul_right}
+use Rattle.std.proofs.lemmas.List.Sums.{sum_by-le}
+use Rattle.std.proofs.lemmas.List.Elements.{All-weaker}
+use Rattle.buck_apt.specs.Instruction.{InstructionParts, AssortmentParts, IsInstruction, IsAssortment, classes, classes_of}
+use Rattle.buck_value.specs.Allowed.{IsAllowed, end_of}
+use Rattle.buck_value.specs.Sheet.{SheetParts, sheet_of}
+use Rattle.buck_dp.specs.Cutting.{IsCutFrom}
+use Rattle.buck_book.specs.Plan.{PlanParts, IsPlan}
+use Rattle.buck_book.specs.Book.{BookParts, in_force, sheets_from}
+use Rattle.buck_book.proofs.Cuts.{few_logs}
+
+pub length-sheets_from : (v : ℕ) (i : InstructionParts) (pss : List (List ℕ)) → length (sheets_from v i pss) ≡ length pss
+length-sheets_from v i [] = refl
+length-sheets_from v i (ps ∷ pss) = ap suc (length-sheets_from (v + 1) i pss)
+
+pub get_or-sheets_from : (v : ℕ) (i : InstructionParts) (pss : List (List ℕ)) (k : ℕ) (d : SheetParts) → k < length pss → get_or (sheets_from v i pss) k d ≡ sheet_of (v + k) i (get_or pss k [])
+get_or-sheets_from v i [] k d lt = absurd (omega arith)
+get_or-sheets_from v i (ps ∷ pss) zero d lt = let e : v ≡ v + 0 = omega arith in ap (λ x. sheet_of x i ps) e
+get_or-sheets_from v i (ps ∷ pss) (suc k) d lt =
+    let e : v + 1 + k ≡ v + suc k = omega arith in
+    get_or-sheets_from (v + 1) i pss k d (omega arith) ∙ ap (λ x. sheet_of x i (get_or pss k [])) e
+
+pub sheets_from-append : (v : ℕ) (i : InstructionParts) (pss qss : List (List ℕ)) → sheets_from v i (pss ++ qss) ≡ sheets_from v i pss ++ sheets_from (v + length pss) i qss
+sheets_from-append v i [] qss = let e : v ≡ v + 0 = omega arith in ap (λ x. sheets_from x i qss) e
+sheets_from-append v i (ps ∷ pss) qss =
+    let e : v + 1 + length pss ≡ v + suc (length pss) = omega arith in
+    ap (λ xs. sheet_of v i ps ∷ xs) (sheets_from-append (v + 1) i pss qss ∙ ap (λ x. sheets_from (v + 1) i pss ++ sheets_from x i qss) e)
+
+-- an instruction has at most 16,384 classes
+pub classes-le : (i : InstructionParts) → IsInstruction i → classes i ≤ 16384
+classes-le i v =
+    let each : All (λ a. classes_of a ≤ 1024) i.assortments =
+    All-weaker IsAssortment (λ a. classes_of a ≤ 1024) (λ a w. small a w) i.assortments v.assortments_valid in
+    omega (arith, sum_by-le classes_of 1024 i.assortments each, v.assortments_number)
+  where
+    small : (a : AssortmentParts) → IsAssortment a → classes_of a ≤ 1024
+    small a w = let h : length a.diameters * length a.lengths ≤ 32 * length a.lengths = mul-le-mul_right (length a.lengths) w.rows.1 in omega (arith, w.columns)
+
+-- a plan under the sheet in force cuts by the book's instruction
+pub cut_of : {F : Type 0} (b : BookParts F) (p : PlanParts) → IsPlan p → p.sheet ≡ in_force b → IsCutFrom (IsAllowed b.instruction p.stem) end_of 0 p.logs
+cut_of b p plan same = subst (λ i. IsCutFrom (IsAllowed i p.stem) end_of 0 p.logs) (ap (λ s. s.instruction) same) plan.first_best.best.admissible
+
+pub few_of : (p : PlanParts) → IsPlan p → length p.logs ≤ 80
+few_of p plan = few_logs p.sheet.instruction p.stem p.logs plan.sheet_valid.valid plan.stem_valid plan.first_best.best.admissible

@@ -1,0 +1,6 @@
+use Rattle.std.proofs.Common.{◌≡◌, take}
+use Rattle.buck_book.specs.Running.{tally_of}
+use Rattle.buck_book.proofs.book.places_of.Given as goal
+
+abbrev pub invariant-loop-log : goal.invariant-loop-log
+invariant-loop-log l = l.places.items ≡ tally_of l.plan.sheet.instruction l.plan.stem (take l.log-index l.log-items)

@@ -1,0 +1,136 @@
+//! Entries of a history.
+ghost use Rattle.std.specs.Prelude.{◌≡◌, ◌↔◌, IfOk, IsTrue};
+
+use buck_dp::Cutting;
+use buck_record::Memory;
+use buck_stem::Stem;
+use buck_value::Log;
+use std::marker::Model;
+use std::sync::Arc;
+
+/// What was cut of one stem, under which prices.
+#[derive(Drop)]
+pub struct Entry {
+    /// Who cut it, 1 to 64.
+    pub harvester: u32,
+    /// Which of its harvester's calls it is, from 1.
+    pub number: u32,
+    /// The stem that was cut.
+    pub stem: Arc<Stem>,
+    /// The version of the sheet that it was planned under.
+    pub version: u32,
+    /// The logs that were cut, from the butt on.
+    pub cutting: Arc<Cutting>,
+    /// What the logs are worth under that sheet, in millionths of the price unit.
+    pub worth: u64,
+}
+
+impl Model for Entry {
+    ghost use Rattle.buck_book.specs.Entry.{EntryParts};
+
+    ghost Value = { EntryParts };
+
+    ghost view = { λ e. record { harvester = e.harvester; number = e.number; stem = e.stem.value; version = e.version; logs = e.cutting.value.logs.items; worth = e.worth } };
+}
+
+/// Whether two lists of zones are equal.
+fn same_zones(these: &[(u32, u8)], those: &[(u32, u8)]) -> bool
+    ensures { IsTrue result ↔ (these.now ≡ those.now) }
+{
+    if these.len() != those.len() {
+        return false;
+    }
+    for i in 0..these.len() {
+        if these[i].0 != those[i].0 {
+            return false;
+        }
+        if these[i].1 != those[i].1 {
+            return false;
+        }
+    }
+    true
+}
+
+/// Whether two logs are equal.
+fn same_log(this: &Log, that: &Log) -> bool
+    ensures { IsTrue result ↔ (this.now ≡ that.now) }
+{
+    if this.start != that.start {
+        return false;
+    }
+    if this.length != that.length {
+        return false;
+    }
+    this.assortment == that.assortment
+}
+
+/// Whether two lists of logs are equal.
+fn same_logs(these: &[Log], those: &[Log]) -> bool
+    ensures { IsTrue result ↔ (these.now ≡ those.now) }
+{
+    if these.len() != those.len() {
+        return false;
+    }
+    for i in 0..these.len() {
+        if !same_log(&these[i], &those[i]) {
+            return false;
+        }
+    }
+    true
+}
+
+/// Whether all parts of two stems are equal.
+fn same_stem(a: &Stem, b: &Stem) -> bool
+    ensures { IsTrue result ↔ (a.now ≡ b.now) }
+{
+    if a.number() != b.number() {
+        return false;
+    }
+    if a.species() != b.species() {
+        return false;
+    }
+    if a.samples() != b.samples() {
+        return false;
+    }
+    same_zones(a.zones(), b.zones())
+}
+
+impl Entry {
+    /// A second entry of the same value, which shares the stem and the cutting. Refused as `Memory` alone.
+    pub fn again(&self) -> Result<Entry, Memory>
+        ensures { IfOk result (λ e. e ≡ self.now) }
+    {
+        let stem = self.stem.clone()?;
+        let cutting = self.cutting.clone()?;
+        Ok(Entry {
+            harvester: self.harvester,
+            number: self.number,
+            stem,
+            version: self.version,
+            cutting,
+            worth: self.worth,
+        })
+    }
+
+    /// Whether all parts are equal: the stem and the logs too.
+    pub fn same(&self, other: &Entry) -> bool
+        ensures { IsTrue result ↔ (self.now ≡ other.now) }
+    {
+        if self.harvester != other.harvester {
+            return false;
+        }
+        if self.number != other.number {
+            return false;
+        }
+        if self.version != other.version {
+            return false;
+        }
+        if self.worth != other.worth {
+            return false;
+        }
+        if !same_stem(&self.stem, &other.stem) {
+            return false;
+        }
+        same_logs(self.cutting.logs.as_slice(), other.cutting.logs.as_slice())
+    }
+}

@@ -1,0 +1,95 @@
+//! Plans.
+ghost use Rattle.std.specs.Prelude.{◌≡◌, IfOk};
+ghost use Rattle.buck_book.specs.Plan.{IsPlan};
+
+use buck_dp::{Cutting, best};
+use buck_record::Memory;
+use buck_stem::Stem;
+use buck_value::Sheet;
+use std::alloc::Global;
+use std::marker::Model;
+use std::sync::Arc;
+
+/// A plan for a stem: the first of the best cuttings under a sheet, and its worth.
+#[derive(Drop)]
+pub struct Plan {
+    stem: Arc<Stem>,
+    sheet: Arc<Sheet>,
+    cutting: Arc<Cutting>,
+    worth: u64,
+}
+
+impl Model for Plan {
+    ghost use Rattle.buck_book.specs.Plan.{PlanParts, IsPlan, plan_of};
+
+    ghost Value = { PlanParts };
+
+    ghost view = { λ p. plan_of p.stem.value p.sheet.value p.cutting.value.logs.items p.worth };
+
+    ghost invariant = { λ p. IsPlan (plan_of p.stem.value p.sheet.value p.cutting.value.logs.items p.worth) };
+}
+
+impl Plan {
+    /// Plans a stem under a sheet. It asks nobody else and waits for nobody.
+    pub fn make(alloc: Global, sheet: Arc<Sheet>, stem: Arc<Stem>) -> Result<Plan, Memory>
+        ensures sheet { IfOk result (λ p. p.sheet ≡ sheet.value) }
+        ensures stem { IfOk result (λ p. p.stem ≡ stem.value) }
+        ensures best { IfOk result IsPlan }
+    {
+        let _valid = (sheet.version(), stem.length());
+        let (cutting, worth) = best(alloc, &sheet, &stem)?;
+        let cutting = Arc::new(alloc, cutting)?;
+        Ok(Plan {
+            stem,
+            sheet,
+            cutting,
+            worth,
+        })
+    }
+
+    /// The stem to be cut.
+    pub fn stem(&self) -> &Arc<Stem>
+        ensures { result.now.value ≡ self.now.stem }
+    {
+        &self.stem
+    }
+
+    /// The sheet that it was planned under.
+    pub fn sheet(&self) -> &Arc<Sheet>
+        ensures { result.now.value ≡ self.now.sheet }
+    {
+        &self.sheet
+    }
+
+    /// The logs to be cut: the first of the best cuttings.
+    pub fn cutting(&self) -> &Arc<Cutting>
+        ensures logs { result.now.value.logs.items ≡ self.now.logs }
+        ensures best { IsPlan self.now }
+    {
+        &self.cutting
+    }
+
+    /// What the logs are worth under the sheet, in millionths of the price unit.
+    pub fn worth(&self) -> u64
+        ensures worth { result ≡ self.now.worth }
+        ensures best { IsPlan self.now }
+    {
+        self.worth
+    }
+
+    /// The stem, the cutting and the worth; the sheet is let go.
+    pub(crate) fn into_parts(self) -> (Arc<Stem>, Arc<Cutting>, u64)
+        ensures stem { result.0.value ≡ self.stem }
+        ensures logs { result.1.value.logs.items ≡ self.logs }
+        ensures worth { result.2 ≡ self.worth }
+        ensures best { IsPlan self }
+    {
+        let Plan {
+            stem,
+            sheet: _,
+            cutting,
+            worth,
+        } = self;
+        (stem, cutting, worth)
+    }
+}

@@ -1,0 +1,71 @@
+//! Prepared commits, and why a plan is refused.
+ghost use Rattle.std.specs.Prelude.{◌≡◌};
+ghost use Rattle.std.specs.Option.{option_map};
+
+use buck_dp::Cutting;
+use buck_record::Memory;
+use buck_stem::Stem;
+use buck_value::Sheet;
+use std::alloc::AllocError;
+use std::marker::Model;
+use std::sync::Arc;
+
+/// All that the commit of one plan stores or hands out, made before the commit. Dropping it leaves the book as it is.
+#[derive(Drop)]
+pub struct Ready {
+    pub(crate) stem: Arc<Stem>,
+    pub(crate) cutting: Arc<Cutting>,
+    pub(crate) tally: Vec<u32>,
+    pub(crate) next: Option<Arc<Sheet>>,
+}
+
+impl Model for Ready {
+    ghost use Rattle.std.specs.Option.{option_map};
+    ghost use Rattle.buck_book.specs.Book.{ReadyParts};
+
+    ghost Value = { ReadyParts };
+
+    ghost view = { λ r. record { stem = r.stem.value; logs = r.cutting.value.logs.items; tally = r.tally.items; next = option_map (λ a. a.value) r.next } };
+}
+
+impl Ready {
+    /// The next sheet, where the commit ends a period.
+    pub fn next_sheet(&self) -> Option<&Arc<Sheet>>
+        ensures { option_map (λ a. a.now.value) result ≡ self.now.next }
+    {
+        self.next.as_ref()
+    }
+}
+
+/// Why a plan is refused. The book is then as before.
+#[derive(Drop)]
+pub enum Refusal {
+    /// The history is at its capacity. It comes before `Stale`.
+    Full,
+    /// The plan was made under another sheet than the one in force, which is given back.
+    Stale { in_force: Arc<Sheet> },
+    /// A growth was refused.
+    Memory,
+}
+
+impl From<AllocError> for Refusal {
+    ghost use Rattle.std.specs.Prelude.{◌≡◌};
+    ghost use Rattle.buck_book.specs.declared.ready.Refusal.TheVariants.{Memory};
+
+    ghost from_gives = { λ _ e. e ≡ Memory };
+
+    fn from(_error: AllocError) -> Refusal {
+        Refusal::Memory
+    }
+}
+
+impl From<Memory> for Refusal {
+    ghost use Rattle.std.specs.Prelude.{◌≡◌};
+    ghost use Rattle.buck_book.specs.declared.ready.Refusal.TheVariants.{Memory};
+
+    ghost from_gives = { λ _ e. e ≡ Memory };
+
+    fn from(_error: Memory) -> Refusal {
+        Refusal::Memory
+    }
+}
