@@ -1,0 +1,4 @@
+pub mod WrittenLemmas
+pub mod TextLemmas
+pub mod BarLemmas
+pub mod Determined

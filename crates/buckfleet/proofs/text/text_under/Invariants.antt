@@ -1,0 +1,6 @@
+use Rattle.std.proofs.Common.{take}
+use Rattle.buckfleet.proofs.TextLemmas.{IsTextSoFar}
+use Rattle.buckfleet.proofs.text.text_under.Given as goal
+
+abbrev pub invariant-loop-stem : goal.invariant-loop-stem
+invariant-loop-stem l = IsTextSoFar l.sheet (take l.stem-index l.stems) l.out.items l.logs l.worth

@@ -1,0 +1,11 @@
+-- Lines of words and numbers.
+use Rattle.std.specs.Prelude.{ℕ, List, ◌++◌, codes}
+use Rattle.buck_record.specs.Written.{spelled}
+
+-- words, then each number after a blank
+abbrev pub line_of : List ℕ → List ℕ → List ℕ
+line_of words numbers = words ++ (spelled numbers ++ codes "\n")
+
+-- the same, and last a name after a blank
+abbrev pub named_line_of : List ℕ → List ℕ → List ℕ → List ℕ
+named_line_of words numbers name = words ++ (spelled numbers ++ (codes " " ++ (name ++ codes "\n")))
