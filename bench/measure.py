@@ -1,0 +1,83 @@
+#!/usr/bin/env python3
+"""Times whole processes of the program, side by side with others of the same interface.
+
+    python3 bench/measure.py                          # builds buckfleet, makes workloads, prints a table
+    python3 bench/measure.py --bin NAME=PROGRAM ..    # beside it, other programs
+
+For each workload it prints, of the least of several runs: seconds, stems a second, nanoseconds for each pair of a
+position and a candidate log, and the peak memory. A second file of the same stems, but of a species that no assortment
+takes, tells what reading and writing alone cost.
+"""
+import argparse
+import os
+import re
+import subprocess
+import sys
+import tempfile
+import time
+
+HERE = os.path.dirname(os.path.abspath(__file__))
+TOP = os.path.dirname(HERE)
+
+
+def build():
+    """Proves and builds the program, and gives its path."""
+    folder = os.path.join(TOP, "crates", "buckfleet")
+    shown = subprocess.run(["rt", "run", "--", "--help"], cwd=folder, capture_output=True, text=True)
+    program = os.path.join(folder, "out", "buckfleet")
+    if shown.returncode != 0 or not os.path.exists(program):
+        sys.exit("the program doesn't build:\n" + shown.stdout + shown.stderr)
+    return program
+
+
+def run(program, words):
+    """Seconds and peak KiB of one run; its output goes to nowhere."""
+    script = (
+        "import resource,subprocess,sys,time\n"
+        "start=time.perf_counter()\n"
+        "status=subprocess.call(sys.argv[1:],stdout=subprocess.DEVNULL)\n"
+        "print(time.perf_counter()-start,resource.getrusage(resource.RUSAGE_CHILDREN).ru_maxrss,status)\n"
+    )
+    out = subprocess.run([sys.executable, "-c", script, program] + words, capture_output=True, text=True).stdout.split()
+    if out[2] != "0":
+        sys.exit(f"{program} {' '.join(words)} ended with status {out[2]}")
+    return float(out[0]), int(out[1])
+
+
+def least(program, words, times):
+    runs = [run(program, words) for _ in range(times)]
+    return min(r[0] for r in runs), max(r[1] for r in runs)
+
+
+def main():
+    parser = argparse.ArgumentParser(description=__doc__, formatter_class=argparse.RawDescriptionHelpFormatter)
+    parser.add_argument("--bin", action="append", default=[], metavar="NAME=PROGRAM")
+    parser.add_argument("--stems", type=int, default=20000)
+    parser.add_argument("--seed", type=int, default=1)
+    parser.add_argument("--times", type=int, default=5)
+    parser.add_argument("--modules", type=int, nargs="*", default=[100, 10])
+    args = parser.parse_args()
+    programs = [("buckfleet", build())] + [tuple(b.split("=", 1)) for b in args.bin]
+    with tempfile.TemporaryDirectory() as folder:
+        for module in args.modules:
+            out = os.path.join(folder, str(module))
+            subprocess.check_call(
+                [sys.executable, os.path.join(HERE, "make_workload.py"), "--out", out]
+                + ["--stems", str(args.stems), "--seed", str(args.seed), "--module", str(module)]
+            )
+            pairs = int(open(os.path.join(out, "pairs")).read())
+            other = os.path.join(out, "other")
+            with open(other, "w") as file:
+                file.write(re.sub(r"952 1 1~", "952 1 2~", open(os.path.join(out, "stm")).read()))
+            for name, program in programs:
+                seconds, memory = least(program, ["buck", os.path.join(out, "apt"), os.path.join(out, "stm")], args.times)
+                idle, _ = least(program, ["buck", os.path.join(out, "apt"), other], args.times)
+                print(
+                    f"module {module:4}  {name:10}  {seconds:7.3f} s  {args.stems / seconds:9.0f} stems/s  "
+                    f"{seconds * 1e9 / pairs:6.2f} ns a pair, {(seconds - idle) * 1e9 / pairs:6.2f} of it for the cutting  "
+                    f"{memory / 1024:6.1f} MiB  (no candidate allowed: {idle:.3f} s)"
+                )
+
+
+if __name__ == "__main__":
+    main()
