@@ -1,15 +1,13 @@
 -- When a word is a number.
-use Rattle.std.proofs.Common.{◌≡◌, ℕ, ◌<◌, ◌≤◌, ◌^◌, Bool, true, false, nat_le, List, Some, None, Result, Ok, Err, length, refl, sym, ap, ◌∙◌, arith, rules, ◌&&◌, inl, inr}
+use Rattle.std.proofs.Common.{◌≡◌, ℕ, ◌+◌, ◌*◌, ◌<◌, ◌≤◌, Bool, true, false, nat_le, List, Some, None, length, get_or, take, refl, sym, ap, ◌∙◌, subst, arith, rules, ◌&&◌, inl, inr}
 use Rattle.std.specs.List.{list_all}
-use Rattle.std.specs.Char.{is_ascii_digit}
-use Rattle.std.specs.Str.{IsUtf8}
-use Rattle.std.specs.Str.Parse.{digits_value, ParsesUnsigned}
-use Rattle.std.specs.Result.{OkIff}
-use Rattle.std.proofs.lemmas.Str.{IsUtf8-from_ascii}
-use Rattle.std.proofs.lemmas.Fmt.{IsAscii-from_digits}
-use Rattle.std.proofs.lemmas.Str.Parse.{IsNumeralModel, numerals_by_value, parse_digits}
+use Rattle.std.specs.Char.{is_ascii_digit, digit_value}
+use Rattle.std.specs.Str.Parse.{digits_value}
+use Rattle.std.proofs.lemmas.Str.Parse.{IsNumeralModel, numerals_by_value, digits_value-take-le}
+use Rattle.std.proofs.lemmas.Int.Digits.{digits_value_more}
+use Rattle.std.proofs.lemmas.List.{take_all}
+use Rattle.std.proofs.lemmas.List.Folds.{list_all_at, list_all_more}
 use Rattle.std.proofs.lemmas.Bool.{cases_Bool, false≢true, and_from, ltb-true, leb-true, le-leb, lt-ltb, cond-true, cond-false}
-use Rattle.std.proofs.lemmas.Result.{OkIff-at_ok, OkIff-at_err}
 use Rattle.buck_record.specs.White.{is_filled}
 use Rattle.buck_record.specs.Record.{number_at_most}
 
@@ -18,10 +16,6 @@ AreDigits word = list_all is_ascii_digit word ≡ true
 
 pub numeral : IsNumeralModel AreDigits (digits_value 10)
 numeral = numerals_by_value AreDigits (search rules)
-
--- digits are text
-pub IsUtf8-digits : (word : List ℕ) → AreDigits word → IsUtf8 word
-IsUtf8-digits word h = IsUtf8-from_ascii word (IsAscii-from_digits word (numeral.to word h))
 
 and_parts : (a b : Bool) → (a && b) ≡ true → (a ≡ true) × (b ≡ true)
 and_parts true b h = (refl, h)
@@ -32,6 +26,7 @@ pub number-some : (most : ℕ) (word : List ℕ) → AreDigits word → 0 < leng
 unfolding number_at_most
 number-some most word digits filled small = cond-true _ _ _ (and_from _ _ (lt-ltb _ _ filled) (and_from _ _ digits (le-leb _ _ small)))
 
+-- it is no number where one of these fails
 pub number-none : (most : ℕ) (word : List ℕ) → (AreDigits word → 0 < length word → digits_value 10 word ≤ most → ⊥) → number_at_most most word ≡ None
 unfolding number_at_most
 number-none most word h =
@@ -43,20 +38,29 @@ number-none most word h =
       | inr missed ↦ cond-false _ _ _ missed
     ]
 
--- what `parse` gives
-pub parsed : {E : Type 0} (word : List ℕ) (r : Result ℕ E) → ParsesUnsigned 64 10 word r → AreDigits word → OkIff r ((0 < length word) × (digits_value 10 word < 2 ^ 64)) (digits_value 10 word)
-parsed word r h digits = parse_digits numeral 64 word r h digits
+-- a byte is no digit
+pub number-not_digits : (most : ℕ) (word : List ℕ) (i : ℕ) → i < length word → is_ascii_digit (get_or word i 0) ≡ false → number_at_most most word ≡ None
+number-not_digits most word i inside fails =
+    number-none most word (λ digits _ _. false≢true (sym (list_all_at is_ascii_digit word i 0 inside fails) ∙ digits))
 
-pub number-parsed : {E : Type 0} (most : ℕ) (word text : List ℕ) (r : Result ℕ E) (n : ℕ) → text ≡ word → ParsesUnsigned 64 10 text r → AreDigits word → r ≡ Ok n → n ≤ most → number_at_most most word ≡ Some n
-number-parsed most word text r n same h digits ok small =
-    let p = OkIff-at_ok _ _ _ n (parsed word r (rw same at h) digits) ok in
-    number-some most word digits p.0.0 (omega (arith, p.1)) ∙ ap (λ v. Some v) (sym p.1)
+-- the digits up to a place stand for more than `most`
+pub number-too_large : (most : ℕ) (word : List ℕ) (i : ℕ) → i < length word → most < digits_value 10 (take i word) * 10 + digit_value (get_or word i 0) → number_at_most most word ≡ None
+number-too_large most word i inside large =
+    number-none most word (λ _ _ small. absurd (omega (arith, small, large, digits_value_more 10 word i inside, digits_value-take-le 10 word (i + 1) (omega arith))))
 
-pub number-above : {E : Type 0} (most : ℕ) (word text : List ℕ) (r : Result ℕ E) (n : ℕ) → text ≡ word → ParsesUnsigned 64 10 text r → AreDigits word → r ≡ Ok n → most < n → number_at_most most word ≡ None
-number-above most word text r n same h digits ok large =
-    let p = OkIff-at_ok _ _ _ n (parsed word r (rw same at h) digits) ok in
-    number-none most word (λ _ _ small. absurd (omega (arith, p.1, small, large)))
+-- one more digit
+pub digits-more : (word : List ℕ) (i : ℕ) → i < length word → AreDigits (take i word) → is_ascii_digit (get_or word i 0) ≡ true → AreDigits (take (i + 1) word)
+digits-more word i inside before here = list_all_more is_ascii_digit word i 0 inside ∙ and_from _ _ before here
 
-pub number-unparsed : {E : Type 0} (most : ℕ) (word text : List ℕ) (r : Result ℕ E) (e : E) → text ≡ word → ParsesUnsigned 64 10 text r → AreDigits word → r ≡ Err e → most < 2 ^ 64 → number_at_most most word ≡ None
-number-unparsed most word text r e same h digits err bound =
-    number-none most word (λ _ filled small. OkIff-at_err _ _ _ e (parsed word r (rw same at h) digits) err (filled, omega arith))
+-- the digits up to the end, and what they stand for
+pub number-whole : (most : ℕ) (word : List ℕ) (i n : ℕ) → length word ≤ i → 0 < length word → AreDigits (take i word) → n ≡ digits_value 10 (take i word) → n ≤ most → number_at_most most word ≡ Some n
+number-whole most word i n end filled digits value small =
+    let whole = take_all i word end in
+    let v : n ≡ digits_value 10 word = value ∙ ap (digits_value 10) whole in
+    number-some most word (subst AreDigits whole digits) filled (omega (arith, v, small)) ∙ ap Some (sym v)
+
+-- the digits up to the end stand for more than `most`
+pub number-above : (most : ℕ) (word : List ℕ) (i n : ℕ) → length word ≤ i → n ≡ digits_value 10 (take i word) → most < n → number_at_most most word ≡ None
+number-above most word i n end value large =
+    let v : n ≡ digits_value 10 word = value ∙ ap (digits_value 10) (take_all i word end) in
+    number-none most word (λ _ _ small. absurd (omega (arith, v, small, large)))

@@ -1,12 +1,14 @@
 -- Searches for a white byte, or for one that isn't, as the trims and words.
-use Rattle.std.proofs.Common.{◌≡◌, ℕ, ◌+◌, ◌-◌, Bool, true, false, not, List, [], ◌∷◌, Some, None, length, slice_index, refl, sym, ap, ◌∙◌, arith}
+use Rattle.std.proofs.Common.{◌≡◌, ℕ, ◌+◌, ◌-◌, Bool, true, false, not, List, [], ◌∷◌, Some, None, length, slice_index, refl, sym, ap, ◌∙◌, arith, inl, inr}
+use Rattle.std.specs.Prelude.{position}
 use Rattle.std.specs.List.{prefix_len, suffix_len, position_or_len}
-use Rattle.std.proofs.lemmas.List.Sums.{prefix_len_is, suffix_len_is, position_or_len_is}
-use Rattle.std.proofs.lemmas.Bool.{false≢true}
+use Rattle.std.proofs.lemmas.List.Sums.{suffix_len_is}
+use Rattle.std.proofs.lemmas.Bool.{false≢true, cases_Bool}
 use Rattle.std.proofs.lemmas.Bool.Decides.{nat_tests}
-use Rattle.bstr.specs.Find.{IsFirstByte, IsLastByte}
+use Rattle.bstr.specs.Find.{IsLastByte}
 use Rattle.bstr.specs.Bytes.{is_in, not_in}
 use Rattle.buck_record.specs.White.{is_white}
+use Rattle.buck_record.proofs.TableLemmas.{place-some, place-none}
 
 abbrev pub white : List ℕ
 white = 32 ∷ 9 ∷ 10 ∷ 13 ∷ []
@@ -27,17 +29,19 @@ no_true : (b : Bool) → (b ≡ true → ⊥) → b ≡ false
 no_true true h = absurd (h refl)
 no_true false h = refl
 
-pub trim_start-found : (bs : List ℕ) (k : ℕ) → IsFirstByte (not_in white) bs (Some k) → prefix_len is_white bs ≡ k
-trim_start-found bs k h =
-    prefix_len_is is_white bs k 0 (omega (arith, h.0.high))
-    (λ j lt. sym (white_is _) ∙ not_not _ (h.0.before j (omega arith) lt))
-    (λ lt. sym (white_is _) ∙ not_false _ h.1)
+-- the bytes before the first that isn't white are the white ones at the start
+dark-first : (bs : List ℕ) → position_or_len (λ b. not (is_white b)) bs ≡ prefix_len is_white bs
+dark-first [] = refl
+dark-first (b ∷ bs) = elim (cases_Bool (is_white b)) [
+  | inl white ↦ rw (white, dark-first bs) refl
+  | inr dark ↦ rw dark refl
+]
 
-pub trim_start-none : (bs : List ℕ) → IsFirstByte (not_in white) bs None → prefix_len is_white bs ≡ length bs
-trim_start-none bs h =
-    prefix_len_is is_white bs (length bs) 0 (omega arith)
-    (λ j lt. sym (white_is _) ∙ not_not _ (h j (omega arith) lt))
-    (λ lt. absurd (omega arith))
+pub trim_start-found : (bs : List ℕ) (k : ℕ) → position (λ b. not (is_white b)) bs ≡ Some k → prefix_len is_white bs ≡ k
+trim_start-found bs k h = sym (dark-first bs) ∙ place-some (λ b. not (is_white b)) bs k h
+
+pub trim_start-none : (bs : List ℕ) → position (λ b. not (is_white b)) bs ≡ None → prefix_len is_white bs ≡ length bs
+trim_start-none bs h = sym (dark-first bs) ∙ place-none (λ b. not (is_white b)) bs h
 
 pub trim_end-found : (bs : List ℕ) (k : ℕ) → IsLastByte (not_in white) bs (Some k) → suffix_len is_white bs ≡ length bs - (k + 1)
 trim_end-found bs k h =
@@ -51,14 +55,8 @@ trim_end-none bs h =
     (λ j le lt. sym (white_is _) ∙ not_not _ (h j le lt))
     (λ lt. absurd (omega arith))
 
-pub word-found : (bs : List ℕ) (k : ℕ) → IsFirstByte (is_in white) bs (Some k) → position_or_len is_white bs ≡ k
-word-found bs k h =
-    position_or_len_is is_white bs k 0 (omega (arith, h.0.high))
-    (λ j lt. sym (white_is _) ∙ no_true _ (h.0.before j (omega arith) lt))
-    (λ lt. sym (white_is _) ∙ h.1)
+pub word-found : (bs : List ℕ) (k : ℕ) → position is_white bs ≡ Some k → position_or_len is_white bs ≡ k
+word-found bs k h = place-some is_white bs k h
 
-pub word-none : (bs : List ℕ) → IsFirstByte (is_in white) bs None → position_or_len is_white bs ≡ length bs
-word-none bs h =
-    position_or_len_is is_white bs (length bs) 0 (omega arith)
-    (λ j lt. sym (white_is _) ∙ no_true _ (h j (omega arith) lt))
-    (λ lt. absurd (omega arith))
+pub word-none : (bs : List ℕ) → position is_white bs ≡ None → position_or_len is_white bs ≡ length bs
+word-none bs h = place-none is_white bs h

@@ -1,17 +1,35 @@
 //! White bytes, and texts without them at their ends.
-ghost use Rattle.std.specs.Prelude.{◌≡◌, ◌+◌, length};
-ghost use Rattle.buck_record.specs.White.{trim_start, trim_end, trimmed, first_word, after_word};
+ghost use Rattle.std.specs.Prelude.{◌≡◌, not, position};
+ghost use Rattle.buck_record.specs.White.{is_white, trim_start, trim_end, trimmed, first_word, after_word};
 
 use bstr::ByteSlice;
 
 /// Blank, tab, line feed and carriage return.
 const WHITE: [u8; 4] = [32, 9, 10, 13];
 
+fn is_white(byte: u8) -> bool
+    ensures { result ≡ is_white byte }
+{
+    byte == 32 || byte == 9 || byte == 10 || byte == 13
+}
+
+fn first_white(bytes: &[u8]) -> Option<usize>
+    ensures { result ≡ position is_white bytes.now }
+{
+    bytes.iter().position(|b| is_white(*b))
+}
+
+fn first_dark(bytes: &[u8]) -> Option<usize>
+    ensures { result ≡ position (λ b. not (is_white b)) bytes.now }
+{
+    bytes.iter().position(|b| !is_white(*b))
+}
+
 /// The bytes from the first that is not white on.
 pub fn trim_start(bytes: &[u8]) -> &[u8]
     ensures { result.now ≡ trim_start bytes.now }
 {
-    match bytes.find_not_byteset(&WHITE) {
+    match first_dark(bytes) {
         None => &bytes[bytes.len()..],
         Some(first) => &bytes[first..],
     }
@@ -39,7 +57,7 @@ pub fn cut_word(bytes: &[u8]) -> (&[u8], &[u8])
     ensures word { result.0.now ≡ first_word bytes.now }
     ensures after { result.1.now ≡ after_word bytes.now }
 {
-    match bytes.find_byteset(&WHITE) {
+    match first_white(bytes) {
         None => (bytes, &bytes[bytes.len()..]),
         Some(end) => (&bytes[..end], &bytes[end + 1..]),
     }
