@@ -1,8 +1,7 @@
 -- How thick a stem may be.
-use Rattle.std.proofs.Common.{◌≡◌, ℕ, zero, suc, ◌+◌, ◌-◌, ◌*◌, ◌/◌, ◌%◌, ◌<◌, ◌≤◌, min, List, [], ◌∷◌, All, length, take, arith, mul-le-mul_right}
+use Rattle.std.proofs.Common.{ℕ, zero, suc, ◌+◌, ◌-◌, ◌*◌, ◌/◌, ◌%◌, ◌<◌, ◌≤◌, List, [], ◌∷◌, take, arith, mul-le-mul_right}
 use Rattle.std.specs.List.{AllByRecursion}
 use Rattle.std.proofs.lemmas.List.Elements.{recursion_from_All}
-use Rattle.std.proofs.Math.Nat.{mod-lt}
 use Rattle.buck_stem.specs.Stem.{StemParts, IsStem, least, least_to, diameter_at}
 
 least-le : (n : ℕ) (xs : List ℕ) → AllByRecursion (λ d. d ≤ n) xs → least xs ≤ n

@@ -124,3 +124,12 @@ has_grade_from zones a b g r h = elim (shown_from a b 0 1 h.0 zones r h.1 h.2) [
 pub has_grade_iff : (zones : List (ℕ × ℕ)) (a b g : ℕ) → IsRisingFrom 0 zones → a < b
     → ((HasZone zones (length zones) a b g ⊎ (g ≡ grade_at zones a)) ↔ HasGrade zones a b g)
 has_grade_iff zones a b g r lt = (has_grade_to zones a b g r lt, has_grade_from zones a b g r)
+
+-- the grade stays what it is up to the next start of a zone
+pub grade_stays : (zones : List (ℕ × ℕ)) (x end y : ℕ) → IsRisingFrom 0 zones
+    → ((k : ℕ) → k < length zones → x < (get_or zones k (0, 0)).0 → end ≤ (get_or zones k (0, 0)).0)
+    → x ≤ y → y < end → grade_at zones y ≡ grade_at zones x
+grade_stays zones x end y r past le lt = elim (shown_from x end 0 1 y zones r le lt) [
+  | inl e ↦ e
+  | inr z ↦ absurd (let far = past z.0 z.1 z.2 in omega (arith, z.3))
+]

@@ -2,4 +2,5 @@ pub mod Stem
 pub mod Zones
 pub mod Stm
 pub mod Profile
+pub mod Runs
 pub mod ProfileTables

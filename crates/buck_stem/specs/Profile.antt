@@ -1,7 +1,7 @@
 -- A stem at the multiples of a module.
-use Rattle.std.specs.Prelude.{◌≡◌, ℕ, ◌+◌, ◌-◌, ◌*◌, ◌/◌, ◌<◌, ◌≤◌, ◌↔◌, List, length, slice_index}
+use Rattle.std.specs.Prelude.{◌≡◌, ℕ, ◌+◌, ◌-◌, ◌/◌, ◌≤◌, ◌↔◌, List}
 use Rattle.std.specs.Int.{bit_at}
-use Rattle.buck_stem.specs.Stem.{StemParts, IsStem, stem_length, diameter_at, HasGrade}
+use Rattle.buck_stem.specs.Stem.{StemParts, stem_length, HasGrade}
 
 -- what a profile shows: its stem, and the module in mm
 pub record ProfileParts : Type 0 where

@@ -9,6 +9,7 @@ mod file_tests;
 mod lines;
 mod profile;
 mod reading;
+mod runs;
 mod stem;
 #[cfg(test)]
 mod tests;

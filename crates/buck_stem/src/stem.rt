@@ -1,7 +1,7 @@
 //! A felled stem: diameters and grades along it.
 
 ghost use Rattle.std.specs.Int.{bit_at};
-ghost use Rattle.std.specs.Prelude.{◌≡◌, ◌<◌, ◌≤◌, ◌-◌, ◌⊎◌, ℕ, length, ◌↔◌, IfOk, IsOk, Err, IsTrue, Contains, All};
+ghost use Rattle.std.specs.Prelude.{◌≡◌, ◌<◌, ◌≤◌, ◌-◌, ◌⊎◌, ℕ, length, ◌↔◌, IfOk, IsOk, Err, IsTrue, Contains, All, slice_index_or};
 ghost use Rattle.buck_stem.specs.Stem.{stem_of, stem_length, diameter_at, grade_at, HasGradesOf, HasGrade, IsGrade, IsRisingFrom, IsStem};
 ghost use Rattle.buck_stem.specs.Zones.{HasZone, ZonesFit, IsRunningLeast};
 
@@ -99,6 +99,19 @@ fn with_zones(mask: u8, zones: &[(u32, u8)], a: u32, b: u32) -> u8
         mask = with_zone(mask, *zone, a, b);
     }
     mask
+}
+
+/// The first start of a zone past `x`, or more than any place where none is past it.
+fn start_past(zones: &[(u32, u8)], x: u32) -> u32
+    ensures { (k : ℕ) → k < length zones.now → x < (slice_index_or zones.now k (0, 0)).0 → result ≤ (slice_index_or zones.now k (0, 0)).0 }
+{
+    let mut end = u32::MAX;
+    for zone in zones {
+        if x < zone.0 && zone.0 < end {
+            end = zone.0;
+        }
+    }
+    end
 }
 
 /// Whether each zone that begins past `a` and before `b` has one of these grades.
@@ -277,6 +290,13 @@ impl Stem {
         ensures range { IsGrade result }
     {
         grade_in(self.zones.as_slice(), x)
+    }
+
+    /// A place up to which the grade stays what it is at `x`: where the next zone starts, if there is one.
+    pub(crate) fn grade_end(&self, x: u32) -> u32
+        ensures { (y : ℕ) → x ≤ y → y < result → grade_at self.now.zones y ≡ grade_at self.now.zones x }
+    {
+        start_past(self.zones.as_slice(), x)
     }
 
     /// The grades of the places from `a` up to `b`, in mm, without `b`: bit g - 1 for grade g. Where `a` is `b` or

@@ -187,3 +187,76 @@ fn profile_grades(rt: HostRuntime) -> Result<(), Fail> {
     }
     Ok(())
 }
+
+/// Checks the grades between all points of a stem, and the starts of the runs, by the zones themselves.
+fn points_agree(
+    rt: &impl Abort,
+    alloc: Global,
+    zones: &[(u32, u8)],
+    count: usize,
+    step: u32,
+) -> Result<(), Fail>
+    requires step { (10 ≤ step) × (step ≤ 1000) }
+    requires count { (1 ≤ count) × (count ≤ 401) }
+{
+    let samples = vec![in alloc; 250; count]?;
+    let zones = zones.to_vec(alloc)?;
+    let stem = Stem::make(alloc, 1, 1, samples, zones)?;
+    let profile = Profile::make(alloc, &stem, step)?;
+    assert_eq!(rt; profile.points(), (stem.length() / step + 1) as usize);
+    for j in 0..profile.points() {
+        for i in 0..j + 1 {
+            let want = stem.grades_between(i as u32 * step, j as u32 * step);
+            assert_eq!(rt; profile.grades(i, j), want, "from {i} to {j} at {step}");
+        }
+    }
+    for i in 0..profile.points() - 1 {
+        let start = profile.run_start(i);
+        assert!(rt; start <= i);
+        for k in start..i + 1 {
+            assert_eq!(rt;
+                profile.step_grades(k),
+                profile.step_grades(i),
+                "of {k} and {i} at {step}"
+            );
+        }
+    }
+    Ok(())
+}
+
+#[test]
+fn grades_of_many_zones(rt: HostRuntime) -> Result<(), Fail> {
+    let mixed = [
+        (0, 2),
+        (95, 3),
+        (101, 3),
+        (103, 4),
+        (107, 5),
+        (200, 2),
+        (250, 6),
+        (251, 7),
+        (399, 8),
+        (400, 1),
+    ];
+    for step in [10, 30, 70, 100, 150, 399, 1000] {
+        points_agree(&rt, rt.alloc(), &mixed, 5, step)?;
+        points_agree(&rt, rt.alloc(), &[], 5, step)?;
+        points_agree(&rt, rt.alloc(), &[(1, 8)], 5, step)?;
+        points_agree(&rt, rt.alloc(), &[(500, 3), (39_999, 4)], 5, step)?;
+    }
+    Ok(())
+}
+
+#[test]
+fn starts_of_runs(rt: HostRuntime) -> Result<(), Fail> {
+    let samples = vec![in rt.alloc(); 250; 11]?;
+    let zones = [(200, 2), (450, 3), (470, 2), (1000, 4)].to_vec(rt.alloc())?;
+    let stem = Stem::make(rt.alloc(), 1, 1, samples, zones)?;
+    let profile = Profile::make(rt.alloc(), &stem, 100)?;
+    assert_eq!(rt; profile.points(), 11);
+    for (i, want) in [(0, 0), (1, 0), (2, 2), (3, 2), (4, 4), (5, 5), (9, 5)] {
+        assert!(rt; i + 1 < profile.points());
+        assert_eq!(rt; profile.run_start(i), want, "of {i}");
+    }
+    Ok(())
+}

@@ -1,6 +1,6 @@
-use Rattle.std.proofs.Common.{◌≡◌, ◌∙◌, ◌≤◌, ◌<◌, ◌*◌, ℕ, length, arith, ap, sym, subst}
+use Rattle.std.proofs.Common.{◌≡◌, ◌∙◌, ◌<◌, ◌*◌, length, arith, sym, subst}
 use Rattle.std.proofs.lemmas.List.{get_or_default}
-use Rattle.buck_stem.specs.Stem.{StemParts, diameter_at}
+use Rattle.buck_stem.specs.Stem.{diameter_at}
 use Rattle.buck_stem.specs.Profile.{ProfileParts, points_of, profile_of}
 use Rattle.buck_stem.proofs.Diameters.{diameter_at-le}
 use Rattle.buck_stem.proofs.profile.Profile.diameter.Goals as goal

@@ -1,5 +1,5 @@
-use Rattle.std.proofs.Common.{ℕ, ◌+◌, ◌*◌, List, length, slice_index, ap, subst, arith}
-use Rattle.buck_stem.specs.ProfileTables.{IsLastStep}
+use Rattle.std.proofs.Common.{ℕ, List, length, subst}
+use Rattle.buck_stem.specs.Runs.{AreRows}
 use Rattle.buck_stem.proofs.profile.Profile.make.Goals as goal
 
 pub invariant_of-result : goal.invariant_of-result
@@ -8,9 +8,7 @@ invariant_of-result c = record {
   module_range = c.requires;
   diameters_number = c.in_ok-diameters.ensures.number;
   diameters_right = c.in_ok-diameters.ensures.right;
-  steps_number = c.in_ok-steps.ensures.number;
-  steps_right = c.in_ok-steps.ensures.right;
-  last_number = omega (arith, c.in_ok-last.ensures.number, c.in_ok-steps.ensures.number, ap length c.as_slice.ensures.value);
-  last_right = λ i lt g low. subst (λ (ss : List ℕ). IsLastStep ss g i (slice_index c.in_ok-last.last.items (8 * i + g))) c.as_slice.ensures.value
-      (c.in_ok-last.ensures.right i (omega (arith, c.in_ok-steps.ensures.number, ap length c.as_slice.ensures.value)) g low);
+  steps_number = c.in_ok-runs.ensures.number;
+  runs = c.in_ok-runs.ensures.right;
+  rows = subst (λ (ms : List ℕ). AreRows ms (length ms) c.in_ok-between.between.items) c.as_slice.ensures.value c.in_ok-between.ensures;
 }

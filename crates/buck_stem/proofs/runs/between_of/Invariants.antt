@@ -1,0 +1,5 @@
+use Rattle.buck_stem.specs.Runs.{AreRows}
+use Rattle.buck_stem.proofs.runs.between_of.Given as goal
+
+abbrev pub invariant-loop-last : goal.invariant-loop-last
+invariant-loop-last l = AreRows l.masks l.last l.between.items
