@@ -2,5 +2,10 @@ pub mod Prices
 pub mod Classes
 pub mod Rows
 pub mod Rates
-pub mod OfferLemmas
-pub mod PreparedLemmas
+pub mod WoodLemmas
+pub mod CodesLemmas
+pub mod PushLemmas
+pub mod TablesLemmas
+pub mod LadderLemmas
+pub mod CellLemmas
+pub mod RelaxLemmas

@@ -2,4 +2,7 @@ pub mod Sheet
 pub mod Volume
 pub mod Allowed
 pub mod Prepared
-pub mod Offers
+pub mod Codes
+pub mod Relaxed
+pub mod Quotes
+pub mod Push

@@ -9,9 +9,10 @@ use Rattle.buck_value.specs.Allowed.{log_of}
 pub record PreparedParts : Type 0 where
   pub sheet : SheetParts
   pub stem : StemParts
+  pub codes : List ℕ  -- of the logs that the instruction offers
 
-abbrev pub prepared_of : SheetParts → StemParts → PreparedParts
-prepared_of sheet stem = record { sheet = sheet; stem = stem }
+abbrev pub prepared_of : SheetParts → StemParts → List ℕ → PreparedParts
+prepared_of sheet stem codes = record { sheet = sheet; stem = stem; codes = codes }
 
 -- how many places there are at which a log may start or end: the multiples of the module, the butt among them
 abbrev pub points_of : PreparedParts → ℕ

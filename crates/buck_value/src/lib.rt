@@ -1,12 +1,15 @@
 //! Price sheets: which logs of a stem are allowed, their class and their worth.
 #![tactic(auto)]
 
+mod codes;
 mod fault;
+mod ladder;
 pub mod laws;
 mod log;
-mod offer;
 mod prepared;
+mod push;
 mod sheet;
+mod tables;
 #[cfg(test)]
 mod tests;
 mod worth;
@@ -15,4 +18,5 @@ pub use fault::SheetFault;
 pub use log::Log;
 pub use prepared::Prepared;
 pub use sheet::Sheet;
+pub use tables::Tables;
 pub use worth::{class_of, log_worth, worth_if_allowed};

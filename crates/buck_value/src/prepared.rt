@@ -1,111 +1,168 @@
 //! A stem prepared for cutting under a sheet: which log is allowed from point to point, and its worth, from tables.
-ghost use Rattle.std.specs.Prelude.{◌≡◌, ℕ, ◌+◌, ◌*◌, ◌/◌, ◌<◌, ◌≤◌, IfOk, IfSome, IfNone, Some, length, slice_get, slice_index};
-ghost use Rattle.buck_stem.specs.Stem.{IsStem, diameter_at};
+ghost use Rattle.std.specs.Prelude.{◌≡◌, ℕ, ◌+◌, ◌-◌, ◌*◌, ◌/◌, ◌<◌, ◌≤◌, IfOk, IfSome, IfNone, OnOk, Some, length, slice_get, slice_index};
+ghost use Rattle.buck_stem.specs.Stem.{StemParts, IsStem, diameter_at};
+ghost use Rattle.buck_stem.specs.Profile.{IsMask, profile_of};
 ghost use Rattle.buck_stem.specs.Profile as grid;
 ghost use Rattle.buck_value.specs.Sheet.{IsSheet};
-ghost use Rattle.buck_value.specs.Allowed.{IsAllowed, class_of, worth_of};
-ghost use Rattle.buck_value.specs.Volume.{worth_at};
+ghost use Rattle.buck_value.specs.Allowed.{IsAllowed, Allows, log_of, end_of, class_in, class_of, worth_of};
 ghost use Rattle.buck_value.specs.Prepared.{prepared_of, points_of, lengths_of, log_at};
-ghost use Rattle.buck_value.specs.Offers.{OfferParts, IsOffer};
+ghost use Rattle.buck_value.specs.Relaxed.{IsRelaxed, IsFromTo, unmarked};
+ghost use Rattle.buck_value.specs.Quotes.{IsWood};
+ghost use Rattle.buck_value.specs.Codes.{AreCodes, code_of};
 
+use crate::ladder::{Wood, takes};
 use crate::log::Log;
-use crate::offer::Offer;
 use crate::sheet::Sheet;
+use crate::tables::Tables;
+use crate::worth::{row_of, volume_of, worth_of_piece};
 use buck_apt::{Assortment, Class};
 use buck_record::Memory;
 use buck_stem::{Profile, Stem};
 use std::alloc::{AllocError, Global};
 use std::marker::Model;
 
+/// How many cells the tables of one stem keep.
+const ROOM: usize = 65_536;
+
 /// A stem prepared for cutting under a sheet. Logs start and end at its points, the multiples of the module that lie
 /// within the stem. It borrows the sheet and the stem.
 #[derive(Drop)]
 pub struct Prepared<'a> {
-    sheet: &'a Sheet,
+    tables: Tables<'a>,
     stem: &'a Stem,
-    squares: Vec<u64>,
-    offers: Vec<Offer<'a>>,
+    profile: Profile<'a>,
 }
 
 impl<'a> Model for Prepared<'a> {
+    ghost use Rattle.std.specs.Prelude.{◌≡◌};
+    ghost use Rattle.buck_stem.specs.Profile.{profile_of};
     ghost use Rattle.buck_value.specs.Prepared.{PreparedParts, prepared_of};
-    ghost use Rattle.buck_value.specs.Offers.{ArePrepared};
 
     ghost Value = { PreparedParts };
 
-    ghost view = { λ p. prepared_of p.sheet.now p.stem.now };
+    ghost view = { λ p. prepared_of p.tables.sheet p.stem.now p.tables.codes };
 
-    ghost invariant = { λ p. ArePrepared p.sheet.now p.stem.now p.squares.items p.offers.items };
+    ghost invariant = { λ p. p.profile ≡ profile_of p.stem.now p.tables.sheet.instruction.«module» };
 }
 
-/// The part of the volume that goes by the diameter, at each point.
-fn squares_of(alloc: Global, profile: &Profile<'_>) -> Result<Vec<u64>, AllocError>
-    ensures number { IfOk result (λ v. length v.items ≡ grid.points_of profile.now) }
-    ensures right { IfOk result (λ v. (j : ℕ) → j < length v.items → slice_index v.items j
-        ≡ diameter_at profile.now.stem.samples (j * profile.now.module) * diameter_at profile.now.stem.samples (j * profile.now.module) * 7854) }
+/// The wood of logs from point `i` to point `j` of a stem.
+fn wood_of(stem: &Stem, profile: &Profile<'_>, i: usize, j: usize) -> Wood
+    requires stem { profile.now.stem ≡ stem.now }
+    requires i { i ≤ j }
+    requires j { j < grid.points_of profile.now }
+    ensures valid { IsStem profile.now.stem }
+    ensures species { profile.now.stem.species ≡ result.species }
+    ensures grades { IsMask profile.now.stem.zones (i * profile.now.«module») (j * profile.now.«module») result.grades }
+    ensures diameter { diameter_at profile.now.stem.samples (j * profile.now.«module») ≡ result.diameter }
+    ensures thin { result.diameter ≤ 1500 }
 {
-    let points = profile.points();
-    let mut squares = Vec::with_capacity(alloc, points)?;
-    for point in 0..points {
-        let diameter = u64::from(profile.diameter(point));
-        squares.push(diameter * diameter * 7854)?;
+    let _points = profile.points();
+    Wood {
+        species: stem.species(),
+        grades: profile.grades(i, j),
+        diameter: profile.diameter(j),
     }
-    Ok(squares)
 }
 
-/// The tables of each assortment.
-fn offers_of<'a>(
-    alloc: Global,
-    sheet: &'a Sheet,
+/// Offers to earlier points the logs of rung `rung`, and of those that follow it as far as the steps have the grades of
+/// its first step, that end at point `end`, each followed by what is worth `base`. The answer is the first rung that is
+/// longer.
+fn offer_run<'a>(
+    tables: &mut Tables<'a>,
     stem: &Stem,
     profile: &Profile<'_>,
-) -> Result<Vec<Offer<'a>>, AllocError>
-    requires stem { profile.now.stem ≡ stem.now }
-    requires step { profile.now.module ≡ sheet.now.instruction.module }
-    ensures number { IfOk result (λ v. length v.items ≡ length sheet.now.instruction.assortments) }
-    ensures right { IfOk result (λ v. (a : ℕ) → (o : OfferParts) → slice_get v.items a ≡ Some o → IsOffer sheet.now stem.now a o) }
+    alloc: Global,
+    values: &mut Vec<u64>,
+    rung: usize,
+    end: usize,
+    base: u64,
+) -> Result<usize, AllocError>
+    requires profile { profile.now ≡ profile_of stem.now tables.old.sheet.instruction.«module» }
+    requires rung { rung < length tables.old.rungs }
+    requires steps { slice_index tables.old.rungs rung ≤ end }
+    requires end { end < points_of (prepared_of tables.old.sheet stem.now tables.old.codes) }
+    requires number { end < length values.old.items }
+    requires base { base ≤ 4000000000000000000 }
+    ensures same { tables.new ≡ tables.old }
+    ensures number { length values.new.items ≡ length values.old.items }
+    ensures next { IfOk result (λ n. (rung < n) × (n ≤ length tables.old.rungs)) }
+    ensures within { IfOk result (λ n. (r : ℕ) → rung ≤ r → r < n → slice_index tables.old.rungs r ≤ end) }
+    ensures relaxed { IfOk result (λ n. (r : ℕ) → rung ≤ r → r < n
+        → IsRelaxed (prepared_of tables.old.sheet stem.now tables.old.codes) (end - slice_index tables.old.rungs r) end base
+        (slice_index values.old.items (end - slice_index tables.old.rungs r))
+        (slice_index values.new.items (end - slice_index tables.old.rungs r))) }
+    ensures others { IfOk result (λ n. (i : ℕ)
+        → ((r : ℕ) → rung ≤ r → r < n → slice_index tables.old.rungs r + i ≡ end → ⊥)
+        → slice_index values.new.items i ≡ slice_index values.old.items i) }
 {
-    let all = assortments_of(sheet);
-    let mut offers = Vec::with_capacity(alloc, all.len())?;
-    let mut before = 0;
-    for place in 0..all.len() {
-        offers.push(Offer::make(alloc, sheet, place, before, stem, profile)?)?;
-        before += all[place].classes();
+    let steps = tables.ladder().rungs()[rung] as usize;
+    let wood = wood_of(stem, profile, end - steps, end);
+    let reach = end - profile.run_start(end - steps);
+    tables.offer(alloc, values, wood, rung, end, reach, base)
+}
+
+/// Offers to each earlier point the logs that end at point `end`, by the tables of a sheet; see [`Prepared::relax`].
+fn relax<'a>(
+    tables: &mut Tables<'a>,
+    stem: &Stem,
+    profile: &Profile<'_>,
+    alloc: Global,
+    values: &mut Vec<u64>,
+    end: usize,
+) -> Result<(), Memory>
+    requires profile { profile.now ≡ profile_of stem.now tables.old.sheet.instruction.«module» }
+    requires end { end < points_of (prepared_of tables.old.sheet stem.now tables.old.codes) }
+    requires number { length values.old.items ≡ points_of (prepared_of tables.old.sheet stem.now tables.old.codes) }
+    requires low { slice_index values.old.items end ≤ 4000000000000000000 }
+    ensures same { tables.new ≡ tables.old }
+    ensures number { OnOk result (length values.new.items ≡ length values.old.items) }
+    ensures later { OnOk result ((k : ℕ) → end ≤ k → k < length values.old.items
+        → slice_index values.new.items k ≡ slice_index values.old.items k) }
+    ensures earlier { OnOk result ((i : ℕ) → i < end
+        → IsRelaxed (prepared_of tables.old.sheet stem.now tables.old.codes) i end (unmarked (slice_index values.old.items end))
+        (slice_index values.old.items i) (slice_index values.new.items i)) }
+{
+    let base = values[end] / 1024 * 1024;
+    let rungs = tables.ladder().rungs().len();
+    let mut rung = 0;
+    while rung < rungs {
+        if end < tables.ladder().rungs()[rung] as usize {
+            return Ok(());
+        }
+        rung = offer_run(tables, stem, profile, alloc, values, rung, end, base)?;
     }
-    Ok(offers)
-}
-
-/// The assortments of a sheet's instruction.
-fn assortments_of(sheet: &Sheet) -> &[Assortment]
-    ensures items { result.now ≡ sheet.now.instruction.assortments }
-    ensures valid { IsSheet sheet.now }
-{
-    sheet.instruction().assortments()
-}
-
-/// The module of a sheet's instruction, in mm.
-fn module_of(sheet: &Sheet) -> u32
-    ensures step { result ≡ sheet.now.instruction.module }
-    ensures valid { IsSheet sheet.now }
-{
-    let _version = sheet.version();
-    sheet.instruction().module()
+    Ok(())
 }
 
 impl<'a> Prepared<'a> {
     /// The tables of a stem for a sheet. Refused as `Memory` alone.
     pub fn make(alloc: Global, sheet: &'a Sheet, stem: &'a Stem) -> Result<Prepared<'a>, Memory>
-        ensures { IfOk result (λ p. p ≡ prepared_of sheet.now stem.now) }
+        ensures sheet { IfOk result (λ p. p.sheet ≡ sheet.now) }
+        ensures stem { IfOk result (λ p. p.stem ≡ stem.now) }
     {
-        let profile = Profile::make(alloc, stem, module_of(sheet))?;
-        let squares = squares_of(alloc, &profile)?;
-        let offers = offers_of(alloc, sheet, stem, &profile)?;
+        Prepared::with(alloc, Tables::make(alloc, sheet, ROOM)?, stem)
+    }
+
+    /// The same with a sheet's tables that are there already, as from [`Prepared::into_tables`]. Refused as `Memory`
+    /// alone; the tables are then dropped.
+    pub fn with(alloc: Global, tables: Tables<'a>, stem: &'a Stem) -> Result<Prepared<'a>, Memory>
+        ensures sheet { IfOk result (λ p. p.sheet ≡ tables.entry.sheet) }
+        ensures stem { IfOk result (λ p. p.stem ≡ stem.now) }
+    {
+        let module = tables.ladder().sheet.instruction().module();
+        let profile = Profile::make(alloc, stem, module)?;
         Ok(Prepared {
-            sheet,
+            tables,
             stem,
-            squares,
-            offers,
+            profile,
         })
+    }
+
+    /// The tables of the sheet, for the next stem.
+    pub fn into_tables(self) -> Tables<'a>
+        ensures { result.sheet ≡ self.entry.sheet }
+    {
+        self.tables
     }
 
     /// How many points there are, the butt among them.
@@ -113,23 +170,135 @@ impl<'a> Prepared<'a> {
         ensures number { result ≡ points_of self.now }
         ensures sheet { IsSheet self.now.sheet }
         ensures stem { IsStem self.now.stem }
+        ensures codes { AreCodes self.now.sheet.instruction self.now.codes }
     {
-        self.squares.len()
+        let _ladder = self.tables.ladder();
+        self.profile.points()
+    }
+
+    /// Offers to each earlier point the logs that end at point `end`, each followed by what follows there: a value is
+    /// a worth times 1,024, and the mark of a first log.
+    pub fn relax(&mut self, alloc: Global, values: &mut Vec<u64>, end: usize) -> Result<(), Memory>
+        requires end { end < points_of self.old }
+        requires number { length values.old.items ≡ points_of self.old }
+        requires low { slice_index values.old.items end ≤ 4000000000000000000 }
+        ensures same { self.new ≡ self.old }
+        ensures number { OnOk result (length values.new.items ≡ length values.old.items) }
+        ensures later { OnOk result ((k : ℕ) → end ≤ k → k < length values.old.items → slice_index values.new.items k ≡ slice_index values.old.items k) }
+        ensures earlier { OnOk result ((i : ℕ) → i < end → IsRelaxed self.old i end (unmarked (slice_index values.old.items end)) (slice_index values.old.items i) (slice_index values.new.items i)) }
+    {
+        relax(
+            &mut self.tables,
+            self.stem,
+            &self.profile,
+            alloc,
+            values,
+            end,
+        )
+    }
+
+    /// The log of a mark that starts at point `i`.
+    pub fn marked(&self, i: usize, mark: usize) -> Log
+        requires i { i < points_of self.now }
+        requires high { mark ≤ 1023 }
+        requires mark { 1023 - mark < length self.now.codes }
+        ensures start { result.start ≡ i * self.now.sheet.instruction.«module» }
+        ensures code { code_of result.length result.assortment ≡ slice_index self.now.codes (1023 - mark) }
+        ensures assortment { result.assortment < 16 }
+    {
+        let _points = self.points();
+        let ladder = self.tables.ladder();
+        let code = ladder.codes[1023 - mark];
+        Log {
+            start: i as u32 * ladder.sheet.instruction().module(),
+            length: code / 16,
+            assortment: (code % 16) as u8,
+        }
+    }
+}
+
+/// The class of a log of this wood, of the assortment at a place and with the length of a column, or `None` where it
+/// isn't allowed.
+fn class_of_wood(assortment: &Assortment, wood: Wood, place: usize, column: usize) -> Option<Class>
+    requires place { place < 16 }
+    requires column { column < length assortment.now.lengths }
+    ensures allowed { IfSome result (λ _. (step : ℕ) (stem : StemParts) (start : ℕ)
+        → IsWood step wood stem (log_of start (slice_index assortment.now.lengths column) place)
+        → Allows step assortment.now stem (log_of start (slice_index assortment.now.lengths column) place)) }
+    ensures class { IfSome result (λ c. (step : ℕ) (stem : StemParts) (start : ℕ)
+        → IsWood step wood stem (log_of start (slice_index assortment.now.lengths column) place)
+        → c ≡ class_in (Some assortment.now) stem (log_of start (slice_index assortment.now.lengths column) place)) }
+    ensures none { IfNone result ((step : ℕ) (stem : StemParts) (start : ℕ)
+        → IsWood step wood stem (log_of start (slice_index assortment.now.lengths column) place)
+        → Allows step assortment.now stem (log_of start (slice_index assortment.now.lengths column) place) → ⊥) }
+{
+    if !takes(assortment, wood.species, wood.grades) {
+        return None;
+    }
+    if wood.diameter < assortment.diameters()[0] {
+        return None;
+    }
+    if assortment.upper() <= wood.diameter {
+        return None;
+    }
+    let _lengths = assortment.lengths();
+    let row = row_of(assortment, wood.diameter);
+    if assortment.price(row, column) == 0 {
+        return None;
+    }
+    Some(Class {
+        assortment: place as u8,
+        row: row as u8,
+        column: column as u8,
+    })
+}
+
+impl<'a> Prepared<'a> {
+    /// The assortment at a place.
+    fn assortment(&self, place: usize) -> &Assortment
+        requires { place < length self.now.sheet.instruction.assortments }
+        ensures there { slice_get self.now.sheet.instruction.assortments place ≡ Some result.now }
+        ensures sheet { IsSheet self.now.sheet }
+    {
+        &self.tables.ladder().sheet.instruction().assortments()[place]
+    }
+
+    /// The point at which the log of point `i`, an assortment and a column ends, or that would be there.
+    fn end(&self, i: usize, assortment: usize, column: usize) -> usize
+        requires i { i < points_of self.now }
+        requires assortment { assortment < length self.now.sheet.instruction.assortments }
+        requires column { column < length (lengths_of self.now assortment) }
+        ensures after { i ≤ result }
+        ensures end { end_of (log_at self.now i assortment column) ≡ result * self.now.sheet.instruction.«module» }
+    {
+        let _points = self.points();
+        let module = self.tables.ladder().sheet.instruction().module();
+        i + (self.assortment(assortment).lengths()[column] / module) as usize
+    }
+
+    /// The diameter at a point.
+    fn diameter(&self, point: usize) -> u32
+        requires { point < points_of self.now }
+        ensures diameter { result ≡ diameter_at self.now.stem.samples (point * self.now.sheet.instruction.«module») }
+        ensures high { result ≤ 1500 }
+    {
+        self.profile.diameter(point)
+    }
+
+    /// The wood of logs from point `i` to point `j`.
+    fn wood(&self, i: usize, j: usize) -> Wood
+        requires i { i ≤ j }
+        requires j { j < points_of self.now }
+        ensures { (g : Log) → IsFromTo self.now i j g → IsWood self.now.sheet.instruction.«module» result self.now.stem g }
+    {
+        wood_of(self.stem, &self.profile, i, j)
     }
 
     /// How many assortments there are.
     pub fn assortments(&self) -> usize
         ensures { result ≡ length self.now.sheet.instruction.assortments }
     {
-        self.offers.len()
-    }
-
-    /// The tables of the assortment at a place.
-    fn offer(&self, assortment: usize) -> &Offer<'a>
-        requires { assortment < length self.now.sheet.instruction.assortments }
-        ensures { IsOffer self.now.sheet self.now.stem assortment result.now }
-    {
-        &self.offers[assortment]
+        self.tables.ladder().sheet.instruction().assortments().len()
     }
 
     /// How many lengths the assortment at a place has.
@@ -137,73 +306,7 @@ impl<'a> Prepared<'a> {
         requires { assortment < length self.now.sheet.instruction.assortments }
         ensures { result ≡ length (lengths_of self.now assortment) }
     {
-        self.offer(assortment).columns()
-    }
-
-    /// How many points a log with the length of a column goes on.
-    pub fn steps(&self, assortment: usize, column: usize) -> usize
-        requires assortment { assortment < length self.now.sheet.instruction.assortments }
-        requires column { column < length (lengths_of self.now assortment) }
-        ensures { result * self.now.sheet.instruction.module ≡ slice_index (lengths_of self.now assortment) column }
-    {
-        self.offer(assortment).steps(column) as usize
-    }
-
-    /// The log that starts at point `i`, of the assortment at a place, with the length of a column.
-    pub fn log(&self, i: usize, assortment: usize, column: usize) -> Log
-        requires i { i < points_of self.now }
-        requires assortment { assortment < length self.now.sheet.instruction.assortments }
-        requires column { column < length (lengths_of self.now assortment) }
-        ensures { result ≡ log_at self.now i assortment column }
-    {
-        let _points = self.points();
-        Log {
-            start: i as u32 * module_of(self.sheet),
-            length: self.offer(assortment).length(column),
-            assortment: assortment as u8,
-        }
-    }
-}
-
-/// The worth of a piece of a price kind, from its price, the square of its top diameter and its length.
-fn worth_by_square(kind: u8, price: u32, square: u64, length: u32) -> u64
-    requires price { price ≤ 20000000 }
-    requires square { square ≤ 20000000000 }
-    requires length { length ≤ 30000 }
-    ensures { result ≡ worth_at kind price (square * length / 10000000) }
-{
-    if kind == 1 {
-        u64::from(price) * (square * u64::from(length) / 10_000_000)
-    } else {
-        u64::from(price) * 1_000_000
-    }
-}
-
-impl<'a> Prepared<'a> {
-    /// What the log of point `i`, an assortment and a column is worth, in millionths of the price unit, or `None` where
-    /// it isn't allowed.
-    pub fn worth(&self, i: usize, assortment: usize, column: usize) -> Option<u64>
-        requires i { i < points_of self.now }
-        requires assortment { assortment < length self.now.sheet.instruction.assortments }
-        requires column { column < length (lengths_of self.now assortment) }
-        ensures allowed { IfSome result (λ _. IsAllowed self.now.sheet.instruction self.now.stem (log_at self.now i assortment column)) }
-        ensures worth { IfSome result (λ w. w ≡ worth_of self.now.sheet self.now.stem (log_at self.now i assortment column)) }
-        ensures none { IfNone result (IsAllowed self.now.sheet.instruction self.now.stem (log_at self.now i assortment column) → ⊥) }
-    {
-        let points = self.points();
-        let offer = self.offer(assortment);
-        let end = i + offer.steps(column) as usize;
-        if end >= points {
-            return None;
-        }
-        let top = offer.top(end);
-        if i < top.from as usize {
-            return None;
-        }
-        let Some(price) = offer.term(top.place as usize + column) else {
-            return None;
-        };
-        Some(worth_by_square(offer.kind(), price, self.square(end), offer.length(column)))
+        self.assortment(assortment).lengths().len()
     }
 
     /// The class of the log of point `i`, an assortment and a column, or `None` where it isn't allowed.
@@ -215,36 +318,48 @@ impl<'a> Prepared<'a> {
         ensures class { IfSome result (λ c. c ≡ class_of self.now.sheet.instruction self.now.stem (log_at self.now i assortment column)) }
         ensures none { IfNone result (IsAllowed self.now.sheet.instruction self.now.stem (log_at self.now i assortment column) → ⊥) }
     {
-        match self.worth(i, assortment, column) {
-            None => None,
-            Some(_) => Some(self.class_there(i, assortment, column)),
+        let points = self.points();
+        let end = self.end(i, assortment, column);
+        if end >= points {
+            return None;
         }
+        class_of_wood(
+            self.assortment(assortment),
+            self.wood(i, end),
+            assortment,
+            column,
+        )
     }
 
-    /// The class of an allowed log.
-    fn class_there(&self, i: usize, assortment: usize, column: usize) -> Class
+    /// What an allowed log of a class is worth.
+    fn worth_in_class(&self, i: usize, assortment: usize, column: usize, class: Class) -> u64
         requires i { i < points_of self.now }
         requires assortment { assortment < length self.now.sheet.instruction.assortments }
         requires column { column < length (lengths_of self.now assortment) }
         requires allowed { IsAllowed self.now.sheet.instruction self.now.stem (log_at self.now i assortment column) }
-        ensures { result ≡ class_of self.now.sheet.instruction self.now.stem (log_at self.now i assortment column) }
+        requires class { class ≡ class_of self.now.sheet.instruction self.now.stem (log_at self.now i assortment column) }
+        ensures { result ≡ worth_of self.now.sheet self.now.stem (log_at self.now i assortment column) }
     {
-        let _points = self.points();
-        let offer = self.offer(assortment);
-        let end = i + offer.steps(column) as usize;
-        let row = offer.top(end).place as usize / offer.columns();
-        Class {
-            assortment: assortment as u8,
-            row: row as u8,
-            column: column as u8,
-        }
+        let chosen = self.assortment(assortment);
+        let length = chosen.lengths()[column];
+        let top = self.diameter(self.end(i, assortment, column));
+        let price = self.tables.ladder().sheet.price(class);
+        worth_of_piece(chosen.price_kind(), price, volume_of(top, length))
     }
 
-    /// The part of the volume that goes by the diameter, at a point.
-    fn square(&self, point: usize) -> u64
-        requires { point < points_of self.now }
-        ensures square { result ≡ diameter_at self.now.stem.samples (point * self.now.sheet.instruction.module) * diameter_at self.now.stem.samples (point * self.now.sheet.instruction.module) * 7854 }
+    /// What the log of point `i`, an assortment and a column is worth, in millionths of the price unit, or `None` where
+    /// it isn't allowed.
+    pub fn worth(&self, i: usize, assortment: usize, column: usize) -> Option<u64>
+        requires i { i < points_of self.now }
+        requires assortment { assortment < length self.now.sheet.instruction.assortments }
+        requires column { column < length (lengths_of self.now assortment) }
+        ensures allowed { IfSome result (λ _. IsAllowed self.now.sheet.instruction self.now.stem (log_at self.now i assortment column)) }
+        ensures worth { IfSome result (λ w. w ≡ worth_of self.now.sheet self.now.stem (log_at self.now i assortment column)) }
+        ensures none { IfNone result (IsAllowed self.now.sheet.instruction self.now.stem (log_at self.now i assortment column) → ⊥) }
     {
-        self.squares[point]
+        match self.class(i, assortment, column) {
+            None => None,
+            Some(class) => Some(self.worth_in_class(i, assortment, column, class)),
+        }
     }
 }

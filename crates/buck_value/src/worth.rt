@@ -15,7 +15,7 @@ use buck_apt::{Assortment, Class};
 use buck_stem::Stem;
 
 /// The volume in cm³ of a cylinder, rounded down, from its diameter and its length in mm. A quarter of pi is 0.7854.
-fn volume_of(diameter: u32, length: u32) -> u64
+pub(crate) fn volume_of(diameter: u32, length: u32) -> u64
     requires diameter { diameter ≤ 2000 }
     requires length { length ≤ 30000 }
     ensures value { result ≡ volume diameter length }
@@ -27,7 +27,7 @@ fn volume_of(diameter: u32, length: u32) -> u64
 }
 
 /// The worth of a piece in millionths of the price unit, by its price kind, its price and its volume in cm³.
-fn worth_of_piece(kind: u8, price: u32, cubic: u64) -> u64
+pub(crate) fn worth_of_piece(kind: u8, price: u32, cubic: u64) -> u64
     requires price { price ≤ 20000000 }
     requires cubic { cubic ≤ 100000000 }
     ensures { result ≡ worth_at kind price cubic }

@@ -18,7 +18,6 @@ fn prepared_stem(rt: HostRuntime) -> Result<(), Fail> {
     assert_eq!(rt; prepared.assortments(), 1);
     assert!(rt; 0 < prepared.assortments());
     assert_eq!(rt; prepared.columns(0), 2);
-    assert_eq!(rt; prepared.steps(0, 1), 40);
     let class = Class {
         assortment: 0,
         row: 1,
@@ -29,11 +28,5 @@ fn prepared_stem(rt: HostRuntime) -> Result<(), Fail> {
     assert_eq!(rt; prepared.class(0, 0, 1), None);
     assert_eq!(rt; prepared.class(1, 0, 0), None);
     assert_eq!(rt; prepared.worth(1, 0, 0), None);
-    let log = Log {
-        start: 100,
-        length: 4000,
-        assortment: 0,
-    };
-    assert_eq!(rt; prepared.log(1, 0, 1), log);
     Ok(())
 }

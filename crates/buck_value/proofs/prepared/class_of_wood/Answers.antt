@@ -1,0 +1,92 @@
+-- The class of logs of some wood and a length that the assortment has.
+use Rattle.std.proofs.Common.{◌≡◌, ℕ, ◌+◌, ◌*◌, ◌<◌, ◌≤◌, ◌==◌, List, length, get_or, slice_index, position, Some, IsTrue, true≢false, eq-eqb, refl, sym, ◌∙◌, ap, arith}
+use Rattle.std.specs.List.{position_or_len}
+use Rattle.std.specs.List.Sorted.{IsStrictlyIncreasing}
+use Rattle.std.proofs.lemmas.Bool.{ne_eqb, cond-true, lt-ltb}
+use Rattle.std.proofs.lemmas.List.Sums.{position_or_len_is}
+use Rattle.buck_apt.specs.declared.class.Class.{Class}
+use Rattle.buck_apt.specs.Instruction.{AssortmentParts, IsAssortment}
+use Rattle.buck_stem.specs.Stem.{StemParts}
+use Rattle.buck_value.specs.declared.ladder.Wood.{Wood}
+use Rattle.buck_value.specs.declared.log.Log.{Log}
+use Rattle.buck_value.specs.Allowed.{log_of, end_of, top_diameter, row_at, column_of, place_in}
+use Rattle.buck_value.specs.Quotes.{IsWood}
+use Rattle.buck_value.proofs.Classes.{allows_by_tests, column_is}
+use Rattle.buck_value.proofs.WoodLemmas.{mask_allows}
+use Rattle.buck_value.proofs.RelaxLemmas.{longer}
+use Rattle.buck_value.proofs.prepared.class_of_wood.Goals as goal
+
+-- a length stands once among lengths that rise
+found_at : (xs : List ℕ) (c : ℕ) → IsStrictlyIncreasing xs → c < length xs
+    → position (λ y. y == slice_index xs c) xs ≡ Some c
+found_at xs c rise lt =
+    let l : ℕ = slice_index xs c in
+    let place : position_or_len (λ y. y == l) xs ≡ c =
+    position_or_len_is (λ y. y == l) xs c 0 (omega arith)
+    (λ k early. ne_eqb (get_or xs k 0) l (λ e.
+    (let r : slice_index xs k < slice_index xs c = longer xs rise k c early lt in omega arith)))
+    (λ _. eq-eqb (get_or xs c 0) l refl) in
+    let within : position_or_len (λ y. y == l) xs < length xs = omega arith in
+    cond-true _ _ _ (lt-ltb _ _ within) ∙ ap (λ n. Some n) place
+
+-- the class of its numbers
+abbrev make_class : ℕ → ℕ → ℕ → Class
+make_class a row column = record { assortment = a; row = row; column = column }
+
+-- the row of logs of some wood
+row_is : (a : AssortmentParts) (step row : ℕ) (stem : StemParts) (wood : Wood) (g : Log) → row ≡ row_at a wood.diameter
+    → IsWood step wood stem g → row ≡ row_at a (top_diameter stem g)
+row_is a step row stem wood g is w = is ∙ ap (row_at a) (sym w.top)
+
+-- the column of a length
+column_at : (a : AssortmentParts) (c : ℕ) → IsAssortment a → c < length a.lengths
+    → column_of a (slice_index a.lengths c) ≡ c
+column_at a c v lt = column_is a (slice_index a.lengths c) c (found_at a.lengths c v.lengths_rise lt)
+
+pub returns-then-not-takes-clause-none : goal.returns-then-not-takes-clause-none
+returns-then-not-takes-clause-none c = λ step stem start w al.
+    let a : AssortmentParts = c.args.assortment.now in
+    let g : Log = log_of start (slice_index a.lengths c.args.column) c.args.place in
+    let grades = (mask_allows stem start (end_of g) c.args.wood.grades a.grades w.valid w.grades).1 al.grades in
+    let yes : IsTrue c.takes.result = c.takes.ensures.1 (al.species ∙ w.species, grades) in
+    true≢false (sym yes ∙ c.if-not-takes.true)
+
+pub returns-then-price-eq0-clause-none : goal.returns-then-price-eq0-clause-none
+returns-then-price-eq0-clause-none c = λ step stem start w al.
+    let a : AssortmentParts = c.args.assortment.now in
+    let row : ℕ = c.row_of-row.result in
+    let g : Log = log_of start (slice_index a.lengths c.args.column) c.args.place in
+    let column : column_of a g.length ≡ c.args.column =
+    column_at a c.args.column c.lengths-lengths.ensures.valid c.requires.column in
+    let rows : row ≡ row_at a (top_diameter stem g) = row_is a step row stem c.args.wood g c.row_of-row.ensures.row w in
+    let place : place_in a stem g ≡ row * length a.lengths + c.args.column =
+    omega (arith, column, ap (λ r. r * length a.lengths) rows) in
+    al.priced (ap (slice_index a.prices) place ∙ sym c.price.ensures ∙ c.if-price-eq0.true)
+
+pub returns-clause-allowed : goal.returns-clause-allowed
+returns-clause-allowed c = λ step stem start w.
+    let a : AssortmentParts = c.args.assortment.now in
+    let wood : Wood = c.args.wood in
+    let g : Log = log_of start (slice_index a.lengths c.args.column) c.args.place in
+    let taken = c.takes.ensures.0 c.if-not-takes.false in
+    let low : slice_index c.diameters.result.now 0 ≤ wood.diameter = c.if-wood-diameters.false in
+    allows_by_tests step a stem g c.args.column c.row_of-row.result c.price.result wood.diameter
+    (taken.0 ∙ sym w.species) w.on_module
+    (found_at a.lengths c.args.column c.lengths-lengths.ensures.valid.lengths_rise c.requires.column)
+    w.within
+    ((mask_allows stem start (end_of g) wood.grades a.grades w.valid w.grades).0 taken.1)
+    (sym w.top)
+    (rw c.diameters.ensures.limits at low)
+    (omega (arith, c.upper.ensures, c.if-upper-wood.false))
+    c.row_of-row.ensures.row c.price.ensures c.if-price-eq0.false
+
+pub returns-clause-class : goal.returns-clause-class
+returns-clause-class c = λ step stem start w.
+    let a : AssortmentParts = c.args.assortment.now in
+    let row : ℕ = c.row_of-row.result in
+    let g : Log = log_of start (slice_index a.lengths c.args.column) c.args.place in
+    let column : column_of a g.length ≡ c.args.column =
+    column_at a c.args.column c.lengths-lengths.ensures.valid c.requires.column in
+    let rows : row ≡ row_at a (top_diameter stem g) = row_is a step row stem c.args.wood g c.row_of-row.ensures.row w in
+    ap (λ r. make_class c.args.place r c.args.column) rows
+    ∙ ap (make_class c.args.place (row_at a (top_diameter stem g))) (sym column)

@@ -1,0 +1,28 @@
+-- What the logs that end at a point bring to the points where they start.
+use Rattle.std.specs.Prelude.{◌≡◌, ℕ, ◌+◌, ◌*◌, ◌/◌, ◌≤◌, ◌⊎◌}
+use Rattle.buck_value.specs.declared.log.Log.{Log}
+use Rattle.buck_value.specs.Allowed.{IsAllowed, worth_of, end_of}
+use Rattle.buck_value.specs.Codes.{HasMark}
+use Rattle.buck_value.specs.Prepared.{PreparedParts}
+
+-- a number holds a worth and, in its last ten bits, a mark: this is its part without the mark
+abbrev pub unmarked : ℕ → ℕ
+unmarked v = v / 1024 * 1024
+
+-- the worth of an allowed log, with its mark
+pub record IsBid (p : PreparedParts) (g : Log) (bid : ℕ) : Type 0 where
+  pub allowed : IsAllowed p.sheet.instruction p.stem g
+  pub mark : ℕ
+  pub marked : HasMark p.codes g mark
+  pub is : bid ≡ worth_of p.sheet p.stem g * 1024 + mark
+
+-- a log from point i to point j
+pub record IsFromTo (p : PreparedParts) (i j : ℕ) (g : Log) : Type 0 where
+  pub start : g.start ≡ i * p.sheet.instruction.«module»
+  pub ends : end_of g ≡ j * p.sheet.instruction.«module»
+
+-- the value of point i, once the logs from there to point j are offered to it, each with what follows it
+pub record IsRelaxed (p : PreparedParts) (i j base old new : ℕ) : Type 0 where
+  pub kept : old ≤ new
+  pub each : (g : Log) (bid : ℕ) → IsFromTo p i j g → IsBid p g bid → bid + base ≤ new
+  pub one : (new ≡ old) ⊎ ((new ≡ base) ⊎ ((g : Log) × (bid : ℕ) × IsFromTo p i j g × IsBid p g bid × (new ≡ bid + base)))

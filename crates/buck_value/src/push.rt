@@ -1,0 +1,56 @@
+//! The inner loop of the cutting programme: offers of a row of cells to the values of earlier points.
+ghost use Rattle.std.specs.Prelude.{◌≡◌, ℕ, ◌+◌, ◌-◌, ◌<◌, ◌≤◌, length, slice_index};
+ghost use Rattle.std.specs.List.Sorted.{IsStrictlyIncreasing};
+ghost use Rattle.buck_value.specs.Push.{IsRaised};
+
+/// The first rung from `rung` on that is longer than `reach`.
+pub fn rung_past(rungs: &[u32], rung: usize, reach: usize) -> usize
+    requires rung { rung ≤ length rungs.now }
+    ensures next { (rung ≤ result) × (result ≤ length rungs.now) }
+    ensures within { (r : ℕ) → rung ≤ r → r < result → slice_index rungs.now r ≤ reach }
+    ensures stops { result < length rungs.now → reach < slice_index rungs.now result }
+{
+    let mut next = rung;
+    while next < rungs.len() && rungs[next] as usize <= reach {
+        next += 1;
+    }
+    next
+}
+
+/// Raises the value of each point that lies a rung of at most `reach` steps before `end`, from `rung` on, to the cell
+/// of that rung with `base` added. The cells stand from `from` on. The answer is the first rung past `reach`.
+pub fn push_cells(
+    values: &mut [u64],
+    rungs: &[u32],
+    cells: &[u64],
+    from: usize,
+    rung: usize,
+    end: usize,
+    reach: usize,
+    base: u64,
+) -> usize
+    requires rung { rung ≤ length rungs.now }
+    requires end { end < length values.old }
+    requires reach { reach ≤ end }
+    requires cells { from + length rungs.now ≤ length cells.now }
+    requires rise { IsStrictlyIncreasing rungs.now }
+    requires positive { (r : ℕ) → r < length rungs.now → 0 < slice_index rungs.now r }
+    requires high { (r : ℕ) → r < length rungs.now → slice_index cells.now (from + r) ≤ 2000000000000000000 }
+    requires base { base ≤ 4000000000000000000 }
+    ensures number { length values.new ≡ length values.old }
+    ensures next { (rung ≤ result) × (result ≤ length rungs.now) }
+    ensures within { (r : ℕ) → rung ≤ r → r < result → slice_index rungs.now r ≤ reach }
+    ensures stops { result < length rungs.now → reach < slice_index rungs.now result }
+    ensures offered { (r : ℕ) → rung ≤ r → r < result
+        → IsRaised (slice_index values.old (end - slice_index rungs.now r)) (slice_index cells.now (from + r) + base) (slice_index values.new (end - slice_index rungs.now r)) }
+    ensures others { (i : ℕ) → ((r : ℕ) → rung ≤ r → r < result → slice_index rungs.now r + i ≡ end → ⊥) → slice_index values.new i ≡ slice_index values.old i }
+{
+    let mut next = rung;
+    while next < rungs.len() && rungs[next] as usize <= reach {
+        let start = end - rungs[next] as usize;
+        let bid = cells[from + next] + base;
+        values[start] = values[start].max(bid);
+        next += 1;
+    }
+    next
+}
