@@ -1,6 +1,9 @@
 pub mod Optimal
 pub mod Places
 pub mod Bounds
-pub mod Steps
 pub mod Walk
 pub mod Lists
+pub mod Marks
+pub mod Offered
+pub mod Values
+pub mod Settled

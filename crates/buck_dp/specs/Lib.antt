@@ -1,5 +1,5 @@
 pub mod Order
 pub mod Cutting
 pub mod Best
-pub mod RowOrder
 pub mod Table
+pub mod Values

@@ -3,10 +3,9 @@
 
 mod cutting;
 pub mod laws;
-mod row;
 mod table;
 #[cfg(test)]
 mod tests;
 
 pub use cutting::Cutting;
-pub use table::{admissible, best, worth};
+pub use table::{admissible, best, best_of, worth};

@@ -1,15 +1,14 @@
-//! The table: for each place on the stem, what the best cutting from there on is worth and begins with.
+//! The table: for each point of the stem, what the best cutting from there on is worth and begins with, in one number.
 
-ghost use Rattle.std.specs.Prelude.{◌≡◌, ℕ, ◌+◌, ◌-◌, ◌*◌, ◌/◌, ◌%◌, ◌^◌, ◌<◌, ◌≤◌, List, [], ◌∷◌, ◌++◌, IfOk, IfSome, IfNone, IsTrue, ◌↔◌, length, vec_len, slice_index, ◌⊎◌};
+ghost use Rattle.std.specs.Prelude.{◌≡◌, ◌-◌, ◌/◌, ◌<◌, ◌≤◌, IfOk, IsTrue, ◌↔◌, length};
 ghost use Rattle.buck_value.specs.Allowed.{IsAllowed, worth_of, end_of};
-ghost use Rattle.buck_dp.specs.Table.{top_of, IsTable, ChoiceAt, CandidateAt, RowAt, IsTop};
 ghost use Rattle.buck_value.specs.Sheet.{IsSheet};
-ghost use Rattle.buck_value.specs.Prepared.{points_of, lengths_of, log_at};
-ghost use Rattle.buck_dp.specs.RowOrder.{IsAhead, row_of};
+ghost use Rattle.buck_value.specs.Prepared.{points_of};
+ghost use Rattle.buck_dp.specs.Table.{IsTop};
+ghost use Rattle.buck_dp.specs.Values.{AreValuesFrom, settled};
 ghost use Rattle.buck_dp.specs.Best.{IsAdmissible, IsFirstBest, cutting_worth};
 
 use crate::cutting::Cutting;
-use crate::row::{Row, better};
 use buck_record::Memory;
 use buck_stem::Stem;
 use buck_value::{Log, Prepared, Sheet, log_worth, worth_if_allowed};
@@ -24,16 +23,6 @@ fn module_of(sheet: &Sheet) -> u32
     sheet.instruction().module()
 }
 
-/// The first place at or after `end`, as a number of steps.
-fn place_after(step: u32, end: u32) -> u32
-    requires step { 0 < step }
-    requires room { end + step < 2 ^ 32 }
-    ensures after { end ≤ result * step }
-    ensures first { result * step < end + step }
-{
-    (end + step - 1) / step
-}
-
 /// Where an allowed log ends, in mm from the butt.
 fn end_of(sheet: &Sheet, stem: &Stem, log: &Log) -> u32
     requires { IsAllowed sheet.now.instruction stem.now log.now }
@@ -44,163 +33,80 @@ fn end_of(sheet: &Sheet, stem: &Stem, log: &Log) -> u32
     log.start + log.length
 }
 
-/// The row of the first place after `log`.
-fn rest_after(sheet: &Sheet, stem: &Stem, rows: &[Row], log: Log) -> Row
-    requires table { IsTable sheet.now stem.now rows.now }
-    requires allowed { IsAllowed sheet.now.instruction stem.now log }
-    requires reached { top_of sheet.now stem.now ≤ length rows.now + log.start / sheet.now.instruction.module }
-    ensures { RowAt sheet.now stem.now (end_of log) result }
+/// Gives point `here` the value of the next point without its mark, where that is more: no log starts here then.
+fn settle(values: &mut Vec<u64>, here: usize)
+    requires { here < length values.old.items }
+    ensures { values.new.items ≡ settled values.old.items here }
 {
-    let step = module_of(sheet);
-    let top = stem.length() / step + 1;
-    let place = place_after(step, end_of(sheet, stem, &log));
-    rows[(top - place) as usize]
+    let next = if here + 1 < values.len() {
+        values[here + 1]
+    } else {
+        0
+    };
+    values[here] = values[here].max(next / 1024 * 1024);
 }
 
-/// The row of the first place after the log of point `i`, an assortment and a column.
-fn rest_at(prepared: &Prepared<'_>, rows: &[Row], i: usize, assortment: usize, column: usize) -> Row
-    requires table { IsTable prepared.now.sheet prepared.now.stem rows.now }
-    requires i { i < points_of prepared.now }
-    requires assortment { assortment < length prepared.now.sheet.instruction.assortments }
-    requires column { column < length (lengths_of prepared.now assortment) }
-    requires allowed { IsAllowed prepared.now.sheet.instruction prepared.now.stem (log_at prepared.now i assortment column) }
-    requires reached { top_of prepared.now.sheet prepared.now.stem ≤ length rows.now + i }
-    ensures { RowAt prepared.now.sheet prepared.now.stem (end_of (log_at prepared.now i assortment column)) result }
+/// The values of all points, from the top end down to the butt.
+fn values_of(alloc: Global, prepared: &mut Prepared<'_>) -> Result<Vec<u64>, Memory>
+    ensures same { prepared.new ≡ prepared.old }
+    ensures right { IfOk result (λ v. AreValuesFrom prepared.old v.items 0) }
 {
-    let top = prepared.points();
-    let steps = prepared.steps(assortment, column);
-    rows[top - (i + steps)]
-}
-
-/// The better of the choice so far and what begins with the log of point `i`, an assortment and a column and is worth
-/// so much.
-fn better_with(
-    prepared: &Prepared<'_>,
-    i: usize,
-    assortment: usize,
-    column: usize,
-    worth: u64,
-    choice: Row,
-) -> Row
-    requires i { i < points_of prepared.now }
-    requires assortment { assortment < length prepared.now.sheet.instruction.assortments }
-    requires column { column < length (lengths_of prepared.now assortment) }
-    ensures { let candidate = row_of worth (log_at prepared.now i assortment column) in
-        (IsAhead choice candidate × (result ≡ choice)) ⊎ ((IsAhead choice candidate → ⊥) × (result ≡ candidate)) }
-{
-    if worth < choice.worth {
-        return choice;
+    let points = prepared.points();
+    let mut values = vec![in alloc; 0u64; points]?;
+    for below in 0..points {
+        let here = points - 1 - below;
+        settle(&mut values, here);
+        prepared.relax(alloc, &mut values, here)?;
     }
-    let log = prepared.log(i, assortment, column);
-    better(
-        choice,
-        Row {
-            worth,
-            first: Some(log),
-        },
-    )
+    Ok(values)
 }
 
-/// The better of the choice so far and what begins with the log of point `i`, an assortment and a column.
-fn offered(
-    prepared: &Prepared<'_>,
-    rows: &[Row],
-    i: usize,
-    assortment: usize,
-    column: usize,
-    choice: Row,
-) -> Row
-    requires table { IsTable prepared.now.sheet prepared.now.stem rows.now }
-    requires i { i < points_of prepared.now }
-    requires assortment { assortment < length prepared.now.sheet.instruction.assortments }
-    requires column { column < length (lengths_of prepared.now assortment) }
-    requires reached { top_of prepared.now.sheet prepared.now.stem ≤ length rows.now + i }
-    ensures { (tried : List ℕ)
-        → ChoiceAt prepared.now.sheet prepared.now.stem (i * prepared.now.sheet.instruction.module) assortment tried choice
-        → ChoiceAt prepared.now.sheet prepared.now.stem (i * prepared.now.sheet.instruction.module) assortment
-        (tried ++ slice_index (lengths_of prepared.now assortment) column ∷ []) result }
+/// How many steps from point to point so many millimetres are. The log of any mark tells what a step is: at point 1 it
+/// starts one step from the butt.
+fn steps_of(prepared: &Prepared<'_>, mark: usize, millimetres: u32) -> usize
+    requires high { mark ≤ 1023 }
+    requires mark { 1023 - mark < length prepared.now.codes }
+    requires points { 1 < points_of prepared.now }
+    ensures { result ≡ millimetres / prepared.now.sheet.instruction.module }
 {
-    let _points = prepared.points();
-    match prepared.worth(i, assortment, column) {
-        None => choice,
-        Some(worth) => {
-            let rest = rest_at(prepared, rows, i, assortment, column);
-            better_with(prepared, i, assortment, column, worth + rest.worth, choice)
+    let _valid = prepared.points();
+    let step = prepared.marked(1, mark).start;
+    (millimetres / step) as usize
+}
+
+/// The logs of the best cutting, from the values of all points.
+fn follow(alloc: Global, prepared: &Prepared<'_>, values: &[u64]) -> Result<Vec<Log>, AllocError>
+    requires { AreValuesFrom prepared.now values.now 0 }
+    ensures { IfOk result (λ logs. IsTop (IsAllowed prepared.now.sheet.instruction prepared.now.stem) end_of (worth_of prepared.now.sheet prepared.now.stem) 0 logs.items) }
+{
+    let points = prepared.points();
+    let mut logs = Vec::new(alloc);
+    let mut i = 0;
+    while i < points {
+        let mark = (values[i] % 1024) as usize;
+        if mark == 0 {
+            i += 1;
+        } else {
+            let log = prepared.marked(i, mark);
+            logs.push(log)?;
+            i += steps_of(prepared, mark, log.length);
         }
     }
-}
-
-/// The better of the choice so far and all that begins at point `i` with a log of this assortment.
-fn choice_of_assortment(
-    prepared: &Prepared<'_>,
-    rows: &[Row],
-    i: usize,
-    assortment: usize,
-    choice: Row,
-) -> Row
-    requires table { IsTable prepared.now.sheet prepared.now.stem rows.now }
-    requires i { i < points_of prepared.now }
-    requires assortment { assortment < length prepared.now.sheet.instruction.assortments }
-    requires reached { top_of prepared.now.sheet prepared.now.stem ≤ length rows.now + i }
-    requires choice { ChoiceAt prepared.now.sheet prepared.now.stem (i * prepared.now.sheet.instruction.module) assortment [] choice }
-    ensures { ChoiceAt prepared.now.sheet prepared.now.stem (i * prepared.now.sheet.instruction.module) assortment (lengths_of prepared.now assortment) result }
-{
-    let mut choice = choice;
-    for column in 0..prepared.columns(assortment) {
-        choice = offered(prepared, rows, i, assortment, column, choice);
-    }
-    choice
-}
-
-/// The row of point `i`, from the row `later` of the next point.
-fn row_for(prepared: &Prepared<'_>, rows: &[Row], i: usize, later: Row) -> Row
-    requires table { IsTable prepared.now.sheet prepared.now.stem rows.now }
-    requires i { i < points_of prepared.now }
-    requires reached { top_of prepared.now.sheet prepared.now.stem ≤ length rows.now + i }
-    requires later { RowAt prepared.now.sheet prepared.now.stem (i * prepared.now.sheet.instruction.module + prepared.now.sheet.instruction.module) later }
-    ensures { RowAt prepared.now.sheet prepared.now.stem (i * prepared.now.sheet.instruction.module) result }
-{
-    let _points = prepared.points();
-    let mut choice = later;
-    for assortment in 0..prepared.assortments() {
-        choice = choice_of_assortment(prepared, rows, i, assortment, choice);
-    }
-    choice
-}
-
-/// The whole table, from the top end of the stem down to the butt.
-fn make_rows(alloc: Global, prepared: &Prepared<'_>) -> Result<Vec<Row>, AllocError>
-    ensures right { IfOk result (λ rows. IsTable prepared.now.sheet prepared.now.stem rows.items) }
-    ensures whole { IfOk result (λ rows. vec_len rows ≡ top_of prepared.now.sheet prepared.now.stem + 1) }
-{
-    let top = prepared.points();
-    let mut rows = Vec::new(alloc);
-    let mut last = Row {
-        worth: 0,
-        first: None,
-    };
-    rows.push(last)?;
-    for below in 0..top {
-        last = row_for(prepared, rows.as_slice(), top - 1 - below, last);
-        rows.push(last)?;
-    }
-    Ok(rows)
-}
-
-/// The logs of the best cutting, from the whole table.
-fn follow(alloc: Global, sheet: &Sheet, stem: &Stem, rows: &[Row]) -> Result<Vec<Log>, AllocError>
-    requires table { IsTable sheet.now stem.now rows.now }
-    requires whole { length rows.now ≡ top_of sheet.now stem.now + 1 }
-    ensures { IfOk result (λ logs. IsTop (IsAllowed sheet.now.instruction stem.now) end_of (worth_of sheet.now stem.now) 0 logs.items) }
-{
-    let _valid = module_of(sheet);
-    let mut logs = Vec::new(alloc);
-    let mut row = rows[rows.len() - 1];
-    while let Some(log) = row.first {
-        logs.push(log)?;
-        row = rest_after(sheet, stem, rows, log);
-    }
     Ok(logs)
+}
+
+/// The first of the best cuttings of a prepared stem, and its worth in millionths of the price unit, as [`best`] gives
+/// them.
+pub fn best_of(alloc: Global, prepared: &mut Prepared<'_>) -> Result<(Cutting, u64), Memory>
+    ensures same { prepared.new ≡ prepared.old }
+    ensures first { IfOk result (λ found. IsFirstBest prepared.old.sheet prepared.old.stem found.0.logs.items) }
+    ensures worth { IfOk result (λ found. found.1 ≡ cutting_worth prepared.old.sheet prepared.old.stem found.0.logs.items) }
+{
+    let _valid = prepared.points();
+    let values = values_of(alloc, prepared)?;
+    let logs = follow(alloc, prepared, values.as_slice())?;
+    let worth = values[0] / 1024;
+    Ok((Cutting { logs }, worth))
 }
 
 /// The first of the best cuttings of a stem under a sheet, and its worth in millionths of the price unit.
@@ -208,8 +114,8 @@ fn follow(alloc: Global, sheet: &Sheet, stem: &Stem, rows: &[Row]) -> Result<Vec
 /// The cutting is admissible, no admissible list of logs is worth more, and it comes before every other such one: at
 /// the first difference stands the lower start, then the shorter log, then the lower assortment, and a list that goes
 /// on comes before its own prefix. So a log worth nothing is cut where it is allowed. Where no log is allowed, the
-/// cutting is empty and worth 0. `Memory` where a list couldn't grow: one row for each place where a log may start, and
-/// the logs.
+/// cutting is empty and worth 0. `Memory` where a list couldn't grow: the tables of the stem, one number for each point,
+/// and the logs.
 ///
 /// Bucking as a longest path, solved by dynamic programming over the places of a stem: M. Näsberg, "Mathematical
 /// Programming Models for Optimal Log Bucking", Linköping, 1985.
@@ -217,13 +123,8 @@ pub fn best(alloc: Global, sheet: &Sheet, stem: &Stem) -> Result<(Cutting, u64),
     ensures first { IfOk result (λ found. IsFirstBest sheet.now stem.now found.0.logs.items) }
     ensures worth { IfOk result (λ found. found.1 ≡ cutting_worth sheet.now stem.now found.0.logs.items) }
 {
-    let prepared = Prepared::make(alloc, sheet, stem)?;
-    let rows = make_rows(alloc, &prepared)?;
-    let table = rows.as_slice();
-    let butt = table[table.len() - 1];
-    let logs = follow(alloc, sheet, stem, table)?;
-    let worth = butt.worth;
-    Ok((Cutting { logs }, worth))
+    let mut prepared = Prepared::make(alloc, sheet, stem)?;
+    best_of(alloc, &mut prepared)
 }
 
 /// Whether a cutting is admissible: each log is allowed and starts at or after the end of the one before. Any logs may

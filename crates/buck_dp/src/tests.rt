@@ -8,7 +8,7 @@ mod small_stems;
 use super::*;
 use buck_apt::{Instruction, read_apt};
 use buck_stem::Stem;
-use buck_value::{Log, Sheet};
+use buck_value::{Log, Prepared, Sheet};
 use std::sync::Arc;
 use std::test::Fail;
 

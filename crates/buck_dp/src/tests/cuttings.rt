@@ -41,6 +41,21 @@ fn two_short_logs(rt: HostRuntime) -> Result<(), Fail> {
     Ok(())
 }
 
+/// A prepared stem is cut as the stem itself, each time it is asked.
+#[test]
+fn prepared_stem_asked_twice(rt: HostRuntime) -> Result<(), Fail> {
+    let sheet = base_of(&rt, SAW)?;
+    let stem = uniform_stem(&rt, 41, 250)?;
+    let mut prepared = Prepared::make(rt.alloc(), &sheet, &stem)?;
+    let first = best_of(rt.alloc(), &mut prepared)?;
+    let second = best_of(rt.alloc(), &mut prepared)?;
+    assert_eq!(rt; first.0.logs.as_slice(), [log(0, 4000, 0)].as_slice());
+    assert_eq!(rt; first.1, 157_080_000);
+    assert_eq!(rt; first.0.logs, second.0.logs);
+    assert_eq!(rt; first.1, second.1);
+    Ok(())
+}
+
 #[test]
 fn tie_goes_to_lower_start(rt: HostRuntime) -> Result<(), Fail> {
     let sheet = base_of(&rt, SAW)?;

@@ -1,23 +1,60 @@
-use Rattle.std.proofs.Common.{None}
-use Rattle.buck_value.specs.Allowed.{end_of}
-use Rattle.buck_dp.proofs.Walk.{walk_step, walk_smaller, butt_row}
+use Rattle.std.proofs.Common.{◌≡◌, ◌+◌, ◌*◌, ◌++◌, [], ◌∷◌, ℕ, List, arith, subst}
+use Rattle.buck_value.specs.declared.log.Log.{Log}
+use Rattle.buck_value.specs.Prepared.{PreparedParts, points_of}
+use Rattle.buck_dp.proofs.Walk.{AnyRest}
+use Rattle.buck_dp.proofs.Values.{walk_skip, mark_within, walk_log, walk_end}
 use Rattle.buck_dp.proofs.table.follow.Goals as goal
 
-pub loop-row-init : goal.loop-row-init
-loop-row-init c = (
-  0,
-  butt_row c.args.sheet.now c.args.stem.now c.args.rows.now (record { worth = 0; first = None }) c.requires.table c.requires.whole,
-  λ rest t. rw c.new-logs.ensures.items t,
-)
+pub loop-i-preserved-then-mark-eq0 : goal.loop-i-preserved-then-mark-eq0
+loop-i-preserved-then-mark-eq0 c =
+    let s = c.points-points.ensures in
+    record {
+      within = omega arith;
+      best = walk_skip c.args.prepared.now c.args.values.now c.loop-i.i c.loop-i.logs.items s.sheet s.stem s.codes
+          c.requires (omega arith) (omega arith) c.loop-i.invariant.best;
+    }
 
-pub loop-row-smaller : goal.loop-row-smaller
-loop-row-smaller c =
-    walk_smaller c.args.sheet.now c.args.stem.now c.loop-row.invariant.0 c.in-Some.log c.loop-row.row c.rest_after-row.result c.module_of-valid.ensures.valid c.loop-row.invariant.1 c.in-Some.is c.rest_after-row.ensures
+pub marked-log-requires-clause-mark : goal.marked-log-requires-clause-mark
+marked-log-requires-clause-mark c =
+    let s = c.points-points.ensures in
+    mark_within c.args.prepared.now c.args.values.now c.loop-i.i s.sheet s.stem s.codes
+    c.requires (omega arith) (omega arith)
 
-pub loop-row-preserved : goal.loop-row-preserved
-loop-row-preserved c = (
-  end_of c.in-Some.log,
-  c.rest_after-row.ensures,
-  rw c.in_ok-push.ensures.items
-      (walk_step c.args.sheet.now c.args.stem.now c.loop-row.invariant.0 c.in-Some.log c.loop-row.row c.loop-row.logs.items c.loop-row.invariant.1 c.in-Some.is c.loop-row.invariant.2),
-)
+pub steps_of-i-requires-clause-mark : goal.steps_of-i-requires-clause-mark
+steps_of-i-requires-clause-mark c =
+    let s = c.points-points.ensures in
+    mark_within c.args.prepared.now c.args.values.now c.loop-i.i s.sheet s.stem s.codes
+    c.requires (omega arith) (omega arith)
+
+pub loop-i-smaller : goal.loop-i-smaller
+loop-i-smaller c =
+    let s = c.points-points.ensures in
+    let log = c.marked-log.ensures in
+    let j = walk_log c.args.prepared.now c.args.values.now c.loop-i.i c.marked-log.result c.loop-i.logs.items
+    s.sheet s.stem s.codes c.requires (omega arith) (omega arith)
+    log.start log.code log.assortment c.loop-i.invariant.best in
+    omega (arith, j.1, j.2, j.3, c.steps_of-i.ensures)
+
+pub loop-i-preserved : goal.loop-i-preserved
+loop-i-preserved c =
+    let p : PreparedParts = c.args.prepared.now in
+    let s = c.points-points.ensures in
+    let log = c.marked-log.ensures in
+    let j = walk_log p c.args.values.now c.loop-i.i c.marked-log.result c.loop-i.logs.items
+    s.sheet s.stem s.codes c.requires (omega arith) (omega arith)
+    log.start log.code log.assortment c.loop-i.invariant.best in
+    let at : j.0 ≡ c.loop-i.i + c.steps_of-i.result = omega (arith, j.3, c.steps_of-i.ensures) in
+    let logs : List Log = c.loop-i.logs.items ++ c.marked-log.result ∷ [] in
+    record {
+      within = omega (arith, j.2, at);
+      best = rw c.in_ok-push.ensures.items
+          (subst (λ (n : ℕ). AnyRest p.sheet p.stem (n * p.sheet.instruction.«module») logs) at j.6);
+    }
+
+pub returns : goal.returns
+returns c =
+    let p : PreparedParts = c.args.prepared.now in
+    let logs : List Log = c.loop-i.logs.items in
+    let end : c.loop-i.i ≡ points_of p = (let le = c.loop-i.invariant.within in omega arith) in
+    walk_end p logs c.points-points.ensures.sheet
+    (subst (λ (n : ℕ). AnyRest p.sheet p.stem (n * p.sheet.instruction.«module») logs) end c.loop-i.invariant.best)

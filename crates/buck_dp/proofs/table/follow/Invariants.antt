@@ -1,10 +1,13 @@
-use Rattle.std.proofs.Common.{ℕ}
-use Rattle.buck_dp.specs.Table.{RowAt}
-use Rattle.buck_dp.proofs.Walk.{AnyRest, left_of}
+use Rattle.std.proofs.Common.{◌≤◌, ◌*◌, ◌-◌}
+use Rattle.buck_value.specs.Prepared.{points_of}
+use Rattle.buck_dp.proofs.Walk.{AnyRest}
 use Rattle.buck_dp.proofs.table.follow.Given as goal
 
-abbrev pub invariant-loop-row : goal.invariant-loop-row
-invariant-loop-row l = (from : ℕ) × RowAt l.sheet l.stem from l.row × AnyRest l.sheet l.stem from l.logs.items
+abbrev pub invariant-loop-i : goal.invariant-loop-i
+invariant-loop-i l = record {
+  within : l.i ≤ points_of l.prepared;
+  best : AnyRest l.prepared.sheet l.prepared.stem (l.i * l.prepared.sheet.instruction.«module») l.logs.items;
+}
 
-abbrev pub decreases-loop-row : goal.decreases-loop-row
-decreases-loop-row l = left_of l.stem l.row.first
+abbrev pub decreases-loop-i : goal.decreases-loop-i
+decreases-loop-i l = l.points - l.i
