@@ -1,5 +1,5 @@
 //! The text of a bucking.
-ghost use Rattle.std.specs.Prelude.{◌≡◌, ◌++◌, ◌∷◌, IfOk, OnOk, All};
+ghost use Rattle.std.specs.Prelude.{◌≡◌, ◌++◌, ◌∷◌, ◌<◌, ◌^◌, IfOk, OnOk, All};
 ghost use Rattle.std.specs.Fmt.{decimal};
 ghost use Rattle.std.specs.List.{flat_map};
 ghost use Rattle.buck_record.specs.Written.{spelled};
@@ -9,13 +9,16 @@ ghost use Rattle.buckfleet.specs.Text.{IsBuckText, IsTextUnder, IsPut, base_shee
 
 use crate::fault::TextFault;
 use buck_apt::Instruction;
-use buck_dp::best;
+use buck_dp::best_of;
 use buck_record::Memory;
 use buck_stem::Stem;
-use buck_value::{Log, Sheet, class_of, log_worth};
+use buck_value::{Log, Prepared, Sheet, Tables, class_of, log_worth};
 use itoa::Buffer;
 use std::alloc::{AllocError, Global};
 use std::sync::Arc;
+
+/// How many cells of eight bytes the tables keep from stem to stem.
+const ROOM: usize = 1_000_000;
 
 /// Puts a number in decimal, after a blank.
 fn put_number(out: &mut Vec<u8>, number: u128) -> Result<(), AllocError>
@@ -119,20 +122,27 @@ fn put_total(out: &mut Vec<u8>, stems: usize, logs: u128, worth: u128) -> Result
     put_line(out, b"TOTAL", &[stems as u128, logs, worth])
 }
 
-/// Cuts a stem, and puts its lines. The answer is how many logs there are, and their worth.
-fn put_cut(
+/// Cuts a stem, and puts its lines. The answer is how many logs there are, their worth, and the sheet's tables for the
+/// next stem.
+fn put_cut<'a>(
     alloc: Global,
     out: &mut Vec<u8>,
     sheet: &Sheet,
-    stem: &Stem,
-) -> Result<(usize, u64), Memory>
-    ensures { IfOk result (λ cut. IsPut sheet.now stem.now out.old.items out.new.items cut.0 cut.1) }
+    tables: Tables<'a>,
+    stem: &'a Stem,
+) -> Result<(usize, u64, Tables<'a>), Memory>
+    requires { tables.sheet ≡ sheet.now }
+    ensures put { IfOk result (λ cut. IsPut sheet.now stem.now out.old.items out.new.items cut.0 cut.1) }
+    ensures logs_fit { IfOk result (λ cut. cut.0 < 2 ^ 64) }
+    ensures worth_fits { IfOk result (λ cut. cut.1 < 2 ^ 64) }
+    ensures same { IfOk result (λ cut. cut.2.sheet ≡ sheet.now) }
 {
-    let (cutting, worth) = best(alloc, sheet, stem)?;
+    let mut prepared = Prepared::with(alloc, tables, stem)?;
+    let (cutting, worth) = best_of(alloc, &mut prepared)?;
     let logs = cutting.logs.as_slice();
     put_stem(out, stem, logs.len(), worth)?;
     put_logs(out, sheet, stem, logs)?;
-    Ok((logs.len(), worth))
+    Ok((logs.len(), worth, prepared.into_tables()))
 }
 
 /// The sheet of the base prices.
@@ -144,16 +154,18 @@ fn base_sheet(alloc: Global, instruction: &Instruction) -> Result<Sheet, Memory>
 }
 
 /// The text of the stems, bucked under a sheet.
-fn text_under(alloc: Global, sheet: &Sheet, stems: &[Stem]) -> Result<Vec<u8>, Memory>
+fn text_under<'a>(alloc: Global, sheet: &'a Sheet, stems: &'a [Stem]) -> Result<Vec<u8>, Memory>
     ensures { IfOk result (λ text. IsTextUnder sheet.now stems.now text.items) }
 {
     let mut out = Vec::new(alloc);
     let mut logs = 0;
     let mut worth = 0;
+    let mut tables = Tables::make(alloc, sheet, ROOM)?;
     for stem in stems {
-        let (count, value) = put_cut(alloc, &mut out, sheet, stem)?;
+        let (count, value, same) = put_cut(alloc, &mut out, sheet, tables, stem)?;
         logs += count as u128;
         worth += u128::from(value);
+        tables = same;
     }
     put_total(&mut out, stems.len(), logs, worth)?;
     Ok(out)
