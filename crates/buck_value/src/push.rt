@@ -6,51 +6,49 @@ ghost use Rattle.buck_value.specs.Push.{IsRaised};
 /// The first rung from `rung` on that is longer than `reach`.
 pub fn rung_past(rungs: &[u32], rung: usize, reach: usize) -> usize
     requires rung { rung ≤ length rungs.now }
+    requires rise { IsStrictlyIncreasing rungs.now }
     ensures next { (rung ≤ result) × (result ≤ length rungs.now) }
     ensures within { (r : ℕ) → rung ≤ r → r < result → slice_index rungs.now r ≤ reach }
     ensures stops { result < length rungs.now → reach < slice_index rungs.now result }
 {
+    let count = rungs.len();
+    if rung < count && rungs[count - 1] as usize <= reach {
+        return count;
+    }
     let mut next = rung;
-    while next < rungs.len() && rungs[next] as usize <= reach {
+    while next < count && rungs[next] as usize <= reach {
         next += 1;
     }
     next
 }
 
-/// Raises the value of each point that lies a rung of at most `reach` steps before `end`, from `rung` on, to the cell
-/// of that rung with `base` added. The cells stand from `from` on. The answer is the first rung past `reach`.
+/// Raises the value of each point that lies a rung before `end`, from rung `rung` on and before `past`, to the cell of
+/// that rung with `base` added. The cells stand from `from` on.
 pub fn push_cells(
     values: &mut [u64],
     rungs: &[u32],
     cells: &[u64],
     from: usize,
     rung: usize,
+    past: usize,
     end: usize,
-    reach: usize,
     base: u64,
-) -> usize
-    requires rung { rung ≤ length rungs.now }
+)
+    requires past { (rung ≤ past) × (past ≤ length rungs.now) }
     requires end { end < length values.old }
-    requires reach { reach ≤ end }
+    requires reach { (r : ℕ) → rung ≤ r → r < past → slice_index rungs.now r ≤ end }
     requires cells { from + length rungs.now ≤ length cells.now }
     requires rise { IsStrictlyIncreasing rungs.now }
-    requires positive { (r : ℕ) → r < length rungs.now → 0 < slice_index rungs.now r }
     requires high { (r : ℕ) → r < length rungs.now → slice_index cells.now (from + r) ≤ 2000000000000000000 }
     requires base { base ≤ 4000000000000000000 }
     ensures number { length values.new ≡ length values.old }
-    ensures next { (rung ≤ result) × (result ≤ length rungs.now) }
-    ensures within { (r : ℕ) → rung ≤ r → r < result → slice_index rungs.now r ≤ reach }
-    ensures stops { result < length rungs.now → reach < slice_index rungs.now result }
-    ensures offered { (r : ℕ) → rung ≤ r → r < result
+    ensures offered { (r : ℕ) → rung ≤ r → r < past
         → IsRaised (slice_index values.old (end - slice_index rungs.now r)) (slice_index cells.now (from + r) + base) (slice_index values.new (end - slice_index rungs.now r)) }
-    ensures others { (i : ℕ) → ((r : ℕ) → rung ≤ r → r < result → slice_index rungs.now r + i ≡ end → ⊥) → slice_index values.new i ≡ slice_index values.old i }
+    ensures others { (i : ℕ) → ((r : ℕ) → rung ≤ r → r < past → slice_index rungs.now r + i ≡ end → ⊥) → slice_index values.new i ≡ slice_index values.old i }
 {
-    let mut next = rung;
-    while next < rungs.len() && rungs[next] as usize <= reach {
+    for next in rung..past {
         let start = end - rungs[next] as usize;
         let bid = cells[from + next] + base;
         values[start] = values[start].max(bid);
-        next += 1;
     }
-    next
 }

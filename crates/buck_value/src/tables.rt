@@ -126,16 +126,10 @@ fn is_of(table: &WoodTable, wood: Wood) -> bool
     table.species == wood.species && table.grades == wood.grades
 }
 
-/// The place of the table of a species and a set of grades, looked for at the place `last` first.
-fn find(woods: &[WoodTable], last: usize, wood: Wood) -> Option<usize>
+/// The place of the table of a species and a set of grades.
+fn find(woods: &[WoodTable], wood: Wood) -> Option<usize>
     ensures { IfSome result (λ k. IsTableOf woods.now wood k) }
 {
-    if last < woods.len() {
-        let table = &woods[last];
-        if is_of(table, wood) {
-            return Some(last);
-        }
-    }
     for k in 0..woods.len() {
         let table = &woods[k];
         if is_of(table, wood) {
@@ -150,14 +144,13 @@ fn table_of(
     alloc: Global,
     ladder: &Ladder<'_>,
     woods: &mut Vec<WoodTable>,
-    last: usize,
     wood: Wood,
 ) -> Result<usize, AllocError>
     requires right { AreWoodTables ladder.now woods.old.items }
     ensures right { AreWoodTables ladder.now woods.new.items }
     ensures found { IfOk result (λ k. IsTableOf woods.new.items wood k) }
 {
-    match find(woods.as_slice(), last, wood) {
+    match find(woods.as_slice(), wood) {
         Some(k) => Ok(k),
         None => {
             woods.push(new_table(alloc, ladder, wood.species, wood.grades)?)?;
@@ -213,8 +206,51 @@ fn add_at(
     table.add(ladder, wood.diameter)
 }
 
+/// Where the cells of some wood stand, or `EMPTY`, if its table is the one at a place and they are made.
+fn made_at(ladder: &Ladder<'_>, woods: &[WoodTable], k: usize, wood: Wood) -> Option<usize>
+    requires right { AreWoodTables ladder.now woods.now }
+    requires diameter { wood.diameter ≤ 1500 }
+    ensures { IfSome result (λ at. IsFound woods.now wood k at) }
+{
+    if k >= woods.len() {
+        return None;
+    }
+    let table = &woods[k];
+    if !is_of(table, wood) {
+        return None;
+    }
+    match at_of(ladder, woods, k, wood) {
+        0 => None,
+        at => Some(at),
+    }
+}
+
 /// Where the cells of some wood stand, or `EMPTY`, with the place of their table. They are made where they aren't
 /// there; where too much is held, all tables are made anew.
+fn found_or_made(
+    alloc: Global,
+    ladder: &Ladder<'_>,
+    woods: &mut Vec<WoodTable>,
+    room: usize,
+    wood: Wood,
+) -> Result<(usize, usize), AllocError>
+    requires right { AreWoodTables ladder.now woods.old.items }
+    requires diameter { wood.diameter ≤ 1500 }
+    ensures right { AreWoodTables ladder.now woods.new.items }
+    ensures found { IfOk result (λ f. IsFound woods.new.items wood f.0 f.1) }
+{
+    let k = table_of(alloc, ladder, woods, wood)?;
+    let at = at_of(ladder, woods.as_slice(), k, wood);
+    if at != 0 {
+        return Ok((k, at));
+    }
+    make_room(woods, room);
+    let k = table_of(alloc, ladder, woods, wood)?;
+    let at = add_at(ladder, woods, k, wood)?;
+    Ok((k, at))
+}
+
+/// The same, with the table at the place `last` looked at first.
 fn found(
     alloc: Global,
     ladder: &Ladder<'_>,
@@ -228,15 +264,10 @@ fn found(
     ensures right { AreWoodTables ladder.now woods.new.items }
     ensures found { IfOk result (λ f. IsFound woods.new.items wood f.0 f.1) }
 {
-    let k = table_of(alloc, ladder, woods, last, wood)?;
-    let at = at_of(ladder, woods.as_slice(), k, wood);
-    if at != 0 {
-        return Ok((k, at));
+    match made_at(ladder, woods.as_slice(), last, wood) {
+        Some(at) => Ok((last, at)),
+        None => found_or_made(alloc, ladder, woods, room, wood),
     }
-    make_room(woods, room);
-    let k = table_of(alloc, ladder, woods, last, wood)?;
-    let at = add_at(ladder, woods, k, wood)?;
-    Ok((k, at))
 }
 
 /// Logs of some wood that end at point `end`, go on from rung `rung` on and are at most `reach` steps long, each followed
@@ -277,21 +308,21 @@ fn offer_found(
         → slice_index values.new i ≡ slice_index values.old i }
 {
     let rungs = ladder.rungs();
-    if at == EMPTY {
-        return rung_past(rungs, offer.rung, offer.reach);
+    let past = rung_past(rungs, offer.rung, offer.reach);
+    if at != EMPTY {
+        let table = &woods[k];
+        push_cells(
+            values,
+            rungs,
+            table.cells.as_slice(),
+            at - 1,
+            offer.rung,
+            past,
+            offer.end,
+            offer.base,
+        );
     }
-    let table = &woods[k];
-    let from = at - 1;
-    push_cells(
-        values,
-        rungs,
-        table.cells.as_slice(),
-        from,
-        offer.rung,
-        offer.end,
-        offer.reach,
-        offer.base,
-    )
+    past
 }
 
 /// The tables of a sheet: what logs bring under it, by their length, for each kind of wood that was asked for. They are
