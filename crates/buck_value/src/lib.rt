@@ -18,5 +18,5 @@ pub use fault::SheetFault;
 pub use log::Log;
 pub use prepared::Prepared;
 pub use sheet::Sheet;
-pub use tables::Tables;
+pub use tables::{Tables, room_of};
 pub use worth::{class_of, log_worth, worth_if_allowed};

@@ -13,16 +13,13 @@ ghost use Rattle.buck_value.specs.Codes.{AreCodes, code_of};
 use crate::ladder::{Wood, takes};
 use crate::log::Log;
 use crate::sheet::Sheet;
-use crate::tables::Tables;
+use crate::tables::{Tables, room_of};
 use crate::worth::{row_of, volume_of, worth_of_piece};
 use buck_apt::{Assortment, Class};
 use buck_record::Memory;
 use buck_stem::{Profile, Stem};
 use std::alloc::{AllocError, Global};
 use std::marker::Model;
-
-/// How many cells the tables of one stem keep.
-const ROOM: usize = 65_536;
 
 /// A stem prepared for cutting under a sheet. Logs start and end at its points, the multiples of the module that lie
 /// within the stem. It borrows the sheet and the stem.
@@ -140,7 +137,7 @@ impl<'a> Prepared<'a> {
         ensures sheet { IfOk result (λ p. p.sheet ≡ sheet.now) }
         ensures stem { IfOk result (λ p. p.stem ≡ stem.now) }
     {
-        Prepared::with(alloc, Tables::make(alloc, sheet, ROOM)?, stem)
+        Prepared::with(alloc, Tables::make(alloc, sheet, room_of(sheet))?, stem)
     }
 
     /// The same with a sheet's tables that are there already, as from [`Prepared::into_tables`]. Refused as `Memory`

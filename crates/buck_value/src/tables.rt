@@ -31,13 +31,13 @@ impl Model for WoodTable {
     ghost view = { λ w. record { species = w.species; grades = w.grades; takers = w.takers.items; at = w.at.items; cells = w.cells.items } };
 }
 
-/// A place for each diameter, where no cells are made.
-fn no_places(alloc: Global) -> Result<Vec<usize>, AllocError>
-    ensures number { IfOk result (λ v. length v.items ≡ 1501) }
-    ensures zeros { IfOk result (λ v. (d : ℕ) → d ≤ 1500 → slice_index v.items d ≡ 0) }
+/// So many places that are all 0.
+fn no_places(alloc: Global, count: usize) -> Result<Vec<usize>, AllocError>
+    ensures number { IfOk result (λ v. length v.items ≡ count) }
+    ensures zeros { IfOk result (λ v. (d : ℕ) → d < count → slice_index v.items d ≡ 0) }
 {
     let mut places = Vec::new(alloc);
-    places.resize(1501, 0)?;
+    places.resize(count, 0)?;
     Ok(places)
 }
 
@@ -56,7 +56,7 @@ fn new_table(
         species,
         grades,
         takers: ladder.takers(alloc, species, grades)?,
-        at: no_places(alloc)?,
+        at: no_places(alloc, 1501)?,
         cells: Vec::new(alloc),
     })
 }
@@ -88,7 +88,11 @@ fn push_row(
     ensures err { OnErr result (cells.new.items ≡ cells.old.items) }
 {
     let from = cells.len();
-    cells.resize(from + ladder.rungs().len(), 0)?;
+    let count = ladder.rungs().len();
+    if cells.capacity() - from < count {
+        cells.reserve_exact(count + from / 8)?;
+    }
+    cells.resize(from + count, 0)?;
     ladder.put(cells.as_mut_slice(), from, takers, wood);
     Ok(from)
 }
@@ -325,6 +329,15 @@ fn offer_found(
     past
 }
 
+/// How many cells the tables of a sheet may keep, so that they take less than one mebibyte at a module of 100 mm, and
+/// less than eight at one of 10 mm, whatever the instruction.
+pub fn room_of(sheet: &Sheet) -> usize
+    ensures low { 45000 ≤ result }
+    ensures high { result ≤ 450000 }
+{
+    (4_500_000 / sheet.instruction().module() as usize).max(45_000)
+}
+
 /// The tables of a sheet: what logs bring under it, by their length, for each kind of wood that was asked for. They are
 /// kept from stem to stem, so that each is made once.
 #[derive(Drop)]
@@ -332,17 +345,19 @@ pub struct Tables<'a> {
     ladder: Ladder<'a>,
     woods: Vec<WoodTable>,
     room: usize,
-    last: usize,
+    /// For each set of grades where its table was found last.
+    last: Vec<usize>,
 }
 
 impl<'a> Model for Tables<'a> {
+    ghost use Rattle.std.specs.Prelude.{◌≡◌, length};
     ghost use Rattle.buck_value.specs.Quotes.{LadderParts, AreWoodTables};
 
     ghost Value = { LadderParts };
 
     ghost view = { λ t. t.ladder };
 
-    ghost invariant = { λ t. AreWoodTables t.ladder t.woods.items };
+    ghost invariant = { λ t. AreWoodTables t.ladder t.woods.items × (length t.last.items ≡ 256) };
 }
 
 impl<'a> Tables<'a> {
@@ -355,7 +370,7 @@ impl<'a> Tables<'a> {
             ladder: Ladder::make(alloc, sheet)?,
             woods: Vec::new(alloc),
             room,
-            last: 0,
+            last: no_places(alloc, 256)?,
         })
     }
 
@@ -401,10 +416,10 @@ impl<'a> Tables<'a> {
             &self.ladder,
             &mut self.woods,
             self.room,
-            self.last,
+            self.last[wood.grades as usize],
             wood,
         )?;
-        self.last = k;
+        self.last[wood.grades as usize] = k;
         let offer = Offer {
             wood,
             rung,

@@ -12,13 +12,10 @@ use buck_apt::Instruction;
 use buck_dp::best_of;
 use buck_record::Memory;
 use buck_stem::Stem;
-use buck_value::{Log, Prepared, Sheet, Tables, class_of, log_worth};
+use buck_value::{Log, Prepared, Sheet, Tables, class_of, log_worth, room_of};
 use itoa::Buffer;
 use std::alloc::{AllocError, Global};
 use std::sync::Arc;
-
-/// How many cells of eight bytes the tables keep from stem to stem.
-const ROOM: usize = 1_000_000;
 
 /// Puts a number in decimal, after a blank.
 fn put_number(out: &mut Vec<u8>, number: u128) -> Result<(), AllocError>
@@ -160,7 +157,7 @@ fn text_under<'a>(alloc: Global, sheet: &'a Sheet, stems: &'a [Stem]) -> Result<
     let mut out = Vec::new(alloc);
     let mut logs = 0;
     let mut worth = 0;
-    let mut tables = Tables::make(alloc, sheet, ROOM)?;
+    let mut tables = Tables::make(alloc, sheet, room_of(sheet))?;
     for stem in stems {
         let (count, value, same) = put_cut(alloc, &mut out, sheet, tables, stem)?;
         logs += count as u128;
