@@ -1,5 +1,6 @@
 //! Tests: cuttings worked out by hand, and a plain search over all lists of logs.
 mod cuttings;
+mod kept_tables;
 mod largest;
 mod outside;
 mod slow;

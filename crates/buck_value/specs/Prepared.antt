@@ -1,5 +1,5 @@
 -- A stem prepared for cutting under a sheet, as clauses see it.
-use Rattle.std.specs.Prelude.{ℕ, ◌+◌, ◌*◌, ◌/◌, List, [], length, slice_get, slice_index, Option, Some, None}
+use Rattle.std.specs.Prelude.{ℕ, ◌+◌, ◌*◌, ◌/◌, List, [], slice_get, slice_index, Option, Some, None}
 use Rattle.buck_apt.specs.Instruction.{AssortmentParts}
 use Rattle.buck_stem.specs.Stem.{StemParts, stem_length}
 use Rattle.buck_value.specs.declared.log.Log.{Log}

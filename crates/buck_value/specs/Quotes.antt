@@ -1,5 +1,5 @@
 -- What logs bring, by their length, for each kind of wood.
-use Rattle.std.specs.Prelude.{◌≡◌, ℕ, ◌+◌, ◌-◌, ◌*◌, ◌%◌, ◌<◌, ◌≤◌, ◌⊎◌, ◌↔◌, IsTrue, List, Bool, [], length, slice_get, slice_index, Contains, Option, Some}
+use Rattle.std.specs.Prelude.{◌≡◌, ℕ, ◌+◌, ◌-◌, ◌*◌, ◌%◌, ◌<◌, ◌≤◌, ◌⊎◌, ◌↔◌, IsTrue, List, Bool, length, slice_get, slice_index, Contains, Some}
 use Rattle.std.specs.Int.{bit_at}
 use Rattle.buck_apt.specs.Instruction.{AssortmentParts}
 use Rattle.buck_stem.specs.Stem.{StemParts, IsStem, stem_length}

@@ -1,5 +1,4 @@
-use Rattle.std.proofs.Common.{◌≡◌, ◌-◌, ◌≤◌, length, get_or, slice_index, ◌∙◌, arith}
-use Rattle.std.proofs.lemmas.List.{get_or_default}
+use Rattle.std.proofs.Common.{◌-◌, ◌≤◌, length, get_or, arith}
 use Rattle.buck_value.proofs.CodesLemmas.{in_order}
 use Rattle.buck_value.proofs.push.rung_past.Goals as goal
 

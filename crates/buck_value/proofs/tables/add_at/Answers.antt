@@ -1,8 +1,6 @@
-use Rattle.std.proofs.Common.{◌≡◌, ℕ, ◌<◌, length, slice_get, slice_index, Some, List, IfOk, Result, Ok, Err, refl, sym, ◌∙◌, ap, subst, arith}
-use Rattle.std.proofs.Math.ListN.{set}
-use Rattle.std.proofs.lemmas.Option.{slice_get_within}
-use Rattle.buck_value.specs.Quotes.{WoodTableParts, AreWoodTables, IsWoodTable, IsTableOf, IsFound}
-use Rattle.buck_value.proofs.TablesLemmas.{table_here, tables_set, there_set, found_after}
+use Rattle.std.proofs.Common.{◌≡◌, subst}
+use Rattle.buck_value.specs.Quotes.{IsWoodTable}
+use Rattle.buck_value.proofs.TablesLemmas.{table_here, tables_set, found_after}
 use Rattle.buck_value.proofs.tables.add_at.Goals as goal
 
 pub add-requires-clause-right : goal.add-requires-clause-right

@@ -1,4 +1,3 @@
-use Rattle.std.proofs.Common.{◌≡◌, ap}
 use Rattle.buck_value.proofs.tables.found.Goals as goal
 
 pub made_at-requires-clause-right : goal.made_at-requires-clause-right

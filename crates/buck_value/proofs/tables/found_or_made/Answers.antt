@@ -1,5 +1,3 @@
-use Rattle.std.proofs.Common.{◌≡◌, ℕ, ap, subst, sym, List}
-use Rattle.buck_value.specs.Quotes.{WoodTableParts, AreWoodTables}
 use Rattle.buck_value.proofs.tables.found_or_made.Goals as goal
 
 pub at_of-at-requires-clause-right : goal.at_of-at-requires-clause-right

@@ -1,4 +1,4 @@
-use Rattle.std.proofs.Common.{◌<◌, arith}
+use Rattle.std.proofs.Common.{arith}
 use Rattle.buck_value.proofs.TablesLemmas.{none_made}
 use Rattle.buck_value.proofs.tables.new_table.Goals as goal
 

@@ -1,7 +1,6 @@
-use Rattle.std.proofs.Common.{◌≡◌, ℕ, ◌<◌, ◌≤◌, ◌+◌, ◌-◌, ◌*◌, List, length, slice_get, slice_index, Some, refl, sym, ◌∙◌, ap, subst, arith}
-use Rattle.std.proofs.lemmas.Option.{slice_get_within}
+use Rattle.std.proofs.Common.{◌≡◌, ℕ, ◌<◌, ◌≤◌, ◌+◌, ◌-◌, ◌*◌, List, length, slice_index, sym, ◌∙◌, ap, subst, arith}
 use Rattle.buck_value.specs.declared.ladder.Wood.{Wood}
-use Rattle.buck_value.specs.Quotes.{WoodTableParts, AreCellsAt, AreCells, IsCell, IsAny, wood_of}
+use Rattle.buck_value.specs.Quotes.{WoodTableParts, AreCellsAt, IsCell, IsAny}
 use Rattle.buck_value.proofs.TablesLemmas.{found_cells, same_wood, offered_none, offered_cell, table_found, below_empty}
 use Rattle.buck_value.proofs.tables.offer_found.Goals as goal
 

@@ -1,5 +1,4 @@
-use Rattle.std.proofs.Common.{◌≡◌, ℕ, ◌<◌, ◌+◌, ◌-◌, ◌++◌, [], ◌∷◌, length, slice_get, slice_index, Some, refl, sym, ◌∙◌, ap, subst, arith}
-use Rattle.buck_value.specs.Quotes.{WoodTableParts, AreWoodTables, IsTableOf}
+use Rattle.std.proofs.Common.{◌≡◌, ◌++◌, [], ◌∷◌, slice_get, Some, subst, arith}
 use Rattle.buck_value.proofs.TablesLemmas.{tables_push, last_pushed}
 use Rattle.buck_value.proofs.tables.table_of.Goals as goal
 

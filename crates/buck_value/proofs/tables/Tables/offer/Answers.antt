@@ -1,4 +1,4 @@
-use Rattle.std.proofs.Common.{◌≡◌, ℕ, ap, subst, sym, ◌∙◌, List, length, slice_index, ◌-◌, ◌*◌, arith}
+use Rattle.std.proofs.Common.{◌≡◌, ℕ, ap, List, length, arith}
 use Rattle.std.proofs.lemmas.List.{take_at}
 use Rattle.buck_value.proofs.tables.Tables.offer.Goals as goal
 

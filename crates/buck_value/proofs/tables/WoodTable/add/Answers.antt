@@ -1,4 +1,4 @@
-use Rattle.std.proofs.Common.{◌≡◌, ℕ, ◌+◌, ◌<◌, ap, subst, sym, ◌∙◌, List, length, slice_index, ◌≤◌, arith, refl}
+use Rattle.std.proofs.Common.{◌≡◌, ℕ, ◌+◌, ap, subst, sym, ◌∙◌, List, length, slice_index, arith, refl}
 use Rattle.std.proofs.Math.ListN.{set}
 use Rattle.buck_value.specs.Quotes.{WoodTableParts, IsWoodTable}
 use Rattle.buck_value.proofs.TablesLemmas.{added_cells, added_zeros}
