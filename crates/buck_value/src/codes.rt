@@ -83,6 +83,17 @@ pub fn rungs_of(alloc: Global, instruction: &Instruction) -> Result<Vec<u32>, Al
     Ok(rungs)
 }
 
+/// The same numbers, as wide as places.
+pub fn sizes_of(alloc: Global, numbers: &[u32]) -> Result<Vec<usize>, AllocError>
+    ensures { IfOk result (λ sizes. sizes.items ≡ numbers.now) }
+{
+    let mut sizes = Vec::with_capacity(alloc, numbers.len())?;
+    for number in numbers {
+        sizes.push(*number as usize)?;
+    }
+    Ok(sizes)
+}
+
 /// The place of a number in a list that rises and has it.
 fn place_in(numbers: &[u32], number: u32) -> usize
     requires rise { IsStrictlyIncreasing numbers.now }

@@ -6,7 +6,7 @@ ghost use Rattle.buck_value.specs.Allowed.{row_at};
 ghost use Rattle.buck_value.specs.Codes.{columns_before, IsPlace};
 ghost use Rattle.buck_value.specs.Quotes.{LadderParts, IsLadder, AllIn, TakesWood, IsColumnBid, AreCells, IsBefore, IsAny, AreTakers};
 
-use crate::codes::{Place, codes_of, places_of, rungs_of};
+use crate::codes::{Place, codes_of, places_of, rungs_of, sizes_of};
 use crate::sheet::Sheet;
 use crate::worth::{row_of, volume_of, worth_of_piece};
 use buck_apt::{Assortment, Instruction};
@@ -26,7 +26,7 @@ pub struct Wood {
 pub struct Ladder<'a> {
     pub sheet: &'a Sheet,
     pub codes: Vec<u32>,
-    pub rungs: Vec<u32>,
+    pub rungs: Vec<usize>,
     places: Vec<Place>,
 }
 
@@ -88,13 +88,13 @@ impl<'a> Ladder<'a> {
         Ok(Ladder {
             sheet,
             codes,
-            rungs,
+            rungs: sizes_of(alloc, rungs.as_slice())?,
             places,
         })
     }
 
     /// The lengths of all assortments in steps of the module.
-    pub fn rungs(&self) -> &[u32]
+    pub fn rungs(&self) -> &[usize]
         ensures rungs { result.now ≡ self.now.rungs }
         ensures right { IsLadder self.now }
     {

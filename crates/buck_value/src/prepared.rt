@@ -92,7 +92,7 @@ fn offer_run<'a>(
         → ((r : ℕ) → rung ≤ r → r < n → slice_index tables.old.rungs r + i ≡ end → ⊥)
         → slice_index values.new.items i ≡ slice_index values.old.items i) }
 {
-    let steps = tables.ladder().rungs()[rung] as usize;
+    let steps = tables.ladder().rungs()[rung];
     let wood = wood_of(stem, profile, end - steps, end);
     let reach = end - profile.run_start(end - steps);
     tables.offer(alloc, values, wood, rung, end, reach, base)
@@ -123,7 +123,7 @@ fn relax<'a>(
     let rungs = tables.ladder().rungs().len();
     let mut rung = 0;
     while rung < rungs {
-        if end < tables.ladder().rungs()[rung] as usize {
+        if end < tables.ladder().rungs()[rung] {
             return Ok(());
         }
         rung = offer_run(tables, stem, profile, alloc, values, rung, end, base)?;

@@ -4,7 +4,7 @@ ghost use Rattle.std.specs.List.Sorted.{IsStrictlyIncreasing};
 ghost use Rattle.buck_value.specs.Push.{IsRaised};
 
 /// The first rung from `rung` on that is longer than `reach`.
-pub fn rung_past(rungs: &[u32], rung: usize, reach: usize) -> usize
+pub fn rung_past(rungs: &[usize], rung: usize, reach: usize) -> usize
     requires rung { rung ≤ length rungs.now }
     requires rise { IsStrictlyIncreasing rungs.now }
     ensures next { (rung ≤ result) × (result ≤ length rungs.now) }
@@ -12,11 +12,11 @@ pub fn rung_past(rungs: &[u32], rung: usize, reach: usize) -> usize
     ensures stops { result < length rungs.now → reach < slice_index rungs.now result }
 {
     let count = rungs.len();
-    if rung < count && rungs[count - 1] as usize <= reach {
+    if rung < count && rungs[count - 1] <= reach {
         return count;
     }
     let mut next = rung;
-    while next < count && rungs[next] as usize <= reach {
+    while next < count && rungs[next] <= reach {
         next += 1;
     }
     next
@@ -26,7 +26,7 @@ pub fn rung_past(rungs: &[u32], rung: usize, reach: usize) -> usize
 /// that rung with `base` added. The cells stand from `from` on.
 pub fn push_cells(
     values: &mut [u64],
-    rungs: &[u32],
+    rungs: &[usize],
     cells: &[u64],
     from: usize,
     rung: usize,
@@ -47,7 +47,7 @@ pub fn push_cells(
     ensures others { (i : ℕ) → ((r : ℕ) → rung ≤ r → r < past → slice_index rungs.now r + i ≡ end → ⊥) → slice_index values.new i ≡ slice_index values.old i }
 {
     for next in rung..past {
-        let start = end - rungs[next] as usize;
+        let start = end - rungs[next];
         let bid = cells[from + next] + base;
         values[start] = values[start].max(bid);
     }
