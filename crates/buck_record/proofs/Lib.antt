@@ -1,5 +1,6 @@
 pub mod WhiteLemmas
 pub mod NumberLemmas
+pub mod CutLemmas
 pub mod EachLemmas
 pub mod SplitLemmas
 pub mod RecordLemmas

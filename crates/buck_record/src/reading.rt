@@ -4,10 +4,10 @@ ghost use Rattle.buck_record.specs.declared.fault.RecordFault.TheVariants.{Memor
 ghost use Rattle.buck_record.specs.Reading.{Gives, listed, with_fault};
 ghost use Rattle.buck_record.specs.Record.{item_of, items_of, numbers_of, number_of};
 
-use crate::digits::number_at_most;
+use crate::digits::{cut_number, number_at_most};
 use crate::fault::RecordFault;
 use crate::item::{Item, Piece};
-use crate::white::{cut_word, trimmed};
+use crate::white::{cut_word, trim_start, trimmed};
 use crate::words::Words;
 use bstr::ByteSlice;
 use std::alloc::{AllocError, Global};
@@ -93,13 +93,15 @@ pub fn numbers(alloc: Global, text: &[u8]) -> Result<Vec<u32>, RecordFault>
     ensures { Gives Memory (listed result) (with_fault (λ k. Digits k) (numbers_of text.now)) }
 {
     let mut held = Vec::new(alloc);
-    for word in Words::of(text) {
-        let Some(number) = number_at_most(4294967295, word) else {
+    let mut rest = trim_start(text);
+    while !rest.is_empty() {
+        let Some((number, after)) = cut_number(4294967295, rest) else {
             return Err(RecordFault::Digits {
                 place: held.len() + 1,
             });
         };
         held.push(number as u32)?;
+        rest = trim_start(after);
     }
     Ok(held)
 }

@@ -7,7 +7,8 @@ use bstr::ByteSlice;
 /// Blank, tab, line feed and carriage return.
 const WHITE: [u8; 4] = [32, 9, 10, 13];
 
-fn is_white(byte: u8) -> bool
+/// Whether the byte is a blank, a tab, a line feed or a carriage return.
+pub fn is_white(byte: u8) -> bool
     ensures { result ≡ is_white byte }
 {
     byte == 32 || byte == 9 || byte == 10 || byte == 13
