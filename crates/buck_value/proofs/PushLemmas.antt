@@ -2,9 +2,9 @@
 use Rattle.std.proofs.Common.{◌≡◌, ◌≢◌, ℕ, zero, suc, ◌+◌, ◌-◌, ◌<◌, ◌≤◌, inl, inr, List, length, slice_index, max, sym, ◌∙◌, ap, subst, arith}
 use Rattle.std.proofs.Math.ListN.{set}
 use Rattle.std.proofs.lemmas.Bool.{cases_lt}
-use Rattle.std.proofs.lemmas.List.{get_or-set_same, get_or-set_other}
+use Rattle.std.proofs.lemmas.List.{get_or-set_same, get_or-set_other, length-set}
 use Rattle.std.specs.List.Sorted.{IsStrictlyIncreasing}
-use Rattle.buck_value.specs.Push.{IsRaised}
+use Rattle.buck_value.specs.Push.{IsRaised, raised}
 
 -- numbers that rise from each to the next, rise from each to each later one
 pub rises : (xs : List ℕ) → IsStrictlyIncreasing xs → (k n : ℕ) → k < n → n < length xs → slice_index xs k < slice_index xs n
@@ -62,10 +62,23 @@ raised_by_max old new start bid lt is =
       λ i apart. ap (λ (xs : List ℕ). slice_index xs i) is ∙ get_or-set_other old start i (max (slice_index old start) bid) 0 apart,
     )
 
--- one more rung within reach
-pub within_next : (rungs : List ℕ) (rung next reach : ℕ) → ((r : ℕ) → rung ≤ r → r < next → slice_index rungs r ≤ reach) → slice_index rungs next ≤ reach
-    → (r : ℕ) → rung ≤ r → r < next + 1 → slice_index rungs r ≤ reach
-within_next rungs rung next reach old le r low lt = elim (cases_lt r next) [
-  | inl before ↦ old r low before
-  | inr late ↦ (let e : next ≡ r = omega arith in subst (λ k. slice_index rungs k ≤ reach) e le)
-]
+-- the values once the rungs from `rung` on and before `n` are offered
+pub record ArePushed (first values rungs cells : List ℕ) (from rung end base n : ℕ) : Type 0 where
+  pub number : length values ≡ length first
+  pub offered : (r : ℕ) → rung ≤ r → r < n → IsRaised (slice_index first (end - slice_index rungs r)) (slice_index cells (from + r) + base) (slice_index values (end - slice_index rungs r))
+  pub others : (i : ℕ) → ((r : ℕ) → rung ≤ r → r < n → slice_index rungs r + i ≡ end → ⊥) → slice_index values i ≡ slice_index first i
+
+-- and once one more is
+pub pushed_next : (first old new rungs cells : List ℕ) (from rung end base n : ℕ) → IsStrictlyIncreasing rungs → n < length rungs
+    → slice_index rungs n ≤ end → end < length old → rung ≤ n
+    → new ≡ raised old (end - slice_index rungs n) (slice_index cells (from + n) + base)
+    → ArePushed first old rungs cells from rung end base n → ArePushed first new rungs cells from rung end base (n + 1)
+pushed_next first old new rungs cells from rung end base n rise in_list le within low is was =
+    let start : ℕ = end - slice_index rungs n in
+    let bid : ℕ = slice_index cells (from + n) + base in
+    let here = raised_by_max old new start bid (omega arith) is in
+    record {
+      number = ap (λ (xs : List ℕ). length xs) is ∙ length-set old start (max (slice_index old start) bid) ∙ was.number;
+      offered = offered_next first old new rungs cells from rung n end base rise in_list le here.0 here.1 was.offered was.others;
+      others = others_next first old new rungs cells from rung n end base rise in_list le here.0 here.1 was.offered was.others low;
+    }

@@ -1,33 +1,30 @@
-use Rattle.std.proofs.Common.{◌≡◌, ◌≢◌, ℕ, ◌+◌, ◌-◌, ◌<◌, ◌≤◌, ◌∙◌, length, slice_index, ap, arith}
-use Rattle.std.proofs.Math.ListN.{set}
-use Rattle.std.proofs.lemmas.List.{length-set}
-use Rattle.buck_value.specs.Push.{IsRaised}
-use Rattle.buck_value.proofs.PushLemmas.{raised_by_max, offered_next, others_next}
+use Rattle.std.proofs.Common.{◌+◌, ◌-◌, ◌<◌, ◌≤◌, ◌∙◌, ◌≡◌, length, slice_index, ap, subst, arith}
+use Rattle.buck_value.proofs.PushLemmas.{ArePushed, pushed_next}
 use Rattle.buck_value.proofs.push.push_cells.Goals as goal
 
-pub loop-next-preserved : goal.loop-next-preserved
-loop-next-preserved c =
-    let next = c.loop-next.next in
-    let old = c.loop-next.values in
+pub loop-more-preserved : goal.loop-more-preserved
+loop-more-preserved c =
+    let n = c.loop-next.next + c.loop-more.more in
     let rungs = c.args.rungs.now in
-    let start = c.args.end - slice_index rungs next in
-    let bid = slice_index c.args.cells.now (c.args.from + next) + c.args.base in
-    let new = set old start c.max.result in
-    let lt : start < length old = omega (arith, c.loop-next.auto.values, c.requires.end) in
-    let raised : IsRaised (slice_index old start) bid (slice_index new start) × ((i : ℕ) → i ≢ start → slice_index new i ≡ slice_index old i) =
-    raised_by_max old new start bid lt (ap (λ n. set old start n) c.max.ensures) in
-    let low : c.args.rung ≤ next = c.loop-next.auto.next in
-    let in_list : next < length rungs = omega (arith, c.loop-next-test.true, c.requires.past.1) in
-    let le : slice_index rungs next ≤ c.args.end = c.requires.reach next low c.loop-next-test.true in
+    let low : c.args.rung ≤ n = omega (arith, c.loop-next.invariant.low) in
+    let lt : n < c.args.past = omega (arith, c.loop-more-test.true, c.loop-next-test.true) in
+    let le : slice_index rungs n ≤ c.args.end = c.requires.reach n low lt in
+    let next : n + 1 ≡ c.loop-next.next + (c.loop-more.more + 1) = omega arith in
     record {
-      number = length-set old start c.max.result ∙ c.loop-next.invariant.number;
-      offered = offered_next c.args.values.now old new rungs c.args.cells.now c.args.from c.args.rung next c.args.end c.args.base c.requires.rise in_list le
-          raised.0 raised.1 c.loop-next.invariant.offered c.loop-next.invariant.others;
-      others = others_next c.args.values.now old new rungs c.args.cells.now c.args.from c.args.rung next c.args.end c.args.base c.requires.rise in_list le
-          raised.0 raised.1 c.loop-next.invariant.offered c.loop-next.invariant.others low;
+      pushed =
+          subst (λ m. ArePushed c.args.values.now c.push_cell.new.values rungs c.args.cells.now c.args.from c.args.rung c.args.end c.args.base m) next
+          (pushed_next c.args.values.now c.loop-more.values c.push_cell.new.values rungs c.args.cells.now c.args.from c.args.rung c.args.end c.args.base n
+          c.requires.rise (omega (arith, c.requires.past.1)) le (omega (arith, c.loop-more.invariant.pushed.number, c.requires.end)) low c.push_cell.ensures c.loop-more.invariant.pushed);
     }
 
-pub returns-clause-others : goal.returns-clause-others
-returns-clause-others c i none =
-    let few : c.loop-next.next ≤ c.args.past = c.loop-next.auto.next-end c.requires.past.0 in
-    c.loop-next.invariant.others i (λ r low lt at. none r low (omega arith) at)
+pub loop-last-preserved : goal.loop-last-preserved
+loop-last-preserved c =
+    let n = c.loop-last.last in
+    let rungs = c.args.rungs.now in
+    let low : c.args.rung ≤ n = omega (arith, c.loop-next.invariant.low, c.loop-last.auto.last) in
+    let le : slice_index rungs n ≤ c.args.end = c.requires.reach n low c.loop-last-test.true in
+    record {
+      pushed =
+          pushed_next c.args.values.now c.loop-last.values c.push_cell-in-loop-last.new.values rungs c.args.cells.now c.args.from c.args.rung c.args.end c.args.base n
+          c.requires.rise (omega (arith, c.loop-last-test.true, c.requires.past.1)) le (omega (arith, c.loop-last.invariant.pushed.number, c.requires.end)) low c.push_cell-in-loop-last.ensures c.loop-last.invariant.pushed;
+    }
