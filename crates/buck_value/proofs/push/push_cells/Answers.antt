@@ -1,4 +1,4 @@
-use Rattle.std.proofs.Common.{◌+◌, ◌-◌, ◌<◌, ◌≤◌, ◌∙◌, ◌≡◌, length, slice_index, ap, subst, arith}
+use Rattle.std.proofs.Common.{◌+◌, ◌<◌, ◌≤◌, ◌≡◌, slice_index, subst, arith}
 use Rattle.buck_value.proofs.PushLemmas.{ArePushed, pushed_next}
 use Rattle.buck_value.proofs.push.push_cells.Goals as goal
 
