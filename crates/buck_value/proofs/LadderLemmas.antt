@@ -1,6 +1,7 @@
 -- What the logs of a column bring.
 use Rattle.std.proofs.Common.{◌≡◌, ◌≢◌, ℕ, zero, suc, ◌+◌, ◌-◌, ◌*◌, ◌<◌, ◌≤◌, Bool, List, [], ◌∷◌, All, length, take, slice_get, slice_index, get_or, Option, Some, position, unwrap_or, refl, sym, ◌∙◌, ap, subst, arith, nat_eq, if◌then◌else◌, true, false, true≢false, ◌==◌, eq-eqb, mul-le-mul_right}
-use Rattle.std.specs.List.{AllPairs, position_or_len, sum_by}
+use Rattle.std.specs.List.{position_or_len, sum_by}
+use Rattle.std.specs.List.Sorted.{IsStrictlyIncreasing}
 use Rattle.std.proofs.lemmas.Nat.{mul-add-lt}
 use Rattle.std.proofs.lemmas.Bool.{ne_eqb, cond-true, lt-ltb}
 use Rattle.std.proofs.lemmas.Option.{same_Some, slice_get_read, slice_get_within, get_or_from_slice_get}
@@ -85,17 +86,20 @@ before_more f i a x at =
     ∙ ap (λ y. sum_by f (take a i.assortments) + f y) (get_or_from_slice_get i.assortments a x x at)
 
 -- a length stands once among lengths that rise
-column_is : (x : AssortmentParts) (c : ℕ) → IsAssortment x → c < length x.lengths → column_of x (slice_index x.lengths c) ≡ c
-column_is x c v lt =
-    let l : ℕ = slice_index x.lengths c in
-    let rise : AllPairs (λ m n. m < n) x.lengths = AllPairs-from_increasing x.lengths v.lengths_rise in
-    let place : position_or_len (λ y. y == l) x.lengths ≡ c =
-    position_or_len_is (λ y. y == l) x.lengths c 0 (omega arith)
-    (λ k early. ne_eqb (get_or x.lengths k 0) l (λ e. (let r : get_or x.lengths k 0 < get_or x.lengths c 0 = rise k c 0 early lt in omega arith)))
-    (λ _. eq-eqb (get_or x.lengths c 0) l refl) in
-    let found : position (λ y. y == l) x.lengths ≡ Some c =
-    cond-true _ _ _ (lt-ltb _ _ (let h : position_or_len (λ y. y == l) x.lengths < length x.lengths = omega arith in h)) ∙ ap (λ n. Some n) place in
-    ap (λ o. unwrap_or o 0) found
+pub found_at : (xs : List ℕ) (c : ℕ) → IsStrictlyIncreasing xs → c < length xs
+    → position (λ y. y == slice_index xs c) xs ≡ Some c
+found_at xs c rise lt =
+    let l : ℕ = slice_index xs c in
+    let place : position_or_len (λ y. y == l) xs ≡ c =
+    position_or_len_is (λ y. y == l) xs c 0 (omega arith)
+    (λ k early. ne_eqb (get_or xs k 0) l (λ e. (let r : get_or xs k 0 < get_or xs c 0 = AllPairs-from_increasing xs rise k c 0 early lt in omega arith)))
+    (λ _. eq-eqb (get_or xs c 0) l refl) in
+    let within : position_or_len (λ y. y == l) xs < length xs = omega arith in
+    cond-true _ _ _ (lt-ltb _ _ within) ∙ ap (λ n. Some n) place
+
+-- and so its column is its place
+pub column_is : (x : AssortmentParts) (c : ℕ) → IsAssortment x → c < length x.lengths → column_of x (slice_index x.lengths c) ≡ c
+column_is x c v lt = ap (λ o. unwrap_or o 0) (found_at x.lengths c v.lengths_rise lt)
 
 -- the worth of a log is small
 worth_small : (kind price cubic : ℕ) → price ≤ 20000000 → cubic ≤ 94260000 → worth_at kind price cubic ≤ 1900000000000000

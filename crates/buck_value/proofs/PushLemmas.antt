@@ -1,22 +1,15 @@
 -- Offers along the rungs.
-use Rattle.std.proofs.Common.{◌≡◌, ◌≢◌, ℕ, zero, suc, ◌+◌, ◌-◌, ◌<◌, ◌≤◌, inl, inr, List, length, slice_index, max, sym, ◌∙◌, ap, subst, arith}
+use Rattle.std.proofs.Common.{◌≡◌, ◌≢◌, ℕ, ◌+◌, ◌-◌, ◌<◌, ◌≤◌, inl, inr, List, length, slice_index, max, sym, ◌∙◌, ap, subst, arith}
 use Rattle.std.proofs.Math.ListN.{set}
 use Rattle.std.proofs.lemmas.Bool.{cases_lt}
+use Rattle.std.proofs.lemmas.List.Kept.{AllPairs-from_increasing}
 use Rattle.std.proofs.lemmas.List.{get_or-set_same, get_or-set_other, length-set}
 use Rattle.std.specs.List.Sorted.{IsStrictlyIncreasing}
 use Rattle.buck_value.specs.Push.{IsRaised, raised}
 
 -- numbers that rise from each to the next, rise from each to each later one
 pub rises : (xs : List ℕ) → IsStrictlyIncreasing xs → (k n : ℕ) → k < n → n < length xs → slice_index xs k < slice_index xs n
-rises xs inc k zero lt in_list = absurd (omega arith)
-rises xs inc k (suc n) lt in_list =
-    let step : slice_index xs n < slice_index xs (n + 1) = inc n (omega arith) in
-    let here : n + 1 ≡ suc n = omega arith in
-    let last : slice_index xs n < slice_index xs (suc n) = subst (λ m. slice_index xs n < slice_index xs m) here step in
-    elim (cases_lt k n) [
-      | inl before ↦ (let r : slice_index xs k < slice_index xs n = rises xs inc k n before (omega arith) in omega arith)
-      | inr at ↦ (let e : k ≡ n = omega arith in subst (λ m. slice_index xs m < slice_index xs (suc n)) (sym e) last)
-    ]
+rises xs inc k n lt in_list = AllPairs-from_increasing xs inc k n 0 lt in_list
 
 -- no rung before this one lies as far from the end
 pub others_shorter : (rungs : List ℕ) (rung next end : ℕ) → IsStrictlyIncreasing rungs → next < length rungs → slice_index rungs next ≤ end

@@ -15,6 +15,7 @@ use Rattle.buck_value.specs.Codes.{AreCodes, AreRungs}
 use Rattle.buck_value.specs.Quotes.{LadderParts, IsLadder, IsWood, IsOffered, Brings}
 use Rattle.buck_value.specs.Relaxed.{IsBid, IsFromTo, IsRelaxed}
 use Rattle.buck_value.proofs.CodesLemmas.{in_order}
+use Rattle.buck_value.proofs.PushLemmas.{rises}
 
 -- the points from which these rungs go to `end` have been offered their logs
 abbrev pub AreDone : LadderParts → StemParts → ℕ → ℕ → List ℕ → List ℕ → ℕ → ℕ → Type 0
@@ -33,14 +34,6 @@ pub record HasWood (stem : StemParts) (step i j : ℕ) (wood : Wood) : Type 0 wh
   pub species : stem.species ≡ wood.species
   pub grades : IsMask stem.zones (i * step) (j * step) wood.grades
   pub diameter : diameter_at stem.samples (j * step) ≡ wood.diameter
-
--- of rungs, a later one is longer
-pub longer : (xs : List ℕ) → IsStrictlyIncreasing xs → (k n : ℕ) → k < n → n < length xs
-    → slice_index xs k < slice_index xs n
-longer xs rise k n lt within =
-    let next : get_or xs k 0 < get_or xs (k + 1) 0 = rise k (omega arith) in
-    let rest : get_or xs (k + 1) 0 ≤ get_or xs n 0 = in_order xs rise (k + 1) n (omega arith) within in
-    omega arith
 
 -- a rung goes from a point to `end`, or none does
 some_goes : (rungs : List ℕ) (end i n : ℕ)
@@ -243,7 +236,7 @@ module _ (t : LadderParts) (stem : StemParts) (end base n m : ℕ) (old mid new 
 
   -- an earlier rung is shorter
   shorter : (q r : ℕ) → q < r → r < m → slice_index t.rungs q < slice_index t.rungs r
-  shorter q r before lt = longer t.rungs ladder.rungs_right.rise q r before (omega arith)
+  shorter q r before lt = rises t.rungs ladder.rungs_right.rise q r before (omega arith)
 
   -- the points of some rungs and then of those that follow
   more_done : AreDone t stem end base old new 0 m

@@ -1,33 +1,16 @@
 -- The class of logs of some wood and a length that the assortment has.
-use Rattle.std.proofs.Common.{◌≡◌, ℕ, ◌+◌, ◌*◌, ◌<◌, ◌≤◌, ◌==◌, List, length, get_or, slice_index, position, Some, IsTrue, true≢false, eq-eqb, refl, sym, ◌∙◌, ap, arith}
-use Rattle.std.specs.List.{position_or_len}
-use Rattle.std.specs.List.Sorted.{IsStrictlyIncreasing}
-use Rattle.std.proofs.lemmas.Bool.{ne_eqb, cond-true, lt-ltb}
-use Rattle.std.proofs.lemmas.List.Sums.{position_or_len_is}
+use Rattle.std.proofs.Common.{◌≡◌, ℕ, ◌+◌, ◌*◌, ◌≤◌, length, slice_index, IsTrue, true≢false, sym, ◌∙◌, ap, arith}
 use Rattle.buck_apt.specs.declared.class.Class.{Class}
-use Rattle.buck_apt.specs.Instruction.{AssortmentParts, IsAssortment}
+use Rattle.buck_apt.specs.Instruction.{AssortmentParts}
 use Rattle.buck_stem.specs.Stem.{StemParts}
 use Rattle.buck_value.specs.declared.ladder.Wood.{Wood}
 use Rattle.buck_value.specs.declared.log.Log.{Log}
 use Rattle.buck_value.specs.Allowed.{log_of, end_of, top_diameter, row_at, column_of, place_in}
 use Rattle.buck_value.specs.Quotes.{IsWood}
-use Rattle.buck_value.proofs.Classes.{allows_by_tests, column_is}
+use Rattle.buck_value.proofs.Classes.{allows_by_tests}
 use Rattle.buck_value.proofs.WoodLemmas.{mask_allows}
-use Rattle.buck_value.proofs.RelaxLemmas.{longer}
+use Rattle.buck_value.proofs.LadderLemmas.{found_at, column_is}
 use Rattle.buck_value.proofs.prepared.class_of_wood.Goals as goal
-
--- a length stands once among lengths that rise
-found_at : (xs : List ℕ) (c : ℕ) → IsStrictlyIncreasing xs → c < length xs
-    → position (λ y. y == slice_index xs c) xs ≡ Some c
-found_at xs c rise lt =
-    let l : ℕ = slice_index xs c in
-    let place : position_or_len (λ y. y == l) xs ≡ c =
-    position_or_len_is (λ y. y == l) xs c 0 (omega arith)
-    (λ k early. ne_eqb (get_or xs k 0) l (λ e.
-    (let r : slice_index xs k < slice_index xs c = longer xs rise k c early lt in omega arith)))
-    (λ _. eq-eqb (get_or xs c 0) l refl) in
-    let within : position_or_len (λ y. y == l) xs < length xs = omega arith in
-    cond-true _ _ _ (lt-ltb _ _ within) ∙ ap (λ n. Some n) place
 
 -- the class of its numbers
 abbrev make_class : ℕ → ℕ → ℕ → Class
@@ -37,11 +20,6 @@ make_class a row column = record { assortment = a; row = row; column = column }
 row_is : (a : AssortmentParts) (step row : ℕ) (stem : StemParts) (wood : Wood) (g : Log) → row ≡ row_at a wood.diameter
     → IsWood step wood stem g → row ≡ row_at a (top_diameter stem g)
 row_is a step row stem wood g is w = is ∙ ap (row_at a) (sym w.top)
-
--- the column of a length
-column_at : (a : AssortmentParts) (c : ℕ) → IsAssortment a → c < length a.lengths
-    → column_of a (slice_index a.lengths c) ≡ c
-column_at a c v lt = column_is a (slice_index a.lengths c) c (found_at a.lengths c v.lengths_rise lt)
 
 pub returns-then-not-takes-clause-none : goal.returns-then-not-takes-clause-none
 returns-then-not-takes-clause-none c = λ step stem start w al.
@@ -57,7 +35,7 @@ returns-then-price-eq0-clause-none c = λ step stem start w al.
     let row : ℕ = c.row_of-row.result in
     let g : Log = log_of start (slice_index a.lengths c.args.column) c.args.place in
     let column : column_of a g.length ≡ c.args.column =
-    column_at a c.args.column c.lengths-lengths.ensures.valid c.requires.column in
+    column_is a c.args.column c.lengths-lengths.ensures.valid c.requires.column in
     let rows : row ≡ row_at a (top_diameter stem g) = row_is a step row stem c.args.wood g c.row_of-row.ensures.row w in
     let place : place_in a stem g ≡ row * length a.lengths + c.args.column =
     omega (arith, column, ap (λ r. r * length a.lengths) rows) in
@@ -86,7 +64,7 @@ returns-clause-class c = λ step stem start w.
     let row : ℕ = c.row_of-row.result in
     let g : Log = log_of start (slice_index a.lengths c.args.column) c.args.place in
     let column : column_of a g.length ≡ c.args.column =
-    column_at a c.args.column c.lengths-lengths.ensures.valid c.requires.column in
+    column_is a c.args.column c.lengths-lengths.ensures.valid c.requires.column in
     let rows : row ≡ row_at a (top_diameter stem g) = row_is a step row stem c.args.wood g c.row_of-row.ensures.row w in
     ap (λ r. make_class c.args.place r c.args.column) rows
     ∙ ap (make_class c.args.place (row_at a (top_diameter stem g))) (sym column)
