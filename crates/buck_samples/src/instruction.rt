@@ -1,0 +1,66 @@
+//! Instructions.
+use crate::fault::SampleFault;
+use buck_apt::{Instruction, read_apt};
+use std::alloc::Global;
+use std::sync::Arc;
+
+/// The saw instruction: module 100, period 1, limit 0; one assortment of two rows (from 100 mm and from 200 mm) and two
+/// columns (3,000 and 4,000 mm).
+pub const SAW: &str = "1 2 APT~901 1 100~902 1 1~903 1 0~910 1 1~
+911 1 saw~912 1 1~913 1 1~914 1 1~915 1 100 200~915 2 400~
+916 1 3000 4000~917 1 400 500 600 800~918 1 1 1 1 1~
+";
+
+/// The saw instruction with a second assortment, of pieces: the same but for its name, price kind and prices.
+pub const SAW_AND_POLE: &str = "1 2 APT~901 1 100~902 1 1~903 1 0~910 1 2~
+911 1 saw~912 1 1~913 1 1~914 1 1~915 1 100 200~915 2 400~
+916 1 3000 4000~917 1 400 500 600 800~918 1 1 1 1 1~
+911 1 pole~912 1 1~913 1 1~914 1 2~915 1 100 200~915 2 400~
+916 1 3000 4000~917 1 0 0 100 0~918 1 1 1 1 1~
+";
+
+/// The instruction of the largest numbers: module 10, period 1, limit 1,000, and logs of 500 and 30,000 mm.
+pub const MAX: &str = "1 2 APT~901 1 10~902 1 1~903 1 1000~910 1 1~
+911 1 max~912 1 1~913 1 1~914 1 1~915 1 0~915 2 2000~
+916 1 500 30000~917 1 10000000 10000000~918 1 1 1~
+";
+
+/// A text with its first part `old` replaced by `new`.
+pub fn edited(alloc: Global, text: &str, old: &str, new: &str) -> Result<String, SampleFault> {
+    let Some((before, after)) = text.split_once(old) else {
+        return Err(SampleFault::Part);
+    };
+    Ok(format!(in alloc; "{before}{new}{after}")?)
+}
+
+/// The text of the saw instruction with this period in stems, this limit per mille and these targets, a blank between
+/// two.
+pub fn saw_text(
+    alloc: Global,
+    period: u32,
+    limit: u32,
+    targets: &str,
+) -> Result<String, SampleFault> {
+    Ok(format!(in alloc;
+        "1 2 APT~901 1 100~902 1 {period}~903 1 {limit}~910 1 1~
+911 1 saw~912 1 1~913 1 1~914 1 1~915 1 100 200~915 2 400~
+916 1 3000 4000~917 1 400 500 600 800~918 1 {targets}~"
+    )?)
+}
+
+/// The instruction of a text.
+pub fn instruction_of(alloc: Global, text: &str) -> Result<Arc<Instruction>, SampleFault> {
+    let instruction = read_apt(alloc, text.as_bytes())?;
+    Ok(Arc::new(alloc, instruction)?)
+}
+
+/// The saw instruction with this period in stems, this limit per mille and these targets.
+pub fn saw_instruction(
+    alloc: Global,
+    period: u32,
+    limit: u32,
+    targets: &str,
+) -> Result<Arc<Instruction>, SampleFault> {
+    let text = saw_text(alloc, period, limit, targets)?;
+    instruction_of(alloc, text.as_str())
+}

@@ -1,0 +1,10 @@
+//! Small instructions and stems, worked out by hand, that the tests of all crates share.
+#![tactic(auto)]
+
+mod fault;
+mod instruction;
+mod stem;
+
+pub use fault::SampleFault;
+pub use instruction::{MAX, SAW, SAW_AND_POLE, edited, instruction_of, saw_instruction, saw_text};
+pub use stem::{stem_of, stem_text, uniform_stem};

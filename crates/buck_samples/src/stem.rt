@@ -1,0 +1,29 @@
+//! Stems.
+use crate::fault::SampleFault;
+use buck_stem::Stem;
+use std::alloc::Global;
+
+/// Stem 1 of species 1 with these samples, in mm, and these zones, each a start in mm and a grade.
+pub fn stem_of(alloc: Global, samples: &[u16], zones: &[(u32, u8)]) -> Result<Stem, SampleFault> {
+    let samples = samples.to_vec(alloc)?;
+    let zones = zones.to_vec(alloc)?;
+    Ok(Stem::make(alloc, 1, 1, samples, zones)?)
+}
+
+/// Stem 1 of species 1 with `count` samples of one diameter, in mm, and no zones.
+pub fn uniform_stem(alloc: Global, count: usize, diameter: u16) -> Result<Stem, SampleFault> {
+    let samples = vec![in alloc; diameter; count]?;
+    Ok(Stem::make(alloc, 1, 1, samples, Vec::new(alloc))?)
+}
+
+/// A stem file of stem 1 of species 1 with `count` samples, all alike, and what else is said of it.
+pub fn stem_text(
+    alloc: Global,
+    count: usize,
+    sample: &str,
+    more: &str,
+) -> Result<String, SampleFault> {
+    let one = format!(in alloc; " {sample}")?;
+    let samples = one.as_str().repeat(alloc, count)?;
+    Ok(format!(in alloc; "1 2 STM~951 1 1~952 1 1~953 1{samples}~{more}")?)
+}
