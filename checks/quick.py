@@ -1,0 +1,70 @@
+#!/usr/bin/env python3
+"""Runs the tests of every crate under the checking interpreter, with no proofs: a quick look at a change.
+
+    python3 checks/quick.py [--jobs N] [CRATE ..]
+
+It stops at an index out of bounds, an overflow, a failed assertion. It proves nothing: `rt ci` is the gate.
+Without names it takes every crate of crates.txt that has a #[test]. The last line is 'N passed, M failed', and the
+status is 0 where none failed.
+"""
+import argparse
+import concurrent.futures
+import os
+import re
+import subprocess
+import sys
+
+TOP = os.path.dirname(os.path.dirname(os.path.abspath(__file__)))
+
+
+def crates():
+    """The crates of crates.txt, in its order."""
+    with open(os.path.join(TOP, "crates.txt")) as lines:
+        return [line.split(":")[0].split()[0] for line in lines if line.split("#")[0].strip()]
+
+
+def has_tests(crate):
+    """Whether some source of the crate has a test."""
+    for folder, _, files in os.walk(os.path.join(TOP, "crates", crate, "src")):
+        for name in files:
+            with open(os.path.join(folder, name)) as source:
+                if "#[test]" in source.read():
+                    return True
+    return False
+
+
+def counted(text):
+    """How many tests passed and failed, by the line that ends them; none where there is no such line."""
+    found = re.search(r"^test result: \w+\. (\d+) passed; (\d+) failed", text, re.M)
+    return (int(found[1]), int(found[2])) if found else None
+
+
+def tried(crate):
+    run = subprocess.run(
+        ["rt", "try", "--test"], cwd=os.path.join(TOP, "crates", crate), capture_output=True, text=True
+    )
+    text = run.stdout + run.stderr
+    return crate, run.returncode, counted(text), text
+
+
+def main():
+    parser = argparse.ArgumentParser(description=__doc__, formatter_class=argparse.RawDescriptionHelpFormatter)
+    parser.add_argument("--jobs", type=int, default=2)
+    parser.add_argument("crates", nargs="*", metavar="CRATE")
+    args = parser.parse_args()
+    names = args.crates or [crate for crate in crates() if has_tests(crate)]
+    passed = failed = 0
+    with concurrent.futures.ThreadPoolExecutor(args.jobs) as pool:
+        for crate, status, counts, text in pool.map(tried, names):
+            well = counts is not None and counts[1] == 0 and status == 0
+            print(f"{crate}: {f'{counts[0]} passed, {counts[1]} failed' if counts else 'no result'}", flush=True)
+            if not well:
+                print(text, flush=True)
+            passed += counts[0] if counts else 0
+            failed += counts[1] if counts else 1
+    print(f"{passed} passed, {failed} failed")
+    return 0 if failed == 0 else 1
+
+
+if __name__ == "__main__":
+    sys.exit(main())
