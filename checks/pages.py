@@ -1,0 +1,112 @@
+#!/usr/bin/env python3
+"""Prints the pages of definitions that a reader must believe, promise by promise, with their lines.
+
+    python3 checks/pages.py
+
+For each promise it goes from the words of its contract to all definitions that these lead to, within specs/. A page is
+counted by the lines of the definitions that are reached, with their comments. docs/PROOFS.md holds what it prints.
+"""
+import os
+import re
+
+TOP = os.path.dirname(os.path.dirname(os.path.abspath(__file__)))
+
+PROMISES = [
+    ("the best cutting", ["buck_dp.specs.Best:IsFirstBest", "buck_dp.specs.Best:cutting_worth"]),
+    (
+        "the printed text",
+        [
+            "buck_engine.specs.Engine:AppendsAnswer",
+            "buck_engine.specs.Engine:IsRefusalOf",
+            "buck_engine.specs.Engine:AppendsPrefix",
+            "buck_engine.specs.Engine:IsBeforeStems",
+            "buck_engine.specs.Faults:fault_line",
+            "buck_engine.specs.Faults:status_of",
+        ],
+    ),
+    (
+        "the history of a book",
+        [
+            "buck_book.specs.Book:IsBook",
+            "buck_book.specs.Book:IsReadyFor",
+            "buck_book.specs.Book:SameContent",
+            "buck_book.specs.Book:entry_of",
+            "buck_book.specs.Book:sheets_with",
+            "buck_book.specs.Refused:IsRefusal",
+            "buck_book.specs.Pricing:AreAnswers",
+            "buck_rule.specs.Stored:Answers",
+        ],
+    ),
+]
+
+HEAD = r"(?:abbrev|unfoldable|pub record|record)\s+(?:pub\s+)?"
+
+
+def pages():
+    """Each page of specs/: its lines, the names it takes from other pages, and where each definition stands."""
+    found = {}
+    for folder, _, files in os.walk(os.path.join(TOP, "crates")):
+        if "/specs" not in folder or "/out/" in folder + "/":
+            continue
+        for name in files:
+            path = os.path.join(folder, name)
+            words = os.path.relpath(path, os.path.join(TOP, "crates"))[: -len(".antt")].split(os.sep)
+            with open(path) as text:
+                found[".".join(words)] = page(text.read().split("\n"))
+    return found
+
+
+def page(lines):
+    taken = {}
+    stands = {}
+    for at, line in enumerate(lines):
+        use = re.match(r"(?:pub )?use Rattle\.(\S+)\.\{(.*)\}", line)
+        if use:
+            taken.update({name.strip(): use[1] for name in use[2].split(",")})
+        definition = re.match(HEAD + r"(\S+)", line)
+        if definition:
+            first, last = at, at
+            while first > 0 and lines[first - 1].startswith("--"):
+                first -= 1
+            while last + 1 < len(lines) and lines[last + 1].strip() and not re.match(HEAD + r"|--", lines[last + 1]):
+                last += 1
+            stands[definition[1]] = (at, first, last)
+    return lines, taken, stands
+
+
+def reached(found, roots):
+    """The definitions that the roots lead to, each as its page and its name."""
+    seen, left = [], [tuple(root.split(":")) for root in roots]
+    while left:
+        at = left.pop(0)
+        if at in seen or at[0] not in found or at[1] not in found[at[0]][2]:
+            continue
+        seen.append(at)
+        lines, taken, stands = found[at[0]]
+        head, _, last = stands[at[1]]
+        text = "\n".join(lines[head : last + 1])
+        for word in sorted(set(re.findall(r"[^\s(){},;:→×.λ]+", text) + re.findall(r"[A-Za-z_]\w*", text))):
+            if word in stands:
+                left.append((at[0], word))
+            elif word in taken:
+                left.append((taken[word], word))
+    return seen
+
+
+def main():
+    found = pages()
+    known = set()
+    for promise, roots in PROMISES:
+        lengths = {}
+        for name, definition in reached(found, roots):
+            _, first, last = found[name][2][definition]
+            if (name, definition) not in known:
+                lengths[name] = lengths.get(name, 0) + last - first + 1
+            known.add((name, definition))
+        print(f"{promise}: {sum(lengths.values())} lines in {len(lengths)} pages, beside those above")
+        for name in sorted(lengths):
+            print(f"    {lengths[name]:4} {name.replace('.specs.', '/specs/').replace('.', '/')}.antt")
+
+
+if __name__ == "__main__":
+    main()
