@@ -1,3 +1,4 @@
 pub mod PlaceLemmas
 pub mod RuleLemmas
 pub mod PassLemmas
+pub mod PartLemmas

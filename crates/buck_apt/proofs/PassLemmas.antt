@@ -12,10 +12,11 @@ use Rattle.buck_record.specs.Check.{◌>>=◌, check, each}
 use Rattle.buck_apt.specs.declared.fault.AptFault.{AptFault}
 use Rattle.buck_apt.specs.declared.fault.AptFault.TheVariants.{Range, Order, Count, Module, Targets}
 use Rattle.buck_apt.specs.declared.draft.Draft.{Draft}
-use Rattle.buck_apt.specs.declared.draft.Sheet.{Sheet}
+use Rattle.buck_apt.specs.declared.draft.FileDraft.{FileDraft}
 use Rattle.buck_apt.specs.Instruction.{IsAssortment, IsWithin, IsNameByte, IsOnModule}
-use Rattle.buck_apt.specs.Apt.{within, all_within, is_name, is_name_byte, is_rising, all_above, is_one, is_number_of, none_found, off_module, draft_range, draft_order, draft_count, in_range, in_order, in_number, on_module, in_targets, assortment_of}
-use Rattle.buck_apt.specs.Draft.{IsReadyDraft, IsReadySheet}
+use Rattle.buck_apt.specs.Apt.{within, all_within, is_name, is_name_byte, is_rising, all_above, is_one, is_number_of, none_found, first_off_module, draft_range, draft_order, draft_count, in_range, in_order, in_number, on_module, in_targets, assortment_of}
+use Rattle.buck_apt.specs.inner.Parts.{within_limits}
+use Rattle.buck_apt.specs.inner.Ready.{IsReadyDraft, IsReadyFile}
 
 Passes : Result (Unit {0}) AptFault → Type 0
 Passes r = r ≡ Ok tt
@@ -162,7 +163,7 @@ draft_ready d ranged ordered counted few =
     }
 
 -- the numbers of the head, which passed
-pub record HeadReady (s : Sheet) : Type 0 where
+record HeadReady (s : FileDraft) : Type 0 where
   pub «module» : length s.«module» ≡ 1
   pub module_range : IsWithin 10 1000 (slice_index s.«module» 0)
   pub period : length s.period ≡ 1
@@ -173,7 +174,7 @@ pub record HeadReady (s : Sheet) : Type 0 where
   pub ranges : All (λ d. draft_range d ≡ Ok tt) s.drafts
   pub counts : All (λ d. draft_count d ≡ Ok tt) s.drafts
 
-pub head_ready : (s : Sheet) → in_range s ≡ Ok tt → in_number s ≡ Ok tt → HeadReady s
+head_ready : (s : FileDraft) → in_range s ≡ Ok tt → in_number s ≡ Ok tt → HeadReady s
 unfolding in_range in_number
 head_ready s ranged counted =
     let r1 = passed (all_within 10 1000 s.«module») (Range 901 1) _ ranged in
@@ -199,13 +200,20 @@ head_ready s ranged counted =
       counts = each_ok draft_count s.drafts c4.1;
     }
 
-lengths_ok : (step : ℕ) (lengths : List ℕ) → none_found (off_module step lengths) Module ≡ Ok tt → All (λ l. l % step ≡ 0) lengths
+lengths_ok : (step : ℕ) (lengths : List ℕ) → none_found (first_off_module step lengths) Module ≡ Ok tt → All (λ l. l % step ≡ 0) lengths
 lengths_ok step lengths h = λ k d lt. eqb-true _ _ (not_false _ (find_none (λ l. not (l % step == 0)) lengths (none_found_ok _ Module h) k d lt))
 
--- a file that passed each line
-pub sheet_ready : (s : Sheet) → in_range s ≡ Ok tt → in_order s ≡ Ok tt → in_number s ≡ Ok tt → on_module s ≡ Ok tt → in_targets s ≡ Ok tt → IsReadySheet s
+-- what the ninth line requires
+pub module_single : (s : FileDraft) → in_range s ≡ Ok tt → in_number s ≡ Ok tt → length s.«module» ≡ 1
+module_single s ranged counted = (head_ready s ranged counted).«module»
+
+pub module_above_zero : (s : FileDraft) → in_range s ≡ Ok tt → in_number s ≡ Ok tt → 0 < slice_index s.«module» 0
+module_above_zero s ranged counted = let head = head_ready s ranged counted in omega (arith, head.module_range)
+
+-- a file that passed each of the last five lines
+each_line_ready : (s : FileDraft) → in_range s ≡ Ok tt → in_order s ≡ Ok tt → in_number s ≡ Ok tt → on_module s ≡ Ok tt → in_targets s ≡ Ok tt → IsReadyFile s
 unfolding in_order on_module in_targets
-sheet_ready s ranged ordered counted stepped wanted =
+each_line_ready s ranged ordered counted stepped wanted =
     let head = head_ready s ranged counted in
     let orders = each_ok draft_order s.drafts ordered in
     let few = position_none (λ d. nat_lt 1000000000 (sum d.targets)) s.drafts (none_found_ok _ Targets wanted) in
@@ -224,3 +232,13 @@ sheet_ready s ranged ordered counted stepped wanted =
         on_module = All-map (λ a. IsOnModule (slice_index s.«module» 0) a) assortment_of s.drafts (λ k d lt. lengths_ok (slice_index s.«module» 0) _ (each_ok _ s.drafts stepped k d lt));
       };
     }
+
+-- a file that passed them in one chain
+pub file_ready : (s : FileDraft) → within_limits s ≡ Ok tt → IsReadyFile s
+unfolding within_limits
+file_ready s passes =
+    let ranged = then_ok (in_range s) _ passes in
+    let ordered = then_ok (in_order s) _ ranged.1 in
+    let counted = then_ok (in_number s) _ ordered.1 in
+    let stepped = then_ok (on_module s) _ counted.1 in
+    each_line_ready s ranged.0 ordered.0 counted.0 stepped.0 stepped.1

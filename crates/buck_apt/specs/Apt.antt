@@ -1,5 +1,24 @@
 -- The instruction of a file's bytes, or the first refusal that applies: ten lines, each looked at only where all
--- before it pass, and within a line the first item in the order of the table.
+-- before it pass, and within a line the first item in the order of the table, assortment by assortment. The chain of
+-- the ten lines, `apt_of`, stands at the end of this page.
+--
+--   item    what it says                        how many numbers     range of each         order
+--   1 2     the kind of file: APT               text
+--   901 1   module in mm                        1                    10 to 1000
+--   902 1   period in stems                     1                    1 to 1000
+--   903 1   limit per mille                     1                    0 to 1000
+--   910 1   number of assortments               1, that of 911 1     1 to 16
+--   911 1   name; begins an assortment          text                 1 to 32 bytes, each
+--                                                                    32 to 255 and none
+--                                                                    of 124, 126, 127
+--   912 1   species                             1                    1 to 255
+--   913 1   grades                              1 to 8               1 to 8                strictly rising
+--   914 1   price kind                          1                    1 to 2
+--   915 1   lower limit of each row, mm         1 to 32              0 to 1500             strictly rising
+--   915 2   exclusive upper diameter, mm        1                    1 to 2000             above each of 915 1
+--   916 1   length of each column, mm           1 to 32              500 to 30000          strictly rising
+--   917 1   base prices, row by row             rows times columns   0 to 10000000
+--   918 1   targets, row by row                 rows times columns   0 to 1000000
 use Rattle.std.specs.Prelude.{ℕ, Bool, true, not, ◌*◌, ◌%◌, ◌&&◌, ◌==◌, List, [], ◌∷◌, length, map, sum, slice_index, nat_le, nat_lt, find, position, Option, Some, None, Result, Ok, Err, codes}
 use Rattle.std.specs.List.{before_first, list_all}
 use Rattle.std.specs.Str.{bytes_eq}
@@ -11,7 +30,7 @@ use Rattle.buck_record.specs.Table.{is_at, count_in, rest_in, first_missing, fir
 use Rattle.buck_record.specs.Check.{◌>>=◌, check, none_of, each, make_each}
 use Rattle.buck_apt.specs.Instruction.{AssortmentParts, InstructionParts}
 use Rattle.buck_apt.specs.declared.draft.Draft.{Draft}
-use Rattle.buck_apt.specs.declared.draft.Sheet.{Sheet}
+use Rattle.buck_apt.specs.declared.draft.FileDraft.{FileDraft}
 use Rattle.buck_apt.specs.declared.fault.AptFault.{AptFault}
 use Rattle.buck_apt.specs.declared.fault.AptFault.TheVariants.{Head, NotApt, Missing, Twice, Digits, Range, Order, Count, Module, Targets}
 
@@ -32,34 +51,39 @@ name_slot = slot 911 1
 
 -- the items of an assortment after its name
 abbrev pub member_slots : List Slot
-member_slots = slot 912 1 ∷ slot 913 1 ∷ slot 914 1 ∷ slot 915 1 ∷ slot 915 2 ∷ slot 916 1 ∷ slot 917 1 ∷ slot 918 1 ∷ []
+member_slots =
+    slot 912 1 ∷ slot 913 1 ∷ slot 914 1 ∷ slot 915 1 ∷ slot 915 2 ∷ slot 916 1 ∷ slot 917 1 ∷ slot 918 1 ∷ []
 
 -- the items of each assortment: a name, and what stands after it up to the next name
 abbrev pub groups : List ItemParts → List (List ItemParts)
 groups items = groups_of name_slot items
 
--- the first item that names the kind of file says APT
+-- Line 2, NotApt: the first item that names the kind of file says APT.
 abbrev pub says_apt : List ItemParts → Bool
 says_apt items = bytes_eq (rest_in file_slot items) (codes "APT")
 
+-- no item of an assortment stands before the first name
+abbrev pub has_no_strays : List ItemParts → Bool
+has_no_strays items = list_all (λ s. count_in s (before_first (is_at name_slot) items) == 0) member_slots
+
 -- there is a name, and no item of an assortment stands before the first one
-abbrev pub begins : List ItemParts → Bool
-begins items = nat_lt 0 (count_in name_slot items) && list_all (λ s. count_in s (before_first (is_at name_slot) items) == 0) member_slots
+abbrev pub begins_with_name : List ItemParts → Bool
+begins_with_name items = nat_lt 0 (count_in name_slot items) && has_no_strays items
 
 unfoldable pub group_present : List ItemParts → Result (Unit {0}) AptFault
 group_present group = none_of (first_missing member_slots group) Missing
 
--- Missing: each item that must be there is
+-- Line 3, Missing: each item that must be there is.
 unfoldable pub present : List ItemParts → Result (Unit {0}) AptFault
 present items = do
   _ ← none_of (first_missing head_slots items) Missing
-  _ ← check (begins items) (Missing 911 1)
+  _ ← check (begins_with_name items) (Missing 911 1)
   each group_present (groups items)
 
 unfoldable pub group_single : List ItemParts → Result (Unit {0}) AptFault
 group_single group = none_of (first_twice member_slots group) Twice
 
--- Twice: no item stands twice in the file or in its assortment
+-- Line 4, Twice: no item stands twice in the file or in its assortment.
 unfoldable pub single : List ItemParts → Result (Unit {0}) AptFault
 single items = do
   _ ← none_of (first_twice (file_slot ∷ head_slots) items) Twice
@@ -69,6 +93,7 @@ single items = do
 unfoldable pub numbers_in : Slot → List ItemParts → Result (List ℕ) AptFault
 numbers_in s items = with_fault (Digits s.number s.kind) (numbers_of (rest_in s items))
 
+-- what the items of an assortment say
 unfoldable pub draft_of : List ItemParts → Result Draft AptFault
 draft_of group = do
   species ← numbers_in (slot 912 1) group
@@ -79,17 +104,33 @@ draft_of group = do
   lengths ← numbers_in (slot 916 1) group
   prices ← numbers_in (slot 917 1) group
   targets ← numbers_in (slot 918 1) group
-  Ok (record { name = rest_in name_slot group; species = species; grades = grades; price_kind = price_kind; diameters = diameters; upper = upper; lengths = lengths; prices = prices; targets = targets })
+  Ok (record {
+    name = rest_in name_slot group;
+    species = species;
+    grades = grades;
+    price_kind = price_kind;
+    diameters = diameters;
+    upper = upper;
+    lengths = lengths;
+    prices = prices;
+    targets = targets;
+  })
 
--- Digits: each item but the texts is a list of numbers
-unfoldable pub sheet_of : List ItemParts → Result Sheet AptFault
-sheet_of items = do
+-- Line 5, Digits: each item but the texts is a list of numbers.
+unfoldable pub file_draft_of : List ItemParts → Result FileDraft AptFault
+file_draft_of items = do
   step ← numbers_in (slot 901 1) items
   period ← numbers_in (slot 902 1) items
   limit ← numbers_in (slot 903 1) items
   count ← numbers_in (slot 910 1) items
   drafts ← make_each draft_of (groups items)
-  Ok (record { «module» = step; period = period; limit = limit; count = count; drafts = drafts })
+  Ok (record {
+    «module» = step;
+    period = period;
+    limit = limit;
+    count = count;
+    drafts = drafts;
+  })
 
 abbrev pub within : ℕ → ℕ → ℕ → Bool
 within low high n = nat_le low n && nat_le n high
@@ -117,14 +158,14 @@ draft_range d = do
   _ ← check (all_within 0 10000000 d.prices) (Range 917 1)
   check (all_within 0 1000000 d.targets) (Range 918 1)
 
--- Range: each number is in its range, and each name meets its rule
-unfoldable pub in_range : Sheet → Result (Unit {0}) AptFault
-in_range sheet = do
-  _ ← check (all_within 10 1000 sheet.«module») (Range 901 1)
-  _ ← check (all_within 1 1000 sheet.period) (Range 902 1)
-  _ ← check (all_within 0 1000 sheet.limit) (Range 903 1)
-  _ ← check (all_within 1 16 sheet.count) (Range 910 1)
-  each draft_range sheet.drafts
+-- Line 6, Range: each number is in its range, and each name meets its rule.
+unfoldable pub in_range : FileDraft → Result (Unit {0}) AptFault
+in_range file = do
+  _ ← check (all_within 10 1000 file.«module») (Range 901 1)
+  _ ← check (all_within 1 1000 file.period) (Range 902 1)
+  _ ← check (all_within 0 1000 file.limit) (Range 903 1)
+  _ ← check (all_within 1 16 file.count) (Range 910 1)
+  each draft_range file.drafts
 
 -- each number is below the next
 abbrev pub is_rising : List ℕ → Bool
@@ -143,9 +184,9 @@ draft_order d = do
   _ ← check (all_above d.diameters d.upper) (Order 915 2)
   check (is_rising d.lengths) (Order 916 1)
 
--- Order: each list is in its order
-unfoldable pub in_order : Sheet → Result (Unit {0}) AptFault
-in_order sheet = each draft_order sheet.drafts
+-- Line 7, Order: each list is in its order.
+unfoldable pub in_order : FileDraft → Result (Unit {0}) AptFault
+in_order file = each draft_order file.drafts
 
 abbrev pub is_one : List ℕ → Bool
 is_one ns = length ns == 1
@@ -165,14 +206,14 @@ draft_count d = do
 abbrev pub is_number_of : List Draft → List ℕ → Bool
 is_number_of drafts ns = is_one ns && slice_index ns 0 == length drafts
 
--- Count: there are as many numbers as there should be
-unfoldable pub in_number : Sheet → Result (Unit {0}) AptFault
-in_number sheet = do
-  _ ← check (is_one sheet.«module») (Count 901 1)
-  _ ← check (is_one sheet.period) (Count 902 1)
-  _ ← check (is_one sheet.limit) (Count 903 1)
-  _ ← check (is_number_of sheet.drafts sheet.count) (Count 910 1)
-  each draft_count sheet.drafts
+-- Line 8, Count: there are as many numbers as there should be.
+unfoldable pub in_number : FileDraft → Result (Unit {0}) AptFault
+in_number file = do
+  _ ← check (is_one file.«module») (Count 901 1)
+  _ ← check (is_one file.period) (Count 902 1)
+  _ ← check (is_one file.limit) (Count 903 1)
+  _ ← check (is_number_of file.drafts file.count) (Count 910 1)
+  each draft_count file.drafts
 
 -- the fault of a number that was found
 abbrev pub none_found : Option ℕ → (ℕ → AptFault) → Result (Unit {0}) AptFault
@@ -180,41 +221,53 @@ none_found None fault = Ok tt
 none_found (Some n) fault = Err (fault n)
 
 -- the first length that isn't a multiple of the module, and so the least
-abbrev pub off_module : ℕ → List ℕ → Option ℕ
-off_module step lengths = find (λ l. not (l % step == 0)) lengths
+abbrev pub first_off_module : ℕ → List ℕ → Option ℕ
+first_off_module step lengths = find (λ l. not (l % step == 0)) lengths
 
--- Module: each length is a multiple of the module
-unfoldable pub on_module : Sheet → Result (Unit {0}) AptFault
-on_module sheet = each (λ d. none_found (off_module (slice_index sheet.«module» 0) d.lengths) Module) sheet.drafts
+-- Line 9, Module: each length is a multiple of the module.
+unfoldable pub on_module : FileDraft → Result (Unit {0}) AptFault
+on_module file =
+    let step = slice_index file.«module» 0 in
+    each (λ d. none_found (first_off_module step d.lengths) Module) file.drafts
 
--- Targets: no assortment's targets are above 1,000,000,000 together; assortments count from 0
-unfoldable pub in_targets : Sheet → Result (Unit {0}) AptFault
-in_targets sheet = none_found (position (λ d. nat_lt 1000000000 (sum d.targets)) sheet.drafts) Targets
+-- Line 10, Targets: no assortment's targets are above 1,000,000,000 together; assortments count from 0.
+unfoldable pub in_targets : FileDraft → Result (Unit {0}) AptFault
+in_targets file = none_found (position (λ d. nat_lt 1000000000 (sum d.targets)) file.drafts) Targets
 
 -- the assortment that the numbers say
 abbrev pub assortment_of : Draft → AssortmentParts
-assortment_of d = record { name = d.name; species = slice_index d.species 0; grades = d.grades; price_kind = slice_index d.price_kind 0; diameters = d.diameters; upper = slice_index d.upper 0; lengths = d.lengths; prices = d.prices; targets = d.targets }
+assortment_of d = record {
+  name = d.name;
+  species = slice_index d.species 0;
+  grades = d.grades;
+  price_kind = slice_index d.price_kind 0;
+  diameters = d.diameters;
+  upper = slice_index d.upper 0;
+  lengths = d.lengths;
+  prices = d.prices;
+  targets = d.targets;
+}
 
 -- the instruction that the numbers say
-abbrev pub instruction_of : Sheet → InstructionParts
-instruction_of sheet = record { «module» = slice_index sheet.«module» 0; period = slice_index sheet.period 0; limit = slice_index sheet.limit 0; assortments = map assortment_of sheet.drafts }
+abbrev pub instruction_of : FileDraft → InstructionParts
+instruction_of file = record {
+  «module» = slice_index file.«module» 0;
+  period = slice_index file.period 0;
+  limit = slice_index file.limit 0;
+  assortments = map assortment_of file.drafts;
+}
 
--- the instruction of the items, or the first refusal that applies
-unfoldable pub instruction_in : List ItemParts → Result InstructionParts AptFault
-instruction_in items = do
-  _ ← check (says_apt items) NotApt
-  _ ← present items
-  _ ← single items
-  sheet ← sheet_of items
-  _ ← in_range sheet
-  _ ← in_order sheet
-  _ ← in_number sheet
-  _ ← on_module sheet
-  _ ← in_targets sheet
-  Ok (instruction_of sheet)
-
--- the instruction of the bytes, or the first refusal that applies
+-- The instruction of the bytes, or the first refusal that applies: line 1 (an item without a head) to line 10.
 unfoldable pub apt_of : List ℕ → Result InstructionParts AptFault
 apt_of bytes = do
   items ← with_fault Head (items_of bytes)
-  instruction_in items
+  _ ← check (says_apt items) NotApt
+  _ ← present items
+  _ ← single items
+  file ← file_draft_of items
+  _ ← in_range file
+  _ ← in_order file
+  _ ← in_number file
+  _ ← on_module file
+  _ ← in_targets file
+  Ok (instruction_of file)

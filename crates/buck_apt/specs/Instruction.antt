@@ -1,4 +1,6 @@
--- A bucking instruction as clauses see it, its limits and the order of its classes.
+-- A bucking instruction as clauses see it, its limits and the order of its classes. The limits are no rule of their
+-- own: they follow from the chain of refusals in `Apt`. What passes all ten lines is within them, and since only
+-- `read_apt` makes an instruction, each one is.
 use Rattle.std.specs.Prelude.{◌≡◌, ℕ, ◌+◌, ◌*◌, ◌%◌, ◌<◌, ◌≤◌, List, length, All, sum, sum_by, take, Option, Some, None, slice_get, ◌≢◌}
 use Rattle.std.specs.List.Sorted.{IsStrictlyIncreasing}
 use Rattle.buck_apt.specs.declared.class.Class.{Class}

@@ -1,3 +1,3 @@
 pub mod Instruction
 pub mod Apt
-pub mod Draft
+pub mod inner

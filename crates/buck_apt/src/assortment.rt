@@ -2,7 +2,7 @@
 ghost use Rattle.std.specs.Prelude.{◌≡◌, ◌+◌, ◌*◌, ◌<◌, ◌≤◌, ◌↔◌, IsTrue, IfOk, All, length, slice_index, sum};
 ghost use Rattle.buck_apt.specs.Instruction.{IsAssortment, classes_of};
 ghost use Rattle.buck_apt.specs.Apt.{assortment_of};
-ghost use Rattle.buck_apt.specs.Draft.{IsReadyDraft};
+ghost use Rattle.buck_apt.specs.inner.Ready.{IsReadyDraft};
 
 use crate::draft::Draft;
 use buck_record::Memory;
@@ -29,9 +29,29 @@ impl Model for Assortment {
 
     ghost Value = { AssortmentParts };
 
-    ghost view = { λ a. record { name = a.name.items; species = a.species; grades = a.grades.items; price_kind = a.price_kind; diameters = a.diameters.items; upper = a.upper; lengths = a.lengths.items; prices = a.prices.items; targets = a.targets.items } };
+    ghost view = { λ a. record {
+      name = a.name.items;
+      species = a.species;
+      grades = a.grades.items;
+      price_kind = a.price_kind;
+      diameters = a.diameters.items;
+      upper = a.upper;
+      lengths = a.lengths.items;
+      prices = a.prices.items;
+      targets = a.targets.items;
+    } };
 
-    ghost invariant = { λ a. IsAssortment (record { name = a.name.items; species = a.species; grades = a.grades.items; price_kind = a.price_kind; diameters = a.diameters.items; upper = a.upper; lengths = a.lengths.items; prices = a.prices.items; targets = a.targets.items }) };
+    ghost invariant = { λ a. IsAssortment (record {
+      name = a.name.items;
+      species = a.species;
+      grades = a.grades.items;
+      price_kind = a.price_kind;
+      diameters = a.diameters.items;
+      upper = a.upper;
+      lengths = a.lengths.items;
+      prices = a.prices.items;
+      targets = a.targets.items;
+    }) };
 }
 
 /// Numbers below 256 as bytes.

@@ -2,11 +2,11 @@
 ghost use Rattle.std.specs.Prelude.{◌≡◌, ◌<◌, ◌≤◌, ◌*◌, ◌↔◌, IsTrue, IfOk, All, length, map, sum_by};
 ghost use Rattle.buck_apt.specs.Instruction.{IsInstruction, IsClass, classes, classes_of, index_of};
 ghost use Rattle.buck_apt.specs.Apt.{assortment_of, instruction_of};
-ghost use Rattle.buck_apt.specs.Draft.{IsReadyDraft, IsReadySheet};
+ghost use Rattle.buck_apt.specs.inner.Ready.{IsReadyDraft, IsReadyFile};
 
 use crate::assortment::Assortment;
 use crate::class::Class;
-use crate::draft::{Draft, Sheet};
+use crate::draft::{Draft, FileDraft};
 use buck_record::Memory;
 use std::alloc::{AllocError, Global};
 use std::marker::Model;
@@ -26,9 +26,19 @@ impl Model for Instruction {
 
     ghost Value = { InstructionParts };
 
-    ghost view = { λ i. record { «module» = i.module; period = i.period; limit = i.limit; assortments = i.assortments.items } };
+    ghost view = { λ i. record {
+      «module» = i.module;
+      period = i.period;
+      limit = i.limit;
+      assortments = i.assortments.items;
+    } };
 
-    ghost invariant = { λ i. IsInstruction (record { «module» = i.module; period = i.period; limit = i.limit; assortments = i.assortments.items }) };
+    ghost invariant = { λ i. IsInstruction (record {
+      «module» = i.module;
+      period = i.period;
+      limit = i.limit;
+      assortments = i.assortments.items;
+    }) };
 }
 
 /// The assortments that drafts say.
@@ -44,16 +54,16 @@ fn assortments_of(alloc: Global, drafts: &[Draft]) -> Result<Vec<Assortment>, Al
 }
 
 impl Instruction {
-    /// The instruction that a sheet says.
-    pub(crate) fn of(alloc: Global, sheet: &Sheet) -> Result<Instruction, AllocError>
-        requires { IsReadySheet sheet.now }
-        ensures { IfOk result (λ i. i ≡ instruction_of sheet.now) }
+    /// The instruction that a file's draft says.
+    pub(crate) fn of(alloc: Global, file: &FileDraft) -> Result<Instruction, AllocError>
+        requires { IsReadyFile file.now }
+        ensures { IfOk result (λ i. i ≡ instruction_of file.now) }
     {
-        let assortments = assortments_of(alloc, sheet.drafts.as_slice())?;
+        let assortments = assortments_of(alloc, file.drafts.as_slice())?;
         Ok(Instruction {
-            module: sheet.module.as_slice()[0],
-            period: sheet.period.as_slice()[0],
-            limit: sheet.limit.as_slice()[0],
+            module: file.module.as_slice()[0],
+            period: file.period.as_slice()[0],
+            limit: file.limit.as_slice()[0],
             assortments,
         })
     }

@@ -11,15 +11,16 @@ ghost use Rattle.buck_apt.specs.Apt.{
   in_number,
   is_number_of,
   none_found,
-  off_module,
+  first_off_module,
   on_module,
   in_targets,
 };
+ghost use Rattle.buck_apt.specs.inner.Parts.{within_limits};
 
-use crate::draft::{Draft, Sheet};
+use crate::draft::{Draft, FileDraft};
 use crate::fault::AptFault;
 use crate::rules::{
-    all_above, all_within, is_above, is_name, is_one, is_rising, off_module, within,
+    all_above, all_within, first_off_module, is_above, is_name, is_one, is_rising, within,
 };
 use buck_record::check::{check, each};
 
@@ -68,14 +69,14 @@ fn each_range(drafts: &[Draft]) -> Result<(), AptFault>
 
 /// Each number is in its range, and each name meets its rule.
 #[tactic(auto, unfolding(crate::specs::Apt::in_range))]
-pub fn in_range(sheet: &Sheet) -> Result<(), AptFault>
-    ensures { result ≡ in_range sheet.now }
+pub(crate) fn in_range(file: &FileDraft) -> Result<(), AptFault>
+    ensures { result ≡ in_range file.now }
 {
-    check(all_within(10, 1000, sheet.module.as_slice()), range(901, 1))?;
-    check(all_within(1, 1000, sheet.period.as_slice()), range(902, 1))?;
-    check(all_within(0, 1000, sheet.limit.as_slice()), range(903, 1))?;
-    check(all_within(1, 16, sheet.count.as_slice()), range(910, 1))?;
-    each_range(sheet.drafts.as_slice())
+    check(all_within(10, 1000, file.module.as_slice()), range(901, 1))?;
+    check(all_within(1, 1000, file.period.as_slice()), range(902, 1))?;
+    check(all_within(0, 1000, file.limit.as_slice()), range(903, 1))?;
+    check(all_within(1, 16, file.count.as_slice()), range(910, 1))?;
+    each_range(file.drafts.as_slice())
 }
 
 #[tactic(auto, unfolding(crate::specs::Apt::draft_order))]
@@ -91,10 +92,10 @@ fn draft_order(draft: &Draft) -> Result<(), AptFault>
 
 /// Each list is in its order.
 #[tactic(auto, unfolding(crate::specs::Apt::in_order))]
-pub fn in_order(sheet: &Sheet) -> Result<(), AptFault>
-    ensures { result ≡ in_order sheet.now }
+pub(crate) fn in_order(file: &FileDraft) -> Result<(), AptFault>
+    ensures { result ≡ in_order file.now }
 {
-    each(sheet.drafts.as_slice(), |draft| draft_order(draft))
+    each(file.drafts.as_slice(), |draft| draft_order(draft))
 }
 
 /// There is one number for each row and column.
@@ -139,22 +140,22 @@ fn is_number_of(drafts: &[Draft], numbers: &[u32]) -> bool
 
 /// There are as many numbers as there should be.
 #[tactic(auto, unfolding(crate::specs::Apt::in_number))]
-pub fn in_number(sheet: &Sheet) -> Result<(), AptFault>
-    ensures { result ≡ in_number sheet.now }
+pub(crate) fn in_number(file: &FileDraft) -> Result<(), AptFault>
+    ensures { result ≡ in_number file.now }
 {
-    let drafts = sheet.drafts.as_slice();
-    check(is_one(sheet.module.as_slice()), count(901, 1))?;
-    check(is_one(sheet.period.as_slice()), count(902, 1))?;
-    check(is_one(sheet.limit.as_slice()), count(903, 1))?;
-    check(is_number_of(drafts, sheet.count.as_slice()), count(910, 1))?;
+    let drafts = file.drafts.as_slice();
+    check(is_one(file.module.as_slice()), count(901, 1))?;
+    check(is_one(file.period.as_slice()), count(902, 1))?;
+    check(is_one(file.limit.as_slice()), count(903, 1))?;
+    check(is_number_of(drafts, file.count.as_slice()), count(910, 1))?;
     each_count(drafts)
 }
 
 fn draft_on_module(module: u32, draft: &Draft) -> Result<(), AptFault>
     requires { 0 < «module» }
-    ensures { result ≡ none_found (off_module «module» draft.now.lengths) (λ l. Module l) }
+    ensures { result ≡ none_found (first_off_module «module» draft.now.lengths) (λ l. Module l) }
 {
-    match off_module(module, draft.lengths.as_slice()) {
+    match first_off_module(module, draft.lengths.as_slice()) {
         None => Ok(()),
         Some(length) => Err(AptFault::Module { length }),
     }
@@ -162,18 +163,18 @@ fn draft_on_module(module: u32, draft: &Draft) -> Result<(), AptFault>
 
 /// Each length is a multiple of the module.
 #[tactic(auto, unfolding(crate::specs::Apt::on_module))]
-pub fn on_module(sheet: &Sheet) -> Result<(), AptFault>
-    requires one { length sheet.now.«module» ≡ 1 }
-    requires above_zero { 0 < slice_index sheet.now.«module» 0 }
-    ensures { result ≡ on_module sheet.now }
+pub(crate) fn on_module(file: &FileDraft) -> Result<(), AptFault>
+    requires one { length file.now.«module» ≡ 1 }
+    requires above_zero { 0 < slice_index file.now.«module» 0 }
+    ensures { result ≡ on_module file.now }
 {
-    let module = sheet.module.as_slice()[0];
-    let drafts = sheet.drafts.as_slice();
+    let module = file.module.as_slice()[0];
+    let drafts = file.drafts.as_slice();
     each(drafts, |draft| draft_on_module(module, draft))
 }
 
 /// The first of the drafts whose targets are above 1,000,000,000 together.
-fn too_many(drafts: &[Draft]) -> Option<usize>
+fn first_with_too_many_targets(drafts: &[Draft]) -> Option<usize>
     ensures { result ≡ position (λ d. nat_lt 1000000000 (sum d.targets)) drafts.now }
 {
     drafts
@@ -183,11 +184,23 @@ fn too_many(drafts: &[Draft]) -> Option<usize>
 
 /// No assortment's targets are above 1,000,000,000 together.
 #[tactic(auto, unfolding(crate::specs::Apt::in_targets))]
-pub fn in_targets(sheet: &Sheet) -> Result<(), AptFault>
-    ensures { result ≡ in_targets sheet.now }
+pub(crate) fn in_targets(file: &FileDraft) -> Result<(), AptFault>
+    ensures { result ≡ in_targets file.now }
 {
-    match too_many(sheet.drafts.as_slice()) {
+    match first_with_too_many_targets(file.drafts.as_slice()) {
         None => Ok(()),
         Some(assortment) => Err(AptFault::Targets { assortment }),
     }
+}
+
+/// What the items say is within the limits.
+#[tactic(auto, using(crate::proofs::PassLemmas::module_single, crate::proofs::PassLemmas::module_above_zero), unfolding(crate::specs::inner::Parts::within_limits))]
+pub(crate) fn within_limits(file: &FileDraft) -> Result<(), AptFault>
+    ensures { result ≡ within_limits file.now }
+{
+    in_range(file)?;
+    in_order(file)?;
+    in_number(file)?;
+    on_module(file)?;
+    in_targets(file)
 }

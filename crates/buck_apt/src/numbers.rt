@@ -3,9 +3,10 @@ ghost use Rattle.std.specs.Prelude.{◌≡◌};
 ghost use Rattle.buck_record.specs.Reading.{Gives};
 ghost use Rattle.buck_record.specs.Check.{make_each};
 ghost use Rattle.buck_apt.specs.declared.fault.AptFault.TheVariants.{Memory};
-ghost use Rattle.buck_apt.specs.Apt.{groups, numbers_in, draft_of, sheet_of};
+ghost use Rattle.buck_apt.specs.Apt.{groups, numbers_in, draft_of, file_draft_of};
+ghost use Rattle.buck_apt.specs.inner.Parts.{wood_of, sizes_of, tables_of};
 
-use crate::draft::{Draft, Sheet};
+use crate::draft::{Draft, FileDraft, Sizes, Tables, Wood};
 use crate::fault::AptFault;
 use crate::slots::{
     COUNT, DIAMETERS, GRADES, LENGTHS, LIMIT, MODULE, NAME, PERIOD, PRICE_KIND, PRICES, SPECIES,
@@ -35,33 +36,64 @@ fn numbers_in<'a>(
     }
 }
 
-#[tactic(auto, unfolding(crate::specs::Apt::draft_of))]
-fn draft_of<'a>(alloc: Global, group: &'a [Piece<'a>]) -> Result<Draft, AptFault>
-    ensures { Gives Memory result (draft_of group.now) }
+#[tactic(auto, unfolding(crate::specs::inner::Parts::wood_of))]
+fn wood_of<'a>(alloc: Global, group: &'a [Piece<'a>]) -> Result<Wood, AptFault>
+    ensures { Gives Memory result (wood_of group.now) }
 {
     let species = numbers_in(alloc, SPECIES, group)?;
     let grades = numbers_in(alloc, GRADES, group)?;
     let price_kind = numbers_in(alloc, PRICE_KIND, group)?;
-    let diameters = numbers_in(alloc, DIAMETERS, group)?;
-    let upper = numbers_in(alloc, UPPER, group)?;
-    let lengths = numbers_in(alloc, LENGTHS, group)?;
-    let prices = numbers_in(alloc, PRICES, group)?;
-    let targets = numbers_in(alloc, TARGETS, group)?;
-    let name = Listed::of(Vec::from_slice(alloc, rest(group, NAME))?);
-    Ok(Draft {
-        name,
+    Ok(Wood {
         species,
         grades,
         price_kind,
-        diameters,
-        upper,
-        lengths,
-        prices,
-        targets,
     })
 }
 
-fn drafts_of(alloc: Global, groups: &[Group<'_>]) -> Result<Listed<Draft>, AptFault>
+#[tactic(auto, unfolding(crate::specs::inner::Parts::sizes_of))]
+fn sizes_of<'a>(alloc: Global, group: &'a [Piece<'a>]) -> Result<Sizes, AptFault>
+    ensures { Gives Memory result (sizes_of group.now) }
+{
+    let diameters = numbers_in(alloc, DIAMETERS, group)?;
+    let upper = numbers_in(alloc, UPPER, group)?;
+    let lengths = numbers_in(alloc, LENGTHS, group)?;
+    Ok(Sizes {
+        diameters,
+        upper,
+        lengths,
+    })
+}
+
+#[tactic(auto, unfolding(crate::specs::inner::Parts::tables_of))]
+fn tables_of<'a>(alloc: Global, group: &'a [Piece<'a>]) -> Result<Tables, AptFault>
+    ensures { Gives Memory result (tables_of group.now) }
+{
+    let prices = numbers_in(alloc, PRICES, group)?;
+    let targets = numbers_in(alloc, TARGETS, group)?;
+    Ok(Tables { prices, targets })
+}
+
+fn draft_of<'a>(alloc: Global, group: &'a [Piece<'a>]) -> Result<Draft, AptFault>
+    ensures { Gives Memory result (draft_of group.now) }
+{
+    let name = Listed::of(Vec::from_slice(alloc, rest(group, NAME))?);
+    let wood = wood_of(alloc, group)?;
+    let sizes = sizes_of(alloc, group)?;
+    let tables = tables_of(alloc, group)?;
+    Ok(Draft {
+        name,
+        species: wood.species,
+        grades: wood.grades,
+        price_kind: wood.price_kind,
+        diameters: sizes.diameters,
+        upper: sizes.upper,
+        lengths: sizes.lengths,
+        prices: tables.prices,
+        targets: tables.targets,
+    })
+}
+
+fn assortment_drafts(alloc: Global, groups: &[Group<'_>]) -> Result<Listed<Draft>, AptFault>
     ensures { Gives Memory result (make_each draft_of groups.now) }
 {
     let mut drafts = Vec::new(alloc);
@@ -72,21 +104,21 @@ fn drafts_of(alloc: Global, groups: &[Group<'_>]) -> Result<Listed<Draft>, AptFa
 }
 
 /// The numbers of each item of a file.
-#[tactic(auto, unfolding(crate::specs::Apt::sheet_of))]
-pub fn sheet_of<'a>(
+#[tactic(auto, unfolding(crate::specs::Apt::file_draft_of))]
+pub(crate) fn file_draft_of<'a>(
     alloc: Global,
     items: &'a [Piece<'a>],
     assortments: &[Group<'_>],
-) -> Result<Sheet, AptFault>
+) -> Result<FileDraft, AptFault>
     requires { assortments.now ≡ groups items.now }
-    ensures { Gives Memory result (sheet_of items.now) }
+    ensures { Gives Memory result (file_draft_of items.now) }
 {
     let module = numbers_in(alloc, MODULE, items)?;
     let period = numbers_in(alloc, PERIOD, items)?;
     let limit = numbers_in(alloc, LIMIT, items)?;
     let count = numbers_in(alloc, COUNT, items)?;
-    let drafts = drafts_of(alloc, assortments)?;
-    Ok(Sheet {
+    let drafts = assortment_drafts(alloc, assortments)?;
+    Ok(FileDraft {
         module,
         period,
         limit,

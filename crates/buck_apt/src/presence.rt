@@ -3,7 +3,7 @@ ghost use Rattle.std.specs.Prelude.{◌≡◌};
 ghost use Rattle.buck_record.specs.Check.{none_of, each};
 ghost use Rattle.buck_record.specs.Table.{first_missing, first_twice};
 ghost use Rattle.buck_apt.specs.declared.fault.AptFault.TheVariants.{Missing, Twice};
-ghost use Rattle.buck_apt.specs.Apt.{groups, begins, group_present, present, group_single, single};
+ghost use Rattle.buck_apt.specs.Apt.{groups, begins_with_name, group_present, present, group_single, single};
 
 use crate::fault::AptFault;
 use crate::slots::{ALONE, HEAD, MEMBERS, NAME};
@@ -32,8 +32,8 @@ fn none_twice<'a>(slots: &[Slot], items: &'a [Piece<'a>]) -> Result<(), AptFault
 }
 
 /// There is a name, and no item of an assortment stands before the first one.
-fn begins<'a>(items: &'a [Piece<'a>]) -> bool
-    ensures { result ≡ begins items.now }
+fn begins_with_name<'a>(items: &'a [Piece<'a>]) -> bool
+    ensures { result ≡ begins_with_name items.now }
 {
     is_there(items, NAME) && all_absent(&MEMBERS, front(items, NAME))
 }
@@ -53,13 +53,13 @@ fn each_present(groups: &[Group<'_>]) -> Result<(), AptFault>
 
 /// Each item that must be there is.
 #[tactic(auto, unfolding(crate::specs::Apt::present))]
-pub fn present<'a>(items: &'a [Piece<'a>], assortments: &[Group<'_>]) -> Result<(), AptFault>
+pub(crate) fn present<'a>(items: &'a [Piece<'a>], assortments: &[Group<'_>]) -> Result<(), AptFault>
     requires { assortments.now ≡ groups items.now }
     ensures { result ≡ present items.now }
 {
     none_missing(&HEAD, items)?;
     check(
-        begins(items),
+        begins_with_name(items),
         AptFault::Missing {
             number: 911,
             kind: 1,
@@ -83,7 +83,7 @@ fn each_single(groups: &[Group<'_>]) -> Result<(), AptFault>
 
 /// No item stands twice in the file or in its assortment.
 #[tactic(auto, unfolding(crate::specs::Apt::single))]
-pub fn single<'a>(items: &'a [Piece<'a>], assortments: &[Group<'_>]) -> Result<(), AptFault>
+pub(crate) fn single<'a>(items: &'a [Piece<'a>], assortments: &[Group<'_>]) -> Result<(), AptFault>
     requires { assortments.now ≡ groups items.now }
     ensures { result ≡ single items.now }
 {

@@ -3,17 +3,19 @@ ghost use Rattle.std.specs.Prelude.{◌≡◌};
 ghost use Rattle.buck_record.specs.Reading.{Gives, with_fault, listed};
 ghost use Rattle.buck_record.specs.Record.{items_of};
 ghost use Rattle.buck_apt.specs.declared.fault.AptFault.TheVariants.{Memory, Head};
-ghost use Rattle.buck_apt.specs.Apt.{says_apt, instruction_in, apt_of};
+ghost use Rattle.buck_apt.specs.Apt.{groups, says_apt, apt_of};
+ghost use Rattle.buck_apt.specs.inner.Parts.{has_form, draft_in, instruction_in};
 
+use crate::draft::FileDraft;
 use crate::fault::AptFault;
 use crate::instruction::Instruction;
-use crate::limits::{in_number, in_order, in_range, in_targets, on_module};
-use crate::numbers::sheet_of;
+use crate::limits::within_limits;
+use crate::numbers::file_draft_of;
 use crate::presence::{present, single};
 use crate::slots::{FILE, NAME};
 use buck_record::check::check;
 use buck_record::table::{groups, rest};
-use buck_record::{Piece, RecordFault, pieces};
+use buck_record::{Group, Piece, RecordFault, pieces};
 use std::alloc::Global;
 
 /// The items of the file.
@@ -34,23 +36,35 @@ fn says_apt<'a>(items: &'a [Piece<'a>]) -> bool
     rest(items, FILE) == b"APT".as_slice()
 }
 
+/// The file says that it is an instruction, and each item stands as often as it should.
+#[tactic(auto, unfolding(crate::specs::inner::Parts::has_form))]
+fn has_form<'a>(items: &'a [Piece<'a>], assortments: &[Group<'_>]) -> Result<(), AptFault>
+    requires { assortments.now ≡ groups items.now }
+    ensures { result ≡ has_form items.now }
+{
+    check(says_apt(items), AptFault::NotApt)?;
+    present(items, assortments)?;
+    single(items, assortments)
+}
+
+/// What the items of an instruction say.
+#[tactic(auto, unfolding(crate::specs::inner::Parts::draft_in))]
+fn draft_in<'a>(alloc: Global, items: &'a [Piece<'a>]) -> Result<FileDraft, AptFault>
+    ensures { Gives Memory result (draft_in items.now) }
+{
+    let assortments = groups(alloc, items, NAME)?;
+    has_form(items, assortments.as_slice())?;
+    file_draft_of(alloc, items, assortments.as_slice())
+}
+
 /// The instruction of a file's items.
-#[tactic(auto, unfolding(crate::specs::Apt::instruction_in))]
+#[tactic(auto, using(crate::proofs::PassLemmas::file_ready), unfolding(crate::specs::inner::Parts::instruction_in))]
 fn instruction_in<'a>(alloc: Global, items: &'a [Piece<'a>]) -> Result<Instruction, AptFault>
     ensures { Gives Memory result (instruction_in items.now) }
 {
-    check(says_apt(items), AptFault::NotApt)?;
-    let listed = groups(alloc, items, NAME)?;
-    let assortments = listed.as_slice();
-    present(items, assortments)?;
-    single(items, assortments)?;
-    let sheet = sheet_of(alloc, items, assortments)?;
-    in_range(&sheet)?;
-    in_order(&sheet)?;
-    in_number(&sheet)?;
-    on_module(&sheet)?;
-    in_targets(&sheet)?;
-    Ok(Instruction::of(alloc, &sheet)?)
+    let file = draft_in(alloc, items)?;
+    within_limits(&file)?;
+    Ok(Instruction::of(alloc, &file)?)
 }
 
 /// Reads an instruction file, whose bytes are items between tildes (see docs/FORMATS.md).
@@ -58,7 +72,7 @@ fn instruction_in<'a>(alloc: Global, items: &'a [Piece<'a>]) -> Result<Instructi
 /// The answer is the instruction that the bytes have, or the first refusal that applies, in the order in which
 /// [`AptFault`] lists them; of one kind it names the first item in the order of the file's table. `Memory` comes
 /// in place of any answer where a growth was refused.
-#[tactic(auto, unfolding(crate::specs::Apt::apt_of))]
+#[tactic(auto, using(crate::proofs::PartLemmas::apt_without_items, crate::proofs::PartLemmas::apt_of_items))]
 pub fn read_apt(alloc: Global, bytes: &[u8]) -> Result<Instruction, AptFault>
     ensures { Gives Memory result (apt_of bytes.now) }
 {

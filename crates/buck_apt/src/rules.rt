@@ -9,25 +9,25 @@ ghost use Rattle.buck_apt.specs.Apt.{
   is_name_byte,
   all_above,
   is_one,
-  off_module,
+  first_off_module,
 };
 
 /// A number is from `low` to `high`.
-pub fn within(low: usize, high: usize, n: usize) -> bool
+pub(crate) fn within(low: usize, high: usize, n: usize) -> bool
     ensures { result ≡ within low high n }
 {
     low <= n && n <= high
 }
 
 /// Each number is from `low` to `high`.
-pub fn all_within(low: u32, high: u32, numbers: &[u32]) -> bool
+pub(crate) fn all_within(low: u32, high: u32, numbers: &[u32]) -> bool
     ensures { result ≡ all_within low high numbers.now }
 {
     numbers.iter().all(|n| low <= *n && *n <= high)
 }
 
 /// Each number is below the next.
-pub fn is_rising(numbers: &[u32]) -> bool
+pub(crate) fn is_rising(numbers: &[u32]) -> bool
     ensures { result ≡ is_rising numbers.now }
 {
     for i in 1..numbers.len() {
@@ -46,7 +46,7 @@ fn all_below(lows: &[u32], high: u32) -> bool
 }
 
 /// Each of the lower limits is below each upper diameter.
-pub fn all_above(lows: &[u32], highs: &[u32]) -> bool
+pub(crate) fn all_above(lows: &[u32], highs: &[u32]) -> bool
     ensures { result ≡ all_above lows.now highs.now }
 {
     highs.iter().all(|high| all_below(lows, *high))
@@ -66,29 +66,29 @@ fn are_name_bytes(bytes: &[u8]) -> bool
 }
 
 /// 1 to 32 bytes that a name may have.
-pub fn is_name(bytes: &[u8]) -> bool
+pub(crate) fn is_name(bytes: &[u8]) -> bool
     ensures { result ≡ is_name bytes.now }
 {
     within(1, 32, bytes.len()) && are_name_bytes(bytes)
 }
 
 /// There is one number.
-pub fn is_one(numbers: &[u32]) -> bool
+pub(crate) fn is_one(numbers: &[u32]) -> bool
     ensures { result ≡ is_one numbers.now }
 {
     numbers.len() == 1
 }
 
 /// The first length that isn't a multiple of the module.
-pub fn off_module(module: u32, lengths: &[u32]) -> Option<u32>
+pub(crate) fn first_off_module(module: u32, lengths: &[u32]) -> Option<u32>
     requires { 0 < «module» }
-    ensures { result ≡ off_module «module» lengths.now }
+    ensures { result ≡ first_off_module «module» lengths.now }
 {
     lengths.iter().copied().find(|length| *length % module != 0)
 }
 
 /// The numbers together are above `most`.
-pub fn is_above(most: u64, numbers: &[u32]) -> bool
+pub(crate) fn is_above(most: u64, numbers: &[u32]) -> bool
     ensures { result ≡ nat_lt most (sum numbers.now) }
 {
     let mut left = most;

@@ -3,7 +3,7 @@ use Rattle.std.specs.Prelude.{◌≡◌, length, All}
 use Rattle.buck_apt.specs.Instruction.{IsAssortment, IsInstruction}
 use Rattle.buck_apt.specs.Apt.{assortment_of, instruction_of}
 use Rattle.buck_apt.specs.declared.draft.Draft.{Draft}
-use Rattle.buck_apt.specs.declared.draft.Sheet.{Sheet}
+use Rattle.buck_apt.specs.declared.draft.FileDraft.{FileDraft}
 
 -- one number where there is to be one, and all within the limits
 pub record IsReadyDraft (d : Draft) : Type 0 where
@@ -12,7 +12,7 @@ pub record IsReadyDraft (d : Draft) : Type 0 where
   pub upper : length d.upper ≡ 1
   pub valid : IsAssortment (assortment_of d)
 
-pub record IsReadySheet (s : Sheet) : Type 0 where
+pub record IsReadyFile (s : FileDraft) : Type 0 where
   pub «module» : length s.«module» ≡ 1
   pub period : length s.period ≡ 1
   pub limit : length s.limit ≡ 1

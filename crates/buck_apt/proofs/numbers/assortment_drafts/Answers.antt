@@ -3,7 +3,7 @@ use Rattle.std.proofs.lemmas.Result.{err_from_is_err_and}
 use Rattle.buck_apt.specs.Apt.{draft_of}
 use Rattle.buck_record.specs.Check.{make_each}
 use Rattle.buck_record.proofs.CheckLemmas.{make_start, make_goes_on, make_stops, make_ends}
-use Rattle.buck_apt.proofs.numbers.drafts_of.Goals as goal
+use Rattle.buck_apt.proofs.numbers.assortment_drafts.Goals as goal
 
 pub loop-group-init : goal.loop-group-init
 loop-group-init c = rw c.new-drafts.ensures.items (make_start draft_of c.args.groups.now (make_each draft_of c.args.groups.now))
