@@ -6,3 +6,4 @@ pub mod PassLemmas
 pub mod RunLemmas
 pub mod Tables
 pub mod Diameters
+pub mod StageLemmas

@@ -11,6 +11,7 @@ use Rattle.buck_stem.specs.declared.fault.StmFault.{StmFault}
 use Rattle.buck_stem.specs.declared.fault.StmFault.TheVariants.{Range, Count}
 use Rattle.buck_stem.specs.Stem.{IsStem, IsGrade, IsRisingFrom, stem_of}
 use Rattle.buck_stem.specs.Stm.{within, all_within, starts, grades, zones_of, is_rising, draft_range, draft_order, draft_count, in_range, in_order, in_number, parts_of}
+use Rattle.buck_stem.specs.inner.Stages.{checked}
 
 pub and_parts : (a b : Bool) → (a && b) ≡ true → (a ≡ true) × (b ≡ true)
 and_parts true b h = (refl, h)
@@ -142,3 +143,16 @@ each_in_order drafts h = all_ok draft_order drafts h
 pub each_in_number : (drafts : List Draft) → in_number drafts ≡ Ok tt → All (λ d. draft_count d ≡ Ok tt) drafts
 unfolding in_number
 each_in_number drafts h = all_ok draft_count drafts h
+
+-- stems that passed the last three lines passed each of them
+pub record PassThree (drafts : List Draft) : Type 0 where
+  pub range : in_range drafts ≡ Ok tt
+  pub order : in_order drafts ≡ Ok tt
+  pub count : in_number drafts ≡ Ok tt
+
+pub checked_ok : (drafts : List Draft) → checked drafts ≡ Ok tt → PassThree drafts
+unfolding checked
+checked_ok drafts h =
+    let first = then_ok (in_range drafts) (in_order drafts >>= λ _. in_number drafts) h in
+    let second = then_ok (in_order drafts) (in_number drafts) first.1 in
+    record { range = first.0; order = second.0; count = second.1 }

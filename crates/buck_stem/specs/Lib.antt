@@ -4,3 +4,4 @@ pub mod Stm
 pub mod Profile
 pub mod Runs
 pub mod ProfileTables
+pub mod inner

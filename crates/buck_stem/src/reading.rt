@@ -3,10 +3,10 @@ ghost use Rattle.std.specs.Prelude.{◌≡◌, IfOk, map, codes, Ok, true};
 ghost use Rattle.std.specs.Str.{bytes_eq};
 ghost use Rattle.buck_record.specs.Reading.{Gives, listed, with_fault};
 ghost use Rattle.buck_record.specs.Record.{items_of};
-ghost use Rattle.buck_record.specs.Table.{rest_in};
+ghost use Rattle.buck_record.specs.Table.{rest_in, groups_of};
 ghost use Rattle.buck_stem.specs.declared.fault.StmFault.TheVariants.{Memory, Head};
-ghost use Rattle.buck_stem.specs.Stem.{IsStem};
-ghost use Rattle.buck_stem.specs.Stm.{slot, stm_of, parts_of, zones_of, grades, all_within, draft_range, draft_order, draft_count, in_range, in_order, in_number};
+ghost use Rattle.buck_stem.specs.inner.Stages.{complete, drafts_in, checked, stems_in};
+ghost use Rattle.buck_stem.specs.Stm.{slot, stm_of, parts_of, zones_of, grades, all_within, draft_range, draft_order, draft_count};
 
 use crate::draft::Draft;
 use crate::fault::StmFault;
@@ -14,7 +14,7 @@ use crate::lines::{STEM, drafts_of, in_number, in_order, in_range, present, sing
 use crate::stem::{Stem, measured};
 use buck_record::check::check;
 use buck_record::table::{groups, rest};
-use buck_record::{Listed, Piece, RecordFault, Slot, pieces};
+use buck_record::{Group, Listed, Piece, RecordFault, Slot, pieces};
 use std::alloc::{AllocError, Global};
 
 fn items_in<'a>(alloc: Global, bytes: &'a [u8]) -> Result<Listed<Piece<'a>>, StmFault>
@@ -73,9 +73,7 @@ fn stem_from(alloc: Global, draft: &Draft) -> Result<Stem, AllocError>
 
 /// The stems of drafts that passed the last three lines.
 fn stems_from(alloc: Global, drafts: &[Draft]) -> Result<Vec<Stem>, AllocError>
-    requires range { in_range drafts.now ≡ Ok tt }
-    requires order { in_order drafts.now ≡ Ok tt }
-    requires count { in_number drafts.now ≡ Ok tt }
+    requires { checked drafts.now ≡ Ok tt }
     ensures { IfOk result (λ stems. stems.items ≡ map parts_of drafts.now) }
 {
     let mut stems = Vec::with_capacity(alloc, drafts.len())?;
@@ -85,22 +83,54 @@ fn stems_from(alloc: Global, drafts: &[Draft]) -> Result<Vec<Stem>, AllocError>
     Ok(stems)
 }
 
+/// The kind of the file, and the items that must be there or stand once: the lines before any number is read.
+#[tactic(auto, unfolding(crate::specs::inner::Stages::complete))]
+fn complete<'a>(items: &'a [Piece<'a>], stems: &[Group<'a>]) -> Result<(), StmFault>
+    requires { stems.now ≡ groups_of (slot 951 1) items.now }
+    ensures { result ≡ complete items.now }
+{
+    check(says_stm(items), StmFault::NotStm)?;
+    present(items, stems)?;
+    single(items, stems)
+}
+
+/// The numbers of each stem of a file that has each item once.
+#[tactic(auto, unfolding(crate::specs::inner::Stages::drafts_in))]
+fn drafts_in<'a>(alloc: Global, items: &'a [Piece<'a>]) -> Result<Listed<Draft>, StmFault>
+    ensures { Gives Memory result (drafts_in items.now) }
+{
+    let stems = groups(alloc, items, STEM)?;
+    complete(items, stems.as_slice())?;
+    drafts_of(alloc, stems.as_slice())
+}
+
+/// Each stem's numbers are in range, in order and as many as there should be.
+#[tactic(auto, unfolding(crate::specs::inner::Stages::checked))]
+fn checked(drafts: &[Draft]) -> Result<(), StmFault>
+    ensures { result ≡ checked drafts.now }
+{
+    in_range(drafts)?;
+    in_order(drafts)?;
+    in_number(drafts)
+}
+
+/// The stems of drafts, where they pass the last three lines.
+#[tactic(auto, unfolding(crate::specs::inner::Stages::stems_in))]
+fn stems_in(alloc: Global, drafts: &[Draft]) -> Result<Vec<Stem>, StmFault>
+    ensures { Gives Memory (listed result) (stems_in drafts.now) }
+{
+    checked(drafts)?;
+    Ok(stems_from(alloc, drafts)?)
+}
+
 /// The stems of a stem file's bytes, in file order, or the first refusal that applies, as [`StmFault`] says; and
 /// `Memory` where a growth was refused. Items that aren't in the table are skipped; each must have a number and a
 /// kind.
-#[tactic(auto, unfolding(crate::specs::Stm::stm_of))]
+#[tactic(auto, using(crate::proofs::StageLemmas::stm_of_stages))]
 pub fn read_stm(alloc: Global, bytes: &[u8]) -> Result<Vec<Stem>, StmFault>
     ensures { Gives Memory (listed result) (stm_of bytes.now) }
 {
-    let found = items_in(alloc, bytes)?;
-    let items = found.as_slice();
-    check(says_stm(items), StmFault::NotStm)?;
-    let stems = groups(alloc, items, STEM)?;
-    present(items, stems.as_slice())?;
-    single(items, stems.as_slice())?;
-    let drafts = drafts_of(alloc, stems.as_slice())?;
-    in_range(drafts.as_slice())?;
-    in_order(drafts.as_slice())?;
-    in_number(drafts.as_slice())?;
-    Ok(stems_from(alloc, drafts.as_slice())?)
+    let items = items_in(alloc, bytes)?;
+    let drafts = drafts_in(alloc, items.as_slice())?;
+    stems_in(alloc, drafts.as_slice())
 }
