@@ -10,7 +10,7 @@ use Rattle.std.specs.Int.{bit_at}
 use Rattle.std.specs.Int.RustNames.{bit_or}
 use Rattle.buck_stem.specs.Stem.{HasGrade, grade_at}
 use Rattle.buck_stem.specs.Profile.{IsMask}
-use Rattle.buck_stem.specs.Runs.{AreRuns, IsUnion, AreRows}
+use Rattle.buck_stem.specs.inner.Runs.{AreRuns, IsUnion, AreRows}
 
 -- runs with one more, of the steps up to `e`
 module _ (zones : List (ℕ × ℕ)) (m e mask : ℕ) (starts masks run_of more : List ℕ)

@@ -37,7 +37,7 @@ last_lines drafts = three (in_range drafts) (in_order drafts) (in_number drafts)
 
 item_lines : (items : List ItemParts)
     → (check (bytes_eq (rest_in (slot 1 2) items) (codes "STM")) NotStm >>= λ _. present items >>= λ _. single items >>= λ _. drafts_of items >>= λ drafts.
-        in_range drafts >>= λ _. in_order drafts >>= λ _. in_number drafts >>= λ _. Ok (map parts_of drafts))
+    in_range drafts >>= λ _. in_order drafts >>= λ _. in_number drafts >>= λ _. Ok (map parts_of drafts))
     ≡ (drafts_in items >>= stems_in)
 unfolding complete drafts_in
 item_lines items =

@@ -39,7 +39,8 @@ stems items = groups_of (slot 951 1) items
 
 -- no item of a stem stands before the first number
 abbrev pub has_no_strays : List ItemParts → Bool
-has_no_strays items = list_all (λ s. count_in s (before_first (is_at (slot 951 1)) items) == 0) member_slots
+has_no_strays items =
+    list_all (λ s. count_in s (before_first (is_at (slot 951 1)) items) == 0) member_slots
 
 -- Line 3: each item that must be there is.
 unfoldable pub present : List ItemParts → Result (Unit {0}) StmFault
@@ -133,8 +134,10 @@ parts_of d = stem_of (slice_index d.number 0) (slice_index d.species 0) d.sample
 -- The stems of the bytes, or the first refusal that applies.
 unfoldable pub stm_of : List ℕ → Result (List StemParts) StmFault
 stm_of bytes = do
-  items ← with_fault Head (items_of bytes)  -- line 1: each item has a head
-  _ ← check (bytes_eq (rest_in (slot 1 2) items) (codes "STM")) NotStm  -- line 2: the first `1 2` says STM
+  -- Line 1: each item has a head.
+  items ← with_fault Head (items_of bytes)
+  -- Line 2: the first item `1 2` says STM.
+  _ ← check (bytes_eq (rest_in (slot 1 2) items) (codes "STM")) NotStm
   _ ← present items
   _ ← single items
   drafts ← drafts_of items

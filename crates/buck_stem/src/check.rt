@@ -10,7 +10,7 @@ use buck_record::table::{missing, twice};
 use buck_record::{Piece, Slot};
 
 /// Each of the slots has an item.
-pub fn none_missing(slots: &[Slot], items: &[Piece<'_>]) -> Result<(), StmFault>
+pub(crate) fn none_missing(slots: &[Slot], items: &[Piece<'_>]) -> Result<(), StmFault>
     ensures { result ≡ none_of (first_missing slots.now items.now) (λ n k. Missing n k) }
 {
     match missing(items, slots) {
@@ -20,7 +20,7 @@ pub fn none_missing(slots: &[Slot], items: &[Piece<'_>]) -> Result<(), StmFault>
 }
 
 /// No slot has two items.
-pub fn none_twice(slots: &[Slot], items: &[Piece<'_>]) -> Result<(), StmFault>
+pub(crate) fn none_twice(slots: &[Slot], items: &[Piece<'_>]) -> Result<(), StmFault>
     ensures { result ≡ none_of (first_twice slots.now items.now) (λ n k. Twice n k) }
 {
     match twice(items, slots) {
@@ -29,7 +29,7 @@ pub fn none_twice(slots: &[Slot], items: &[Piece<'_>]) -> Result<(), StmFault>
     }
 }
 
-pub fn within(low: usize, high: usize, n: usize) -> bool
+pub(crate) fn within(low: usize, high: usize, n: usize) -> bool
     ensures { result ≡ within low high n }
 {
     low <= n && n <= high
@@ -42,14 +42,14 @@ fn is_within(low: u32, high: u32, n: u32) -> bool
 }
 
 /// Each number is from `low` to `high`.
-pub fn all_within(low: u32, high: u32, numbers: &[u32]) -> bool
+pub(crate) fn all_within(low: u32, high: u32, numbers: &[u32]) -> bool
     ensures { result ≡ all_within low high numbers.now }
 {
     numbers.iter().all(|n| is_within(low, high, *n))
 }
 
 /// Each number at an odd place is from `low` to `high`.
-pub fn starts_within(low: u32, high: u32, zones: &[u32]) -> bool
+pub(crate) fn starts_within(low: u32, high: u32, zones: &[u32]) -> bool
     ensures { result ≡ all_within low high (starts zones.now) }
 {
     for k in 0..zones.len().div_ceil(2) {
@@ -61,7 +61,7 @@ pub fn starts_within(low: u32, high: u32, zones: &[u32]) -> bool
 }
 
 /// Each number at an even place is from `low` to `high`.
-pub fn grades_within(low: u32, high: u32, zones: &[u32]) -> bool
+pub(crate) fn grades_within(low: u32, high: u32, zones: &[u32]) -> bool
     ensures { result ≡ all_within low high (grades zones.now) }
 {
     for k in 0..zones.len() / 2 {
@@ -73,7 +73,7 @@ pub fn grades_within(low: u32, high: u32, zones: &[u32]) -> bool
 }
 
 /// Each number at an odd place is above the one at the odd place before.
-pub fn starts_rise(zones: &[u32]) -> bool
+pub(crate) fn starts_rise(zones: &[u32]) -> bool
     ensures { result ≡ is_rising (starts zones.now) }
 {
     for k in 1..zones.len().div_ceil(2) {
@@ -85,7 +85,7 @@ pub fn starts_rise(zones: &[u32]) -> bool
 }
 
 /// An even count, of at most 200.
-pub fn is_count_of_zones(count: usize) -> bool
+pub(crate) fn is_count_of_zones(count: usize) -> bool
     ensures { result ≡ (count % 2 == 0 && nat_le count 200) }
 {
     count % 2 == 0 && count <= 200

@@ -3,7 +3,7 @@ use buck_record::Listed;
 
 /// What the items of a stem say.
 #[derive(Debug, Drop)]
-pub struct Draft {
+pub(crate) struct Draft {
     pub number: Listed<u32>,
     pub species: Listed<u32>,
     pub samples: Listed<u32>,

@@ -51,7 +51,7 @@ const ZONES: Slot = Slot {
 };
 
 /// The item that begins a stem, with its number.
-pub const STEM: Slot = Slot {
+pub(crate) const STEM: Slot = Slot {
     number: 951,
     kind: 1,
 };
@@ -64,7 +64,7 @@ fn has_no_strays<'a>(items: &'a [Piece<'a>]) -> bool
 
 /// Each item that must be there is.
 #[tactic(auto, unfolding(crate::specs::Stm::present))]
-pub fn present<'a>(items: &'a [Piece<'a>], stems: &[Group<'a>]) -> Result<(), StmFault>
+pub(crate) fn present<'a>(items: &'a [Piece<'a>], stems: &[Group<'a>]) -> Result<(), StmFault>
     requires { stems.now ≡ groups_of (slot 951 1) items.now }
     ensures { result ≡ present items.now }
 {
@@ -90,7 +90,7 @@ fn each_present(stems: &[Group<'_>]) -> Result<(), StmFault>
 
 /// No item stands twice.
 #[tactic(auto, unfolding(crate::specs::Stm::single))]
-pub fn single<'a>(items: &'a [Piece<'a>], stems: &[Group<'a>]) -> Result<(), StmFault>
+pub(crate) fn single<'a>(items: &'a [Piece<'a>], stems: &[Group<'a>]) -> Result<(), StmFault>
     requires { stems.now ≡ groups_of (slot 951 1) items.now }
     ensures { result ≡ single items.now }
 {
@@ -117,7 +117,7 @@ fn numbers_in<'a>(
     ensures { Gives Memory result (numbers_in slot items.now) }
 {
     match numbers(alloc, rest(items, slot)) {
-        Ok(found) => Ok(Listed::of(found)),
+        Ok(numbers) => Ok(Listed::of(numbers)),
         Err(RecordFault::Digits { place }) => Err(StmFault::Digits {
             number: slot.number,
             kind: slot.kind,
@@ -144,7 +144,7 @@ fn draft_of<'a>(alloc: Global, stem: &'a [Piece<'a>]) -> Result<Draft, StmFault>
 }
 
 /// The numbers of each stem.
-pub fn drafts_of(alloc: Global, stems: &[Group<'_>]) -> Result<Listed<Draft>, StmFault>
+pub(crate) fn drafts_of(alloc: Global, stems: &[Group<'_>]) -> Result<Listed<Draft>, StmFault>
     ensures { Gives Memory result (make_each draft_of stems.now) }
 {
     let mut drafts = Vec::with_capacity(alloc, stems.len())?;
@@ -193,7 +193,7 @@ fn draft_range(draft: &Draft) -> Result<(), StmFault>
 
 /// Each number is in its range.
 #[tactic(auto, unfolding(crate::specs::Stm::in_range))]
-pub fn in_range(drafts: &[Draft]) -> Result<(), StmFault>
+pub(crate) fn in_range(drafts: &[Draft]) -> Result<(), StmFault>
     ensures { result ≡ in_range drafts.now }
 {
     each(drafts, |draft| draft_range(draft))
@@ -208,7 +208,7 @@ fn draft_order(draft: &Draft) -> Result<(), StmFault>
 
 /// The starts of each stem's zones rise.
 #[tactic(auto, unfolding(crate::specs::Stm::in_order))]
-pub fn in_order(drafts: &[Draft]) -> Result<(), StmFault>
+pub(crate) fn in_order(drafts: &[Draft]) -> Result<(), StmFault>
     ensures { result ≡ in_order drafts.now }
 {
     each(drafts, |draft| draft_order(draft))
@@ -226,7 +226,7 @@ fn draft_count(draft: &Draft) -> Result<(), StmFault>
 
 /// There are as many numbers as there should be.
 #[tactic(auto, unfolding(crate::specs::Stm::in_number))]
-pub fn in_number(drafts: &[Draft]) -> Result<(), StmFault>
+pub(crate) fn in_number(drafts: &[Draft]) -> Result<(), StmFault>
     ensures { result ≡ in_number drafts.now }
 {
     each(drafts, |draft| draft_count(draft))

@@ -1,8 +1,8 @@
 //! A stem at the points where a log may start or end.
 ghost use Rattle.std.specs.Prelude.{◌≡◌, ℕ, ◌+◌, ◌-◌, ◌*◌, ◌<◌, ◌≤◌, IfOk, length, slice_index};
 ghost use Rattle.buck_stem.specs.Stem.{IsStem, diameter_at};
-ghost use Rattle.buck_stem.specs.Profile.{profile_of, points_of, IsMask};
-ghost use Rattle.buck_stem.specs.ProfileTables.{AreTables};
+ghost use Rattle.buck_stem.specs.Profile.{profile_of, points_of, IsMaskBetween};
+ghost use Rattle.buck_stem.specs.inner.ProfileTables.{AreDiameters, AreTables};
 
 use crate::runs::{Runs, between_of, runs_of};
 use crate::stem::Stem;
@@ -14,7 +14,8 @@ use std::marker::Model;
 #[derive(Drop)]
 pub struct Profile<'a> {
     stem: &'a Stem,
-    module: u32,
+    /// The module in mm.
+    step: u32,
     diameters: Vec<u32>,
     runs: Runs,
     /// The grades of the steps of one run up to those of another.
@@ -23,20 +24,22 @@ pub struct Profile<'a> {
 
 impl<'a> Model for Profile<'a> {
     ghost use Rattle.buck_stem.specs.Profile.{ProfileParts, profile_of};
-    ghost use Rattle.buck_stem.specs.ProfileTables.{AreTables};
+    ghost use Rattle.buck_stem.specs.inner.ProfileTables.{AreTables};
 
     ghost Value = { ProfileParts };
 
-    ghost view = { λ p. profile_of p.stem.now p.module };
+    ghost view = { λ p. profile_of p.stem.now p.step };
 
-    ghost invariant = { λ p. AreTables (profile_of p.stem.now p.module) p.diameters.items p.runs.starts.items p.runs.masks.items p.runs.run_of.items p.between.items };
+    ghost invariant = { λ p.
+        AreTables (profile_of p.stem.now p.step) p.diameters.items p.runs.starts.items p.runs.masks.items
+        p.runs.run_of.items p.between.items };
 }
 
 /// The diameter at each point.
 fn diameters_of(alloc: Global, stem: &Stem, step: u32) -> Result<Vec<u32>, AllocError>
     requires { (10 ≤ step) × (step ≤ 1000) }
     ensures number { IfOk result (λ v. length v.items ≡ points_of (profile_of stem.now step)) }
-    ensures right { IfOk result (λ v. (i : ℕ) → i < points_of (profile_of stem.now step) → slice_index v.items i ≡ diameter_at stem.now.samples (i * step)) }
+    ensures right { IfOk result (λ v. AreDiameters (profile_of stem.now step) v.items) }
     ensures valid { IsStem stem.now }
 {
     let points = stem.length() / step + 1;
@@ -59,7 +62,7 @@ impl<'a> Profile<'a> {
         let between = between_of(alloc, runs.masks.as_slice())?;
         Ok(Profile {
             stem,
-            module: step,
+            step,
             diameters,
             runs,
             between,
@@ -87,7 +90,7 @@ impl<'a> Profile<'a> {
     /// The grades of the step from point `i` to the next one: bit g - 1 for grade g.
     pub fn step_grades(&self, i: usize) -> u8
         requires { i + 1 < points_of self.now }
-        ensures { IsMask self.now.stem.zones (i * self.now.module) ((i + 1) * self.now.module) result }
+        ensures { IsMaskBetween self.now i (i + 1) result }
     {
         self.runs.masks[self.runs.run_of[i] as usize]
     }
@@ -95,7 +98,7 @@ impl<'a> Profile<'a> {
     /// The grades from point `i` up to point `j`: bit g - 1 for grade g. They are found in constant time.
     pub fn grades(&self, i: usize, j: usize) -> u8
         requires { (i ≤ j) × (j < points_of self.now) }
-        ensures { IsMask self.now.stem.zones (i * self.now.module) (j * self.now.module) result }
+        ensures { IsMaskBetween self.now i j result }
     {
         if i == j {
             return 0;
@@ -109,8 +112,8 @@ impl<'a> Profile<'a> {
     pub fn run_start(&self, i: usize) -> usize
         requires { i + 1 < points_of self.now }
         ensures low { result ≤ i }
-        ensures same { (j mask : ℕ) → i < j → j < points_of self.now → IsMask self.now.stem.zones (i * self.now.module) (j * self.now.module) mask
-            → (k : ℕ) → result ≤ k → k ≤ i → IsMask self.now.stem.zones (k * self.now.module) (j * self.now.module) mask }
+        ensures same { (j mask : ℕ) → i < j → j < points_of self.now → IsMaskBetween self.now i j mask
+            → (k : ℕ) → result ≤ k → k ≤ i → IsMaskBetween self.now k j mask }
     {
         self.runs.starts[self.runs.run_of[i] as usize] as usize
     }

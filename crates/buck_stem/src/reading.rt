@@ -11,7 +11,7 @@ ghost use Rattle.buck_stem.specs.Stm.{slot, stm_of, parts_of, zones_of, grades, 
 use crate::draft::Draft;
 use crate::fault::StmFault;
 use crate::lines::{STEM, drafts_of, in_number, in_order, in_range, present, single};
-use crate::stem::{Stem, measured};
+use crate::stem::{Stem, stem_of_parts};
 use buck_record::check::check;
 use buck_record::table::{groups, rest};
 use buck_record::{Group, Listed, Piece, RecordFault, Slot, pieces};
@@ -21,7 +21,7 @@ fn items_in<'a>(alloc: Global, bytes: &'a [u8]) -> Result<Listed<Piece<'a>>, Stm
     ensures { Gives Memory result (with_fault (λ k. Head k) (items_of bytes.now)) }
 {
     match pieces(alloc, bytes) {
-        Ok(found) => Ok(Listed::of(found)),
+        Ok(items) => Ok(Listed::of(items)),
         Err(RecordFault::Head { item }) => Err(StmFault::Head { item }),
         Err(_) => Err(StmFault::Memory),
     }
@@ -68,7 +68,7 @@ fn stem_from(alloc: Global, draft: &Draft) -> Result<Stem, AllocError>
     let species = draft.species.as_slice()[0] as u8;
     let samples = samples_of(alloc, draft.samples.as_slice())?;
     let zones = zones_of(alloc, draft.zones.as_slice())?;
-    measured(alloc, number, species, samples, zones)
+    stem_of_parts(alloc, number, species, samples, zones)
 }
 
 /// The stems of drafts that passed the last three lines.

@@ -1,8 +1,8 @@
 //! The steps of a stem in runs of the same grades.
 ghost use Rattle.std.specs.Prelude.{◌≡◌, ℕ, ◌+◌, ◌-◌, ◌*◌, ◌<◌, ◌≤◌, ◌⊎◌, ◌↔◌, IfOk, OnOk, List, length, slice_index};
 ghost use Rattle.std.specs.Int.{bit_at};
-ghost use Rattle.buck_stem.specs.Profile.{profile_of, points_of, IsMask};
-ghost use Rattle.buck_stem.specs.Runs.{AreRuns, IsUnion, AreRows};
+ghost use Rattle.buck_stem.specs.Profile.{profile_of, points_of};
+ghost use Rattle.buck_stem.specs.inner.Runs.{HoldRuns, ShowMask, IsUnion, AreUnions, AreRows};
 
 use crate::stem::{Stem, with_grade};
 use std::alloc::{AllocError, Global};
@@ -23,9 +23,9 @@ fn push_run(runs: &mut Runs, mask: u8, end: usize) -> Result<(), AllocError>
     requires ahead { length runs.old.run_of.items < end }
     requires few { (end ≤ 4000) × (length runs.old.starts.items ≤ length runs.old.run_of.items) }
     ensures steps { OnOk result (length runs.new.run_of.items ≡ end) }
-    ensures right { OnOk result ((zones : List (ℕ × ℕ)) (step : ℕ) → AreRuns zones step runs.old.starts.items runs.old.masks.items runs.old.run_of.items
-        → ((k : ℕ) → length runs.old.run_of.items ≤ k → k < end → IsMask zones (k * step) ((k + 1) * step) mask)
-        → AreRuns zones step runs.new.starts.items runs.new.masks.items runs.new.run_of.items) }
+    ensures right { OnOk result ((zones : List (ℕ × ℕ)) (step : ℕ) → HoldRuns zones step runs.old
+        → ShowMask zones step (length runs.old.run_of.items) end mask
+        → HoldRuns zones step runs.new) }
 {
     let run = runs.starts.len() as u16;
     let first = runs.run_of.len() as u32;
@@ -39,10 +39,11 @@ fn push_run(runs: &mut Runs, mask: u8, end: usize) -> Result<(), AllocError>
 fn push_next(runs: &mut Runs, stem: &Stem, step: u32) -> Result<(), AllocError>
     requires step { (10 ≤ step) × (step ≤ 1000) }
     requires left { length runs.old.run_of.items + 1 < points_of (profile_of stem.now step) }
-    requires right { AreRuns stem.now.zones step runs.old.starts.items runs.old.masks.items runs.old.run_of.items }
+    requires right { HoldRuns stem.now.zones step runs.old }
     ensures more { OnOk result (length runs.old.run_of.items < length runs.new.run_of.items) }
-    ensures within { OnOk result (length runs.new.run_of.items + 1 ≤ points_of (profile_of stem.now step)) }
-    ensures right { OnOk result (AreRuns stem.now.zones step runs.new.starts.items runs.new.masks.items runs.new.run_of.items) }
+    ensures within { OnOk result
+        (length runs.new.run_of.items + 1 ≤ points_of (profile_of stem.now step)) }
+    ensures right { OnOk result (HoldRuns stem.now.zones step runs.new) }
 {
     let count = stem.length() / step;
     let at = runs.run_of.len() as u32;
@@ -61,8 +62,9 @@ fn push_next(runs: &mut Runs, stem: &Stem, step: u32) -> Result<(), AllocError>
 /// The runs of the steps of a stem.
 pub(crate) fn runs_of(alloc: Global, stem: &Stem, step: u32) -> Result<Runs, AllocError>
     requires { (10 ≤ step) × (step ≤ 1000) }
-    ensures number { IfOk result (λ runs. length runs.run_of.items + 1 ≡ points_of (profile_of stem.now step)) }
-    ensures right { IfOk result (λ runs. AreRuns stem.now.zones step runs.starts.items runs.masks.items runs.run_of.items) }
+    ensures number { IfOk result
+        (λ runs. length runs.run_of.items + 1 ≡ points_of (profile_of stem.now step)) }
+    ensures right { IfOk result (HoldRuns stem.now.zones step) }
 {
     let count = (stem.length() / step) as usize;
     let room = 2 * stem.zones().len() + 1;
@@ -88,7 +90,7 @@ fn joined(above: u8, mask: u8) -> u8
 fn union_at(between: &[u8], masks: &[u8], first: usize, last: usize) -> u8
     requires last { last < length masks.now }
     requires number { length between.now ≡ length masks.now * last + first }
-    requires rows { (q : ℕ) → q < last → (p : ℕ) → p ≤ q → IsUnion masks.now p q (slice_index between.now (length masks.now * q + p)) }
+    requires rows { AreUnions masks.now last between.now }
     ensures { first ≤ last → IsUnion masks.now first last result }
 {
     if first >= last {

@@ -3,7 +3,7 @@
 ghost use Rattle.std.specs.Int.{bit_at};
 ghost use Rattle.std.specs.Prelude.{◌≡◌, ◌<◌, ◌≤◌, ◌-◌, ◌⊎◌, ℕ, length, ◌↔◌, IfOk, IsOk, Err, IsTrue, Contains, All, slice_index_or};
 ghost use Rattle.buck_stem.specs.Stem.{stem_of, stem_length, diameter_at, grade_at, HasGradesOf, HasGrade, IsGrade, IsRisingFrom, IsStem};
-ghost use Rattle.buck_stem.specs.Zones.{HasZone, ZonesFit, IsRunningLeast};
+ghost use Rattle.buck_stem.specs.inner.Zones.{start_at, ShowsGrade, HasZone, ZonesFit, IsRunningLeast};
 
 use std::alloc::{AllocError, Global};
 use std::marker::Model;
@@ -24,15 +24,15 @@ pub struct Stem {
 
 impl Model for Stem {
     ghost use Rattle.std.specs.Prelude.{};
-    ghost use Rattle.buck_stem.specs.Stem.{StemParts, IsStem};
-    ghost use Rattle.buck_stem.specs.Zones.{IsRunningLeast};
+    ghost use Rattle.buck_stem.specs.Stem.{StemParts, stem_of, IsStem};
+    ghost use Rattle.buck_stem.specs.inner.Zones.{IsRunningLeast};
 
     ghost Value = { StemParts };
 
-    ghost view = { λ s. record { number = s.number; species = s.species; samples = s.samples.items; zones = s.zones.items } };
+    ghost view = { λ s. stem_of s.number s.species s.samples.items s.zones.items };
 
     ghost invariant = { λ s.
-        IsStem (record { number = s.number; species = s.species; samples = s.samples.items; zones = s.zones.items })
+        IsStem (stem_of s.number s.species s.samples.items s.zones.items)
         × IsRunningLeast s.samples.items s.lows.items };
 }
 
@@ -73,7 +73,7 @@ fn grade_in(zones: &[(u32, u8)], x: u32) -> u8
 /// The mask with one more grade.
 pub(crate) fn with_grade(mask: u8, grade: u8) -> u8
     requires { IsGrade grade }
-    ensures { (g : ℕ) → 1 ≤ g → (bit_at result (g - 1) ≡ 1) ↔ ((g ≡ grade) ⊎ (bit_at mask (g - 1) ≡ 1)) }
+    ensures { (g : ℕ) → 1 ≤ g → ShowsGrade result g ↔ ((g ≡ grade) ⊎ ShowsGrade mask g) }
 {
     mask | (1 << (grade - 1))
 }
@@ -81,7 +81,8 @@ pub(crate) fn with_grade(mask: u8, grade: u8) -> u8
 /// The mask with the grade of a zone, where that begins past `a` and before `b`.
 fn with_zone(mask: u8, zone: (u32, u8), a: u32, b: u32) -> u8
     requires { IsGrade zone.1 }
-    ensures { (g : ℕ) → 1 ≤ g → (bit_at result (g - 1) ≡ 1) ↔ (((a < zone.0) × (zone.0 < b) × (zone.1 ≡ g)) ⊎ (bit_at mask (g - 1) ≡ 1)) }
+    ensures { (g : ℕ) → 1 ≤ g → ShowsGrade result g
+        ↔ (((a < zone.0) × (zone.0 < b) × (zone.1 ≡ g)) ⊎ ShowsGrade mask g) }
 {
     if a < zone.0 && zone.0 < b {
         return with_grade(mask, zone.1);
@@ -92,7 +93,8 @@ fn with_zone(mask: u8, zone: (u32, u8), a: u32, b: u32) -> u8
 /// The mask with the grades of the zones that begin past `a` and before `b`.
 fn with_zones(mask: u8, zones: &[(u32, u8)], a: u32, b: u32) -> u8
     requires { All (λ z. IsGrade z.1) zones.now }
-    ensures { (g : ℕ) → 1 ≤ g → (bit_at result (g - 1) ≡ 1) ↔ (HasZone zones.now (length zones.now) a b g ⊎ (bit_at mask (g - 1) ≡ 1)) }
+    ensures { (g : ℕ) → 1 ≤ g → ShowsGrade result g
+        ↔ (HasZone zones.now (length zones.now) a b g ⊎ ShowsGrade mask g) }
 {
     let mut mask = mask;
     for zone in zones {
@@ -103,7 +105,7 @@ fn with_zones(mask: u8, zones: &[(u32, u8)], a: u32, b: u32) -> u8
 
 /// The first start of a zone past `x`, or more than any place where none is past it.
 fn start_past(zones: &[(u32, u8)], x: u32) -> u32
-    ensures { (k : ℕ) → k < length zones.now → x < (slice_index_or zones.now k (0, 0)).0 → result ≤ (slice_index_or zones.now k (0, 0)).0 }
+    ensures { (k : ℕ) → k < length zones.now → x < start_at zones.now k → result ≤ start_at zones.now k }
 {
     let mut end = u32::MAX;
     for zone in zones {
@@ -187,7 +189,7 @@ fn is_stem(species: u8, samples: &[u16], zones: &[(u32, u8)]) -> bool
 }
 
 /// The stem of parts that are within the limits, with the least of its samples so far at each of them.
-pub fn measured(
+pub(crate) fn stem_of_parts(
     alloc: Global,
     number: u32,
     species: u8,
@@ -221,12 +223,13 @@ impl Stem {
     ) -> Result<Stem, StemFault>
         ensures made { IfOk result (λ s. s ≡ stem_of number species samples.items zones.items) }
         ensures within { IsOk result → IsStem (stem_of number species samples.items zones.items) }
-        ensures limits { (result ≡ Err StemFault.Limits) ↔ (IsStem (stem_of number species samples.items zones.items) → ⊥) }
+        ensures limits { (result ≡ Err StemFault.Limits)
+            ↔ (IsStem (stem_of number species samples.items zones.items) → ⊥) }
     {
         if !is_stem(species, samples.as_slice(), zones.as_slice()) {
             return Err(StemFault::Limits);
         }
-        match measured(alloc, number, species, samples, zones) {
+        match stem_of_parts(alloc, number, species, samples, zones) {
             Ok(stem) => Ok(stem),
             Err(_) => Err(StemFault::Memory),
         }
@@ -294,7 +297,8 @@ impl Stem {
 
     /// A place up to which the grade stays what it is at `x`: where the next zone starts, if there is one.
     pub(crate) fn grade_end(&self, x: u32) -> u32
-        ensures { (y : ℕ) → x ≤ y → y < result → grade_at self.now.zones y ≡ grade_at self.now.zones x }
+        ensures { (y : ℕ) → x ≤ y → y < result
+            → grade_at self.now.zones y ≡ grade_at self.now.zones x }
     {
         start_past(self.zones.as_slice(), x)
     }

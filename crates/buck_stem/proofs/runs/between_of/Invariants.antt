@@ -1,4 +1,4 @@
-use Rattle.buck_stem.specs.Runs.{AreRows}
+use Rattle.buck_stem.specs.inner.Runs.{AreRows}
 use Rattle.buck_stem.proofs.runs.between_of.Given as goal
 
 abbrev pub invariant-loop-last : goal.invariant-loop-last

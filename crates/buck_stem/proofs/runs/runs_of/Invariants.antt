@@ -1,6 +1,6 @@
 use Rattle.std.proofs.Common.{◌≡◌, ◌≤◌, ◌-◌, ◌+◌, length}
 use Rattle.buck_stem.specs.Profile.{profile_of, points_of}
-use Rattle.buck_stem.specs.Runs.{AreRuns}
+use Rattle.buck_stem.specs.inner.Runs.{AreRuns}
 use Rattle.buck_stem.proofs.runs.runs_of.Given as goal
 
 abbrev pub invariant-loop-runs : goal.invariant-loop-runs

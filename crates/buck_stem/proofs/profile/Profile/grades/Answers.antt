@@ -1,13 +1,13 @@
 use Rattle.std.proofs.Common.{◌≡◌, ◌∙◌, ◌<◌, ◌≤◌, ◌*◌, ◌+◌, ◌-◌, ℕ, List, length, get_or, arith, subst, sym, ap}
 use Rattle.std.proofs.lemmas.List.{get_or_default}
 use Rattle.buck_stem.specs.Profile.{ProfileParts, profile_of, points_of, IsMask}
-use Rattle.buck_stem.specs.Runs.{IsUnion}
+use Rattle.buck_stem.specs.inner.Runs.{IsUnion}
 use Rattle.buck_stem.proofs.RunLemmas.{row_below, union_is_mask}
 use Rattle.buck_stem.proofs.profile.Profile.grades.Goals as goal
 
 pub returns : goal.returns
 returns c =
-    let p : ProfileParts = profile_of c.self.inside.stem.now c.self.inside.module in
+    let p : ProfileParts = profile_of c.self.inside.stem.now c.self.inside.step in
     let lt : c.args.j < points_of p = subst (λ (q : ProfileParts). c.args.j < points_of q) (sym c.self.view_is) c.requires.1 in
     let masks : List ℕ = c.self.inside.runs.masks.items in
     let run_of : List ℕ = c.self.inside.runs.run_of.items in

@@ -1,5 +1,5 @@
 use Rattle.std.proofs.Common.{ℕ, List, length, subst}
-use Rattle.buck_stem.specs.Runs.{AreRows}
+use Rattle.buck_stem.specs.inner.Runs.{AreRows}
 use Rattle.buck_stem.proofs.profile.Profile.make.Goals as goal
 
 pub invariant_of-result : goal.invariant_of-result

@@ -6,7 +6,7 @@ use Rattle.buck_stem.proofs.profile.Profile.run_start.Goals as goal
 
 pub returns-clause-same : goal.returns-clause-same
 returns-clause-same c = λ j mask lt within shows k low upto.
-    let p : ProfileParts = profile_of c.self.inside.stem.now c.self.inside.module in
+    let p : ProfileParts = profile_of c.self.inside.stem.now c.self.inside.step in
     let in_stem : j < points_of p = subst (λ (q : ProfileParts). j < points_of q) (sym c.self.view_is) within in
     let run_of : List ℕ = c.self.inside.runs.run_of.items in
     let here : c.args.i < length run_of = omega (arith, c.self.invariant.steps_number) in
