@@ -4,15 +4,11 @@
 mod check;
 mod draft;
 mod fault;
-#[cfg(test)]
-mod file_tests;
 mod lines;
 mod profile;
 mod reading;
 mod runs;
 mod stem;
-#[cfg(test)]
-mod tests;
 
 pub use fault::StmFault;
 pub use profile::Profile;

@@ -1,0 +1,15 @@
+//! Tests of stems, of their profiles and of the files that they are read from.
+#![tactic(auto)]
+
+#[cfg(test)]
+mod accepted;
+#[cfg(test)]
+mod geometry;
+#[cfg(test)]
+mod limits;
+#[cfg(test)]
+mod points;
+#[cfg(test)]
+mod refused;
+#[cfg(test)]
+mod texts;
