@@ -1,5 +1,5 @@
 -- The eight lines of a stem file's refusals are its stages, one after the other.
-use Rattle.std.proofs.Common.{◌≡◌, ℕ, List, map, Result, Ok, Err, codes, refl, ap, sym, ◌∙◌}
+use Rattle.std.proofs.Common.{◌≡◌, ℕ, List, map, Result, Ok, Err, codes, refl, ◌∙◌}
 use Rattle.std.specs.Str.{bytes_eq}
 use Rattle.buck_record.specs.Item.{ItemParts}
 use Rattle.buck_record.specs.Reading.{with_fault}
@@ -9,7 +9,6 @@ use Rattle.buck_record.specs.Check.{◌>>=◌, check}
 use Rattle.buck_stem.specs.declared.draft.Draft.{Draft}
 use Rattle.buck_stem.specs.declared.fault.StmFault.{StmFault}
 use Rattle.buck_stem.specs.declared.fault.StmFault.TheVariants.{Head, NotStm}
-use Rattle.buck_stem.specs.Stem.{StemParts}
 use Rattle.buck_stem.specs.Stm.{slot, stm_of, present, single, drafts_of, in_range, in_order, in_number, parts_of}
 use Rattle.buck_stem.specs.inner.Stages.{complete, drafts_in, checked, stems_in}
 

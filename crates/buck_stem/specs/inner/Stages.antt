@@ -1,5 +1,5 @@
 -- The eight lines of a stem file's refusals in four stages, as the code takes them.
-use Rattle.std.specs.Prelude.{ℕ, List, map, Result, Ok, codes}
+use Rattle.std.specs.Prelude.{List, map, Result, Ok, codes}
 use Rattle.std.specs.Str.{bytes_eq}
 use Rattle.buck_record.specs.Item.{ItemParts}
 use Rattle.buck_record.specs.Table.{rest_in}
