@@ -4,8 +4,6 @@
 mod cutting;
 pub mod laws;
 mod table;
-#[cfg(test)]
-mod tests;
 
 pub use cutting::Cutting;
 pub use table::{admissible, best, best_of, worth};

@@ -10,8 +10,6 @@ mod prepared;
 mod push;
 mod sheet;
 mod tables;
-#[cfg(test)]
-mod tests;
 mod worth;
 
 pub use fault::SheetFault;

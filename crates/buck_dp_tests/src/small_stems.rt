@@ -1,8 +1,13 @@
 //! The best cutting of many small stems, against the plain search.
 ghost use Rattle.std.specs.Prelude.{◌<◌};
 
-use super::slow::slow_best;
-use super::*;
+use crate::fixtures::{base_of, is_best, sheet_with};
+use crate::slow::slow_best;
+use buck_samples::{stem_of, uniform_stem};
+use buck_stem::Stem;
+use buck_value::Sheet;
+use std::alloc::AllocError;
+use std::test::Fail;
 
 /// Two assortments by volume and one by the piece, with like prices and one class that isn't bought.
 const SMALL: &str = "1 2 APT~901 1 100~902 1 1~903 1 1000~910 1 3~
@@ -28,10 +33,9 @@ fn below(seed: u64, limit: u64) -> u64
     (seed >> 33) % limit
 }
 
-/// A stem of 1,000 to 1,600 mm that mostly tapers, with up to two zones.
-fn small_stem(rt: &HostRuntime, seed: u64) -> Result<Stem, Fail> {
+/// Puts samples that mostly taper, 11 to 17 of them, into an empty list, and gives the seed after them.
+fn push_samples(samples: &mut Vec<u16>, seed: u64) -> Result<u64, AllocError> {
     let mut seed = next(seed);
-    let mut samples = Vec::new(rt.alloc());
     let butt = 120 + below(seed, 320);
     for i in 0..17 {
         seed = next(seed);
@@ -39,19 +43,28 @@ fn small_stem(rt: &HostRuntime, seed: u64) -> Result<Stem, Fail> {
         samples.push((butt + below(seed, 15)).saturating_sub(taper) as u16)?;
     }
     samples.truncate(11 + below(seed, 7) as usize);
-    seed = next(seed);
+    Ok(next(seed))
+}
+
+/// Two zones of a seed.
+fn zones_of(seed: u64) -> [(u32, u8); 2] {
     let first = below(seed, 900) as u32;
-    let zones = [(first, 1 + below(next(seed), 3) as u8), (first + 400, 1)];
+    let grade = 1 + below(next(seed), 3) as u8;
+    [(first, grade), (first + 400, 1)]
+}
+
+/// A stem of 1,000 to 1,600 mm that mostly tapers, with up to two zones.
+fn small_stem(rt: &HostRuntime, seed: u64) -> Result<Stem, Fail> {
+    let mut samples = Vec::new(rt.alloc());
+    let seed = push_samples(&mut samples, seed)?;
+    let zones = zones_of(seed);
     let count = below(next(next(seed)), 3) as usize;
-    stem_of(
-        rt,
-        samples.as_slice(),
-        zones.as_slice().get(..count).unwrap_or(&[]),
-    )
+    let zones = zones.as_slice().get(..count).unwrap_or(&[]);
+    Ok(stem_of(rt.alloc(), samples.as_slice(), zones)?)
 }
 
 /// Prices of a seed: each is 0, its base price or twice that.
-fn some_prices(rt: &HostRuntime, bases: &[u32], seed: u64) -> Result<Vec<u32>, Fail> {
+fn some_prices(rt: &HostRuntime, bases: &[u32], seed: u64) -> Result<Vec<u32>, AllocError> {
     let mut seed = seed;
     let mut prices = Vec::new(rt.alloc());
     for base in bases {
@@ -63,29 +76,37 @@ fn some_prices(rt: &HostRuntime, bases: &[u32], seed: u64) -> Result<Vec<u32>, F
 
 /// Whether `best` gives the first of the best lists of logs, and its worth.
 fn agrees(rt: &HostRuntime, sheet: &Sheet, stem: &Stem) -> Result<bool, Fail> {
-    let (cutting, worth) = best(rt.alloc(), sheet, stem)?;
     let (first, most) = slow_best(rt, sheet, stem)?;
-    Ok(cutting.logs == first && worth == most)
+    is_best(rt, sheet, stem, first.as_slice(), most)
+}
+
+/// The same at the small stem of a seed.
+fn agrees_at(rt: &HostRuntime, sheet: &Sheet, seed: u64) -> Result<bool, Fail> {
+    let stem = small_stem(rt, seed)?;
+    agrees(rt, sheet, &stem)
 }
 
 #[test]
 fn at_base_prices(rt: HostRuntime) -> Result<(), Fail> {
     let sheet = base_of(&rt, SMALL)?;
     for seed in 0..30 {
-        let stem = small_stem(&rt, seed)?;
-        assert!(rt; agrees(&rt, &sheet, &stem)?, "seed {seed}");
+        assert!(rt; agrees_at(&rt, &sheet, seed)?, "seed {seed}");
     }
     Ok(())
+}
+
+/// The same at the small stem and the prices of a seed.
+fn agrees_at_prices(rt: &HostRuntime, bases: &[u32], seed: u64) -> Result<bool, Fail> {
+    let prices = some_prices(rt, bases, seed)?;
+    let sheet = sheet_with(rt, SMALL, prices.as_slice())?;
+    agrees_at(rt, &sheet, seed)
 }
 
 #[test]
 fn at_other_prices(rt: HostRuntime) -> Result<(), Fail> {
     let bases = base_of(&rt, SMALL)?;
     for seed in 100..130 {
-        let prices = some_prices(&rt, bases.prices(), seed)?;
-        let sheet = sheet_with(&rt, SMALL, prices.as_slice())?;
-        let stem = small_stem(&rt, seed)?;
-        assert!(rt; agrees(&rt, &sheet, &stem)?, "seed {seed}");
+        assert!(rt; agrees_at_prices(&rt, bases.prices(), seed)?, "seed {seed}");
     }
     Ok(())
 }
@@ -94,10 +115,15 @@ fn at_other_prices(rt: HostRuntime) -> Result<(), Fail> {
 fn where_all_is_worth_nothing(rt: HostRuntime) -> Result<(), Fail> {
     let sheet = sheet_with(&rt, SMALL, &[0; 11])?;
     for seed in 200..210 {
-        let stem = small_stem(&rt, seed)?;
-        assert!(rt; agrees(&rt, &sheet, &stem)?, "seed {seed}");
+        assert!(rt; agrees_at(&rt, &sheet, seed)?, "seed {seed}");
     }
     Ok(())
+}
+
+/// The same at a stem of one diameter.
+fn agrees_in(rt: &HostRuntime, sheet: &Sheet, count: usize, diameter: u16) -> Result<bool, Fail> {
+    let stem = uniform_stem(rt.alloc(), count, diameter)?;
+    agrees(rt, sheet, &stem)
 }
 
 #[test]
@@ -111,8 +137,8 @@ fn of_one_diameter(rt: HostRuntime) -> Result<(), Fail> {
         (16, 160),
         (17, 450),
     ] {
-        let stem = uniform_stem(&rt, count, diameter)?;
-        assert!(rt; agrees(&rt, &sheet, &stem)?, "{count} of {diameter}");
+        let same = agrees_in(&rt, &sheet, count, diameter)?;
+        assert!(rt; same, "{count} of {diameter}");
     }
     Ok(())
 }

@@ -1,6 +1,10 @@
 //! Tables that go from stem to stem, against fresh ones for each stem.
-use super::*;
-use buck_value::Tables;
+use crate::fixtures::{base_of, is_best};
+use buck_dp::best_of;
+use buck_stem::Stem;
+use buck_value::{Prepared, Sheet, Tables};
+use std::alloc::AllocError;
+use std::test::Fail;
 
 /// Three assortments of species 1 that share lengths, diameters and prices, and one of species 2.
 const MIXED: &str = "1 2 APT~901 1 100~902 1 1~903 1 0~910 1 4~
@@ -35,15 +39,41 @@ const STEMS: [Parts; 14] = [
     (1, 121, 330, 2, &[(0, 1), (4400, 3)]),
 ];
 
-/// The stem of these parts.
-fn stem_with(rt: &HostRuntime, parts: Parts) -> Result<Stem, Fail> {
-    let (species, count, butt, taper, zones) = parts;
+/// Diameters that fall from the butt on.
+fn samples_of(rt: &HostRuntime, count: u16, butt: u16, taper: u16) -> Result<Vec<u16>, AllocError> {
     let mut samples = Vec::new(rt.alloc());
     for i in 0..count {
         samples.push(butt.saturating_sub(taper.saturating_mul(i)))?;
     }
+    Ok(samples)
+}
+
+/// The stem of these parts.
+fn stem_with(rt: &HostRuntime, parts: Parts) -> Result<Stem, Fail> {
+    let (species, count, butt, taper, zones) = parts;
+    let samples = samples_of(rt, count, butt, taper)?;
     let zones = zones.to_vec(rt.alloc())?;
     Ok(Stem::make(rt.alloc(), 1, species, samples, zones)?)
+}
+
+/// All the stems.
+fn stems(rt: &HostRuntime) -> Result<Vec<Stem>, Fail> {
+    let mut stems = Vec::new(rt.alloc());
+    for parts in STEMS {
+        stems.push(stem_with(rt, parts)?)?;
+    }
+    Ok(stems)
+}
+
+/// Whether a prepared stem is cut as the stem is alone.
+fn is_cut_alike(
+    rt: &HostRuntime,
+    sheet: &Sheet,
+    stem: &Stem,
+    prepared: &mut Prepared<'_>,
+) -> Result<bool, Fail> {
+    let (cutting, worth) = best_of(rt.alloc(), prepared)?;
+    is_best(rt, sheet, stem, cutting.logs.as_slice(), worth)
 }
 
 /// Whether each stem is cut with the tables of the stems before it as it is alone.
@@ -56,9 +86,7 @@ fn are_cut_alike<'a>(
     let mut tables = Tables::make(rt.alloc(), sheet, room)?;
     for stem in stems {
         let mut prepared = Prepared::with(rt.alloc(), tables, stem)?;
-        let kept = best_of(rt.alloc(), &mut prepared)?;
-        let fresh = best(rt.alloc(), sheet, stem)?;
-        if kept != fresh {
+        if !is_cut_alike(rt, sheet, stem, &mut prepared)? {
             return Ok(false);
         }
         tables = prepared.into_tables();
@@ -70,10 +98,7 @@ fn are_cut_alike<'a>(
 #[test]
 fn kept_tables_cut_alike(rt: HostRuntime) -> Result<(), Fail> {
     let sheet = base_of(&rt, MIXED)?;
-    let mut stems = Vec::new(rt.alloc());
-    for parts in STEMS {
-        stems.push(stem_with(&rt, parts)?)?;
-    }
+    let stems = stems(&rt)?;
     for room in [0, 1, 60, 4100, 45_000] {
         let alike = are_cut_alike(&rt, &sheet, stems.as_slice(), room)?;
         assert!(rt; alike, "room {room}");

@@ -1,0 +1,40 @@
+//! Sheets, logs, and whether a cutting is the best.
+use buck_dp::best;
+use buck_samples::instruction_of;
+use buck_stem::Stem;
+use buck_value::{Log, Sheet};
+use std::test::Fail;
+
+/// The sheet of the base prices of a text's instruction.
+pub fn base_of(rt: &HostRuntime, text: &str) -> Result<Sheet, Fail> {
+    let instruction = instruction_of(rt.alloc(), text)?;
+    Ok(Sheet::base(rt.alloc(), instruction)?)
+}
+
+/// The sheet of a text's instruction and these prices, of version 1.
+pub fn sheet_with(rt: &HostRuntime, text: &str, prices: &[u32]) -> Result<Sheet, Fail> {
+    let prices = prices.to_vec(rt.alloc())?;
+    let instruction = instruction_of(rt.alloc(), text)?;
+    Ok(Sheet::with_prices(instruction, 1, prices)?)
+}
+
+/// A log that starts so many mm from the butt, of a length in mm and an assortment.
+pub fn log(start: u32, length: u32, assortment: u8) -> Log {
+    Log {
+        start,
+        length,
+        assortment,
+    }
+}
+
+/// Whether the best cutting of a stem has these logs and this worth.
+pub fn is_best(
+    rt: &HostRuntime,
+    sheet: &Sheet,
+    stem: &Stem,
+    logs: &[Log],
+    worth: u64,
+) -> Result<bool, Fail> {
+    let (cutting, total) = best(rt.alloc(), sheet, stem)?;
+    Ok(cutting.logs.as_slice() == logs && total == worth)
+}

@@ -1,0 +1,15 @@
+//! Tests of price sheets: sheets, classes and worths worked out by hand.
+#![tactic(auto)]
+
+#[cfg(test)]
+mod classes;
+#[cfg(test)]
+mod fixtures;
+#[cfg(test)]
+mod prepared_stems;
+#[cfg(test)]
+mod sheets;
+#[cfg(test)]
+mod worths;
+#[cfg(test)]
+mod zones;

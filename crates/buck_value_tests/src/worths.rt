@@ -1,0 +1,136 @@
+//! What logs are worth.
+use crate::fixtures::{base_of, sheet_with};
+use buck_samples::{MAX, SAW, SAW_AND_POLE, edited, saw_text, uniform_stem};
+use buck_stem::Stem;
+use buck_value::{Log, Sheet, class_of, log_worth, worth_if_allowed};
+use std::test::Fail;
+
+/// A log that starts so many mm from the butt, of a length in mm and an assortment.
+fn log(start: u32, length: u32, assortment: u8) -> Log {
+    Log {
+        start,
+        length,
+        assortment,
+    }
+}
+
+/// What a log is worth by `log_worth`, or `None` where it isn't allowed.
+fn worth(sheet: &Sheet, stem: &Stem, log: &Log) -> Option<u64> {
+    match worth_if_allowed(sheet, stem, log) {
+        None => None,
+        Some(_) => Some(log_worth(sheet, stem, log)),
+    }
+}
+
+/// What a log of a stem of so many samples of one diameter is worth.
+fn worth_in(
+    rt: &HostRuntime,
+    sheet: &Sheet,
+    count: usize,
+    diameter: u16,
+    log: Log,
+) -> Result<Option<u64>, Fail> {
+    let stem = uniform_stem(rt.alloc(), count, diameter)?;
+    Ok(worth(sheet, &stem, &log))
+}
+
+#[test]
+fn volume_is_rounded_down(rt: HostRuntime) -> Result<(), Fail> {
+    let sheet = base_of(&rt, SAW)?;
+    for (count, diameter, log, want) in [
+        (61, 250, log(0, 4000, 0), 157_080_000),
+        (61, 250, log(3000, 3000, 0), 88_357_200),
+        (41, 190, log(0, 4000, 0), 56_705_500),
+    ] {
+        let found = worth_in(&rt, &sheet, count, diameter, log)?;
+        assert_eq!(rt; found, Some(want), "{log:?}");
+    }
+    Ok(())
+}
+
+#[test]
+fn both_price_kinds(rt: HostRuntime) -> Result<(), Fail> {
+    let sheet = base_of(&rt, SAW_AND_POLE)?;
+    for (diameter, log, want) in [
+        (250, log(0, 3000, 1), Some(100_000_000)),
+        (250, log(0, 3000, 0), Some(88_357_200)),
+        (150, log(0, 3000, 1), None),
+        (150, log(0, 3000, 0), Some(21_205_600)),
+    ] {
+        let found = worth_in(&rt, &sheet, 31, diameter, log)?;
+        assert_eq!(rt; found, want, "{log:?} of {diameter}");
+    }
+    Ok(())
+}
+
+#[test]
+fn worth_by_the_prices_in_force(rt: HostRuntime) -> Result<(), Fail> {
+    let text = saw_text(rt.alloc(), 1, 500, "1 1 1 1")?;
+    let sheet = sheet_with(&rt, text.as_str(), &[600, 750, 900, 400])??;
+    for (length, want) in [(4000, 78_540_000), (3000, 132_535_800)] {
+        let found = worth_in(&rt, &sheet, 41, 250, log(0, length, 0))?;
+        assert_eq!(rt; found, Some(want), "{length}");
+    }
+    Ok(())
+}
+
+/// The price of the class of a log at the butt of a stem of 41 samples of one diameter.
+fn price_at_butt(
+    rt: &HostRuntime,
+    sheet: &Sheet,
+    diameter: u16,
+    assortment: u8,
+    length: u32,
+) -> Result<Option<u32>, Fail> {
+    let stem = uniform_stem(rt.alloc(), 41, diameter)?;
+    match class_of(sheet, &stem, 0, assortment, length) {
+        None => Ok(None),
+        Some(class) => Ok(Some(sheet.price(class))),
+    }
+}
+
+#[test]
+fn price_of_each_class(rt: HostRuntime) -> Result<(), Fail> {
+    let text = edited(
+        rt.alloc(),
+        SAW_AND_POLE,
+        "917 1 0 0 100 0",
+        "917 1 10 20 30 40",
+    )?;
+    let sheet = base_of(&rt, text.as_str())?;
+    for (diameter, assortment, length, want) in [
+        (150, 0, 3000, 400),
+        (150, 0, 4000, 500),
+        (250, 0, 3000, 600),
+        (250, 0, 4000, 800),
+        (150, 1, 3000, 10),
+        (150, 1, 4000, 20),
+        (250, 1, 3000, 30),
+        (250, 1, 4000, 40),
+    ] {
+        let found = price_at_butt(&rt, &sheet, diameter, assortment, length)?;
+        assert_eq!(rt; found, Some(want), "{want}");
+    }
+    Ok(())
+}
+
+#[test]
+fn largest_worth_at_base_prices(rt: HostRuntime) -> Result<(), Fail> {
+    let sheet = base_of(&rt, MAX)?;
+    let found = worth_in(&rt, &sheet, 401, 1500, log(0, 500, 0))?;
+    assert_eq!(rt; found, Some(8_835_750_000_000));
+    Ok(())
+}
+
+#[test]
+fn largest_worths(rt: HostRuntime) -> Result<(), Fail> {
+    let sheet = sheet_with(&rt, MAX, &[0, 20_000_000])??;
+    for (log, want) in [
+        (log(9_500, 500, 0), 0),
+        (log(10_000, 30_000, 0), 1_060_290_000_000_000),
+    ] {
+        let found = worth_in(&rt, &sheet, 401, 1500, log)?;
+        assert_eq!(rt; found, Some(want), "{log:?}");
+    }
+    Ok(())
+}
