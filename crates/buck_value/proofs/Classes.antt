@@ -13,7 +13,8 @@ use Rattle.buck_stem.specs.Stem.{StemParts, stem_length, HasGradesOf, grade_at}
 use Rattle.buck_value.specs.declared.log.Log.{Log}
 use Rattle.buck_value.specs.Sheet.{SheetParts, price_of}
 use Rattle.buck_value.specs.Volume.{volume, worth_at}
-use Rattle.buck_value.specs.Allowed.{IsAllowed, Allows, worth_of, kind_in, class_in, class_of, top_diameter, row_at, place_in, column_of, end_of}
+use Rattle.buck_value.proofs.Rows.{row_counted}
+use Rattle.buck_value.specs.Allowed.{IsAllowed, Allows, worth_of, kind_in, class_in, class_of, top_diameter, row_at, class_place, column_of, end_of}
 
 pub column_some : (xs : List ℕ) (l i : ℕ) → position (λ x. x == l) xs ≡ Some i → (i < length xs) × Contains xs l
 column_some xs l i e =
@@ -66,7 +67,7 @@ pub allows_by_tests : (step : ℕ) (a : AssortmentParts) (stem : StemParts) (log
     → price ≢ 0
     → Allows step a stem log
 allows_by_tests step a stem log column row price top species grid at within grades is_top low high is_row is_price priced =
-    let place : row * length a.lengths + column ≡ place_in a stem log =
+    let place : row * length a.lengths + column ≡ class_place a stem log =
     rw (is_row, is_top, column_is a log.length column at) refl in
     record {
       species = species;
@@ -87,7 +88,7 @@ valid_of i stem g v a =
 
 -- a row of an assortment
 pub row_within : (a : AssortmentParts) (d : ℕ) → IsAssortment a → row_at a d < length a.diameters
-row_within a d v = omega (arith, count_by-le-length (λ limit. nat_le limit d) a.diameters, v.rows)
+row_within a d v = omega (arith, row_counted a d v, count_by-le-length (λ limit. nat_le limit d) a.diameters, v.rows)
 
 -- the class of an allowed log is one of the instruction's
 pub class_is_class : (i : InstructionParts) (stem : StemParts) (g : Log) → IsInstruction i → IsAllowed i stem g → IsClass i (class_of i stem g)

@@ -16,7 +16,7 @@ use Rattle.buck_value.specs.declared.codes.Place.{Place}
 use Rattle.buck_value.specs.declared.ladder.Wood.{Wood}
 use Rattle.buck_value.specs.Sheet.{price_of}
 use Rattle.buck_value.specs.Volume.{volume, worth_at}
-use Rattle.buck_value.specs.Allowed.{IsAllowed, Allows, log_of, end_of, top_diameter, row_at, column_of, place_in, class_in, class_of, kind_in, worth_of}
+use Rattle.buck_value.specs.Allowed.{IsAllowed, Allows, log_of, end_of, top_diameter, row_at, column_of, class_place, class_in, class_of, kind_in, worth_of}
 use Rattle.buck_value.specs.Codes.{code_of, IsPlace, columns_before}
 use Rattle.buck_value.specs.declared.ladder.Column.{Column}
 use Rattle.buck_value.specs.Quotes.{LadderParts, IsLadder, TakesWood, IsWood, IsColumnBid, AreTakers}
@@ -167,7 +167,7 @@ module _ {t : LadderParts} {wood : Wood} {at : Column} {place : ℕ} {x : Assort
   Has stem start = IsWood t.sheet.instruction.«module» wood stem (one start)
 
   -- the place of its class
-  place_is : (stem : StemParts) (start : ℕ) → Has stem start → place_in x stem (one start) ≡ place
+  place_is : (stem : StemParts) (start : ℕ) → Has stem start → class_place x stem (one start) ≡ place
   place_is stem start w =
       let row : row_at x (top_diameter stem (one start)) ≡ row_at x wood.diameter = ap (row_at x) w.top in
       let column : column_of x (slice_index x.lengths at.column) ≡ at.column = column_is x at.column one_valid k.within in
@@ -211,7 +211,7 @@ module _ {t : LadderParts} {wood : Wood} {at : Column} {place : ℕ} {x : Assort
   price_is stem start price w is_price =
       let i = t.sheet.instruction in
       let g : Log = one start in
-      let index : at.classes + place ≡ classes_before i at.assortment + place_in x stem g = omega (arith, k.classes_is, place_is stem start w) in
+      let index : at.classes + place ≡ classes_before i at.assortment + class_place x stem g = omega (arith, k.classes_is, place_is stem start w) in
       is_price
       ∙ ap (slice_index t.sheet.prices) index
       ∙ sym (ap (λ (y : Option AssortmentParts). price_of t.sheet (class_in y stem g)) k.exists

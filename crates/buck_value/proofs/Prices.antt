@@ -9,7 +9,8 @@ use Rattle.std.proofs.lemmas.List.Sums.{sum_by-cons}
 use Rattle.std.proofs.lemmas.Bool.{cases_lt}
 use Rattle.std.proofs.lemmas.Grind.{get_or_default_zero}
 use Rattle.buck_apt.specs.Instruction.{InstructionParts, AssortmentParts, IsInstruction, IsAssortment, classes, classes_of}
-use Rattle.buck_value.specs.Sheet.{SheetParts, IsSheet, base_prices, span, IsInSpan, IsPriceAt, IsFirstOutside, IsSheetFault, sheet_of}
+use Rattle.buck_value.specs.Sheet.{SheetParts, IsSheet, base_prices, span, IsInSpan, IsPriceAt, IsSheetFault, sheet_of}
+use Rattle.buck_value.specs.inner.Sheet.{IsFirstOutside}
 use Rattle.buck_value.specs.declared.fault.SheetFault.TheVariants.{Price}
 
 sum-same : (as_ : List AssortmentParts) → AllByRecursion IsAssortment as_ → sum_by (λ a. length a.prices) as_ ≡ sum_by classes_of as_

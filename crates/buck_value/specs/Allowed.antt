@@ -1,5 +1,6 @@
 -- Which logs of a stem an instruction allows, their class, and what each is worth.
-use Rattle.std.specs.Prelude.{◌≡◌, ◌≢◌, ℕ, ◌+◌, ◌-◌, ◌*◌, ◌%◌, ◌<◌, ◌≤◌, length, Contains, slice_get, slice_index, Option, Some, None, count_by, nat_le, position, ◌==◌, unwrap_or}
+use Rattle.std.specs.Prelude.{◌≡◌, ◌≢◌, ℕ, ◌+◌, ◌*◌, ◌%◌, ◌<◌, ◌≤◌, Bool, List, [], ◌∷◌, length, Contains, slice_get, slice_index, Option, Some, None, nat_le, position, ◌==◌, unwrap_or, if◌then◌else◌}
+use Rattle.std.specs.Option.{option_map, option_or}
 use Rattle.buck_apt.specs.declared.class.Class.{Class}
 use Rattle.buck_apt.specs.Instruction.{InstructionParts, AssortmentParts}
 use Rattle.buck_stem.specs.Stem.{StemParts, stem_length, diameter_at, HasGradesOf}
@@ -18,9 +19,14 @@ end_of g = g.start + g.length
 abbrev pub top_diameter : StemParts → Log → ℕ
 top_diameter stem g = diameter_at stem.samples (end_of g)
 
--- the last row whose lower limit is at most d: the limits rise, so it is how many are, less one
+-- the last place at which a test passes, if there is one: the last among the rest, or else the first
+abbrev pub last_position : (ℕ → Bool) → List ℕ → Option ℕ
+last_position test [] = None
+last_position test (x ∷ xs) = option_or (option_map (λ k. k + 1) (last_position test xs)) (if test x then Some 0 else None)
+
+-- the last row whose lower limit is at most d
 abbrev pub row_at : AssortmentParts → ℕ → ℕ
-row_at a d = count_by (λ limit. nat_le limit d) a.diameters - 1
+row_at a d = unwrap_or (last_position (λ limit. nat_le limit d) a.diameters) 0
 
 -- a row is the last whose lower limit is at most d
 pub record IsRow (a : AssortmentParts) (d row : ℕ) : Type 0 where
@@ -33,8 +39,8 @@ abbrev pub column_of : AssortmentParts → ℕ → ℕ
 column_of a l = unwrap_or (position (λ x. x == l) a.lengths) 0
 
 -- the place of a log's class in its assortment, row by row
-abbrev pub place_in : AssortmentParts → StemParts → Log → ℕ
-place_in a stem g = row_at a (top_diameter stem g) * length a.lengths + column_of a g.length
+abbrev pub class_place : AssortmentParts → StemParts → Log → ℕ
+class_place a stem g = row_at a (top_diameter stem g) * length a.lengths + column_of a g.length
 
 -- an assortment allows a log, where logs start at the multiples of `step`
 pub record Allows (step : ℕ) (a : AssortmentParts) (stem : StemParts) (g : Log) : Type 0 where
@@ -45,7 +51,7 @@ pub record Allows (step : ℕ) (a : AssortmentParts) (stem : StemParts) (g : Log
   pub grades : HasGradesOf stem.zones g.start (end_of g) a.grades
   pub thick_enough : slice_index a.diameters 0 ≤ top_diameter stem g
   pub thin_enough : top_diameter stem g < a.upper
-  pub priced : slice_index a.prices (place_in a stem g) ≢ 0
+  pub priced : slice_index a.prices (class_place a stem g) ≢ 0
 
 -- the log's assortment is there and allows it; the prices in force have no part in it
 pub record IsAllowed (i : InstructionParts) (stem : StemParts) (g : Log) : Type 0 where
@@ -56,7 +62,8 @@ pub record IsAllowed (i : InstructionParts) (stem : StemParts) (g : Log) : Type 
 -- the class of a log of an assortment, if that is there
 abbrev pub class_in : Option AssortmentParts → StemParts → Log → Class
 class_in None stem g = record { assortment = g.assortment; row = 0; column = 0 }
-class_in (Some a) stem g = record { assortment = g.assortment; row = row_at a (top_diameter stem g); column = column_of a g.length }
+class_in (Some a) stem g =
+    record { assortment = g.assortment; row = row_at a (top_diameter stem g); column = column_of a g.length }
 
 -- the class of a log
 abbrev pub class_of : InstructionParts → StemParts → Log → Class

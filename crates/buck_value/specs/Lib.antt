@@ -6,3 +6,4 @@ pub mod Codes
 pub mod Relaxed
 pub mod Quotes
 pub mod Push
+pub mod inner

@@ -41,13 +41,10 @@ pub record IsSheet (s : SheetParts) : Type 0 where
 abbrev pub IsSheetFault : InstructionParts → List ℕ → SheetFault → Type 0
 IsSheetFault i prices Count = length prices ≢ classes i
 IsSheetFault i prices (Price at) =
-    (length prices ≡ classes i) × (at < length prices) × (IsPriceAt i prices at → ⊥) × ((k : ℕ) → k < at → IsPriceAt i prices k)
-
--- the least place of some base prices at which the price, after those of `before` classes, is outside its span
-pub record IsFirstOutside (limit : ℕ) (bases prices : List ℕ) (before at : ℕ) : Type 0 where
-  pub within : at < length bases
-  pub outside : IsInSpan limit (slice_index bases at) (slice_index prices (before + at)) → ⊥
-  pub first : (k : ℕ) → k < at → IsInSpan limit (slice_index bases k) (slice_index prices (before + k))
+    (length prices ≡ classes i)
+    × (at < length prices)
+    × (IsPriceAt i prices at → ⊥)
+    × ((k : ℕ) → k < at → IsPriceAt i prices k)
 
 -- the price in force of a class
 abbrev pub price_of : SheetParts → Class → ℕ

@@ -15,25 +15,29 @@ pub fn prices_are_bounded()
 /// An allowed log is 500 to 30,000 mm long, and its top diameter is at most 2,000 mm.
 #[tactic(auto, using(crate::proofs::Classes::allowed_low))]
 pub fn allowed_logs_are_bounded()
-    ensures { (i : InstructionParts) (stem : StemParts) (g : Log) → IsInstruction i → IsAllowed i stem g
+    ensures { (i : InstructionParts) (stem : StemParts) (g : Log)
+        → IsInstruction i → IsAllowed i stem g
         → (500 ≤ g.length) × (g.length ≤ 30000) × (top_diameter stem g ≤ 2000) }
 {}
 
 /// An allowed log is worth at most 70,000,000,000 millionths of the price unit for each mm of its length.
 #[tactic(auto, using(crate::proofs::Rates::worth_low))]
 pub fn worth_is_bounded()
-    ensures { (s : SheetParts) (stem : StemParts) (g : Log) → IsSheet s → IsAllowed s.instruction stem g
+    ensures { (s : SheetParts) (stem : StemParts) (g : Log)
+        → IsSheet s → IsAllowed s.instruction stem g
         → worth_of s stem g ≤ 70000000000 * g.length }
 {}
 
 /// The class of an allowed log is one of the instruction's.
 #[tactic(auto, using(crate::proofs::Classes::class_is_class))]
 pub fn class_of_allowed_log_exists()
-    ensures { (i : InstructionParts) (stem : StemParts) (g : Log) → IsInstruction i → IsAllowed i stem g
+    ensures { (i : InstructionParts) (stem : StemParts) (g : Log)
+        → IsInstruction i → IsAllowed i stem g
         → IsClass i (class_of i stem g) }
 {}
 
 /// The row of a top diameter at or above the first lower limit is the last whose lower limit is at most it.
 pub fn row_is_the_last()
-    ensures { (a : AssortmentParts) (d : ℕ) → IsAssortment a → slice_index a.diameters 0 ≤ d → IsRow a d (row_at a d) }
+    ensures { (a : AssortmentParts) (d : ℕ)
+        → IsAssortment a → slice_index a.diameters 0 ≤ d → IsRow a d (row_at a d) }
 {}

@@ -1,8 +1,9 @@
 //! Price sheets.
-ghost use Rattle.std.specs.Prelude.{◌≡◌, ℕ, ◌+◌, ◌<◌, ◌≤◌, ◌↔◌, IsTrue, IfOk, IfErr, IfSome, IfNone, OnOk, length, slice_index, All, EachIndex};
+ghost use Rattle.std.specs.Prelude.{◌≡◌, ℕ, ◌+◌, ◌<◌, ◌≤◌, ◌↔◌, IsTrue, IfOk, IfErr, IfSome, IfNone, OnOk, length, All, EachIndex};
 ghost use Rattle.std.specs.List.{flat_map};
 ghost use Rattle.buck_apt.specs.Instruction.{IsInstruction, IsClass, classes};
-ghost use Rattle.buck_value.specs.Sheet.{IsSheet, IsInSpan, IsPriceAt, IsFirstOutside, IsSheetFault, base_prices, sheet_of, price_of};
+ghost use Rattle.buck_value.specs.Sheet.{IsSheet, IsInSpan, IsPriceAt, IsSheetFault, base_prices, sheet_of, price_of};
+ghost use Rattle.buck_value.specs.inner.Sheet.{AreInSpanAfter, IsFirstOutside};
 
 use crate::fault::SheetFault;
 use buck_apt::{Assortment, Class, Instruction};
@@ -55,7 +56,8 @@ fn is_in_span(limit: u32, base: u32, price: u32) -> bool
 impl Sheet {
     /// The sheet of version 0: each class has its base price. `Memory` where no list of the prices could be made.
     pub fn base(alloc: Global, instruction: Arc<Instruction>) -> Result<Sheet, Memory>
-        ensures { IfOk result (λ s. s ≡ sheet_of 0 instruction.value (base_prices instruction.value)) }
+        ensures { IfOk result (λ s.
+            s ≡ sheet_of 0 instruction.value (base_prices instruction.value)) }
     {
         let prices = base_prices_of(alloc, &instruction)?;
         Ok(Sheet {
@@ -127,7 +129,7 @@ impl Sheet {
     pub fn same(&self, other: &Sheet) -> bool
         ensures { IsTrue result ↔ (self.now ≡ other.now) }
     {
-        self.version == other.version
+        other.version == self.version
             && self.prices == other.prices
             && self.instruction.same(&other.instruction)
     }
@@ -140,7 +142,7 @@ fn first_outside_of(limit: u32, bases: &[u32], prices: &[u32], before: usize) ->
     requires bases { All (λ p. p ≤ 10000000) bases.now }
     requires room { before + length bases.now ≤ length prices.now }
     ensures found { IfSome result (λ at. IsFirstOutside limit bases.now prices.now before at) }
-    ensures none { IfNone result (EachIndex bases.now (λ k. IsInSpan limit (slice_index bases.now k) (slice_index prices.now (before + k)))) }
+    ensures none { IfNone result (AreInSpanAfter limit bases.now prices.now before) }
 {
     for i in 0..bases.len() {
         if !is_in_span(limit, bases[i], prices[before + i]) {
@@ -153,8 +155,9 @@ fn first_outside_of(limit: u32, bases: &[u32], prices: &[u32], before: usize) ->
 /// The least place of a price outside its span, where there is one price for each class.
 fn first_outside(instruction: &Instruction, prices: &[u32]) -> Option<usize>
     requires { length prices.now ≡ classes instruction.now }
-    ensures found { IfSome result (λ at. IsSheetFault instruction.now prices.now (SheetFault.Price at)) }
-    ensures none { IfNone result (EachIndex prices.now (λ k. IsPriceAt instruction.now prices.now k)) }
+    ensures found { IfSome result (λ at.
+        IsSheetFault instruction.now prices.now (SheetFault.Price at)) }
+    ensures none { IfNone result (EachIndex prices.now (IsPriceAt instruction.now prices.now)) }
 {
     let limit = instruction.limit();
     let mut before = 0;

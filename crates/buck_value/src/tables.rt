@@ -1,5 +1,5 @@
 //! What logs bring, by their length, for each kind of wood that was asked for.
-ghost use Rattle.std.specs.Prelude.{◌≡◌, ℕ, ◌+◌, ◌-◌, ◌*◌, ◌<◌, ◌≤◌, ◌↔◌, IsTrue, IfOk, OnOk, OnErr, IfSome, length, slice_get, slice_index, Some};
+ghost use Rattle.std.specs.Prelude.{◌≡◌, ℕ, ◌+◌, ◌-◌, ◌*◌, ◌/◌, ◌<◌, ◌≤◌, ◌↔◌, IsTrue, IfOk, OnOk, OnErr, IfSome, max, length, slice_get, slice_index, Some};
 ghost use Rattle.buck_value.specs.Codes.{AreCodes};
 ghost use Rattle.buck_value.specs.Quotes.{LadderParts, WoodTableParts, AreTakers, AreCells, IsAny, AreWoodTables, IsWoodTable, IsTableOf, IsFound, IsOffered, IsLadder};
 
@@ -332,6 +332,7 @@ fn offer_found(
 /// How many cells the tables of a sheet may keep, so that they take less than one mebibyte at a module of 100 mm, and
 /// less than eight at one of 10 mm, whatever the instruction.
 pub fn room_of(sheet: &Sheet) -> usize
+    ensures value { result ≡ max (4500000 / sheet.now.instruction.«module») 45000 }
     ensures low { 45000 ≤ result }
     ensures high { result ≤ 450000 }
 {

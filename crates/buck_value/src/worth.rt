@@ -4,9 +4,10 @@
 //! its length is one of the assortment's, it ends within the stem, each grade along it is one of the assortment's, its
 //! top diameter is at or above the first lower limit and below the upper diameter, and the base price of its class
 //! isn't 0. Its row is the last whose lower limit is at most its top diameter, its column the place of its length.
-ghost use Rattle.std.specs.Prelude.{◌≡◌, ◌+◌, ◌*◌, ◌<◌, ◌≤◌, ◌%◌, ◌^◌, ◌==◌, Some, IfSome, IfNone, slice_get, length, position};
+ghost use Rattle.std.specs.Prelude.{◌≡◌, ◌+◌, ◌*◌, ◌<◌, ◌≤◌, ◌↔◌, ◌%◌, ◌^◌, ◌==◌, IsTrue, Some, IfSome, IfNone, slice_get, length, position};
 ghost use Rattle.buck_apt.specs.Instruction.{IsClass};
-ghost use Rattle.buck_value.specs.Allowed.{IsAllowed, Allows, log_of, row_at, class_in, class_of, worth_of};
+ghost use Rattle.buck_stem.specs.Stem.{stem_length, HasGradesOf};
+ghost use Rattle.buck_value.specs.Allowed.{IsAllowed, Allows, log_of, end_of, top_diameter, row_at, class_in, class_of, worth_of};
 ghost use Rattle.buck_value.specs.Volume.{volume, worth_at};
 
 use crate::log::Log;
@@ -39,7 +40,8 @@ pub(crate) fn worth_of_piece(kind: u8, price: u32, cubic: u64) -> u64
     }
 }
 
-/// The row of a top diameter.
+/// The row of a top diameter: the limits rise, so it is how many are at most it, less one.
+#[tactic(auto, using(crate::proofs::Rows::row_counted))]
 pub(crate) fn row_of(assortment: &Assortment, diameter: u32) -> usize
     ensures row { result ≡ row_at assortment.now diameter }
     ensures within { result < length assortment.now.diameters }
@@ -57,6 +59,25 @@ fn column_of(assortment: &Assortment, length: u32) -> Option<usize>
     ensures { result ≡ position (λ x. x == length) assortment.now.lengths }
 {
     assortment.lengths().iter().position(|l| *l == length)
+}
+
+/// The diameter where a log ends.
+fn top_of(stem: &Stem, log: &Log) -> u32
+    requires { end_of log.now ≤ stem_length stem.now.samples }
+    ensures { result ≡ top_diameter stem.now log.now }
+{
+    let _length = stem.length();
+    stem.diameter_at(log.start + log.length)
+}
+
+/// Whether each grade along a log is one of these.
+fn has_grades_of(stem: &Stem, log: &Log, grades: &[u8]) -> bool
+    requires { end_of log.now ≤ stem_length stem.now.samples }
+    ensures { IsTrue result
+        ↔ HasGradesOf stem.now.zones log.now.start (end_of log.now) grades.now }
+{
+    let _length = stem.length();
+    stem.has_grades_of(log.start, log.start + log.length, grades)
 }
 
 /// The class of a log of an assortment, or `None` where that doesn't allow it.
@@ -82,10 +103,10 @@ fn class_in(step: u32, assortment: &Assortment, stem: &Stem, log: &Log) -> Optio
     if end > whole {
         return None;
     }
-    if !stem.has_grades_of(log.start, end, assortment.grades()) {
+    if !has_grades_of(stem, log, assortment.grades()) {
         return None;
     }
-    let top = stem.diameter_at(end);
+    let top = top_of(stem, log);
     if top < assortment.diameters()[0] {
         return None;
     }
@@ -128,10 +149,13 @@ pub fn class_of(
     assortment: u8,
     length: u32,
 ) -> Option<Class>
-    ensures allowed { IfSome result (λ _. IsAllowed sheet.now.instruction stem.now (log_of start length assortment)) }
-    ensures class { IfSome result (λ c. c ≡ class_of sheet.now.instruction stem.now (log_of start length assortment)) }
+    ensures allowed { IfSome result (λ _.
+        IsAllowed sheet.now.instruction stem.now (log_of start length assortment)) }
+    ensures class { IfSome result (λ c.
+        c ≡ class_of sheet.now.instruction stem.now (log_of start length assortment)) }
     ensures exists { IfSome result (λ c. IsClass sheet.now.instruction c) }
-    ensures none { IfNone result (IsAllowed sheet.now.instruction stem.now (log_of start length assortment) → ⊥) }
+    ensures none { IfNone result
+        (IsAllowed sheet.now.instruction stem.now (log_of start length assortment) → ⊥) }
 {
     let _valid = sheet.version();
     let log = Log {
@@ -148,11 +172,10 @@ fn worth_in_class(sheet: &Sheet, stem: &Stem, log: &Log, class: Class) -> u64
     requires class { class ≡ class_of sheet.now.instruction stem.now log.now }
     ensures { result ≡ worth_of sheet.now stem.now log.now }
 {
-    let _length = stem.length();
     let all = sheet.instruction().assortments();
     let kind = all[log.assortment as usize].price_kind();
     let price = sheet.price(class);
-    let top = stem.diameter_at(log.start + log.length);
+    let top = top_of(stem, log);
     worth_of_piece(kind, price, volume_of(top, log.length))
 }
 

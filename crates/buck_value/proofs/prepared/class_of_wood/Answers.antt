@@ -5,7 +5,7 @@ use Rattle.buck_apt.specs.Instruction.{AssortmentParts}
 use Rattle.buck_stem.specs.Stem.{StemParts}
 use Rattle.buck_value.specs.declared.ladder.Wood.{Wood}
 use Rattle.buck_value.specs.declared.log.Log.{Log}
-use Rattle.buck_value.specs.Allowed.{log_of, end_of, top_diameter, row_at, column_of, place_in}
+use Rattle.buck_value.specs.Allowed.{log_of, end_of, top_diameter, row_at, column_of, class_place}
 use Rattle.buck_value.specs.Quotes.{IsWood}
 use Rattle.buck_value.proofs.Classes.{allows_by_tests}
 use Rattle.buck_value.proofs.WoodLemmas.{mask_allows}
@@ -37,7 +37,7 @@ returns-then-price-eq0-clause-none c = λ step stem start w al.
     let column : column_of a g.length ≡ c.args.column =
     column_is a c.args.column c.lengths-lengths.ensures.valid c.requires.column in
     let rows : row ≡ row_at a (top_diameter stem g) = row_is a step row stem c.args.wood g c.row_of-row.ensures.row w in
-    let place : place_in a stem g ≡ row * length a.lengths + c.args.column =
+    let place : class_place a stem g ≡ row * length a.lengths + c.args.column =
     omega (arith, column, ap (λ r. r * length a.lengths) rows) in
     al.priced (ap (slice_index a.prices) place ∙ sym c.price.ensures ∙ c.if-price-eq0.true)
 

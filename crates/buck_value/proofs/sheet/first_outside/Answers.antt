@@ -1,5 +1,6 @@
 use Rattle.std.proofs.Common.{◌≡◌, ◌<◌, ◌+◌, ℕ, slice_index, length, arith, subst, ap}
-use Rattle.buck_value.specs.Sheet.{IsFirstOutside, IsInSpan}
+use Rattle.buck_value.specs.Sheet.{IsInSpan}
+use Rattle.buck_value.specs.inner.Sheet.{IsFirstOutside}
 use Rattle.buck_value.proofs.Prices.{room, place_more, inside_more, fault_at, all_inside}
 use Rattle.buck_value.proofs.sheet.first_outside.Goals as goal
 

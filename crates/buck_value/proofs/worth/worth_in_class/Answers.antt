@@ -13,7 +13,7 @@ price-price-requires c =
 pub volume_of-requires-clause-diameter : goal.volume_of-requires-clause-diameter
 volume_of-requires-clause-diameter c =
     let low = allowed_low c.args.sheet.now.instruction c.args.stem.now c.args.log.now c.instruction.ensures.valid.valid c.requires.allowed in
-    rw c.diameter_at-top.ensures low.2
+    rw c.top_of-top.ensures low.2
 
 pub volume_of-requires-clause-length : goal.volume_of-requires-clause-length
 volume_of-requires-clause-length c =
@@ -36,4 +36,4 @@ returns c =
     (c.assortments-all.ensures.items ∙ ap (λ x. x.assortments) c.deref.ensures ∙ ap (λ x. x.assortments) c.instruction.ensures.instruction)
     c.index-all-log.is c.price_kind-kind.ensures
     (c.price-price.ensures.price ∙ ap (price_of c.args.sheet.now) c.requires.class)
-    (c.volume_of.ensures.value ∙ rw c.diameter_at-top.ensures refl)
+    (c.volume_of.ensures.value ∙ rw c.top_of-top.ensures refl)

@@ -1,6 +1,6 @@
-use Rattle.std.proofs.Common.{◌≡◌, ℕ, ◌≤◌, List, Some, slice_get, slice_index, refl, sym, ◌∙◌, ap, arith, rules}
+use Rattle.std.proofs.Common.{◌≡◌, ℕ, ◌≤◌, List, Some, slice_get, slice_index, refl, sym, ◌∙◌, ap, subst, arith, rules}
 use Rattle.std.proofs.lemmas.Option.{get_or_from_slice_get}
-use Rattle.buck_apt.specs.Instruction.{AssortmentParts, index_of}
+use Rattle.buck_apt.specs.Instruction.{AssortmentParts, IsClass, index_of}
 use Rattle.buck_stem.specs.Stem.{diameter_at}
 use Rattle.buck_value.specs.declared.log.Log.{Log}
 use Rattle.buck_value.specs.Sheet.{SheetParts, price_of}
@@ -8,8 +8,18 @@ use Rattle.buck_value.specs.Volume.{volume}
 use Rattle.buck_value.specs.Allowed.{top_diameter}
 use Rattle.buck_value.specs.Prepared.{PreparedParts, lengths_in, log_at}
 use Rattle.buck_value.proofs.Prices.{price-le}
-use Rattle.buck_value.proofs.Classes.{worth_by_parts}
+use Rattle.buck_value.proofs.Classes.{class_is_class, worth_by_parts}
 use Rattle.buck_value.proofs.prepared.Prepared.worth_in_class.Goals as goal
+
+pub price-price-requires : goal.price-price-requires
+price-price-requires c =
+    let p : PreparedParts = c.args.self.now in
+    let g : Log = log_at p c.args.i c.args.assortment c.args.column in
+    let sheet : c.behind-self.inside.sheet.now ≡ p.sheet = cc in
+    let class : IsClass p.sheet.instruction c.args.class =
+    subst (λ k. IsClass p.sheet.instruction k) (sym c.requires.class)
+    (class_is_class p.sheet.instruction p.stem g c.assortment-chosen.ensures.sheet.valid c.requires.allowed) in
+    subst (λ (s : SheetParts). IsClass s.instruction c.args.class) (sym sheet) class
 
 pub worth_of_piece-requires-clause-price : goal.worth_of_piece-requires-clause-price
 worth_of_piece-requires-clause-price c =
