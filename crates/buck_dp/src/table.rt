@@ -1,6 +1,6 @@
 //! The table: for each point of the stem, what the best cutting from there on is worth and begins with, in one number.
 
-ghost use Rattle.std.specs.Prelude.{◌≡◌, ◌-◌, ◌/◌, ◌<◌, ◌≤◌, IfOk, IsTrue, ◌↔◌, length};
+ghost use Rattle.std.specs.Prelude.{◌≡◌, ◌-◌, ◌/◌, ◌<◌, ◌≤◌, IfOk, IsTrue, ◌↔◌, length, slice_index};
 ghost use Rattle.buck_value.specs.Allowed.{IsAllowed, worth_of, end_of};
 ghost use Rattle.buck_value.specs.Sheet.{IsSheet};
 ghost use Rattle.buck_value.specs.Prepared.{points_of};
@@ -77,7 +77,9 @@ fn steps_of(prepared: &Prepared<'_>, mark: usize, millimetres: u32) -> usize
 /// The logs of the best cutting, from the values of all points.
 fn follow(alloc: Global, prepared: &Prepared<'_>, values: &[u64]) -> Result<Vec<Log>, AllocError>
     requires { AreValuesFrom prepared.now values.now 0 }
-    ensures { IfOk result (λ logs. IsTop (IsAllowed prepared.now.sheet.instruction prepared.now.stem) end_of (worth_of prepared.now.sheet prepared.now.stem) 0 logs.items) }
+    ensures { IfOk result (λ logs.
+        IsTop (IsAllowed prepared.now.sheet.instruction prepared.now.stem) end_of
+        (worth_of prepared.now.sheet prepared.now.stem) 0 logs.items) }
 {
     let points = prepared.points();
     let mut logs = Vec::new(alloc);
@@ -95,6 +97,14 @@ fn follow(alloc: Global, prepared: &Prepared<'_>, values: &[u64]) -> Result<Vec<
     Ok(logs)
 }
 
+/// The worth of what is best from the butt on, from the values of all points.
+fn worth_at_butt(values: &[u64]) -> u64
+    requires { 0 < length values.now }
+    ensures { result ≡ slice_index values.now 0 / 1024 }
+{
+    values[0] / 1024
+}
+
 /// The first of the best cuttings of a prepared stem, and its worth in millionths of the price unit, as [`best`] gives
 /// them.
 pub fn best_of(alloc: Global, prepared: &mut Prepared<'_>) -> Result<(Cutting, u64), Memory>
@@ -105,7 +115,7 @@ pub fn best_of(alloc: Global, prepared: &mut Prepared<'_>) -> Result<(Cutting, u
     let _valid = prepared.points();
     let values = values_of(alloc, prepared)?;
     let logs = follow(alloc, prepared, values.as_slice())?;
-    let worth = values[0] / 1024;
+    let worth = worth_at_butt(values.as_slice());
     Ok((Cutting { logs }, worth))
 }
 

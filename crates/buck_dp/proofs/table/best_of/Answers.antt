@@ -1,5 +1,4 @@
-use Rattle.std.proofs.Common.{◌≡◌, ◌<◌, ◌/◌, ◌∙◌, ℕ, List, length, arith, ap, subst}
-use Rattle.std.proofs.lemmas.Grind.{get_or_default_zero}
+use Rattle.std.proofs.Common.{◌≡◌, ◌/◌, ◌∙◌, ℕ, List, slice_index, ap, arith, rules, subst}
 use Rattle.buck_value.specs.declared.log.Log.{Log}
 use Rattle.buck_value.specs.Prepared.{PreparedParts}
 use Rattle.buck_value.specs.Allowed.{IsAllowed, worth_of, end_of}
@@ -22,13 +21,17 @@ returns-clause-first c =
     top_is_first_best p.sheet p.stem logs
     (top_again c.values_of.new.prepared p logs c.in_ok-values.ensures.same c.in_ok-logs.ensures)
 
+pub worth_at_butt-worth-requires : goal.worth_at_butt-worth-requires
+worth_at_butt-worth-requires c = omega (arith, c.in_ok-values.ensures.right.number, c.points-valid.ensures.number)
+
 pub returns-clause-worth : goal.returns-clause-worth
 returns-clause-worth c =
     let p : PreparedParts = c.args.prepared.now in
     let logs : List Log = c.in_ok-logs.logs.items in
     let values : List ℕ = c.in_ok-values.values.items in
     let s = c.points-valid.ensures in
-    let some : 0 < length values = omega (arith, c.in_ok-values.ensures.right.number) in
-    ap (λ (n : ℕ). n / 1024) (c.index.ensures ∙ get_or_default_zero values 0 c.index.result.now some)
+    let same : c.as_slice-2.result.now ≡ values = search rules in
+    c.worth_at_butt-worth.ensures
+    ∙ ap (λ vs. slice_index vs 0 / 1024) same
     ∙ walk_worth p values logs s.sheet s.stem s.codes c.in_ok-values.ensures.right
     (top_again c.values_of.new.prepared p logs c.in_ok-values.ensures.same c.in_ok-logs.ensures)
