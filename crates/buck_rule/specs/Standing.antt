@@ -12,8 +12,8 @@ pub record IsInRange (s : Standing) : Type 0 where
   pub counts : s.counts ≤ 80000000
 
 -- how far a price may lie from its base: the limit is per mille of the base, rounded down
-abbrev pub span : Standing → ℕ
-span s = s.base * s.limit / 1000
+abbrev pub span_of : Standing → ℕ
+span_of s = s.base * s.limit / 1000
 
 -- what was cut of the class, for each log cut and each piece wanted of the assortment
 abbrev pub cut_share : Standing → ℕ

@@ -2,14 +2,11 @@
 //! price relation that each of its answers keeps.
 #![tactic(auto)]
 
-mod callers;
 pub mod laws;
 mod ready;
 mod relation;
 mod rule;
 mod standing;
-#[cfg(test)]
-mod tests;
 
 pub use ready::{linear, steady, step};
 pub use relation::meets;

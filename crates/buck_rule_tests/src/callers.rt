@@ -6,7 +6,7 @@ ghost use Rattle.buck_rule.specs.Relation.{Meets};
 ghost use Rattle.buck_rule.specs.Ready.{steady_of, step_of, linear_of};
 ghost use Rattle.buck_rule.specs.Stored.{AllAnswer};
 
-use crate::{Rule, Standing, linear, meets, steady, step};
+use buck_rule::{Rule, Standing, linear, meets, steady, step};
 
 /// The answer of a rule round `steady`.
 pub(crate) fn by_steady(standing: &Standing) -> u64

@@ -3,7 +3,7 @@ ghost use Rattle.std.specs.Prelude.{◌≤◌};
 ghost use Rattle.buck_rule.specs.Standing.{IsInRange};
 
 use crate::callers::{by_capped_step, by_linear, by_steady, by_step, by_wish};
-use crate::{Standing, linear, meets, steady, step};
+use buck_rule::{Standing, linear, meets, steady, step};
 
 /// A class with a base price of 600 that may shift by half: pieces wanted of four, and the logs cut.
 fn of_four(target: u64, count: u64, counts: u64) -> Standing
