@@ -4,7 +4,7 @@ use Rattle.std.specs.List.{slice_split, list_all}
 use Rattle.std.specs.Char.{is_ascii_digit}
 use Rattle.std.specs.Str.Parse.{digits_value}
 use Rattle.buck_record.specs.Item.{ItemParts}
-use Rattle.buck_record.specs.White.{is_filled, trimmed, first_word, after_word, words}
+use Rattle.buck_record.specs.White.{is_filled, trim, first_word, after_word, words}
 use Rattle.buck_record.specs.Reading.{each_from}
 
 -- what f gives of a value, where there is one
@@ -23,20 +23,20 @@ abbrev pub is_tilde : ℕ → Bool
 is_tilde b = b == 126
 
 -- the parts of a file, trimmed, without the empty ones
-abbrev pub filled : List (List ℕ) → List (List ℕ)
-filled parts = filter is_filled (map trimmed parts)
+abbrev pub filled_parts : List (List ℕ) → List (List ℕ)
+filled_parts parts = filter is_filled (map trim parts)
 
 -- the pieces between tildes
 abbrev pub pieces : List ℕ → List (List ℕ)
-pieces bytes = filled (slice_split is_tilde bytes)
+pieces bytes = filled_parts (slice_split is_tilde bytes)
 
 -- the item of a piece, if it has a head: a number, a kind, and what follows them
 unfoldable pub item_of : List ℕ → Option ItemParts
 item_of piece = do
   number ← number_at_most 65535 (first_word piece)
-  let tail = trimmed (after_word piece)
+  let tail = trim (after_word piece)
   kind ← number_at_most 65535 (first_word tail)
-  Some (record { number = number; kind = kind; rest = trimmed (after_word tail) })
+  Some (record { number = number; kind = kind; rest = trim (after_word tail) })
 
 -- the items of a file, or the place of the first piece with no head
 unfoldable pub items_of : List ℕ → Result (List ItemParts) ℕ
@@ -47,15 +47,15 @@ unfoldable pub numbers_of : List ℕ → Result (List ℕ) ℕ
 numbers_of text = each_from (number_at_most 4294967295) 1 (words text)
 
 -- a first word's number, where there is one and no word follows: else the place of the word that is wrong
-abbrev alone : Option ℕ → List (List ℕ) → Result ℕ ℕ
-alone None more = Err 1
-alone (Some n) [] = Ok n
-alone (Some n) (word ∷ more) = Err 2
+abbrev only_number : Option ℕ → List (List ℕ) → Result ℕ ℕ
+only_number None more = Err 1
+only_number (Some n) [] = Ok n
+only_number (Some n) (word ∷ more) = Err 2
 
 -- the one number of some words: no word is the fault of place 1, and more than one that of place 2
 abbrev pub one_number : ℕ → List (List ℕ) → Result ℕ ℕ
 one_number most [] = Err 1
-one_number most (word ∷ more) = alone (number_at_most most word) more
+one_number most (word ∷ more) = only_number (number_at_most most word) more
 
 -- the one number of a text
 unfoldable pub number_of : ℕ → List ℕ → Result ℕ ℕ

@@ -15,8 +15,8 @@ unfoldable pub trim_end : List ℕ → List ℕ
 trim_end bs = take (length bs - suffix_len is_white bs) bs
 
 -- the bytes without white bytes at both ends
-abbrev pub trimmed : List ℕ → List ℕ
-trimmed bs = trim_end (trim_start bs)
+abbrev pub trim : List ℕ → List ℕ
+trim bs = trim_end (trim_start bs)
 
 -- the bytes up to the first white one
 unfoldable pub first_word : List ℕ → List ℕ

@@ -7,7 +7,7 @@ ghost use Rattle.buck_record.specs.White.{first_word, after_word};
 use crate::white::is_white;
 
 /// The number that a word of digits stands for, where it is at most `most`.
-pub fn number_at_most(most: u64, word: &[u8]) -> Option<u64>
+pub(crate) fn number_at_most(most: u64, word: &[u8]) -> Option<u64>
     ensures value { result ≡ number_at_most most word.now }
     ensures small { IfSome result (λ n. n ≤ most) }
 {
@@ -32,7 +32,7 @@ pub fn number_at_most(most: u64, word: &[u8]) -> Option<u64>
 
 /// Reads the number that a text begins with, in one pass over its digits: the value of the text's first word, and the
 /// bytes after the white byte that ends the word. `None` where the word is no number, or one above `most`.
-pub fn cut_number(most: u64, text: &[u8]) -> Option<(u64, &[u8])>
+pub(crate) fn cut_number(most: u64, text: &[u8]) -> Option<(u64, &[u8])>
     requires word { 0 < length (first_word text.now) }
     requires room { most * 10 + 9 < 2 ^ 64 }
     ensures value { option_map (λ cut. cut.0) result ≡ number_at_most most (first_word text.now) }

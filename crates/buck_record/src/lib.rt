@@ -16,8 +16,6 @@ mod memory;
 mod reading;
 mod slot;
 pub mod table;
-#[cfg(test)]
-mod tests;
 mod white;
 mod words;
 

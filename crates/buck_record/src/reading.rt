@@ -7,7 +7,7 @@ ghost use Rattle.buck_record.specs.Record.{item_of, items_of, numbers_of, number
 use crate::digits::{cut_number, number_at_most};
 use crate::fault::RecordFault;
 use crate::item::{Item, Piece};
-use crate::white::{cut_word, trim_start, trimmed};
+use crate::white::{cut_word, trim, trim_start};
 use crate::words::Words;
 use bstr::ByteSlice;
 use std::alloc::{AllocError, Global};
@@ -20,14 +20,14 @@ fn read_piece<'a>(piece: &'a [u8]) -> Option<Piece<'a>>
     let Some(number) = number_at_most(65535, word) else {
         return None;
     };
-    let (word, after) = cut_word(trimmed(after));
+    let (word, after) = cut_word(trim(after));
     let Some(kind) = number_at_most(65535, word) else {
         return None;
     };
     Some(Piece {
         number: number as u16,
         kind: kind as u16,
-        rest: trimmed(after),
+        rest: trim(after),
     })
 }
 
@@ -43,7 +43,7 @@ pub fn pieces<'a>(alloc: Global, bytes: &'a [u8]) -> Result<Vec<Piece<'a>>, Reco
 {
     let mut held = Vec::new(alloc);
     for part in bytes.split_str(b"~") {
-        let piece = trimmed(part);
+        let piece = trim(part);
         if !piece.is_empty() {
             let Some(item) = read_piece(piece) else {
                 return Err(RecordFault::Head {
@@ -56,7 +56,7 @@ pub fn pieces<'a>(alloc: Global, bytes: &'a [u8]) -> Result<Vec<Piece<'a>>, Reco
     Ok(held)
 }
 
-fn owned(alloc: Global, piece: &Piece<'_>) -> Result<Item, AllocError>
+fn to_item(alloc: Global, piece: &Piece<'_>) -> Result<Item, AllocError>
     ensures { IfOk result (λ item. item ≡ piece.now) }
 {
     Ok(Item {
@@ -66,12 +66,12 @@ fn owned(alloc: Global, piece: &Piece<'_>) -> Result<Item, AllocError>
     })
 }
 
-fn all_owned(alloc: Global, pieces: &[Piece<'_>]) -> Result<Vec<Item>, AllocError>
+fn to_items(alloc: Global, pieces: &[Piece<'_>]) -> Result<Vec<Item>, AllocError>
     ensures { IfOk result (λ items. items.items ≡ pieces.now) }
 {
     let mut held = Vec::with_capacity(alloc, pieces.len())?;
     for piece in pieces {
-        held.push(owned(alloc, piece)?)?;
+        held.push(to_item(alloc, piece)?)?;
     }
     Ok(held)
 }
@@ -81,7 +81,7 @@ pub fn items(alloc: Global, bytes: &[u8]) -> Result<Vec<Item>, RecordFault>
     ensures { Gives Memory (listed result) (with_fault (λ k. Head k) (items_of bytes.now)) }
 {
     let found = pieces(alloc, bytes)?;
-    Ok(all_owned(alloc, found.as_slice())?)
+    Ok(to_items(alloc, found.as_slice())?)
 }
 
 /// The numbers of a text: its words, set apart by white bytes, each of one or more digits and at most 4,294,967,295.

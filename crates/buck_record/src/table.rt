@@ -23,13 +23,13 @@ pub fn count(items: &[Piece<'_>], slot: Slot) -> usize
     items.iter().filter(|item| is_at(item, slot)).count()
 }
 
-fn first<'a>(items: &'a [Piece<'a>], slot: Slot) -> Option<&'a Piece<'a>>
+fn first_in<'a>(items: &'a [Piece<'a>], slot: Slot) -> Option<&'a Piece<'a>>
     ensures { option_copied result ≡ find (is_at slot) items.now }
 {
     items.iter().find(|item| is_at(item, slot))
 }
 
-fn place(items: &[Piece<'_>], slot: Slot) -> Option<usize>
+fn place_of_first(items: &[Piece<'_>], slot: Slot) -> Option<usize>
     ensures { result ≡ position (is_at slot) items.now }
 {
     items.iter().position(|item| is_at(item, slot))
@@ -40,7 +40,7 @@ fn place(items: &[Piece<'_>], slot: Slot) -> Option<usize>
 pub fn rest<'a>(items: &'a [Piece<'a>], slot: Slot) -> &'a [u8]
     ensures { result.now ≡ rest_in slot items.now }
 {
-    match first(items, slot) {
+    match first_in(items, slot) {
         None => &[],
         Some(item) => item.rest,
     }
@@ -64,7 +64,7 @@ pub fn twice(items: &[Piece<'_>], slots: &[Slot]) -> Option<Slot>
 pub fn front<'a>(items: &'a [Piece<'a>], slot: Slot) -> &'a [Piece<'a>]
     ensures { result.now ≡ before_first (is_at slot) items.now }
 {
-    match place(items, slot) {
+    match place_of_first(items, slot) {
         None => items,
         Some(end) => &items[..end],
     }

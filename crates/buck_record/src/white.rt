@@ -1,6 +1,6 @@
 //! White bytes, and texts without them at their ends.
 ghost use Rattle.std.specs.Prelude.{◌≡◌, not, position};
-ghost use Rattle.buck_record.specs.White.{is_white, trim_start, trim_end, trimmed, first_word, after_word};
+ghost use Rattle.buck_record.specs.White.{is_white, trim_start, trim_end, trim, first_word, after_word};
 
 use bstr::ByteSlice;
 
@@ -8,7 +8,7 @@ use bstr::ByteSlice;
 const WHITE: [u8; 4] = [32, 9, 10, 13];
 
 /// Whether the byte is a blank, a tab, a line feed or a carriage return.
-pub fn is_white(byte: u8) -> bool
+pub(crate) fn is_white(byte: u8) -> bool
     ensures { result ≡ is_white byte }
 {
     byte == 32 || byte == 9 || byte == 10 || byte == 13
@@ -27,7 +27,7 @@ fn first_dark(bytes: &[u8]) -> Option<usize>
 }
 
 /// The bytes from the first that is not white on.
-pub fn trim_start(bytes: &[u8]) -> &[u8]
+pub(crate) fn trim_start(bytes: &[u8]) -> &[u8]
     ensures { result.now ≡ trim_start bytes.now }
 {
     match first_dark(bytes) {
@@ -37,7 +37,7 @@ pub fn trim_start(bytes: &[u8]) -> &[u8]
 }
 
 /// The bytes up to the last that is not white.
-pub fn trim_end(bytes: &[u8]) -> &[u8]
+pub(crate) fn trim_end(bytes: &[u8]) -> &[u8]
     ensures { result.now ≡ trim_end bytes.now }
 {
     match bytes.rfind_not_byteset(&WHITE) {
@@ -47,14 +47,14 @@ pub fn trim_end(bytes: &[u8]) -> &[u8]
 }
 
 /// The bytes without white bytes at both ends.
-pub fn trimmed(bytes: &[u8]) -> &[u8]
-    ensures { result.now ≡ trimmed bytes.now }
+pub(crate) fn trim(bytes: &[u8]) -> &[u8]
+    ensures { result.now ≡ trim bytes.now }
 {
     trim_end(trim_start(bytes))
 }
 
 /// The bytes up to the first white one, and those after it.
-pub fn cut_word(bytes: &[u8]) -> (&[u8], &[u8])
+pub(crate) fn cut_word(bytes: &[u8]) -> (&[u8], &[u8])
     ensures word { result.0.now ≡ first_word bytes.now }
     ensures after { result.1.now ≡ after_word bytes.now }
 {

@@ -8,7 +8,7 @@ use std::marker::Model;
 
 /// Goes over the words between white bytes. Contracts see the words that are left.
 #[derive(Drop)]
-pub struct Words<'a> {
+pub(crate) struct Words<'a> {
     text: &'a [u8],
 }
 
@@ -20,7 +20,7 @@ impl<'a> Model for Words<'a> {
 
 impl<'a> Words<'a> {
     /// All words of a text.
-    pub fn of(text: &'a [u8]) -> Words<'a>
+    pub(crate) fn of(text: &'a [u8]) -> Words<'a>
         ensures { result ≡ words text.now }
     {
         Words { text }

@@ -1,0 +1,16 @@
+//! Tests of the public calls of `buck_record`: the worked rows, each sentence on the form of a file, tables of items,
+//! chains of checks and the texts of faults.
+#![tactic(auto)]
+
+#[cfg(test)]
+mod chains;
+#[cfg(test)]
+mod files;
+#[cfg(test)]
+mod long_files;
+#[cfg(test)]
+mod readings;
+#[cfg(test)]
+mod tables;
+#[cfg(test)]
+mod texts;
