@@ -39,11 +39,7 @@ pub(crate) fn reads_as(
 }
 
 /// Whether the item is the first of the file that has no head.
-pub(crate) fn lacks_head(
-    rt: &HostRuntime,
-    bytes: &[u8],
-    item: usize,
-) -> Result<bool, RecordFault> {
+pub(crate) fn lacks_head(rt: &HostRuntime, bytes: &[u8], item: usize) -> Result<bool, RecordFault> {
     let fault = Some(RecordFault::Head { item });
     let borrowed = fault_of(pieces(rt.alloc(), bytes))? == fault;
     let owned = fault_of(items(rt.alloc(), bytes))? == fault;

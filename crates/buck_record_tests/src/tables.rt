@@ -4,8 +4,7 @@ use buck_record::{Group, Piece, Slot, pieces};
 use std::test::Fail;
 
 /// Two groups of a slot `911 1`, after other items.
-pub(crate) const FILE: &[u8] =
-    b"1 2 APT~901 1 100~911 1 saw~912 1 1~911 1 pole~912 1 2~912 1 3~";
+pub(crate) const FILE: &[u8] = b"1 2 APT~901 1 100~911 1 saw~912 1 1~911 1 pole~912 1 2~912 1 3~";
 
 pub(crate) const NAME: Slot = Slot {
     number: 911,
@@ -70,12 +69,12 @@ fn items_in_front(rt: HostRuntime) -> Result<(), Fail> {
 }
 
 /// Whether these are the items of one assortment.
-fn is_assortment(items: &[Piece<'_>], name: &[u8], species: &[u8], length: usize) -> bool {
+fn is_assortment<'a>(items: &'a [Piece<'a>], name: &[u8], species: &[u8], length: usize) -> bool {
     rest(items, NAME) == name && rest(items, SPECIES) == species && items.len() == length
 }
 
 /// Whether these are the two assortments of the file.
-fn are_assortments(groups: &[Group<'_>]) -> bool {
+fn are_assortments<'a>(groups: &[Group<'a>]) -> bool {
     match groups {
         [saw, pole] => {
             is_assortment(saw.items(), b"saw", b"1", 2)

@@ -40,7 +40,10 @@ fn one_number_of_a_text(rt: HostRuntime) {
 #[test]
 fn one_wide_number_of_a_text(rt: HostRuntime) {
     for (text, wanted) in [
-        (b" 18446744073709551615 ".as_slice(), Ok(18446744073709551615)),
+        (
+            b" 18446744073709551615 ".as_slice(),
+            Ok(18446744073709551615),
+        ),
         (b"18446744073709551616", Err(FIRST)),
         (b"", Err(FIRST)),
     ] {
