@@ -12,8 +12,6 @@ mod presence;
 mod reading;
 mod rules;
 mod slots;
-#[cfg(test)]
-mod tests;
 
 pub use assortment::Assortment;
 pub use class::Class;

@@ -1,5 +1,7 @@
 //! The places of classes.
-use super::*;
+use crate::cases::both;
+use buck_apt::{Class, Instruction, read_apt};
+use std::test::Fail;
 
 /// The place of a class, where it is one of the instruction's.
 fn place(instruction: &Instruction, class: Class) -> Option<usize> {
@@ -15,7 +17,7 @@ fn place(instruction: &Instruction, class: Class) -> Option<usize> {
 
 #[test]
 fn places_of_classes(rt: HostRuntime) -> Result<(), Fail> {
-    let text = both_with(&rt, &[])?;
+    let text = both(rt.alloc())?;
     let both = read_apt(rt.alloc(), text.as_bytes())?;
     for (want, assortment, row, column) in [
         (0, 0, 0, 0),
