@@ -8,6 +8,7 @@ mod lines;
 mod profile;
 mod reading;
 mod runs;
+mod same;
 mod stem;
 
 pub use fault::StmFault;
