@@ -13,6 +13,7 @@ use Rattle.buck_book.specs.Entry.{EntryParts}
 use Rattle.buck_book.specs.Counts.{class_logs, assortment_logs, count_of, assortment_count_of, calls_of}
 use Rattle.buck_book.specs.Running.{AreCounts, AreAtMost, AreCalls, AreGrown, AreGrownBy, tally_of}
 use Rattle.buck_book.specs.Pricing.{CanStand}
+use Rattle.buck_book.specs.inner.Pricing.{CanPrice}
 use Rattle.buck_book.proofs.Cuts.{tallied, class_logs-le}
 
 -- all counts are 0 before the first entry
@@ -90,6 +91,14 @@ can_stand i es by_class by_assortment counts low = record {
       let there : c.assortment < length i.assortments = slice_get_within i.assortments c.assortment k.assortment k.exists in
       omega (arith, counts.class_counts c k, counts.assortment_counts c.assortment there, count_of-le i c es);
   bounded = low.assortment_counts;
+}
+
+-- by counts that are right and low prices can be made
+pub can_price : (i : InstructionParts) (es : List EntryParts) (by_class by_assortment : List ℕ) → AreCounts i es by_class by_assortment → AreAtMost 80000000 by_class by_assortment → CanPrice i by_class by_assortment
+can_price i es by_class by_assortment counts low = record {
+  classes_number = counts.classes_number;
+  assortments_number = counts.assortments_number;
+  stand = can_stand i es by_class by_assortment counts low;
 }
 
 -- the numbers of calls after one entry more

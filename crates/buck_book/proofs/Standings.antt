@@ -1,13 +1,13 @@
 -- How classes stand, and the prices that are answered to that.
-use Rattle.std.proofs.Common.{◌≡◌, ℕ, ◌*◌, ◌<◌, ◌≤◌, inl, inr, List, [], ◌∷◌, ◌++◌, length, take, get_or, slice_index, sum, sum_by, refl, sym, ◌∙◌, ap, subst, arith, mul_comm, mul-le-mul_left}
+use Rattle.std.proofs.Common.{◌≡◌, ℕ, ◌+◌, ◌*◌, ◌<◌, ◌≤◌, inl, inr, List, [], ◌∷◌, ◌++◌, length, take, get_or, slice_index, slice_get, Some, sum, sum_by, refl, sym, ◌∙◌, ap, subst, arith, mul_comm, mul-le-mul_left}
 use Rattle.std.specs.List.{flat_map, AllByRecursion}
 use Rattle.std.proofs.lemmas.Bool.{cases_order, cases_lt}
 use Rattle.std.proofs.lemmas.Nat.{mul-add-lt}
 use Rattle.std.proofs.lemmas.List.{get_or_push, get_or_append_left, length_push}
 use Rattle.std.proofs.lemmas.List.Concat.{length-flat_map}
-use Rattle.std.proofs.lemmas.List.Sums.{sum_by-cons, get_or-le-sum_by}
+use Rattle.std.proofs.lemmas.List.Sums.{sum_by-cons, sum_by_more, get_or-le-sum_by}
 use Rattle.std.proofs.lemmas.List.Elements.{All-get_or, All-take, recursion_from_All}
-use Rattle.std.proofs.lemmas.Option.{slice_get_within, get_or_from_slice_get, same_Some, slice_get-get_or}
+use Rattle.std.proofs.lemmas.Option.{slice_get_within, get_or_from_slice_get, same_Some}
 use denote.Ref.{Bor}
 use denote.Param.Members.{Shared}
 use Rattle.buck_apt.specs.declared.class.Class.{Class}
@@ -23,6 +23,7 @@ use Rattle.buck_book.specs.History.{standing_at, standing_of, place_in, PricesMe
 use Rattle.buck_book.specs.Entry.{EntryParts}
 use Rattle.buck_book.specs.Running.{AreCounts}
 use Rattle.buck_book.specs.Pricing.{IsAnswer, ArePriced, AreAnswers, standing_by}
+use Rattle.buck_book.specs.inner.Pricing.{CanPrice, IsClassOf}
 use Rattle.std.specs.Fn.{FnReturnsAt}
 use Rattle.buck_book.proofs.Places.{inner_is, one_place, place_lt}
 
@@ -121,20 +122,42 @@ meets_low s price r m =
     let h : s.base * s.limit ≤ s.base * 1000 = mul-le-mul_left s.base r.limit in
     omega (arith, w.1, r.base)
 
-abbrev pub nothing : AssortmentParts
-nothing = record { name = []; species = 0; grades = []; price_kind = 0; diameters = []; upper = 0; lengths = []; prices = []; targets = [] }
+-- a class of an assortment is a class of the instruction
+abbrev pub class_in : (i : InstructionParts) (a : AssortmentParts) (c : Class) → IsClassOf i a c → IsClass i c
+class_in i a c k = record { assortment = a; exists = k.exists; row = k.row; column = k.column }
 
 -- the first class of a row
-abbrev pub first_of_row : (i : InstructionParts) (at row : ℕ) → IsInstruction i → at < length i.assortments → row < length (get_or i.assortments at nothing).diameters
-    → IsClass i (record { assortment = at; row = row; column = 0 })
-first_of_row i at row v lt in_row =
-    let w : IsAssortment (get_or i.assortments at nothing) = All-get_or IsAssortment i.assortments at nothing lt v.assortments_valid in
-    record {
-      assortment = get_or i.assortments at nothing;
-      exists = slice_get-get_or i.assortments at nothing lt;
-      row = in_row;
-      column = w.columns.0;
-    }
+pub first_of_row : (i : InstructionParts) (a : AssortmentParts) (at row : ℕ) → IsAssortment a → slice_get i.assortments at ≡ Some a → row < length a.diameters
+    → IsClassOf i a (record { assortment = at; row = row; column = 0 })
+first_of_row i a at row v exists in_row = record { exists = exists; row = in_row; column = v.columns.0 }
+
+-- the classes before the next assortment are those before this one, and its own
+pub before_next : (i : InstructionParts) (a : AssortmentParts) (at : ℕ) → slice_get i.assortments at ≡ Some a
+    → classes_before i (at + 1) ≡ classes_before i at + length a.diameters * length a.lengths
+before_next i a at exists =
+    let lt : at < length i.assortments = slice_get_within i.assortments at a exists in
+    sum_by_more classes_of i.assortments at a lt
+    ∙ ap (λ x. classes_before i at + classes_of x) (get_or_from_slice_get i.assortments at a a exists)
+
+-- a class has a count of its own, and so has its assortment
+pub has_counts : (i : InstructionParts) (a : AssortmentParts) (c : Class) (by_class by_assortment : List ℕ) → IsClassOf i a c → CanPrice i by_class by_assortment
+    → (index_of i c < length by_class) × (c.assortment < length by_assortment)
+has_counts i a c by_class by_assortment k can =
+    (omega (arith, place_lt i c (class_in i a c k), can.classes_number), omega (arith, slice_get_within i.assortments c.assortment a k.exists, can.assortments_number))
+
+-- how a class stands by the two counts that were read is how it stands by all of them
+pub stands_by : (i : InstructionParts) (a : AssortmentParts) (c : Class) (by_class by_assortment : List ℕ) (count counts : ℕ)
+    → count ≡ slice_index by_class (index_of i c) → counts ≡ slice_index by_assortment c.assortment
+    → standing_at i a c count counts ≡ standing_by i a c by_class by_assortment
+stands_by i a c by_class by_assortment count counts own all =
+    λ j. record { base = slice_index a.prices (place_in a c); limit = i.limit; target = slice_index a.targets (place_in a c); targets = sum a.targets; count = own j; counts = all j }
+
+-- by running counts that can be a history's, a class stands in range
+pub stands_in_range : (i : InstructionParts) (a : AssortmentParts) (c : Class) (by_class by_assortment : List ℕ) → IsInstruction i → IsClassOf i a c → CanPrice i by_class by_assortment
+    → IsInRange (standing_by i a c by_class by_assortment)
+stands_in_range i a c by_class by_assortment v k can =
+    let l = class_in i a c k in
+    in_range i c (slice_index by_class (index_of i c)) (slice_index by_assortment c.assortment) v l (can.stand.class_within c l) (can.stand.bounded c.assortment)
 
 -- by running counts that are right, a class stands as it does after the entries
 pub standing_is : (i : InstructionParts) (es : List EntryParts) (by_class by_assortment : List ℕ) (c : Class) → AreCounts i es by_class by_assortment → (k : IsClass i c)

@@ -6,3 +6,4 @@ pub mod Running
 pub mod Pricing
 pub mod Book
 pub mod Refused
+pub mod inner

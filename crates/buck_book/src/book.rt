@@ -61,6 +61,14 @@ fn base_sheets(alloc: Global, instruction: Arc<Instruction>) -> Result<Vec<Arc<S
     Ok(sheets)
 }
 
+/// Adds an entry, where there is memory for it.
+fn add_entry(entries: &mut Vec<Entry>, entry: Entry)
+    requires { vec_len entries.old < vec_capacity entries.old }
+    ensures { entries.new.items ≡ entries.old.items ++ entry ∷ [] }
+{
+    entries.push_reserved(entry);
+}
+
 /// Adds a sheet, if there is one, where there is memory for it.
 fn add_sheet(sheets: &mut Vec<Arc<Sheet>>, next: Option<Arc<Sheet>>)
     requires { IfSome next (λ _. vec_len sheets.old < vec_capacity sheets.old) }
@@ -258,14 +266,15 @@ impl<F: Drop> Book<F> {
         self.counts.add(tally.as_slice(), cutting.logs.as_slice());
         let caller = (harvester - 1) as usize;
         self.calls[caller] = number;
-        self.entries.push_reserved(Entry {
+        let stored = Entry {
             harvester,
             number,
             stem: stored_stem,
             version,
             cutting: stored_cutting,
             worth,
-        });
+        };
+        add_entry(&mut self.entries, stored);
         add_sheet(&mut self.sheets, next);
         Entry {
             harvester,

@@ -33,37 +33,6 @@ impl Model for Entry {
     ghost view = { λ e. record { harvester = e.harvester; number = e.number; stem = e.stem.value; version = e.version; logs = e.cutting.value.logs.items; worth = e.worth } };
 }
 
-/// Whether two lists of zones are equal.
-fn same_zones(these: &[(u32, u8)], those: &[(u32, u8)]) -> bool
-    ensures { IsTrue result ↔ (these.now ≡ those.now) }
-{
-    if these.len() != those.len() {
-        return false;
-    }
-    for i in 0..these.len() {
-        if these[i].0 != those[i].0 {
-            return false;
-        }
-        if these[i].1 != those[i].1 {
-            return false;
-        }
-    }
-    true
-}
-
-/// Whether two logs are equal.
-fn same_log(this: &Log, that: &Log) -> bool
-    ensures { IsTrue result ↔ (this.now ≡ that.now) }
-{
-    if this.start != that.start {
-        return false;
-    }
-    if this.length != that.length {
-        return false;
-    }
-    this.assortment == that.assortment
-}
-
 /// Whether two lists of logs are equal.
 fn same_logs(these: &[Log], those: &[Log]) -> bool
     ensures { IsTrue result ↔ (these.now ≡ those.now) }
@@ -72,27 +41,11 @@ fn same_logs(these: &[Log], those: &[Log]) -> bool
         return false;
     }
     for i in 0..these.len() {
-        if !same_log(&these[i], &those[i]) {
+        if these[i] != those[i] {
             return false;
         }
     }
     true
-}
-
-/// Whether all parts of two stems are equal.
-fn same_stem(a: &Stem, b: &Stem) -> bool
-    ensures { IsTrue result ↔ (a.now ≡ b.now) }
-{
-    if a.number() != b.number() {
-        return false;
-    }
-    if a.species() != b.species() {
-        return false;
-    }
-    if a.samples() != b.samples() {
-        return false;
-    }
-    same_zones(a.zones(), b.zones())
 }
 
 impl Entry {
@@ -128,7 +81,7 @@ impl Entry {
         if self.worth != other.worth {
             return false;
         }
-        if !same_stem(&self.stem, &other.stem) {
+        if !self.stem.same(&other.stem) {
             return false;
         }
         same_logs(self.cutting.logs.as_slice(), other.cutting.logs.as_slice())

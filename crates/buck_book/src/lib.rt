@@ -2,15 +2,12 @@
 #![tactic(auto)]
 
 mod book;
-mod callers;
 mod counts;
 mod entry;
 pub mod laws;
 mod plan;
 mod pricing;
 mod ready;
-#[cfg(test)]
-mod tests;
 
 pub use book::Book;
 pub use entry::Entry;

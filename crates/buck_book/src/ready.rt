@@ -7,8 +7,10 @@ use buck_record::Memory;
 use buck_stem::Stem;
 use buck_value::Sheet;
 use std::alloc::AllocError;
+use std::fmt::{self, Debug, Formatter};
 use std::marker::Model;
 use std::sync::Arc;
+use thiserror::Error;
 
 /// All that the commit of one plan stores or hands out, made before the commit. Dropping it leaves the book as it is.
 #[derive(Drop)]
@@ -38,14 +40,27 @@ impl Ready {
 }
 
 /// Why a plan is refused. The book is then as before.
-#[derive(Drop)]
+#[derive(Drop, Error)]
 pub enum Refusal {
     /// The history is at its capacity. It comes before `Stale`.
+    #[error("the history is at its capacity")]
     Full,
     /// The plan was made under another sheet than the one in force, which is given back.
+    #[error("the plan was made under another sheet than the one in force")]
     Stale { in_force: Arc<Sheet> },
     /// A growth was refused.
+    #[error("out of memory")]
     Memory,
+}
+
+impl Debug for Refusal {
+    fn fmt<W: fmt::Write>(&self, f: &mut Formatter<W>) -> fmt::Result {
+        match self {
+            Refusal::Full => f.write_str("Full"),
+            Refusal::Stale { in_force } => write!(f, "Stale {{ version: {} }}", in_force.version()),
+            Refusal::Memory => f.write_str("Memory"),
+        }
+    }
 }
 
 impl From<AllocError> for Refusal {

@@ -38,7 +38,7 @@ invariant_of-self g c =
     _ _ _ _ _ _ _ _ _ _
     (values_added (λ a. a.value) _ _ _ _ c.add_sheet.ensures next)
     (prices_added (λ a. a.value) _ _ _ _ c.add_sheet.ensures next)
-    c.push_reserved.ensures.items
+    c.add_entry.ensures
     (entry_same _ _ refl number (ap (λ (x : ReadyParts). x.stem) c.ready.view_is ∙ ready.made.same_stem) (rw (sym c.self.view_is) at c.version-version.ensures)
     (ap (λ (x : ReadyParts). x.logs) c.ready.view_is ∙ ready.made.same_logs) c.into_parts-stem.ensures.worth)
     classes_grown assortments_grown number refl

@@ -2,27 +2,18 @@ use Rattle.std.proofs.Common.{◌≡◌, ◌+◌, ℕ, length, sym, ◌∙◌, a
 use Rattle.buck_apt.specs.Instruction.{classes}
 use Rattle.buck_value.specs.Sheet.{IsSheetFault, sheet_of}
 use Rattle.buck_book.specs.Book.{BookParts, entries_with}
-use Rattle.buck_book.specs.Pricing.{CanStand, AreAnswers}
-use Rattle.buck_book.proofs.Counting.{can_stand}
+use Rattle.buck_book.specs.Pricing.{AreAnswers}
+use Rattle.buck_book.specs.inner.Pricing.{CanPrice}
+use Rattle.buck_book.proofs.Counting.{can_price}
 use Rattle.buck_book.proofs.Standings.{no_fault}
 use Rattle.buck_book.proofs.Books.{is_next_sheet, next_answers}
 use Rattle.buck_book.proofs.book.Book.next_sheet.Goals as goal
 
-pub prices_by-requires-clause-classes : goal.prices_by-requires-clause-classes
-prices_by-requires-clause-classes g c =
-    let same : c.deref.result.now ≡ c.args.self.now.instruction = c.deref.ensures ∙ ap (λ (b : BookParts g.row.F.Denot). b.instruction) c.self.view_is in
-    (c.in_ok-counts.ensures.right 0).classes_number ∙ ap (λ i. classes i) (sym same)
-
-pub prices_by-requires-clause-assortments : goal.prices_by-requires-clause-assortments
-prices_by-requires-clause-assortments g c =
-    let same : c.deref.result.now ≡ c.args.self.now.instruction = c.deref.ensures ∙ ap (λ (b : BookParts g.row.F.Denot). b.instruction) c.self.view_is in
-    (c.in_ok-counts.ensures.right 0).assortments_number ∙ ap (λ i. length i.assortments) (sym same)
-
-pub prices_by-requires-clause-stand : goal.prices_by-requires-clause-stand
-prices_by-requires-clause-stand g c =
+pub prices_by-requires-clause-counts : goal.prices_by-requires-clause-counts
+prices_by-requires-clause-counts g c =
     let n = c.in_ok-counts.counts in
     let same : c.deref.result.now ≡ c.args.self.now.instruction = c.deref.ensures ∙ ap (λ (b : BookParts g.row.F.Denot). b.instruction) c.self.view_is in
-    subst (λ i. CanStand i n.by_class.items n.by_assortment.items) (sym same) (can_stand _ _ n.by_class.items n.by_assortment.items (c.in_ok-counts.ensures.right 0) c.in_ok-counts.ensures.low)
+    subst (λ i. CanPrice i n.by_class.items n.by_assortment.items) (sym same) (can_price _ _ n.by_class.items n.by_assortment.items (c.in_ok-counts.ensures.right 0) c.in_ok-counts.ensures.low)
 
 pub unreachable-requires : goal.unreachable-requires
 unreachable-requires g c =

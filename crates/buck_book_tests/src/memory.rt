@@ -1,0 +1,45 @@
+//! Refused memory: a book is then as before. Run with each allocation failing in turn.
+ghost use Rattle.std.specs.Prelude.{◌≡◌};
+ghost use Rattle.buck_rule.specs.Stored.{Answers};
+
+use crate::fixtures::*;
+use buck_book::{Book, Plan, Refusal};
+use buck_rule::{Rule, Standing, step};
+use std::test::Fail;
+
+/// Whether a book is that of one stem.
+fn is_after_one_stem<F: Drop>(book: &Book<F>) -> bool {
+    book.calls(1) == 1
+        && has_entries(book, &[OneLog(1, 0, 4000, LONG)])
+        && has_sheets(book, &[[400, 500, 600, 800], [600, 750, 900, 400]])
+        && has_counts(book, [0, 0, 0, 1])
+}
+
+/// Whether a plan is prepared, or refused for want of memory.
+fn is_ready_or_memory<F: Fn(&Standing) -> u64>(
+    rt: &HostRuntime,
+    book: &mut Book<F>,
+    plan: &Plan,
+) -> bool
+    requires { Answers F.Fn book.old.rule }
+    ensures { book.new.rule ≡ book.old.rule }
+{
+    match book.prepare(rt.alloc(), plan) {
+        Ok(_) => true,
+        Err(refusal) => matches!(refusal, Refusal::Memory),
+    }
+}
+
+#[test]
+fn refused_memory(rt: HostRuntime) -> Result<(), Fail> {
+    let rule = Rule::new(|s: &Standing| step(s));
+    let mut book = saw_day(&rt, rule, (1, 500, "1 1 1 1"), 41, 1)?;
+    let stem = stem_of_samples(&rt, 41)?;
+    let plan = plan_for(&rt, &book, &stem)?;
+    assert!(rt; is_after_one_stem(&book));
+    assert!(rt; is_ready_or_memory(&rt, &mut book, &plan));
+    assert!(rt; is_after_one_stem(&book));
+    let second = commit(&rt, &mut book, plan)?;
+    assert!(rt; is_one_log(&second, &OneLog(2, 1, 3000, 132_535_800)));
+    Ok(())
+}
