@@ -5,3 +5,4 @@ pub mod Record
 pub mod Table
 pub mod Check
 pub mod Written
+pub mod Line

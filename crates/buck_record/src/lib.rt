@@ -2,7 +2,7 @@
 //!
 //! [`pieces`] and [`items`] read a file, [`numbers`], [`number`] and [`wide`] the rest of an item. [`table`] looks items
 //! up by number and kind, [`check`] chains the checks of a reader that stands on this crate, and [`laws`] says that what
-//! is written is read again.
+//! is written is read again. [`put_number`], [`put_numbers`] and [`put_line`] write.
 #![tactic(auto)]
 
 pub mod check;
@@ -11,6 +11,7 @@ mod fault;
 mod group;
 mod item;
 pub mod laws;
+mod line;
 mod listed;
 mod memory;
 mod reading;
@@ -22,6 +23,7 @@ mod words;
 pub use fault::RecordFault;
 pub use group::Group;
 pub use item::{Item, Piece};
+pub use line::{put_line, put_number, put_numbers};
 pub use listed::Listed;
 pub use memory::Memory;
 pub use reading::{items, number, numbers, pieces, wide};
