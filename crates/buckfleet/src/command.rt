@@ -1,15 +1,15 @@
 //! The command line.
+use buck_engine::Task;
 use clap::{Arg, ArgAction, ArgMatches, Command, Error};
 use std::alloc::Global;
 
-/// What the words ask for.
-#[derive(Debug, Drop)]
-pub enum Task<'a> {
-    /// Both files stand on standard input, with a `|` between them.
-    Bare,
-    /// The files of these names.
-    Buck { apt: &'a str, stm: &'a str },
-}
+/// What comes out of a run, and how it ends.
+const ENDINGS: &str =
+    "Prints for each stem a STEM line and a LOG line for each of its logs, and last a TOTAL line.
+
+Exit statuses: 0 all was printed, 1 a file is refused, 2 the words of the command line are wrong, 3 memory ran out,
+5 a file can't be read or the output can't be written. After 1, 3 and 5 one line on standard error says what went
+wrong: see \"Fault lines and exit statuses\" in docs/FORMATS.md.";
 
 fn file<'a>(alloc: Global, name: &'a str, help: &'a str) -> Arg<'a> {
     Arg::new(alloc, name)
@@ -21,7 +21,10 @@ fn file<'a>(alloc: Global, name: &'a str, help: &'a str) -> Arg<'a> {
 fn buck<'a>(alloc: Global) -> Result<Command<'a>, Error> {
     Ok(
         Command::new(alloc, "buck")
-            .about("Prints the best cutting of each stem under the base prices")
+            .about(
+                "Cuts each stem of a stem file into logs of the greatest worth under the base prices",
+            )
+            .after_help(ENDINGS)
             .arg(file(alloc, "APT", "The instruction file"))?
             .arg(file(alloc, "STM", "The stem file"))?,
     )
@@ -31,10 +34,10 @@ fn command<'a>(alloc: Global) -> Result<Command<'a>, Error> {
     Ok(
         Command::new(alloc, "buckfleet")
             .version("0.1.0")
-            .about("Bucks stems to the greatest worth")
-            .after_help(
-                "Without a command, an instruction file, a | and a stem file are read from standard input.",
+            .about(
+                "Cuts each stem of a stem file into logs of the greatest worth by an instruction file. Without a command, an instruction file, a | and a stem file are read from standard input.",
             )
+            .after_help(ENDINGS)
             .subcommand(buck(alloc)?)?,
     )
 }

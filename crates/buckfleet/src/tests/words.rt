@@ -1,5 +1,9 @@
 //! What the words of the command line ask for.
-use super::*;
+use crate::command::parse;
+use crate::explain_words;
+use buck_engine::Task;
+use clap::error::ErrorKind;
+use std::test::Fail;
 
 /// The words after the program's name.
 fn words(rt: &HostRuntime, line: &str) -> Result<Vec<String>, Fail> {
@@ -17,6 +21,20 @@ fn refusal(rt: &HostRuntime, line: &str) -> Result<Option<ErrorKind>, Fail> {
     match parse(rt.alloc(), all.as_slice()) {
         Ok(_) => Ok(None),
         Err(error) => Ok(Some(error.kind())),
+    }
+}
+
+/// The exit status after words that ask for nothing, and whether something stands on the output and on the errors.
+fn ending(rt: &HostRuntime, line: &str) -> Result<(u8, bool, bool), Fail> {
+    let all = words(rt, line)?;
+    let mut output = Vec::new(rt.alloc());
+    let mut errors = Vec::new(rt.alloc());
+    match parse(rt.alloc(), all.as_slice()) {
+        Ok(_) => Err(Fail::from("a task")),
+        Err(error) => {
+            let status = explain_words(rt.alloc(), &mut output, &mut errors, &error);
+            Ok((status, !output.is_empty(), !errors.is_empty()))
+        }
     }
 }
 
@@ -40,23 +58,30 @@ fn no_words(rt: HostRuntime) -> Result<(), Fail> {
 
 #[test]
 fn usage_faults(rt: HostRuntime) -> Result<(), Fail> {
-    assert_eq!(rt;
-        refusal(&rt, "pine.apt")?,
-        Some(ErrorKind::InvalidSubcommand)
-    );
-    let missing = Some(ErrorKind::MissingRequiredArgument);
-    assert_eq!(rt; refusal(&rt, "buck")?, missing);
-    assert_eq!(rt; refusal(&rt, "buck pine.apt")?, missing);
-    let unknown = Some(ErrorKind::UnknownArgument);
-    assert_eq!(rt; refusal(&rt, "buck pine.apt pine.stm more")?, unknown);
-    assert_eq!(rt; refusal(&rt, "buck --fast pine.apt pine.stm")?, unknown);
+    let missing = ErrorKind::MissingRequiredArgument;
+    let unknown = ErrorKind::UnknownArgument;
+    for (line, kind) in [
+        ("pine.apt", ErrorKind::InvalidSubcommand),
+        ("buck", missing),
+        ("buck pine.apt", missing),
+        ("buck pine.apt pine.stm more", unknown),
+        ("buck --fast pine.apt pine.stm", unknown),
+    ] {
+        assert!(rt; refusal(&rt, line)? == Some(kind), "{line}");
+        assert!(rt; ending(&rt, line)? == (2, false, true), "{line}");
+    }
     Ok(())
 }
 
 #[test]
 fn help_and_version(rt: HostRuntime) -> Result<(), Fail> {
-    assert_eq!(rt; refusal(&rt, "--help")?, Some(ErrorKind::DisplayHelp));
-    assert_eq!(rt; refusal(&rt, "buck --help")?, Some(ErrorKind::DisplayHelp));
-    assert_eq!(rt; refusal(&rt, "--version")?, Some(ErrorKind::DisplayVersion));
+    for (line, kind) in [
+        ("--help", ErrorKind::DisplayHelp),
+        ("buck --help", ErrorKind::DisplayHelp),
+        ("--version", ErrorKind::DisplayVersion),
+    ] {
+        assert!(rt; refusal(&rt, line)? == Some(kind), "{line}");
+        assert!(rt; ending(&rt, line)? == (0, true, false), "{line}");
+    }
     Ok(())
 }

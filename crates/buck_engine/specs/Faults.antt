@@ -1,0 +1,70 @@
+-- What the program says of a fault: its line on standard error and the exit status.
+use Rattle.std.specs.Prelude.{ℕ, List, [], ◌∷◌, ◌++◌, codes}
+use Rattle.buck_record.specs.Written.{spelled}
+use Rattle.buck_record.specs.Line.{line_of}
+use Rattle.buck_apt.specs.declared.fault.AptFault.{AptFault}
+use Rattle.buck_apt.specs.declared.fault.AptFault.TheVariants as apt
+use Rattle.buck_stem.specs.declared.fault.StmFault.{StmFault}
+use Rattle.buck_stem.specs.declared.fault.StmFault.TheVariants as stm
+use Rattle.buck_engine.specs.declared.fault.EngineFault.{EngineFault}
+use Rattle.buck_engine.specs.declared.fault.EngineFault.TheVariants.{Read, Write, Apt, Stm, Memory}
+
+abbrev pub memory_line : List ℕ
+memory_line = codes "memory\n"
+
+-- the line of an instruction file's fault: its number, then its fields in the order of their definition
+abbrev pub apt_numbered : List ℕ → List ℕ
+apt_numbered numbers = line_of (codes "apt fault") numbers
+
+abbrev pub apt_line : AptFault → List ℕ
+apt_line (apt.Head item) = apt_numbered (1 ∷ item ∷ [])
+apt_line apt.NotApt = apt_numbered (2 ∷ [])
+apt_line (apt.Missing number kind) = apt_numbered (3 ∷ number ∷ kind ∷ [])
+apt_line (apt.Twice number kind) = apt_numbered (4 ∷ number ∷ kind ∷ [])
+apt_line (apt.Digits number kind place) = apt_numbered (5 ∷ number ∷ kind ∷ place ∷ [])
+apt_line (apt.Range number kind) = apt_numbered (6 ∷ number ∷ kind ∷ [])
+apt_line (apt.Order number kind) = apt_numbered (7 ∷ number ∷ kind ∷ [])
+apt_line (apt.Count number kind) = apt_numbered (8 ∷ number ∷ kind ∷ [])
+apt_line (apt.Module length) = apt_numbered (9 ∷ length ∷ [])
+apt_line (apt.Targets assortment) = apt_numbered (10 ∷ assortment ∷ [])
+apt_line apt.Memory = memory_line
+
+-- the same of a stem file: the file's number stands before the fault's
+abbrev pub stm_numbered : ℕ → List ℕ → List ℕ
+stm_numbered file numbers = codes "stm" ++ (spelled (file ∷ []) ++ line_of (codes " fault") numbers)
+
+abbrev pub stm_line : ℕ → StmFault → List ℕ
+stm_line file (stm.Head item) = stm_numbered file (1 ∷ item ∷ [])
+stm_line file stm.NotStm = stm_numbered file (2 ∷ [])
+stm_line file (stm.Missing number kind) = stm_numbered file (3 ∷ number ∷ kind ∷ [])
+stm_line file (stm.Twice number kind) = stm_numbered file (4 ∷ number ∷ kind ∷ [])
+stm_line file (stm.Digits number kind place) = stm_numbered file (5 ∷ number ∷ kind ∷ place ∷ [])
+stm_line file (stm.Range number kind) = stm_numbered file (6 ∷ number ∷ kind ∷ [])
+stm_line file (stm.Order number kind) = stm_numbered file (7 ∷ number ∷ kind ∷ [])
+stm_line file (stm.Count number kind) = stm_numbered file (8 ∷ number ∷ kind ∷ [])
+stm_line file stm.Memory = memory_line
+
+-- the line of a fault
+abbrev pub fault_line : EngineFault → List ℕ
+fault_line (Read file) = line_of (codes "read fault") (file ∷ [])
+fault_line Write = codes "write fault\n"
+fault_line (Apt fault) = apt_line fault
+fault_line (Stm file fault) = stm_line file fault
+fault_line Memory = memory_line
+
+-- the exit status after a refused file: 3 where memory ran out in place of the refusal
+abbrev pub apt_status : AptFault → ℕ
+apt_status apt.Memory = 3
+apt_status _ = 1
+
+abbrev pub stm_status : StmFault → ℕ
+stm_status stm.Memory = 3
+stm_status _ = 1
+
+-- the exit status after a fault
+abbrev pub status_of : EngineFault → ℕ
+status_of (Read file) = 5
+status_of Write = 5
+status_of (Apt fault) = apt_status fault
+status_of (Stm file fault) = stm_status fault
+status_of Memory = 3

@@ -1,0 +1,99 @@
+//! Why a run failed, and what is said of it.
+ghost use Rattle.std.specs.Prelude.{◌≡◌};
+ghost use Rattle.buck_engine.specs.declared.fault.EngineFault.TheVariants.{Memory};
+ghost use Rattle.buck_engine.specs.Faults.{status_of};
+
+use buck_apt::AptFault;
+use buck_record::Memory;
+use buck_stem::StmFault;
+use std::alloc::{AllocError, AllocFailed};
+use thiserror::Error;
+
+/// Why a run gave no answer. File 0 is the instruction file, file k the k-th after it.
+#[derive(Clone, Copy, Debug, PartialEq, Eq, Error)]
+pub enum EngineFault {
+    /// A file can't be opened or read, or is longer than 67,108,864 bytes.
+    #[error("file {file} can't be read")]
+    Read { file: u32 },
+    /// The output can't be written; a prefix of the text may have been.
+    #[error("the output can't be written")]
+    Write,
+    /// The bytes of the instruction file are refused.
+    #[error("the instruction is refused: {0}")]
+    Apt(AptFault),
+    /// The bytes of a stem file are refused.
+    #[error("the stems of file {file} are refused: {fault}")]
+    Stm { file: u32, fault: StmFault },
+    /// A growth was refused. It may come in place of any answer.
+    #[error("out of memory")]
+    Memory,
+}
+
+/// Why there is no text.
+#[derive(Clone, Copy, Debug, PartialEq, Eq, Error)]
+pub enum TextFault {
+    /// A growth was refused.
+    #[error("out of memory")]
+    Memory,
+}
+
+impl From<AllocError> for EngineFault {
+    ghost from_gives = { λ _ e. e ≡ Memory };
+
+    fn from(_e: AllocError) -> EngineFault {
+        EngineFault::Memory
+    }
+}
+
+impl<T: Drop> From<AllocFailed<T>> for EngineFault {
+    ghost from_gives = { λ _ e. e ≡ Memory };
+
+    fn from(_e: AllocFailed<T>) -> EngineFault {
+        EngineFault::Memory
+    }
+}
+
+impl From<Memory> for EngineFault {
+    ghost from_gives = { λ _ e. e ≡ Memory };
+
+    fn from(_e: Memory) -> EngineFault {
+        EngineFault::Memory
+    }
+}
+
+impl From<TextFault> for EngineFault {
+    ghost from_gives = { λ _ e. e ≡ Memory };
+
+    fn from(_e: TextFault) -> EngineFault {
+        EngineFault::Memory
+    }
+}
+
+impl From<AllocError> for TextFault {
+    fn from(_e: AllocError) -> TextFault {
+        TextFault::Memory
+    }
+}
+
+impl From<Memory> for TextFault {
+    fn from(_e: Memory) -> TextFault {
+        TextFault::Memory
+    }
+}
+
+/// The exit status of the program after a fault: 1 where a file was refused, 3 where memory ran out, also while a
+/// file was read, and 5 where a file couldn't be read or the output couldn't be written.
+pub fn status(fault: &EngineFault) -> u8
+    ensures { result ≡ status_of fault.now }
+{
+    match fault {
+        EngineFault::Read { .. } | EngineFault::Write => 5,
+        EngineFault::Apt(AptFault::Memory)
+        | EngineFault::Stm {
+            fault: StmFault::Memory,
+            ..
+        }
+        | EngineFault::Memory => 3,
+        EngineFault::Apt(_) | EngineFault::Stm { .. } => 1,
+    }
+}

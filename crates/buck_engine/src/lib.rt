@@ -1,0 +1,22 @@
+//! From the bytes of an instruction file and a stem file to the text of the stems, bucked; and what is said of faults.
+//!
+//! [`run_buck`] and [`run_bare`] are generic over readers and writers, and [`buck_text`] makes their text.
+//! [`write_fault`] and [`status`] are the line and the exit status of a fault. [`serve`] is a whole run of the program,
+//! from its [`Task`] to its exit status, over files that an [`Open`] opens, as [`Disk`]. [`laws`] says that there is one text.
+#![tactic(auto)]
+
+mod engine;
+mod fault;
+mod files;
+mod input;
+pub mod laws;
+mod output;
+mod run;
+mod text;
+
+pub use engine::{run_bare, run_buck};
+pub use fault::{EngineFault, TextFault, status};
+pub use files::{Disk, Open};
+pub use output::write_fault;
+pub use run::{Task, conclude, explain, serve};
+pub use text::buck_text;

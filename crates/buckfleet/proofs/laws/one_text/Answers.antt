@@ -1,6 +1,0 @@
-use Rattle.buckfleet.specs.Text.{base_sheet}
-use Rattle.buckfleet.proofs.Determined.{one_text_under}
-use Rattle.buckfleet.proofs.laws.one_text.Goals as goal
-
-pub returns : goal.returns
-returns c i stems a b p q = one_text_under (base_sheet i) stems a b p q
