@@ -2,7 +2,8 @@
 use crate::fixtures::base_of;
 use buck_apt::Class;
 use buck_samples::{SAW, uniform_stem};
-use buck_value::Prepared;
+use buck_stem::Stem;
+use buck_value::{Prepared, Sheet};
 use std::test::Fail;
 
 /// The class of a log of the first assortment, or `None` where the point or the column isn't there.
@@ -57,13 +58,17 @@ fn has_one_log(prepared: &Prepared<'_>) -> bool {
     true
 }
 
+/// Whether the stem that is prepared has its points, columns and log.
+fn is_prepared(rt: &HostRuntime, sheet: &Sheet, stem: &Stem) -> Result<bool, Fail> {
+    let prepared = Prepared::make(rt.alloc(), sheet, stem)?;
+    Ok(is_of_two_columns(&prepared) && has_one_log(&prepared))
+}
+
 /// A stem of 31 samples of 200 mm, prepared under the base prices of the saw instruction.
 #[test]
 fn prepared_stem(rt: HostRuntime) -> Result<(), Fail> {
     let sheet = base_of(&rt, SAW)?;
     let stem = uniform_stem(rt.alloc(), 31, 200)?;
-    let prepared = Prepared::make(rt.alloc(), &sheet, &stem)?;
-    assert!(rt; is_of_two_columns(&prepared));
-    assert!(rt; has_one_log(&prepared));
+    assert!(rt; is_prepared(&rt, &sheet, &stem)?);
     Ok(())
 }

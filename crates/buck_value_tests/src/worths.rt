@@ -34,32 +34,41 @@ fn worth_in(
     Ok(worth(sheet, &stem, &log))
 }
 
+/// The number of samples of a stem, their diameter, a log, and what it is worth.
+type Case = (usize, u16, Log, Option<u64>);
+
+/// Whether logs are worth what is told.
+fn are_worth(rt: &HostRuntime, sheet: &Sheet, cases: &[Case]) -> Result<bool, Fail> {
+    for (count, diameter, log, want) in cases {
+        if worth_in(rt, sheet, *count, *diameter, *log)? != *want {
+            return Ok(false);
+        }
+    }
+    Ok(true)
+}
+
 #[test]
 fn volume_is_rounded_down(rt: HostRuntime) -> Result<(), Fail> {
     let sheet = base_of(&rt, SAW)?;
-    for (count, diameter, log, want) in [
-        (61, 250, log(0, 4000, 0), 157_080_000),
-        (61, 250, log(3000, 3000, 0), 88_357_200),
-        (41, 190, log(0, 4000, 0), 56_705_500),
-    ] {
-        let found = worth_in(&rt, &sheet, count, diameter, log)?;
-        assert_eq!(rt; found, Some(want), "{log:?}");
-    }
+    let cases = [
+        (61, 250, log(0, 4000, 0), Some(157_080_000)),
+        (61, 250, log(3000, 3000, 0), Some(88_357_200)),
+        (41, 190, log(0, 4000, 0), Some(56_705_500)),
+    ];
+    assert!(rt; are_worth(&rt, &sheet, &cases)?);
     Ok(())
 }
 
 #[test]
 fn both_price_kinds(rt: HostRuntime) -> Result<(), Fail> {
     let sheet = base_of(&rt, SAW_AND_POLE)?;
-    for (diameter, log, want) in [
-        (250, log(0, 3000, 1), Some(100_000_000)),
-        (250, log(0, 3000, 0), Some(88_357_200)),
-        (150, log(0, 3000, 1), None),
-        (150, log(0, 3000, 0), Some(21_205_600)),
-    ] {
-        let found = worth_in(&rt, &sheet, 31, diameter, log)?;
-        assert_eq!(rt; found, want, "{log:?} of {diameter}");
-    }
+    let cases = [
+        (31, 250, log(0, 3000, 1), Some(100_000_000)),
+        (31, 250, log(0, 3000, 0), Some(88_357_200)),
+        (31, 150, log(0, 3000, 1), None),
+        (31, 150, log(0, 3000, 0), Some(21_205_600)),
+    ];
+    assert!(rt; are_worth(&rt, &sheet, &cases)?);
     Ok(())
 }
 
@@ -67,10 +76,11 @@ fn both_price_kinds(rt: HostRuntime) -> Result<(), Fail> {
 fn worth_by_the_prices_in_force(rt: HostRuntime) -> Result<(), Fail> {
     let text = saw_text(rt.alloc(), 1, 500, "1 1 1 1")?;
     let sheet = sheet_with(&rt, text.as_str(), &[600, 750, 900, 400])??;
-    for (length, want) in [(4000, 78_540_000), (3000, 132_535_800)] {
-        let found = worth_in(&rt, &sheet, 41, 250, log(0, length, 0))?;
-        assert_eq!(rt; found, Some(want), "{length}");
-    }
+    let cases = [
+        (41, 250, log(0, 4000, 0), Some(78_540_000)),
+        (41, 250, log(0, 3000, 0), Some(132_535_800)),
+    ];
+    assert!(rt; are_worth(&rt, &sheet, &cases)?);
     Ok(())
 }
 
@@ -89,6 +99,21 @@ fn price_at_butt(
     }
 }
 
+/// Whether the classes of logs at the butt have these prices: each case is a diameter, an assortment, a length and a
+/// price.
+fn are_priced(
+    rt: &HostRuntime,
+    sheet: &Sheet,
+    cases: &[(u16, u8, u32, u32)],
+) -> Result<bool, Fail> {
+    for (diameter, assortment, length, want) in cases {
+        if price_at_butt(rt, sheet, *diameter, *assortment, *length)? != Some(*want) {
+            return Ok(false);
+        }
+    }
+    Ok(true)
+}
+
 #[test]
 fn price_of_each_class(rt: HostRuntime) -> Result<(), Fail> {
     let text = edited(
@@ -98,7 +123,7 @@ fn price_of_each_class(rt: HostRuntime) -> Result<(), Fail> {
         "917 1 10 20 30 40",
     )?;
     let sheet = base_of(&rt, text.as_str())?;
-    for (diameter, assortment, length, want) in [
+    let cases = [
         (150, 0, 3000, 400),
         (150, 0, 4000, 500),
         (250, 0, 3000, 600),
@@ -107,10 +132,8 @@ fn price_of_each_class(rt: HostRuntime) -> Result<(), Fail> {
         (150, 1, 4000, 20),
         (250, 1, 3000, 30),
         (250, 1, 4000, 40),
-    ] {
-        let found = price_at_butt(&rt, &sheet, diameter, assortment, length)?;
-        assert_eq!(rt; found, Some(want), "{want}");
-    }
+    ];
+    assert!(rt; are_priced(&rt, &sheet, &cases)?);
     Ok(())
 }
 
@@ -125,12 +148,15 @@ fn largest_worth_at_base_prices(rt: HostRuntime) -> Result<(), Fail> {
 #[test]
 fn largest_worths(rt: HostRuntime) -> Result<(), Fail> {
     let sheet = sheet_with(&rt, MAX, &[0, 20_000_000])??;
-    for (log, want) in [
-        (log(9_500, 500, 0), 0),
-        (log(10_000, 30_000, 0), 1_060_290_000_000_000),
-    ] {
-        let found = worth_in(&rt, &sheet, 401, 1500, log)?;
-        assert_eq!(rt; found, Some(want), "{log:?}");
-    }
+    let cases = [
+        (401, 1500, log(9_500, 500, 0), Some(0)),
+        (
+            401,
+            1500,
+            log(10_000, 30_000, 0),
+            Some(1_060_290_000_000_000),
+        ),
+    ];
+    assert!(rt; are_worth(&rt, &sheet, &cases)?);
     Ok(())
 }
