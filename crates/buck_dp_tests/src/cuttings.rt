@@ -66,16 +66,20 @@ fn is_best_of(
     Ok(cutting.logs.as_slice() == logs && total == worth)
 }
 
+/// Whether a prepared stem is cut into one log of 4,000 mm, each time it is asked.
+fn is_long_twice(rt: &HostRuntime, sheet: &Sheet, stem: &Stem) -> Result<bool, Fail> {
+    let mut prepared = Prepared::make(rt.alloc(), sheet, stem)?;
+    let first = is_best_of(rt, &mut prepared, &[log(0, 4000, 0)], 157_080_000)?;
+    let second = is_best_of(rt, &mut prepared, &[log(0, 4000, 0)], 157_080_000)?;
+    Ok(first && second)
+}
+
 /// A prepared stem is cut as the stem itself, each time it is asked.
 #[test]
 fn prepared_stem_asked_twice(rt: HostRuntime) -> Result<(), Fail> {
     let sheet = base_of(&rt, SAW)?;
     let stem = uniform_stem(rt.alloc(), 41, 250)?;
-    let mut prepared = Prepared::make(rt.alloc(), &sheet, &stem)?;
-    for time in 0..2 {
-        let same = is_best_of(&rt, &mut prepared, &[log(0, 4000, 0)], 157_080_000)?;
-        assert!(rt; same, "{time}");
-    }
+    assert!(rt; is_long_twice(&rt, &sheet, &stem)?);
     Ok(())
 }
 
