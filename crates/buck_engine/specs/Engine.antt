@@ -1,5 +1,5 @@
 -- What a run over an instruction file and a stem file answers.
-use Rattle.std.specs.Prelude.{◌≡◌, ℕ, Bool, ◌==◌, List, Option, Result, Ok, Err, IsOk}
+use Rattle.std.specs.Prelude.{◌≡◌, ℕ, Bool, ◌==◌, List, Option, Ok, Err, IsOk}
 use Rattle.std.specs.Io.KnownBytes.{Appends}
 use Rattle.buck_apt.specs.Instruction.{InstructionParts}
 use Rattle.buck_apt.specs.Apt.{apt_of}
@@ -13,24 +13,6 @@ use Rattle.buck_engine.specs.Text.{IsBuckText}
 -- the byte that ends the instruction where both files stand in one input
 abbrev pub is_bar : ℕ → Bool
 is_bar b = b == 124
-
--- the instruction of a file's bytes, or its refusal
-abbrev pub AnswersApt : List ℕ → Result InstructionParts EngineFault → Type 0
-AnswersApt bytes (Ok instruction) = apt_of bytes ≡ Ok instruction
-AnswersApt bytes (Err (Read file)) = ⊥
-AnswersApt bytes (Err Write) = ⊥
-AnswersApt bytes (Err (Apt fault)) = apt_of bytes ≡ Err fault
-AnswersApt bytes (Err (Stm file fault)) = ⊥
-AnswersApt bytes (Err Memory) = Unit {0}
-
--- the stems of the bytes of file 1, or its refusal
-abbrev pub AnswersStm : List ℕ → Result (List StemParts) EngineFault → Type 0
-AnswersStm bytes (Ok stems) = stm_of bytes ≡ Ok stems
-AnswersStm bytes (Err (Read file)) = ⊥
-AnswersStm bytes (Err Write) = ⊥
-AnswersStm bytes (Err (Apt fault)) = ⊥
-AnswersStm bytes (Err (Stm file fault)) = (file ≡ 1) × (stm_of bytes ≡ Err fault)
-AnswersStm bytes (Err Memory) = Unit {0}
 
 -- the text of the instruction and the stems that the bytes of the two files have
 pub record IsAnswerTo (apt stm text : List ℕ) : Type 0 where

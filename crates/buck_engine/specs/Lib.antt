@@ -5,3 +5,4 @@ pub mod Engine
 pub mod Files
 pub mod Run
 pub mod Laws
+pub mod inner

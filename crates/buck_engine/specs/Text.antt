@@ -75,11 +75,3 @@ pub record IsTextUnder (sheet : SheetParts) (stems : List StemParts) (text : Lis
 -- the text of the stems, bucked under the base prices
 abbrev pub IsBuckText : InstructionParts → List StemParts → List ℕ → Type 0
 IsBuckText i stems text = IsTextUnder (base_sheet i) stems text
-
--- a stem was cut, and its lines were put to a text: how many logs there are, and their worth
-pub record IsPut (sheet : SheetParts) (stem : StemParts) (old new : List ℕ) (count worth : ℕ) : Type 0 where
-  pub logs : List Log
-  pub best : IsFirstBest sheet stem logs
-  pub count_is : count ≡ length logs
-  pub worth_is : worth ≡ cutting_worth sheet stem logs
-  pub lines : new ≡ old ++ stem_lines sheet (record { stem = stem; logs = logs })

@@ -6,7 +6,8 @@ ghost use Rattle.bstr.specs.Find.{IsFirstByte, is_byte};
 ghost use Rattle.buck_record.specs.Reading.{listed};
 ghost use Rattle.buck_apt.specs.Apt.{apt_of};
 ghost use Rattle.buck_engine.specs.declared.fault.EngineFault.TheVariants.{Write};
-ghost use Rattle.buck_engine.specs.Engine.{is_bar, AnswersApt, AnswersStm, AppendsAnswer, AppendsPrefix, IsRefusalOf, IfRead, IsBeforeStems};
+ghost use Rattle.buck_engine.specs.inner.Engine.{AnswersApt, AnswersStm};
+ghost use Rattle.buck_engine.specs.Engine.{is_bar, AppendsAnswer, AppendsPrefix, IsRefusalOf, IfRead, IsBeforeStems};
 
 use crate::fault::EngineFault;
 use crate::input::read_file;

@@ -2,7 +2,8 @@
 ghost use Rattle.std.specs.Prelude.{◌≡◌, ◌++◌, ◌<◌, ◌^◌, IfOk, OnOk, All};
 ghost use Rattle.std.specs.List.{flat_map};
 ghost use Rattle.buck_value.specs.Allowed.{IsAllowed};
-ghost use Rattle.buck_engine.specs.Text.{IsBuckText, IsTextUnder, IsPut, base_sheet, log_line, named_line_of, stem_line, total_line};
+ghost use Rattle.buck_engine.specs.inner.Text.{IsPut};
+ghost use Rattle.buck_engine.specs.Text.{IsBuckText, IsTextUnder, base_sheet, log_line, named_line_of, stem_line, total_line};
 
 use crate::fault::TextFault;
 use buck_apt::Instruction;
