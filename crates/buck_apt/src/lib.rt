@@ -14,6 +14,7 @@ mod rules;
 mod slots;
 
 pub use assortment::Assortment;
+pub use buck_record::Memory;
 pub use class::Class;
 pub use fault::AptFault;
 pub use instruction::Instruction;

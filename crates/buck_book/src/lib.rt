@@ -10,6 +10,7 @@ mod pricing;
 mod ready;
 
 pub use book::Book;
+pub use buck_record::Memory;
 pub use entry::Entry;
 pub use plan::Plan;
 pub use ready::{Ready, Refusal};

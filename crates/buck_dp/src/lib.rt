@@ -5,5 +5,6 @@ mod cutting;
 pub mod laws;
 mod table;
 
+pub use buck_record::Memory;
 pub use cutting::Cutting;
 pub use table::{admissible, best, best_of, worth};

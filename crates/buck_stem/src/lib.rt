@@ -11,6 +11,7 @@ mod runs;
 mod same;
 mod stem;
 
+pub use buck_record::Memory;
 pub use fault::StmFault;
 pub use profile::Profile;
 pub use reading::read_stm;

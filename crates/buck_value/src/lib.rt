@@ -12,6 +12,7 @@ mod sheet;
 mod tables;
 mod worth;
 
+pub use buck_record::Memory;
 pub use fault::SheetFault;
 pub use log::Log;
 pub use prepared::Prepared;
