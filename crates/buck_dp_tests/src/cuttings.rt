@@ -19,59 +19,76 @@ fn is_best_in(
     is_best(rt, sheet, &stem, logs, worth)
 }
 
+/// The same under the base prices of the saw instruction.
+fn is_best_sawn(
+    rt: &HostRuntime,
+    count: usize,
+    diameter: u16,
+    logs: &[Log],
+    worth: u64,
+) -> Result<bool, Fail> {
+    let sheet = base_of(rt, SAW)?;
+    is_best_in(rt, &sheet, count, diameter, logs, worth)
+}
+
+/// Whether the best cutting of a stem has these logs and this worth under the base prices of the saw instruction.
+fn is_best_sawn_of(rt: &HostRuntime, stem: &Stem, logs: &[Log], worth: u64) -> Result<bool, Fail> {
+    let sheet = base_of(rt, SAW)?;
+    is_best(rt, &sheet, stem, logs, worth)
+}
+
 #[test]
 fn nothing_to_cut(rt: HostRuntime) -> Result<(), Fail> {
-    let sheet = base_of(&rt, SAW)?;
     for (count, diameter) in [(1, 250), (41, 99)] {
-        assert!(rt;
-            is_best_in(&rt, &sheet, count, diameter, &[], 0)?,
-            "{count}"
-        );
+        assert!(rt; is_best_sawn(&rt, count, diameter, &[], 0)?, "{count}");
     }
     Ok(())
 }
 
 #[test]
 fn nothing_to_cut_of_another_species(rt: HostRuntime) -> Result<(), Fail> {
-    let sheet = base_of(&rt, SAW)?;
     let samples = vec![in rt.alloc(); 250; 41]?;
     let spruce = Stem::make(rt.alloc(), 1, 2, samples, Vec::new(rt.alloc()))?;
-    assert!(rt; is_best(&rt, &sheet, &spruce, &[], 0)?);
+    assert!(rt; is_best_sawn_of(&rt, &spruce, &[], 0)?);
     Ok(())
 }
 
 #[test]
 fn one_long_log(rt: HostRuntime) -> Result<(), Fail> {
-    let sheet = base_of(&rt, SAW)?;
-    assert!(rt; is_best_in(&rt, &sheet, 41, 250, &[log(0, 4000, 0)], 157_080_000)?);
+    assert!(rt; is_best_sawn(&rt, 41, 250, &[log(0, 4000, 0)], 157_080_000)?);
     Ok(())
 }
 
 #[test]
 fn two_short_logs(rt: HostRuntime) -> Result<(), Fail> {
-    let sheet = base_of(&rt, SAW)?;
     let logs = [log(0, 3000, 0), log(3000, 3000, 0)];
-    assert!(rt; is_best_in(&rt, &sheet, 61, 250, &logs, 176_714_400)?);
+    assert!(rt; is_best_sawn(&rt, 61, 250, &logs, 176_714_400)?);
     Ok(())
 }
 
-/// Whether the best cutting of a prepared stem has these logs and this worth.
-fn is_best_of(
-    rt: &HostRuntime,
-    prepared: &mut Prepared<'_>,
-    logs: &[Log],
-    worth: u64,
-) -> Result<bool, Fail> {
+/// Whether the best cutting of a prepared stem is one log of 4,000 mm with this worth.
+fn is_long(rt: &HostRuntime, prepared: &mut Prepared<'_>, worth: u64) -> Result<bool, Fail> {
     let (cutting, total) = best_of(rt.alloc(), prepared)?;
-    Ok(cutting.logs.as_slice() == logs && total == worth)
+    Ok(cutting.logs.as_slice() == [log(0, 4000, 0)].as_slice() && total == worth)
 }
 
-/// Whether a prepared stem is cut into one log of 4,000 mm, each time it is asked.
-fn is_long_twice(rt: &HostRuntime, sheet: &Sheet, stem: &Stem) -> Result<bool, Fail> {
+/// The same each time that it is asked.
+fn is_long_twice(rt: &HostRuntime, prepared: &mut Prepared<'_>, worth: u64) -> Result<bool, Fail> {
+    if !is_long(rt, prepared, worth)? {
+        return Ok(false);
+    }
+    is_long(rt, prepared, worth)
+}
+
+/// The same of a stem that is prepared once.
+fn is_long_prepared(
+    rt: &HostRuntime,
+    sheet: &Sheet,
+    stem: &Stem,
+    worth: u64,
+) -> Result<bool, Fail> {
     let mut prepared = Prepared::make(rt.alloc(), sheet, stem)?;
-    let first = is_best_of(rt, &mut prepared, &[log(0, 4000, 0)], 157_080_000)?;
-    let second = is_best_of(rt, &mut prepared, &[log(0, 4000, 0)], 157_080_000)?;
-    Ok(first && second)
+    is_long_twice(rt, &mut prepared, worth)
 }
 
 /// A prepared stem is cut as the stem itself, each time it is asked.
@@ -79,43 +96,43 @@ fn is_long_twice(rt: &HostRuntime, sheet: &Sheet, stem: &Stem) -> Result<bool, F
 fn prepared_stem_asked_twice(rt: HostRuntime) -> Result<(), Fail> {
     let sheet = base_of(&rt, SAW)?;
     let stem = uniform_stem(rt.alloc(), 41, 250)?;
-    assert!(rt; is_long_twice(&rt, &sheet, &stem)?);
+    assert!(rt; is_long_prepared(&rt, &sheet, &stem, 157_080_000)?);
     Ok(())
 }
 
 #[test]
 fn tie_goes_to_lower_start(rt: HostRuntime) -> Result<(), Fail> {
-    let sheet = base_of(&rt, SAW)?;
-    assert!(rt; is_best_in(&rt, &sheet, 36, 250, &[log(0, 3000, 0)], 88_357_200)?);
+    assert!(rt; is_best_sawn(&rt, 36, 250, &[log(0, 3000, 0)], 88_357_200)?);
     Ok(())
 }
 
 #[test]
 fn running_least_diameter(rt: HostRuntime) -> Result<(), Fail> {
-    let sheet = base_of(&rt, SAW)?;
     let mut samples = [210, 190].repeat(rt.alloc(), 20)?;
     samples.push(210)?;
     let stem = stem_of(rt.alloc(), samples.as_slice(), &[])?;
-    assert!(rt; is_best(&rt, &sheet, &stem, &[log(0, 4000, 0)], 56_705_500)?);
+    assert!(rt; is_best_sawn_of(&rt, &stem, &[log(0, 4000, 0)], 56_705_500)?);
     Ok(())
 }
 
 #[test]
 fn grade_zone_shortens_log(rt: HostRuntime) -> Result<(), Fail> {
-    let sheet = base_of(&rt, SAW)?;
     let stem = stem_of(rt.alloc(), &[250; 41], &[(0, 1), (3000, 2)])?;
-    assert!(rt; is_best(&rt, &sheet, &stem, &[log(0, 3000, 0)], 88_357_200)?);
+    assert!(rt; is_best_sawn_of(&rt, &stem, &[log(0, 3000, 0)], 88_357_200)?);
     Ok(())
+}
+
+/// Whether a stem with a zone of a grade that isn't bought from a start on is cut into one log of 4,000 mm.
+fn is_long_with_zone(rt: &HostRuntime, start: u32) -> Result<bool, Fail> {
+    let stem = stem_of(rt.alloc(), &[250; 41], &[(0, 1), (start, 2)])?;
+    is_best_sawn_of(rt, &stem, &[log(0, 4000, 0)], 157_080_000)
 }
 
 /// A zone of a grade that isn't bought, from the stem's end on or past it, changes no cutting.
 #[test]
 fn zone_past_the_end(rt: HostRuntime) -> Result<(), Fail> {
-    let sheet = base_of(&rt, SAW)?;
     for start in [4000, 4001, 9000] {
-        let stem = stem_of(rt.alloc(), &[250; 41], &[(0, 1), (start, 2)])?;
-        let same = is_best(&rt, &sheet, &stem, &[log(0, 4000, 0)], 157_080_000)?;
-        assert!(rt; same, "{start}");
+        assert!(rt; is_long_with_zone(&rt, start)?, "{start}");
     }
     Ok(())
 }

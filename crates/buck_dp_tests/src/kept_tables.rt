@@ -56,11 +56,17 @@ fn stem_with(rt: &HostRuntime, parts: Parts) -> Result<Stem, Fail> {
     Ok(Stem::make(rt.alloc(), 1, species, samples, zones)?)
 }
 
+/// Puts the stem of these parts to others.
+fn push_stem(rt: &HostRuntime, stems: &mut Vec<Stem>, parts: Parts) -> Result<(), Fail> {
+    let stem = stem_with(rt, parts)?;
+    Ok(stems.push(stem)?)
+}
+
 /// All the stems.
 fn stems(rt: &HostRuntime) -> Result<Vec<Stem>, Fail> {
     let mut stems = Vec::new(rt.alloc());
     for parts in STEMS {
-        stems.push(stem_with(rt, parts)?)?;
+        push_stem(rt, &mut stems, parts)?;
     }
     Ok(stems)
 }
@@ -76,6 +82,18 @@ fn is_cut_alike(
     is_best(rt, sheet, stem, cutting.logs.as_slice(), worth)
 }
 
+/// The tables after a stem was prepared with them, and whether it is cut as it is alone.
+fn tables_after<'a>(
+    rt: &HostRuntime,
+    tables: Tables<'a>,
+    sheet: &Sheet,
+    stem: &'a Stem,
+) -> Result<(Tables<'a>, bool), Fail> {
+    let mut prepared = Prepared::with(rt.alloc(), tables, stem)?;
+    let alike = is_cut_alike(rt, sheet, stem, &mut prepared)?;
+    Ok((prepared.into_tables(), alike))
+}
+
 /// Whether each stem is cut with the tables of the stems before it as it is alone.
 fn are_cut_alike<'a>(
     rt: &HostRuntime,
@@ -85,11 +103,11 @@ fn are_cut_alike<'a>(
 ) -> Result<bool, Fail> {
     let mut tables = Tables::make(rt.alloc(), sheet, room)?;
     for stem in stems {
-        let mut prepared = Prepared::with(rt.alloc(), tables, stem)?;
-        if !is_cut_alike(rt, sheet, stem, &mut prepared)? {
+        let (after, alike) = tables_after(rt, tables, sheet, stem)?;
+        if !alike {
             return Ok(false);
         }
-        tables = prepared.into_tables();
+        tables = after;
     }
     Ok(true)
 }

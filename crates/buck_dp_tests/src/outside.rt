@@ -22,56 +22,66 @@ fn judged(rt: &HostRuntime, sheet: &Sheet, stem: &Stem, logs: &[Log]) -> Result<
     Ok(worth_of(sheet, stem, &cutting))
 }
 
-/// Whether the cutting of a log is not admissible, alone and after a log at the butt.
-fn is_refused(rt: &HostRuntime, sheet: &Sheet, stem: &Stem, only: Log) -> Result<bool, Fail> {
-    if judged(rt, sheet, stem, &[only])?.is_some() {
-        return Ok(false);
+/// Whether each of these cuttings of a stem is judged as this.
+fn are_judged(
+    rt: &HostRuntime,
+    sheet: &Sheet,
+    stem: &Stem,
+    cuttings: &[&[Log]],
+    want: Option<u64>,
+) -> Result<bool, Fail> {
+    for logs in cuttings {
+        if judged(rt, sheet, stem, logs)? != want {
+            return Ok(false);
+        }
     }
-    Ok(judged(rt, sheet, stem, &[log(0, 3000, 0), only])?.is_none())
+    Ok(true)
+}
+
+/// The same of a stem of 10 m that is 250 mm thick, under the base prices of the saw instruction.
+fn are_sawn(rt: &HostRuntime, cuttings: &[&[Log]], want: Option<u64>) -> Result<bool, Fail> {
+    let sheet = base_of(rt, SAW)?;
+    let stem = uniform_stem(rt.alloc(), 101, 250)?;
+    are_judged(rt, &sheet, &stem, cuttings, want)
 }
 
 #[test]
 fn admissible_cuttings(rt: HostRuntime) -> Result<(), Fail> {
-    let sheet = base_of(&rt, SAW)?;
-    let stem = uniform_stem(rt.alloc(), 101, 250)?;
     let touching = [log(0, 3000, 0), log(3000, 4000, 0), log(7000, 3000, 0)];
-    assert_eq!(rt; judged(&rt, &sheet, &stem, &[])?, Some(0));
-    assert_eq!(rt;
-        judged(&rt, &sheet, &stem, &[log(200, 3000, 0)])?,
-        Some(88_357_200)
-    );
-    assert_eq!(rt; judged(&rt, &sheet, &stem, &touching)?, Some(333_794_400));
+    assert!(rt; are_sawn(&rt, &[&[]], Some(0))?);
+    assert!(rt; are_sawn(&rt, &[&[log(200, 3000, 0)]], Some(88_357_200))?);
+    assert!(rt; are_sawn(&rt, &[&touching], Some(333_794_400))?);
     Ok(())
 }
 
 #[test]
 fn overlapping_or_in_another_order(rt: HostRuntime) -> Result<(), Fail> {
-    let sheet = base_of(&rt, SAW)?;
-    let stem = uniform_stem(rt.alloc(), 101, 250)?;
-    for (first, second) in [
-        (log(0, 3000, 0), log(2900, 3000, 0)),
-        (log(0, 3000, 0), log(0, 3000, 0)),
-        (log(0, 3000, 0), log(100, 4000, 0)),
-        (log(4000, 3000, 0), log(0, 3000, 0)),
-    ] {
-        let found = judged(&rt, &sheet, &stem, &[first, second])?;
-        assert_eq!(rt; found, None, "{first:?}, {second:?}");
-    }
+    let cuttings: [&[Log]; 4] = [
+        &[log(0, 3000, 0), log(2900, 3000, 0)],
+        &[log(0, 3000, 0), log(0, 3000, 0)],
+        &[log(0, 3000, 0), log(100, 4000, 0)],
+        &[log(4000, 3000, 0), log(0, 3000, 0)],
+    ];
+    assert!(rt; are_sawn(&rt, &cuttings, None)?);
     Ok(())
+}
+
+/// Whether a cutting of a log is not admissible, alone and after a log at the butt.
+fn is_refused(rt: &HostRuntime, only: Log) -> Result<bool, Fail> {
+    are_sawn(rt, &[&[only], &[log(0, 3000, 0), only]], None)
 }
 
 #[test]
 fn logs_that_are_not_allowed(rt: HostRuntime) -> Result<(), Fail> {
-    let sheet = base_of(&rt, SAW)?;
-    let stem = uniform_stem(rt.alloc(), 101, 250)?;
-    for only in [
-        log(50, 3000, 0),
-        log(7100, 3000, 0),
-        log(0, 3500, 0),
-        log(0, 3000, 1),
-        log(u32::MAX, 4000, 0),
+    for (start, length, assortment) in [
+        (50, 3000, 0),
+        (7100, 3000, 0),
+        (0, 3500, 0),
+        (0, 3000, 1),
+        (u32::MAX, 4000, 0),
     ] {
-        assert!(rt; is_refused(&rt, &sheet, &stem, only)?, "{only:?}");
+        let refused = is_refused(&rt, log(start, length, assortment))?;
+        assert!(rt; refused, "{start}, {length}, {assortment}");
     }
     Ok(())
 }
