@@ -1,9 +1,10 @@
 //! The table: for each point of the stem, what the best cutting from there on is worth and begins with, in one number.
 
-ghost use Rattle.std.specs.Prelude.{◌≡◌, ◌-◌, ◌/◌, ◌<◌, ◌≤◌, IfOk, IsTrue, ◌↔◌, length, slice_index};
+ghost use Rattle.std.specs.Prelude.{◌≡◌, ◌-◌, ◌/◌, ◌<◌, ◌≤◌, IfOk, IsTrue, ◌↔◌, max, length, slice_index};
 ghost use Rattle.buck_value.specs.Allowed.{IsAllowed, worth_of, end_of};
 ghost use Rattle.buck_value.specs.Sheet.{IsSheet};
 ghost use Rattle.buck_value.specs.Prepared.{points_of};
+ghost use Rattle.buck_value.specs.Relaxed.{unmarked};
 ghost use Rattle.buck_dp.specs.Table.{IsTop};
 ghost use Rattle.buck_dp.specs.Values.{AreValuesFrom, settled};
 ghost use Rattle.buck_dp.specs.Best.{IsAdmissible, IsFirstBest, cutting_worth};
@@ -33,6 +34,13 @@ fn end_of(sheet: &Sheet, stem: &Stem, log: &Log) -> u32
     log.start + log.length
 }
 
+/// The greater of a point's value and that of the next point without its mark.
+fn no_less(value: u64, next: u64) -> u64
+    ensures { result ≡ max value (unmarked next) }
+{
+    value.max(next / 1024 * 1024)
+}
+
 /// Gives point `here` the value of the next point without its mark, where that is more: no log starts here then.
 fn settle(values: &mut Vec<u64>, here: usize)
     requires { here < length values.old.items }
@@ -43,7 +51,7 @@ fn settle(values: &mut Vec<u64>, here: usize)
     } else {
         0
     };
-    values[here] = values[here].max(next / 1024 * 1024);
+    values[here] = no_less(values[here], next);
 }
 
 /// The values of all points, from the top end down to the butt.
