@@ -45,10 +45,15 @@ fn nothing_to_cut(rt: HostRuntime) -> Result<(), Fail> {
     Ok(())
 }
 
+/// A stem of species 2.
+fn spruce(rt: &HostRuntime) -> Result<Stem, Fail> {
+    let samples = vec![in rt.alloc(); 250; 41]?;
+    Ok(Stem::make(rt.alloc(), 1, 2, samples, Vec::new(rt.alloc()))?)
+}
+
 #[test]
 fn nothing_to_cut_of_another_species(rt: HostRuntime) -> Result<(), Fail> {
-    let samples = vec![in rt.alloc(); 250; 41]?;
-    let spruce = Stem::make(rt.alloc(), 1, 2, samples, Vec::new(rt.alloc()))?;
+    let spruce = spruce(&rt)?;
     assert!(rt; is_best_sawn_of(&rt, &spruce, &[], 0)?);
     Ok(())
 }
@@ -106,11 +111,16 @@ fn tie_goes_to_lower_start(rt: HostRuntime) -> Result<(), Fail> {
     Ok(())
 }
 
-#[test]
-fn running_least_diameter(rt: HostRuntime) -> Result<(), Fail> {
+/// A stem that is 210 and 190 mm thick in turn.
+fn uneven_stem(rt: &HostRuntime) -> Result<Stem, Fail> {
     let mut samples = [210, 190].repeat(rt.alloc(), 20)?;
     samples.push(210)?;
-    let stem = stem_of(rt.alloc(), samples.as_slice(), &[])?;
+    Ok(stem_of(rt.alloc(), samples.as_slice(), &[])?)
+}
+
+#[test]
+fn running_least_diameter(rt: HostRuntime) -> Result<(), Fail> {
+    let stem = uneven_stem(&rt)?;
     assert!(rt; is_best_sawn_of(&rt, &stem, &[log(0, 4000, 0)], 56_705_500)?);
     Ok(())
 }

@@ -48,9 +48,14 @@ fn are_sawn(rt: &HostRuntime, cuttings: &[&[Log]], want: Option<u64>) -> Result<
 #[test]
 fn admissible_cuttings(rt: HostRuntime) -> Result<(), Fail> {
     let touching = [log(0, 3000, 0), log(3000, 4000, 0), log(7000, 3000, 0)];
-    assert!(rt; are_sawn(&rt, &[&[]], Some(0))?);
-    assert!(rt; are_sawn(&rt, &[&[log(200, 3000, 0)]], Some(88_357_200))?);
-    assert!(rt; are_sawn(&rt, &[&touching], Some(333_794_400))?);
+    let cases: [(&[Log], u64); 3] = [
+        (&[], 0),
+        (&[log(200, 3000, 0)], 88_357_200),
+        (&touching, 333_794_400),
+    ];
+    for (logs, want) in cases {
+        assert!(rt; are_sawn(&rt, &[logs], Some(want))?, "{want}");
+    }
     Ok(())
 }
 
