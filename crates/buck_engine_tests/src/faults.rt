@@ -14,178 +14,154 @@ fn says(rt: &HostRuntime, fault: EngineFault, line: &str, code: u8) -> bool {
         && status(&fault) == code
 }
 
-fn apt(rt: &HostRuntime, fault: AptFault, line: &str) -> bool {
-    says(rt, EngineFault::Apt(fault), line, 1)
-}
-
-fn stm(rt: &HostRuntime, fault: StmFault, line: &str) -> bool {
-    says(rt, EngineFault::Stm { file: 1, fault }, line, 1)
-}
-
 #[test]
 fn engine_faults(rt: HostRuntime) {
-    assert!(rt; says(&rt, EngineFault::Read { file: 0 }, "read fault 0\n", 5));
-    assert!(rt; says(&rt, EngineFault::Read { file: 64 }, "read fault 64\n", 5));
-    assert!(rt; says(&rt, EngineFault::Write, "write fault\n", 5));
-    assert!(rt; says(&rt, EngineFault::Memory, "memory\n", 3));
-    assert!(rt; says(&rt, EngineFault::Apt(AptFault::Memory), "memory\n", 3));
-    let fault = StmFault::Memory;
-    assert!(rt; says(&rt, EngineFault::Stm { file: 2, fault }, "memory\n", 3));
+    let apt = AptFault::Memory;
+    let stm = StmFault::Memory;
+    for (fault, line, code) in [
+        (EngineFault::Read { file: 0 }, "read fault 0\n", 5),
+        (EngineFault::Read { file: 64 }, "read fault 64\n", 5),
+        (EngineFault::Write, "write fault\n", 5),
+        (EngineFault::Memory, "memory\n", 3),
+        (EngineFault::Apt(apt), "memory\n", 3),
+        (
+            EngineFault::Stm {
+                file: 2,
+                fault: stm,
+            },
+            "memory\n",
+            3,
+        ),
+    ] {
+        assert!(rt; says(&rt, fault, line, code), "{line}");
+    }
 }
 
 #[test]
 fn instruction_faults(rt: HostRuntime) {
-    let (number, kind) = (65535, 1);
-    assert!(rt; apt(&rt, AptFault::Head { item: 15 }, "apt fault 1 15\n"));
-    assert!(rt; apt(&rt, AptFault::NotApt, "apt fault 2\n"));
-    assert!(rt;
-        apt(
-            &rt,
-            AptFault::Missing { number, kind },
-            "apt fault 3 65535 1\n"
-        )
-    );
-    assert!(rt;
-        apt(
-            &rt,
-            AptFault::Twice { number, kind },
-            "apt fault 4 65535 1\n"
-        )
-    );
-    let place = 1024;
-    let fault = AptFault::Digits {
-        number,
-        kind,
-        place,
-    };
-    assert!(rt; apt(&rt, fault, "apt fault 5 65535 1 1024\n"));
-    assert!(rt;
-        apt(
-            &rt,
-            AptFault::Range { number, kind },
-            "apt fault 6 65535 1\n"
-        )
-    );
-    assert!(rt;
-        apt(
-            &rt,
-            AptFault::Order { number, kind },
-            "apt fault 7 65535 1\n"
-        )
-    );
-    assert!(rt;
-        apt(
-            &rt,
-            AptFault::Count { number, kind },
-            "apt fault 8 65535 1\n"
-        )
-    );
-    assert!(rt; apt(&rt, AptFault::Module { length: 3050 }, "apt fault 9 3050\n"));
-    assert!(rt; apt(&rt, AptFault::Targets { assortment: 0 }, "apt fault 10 0\n"));
+    let (number, kind, place) = (65535, 1, 1024);
+    for (fault, line) in [
+        (AptFault::Head { item: 15 }, "apt fault 1 15\n"),
+        (AptFault::NotApt, "apt fault 2\n"),
+        (AptFault::Missing { number, kind }, "apt fault 3 65535 1\n"),
+        (AptFault::Twice { number, kind }, "apt fault 4 65535 1\n"),
+        (
+            AptFault::Digits {
+                number,
+                kind,
+                place,
+            },
+            "apt fault 5 65535 1 1024\n",
+        ),
+        (AptFault::Range { number, kind }, "apt fault 6 65535 1\n"),
+        (AptFault::Order { number, kind }, "apt fault 7 65535 1\n"),
+        (AptFault::Count { number, kind }, "apt fault 8 65535 1\n"),
+        (AptFault::Module { length: 3050 }, "apt fault 9 3050\n"),
+        (AptFault::Targets { assortment: 0 }, "apt fault 10 0\n"),
+    ] {
+        assert!(rt; says(&rt, EngineFault::Apt(fault), line, 1), "{line}");
+    }
 }
 
 #[test]
 fn stem_faults(rt: HostRuntime) {
-    let (number, kind) = (954, 1);
-    assert!(rt; stm(&rt, StmFault::Head { item: 2 }, "stm 1 fault 1 2\n"));
-    assert!(rt; stm(&rt, StmFault::NotStm, "stm 1 fault 2\n"));
-    assert!(rt;
-        stm(
-            &rt,
+    let (number, kind, place) = (954, 1, 7);
+    for (file, fault, line) in [
+        (1, StmFault::Head { item: 2 }, "stm 1 fault 1 2\n"),
+        (1, StmFault::NotStm, "stm 1 fault 2\n"),
+        (
+            1,
             StmFault::Missing { number, kind },
-            "stm 1 fault 3 954 1\n"
-        )
-    );
-    assert!(rt;
-        stm(
-            &rt,
-            StmFault::Twice { number, kind },
-            "stm 1 fault 4 954 1\n"
-        )
-    );
-    let place = 7;
-    let fault = StmFault::Digits {
-        number,
-        kind,
-        place,
-    };
-    assert!(rt; stm(&rt, fault, "stm 1 fault 5 954 1 7\n"));
-    assert!(rt;
-        stm(
-            &rt,
-            StmFault::Range { number, kind },
-            "stm 1 fault 6 954 1\n"
-        )
-    );
-    assert!(rt;
-        stm(
-            &rt,
-            StmFault::Order { number, kind },
-            "stm 1 fault 7 954 1\n"
-        )
-    );
-    assert!(rt;
-        stm(
-            &rt,
-            StmFault::Count { number, kind },
-            "stm 1 fault 8 954 1\n"
-        )
-    );
-    let fault = EngineFault::Stm {
-        file: 12,
-        fault: StmFault::NotStm,
-    };
-    assert!(rt; says(&rt, fault, "stm 12 fault 2\n", 1));
+            "stm 1 fault 3 954 1\n",
+        ),
+        (1, StmFault::Twice { number, kind }, "stm 1 fault 4 954 1\n"),
+        (
+            1,
+            StmFault::Digits {
+                number,
+                kind,
+                place,
+            },
+            "stm 1 fault 5 954 1 7\n",
+        ),
+        (1, StmFault::Range { number, kind }, "stm 1 fault 6 954 1\n"),
+        (1, StmFault::Order { number, kind }, "stm 1 fault 7 954 1\n"),
+        (1, StmFault::Count { number, kind }, "stm 1 fault 8 954 1\n"),
+        (12, StmFault::NotStm, "stm 12 fault 2\n"),
+    ] {
+        assert!(rt;
+            says(&rt, EngineFault::Stm { file, fault }, line, 1),
+            "{line}"
+        );
+    }
 }
 
 #[test]
 fn refused_files(rt: HostRuntime) -> Result<(), Fail> {
     let stem = stem_text(rt.alloc(), 41, "250", "")?;
-    let run = buck(&rt, "", stem.as_str());
-    assert!(rt; run.is_refused(EngineFault::Apt(AptFault::NotApt)));
-    let fault = StmFault::NotStm;
-    let run = buck(&rt, SAW, "");
-    assert!(rt; run.is_refused(EngineFault::Stm { file: 1, fault }));
+    let not_apt = EngineFault::Apt(AptFault::NotApt);
+    let not_stm = EngineFault::Stm {
+        file: 1,
+        fault: StmFault::NotStm,
+    };
     // Of two refused files the first is named.
-    let run = buck(&rt, "", "");
-    assert!(rt; run.is_refused(EngineFault::Apt(AptFault::NotApt)));
+    for (apt, stm, fault) in [
+        ("", stem.as_str(), not_apt),
+        (SAW, "", not_stm),
+        ("", "", not_apt),
+    ] {
+        assert!(rt; buck(&rt, apt, stm).is_refused(fault), "{fault}");
+    }
     Ok(())
 }
 
 #[test]
 fn refused_inputs(rt: HostRuntime) -> Result<(), Fail> {
-    let run = bare(&rt, b"");
-    assert!(rt; run.is_refused(EngineFault::Apt(AptFault::NotApt)));
-    // Without a bar the stem file is empty.
-    let run = bare(&rt, SAW.as_bytes());
-    let fault = StmFault::NotStm;
-    assert!(rt; run.is_refused(EngineFault::Stm { file: 1, fault }));
-    // A second bar is a byte of the stem file.
-    let input = format!(in rt.alloc(); "{SAW}|1 2 STM~|~")?;
-    let run = bare(&rt, input.as_bytes());
-    let fault = StmFault::Head { item: 2 };
-    assert!(rt; run.is_refused(EngineFault::Stm { file: 1, fault }));
+    let two_bars = format!(in rt.alloc(); "{SAW}|1 2 STM~|~")?;
+    let not_stm = StmFault::NotStm;
+    let head = StmFault::Head { item: 2 };
+    assert!(rt; bare(&rt, b"").is_refused(EngineFault::Apt(AptFault::NotApt)));
+    // Without a bar the stem file is empty, and a second bar is a byte of it.
+    for (input, fault) in [(SAW, not_stm), (two_bars.as_str(), head)] {
+        let run = bare(&rt, input.as_bytes());
+        assert!(rt;
+            run.is_refused(EngineFault::Stm { file: 1, fault }),
+            "{fault}"
+        );
+    }
     Ok(())
+}
+
+/// Whether the fault is shown so.
+fn shows(rt: &HostRuntime, fault: EngineFault, text: &str) -> Result<bool, Fail> {
+    let shown = format!(in rt.alloc(); "{fault}")?;
+    Ok(shown.as_str() == text)
 }
 
 #[test]
 fn display_texts(rt: HostRuntime) -> Result<(), Fail> {
-    let read = format!(in rt.alloc(); "{}", EngineFault::Read { file: 1 })?;
-    assert_eq!(rt; read.as_str(), "file 1 can't be read");
-    let write = format!(in rt.alloc(); "{}", EngineFault::Write)?;
-    assert_eq!(rt; write.as_str(), "the output can't be written");
-    let apt = format!(in rt.alloc(); "{}", EngineFault::Apt(AptFault::NotApt))?;
-    assert_eq!(rt;
-        apt.as_str(),
-        "the instruction is refused: the file is not an instruction"
-    );
     let fault = StmFault::NotStm;
-    let stm = format!(in rt.alloc(); "{}", EngineFault::Stm { file: 2, fault })?;
-    assert_eq!(rt;
-        stm.as_str(),
-        "the stems of file 2 are refused: the file is not one of stems"
-    );
-    let memory = format!(in rt.alloc(); "{} {}", EngineFault::Memory, TextFault::Memory)?;
-    assert_eq!(rt; memory.as_str(), "out of memory out of memory");
+    for (fault, text) in [
+        (EngineFault::Read { file: 1 }, "file 1 can't be read"),
+        (EngineFault::Write, "the output can't be written"),
+        (
+            EngineFault::Apt(AptFault::NotApt),
+            "the instruction is refused: the file is not an instruction",
+        ),
+        (
+            EngineFault::Stm { file: 2, fault },
+            "the stems of file 2 are refused: the file is not one of stems",
+        ),
+        (EngineFault::Memory, "out of memory"),
+    ] {
+        assert!(rt; shows(&rt, fault, text)?, "{text}");
+    }
+    Ok(())
+}
+
+#[test]
+fn display_text_of_a_text_fault(rt: HostRuntime) -> Result<(), Fail> {
+    let memory = format!(in rt.alloc(); "{}", TextFault::Memory)?;
+    assert_eq!(rt; memory.as_str(), "out of memory");
     Ok(())
 }

@@ -31,24 +31,29 @@ impl<'a> Open for Shelf<'a> {
 
 /// What a run leaves.
 #[derive(Drop)]
-struct Served {
+struct Ending {
     status: u8,
     output: Vec<u8>,
     errors: Vec<u8>,
     asked: String,
 }
 
-impl Served {
+impl Ending {
     fn left(&self, status: u8, output: &str, errors: &str, asked: &str) -> bool {
         self.status == status
             && self.output.as_slice() == output.as_bytes()
             && self.errors.as_slice() == errors.as_bytes()
             && self.asked.as_str() == asked
     }
+
+    /// Whether the run ended with this status and this line on the errors, and nothing on the output.
+    fn said(&self, status: u8, line: &str) -> bool {
+        self.status == status && self.output.is_empty() && self.errors.as_slice() == line.as_bytes()
+    }
 }
 
 /// A run of a task, with this standard input and these files.
-fn served(rt: &HostRuntime, task: &Task<'_>, input: &str, files: &[(&str, &str)]) -> Served {
+fn served(rt: &HostRuntime, task: &Task<'_>, input: &str, files: &[(&str, &str)]) -> Ending {
     let mut reader = input.as_bytes();
     let mut shelf = Shelf {
         files,
@@ -64,7 +69,7 @@ fn served(rt: &HostRuntime, task: &Task<'_>, input: &str, files: &[(&str, &str)]
         &mut output,
         &mut errors,
     );
-    Served {
+    Ending {
         status,
         output,
         errors,
@@ -113,6 +118,25 @@ fn files_that_are_missing(rt: HostRuntime) -> Result<(), Fail> {
     ] {
         let run = served(&rt, &task, "", files);
         assert!(rt; run.left(5, "", line, asked), "{line}");
+    }
+    Ok(())
+}
+
+#[test]
+fn fault_lines_on_the_errors_alone(rt: HostRuntime) -> Result<(), Fail> {
+    let stem = stem_text(rt.alloc(), 41, "250", "")?;
+    let stems = stem.as_str();
+    let task = Task::Buck { apt: "a", stm: "b" };
+    for (apt, stm, status, line) in [
+        (("c", SAW), ("b", stems), 5, "read fault 0\n"),
+        (("a", SAW), ("c", stems), 5, "read fault 1\n"),
+        (("a", "1 2 STM~"), ("b", stems), 1, "apt fault 2\n"),
+        (("a", SAW), ("b", "1 2 APT~"), 1, "stm 1 fault 2\n"),
+    ] {
+        assert!(rt;
+            served(&rt, &task, "", &[apt, stm]).said(status, line),
+            "{line}"
+        );
     }
     Ok(())
 }

@@ -1,4 +1,5 @@
 //! Readers and writers that go by small steps, or fail.
+use crate::helpers::Run;
 use buck_apt::AptFault;
 use buck_engine::{EngineFault, run_bare, run_buck, write_fault};
 use buck_samples::{SAW, stem_text};
@@ -107,93 +108,128 @@ LOG 0 4000 250 1 1 157080000 saw
 TOTAL 1 1 157080000
 ";
 
-#[test]
-fn byte_after_byte(rt: HostRuntime) -> Result<(), Fail> {
-    let stem = stem_text(rt.alloc(), 41, "250", "")?;
-    let mut first = Source::of(SAW.as_bytes());
-    let mut second = Source::of(stem.as_bytes());
-    let mut sink = Sink::of(&rt, 1, usize::MAX, true);
+/// A run over two files that are read and written byte after byte.
+fn dripped<'x>(rt: &HostRuntime, apt: &'x str, stm: &'x str) -> Run {
+    let mut first = Source::of(apt.as_bytes());
+    let mut second = Source::of(stm.as_bytes());
+    let mut sink = Sink::of(rt, 1, usize::MAX, true);
     let outcome = run_buck(rt.alloc(), &mut first, &mut second, &mut sink);
-    assert_eq!(rt; outcome, Ok(()));
-    assert_eq!(rt; sink.held.as_slice(), TEXT);
-    let input = format!(in rt.alloc(); "{SAW}|{stem}")?;
+    Run {
+        outcome,
+        written: sink.held,
+    }
+}
+
+/// The same over one input.
+fn dripped_bare(rt: &HostRuntime, input: &str) -> Run {
     let mut source = Source::of(input.as_bytes());
-    let mut sink = Sink::of(&rt, 1, usize::MAX, true);
+    let mut sink = Sink::of(rt, 1, usize::MAX, true);
     let outcome = run_bare(rt.alloc(), &mut source, &mut sink);
-    assert_eq!(rt; outcome, Ok(()));
-    assert_eq!(rt; sink.held.as_slice(), TEXT);
-    Ok(())
+    Run {
+        outcome,
+        written: sink.held,
+    }
 }
 
 #[test]
-fn failing_reader_and_writer(rt: HostRuntime) -> Result<(), Fail> {
+fn byte_after_byte(rt: HostRuntime) -> Result<(), Fail> {
     let stem = stem_text(rt.alloc(), 41, "250", "")?;
-    let mut first = Source::of(SAW.as_bytes());
-    let mut second = Source::failing(b"1 2 STM~951 1 1~952 1");
-    let mut sink = Sink::of(&rt, 9, usize::MAX, true);
-    let outcome = run_buck(rt.alloc(), &mut first, &mut second, &mut sink);
-    assert_eq!(rt; outcome, Err(EngineFault::Read { file: 1 }));
-    assert!(rt; sink.held.is_empty());
-    let mut first = Source::failing(SAW.as_bytes());
-    let mut second = Source::of(stem.as_bytes());
-    let outcome = run_buck(rt.alloc(), &mut first, &mut second, &mut sink);
-    assert_eq!(rt; outcome, Err(EngineFault::Read { file: 0 }));
-    assert_eq!(rt; second.reads, 0);
-    assert!(rt; sink.held.is_empty());
-    let mut source = Source::failing(SAW.as_bytes());
-    let outcome = run_bare(rt.alloc(), &mut source, &mut sink);
-    assert_eq!(rt; outcome, Err(EngineFault::Read { file: 0 }));
-    assert!(rt; sink.held.is_empty());
+    let input = format!(in rt.alloc(); "{SAW}|{stem}")?;
+    assert!(rt; dripped(&rt, SAW, stem.as_str()).wrote(TEXT));
+    assert!(rt; dripped_bare(&rt, input.as_str()).wrote(TEXT));
     Ok(())
+}
+
+/// Whether a run over two sources ends with this fault and nothing written.
+fn fails_with<'x>(
+    rt: &HostRuntime,
+    first: &mut Source<'x>,
+    second: &mut Source<'x>,
+    fault: EngineFault,
+) -> bool {
+    let mut sink = Sink::of(rt, 9, usize::MAX, true);
+    let outcome = run_buck(rt.alloc(), first, second, &mut sink);
+    outcome == Err(fault) && sink.held.is_empty()
+}
+
+/// The same over one input.
+fn fails_bare(rt: &HostRuntime, mut source: Source<'_>, fault: EngineFault) -> bool {
+    let mut sink = Sink::of(rt, 9, usize::MAX, true);
+    let outcome = run_bare(rt.alloc(), &mut source, &mut sink);
+    outcome == Err(fault) && sink.held.is_empty()
+}
+
+#[test]
+fn failing_reader_and_writer(rt: HostRuntime) {
+    let mut second = Source::failing(b"1 2 STM~951 1 1~952 1");
+    let fault = EngineFault::Read { file: 1 };
+    assert!(rt; fails_with(&rt, &mut Source::of(SAW.as_bytes()), &mut second, fault));
+    let mut first = Source::failing(SAW.as_bytes());
+    let mut second = Source::of(b"1 2 STM~");
+    let fault = EngineFault::Read { file: 0 };
+    assert!(rt; fails_with(&rt, &mut first, &mut second, fault));
+    assert!(rt; second.reads == 0);
+    assert!(rt; fails_bare(&rt, Source::failing(SAW.as_bytes()), fault));
+}
+
+/// Whether a run keeps as much of the text as there is room for.
+fn keeps<'x>(rt: &HostRuntime, stem: &'x str, room: usize, fails: bool) -> bool {
+    let mut sink = Sink::of(rt, 10, room, fails);
+    let outcome = run_buck(
+        rt.alloc(),
+        &mut SAW.as_bytes(),
+        &mut stem.as_bytes(),
+        &mut sink,
+    );
+    outcome == Err(EngineFault::Write)
+        && sink.held.len() == room
+        && TEXT.starts_with(sink.held.as_slice())
 }
 
 #[test]
 fn full_writers_keep_a_prefix(rt: HostRuntime) -> Result<(), Fail> {
     let stem = stem_text(rt.alloc(), 41, "250", "")?;
     for room in [0, 1, 24, 50, TEXT.len() - 1] {
-        for fails in [false, true] {
-            let mut first = SAW.as_bytes();
-            let mut second = stem.as_bytes();
-            let mut sink = Sink::of(&rt, 10, room, fails);
-            let outcome = run_buck(rt.alloc(), &mut first, &mut second, &mut sink);
-            assert_eq!(rt; outcome, Err(EngineFault::Write));
-            assert_eq!(rt; sink.held.as_slice(), &TEXT[..room]);
-        }
+        assert!(rt; keeps(&rt, stem.as_str(), room, false), "{room}");
+        assert!(rt; keeps(&rt, stem.as_str(), room, true), "{room}");
     }
     Ok(())
 }
 
 #[test]
-fn refused_instruction_leaves_the_stems_unread(rt: HostRuntime) -> Result<(), Fail> {
+fn refused_instruction_leaves_the_stems_unread(rt: HostRuntime) {
     let mut first = Source::of(b"1 2 STM~");
     let mut second = Source::of(b"1 2 STM~");
-    let mut sink = Sink::of(&rt, 1, usize::MAX, true);
-    let outcome = run_buck(rt.alloc(), &mut first, &mut second, &mut sink);
-    assert_eq!(rt; outcome, Err(EngineFault::Apt(AptFault::NotApt)));
-    assert_eq!(rt; second.reads, 0);
-    assert!(rt; sink.held.is_empty());
-    Ok(())
+    let fault = EngineFault::Apt(AptFault::NotApt);
+    assert!(rt; fails_with(&rt, &mut first, &mut second, fault));
+    assert!(rt; second.reads == 0);
+}
+
+/// Whether so many blanks are refused by this fault, and nothing is written.
+fn refuses_blanks(rt: &HostRuntime, left: usize, fault: EngineFault) -> bool {
+    let mut written = Vec::new(rt.alloc());
+    let outcome = run_bare(rt.alloc(), &mut Blanks { left }, &mut written);
+    outcome == Err(fault) && written.is_empty()
 }
 
 #[test]
 fn files_of_the_greatest_length(rt: HostRuntime) {
-    let mut written = Vec::new(rt.alloc());
-    let mut reader = Blanks { left: 67_108_864 };
-    let outcome = run_bare(rt.alloc(), &mut reader, &mut written);
-    assert_eq!(rt; outcome, Err(EngineFault::Apt(AptFault::NotApt)));
-    let mut reader = Blanks { left: 67_108_865 };
-    let outcome = run_bare(rt.alloc(), &mut reader, &mut written);
-    assert_eq!(rt; outcome, Err(EngineFault::Read { file: 0 }));
-    assert!(rt; written.is_empty());
+    assert!(rt; refuses_blanks(&rt, 67_108_864, EngineFault::Apt(AptFault::NotApt)));
+    assert!(rt; refuses_blanks(&rt, 67_108_865, EngineFault::Read { file: 0 }));
 }
 
 #[test]
 fn input_without_end(rt: HostRuntime) {
-    let mut written = Vec::new(rt.alloc());
-    let mut reader = Blanks { left: usize::MAX };
-    let outcome = run_bare(rt.alloc(), &mut reader, &mut written);
-    assert_eq!(rt; outcome, Err(EngineFault::Read { file: 0 }));
-    assert!(rt; written.is_empty());
+    assert!(rt; refuses_blanks(&rt, usize::MAX, EngineFault::Read { file: 0 }));
+}
+
+/// Whether as much of the line is written as there is room for, and the answer tells whether it is all.
+fn tears(rt: &HostRuntime, fault: &EngineFault, line: &[u8], room: usize) -> bool {
+    let mut sink = Sink::of(rt, 2, room, false);
+    let whole = write_fault(&mut sink, fault);
+    whole == (room >= line.len())
+        && sink.held.len() == room
+        && line.starts_with(sink.held.as_slice())
 }
 
 #[test]
@@ -207,12 +243,7 @@ fn torn_fault_lines(rt: HostRuntime) {
             place: 7,
         },
     };
-    for room in 0..line.len() {
-        let mut sink = Sink::of(&rt, 2, room, false);
-        assert!(rt; !write_fault(&mut sink, &fault));
-        assert_eq!(rt; sink.held.as_slice(), &line[..room]);
+    for room in 0..23 {
+        assert!(rt; tears(&rt, &fault, line, room), "{room}");
     }
-    let mut sink = Sink::of(&rt, 2, line.len(), false);
-    assert!(rt; write_fault(&mut sink, &fault));
-    assert_eq!(rt; sink.held.as_slice(), line);
 }

@@ -1,5 +1,5 @@
 //! What is printed for an instruction and stems.
-use crate::helpers::{bare, prints};
+use crate::helpers::prints;
 use buck_samples::{SAW, SAW_AND_POLE, edited, stem_text};
 use std::test::Fail;
 
@@ -108,20 +108,12 @@ TOTAL 1 1 88357200
 #[test]
 fn names_are_printed_as_their_bytes(rt: HostRuntime) -> Result<(), Fail> {
     let stem = stem_text(rt.alloc(), 41, "250", "")?;
-    let (before, after) = SAW.split_once("saw").ok_or("no name")?;
-    let mut input = Vec::from_slice(rt.alloc(), before.as_bytes())?;
-    input.extend_from_slice(&[195, 164])?;
-    input.extend_from_slice(after.as_bytes())?;
-    input.extend_from_slice(b"|")?;
-    input.extend_from_slice(stem.as_bytes())?;
-    let run = bare(&rt, input.as_slice());
-    let mut text = Vec::from_slice(
-        rt.alloc(),
-        b"STEM 1 4000 1 157080000\nLOG 0 4000 250 1 1 157080000 ",
-    )?;
-    text.extend_from_slice(&[195, 164])?;
-    text.extend_from_slice(b"\nTOTAL 1 1 157080000\n")?;
-    assert!(rt; run.wrote(text.as_slice()));
+    let named = edited(rt.alloc(), SAW, "saw", "\u{e4}")?;
+    let text = "STEM 1 4000 1 157080000
+LOG 0 4000 250 1 1 157080000 \u{e4}
+TOTAL 1 1 157080000
+";
+    assert!(rt; prints(&rt, named.as_str(), stem.as_str(), text)?);
     Ok(())
 }
 
