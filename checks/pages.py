@@ -25,6 +25,14 @@ PROMISES = [
         ],
     ),
     (
+        "a whole run of the program",
+        [
+            "buck_engine.specs.Run:RunsTask",
+            "buck_engine.specs.Run:TellsOutcome",
+            "buck_engine.specs.Run:status_after",
+        ],
+    ),
+    (
         "the history of a book",
         [
             "buck_book.specs.Book:IsBook",
@@ -103,8 +111,8 @@ def main():
             if (name, definition) not in known:
                 lengths[name] = lengths.get(name, 0) + last - first + 1
             known.add((name, definition))
-        print(f"{promise}: {sum(lengths.values())} lines in {len(lengths)} pages, beside those above")
-        for name in sorted(lengths):
+        print(f"\n{promise}: {sum(lengths.values())} lines in {len(lengths)} pages, beside those above")
+        for name in lengths:
             print(f"    {lengths[name]:4} {name.replace('.specs.', '/specs/').replace('.', '/')}.antt")
 
 
