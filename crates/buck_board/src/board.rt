@@ -1,9 +1,11 @@
 //! The board.
-ghost use Rattle.std.specs.Prelude.{◌≡◌, ℕ, ◌≤◌, ◌<◌, max, All, IfSome, IfOk, IsSomeAnd, vec_len};
+ghost use Rattle.std.specs.Prelude.{◌≡◌, ◌+◌, ◌≤◌, ◌<◌, All, IfSome, IfNone, IfOk, IsSomeAnd, vec_len};
+ghost use Rattle.boxcar.specs.Table.{Shows};
 
 use crate::front::Front;
 use crate::seat::BoardSeat;
 use crate::snapshot::Snapshot;
+use boxcar::Pushed;
 use buck_record::Memory;
 use buck_value::Sheet;
 use std::alloc::Global;
@@ -22,7 +24,7 @@ pub struct Board {
 }
 
 impl Board {
-    ghost use Rattle.buck_board.specs.Board.{base_of, seen_by, IsSeatOf, IsSnapshotOf, version_of, sheet_of};
+    ghost use Rattle.buck_board.specs.Board.{base_of, seen_by, IsSeatOf, IsSnapshotOf, version_of, sheet_of, IsRaised};
 
     /// A board with 1 to 64 seats that shows a sheet of version 0, the base sheet; each seat has seen version 0.
     /// `Memory` where there is none for the list, the front or the seats.
@@ -59,6 +61,7 @@ impl Board {
     pub fn raise(&self, seat: &mut BoardSeat, version: u32)
         requires { IsSeatOf self.now seat.old }
         ensures place { IsSeatOf self.now seat.new }
+        ensures raised { IsRaised seat.old version seat.new }
         ensures version { version ≤ seen_by seat.new }
         ensures seen { seen_by seat.old ≤ seen_by seat.new }
     {
@@ -125,10 +128,28 @@ impl Board {
         requires version { version_of a.now ≡ version_of b.now }
         ensures { sheet_of a.now ≡ sheet_of b.now }
     {
-        if let Some(p) = &a.pushed {
-            if let Some(q) = &b.pushed {
-                self.later.agrees(p, q);
-            }
+        let of_a = self.shown_by(a);
+        let of_b = self.shown_by(b);
+        match of_a {
+            None => match of_b {
+                None => {}
+                Some(_) => {}
+            },
+            Some(p) => match of_b {
+                None => {}
+                Some(q) => self.later.agrees(p, q),
+            },
         }
+    }
+
+    /// What shows the sheet of a snapshot of this board, where it isn't the base sheet.
+    fn shown_by<'b>(&self, snapshot: &'b Snapshot) -> Option<&'b Pushed<Arc<Sheet>>>
+        requires { IsSnapshotOf self.now snapshot.now }
+        ensures base { IfNone result ((version_of snapshot.now ≡ 0) × (sheet_of snapshot.now ≡ base_of self.now)) }
+        ensures later { IfSome result (λ p. Shows self.now.later p.now) }
+        ensures place { IfSome result (λ p. p.now.index + 1 ≡ version_of snapshot.now) }
+        ensures sheet { IfSome result (λ p. p.now.value ≡ snapshot.now.sheet.now) }
+    {
+        snapshot.pushed.as_ref()
     }
 }

@@ -14,11 +14,11 @@ pub struct Front {
 }
 
 impl Front {
-    ghost use Rattle.buck_board.specs.inner.Steps.{IsAt};
+    ghost use Rattle.buck_board.specs.Board.{IsSeatAt, IsRaised};
 
     /// The word 0, with a first seat that has seen 0.
     pub fn open(alloc: Global) -> Result<(Front, BoardSeat), AllocError>
-        ensures place { IfOk result (λ f. IsAt f.0 f.1) }
+        ensures place { IfOk result (λ f. IsSeatAt f.0 f.1) }
         ensures seen { IfOk result (λ f. f.1.seen ≡ 0) }
     {
         // The table is made: word and view are 0.
@@ -28,9 +28,9 @@ impl Front {
 
     /// A further seat, which has seen as much as this one.
     pub fn another(&self, seat: &mut BoardSeat) -> BoardSeat
-        requires { IsAt self.now seat.old }
-        ensures place { IsAt self.now seat.new }
-        ensures further { IsAt self.now result }
+        requires { IsSeatAt self.now seat.old }
+        ensures place { IsSeatAt self.now seat.new }
+        ensures further { IsSeatAt self.now result }
         ensures seen { seat.new.seen ≡ seat.old.seen }
         ensures alike { result.seen ≡ seat.old.seen }
     {
@@ -44,8 +44,8 @@ impl Front {
 
     /// Loads the word, and answers it; the seat has seen that version from then on.
     pub fn read(&self, seat: &mut BoardSeat) -> u32
-        requires { IsAt self.now seat.old }
-        ensures place { IsAt self.now seat.new }
+        requires { IsSeatAt self.now seat.old }
+        ensures place { IsSeatAt self.now seat.new }
         ensures rises { seat.old.seen ≤ seat.new.seen }
         ensures seen { result ≡ seat.new.seen }
     {
@@ -57,10 +57,9 @@ impl Front {
 
     /// Raises the word to this version, where it is less; the seat has seen the greater of the two from then on.
     pub fn raise(&self, seat: &mut BoardSeat, version: u32)
-        requires { IsAt self.now seat.old }
-        ensures place { IsAt self.now seat.new }
-        ensures rises { seat.old.seen ≤ seat.new.seen }
-        ensures version { version ≤ seat.new.seen }
+        requires { IsSeatAt self.now seat.old }
+        ensures place { IsSeatAt self.now seat.new }
+        ensures raised { IsRaised seat.old version seat.new }
     {
         // Raise: the word and the seat's view become the greater of the word and the version, and nothing else changes.
         let found = self
@@ -77,11 +76,11 @@ impl Front {
         mut first: BoardSeat,
         seats: u32,
     ) -> Result<Vec<BoardSeat>, AllocError>
-        requires place { IsAt self.now first }
+        requires place { IsSeatAt self.now first }
         requires seen { first.seen ≡ 0 }
         requires some { 0 < seats }
         ensures number { IfOk result (λ all. vec_len all ≡ seats) }
-        ensures places { IfOk result (λ all. All (IsAt self.now) all.items) }
+        ensures places { IfOk result (λ all. All (IsSeatAt self.now) all.items) }
         ensures seen { IfOk result (λ all. All (λ s. s.seen ≡ 0) all.items) }
     {
         let mut all = Vec::with_capacity(alloc, seats as usize)?;

@@ -17,7 +17,9 @@ pub struct Snapshot<'a> {
     pub(crate) pushed: Option<Pushed<Arc<Sheet>>>,
     ghost dated: { sheet.now.value.version ≡ version },
     ghost base: { ForNone pushed ((version ≡ 0) × (sheet.now ≡ board.now.base)) },
-    ghost later: { ForSome pushed (λ p. Shows board.now.later p × (p.index + 1 ≡ version) × (p.value ≡ sheet.now)) },
+    ghost later: { ForSome pushed (λ p. Shows board.now.later p) },
+    ghost place: { ForSome pushed (λ p. p.index + 1 ≡ version) },
+    ghost held: { ForSome pushed (λ p. p.value ≡ sheet.now) },
 }
 
 impl<'a> Snapshot<'a> {
