@@ -45,6 +45,11 @@ pub raise_keeps : (slots id : ℕ) (me : Me (Unit {0}) ℕ) (version : ℕ) → 
 raise_keeps slots id me version fits =
     step_keeps slots id me (λ n. max n version) (Raises (step slots 0 version 0 none) me) (λ n small. (omega arith, omega arith)) (λ n seen small. (seen, small, refl))
 
+-- what a store in place of a raise would owe: no front may be above what is stored. The edit that tries one cites it
+pub store_keeps : (slots id : ℕ) (me : Me (Unit {0}) ℕ) (new : ℕ) → ((n : ℕ) → n < 2 ^ 32 → (n ≤ new) × (new < 2 ^ 32)) → Allows IsFront slots id me 0 (λ _. new) (λ _. Raises (step slots 0 new 0 none) me new)
+store_keeps slots id me new up =
+    step_keeps slots id me (λ _. new) (λ _. Raises (step slots 0 new 0 none) me new) up (λ n seen small. (le_trans seen (up n small).0, (up n small).1, omega arith))
+
 -- a further seat that has seen as much
 pub split_keeps : (id seen : ℕ) → Splits IsFront id seen seen seen
 split_keeps id seen s rule mine =

@@ -62,10 +62,8 @@ impl Front {
         ensures raised { IsRaised seat.old version seat.new }
     {
         // Raise: the word and the seat's view become the greater of the word and the version, and nothing else changes.
-        let found = self
-            .table
-            .shared
-            .fetch_max::<Raise>(&mut seat.place, 0, u64::from(version));
+        let table = &self.table.shared;
+        let found = table.fetch_max::<Raise>(&mut seat.place, 0, u64::from(version));
         seat.seen = found.max(u64::from(version)) as u32;
     }
 
