@@ -3,7 +3,7 @@ use Rattle.std.proofs.Common.{◌≡◌, ℕ, zero, suc, ◌<◌, ◌≤◌, ◌
 use Rattle.std.proofs.lemmas.List.Elements.{All-set, All-append}
 use mathlib.Core.Option.{none, some, some-injective, some-ne-none}
 use lib.ListN.{get_elem?}
-use Rattle.atomic_table.specs.Table.{State, Me, keeps, step, Allows, Splits}
+use Rattle.atomic_table.specs.Table.{Me, keeps, step, Allows, Splits}
 use Rattle.buck_board.specs.Front.{IsSeenUpTo, IsFront, Reads, Raises}
 
 -- one view that is at most the front
