@@ -18,10 +18,11 @@ const INSTRUCTION: &str = "1 2 APT~901 1 100~902 1 100~903 1 500~910 1 1~
 911 1 saw~912 1 1~913 1 1~914 1 1~915 1 100 200~915 2 400~
 916 1 3000 4000~917 1 400 500 600 800~918 1 1 1 1 1~";
 
-/// Reads so often, and gives the sum of the versions.
+/// Reads version 1 or a later one so often, and gives the sum of the versions.
 fn read_on(board: &Board, seat: &mut BoardSeat, number: u32) -> u64
     requires { IsSeatOf board.now seat.old }
 {
+    board.raise(&mut *seat, 1);
     let mut sum = 0u64;
     for _ in 0..number {
         if let Some(shown) = board.read(&mut *seat) {
@@ -99,6 +100,14 @@ fn base_sheet(alloc: Global) -> Option<Arc<Sheet>>
     }
 }
 
+/// A sheet of version 1 with the prices of another.
+fn next_sheet(alloc: Global, base: &Sheet) -> Option<Arc<Sheet>> {
+    let instruction = base.instruction().clone().ok()?;
+    let prices = base.prices().to_vec(alloc).ok()?;
+    let sheet = Sheet::with_prices(instruction, 1, prices).ok()?;
+    Arc::new(alloc, sheet).ok()
+}
+
 /// Runs one of the two, on so many threads.
 fn run<R: Threads + Wait + Sync>(
     rt: &R,
@@ -110,13 +119,12 @@ fn run<R: Threads + Wait + Sync>(
     requires { (1 ≤ threads) × (threads ≤ 64) }
 {
     let base = base_sheet(alloc)?;
-    let Ok(sheet) = base.clone() else {
-        return None;
-    };
+    let sheet = next_sheet(alloc, &base)?;
     let Ok((board, mut seats)) = Board::open(rt, alloc, threads, base) else {
         return None;
     };
     if is_read {
+        board.put_up(rt, alloc, sheet).ok()?;
         read_all(rt, &board, seats.as_mut_slice(), number);
     } else {
         put_all(rt, alloc, &board, seats.as_mut_slice(), &sheet, number);
