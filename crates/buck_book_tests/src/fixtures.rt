@@ -108,8 +108,11 @@ pub fn has_sheets<F: Drop>(book: &Book<F>, wants: &[[u32; 4]]) -> bool {
             return false;
         }
     }
+    let version = book.version();
     match wants.last() {
-        Some(last) => has_sheet(book, (wants.len() as u32).wrapping_sub(1), last.as_slice()),
+        Some(last) => {
+            version as usize + 1 == wants.len() && has_sheet(book, version, last.as_slice())
+        }
         None => false,
     }
 }
