@@ -14,8 +14,8 @@ use Rattle.buck_value.specs.Codes.{AreCodes, HasMark}
 use Rattle.buck_value.specs.Relaxed.{IsFromTo, IsBid, unmarked}
 use Rattle.buck_value.proofs.Classes.{allowed_low}
 use Rattle.buck_dp.specs.Cutting.{IsCutFrom}
-use Rattle.buck_dp.specs.Table.{IsTop, IsNoWorse}
-use Rattle.buck_dp.specs.Values.{IsValue, IsBestFrom}
+use Rattle.buck_dp.specs.inner.Table.{IsTop, IsNoWorse}
+use Rattle.buck_dp.specs.inner.Values.{IsValue, IsBestFrom}
 use Rattle.buck_dp.proofs.Places.{past_top}
 use Rattle.buck_dp.proofs.Marks.{mark_found}
 use Rattle.buck_dp.proofs.Optimal.{IsCutFrom-le}

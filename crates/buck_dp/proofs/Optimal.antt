@@ -4,7 +4,7 @@ use Rattle.std.proofs.Common.{◌≡◌, ℕ, ◌+◌, ◌*◌, mul-le-mul_left,
 use Rattle.std.proofs.lemmas.List.Sums.{sum_by-cons}
 use Rattle.buck_value.specs.declared.log.Log.{Log}
 use Rattle.buck_dp.specs.Order.{IsLogBefore}
-use Rattle.buck_dp.specs.Table.{IsAtOrBefore, IsNoWorse, IsTop}
+use Rattle.buck_dp.specs.inner.Table.{IsAtOrBefore, IsNoWorse, IsTop}
 use Rattle.buck_dp.specs.Cutting.{IsCutFrom}
 
 -- what is before a log that is before another is before that one

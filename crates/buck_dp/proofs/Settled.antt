@@ -4,7 +4,7 @@ use Rattle.std.proofs.lemmas.List.{get_or-set_same, get_or-set_other, get_or_pas
 use Rattle.std.proofs.lemmas.Bool.{cases_lt}
 use Rattle.buck_value.specs.Prepared.{PreparedParts, points_of}
 use Rattle.buck_value.specs.Relaxed.{IsRelaxed, unmarked}
-use Rattle.buck_dp.specs.Values.{IsValue, IsOpenValue, AreValuesFrom, AreSettledFrom, settled}
+use Rattle.buck_dp.specs.inner.Values.{IsValue, IsOpenValue, AreValuesFrom, AreSettledFrom, settled}
 
 module _ (p : PreparedParts) (v w : List ℕ) where
   -- a right value stays right where it and the later ones stay

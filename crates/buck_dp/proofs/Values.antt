@@ -13,8 +13,8 @@ use Rattle.buck_value.specs.Codes.{AreCodes, HasMark, code_of}
 use Rattle.buck_value.specs.Relaxed.{IsFromTo, IsBid, unmarked}
 use Rattle.buck_dp.specs.Best.{cutting_worth}
 use Rattle.buck_dp.specs.Cutting.{IsCutFrom}
-use Rattle.buck_dp.specs.Table.{IsTop, IsAtOrBefore}
-use Rattle.buck_dp.specs.Values.{IsValue, AreValuesFrom, IsBestFrom}
+use Rattle.buck_dp.specs.inner.Table.{IsTop, IsAtOrBefore}
+use Rattle.buck_dp.specs.inner.Values.{IsValue, AreValuesFrom, IsBestFrom}
 use Rattle.buck_dp.proofs.Bounds.{cut_worth-le}
 use Rattle.buck_dp.proofs.Marks.{assortment_low, mark_code, mark_high, mark_place, marks_before, marks_same, code_parts}
 use Rattle.buck_dp.proofs.Offered.{IsTopAt, IsCutAt, IsNoWorseIn, BestAt, sum_of, IsOffered, AreBestAfter, cut_earlier, offered, end_point, module_pos}

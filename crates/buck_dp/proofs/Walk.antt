@@ -5,7 +5,7 @@ use Rattle.buck_value.specs.Allowed.{IsAllowed, worth_of, end_of}
 use Rattle.buck_stem.specs.Stem.{StemParts}
 use Rattle.buck_value.specs.Sheet.{SheetParts}
 use Rattle.buck_dp.specs.Cutting.{IsCutFrom}
-use Rattle.buck_dp.specs.Table.{IsTop, IsAtOrBefore}
+use Rattle.buck_dp.specs.inner.Table.{IsTop, IsAtOrBefore}
 use Rattle.buck_dp.specs.Order.{IsBefore}
 use Rattle.buck_dp.specs.Best.{IsFirstBest}
 

@@ -1,5 +1,4 @@
 pub mod Order
 pub mod Cutting
 pub mod Best
-pub mod Table
-pub mod Values
+pub mod inner

@@ -5,8 +5,8 @@ ghost use Rattle.buck_value.specs.Allowed.{IsAllowed, worth_of, end_of};
 ghost use Rattle.buck_value.specs.Sheet.{IsSheet};
 ghost use Rattle.buck_value.specs.Prepared.{points_of};
 ghost use Rattle.buck_value.specs.Relaxed.{unmarked};
-ghost use Rattle.buck_dp.specs.Table.{IsTop};
-ghost use Rattle.buck_dp.specs.Values.{AreValuesFrom, settled};
+ghost use Rattle.buck_dp.specs.inner.Table.{IsTop};
+ghost use Rattle.buck_dp.specs.inner.Values.{AreValuesFrom, settled};
 ghost use Rattle.buck_dp.specs.Best.{IsAdmissible, IsFirstBest, cutting_worth};
 
 use crate::cutting::Cutting;

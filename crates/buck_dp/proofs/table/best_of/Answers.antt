@@ -2,7 +2,7 @@ use Rattle.std.proofs.Common.{◌≡◌, ◌/◌, ◌∙◌, ℕ, List, slice_in
 use Rattle.buck_value.specs.declared.log.Log.{Log}
 use Rattle.buck_value.specs.Prepared.{PreparedParts}
 use Rattle.buck_value.specs.Allowed.{IsAllowed, worth_of, end_of}
-use Rattle.buck_dp.specs.Table.{IsTop}
+use Rattle.buck_dp.specs.inner.Table.{IsTop}
 use Rattle.buck_dp.proofs.Walk.{top_is_first_best}
 use Rattle.buck_dp.proofs.Values.{walk_worth}
 use Rattle.buck_dp.proofs.table.best_of.Goals as goal

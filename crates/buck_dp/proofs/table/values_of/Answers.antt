@@ -1,7 +1,7 @@
 use Rattle.std.proofs.Common.{◌≡◌, ◌-◌, ◌<◌, ◌∙◌, ℕ, slice_index, arith, subst}
 use Rattle.buck_value.specs.Prepared.{PreparedParts, points_of}
 use Rattle.buck_value.specs.Relaxed.{IsRelaxed, unmarked}
-use Rattle.buck_dp.specs.Values.{AreValuesFrom}
+use Rattle.buck_dp.specs.inner.Values.{AreValuesFrom}
 use Rattle.buck_dp.proofs.Settled.{right_below, settled_below}
 use Rattle.buck_dp.proofs.Values.{value_low}
 use Rattle.buck_dp.proofs.table.values_of.Goals as goal

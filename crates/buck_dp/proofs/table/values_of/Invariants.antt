@@ -1,6 +1,6 @@
 use Rattle.std.proofs.Common.{◌≡◌, ◌-◌}
 use Rattle.buck_value.specs.Prepared.{points_of}
-use Rattle.buck_dp.specs.Values.{AreSettledFrom}
+use Rattle.buck_dp.specs.inner.Values.{AreSettledFrom}
 use Rattle.buck_dp.proofs.table.values_of.Given as goal
 
 abbrev pub invariant-loop-below : goal.invariant-loop-below

@@ -7,7 +7,7 @@ use Rattle.buck_value.specs.Prepared.{PreparedParts, points_of}
 use Rattle.buck_value.specs.Codes.{HasMark}
 use Rattle.buck_value.specs.Relaxed.{IsFromTo, IsBid, unmarked}
 use Rattle.buck_dp.specs.Cutting.{IsCutFrom}
-use Rattle.buck_dp.specs.Table.{IsTop}
+use Rattle.buck_dp.specs.inner.Table.{IsTop}
 
 -- the value of point i, from those of the points after it: no log that starts there brings more, nor does starting none,
 -- and one of these brings as much. Past the last point stands 0
