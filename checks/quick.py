@@ -41,7 +41,7 @@ def counted(text):
 
 def tried(crate):
     run = subprocess.run(
-        ["rt", "try", "--test"], cwd=os.path.join(TOP, "crates", crate), capture_output=True, text=True
+        ["rt", "try", "--test", "--seconds", "300"], cwd=os.path.join(TOP, "crates", crate), capture_output=True, text=True
     )
     text = run.stdout + run.stderr
     return crate, run.returncode, counted(text), text
