@@ -1,4 +1,3 @@
 pub mod PlaceLemmas
-pub mod RuleLemmas
 pub mod PassLemmas
 pub mod PartLemmas

@@ -1,5 +1,5 @@
 -- What the lines of refusals that passed say: the numbers are within the limits.
-use Rattle.std.proofs.Common.{◌≡◌, ◌≢◌, ℕ, ◌*◌, ◌<◌, ◌≤◌, Bool, true, false, not, List, [], ◌∷◌, ◌&&◌, ◌==◌, Result, Ok, Err, Option, Some, None, length, sum, slice_index, refl, sym, ◌∙◌, arith, eqb-true, All, zero, suc, add-one, inl, inr, nat_lt, nat_le, ◌%◌}
+use Rattle.std.proofs.Common.{◌≡◌, ◌≢◌, ℕ, ◌*◌, ◌<◌, ◌≤◌, Bool, true, false, not, List, [], ◌∷◌, ◌==◌, Ok, Option, Some, None, length, sum, slice_index, refl, sym, ◌∙◌, arith, eqb-true, All, zero, suc, add-one, inl, inr, nat_lt, nat_le, ◌%◌}
 use Rattle.std.specs.Prelude.{position, find}
 use Rattle.std.specs.List.{AllByRecursion, list_all}
 use Rattle.std.specs.List.Sorted.{IsStrictlyIncreasing}
@@ -8,50 +8,16 @@ use Rattle.std.proofs.lemmas.List.{length-map}
 use Rattle.std.proofs.lemmas.List.Sums.{AllPass-from_list_all, fails_before_first}
 use Rattle.buck_record.proofs.TableLemmas.{place-none}
 use Rattle.std.proofs.lemmas.Bool.{false≢true, ltb-true, ltb-false, leb-true, eqb-false, cases_Bool, cond-true, cond-false}
-use Rattle.buck_record.specs.Check.{◌>>=◌, check, each}
+use Rattle.buck_record.specs.Rules.{within, all_within, is_rising}
+use Rattle.buck_record.proofs.PassLemmas.{passed, check_ok, then_ok, each_ok, both, within_ok, all_within_ok}
 use Rattle.buck_apt.specs.declared.fault.AptFault.{AptFault}
-use Rattle.buck_apt.specs.declared.fault.AptFault.TheVariants.{Range, Order, Count, Module, Targets}
+use Rattle.buck_apt.specs.declared.fault.AptFault.TheVariants.{Module, Targets}
 use Rattle.buck_apt.specs.declared.draft.Draft.{Draft}
 use Rattle.buck_apt.specs.declared.draft.FileDraft.{FileDraft}
 use Rattle.buck_apt.specs.Instruction.{IsAssortment, IsWithin, IsNameByte, IsOnModule}
-use Rattle.buck_apt.specs.Apt.{within, all_within, is_name, is_name_byte, is_rising, all_above, is_one, is_number_of, none_found, first_off_module, draft_range, draft_order, draft_count, in_range, in_order, in_number, on_module, in_targets, assortment_of}
+use Rattle.buck_apt.specs.Apt.{is_name, is_name_byte, all_above, is_one, is_number_of, none_found, first_off_module, draft_range, draft_order, draft_count, in_range, in_order, in_number, on_module, in_targets, assortment_of}
 use Rattle.buck_apt.specs.inner.Parts.{within_limits}
 use Rattle.buck_apt.specs.inner.Ready.{IsReadyDraft, IsReadyFile}
-
-Passes : Result (Unit {0}) AptFault → Type 0
-Passes r = r ≡ Ok tt
-
--- a check that passed, and what stands after it
-passed : (b : Bool) (e : AptFault) (r : Result (Unit {0}) AptFault) → (check b e >>= λ _. r) ≡ Ok tt → (b ≡ true) × (r ≡ Ok tt)
-passed true e r h = (refl, h)
-passed false e r h = cc
-
-check_ok : (b : Bool) (e : AptFault) → check b e ≡ Ok tt → b ≡ true
-check_ok true e h = refl
-check_ok false e h = cc
-
--- a check of each element that passed
-then_ok : (r q : Result (Unit {0}) AptFault) → (r >>= λ _. q) ≡ Ok tt → (r ≡ Ok tt) × (q ≡ Ok tt)
-then_ok (Ok x) q h = (refl, h)
-then_ok (Err e) q h = cc
-
-each_rec : {X : Type 0} (f : X → Result (Unit {0}) AptFault) (xs : List X) → each f xs ≡ Ok tt → AllByRecursion (λ x. f x ≡ Ok tt) xs
-unfolding each
-each_rec f [] h = tt
-each_rec f (x ∷ xs) h = let p = then_ok (f x) (each f xs) h in (p.0, each_rec f xs p.1)
-
-each_ok : {X : Type 0} (f : X → Result (Unit {0}) AptFault) (xs : List X) → each f xs ≡ Ok tt → All (λ x. f x ≡ Ok tt) xs
-each_ok f xs h = All-from_recursion _ xs (each_rec f xs h)
-
-both : (a b : Bool) → (a && b) ≡ true → (a ≡ true) × (b ≡ true)
-both true b h = (refl, h)
-both false b h = absurd (false≢true h)
-
-within_ok : (low high n : ℕ) → within low high n ≡ true → IsWithin low high n
-within_ok low high n h = let p = both (nat_le low n) (nat_le n high) h in (leb-true _ _ p.0, leb-true _ _ p.1)
-
-all_within_ok : (low high : ℕ) (ns : List ℕ) → all_within low high ns ≡ true → All (λ n. IsWithin low high n) ns
-all_within_ok low high ns h = λ k d lt. within_ok low high _ (AllPass-from_list_all (within low high) ns h k d lt)
 
 one_within : (low high : ℕ) (ns : List ℕ) → all_within low high ns ≡ true → length ns ≡ 1 → IsWithin low high (slice_index ns 0)
 one_within low high ns h one = all_within_ok low high ns h 0 0 (omega arith)
@@ -109,35 +75,39 @@ position_none p xs h = λ k d lt. fails_before_first p xs k d (omega (arith, pla
 draft_ready : (d : Draft) → draft_range d ≡ Ok tt → draft_order d ≡ Ok tt → draft_count d ≡ Ok tt → sum d.targets ≤ 1000000000 → IsReadyDraft d
 unfolding draft_range draft_order draft_count
 draft_ready d ranged ordered counted few =
-    let r1 = passed (is_name d.name) (Range 911 1) _ ranged in
-    let r2 = passed (all_within 1 255 d.species) (Range 912 1) _ r1.1 in
-    let r3 = passed (all_within 1 8 d.grades) (Range 913 1) _ r2.1 in
-    let r4 = passed (all_within 1 2 d.price_kind) (Range 914 1) _ r3.1 in
-    let r5 = passed (all_within 0 1500 d.diameters) (Range 915 1) _ r4.1 in
-    let r6 = passed (all_within 1 2000 d.upper) (Range 915 2) _ r5.1 in
-    let r7 = passed (all_within 500 30000 d.lengths) (Range 916 1) _ r6.1 in
-    let r8 = passed (all_within 0 10000000 d.prices) (Range 917 1) _ r7.1 in
-    let r9 = check_ok (all_within 0 1000000 d.targets) (Range 918 1) r8.1 in
-    let o1 = passed (is_rising d.grades) (Order 913 1) _ ordered in
-    let o2 = passed (is_rising d.diameters) (Order 915 1) _ o1.1 in
-    let o3 = passed (all_above d.diameters d.upper) (Order 915 2) _ o2.1 in
-    let o4 = check_ok (is_rising d.lengths) (Order 916 1) o3.1 in
-    let c1 = passed (is_one d.species) (Count 912 1) _ counted in
-    let c2 = passed (within 1 8 (length d.grades)) (Count 913 1) _ c1.1 in
-    let c3 = passed (is_one d.price_kind) (Count 914 1) _ c2.1 in
-    let c4 = passed (within 1 32 (length d.diameters)) (Count 915 1) _ c3.1 in
-    let c5 = passed (is_one d.upper) (Count 915 2) _ c4.1 in
-    let c6 = passed (within 1 32 (length d.lengths)) (Count 916 1) _ c5.1 in
-    let c7 = passed (length d.prices == length d.diameters * length d.lengths) (Count 917 1) _ c6.1 in
-    let c8 = check_ok (length d.targets == length d.diameters * length d.lengths) (Count 918 1) c7.1 in
+    let r1 = passed (is_name d.name) _ _ ranged in
+    let r2 = passed (all_within 1 255 d.species) _ _ r1.1 in
+    let r3 = passed (all_within 1 8 d.grades) _ _ r2.1 in
+    let r4 = passed (all_within 1 2 d.price_kind) _ _ r3.1 in
+    let r5 = passed (all_within 0 1500 d.diameters) _ _ r4.1 in
+    let r6 = passed (all_within 1 2000 d.upper) _ _ r5.1 in
+    let r7 = passed (all_within 500 30000 d.lengths) _ _ r6.1 in
+    let r8 = passed (all_within 0 10000000 d.prices) _ _ r7.1 in
+    let r9 = passed (all_within 0 1000000 d.targets) _ _ r8.1 in
+    let r10 = check_ok (all_within 0 200 d.trim) _ r9.1 in
+    let o1 = passed (is_rising d.grades) _ _ ordered in
+    let o2 = passed (is_rising d.diameters) _ _ o1.1 in
+    let o3 = passed (all_above d.diameters d.upper) _ _ o2.1 in
+    let o4 = check_ok (is_rising d.lengths) _ o3.1 in
+    let c1 = passed (is_one d.species) _ _ counted in
+    let c2 = passed (within 1 8 (length d.grades)) _ _ c1.1 in
+    let c3 = passed (is_one d.price_kind) _ _ c2.1 in
+    let c4 = passed (within 1 32 (length d.diameters)) _ _ c3.1 in
+    let c5 = passed (is_one d.upper) _ _ c4.1 in
+    let c6 = passed (within 1 32 (length d.lengths)) _ _ c5.1 in
+    let c7 = passed (length d.prices == length d.diameters * length d.lengths) _ _ c6.1 in
+    let c8 = passed (length d.targets == length d.diameters * length d.lengths) _ _ c7.1 in
+    let c9 = check_ok (is_one d.trim) _ c8.1 in
     let name = both (within 1 32 (length d.name)) (list_all is_name_byte d.name) r1.0 in
     let species = eqb-true (length d.species) 1 c1.0 in
     let price_kind = eqb-true (length d.price_kind) 1 c3.0 in
     let upper = eqb-true (length d.upper) 1 c5.0 in
+    let trim = eqb-true (length d.trim) 1 c9 in
     record {
       species = species;
       price_kind = price_kind;
       upper = upper;
+      trim = trim;
       valid = record {
         name_length = within_ok 1 32 (length d.name) name.0;
         name_bytes = λ k b lt. name_byte_ok _ (AllPass-from_list_all is_name_byte d.name name.1 k b lt);
@@ -156,9 +126,10 @@ draft_ready d ranged ordered counted few =
         lengths_rise = rising_ok d.lengths o4;
         prices_number = eqb-true _ _ c7.0;
         prices_range = λ k x lt. (all_within_ok 0 10000000 d.prices r8.0 k x lt).1;
-        targets_number = eqb-true _ _ c8;
-        targets_range = λ k x lt. (all_within_ok 0 1000000 d.targets r9 k x lt).1;
+        targets_number = eqb-true _ _ c8.0;
+        targets_range = λ k x lt. (all_within_ok 0 1000000 d.targets r9.0 k x lt).1;
         targets_sum = few;
+        trim_range = (one_within 0 200 d.trim r10 trim).1;
       };
     }
 
@@ -177,14 +148,14 @@ record HeadReady (s : FileDraft) : Type 0 where
 head_ready : (s : FileDraft) → in_range s ≡ Ok tt → in_number s ≡ Ok tt → HeadReady s
 unfolding in_range in_number
 head_ready s ranged counted =
-    let r1 = passed (all_within 10 1000 s.«module») (Range 901 1) _ ranged in
-    let r2 = passed (all_within 1 1000 s.period) (Range 902 1) _ r1.1 in
-    let r3 = passed (all_within 0 1000 s.limit) (Range 903 1) _ r2.1 in
-    let r4 = passed (all_within 1 16 s.count) (Range 910 1) _ r3.1 in
-    let c1 = passed (is_one s.«module») (Count 901 1) _ counted in
-    let c2 = passed (is_one s.period) (Count 902 1) _ c1.1 in
-    let c3 = passed (is_one s.limit) (Count 903 1) _ c2.1 in
-    let c4 = passed (is_number_of s.drafts s.count) (Count 910 1) _ c3.1 in
+    let r1 = passed (all_within 10 1000 s.«module») _ _ ranged in
+    let r2 = passed (all_within 1 1000 s.period) _ _ r1.1 in
+    let r3 = passed (all_within 0 1000 s.limit) _ _ r2.1 in
+    let r4 = passed (all_within 1 16 s.count) _ _ r3.1 in
+    let c1 = passed (is_one s.«module») _ _ counted in
+    let c2 = passed (is_one s.period) _ _ c1.1 in
+    let c3 = passed (is_one s.limit) _ _ c2.1 in
+    let c4 = passed (is_number_of s.drafts s.count) _ _ c3.1 in
     let number = both (is_one s.count) (slice_index s.count 0 == length s.drafts) c4.0 in
     let same = eqb-true (slice_index s.count 0) (length s.drafts) number.1 in
     let range = one_within 1 16 s.count r4.0 (eqb-true _ _ number.0) in

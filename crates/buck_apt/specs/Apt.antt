@@ -19,40 +19,23 @@
 --   916 1   length of each column, mm           1 to 32              500 to 30000          strictly rising
 --   917 1   base prices, row by row             rows times columns   0 to 10000000
 --   918 1   targets, row by row                 rows times columns   0 to 1000000
-use Rattle.std.specs.Prelude.{ℕ, Bool, true, not, ◌*◌, ◌%◌, ◌&&◌, ◌==◌, List, [], ◌∷◌, length, map, sum, slice_index, nat_le, nat_lt, find, position, Option, Some, None, Result, Ok, Err, codes}
-use Rattle.std.specs.List.{before_first, list_all}
+--   919 1   trim allowance in mm; absent: 0     1                    0 to 200
+use Rattle.std.specs.Prelude.{ℕ, Bool, not, ◌*◌, ◌%◌, ◌&&◌, ◌==◌, List, [], ◌∷◌, length, map, sum, slice_index, nat_le, nat_lt, find, position, Option, Some, None, Result, Ok, Err, codes, if◌then◌else◌}
+use Rattle.std.specs.List.{list_all}
 use Rattle.std.specs.Str.{bytes_eq}
 use Rattle.buck_record.specs.Item.{ItemParts}
 use Rattle.buck_record.specs.declared.slot.Slot.{Slot}
 use Rattle.buck_record.specs.Reading.{with_fault}
-use Rattle.buck_record.specs.Record.{items_of, numbers_of}
-use Rattle.buck_record.specs.Table.{is_at, count_in, rest_in, first_missing, first_twice, groups_of}
+use Rattle.buck_record.specs.Record.{items_of}
+use Rattle.buck_record.specs.Table.{count_in, rest_in, first_missing, first_twice, groups_of}
 use Rattle.buck_record.specs.Check.{◌>>=◌, check, none_of, each, make_each}
+use Rattle.buck_record.specs.Rules.{file_slot, of_slot, has_no_strays, numbers_in, within, all_within, is_rising}
+use Rattle.buck_apt.specs.Slots.{module_slot, period_slot, limit_slot, count_slot, name_slot, species_slot, grades_slot, price_kind_slot, diameters_slot, upper_slot, lengths_slot, prices_slot, targets_slot, trim_slot, head_slots, member_slots, assortment_slots}
 use Rattle.buck_apt.specs.Instruction.{AssortmentParts, InstructionParts}
 use Rattle.buck_apt.specs.declared.draft.Draft.{Draft}
 use Rattle.buck_apt.specs.declared.draft.FileDraft.{FileDraft}
 use Rattle.buck_apt.specs.declared.fault.AptFault.{AptFault}
 use Rattle.buck_apt.specs.declared.fault.AptFault.TheVariants.{Head, NotApt, Missing, Twice, Digits, Range, Order, Count, Module, Targets}
-
-abbrev pub slot : ℕ → ℕ → Slot
-slot number kind = record { number = number; kind = kind }
-
--- the kind of file
-abbrev pub file_slot : Slot
-file_slot = slot 1 2
-
--- module, period, limit and number of assortments
-abbrev pub head_slots : List Slot
-head_slots = slot 901 1 ∷ slot 902 1 ∷ slot 903 1 ∷ slot 910 1 ∷ []
-
--- the name, which begins an assortment
-abbrev pub name_slot : Slot
-name_slot = slot 911 1
-
--- the items of an assortment after its name
-abbrev pub member_slots : List Slot
-member_slots =
-    slot 912 1 ∷ slot 913 1 ∷ slot 914 1 ∷ slot 915 1 ∷ slot 915 2 ∷ slot 916 1 ∷ slot 917 1 ∷ slot 918 1 ∷ []
 
 -- the items of each assortment: a name, and what stands after it up to the next name
 abbrev pub groups : List ItemParts → List (List ItemParts)
@@ -62,13 +45,9 @@ groups items = groups_of name_slot items
 abbrev pub says_apt : List ItemParts → Bool
 says_apt items = bytes_eq (rest_in file_slot items) (codes "APT")
 
--- no item of an assortment stands before the first name
-abbrev pub has_no_strays : List ItemParts → Bool
-has_no_strays items = list_all (λ s. count_in s (before_first (is_at name_slot) items) == 0) member_slots
-
 -- there is a name, and no item of an assortment stands before the first one
 abbrev pub begins_with_name : List ItemParts → Bool
-begins_with_name items = nat_lt 0 (count_in name_slot items) && has_no_strays items
+begins_with_name items = nat_lt 0 (count_in name_slot items) && has_no_strays name_slot assortment_slots items
 
 unfoldable pub group_present : List ItemParts → Result (Unit {0}) AptFault
 group_present group = none_of (first_missing member_slots group) Missing
@@ -77,11 +56,11 @@ group_present group = none_of (first_missing member_slots group) Missing
 unfoldable pub present : List ItemParts → Result (Unit {0}) AptFault
 present items = do
   _ ← none_of (first_missing head_slots items) Missing
-  _ ← check (begins_with_name items) (Missing 911 1)
+  _ ← check (begins_with_name items) (of_slot Missing name_slot)
   each group_present (groups items)
 
 unfoldable pub group_single : List ItemParts → Result (Unit {0}) AptFault
-group_single group = none_of (first_twice member_slots group) Twice
+group_single group = none_of (first_twice assortment_slots group) Twice
 
 -- Line 4, Twice: no item stands twice in the file or in its assortment.
 unfoldable pub single : List ItemParts → Result (Unit {0}) AptFault
@@ -89,21 +68,22 @@ single items = do
   _ ← none_of (first_twice (file_slot ∷ head_slots) items) Twice
   each group_single (groups items)
 
--- the numbers of an item
-unfoldable pub numbers_in : Slot → List ItemParts → Result (List ℕ) AptFault
-numbers_in s items = with_fault (Digits s.number s.kind) (numbers_of (rest_in s items))
+-- the numbers of an item that may be left out: where it is absent it says so much
+unfoldable pub numbers_or : ℕ → Slot → List ItemParts → Result (List ℕ) AptFault
+numbers_or absent s items = if count_in s items == 0 then Ok (absent ∷ []) else numbers_in Digits s items
 
 -- what the items of an assortment say
 unfoldable pub draft_of : List ItemParts → Result Draft AptFault
 draft_of group = do
-  species ← numbers_in (slot 912 1) group
-  grades ← numbers_in (slot 913 1) group
-  price_kind ← numbers_in (slot 914 1) group
-  diameters ← numbers_in (slot 915 1) group
-  upper ← numbers_in (slot 915 2) group
-  lengths ← numbers_in (slot 916 1) group
-  prices ← numbers_in (slot 917 1) group
-  targets ← numbers_in (slot 918 1) group
+  species ← numbers_in Digits species_slot group
+  grades ← numbers_in Digits grades_slot group
+  price_kind ← numbers_in Digits price_kind_slot group
+  diameters ← numbers_in Digits diameters_slot group
+  upper ← numbers_in Digits upper_slot group
+  lengths ← numbers_in Digits lengths_slot group
+  prices ← numbers_in Digits prices_slot group
+  targets ← numbers_in Digits targets_slot group
+  trim ← numbers_or 0 trim_slot group
   Ok (record {
     name = rest_in name_slot group;
     species = species;
@@ -114,15 +94,16 @@ draft_of group = do
     lengths = lengths;
     prices = prices;
     targets = targets;
+    trim = trim;
   })
 
 -- Line 5, Digits: each item but the texts is a list of numbers.
 unfoldable pub file_draft_of : List ItemParts → Result FileDraft AptFault
 file_draft_of items = do
-  step ← numbers_in (slot 901 1) items
-  period ← numbers_in (slot 902 1) items
-  limit ← numbers_in (slot 903 1) items
-  count ← numbers_in (slot 910 1) items
+  step ← numbers_in Digits module_slot items
+  period ← numbers_in Digits period_slot items
+  limit ← numbers_in Digits limit_slot items
+  count ← numbers_in Digits count_slot items
   drafts ← make_each draft_of (groups items)
   Ok (record {
     «module» = step;
@@ -131,12 +112,6 @@ file_draft_of items = do
     count = count;
     drafts = drafts;
   })
-
-abbrev pub within : ℕ → ℕ → ℕ → Bool
-within low high n = nat_le low n && nat_le n high
-
-abbrev pub all_within : ℕ → ℕ → List ℕ → Bool
-all_within low high ns = list_all (within low high) ns
 
 -- from the blank on, and none of | ~ and DEL
 abbrev pub is_name_byte : ℕ → Bool
@@ -148,30 +123,25 @@ is_name bs = within 1 32 (length bs) && list_all is_name_byte bs
 
 unfoldable pub draft_range : Draft → Result (Unit {0}) AptFault
 draft_range d = do
-  _ ← check (is_name d.name) (Range 911 1)
-  _ ← check (all_within 1 255 d.species) (Range 912 1)
-  _ ← check (all_within 1 8 d.grades) (Range 913 1)
-  _ ← check (all_within 1 2 d.price_kind) (Range 914 1)
-  _ ← check (all_within 0 1500 d.diameters) (Range 915 1)
-  _ ← check (all_within 1 2000 d.upper) (Range 915 2)
-  _ ← check (all_within 500 30000 d.lengths) (Range 916 1)
-  _ ← check (all_within 0 10000000 d.prices) (Range 917 1)
-  check (all_within 0 1000000 d.targets) (Range 918 1)
+  _ ← check (is_name d.name) (of_slot Range name_slot)
+  _ ← check (all_within 1 255 d.species) (of_slot Range species_slot)
+  _ ← check (all_within 1 8 d.grades) (of_slot Range grades_slot)
+  _ ← check (all_within 1 2 d.price_kind) (of_slot Range price_kind_slot)
+  _ ← check (all_within 0 1500 d.diameters) (of_slot Range diameters_slot)
+  _ ← check (all_within 1 2000 d.upper) (of_slot Range upper_slot)
+  _ ← check (all_within 500 30000 d.lengths) (of_slot Range lengths_slot)
+  _ ← check (all_within 0 10000000 d.prices) (of_slot Range prices_slot)
+  _ ← check (all_within 0 1000000 d.targets) (of_slot Range targets_slot)
+  check (all_within 0 200 d.trim) (of_slot Range trim_slot)
 
 -- Line 6, Range: each number is in its range, and each name meets its rule.
 unfoldable pub in_range : FileDraft → Result (Unit {0}) AptFault
 in_range file = do
-  _ ← check (all_within 10 1000 file.«module») (Range 901 1)
-  _ ← check (all_within 1 1000 file.period) (Range 902 1)
-  _ ← check (all_within 0 1000 file.limit) (Range 903 1)
-  _ ← check (all_within 1 16 file.count) (Range 910 1)
+  _ ← check (all_within 10 1000 file.«module») (of_slot Range module_slot)
+  _ ← check (all_within 1 1000 file.period) (of_slot Range period_slot)
+  _ ← check (all_within 0 1000 file.limit) (of_slot Range limit_slot)
+  _ ← check (all_within 1 16 file.count) (of_slot Range count_slot)
   each draft_range file.drafts
-
--- each number is below the next
-abbrev pub is_rising : List ℕ → Bool
-is_rising [] = true
-is_rising (n ∷ []) = true
-is_rising (m ∷ n ∷ ns) = nat_lt m n && is_rising (n ∷ ns)
 
 -- each of the lower limits is below each upper diameter
 abbrev pub all_above : List ℕ → List ℕ → Bool
@@ -179,10 +149,10 @@ all_above lows highs = list_all (λ high. list_all (λ low. nat_lt low high) low
 
 unfoldable pub draft_order : Draft → Result (Unit {0}) AptFault
 draft_order d = do
-  _ ← check (is_rising d.grades) (Order 913 1)
-  _ ← check (is_rising d.diameters) (Order 915 1)
-  _ ← check (all_above d.diameters d.upper) (Order 915 2)
-  check (is_rising d.lengths) (Order 916 1)
+  _ ← check (is_rising d.grades) (of_slot Order grades_slot)
+  _ ← check (is_rising d.diameters) (of_slot Order diameters_slot)
+  _ ← check (all_above d.diameters d.upper) (of_slot Order upper_slot)
+  check (is_rising d.lengths) (of_slot Order lengths_slot)
 
 -- Line 7, Order: each list is in its order.
 unfoldable pub in_order : FileDraft → Result (Unit {0}) AptFault
@@ -193,14 +163,15 @@ is_one ns = length ns == 1
 
 unfoldable pub draft_count : Draft → Result (Unit {0}) AptFault
 draft_count d = do
-  _ ← check (is_one d.species) (Count 912 1)
-  _ ← check (within 1 8 (length d.grades)) (Count 913 1)
-  _ ← check (is_one d.price_kind) (Count 914 1)
-  _ ← check (within 1 32 (length d.diameters)) (Count 915 1)
-  _ ← check (is_one d.upper) (Count 915 2)
-  _ ← check (within 1 32 (length d.lengths)) (Count 916 1)
-  _ ← check (length d.prices == length d.diameters * length d.lengths) (Count 917 1)
-  check (length d.targets == length d.diameters * length d.lengths) (Count 918 1)
+  _ ← check (is_one d.species) (of_slot Count species_slot)
+  _ ← check (within 1 8 (length d.grades)) (of_slot Count grades_slot)
+  _ ← check (is_one d.price_kind) (of_slot Count price_kind_slot)
+  _ ← check (within 1 32 (length d.diameters)) (of_slot Count diameters_slot)
+  _ ← check (is_one d.upper) (of_slot Count upper_slot)
+  _ ← check (within 1 32 (length d.lengths)) (of_slot Count lengths_slot)
+  _ ← check (length d.prices == length d.diameters * length d.lengths) (of_slot Count prices_slot)
+  _ ← check (length d.targets == length d.diameters * length d.lengths) (of_slot Count targets_slot)
+  check (is_one d.trim) (of_slot Count trim_slot)
 
 -- one number, and as many as there are assortments
 abbrev pub is_number_of : List Draft → List ℕ → Bool
@@ -209,10 +180,10 @@ is_number_of drafts ns = is_one ns && slice_index ns 0 == length drafts
 -- Line 8, Count: there are as many numbers as there should be.
 unfoldable pub in_number : FileDraft → Result (Unit {0}) AptFault
 in_number file = do
-  _ ← check (is_one file.«module») (Count 901 1)
-  _ ← check (is_one file.period) (Count 902 1)
-  _ ← check (is_one file.limit) (Count 903 1)
-  _ ← check (is_number_of file.drafts file.count) (Count 910 1)
+  _ ← check (is_one file.«module») (of_slot Count module_slot)
+  _ ← check (is_one file.period) (of_slot Count period_slot)
+  _ ← check (is_one file.limit) (of_slot Count limit_slot)
+  _ ← check (is_number_of file.drafts file.count) (of_slot Count count_slot)
   each draft_count file.drafts
 
 -- the fault of a number that was found
@@ -246,6 +217,7 @@ assortment_of d = record {
   lengths = d.lengths;
   prices = d.prices;
   targets = d.targets;
+  trim = slice_index d.trim 0;
 }
 
 -- the instruction that the numbers say

@@ -1,7 +1,9 @@
 //! Why a file has no instruction.
 ghost use Rattle.std.specs.Prelude.{◌≡◌};
-ghost use Rattle.buck_apt.specs.declared.fault.AptFault.TheVariants.{Memory};
+ghost use Rattle.buck_record.specs.Rules.{of_slot};
+ghost use Rattle.buck_apt.specs.declared.fault.AptFault.TheVariants.{Memory, Head, Missing, Twice, Digits, Range, Order, Count};
 
+use buck_record::Slot;
 use std::alloc::{AllocError, AllocFailed};
 use thiserror::Error;
 
@@ -83,4 +85,63 @@ impl<T: Drop> From<AllocFailed<T>> for AptFault {
     fn from(_e: AllocFailed<T>) -> AptFault {
         AptFault::Memory
     }
+}
+
+/// An item has no head.
+pub(crate) fn head(item: usize) -> AptFault
+    ensures { result ≡ Head item }
+{
+    AptFault::Head { item }
+}
+
+/// A word of the slot's item is no number.
+pub(crate) fn digits(slot: Slot, place: usize) -> AptFault
+    ensures { result ≡ Digits slot.number slot.kind place }
+{
+    let Slot { number, kind } = slot;
+    AptFault::Digits {
+        number,
+        kind,
+        place,
+    }
+}
+
+/// The slot has no item.
+pub(crate) fn missing(slot: Slot) -> AptFault
+    ensures { result ≡ of_slot Missing slot }
+{
+    let Slot { number, kind } = slot;
+    AptFault::Missing { number, kind }
+}
+
+/// The slot has two items.
+pub(crate) fn twice(slot: Slot) -> AptFault
+    ensures { result ≡ of_slot Twice slot }
+{
+    let Slot { number, kind } = slot;
+    AptFault::Twice { number, kind }
+}
+
+/// The slot's item is out of range.
+pub(crate) fn range(slot: Slot) -> AptFault
+    ensures { result ≡ of_slot Range slot }
+{
+    let Slot { number, kind } = slot;
+    AptFault::Range { number, kind }
+}
+
+/// The slot's item is out of order.
+pub(crate) fn order(slot: Slot) -> AptFault
+    ensures { result ≡ of_slot Order slot }
+{
+    let Slot { number, kind } = slot;
+    AptFault::Order { number, kind }
+}
+
+/// The slot's item has another count of numbers.
+pub(crate) fn count(slot: Slot) -> AptFault
+    ensures { result ≡ of_slot Count slot }
+{
+    let Slot { number, kind } = slot;
+    AptFault::Count { number, kind }
 }

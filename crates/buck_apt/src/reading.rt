@@ -1,33 +1,20 @@
 //! The instruction of a file.
 ghost use Rattle.std.specs.Prelude.{◌≡◌};
-ghost use Rattle.buck_record.specs.Reading.{Gives, with_fault, listed};
-ghost use Rattle.buck_record.specs.Record.{items_of};
-ghost use Rattle.buck_apt.specs.declared.fault.AptFault.TheVariants.{Memory, Head};
+ghost use Rattle.buck_record.specs.Reading.{Gives};
+ghost use Rattle.buck_apt.specs.declared.fault.AptFault.TheVariants.{Memory};
 ghost use Rattle.buck_apt.specs.Apt.{groups, says_apt, apt_of};
 ghost use Rattle.buck_apt.specs.inner.Parts.{has_form, draft_in, instruction_in};
 
-use crate::draft::FileDraft;
-use crate::fault::AptFault;
+use crate::draft::{FileDraft, file_draft_of};
+use crate::fault::{self, AptFault};
 use crate::instruction::Instruction;
-use crate::limits::within_limits;
-use crate::numbers::file_draft_of;
-use crate::presence::{present, single};
-use crate::slots::{FILE, NAME};
+use crate::lines::{present, single, within_limits};
+use crate::slots::NAME;
 use buck_record::check::check;
+use buck_record::rules::{FILE, items_in};
 use buck_record::table::{groups, rest};
-use buck_record::{Group, Piece, RecordFault, pieces};
+use buck_record::{Group, Piece};
 use std::alloc::Global;
-
-/// The items of the file.
-fn items_of<'a>(alloc: Global, bytes: &'a [u8]) -> Result<Vec<Piece<'a>>, AptFault>
-    ensures { Gives Memory (listed result) (with_fault (λ k. Head k) (items_of bytes.now)) }
-{
-    match pieces(alloc, bytes) {
-        Ok(found) => Ok(found),
-        Err(RecordFault::Head { item }) => Err(AptFault::Head { item }),
-        Err(_) => Err(AptFault::Memory),
-    }
-}
 
 /// The first item that names the kind of file says `APT`.
 fn says_apt<'a>(items: &'a [Piece<'a>]) -> bool
@@ -64,7 +51,7 @@ fn instruction_in<'a>(alloc: Global, items: &'a [Piece<'a>]) -> Result<Instructi
 {
     let file = draft_in(alloc, items)?;
     within_limits(&file)?;
-    Ok(Instruction::of(alloc, &file)?)
+    Ok(Instruction::of(alloc, file)?)
 }
 
 /// Reads an instruction file, whose bytes are items between tildes (see docs/FORMATS.md).
@@ -72,10 +59,9 @@ fn instruction_in<'a>(alloc: Global, items: &'a [Piece<'a>]) -> Result<Instructi
 /// The answer is the instruction that the bytes have, or the first refusal that applies, in the order in which
 /// [`AptFault`] lists them; of one kind it names the first item in the order of the file's table. `Memory` comes
 /// in place of any answer where a growth was refused.
-#[tactic(auto, using(crate::proofs::PartLemmas::apt_without_items, crate::proofs::PartLemmas::apt_of_items))]
 pub fn read_apt(alloc: Global, bytes: &[u8]) -> Result<Instruction, AptFault>
     ensures { Gives Memory result (apt_of bytes.now) }
 {
-    let items = items_of(alloc, bytes)?;
+    let items = items_in(alloc, bytes, fault::head)?;
     instruction_in(alloc, items.as_slice())
 }

@@ -1,42 +1,9 @@
 //! Tests of numbers and names.
 ghost use Rattle.std.specs.Prelude.{◌≡◌, ◌<◌, ◌==◌, length, nat_le, nat_lt, not, find, sum, slice_index};
 ghost use Rattle.std.specs.List.{list_all};
-ghost use Rattle.buck_apt.specs.Apt.{
-  within,
-  all_within,
-  is_rising,
-  is_name,
-  is_name_byte,
-  all_above,
-  is_one,
-  first_off_module,
-};
+ghost use Rattle.buck_apt.specs.Apt.{is_name, is_name_byte, all_above, is_one, first_off_module};
 
-/// A number is from `low` to `high`.
-pub(crate) fn within(low: usize, high: usize, n: usize) -> bool
-    ensures { result ≡ within low high n }
-{
-    low <= n && n <= high
-}
-
-/// Each number is from `low` to `high`.
-pub(crate) fn all_within(low: u32, high: u32, numbers: &[u32]) -> bool
-    ensures { result ≡ all_within low high numbers.now }
-{
-    numbers.iter().all(|n| low <= *n && *n <= high)
-}
-
-/// Each number is below the next.
-pub(crate) fn is_rising(numbers: &[u32]) -> bool
-    ensures { result ≡ is_rising numbers.now }
-{
-    for i in 1..numbers.len() {
-        if numbers[i] <= numbers[i - 1] {
-            return false;
-        }
-    }
-    true
-}
+use buck_record::rules::within;
 
 /// Each of the lower limits is below the number.
 fn all_below(lows: &[u32], high: u32) -> bool

@@ -1,8 +1,6 @@
 //! The items of an instruction file's table.
 use buck_record::Slot;
-
-/// The kind of file.
-pub(crate) const FILE: Slot = Slot { number: 1, kind: 2 };
+use buck_record::rules::FILE;
 
 pub(crate) const MODULE: Slot = Slot {
     number: 901,
@@ -73,13 +71,24 @@ pub(crate) const TARGETS: Slot = Slot {
     kind: 1,
 };
 
+/// The trim allowance, which may be absent.
+pub(crate) const TRIM: Slot = Slot {
+    number: 919,
+    kind: 1,
+};
+
 /// What stands once in a file, after the kind of file.
 pub(crate) const HEAD: [Slot; 4] = [MODULE, PERIOD, LIMIT, COUNT];
 
 /// What may stand only once in a file.
 pub(crate) const ALONE: [Slot; 5] = [FILE, MODULE, PERIOD, LIMIT, COUNT];
 
-/// What stands once in an assortment, after its name.
+/// What each assortment has once, after its name.
 pub(crate) const MEMBERS: [Slot; 8] = [
     SPECIES, GRADES, PRICE_KIND, DIAMETERS, UPPER, LENGTHS, PRICES, TARGETS,
+];
+
+/// What may stand only once in an assortment, after its name.
+pub(crate) const IN_ASSORTMENT: [Slot; 9] = [
+    SPECIES, GRADES, PRICE_KIND, DIAMETERS, UPPER, LENGTHS, PRICES, TARGETS, TRIM,
 ];

@@ -23,3 +23,5 @@ mod ranges;
 mod refusals;
 #[cfg(test)]
 mod texts;
+#[cfg(test)]
+mod trims;

@@ -1,7 +1,8 @@
 -- Checks of a list, one element after the other.
 use Rattle.std.proofs.Common.{◌≡◌, ℕ, ◌+◌, ◌<◌, ◌≤◌, List, [], ◌∷◌, ◌++◌, append_assoc, Result, Ok, Err, length, drop, get_or, refl, sym, ap, ◌∙◌, drop-cons, add-one}
 use Rattle.std.proofs.lemmas.List.{drop_all, append-nil}
-use Rattle.buck_record.specs.Check.{◌>>=◌, each, make_each, IsCheck}
+use Rattle.buck_record.specs.Check.{◌>>=◌, each, make_each, IsCheck, IsMaker}
+use Rattle.buck_record.specs.Reading.{IsMemory}
 use Rattle.std.specs.Borrow.{Bor}
 
 here : {X : Type 0} (xs : List X) (i : ℕ) (d : X) → i < length xs → drop i xs ≡ get_or xs i d ∷ drop (i + 1) xs
@@ -73,3 +74,8 @@ module _ {X Y E : Type 0} (f : X → Result Y E) (xs : List X) where
 
   pub make_ends : (front : List Y) (i : ℕ) → length xs ≤ i → after_front front (make_each f (drop i xs)) ≡ make_each f xs → make_each f xs ≡ Ok front
   make_ends front i le e = sym e ∙ ap (λ r. after_front front r) (ap (make_each f) (drop_all i xs le) ∙ make-nil) ∙ ap (λ ys. Ok ys) (append-nil front)
+
+-- the elements that were made, before those that are still to be made
+abbrev pub MakesSoFar : {A X Y E : Type 0} → (A → E → Type 0) → (Bor X → Result Y E → Type 0) → List X → List Y → ℕ → Type 0
+MakesSoFar {A} {X} {Y} {E} gives post xs made i =
+    (memory : E) (f : X → Result Y E) → IsMemory gives memory → IsMaker memory post f → after_front made (make_each f (drop i xs)) ≡ make_each f xs

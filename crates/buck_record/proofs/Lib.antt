@@ -8,3 +8,5 @@ pub mod WordLemmas
 pub mod TableLemmas
 pub mod RoundLemmas
 pub mod CheckLemmas
+pub mod RuleLemmas
+pub mod PassLemmas

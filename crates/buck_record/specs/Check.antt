@@ -2,6 +2,7 @@
 use Rattle.std.specs.Prelude.{◌≡◌, ℕ, Bool, true, false, List, [], ◌∷◌, Option, Some, None, Result, Ok, Err}
 use Rattle.std.specs.Borrow.{Bor}
 use Rattle.buck_record.specs.declared.slot.Slot.{Slot}
+use Rattle.buck_record.specs.Reading.{Gives, IsMemory}
 
 -- what f gives of a value, or the fault
 infixl 10 ◌>>=◌
@@ -18,6 +19,10 @@ check false fault = Err fault
 abbrev pub none_of : {E : Type 0} → Option Slot → (ℕ → ℕ → E) → Result (Unit {0}) E
 none_of None fault = Ok tt
 none_of (Some slot) fault = Err (fault slot.number slot.kind)
+
+-- a closure makes the fault that names a slot
+abbrev pub NamesSlot : {E : Type 0} → (Slot → E → Type 0) → (ℕ → ℕ → E) → Type 0
+NamesSlot {E} post fault = (s : Slot) (e : E) → post s e → e ≡ fault s.number s.kind
 
 -- the first fault of the elements
 unfoldable pub each : {X E : Type 0} → (X → Result (Unit {0}) E) → List X → Result (Unit {0}) E
@@ -36,3 +41,12 @@ IsCheck {X} {E} post t = (x : Bor X) (r : Result (Unit {0}) E) → post x r → 
 -- the answer is the first fault of the elements, by the check that the closure answers
 abbrev pub ChecksEach : {X E : Type 0} → (Bor X → Result (Unit {0}) E → Type 0) → List X → Result (Unit {0}) E → Type 0
 ChecksEach {X} {E} post xs r = (t : X → Result (Unit {0}) E) → IsCheck post t → r ≡ each t xs
+
+-- a closure makes of an element what f makes of it, memory aside
+abbrev pub IsMaker : {X Y E : Type 0} → E → (Bor X → Result Y E → Type 0) → (X → Result Y E) → Type 0
+IsMaker {X} {Y} {E} memory post f = (x : Bor X) (r : Result Y E) → post x r → Gives memory r (f x.now)
+
+-- the answer is what the closure makes of the elements, or the first fault, memory aside
+abbrev pub MakesEach : {A X Y E : Type 0} → (A → E → Type 0) → (Bor X → Result Y E → Type 0) → List X → Result (List Y) E → Type 0
+MakesEach {A} {X} {Y} {E} gives post xs r =
+    (memory : E) (f : X → Result Y E) → IsMemory gives memory → IsMaker memory post f → Gives memory r (make_each f xs)

@@ -4,5 +4,6 @@ pub mod Reading
 pub mod Record
 pub mod Table
 pub mod Check
+pub mod Rules
 pub mod Written
 pub mod Line

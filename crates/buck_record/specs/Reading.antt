@@ -7,6 +7,10 @@ abbrev pub Gives : {X E : Type 0} → E → Result X E → Result X E → Type 0
 Gives memory (Ok x) read = read ≡ Ok x
 Gives memory (Err e) read = e ≢ memory → read ≡ Err e
 
+-- a refused growth becomes the fault `memory`
+abbrev pub IsMemory : {A E : Type 0} → (A → E → Type 0) → E → Type 0
+IsMemory {A} {E} gives memory = (a : A) (e : E) → gives a e → e ≡ memory
+
 -- the elements of a vector that was returned
 abbrev pub listed : {X A E : Type 0} → Result (Vec X A) E → Result (List X) E
 listed (Ok v) = Ok v.items

@@ -1,18 +1,31 @@
 //! Checks one after the other: the first that fails is the answer.
-ghost use Rattle.std.specs.Prelude.{◌≡◌, ◌==◌, nat_lt};
+ghost use Rattle.std.specs.Prelude.{◌≡◌, ◌==◌, ℕ, nat_lt};
 ghost use Rattle.std.specs.List.{list_all};
-ghost use Rattle.buck_record.specs.Check.{check, ChecksEach};
+ghost use Rattle.buck_record.specs.Check.{check, none_of, NamesSlot, ChecksEach, MakesEach};
 ghost use Rattle.buck_record.specs.Table.{count_in};
 
 use crate::item::Piece;
+use crate::listed::Listed;
 use crate::slot::Slot;
 use crate::table::count;
+use std::alloc::{AllocError, Global};
 
 /// Nothing where the test holds, and else the fault.
 pub fn check<E: Drop>(holds: bool, fault: E) -> Result<(), E>
     ensures { result ≡ check holds fault }
 {
     if holds { Ok(()) } else { Err(fault) }
+}
+
+/// The fault that is made of a slot, where there is one, and else nothing.
+pub fn none_of<E, F: FnOnce(Slot) -> E>(found: Option<Slot>, fault: F) -> Result<(), E>
+    requires { F.IsAlwaysCallable fault }
+    ensures { (f : ℕ → ℕ → E) → NamesSlot (F.post fault) f → result ≡ none_of found f }
+{
+    match found {
+        None => Ok(()),
+        Some(slot) => Err(fault(slot)),
+    }
 }
 
 /// The fault of the first element that has one, by the check that the closure answers, or nothing.
@@ -24,6 +37,25 @@ pub fn each<T, E, F: Fn(&T) -> Result<(), E>>(xs: &[T], f: F) -> Result<(), E>
         f(x)?;
     }
     Ok(())
+}
+
+/// What the closure makes of each element, in order, or the fault of the first of which it makes nothing; or the fault
+/// of a refused growth.
+pub fn make_each<T, U: Drop, E: From<AllocError>, F: Fn(&T) -> Result<U, E>>(
+    alloc: Global,
+    xs: &[T],
+    f: F,
+) -> Result<Listed<U>, E>
+    requires { F.IsAlwaysCallable f }
+    ensures { MakesEach E.from_gives (F.post f) xs.now result }
+{
+    let mut made = Vec::with_capacity(alloc, xs.len())?;
+    for x in xs {
+        let Ok(()) = made.push(f(x)?) else {
+            return Err(E::from(AllocError));
+        };
+    }
+    Ok(Listed::of(made))
 }
 
 /// Whether an item stands in the slot.

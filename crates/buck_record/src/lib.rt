@@ -1,8 +1,8 @@
 //! Files of items: what stands between tildes, each with a number, a kind and a rest.
 //!
 //! [`pieces`] and [`items`] read a file, [`numbers`], [`number`] and [`wide`] the rest of an item. [`table`] looks items
-//! up by number and kind, [`check`] chains the checks of a reader that stands on this crate, and [`laws`] says that what
-//! is written is read again. [`put_number`], [`put_numbers`] and [`put_line`] write.
+//! up by number and kind, [`check`] chains the checks of a reader that stands on this crate, [`rules`] has what such
+//! readers share, and [`laws`] says that what is written is read again. [`put_number`], [`put_numbers`] and [`put_line`] write.
 #![tactic(auto)]
 
 pub mod check;
@@ -15,6 +15,7 @@ mod line;
 mod listed;
 mod memory;
 mod reading;
+pub mod rules;
 mod slot;
 pub mod table;
 mod white;

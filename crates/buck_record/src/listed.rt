@@ -36,4 +36,11 @@ impl<T> Listed<T> {
     {
         self.held.len()
     }
+
+    /// Gives its values back, and takes no memory.
+    pub fn into_vec(self) -> Vec<T>
+        ensures { result.items ≡ self }
+    {
+        self.held
+    }
 }

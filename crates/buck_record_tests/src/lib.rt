@@ -1,5 +1,5 @@
 //! Tests of the public calls of `buck_record`: the worked rows, each sentence on the form of a file, tables of items,
-//! chains of checks and the texts of faults.
+//! chains of checks, what readers share, and the texts of faults.
 #![tactic(auto)]
 
 #[cfg(test)]
@@ -10,6 +10,8 @@ mod files;
 mod long_files;
 #[cfg(test)]
 mod readings;
+#[cfg(test)]
+mod rules;
 #[cfg(test)]
 mod tables;
 #[cfg(test)]

@@ -5,7 +5,9 @@ use buck_record::{Item, Piece, RecordFault, items, numbers, pieces};
 pub(crate) type Wanted<'a> = (u16, u16, &'a [u8]);
 
 /// The fault of a reading, where memory did not run out.
-fn fault_of<T: Drop>(read: Result<T, RecordFault>) -> Result<Option<RecordFault>, RecordFault> {
+pub(crate) fn fault_of<T: Drop>(
+    read: Result<T, RecordFault>,
+) -> Result<Option<RecordFault>, RecordFault> {
     match read {
         Ok(_) => Ok(None),
         Err(RecordFault::Memory) => Err(RecordFault::Memory),

@@ -1,33 +1,27 @@
 -- What numbers that passed the tests are.
-use Rattle.std.proofs.Common.{◌≡◌, ℕ, ◌+◌, ◌*◌, ◌%◌, ◌<◌, ◌≤◌, ◌&&◌, ◌==◌, Bool, true, false, List, [], ◌∷◌, Result, Ok, Err, length, get_or, nat_le, nat_lt, refl, arith, eqb-true}
+use Rattle.std.proofs.Common.{◌≡◌, ℕ, ◌+◌, ◌*◌, ◌%◌, ◌<◌, ◌≤◌, ◌==◌, true, List, [], ◌∷◌, Ok, length, get_or, nat_le, nat_lt, refl, arith, eqb-true}
 use Rattle.std.specs.List.{AllByRecursion}
 use Rattle.std.specs.Prelude.{All}
 use Rattle.std.proofs.lemmas.Bool.{ltb-true, leb-true}
 use Rattle.std.proofs.lemmas.List.Elements.{All-from_recursion}
 use Rattle.std.proofs.lemmas.List.Sums.{AllPass-from_list_all}
-use Rattle.buck_record.specs.Check.{◌>>=◌, check, each}
+use Rattle.buck_record.specs.Check.{◌>>=◌}
+use Rattle.buck_record.specs.Rules.{within, all_within, is_rising}
+use Rattle.buck_record.proofs.PassLemmas.{passed, check_ok, then_ok, each_ok, both, within_ok}
 use Rattle.buck_stem.specs.declared.draft.Draft.{Draft}
-use Rattle.buck_stem.specs.declared.fault.StmFault.{StmFault}
-use Rattle.buck_stem.specs.declared.fault.StmFault.TheVariants.{Range, Count}
 use Rattle.buck_stem.specs.Stem.{IsStem, IsGrade, IsRisingFrom, stem_of}
-use Rattle.buck_stem.specs.Stm.{within, all_within, starts, grades, zones_of, is_rising, draft_range, draft_order, draft_count, in_range, in_order, in_number, parts_of}
+use Rattle.buck_stem.specs.Stm.{starts, grades, zones_of, draft_range, draft_order, draft_count, in_range, in_order, in_number, parts_of}
 use Rattle.buck_stem.specs.inner.Stages.{checked}
-
-pub and_parts : (a b : Bool) → (a && b) ≡ true → (a ≡ true) × (b ≡ true)
-and_parts true b h = (refl, h)
-and_parts false b h = cc
-
-pub is_within : (low high n : ℕ) → within low high n ≡ true → (low ≤ n) × (n ≤ high)
-is_within low high n h = let p = and_parts (nat_le low n) (nat_le n high) h in (leb-true _ _ p.0, leb-true _ _ p.1)
+use Rattle.buck_stem.specs.inner.Ready.{IsReadyDraft}
 
 pub first_within : (low high n : ℕ) (ns : List ℕ) → all_within low high (n ∷ ns) ≡ true → ((low ≤ n) × (n ≤ high)) × (all_within low high ns ≡ true)
-first_within low high n ns h = let p = and_parts (within low high n) (all_within low high ns) h in (is_within low high n p.0, p.1)
+first_within low high n ns h = let p = both (within low high n) (all_within low high ns) h in (within_ok low high n p.0, p.1)
 
 pub each_within : (low high : ℕ) (ns : List ℕ) → all_within low high ns ≡ true → All (λ n. n ≤ high) ns
-each_within low high ns h = λ k d lt. (is_within low high (get_or ns k d) (AllPass-from_list_all (within low high) ns h k d lt)).1
+each_within low high ns h = λ k d lt. (within_ok low high (get_or ns k d) (AllPass-from_list_all (within low high) ns h k d lt)).1
 
 pub at_within : (low high : ℕ) (ns : List ℕ) (k d : ℕ) → all_within low high ns ≡ true → k < length ns → (low ≤ get_or ns k d) × (get_or ns k d ≤ high)
-at_within low high ns k d h lt = is_within low high (get_or ns k d) (AllPass-from_list_all (within low high) ns h k d lt)
+at_within low high ns k d h lt = within_ok low high (get_or ns k d) (AllPass-from_list_all (within low high) ns h k d lt)
 
 -- zones of numbers whose odd places are starts and whose even places are grades
 half : (ns : List ℕ) → length (zones_of ns) * 2 ≤ length ns
@@ -51,31 +45,9 @@ risen low (s ∷ []) first h = tt
 risen low (s ∷ g ∷ []) first h = (first s [] refl, tt)
 risen low (s ∷ g ∷ t ∷ []) first h = (first s (t ∷ []) refl, tt)
 risen low (s ∷ g ∷ t ∷ f ∷ more) first h =
-    let p = and_parts (nat_lt s t) (is_rising (t ∷ starts more)) h in
+    let p = both (nat_lt s t) (is_rising (t ∷ starts more)) h in
     let above : s < t = ltb-true _ _ p.0 in
     (first s (t ∷ starts more) refl, risen (s + 1) (t ∷ f ∷ more) (λ n rest e. let same : t ≡ n = cc in omega arith) p.1)
-
--- a check that passed, and what stands after it
-pub passed : (b : Bool) (e : StmFault) (r : Result (Unit {0}) StmFault) → (check b e >>= λ _. r) ≡ Ok tt → (b ≡ true) × (r ≡ Ok tt)
-passed true e r h = (refl, h)
-passed false e r h = cc
-
-pub check_ok : (b : Bool) (e : StmFault) → check b e ≡ Ok tt → b ≡ true
-check_ok true e h = refl
-check_ok false e h = cc
-
-then_ok : (r s : Result (Unit {0}) StmFault) → (r >>= λ _. s) ≡ Ok tt → (r ≡ Ok tt) × (s ≡ Ok tt)
-then_ok (Ok tt) s h = (refl, h)
-then_ok (Err e) s h = cc
-
--- each element of a list that passed has passed
-pub each_ok : {X : Type 0} (f : X → Result (Unit {0}) StmFault) (xs : List X) → each f xs ≡ Ok tt → AllByRecursion (λ x. f x ≡ Ok tt) xs
-unfolding each
-each_ok f [] e = tt
-each_ok f (x ∷ xs) e = let p = then_ok (f x) (each f xs) e in (p.0, each_ok f xs p.1)
-
-pub all_ok : {X : Type 0} (f : X → Result (Unit {0}) StmFault) (xs : List X) → each f xs ≡ Ok tt → All (λ x. f x ≡ Ok tt) xs
-all_ok f xs e = All-from_recursion (λ x. f x ≡ Ok tt) xs (each_ok f xs e)
 
 -- what the tests of a stem's numbers leave
 pub record AreInRange (d : Draft) : Type 0 where
@@ -87,9 +59,9 @@ pub record AreInRange (d : Draft) : Type 0 where
 pub range_ok : (d : Draft) → draft_range d ≡ Ok tt → AreInRange d
 unfolding draft_range
 range_ok d h =
-    let q = passed (all_within 1 255 d.species) (Range 952 1) _ h in
-    let r = passed (all_within 0 1500 d.samples) (Range 953 1) _ q.1 in
-    let z = and_parts (all_within 0 40000 (starts d.zones)) (all_within 1 8 (grades d.zones)) (check_ok _ (Range 954 1) r.1) in
+    let q = passed (all_within 1 255 d.species) _ _ h in
+    let r = passed (all_within 0 1500 d.samples) _ _ q.1 in
+    let z = both (all_within 0 40000 (starts d.zones)) (all_within 1 8 (grades d.zones)) (check_ok _ _ r.1) in
     record { species = q.0; samples = r.0; starts = z.0; grades = z.1 }
 
 pub record AreCounted (d : Draft) : Type 0 where
@@ -101,11 +73,11 @@ pub record AreCounted (d : Draft) : Type 0 where
 pub count_ok : (d : Draft) → draft_count d ≡ Ok tt → AreCounted d
 unfolding draft_count
 count_ok d h =
-    let p = passed (length d.number == 1) (Count 951 1) _ h in
-    let q = passed (length d.species == 1) (Count 952 1) _ p.1 in
-    let r = passed (within 1 401 (length d.samples)) (Count 953 1) _ q.1 in
-    let z = and_parts (length d.zones % 2 == 0) (nat_le (length d.zones) 200) (check_ok _ (Count 954 1) r.1) in
-    record { number = eqb-true _ _ p.0; species = eqb-true _ _ q.0; samples = is_within 1 401 (length d.samples) r.0; zones = leb-true _ _ z.1 }
+    let p = passed (length d.number == 1) _ _ h in
+    let q = passed (length d.species == 1) _ _ p.1 in
+    let r = passed (within 1 401 (length d.samples)) _ _ q.1 in
+    let z = both (length d.zones % 2 == 0) (nat_le (length d.zones) 200) (check_ok _ _ r.1) in
+    record { number = eqb-true _ _ p.0; species = eqb-true _ _ q.0; samples = within_ok 1 401 (length d.samples) r.0; zones = leb-true _ _ z.1 }
 
 pub order_ok : (d : Draft) → draft_order d ≡ Ok tt → is_rising (starts d.zones) ≡ true
 unfolding draft_order
@@ -131,28 +103,13 @@ pub parts_are : (d : Draft) → parts_of d ≡ stem_of (get_or d.number 0 0) (ge
 unfolding parts_of
 parts_are d = refl
 
--- the same of each of several stems
-pub each_in_range : (drafts : List Draft) → in_range drafts ≡ Ok tt → All (λ d. draft_range d ≡ Ok tt) drafts
-unfolding in_range
-each_in_range drafts h = all_ok draft_range drafts h
-
-pub each_in_order : (drafts : List Draft) → in_order drafts ≡ Ok tt → All (λ d. draft_order d ≡ Ok tt) drafts
-unfolding in_order
-each_in_order drafts h = all_ok draft_order drafts h
-
-pub each_in_number : (drafts : List Draft) → in_number drafts ≡ Ok tt → All (λ d. draft_count d ≡ Ok tt) drafts
-unfolding in_number
-each_in_number drafts h = all_ok draft_count drafts h
-
--- stems that passed the last three lines passed each of them
-pub record PassThree (drafts : List Draft) : Type 0 where
-  pub range : in_range drafts ≡ Ok tt
-  pub order : in_order drafts ≡ Ok tt
-  pub count : in_number drafts ≡ Ok tt
-
-pub checked_ok : (drafts : List Draft) → checked drafts ≡ Ok tt → PassThree drafts
-unfolding checked
-checked_ok drafts h =
+-- stems that passed the last three lines are ready
+pub all_ready : (drafts : List Draft) → checked drafts ≡ Ok tt → All IsReadyDraft drafts
+unfolding checked in_range in_order in_number
+all_ready drafts h =
     let first = then_ok (in_range drafts) (in_order drafts >>= λ _. in_number drafts) h in
     let second = then_ok (in_order drafts) (in_number drafts) first.1 in
-    record { range = first.0; order = second.0; count = second.1 }
+    let ranges = each_ok draft_range drafts first.0 in
+    let orders = each_ok draft_order drafts second.0 in
+    let counts = each_ok draft_count drafts second.1 in
+    λ k d lt. record { range = ranges k d lt; order = orders k d lt; count = counts k d lt }

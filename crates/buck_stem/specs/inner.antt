@@ -1,5 +1,6 @@
 -- What the crate's own functions show one another.
 pub mod Stages
+pub mod Ready
 pub mod Zones
 pub mod Runs
 pub mod ProfileTables

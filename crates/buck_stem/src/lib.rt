@@ -1,14 +1,15 @@
 //! Felled stems: their diameters and grades along the length, and the files that they are read from.
 #![tactic(auto)]
 
-mod check;
 mod draft;
 mod fault;
 mod lines;
 mod profile;
 mod reading;
+mod rules;
 mod runs;
 mod same;
+mod slots;
 mod stem;
 
 pub use buck_record::Memory;

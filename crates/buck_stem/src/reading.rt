@@ -1,36 +1,28 @@
 //! The stems of a file.
-ghost use Rattle.std.specs.Prelude.{◌≡◌, IfOk, map, codes, Ok, true};
-ghost use Rattle.std.specs.Str.{bytes_eq};
-ghost use Rattle.buck_record.specs.Reading.{Gives, listed, with_fault};
-ghost use Rattle.buck_record.specs.Record.{items_of};
-ghost use Rattle.buck_record.specs.Table.{rest_in, groups_of};
-ghost use Rattle.buck_stem.specs.declared.fault.StmFault.TheVariants.{Memory, Head};
+ghost use Rattle.std.specs.Prelude.{◌≡◌, All, IfOk, map, true};
+ghost use Rattle.buck_record.specs.Reading.{Gives, listed};
+ghost use Rattle.buck_record.specs.Rules.{all_within};
+ghost use Rattle.buck_stem.specs.declared.fault.StmFault.TheVariants.{Memory};
+ghost use Rattle.buck_stem.specs.inner.Ready.{IsReadyDraft};
 ghost use Rattle.buck_stem.specs.inner.Stages.{complete, drafts_in, checked, stems_in};
-ghost use Rattle.buck_stem.specs.Stm.{slot, stm_of, parts_of, zones_of, grades, all_within, draft_range, draft_order, draft_count};
+ghost use Rattle.buck_stem.specs.Stm.{groups, says_stm, stm_of, parts_of, zones_of, grades};
 
-use crate::draft::Draft;
-use crate::fault::StmFault;
-use crate::lines::{STEM, drafts_of, in_number, in_order, in_range, present, single};
+use crate::draft::{Draft, drafts_of};
+use crate::fault::{self, StmFault};
+use crate::lines::{in_number, in_order, in_range, present, single};
+use crate::slots::STEM;
 use crate::stem::{Stem, stem_of_parts};
 use buck_record::check::check;
+use buck_record::rules::{FILE, items_in};
 use buck_record::table::{groups, rest};
-use buck_record::{Group, Listed, Piece, RecordFault, Slot, pieces};
+use buck_record::{Group, Listed, Piece};
 use std::alloc::{AllocError, Global};
 
-fn items_in<'a>(alloc: Global, bytes: &'a [u8]) -> Result<Listed<Piece<'a>>, StmFault>
-    ensures { Gives Memory result (with_fault (λ k. Head k) (items_of bytes.now)) }
-{
-    match pieces(alloc, bytes) {
-        Ok(items) => Ok(Listed::of(items)),
-        Err(RecordFault::Head { item }) => Err(StmFault::Head { item }),
-        Err(_) => Err(StmFault::Memory),
-    }
-}
-
+/// The first item that names the kind of file says `STM`.
 fn says_stm<'a>(items: &'a [Piece<'a>]) -> bool
-    ensures { result ≡ bytes_eq (rest_in (slot 1 2) items.now) (codes "STM") }
+    ensures { result ≡ says_stm items.now }
 {
-    rest(items, Slot { number: 1, kind: 2 }) == b"STM".as_slice()
+    rest(items, FILE) == b"STM".as_slice()
 }
 
 /// The samples as they are kept.
@@ -59,9 +51,7 @@ fn zones_of(alloc: Global, numbers: &[u32]) -> Result<Vec<(u32, u8)>, AllocError
 
 /// The stem of numbers that are as they should be.
 fn stem_from(alloc: Global, draft: &Draft) -> Result<Stem, AllocError>
-    requires range { draft_range draft.now ≡ Ok tt }
-    requires order { draft_order draft.now ≡ Ok tt }
-    requires count { draft_count draft.now ≡ Ok tt }
+    requires { IsReadyDraft draft.now }
     ensures { IfOk result (λ stem. stem ≡ parts_of draft.now) }
 {
     let number = draft.number.as_slice()[0];
@@ -71,22 +61,22 @@ fn stem_from(alloc: Global, draft: &Draft) -> Result<Stem, AllocError>
     stem_of_parts(alloc, number, species, samples, zones)
 }
 
-/// The stems of drafts that passed the last three lines.
-fn stems_from(alloc: Global, drafts: &[Draft]) -> Result<Vec<Stem>, AllocError>
-    requires { checked drafts.now ≡ Ok tt }
-    ensures { IfOk result (λ stems. stems.items ≡ map parts_of drafts.now) }
+/// The stems of drafts that passed the last three lines. Each draft is given up once its stem is made.
+fn stems_from(alloc: Global, drafts: Vec<Draft>) -> Result<Vec<Stem>, AllocError>
+    requires { All IsReadyDraft drafts.items }
+    ensures { IfOk result (λ stems. stems.items ≡ map parts_of drafts.items) }
 {
     let mut stems = Vec::with_capacity(alloc, drafts.len())?;
     for draft in drafts {
-        stems.push(stem_from(alloc, draft)?)?;
+        stems.push(stem_from(alloc, &draft)?)?;
     }
     Ok(stems)
 }
 
 /// The kind of the file, and the items that must be there or stand once: the lines before any number is read.
 #[tactic(auto, unfolding(crate::specs::inner::Stages::complete))]
-fn complete<'a>(items: &'a [Piece<'a>], stems: &[Group<'a>]) -> Result<(), StmFault>
-    requires { stems.now ≡ groups_of (slot 951 1) items.now }
+fn complete<'a>(items: &'a [Piece<'a>], stems: &[Group<'_>]) -> Result<(), StmFault>
+    requires { stems.now ≡ groups items.now }
     ensures { result ≡ complete items.now }
 {
     check(says_stm(items), StmFault::NotStm)?;
@@ -116,21 +106,20 @@ fn checked(drafts: &[Draft]) -> Result<(), StmFault>
 
 /// The stems of drafts, where they pass the last three lines.
 #[tactic(auto, unfolding(crate::specs::inner::Stages::stems_in))]
-fn stems_in(alloc: Global, drafts: &[Draft]) -> Result<Vec<Stem>, StmFault>
-    ensures { Gives Memory (listed result) (stems_in drafts.now) }
+fn stems_in(alloc: Global, drafts: Listed<Draft>) -> Result<Vec<Stem>, StmFault>
+    ensures { Gives Memory (listed result) (stems_in drafts) }
 {
-    checked(drafts)?;
-    Ok(stems_from(alloc, drafts)?)
+    checked(drafts.as_slice())?;
+    Ok(stems_from(alloc, drafts.into_vec())?)
 }
 
 /// The stems of a stem file's bytes, in file order, or the first refusal that applies, as [`StmFault`] says; and
 /// `Memory` where a growth was refused. Items that aren't in the table are skipped; each must have a number and a
 /// kind.
-#[tactic(auto, using(crate::proofs::StageLemmas::stm_of_stages))]
 pub fn read_stm(alloc: Global, bytes: &[u8]) -> Result<Vec<Stem>, StmFault>
     ensures { Gives Memory (listed result) (stm_of bytes.now) }
 {
-    let items = items_in(alloc, bytes)?;
+    let items = items_in(alloc, bytes, fault::head)?;
     let drafts = drafts_in(alloc, items.as_slice())?;
-    stems_in(alloc, drafts.as_slice())
+    stems_in(alloc, drafts)
 }

@@ -1,6 +1,7 @@
 use Rattle.std.proofs.Common.{◌≡◌, ℕ, ◌*◌, ◌+◌, ◌<◌, ◌++◌, ◌∷◌, [], List, length, get_or, sym, ap, ◌∙◌, arith, drop, append_assoc}
 use Rattle.std.proofs.lemmas.List.{append-nil}
-use Rattle.buck_stem.specs.Stm.{zones_of, grades, all_within}
+use Rattle.buck_record.specs.Rules.{all_within}
+use Rattle.buck_stem.specs.Stm.{zones_of, grades}
 use Rattle.buck_stem.proofs.ZoneWords.{zones-at, zones-end, grades-at}
 use Rattle.buck_stem.proofs.PassLemmas.{first_within}
 use Rattle.buck_stem.proofs.reading.zones_of.Goals as goal

@@ -1,5 +1,6 @@
 use Rattle.std.proofs.Common.{◌≡◌, ◌*◌, ◌++◌, drop, true}
-use Rattle.buck_stem.specs.Stm.{zones_of, grades, all_within}
+use Rattle.buck_record.specs.Rules.{all_within}
+use Rattle.buck_stem.specs.Stm.{zones_of, grades}
 use Rattle.buck_stem.proofs.reading.zones_of.Given as goal
 
 abbrev pub invariant-loop-k : goal.invariant-loop-k

@@ -1,0 +1,49 @@
+-- What the readers of files share: the slots of items, the numbers of an item, and tests of numbers.
+use Rattle.std.specs.Prelude.{◌≡◌, ℕ, Bool, true, ◌&&◌, ◌==◌, List, [], ◌∷◌, nat_le, nat_lt, Result}
+use Rattle.std.specs.List.{before_first, list_all}
+use Rattle.buck_record.specs.Item.{ItemParts}
+use Rattle.buck_record.specs.declared.slot.Slot.{Slot}
+use Rattle.buck_record.specs.Reading.{with_fault}
+use Rattle.buck_record.specs.Record.{numbers_of}
+use Rattle.buck_record.specs.Table.{is_at, count_in, rest_in}
+
+abbrev pub slot : ℕ → ℕ → Slot
+slot number kind = record { number = number; kind = kind }
+
+-- the kind of file
+abbrev pub file_slot : Slot
+file_slot = slot 1 2
+
+-- the fault that names a slot
+abbrev pub of_slot : {E : Type 0} → (ℕ → ℕ → E) → Slot → E
+of_slot fault s = fault s.number s.kind
+
+-- none of the members stands before the first item in a slot
+abbrev pub has_no_strays : Slot → List Slot → List ItemParts → Bool
+has_no_strays first members items =
+    list_all (λ s. count_in s (before_first (is_at first) items) == 0) members
+
+-- the numbers of an item, none where it is absent; or the fault of the first word that isn't a number
+unfoldable pub numbers_in : {E : Type 0} → (ℕ → ℕ → ℕ → E) → Slot → List ItemParts → Result (List ℕ) E
+numbers_in fault s items = with_fault (of_slot fault s) (numbers_of (rest_in s items))
+
+-- a closure makes the fault that names a word of an item: the item's slot, and the word's place
+abbrev pub NamesWord : {E : Type 0} → (Slot → ℕ → E → Type 0) → (ℕ → ℕ → ℕ → E) → Type 0
+NamesWord {E} post fault = (s : Slot) (place : ℕ) (e : E) → post s place e → e ≡ of_slot fault s place
+
+-- a closure makes the fault that names an item by its place
+abbrev pub NamesItem : {E : Type 0} → (ℕ → E → Type 0) → (ℕ → E) → Type 0
+NamesItem {E} post fault = (place : ℕ) (e : E) → post place e → e ≡ fault place
+
+-- the number is from `low` to `high`
+abbrev pub within : ℕ → ℕ → ℕ → Bool
+within low high n = nat_le low n && nat_le n high
+
+abbrev pub all_within : ℕ → ℕ → List ℕ → Bool
+all_within low high ns = list_all (within low high) ns
+
+-- each number is below the next
+abbrev pub is_rising : List ℕ → Bool
+is_rising [] = true
+is_rising (n ∷ []) = true
+is_rising (m ∷ n ∷ ns) = nat_lt m n && is_rising (n ∷ ns)

@@ -1,0 +1,81 @@
+//! What the readers of files share: items and numbers with faults of their own, and tests of numbers.
+ghost use Rattle.std.specs.Prelude.{◌≡◌, ℕ};
+ghost use Rattle.buck_record.specs.Reading.{Gives, IsMemory, with_fault};
+ghost use Rattle.buck_record.specs.Record.{items_of};
+ghost use Rattle.buck_record.specs.Rules.{NamesItem, NamesWord, numbers_in, within, all_within, is_rising};
+
+use crate::fault::RecordFault;
+use crate::item::Piece;
+use crate::listed::Listed;
+use crate::reading::{numbers, pieces};
+use crate::slot::Slot;
+use crate::table::rest;
+use std::alloc::{AllocError, Global};
+
+/// The slot of the item that says the kind of file.
+pub const FILE: Slot = Slot { number: 1, kind: 2 };
+
+/// The items of a file's bytes, as [`pieces`] has them. Refused by the fault that is made of the place of the first
+/// item, counted from 1, that has no head, or by that of a refused growth.
+pub fn items_in<'a, E: From<AllocError>, F: FnOnce(usize) -> E>(
+    alloc: Global,
+    bytes: &'a [u8],
+    fault: F,
+) -> Result<Listed<Piece<'a>>, E>
+    requires { F.IsAlwaysCallable fault }
+    ensures { (m : E) (f : ℕ → E) → IsMemory E.from_gives m → NamesItem (F.post fault) f
+        → Gives m result (with_fault f (items_of bytes.now)) }
+{
+    match pieces(alloc, bytes) {
+        Ok(found) => Ok(Listed::of(found)),
+        Err(RecordFault::Head { item }) => Err(fault(item)),
+        Err(_) => Err(E::from(AllocError)),
+    }
+}
+
+/// The numbers of the first item in a slot, as [`numbers`] has them, and none where no item stands there. Refused by
+/// the fault that is made of the slot and of the place of the first word, counted from 1, that is no number, or by that
+/// of a refused growth.
+#[tactic(auto, unfolding(crate::specs::Rules::numbers_in))]
+pub fn numbers_in<'a, E: From<AllocError>, F: FnOnce(Slot, usize) -> E>(
+    alloc: Global,
+    slot: Slot,
+    items: &'a [Piece<'a>],
+    fault: F,
+) -> Result<Listed<u32>, E>
+    requires { F.IsAlwaysCallable fault }
+    ensures { (m : E) (f : ℕ → ℕ → ℕ → E) → IsMemory E.from_gives m → NamesWord (F.post fault) f
+        → Gives m result (numbers_in f slot items.now) }
+{
+    match numbers(alloc, rest(items, slot)) {
+        Ok(found) => Ok(Listed::of(found)),
+        Err(RecordFault::Digits { place }) => Err(fault(slot, place)),
+        Err(_) => Err(E::from(AllocError)),
+    }
+}
+
+/// The number is from `low` to `high`.
+pub fn within(low: usize, high: usize, n: usize) -> bool
+    ensures { result ≡ within low high n }
+{
+    low <= n && n <= high
+}
+
+/// Each number is from `low` to `high`.
+pub fn all_within(low: u32, high: u32, numbers: &[u32]) -> bool
+    ensures { result ≡ all_within low high numbers.now }
+{
+    numbers.iter().all(|n| low <= *n && *n <= high)
+}
+
+/// Each number is below the next.
+pub fn is_rising(numbers: &[u32]) -> bool
+    ensures { result ≡ is_rising numbers.now }
+{
+    for i in 1..numbers.len() {
+        if numbers[i] <= numbers[i - 1] {
+            return false;
+        }
+    }
+    true
+}

@@ -1,6 +1,0 @@
-use Rattle.std.proofs.Common.{◌≡◌, ◌*◌, ◌-◌, drop}
-use Rattle.buck_stem.specs.Stm.{is_rising, starts}
-use Rattle.buck_stem.proofs.check.starts_rise.Given as goal
-
-abbrev pub invariant-loop-k : goal.invariant-loop-k
-invariant-loop-k l = is_rising (starts (drop (2 * (l.k - 1)) l.zones)) ≡ is_rising (starts l.zones)

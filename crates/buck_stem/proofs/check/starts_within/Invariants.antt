@@ -1,6 +1,0 @@
-use Rattle.std.proofs.Common.{◌≡◌, ◌*◌, drop}
-use Rattle.buck_stem.specs.Stm.{all_within, starts}
-use Rattle.buck_stem.proofs.check.starts_within.Given as goal
-
-abbrev pub invariant-loop-k : goal.invariant-loop-k
-invariant-loop-k l = all_within l.low l.high (starts (drop (2 * l.k) l.zones)) ≡ all_within l.low l.high (starts l.zones)
