@@ -7,3 +7,4 @@ pub mod Marks
 pub mod Offered
 pub mod Values
 pub mod Settled
+pub mod Untrimmed

@@ -1,5 +1,5 @@
 -- What the logs of one point offer to its value.
-use Rattle.std.proofs.Common.{◌≡◌, ℕ, ◌+◌, ◌*◌, ◌/◌, ◌%◌, ◌<◌, ◌≤◌, inl, inr, List, ◌∷◌, length, slice_index, sum_by, sym, subst, refl, arith, add-mul, mul-le-mul_right}
+use Rattle.std.proofs.Common.{◌≡◌, ℕ, ◌+◌, ◌*◌, ◌/◌, ◌%◌, ◌<◌, ◌≤◌, inl, inr, List, [], ◌∷◌, length, slice_index, sum_by, sym, subst, refl, arith, add-mul, mul-le-mul_right}
 use Rattle.std.proofs.lemmas.Bool.{cases_lt}
 use Rattle.std.proofs.lemmas.Option.{slice_get_within, get_or_from_slice_get}
 use Rattle.std.proofs.lemmas.List.Elements.{All-get_or, All-contains}
@@ -9,29 +9,30 @@ use Rattle.buck_stem.specs.Stem.{StemParts, stem_length}
 use Rattle.buck_value.specs.declared.log.Log.{Log}
 use Rattle.buck_value.specs.Sheet.{IsSheet}
 use Rattle.buck_value.specs.Allowed.{IsAllowed, worth_of, end_of}
-use Rattle.buck_value.specs.Prepared.{PreparedParts, points_of}
+use Rattle.buck_value.specs.Prepared.{PreparedParts, ends_of, point_after}
 use Rattle.buck_value.specs.Codes.{AreCodes, HasMark}
 use Rattle.buck_value.specs.Relaxed.{IsFromTo, IsBid, unmarked}
 use Rattle.buck_value.proofs.Classes.{allowed_low}
 use Rattle.buck_dp.specs.Cutting.{IsCutFrom}
 use Rattle.buck_dp.specs.inner.Table.{IsTop, IsNoWorse}
 use Rattle.buck_dp.specs.inner.Values.{IsValue, IsBestFrom}
-use Rattle.buck_dp.proofs.Places.{past_top}
+use Rattle.buck_dp.proofs.Places.{after_covers, start_after, after_within}
+use Rattle.buck_dp.proofs.Bounds.{end_within}
 use Rattle.buck_dp.proofs.Marks.{mark_found}
 use Rattle.buck_dp.proofs.Optimal.{IsCutFrom-le}
 
 -- no other list that may be cut from a place on is better
 abbrev pub IsTopAt : PreparedParts → ℕ → List Log → Type 0
-IsTopAt p from gs = IsTop (IsAllowed p.sheet.instruction p.stem) end_of (worth_of p.sheet p.stem) from gs
+IsTopAt p from gs = IsTop (IsAllowed p.sheet.instruction p.stem) (end_of p.sheet.instruction) (worth_of p.sheet p.stem) from gs
 
 -- a list may be cut from a place on
 abbrev pub IsCutAt : PreparedParts → ℕ → List Log → Type 0
-IsCutAt p from gs = IsCutFrom (IsAllowed p.sheet.instruction p.stem) end_of from gs
+IsCutAt p from gs = IsCutFrom (IsAllowed p.sheet.instruction p.stem) (end_of p.sheet.instruction) from gs
 
 -- what may be cut from a place on may be cut from an earlier one on
 pub cut_earlier : (p : PreparedParts) (from next : ℕ) (gs : List Log) → from ≤ next → IsCutAt p next gs → IsCutAt p from gs
 cut_earlier p from next gs le c =
-    IsCutFrom-le (IsAllowed p.sheet.instruction p.stem) end_of (worth_of p.sheet p.stem) from next gs le c
+    IsCutFrom-le (IsAllowed p.sheet.instruction p.stem) (end_of p.sheet.instruction) (worth_of p.sheet p.stem) from next gs le c
 
 -- what a list is worth
 abbrev pub sum_of : PreparedParts → List Log → ℕ
@@ -45,62 +46,66 @@ IsNoWorseIn p gs hs = IsNoWorse (worth_of p.sheet p.stem) gs hs
 abbrev pub BestAt : PreparedParts → List ℕ → ℕ → Type 0
 BestAt p values i = (gs : List Log) × IsBestFrom p i (slice_index values i) gs
 
--- the length of an allowed log is a multiple of the module
-length_on_module : (i : InstructionParts) (stem : StemParts) (g : Log) → IsInstruction i → IsAllowed i stem g
-    → g.length % i.«module» ≡ 0
-length_on_module i stem g v a =
-    let lt : g.assortment < length i.assortments = slice_get_within i.assortments g.assortment a.assortment a.exists in
-    let on : IsOnModule i.«module» a.assortment =
-    subst (λ x. IsOnModule i.«module» x)
-    (get_or_from_slice_get i.assortments g.assortment a.assortment a.assortment a.exists)
-    (All-get_or (λ x. IsOnModule i.«module» x) i.assortments g.assortment a.assortment lt v.on_module) in
-    All-contains (λ l. l % i.«module» ≡ 0) a.assortment.lengths g.length on a.allows.length_offered
-
 -- the module is not 0
 pub module_pos : (i : InstructionParts) → IsInstruction i → 0 < i.«module»
 module_pos i v = omega (arith, v.module_range)
 
--- an allowed log that starts at a point ends at a later one
+-- after an allowed log that starts at a point comes a later one
 pub end_point : (p : PreparedParts) (i : ℕ) (g : Log) → IsSheet p.sheet
     → IsAllowed p.sheet.instruction p.stem g
     → g.start ≡ i * p.sheet.instruction.«module»
-    → (i < i + g.length / p.sheet.instruction.«module»)
-    × (i + g.length / p.sheet.instruction.«module» < points_of p)
-    × IsFromTo p i (i + g.length / p.sheet.instruction.«module») g
+    → (i < point_after p.sheet.instruction.«module» (end_of p.sheet.instruction g))
+    × (point_after p.sheet.instruction.«module» (end_of p.sheet.instruction g) < ends_of p)
+    × IsFromTo p i (point_after p.sheet.instruction.«module» (end_of p.sheet.instruction g)) g
 end_point p i g s a at =
     let m : ℕ = p.sheet.instruction.«module» in
     let pos : 0 < m = module_pos p.sheet.instruction s.valid in
-    let whole : g.length % m ≡ 0 = length_on_module p.sheet.instruction p.stem g s.valid a in
-    let low : 500 ≤ g.length = (allowed_low p.sheet.instruction p.stem g s.valid a).0 in
-    let within : end_of g ≤ stem_length p.stem.samples = a.allows.within in
-    let parts : g.length / m * m ≡ g.length = omega arith in
-    let ends : end_of g ≡ (i + g.length / m) * m = omega (arith, add-mul i (g.length / m) m) in (
-      elim (cases_lt i (i + g.length / m)) [
+    let low = allowed_low p.sheet.instruction p.stem g s.valid a in
+    let j : ℕ = point_after m (end_of p.sheet.instruction g) in
+    let covers : end_of p.sheet.instruction g ≤ j * m = after_covers m (end_of p.sheet.instruction g) pos in (
+      elim (cases_lt i j) [
         | inl lt ↦ lt
-        | inr ge ↦ absurd (let back : (i + g.length / m) * m ≤ i * m = mul-le-mul_right m ge in omega arith)
+        | inr ge ↦ absurd (let back : j * m ≤ i * m = mul-le-mul_right m ge in omega (arith, low.0))
       ],
-      elim (cases_lt (stem_length p.stem.samples / m) (i + g.length / m)) [
-        | inl past ↦ absurd (
-            let far : (stem_length p.stem.samples / m + 1) * m ≤ (i + g.length / m) * m =
-            mul-le-mul_right m (omega arith) in
-            past_top m (stem_length p.stem.samples) (end_of g) pos (omega arith) within
-            )
-        | inr le ↦ omega arith
-      ],
-      record { start = at; ends = ends },
+      after_within m (stem_length p.stem.samples) (end_of p.sheet.instruction g) pos
+          (end_within p.sheet.instruction p.stem g a),
+      record { start = at; ends = refl },
     )
+
+-- what may be cut from a place on may be cut from the point after it on
+cut_after : (p : PreparedParts) (x : ℕ) (gs : List Log) → IsSheet p.sheet → IsCutAt p x gs
+    → IsCutAt p (point_after p.sheet.instruction.«module» x * p.sheet.instruction.«module») gs
+cut_after p x [] s c = tt
+cut_after p x (g ∷ gs) s c = (
+  start_after p.sheet.instruction.«module» x g.start (module_pos p.sheet.instruction s.valid) c.1.allows.on_module c.0,
+  c.1,
+  c.2,
+)
+
+-- so the best from the point after a log on is the best from its end on
+pub top_at_end : (p : PreparedParts) (i j : ℕ) (g : Log) (rest : List Log) → IsSheet p.sheet → IsFromTo p i j g
+    → IsTopAt p (j * p.sheet.instruction.«module») rest → IsTopAt p (end_of p.sheet.instruction g) rest
+top_at_end p i j g rest s from top =
+    let m : ℕ = p.sheet.instruction.«module» in
+    let x : ℕ = end_of p.sheet.instruction g in
+    let there : IsTopAt p (point_after m x * m) rest = subst (λ n. IsTopAt p (n * m) rest) (sym from.ends) top in
+    record {
+      cut = cut_earlier p x (point_after m x * m) rest
+          (after_covers m x (module_pos p.sheet.instruction s.valid)) there.cut;
+      top = λ hs c. there.top hs (cut_after p x hs s c);
+    }
 
 -- a log brings no more than a value, together with the best after it and the log's mark
 pub record IsOffered (p : PreparedParts) (value : ℕ) (g : Log) : Type 0 where
   pub rest : List Log
-  pub top : IsTopAt p (end_of g) rest
+  pub top : IsTopAt p (end_of p.sheet.instruction g) rest
   pub mark : ℕ
   pub marked : HasMark p.codes g mark
   pub brings : sum_of p (g ∷ rest) * 1024 + mark ≤ value
 
 -- of each later point the best is known
 abbrev pub AreBestAfter : PreparedParts → List ℕ → ℕ → Type 0
-AreBestAfter p values i = (j : ℕ) → i < j → j ≤ points_of p → BestAt p values j
+AreBestAfter p values i = (j : ℕ) → i < j → j ≤ ends_of p → BestAt p values j
 
 -- a right value is offered each allowed log of its point
 pub offered : (p : PreparedParts) (values : List ℕ) (i : ℕ) (g : Log)
@@ -111,8 +116,8 @@ pub offered : (p : PreparedParts) (values : List ℕ) (i : ℕ) (g : Log)
     → IsAllowed p.sheet.instruction p.stem g
     → IsOffered p (slice_index values i) g
 offered p values i g s codes v after at a =
-    let j : ℕ = i + g.length / p.sheet.instruction.«module» in
-    let e : (i < j) × (j < points_of p) × IsFromTo p i j g = end_point p i g s a at in
+    let j : ℕ = point_after p.sheet.instruction.«module» (end_of p.sheet.instruction g) in
+    let e : (i < j) × (j < ends_of p) × IsFromTo p i j g = end_point p i g s a at in
     let b : BestAt p values j = after j e.0 (omega (arith, e.1)) in
     let m : (mark : ℕ) × HasMark p.codes g mark = mark_found p.sheet.instruction p.stem p.codes g codes a in
     let bid : IsBid p g (worth_of p.sheet p.stem g * 1024 + m.0) =
@@ -122,7 +127,7 @@ offered p values i g s codes v after at a =
     let worth : slice_index values j / 1024 ≡ sum_of p b.0 = b.1.worth_is in
     record {
       rest = b.0;
-      top = subst (λ x. IsTopAt p x b.0) (sym e.2.ends) b.1.top;
+      top = top_at_end p i j g b.0 s e.2 b.1.top;
       mark = m.0;
       marked = m.1;
       brings = omega (arith, sum_by-cons (worth_of p.sheet p.stem) g b.0);

@@ -1,6 +1,8 @@
 -- Places on the stem, as multiples of a step.
-use Rattle.std.proofs.Common.{◌≡◌, ℕ, ◌+◌, ◌*◌, ◌/◌, ◌%◌, ◌<◌, ◌≤◌, ◌⊎◌, inl, inr, arith, mul-le-mul_right}
+use Rattle.std.proofs.Common.{◌≡◌, ℕ, ◌+◌, ◌-◌, ◌*◌, ◌/◌, ◌%◌, ◌<◌, ◌≤◌, ◌⊎◌, inl, inr, arith, mul-le-mul_right}
 use Rattle.std.proofs.lemmas.Bool.{cases_lt}
+use Rattle.std.proofs.Math.Nat.{lt-div-mul-add, div-mul-le_self}
+use Rattle.buck_value.specs.Prepared.{point_after}
 
 -- a start at or after a place is there, or a step later
 pub next_start : (m here s : ℕ) → 0 < m → here % m ≡ 0 → s % m ≡ 0 → here ≤ s → (s ≡ here) ⊎ (here + m ≤ s)
@@ -12,3 +14,38 @@ next_start m here s pos on grid le = elim (cases_lt (here / m) (s / m)) [
 -- past the top nothing ends within the length
 pub past_top : (m total s : ℕ) → 0 < m → (total / m + 1) * m ≤ s → s ≤ total → ⊥
 past_top m total s pos le within = omega arith
+
+-- the point after a place is at or after it
+pub after_covers : (m x : ℕ) → 0 < m → x ≤ point_after m x * m
+after_covers m x pos =
+    let h : x + (m - 1) < (x + (m - 1)) / m * m + m = lt-div-mul-add pos in
+    omega arith
+
+-- and less than a step after it
+pub after_near : (m x : ℕ) → 0 < m → point_after m x * m + 1 ≤ x + m
+after_near m x pos =
+    let h : (x + (m - 1)) / m * m ≤ x + (m - 1) = div-mul-le_self (x + (m - 1)) m in
+    omega arith
+
+-- a start at or after a place is at or after the point there
+pub start_after : (m x s : ℕ) → 0 < m → s % m ≡ 0 → x ≤ s → point_after m x * m ≤ s
+start_after m x s pos on le = elim (cases_lt (s / m) (point_after m x)) [
+  | inl past ↦ absurd (
+      let h : (s / m + 1) * m ≤ point_after m x * m = mul-le-mul_right m (omega arith) in
+      let n : point_after m x * m + 1 ≤ x + m = after_near m x pos in
+      omega arith
+      )
+  | inr low ↦ (let h : point_after m x * m ≤ (s / m) * m = mul-le-mul_right m low in omega arith)
+]
+
+-- the point after a place within the length is at most one past the last
+pub after_within : (m total x : ℕ) → 0 < m → x ≤ total → point_after m x < total / m + 1 + 1
+after_within m total x pos le = elim (cases_lt (point_after m x) (total / m + 1 + 1)) [
+  | inl lt ↦ lt
+  | inr past ↦ absurd (
+      let h : (total / m + 1 + 1) * m ≤ point_after m x * m = mul-le-mul_right m past in
+      let n : point_after m x * m + 1 ≤ x + m = after_near m x pos in
+      let t : total < total / m * m + m = lt-div-mul-add pos in
+      omega arith
+      )
+]

@@ -2,7 +2,7 @@
 use Rattle.std.proofs.Common.{◌≡◌, ◌≢◌, ℕ, ◌+◌, ◌-◌, ◌<◌, ◌≤◌, inl, inr, max, List, length, slice_index, length-set, sym, subst, ◌∙◌, arith}
 use Rattle.std.proofs.lemmas.List.{get_or-set_same, get_or-set_other, get_or_past}
 use Rattle.std.proofs.lemmas.Bool.{cases_lt}
-use Rattle.buck_value.specs.Prepared.{PreparedParts, points_of}
+use Rattle.buck_value.specs.Prepared.{PreparedParts, ends_of}
 use Rattle.buck_value.specs.Relaxed.{IsRelaxed, unmarked}
 use Rattle.buck_dp.specs.inner.Values.{IsValue, IsOpenValue, AreValuesFrom, AreSettledFrom, settled}
 
@@ -27,7 +27,7 @@ module _ (p : PreparedParts) (v w : List ℕ) where
       }
 
   -- an open value is right once it is at least that of the next point without its mark
-  pub settled_value : (e : ℕ) → e < points_of p
+  pub settled_value : (e : ℕ) → e < ends_of p
       → ((k : ℕ) → k ≢ e → slice_index w k ≡ slice_index v k)
       → slice_index w e ≡ max (slice_index v e) (unmarked (slice_index v (e + 1)))
       → IsOpenValue p v (e + 1) e
@@ -52,7 +52,7 @@ module _ (p : PreparedParts) (v w : List ℕ) where
       }
 
   -- once point e is settled, all from there on are right
-  pub settled_later : (e : ℕ) → e < points_of p
+  pub settled_later : (e : ℕ) → e < ends_of p
       → length w ≡ length v
       → ((k : ℕ) → k ≢ e → slice_index w k ≡ slice_index v k)
       → slice_index w e ≡ max (slice_index v e) (unmarked (slice_index v (e + 1)))
@@ -90,7 +90,7 @@ module _ (p : PreparedParts) (v w : List ℕ) where
       }
 
   -- the logs that end at point e are offered to an earlier one
-  pub open_relaxed : (e i : ℕ) → e < points_of p
+  pub open_relaxed : (e i : ℕ) → e < ends_of p
       → ((k : ℕ) → e ≤ k → slice_index w k ≡ slice_index v k)
       → unmarked (slice_index v (e + 1)) ≤ slice_index v e
       → IsRelaxed p i e (unmarked (slice_index v e)) (slice_index v i) (slice_index w i)
@@ -107,7 +107,7 @@ module _ (p : PreparedParts) (v w : List ℕ) where
               omega arith
           | inr less ↦
               let is : j ≡ e = omega arith in
-              let s = relaxed.each g bid (rw is at at) b in
+              let s = relaxed.each g bid tt (rw is at at) b in
               rw is (omega arith)
         ];
         one = elim relaxed.one [
@@ -131,17 +131,17 @@ module _ (p : PreparedParts) (v w : List ℕ) (e : ℕ) where
   others_same is k other = rw is (get_or-set_other v e k (max (slice_index v e) (unmarked (slice_index v (e + 1)))) 0 other)
 
   -- settling point e makes all from there on right
-  pub right_from : e < points_of p
+  pub right_from : e < ends_of p
       → w ≡ settled v e
       → AreSettledFrom p v (e + 1)
       → AreValuesFrom p w e
   right_from in_stem is was =
-      let number : length v ≡ points_of p = was.later.number in
+      let number : length v ≡ ends_of p = was.later.number in
       let x : ℕ = max (slice_index v e) (unmarked (slice_index v (e + 1))) in
       settled_later p v w e in_stem (rw is (length-set v e x)) (others_same is) (rw is (get_or-set_same v e x 0 (omega arith))) was
 
   -- and once the logs that end there were offered to the earlier points, one point more is settled
-  pub settled_more : (u : List ℕ) → e < points_of p
+  pub settled_more : (u : List ℕ) → e < ends_of p
       → w ≡ settled v e
       → length u ≡ length w
       → ((k : ℕ) → e ≤ k → k < length w → slice_index u k ≡ slice_index w k)
@@ -164,24 +164,24 @@ module _ (p : PreparedParts) (v w : List ℕ) (e : ℕ) where
       }
 
 -- one point more is settled, with the points counted from the top end down
-pub settled_below : (p : PreparedParts) (v w u : List ℕ) (b e : ℕ) → b < points_of p → e ≡ points_of p - 1 - b
+pub settled_below : (p : PreparedParts) (v w u : List ℕ) (b e : ℕ) → b < ends_of p → e ≡ ends_of p - 1 - b
     → w ≡ settled v e
     → length u ≡ length w
     → ((k : ℕ) → e ≤ k → k < length w → slice_index u k ≡ slice_index w k)
     → ((i : ℕ) → i < e → IsRelaxed p i e (unmarked (slice_index w e)) (slice_index w i) (slice_index u i))
-    → AreSettledFrom p v (points_of p - b)
-    → AreSettledFrom p u (points_of p - (b + 1))
+    → AreSettledFrom p v (ends_of p - b)
+    → AreSettledFrom p u (ends_of p - (b + 1))
 settled_below p v w u b e lt at is number later earlier was =
-    let next : points_of p - b ≡ e + 1 = omega arith in
-    let here : points_of p - (b + 1) ≡ e = omega arith in
+    let next : ends_of p - b ≡ e + 1 = omega arith in
+    let here : ends_of p - (b + 1) ≡ e = omega arith in
     let was' : AreSettledFrom p v (e + 1) = subst (λ n. AreSettledFrom p v n) next was in
     subst (λ n. AreSettledFrom p u n) (sym here) (settled_more p v w e u (omega arith) is number later earlier was')
 
 -- and once it is, before the offers, all from there on are right
-pub right_below : (p : PreparedParts) (v w : List ℕ) (b e : ℕ) → b < points_of p → e ≡ points_of p - 1 - b
+pub right_below : (p : PreparedParts) (v w : List ℕ) (b e : ℕ) → b < ends_of p → e ≡ ends_of p - 1 - b
     → w ≡ settled v e
-    → AreSettledFrom p v (points_of p - b)
+    → AreSettledFrom p v (ends_of p - b)
     → AreValuesFrom p w e
 right_below p v w b e lt at is was =
-    let next : points_of p - b ≡ e + 1 = omega arith in
+    let next : ends_of p - b ≡ e + 1 = omega arith in
     right_from p v w e (omega arith) is (subst (λ n. AreSettledFrom p v n) next was)

@@ -1,26 +1,26 @@
 -- Right values give the best from each point on, and following them from the butt gives the first best cutting.
-use Rattle.std.proofs.Common.{◌≡◌, ℕ, zero, suc, ◌+◌, ◌-◌, ◌*◌, ◌/◌, ◌%◌, ◌<◌, ◌≤◌, inl, inr, List, [], ◌∷◌, ◌++◌, length, slice_index, append_assoc, refl, sym, ◌∙◌, subst, arith, add-mul}
+use Rattle.std.proofs.Common.{◌≡◌, ℕ, zero, suc, ◌+◌, ◌-◌, ◌*◌, ◌/◌, ◌%◌, ◌<◌, ◌≤◌, inl, inr, List, [], ◌∷◌, ◌++◌, length, slice_index, append_assoc, refl, sym, ◌∙◌, subst, arith, add-mul, mul-le-mul_right}
 use Rattle.std.proofs.lemmas.Bool.{cases_lt, cases_order}
 use Rattle.std.proofs.lemmas.List.{append-nil, get_or_past}
 use Rattle.std.proofs.lemmas.List.Sums.{sum_by-cons}
 use Rattle.std.proofs.Math.Nat.{mul-mod_left}
-use Rattle.buck_stem.specs.Stem.{IsStem, stem_length}
+use Rattle.buck_stem.specs.Stem.{StemParts, IsStem, stem_length}
 use Rattle.buck_value.specs.declared.log.Log.{Log}
-use Rattle.buck_value.specs.Sheet.{IsSheet}
+use Rattle.buck_value.specs.Sheet.{SheetParts, IsSheet}
 use Rattle.buck_value.specs.Allowed.{IsAllowed, worth_of, end_of}
-use Rattle.buck_value.specs.Prepared.{PreparedParts, points_of}
+use Rattle.buck_value.specs.Prepared.{PreparedParts, points_of, ends_of, point_after}
 use Rattle.buck_value.specs.Codes.{AreCodes, HasMark, code_of}
 use Rattle.buck_value.specs.Relaxed.{IsFromTo, IsBid, unmarked}
-use Rattle.buck_dp.specs.Best.{cutting_worth}
+use Rattle.buck_dp.specs.Best.{IsFirstBest, cutting_worth}
 use Rattle.buck_dp.specs.Cutting.{IsCutFrom}
 use Rattle.buck_dp.specs.inner.Table.{IsTop, IsAtOrBefore}
 use Rattle.buck_dp.specs.inner.Values.{IsValue, AreValuesFrom, IsBestFrom}
-use Rattle.buck_dp.proofs.Bounds.{cut_worth-le}
+use Rattle.buck_dp.proofs.Bounds.{cut_worth-le, end_within}
 use Rattle.buck_dp.proofs.Marks.{assortment_low, mark_code, mark_high, mark_place, marks_before, marks_same, code_parts}
-use Rattle.buck_dp.proofs.Offered.{IsTopAt, IsCutAt, IsNoWorseIn, BestAt, sum_of, IsOffered, AreBestAfter, cut_earlier, offered, end_point, module_pos}
+use Rattle.buck_dp.proofs.Offered.{IsTopAt, IsCutAt, IsNoWorseIn, BestAt, sum_of, IsOffered, AreBestAfter, cut_earlier, offered, end_point, top_at_end, module_pos}
 use Rattle.buck_dp.proofs.Optimal.{IsNoWorse-trans, IsNoWorse-cons, IsTop-rest, nothing_top, same_log}
 use Rattle.buck_dp.proofs.Places.{next_start, past_top}
-use Rattle.buck_dp.proofs.Walk.{AnyRest, same_worth}
+use Rattle.buck_dp.proofs.Walk.{AnyRest, same_worth, top_is_first_best}
 
 -- lists of which each starts at or after the next point, or here with a log that is offered, cover all
 covers : (p : PreparedParts) (i value : ℕ) (gs hs : List Log) → IsSheet p.sheet
@@ -45,7 +45,7 @@ covers p i value gs (h ∷ hs) s offer later here c =
 
 -- where no log starts, the best is that of the next point
 best_skipped : (p : PreparedParts) (values : List ℕ) (i : ℕ) → IsSheet p.sheet → AreCodes p.sheet.instruction p.codes
-    → i < points_of p
+    → i < ends_of p
     → IsValue p values i
     → AreBestAfter p values i
     → slice_index values i ≡ unmarked (slice_index values (i + 1))
@@ -72,10 +72,10 @@ best_skipped p values i s codes lt v after is =
     )
 
 -- a list that starts before a place comes before those cut from there on
-starts_before : (Allowed : Log → Type 0) (from : ℕ) (g : Log) (more hs : List Log) → g.start < from
-    → IsCutFrom Allowed end_of from hs → IsAtOrBefore (g ∷ more) hs
-starts_before Allowed from g more [] lt c = tt
-starts_before Allowed from g more (h ∷ hs) lt c = inl (inl (omega (arith, c.0)))
+starts_before : (Allowed : Log → Type 0) (ends : Log → ℕ) (from : ℕ) (g : Log) (more hs : List Log) → g.start < from
+    → IsCutFrom Allowed ends from hs → IsAtOrBefore (g ∷ more) hs
+starts_before Allowed ends from g more [] lt c = tt
+starts_before Allowed ends from g more (h ∷ hs) lt c = inl (inl (omega (arith, c.0)))
 
 -- a list that starts before a place is no worse than those cut from there on that are worth no more
 no_worse_later : (p : PreparedParts) (from : ℕ) (g : Log) (more gs hs : List Log) → g.start < from
@@ -87,7 +87,7 @@ no_worse_later p from g more gs hs lt t le c =
     let w : Log → ℕ = worth_of p.sheet p.stem in
     let first : IsNoWorseIn p (g ∷ more) gs = elim (cases_lt (sum_of p gs) (sum_of p (g ∷ more))) [
       | inl less ↦ inl less
-      | inr same ↦ inr (omega arith, starts_before (IsAllowed p.sheet.instruction p.stem) from g more gs lt t.cut)
+      | inr same ↦ inr (omega arith, starts_before (IsAllowed p.sheet.instruction p.stem) (end_of p.sheet.instruction) from g more gs lt t.cut)
     ] in
     IsNoWorse-trans w (g ∷ more) gs hs first (t.top hs c)
 
@@ -97,7 +97,7 @@ no_worse_here : (p : PreparedParts) (value mark : ℕ) (g d : Log) (more : List 
     → IsAllowed p.sheet.instruction p.stem g
     → IsAllowed p.sheet.instruction p.stem d
     → HasMark p.codes g mark
-    → IsTopAt p (end_of g) more
+    → IsTopAt p (end_of p.sheet.instruction g) more
     → value ≡ sum_of p (g ∷ more) * 1024 + mark
     → g.start ≡ d.start
     → (o : IsOffered p value d)
@@ -111,7 +111,7 @@ no_worse_here p value mark g d more s codes a b m t is at o =
         | inl same ↦
             let one : g ≡ d = marks_same p.codes g d mark o.mark m o.marked (sym same) at low low' in
             let rest : IsNoWorseIn p more o.rest =
-            t.top o.rest (subst (λ x. IsCutAt p (end_of x) o.rest) (sym one) o.top.cut) in
+            t.top o.rest (subst (λ x. IsCutAt p (end_of p.sheet.instruction x) o.rest) (sym one) o.top.cut) in
             subst (λ x. IsNoWorseIn p (g ∷ more) (x ∷ o.rest)) one (IsNoWorse-cons w g more o.rest rest)
         | inr other ↦ elim other [
           | inl less ↦
@@ -128,10 +128,10 @@ no_worse_here p value mark g d more s codes a b m t is at o =
 -- where a log starts, the best is that log and the best after it
 best_begun : (p : PreparedParts) (values : List ℕ) (i j : ℕ) (g : Log) (bid : ℕ)
     → IsSheet p.sheet → AreCodes p.sheet.instruction p.codes
-    → i < points_of p
+    → i < ends_of p
     → IsValue p values i
     → AreBestAfter p values i
-    → i < j → j < points_of p
+    → i < j → j < ends_of p
     → IsFromTo p i j g
     → IsBid p g bid
     → slice_index values i ≡ bid + unmarked (slice_index values j)
@@ -143,7 +143,7 @@ best_begun p values i j g bid s codes lt v after ij jn ft b is =
     let n : BestAt p values (i + 1) = after (i + 1) (omega arith) (omega arith) in
     let rest_worth : slice_index values j / 1024 ≡ sum_of p r.0 = r.1.worth_is in
     let next_worth : slice_index values (i + 1) / 1024 ≡ sum_of p n.0 = n.1.worth_is in
-    let t : IsTopAt p (end_of g) r.0 = subst (λ x. IsTopAt p x r.0) (sym ft.ends) r.1.top in
+    let t : IsTopAt p (end_of p.sheet.instruction g) r.0 = top_at_end p i j g r.0 s ft r.1.top in
     let high : 0 < b.mark = mark_high p.sheet.instruction p.codes g b.mark codes b.marked in
     let whole : slice_index values i ≡ sum_of p (g ∷ r.0) * 1024 + b.mark = omega (arith, b.is, sum_by-cons w g r.0) in
     let mark : slice_index values i % 1024 ≡ b.mark = omega (arith, b.marked.high) in
@@ -168,22 +168,24 @@ best_begun p values i j g bid s codes lt v after ij jn ft b is =
     )
 
 -- past the last point nothing can be cut
-nothing_past : (p : PreparedParts) → IsSheet p.sheet → IsTopAt p (points_of p * p.sheet.instruction.«module») []
-nothing_past p s =
+nothing_past : (p : PreparedParts) (n : ℕ) → points_of p ≤ n → IsSheet p.sheet
+    → IsTopAt p (n * p.sheet.instruction.«module») []
+nothing_past p n past s =
     let m : ℕ = p.sheet.instruction.«module» in
     let pos : 0 < m = module_pos p.sheet.instruction s.valid in
-    nothing_top (IsAllowed p.sheet.instruction p.stem) end_of (worth_of p.sheet p.stem) (points_of p * m)
+    nothing_top (IsAllowed p.sheet.instruction p.stem) (end_of p.sheet.instruction) (worth_of p.sheet p.stem) (n * m)
     (λ d le a.
-    let within : end_of d ≤ stem_length p.stem.samples = a.allows.within in
-    past_top m (stem_length p.stem.samples) d.start pos le (omega arith))
+    let within : end_of p.sheet.instruction d ≤ stem_length p.stem.samples = end_within p.sheet.instruction p.stem d a in
+    let far : points_of p * m ≤ n * m = mul-le-mul_right m past in
+    past_top m (stem_length p.stem.samples) d.start pos (omega arith) (omega arith))
 
 -- so the best there is worth nothing
 best_past : (p : PreparedParts) (value : ℕ) → IsSheet p.sheet → value ≡ 0
-    → (gs : List Log) × IsBestFrom p (points_of p) value gs
+    → (gs : List Log) × IsBestFrom p (ends_of p) value gs
 best_past p value s z = (
   [],
   record {
-    top = nothing_past p s;
+    top = nothing_past p (ends_of p) (omega arith) s;
     worth_is = omega arith;
     later = λ _. tt;
     here = λ some. absurd (omega arith);
@@ -192,7 +194,7 @@ best_past p value s z = (
 
 -- a right value tells the best from its point on, by the best from each later point
 best_at : (p : PreparedParts) (values : List ℕ) (i : ℕ) → IsSheet p.sheet → AreCodes p.sheet.instruction p.codes
-    → i < points_of p
+    → i < ends_of p
     → IsValue p values i
     → AreBestAfter p values i
     → BestAt p values i
@@ -206,14 +208,14 @@ best_of_last : (p : PreparedParts) (values : List ℕ) (from left i : ℕ)
     → IsSheet p.sheet → AreCodes p.sheet.instruction p.codes
     → AreValuesFrom p values from
     → from ≤ i
-    → i ≤ points_of p
-    → points_of p ≤ i + left
+    → i ≤ ends_of p
+    → ends_of p ≤ i + left
     → BestAt p values i
 best_of_last p values from zero i s codes right low le past =
-    let e : points_of p ≡ i = omega arith in
+    let e : ends_of p ≡ i = omega arith in
     let z : slice_index values i ≡ 0 = get_or_past values i 0 (omega (arith, right.number)) in
     subst (λ n. (gs : List Log) × IsBestFrom p n (slice_index values i) gs) e (best_past p (slice_index values i) s z)
-best_of_last p values from (suc left) i s codes right low le past = elim (cases_lt i (points_of p)) [
+best_of_last p values from (suc left) i s codes right low le past = elim (cases_lt i (ends_of p)) [
   | inl lt ↦ best_at p values i s codes lt (right.right i low lt)
       (λ j ij jn. best_of_last p values from left j s codes right (omega arith) jn (omega arith))
   | inr ge ↦ best_of_last p values from left i s codes right low le (omega arith)
@@ -223,16 +225,16 @@ best_of_last p values from (suc left) i s codes right low le past = elim (cases_
 pub values_best : (p : PreparedParts) (values : List ℕ) (i : ℕ)
     → IsSheet p.sheet → IsStem p.stem → AreCodes p.sheet.instruction p.codes
     → AreValuesFrom p values i
-    → i ≤ points_of p
+    → i ≤ ends_of p
     → (gs : List Log) × IsBestFrom p i (slice_index values i) gs
 values_best p values i s t codes right le =
-    best_of_last p values i (points_of p) i s codes right (omega arith) le (omega arith)
+    best_of_last p values i (ends_of p) i s codes right (omega arith) le (omega arith)
 
 -- a value is well below what 64 bits hold
 pub value_low : (p : PreparedParts) (values : List ℕ) (i : ℕ)
     → IsSheet p.sheet → IsStem p.stem → AreCodes p.sheet.instruction p.codes
     → AreValuesFrom p values i
-    → i ≤ points_of p
+    → i ≤ ends_of p
     → slice_index values i ≤ 2900000000000000000
 value_low p values i s t codes right le =
     let b : BestAt p values i = values_best p values i s t codes right le in
@@ -252,7 +254,7 @@ right_later p values i right = record {
 pub walk_skip : (p : PreparedParts) (values : List ℕ) (i : ℕ) (logs : List Log)
     → IsSheet p.sheet → IsStem p.stem → AreCodes p.sheet.instruction p.codes
     → AreValuesFrom p values 0
-    → i < points_of p
+    → i < ends_of p
     → slice_index values i % 1024 ≡ 0
     → AnyRest p.sheet p.stem (i * p.sheet.instruction.«module») logs
     → AnyRest p.sheet p.stem ((i + 1) * p.sheet.instruction.«module») logs
@@ -268,7 +270,7 @@ walk_skip p values i logs s t codes right lt none any rest top =
 -- a best list begins with the log of its point's mark
 begins_with : (p : PreparedParts) (i mark : ℕ) (g : Log) (gs : List Log) → IsSheet p.sheet
     → IsTopAt p (i * p.sheet.instruction.«module») gs
-    → ((d : Log) × (rest : List Log) × (j : ℕ) × (gs ≡ d ∷ rest) × (j < points_of p)
+    → ((d : Log) × (rest : List Log) × (j : ℕ) × (gs ≡ d ∷ rest) × (j < ends_of p)
     × IsFromTo p i j d × HasMark p.codes d mark)
     → g.start ≡ i * p.sheet.instruction.«module»
     → code_of g.length g.assortment ≡ slice_index p.codes (1023 - mark)
@@ -287,7 +289,7 @@ begins_with p i mark g gs s t (d, more, j, is, jn, ft, m) at code low =
 pub mark_within : (p : PreparedParts) (values : List ℕ) (i : ℕ)
     → IsSheet p.sheet → IsStem p.stem → AreCodes p.sheet.instruction p.codes
     → AreValuesFrom p values 0
-    → i < points_of p
+    → i < ends_of p
     → 0 < slice_index values i % 1024
     → 1023 - slice_index values i % 1024 < length p.codes
 mark_within p values i s t codes right lt some =
@@ -299,15 +301,14 @@ mark_within p values i s t codes right lt some =
 pub walk_log : (p : PreparedParts) (values : List ℕ) (i : ℕ) (g : Log) (logs : List Log)
     → IsSheet p.sheet → IsStem p.stem → AreCodes p.sheet.instruction p.codes
     → AreValuesFrom p values 0
-    → i < points_of p
+    → i < ends_of p
     → 0 < slice_index values i % 1024
     → g.start ≡ i * p.sheet.instruction.«module»
     → code_of g.length g.assortment ≡ slice_index p.codes (1023 - slice_index values i % 1024)
     → g.assortment < 16
     → AnyRest p.sheet p.stem (i * p.sheet.instruction.«module») logs
-    → (j : ℕ) × (i < j) × (j < points_of p)
-    × (j ≡ i + g.length / p.sheet.instruction.«module»)
-    × (end_of g ≡ j * p.sheet.instruction.«module»)
+    → (j : ℕ) × (i < j) × (j < ends_of p)
+    × (j ≡ point_after p.sheet.instruction.«module» (end_of p.sheet.instruction g))
     × IsAllowed p.sheet.instruction p.stem g
     × AnyRest p.sheet p.stem (j * p.sheet.instruction.«module») (logs ++ g ∷ [])
 walk_log p values i g logs s t codes right lt some at code low any =
@@ -317,32 +318,39 @@ walk_log p values i g logs s t codes right lt some at code low any =
     begins_with p i (slice_index values i % 1024) g b.0 s b.1.top (b.1.here some) at code low in
     let a : IsAllowed p.sheet.instruction p.stem g = f.1.cut.1 in
     let e = end_point p i g s a at in (
-      i + g.length / m,
+      point_after m (end_of p.sheet.instruction g),
       e.0,
       e.1,
       refl,
-      e.2.ends,
       a,
       λ rest top.
           rw append_assoc (any (g ∷ rest)
-          (IsTop-rest (IsAllowed p.sheet.instruction p.stem) end_of (worth_of p.sheet p.stem) (i * m) g f.0 rest f.1
-          (subst (λ x. IsTopAt p x rest) (sym e.2.ends) top))),
+          (IsTop-rest (IsAllowed p.sheet.instruction p.stem) (end_of p.sheet.instruction) (worth_of p.sheet p.stem) (i * m) g f.0 rest f.1
+          (top_at_end p i (point_after m (end_of p.sheet.instruction g)) g rest s e.2 top))),
     )
 
 -- past the last point the logs so far are the best
-pub walk_end : (p : PreparedParts) (logs : List Log)
+pub walk_end : (p : PreparedParts) (n : ℕ) (logs : List Log)
+    → points_of p ≤ n
     → IsSheet p.sheet
-    → AnyRest p.sheet p.stem (points_of p * p.sheet.instruction.«module») logs
-    → IsTop (IsAllowed p.sheet.instruction p.stem) end_of (worth_of p.sheet p.stem) 0 logs
-walk_end p logs s any = subst (λ gs. IsTopAt p 0 gs) (append-nil logs) (any [] (nothing_past p s))
+    → AnyRest p.sheet p.stem (n * p.sheet.instruction.«module») logs
+    → IsTop (IsAllowed p.sheet.instruction p.stem) (end_of p.sheet.instruction) (worth_of p.sheet p.stem) 0 logs
+walk_end p n logs past s any = subst (λ gs. IsTopAt p 0 gs) (append-nil logs) (any [] (nothing_past p n past s))
 
 -- the value of the butt tells its worth
 pub walk_worth : (p : PreparedParts) (values : List ℕ) (logs : List Log)
     → IsSheet p.sheet → IsStem p.stem → AreCodes p.sheet.instruction p.codes
     → AreValuesFrom p values 0
-    → IsTop (IsAllowed p.sheet.instruction p.stem) end_of (worth_of p.sheet p.stem) 0 logs
+    → IsTop (IsAllowed p.sheet.instruction p.stem) (end_of p.sheet.instruction) (worth_of p.sheet p.stem) 0 logs
     → slice_index values 0 / 1024 ≡ cutting_worth p.sheet p.stem logs
 walk_worth p values logs s t codes right top =
     let b : BestAt p values 0 = values_best p values 0 s t codes right (omega arith) in
     let e : 0 * p.sheet.instruction.«module» ≡ 0 = omega arith in
     b.1.worth_is ∙ same_worth p.sheet p.stem 0 b.0 logs (subst (λ x. IsTopAt p x b.0) e b.1.top) top
+
+-- where no log is allowed, the first of the best cuttings is empty
+pub nothing_first : (sheet : SheetParts) (stem : StemParts) → ((g : Log) → IsAllowed sheet.instruction stem g → ⊥)
+    → IsFirstBest sheet stem []
+nothing_first sheet stem none =
+    top_is_first_best sheet stem []
+    (nothing_top (IsAllowed sheet.instruction stem) (end_of sheet.instruction) (worth_of sheet stem) 0 (λ d le a. none d a))

@@ -12,8 +12,8 @@ use Rattle.buck_dp.specs.Best.{IsFirstBest}
 -- whatever best list goes on from `from`, the logs so far with it are the best
 abbrev pub AnyRest : SheetParts → StemParts → ℕ → List Log → Type 0
 AnyRest sheet stem from logs =
-    (rest : List Log) → IsTop (IsAllowed sheet.instruction stem) end_of (worth_of sheet stem) from rest
-    → IsTop (IsAllowed sheet.instruction stem) end_of (worth_of sheet stem) 0 (logs ++ rest)
+    (rest : List Log) → IsTop (IsAllowed sheet.instruction stem) (end_of sheet.instruction) (worth_of sheet stem) from rest
+    → IsTop (IsAllowed sheet.instruction stem) (end_of sheet.instruction) (worth_of sheet stem) 0 (logs ++ rest)
 
 module _ (sheet : SheetParts) (stem : StemParts) where
   -- what is another list or before it, and isn't that list, is before it
@@ -27,7 +27,7 @@ module _ (sheet : SheetParts) (stem : StemParts) where
 
   -- the best from the butt is the first of the best cuttings
   pub top_is_first_best : (logs : List Log)
-      → IsTop (IsAllowed sheet.instruction stem) end_of (worth_of sheet stem) 0 logs
+      → IsTop (IsAllowed sheet.instruction stem) (end_of sheet.instruction) (worth_of sheet stem) 0 logs
       → IsFirstBest sheet stem logs
   top_is_first_best logs t = record {
     best = record {
@@ -42,8 +42,8 @@ module _ (sheet : SheetParts) (stem : StemParts) where
 
   -- two best lists are worth the same
   pub same_worth : (from : ℕ) (gs hs : List Log)
-      → IsTop (IsAllowed sheet.instruction stem) end_of (worth_of sheet stem) from gs
-      → IsTop (IsAllowed sheet.instruction stem) end_of (worth_of sheet stem) from hs
+      → IsTop (IsAllowed sheet.instruction stem) (end_of sheet.instruction) (worth_of sheet stem) from gs
+      → IsTop (IsAllowed sheet.instruction stem) (end_of sheet.instruction) (worth_of sheet stem) from hs
       → sum_by (worth_of sheet stem) gs ≡ sum_by (worth_of sheet stem) hs
   same_worth from gs hs t u = elim (t.top hs u.cut) [
     | inr p ↦ sym p.0
@@ -52,7 +52,7 @@ module _ (sheet : SheetParts) (stem : StemParts) where
 
   -- each log of an admissible list is allowed
   pub cut_each : (from k : ℕ) (gs : List Log) (d : Log) → k < length gs
-      → IsCutFrom (IsAllowed sheet.instruction stem) end_of from gs → IsAllowed sheet.instruction stem (get_or gs k d)
+      → IsCutFrom (IsAllowed sheet.instruction stem) (end_of sheet.instruction) from gs → IsAllowed sheet.instruction stem (get_or gs k d)
   cut_each from k [] d lt c = absurd (omega arith)
   cut_each from zero (g ∷ gs) d lt c = c.1
-  cut_each from (suc k) (g ∷ gs) d lt c = cut_each (end_of g) k gs d (omega arith) c.2
+  cut_each from (suc k) (g ∷ gs) d lt c = cut_each (end_of sheet.instruction g) k gs d (omega arith) c.2

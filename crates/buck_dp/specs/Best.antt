@@ -10,7 +10,7 @@ use Rattle.buck_dp.specs.Cutting.{IsCutFrom}
 
 -- each log is allowed and starts at or after the end of the one before
 abbrev pub IsAdmissible : SheetParts → StemParts → List Log → Type 0
-IsAdmissible sheet stem logs = IsCutFrom (IsAllowed sheet.instruction stem) end_of 0 logs
+IsAdmissible sheet stem logs = IsCutFrom (IsAllowed sheet.instruction stem) (end_of sheet.instruction) 0 logs
 
 -- the worths of the logs together, in millionths of the price unit
 abbrev pub cutting_worth : SheetParts → StemParts → List Log → ℕ

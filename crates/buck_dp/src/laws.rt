@@ -1,10 +1,12 @@
 //! What follows from the definitions, for all sheets, stems and lists of logs: each law is the contract of an empty
 //! function.
-ghost use Rattle.std.specs.Prelude.{◌≡◌, ℕ, ◌≤◌, List, All, length};
+ghost use Rattle.std.specs.Prelude.{◌≡◌, ℕ, ◌≤◌, ◌↔◌, List, All, length};
 ghost use Rattle.buck_stem.specs.Stem.{StemParts, IsStem};
 ghost use Rattle.buck_value.specs.declared.log.Log.{Log};
 ghost use Rattle.buck_value.specs.Sheet.{SheetParts, IsSheet};
 ghost use Rattle.buck_value.specs.Allowed.{IsAllowed};
+ghost use Rattle.buck_value.specs.Untrimmed.{HasNoTrim};
+ghost use Rattle.buck_dp.specs.Untrimmed.{IsAdmissibleUntrimmed};
 ghost use Rattle.buck_dp.specs.Best.{IsAdmissible, IsFirstBest, cutting_worth};
 
 /// Each log of an admissible cutting is allowed.
@@ -33,4 +35,11 @@ pub fn worth_is_bounded()
 pub fn first_of_the_best_is_one()
     ensures { (sheet : SheetParts) (stem : StemParts) (these those : List Log) → IsFirstBest sheet stem these
         → IsFirstBest sheet stem those → these ≡ those }
+{}
+
+/// Where no assortment has a trim, the cuttings that are admissible are those that would be without any trim.
+#[tactic(auto, using(crate::proofs::Untrimmed::cut_without, crate::proofs::Untrimmed::cut_with))]
+pub fn no_trim_admits_the_same()
+    ensures { (sheet : SheetParts) (stem : StemParts) (logs : List Log) → HasNoTrim sheet.instruction
+        → (IsAdmissible sheet stem logs ↔ IsAdmissibleUntrimmed sheet stem logs) }
 {}

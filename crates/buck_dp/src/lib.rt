@@ -7,4 +7,4 @@ mod table;
 
 pub use buck_record::Memory;
 pub use cutting::Cutting;
-pub use table::{admissible, best, best_of, worth};
+pub use table::{admissible, best, best_of, best_with, worth};

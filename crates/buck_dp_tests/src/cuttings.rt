@@ -72,13 +72,17 @@ fn two_short_logs(rt: HostRuntime) -> Result<(), Fail> {
 }
 
 /// Whether the best cutting of a prepared stem is one log of 4,000 mm with this worth.
-fn is_long(rt: &HostRuntime, prepared: &mut Prepared<'_>, worth: u64) -> Result<bool, Fail> {
+fn is_long(rt: &HostRuntime, prepared: &mut Prepared<'_, '_>, worth: u64) -> Result<bool, Fail> {
     let (cutting, total) = best_of(rt.alloc(), prepared)?;
     Ok(cutting.logs.as_slice() == [log(0, 4000, 0)].as_slice() && total == worth)
 }
 
 /// The same each time that it is asked.
-fn is_long_twice(rt: &HostRuntime, prepared: &mut Prepared<'_>, worth: u64) -> Result<bool, Fail> {
+fn is_long_twice(
+    rt: &HostRuntime,
+    prepared: &mut Prepared<'_, '_>,
+    worth: u64,
+) -> Result<bool, Fail> {
     if !is_long(rt, prepared, worth)? {
         return Ok(false);
     }

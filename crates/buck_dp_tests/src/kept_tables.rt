@@ -1,8 +1,8 @@
 //! Tables that go from stem to stem, against fresh ones for each stem.
 use crate::fixtures::{base_of, is_best};
-use buck_dp::best_of;
+use buck_dp::best_with;
 use buck_stem::Stem;
-use buck_value::{Prepared, Sheet, Tables};
+use buck_value::{Sheet, Tables};
 use std::alloc::AllocError;
 use std::test::Fail;
 
@@ -56,54 +56,34 @@ fn stem_with(rt: &HostRuntime, parts: Parts) -> Result<Stem, Fail> {
     Ok(Stem::make(rt.alloc(), 1, species, samples, zones)?)
 }
 
-/// Puts the stem of these parts to others.
-fn push_stem(rt: &HostRuntime, stems: &mut Vec<Stem>, parts: Parts) -> Result<(), Fail> {
-    let stem = stem_with(rt, parts)?;
-    Ok(stems.push(stem)?)
-}
-
-/// All the stems.
-fn stems(rt: &HostRuntime) -> Result<Vec<Stem>, Fail> {
-    let mut stems = Vec::new(rt.alloc());
-    for parts in STEMS {
-        push_stem(rt, &mut stems, parts)?;
-    }
-    Ok(stems)
-}
-
-/// Whether a prepared stem is cut as the stem is alone.
-fn is_cut_alike(
+/// The tables after a stem was cut with them, and whether it is cut as it is alone.
+fn tables_after<'s>(
     rt: &HostRuntime,
+    tables: Tables<'s>,
     sheet: &Sheet,
     stem: &Stem,
-    prepared: &mut Prepared<'_>,
-) -> Result<bool, Fail> {
-    let (cutting, worth) = best_of(rt.alloc(), prepared)?;
-    is_best(rt, sheet, stem, cutting.logs.as_slice(), worth)
+) -> Result<(Tables<'s>, bool), Fail> {
+    let (cutting, worth, tables) = best_with(rt.alloc(), tables, stem)?;
+    let alike = is_best(rt, sheet, stem, cutting.logs.as_slice(), worth)?;
+    Ok((tables, alike))
 }
 
-/// The tables after a stem was prepared with them, and whether it is cut as it is alone.
-fn tables_after<'a>(
+/// The same of the stem of these parts, which doesn't outlive its cutting.
+fn tables_after_parts<'s>(
     rt: &HostRuntime,
-    tables: Tables<'a>,
+    tables: Tables<'s>,
     sheet: &Sheet,
-    stem: &'a Stem,
-) -> Result<(Tables<'a>, bool), Fail> {
-    let mut prepared = Prepared::with(rt.alloc(), tables, stem)?;
-    let alike = is_cut_alike(rt, sheet, stem, &mut prepared)?;
-    Ok((prepared.into_tables(), alike))
+    parts: Parts,
+) -> Result<(Tables<'s>, bool), Fail> {
+    let stem = stem_with(rt, parts)?;
+    tables_after(rt, tables, sheet, &stem)
 }
 
 /// Whether each stem is cut with the tables of the stems before it as it is alone.
-fn are_cut_alike<'a>(
-    rt: &HostRuntime,
-    sheet: &'a Sheet,
-    stems: &'a [Stem],
-    room: usize,
-) -> Result<bool, Fail> {
+fn are_cut_alike(rt: &HostRuntime, sheet: &Sheet, room: usize) -> Result<bool, Fail> {
     let mut tables = Tables::make(rt.alloc(), sheet, room)?;
-    for stem in stems {
-        let (after, alike) = tables_after(rt, tables, sheet, stem)?;
+    for parts in STEMS {
+        let (after, alike) = tables_after_parts(rt, tables, sheet, parts)?;
         if !alike {
             return Ok(false);
         }
@@ -116,9 +96,8 @@ fn are_cut_alike<'a>(
 #[test]
 fn kept_tables_cut_alike(rt: HostRuntime) -> Result<(), Fail> {
     let sheet = base_of(&rt, MIXED)?;
-    let stems = stems(&rt)?;
     for room in [0, 1, 60, 4100, 45_000] {
-        let alike = are_cut_alike(&rt, &sheet, stems.as_slice(), room)?;
+        let alike = are_cut_alike(&rt, &sheet, room)?;
         assert!(rt; alike, "room {room}");
     }
     Ok(())

@@ -15,3 +15,5 @@ mod outside;
 mod slow;
 #[cfg(test)]
 mod small_stems;
+#[cfg(test)]
+mod trims;

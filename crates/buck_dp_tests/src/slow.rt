@@ -32,11 +32,22 @@ fn allowed_logs(rt: &HostRuntime, sheet: &Sheet, stem: &Stem) -> Result<Vec<Log>
     Ok(logs)
 }
 
-/// Where the last of some logs ends, or 0 where there is none.
-fn end_of(logs: &[Log]) -> u32 {
+/// The trim of an assortment, or 0 where it isn't there.
+fn trim_of(sheet: &Sheet, assortment: u8) -> u32 {
+    match sheet.instruction().assortments().get(assortment as usize) {
+        None => 0,
+        Some(found) => found.trim(),
+    }
+}
+
+/// Where the last of some logs ends with its trim, or 0 where there is none.
+fn end_of(sheet: &Sheet, logs: &[Log]) -> u32 {
     match logs.last() {
         None => 0,
-        Some(last) => last.start.saturating_add(last.length),
+        Some(last) => {
+            let trim = trim_of(sheet, last.assortment);
+            last.start.saturating_add(last.length).saturating_add(trim)
+        }
     }
 }
 
@@ -51,11 +62,12 @@ fn with(rt: &HostRuntime, list: &[Log], next: Log) -> Result<Vec<Log>, AllocErro
 fn push_longer(
     rt: &HostRuntime,
     found: &mut Vec<Vec<Log>>,
+    sheet: &Sheet,
     list: &[Log],
     logs: &[Log],
 ) -> Result<(), Fail> {
     for next in logs {
-        if end_of(list) <= next.start {
+        if end_of(sheet, list) <= next.start {
             found.push(with(rt, list, *next)?)?;
         }
     }
@@ -63,10 +75,15 @@ fn push_longer(
 }
 
 /// Each of the lists with each log that may follow it.
-fn longer(rt: &HostRuntime, lists: &[Vec<Log>], logs: &[Log]) -> Result<Vec<Vec<Log>>, Fail> {
+fn longer(
+    rt: &HostRuntime,
+    sheet: &Sheet,
+    lists: &[Vec<Log>],
+    logs: &[Log],
+) -> Result<Vec<Vec<Log>>, Fail> {
     let mut found = Vec::new(rt.alloc());
     for list in lists {
-        push_longer(rt, &mut found, list.as_slice(), logs)?;
+        push_longer(rt, &mut found, sheet, list.as_slice(), logs)?;
     }
     Ok(found)
 }
@@ -126,7 +143,7 @@ pub fn slow_best(rt: &HostRuntime, sheet: &Sheet, stem: &Stem) -> Result<(Vec<Lo
     let mut first = Vec::new(rt.alloc());
     let mut lists = vec![in rt.alloc(); Vec::new(rt.alloc())]?;
     for _ in 0..3 {
-        lists = longer(rt, lists.as_slice(), logs.as_slice())?;
+        lists = longer(rt, sheet, lists.as_slice(), logs.as_slice())?;
         take_better(rt, sheet, stem, lists.as_slice(), &mut first)?;
     }
     let most = sum_of(sheet, stem, first.as_slice());

@@ -19,6 +19,16 @@ const SMALL: &str = "1 2 APT~901 1 100~902 1 1~903 1 1000~910 1 3~
 916 1 500 1000~917 1 4 8 5 9~918 1 1 1 1 1~
 ";
 
+/// The same with three trims, of which two are no multiples of the module.
+const TRIMMED: &str = "1 2 APT~901 1 100~902 1 1~903 1 1000~910 1 3~
+911 1 saw~912 1 1~913 1 1~914 1 1~915 1 100 200~915 2 400~
+916 1 500 700~917 1 400 400 600 600~918 1 1 1 1 1~919 1 30~
+911 1 pulp~912 1 1~913 1 1 2 3~914 1 1~915 1 50~915 2 500~
+916 1 500 600 1200~917 1 400 0 300~918 1 1 1 1~919 1 130~
+911 1 pole~912 1 1~913 1 1 3~914 1 2~915 1 80 150~915 2 300~
+916 1 500 1000~917 1 4 8 5 9~918 1 1 1 1 1~
+";
+
 /// The next number of a row that looks like chance.
 fn next(seed: u64) -> u64 {
     seed.wrapping_mul(6_364_136_223_846_793_005)
@@ -90,6 +100,15 @@ fn agrees_at(rt: &HostRuntime, sheet: &Sheet, seed: u64) -> Result<bool, Fail> {
 fn at_base_prices(rt: HostRuntime) -> Result<(), Fail> {
     let sheet = base_of(&rt, SMALL)?;
     for seed in 0..30 {
+        assert!(rt; agrees_at(&rt, &sheet, seed)?, "seed {seed}");
+    }
+    Ok(())
+}
+
+#[test]
+fn with_trims(rt: HostRuntime) -> Result<(), Fail> {
+    let sheet = base_of(&rt, TRIMMED)?;
+    for seed in 300..330 {
         assert!(rt; agrees_at(&rt, &sheet, seed)?, "seed {seed}");
     }
     Ok(())

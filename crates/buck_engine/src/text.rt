@@ -7,10 +7,10 @@ ghost use Rattle.buck_engine.specs.Text.{IsBuckText, IsTextUnder, base_sheet, lo
 
 use crate::fault::TextFault;
 use buck_apt::Instruction;
-use buck_dp::best_of;
+use buck_dp::best_with;
 use buck_record::{Memory, put_line, put_numbers};
 use buck_stem::Stem;
-use buck_value::{Log, Prepared, Sheet, Tables, class_of, log_worth, room_of};
+use buck_value::{Log, Sheet, Tables, class_of, room_of, worth_in_class};
 use std::alloc::Global;
 use std::sync::Arc;
 
@@ -48,7 +48,7 @@ fn put_log(out: &mut Vec<u8>, sheet: &Sheet, stem: &Stem, log: &Log) -> Result<(
         u128::from(stem.diameter_at(log.start + log.length)),
         u128::from(class.row),
         u128::from(class.column),
-        u128::from(log_worth(sheet, stem, log)),
+        u128::from(worth_in_class(sheet, stem, log, class)),
     ];
     put_named_line(out, b"LOG", &numbers, assortment.name())
 }
@@ -93,7 +93,7 @@ fn put_cut<'a>(
     out: &mut Vec<u8>,
     sheet: &Sheet,
     tables: Tables<'a>,
-    stem: &'a Stem,
+    stem: &Stem,
 ) -> Result<(usize, u64, Tables<'a>), Memory>
     requires { tables.sheet ≡ sheet.now }
     ensures put { IfOk result (λ cut. IsPut sheet.now stem.now out.old.items out.new.items cut.0 cut.1) }
@@ -101,12 +101,11 @@ fn put_cut<'a>(
     ensures worth_fits { IfOk result (λ cut. cut.1 < 2 ^ 64) }
     ensures same { IfOk result (λ cut. cut.2.sheet ≡ sheet.now) }
 {
-    let mut prepared = Prepared::with(alloc, tables, stem)?;
-    let (cutting, worth) = best_of(alloc, &mut prepared)?;
+    let (cutting, worth, tables) = best_with(alloc, tables, stem)?;
     let logs = cutting.logs.as_slice();
     put_stem(out, stem, logs.len(), worth)?;
     put_logs(out, sheet, stem, logs)?;
-    Ok((logs.len(), worth, prepared.into_tables()))
+    Ok((logs.len(), worth, tables))
 }
 
 /// The sheet of the base prices.
@@ -118,7 +117,7 @@ fn base_sheet(alloc: Global, instruction: &Instruction) -> Result<Sheet, Memory>
 }
 
 /// The text of the stems, bucked under a sheet.
-fn text_under<'a>(alloc: Global, sheet: &'a Sheet, stems: &'a [Stem]) -> Result<Vec<u8>, Memory>
+fn text_under<'a>(alloc: Global, sheet: &'a Sheet, stems: &[Stem]) -> Result<Vec<u8>, Memory>
     ensures { IfOk result (λ text. IsTextUnder sheet.now stems.now text.items) }
 {
     let mut out = Vec::new(alloc);

@@ -12,3 +12,5 @@ mod runs;
 mod streams;
 #[cfg(test)]
 mod texts;
+#[cfg(test)]
+mod trims;

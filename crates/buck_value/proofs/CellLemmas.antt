@@ -12,11 +12,11 @@ use Rattle.buck_apt.specs.Instruction.{AssortmentParts, InstructionParts}
 use Rattle.buck_stem.specs.Stem.{StemParts}
 use Rattle.buck_value.specs.declared.log.Log.{Log}
 use Rattle.buck_value.specs.declared.ladder.Wood.{Wood}
-use Rattle.buck_value.specs.Allowed.{IsAllowed, Allows, log_of, end_of, worth_of}
+use Rattle.buck_value.specs.Allowed.{IsAllowed, Allows, log_of, top_of, trim_in, worth_of}
 use Rattle.buck_value.specs.Prepared.{prepared_of}
 use Rattle.buck_value.specs.Relaxed.{IsBid}
 use Rattle.buck_value.specs.Codes.{HasMark, code_of}
-use Rattle.buck_value.specs.Quotes.{LadderParts, IsLadder, TakesWood, IsWood, Brings, IsColumnBid, IsCell, AreCells, IsBefore, IsAny}
+use Rattle.buck_value.specs.Quotes.{LadderParts, IsLadder, TakesWood, IsWood, HasTrim, Brings, IsColumnBid, IsCell, AreCells, IsBefore, IsAny}
 use Rattle.buck_value.proofs.WoodLemmas.{mask_allows}
 
 -- among numbers that rise, equal ones stand at one place
@@ -48,10 +48,10 @@ one_bid t stem g b d v p q =
 
 -- a cell stays right while no more logs are done that are allowed
 pub cell_kept : (t : LadderParts) (wood : Wood) (Done More : Log → Type 0) (l cell : ℕ) → IsCell t wood Done l cell
-    → ((stem : StemParts) (g : Log) → IsWood t.sheet.instruction.«module» wood stem g → IsAllowed t.sheet.instruction stem g → g.length ≡ l → More g → Done g)
+    → ((stem : StemParts) (g : Log) → IsWood t.sheet.instruction.«module» wood stem g → IsAllowed t.sheet.instruction stem g → g.length ≡ l → HasTrim t wood g.assortment → More g → Done g)
     → IsCell t wood More l cell
 cell_kept t wood Done More l cell is none_new = record {
-  each = λ stem g bid w same done b. is.each stem g bid w same (none_new stem g w b.allowed same done) b;
+  each = λ stem g bid w same trim done b. is.each stem g bid w same trim (none_new stem g w b.allowed same trim done) b;
   one = is.one;
   high = is.high;
 }
@@ -63,13 +63,13 @@ pub cell_raised : (t : LadderParts) (wood : Wood) (Done More : Log → Type 0) (
     → cell ≤ new → bid ≤ new → (new ≡ cell) ⊎ ((new ≡ bid) × (0 < bid))
     → IsCell t wood More l new
 cell_raised t wood Done More a l cell bid new v is b split low high which = record {
-  each = λ stem g other w same done brings. elim (split g same done) [
-    | inl old ↦ (let h : other ≤ cell = is.each stem g other w same old brings in omega arith)
+  each = λ stem g other w same trim done brings. elim (split g same done) [
+    | inl old ↦ (let h : other ≤ cell = is.each stem g other w same trim old brings in omega arith)
     | inr here ↦ of_column stem g.start g.length g.assortment other same here w brings
   ];
   one = elim which [
-    | inl kept ↦ (elim is.one [ inl none ↦ inl (kept ∙ none) | inr some ↦ inr (some.0, subst (Brings t wood some.0 l) (sym kept) some.1) ])
-    | inr raised ↦ inr (a, subst (Brings t wood a l) (sym raised.0) (b.some raised.1))
+    | inl kept ↦ (elim is.one [ inl none ↦ inl (kept ∙ none) | inr some ↦ inr (some.0, some.1, subst (Brings t wood some.0 l) (sym kept) some.2) ])
+    | inr raised ↦ inr (a, b.trim, subst (Brings t wood a l) (sym raised.0) (b.some raised.1))
   ];
   high = elim which [ inl kept ↦ omega (arith, is.high) | inr raised ↦ omega (arith, raised.0, b.high) ];
 }
@@ -106,7 +106,7 @@ only y l has = at has.0 has.1 has.2
     at (suc k) lt is = absurd (omega arith)
 
 -- the lengths up to a column are those before it, and its own
-tried_more : (lengths : List ℕ) (c l : ℕ) → c < length lengths → Contains (take (c + 1) lengths) l → Contains (take c lengths) l ⊎ (slice_index lengths c ≡ l)
+pub tried_more : (lengths : List ℕ) (c l : ℕ) → c < length lengths → Contains (take (c + 1) lengths) l → Contains (take c lengths) l ⊎ (slice_index lengths c ≡ l)
 tried_more lengths c l lt has =
     elim (Contains-append_cases (take c lengths) (slice_index lengths c ∷ []) l (subst (λ ls. Contains ls l) (take_more lengths c 0 lt) has)) [
       | inl old ↦ inl old
@@ -184,7 +184,7 @@ module _ (t : LadderParts) (wood : Wood) (a from c rung bid : ℕ) (lengths cell
   there r in_r apart same_cell =
       subst (λ n. IsCell t wood Now (length_of r) n) (sym same_cell)
       (cell_kept t wood Before Now (length_of r) (slice_index cells (from + r)) (are r in_r)
-      (λ stem g w al same done. elim done [
+      (λ stem g w al same trim done. elim done [
         | inl early ↦ inl early
         | inr now ↦ elim (tried_more lengths c g.length lt now.1) [
           | inl old ↦ inr (now.0, old)
@@ -221,23 +221,27 @@ pub cells_done : (t : LadderParts) (wood : Wood) (a from : ℕ) (x : AssortmentP
     → AreCells t wood (IsBefore a tried) cells from → AreCells t wood (IsBefore (a + 1) []) cells from
 cells_done t wood a from x cells tried at all are r in_r =
     cell_kept t wood (IsBefore a tried) (IsBefore (a + 1) []) (slice_index t.rungs r * t.sheet.instruction.«module») (slice_index cells (from + r)) (are r in_r)
-    (λ stem g w al same done. elim (before_next a g done) [
+    (λ stem g w al same trim done. elim (before_next a g done) [
       | inl early ↦ inl early
       | inr here ↦ inr (here, subst (λ ls. Contains ls g.length) (sym all) (allows_at t.sheet.instruction stem g a x at here al).length_offered)
     ])
 
 -- an assortment of which no log of the wood is allowed is done
 pub cells_skipped : (t : LadderParts) (wood : Wood) (a from : ℕ) (x : AssortmentParts) (cells : List ℕ) → slice_get t.sheet.instruction.assortments a ≡ Some x
-    → ((TakesWood x wood.species wood.grades × (slice_index x.diameters 0 ≤ wood.diameter) × (wood.diameter < x.upper)) → ⊥)
+    → ((TakesWood x wood.species wood.grades wood.trim × (slice_index x.diameters 0 ≤ wood.diameter) × (wood.diameter < x.upper)) → ⊥)
     → AreCells t wood (IsBefore a []) cells from → AreCells t wood (IsBefore (a + 1) []) cells from
 cells_skipped t wood a from x cells at none are r in_r =
     cell_kept t wood (IsBefore a []) (IsBefore (a + 1) []) (slice_index t.rungs r * t.sheet.instruction.«module») (slice_index cells (from + r)) (are r in_r)
-    (λ stem g w al same done. elim (before_next a g done) [
+    (λ stem g w al same trim done. elim (before_next a g done) [
       | inl early ↦ inl early
       | inr here ↦
           let k : Allows t.sheet.instruction.«module» x stem g = allows_at t.sheet.instruction stem g a x at here al in
           absurd (none (
-            (k.species ∙ w.species, (mask_allows stem g.start (end_of g) wood.grades x.grades w.valid w.grades).1 k.grades),
+            (
+              k.species ∙ w.species,
+              (mask_allows stem g.start (top_of g) wood.grades x.grades w.valid w.grades).1 k.grades,
+              sym (ap trim_in (ap (slice_get t.sheet.instruction.assortments) here ∙ at)) ∙ trim,
+            ),
             subst (λ d. slice_index x.diameters 0 ≤ d) w.top k.thick_enough,
             subst (λ d. d < x.upper) w.top k.thin_enough,
           ))
@@ -247,7 +251,7 @@ cells_skipped t wood a from x cells at none are r in_r =
 pub cells_start : (t : LadderParts) (wood : Wood) (from : ℕ) (cells : List ℕ) → ((r : ℕ) → r < length t.rungs → slice_index cells (from + r) ≡ 0)
     → AreCells t wood (IsBefore 0 []) cells from
 cells_start t wood from cells zeros r in_r = record {
-  each = λ stem g bid w same done b. absurd (elim done [ inl early ↦ omega arith | inr now ↦ none_in g.length now.1 ]);
+  each = λ stem g bid w same trim done b. absurd (elim done [ inl early ↦ omega arith | inr now ↦ none_in g.length now.1 ]);
   one = inl (zeros r in_r);
   high = omega (arith, zeros r in_r);
 }
@@ -257,4 +261,4 @@ pub cells_all : (t : LadderParts) (wood : Wood) (n from : ℕ) (cells : List ℕ
     → AreCells t wood (IsBefore n []) cells from → AreCells t wood IsAny cells from
 cells_all t wood n from cells past are r in_r =
     cell_kept t wood (IsBefore n []) IsAny (slice_index t.rungs r * t.sheet.instruction.«module») (slice_index cells (from + r)) (are r in_r)
-    (λ stem g w al same done. inl (let lt : g.assortment < length t.sheet.instruction.assortments = slice_get_within t.sheet.instruction.assortments g.assortment al.assortment al.exists in omega arith))
+    (λ stem g w al same trim done. inl (let lt : g.assortment < length t.sheet.instruction.assortments = slice_get_within t.sheet.instruction.assortments g.assortment al.assortment al.exists in omega arith))

@@ -14,7 +14,7 @@ use Rattle.buck_value.specs.declared.log.Log.{Log}
 use Rattle.buck_value.specs.Sheet.{SheetParts, price_of}
 use Rattle.buck_value.specs.Volume.{volume, worth_at}
 use Rattle.buck_value.proofs.Rows.{row_counted}
-use Rattle.buck_value.specs.Allowed.{IsAllowed, Allows, worth_of, kind_in, class_in, class_of, top_diameter, row_at, class_place, column_of, end_of}
+use Rattle.buck_value.specs.Allowed.{IsAllowed, Allows, worth_of, kind_in, class_in, class_of, top_diameter, row_at, class_place, column_of, top_of}
 
 pub column_some : (xs : List ℕ) (l i : ℕ) → position (λ x. x == l) xs ≡ Some i → (i < length xs) × Contains xs l
 column_some xs l i e =
@@ -57,8 +57,8 @@ pub allows_by_tests : (step : ℕ) (a : AssortmentParts) (stem : StemParts) (log
     → a.species ≡ stem.species
     → log.start % step ≡ 0
     → position (λ x. x == log.length) a.lengths ≡ Some column
-    → end_of log ≤ stem_length stem.samples
-    → HasGradesOf stem.zones log.start (end_of log) a.grades
+    → top_of log + a.trim ≤ stem_length stem.samples
+    → HasGradesOf stem.zones log.start (top_of log) a.grades
     → top ≡ top_diameter stem log
     → slice_index a.diameters 0 ≤ top
     → top < a.upper

@@ -16,7 +16,7 @@ use Rattle.buck_value.specs.declared.codes.Place.{Place}
 use Rattle.buck_value.specs.declared.ladder.Wood.{Wood}
 use Rattle.buck_value.specs.Sheet.{price_of}
 use Rattle.buck_value.specs.Volume.{volume, worth_at}
-use Rattle.buck_value.specs.Allowed.{IsAllowed, Allows, log_of, end_of, top_diameter, row_at, column_of, class_place, class_in, class_of, kind_in, worth_of}
+use Rattle.buck_value.specs.Allowed.{IsAllowed, Allows, log_of, top_of, trim_in, top_diameter, row_at, column_of, class_place, class_in, class_of, kind_in, worth_of}
 use Rattle.buck_value.specs.Codes.{code_of, IsPlace, columns_before}
 use Rattle.buck_value.specs.declared.ladder.Column.{Column}
 use Rattle.buck_value.specs.Quotes.{LadderParts, IsLadder, TakesWood, IsWood, IsColumnBid, AreTakers}
@@ -43,9 +43,9 @@ element (x ∷ xs) zero lt = (x, refl)
 element (x ∷ xs) (suc k) lt = element xs k (omega arith)
 
 -- an assortment that isn't among the takers doesn't take the wood
-pub not_taken : (t : LadderParts) (species mask a : ℕ) (takers : List Bool) (x : AssortmentParts) → AreTakers t species mask takers
-    → slice_get t.sheet.instruction.assortments a ≡ Some x → get_or takers a false ≡ false → TakesWood x species mask → ⊥
-not_taken t species mask a takers x are at is taken =
+pub not_taken : (t : LadderParts) (species mask trim a : ℕ) (takers : List Bool) (x : AssortmentParts) → AreTakers t species mask trim takers
+    → slice_get t.sheet.instruction.assortments a ≡ Some x → get_or takers a false ≡ false → TakesWood x species mask trim → ⊥
+not_taken t species mask trim a takers x are at is taken =
     let lt : a < length t.sheet.instruction.assortments = slice_get_within t.sheet.instruction.assortments a x at in
     let one = element takers a (omega (arith, are.number)) in
     let same : one.0 ≡ false = sym (get_or_from_slice_get takers a one.0 false one.1) ∙ is in
@@ -115,7 +115,7 @@ pub record IsColumn (t : LadderParts) (wood : Wood) (at : Column) (place : ℕ) 
   pub exists : slice_get t.sheet.instruction.assortments at.assortment ≡ Some x
   pub within : at.column < length x.lengths
   pub classes_is : at.classes ≡ classes_before t.sheet.instruction at.assortment
-  pub taken : TakesWood x wood.species wood.grades
+  pub taken : TakesWood x wood.species wood.grades wood.trim
   pub thick : slice_index x.diameters 0 ≤ wood.diameter
   pub thin : wood.diameter < x.upper
   pub class : place ≡ row_at x wood.diameter * length x.lengths + at.column
@@ -185,6 +185,7 @@ module _ {t : LadderParts} {wood : Wood} {at : Column} {place : ℕ} {x : Assort
   no_bid none_there = record {
     none = λ _ stem start w al. (allows_of stem start al).priced (ap (slice_index x.prices) (place_is stem start w) ∙ none_there);
     some = λ more. absurd (let h : 0 < 0 = more in omega arith);
+    trim = ap trim_in k.exists ∙ k.taken.2;
     high = omega arith;
   }
 
@@ -197,8 +198,8 @@ module _ {t : LadderParts} {wood : Wood} {at : Column} {place : ℕ} {x : Assort
       species = k.taken.0 ∙ sym w.species;
       on_module = w.on_module;
       length_offered = (at.column, k.within, get_or_default x.lengths at.column (slice_index x.lengths at.column) 0 k.within);
-      within = w.within;
-      grades = (mask_allows stem start (end_of (one start)) wood.grades x.grades w.valid w.grades).0 k.taken.1;
+      within = omega (arith, w.within, k.taken.2);
+      grades = (mask_allows stem start (top_of (one start)) wood.grades x.grades w.valid w.grades).0 k.taken.1;
       thick_enough = subst (λ d. slice_index x.diameters 0 ≤ d) (sym w.top) k.thick;
       thin_enough = subst (λ d. d < x.upper) (sym w.top) k.thin;
       priced = λ z. priced (sym (ap (slice_index x.prices) (place_is stem start w)) ∙ z);
@@ -258,5 +259,6 @@ module _ {t : LadderParts} {wood : Wood} {at : Column} {place : ℕ} {x : Assort
           marked = record { high = is_place.high; at = is_place.marked };
           is = ap (λ n. n * 1024 + p.mark) (is_worth ∙ worth_is stem start price kind cubic w is_price is_kind is_cubic);
         };
+        trim = ap trim_in k.exists ∙ k.taken.2;
         high = omega (arith, is_place.high);
       }

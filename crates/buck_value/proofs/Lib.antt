@@ -9,3 +9,4 @@ pub mod TablesLemmas
 pub mod LadderLemmas
 pub mod CellLemmas
 pub mod RelaxLemmas
+pub mod Untrimmed

@@ -56,16 +56,17 @@ table_here woods wood k w f is =
 
 -- the cells of some wood, once they are made in its table
 pub found_after : (woods : List WoodTableParts) (wood : Wood) (k : ℕ) (old new : WoodTableParts) (r : Result ℕ AllocError)
-    → (f : IsTableOf woods wood k) → f.table ≡ old → new.species ≡ old.species → new.grades ≡ old.grades
+    → (f : IsTableOf woods wood k) → f.table ≡ old → new.species ≡ old.species → new.grades ≡ old.grades → new.trim ≡ old.trim
     → IfOk r (λ at. (0 < at) × (slice_index new.at wood.diameter ≡ at))
     → IfOk r (λ at. IsFound (set woods k new) wood k at)
-found_after woods wood k old new (Err _) f e s g made = made
-found_after woods wood k old new (Ok at) f e s g made = record {
+found_after woods wood k old new (Err _) f e s g m made = made
+found_after woods wood k old new (Ok at) f e s g m made = record {
   table = new;
   within = (let lt : k < length woods = slice_get_within woods k f.table f.there in omega (arith, lt, length-set woods k new));
   there = there_set woods k new (slice_get_within woods k f.table f.there);
   species = s ∙ sym (ap (λ (w : WoodTableParts). w.species) e) ∙ f.species;
   grades = g ∙ sym (ap (λ (w : WoodTableParts). w.grades) e) ∙ f.grades;
+  trim = m ∙ sym (ap (λ (w : WoodTableParts). w.trim) e) ∙ f.trim;
   cells = made.1;
   made = made.0;
 }
@@ -77,8 +78,8 @@ found_cells t woods wood k at right low f =
     subst (λ n. AreCellsAt t f.table wood.diameter n) f.cells ((right k f.table f.there).at_right wood.diameter low)
 
 -- the wood of a table's cells
-pub same_wood : (wood : Wood) (w : WoodTableParts) → w.species ≡ wood.species → w.grades ≡ wood.grades → wood_of w.species w.grades wood.diameter ≡ wood
-same_wood wood w s g = (let e : wood_of w.species w.grades wood.diameter ≡ wood_of wood.species wood.grades wood.diameter = cc in e)
+pub same_wood : (wood : Wood) (w : WoodTableParts) → w.species ≡ wood.species → w.grades ≡ wood.grades → w.trim ≡ wood.trim → wood_of w.species w.grades wood.diameter w.trim ≡ wood
+same_wood wood w s g m = (let e : wood_of w.species w.grades wood.diameter w.trim ≡ wood_of wood.species wood.grades wood.diameter wood.trim = cc in e)
 
 -- an offer of no logs
 pub offered_none : (t : LadderParts) (wood : Wood) (l base old : ℕ) → IsCell t wood IsAny l 0 → IsOffered t wood l base old old
@@ -115,7 +116,7 @@ below_empty at fits other = elim (cases_order at 18446744073709551615) [
 ]
 
 -- a table without cells
-pub none_made : (t : LadderParts) (w : WoodTableParts) → AreTakers t w.species w.grades w.takers → length w.at ≡ 1501
+pub none_made : (t : LadderParts) (w : WoodTableParts) → AreTakers t w.species w.grades w.trim w.takers → length w.at ≡ 1501
     → ((d : ℕ) → d ≤ 1500 → slice_index w.at d ≡ 0) → IsWoodTable t w
 none_made t w takers number zeros = record {
   takers_right = takers;
@@ -128,10 +129,10 @@ none_made t w takers number zeros = record {
 }
 
 module _ (t : LadderParts) (old new : WoodTableParts) (d from : ℕ) (right : IsWoodTable t old) (low : d ≤ 1500)
-    (species : new.species ≡ old.species) (grades : new.grades ≡ old.grades) (takers : new.takers ≡ old.takers)
+    (species : new.species ≡ old.species) (grades : new.grades ≡ old.grades) (trim : new.trim ≡ old.trim) (takers : new.takers ≡ old.takers)
     (is_from : from ≡ length old.cells) (number : length new.cells ≡ from + length t.rungs)
     (kept : (k : ℕ) → k < from → slice_index new.cells k ≡ slice_index old.cells k)
-    (made : AreCells t (wood_of new.species new.grades d) IsAny new.cells from) where
+    (made : AreCells t (wood_of new.species new.grades d new.trim) IsAny new.cells from) where
   -- the cells that were there are there still
   others_at : (e at : ℕ) → AreCellsAt t old e at → AreCellsAt t new e at
   others_at e at a = record {
@@ -143,12 +144,12 @@ module _ (t : LadderParts) (old new : WoodTableParts) (d from : ℕ) (right : Is
         rw same (subst (λ w. IsCell t w IsAny (slice_index t.rungs r * t.sheet.instruction.«module») (slice_index old.cells (at - 1 + r))) (wood_same e) (a.cells p q r lt));
   }
     where
-      wood_same : (e : ℕ) → wood_of old.species old.grades e ≡ wood_of new.species new.grades e
+      wood_same : (e : ℕ) → wood_of old.species old.grades e old.trim ≡ wood_of new.species new.grades e new.trim
       wood_same e = cc
 
   table_with : (at : ℕ) → new.at ≡ set old.at d at → AreCellsAt t new d at → IsWoodTable t new
   table_with at is here = record {
-    takers_right = rw (species, grades, takers) right.takers_right;
+    takers_right = rw (species, grades, trim, takers) right.takers_right;
     at_number = ap (λ (xs : List ℕ). length xs) is ∙ length-set old.at d at ∙ right.at_number;
     at_right = λ e le. elim (cases_order e d) [
       | inl same ↦
@@ -165,13 +166,13 @@ module _ (t : LadderParts) (old new : WoodTableParts) (d from : ℕ) (right : Is
   added_cells is fits = table_with (from + 1) is record {
     empty = λ e. absurd (omega arith);
     within = λ _ _. omega arith;
-    cells = λ _ _. subst (λ n. AreCells t (wood_of new.species new.grades d) IsAny new.cells n) (let e : from ≡ from + 1 - 1 = omega arith in e) made;
+    cells = λ _ _. subst (λ n. AreCells t (wood_of new.species new.grades d new.trim) IsAny new.cells n) (let e : from ≡ from + 1 - 1 = omega arith in e) made;
   }
 
   -- a row of cells that are all 0
   pub added_zeros : new.at ≡ set old.at d 18446744073709551615 → ((k : ℕ) → from ≤ k → k < length new.cells → slice_index new.cells k ≡ 0) → IsWoodTable t new
   added_zeros is zeros = table_with 18446744073709551615 is record {
-    empty = λ _ r lt. subst (λ v. IsCell t (wood_of new.species new.grades d) IsAny (slice_index t.rungs r * t.sheet.instruction.«module») v)
+    empty = λ _ r lt. subst (λ v. IsCell t (wood_of new.species new.grades d new.trim) IsAny (slice_index t.rungs r * t.sheet.instruction.«module») v)
         (zeros (from + r) (omega arith) (omega arith)) (made r lt);
     within = λ _ q. absurd (omega arith);
     cells = λ _ q. absurd (omega arith);

@@ -11,13 +11,26 @@ use Rattle.buck_value.specs.Volume.{volume, worth_at}
 abbrev pub log_of : ℕ → ℕ → ℕ → Log
 log_of start length assortment = record { start = start; length = length; assortment = assortment }
 
--- where a log ends, in millimetres from the butt
-abbrev pub end_of : Log → ℕ
-end_of g = g.start + g.length
+-- where the length of a log ends, in millimetres from the butt: what lies behind it is trim
+abbrev pub top_of : Log → ℕ
+top_of g = g.start + g.length
 
--- the diameter where a log ends
+-- the trim allowance of an assortment, if it is there
+abbrev pub trim_in : Option AssortmentParts → ℕ
+trim_in None = 0
+trim_in (Some a) = a.trim
+
+-- the trim allowance of a log
+abbrev pub trim_of : InstructionParts → Log → ℕ
+trim_of i g = trim_in (slice_get i.assortments g.assortment)
+
+-- where a log ends: it takes up its length and the trim allowance
+abbrev pub end_of : InstructionParts → Log → ℕ
+end_of i g = top_of g + trim_of i g
+
+-- the diameter where the length of a log ends
 abbrev pub top_diameter : StemParts → Log → ℕ
-top_diameter stem g = diameter_at stem.samples (end_of g)
+top_diameter stem g = diameter_at stem.samples (top_of g)
 
 -- the last place at which a test passes, if there is one: the last among the rest, or else the first
 abbrev pub last_position : (ℕ → Bool) → List ℕ → Option ℕ
@@ -47,8 +60,8 @@ pub record Allows (step : ℕ) (a : AssortmentParts) (stem : StemParts) (g : Log
   pub species : a.species ≡ stem.species
   pub on_module : g.start % step ≡ 0
   pub length_offered : Contains a.lengths g.length
-  pub within : end_of g ≤ stem_length stem.samples
-  pub grades : HasGradesOf stem.zones g.start (end_of g) a.grades
+  pub within : top_of g + a.trim ≤ stem_length stem.samples
+  pub grades : HasGradesOf stem.zones g.start (top_of g) a.grades
   pub thick_enough : slice_index a.diameters 0 ≤ top_diameter stem g
   pub thin_enough : top_diameter stem g < a.upper
   pub priced : slice_index a.prices (class_place a stem g) ≢ 0

@@ -28,6 +28,11 @@ pub record AreRungs (i : InstructionParts) (rungs : List ℕ) : Type 0 where
       → (r : ℕ) × (r < length rungs) × (slice_index rungs r * i.«module» ≡ l)
   pub positive : (r : ℕ) → r < length rungs → 0 < slice_index rungs r
 
+-- a list has the trim allowance of each assortment
+pub record AreTrims (i : InstructionParts) (trims : List ℕ) : Type 0 where
+  pub whole : (a : ℕ) (x : AssortmentParts) → slice_get i.assortments a ≡ Some x → Contains trims x.trim
+  pub low : (k : ℕ) → k < length trims → slice_index trims k ≤ 200
+
 -- the mark of a code, and the rung of its length
 pub record IsPlace (i : InstructionParts) (codes rungs : List ℕ) (a l : ℕ) (place : Place) : Type 0 where
   pub high : place.mark ≤ 1023

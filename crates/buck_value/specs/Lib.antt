@@ -6,4 +6,5 @@ pub mod Codes
 pub mod Relaxed
 pub mod Quotes
 pub mod Push
+pub mod Untrimmed
 pub mod inner

@@ -2,7 +2,7 @@
 ghost use Rattle.std.specs.Prelude.{◌≡◌, ℕ, ◌+◌, ◌-◌, ◌*◌, ◌/◌, ◌%◌, ◌<◌, ◌≤◌, IfOk, OnOk, All, Contains, length, slice_get, slice_index, Some};
 ghost use Rattle.std.specs.List.Sorted.{IsStrictlyIncreasing};
 ghost use Rattle.buck_apt.specs.Instruction.{AssortmentParts, IsInstruction};
-ghost use Rattle.buck_value.specs.Codes.{code_of, columns_before, AreCodes, AreRungs, IsPlace, ArePlaces};
+ghost use Rattle.buck_value.specs.Codes.{code_of, columns_before, AreCodes, AreRungs, IsPlace, ArePlaces, AreTrims};
 ghost use Rattle.buck_value.specs.declared.codes.Place.{Place};
 
 use buck_apt::{Assortment, Instruction};
@@ -81,6 +81,19 @@ pub fn rungs_of(alloc: Global, instruction: &Instruction) -> Result<Vec<u32>, Al
     }
     sort_once(&mut rungs)?;
     Ok(rungs)
+}
+
+/// The trim allowances of all assortments, each once.
+pub fn trims_of(alloc: Global, instruction: &Instruction) -> Result<Vec<u32>, AllocError>
+    ensures { IfOk result (λ trims. AreTrims instruction.now trims.items) }
+{
+    let mut trims = Vec::new(alloc);
+    let all = instruction.assortments();
+    for place in 0..all.len() {
+        trims.push(all[place].trim())?;
+    }
+    sort_once(&mut trims)?;
+    Ok(trims)
 }
 
 /// The same numbers, as wide as places.

@@ -6,19 +6,21 @@ ghost use Rattle.buck_value.specs.Allowed.{row_at};
 ghost use Rattle.buck_value.specs.Codes.{columns_before, IsPlace};
 ghost use Rattle.buck_value.specs.Quotes.{LadderParts, IsLadder, AllIn, TakesWood, IsColumnBid, AreCells, IsBefore, IsAny, AreTakers};
 
-use crate::codes::{Place, codes_of, places_of, rungs_of, sizes_of};
+use crate::codes::{Place, codes_of, places_of, rungs_of, sizes_of, trims_of};
 use crate::sheet::Sheet;
 use crate::worth::{row_of, volume_of, worth_of_piece};
 use buck_apt::{Assortment, Instruction};
 use std::alloc::{AllocError, Global};
 use std::marker::Model;
 
-/// The wood of logs: their species, their grades as a mask, and their top diameter in mm.
+/// The wood of logs: their species, their grades as a mask, their top diameter in mm, and the trim in mm that is cut with
+/// them.
 #[derive(Clone, Copy, Debug)]
 pub struct Wood {
     pub species: u8,
     pub grades: u8,
     pub diameter: u32,
+    pub trim: u32,
 }
 
 /// The lists of a sheet that are made once.
@@ -28,6 +30,7 @@ pub struct Ladder<'a> {
     pub codes: Vec<u32>,
     pub rungs: Vec<usize>,
     places: Vec<Place>,
+    trims: Vec<u32>,
 }
 
 impl<'a> Model for Ladder<'a> {
@@ -35,9 +38,9 @@ impl<'a> Model for Ladder<'a> {
 
     ghost Value = { LadderParts };
 
-    ghost view = { λ t. record { sheet = t.sheet.now; codes = t.codes.items; rungs = t.rungs.items; places = t.places.items } };
+    ghost view = { λ t. record { sheet = t.sheet.now; codes = t.codes.items; rungs = t.rungs.items; places = t.places.items; trims = t.trims.items } };
 
-    ghost invariant = { λ t. IsLadder (record { sheet = t.sheet.now; codes = t.codes.items; rungs = t.rungs.items; places = t.places.items }) };
+    ghost invariant = { λ t. IsLadder (record { sheet = t.sheet.now; codes = t.codes.items; rungs = t.rungs.items; places = t.places.items; trims = t.trims.items }) };
 }
 
 /// Whether a mask has the grade.
@@ -60,11 +63,13 @@ fn are_in(mask: u8, grades: &[u8]) -> bool
     true
 }
 
-/// Whether an assortment takes wood of a species and a mask of grades.
-pub fn takes(assortment: &Assortment, species: u8, grades: u8) -> bool
-    ensures { IsTrue result ↔ TakesWood assortment.now species grades }
+/// Whether an assortment takes wood of a species and a mask of grades with a trim.
+pub fn takes(assortment: &Assortment, species: u8, grades: u8, trim: u32) -> bool
+    ensures { IsTrue result ↔ TakesWood assortment.now species grades trim }
 {
-    assortment.species() == species && are_in(grades, assortment.grades())
+    assortment.species() == species
+        && are_in(grades, assortment.grades())
+        && assortment.trim() == trim
 }
 
 /// The column of an assortment of a sheet, with how many classes and columns the assortments before have.
@@ -90,6 +95,7 @@ impl<'a> Ladder<'a> {
             codes,
             rungs: sizes_of(alloc, rungs.as_slice())?,
             places,
+            trims: trims_of(alloc, instruction)?,
         })
     }
 
@@ -99,6 +105,14 @@ impl<'a> Ladder<'a> {
         ensures right { IsLadder self.now }
     {
         self.rungs.as_slice()
+    }
+
+    /// The trim allowances of all assortments, each once.
+    pub fn trims(&self) -> &[u32]
+        ensures trims { result.now ≡ self.now.trims }
+        ensures right { IsLadder self.now }
+    {
+        self.trims.as_slice()
     }
 
     /// The assortments of the sheet's instruction.
@@ -128,14 +142,20 @@ impl<'a> Ladder<'a> {
         self.places[at.columns + at.column]
     }
 
-    /// For each assortment whether it takes wood of a species and a mask of grades.
-    pub fn takers(&self, alloc: Global, species: u8, grades: u8) -> Result<Vec<bool>, AllocError>
-        ensures { IfOk result (λ v. AreTakers self.now species grades v.items) }
+    /// For each assortment whether it takes wood of a species and a mask of grades with a trim.
+    pub fn takers(
+        &self,
+        alloc: Global,
+        species: u8,
+        grades: u8,
+        trim: u32,
+    ) -> Result<Vec<bool>, AllocError>
+        ensures { IfOk result (λ v. AreTakers self.now species grades trim v.items) }
     {
         let all = self.assortments();
         let mut takers = Vec::with_capacity(alloc, all.len())?;
         for place in 0..all.len() {
-            takers.push(takes(&all[place], species, grades))?;
+            takers.push(takes(&all[place], species, grades, trim))?;
         }
         Ok(takers)
     }
@@ -146,7 +166,7 @@ impl<'a> Ladder<'a> {
         requires column { (x : AssortmentParts) → slice_get self.now.sheet.instruction.assortments at.assortment ≡ Some x → at.column < length x.lengths }
         requires columns { at.columns ≡ columns_before self.now.sheet.instruction at.assortment }
         requires classes { at.classes ≡ classes_before self.now.sheet.instruction at.assortment }
-        requires taken { (x : AssortmentParts) → slice_get self.now.sheet.instruction.assortments at.assortment ≡ Some x → TakesWood x wood.species wood.grades }
+        requires taken { (x : AssortmentParts) → slice_get self.now.sheet.instruction.assortments at.assortment ≡ Some x → TakesWood x wood.species wood.grades wood.trim }
         requires thick { (x : AssortmentParts) → slice_get self.now.sheet.instruction.assortments at.assortment ≡ Some x → slice_index x.diameters 0 ≤ wood.diameter }
         requires thin { (x : AssortmentParts) → slice_get self.now.sheet.instruction.assortments at.assortment ≡ Some x → wood.diameter < x.upper }
         requires row { (x : AssortmentParts) → slice_get self.now.sheet.instruction.assortments at.assortment ≡ Some x → row ≡ row_at x wood.diameter }
@@ -182,7 +202,7 @@ impl<'a> Ladder<'a> {
         requires column { first.column ≡ 0 }
         requires columns { first.columns ≡ columns_before self.now.sheet.instruction first.assortment }
         requires classes { first.classes ≡ classes_before self.now.sheet.instruction first.assortment }
-        requires taken { (x : AssortmentParts) → slice_get self.now.sheet.instruction.assortments first.assortment ≡ Some x → TakesWood x wood.species wood.grades }
+        requires taken { (x : AssortmentParts) → slice_get self.now.sheet.instruction.assortments first.assortment ≡ Some x → TakesWood x wood.species wood.grades wood.trim }
         requires right { AreCells self.now wood (IsBefore first.assortment []) cells.old from }
         ensures number { length cells.new ≡ length cells.old }
         ensures others { (k : ℕ) → k < from → slice_index cells.new k ≡ slice_index cells.old k }
@@ -206,7 +226,7 @@ impl<'a> Ladder<'a> {
     /// Puts the cells of some wood in place of zeros.
     pub fn put(&self, cells: &mut [u64], from: usize, takers: &[bool], wood: Wood)
         requires room { from + length self.now.rungs ≤ length cells.old }
-        requires takers { AreTakers self.now wood.species wood.grades takers.now }
+        requires takers { AreTakers self.now wood.species wood.grades wood.trim takers.now }
         requires zeros { (r : ℕ) → r < length self.now.rungs → slice_index cells.old (from + r) ≡ 0 }
         ensures number { length cells.new ≡ length cells.old }
         ensures others { (k : ℕ) → k < from → slice_index cells.new k ≡ slice_index cells.old k }

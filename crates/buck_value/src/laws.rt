@@ -1,9 +1,10 @@
 //! What follows from the definitions, for all sheets, stems and logs: each law is the contract of an empty function.
-ghost use Rattle.std.specs.Prelude.{ℕ, ◌*◌, ◌<◌, ◌≤◌, All, slice_index};
+ghost use Rattle.std.specs.Prelude.{ℕ, ◌*◌, ◌<◌, ◌≤◌, ◌↔◌, All, slice_index};
 ghost use Rattle.buck_apt.specs.Instruction.{InstructionParts, AssortmentParts, IsInstruction, IsAssortment, IsClass};
 ghost use Rattle.buck_stem.specs.Stem.{StemParts};
 ghost use Rattle.buck_value.specs.declared.log.Log.{Log};
 ghost use Rattle.buck_value.specs.Sheet.{SheetParts, IsSheet};
+ghost use Rattle.buck_value.specs.Untrimmed.{HasNoTrim, IsAllowedUntrimmed};
 ghost use Rattle.buck_value.specs.Allowed.{IsAllowed, IsRow, top_diameter, row_at, class_of, worth_of};
 
 /// No price of a sheet is above 20,000,000.
@@ -40,4 +41,11 @@ pub fn class_of_allowed_log_exists()
 pub fn row_is_the_last()
     ensures { (a : AssortmentParts) (d : ℕ)
         → IsAssortment a → slice_index a.diameters 0 ≤ d → IsRow a d (row_at a d) }
+{}
+
+/// Where no assortment has a trim, the logs that are allowed are those that would be without any trim.
+#[tactic(auto, using(crate::proofs::Untrimmed::without_trim, crate::proofs::Untrimmed::with_trim))]
+pub fn no_trim_allows_the_same()
+    ensures { (i : InstructionParts) (stem : StemParts) (g : Log)
+        → HasNoTrim i → (IsAllowed i stem g ↔ IsAllowedUntrimmed i stem g) }
 {}

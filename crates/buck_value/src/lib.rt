@@ -18,4 +18,4 @@ pub use log::Log;
 pub use prepared::Prepared;
 pub use sheet::Sheet;
 pub use tables::{Tables, room_of};
-pub use worth::{class_of, log_worth, worth_if_allowed};
+pub use worth::{class_of, log_worth, worth_if_allowed, worth_in_class};

@@ -1,5 +1,6 @@
 //! What logs bring, by their length, for each kind of wood that was asked for.
 ghost use Rattle.std.specs.Prelude.{◌≡◌, ℕ, ◌+◌, ◌-◌, ◌*◌, ◌/◌, ◌<◌, ◌≤◌, ◌↔◌, IsTrue, IfOk, OnOk, OnErr, IfSome, max, length, slice_get, slice_index, Some};
+ghost use Rattle.buck_value.specs.Sheet.{IsSheet};
 ghost use Rattle.buck_value.specs.Codes.{AreCodes};
 ghost use Rattle.buck_value.specs.Quotes.{LadderParts, WoodTableParts, AreTakers, AreCells, IsAny, AreWoodTables, IsWoodTable, IsTableOf, IsFound, IsOffered, IsLadder};
 
@@ -13,11 +14,12 @@ use std::marker::Model;
 /// Stands for cells that are all 0.
 const EMPTY: usize = usize::MAX;
 
-/// The cells of one species and one set of grades, by diameter.
+/// The cells of one species, one set of grades and one trim, by diameter.
 #[derive(Drop)]
 pub struct WoodTable {
     species: u8,
     grades: u8,
+    trim: u32,
     takers: Vec<bool>,
     at: Vec<usize>,
     cells: Vec<u64>,
@@ -28,7 +30,7 @@ impl Model for WoodTable {
 
     ghost Value = { WoodTableParts };
 
-    ghost view = { λ w. record { species = w.species; grades = w.grades; takers = w.takers.items; at = w.at.items; cells = w.cells.items } };
+    ghost view = { λ w. record { species = w.species; grades = w.grades; trim = w.trim; takers = w.takers.items; at = w.at.items; cells = w.cells.items } };
 }
 
 /// So many places that are all 0.
@@ -41,21 +43,24 @@ fn no_places(alloc: Global, count: usize) -> Result<Vec<usize>, AllocError>
     Ok(places)
 }
 
-/// The table of a species and a set of grades, without cells.
+/// The table of a species, a set of grades and a trim, without cells.
 fn new_table(
     alloc: Global,
     ladder: &Ladder<'_>,
     species: u8,
     grades: u8,
+    trim: u32,
 ) -> Result<WoodTable, AllocError>
     ensures right { IfOk result (λ w. IsWoodTable ladder.now w) }
     ensures species { IfOk result (λ w. w.species ≡ species) }
     ensures grades { IfOk result (λ w. w.grades ≡ grades) }
+    ensures trim { IfOk result (λ w. w.trim ≡ trim) }
 {
     Ok(WoodTable {
         species,
         grades,
-        takers: ladder.takers(alloc, species, grades)?,
+        trim,
+        takers: ladder.takers(alloc, species, grades, trim)?,
         at: no_places(alloc, 1501)?,
         cells: Vec::new(alloc),
     })
@@ -80,7 +85,7 @@ fn push_row(
     takers: &[bool],
     wood: Wood,
 ) -> Result<usize, AllocError>
-    requires takers { AreTakers ladder.now wood.species wood.grades takers.now }
+    requires takers { AreTakers ladder.now wood.species wood.grades wood.trim takers.now }
     ensures place { IfOk result (λ from. from ≡ length cells.old.items) }
     ensures number { OnOk result (length cells.new.items ≡ length cells.old.items + length ladder.now.rungs) }
     ensures kept { OnOk result ((k : ℕ) → k < length cells.old.items → slice_index cells.new.items k ≡ slice_index cells.old.items k) }
@@ -105,12 +110,14 @@ impl WoodTable {
         ensures right { IsWoodTable ladder.now self.new }
         ensures species { self.new.species ≡ self.old.species }
         ensures grades { self.new.grades ≡ self.old.grades }
+        ensures trim { self.new.trim ≡ self.old.trim }
         ensures made { IfOk result (λ at. (0 < at) × (slice_index self.new.at diameter ≡ at)) }
     {
         let wood = Wood {
             species: self.species,
             grades: self.grades,
             diameter,
+            trim: self.trim,
         };
         let from = push_row(&mut self.cells, ladder, self.takers.as_slice(), wood)?;
         let at = if are_zero(self.cells.as_slice(), from) {
@@ -123,14 +130,14 @@ impl WoodTable {
     }
 }
 
-/// Whether a table is that of a species and a set of grades.
+/// Whether a table is that of a species, a set of grades and a trim.
 fn is_of(table: &WoodTable, wood: Wood) -> bool
-    ensures { IsTrue result ↔ ((table.now.species ≡ wood.species) × (table.now.grades ≡ wood.grades)) }
+    ensures { IsTrue result ↔ ((table.now.species ≡ wood.species) × (table.now.grades ≡ wood.grades) × (table.now.trim ≡ wood.trim)) }
 {
-    table.species == wood.species && table.grades == wood.grades
+    table.species == wood.species && table.grades == wood.grades && table.trim == wood.trim
 }
 
-/// The place of the table of a species and a set of grades.
+/// The place of the table of a species, a set of grades and a trim.
 fn find(woods: &[WoodTable], wood: Wood) -> Option<usize>
     ensures { IfSome result (λ k. IsTableOf woods.now wood k) }
 {
@@ -143,7 +150,7 @@ fn find(woods: &[WoodTable], wood: Wood) -> Option<usize>
     None
 }
 
-/// The place of the table of a species and a set of grades, which is made where it isn't there.
+/// The place of the table of a species, a set of grades and a trim, which is made where it isn't there.
 fn table_of(
     alloc: Global,
     ladder: &Ladder<'_>,
@@ -157,7 +164,7 @@ fn table_of(
     match find(woods.as_slice(), wood) {
         Some(k) => Ok(k),
         None => {
-            woods.push(new_table(alloc, ladder, wood.species, wood.grades)?)?;
+            woods.push(new_table(alloc, ladder, wood.species, wood.grades, wood.trim)?)?;
             Ok(woods.len() - 1)
         }
     }
@@ -373,6 +380,15 @@ impl<'a> Tables<'a> {
             room,
             last: no_places(alloc, 256)?,
         })
+    }
+
+    /// The sheet.
+    pub fn sheet(&self) -> &Sheet
+        ensures sheet { result.now ≡ self.now.sheet }
+        ensures valid { IsSheet self.now.sheet }
+    {
+        let _right = self.ladder.rungs();
+        self.ladder.sheet
     }
 
     /// The lists of the sheet that are made once.

@@ -1,13 +1,14 @@
 //! Which logs are allowed, their classes and their worth.
 //!
 //! A log is allowed where its assortment is there and is of the stem's species, it starts at a multiple of the module,
-//! its length is one of the assortment's, it ends within the stem, each grade along it is one of the assortment's, its
+//! its length is one of the assortment's, it ends within the stem together with the assortment's trim allowance, each
+//! grade along its length is one of the assortment's, its
 //! top diameter is at or above the first lower limit and below the upper diameter, and the base price of its class
 //! isn't 0. Its row is the last whose lower limit is at most its top diameter, its column the place of its length.
 ghost use Rattle.std.specs.Prelude.{◌≡◌, ◌+◌, ◌*◌, ◌<◌, ◌≤◌, ◌↔◌, ◌%◌, ◌^◌, ◌==◌, IsTrue, Some, IfSome, IfNone, slice_get, length, position};
 ghost use Rattle.buck_apt.specs.Instruction.{IsClass};
 ghost use Rattle.buck_stem.specs.Stem.{stem_length, HasGradesOf};
-ghost use Rattle.buck_value.specs.Allowed.{IsAllowed, Allows, log_of, end_of, top_diameter, row_at, class_in, class_of, worth_of};
+ghost use Rattle.buck_value.specs.Allowed.{IsAllowed, Allows, log_of, top_of, top_diameter, row_at, class_in, class_of, worth_of};
 ghost use Rattle.buck_value.specs.Volume.{volume, worth_at};
 
 use crate::log::Log;
@@ -61,20 +62,20 @@ fn column_of(assortment: &Assortment, length: u32) -> Option<usize>
     assortment.lengths().iter().position(|l| *l == length)
 }
 
-/// The diameter where a log ends.
+/// The diameter where the length of a log ends.
 fn top_of(stem: &Stem, log: &Log) -> u32
-    requires { end_of log.now ≤ stem_length stem.now.samples }
+    requires { top_of log.now ≤ stem_length stem.now.samples }
     ensures { result ≡ top_diameter stem.now log.now }
 {
     let _length = stem.length();
     stem.diameter_at(log.start + log.length)
 }
 
-/// Whether each grade along a log is one of these.
+/// Whether each grade along the length of a log is one of these.
 fn has_grades_of(stem: &Stem, log: &Log, grades: &[u8]) -> bool
-    requires { end_of log.now ≤ stem_length stem.now.samples }
+    requires { top_of log.now ≤ stem_length stem.now.samples }
     ensures { IsTrue result
-        ↔ HasGradesOf stem.now.zones log.now.start (end_of log.now) grades.now }
+        ↔ HasGradesOf stem.now.zones log.now.start (top_of log.now) grades.now }
 {
     let _length = stem.length();
     stem.has_grades_of(log.start, log.start + log.length, grades)
@@ -101,6 +102,9 @@ fn class_in(step: u32, assortment: &Assortment, stem: &Stem, log: &Log) -> Optio
         return None;
     };
     if end > whole {
+        return None;
+    }
+    if whole - end < assortment.trim() {
         return None;
     }
     if !has_grades_of(stem, log, assortment.grades()) {
@@ -166,8 +170,8 @@ pub fn class_of(
     class_of_log(sheet, stem, &log)
 }
 
-/// What an allowed log of a class is worth.
-fn worth_in_class(sheet: &Sheet, stem: &Stem, log: &Log, class: Class) -> u64
+/// What an allowed log is worth, where its class is found already; see [`log_worth`].
+pub fn worth_in_class(sheet: &Sheet, stem: &Stem, log: &Log, class: Class) -> u64
     requires allowed { IsAllowed sheet.now.instruction stem.now log.now }
     requires class { class ≡ class_of sheet.now.instruction stem.now log.now }
     ensures { result ≡ worth_of sheet.now stem.now log.now }

@@ -10,6 +10,8 @@ mod prepared_stems;
 #[cfg(test)]
 mod sheets;
 #[cfg(test)]
+mod trims;
+#[cfg(test)]
 mod worths;
 #[cfg(test)]
 mod zones;

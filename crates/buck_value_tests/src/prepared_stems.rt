@@ -7,7 +7,7 @@ use buck_value::{Prepared, Sheet};
 use std::test::Fail;
 
 /// The class of a log of the first assortment, or `None` where the point or the column isn't there.
-fn class_at(prepared: &Prepared<'_>, point: usize, column: usize) -> Option<Class> {
+fn class_at(prepared: &Prepared<'_, '_>, point: usize, column: usize) -> Option<Class> {
     if point >= prepared.points() || prepared.assortments() == 0 {
         return None;
     }
@@ -18,7 +18,7 @@ fn class_at(prepared: &Prepared<'_>, point: usize, column: usize) -> Option<Clas
 }
 
 /// The worth of a log of the first assortment, or `None` where the point or the column isn't there.
-fn worth_at(prepared: &Prepared<'_>, point: usize, column: usize) -> Option<u64> {
+fn worth_at(prepared: &Prepared<'_, '_>, point: usize, column: usize) -> Option<u64> {
     if point >= prepared.points() || prepared.assortments() == 0 {
         return None;
     }
@@ -29,7 +29,7 @@ fn worth_at(prepared: &Prepared<'_>, point: usize, column: usize) -> Option<u64>
 }
 
 /// Whether a prepared stem has 31 points, one assortment and two columns.
-fn is_of_two_columns(prepared: &Prepared<'_>) -> bool {
+fn is_of_two_columns(prepared: &Prepared<'_, '_>) -> bool {
     if prepared.points() != 31 || prepared.assortments() != 1 {
         return false;
     }
@@ -37,7 +37,7 @@ fn is_of_two_columns(prepared: &Prepared<'_>) -> bool {
 }
 
 /// Whether 3,000 mm from the butt are a log of the second row and the first column, and nothing else fits.
-fn has_one_log(prepared: &Prepared<'_>) -> bool {
+fn has_one_log(prepared: &Prepared<'_, '_>) -> bool {
     let log = Class {
         assortment: 0,
         row: 1,

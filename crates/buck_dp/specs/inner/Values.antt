@@ -3,7 +3,7 @@
 use Rattle.std.specs.Prelude.{◌≡◌, ℕ, ◌+◌, ◌*◌, ◌/◌, ◌%◌, ◌<◌, ◌≤◌, ◌⊎◌, List, ◌∷◌, max, length, slice_index, slice_set, sum_by}
 use Rattle.buck_value.specs.declared.log.Log.{Log}
 use Rattle.buck_value.specs.Allowed.{IsAllowed, worth_of, end_of}
-use Rattle.buck_value.specs.Prepared.{PreparedParts, points_of}
+use Rattle.buck_value.specs.Prepared.{PreparedParts, ends_of}
 use Rattle.buck_value.specs.Codes.{HasMark}
 use Rattle.buck_value.specs.Relaxed.{IsFromTo, IsBid, unmarked}
 use Rattle.buck_dp.specs.Cutting.{IsCutFrom}
@@ -13,16 +13,16 @@ use Rattle.buck_dp.specs.inner.Table.{IsTop}
 -- and one of these brings as much. Past the last point stands 0
 pub record IsValue (p : PreparedParts) (values : List ℕ) (i : ℕ) : Type 0 where
   pub skip : unmarked (slice_index values (i + 1)) ≤ slice_index values i
-  pub each : (j : ℕ) (g : Log) (bid : ℕ) → i < j → j < points_of p → IsFromTo p i j g → IsBid p g bid
+  pub each : (j : ℕ) (g : Log) (bid : ℕ) → i < j → j < ends_of p → IsFromTo p i j g → IsBid p g bid
       → bid + unmarked (slice_index values j) ≤ slice_index values i
   pub one : (slice_index values i ≡ unmarked (slice_index values (i + 1)))
-      ⊎ ((j : ℕ) × (g : Log) × (bid : ℕ) × (i < j) × (j < points_of p) × IsFromTo p i j g × IsBid p g bid
+      ⊎ ((j : ℕ) × (g : Log) × (bid : ℕ) × (i < j) × (j < ends_of p) × IsFromTo p i j g × IsBid p g bid
       × (slice_index values i ≡ bid + unmarked (slice_index values j)))
 
 -- the values of all points from i on are right
 pub record AreValuesFrom (p : PreparedParts) (values : List ℕ) (i : ℕ) : Type 0 where
-  pub number : length values ≡ points_of p
-  pub right : (k : ℕ) → i ≤ k → k < points_of p → IsValue p values k
+  pub number : length values ≡ ends_of p
+  pub right : (k : ℕ) → i ≤ k → k < ends_of p → IsValue p values k
 
 -- the values with point e settled: it has the value of the next point without its mark, where that is more
 abbrev pub settled : List ℕ → ℕ → List ℕ
@@ -31,10 +31,10 @@ settled values e = slice_set values e (max (slice_index values e) (unmarked (sli
 -- the value of point i while those from e on are right: no log to one of these brings more; and it is at most what starting
 -- none before e brings, or one of these logs brings as much
 pub record IsOpenValue (p : PreparedParts) (values : List ℕ) (e i : ℕ) : Type 0 where
-  pub each : (j : ℕ) (g : Log) (bid : ℕ) → e ≤ j → j < points_of p → IsFromTo p i j g → IsBid p g bid
+  pub each : (j : ℕ) (g : Log) (bid : ℕ) → e ≤ j → j < ends_of p → IsFromTo p i j g → IsBid p g bid
       → bid + unmarked (slice_index values j) ≤ slice_index values i
   pub one : (slice_index values i ≤ unmarked (slice_index values e))
-      ⊎ ((j : ℕ) × (g : Log) × (bid : ℕ) × (e ≤ j) × (j < points_of p) × IsFromTo p i j g × IsBid p g bid
+      ⊎ ((j : ℕ) × (g : Log) × (bid : ℕ) × (e ≤ j) × (j < ends_of p) × IsFromTo p i j g × IsBid p g bid
       × (slice_index values i ≡ bid + unmarked (slice_index values j)))
 
 -- the values from point e on are right, and the earlier ones have what the logs to those bring
@@ -44,7 +44,7 @@ pub record AreSettledFrom (p : PreparedParts) (values : List ℕ) (e : ℕ) : Ty
 
 -- the best from a point on: its worth, and its first log where the mark is not 0
 pub record IsBestFrom (p : PreparedParts) (i value : ℕ) (gs : List Log) : Type 0 where
-  pub top : IsTop (IsAllowed p.sheet.instruction p.stem) end_of (worth_of p.sheet p.stem) (i * p.sheet.instruction.«module») gs
+  pub top : IsTop (IsAllowed p.sheet.instruction p.stem) (end_of p.sheet.instruction) (worth_of p.sheet p.stem) (i * p.sheet.instruction.«module») gs
   pub worth_is : value / 1024 ≡ sum_by (worth_of p.sheet p.stem) gs
-  pub later : value % 1024 ≡ 0 → IsCutFrom (IsAllowed p.sheet.instruction p.stem) end_of ((i + 1) * p.sheet.instruction.«module») gs
-  pub here : 0 < value % 1024 → (g : Log) × (rest : List Log) × (j : ℕ) × (gs ≡ g ∷ rest) × (j < points_of p) × IsFromTo p i j g × HasMark p.codes g (value % 1024)
+  pub later : value % 1024 ≡ 0 → IsCutFrom (IsAllowed p.sheet.instruction p.stem) (end_of p.sheet.instruction) ((i + 1) * p.sheet.instruction.«module») gs
+  pub here : 0 < value % 1024 → (g : Log) × (rest : List Log) × (j : ℕ) × (gs ≡ g ∷ rest) × (j < ends_of p) × IsFromTo p i j g × HasMark p.codes g (value % 1024)

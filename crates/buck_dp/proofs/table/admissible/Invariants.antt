@@ -6,4 +6,4 @@ use Rattle.buck_dp.proofs.table.admissible.Given as goal
 
 abbrev pub invariant-loop-log : goal.invariant-loop-log
 invariant-loop-log l =
-    IsAdmissible l.sheet l.stem l.log-items ↔ IsCutFrom (IsAllowed l.sheet.instruction l.stem) end_of l.from (drop l.log-index l.log-items)
+    IsAdmissible l.sheet l.stem l.log-items ↔ IsCutFrom (IsAllowed l.sheet.instruction l.stem) (end_of l.sheet.instruction) l.from (drop l.log-index l.log-items)

@@ -9,10 +9,10 @@ use Rattle.buck_dp.proofs.table.best_of.Goals as goal
 
 -- the best logs of one preparation are those of an equal one
 top_again : (p q : PreparedParts) (logs : List Log) → p ≡ q
-    → IsTop (IsAllowed p.sheet.instruction p.stem) end_of (worth_of p.sheet p.stem) 0 logs
-    → IsTop (IsAllowed q.sheet.instruction q.stem) end_of (worth_of q.sheet q.stem) 0 logs
+    → IsTop (IsAllowed p.sheet.instruction p.stem) (end_of p.sheet.instruction) (worth_of p.sheet p.stem) 0 logs
+    → IsTop (IsAllowed q.sheet.instruction q.stem) (end_of q.sheet.instruction) (worth_of q.sheet q.stem) 0 logs
 top_again p q logs e t =
-    subst (λ r. IsTop (IsAllowed r.sheet.instruction r.stem) end_of (worth_of r.sheet r.stem) 0 logs) e t
+    subst (λ r. IsTop (IsAllowed r.sheet.instruction r.stem) (end_of r.sheet.instruction) (worth_of r.sheet r.stem) 0 logs) e t
 
 pub returns-clause-first : goal.returns-clause-first
 returns-clause-first c =

@@ -1,6 +1,6 @@
-use Rattle.std.proofs.Common.{◌≡◌, ◌+◌, ◌*◌, ◌++◌, [], ◌∷◌, ℕ, List, arith, subst}
+use Rattle.std.proofs.Common.{◌≡◌, ◌*◌, ◌++◌, [], ◌∷◌, ℕ, List, arith, subst}
 use Rattle.buck_value.specs.declared.log.Log.{Log}
-use Rattle.buck_value.specs.Prepared.{PreparedParts, points_of}
+use Rattle.buck_value.specs.Prepared.{PreparedParts}
 use Rattle.buck_dp.proofs.Walk.{AnyRest}
 use Rattle.buck_dp.proofs.Values.{walk_skip, mark_within, walk_log, walk_end}
 use Rattle.buck_dp.proofs.table.follow.Goals as goal
@@ -20,11 +20,14 @@ marked-log-requires-clause-mark c =
     mark_within c.args.prepared.now c.args.values.now c.loop-i.i s.sheet s.stem s.codes
     c.requires (omega arith) (omega arith)
 
-pub steps_of-i-requires-clause-mark : goal.steps_of-i-requires-clause-mark
-steps_of-i-requires-clause-mark c =
+pub point_after-i-requires : goal.point_after-i-requires
+point_after-i-requires c =
     let s = c.points-points.ensures in
-    mark_within c.args.prepared.now c.args.values.now c.loop-i.i s.sheet s.stem s.codes
-    c.requires (omega arith) (omega arith)
+    let log = c.marked-log.ensures in
+    let j = walk_log c.args.prepared.now c.args.values.now c.loop-i.i c.marked-log.result c.loop-i.logs.items
+    s.sheet s.stem s.codes c.requires (omega arith) (omega arith)
+    log.start log.code log.assortment c.loop-i.invariant.best in
+    j.4
 
 pub loop-i-smaller : goal.loop-i-smaller
 loop-i-smaller c =
@@ -33,7 +36,7 @@ loop-i-smaller c =
     let j = walk_log c.args.prepared.now c.args.values.now c.loop-i.i c.marked-log.result c.loop-i.logs.items
     s.sheet s.stem s.codes c.requires (omega arith) (omega arith)
     log.start log.code log.assortment c.loop-i.invariant.best in
-    omega (arith, j.1, j.2, j.3, c.steps_of-i.ensures)
+    omega (arith, j.1, j.2, j.3, c.point_after-i.ensures)
 
 pub loop-i-preserved : goal.loop-i-preserved
 loop-i-preserved c =
@@ -43,18 +46,15 @@ loop-i-preserved c =
     let j = walk_log p c.args.values.now c.loop-i.i c.marked-log.result c.loop-i.logs.items
     s.sheet s.stem s.codes c.requires (omega arith) (omega arith)
     log.start log.code log.assortment c.loop-i.invariant.best in
-    let at : j.0 ≡ c.loop-i.i + c.steps_of-i.result = omega (arith, j.3, c.steps_of-i.ensures) in
+    let at : j.0 ≡ c.point_after-i.result = omega (arith, j.3, c.point_after-i.ensures) in
     let logs : List Log = c.loop-i.logs.items ++ c.marked-log.result ∷ [] in
     record {
       within = omega (arith, j.2, at);
       best = rw c.in_ok-push.ensures.items
-          (subst (λ (n : ℕ). AnyRest p.sheet p.stem (n * p.sheet.instruction.«module») logs) at j.6);
+          (subst (λ (n : ℕ). AnyRest p.sheet p.stem (n * p.sheet.instruction.«module») logs) at j.5);
     }
 
 pub returns : goal.returns
 returns c =
-    let p : PreparedParts = c.args.prepared.now in
-    let logs : List Log = c.loop-i.logs.items in
-    let end : c.loop-i.i ≡ points_of p = (let le = c.loop-i.invariant.within in omega arith) in
-    walk_end p logs c.points-points.ensures.sheet
-    (subst (λ (n : ℕ). AnyRest p.sheet p.stem (n * p.sheet.instruction.«module») logs) end c.loop-i.invariant.best)
+    walk_end c.args.prepared.now c.loop-i.i c.loop-i.logs.items (omega arith) c.points-points.ensures.sheet
+    c.loop-i.invariant.best

@@ -1,5 +1,4 @@
-use Rattle.std.proofs.Common.{◌≡◌, ◌∙◌, ap, arith}
-use Rattle.buck_value.specs.Prepared.{PreparedParts}
+use Rattle.std.proofs.Common.{◌≡◌, ◌∙◌, arith}
 use Rattle.buck_value.specs.Allowed.{end_of}
 use Rattle.buck_dp.specs.Best.{IsFirstBest, cutting_worth}
 use Rattle.buck_engine.proofs.TextLemmas.{all_allowed, stem_put}
@@ -7,15 +6,13 @@ use Rattle.buck_engine.proofs.text.put_cut.Goals as goal
 
 pub put_logs-requires : goal.put_logs-requires
 put_logs-requires c =
-    let sheet_is : c.in_ok-prepared.prepared.sheet ≡ c.args.sheet.now = c.in_ok-prepared.ensures.sheet ∙ c.requires in
-    let first : IsFirstBest c.args.sheet.now c.args.stem.now c.in_ok-cutting.cutting.logs.items = rw (sheet_is, c.in_ok-prepared.ensures.stem) at c.in_ok-cutting.ensures.first in
-    rw c.as_slice-logs.ensures.value (all_allowed _ end_of 0 _ first.best.admissible)
+    let first : IsFirstBest c.args.sheet.now c.args.stem.now c.in_ok-cutting.cutting.logs.items = rw c.requires at c.in_ok-cutting.ensures.first in
+    rw c.as_slice-logs.ensures.value (all_allowed _ (end_of c.args.sheet.now.instruction) 0 _ first.best.admissible)
 
 pub returns : goal.returns
 returns c =
-    let sheet_is : c.in_ok-prepared.prepared.sheet ≡ c.args.sheet.now = c.in_ok-prepared.ensures.sheet ∙ c.requires in
-    let first : IsFirstBest c.args.sheet.now c.args.stem.now c.in_ok-cutting.cutting.logs.items = rw (sheet_is, c.in_ok-prepared.ensures.stem) at c.in_ok-cutting.ensures.first in
-    let worth : c.in_ok-cutting.worth ≡ cutting_worth c.args.sheet.now c.args.stem.now c.in_ok-cutting.cutting.logs.items = rw (sheet_is, c.in_ok-prepared.ensures.stem) at c.in_ok-cutting.ensures.worth in
+    let first : IsFirstBest c.args.sheet.now c.args.stem.now c.in_ok-cutting.cutting.logs.items = rw c.requires at c.in_ok-cutting.ensures.first in
+    let worth : c.in_ok-cutting.worth ≡ cutting_worth c.args.sheet.now c.args.stem.now c.in_ok-cutting.cutting.logs.items = rw c.requires at c.in_ok-cutting.ensures.worth in
     record {
       put = stem_put _ _ c.as_slice-logs.result.now _ _ _ _
           (rw c.as_slice-logs.ensures.value first)
@@ -23,6 +20,6 @@ returns c =
           c.in_ok-put_stem.ensures
           c.in_ok-put_logs.ensures;
       logs_fit = omega arith;
-      worth_fits = omega arith;
-      same = c.into_tables.ensures ∙ ap (λ (p : PreparedParts). p.sheet) c.in_ok-cutting.ensures.same ∙ sheet_is;
+      worth_fits = omega (arith, c.in_ok-cutting.ensures.high);
+      same = c.in_ok-cutting.ensures.same ∙ c.requires;
     }

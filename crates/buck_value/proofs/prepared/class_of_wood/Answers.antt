@@ -5,7 +5,7 @@ use Rattle.buck_apt.specs.Instruction.{AssortmentParts}
 use Rattle.buck_stem.specs.Stem.{StemParts}
 use Rattle.buck_value.specs.declared.ladder.Wood.{Wood}
 use Rattle.buck_value.specs.declared.log.Log.{Log}
-use Rattle.buck_value.specs.Allowed.{log_of, end_of, top_diameter, row_at, column_of, class_place}
+use Rattle.buck_value.specs.Allowed.{log_of, top_of, top_diameter, row_at, column_of, class_place}
 use Rattle.buck_value.specs.Quotes.{IsWood}
 use Rattle.buck_value.proofs.Classes.{allows_by_tests}
 use Rattle.buck_value.proofs.WoodLemmas.{mask_allows}
@@ -25,8 +25,8 @@ pub returns-then-not-takes-clause-none : goal.returns-then-not-takes-clause-none
 returns-then-not-takes-clause-none c = λ step stem start w al.
     let a : AssortmentParts = c.args.assortment.now in
     let g : Log = log_of start (slice_index a.lengths c.args.column) c.args.place in
-    let grades = (mask_allows stem start (end_of g) c.args.wood.grades a.grades w.valid w.grades).1 al.grades in
-    let yes : IsTrue c.takes.result = c.takes.ensures.1 (al.species ∙ w.species, grades) in
+    let grades = (mask_allows stem start (top_of g) c.args.wood.grades a.grades w.valid w.grades).1 al.grades in
+    let yes : IsTrue c.takes.result = c.takes.ensures.1 (al.species ∙ w.species, grades, c.requires.trim) in
     true≢false (sym yes ∙ c.if-not-takes.true)
 
 pub returns-then-price-eq0-clause-none : goal.returns-then-price-eq0-clause-none
@@ -51,8 +51,8 @@ returns-clause-allowed c = λ step stem start w.
     allows_by_tests step a stem g c.args.column c.row_of-row.result c.price.result wood.diameter
     (taken.0 ∙ sym w.species) w.on_module
     (found_at a.lengths c.args.column c.lengths-lengths.ensures.valid.lengths_rise c.requires.column)
-    w.within
-    ((mask_allows stem start (end_of g) wood.grades a.grades w.valid w.grades).0 taken.1)
+    (omega (arith, w.within, c.requires.trim))
+    ((mask_allows stem start (top_of g) wood.grades a.grades w.valid w.grades).0 taken.1)
     (sym w.top)
     (rw c.diameters.ensures.limits at low)
     (omega (arith, c.upper.ensures, c.if-upper-wood.false))

@@ -14,4 +14,4 @@ returns-clause-right c = tables_set c.args.ladder.now c.args.woods.now.items c.a
 pub returns-clause-found : goal.returns-clause-found
 returns-clause-found c =
     let here : c.requires.table.table ≡ c.index_mut-table.result.now = table_here c.args.woods.now.items c.args.wood c.args.k c.index_mut-table.result.now c.requires.table c.index_mut-table.ensures.value in
-    found_after c.args.woods.now.items c.args.wood c.args.k c.index_mut-table.result.now c.add.new.self c.add.result c.requires.table here c.add.ensures.species c.add.ensures.grades c.add.ensures.made
+    found_after c.args.woods.now.items c.args.wood c.args.k c.index_mut-table.result.now c.add.new.self c.add.result c.requires.table here c.add.ensures.species c.add.ensures.grades c.add.ensures.trim c.add.ensures.made

@@ -12,7 +12,7 @@ returns-else-at-ne-EMPTY-clause-offered c r low lt =
     let at : AreCellsAt t f.table wood.diameter c.args.at = found_cells t c.args.woods.now wood c.args.k c.args.at c.requires.right c.requires.diameter f in
     let in_list : r < length t.rungs = omega (arith, c.rung_past-past.ensures.next.1, ap (λ (xs : List ℕ). length xs) c.rungs-rungs.ensures.rungs) in
     offered_none t wood (slice_index t.rungs r * t.sheet.instruction.«module») c.args.offer.base (slice_index c.args.values.now (c.args.offer.end - slice_index t.rungs r))
-    (subst (λ (w : Wood). IsCell t w IsAny (slice_index t.rungs r * t.sheet.instruction.«module») 0) (same_wood wood f.table f.species f.grades) (at.empty c.if-at-ne-EMPTY.false r in_list))
+    (subst (λ (w : Wood). IsCell t w IsAny (slice_index t.rungs r * t.sheet.instruction.«module») 0) (same_wood wood f.table f.species f.grades f.trim) (at.empty c.if-at-ne-EMPTY.false r in_list))
 
 pub push_cells-requires-clause-cells : goal.push_cells-requires-clause-cells
 push_cells-requires-clause-cells c =
@@ -46,7 +46,7 @@ returns-then-at-ne-EMPTY-clause-offered c r low lt =
     let cells : c.as_slice.result.now ≡ f.table.cells = c.as_slice.ensures.value ∙ ap (λ (w : WoodTableParts). w.cells) (c.table.view_is ∙ sym here) in
     let in_list : r < length t.rungs = omega (arith, lt, c.rung_past-past.ensures.next.1, ap (λ (xs : List ℕ). length xs) c.rungs-rungs.ensures.rungs) in
     let cell : IsCell t wood IsAny (slice_index t.rungs r * t.sheet.instruction.«module») (slice_index f.table.cells (c.args.at - 1 + r)) =
-    subst (λ (w : Wood). IsCell t w IsAny (slice_index t.rungs r * t.sheet.instruction.«module») (slice_index f.table.cells (c.args.at - 1 + r))) (same_wood wood f.table f.species f.grades) (at.cells f.made (below_empty c.args.at c.ranges.at.fits c.if-at-ne-EMPTY.true) r in_list) in
+    subst (λ (w : Wood). IsCell t w IsAny (slice_index t.rungs r * t.sheet.instruction.«module») (slice_index f.table.cells (c.args.at - 1 + r))) (same_wood wood f.table f.species f.grades f.trim) (at.cells f.made (below_empty c.args.at c.ranges.at.fits c.if-at-ne-EMPTY.true) r in_list) in
     offered_cell t wood (slice_index t.rungs r * t.sheet.instruction.«module») c.args.offer.base
     (slice_index c.args.values.now (c.args.offer.end - slice_index t.rungs r)) (slice_index c.push_cells.new.values (c.args.offer.end - slice_index t.rungs r))
     (slice_index f.table.cells (c.args.at - 1 + r)) cell

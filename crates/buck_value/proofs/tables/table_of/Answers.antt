@@ -18,4 +18,5 @@ returns-in_ok-push-in-None-clause-found c =
       there = rw items (subst (λ n. slice_get (c.args.woods.now.items ++ w ∷ []) n ≡ Some w) (omega (arith, c.len.ensures, c.in_ok-push-in-None.ensures.len, c.args.woods.now.ok)) (last_pushed c.args.woods.now.items w));
       species = c.in_ok-new_table-in-None.ensures.species;
       grades = c.in_ok-new_table-in-None.ensures.grades;
+      trim = c.in_ok-new_table-in-None.ensures.trim;
     }

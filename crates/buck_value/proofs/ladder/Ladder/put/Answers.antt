@@ -31,7 +31,7 @@ loop-assortment-preserved c =
         | else-takers-assortment w ↦
             subst (λ xs. AreCells t c.args.wood (IsBefore (a + 1) []) xs c.args.from) (sym w.cells-is)
             (cells_skipped t c.args.wood a c.args.from x c.loop-assortment.cells at
-            (λ k. not_taken t c.args.wood.species c.args.wood.grades a c.args.takers.now x c.requires.takers at w.if-takers-assortment.false k.0)
+            (λ k. not_taken t c.args.wood.species c.args.wood.grades c.args.wood.trim a c.args.takers.now x c.requires.takers at w.if-takers-assortment.false k.0)
             c.loop-assortment.invariant.right)
       ];
       classes_is = omega (arith, c.loop-assortment.invariant.classes_is, c.classes-classes.ensures.number, before_more classes_of i a x at);

@@ -15,7 +15,7 @@ loop-place-preserved c =
     record {
       number = grind (arith, common_steps);
       right = rw c.in_ok-push.ensures.items
-          (push_each (λ a b. (x : AssortmentParts) → slice_get i.assortments a ≡ Some x → IsTrue b ↔ TakesWood x c.args.species c.args.grades)
+          (push_each (λ a b. (x : AssortmentParts) → slice_get i.assortments a ≡ Some x → IsTrue b ↔ TakesWood x c.args.species c.args.grades c.args.trim)
           c.loop-place.takers.items c.takes.result c.loop-place.place c.loop-place.invariant.number c.loop-place.invariant.right
-          (holds_there (λ x. IsTrue c.takes.result ↔ TakesWood x c.args.species c.args.grades) i c.loop-place.place c.index-all-place.result at c.takes.ensures));
+          (holds_there (λ x. IsTrue c.takes.result ↔ TakesWood x c.args.species c.args.grades c.args.trim) i c.loop-place.place c.index-all-place.result at c.takes.ensures));
     }

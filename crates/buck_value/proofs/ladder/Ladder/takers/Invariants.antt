@@ -7,5 +7,5 @@ abbrev pub invariant-loop-place : goal.invariant-loop-place
 invariant-loop-place l = record {
   number : length l.takers.items ≡ l.place;
   right : (a : ℕ) (b : Bool) → slice_get l.takers.items a ≡ Some b
-      → (x : AssortmentParts) → slice_get l.self.sheet.instruction.assortments a ≡ Some x → IsTrue b ↔ TakesWood x l.species l.grades;
+      → (x : AssortmentParts) → slice_get l.self.sheet.instruction.assortments a ≡ Some x → IsTrue b ↔ TakesWood x l.species l.grades l.trim;
 }

@@ -6,10 +6,10 @@ use Rattle.buck_apt.specs.Instruction.{AssortmentParts}
 use Rattle.buck_stem.specs.Stem.{StemParts}
 use Rattle.buck_value.specs.declared.ladder.Wood.{Wood}
 use Rattle.buck_value.specs.declared.log.Log.{Log}
-use Rattle.buck_value.specs.Allowed.{IsAllowed, Allows, log_of, end_of, class_in, class_of}
+use Rattle.buck_value.specs.Allowed.{IsAllowed, Allows, log_of, top_of, trim_of, trim_in, class_in, class_of}
 use Rattle.buck_value.specs.Prepared.{PreparedParts, lengths_in, log_at}
 use Rattle.buck_value.specs.Quotes.{IsWood}
-use Rattle.buck_value.specs.Relaxed.{IsFromTo}
+use Rattle.buck_value.specs.Relaxed.{IsToTop}
 use Rattle.buck_value.proofs.prepared.Prepared.class.Goals as goal
 
 -- what holds of each log of some wood and a length
@@ -29,15 +29,15 @@ none_by P Q (Some x) f h = tt
 
 module _ (p : PreparedParts) (i j a column : ℕ) (x : AssortmentParts) (wood : Wood)
     (there : slice_get p.sheet.instruction.assortments a ≡ Some x)
-    (each_wood : (g : Log) → IsFromTo p i j g → IsWood p.sheet.instruction.«module» wood p.stem g)
-    (ends : end_of (log_at p i a column) ≡ j * p.sheet.instruction.«module») where
+    (each_wood : (g : Log) → IsToTop p x.trim i j g → IsWood p.sheet.instruction.«module» wood p.stem g)
+    (ends : top_of (log_at p i a column) ≡ j * p.sheet.instruction.«module») where
   -- what holds of each such log, holds of this one
   at_log : (P : ℕ → StemParts → Log → Type 0) → EachOf wood (slice_index x.lengths column) a P
       → P p.sheet.instruction.«module» p.stem (log_at p i a column)
   at_log P each =
       subst (λ l. EachOf wood l a P) (sym (ap (λ o. slice_index (lengths_in o) column) there)) each
       p.sheet.instruction.«module» p.stem (i * p.sheet.instruction.«module»)
-      (each_wood (log_at p i a column) (record { start = refl; ends = ends }))
+      (each_wood (log_at p i a column) (record { start = refl; ends = ends; trim_is = ap trim_in there }))
 
   -- this log is allowed where each such log is
   allowed : EachOf wood (slice_index x.lengths column) a (λ step stem g. Allows step x stem g)
@@ -63,22 +63,22 @@ pub returns-clause-allowed : goal.returns-clause-allowed
 returns-clause-allowed c =
     some_by _ _ c.class_of_wood.result
     (λ _ each.
-    allowed c.args.self.now c.args.i c.end-end.result c.args.assortment c.args.column c.assortment.result.now
-    c.wood.result c.assortment.ensures.there c.wood.ensures c.end-end.ensures.end each)
+    allowed c.args.self.now c.args.i c.top-top.result c.args.assortment c.args.column c.assortment-chosen.result.now
+    c.wood.result c.assortment-chosen.ensures.there (λ g to. c.wood.ensures.wood g (subst (λ m. IsToTop c.args.self.now m c.args.i c.top-top.result g) (sym c.trim-trim.ensures.trim) to)) c.top-top.ensures.top each)
     c.class_of_wood.ensures.allowed
 
 pub returns-clause-class : goal.returns-clause-class
 returns-clause-class c =
     some_by _ _ c.class_of_wood.result
     (λ k each.
-    class_is c.args.self.now c.args.i c.end-end.result c.args.assortment c.args.column c.assortment.result.now
-    c.wood.result c.assortment.ensures.there c.wood.ensures c.end-end.ensures.end k each)
+    class_is c.args.self.now c.args.i c.top-top.result c.args.assortment c.args.column c.assortment-chosen.result.now
+    c.wood.result c.assortment-chosen.ensures.there (λ g to. c.wood.ensures.wood g (subst (λ m. IsToTop c.args.self.now m c.args.i c.top-top.result g) (sym c.trim-trim.ensures.trim) to)) c.top-top.ensures.top k each)
     c.class_of_wood.ensures.class
 
 pub returns-clause-none : goal.returns-clause-none
 returns-clause-none c =
     none_by _ _ c.class_of_wood.result
     (λ each.
-    not_allowed c.args.self.now c.args.i c.end-end.result c.args.assortment c.args.column c.assortment.result.now
-    c.wood.result c.assortment.ensures.there c.wood.ensures c.end-end.ensures.end each)
+    not_allowed c.args.self.now c.args.i c.top-top.result c.args.assortment c.args.column c.assortment-chosen.result.now
+    c.wood.result c.assortment-chosen.ensures.there (λ g to. c.wood.ensures.wood g (subst (λ m. IsToTop c.args.self.now m c.args.i c.top-top.result g) (sym c.trim-trim.ensures.trim) to)) c.top-top.ensures.top each)
     c.class_of_wood.ensures.none

@@ -43,7 +43,7 @@ returns c =
     let long : l ≡ g.length =
     ap (λ (ls : List ℕ). slice_index ls c.args.column) (c.lengths.ensures.lengths ∙ sym (ap lengths_in there)) in
     let top : c.diameter-top.result ≡ top_diameter p.stem g =
-    c.diameter-top.ensures.diameter ∙ ap (diameter_at p.stem.samples) (sym c.end.ensures.end) in
+    c.diameter-top.ensures.diameter ∙ ap (diameter_at p.stem.samples) (sym c.top.ensures.top) in
     let price : c.price-price.result ≡ price_of p.sheet c.args.class =
     c.price-price.ensures.price ∙ ap (λ (s : SheetParts). price_of s c.args.class) sheet in
     c.worth_of_piece.ensures

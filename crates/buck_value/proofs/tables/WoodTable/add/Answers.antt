@@ -13,11 +13,11 @@ returns-clause-right c =
     let from = length c.self.inside.cells.items in
     elim c.if-are_zero.branch [
       | then-are_zero w ↦
-          added_zeros t _ _ d from right c.requires.diameter refl refl refl refl c.in_ok-from.ensures.number c.in_ok-from.ensures.kept c.in_ok-from.ensures.right
+          added_zeros t _ _ d from right c.requires.diameter refl refl refl refl refl c.in_ok-from.ensures.number c.in_ok-from.ensures.kept c.in_ok-from.ensures.right
           (ap (λ n. set c.self.inside.at.items d n) w.at-is)
           (λ k low lt. subst (λ (xs : List ℕ). slice_index xs k ≡ 0) c.as_slice-2.ensures.value
           (c.are_zero.ensures.0 w.if-are_zero.true k (omega (arith, low, c.in_ok-from.ensures.place)) (omega (arith, lt, ap (λ (xs : List ℕ). length xs) c.as_slice-2.ensures.value))))
       | else-are_zero w ↦
-          added_cells t _ _ d from right c.requires.diameter refl refl refl refl c.in_ok-from.ensures.number c.in_ok-from.ensures.kept c.in_ok-from.ensures.right
+          added_cells t _ _ d from right c.requires.diameter refl refl refl refl refl c.in_ok-from.ensures.number c.in_ok-from.ensures.kept c.in_ok-from.ensures.right
           (ap (λ n. set c.self.inside.at.items d n) (w.at-is ∙ ap (λ n. n + 1) c.in_ok-from.ensures.place)) (omega (arith, c.self.inside.cells.ok, c.self.inside.cells.small))
     ]

@@ -1,0 +1,28 @@
+-- Logs as if no assortment had a trim allowance, for the law that nothing else changes where each trim is 0. No other
+-- contract leads here.
+use Rattle.std.specs.Prelude.{◌≡◌, ◌≢◌, ℕ, ◌%◌, ◌<◌, ◌≤◌, All, Contains, slice_get, slice_index, Some}
+use Rattle.buck_apt.specs.Instruction.{InstructionParts, AssortmentParts}
+use Rattle.buck_stem.specs.Stem.{StemParts, stem_length, HasGradesOf}
+use Rattle.buck_value.specs.declared.log.Log.{Log}
+use Rattle.buck_value.specs.Allowed.{top_of, top_diameter, class_place}
+
+-- no assortment has a trim
+abbrev pub HasNoTrim : InstructionParts → Type 0
+HasNoTrim i = All (λ a. a.trim ≡ 0) i.assortments
+
+-- an assortment allows a log that ends with its length
+pub record AllowsUntrimmed (step : ℕ) (a : AssortmentParts) (stem : StemParts) (g : Log) : Type 0 where
+  pub species : a.species ≡ stem.species
+  pub on_module : g.start % step ≡ 0
+  pub length_offered : Contains a.lengths g.length
+  pub within : top_of g ≤ stem_length stem.samples
+  pub grades : HasGradesOf stem.zones g.start (top_of g) a.grades
+  pub thick_enough : slice_index a.diameters 0 ≤ top_diameter stem g
+  pub thin_enough : top_diameter stem g < a.upper
+  pub priced : slice_index a.prices (class_place a stem g) ≢ 0
+
+-- the log's assortment is there and allows it
+pub record IsAllowedUntrimmed (i : InstructionParts) (stem : StemParts) (g : Log) : Type 0 where
+  pub assortment : AssortmentParts
+  pub exists : slice_get i.assortments g.assortment ≡ Some assortment
+  pub allows : AllowsUntrimmed i.«module» assortment stem g
