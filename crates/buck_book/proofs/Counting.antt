@@ -9,19 +9,22 @@ use Rattle.buck_apt.specs.Instruction.{InstructionParts, IsInstruction, classes,
 use Rattle.buck_value.specs.declared.log.Log.{Log}
 use Rattle.buck_value.specs.Allowed.{IsAllowed, end_of}
 use Rattle.buck_dp.specs.Cutting.{IsCutFrom}
-use Rattle.buck_book.specs.Entry.{EntryParts}
-use Rattle.buck_book.specs.Counts.{class_logs, assortment_logs, count_of, assortment_count_of, calls_of}
-use Rattle.buck_book.specs.Running.{AreCounts, AreAtMost, AreCalls, AreGrown, AreGrownBy, tally_of}
-use Rattle.buck_book.specs.Pricing.{CanStand}
+use Rattle.buck_book.specs.Entry.{EntryParts, DemandParts}
+use Rattle.buck_book.specs.declared.posting.Posting.{Posting}
+use Rattle.buck_book.specs.declared.posting.Posting.TheVariants.{Cut, Demand}
+use Rattle.buck_book.specs.Posting.{harvester_of}
+use Rattle.buck_book.specs.Counts.{class_logs, assortment_logs, class_logs_in, assortment_logs_in, count_of, assortment_count_of, calls_of}
+use Rattle.buck_book.specs.Book.{tally_of}
+use Rattle.buck_book.specs.inner.Running.{AreCounts, AreAtMost, AreCalls, AreGrown, AreGrownBy}
+use Rattle.buck_book.specs.Targets.{AreTargets}
 use Rattle.buck_book.specs.inner.Pricing.{CanPrice}
 use Rattle.buck_book.proofs.Cuts.{tallied, class_logs-le}
 
 -- all counts are 0 before the first entry
 pub none_counted : (i : InstructionParts) (n m : ℕ) → n ≡ classes i → m ≡ length i.assortments → AreCounts i [] (replicate {A = ℕ} n 0) (replicate {A = ℕ} m 0)
 none_counted i n m e f = record {
-  classes_number = length-replicate {A = ℕ} n 0 ∙ e;
+  classes = record { one_each = length-replicate {A = ℕ} n 0 ∙ e; each = λ c k. all_zero n (index_of i c) };
   assortments_number = length-replicate {A = ℕ} m 0 ∙ f;
-  class_counts = λ c k. all_zero n (index_of i c);
   assortment_counts = λ a lt. all_zero m a;
 }
   where
@@ -40,26 +43,40 @@ none_low n m = record { class_counts = λ k. zero_low n k; assortment_counts = �
       | inr ge ↦ omega (arith, get_or_past (replicate {A = ℕ} n 0) k 0 (omega (arith, length-replicate {A = ℕ} n 0)))
     ]
 
--- the counts after one entry more
-pub counts_more : (i : InstructionParts) (es : List EntryParts) (e : EntryParts) (by_class by_assortment places by_class' by_assortment' : List ℕ)
+-- the counts after one cut more
+pub counts_more : (i : InstructionParts) (ps : List Posting) (e : EntryParts) (by_class by_assortment places by_class' by_assortment' : List ℕ)
     → IsInstruction i
-    → IsCutFrom (IsAllowed i e.stem) end_of 0 e.logs
-    → AreCounts i es by_class by_assortment
+    → IsCutFrom (IsAllowed i e.stem) (end_of i) 0 e.logs
+    → AreCounts i ps by_class by_assortment
     → places ≡ tally_of i e.stem e.logs
     → AreGrown by_class places by_class' → AreGrownBy by_assortment e.logs by_assortment'
-    → AreCounts i (es ++ e ∷ []) by_class' by_assortment'
-counts_more i es e by_class by_assortment places by_class' by_assortment' v cut counts tally classes_grown assortments_grown = record {
-  classes_number = classes_grown.number ∙ counts.classes_number;
+    → AreCounts i (ps ++ Cut e ∷ []) by_class' by_assortment'
+counts_more i ps e by_class by_assortment places by_class' by_assortment' v cut counts tally classes_grown assortments_grown = record {
+  classes = record {
+    one_each = classes_grown.number ∙ counts.classes.one_each;
+    each = λ c k.
+        let own : count_by (λ p. p == index_of i c) places ≡ class_logs i c e.stem e.logs = ap (λ ps. count_by (λ p. p == index_of i c) ps) tally ∙ tallied i c e.stem 0 e.logs v k cut in
+        classes_grown.each (index_of i c)
+        ∙ (λ j. counts.classes.each c k j + own j)
+        ∙ sym (sum_by_push (λ x. class_logs_in i c x) ps (Cut e));
+  };
   assortments_number = assortments_grown.number ∙ counts.assortments_number;
-  class_counts = λ c k.
-      let own : count_by (λ p. p == index_of i c) places ≡ class_logs i c e.stem e.logs = ap (λ ps. count_by (λ p. p == index_of i c) ps) tally ∙ tallied i c e.stem 0 e.logs v k cut in
-      classes_grown.each (index_of i c)
-      ∙ (λ j. counts.class_counts c k j + own j)
-      ∙ sym (sum_by_push (λ x. class_logs i c x.stem x.logs) es e);
   assortment_counts = λ a lt.
       assortments_grown.each a
       ∙ ap (λ n. n + assortment_logs a e.logs) (counts.assortment_counts a lt)
-      ∙ sym (sum_by_push (λ x. assortment_logs a x.logs) es e);
+      ∙ sym (sum_by_push (λ x. assortment_logs_in a x) ps (Cut e));
+}
+
+-- the counts stay after a demand
+pub counts_stay : (i : InstructionParts) (ps : List Posting) (d : DemandParts) (by_class by_assortment : List ℕ) → AreCounts i ps by_class by_assortment
+    → AreCounts i (ps ++ Demand d ∷ []) by_class by_assortment
+counts_stay i ps d by_class by_assortment counts = record {
+  classes = record {
+    one_each = counts.classes.one_each;
+    each = λ c k. omega (arith, counts.classes.each c k, sum_by_push (λ x. class_logs_in i c x) ps (Demand d));
+  };
+  assortments_number = counts.assortments_number;
+  assortment_counts = λ a lt. omega (arith, counts.assortment_counts a lt, sum_by_push (λ x. assortment_logs_in a x) ps (Demand d));
 }
 
 -- counts grow by at most the logs of a cutting
@@ -73,49 +90,51 @@ low_more most few by_class by_assortment places by_class' by_assortment' logs lo
   assortment_counts = λ a. omega (arith, ag.each a, low.assortment_counts a, count_by-le-length (λ (g : Log). g.assortment == a) logs);
 }
 
-count_of-le : (i : InstructionParts) (c : Class) (es : List EntryParts) → count_of i c es ≤ assortment_count_of c.assortment es
+logs_in-le : (i : InstructionParts) (c : Class) (x : Posting) → class_logs_in i c x ≤ assortment_logs_in c.assortment x
+logs_in-le i c (Cut e) = class_logs-le i c e.stem e.logs
+logs_in-le i c (Demand d) = omega arith
+
+count_of-le : (i : InstructionParts) (c : Class) (ps : List Posting) → count_of i c ps ≤ assortment_count_of c.assortment ps
 count_of-le i c [] = omega arith
-count_of-le i c (e ∷ es) =
+count_of-le i c (x ∷ ps) =
     omega (
       arith,
-      class_logs-le i c e.stem e.logs,
-      count_of-le i c es,
-      sum_by-cons (λ x. class_logs i c x.stem x.logs) e es,
-      sum_by-cons (λ x. assortment_logs c.assortment x.logs) e es,
+      logs_in-le i c x,
+      count_of-le i c ps,
+      sum_by-cons (λ y. class_logs_in i c y) x ps,
+      sum_by-cons (λ y. assortment_logs_in c.assortment y) x ps,
     )
 
--- counts of entries can be answered
-pub can_stand : (i : InstructionParts) (es : List EntryParts) (by_class by_assortment : List ℕ) → AreCounts i es by_class by_assortment → AreAtMost 80000000 by_class by_assortment → CanStand i by_class by_assortment
-can_stand i es by_class by_assortment counts low = record {
+-- by valid targets, and by counts that are right and low, prices can be made
+pub can_price : (i : InstructionParts) (targets : List ℕ) (ps : List Posting) (by_class by_assortment : List ℕ)
+    → IsInstruction i → AreTargets i targets → AreCounts i ps by_class by_assortment → AreAtMost 80000000 by_class by_assortment
+    → CanPrice (record { instruction = i; targets = targets; by_class = by_class; by_assortment = by_assortment })
+can_price i targets ps by_class by_assortment v t counts low = record {
+  valid = v;
+  targets = t;
+  classes_number = counts.classes.one_each;
+  assortments_number = counts.assortments_number;
   class_within = λ c k.
       let there : c.assortment < length i.assortments = slice_get_within i.assortments c.assortment k.assortment k.exists in
-      omega (arith, counts.class_counts c k, counts.assortment_counts c.assortment there, count_of-le i c es);
+      omega (arith, counts.classes.each c k, counts.assortment_counts c.assortment there, count_of-le i c ps);
   bounded = low.assortment_counts;
 }
 
--- by counts that are right and low prices can be made
-pub can_price : (i : InstructionParts) (es : List EntryParts) (by_class by_assortment : List ℕ) → AreCounts i es by_class by_assortment → AreAtMost 80000000 by_class by_assortment → CanPrice i by_class by_assortment
-can_price i es by_class by_assortment counts low = record {
-  classes_number = counts.classes_number;
-  assortments_number = counts.assortments_number;
-  stand = can_stand i es by_class by_assortment counts low;
-}
-
--- the numbers of calls after one entry more
-pub calls_more : (es : List EntryParts) (e : EntryParts) (calls : List ℕ) (h number : ℕ)
-    → AreCalls es calls → e.harvester ≡ h → 0 < h → h ≤ 64 → number ≡ calls_of h es + 1
-    → AreCalls (es ++ e ∷ []) (set calls (h - 1) number)
-calls_more es e calls h number are is pos most next = record {
+-- the numbers of calls after one posting more
+pub calls_more : (ps : List Posting) (x : Posting) (calls : List ℕ) (h number : ℕ)
+    → AreCalls ps calls → harvester_of x ≡ h → 0 < h → h ≤ 64 → number ≡ calls_of h ps + 1
+    → AreCalls (ps ++ x ∷ []) (set calls (h - 1) number)
+calls_more ps x calls h number are is pos most next = record {
   number = length-set calls (h - 1) number ∙ are.number;
   each = λ k lt. elim (cases_eq k (h - 1)) [
     | inl same ↦
         let here : h ≡ k + 1 = omega arith in
-        let own : (e.harvester == k + 1) ≡ true = eq-eqb e.harvester (k + 1) (is ∙ here) in
+        let own : (harvester_of x == k + 1) ≡ true = eq-eqb (harvester_of x) (k + 1) (is ∙ here) in
         let value : get_or (set calls (h - 1) number) k 0 ≡ number = ap (λ x. get_or (set calls (h - 1) number) x 0) same ∙ get_or-set_same calls (h - 1) number 0 (omega (arith, are.number)) in
-        value ∙ next ∙ ap (λ x. calls_of x es + 1) here ∙ sym (sum_by_push (λ x. cond (x.harvester == k + 1) 1 0) es e ∙ ap (λ b. calls_of (k + 1) es + cond b 1 0) own)
+        value ∙ next ∙ ap (λ y. calls_of y ps + 1) here ∙ sym (sum_by_push (λ y. cond (harvester_of y == k + 1) 1 0) ps x ∙ ap (λ b. calls_of (k + 1) ps + cond b 1 0) own)
     | inr other ↦
-        let not_own : (e.harvester == k + 1) ≡ false = ne_eqb e.harvester (k + 1) (λ z. other (omega (arith, is))) in
-        let plus : calls_of (k + 1) (es ++ e ∷ []) ≡ calls_of (k + 1) es + 0 = sum_by_push (λ x. cond (x.harvester == k + 1) 1 0) es e ∙ ap (λ b. calls_of (k + 1) es + cond b 1 0) not_own in
+        let not_own : (harvester_of x == k + 1) ≡ false = ne_eqb (harvester_of x) (k + 1) (λ z. other (omega (arith, is))) in
+        let plus : calls_of (k + 1) (ps ++ x ∷ []) ≡ calls_of (k + 1) ps + 0 = sum_by_push (λ y. cond (harvester_of y == k + 1) 1 0) ps x ∙ ap (λ b. calls_of (k + 1) ps + cond b 1 0) not_own in
         get_or-set_other calls (h - 1) k number 0 other ∙ are.each k lt ∙ omega arith
   ];
 }
@@ -124,8 +143,8 @@ calls_more es e calls h number are is pos most next = record {
 pub no_calls : AreCalls [] (replicate {A = ℕ} 64 0)
 no_calls = record { number = length-replicate {A = ℕ} 64 0; each = λ k lt. get_or-replicate {A = ℕ} 64 k 0 0 lt }
 
-pub calls-le : (h : ℕ) (es : List EntryParts) → calls_of h es ≤ length es
-calls-le h es = count_by-le-length (λ x. x.harvester == h) es
+pub calls-le : (h : ℕ) (ps : List Posting) → calls_of h ps ≤ length ps
+calls-le h ps = count_by-le-length (λ x. harvester_of x == h) ps
 
 -- one place more
 pub grown_more : (before after places : List ℕ) (i p n : ℕ) → i < length places → p ≡ get_or places i 0 → p < length after → n ≡ get_or after p 0

@@ -13,25 +13,25 @@ use Rattle.buck_value.proofs.Classes.{class_is_class, allowed_low}
 use Rattle.buck_dp.specs.Cutting.{IsCutFrom}
 use Rattle.buck_dp.proofs.Bounds.{end_within}
 use Rattle.buck_book.specs.Counts.{is_class, class_logs, assortment_logs}
-use Rattle.buck_book.specs.Running.{tally_of}
+use Rattle.buck_book.specs.Book.{tally_of}
 use Rattle.buck_book.proofs.Places.{one_place, class_of_assortment, place_lt}
 
-pub each_allowed : (i : InstructionParts) (stem : StemParts) (from : ℕ) (gs : List Log) → IsCutFrom (IsAllowed i stem) end_of from gs → All (IsAllowed i stem) gs
+pub each_allowed : (i : InstructionParts) (stem : StemParts) (from : ℕ) (gs : List Log) → IsCutFrom (IsAllowed i stem) (end_of i) from gs → All (IsAllowed i stem) gs
 each_allowed i stem from [] c = All-nil (IsAllowed i stem)
-each_allowed i stem from (g ∷ gs) c = All-cons (IsAllowed i stem) g gs c.1 (each_allowed i stem (end_of g) gs c.2)
+each_allowed i stem from (g ∷ gs) c = All-cons (IsAllowed i stem) g gs c.1 (each_allowed i stem (end_of i g) gs c.2)
 
-long_enough : (i : InstructionParts) (stem : StemParts) (from : ℕ) (gs : List Log) → IsInstruction i → from ≤ stem_length stem.samples → IsCutFrom (IsAllowed i stem) end_of from gs
+long_enough : (i : InstructionParts) (stem : StemParts) (from : ℕ) (gs : List Log) → IsInstruction i → from ≤ stem_length stem.samples → IsCutFrom (IsAllowed i stem) (end_of i) from gs
     → 500 * length gs + from ≤ stem_length stem.samples
 long_enough i stem from [] v le c = omega arith
 long_enough i stem from (g ∷ gs) v le c =
     let low = allowed_low i stem g v c.1 in
-    let high : end_of g ≤ stem_length stem.samples = end_within i stem g c.1 in
-    let rest : 500 * length gs + end_of g ≤ stem_length stem.samples = long_enough i stem (end_of g) gs v high c.2 in
+    let high : end_of i g ≤ stem_length stem.samples = end_within i stem g c.1 in
+    let rest : 500 * length gs + end_of i g ≤ stem_length stem.samples = long_enough i stem (end_of i g) gs v high c.2 in
     let starts : from ≤ g.start = c.0 in
     omega (arith, low.0)
 
 -- a cutting has at most 80 logs
-pub few_logs : (i : InstructionParts) (stem : StemParts) (gs : List Log) → IsInstruction i → IsStem stem → IsCutFrom (IsAllowed i stem) end_of 0 gs → length gs ≤ 80
+pub few_logs : (i : InstructionParts) (stem : StemParts) (gs : List Log) → IsInstruction i → IsStem stem → IsCutFrom (IsAllowed i stem) (end_of i) 0 gs → length gs ≤ 80
 few_logs i stem gs v s c =
     let h : 500 * length gs + 0 ≤ stem_length stem.samples = long_enough i stem 0 gs v (omega arith) c in
     omega (arith, s.samples_number)
@@ -62,13 +62,13 @@ place_tells i c d k l = elim (cases_eq (index_of i d) (index_of i c)) [
 ]
 
 -- a class's logs are counted by their places
-pub tallied : (i : InstructionParts) (c : Class) (stem : StemParts) (from : ℕ) (gs : List Log) → IsInstruction i → IsClass i c → IsCutFrom (IsAllowed i stem) end_of from gs
+pub tallied : (i : InstructionParts) (c : Class) (stem : StemParts) (from : ℕ) (gs : List Log) → IsInstruction i → IsClass i c → IsCutFrom (IsAllowed i stem) (end_of i) from gs
     → count_by (λ p. p == index_of i c) (tally_of i stem gs) ≡ class_logs i c stem gs
 tallied i c stem from [] v k cut = refl
 tallied i c stem from (g ∷ gs) v k cut =
     let d : Class = class_of i stem g in
     let test : (index_of i d == index_of i c) ≡ is_class c d = place_tells i c d k (class_is_class i stem g v cut.1) in
-    let rest = tallied i c stem (end_of g) gs v k cut.2 in
+    let rest = tallied i c stem (end_of i g) gs v k cut.2 in
     sum_by-cons (λ p. cond (p == index_of i c) 1 0) (index_of i d) (tally_of i stem gs)
     ∙ (λ j. cond (test j) 1 0 + rest j)
     ∙ sym (sum_by-cons (λ x. cond (is_class c (class_of i stem x)) 1 0) g gs)
@@ -96,17 +96,17 @@ class_logs-le i c stem (g ∷ gs) =
     )
 
 -- the places of a cutting's logs are places of classes
-pub places_within : (i : InstructionParts) (stem : StemParts) (n from : ℕ) (gs : List Log) → IsInstruction i → n ≡ classes i → IsCutFrom (IsAllowed i stem) end_of from gs → All (λ p. p < n) (tally_of i stem gs)
+pub places_within : (i : InstructionParts) (stem : StemParts) (n from : ℕ) (gs : List Log) → IsInstruction i → n ≡ classes i → IsCutFrom (IsAllowed i stem) (end_of i) from gs → All (λ p. p < n) (tally_of i stem gs)
 places_within i stem n from [] v e c = All-nil (λ p. p < n)
 places_within i stem n from (g ∷ gs) v e c =
     All-cons (λ p. p < n) (index_of i (class_of i stem g)) (tally_of i stem gs)
     (rw e (place_lt i (class_of i stem g) (class_is_class i stem g v c.1)))
-    (places_within i stem n (end_of g) gs v e c.2)
+    (places_within i stem n (end_of i g) gs v e c.2)
 
 -- their assortments are there
-pub assortments_within : (i : InstructionParts) (stem : StemParts) (n from : ℕ) (gs : List Log) → n ≡ length i.assortments → IsCutFrom (IsAllowed i stem) end_of from gs → All (λ g. g.assortment < n) gs
+pub assortments_within : (i : InstructionParts) (stem : StemParts) (n from : ℕ) (gs : List Log) → n ≡ length i.assortments → IsCutFrom (IsAllowed i stem) (end_of i) from gs → All (λ g. g.assortment < n) gs
 assortments_within i stem n from [] e c = All-nil (λ g. g.assortment < n)
 assortments_within i stem n from (g ∷ gs) e c =
     All-cons (λ x. x.assortment < n) g gs
     (rw e (slice_get_within i.assortments g.assortment c.1.assortment c.1.exists))
-    (assortments_within i stem n (end_of g) gs e c.2)
+    (assortments_within i stem n (end_of i g) gs e c.2)

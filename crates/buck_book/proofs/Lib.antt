@@ -1,7 +1,10 @@
-pub mod Extend
 pub mod Places
 pub mod Cuts
+pub mod Ends
+pub mod Extend
 pub mod Counting
+pub mod Wanted
 pub mod Standings
 pub mod Sheets
 pub mod Books
+pub mod Alone

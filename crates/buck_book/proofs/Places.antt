@@ -24,7 +24,7 @@ earlier xs at later a exists lt within =
 pub inner_is : (i : InstructionParts) (c : Class) (k : IsClass i c) → index_of i c ≡ classes_before i c.assortment + (c.row * length k.assortment.lengths + c.column)
 inner_is i c k = ap (λ o. classes_before i c.assortment + place_in o c.row c.column) k.exists
 
-inner_lt : (i : InstructionParts) (c : Class) (k : IsClass i c) → c.row * length k.assortment.lengths + c.column < classes_of k.assortment
+pub inner_lt : (i : InstructionParts) (c : Class) (k : IsClass i c) → c.row * length k.assortment.lengths + c.column < classes_of k.assortment
 inner_lt i c k = rw (mul_comm (length k.assortment.diameters) (length k.assortment.lengths)) (mul-add-lt c.row (length k.assortment.lengths) c.column (length k.assortment.diameters) k.row k.column)
 
 -- a class of an earlier assortment has a lower place

@@ -1,11 +1,10 @@
 -- How classes stand, and the prices that are answered to that.
-use Rattle.std.proofs.Common.{◌≡◌, ℕ, ◌+◌, ◌*◌, ◌<◌, ◌≤◌, inl, inr, List, [], ◌∷◌, ◌++◌, length, take, get_or, slice_index, slice_get, Some, sum, sum_by, refl, sym, ◌∙◌, ap, subst, arith, mul_comm, mul-le-mul_left}
+use Rattle.std.proofs.Common.{◌≡◌, ℕ, ◌+◌, ◌*◌, ◌<◌, ◌≤◌, inl, inr, List, [], ◌∷◌, ◌++◌, length, take, get_or, slice_index, slice_get, Some, sum_by, refl, sym, ◌∙◌, ap, subst, arith, mul-le-mul_left}
 use Rattle.std.specs.List.{flat_map, AllByRecursion}
 use Rattle.std.proofs.lemmas.Bool.{cases_order, cases_lt}
-use Rattle.std.proofs.lemmas.Nat.{mul-add-lt}
 use Rattle.std.proofs.lemmas.List.{get_or_push, get_or_append_left, length_push}
 use Rattle.std.proofs.lemmas.List.Concat.{length-flat_map}
-use Rattle.std.proofs.lemmas.List.Sums.{sum_by-cons, sum_by_more, get_or-le-sum_by}
+use Rattle.std.proofs.lemmas.List.Sums.{sum_by-cons, sum_by_more}
 use Rattle.std.proofs.lemmas.List.Elements.{All-get_or, All-take, recursion_from_All}
 use Rattle.std.proofs.lemmas.Option.{slice_get_within, get_or_from_slice_get, same_Some}
 use denote.Ref.{Bor}
@@ -18,14 +17,17 @@ use Rattle.buck_rule.specs.Relation.{Meets}
 use Rattle.buck_value.specs.Sheet.{base_prices, IsPriceAt, IsInSpan, IsSheetFault}
 use Rattle.buck_value.specs.declared.fault.SheetFault.{SheetFault}
 use Rattle.buck_value.specs.declared.fault.SheetFault.TheVariants.{Count, Price}
-use Rattle.buck_value.proofs.Prices.{base_at, length-base_prices}
-use Rattle.buck_book.specs.History.{standing_at, standing_of, place_in, PricesMeet}
-use Rattle.buck_book.specs.Entry.{EntryParts}
-use Rattle.buck_book.specs.Running.{AreCounts}
-use Rattle.buck_book.specs.Pricing.{IsAnswer, ArePriced, AreAnswers, standing_by}
-use Rattle.buck_book.specs.inner.Pricing.{CanPrice, IsClassOf}
+use Rattle.buck_value.proofs.Prices.{base_at, base_price-le}
+use Rattle.buck_book.specs.declared.posting.Posting.{Posting}
+use Rattle.buck_book.specs.Posting.{targets_of}
+use Rattle.buck_book.specs.Targets.{AreTargets, targets_sum}
+use Rattle.buck_book.specs.History.{standing_at, standing_of, PricesMeet}
+use Rattle.buck_book.specs.Pricing.{AreAnswers}
+use Rattle.buck_book.specs.inner.Running.{AreCounts}
+use Rattle.buck_book.specs.inner.Pricing.{StandingsParts, CanPrice, IsClassOf, IsAnswer, ArePriced, standing_by}
 use Rattle.std.specs.Fn.{FnReturnsAt}
-use Rattle.buck_book.proofs.Places.{inner_is, one_place, place_lt}
+use Rattle.buck_book.proofs.Places.{inner_is, inner_lt, one_place, place_lt}
+use Rattle.buck_book.proofs.Wanted.{target_within, target_low}
 
 -- a class has one assortment
 pub one_assortment : (i : InstructionParts) (c : Class) (k l : IsClass i c) → k.assortment ≡ l.assortment
@@ -36,23 +38,19 @@ valid_of i c v k =
     let lt : c.assortment < length i.assortments = slice_get_within i.assortments c.assortment k.assortment k.exists in
     subst IsAssortment (get_or_from_slice_get i.assortments c.assortment k.assortment k.assortment k.exists) (All-get_or IsAssortment i.assortments c.assortment k.assortment lt v.assortments_valid)
 
--- a class's place in its assortment is below the number of its classes
-pub place_within : (i : InstructionParts) (c : Class) (k : IsClass i c) → place_in k.assortment c < classes_of k.assortment
-place_within i c k = rw (mul_comm (length k.assortment.diameters) (length k.assortment.lengths)) (mul-add-lt c.row (length k.assortment.lengths) c.column (length k.assortment.diameters) k.row k.column)
-
 -- how a class stands lies in range
-pub in_range : (i : InstructionParts) (c : Class) (count counts : ℕ) → IsInstruction i → (k : IsClass i c) → count ≤ counts → counts ≤ 80000000 → IsInRange (standing_at i k.assortment c count counts)
-in_range i c count counts v k le low =
-    let a : AssortmentParts = k.assortment in
-    let w : IsAssortment a = valid_of i c v k in
-    let lt : place_in a c < classes_of a = place_within i c k in
-    let in_prices : place_in a c < length a.prices = omega (arith, w.prices_number) in
-    let in_targets : place_in a c < length a.targets = omega (arith, w.targets_number) in
+pub in_range : (i : InstructionParts) (c : Class) (targets : List ℕ) (count counts : ℕ) → IsInstruction i → AreTargets i targets → (k : IsClass i c) → count ≤ counts → counts ≤ 80000000
+    → IsInRange (standing_at i k.assortment c targets count counts)
+in_range i c targets count counts v t k le low =
+    let there : c.assortment < length i.assortments = slice_get_within i.assortments c.assortment k.assortment k.exists in
+    let own : slice_index targets (classes_before i c.assortment + (c.row * length k.assortment.lengths + c.column)) ≤ targets_sum i k.assortment c.assortment targets =
+    target_within i c.assortment (c.row * length k.assortment.lengths + c.column) k.assortment targets t k.exists (inner_lt i c k) in
+    let own' : slice_index targets (index_of i c) ≤ targets_sum i k.assortment c.assortment targets = rw (inner_is i c k) own in
     record {
-      base = w.prices_range (place_in a c) 0 in_prices;
+      base = base_price-le i (index_of i c) v;
       limit = v.limit_range;
-      target = (w.targets_range (place_in a c) 0 in_targets, get_or-le-sum_by (λ x. x) a.targets (place_in a c) 0 in_targets);
-      targets = w.targets_sum;
+      target = (target_low i (index_of i c) targets t, own');
+      targets = t.low_sums c.assortment there k.assortment k.exists;
       count = le;
       counts = low;
     }
@@ -62,7 +60,7 @@ sum_same [] h = refl
 sum_same (a ∷ as_) h = omega (arith, h.0.prices_number, sum_same as_ h.1, sum_by-cons (λ a. length a.prices) a as_, sum_by-cons classes_of a as_)
 
 -- the base price of a class, by its place among all
-pub base_is : (i : InstructionParts) (c : Class) → IsInstruction i → (k : IsClass i c) → slice_index (base_prices i) (index_of i c) ≡ slice_index k.assortment.prices (place_in k.assortment c)
+pub base_is : (i : InstructionParts) (c : Class) → IsInstruction i → (k : IsClass i c) → slice_index (base_prices i) (index_of i c) ≡ slice_index k.assortment.prices (c.row * length k.assortment.lengths + c.column)
 base_is i c v k =
     let lt : c.assortment < length i.assortments = slice_get_within i.assortments c.assortment k.assortment k.exists in
     let w : IsAssortment k.assortment = valid_of i c v k in
@@ -70,7 +68,7 @@ base_is i c v k =
     let before : classes_before i c.assortment ≡ length (flat_map (λ a. a.prices) (take c.assortment i.assortments)) =
     sym (length-flat_map (λ a. a.prices) (take c.assortment i.assortments) ∙ sum_same (take c.assortment i.assortments) (recursion_from_All IsAssortment (take c.assortment i.assortments) (All-take IsAssortment c.assortment i.assortments v.assortments_valid))) in
     ap (λ x. slice_index (base_prices i) x) (inner_is i c k)
-    ∙ base_at i c.assortment (place_in k.assortment c) (classes_before i c.assortment) k.assortment lt here before (omega (arith, w.prices_number, place_within i c k))
+    ∙ base_at i c.assortment (c.row * length k.assortment.lengths + c.column) (classes_before i c.assortment) k.assortment lt here before (omega (arith, w.prices_number, inner_lt i c k))
 
 -- a price in the relation lies within the span
 pub meets_within : (s : Standing) (price : ℕ) → Meets s price → IsInSpan s.limit s.base price
@@ -81,17 +79,18 @@ meets_within s price m = elim (cases_order (cut_share s) (wanted_share s)) [
 ]
 
 -- one price more
-pub priced_more : {F : Type 0} (g : Shared F (Bor Standing × Unit {0}) ℕ) (f : F) (i : InstructionParts) (by_class by_assortment prices : List ℕ) (c : Class) (price : ℕ)
-    → IsInstruction i → (k : IsClass i c) → length prices ≡ index_of i c
-    → IsAnswer g f (standing_by i k.assortment c by_class by_assortment) price
-    → ArePriced g f i by_class by_assortment prices
-    → ArePriced g f i by_class by_assortment (prices ++ price ∷ [])
-priced_more g f i by_class by_assortment prices c price v k next answer priced =
+pub priced_more : {F : Type 0} (g : Shared F (Bor Standing × Unit {0}) ℕ) (f : F) (s : StandingsParts) (prices : List ℕ) (c : Class) (price : ℕ)
+    → (k : IsClass s.instruction c) → length prices ≡ index_of s.instruction c
+    → IsAnswer g f (standing_by s k.assortment c) price
+    → ArePriced g f s prices
+    → ArePriced g f s (prices ++ price ∷ [])
+priced_more g f s prices c price k next answer priced =
+    let i = s.instruction in
     let last : get_or (prices ++ price ∷ []) (index_of i c) 0 ≡ price = get_or_push prices price 0 (index_of i c) next in
     record {
       answered = λ d l lt. elim (cases_lt (index_of i d) (length prices)) [
         | inl old ↦
-            subst (λ p. IsAnswer g f (standing_by i l.assortment d by_class by_assortment) p) (sym (get_or_append_left prices (price ∷ []) 0 (index_of i d) old))
+            subst (λ p. IsAnswer g f (standing_by s l.assortment d) p) (sym (get_or_append_left prices (price ∷ []) 0 (index_of i d) old))
             (priced.answered d l old)
         | inr new ↦
             let same : index_of i c ≡ index_of i d = omega (arith, length_push prices price) in
@@ -102,18 +101,17 @@ priced_more g f i by_class by_assortment prices c price v k next answer priced =
         | inl old ↦ subst (λ p. IsInSpan i.limit (slice_index (base_prices i) j) p) (sym (get_or_append_left prices (price ∷ []) 0 j old)) (priced.in_span j old)
         | inr new ↦
             let same : index_of i c ≡ j = omega (arith, length_push prices price) in
-            let here : IsInSpan i.limit (slice_index k.assortment.prices (place_in k.assortment c)) price = meets_within (standing_by i k.assortment c by_class by_assortment) price answer.met in
-            let based : IsInSpan i.limit (slice_index (base_prices i) (index_of i c)) price = subst (λ b. IsInSpan i.limit b price) (sym (base_is i c v k)) here in
-            subst (λ x. IsPriceAt i (prices ++ price ∷ []) x) same (subst (λ p. IsInSpan i.limit (slice_index (base_prices i) (index_of i c)) p) (sym last) based)
+            let here : IsInSpan i.limit (slice_index (base_prices i) (index_of i c)) price = meets_within (standing_by s k.assortment c) price answer.met in
+            subst (λ x. IsPriceAt i (prices ++ price ∷ []) x) same (subst (λ p. IsInSpan i.limit (slice_index (base_prices i) (index_of i c)) p) (sym last) here)
       ];
     }
   where
-    at_last : (d : Class) → c ≡ d → (l : IsClass i d) → IsAnswer g f (standing_by i l.assortment d by_class by_assortment) (slice_index (prices ++ price ∷ []) (index_of i d))
+    at_last : (d : Class) → c ≡ d → (l : IsClass s.instruction d) → IsAnswer g f (standing_by s l.assortment d) (slice_index (prices ++ price ∷ []) (index_of s.instruction d))
     at_last d one =
-        subst (λ (x : Class). (l : IsClass i x) → IsAnswer g f (standing_by i l.assortment x by_class by_assortment) (slice_index (prices ++ price ∷ []) (index_of i x))) one
+        subst (λ (x : Class). (l : IsClass s.instruction x) → IsAnswer g f (standing_by s l.assortment x) (slice_index (prices ++ price ∷ []) (index_of s.instruction x))) one
         (λ l.
-        subst (λ p. IsAnswer g f (standing_by i l.assortment c by_class by_assortment) p) (sym (get_or_push prices price 0 (index_of i c) next))
-        (subst (λ a. IsAnswer g f (standing_by i a c by_class by_assortment) price) (one_assortment i c k l) answer))
+        subst (λ p. IsAnswer g f (standing_by s l.assortment c) p) (sym (get_or_push prices price 0 (index_of s.instruction c) next))
+        (subst (λ a. IsAnswer g f (standing_by s a c) price) (one_assortment s.instruction c k l) answer))
 
 -- a price in the relation is at most twice the greatest base price
 pub meets_low : (s : Standing) (price : ℕ) → IsInRange s → Meets s price → price ≤ 20000000
@@ -139,65 +137,60 @@ before_next i a at exists =
     sum_by_more classes_of i.assortments at a lt
     ∙ ap (λ x. classes_before i at + classes_of x) (get_or_from_slice_get i.assortments at a a exists)
 
--- a class has a count of its own, and so has its assortment
-pub has_counts : (i : InstructionParts) (a : AssortmentParts) (c : Class) (by_class by_assortment : List ℕ) → IsClassOf i a c → CanPrice i by_class by_assortment
-    → (index_of i c < length by_class) × (c.assortment < length by_assortment)
-has_counts i a c by_class by_assortment k can =
-    (omega (arith, place_lt i c (class_in i a c k), can.classes_number), omega (arith, slice_get_within i.assortments c.assortment a k.exists, can.assortments_number))
+-- a class has a target and a count of its own, and so has its assortment a count
+pub has_counts : (s : StandingsParts) (a : AssortmentParts) (c : Class) → IsClassOf s.instruction a c → CanPrice s
+    → (index_of s.instruction c < length s.by_class) × (c.assortment < length s.by_assortment) × (index_of s.instruction c < length s.targets)
+has_counts s a c k can = (
+  omega (arith, place_lt s.instruction c (class_in s.instruction a c k), can.classes_number),
+  omega (arith, slice_get_within s.instruction.assortments c.assortment a k.exists, can.assortments_number),
+  omega (arith, place_lt s.instruction c (class_in s.instruction a c k), can.targets.one_each),
+)
 
--- how a class stands by the two counts that were read is how it stands by all of them
-pub stands_by : (i : InstructionParts) (a : AssortmentParts) (c : Class) (by_class by_assortment : List ℕ) (count counts : ℕ)
-    → count ≡ slice_index by_class (index_of i c) → counts ≡ slice_index by_assortment c.assortment
-    → standing_at i a c count counts ≡ standing_by i a c by_class by_assortment
-stands_by i a c by_class by_assortment count counts own all =
-    λ j. record { base = slice_index a.prices (place_in a c); limit = i.limit; target = slice_index a.targets (place_in a c); targets = sum a.targets; count = own j; counts = all j }
+-- how a class stands by what was read is how it stands
+pub stands_by : (s : StandingsParts) (a : AssortmentParts) (c : Class) (base limit target targets count counts : ℕ)
+    → base ≡ slice_index (base_prices s.instruction) (index_of s.instruction c)
+    → limit ≡ s.instruction.limit
+    → target ≡ slice_index s.targets (index_of s.instruction c)
+    → targets ≡ targets_sum s.instruction a c.assortment s.targets
+    → count ≡ slice_index s.by_class (index_of s.instruction c)
+    → counts ≡ slice_index s.by_assortment c.assortment
+    → record { base = base; limit = limit; target = target; targets = targets; count = count; counts = counts } ≡ standing_by s a c
+stands_by s a c base limit target targets count counts b l t ts n ns =
+    λ j. record { base = b j; limit = l j; target = t j; targets = ts j; count = n j; counts = ns j }
 
 -- by running counts that can be a history's, a class stands in range
-pub stands_in_range : (i : InstructionParts) (a : AssortmentParts) (c : Class) (by_class by_assortment : List ℕ) → IsInstruction i → IsClassOf i a c → CanPrice i by_class by_assortment
-    → IsInRange (standing_by i a c by_class by_assortment)
-stands_in_range i a c by_class by_assortment v k can =
+pub stands_in_range : (s : StandingsParts) (a : AssortmentParts) (c : Class) → IsClassOf s.instruction a c → CanPrice s → IsInRange (standing_by s a c)
+stands_in_range s a c k can =
+    let i = s.instruction in
     let l = class_in i a c k in
-    in_range i c (slice_index by_class (index_of i c)) (slice_index by_assortment c.assortment) v l (can.stand.class_within c l) (can.stand.bounded c.assortment)
+    in_range i c s.targets (slice_index s.by_class (index_of i c)) (slice_index s.by_assortment c.assortment) can.valid can.targets l (can.class_within c l) (can.bounded c.assortment)
 
--- by running counts that are right, a class stands as it does after the entries
-pub standing_is : (i : InstructionParts) (es : List EntryParts) (by_class by_assortment : List ℕ) (c : Class) → AreCounts i es by_class by_assortment → (k : IsClass i c)
-    → standing_by i k.assortment c by_class by_assortment ≡ standing_of i k.assortment c es
-standing_is i es by_class by_assortment c counts k =
+-- by running counts that are right, a class stands as it does after the postings
+pub standing_is : (i : InstructionParts) (targets by_class by_assortment : List ℕ) (ps : List Posting) (c : Class) → targets ≡ targets_of i ps → AreCounts i ps by_class by_assortment → (k : IsClass i c)
+    → standing_at i k.assortment c targets (slice_index by_class (index_of i c)) (slice_index by_assortment c.assortment) ≡ standing_of i k.assortment c ps
+standing_is i targets by_class by_assortment ps c wanted counts k =
     let there : c.assortment < length i.assortments = slice_get_within i.assortments c.assortment k.assortment k.exists in
-    let a : AssortmentParts = k.assortment in
-    let own = counts.class_counts c k in
+    let own = counts.classes.each c k in
     let all = counts.assortment_counts c.assortment there in
-    λ j. record { base = slice_index a.prices (place_in a c); limit = i.limit; target = slice_index a.targets (place_in a c); targets = sum a.targets; count = own j; counts = all j }
+    λ j. standing_at i k.assortment c (wanted j) (own j) (all j)
 
-pub prices_meet : {F : Type 0} (g : Shared F (Bor Standing × Unit {0}) ℕ) (f : F) (i : InstructionParts) (es : List EntryParts) (by_class by_assortment prices : List ℕ)
-    → AreCounts i es by_class by_assortment → length prices ≡ classes i → ArePriced g f i by_class by_assortment prices
-    → PricesMeet i es prices
-prices_meet g f i es by_class by_assortment prices counts all priced = record {
-  one_each = all;
-  each_meets = λ c k.
-      subst (λ s. Meets s (slice_index prices (index_of i c))) (standing_is i es by_class by_assortment c counts k)
-      (priced.answered c k (omega (arith, place_lt i c k))).met;
-}
+module _ {F : Type 0} (g : Shared F (Bor Standing × Unit {0}) ℕ) (f : F) (i : InstructionParts) (targets by_class by_assortment : List ℕ) (ps : List Posting) (prices : List ℕ)
+    (wanted : targets ≡ targets_of i ps) (counts : AreCounts i ps by_class by_assortment) (all : length prices ≡ classes i)
+    (priced : ArePriced g f (record { instruction = i; targets = targets; by_class = by_class; by_assortment = by_assortment }) prices) where
+  pub prices_meet : PricesMeet i ps prices
+  prices_meet = record {
+    one_each = all;
+    each_meets = λ c k.
+        subst (λ s. Meets s (slice_index prices (index_of i c))) (standing_is i targets by_class by_assortment ps c wanted counts k)
+        (priced.answered c k (omega (arith, place_lt i c k))).met;
+  }
 
-pub are_answers : {F : Type 0} (g : Shared F (Bor Standing × Unit {0}) ℕ) (f : F) (i : InstructionParts) (es : List EntryParts) (by_class by_assortment prices : List ℕ)
-    → AreCounts i es by_class by_assortment → length prices ≡ classes i → ArePriced g f i by_class by_assortment prices
-    → AreAnswers g f i es prices
-are_answers g f i es by_class by_assortment prices counts all priced = λ c k.
-    subst (λ s. FnReturnsAt g f s (slice_index prices (index_of i c))) (standing_is i es by_class by_assortment c counts k)
-    (priced.answered c k (omega (arith, place_lt i c k))).given
+  pub are_answers : AreAnswers g f i ps prices
+  are_answers = λ c k.
+      subst (λ s. FnReturnsAt g f s (slice_index prices (index_of i c))) (standing_is i targets by_class by_assortment ps c wanted counts k)
+      (priced.answered c k (omega (arith, place_lt i c k))).given
 
 -- prices within their spans, one for each class, make a sheet
 pub no_fault : (i : InstructionParts) (prices : List ℕ) (fault : SheetFault) → length prices ≡ classes i → ((k : ℕ) → k < length prices → IsPriceAt i prices k) → IsSheetFault i prices fault → ⊥
 no_fault i prices Count all inside e = e all
 no_fault i prices (Price at) all inside e = e.2 (inside at e.1)
-
--- base prices keep the relation where nothing was cut
-pub base_meets : (i : InstructionParts) → IsInstruction i → PricesMeet i [] (base_prices i)
-base_meets i v = record {
-  one_each = length-base_prices i v;
-  each_meets = λ c k. record {
-    even = λ e. base_is i c v k;
-    under = λ lt. absurd (omega arith);
-    over = λ lt. absurd (omega arith);
-  };
-}

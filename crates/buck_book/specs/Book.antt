@@ -1,85 +1,97 @@
 -- A book as clauses see it, and what a prepared commit has to be.
-use Rattle.std.specs.Prelude.{◌≡◌, ◌≢◌, ℕ, ◌+◌, ◌*◌, ◌/◌, ◌%◌, ◌<◌, ◌≤◌, List, [], ◌∷◌, ◌++◌, length, slice_get, Option, Some, None, MatchOption}
-use Rattle.buck_apt.specs.Instruction.{InstructionParts, IsInstruction}
-use Rattle.buck_stem.specs.Stem.{StemParts}
+use Rattle.std.specs.Prelude.{◌≡◌, ℕ, ◌+◌, ◌<◌, ◌≤◌, List, [], ◌∷◌, ◌++◌, length, map, slice_get, Option, Some, MatchOption}
+use Rattle.buck_apt.specs.Instruction.{InstructionParts, IsInstruction, IsWithin, index_of}
+use Rattle.buck_stem.specs.Stem.{StemParts, IsStem}
 use Rattle.buck_value.specs.declared.log.Log.{Log}
+use Rattle.buck_value.specs.Allowed.{class_of}
 use Rattle.buck_value.specs.Sheet.{SheetParts, sheet_of}
 use Rattle.buck_dp.specs.Best.{IsFirstBest}
-use Rattle.buck_book.specs.Entry.{EntryParts}
+use Rattle.buck_book.specs.declared.posting.Posting.{Posting}
+use Rattle.buck_book.specs.declared.posting.Posting.TheVariants.{Cut, Demand}
+use Rattle.buck_book.specs.Entry.{EntryParts, DemandParts}
+use Rattle.buck_book.specs.Posting.{harvester_of}
 use Rattle.buck_book.specs.Plan.{PlanParts}
+use Rattle.buck_book.specs.Targets.{AreTargets}
 use Rattle.buck_book.specs.Counts.{calls_of}
-use Rattle.buck_book.specs.History.{IsLawful, PricesMeet, sheet_at}
-use Rattle.buck_book.specs.Running.{AreCounts, AreAtMost, AreCalls, tally_of}
+use Rattle.buck_book.specs.History.{HistoryParts, IsLawful, IsEnd, IsNextSheet, sheet_at, version_of, in_force}
 
 pub record BookParts (F : Type 0) : Type 0 where
   pub rule : F  -- the closure
-  pub instruction : InstructionParts
-  pub sheets : List (List ℕ)  -- the prices of each sheet, by version
-  pub entries : List EntryParts
-  pub capacity : ℕ  -- how many entries it may have
-  pub room : ℕ  -- how many entries it has memory for
+  pub history : HistoryParts
+  pub capacity : ℕ  -- how many postings it may have
+  pub room : ℕ  -- how many postings it has memory for
   pub sheet_room : ℕ  -- how many sheets it has memory for
-
--- the version in force
-abbrev pub version_of : {F : Type 0} → BookParts F → ℕ
-version_of b = length b.entries / b.instruction.period
-
--- the sheet in force
-abbrev pub in_force : {F : Type 0} → BookParts F → SheetParts
-in_force b = sheet_at b.instruction b.sheets (version_of b)
 
 -- the sheets of these prices, from a version on
 abbrev pub sheets_from : ℕ → InstructionParts → List (List ℕ) → List SheetParts
 sheets_from version i [] = []
 sheets_from version i (prices ∷ more) = sheet_of version i prices ∷ sheets_from (version + 1) i more
 
--- what is true of every book: its history is lawful, and each cutting is the first of the best
+-- what a book keeps of a cut beside that it is best: a valid stem, and the first of the best cuttings
+abbrev pub IsFirst : HistoryParts → Posting → Type 0
+IsFirst h (Cut e) =
+    IsStem e.stem × IsFirstBest (sheet_at h.instruction h.sheets e.version) e.stem e.logs
+IsFirst h (Demand d) = Unit {0}
+
+-- what is true of every book: its history is lawful, each cutting is the first of the best, and the harvesters are
+-- from 1 to 64
 pub record IsBook {F : Type 0} (b : BookParts F) : Type 0 where
-  pub valid : IsInstruction b.instruction
-  pub lawful : IsLawful b.instruction b.sheets b.entries
-  pub first_bests : (k : ℕ) (e : EntryParts) → slice_get b.entries k ≡ Some e → IsFirstBest (sheet_at b.instruction b.sheets e.version) e.stem e.logs
-  pub within : length b.entries ≤ b.capacity
+  pub valid : IsInstruction b.history.instruction
+  pub lawful : IsLawful b.history
+  pub firsts : (k : ℕ) (x : Posting) → slice_get b.history.postings k ≡ Some x → IsFirst b.history x
+  pub harvesters : (k : ℕ) (x : Posting)
+      → slice_get b.history.postings k ≡ Some x → IsWithin 1 64 (harvester_of x)
+  pub within : length b.history.postings ≤ b.capacity
   pub capacity_range : b.capacity ≤ 1000000
 
--- what a book keeps: besides that, its sheets are those of its prices, and its running counts are the counts
-pub record Keeps {F : Type 0} (b : BookParts F) (sheets : List SheetParts) (by_class by_assortment calls : List ℕ) : Type 0 where
-  pub is_book : IsBook b
-  pub sheets_are : sheets ≡ sheets_from 0 b.instruction b.sheets
-  pub counts_are : AreCounts b.instruction b.entries by_class by_assortment
-  pub counts_low : AreAtMost (80 * length b.entries) by_class by_assortment
-  pub calls_are : AreCalls b.entries calls
-
 -- the entry of a plan that a harvester commits next
-abbrev pub entry_of : {F : Type 0} → BookParts F → ℕ → PlanParts → EntryParts
-entry_of b harvester p = record {
+abbrev pub entry_of : HistoryParts → ℕ → PlanParts → EntryParts
+entry_of h harvester p = record {
   harvester = harvester;
-  number = calls_of harvester b.entries + 1;
+  number = calls_of harvester h.postings + 1;
   stem = p.stem;
-  version = version_of b;
+  version = version_of h;
   logs = p.logs;
   worth = p.worth;
 }
 
--- the entries after a harvester commits a plan
-abbrev pub entries_with : {F : Type 0} → BookParts F → ℕ → PlanParts → List EntryParts
-entries_with b harvester p = b.entries ++ entry_of b harvester p ∷ []
+-- the demand of these targets that a harvester commits next
+abbrev pub demand_of : HistoryParts → ℕ → List ℕ → DemandParts
+demand_of h harvester targets = record {
+  harvester = harvester;
+  number = calls_of harvester h.postings + 1;
+  version = version_of h;
+  targets = targets;
+}
 
--- the next sheet after a plan's entry, whose harvester is not known yet
-pub record IsNextSheet {F : Type 0} (b : BookParts F) (p : PlanParts) (s : SheetParts) : Type 0 where
-  pub version_is_next : s.version ≡ version_of b + 1
-  pub same_instruction : s.instruction ≡ b.instruction
-  pub prices_meet : (harvester : ℕ) → PricesMeet b.instruction (entries_with b harvester p) s.prices
+-- the postings after it
+abbrev pub postings_with : HistoryParts → ℕ → PlanParts → List Posting
+postings_with h harvester p = h.postings ++ Cut (entry_of h harvester p) ∷ []
 
--- a next sheet is there where a plan's entry ends a period, and there alone
-abbrev pub IsNext : {F : Type 0} → BookParts F → PlanParts → Option SheetParts → Type 0
-IsNext b p next =
+abbrev pub postings_with_demand : HistoryParts → ℕ → List ℕ → List Posting
+postings_with_demand h harvester targets = h.postings ++ Demand (demand_of h harvester targets) ∷ []
+
+-- a next sheet is there where a posting is an end, and there alone
+abbrev pub IsNext : HistoryParts → Posting → Option SheetParts → Type 0
+IsNext h x next =
     MatchOption next
-    ((length b.entries + 1) % b.instruction.period ≢ 0)
-    (λ s. ((length b.entries + 1) % b.instruction.period ≡ 0) × IsNextSheet b p s)
+    (IsEnd h.instruction h.postings x → ⊥)
+    (λ s. IsEnd h.instruction h.postings x × IsNextSheet h x s)
+
+-- the sheet is the next one after a plan's entry, or after a demand, whoever commits it
+abbrev pub IsSheetWith : HistoryParts → PlanParts → SheetParts → Type 0
+IsSheetWith h p s = (harvester : ℕ) → IsNextSheet h (Cut (entry_of h harvester p)) s
+
+abbrev pub IsSheetWithDemand : HistoryParts → List ℕ → SheetParts → Type 0
+IsSheetWithDemand h targets s = (harvester : ℕ) → IsNextSheet h (Demand (demand_of h harvester targets)) s
 
 -- there is memory for the next sheet
 abbrev pub HasSheetRoom : {F : Type 0} → BookParts F → Option SheetParts → Type 0
-HasSheetRoom b next = MatchOption next (Unit {0}) (λ _. length b.sheets < b.sheet_room)
+HasSheetRoom b next = MatchOption next (Unit {0}) (λ _. length b.history.sheets < b.sheet_room)
+
+-- the place of each log's class
+abbrev pub tally_of : InstructionParts → StemParts → List Log → List ℕ
+tally_of i stem logs = map (λ g. index_of i (class_of i stem g)) logs
 
 -- what a prepared commit holds
 pub record ReadyParts : Type 0 where
@@ -88,32 +100,42 @@ pub record ReadyParts : Type 0 where
   pub tally : List ℕ  -- the place of each log's class
   pub next : Option SheetParts
 
--- a prepared commit is right for this plan, at this state of the book
+-- a prepared commit is right for this plan, at this state of the book, whoever commits it
 pub record IsMadeFor {F : Type 0} (b : BookParts F) (r : ReadyParts) (p : PlanParts) : Type 0 where
-  pub below : length b.entries < b.capacity
-  pub sheet_in_force : p.sheet ≡ in_force b
+  pub below : length b.history.postings < b.capacity
+  pub sheet_in_force : p.sheet ≡ in_force b.history
   pub same_stem : r.stem ≡ p.stem
   pub same_logs : r.logs ≡ p.logs
-  pub tallied : r.tally ≡ tally_of b.instruction p.stem p.logs
-  pub next : IsNext b p r.next
+  pub tallied : r.tally ≡ tally_of b.history.instruction p.stem p.logs
+  pub next : (harvester : ℕ) → IsNext b.history (Cut (entry_of b.history harvester p)) r.next
 
 -- it was prepared for this plan by this book, with no commit since: it is right, and there is memory for what it adds
 pub record IsReadyFor {F : Type 0} (b : BookParts F) (r : ReadyParts) (p : PlanParts) : Type 0 where
   pub made : IsMadeFor b r p
-  pub entry_room : length b.entries < b.room
+  pub posting_room : length b.history.postings < b.room
   pub sheet_room : HasSheetRoom b r.next
+
+-- what a prepared demand holds
+pub record ReadyDemandParts : Type 0 where
+  pub targets : List ℕ
+  pub next : SheetParts
+
+-- a prepared demand is right at this state of the book, whoever commits it
+pub record IsMadeDemand {F : Type 0} (b : BookParts F) (r : ReadyDemandParts) : Type 0 where
+  pub below : length b.history.postings < b.capacity
+  pub valid : AreTargets b.history.instruction r.targets
+  pub next : IsSheetWithDemand b.history r.targets r.next
+
+-- it was prepared by this book, with no commit since
+pub record IsReadyDemand {F : Type 0} (b : BookParts F) (r : ReadyDemandParts) : Type 0 where
+  pub made : IsMadeDemand b r
+  pub posting_room : length b.history.postings < b.room
+  pub sheet_room : length b.history.sheets < b.sheet_room
 
 -- all is the same but the memory that is held ready, and none of that is given back
 pub record SameContent {F : Type 0} (before after : BookParts F) : Type 0 where
   pub rule : after.rule ≡ before.rule
-  pub instruction : after.instruction ≡ before.instruction
-  pub sheets : after.sheets ≡ before.sheets
-  pub entries : after.entries ≡ before.entries
+  pub history : after.history ≡ before.history
   pub capacity : after.capacity ≡ before.capacity
   pub room : before.room ≤ after.room
   pub sheet_room : before.sheet_room ≤ after.sheet_room
-
--- the prices of the sheets after a commit
-abbrev pub sheets_with : List (List ℕ) → Option SheetParts → List (List ℕ)
-sheets_with sheets None = sheets
-sheets_with sheets (Some s) = sheets ++ s.prices ∷ []

@@ -1,4 +1,4 @@
--- An entry of a history as clauses see it.
+-- What stands in a history, as clauses see it: an entry is what was cut of one stem, a demand puts targets in force.
 use Rattle.std.specs.Prelude.{ℕ, List}
 use Rattle.buck_stem.specs.Stem.{StemParts}
 use Rattle.buck_value.specs.declared.log.Log.{Log}
@@ -10,3 +10,9 @@ pub record EntryParts : Type 0 where
   pub version : ℕ  -- of the sheet that it was planned under
   pub logs : List Log
   pub worth : ℕ  -- millionths of the price unit
+
+pub record DemandParts : Type 0 where
+  pub harvester : ℕ
+  pub number : ℕ  -- which of its harvester's calls it is, from 1
+  pub version : ℕ  -- of the sheet in force before it
+  pub targets : List ℕ  -- what is wanted of each class from here on

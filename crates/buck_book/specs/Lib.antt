@@ -1,8 +1,10 @@
 pub mod Entry
+pub mod Posting
 pub mod Plan
+pub mod Targets
 pub mod Counts
 pub mod History
-pub mod Running
+pub mod CutsAlone
 pub mod Pricing
 pub mod Book
 pub mod Refused

@@ -1,21 +1,27 @@
 //! The book of one thread.
-ghost use Rattle.std.specs.Prelude.{◌≡◌, ℕ, ◌+◌, ◌%◌, ◌<◌, ◌≤◌, [], ◌∷◌, ◌++◌, IfOk, IfErr, IfSome, OnOk, IsTrue, ◌↔◌, length, map, vec_len, vec_capacity};
-ghost use Rattle.std.specs.Option.{option_to_list};
-ghost use Rattle.buck_apt.specs.Instruction.{IsClass, index_of};
+ghost use Rattle.std.specs.Prelude.{◌≡◌, ℕ, ◌+◌, ◌<◌, ◌≤◌, [], ◌∷◌, ◌++◌, false, IfOk, IfErr, IfSome, OnOk, IsTrue, ◌↔◌, length, map, vec_len, vec_capacity};
+ghost use Rattle.std.specs.Option.{option_to_list, option_map};
+ghost use Rattle.buck_apt.specs.Instruction.{IsInstruction, IsClass, index_of};
 ghost use Rattle.buck_rule.specs.Stored.{Answers};
 ghost use Rattle.buck_value.specs.Allowed.{IsAllowed, class_of};
 ghost use Rattle.buck_value.specs.Sheet.{base_prices, sheet_of};
-ghost use Rattle.buck_book.specs.Counts.{count_of, calls_of};
-ghost use Rattle.buck_book.specs.Running.{AreCounts, AreAtMost, tally_of};
-ghost use Rattle.buck_book.specs.Pricing.{AreAnswers};
-ghost use Rattle.buck_book.specs.Book.{version_of, in_force, sheets_from, IsBook, entry_of, entries_with, IsNextSheet, IsNext, HasSheetRoom, IsMadeFor, IsReadyFor, SameContent, sheets_with};
-ghost use Rattle.buck_book.specs.Refused.{IsRefusal};
+ghost use Rattle.buck_book.specs.Posting.{targets_of, opening_targets, cuts_since_end};
+ghost use Rattle.buck_book.specs.Targets.{AreTargets};
+ghost use Rattle.buck_book.specs.Counts.{AreClassCounts, count_of, calls_of};
+ghost use Rattle.buck_book.specs.History.{IsLawful, version_of, in_force, sheets_with};
+ghost use Rattle.buck_book.specs.Pricing.{AreAnswersWith, AreAnswersWithDemand};
+ghost use Rattle.buck_book.specs.Book.{sheets_from, IsBook, IsSheetWith, IsSheetWithDemand, entry_of, demand_of, postings_with, HasSheetRoom, IsMadeFor, IsReadyFor, IsMadeDemand, IsReadyDemand, SameContent, tally_of};
+ghost use Rattle.buck_book.specs.Refused.{IsFull, IsBelow, IsRefusal, IsDemandRefusal};
+ghost use Rattle.buck_book.specs.inner.Running.{AreCounts, AreAtMost, cuts_after};
 
 use crate::counts::{Counts, zeros};
+use crate::demand::{DemandRefusal, ReadyDemand};
 use crate::entry::Entry;
 use crate::plan::Plan;
-use crate::pricing::prices_by;
+use crate::posting::{Demand, Posting};
+use crate::pricing::{Standings, sheet_by};
 use crate::ready::{Ready, Refusal};
+use crate::targets::check_targets;
 use buck_apt::{Class, Instruction};
 use buck_record::Memory;
 use buck_rule::{Rule, Standing};
@@ -25,15 +31,17 @@ use std::alloc::{AllocError, Global};
 use std::marker::Model;
 use std::sync::Arc;
 
-/// The history of what was cut, with the sheets that were in force, the rule that makes the next one, and running
-/// counts. Its history is lawful at every moment: each entry is best under the sheet of its place, and each sheet's
-/// prices keep the price relation with what was cut before it.
+/// The history of what was cut and demanded, with the sheets that were in force, the rule that makes the next one, and
+/// running counts. Its history is lawful at every moment: each cutting is best under the sheet of its place, and each
+/// sheet's prices keep the price relation with the targets in force and with what was cut before it.
 #[derive(Drop)]
 pub struct Book<F> {
     rule: Rule<F>,
     instruction: Arc<Instruction>,
     sheets: Vec<Arc<Sheet>>,
-    entries: Vec<Entry>,
+    postings: Vec<Posting>,
+    targets: Arc<Vec<u32>>,
+    cuts: u32,
     counts: Counts,
     calls: Vec<u32>,
     capacity: u32,
@@ -41,19 +49,65 @@ pub struct Book<F> {
 
 impl<F> Model for Book<F> {
     ghost use Rattle.std.specs.Prelude.{map, vec_capacity};
-    ghost use Rattle.buck_book.specs.Book.{BookParts, Keeps};
+    ghost use Rattle.buck_book.specs.Book.{BookParts};
+    ghost use Rattle.buck_book.specs.inner.Running.{Keeps};
 
     ghost Value = { BookParts F };
 
-    ghost view = { λ b. record { rule = b.rule; instruction = b.instruction.value; sheets = map (λ a. a.value.prices) b.sheets.items; entries = b.entries.items; capacity = b.capacity; room = vec_capacity b.entries; sheet_room = vec_capacity b.sheets } };
+    ghost view = { λ b. record {
+      rule = b.rule;
+      history = record {
+        instruction = b.instruction.value;
+        sheets = map (λ a. a.value.prices) b.sheets.items;
+        postings = b.postings.items;
+      };
+      capacity = b.capacity;
+      room = vec_capacity b.postings;
+      sheet_room = vec_capacity b.sheets;
+    } };
 
-    ghost invariant = { λ b. Keeps (record { rule = b.rule; instruction = b.instruction.value; sheets = map (λ a. a.value.prices) b.sheets.items; entries = b.entries.items; capacity = b.capacity; room = vec_capacity b.entries; sheet_room = vec_capacity b.sheets }) (map (λ a. a.value) b.sheets.items) b.counts.by_class.items b.counts.by_assortment.items b.calls.items };
+    ghost invariant = { λ b. Keeps (record {
+      rule = b.rule;
+      history = record {
+        instruction = b.instruction.value;
+        sheets = map (λ a. a.value.prices) b.sheets.items;
+        postings = b.postings.items;
+      };
+      capacity = b.capacity;
+      room = vec_capacity b.postings;
+      sheet_room = vec_capacity b.sheets;
+    }) (record {
+      sheets = map (λ a. a.value) b.sheets.items;
+      targets = b.targets.value.items;
+      cuts = b.cuts;
+      by_class = b.counts.by_class.items;
+      by_assortment = b.counts.by_assortment.items;
+      calls = b.calls.items;
+    }) };
+}
+
+/// What a book held: a lawful history, the targets in force at its end, and how many logs were cut in each class.
+#[derive(Drop)]
+pub struct Parts {
+    /// The instruction of the history.
+    pub instruction: Arc<Instruction>,
+    /// The sheets, by version.
+    pub sheets: Vec<Arc<Sheet>>,
+    /// The postings, in the order of their commits.
+    pub entries: Vec<Posting>,
+    /// What is wanted of each class at the end, assortment by assortment and row by row.
+    pub targets: Arc<Vec<u32>>,
+    /// How many logs were cut in each class, in the same order.
+    pub counts: Vec<u32>,
 }
 
 /// The base sheet alone.
 fn base_sheets(alloc: Global, instruction: Arc<Instruction>) -> Result<Vec<Arc<Sheet>>, Memory>
-    ensures sheets { IfOk result (λ sheets. map (λ a. a.value) sheets.items ≡ sheet_of 0 instruction.value (base_prices instruction.value) ∷ []) }
-    ensures prices { IfOk result (λ sheets. map (λ a. a.value.prices) sheets.items ≡ base_prices instruction.value ∷ []) }
+    ensures sheets { IfOk result (λ sheets.
+        map (λ a. a.value) sheets.items
+        ≡ sheet_of 0 instruction.value (base_prices instruction.value) ∷ []) }
+    ensures prices { IfOk result (λ sheets.
+        map (λ a. a.value.prices) sheets.items ≡ base_prices instruction.value ∷ []) }
 {
     let sheet = Arc::new(alloc, Sheet::base(alloc, instruction)?)?;
     let mut sheets = Vec::with_capacity(alloc, 1)?;
@@ -61,12 +115,24 @@ fn base_sheets(alloc: Global, instruction: Arc<Instruction>) -> Result<Vec<Arc<S
     Ok(sheets)
 }
 
-/// Adds an entry, where there is memory for it.
-fn add_entry(entries: &mut Vec<Entry>, entry: Entry)
-    requires { vec_len entries.old < vec_capacity entries.old }
-    ensures { entries.new.items ≡ entries.old.items ++ entry ∷ [] }
+/// The instruction's targets, class by class.
+fn targets_at_opening(alloc: Global, instruction: &Instruction) -> Result<Vec<u32>, AllocError>
+    ensures targets { IfOk result (λ targets. targets.items ≡ opening_targets instruction.now) }
+    ensures valid { IsInstruction instruction.now }
 {
-    entries.push_reserved(entry);
+    let mut targets = Vec::new(alloc);
+    for assortment in instruction.assortments() {
+        targets.extend_from_slice(assortment.targets())?;
+    }
+    Ok(targets)
+}
+
+/// Adds a posting, where there is memory for it.
+fn add_posting(postings: &mut Vec<Posting>, posting: Posting)
+    requires { vec_len postings.old < vec_capacity postings.old }
+    ensures { postings.new.items ≡ postings.old.items ++ posting ∷ [] }
+{
+    postings.push_reserved(posting);
 }
 
 /// Adds a sheet, if there is one, where there is memory for it.
@@ -77,6 +143,17 @@ fn add_sheet(sheets: &mut Vec<Arc<Sheet>>, next: Option<Arc<Sheet>>)
     match next {
         Some(sheet) => sheets.push_reserved(sheet),
         None => {}
+    }
+}
+
+/// How many cuts came since the last end, after one cut more.
+fn cuts_with(cuts: u32, next: &Option<Arc<Sheet>>) -> u32
+    requires { cuts < 1000 }
+    ensures { result ≡ cuts_after cuts (option_map (λ a. a.value) next.now) }
+{
+    match next {
+        Some(_) => 0,
+        None => cuts + 1,
     }
 }
 
@@ -106,34 +183,43 @@ fn places_of(alloc: Global, plan: &Plan) -> Result<Vec<u32>, AllocError>
 impl<F: Drop> Book<F> {
     /// The instruction of the history.
     pub fn instruction(&self) -> &Arc<Instruction>
-        ensures { result.now.value ≡ self.now.instruction }
+        ensures { result.now.value ≡ self.now.history.instruction }
     {
         &self.instruction
     }
 
-    /// The sheet in force: the next entry is planned under it.
+    /// The sheet in force: the next stem is planned under it.
     pub fn sheet(&self) -> &Arc<Sheet>
-        ensures { result.now.value ≡ in_force self.now }
+        ensures { result.now.value ≡ in_force self.now.history }
     {
         &self.sheets[self.version() as usize]
     }
 
-    /// The version in force: how many periods have ended.
+    /// The version in force: how many periods have ended, at most 1,000,000.
     pub fn version(&self) -> u32
-        ensures { result ≡ version_of self.now }
+        ensures version { result ≡ version_of self.now.history }
+        ensures small { result ≤ 1000000 }
     {
-        self.len() as u32 / self.instruction.period()
+        self.sheets.len() as u32 - 1
     }
 
-    /// The number of entries.
+    /// The targets in force, class by class: those of the last demand, else the instruction's.
+    pub fn targets(&self) -> &[u32]
+        ensures targets { result.now ≡ targets_of self.now.history.instruction self.now.history.postings }
+        ensures valid { AreTargets self.now.history.instruction result.now }
+    {
+        self.targets.as_slice()
+    }
+
+    /// The number of postings.
     pub fn len(&self) -> usize
-        ensures number { result ≡ length self.now.entries }
+        ensures number { result ≡ length self.now.history.postings }
         ensures kept { IsBook self.now }
     {
-        self.entries.len()
+        self.postings.len()
     }
 
-    /// How many entries the history may have, 1 to 1,000,000.
+    /// How many postings the history may have, 1 to 1,000,000.
     pub fn capacity(&self) -> u32
         ensures capacity { result ≡ self.now.capacity }
         ensures kept { IsBook self.now }
@@ -143,73 +229,98 @@ impl<F: Drop> Book<F> {
 
     /// How many logs were cut in a class of the instruction.
     pub fn count(&self, class: Class) -> u32
-        requires { IsClass self.now.instruction class }
-        ensures { result ≡ count_of self.now.instruction class self.now.entries }
+        requires { IsClass self.now.history.instruction class }
+        ensures { result ≡ count_of self.now.history.instruction class self.now.history.postings }
     {
         self.counts.by_class[self.instruction.index(class)]
     }
 
-    /// How many entries are a harvester's, 1 to 64.
+    /// How many postings are a harvester's, 1 to 64.
     pub fn calls(&self, harvester: u32) -> u32
         requires { (0 < harvester) × (harvester ≤ 64) }
-        ensures { result ≡ calls_of harvester self.now.entries }
+        ensures { result ≡ calls_of harvester self.now.history.postings }
     {
         self.calls[(harvester - 1) as usize]
     }
 
-    /// The entries, in the order of their commits.
-    pub fn entries(&self) -> &[Entry]
-        ensures { result.now ≡ self.now.entries }
+    /// The postings, in the order of their commits.
+    pub fn entries(&self) -> &[Posting]
+        ensures postings { result.now ≡ self.now.history.postings }
+        ensures lawful { IsLawful self.now.history }
     {
-        self.entries.as_slice()
+        self.postings.as_slice()
     }
 
     /// The sheets, by version.
     pub fn sheets(&self) -> &[Arc<Sheet>]
-        ensures { map (λ a. a.value) result.now ≡ sheets_from 0 self.now.instruction self.now.sheets }
+        ensures sheets { map (λ a. a.value) result.now
+            ≡ sheets_from 0 self.now.history.instruction self.now.history.sheets }
+        ensures lawful { IsLawful self.now.history }
     {
         self.sheets.as_slice()
     }
 
-    /// The instruction, the sheets and the entries: a lawful history.
-    pub fn into_parts(self) -> (Arc<Instruction>, Vec<Arc<Sheet>>, Vec<Entry>)
-        ensures instruction { result.0.value ≡ self.instruction }
-        ensures sheets { map (λ a. a.value) result.1.items ≡ sheets_from 0 self.instruction self.sheets }
-        ensures entries { result.2.items ≡ self.entries }
+    /// All that a caller may want of the day: the lawful history, the targets in force, and the class counts.
+    pub fn into_parts(self) -> Parts
+        ensures instruction { result.instruction.value ≡ self.history.instruction }
+        ensures sheets { map (λ a. a.value) result.sheets.items
+            ≡ sheets_from 0 self.history.instruction self.history.sheets }
+        ensures entries { result.entries.items ≡ self.history.postings }
+        ensures targets { result.targets.value.items ≡ targets_of self.history.instruction self.history.postings }
+        ensures counts { AreClassCounts self.history.instruction self.history.postings result.counts.items }
         ensures kept { IsBook self }
     {
         let Book {
             rule: _,
             instruction,
             sheets,
-            entries,
-            counts: _,
+            postings,
+            targets,
+            cuts: _,
+            counts,
             calls: _,
             capacity: _,
         } = self;
-        (instruction, sheets, entries)
+        let counts = counts.into_classes();
+        Parts {
+            instruction,
+            sheets,
+            entries: postings,
+            targets,
+            counts,
+        }
     }
 
-    /// Whether one more entry ends a period.
+    /// Whether the history is at its capacity.
+    fn is_full(&self) -> bool
+        ensures full { IsTrue result ↔ IsFull self.now }
+        ensures below { result ≡ false → IsBelow self.now }
+    {
+        self.len() >= self.capacity() as usize
+    }
+
+    /// Whether one more cut ends a period.
     fn is_period_end(&self) -> bool
-        ensures { IsTrue result ↔ ((length self.now.entries + 1) % self.now.instruction.period ≡ 0) }
+        ensures { IsTrue result
+            ↔ (cuts_since_end self.now.history.instruction self.now.history.postings + 1
+            ≡ self.now.history.instruction.period) }
     {
-        (self.len() as u32 + 1) % self.instruction.period() == 0
+        self.cuts + 1 == self.instruction.period()
     }
 
-    /// Makes room for one more entry.
-    fn reserve_entry(&mut self) -> Result<(), AllocError>
+    /// Makes room for one more posting.
+    fn reserve_posting(&mut self) -> Result<(), AllocError>
         ensures content { SameContent self.old self.new }
-        ensures room { OnOk result (length self.new.entries < self.new.room) }
+        ensures room { OnOk result (length self.new.history.postings < self.new.room) }
     {
-        self.entries.reserve(1)
+        self.postings.reserve(1)
     }
 
     /// Makes room for one more sheet.
     fn reserve_sheet(&mut self) -> Result<(), AllocError>
         ensures content { SameContent self.old self.new }
-        ensures room { OnOk result (length self.new.sheets < self.new.sheet_room) }
-        ensures entry_room { self.new.room ≡ self.old.room }
+        ensures room { OnOk result (length self.new.history.sheets < self.new.sheet_room) }
+        ensures posting_room { self.new.room ≡ self.old.room }
     {
         self.sheets.reserve(1)
     }
@@ -217,10 +328,10 @@ impl<F: Drop> Book<F> {
     /// Makes room for what a commit adds to the lists.
     fn reserve(&mut self, ready: &Ready) -> Result<(), AllocError>
         ensures content { SameContent self.old self.new }
-        ensures entry { OnOk result (length self.new.entries < self.new.room) }
+        ensures posting { OnOk result (length self.new.history.postings < self.new.room) }
         ensures sheet { OnOk result (HasSheetRoom self.new ready.now.next) }
     {
-        self.reserve_entry()?;
+        self.reserve_posting()?;
         if ready.next_sheet().is_some() {
             self.reserve_sheet()?;
         }
@@ -229,14 +340,16 @@ impl<F: Drop> Book<F> {
 
     /// The counts with the logs of a plan, given the place of each one's class.
     fn counts_with(&self, alloc: Global, plan: &Plan, places: &[u32]) -> Result<Counts, AllocError>
-        requires below { length self.now.entries < self.now.capacity }
-        requires in_force { plan.now.sheet ≡ in_force self.now }
-        requires places { places.now ≡ tally_of self.now.instruction plan.now.stem plan.now.logs }
-        ensures right { IfOk result (λ n. (harvester : ℕ) → AreCounts self.now.instruction (entries_with self.now harvester plan.now) n.by_class.items n.by_assortment.items) }
+        requires below { length self.now.history.postings < self.now.capacity }
+        requires in_force { plan.now.sheet ≡ in_force self.now.history }
+        requires places { places.now ≡ tally_of self.now.history.instruction plan.now.stem plan.now.logs }
+        ensures right { IfOk result (λ n. (harvester : ℕ) →
+            AreCounts self.now.history.instruction (postings_with self.now.history harvester plan.now)
+            n.by_class.items n.by_assortment.items) }
         ensures low { IfOk result (λ n. AreAtMost 80000000 n.by_class.items n.by_assortment.items) }
         ensures kept { IsBook self.now }
     {
-        let mut counts = self.counts.again(alloc)?;
+        let mut counts = self.counts.clone(alloc)?;
         counts.add(places, plan.cutting().logs.as_slice());
         Ok(counts)
     }
@@ -247,11 +360,11 @@ impl<F: Drop> Book<F> {
     pub fn commit(&mut self, ready: Ready, harvester: u32, plan: Plan) -> Entry
         requires ready { IsReadyFor self.old ready plan }
         requires harvester { (0 < harvester) × (harvester ≤ 64) }
-        ensures entry { result ≡ entry_of self.old harvester plan }
-        ensures entries { self.new.entries ≡ self.old.entries ++ result ∷ [] }
-        ensures sheets { self.new.sheets ≡ sheets_with self.old.sheets ready.next }
+        ensures entry { result ≡ entry_of self.old.history harvester plan }
+        ensures postings { self.new.history.postings ≡ self.old.history.postings ++ Posting.Cut result ∷ [] }
+        ensures sheets { self.new.history.sheets ≡ sheets_with self.old.history.sheets ready.next }
         ensures rule { self.new.rule ≡ self.old.rule }
-        ensures instruction { self.new.instruction ≡ self.old.instruction }
+        ensures instruction { self.new.history.instruction ≡ self.old.history.instruction }
         ensures capacity { self.new.capacity ≡ self.old.capacity }
     {
         let number = self.calls(harvester) + 1;
@@ -266,6 +379,7 @@ impl<F: Drop> Book<F> {
         self.counts.add(tally.as_slice(), cutting.logs.as_slice());
         let caller = (harvester - 1) as usize;
         self.calls[caller] = number;
+        self.cuts = cuts_with(self.cuts, &next);
         let stored = Entry {
             harvester,
             number,
@@ -274,7 +388,7 @@ impl<F: Drop> Book<F> {
             cutting: stored_cutting,
             worth,
         };
-        add_entry(&mut self.entries, stored);
+        add_posting(&mut self.postings, Posting::Cut(stored));
         add_sheet(&mut self.sheets, next);
         Entry {
             harvester,
@@ -285,11 +399,51 @@ impl<F: Drop> Book<F> {
             worth,
         }
     }
+
+    /// Adds a demand at the end of the history, which ends the period, and the next sheet; answers the demand. It takes
+    /// no memory and can't fail. It was prepared by this book, with no commit since, and the harvester is from 1 to 64.
+    pub fn commit_demand(&mut self, ready: ReadyDemand, harvester: u32) -> Demand
+        requires ready { IsReadyDemand self.old ready }
+        requires harvester { (0 < harvester) × (harvester ≤ 64) }
+        ensures demand { result ≡ demand_of self.old.history harvester ready.targets }
+        ensures postings { self.new.history.postings ≡ self.old.history.postings ++ Posting.Demand result ∷ [] }
+        ensures sheets { self.new.history.sheets ≡ self.old.history.sheets ++ ready.next.prices ∷ [] }
+        ensures rule { self.new.rule ≡ self.old.rule }
+        ensures instruction { self.new.history.instruction ≡ self.old.history.instruction }
+        ensures capacity { self.new.capacity ≡ self.old.capacity }
+    {
+        let number = self.calls(harvester) + 1;
+        let version = self.version();
+        let ReadyDemand {
+            stored,
+            in_force,
+            answered,
+            next,
+        } = ready;
+        let caller = (harvester - 1) as usize;
+        self.calls[caller] = number;
+        self.cuts = 0;
+        self.targets = in_force;
+        let posting = Posting::Demand(Demand {
+            harvester,
+            number,
+            version,
+            targets: stored,
+        });
+        add_posting(&mut self.postings, posting);
+        add_sheet(&mut self.sheets, Some(next));
+        Demand {
+            harvester,
+            number,
+            version,
+            targets: answered,
+        }
+    }
 }
 
 impl<F: Fn(&Standing) -> u64> Book<F> {
-    /// A book with no entry and the base sheet in force. It may have from 1 to 1,000,000 entries. Refused as `Memory`
-    /// alone.
+    /// A book with no posting and the base sheet in force. It may have from 1 to 1,000,000 postings. Refused as
+    /// `Memory` alone.
     pub fn open(
         alloc: Global,
         instruction: Arc<Instruction>,
@@ -298,19 +452,22 @@ impl<F: Fn(&Standing) -> u64> Book<F> {
     ) -> Result<Book<F>, Memory>
         requires { (0 < capacity) × (capacity ≤ 1000000) }
         ensures rule { IfOk result (λ b. b.rule ≡ rule) }
-        ensures instruction { IfOk result (λ b. b.instruction ≡ instruction.value) }
-        ensures sheets { IfOk result (λ b. b.sheets ≡ base_prices instruction.value ∷ []) }
-        ensures entries { IfOk result (λ b. b.entries ≡ []) }
+        ensures instruction { IfOk result (λ b. b.history.instruction ≡ instruction.value) }
+        ensures sheets { IfOk result (λ b. b.history.sheets ≡ base_prices instruction.value ∷ []) }
+        ensures postings { IfOk result (λ b. b.history.postings ≡ []) }
         ensures capacity { IfOk result (λ b. b.capacity ≡ capacity) }
     {
         let counts = Counts::none(alloc, &instruction)?;
         let calls = zeros(alloc, 64)?;
+        let targets = Arc::new(alloc, targets_at_opening(alloc, &instruction)?)?;
         let sheets = base_sheets(alloc, instruction.clone()?)?;
         Ok(Book {
             rule,
             instruction,
             sheets,
-            entries: Vec::new(alloc),
+            postings: Vec::new(alloc),
+            targets,
+            cuts: 0,
             counts,
             calls,
             capacity,
@@ -321,28 +478,49 @@ impl<F: Fn(&Standing) -> u64> Book<F> {
     /// stand with this entry.
     fn next_sheet(&self, alloc: Global, plan: &Plan, places: &[u32]) -> Result<Arc<Sheet>, Memory>
         requires answers { Answers F.Fn self.now.rule }
-        requires below { length self.now.entries < self.now.capacity }
-        requires in_force { plan.now.sheet ≡ in_force self.now }
-        requires places { places.now ≡ tally_of self.now.instruction plan.now.stem plan.now.logs }
-        ensures next { IfOk result (λ s. IsNextSheet self.now plan.now s.value) }
-        ensures given { IfOk result (λ s. (harvester : ℕ) → AreAnswers F.Fn self.now.rule self.now.instruction (entries_with self.now harvester plan.now) s.value.prices) }
+        requires below { length self.now.history.postings < self.now.capacity }
+        requires in_force { plan.now.sheet ≡ in_force self.now.history }
+        requires places { places.now ≡ tally_of self.now.history.instruction plan.now.stem plan.now.logs }
+        ensures next { IfOk result (λ s. IsSheetWith self.now.history plan.now s.value) }
+        ensures given { IfOk result (λ s.
+            AreAnswersWith F.Fn self.now.rule self.now.history plan.now s.value.prices) }
     {
         let counts = self.counts_with(alloc, plan, places)?;
-        let prices = prices_by(alloc, &self.rule, &self.instruction, &counts)?;
         let version = self.version() + 1;
-        let Ok(sheet) = Sheet::with_prices(self.instruction.clone()?, version, prices) else {
-            unreachable!()
+        let standings = Standings {
+            instruction: &self.instruction,
+            targets: self.targets(),
+            counts: &counts,
         };
-        Ok(Arc::new(alloc, sheet)?)
+        sheet_by(alloc, &self.rule, &self.instruction, version, &standings)
+    }
+
+    /// The sheet that comes after a demand of valid targets: the rule's answers to how the classes stand by these.
+    fn sheet_of_demand(&self, alloc: Global, wanted: &[u32]) -> Result<Arc<Sheet>, Memory>
+        requires answers { Answers F.Fn self.now.rule }
+        requires below { length self.now.history.postings < self.now.capacity }
+        requires valid { AreTargets self.now.history.instruction wanted.now }
+        ensures next { IfOk result (λ s. IsSheetWithDemand self.now.history wanted.now s.value) }
+        ensures given { IfOk result (λ s.
+            AreAnswersWithDemand F.Fn self.now.rule self.now.history wanted.now s.value.prices) }
+    {
+        let version = self.version() + 1;
+        let standings = Standings {
+            instruction: &self.instruction,
+            targets: wanted,
+            counts: &self.counts,
+        };
+        sheet_by(alloc, &self.rule, &self.instruction, version, &standings)
     }
 
     /// All that the commit of a plan stores or hands out.
     fn made_for(&self, alloc: Global, plan: &Plan) -> Result<Ready, Memory>
         requires answers { Answers F.Fn self.now.rule }
-        requires below { length self.now.entries < self.now.capacity }
-        requires in_force { plan.now.sheet ≡ in_force self.now }
+        requires below { length self.now.history.postings < self.now.capacity }
+        requires in_force { plan.now.sheet ≡ in_force self.now.history }
         ensures made { IfOk result (λ r. IsMadeFor self.now r plan.now) }
-        ensures given { IfOk result (λ r. IfSome r.next (λ s. (harvester : ℕ) → AreAnswers F.Fn self.now.rule self.now.instruction (entries_with self.now harvester plan.now) s.prices)) }
+        ensures given { IfOk result (λ r. IfSome r.next (λ s.
+            AreAnswersWith F.Fn self.now.rule self.now.history plan.now s.prices)) }
     {
         let stem = plan.stem().clone()?;
         let cutting = plan.cutting().clone()?;
@@ -364,6 +542,25 @@ impl<F: Fn(&Standing) -> u64> Book<F> {
         })
     }
 
+    /// All that the commit of a demand of valid targets stores or hands out.
+    fn made_demand(&self, alloc: Global, targets: &Arc<Vec<u32>>) -> Result<ReadyDemand, Memory>
+        requires answers { Answers F.Fn self.now.rule }
+        requires below { length self.now.history.postings < self.now.capacity }
+        requires valid { AreTargets self.now.history.instruction targets.now.value.items }
+        ensures made { IfOk result (λ r. IsMadeDemand self.now r) }
+        ensures targets { IfOk result (λ r. r.targets ≡ targets.now.value.items) }
+        ensures given { IfOk result (λ r.
+            AreAnswersWithDemand F.Fn self.now.rule self.now.history targets.now.value.items r.next.prices) }
+    {
+        let next = self.sheet_of_demand(alloc, targets.as_slice())?;
+        Ok(ReadyDemand {
+            stored: targets.clone()?,
+            in_force: targets.clone()?,
+            answered: targets.clone()?,
+            next,
+        })
+    }
+
     /// Prepares the commit of a plan: makes all that the commit stores or hands out, with the next sheet where the
     /// plan's entry ends a period, and the room that it needs in the book's lists. The content stays as it was.
     /// Refused as `Full` at the capacity, else as `Stale` where the plan's sheet isn't the one in force, and as
@@ -372,10 +569,11 @@ impl<F: Fn(&Standing) -> u64> Book<F> {
         requires answers { Answers F.Fn self.old.rule }
         ensures content { SameContent self.old self.new }
         ensures ready { IfOk result (λ r. IsReadyFor self.new r plan.now) }
-        ensures given { IfOk result (λ r. IfSome r.next (λ s. (harvester : ℕ) → AreAnswers F.Fn self.old.rule self.old.instruction (entries_with self.old harvester plan.now) s.prices)) }
+        ensures given { IfOk result (λ r. IfSome r.next (λ s.
+            AreAnswersWith F.Fn self.old.rule self.old.history plan.now s.prices)) }
         ensures refused { IfErr result (IsRefusal self.old plan.now) }
     {
-        if self.len() >= self.capacity() as usize {
+        if self.is_full() {
             return Err(Refusal::Full);
         }
         if !plan.sheet().same(self.sheet()) {
@@ -384,6 +582,36 @@ impl<F: Fn(&Standing) -> u64> Book<F> {
         }
         let ready = self.made_for(alloc, plan)?;
         self.reserve(&ready)?;
+        Ok(ready)
+    }
+
+    /// Prepares the commit of a demand: makes all that the commit stores or hands out, with the next sheet, and the
+    /// room that it needs in the book's lists. The content stays as it was. The targets are one for each class,
+    /// assortment by assortment and row by row. Refused as `Full` at the capacity, else as `Targets` where they aren't
+    /// valid, and as `Memory` where a growth was refused.
+    pub fn prepare_demand(
+        &mut self,
+        alloc: Global,
+        targets: &Arc<Vec<u32>>,
+    ) -> Result<ReadyDemand, DemandRefusal>
+        requires answers { Answers F.Fn self.old.rule }
+        ensures content { SameContent self.old self.new }
+        ensures ready { IfOk result (λ r. IsReadyDemand self.new r) }
+        ensures targets { IfOk result (λ r. r.targets ≡ targets.now.value.items) }
+        ensures given { IfOk result (λ r.
+            AreAnswersWithDemand F.Fn self.old.rule self.old.history targets.now.value.items r.next.prices) }
+        ensures refused { IfErr result (IsDemandRefusal self.old targets.now.value.items) }
+    {
+        if self.is_full() {
+            return Err(DemandRefusal::Full);
+        }
+        match check_targets(&self.instruction, targets.as_slice()) {
+            Err(fault) => return Err(DemandRefusal::Targets(fault)),
+            Ok(()) => {}
+        }
+        let ready = self.made_demand(alloc, targets)?;
+        self.reserve_posting()?;
+        self.reserve_sheet()?;
         Ok(ready)
     }
 }

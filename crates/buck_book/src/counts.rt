@@ -1,7 +1,7 @@
 //! Running counts of what was cut.
 ghost use Rattle.std.specs.Prelude.{◌≡◌, ℕ, ◌+◌, ◌<◌, ◌≤◌, ◌^◌, [], All, IfOk, length, slice_index, replicate};
 ghost use Rattle.buck_apt.specs.Instruction.{IsInstruction};
-ghost use Rattle.buck_book.specs.Running.{AreCounts, AreAtMost, AreGrown, AreGrownBy};
+ghost use Rattle.buck_book.specs.inner.Running.{AreCounts, AreAtMost, AreGrown, AreGrownBy};
 
 use buck_apt::Instruction;
 use buck_value::Log;
@@ -60,7 +60,7 @@ impl Counts {
     }
 
     /// A second list of the same counts.
-    pub fn again(&self, alloc: Global) -> Result<Counts, AllocError>
+    pub fn clone(&self, alloc: Global) -> Result<Counts, AllocError>
         ensures classes { IfOk result (λ n. n.by_class.items ≡ self.now.by_class.items) }
         ensures assortments { IfOk result (λ n. n.by_assortment.items ≡ self.now.by_assortment.items) }
     {
@@ -70,6 +70,17 @@ impl Counts {
             by_class,
             by_assortment,
         })
+    }
+
+    /// The counts of the classes; those of the assortments are let go.
+    pub fn into_classes(self) -> Vec<u32>
+        ensures { result.items ≡ self.by_class.items }
+    {
+        let Counts {
+            by_class,
+            by_assortment: _,
+        } = self;
+        by_class
     }
 
     /// Counts logs, given the place of each one's class.

@@ -50,7 +50,7 @@ fn same_logs(these: &[Log], those: &[Log]) -> bool
 
 impl Entry {
     /// A second entry of the same value, which shares the stem and the cutting. Refused as `Memory` alone.
-    pub fn again(&self) -> Result<Entry, Memory>
+    pub fn clone(&self) -> Result<Entry, Memory>
         ensures { IfOk result (λ e. e ≡ self.now) }
     {
         let stem = self.stem.clone()?;

@@ -1,36 +1,40 @@
 //! What follows from the definitions of a history, for all histories: each law is the contract of an empty function.
-ghost use Rattle.std.specs.Prelude.{◌≡◌, ◌≢◌, ℕ, ◌+◌, ◌/◌, ◌%◌, ◌<◌, ◌≤◌, List, [], ◌∷◌, ◌++◌, length, take};
-ghost use Rattle.buck_apt.specs.Instruction.{InstructionParts};
+ghost use Rattle.std.specs.Prelude.{◌≡◌, ℕ, ◌/◌, ◌%◌, ◌<◌, ◌≤◌, ◌↔◌, List, length, Option, map};
+ghost use Rattle.buck_apt.specs.Instruction.{InstructionParts, IsInstruction};
+ghost use Rattle.buck_value.specs.Sheet.{SheetParts};
+ghost use Rattle.buck_book.specs.declared.posting.Posting.{Posting};
+ghost use Rattle.buck_book.specs.declared.posting.Posting.TheVariants.{Cut};
 ghost use Rattle.buck_book.specs.Entry.{EntryParts};
-ghost use Rattle.buck_book.specs.History.{IsLawful, Follows, PricesMeet};
+ghost use Rattle.buck_book.specs.Posting.{ends_of, cuts_since_end};
+ghost use Rattle.buck_book.specs.History.{HistoryParts, IsLawful, Follows, first_of, history_with};
+ghost use Rattle.buck_book.specs.Book.{IsNext};
+ghost use Rattle.buck_book.specs.CutsAlone as alone;
 
-/// The first entries of a lawful history, with the sheets that came up to there, are a lawful history.
+/// The first postings of a lawful history, with the sheets that came up to there, are a lawful history.
 pub fn prefix_is_lawful()
-    ensures { (i : InstructionParts) (sheets : List (List ℕ)) (es : List EntryParts) (k : ℕ)
-        → 0 < i.period
-        → IsLawful i sheets es
-        → k ≤ length es
-        → IsLawful i (take (k / i.period + 1) sheets) (take k es) }
+    ensures { (h : HistoryParts) (k : ℕ) → IsLawful h → k ≤ length h.postings → IsLawful (first_of k h) }
 {}
 
-/// A lawful history with one more entry that may follow, and that ends no period, is lawful.
-pub fn one_more_within_period_is_lawful()
-    ensures { (i : InstructionParts) (sheets : List (List ℕ)) (es : List EntryParts) (e : EntryParts)
-        → 0 < i.period
-        → IsLawful i sheets es
-        → Follows i sheets es e
-        → (length es + 1) % i.period ≢ 0
-        → IsLawful i sheets (es ++ e ∷ []) }
+/// A lawful history with one posting more that may follow, and with a next sheet where that posting is an end and there
+/// alone, is lawful.
+pub fn one_more_is_lawful()
+    ensures { (h : HistoryParts) (x : Posting) (next : Option SheetParts)
+        → IsLawful h
+        → Follows h.instruction h.sheets h.postings x
+        → IsNext h x next
+        → IsLawful (history_with h x next) }
 {}
 
-/// A lawful history with one more entry that may follow, and that ends a period, and a sheet whose prices keep the
-/// price relation with the counts of the longer history, is lawful.
-pub fn one_more_at_period_end_is_lawful()
-    ensures { (i : InstructionParts) (sheets : List (List ℕ)) (es : List EntryParts) (e : EntryParts) (prices : List ℕ)
+/// Where no demand stands, the ends are the full periods.
+pub fn ends_of_cuts_alone()
+    ensures { (i : InstructionParts) (es : List EntryParts)
         → 0 < i.period
-        → IsLawful i sheets es
-        → Follows i sheets es e
-        → (length es + 1) % i.period ≡ 0
-        → PricesMeet i (es ++ e ∷ []) prices
-        → IsLawful i (sheets ++ prices ∷ []) (es ++ e ∷ []) }
+        → (ends_of i (map Cut es) ≡ length es / i.period) × (cuts_since_end i (map Cut es) ≡ length es % i.period) }
+{}
+
+/// Where no demand stands, a history is lawful exactly where it is lawful in words that know of no demand.
+pub fn lawful_of_cuts_alone()
+    ensures { (i : InstructionParts) (sheets : List (List ℕ)) (es : List EntryParts)
+        → IsInstruction i
+        → IsLawful (alone.history_of i sheets es) ↔ alone.IsLawful i sheets es }
 {}

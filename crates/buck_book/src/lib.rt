@@ -3,14 +3,20 @@
 
 mod book;
 mod counts;
+mod demand;
 mod entry;
 pub mod laws;
 mod plan;
+mod posting;
 mod pricing;
 mod ready;
+mod targets;
 
-pub use book::Book;
+pub use book::{Book, Parts};
 pub use buck_record::Memory;
+pub use demand::{DemandRefusal, ReadyDemand};
 pub use entry::Entry;
 pub use plan::Plan;
+pub use posting::{Demand, Posting};
 pub use ready::{Ready, Refusal};
+pub use targets::{TargetsFault, check_targets};

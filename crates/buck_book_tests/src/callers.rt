@@ -4,7 +4,7 @@ ghost use Rattle.std.specs.Prelude.{◌≡◌, ◌<◌, ◌≤◌, IfOk, ◌∷�
 ghost use Rattle.buck_rule.specs.Stored.{Answers};
 
 use buck_apt::Instruction;
-use buck_book::{Book, Entry, Plan, Refusal};
+use buck_book::{Book, Demand, DemandRefusal, Entry, Plan, Posting, Refusal};
 use buck_rule::{Rule, Standing};
 use buck_stem::Stem;
 use std::alloc::Global;
@@ -19,7 +19,8 @@ pub fn commit_both<F: Fn(&Standing) -> u64>(
 ) -> Result<(Entry, Entry), Refusal>
     requires { Answers F.Fn book.old.rule }
     ensures rule { book.new.rule ≡ book.old.rule }
-    ensures entries { IfOk result (λ both. book.new.entries ≡ (book.old.entries ++ both.0 ∷ []) ++ both.1 ∷ []) }
+    ensures postings { IfOk result (λ both.
+        book.new.history.postings ≡ (book.old.history.postings ++ Posting.Cut both.0 ∷ []) ++ Posting.Cut both.1 ∷ []) }
 {
     let ready = book.prepare(alloc, &first)?;
     let one = book.commit(ready, 1, first);
@@ -74,4 +75,20 @@ pub fn day<F: Fn(&Standing) -> u64 + Drop>(
     let mut book = Book::open(alloc, instruction, rule, 10)?;
     cut_times(alloc, &mut book, stem, number)?;
     Ok(book)
+}
+
+/// Puts new targets in force for a harvester from 1 to 64.
+pub fn demand<F: Fn(&Standing) -> u64 + Drop>(
+    alloc: Global,
+    book: &mut Book<F>,
+    targets: &Arc<Vec<u32>>,
+    harvester: u32,
+) -> Result<Demand, DemandRefusal>
+    requires answers { Answers F.Fn book.old.rule }
+    requires harvester { (0 < harvester) × (harvester ≤ 64) }
+    ensures rule { book.new.rule ≡ book.old.rule }
+    ensures postings { IfOk result (λ demand. book.new.history.postings ≡ book.old.history.postings ++ Posting.Demand demand ∷ []) }
+{
+    let ready = book.prepare_demand(alloc, targets)?;
+    Ok(book.commit_demand(ready, harvester))
 }

@@ -5,7 +5,7 @@ ghost use Rattle.buck_rule.specs.Stored.{Answers};
 
 use crate::callers::day;
 use buck_apt::{Class, Instruction};
-use buck_book::{Book, Entry, Plan};
+use buck_book::{Book, Demand, Entry, Plan, Posting, Refusal};
 use buck_rule::{Rule, Standing};
 use buck_samples::{saw_instruction, uniform_stem};
 use buck_stem::Stem;
@@ -84,11 +84,41 @@ pub fn has_entries<F: Drop>(book: &Book<F>, wants: &[OneLog]) -> bool {
         return false;
     }
     for i in 0..entries.len() {
-        if !is_one_log(&entries[i], &wants[i]) {
+        if !is_cut(&entries[i], &wants[i]) {
             return false;
         }
     }
     true
+}
+
+/// Whether a posting is this cut.
+pub fn is_cut(posting: &Posting, want: &OneLog) -> bool {
+    match posting {
+        Posting::Cut(entry) => is_one_log(entry, want),
+        Posting::Demand(_) => false,
+    }
+}
+
+/// Whether a posting is the demand of these targets by harvester 1, with this number and version.
+pub fn is_demand(posting: &Posting, number: u32, version: u32, targets: &[u32]) -> bool {
+    match posting {
+        Posting::Cut(_) => false,
+        Posting::Demand(demand) => says(demand, number, version, targets),
+    }
+}
+
+/// Whether a demand is that of these targets by harvester 1, with this number and version.
+pub fn says(demand: &Demand, number: u32, version: u32, targets: &[u32]) -> bool {
+    demand.harvester == 1
+        && demand.number == number
+        && demand.version == version
+        && demand.targets.as_slice() == targets
+}
+
+/// Targets for a demand.
+pub fn targets_of(rt: &HostRuntime, targets: &[u32]) -> Result<Arc<Vec<u32>>, Fail> {
+    let held = Vec::from_slice(rt.alloc(), targets)?;
+    Ok(Arc::new(rt.alloc(), held)?)
 }
 
 /// Whether the sheet in force has this version and these prices.
@@ -153,4 +183,23 @@ pub fn has_counts<F: Drop>(book: &Book<F>, wants: [u32; 4]) -> bool {
         && count_in(book, 0, 1) == Some(wants[1])
         && count_in(book, 1, 0) == Some(wants[2])
         && count_in(book, 1, 1) == Some(wants[3])
+}
+
+/// Whether a plan is refused with the sheet in force, which has this version and these prices.
+pub fn is_stale<F: Fn(&Standing) -> u64>(
+    rt: &HostRuntime,
+    book: &mut Book<F>,
+    plan: &Plan,
+    version: u32,
+    prices: &[u32],
+) -> bool
+    requires { Answers F.Fn book.old.rule }
+    ensures { book.new.rule ≡ book.old.rule }
+{
+    match book.prepare(rt.alloc(), plan) {
+        Err(Refusal::Stale { in_force }) => {
+            in_force.version() == version && in_force.prices() == prices
+        }
+        _ => false,
+    }
 }

@@ -1,7 +1,7 @@
 //! Histories worked out by hand.
 use crate::callers::{commit_both, cut_times};
 use crate::fixtures::*;
-use buck_book::{Book, Entry};
+use buck_book::{Book, Entry, Posting};
 use buck_rule::{Rule, Standing, linear, step};
 use buck_samples::{MAX, instruction_of, saw_instruction, uniform_stem};
 use buck_value::Log;
@@ -139,9 +139,11 @@ fn what_a_book_tells(rt: HostRuntime) -> Result<(), Fail> {
 fn parts_of_a_book(rt: HostRuntime) -> Result<(), Fail> {
     let rule = Rule::new(|s: &Standing| step(s));
     let book = saw_day(&rt, rule, (1, 500, "1 1 1 1"), 41, 2)?;
-    let (_, sheets, entries) = book.into_parts();
-    assert_eq!(rt; sheets.len(), 3);
-    assert_eq!(rt; entries.len(), 2);
+    let parts = book.into_parts();
+    assert_eq!(rt; parts.sheets.len(), 3);
+    assert_eq!(rt; parts.entries.len(), 2);
+    assert!(rt; parts.targets.as_slice() == [1, 1, 1, 1].as_slice());
+    assert!(rt; parts.counts.as_slice() == [0, 0, 1, 1].as_slice());
     Ok(())
 }
 
@@ -174,7 +176,7 @@ fn entries_again(rt: HostRuntime) -> Result<(), Fail> {
     let book = saw_day(&rt, rule, (2, 500, "1 1 1 1"), 41, 2)?;
     let entries = book.entries();
     assert!(rt; entries.len() == 2);
-    let again = entries[0].again()?;
+    let again = entries[0].clone()?;
     assert!(rt; again.same(&entries[0]));
     assert!(rt; !again.same(&entries[1]));
     Ok(())
@@ -206,8 +208,12 @@ fn largest_numbers(rt: HostRuntime) -> Result<(), Fail> {
 }
 
 /// Whether the first entry has 80 logs of 500 mm, and the second 21, of which the last takes 30,000 mm.
-fn are_largest(entries: &[Entry]) -> bool {
-    entries.len() == 2
-        && ends_with(&entries[0], 80, 39_500, 500, 706_860_000_000_000)
-        && ends_with(&entries[1], 21, 10_000, 30_000, 1_060_290_000_000_000)
+fn are_largest(entries: &[Posting]) -> bool {
+    match entries {
+        [Posting::Cut(first), Posting::Cut(second)] => {
+            ends_with(first, 80, 39_500, 500, 706_860_000_000_000)
+                && ends_with(second, 21, 10_000, 30_000, 1_060_290_000_000_000)
+        }
+        _ => false,
+    }
 }

@@ -3,6 +3,8 @@
 
 pub mod callers;
 #[cfg(test)]
+mod demands;
+#[cfg(test)]
 mod fixtures;
 #[cfg(test)]
 mod histories;
@@ -10,3 +12,5 @@ mod histories;
 mod memory;
 #[cfg(test)]
 mod refusals;
+#[cfg(test)]
+mod targets;

@@ -2,9 +2,11 @@
 ghost use Rattle.std.specs.Prelude.{◌≡◌};
 ghost use Rattle.buck_rule.specs.Stored.{Answers};
 
+use crate::callers::demand;
 use crate::fixtures::*;
-use buck_book::{Book, Plan, Refusal};
+use buck_book::{Book, DemandRefusal, Plan, Refusal};
 use buck_rule::{Rule, Standing, step};
+use std::sync::Arc;
 use std::test::Fail;
 
 /// Whether a book is that of one stem.
@@ -41,5 +43,32 @@ fn refused_memory(rt: HostRuntime) -> Result<(), Fail> {
     assert!(rt; is_after_one_stem(&book));
     let second = commit(&rt, &mut book, plan)?;
     assert!(rt; is_one_log(&second, &OneLog(2, 1, 3000, 132_535_800)));
+    Ok(())
+}
+
+/// Whether a demand is prepared, or refused for want of memory.
+fn is_demand_or_memory<F: Fn(&Standing) -> u64>(
+    rt: &HostRuntime,
+    book: &mut Book<F>,
+    targets: &Arc<Vec<u32>>,
+) -> bool
+    requires { Answers F.Fn book.old.rule }
+    ensures { book.new.rule ≡ book.old.rule }
+{
+    match book.prepare_demand(rt.alloc(), targets) {
+        Ok(_) => true,
+        Err(refusal) => refusal == DemandRefusal::Memory,
+    }
+}
+
+#[test]
+fn refused_memory_of_a_demand(rt: HostRuntime) -> Result<(), Fail> {
+    let rule = Rule::new(|s: &Standing| step(s));
+    let mut book = saw_day(&rt, rule, (1, 500, "1 1 1 1"), 41, 1)?;
+    let targets = targets_of(&rt, &[0, 0, 0, 4])?;
+    assert!(rt; is_demand_or_memory(&rt, &mut book, &targets));
+    assert!(rt; is_after_one_stem(&book));
+    let answered = demand(rt.alloc(), &mut book, &targets, 1)?;
+    assert!(rt; says(&answered, 2, 1, &[0, 0, 0, 4]));
     Ok(())
 }

@@ -17,25 +17,6 @@ fn is_full<F: Fn(&Standing) -> u64>(rt: &HostRuntime, book: &mut Book<F>, plan: 
     matches!(book.prepare(rt.alloc(), plan), Err(Refusal::Full))
 }
 
-/// Whether a plan is refused with the sheet in force, which has this version and these prices.
-fn is_stale<F: Fn(&Standing) -> u64>(
-    rt: &HostRuntime,
-    book: &mut Book<F>,
-    plan: &Plan,
-    version: u32,
-    prices: &[u32],
-) -> bool
-    requires { Answers F.Fn book.old.rule }
-    ensures { book.new.rule ≡ book.old.rule }
-{
-    match book.prepare(rt.alloc(), plan) {
-        Err(Refusal::Stale { in_force }) => {
-            in_force.version() == version && in_force.prices() == prices
-        }
-        _ => false,
-    }
-}
-
 /// Whether an entry has no logs.
 fn is_empty(entry: &Entry) -> bool {
     entry.cutting.logs.is_empty() && entry.worth == 0

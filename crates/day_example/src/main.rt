@@ -1,5 +1,6 @@
 //! A day of one harvester, as a user of the libraries writes it: from the bytes of an instruction file and a stem file
-//! to the best cutting of the first stem, and then a book over all stems, with the prices that it makes on the way.
+//! to the best cutting of the first stem, and then a book over all stems, with the prices that it makes on the way, and
+//! with new targets in the middle.
 #![tactic(auto)]
 
 mod texts;
@@ -8,7 +9,7 @@ ghost use Rattle.std.specs.Prelude.{◌≡◌};
 ghost use Rattle.buck_rule.specs.Stored.{Answers};
 
 use buck_apt::{AptFault, read_apt};
-use buck_book::{Book, Plan, Refusal};
+use buck_book::{Book, DemandRefusal, Plan, Refusal};
 use buck_dp::{Cutting, best};
 use buck_record::Memory;
 use buck_rule::{Rule, Standing, step};
@@ -18,7 +19,7 @@ use std::alloc::AllocError;
 use std::io;
 use std::process::ExitCode;
 use std::sync::Arc;
-use texts::{INSTRUCTION, STEMS};
+use texts::{INSTRUCTION, STEMS, TARGETS};
 use thiserror::Error;
 
 /// Why the day ends early.
@@ -30,6 +31,8 @@ enum DayFault {
     Stems(#[from] StmFault),
     #[error("a plan is refused: {0}")]
     Plan(#[from] Refusal),
+    #[error("new targets are refused: {0}")]
+    Demand(#[from] DemandRefusal),
     #[error(transparent)]
     Memory(#[from] Memory),
     #[error(transparent)]
@@ -85,7 +88,23 @@ fn cut<F: Fn(&Standing) -> u64 + Drop>(
     print_logs(rt, &entry.cutting)
 }
 
-/// Cuts all stems, one after the other.
+/// Puts new targets in force for harvester 1, and prints the demand.
+fn demand<F: Fn(&Standing) -> u64 + Drop>(
+    rt: &HostRuntime,
+    book: &mut Book<F>,
+    targets: &[u32],
+) -> Result<(), DayFault>
+    requires { Answers F.Fn book.old.rule }
+    ensures { book.new.rule ≡ book.old.rule }
+{
+    let targets = Arc::new(rt.alloc(), Vec::from_slice(rt.alloc(), targets)?)?;
+    let ready = book.prepare_demand(rt.alloc(), &targets)?;
+    let demand = book.commit_demand(ready, 1);
+    println!(rt; "demand {} ends sheet {}", demand.number, demand.version)?;
+    Ok(())
+}
+
+/// Cuts all stems, one after the other; before the seventh the mill changes its mind.
 fn cut_all<F: Fn(&Standing) -> u64 + Drop>(
     rt: &HostRuntime,
     book: &mut Book<F>,
@@ -95,6 +114,9 @@ fn cut_all<F: Fn(&Standing) -> u64 + Drop>(
     ensures { book.new.rule ≡ book.old.rule }
 {
     for stem in stems {
+        if book.len() == 6 {
+            demand(rt, book, TARGETS.as_slice())?;
+        }
         cut(rt, book, Arc::new(rt.alloc(), stem)?)?;
     }
     Ok(())

@@ -13,6 +13,9 @@ pub const INSTRUCTION: &str = "1 2 APT~901 1 100~902 1 4~903 1 250~910 1 2~
 916 1 2500 3000~917 1 220 230~918 1 1 1~
 ";
 
+/// What the mill wants from the seventh stem on: the longest saw logs of the two thicker classes, and little pulpwood.
+pub const TARGETS: [u32; 11] = [0, 0, 0, 0, 0, 10, 0, 0, 10, 1, 1];
+
 /// Twelve stems of pine, with diameters in mm, one for each 100 mm from the butt. Every third has grade 2 from a place
 /// on.
 pub const STEMS: &str = "1 2 STM~

@@ -1,17 +1,57 @@
 -- What holds while the prices of a next sheet are made.
-use Rattle.std.specs.Prelude.{◌≡◌, ℕ, ◌<◌, List, length, slice_get, Some}
+use Rattle.std.specs.Prelude.{◌≡◌, ℕ, ◌<◌, ◌≤◌, List, length, slice_index, slice_get, Some}
+use Rattle.std.specs.Fn.{FnReturnsAt}
+use denote.Ref.{Bor}
+use denote.Param.Members.{Shared}
 use Rattle.buck_apt.specs.declared.class.Class.{Class}
-use Rattle.buck_apt.specs.Instruction.{InstructionParts, AssortmentParts, classes}
-use Rattle.buck_book.specs.Pricing.{CanStand}
+use Rattle.buck_apt.specs.Instruction.{InstructionParts, AssortmentParts, IsInstruction, IsClass, classes, index_of}
+use Rattle.buck_rule.specs.declared.standing.Standing.{Standing}
+use Rattle.buck_rule.specs.Relation.{Meets}
+use Rattle.buck_value.specs.Sheet.{SheetParts, sheet_of, IsPriceAt}
+use Rattle.buck_book.specs.Targets.{AreTargets}
+use Rattle.buck_book.specs.History.{standing_at}
 
--- prices can be made by running counts: there is one for each class and each assortment, and they can be a history's
-pub record CanPrice (i : InstructionParts) (by_class by_assortment : List ℕ) : Type 0 where
-  pub classes_number : length by_class ≡ classes i
-  pub assortments_number : length by_assortment ≡ length i.assortments
-  pub stand : CanStand i by_class by_assortment
+-- what prices are made by: targets, and running counts
+pub record StandingsParts : Type 0 where
+  pub instruction : InstructionParts
+  pub targets : List ℕ
+  pub by_class : List ℕ
+  pub by_assortment : List ℕ
+
+-- prices can be made: the targets are valid, there is a count for each class and each assortment, no class has more logs than its assortment, and no assortment too many
+pub record CanPrice (s : StandingsParts) : Type 0 where
+  pub valid : IsInstruction s.instruction
+  pub targets : AreTargets s.instruction s.targets
+  pub classes_number : length s.by_class ≡ classes s.instruction
+  pub assortments_number : length s.by_assortment ≡ length s.instruction.assortments
+  pub class_within : (c : Class) → IsClass s.instruction c
+      → slice_index s.by_class (index_of s.instruction c) ≤ slice_index s.by_assortment c.assortment
+  pub bounded : (a : ℕ) → slice_index s.by_assortment a ≤ 80000000
+
+-- how a class stands by them
+abbrev pub standing_by : StandingsParts → AssortmentParts → Class → Standing
+standing_by s a c =
+    standing_at s.instruction a c s.targets (slice_index s.by_class (index_of s.instruction c)) (slice_index s.by_assortment c.assortment)
 
 -- the class is one of this assortment of the instruction
 pub record IsClassOf (i : InstructionParts) (a : AssortmentParts) (c : Class) : Type 0 where
   pub exists : slice_get i.assortments c.assortment ≡ Some a
   pub row : c.row < length a.diameters
   pub column : c.column < length a.lengths
+
+-- a price that the closure can give to a standing, and that keeps the price relation with it
+pub record IsAnswer {F : Type 0} (g : Shared F (Bor Standing × Unit {0}) ℕ) (f : F) (s : Standing) (price : ℕ) : Type 0 where
+  pub given : FnReturnsAt g f s price
+  pub met : Meets s price
+
+-- the first classes have prices: each is the closure's answer to its class's standing, within its span
+pub record ArePriced {F : Type 0} (g : Shared F (Bor Standing × Unit {0}) ℕ) (f : F) (s : StandingsParts) (prices : List ℕ) : Type 0 where
+  pub answered : (c : Class) (k : IsClass s.instruction c) → index_of s.instruction c < length prices
+      → IsAnswer g f (standing_by s k.assortment c) (slice_index prices (index_of s.instruction c))
+  pub in_span : (k : ℕ) → k < length prices → IsPriceAt s.instruction prices k
+
+-- a sheet of a version, whose prices are answers to how the classes stand
+pub record IsPricedSheet {F : Type 0} (g : Shared F (Bor Standing × Unit {0}) ℕ) (f : F) (s : StandingsParts) (version : ℕ) (x : SheetParts) : Type 0 where
+  pub made : x ≡ sheet_of version s.instruction x.prices
+  pub one_each : length x.prices ≡ classes s.instruction
+  pub priced : ArePriced g f s x.prices

@@ -1,5 +1,5 @@
 use Rattle.std.proofs.Common.{◌≡◌, take}
-use Rattle.buck_book.specs.Running.{tally_of}
+use Rattle.buck_book.specs.Book.{tally_of}
 use Rattle.buck_book.proofs.book.places_of.Given as goal
 
 abbrev pub invariant-loop-log : goal.invariant-loop-log

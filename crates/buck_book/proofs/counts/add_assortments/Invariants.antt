@@ -1,5 +1,5 @@
 use Rattle.std.proofs.Common.{take}
-use Rattle.buck_book.specs.Running.{AreGrownBy}
+use Rattle.buck_book.specs.inner.Running.{AreGrownBy}
 use Rattle.buck_book.proofs.counts.add_assortments.Given as goal
 
 abbrev pub invariant-loop-log : goal.invariant-loop-log

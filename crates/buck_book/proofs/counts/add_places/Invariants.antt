@@ -1,5 +1,5 @@
 use Rattle.std.proofs.Common.{take}
-use Rattle.buck_book.specs.Running.{AreGrown}
+use Rattle.buck_book.specs.inner.Running.{AreGrown}
 use Rattle.buck_book.proofs.counts.add_places.Given as goal
 
 abbrev pub invariant-loop-place : goal.invariant-loop-place

@@ -9,5 +9,5 @@ returns-clause-more g c =
     let rows : c.loop-row.row ≡ length a.diameters =
     omega (arith, c.loop-row-test.false, c.loop-row.auto.row-end, ap (λ xs. length xs) c.diameters-row-end.ensures.limits) in
     c.loop-row.invariant.next
-    ∙ ap (λ r. classes_before c.args.instruction.now c.args.at + r * length a.lengths) rows
-    ∙ sym (before_next c.args.instruction.now a c.args.at c.requires.exists)
+    ∙ ap (λ r. classes_before c.args.standings.now.instruction c.args.at + r * length a.lengths) rows
+    ∙ sym (before_next c.args.standings.now.instruction a c.args.at c.requires.exists)

@@ -1,11 +1,11 @@
 use Rattle.std.proofs.Common.{◌≡◌, ◌+◌}
 use Rattle.std.specs.Prelude.{vec_len}
 use Rattle.buck_apt.specs.Instruction.{index_of}
-use Rattle.buck_book.specs.Pricing.{ArePriced}
+use Rattle.buck_book.specs.inner.Pricing.{ArePriced}
 use Rattle.buck_book.proofs.pricing.add_row.Given as goal
 
 abbrev pub invariant-loop-column : goal.invariant-loop-column
 invariant-loop-column g l = record {
-  next : vec_len l.prices ≡ index_of l.instruction l.first + l.column;
-  priced : ArePriced g.F.Fn l.rule l.instruction l.counts.by_class.items l.counts.by_assortment.items l.prices.items;
+  next : vec_len l.prices ≡ index_of l.standings.instruction l.first + l.column;
+  priced : ArePriced g.F.Fn l.rule l.standings l.prices.items;
 }

@@ -1,0 +1,107 @@
+-- Ends, and the targets in force, of longer and of shorter lists of postings.
+use Rattle.std.proofs.Common.{◌≡◌, ◌≢◌, ℕ, zero, suc, ◌+◌, ◌<◌, ◌≤◌, true, false, cond, inl, inr, List, [], ◌∷◌, ◌++◌, length, take, drop, slice_get, Some, refl, sym, ◌∙◌, ap, arith, eq-eqb}
+use Rattle.std.proofs.lemmas.Bool.{cases_Bool, false_from_ne_true}
+use Rattle.std.proofs.lemmas.List.{take_more}
+use Rattle.std.proofs.lemmas.Option.{slice_get_within, get_or_from_slice_get}
+use Rattle.buck_apt.specs.Instruction.{InstructionParts}
+use Rattle.buck_book.specs.declared.posting.Posting.{Posting}
+use Rattle.buck_book.specs.declared.posting.Posting.TheVariants.{Cut, Demand}
+use Rattle.buck_book.specs.Posting.{is_end, ends_from, cuts_from, ends_of, cuts_since_end, targets_after}
+use Rattle.buck_book.specs.History.{IsEnd}
+
+pub true_false : true ≡ false → ⊥
+true_false e = absurd (cc)
+
+pub take_then_drop : {X : Type 0} (k : ℕ) (xs : List X) → take k xs ++ drop k xs ≡ xs
+take_then_drop zero xs = refl
+take_then_drop (suc k) [] = refl
+take_then_drop (suc k) (x ∷ xs) = ap (λ ys. x ∷ ys) (take_then_drop k xs)
+
+-- the first postings and the next one
+pub take_one_more : {X : Type 0} (xs : List X) (k : ℕ) (x : X) → slice_get xs k ≡ Some x → take (k + 1) xs ≡ take k xs ++ x ∷ []
+take_one_more xs k x at = take_more xs k x (slice_get_within xs k x at) ∙ ap (λ y. take k xs ++ y ∷ []) (get_or_from_slice_get xs k x x at)
+
+module _ (p n : ℕ) (x : Posting) (xs : List Posting) where
+  pub ends_yes : is_end p n x ≡ true → ends_from p n (x ∷ xs) ≡ 1 + ends_from p 0 xs
+  ends_yes e = ap (λ b. cond b (1 + ends_from p 0 xs) (ends_from p (n + 1) xs)) e
+
+  pub ends_no : is_end p n x ≡ false → ends_from p n (x ∷ xs) ≡ ends_from p (n + 1) xs
+  ends_no e = ap (λ b. cond b (1 + ends_from p 0 xs) (ends_from p (n + 1) xs)) e
+
+  pub cuts_yes : is_end p n x ≡ true → cuts_from p n (x ∷ xs) ≡ cuts_from p 0 xs
+  cuts_yes e = ap (λ b. cond b (cuts_from p 0 xs) (cuts_from p (n + 1) xs)) e
+
+  pub cuts_no : is_end p n x ≡ false → cuts_from p n (x ∷ xs) ≡ cuts_from p (n + 1) xs
+  cuts_no e = ap (λ b. cond b (cuts_from p 0 xs) (cuts_from p (n + 1) xs)) e
+
+pub ends-append : (p n : ℕ) (xs ys : List Posting) → ends_from p n (xs ++ ys) ≡ ends_from p n xs + ends_from p (cuts_from p n xs) ys
+ends-append p n [] ys = omega arith
+ends-append p n (x ∷ xs) ys = elim (cases_Bool (is_end p n x)) [
+  | inl yes_ ↦
+      ends_yes p n x (xs ++ ys) yes_
+      ∙ ap (λ k. 1 + k) (ends-append p 0 xs ys)
+      ∙ omega arith
+      ∙ (λ j. sym (ends_yes p n x xs yes_) j + ends_from p (sym (cuts_yes p n x xs yes_) j) ys)
+  | inr no_ ↦
+      ends_no p n x (xs ++ ys) no_
+      ∙ ends-append p (n + 1) xs ys
+      ∙ (λ j. sym (ends_no p n x xs no_) j + ends_from p (sym (cuts_no p n x xs no_) j) ys)
+]
+
+pub cuts-append : (p n : ℕ) (xs ys : List Posting) → cuts_from p n (xs ++ ys) ≡ cuts_from p (cuts_from p n xs) ys
+cuts-append p n [] ys = refl
+cuts-append p n (x ∷ xs) ys = elim (cases_Bool (is_end p n x)) [
+  | inl yes_ ↦ cuts_yes p n x (xs ++ ys) yes_ ∙ cuts-append p 0 xs ys ∙ ap (λ k. cuts_from p k ys) (sym (cuts_yes p n x xs yes_))
+  | inr no_ ↦ cuts_no p n x (xs ++ ys) no_ ∙ cuts-append p (n + 1) xs ys ∙ ap (λ k. cuts_from p k ys) (sym (cuts_no p n x xs no_))
+]
+
+module _ (i : InstructionParts) (ps : List Posting) (x : Posting) where
+  pub ends_with_end : IsEnd i ps x → ends_of i (ps ++ x ∷ []) ≡ ends_of i ps + 1
+  ends_with_end e = ends-append i.period 0 ps (x ∷ []) ∙ ap (λ k. ends_of i ps + k) (ends_yes i.period (cuts_since_end i ps) x [] e)
+
+  pub ends_without : (IsEnd i ps x → ⊥) → ends_of i (ps ++ x ∷ []) ≡ ends_of i ps
+  ends_without e =
+      ends-append i.period 0 ps (x ∷ [])
+      ∙ ap (λ k. ends_of i ps + k) (ends_no i.period (cuts_since_end i ps) x [] (false_from_ne_true (is_end i.period (cuts_since_end i ps) x) e))
+      ∙ omega arith
+
+  pub cuts_with_end : IsEnd i ps x → cuts_since_end i (ps ++ x ∷ []) ≡ 0
+  cuts_with_end e = cuts-append i.period 0 ps (x ∷ []) ∙ cuts_yes i.period (cuts_since_end i ps) x [] e
+
+  pub cuts_without : (IsEnd i ps x → ⊥) → cuts_since_end i (ps ++ x ∷ []) ≡ cuts_since_end i ps + 1
+  cuts_without e =
+      cuts-append i.period 0 ps (x ∷ [])
+      ∙ cuts_no i.period (cuts_since_end i ps) x [] (false_from_ne_true (is_end i.period (cuts_since_end i ps) x) e)
+
+-- fewer postings have no more ends
+pub ends_take-le : (i : InstructionParts) (ps : List Posting) (k : ℕ) → ends_of i (take k ps) ≤ ends_of i ps
+ends_take-le i ps k = omega (arith, ends-append i.period 0 (take k ps) (drop k ps), ap (λ xs. ends_of i xs) (take_then_drop k ps))
+
+-- an end within some postings is counted
+pub ends_past : (i : InstructionParts) (ps : List Posting) (k : ℕ) (x : Posting) → slice_get ps k ≡ Some x → IsEnd i (take k ps) x → ends_of i (take k ps) + 1 ≤ ends_of i ps
+ends_past i ps k x at e =
+    omega (arith, ends_take-le i ps (k + 1), ap (λ xs. ends_of i xs) (take_one_more ps k x at), ends_with_end i (take k ps) x e)
+
+pub ends-le : (p n : ℕ) (ps : List Posting) → ends_from p n ps ≤ length ps
+ends-le p n [] = omega arith
+ends-le p n (x ∷ xs) = elim (cases_Bool (is_end p n x)) [
+  | inl yes_ ↦ omega (arith, ends_yes p n x xs yes_, ends-le p 0 xs)
+  | inr no_ ↦ omega (arith, ends_no p n x xs no_, ends-le p (n + 1) xs)
+]
+
+still_low : (p n : ℕ) (x : Posting) → n < p → is_end p n x ≡ false → n + 1 < p
+still_low p n (Cut e) lt no_ = let ne : n + 1 ≢ p = λ z. true_false (sym (eq-eqb (n + 1) p z) ∙ no_) in omega arith
+still_low p n (Demand d) lt no_ = absurd (true_false no_)
+
+-- a period has fewer cuts than make it full
+pub cuts_low : (p n : ℕ) (ps : List Posting) → 0 < p → n < p → cuts_from p n ps < p
+cuts_low p n [] pos lt = lt
+cuts_low p n (x ∷ xs) pos lt = elim (cases_Bool (is_end p n x)) [
+  | inl yes_ ↦ omega (arith, cuts_yes p n x xs yes_, cuts_low p 0 xs pos pos)
+  | inr no_ ↦ omega (arith, cuts_no p n x xs no_, cuts_low p (n + 1) xs pos (still_low p n x lt no_))
+]
+
+pub targets-append : (ts : List ℕ) (xs ys : List Posting) → targets_after ts (xs ++ ys) ≡ targets_after (targets_after ts xs) ys
+targets-append ts [] ys = refl
+targets-append ts (Cut e ∷ xs) ys = targets-append ts xs ys
+targets-append ts (Demand d ∷ xs) ys = targets-append d.targets xs ys

@@ -1,0 +1,91 @@
+//! Postings of a history: cuts and demands.
+ghost use Rattle.std.specs.Prelude.{◌≡◌, ◌↔◌, IfOk, IsTrue};
+
+use crate::entry::Entry;
+use buck_record::Memory;
+use std::marker::Model;
+use std::sync::Arc;
+
+/// New targets that come into force.
+#[derive(Drop)]
+pub struct Demand {
+    /// Who put them in force, 1 to 64.
+    pub harvester: u32,
+    /// Which of its harvester's calls it is, from 1.
+    pub number: u32,
+    /// The version in force before it. The next one begins after it.
+    pub version: u32,
+    /// What is wanted of each class from here on, in logs: assortment by assortment, row by row.
+    pub targets: Arc<Vec<u32>>,
+}
+
+impl Model for Demand {
+    ghost use Rattle.buck_book.specs.Entry.{DemandParts};
+
+    ghost Value = { DemandParts };
+
+    ghost view = { λ d. record { harvester = d.harvester; number = d.number; version = d.version; targets = d.targets.value.items } };
+}
+
+/// What stands in a history.
+#[derive(Drop)]
+pub enum Posting {
+    /// A stem was cut.
+    Cut(Entry),
+    /// New targets came into force.
+    Demand(Demand),
+}
+
+impl Demand {
+    /// A second demand of the same value, which shares the targets. Refused as `Memory` alone.
+    pub fn clone(&self) -> Result<Demand, Memory>
+        ensures { IfOk result (λ d. d ≡ self.now) }
+    {
+        let targets = self.targets.clone()?;
+        Ok(Demand {
+            harvester: self.harvester,
+            number: self.number,
+            version: self.version,
+            targets,
+        })
+    }
+
+    /// Whether all parts are equal: the targets too.
+    pub fn same(&self, other: &Demand) -> bool
+        ensures { IsTrue result ↔ (self.now ≡ other.now) }
+    {
+        if self.harvester != other.harvester {
+            return false;
+        }
+        if self.number != other.number {
+            return false;
+        }
+        if self.version != other.version {
+            return false;
+        }
+        self.targets.as_slice() == other.targets.as_slice()
+    }
+}
+
+impl Posting {
+    /// A second posting of the same value, which shares what the first holds. Refused as `Memory` alone.
+    pub fn clone(&self) -> Result<Posting, Memory>
+        ensures { IfOk result (λ x. x ≡ self.now) }
+    {
+        match self {
+            Posting::Cut(entry) => Ok(Posting::Cut(entry.clone()?)),
+            Posting::Demand(demand) => Ok(Posting::Demand(demand.clone()?)),
+        }
+    }
+
+    /// Whether all parts are equal.
+    pub fn same(&self, other: &Posting) -> bool
+        ensures { IsTrue result ↔ (self.now ≡ other.now) }
+    {
+        match (self, other) {
+            (Posting::Cut(one), Posting::Cut(two)) => one.same(two),
+            (Posting::Demand(one), Posting::Demand(two)) => one.same(two),
+            _ => false,
+        }
+    }
+}

@@ -1,0 +1,99 @@
+//! Which targets may come into force.
+ghost use Rattle.std.specs.Prelude.{◌≡◌, ℕ, ◌+◌, ◌<◌, ◌≤◌, IfSome, IfNone, IfErr, OnOk, EachIndex, length, take, drop, sum, slice_get, slice_index, Some};
+ghost use Rattle.buck_apt.specs.Instruction.{IsInstruction, classes, classes_of, classes_before};
+ghost use Rattle.buck_book.specs.Targets.{AreTargets, IsTargetsFault, IsLowAt, IsLowSumAt, targets_sum};
+
+use buck_apt::{Assortment, Instruction};
+use thiserror::Error;
+
+/// What is wrong with targets.
+#[derive(Clone, Copy, Debug, PartialEq, Eq, Error)]
+pub enum TargetsFault {
+    /// There isn't one target for each class.
+    #[error("there is not one target for each class")]
+    Count,
+    /// The target of this class, counted from 0, is above 1,000,000; none before it is.
+    #[error("the target of class {at} is above 1000000")]
+    Range { at: usize },
+    /// The targets of this assortment, counted from 0, are together above 1,000,000,000; those of none before it are.
+    #[error("the targets of assortment {assortment} are together above 1000000000")]
+    Sum { assortment: usize },
+}
+
+/// The first class whose target is above 1,000,000.
+fn first_above(targets: &[u32]) -> Option<usize>
+    ensures found { IfSome result (λ at.
+        (at < length targets.now)
+        × (IsLowAt targets.now at → ⊥)
+        × ((k : ℕ) → k < at → IsLowAt targets.now k)) }
+    ensures none { IfNone result (EachIndex targets.now (λ k. IsLowAt targets.now k)) }
+{
+    for at in 0..targets.len() {
+        if targets[at] > 1_000_000 {
+            return Some(at);
+        }
+    }
+    None
+}
+
+/// All of some targets together.
+fn sum_of(targets: &[u32]) -> u64
+    requires few { length targets.now ≤ 1024 }
+    ensures { result ≡ sum targets.now }
+{
+    let mut all = 0;
+    for target in targets {
+        all += u64::from(*target);
+    }
+    all
+}
+
+/// What is wanted of an assortment, over all its classes, of which the first stands at a place among all classes.
+pub fn targets_sum(assortment: &Assortment, first: usize, targets: &[u32]) -> u64
+    requires first { first + classes_of assortment.now ≤ length targets.now }
+    ensures { result ≡ sum (take (classes_of assortment.now) (drop first targets.now)) }
+{
+    sum_of(&targets[first..first + assortment.classes()])
+}
+
+/// The first assortment whose targets are together above 1,000,000,000.
+fn first_sum_above(instruction: &Instruction, targets: &[u32]) -> Option<usize>
+    requires { length targets.now ≡ classes instruction.now }
+    ensures found { IfSome result (λ at.
+        (at < length instruction.now.assortments)
+        × (IsLowSumAt instruction.now targets.now at → ⊥)
+        × ((k : ℕ) → k < at → IsLowSumAt instruction.now targets.now k)) }
+    ensures none { IfNone result
+        (EachIndex instruction.now.assortments (λ at. IsLowSumAt instruction.now targets.now at)) }
+{
+    let assortments = instruction.assortments();
+    let mut first = 0;
+    for at in 0..assortments.len() {
+        let assortment = &assortments[at];
+        if targets_sum(assortment, first, targets) > 1_000_000_000 {
+            return Some(at);
+        }
+        first += assortment.classes();
+    }
+    None
+}
+
+/// Whether targets may come into force: one for each class of the instruction, assortment by assortment and row by
+/// row, each at most 1,000,000, and those of an assortment together at most 1,000,000,000. Refused as `Count`, else as
+/// `Range` with the least class, else as `Sum` with the least assortment. It takes no memory.
+pub fn check_targets(instruction: &Instruction, targets: &[u32]) -> Result<(), TargetsFault>
+    ensures valid { OnOk result (AreTargets instruction.now targets.now) }
+    ensures refused { IfErr result (IsTargetsFault instruction.now targets.now) }
+{
+    if targets.len() != instruction.classes() {
+        return Err(TargetsFault::Count);
+    }
+    match first_above(targets) {
+        Some(at) => return Err(TargetsFault::Range { at }),
+        None => {}
+    }
+    match first_sum_above(instruction, targets) {
+        Some(assortment) => Err(TargetsFault::Sum { assortment }),
+        None => Ok(()),
+    }
+}
