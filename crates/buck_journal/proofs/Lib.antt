@@ -1,0 +1,4 @@
+pub mod Tuples
+pub mod Limits
+pub mod Walk
+pub mod Stages

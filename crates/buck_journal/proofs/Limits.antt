@@ -1,0 +1,65 @@
+-- Numbers that passed the tests are within the limits of a stem.
+use Rattle.std.proofs.Common.{◌≡◌, ℕ, ◌+◌, ◌*◌, ◌≤◌, true, List, [], ◌∷◌, length, get_or, arith}
+use Rattle.std.specs.List.{AllByRecursion}
+use Rattle.std.proofs.lemmas.List.Elements.{All-from_recursion}
+use Rattle.std.proofs.lemmas.List.Sums.{AllPass-from_list_all}
+use Rattle.buck_record.specs.Rules.{within, all_within}
+use Rattle.buck_record.proofs.PassLemmas.{both, within_ok}
+use Rattle.buck_stem.specs.Stem.{IsStem, IsGrade, IsRisingFrom, stem_of}
+use Rattle.buck_stem.specs.Stm.{zones_of}
+use Rattle.buck_journal.specs.Journal.{is_zone, are_zones}
+use Rattle.buck_journal.specs.inner.Limits.{AreSamples, AreZones}
+
+half : (ns : List ℕ) → length (zones_of ns) * 2 ≤ length ns
+half [] = omega arith
+half (s ∷ []) = omega arith
+half (s ∷ g ∷ more) = omega (arith, half more)
+
+-- the first zone, and the rest
+first : (low s g : ℕ) (more : List ℕ) → are_zones low (s ∷ g ∷ more) ≡ true
+    → ((low ≤ s) × (s ≤ 40000)) × ((1 ≤ g) × (g ≤ 8)) × (are_zones (s + 1) more ≡ true)
+first low s g more h =
+    let p = both (is_zone low s g) (are_zones (s + 1) more) h in
+    let q = both (within low 40000 s) (within 1 8 g) p.0 in
+    (within_ok low 40000 s q.0, within_ok 1 8 g q.1, p.1)
+
+started : (low : ℕ) (ns : List ℕ) → are_zones low ns ≡ true → AllByRecursion (λ (z : ℕ × ℕ). z.0 ≤ 40000) (zones_of ns)
+started low [] h = tt
+started low (s ∷ []) h = tt
+started low (s ∷ g ∷ more) h = let p = first low s g more h in (p.0.1, started (s + 1) more p.2)
+
+graded : (low : ℕ) (ns : List ℕ) → are_zones low ns ≡ true → AllByRecursion (λ (z : ℕ × ℕ). IsGrade z.1) (zones_of ns)
+graded low [] h = tt
+graded low (s ∷ []) h = tt
+graded low (s ∷ g ∷ more) h = let p = first low s g more h in (p.1, graded (s + 1) more p.2)
+
+risen : (low : ℕ) (ns : List ℕ) → are_zones low ns ≡ true → IsRisingFrom low (zones_of ns)
+risen low [] h = tt
+risen low (s ∷ []) h = tt
+risen low (s ∷ g ∷ more) h = let p = first low s g more h in (p.0.0, risen (s + 1) more p.2)
+
+pub are_zones_ok : (ns : List ℕ) → length ns ≤ 200 → are_zones 0 ns ≡ true → AreZones (zones_of ns)
+are_zones_ok ns few h = record {
+  zones_number = omega (arith, half ns, few);
+  starts_range = All-from_recursion _ (zones_of ns) (started 0 ns h);
+  starts_rise = risen 0 ns h;
+  grades_range = All-from_recursion _ (zones_of ns) (graded 0 ns h);
+}
+
+pub are_samples_ok : (ns : List ℕ) → within 1 401 (length ns) ≡ true → all_within 0 1500 ns ≡ true → AreSamples ns
+are_samples_ok ns counted h = record {
+  samples_number = within_ok 1 401 (length ns) counted;
+  samples_range = λ k d lt. (within_ok 0 1500 (get_or ns k d) (AllPass-from_list_all (within 0 1500) ns h k d lt)).1;
+}
+
+pub is_stem_ok : (number species : ℕ) (samples : List ℕ) (zones : List (ℕ × ℕ)) → (1 ≤ species) → (species ≤ 255)
+    → AreSamples samples → AreZones zones → IsStem (stem_of number species samples zones)
+is_stem_ok number species samples zones low high s z = record {
+  species = (low, high);
+  samples_number = s.samples_number;
+  samples_range = s.samples_range;
+  zones_number = z.zones_number;
+  starts_range = z.starts_range;
+  starts_rise = z.starts_rise;
+  grades_range = z.grades_range;
+}

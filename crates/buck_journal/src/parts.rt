@@ -1,0 +1,204 @@
+//! The stem, the logs and the postings of a journal's items.
+ghost use Rattle.std.specs.Prelude.{◌≡◌, ◌≤◌, ◌<◌, ◌+◌, IfOk, length, true, Ok};
+ghost use Rattle.buck_record.specs.Reading.{Gives, listed};
+ghost use Rattle.buck_record.specs.Rules.{slot, all_within};
+ghost use Rattle.buck_stem.specs.Stem.{IsStem, stem_of};
+ghost use Rattle.buck_stem.specs.Stm.{zones_of};
+ghost use Rattle.buck_journal.specs.declared.fault.JournalFault.TheVariants.{Memory};
+ghost use Rattle.buck_journal.specs.inner.Limits.{AreSamples, AreZones};
+ghost use Rattle.buck_journal.specs.Journal.{samples_at, is_zone, are_zones, zones_at, is_log, are_logs, logs_of, logs_at, stem_at};
+
+use crate::fault::JournalFault;
+use crate::items::{head_at, numbers_at};
+use buck_record::check::check;
+use buck_record::rules::{all_within, within};
+use buck_record::{Piece, Slot};
+use buck_stem::Stem;
+use buck_value::Log;
+use std::alloc::{AllocError, Global};
+
+/// The samples as they are kept.
+fn samples_of(alloc: Global, numbers: &[u32]) -> Result<Vec<u16>, AllocError>
+    requires { all_within 0 1500 numbers.now ≡ true }
+    ensures { IfOk result (λ samples. samples.items ≡ numbers.now) }
+{
+    let mut samples = Vec::with_capacity(alloc, numbers.len())?;
+    for number in numbers {
+        samples.push(*number as u16)?;
+    }
+    Ok(samples)
+}
+
+/// The diameters of a stem.
+#[tactic(auto, using(crate::proofs::Limits::are_samples_ok), unfolding(crate::specs::Journal::samples_at))]
+pub(crate) fn samples_at<'a>(
+    alloc: Global,
+    items: &'a [Piece<'a>],
+    k: usize,
+) -> Result<Vec<u16>, JournalFault>
+    requires { k ≤ length items.now + 5 }
+    ensures value { Gives Memory (listed result) (samples_at items.now k) }
+    ensures valid { IfOk result (λ samples. AreSamples samples.items) }
+{
+    let slot = Slot {
+        number: 981,
+        kind: 3,
+    };
+    let numbers = numbers_at(alloc, slot, items, k)?;
+    if !within(1, 401, numbers.len()) {
+        return Err(JournalFault::Count { item: k + 1 });
+    }
+    if !all_within(0, 1500, numbers.as_slice()) {
+        return Err(JournalFault::Range { item: k + 1 });
+    }
+    Ok(samples_of(alloc, numbers.as_slice())?)
+}
+
+fn is_zone(low: u32, start: u32, grade: u32) -> bool
+    ensures { result ≡ is_zone low start grade }
+{
+    low <= start && start <= 40_000 && 1 <= grade && grade <= 8
+}
+
+fn is_log(start: u32, length: u32, assortment: u32) -> bool
+    ensures { result ≡ is_log start length assortment }
+{
+    start <= 40_000 && length <= 30_000 && assortment <= 15
+}
+
+/// Whether starts rise and are at most 40,000, and grades are from 1 to 8.
+fn are_zones(numbers: &[u32]) -> bool
+    ensures { result ≡ are_zones 0 numbers.now }
+{
+    let mut low = 0;
+    for k in 0..numbers.len() / 2 {
+        let start = numbers[2 * k];
+        if !is_zone(low, start, numbers[2 * k + 1]) {
+            return false;
+        }
+        low = start + 1;
+    }
+    true
+}
+
+/// Starts and grades, two by two.
+fn zones_of(alloc: Global, numbers: &[u32]) -> Result<Vec<(u32, u8)>, AllocError>
+    requires { are_zones 0 numbers.now ≡ true }
+    ensures { IfOk result (λ zones. zones.items ≡ zones_of numbers.now) }
+{
+    let mut zones = Vec::with_capacity(alloc, numbers.len() / 2)?;
+    for k in 0..numbers.len() / 2 {
+        zones.push((numbers[2 * k], numbers[2 * k + 1] as u8))?;
+    }
+    Ok(zones)
+}
+
+/// The zones of a stem.
+#[tactic(auto, using(crate::proofs::Limits::are_zones_ok), unfolding(crate::specs::Journal::zones_at))]
+pub(crate) fn zones_at<'a>(
+    alloc: Global,
+    items: &'a [Piece<'a>],
+    k: usize,
+) -> Result<Vec<(u32, u8)>, JournalFault>
+    requires { k ≤ length items.now + 5 }
+    ensures value { Gives Memory (listed result) (zones_at items.now k) }
+    ensures valid { IfOk result (λ zones. AreZones zones.items) }
+{
+    let slot = Slot {
+        number: 981,
+        kind: 4,
+    };
+    let numbers = numbers_at(alloc, slot, items, k)?;
+    check(numbers.len() % 2 == 0, JournalFault::Count { item: k + 1 })?;
+    if numbers.len() > 200 {
+        return Err(JournalFault::Count { item: k + 1 });
+    }
+    if !are_zones(numbers.as_slice()) {
+        return Err(JournalFault::Range { item: k + 1 });
+    }
+    Ok(zones_of(alloc, numbers.as_slice())?)
+}
+
+/// Whether starts, lengths and assortments are in range.
+fn are_logs(numbers: &[u32]) -> bool
+    ensures { result ≡ are_logs numbers.now }
+{
+    for k in 0..numbers.len() / 3 {
+        if !is_log(numbers[3 * k], numbers[3 * k + 1], numbers[3 * k + 2]) {
+            return false;
+        }
+    }
+    true
+}
+
+/// Starts, lengths and assortments, three by three.
+fn logs_of(alloc: Global, numbers: &[u32]) -> Result<Vec<Log>, AllocError>
+    requires { are_logs numbers.now ≡ true }
+    ensures { IfOk result (λ logs. logs.items ≡ logs_of numbers.now) }
+{
+    let mut logs = Vec::with_capacity(alloc, numbers.len() / 3)?;
+    for k in 0..numbers.len() / 3 {
+        logs.push(Log {
+            start: numbers[3 * k],
+            length: numbers[3 * k + 1],
+            assortment: numbers[3 * k + 2] as u8,
+        })?;
+    }
+    Ok(logs)
+}
+
+/// The logs of a cutting.
+#[tactic(auto, unfolding(crate::specs::Journal::logs_at))]
+pub(crate) fn logs_at<'a>(
+    alloc: Global,
+    items: &'a [Piece<'a>],
+    k: usize,
+) -> Result<Vec<Log>, JournalFault>
+    requires { k ≤ length items.now + 5 }
+    ensures { Gives Memory (listed result) (logs_at items.now k) }
+{
+    let slot = Slot {
+        number: 981,
+        kind: 5,
+    };
+    let numbers = numbers_at(alloc, slot, items, k)?;
+    check(numbers.len() % 3 == 0, JournalFault::Count { item: k + 1 })?;
+    check(numbers.len() <= 240, JournalFault::Count { item: k + 1 })?;
+    if !are_logs(numbers.as_slice()) {
+        return Err(JournalFault::Range { item: k + 1 });
+    }
+    Ok(logs_of(alloc, numbers.as_slice())?)
+}
+
+/// The stem of parts within the limits.
+fn stem_of(
+    alloc: Global,
+    number: u32,
+    species: u8,
+    samples: Vec<u16>,
+    zones: Vec<(u32, u8)>,
+) -> Result<Stem, JournalFault>
+    requires { IsStem (stem_of number species samples.items zones.items) }
+    ensures { Gives Memory result (Ok (stem_of number species samples.items zones.items)) }
+{
+    match Stem::make(alloc, number, species, samples, zones) {
+        Ok(stem) => Ok(stem),
+        Err(_) => Err(JournalFault::Memory),
+    }
+}
+
+/// The stem of a cut.
+#[tactic(auto, using(crate::proofs::Limits::is_stem_ok), unfolding(crate::specs::Journal::stem_at))]
+pub(crate) fn stem_at<'a>(
+    alloc: Global,
+    items: &'a [Piece<'a>],
+    k: usize,
+) -> Result<Stem, JournalFault>
+    requires { k ≤ length items.now }
+    ensures { Gives Memory result (stem_at items.now k) }
+{
+    let (number, species) = head_at(alloc, items, k)?;
+    let samples = samples_at(alloc, items, k + 1)?;
+    let zones = zones_at(alloc, items, k + 2)?;
+    stem_of(alloc, number, species, samples, zones)
+}

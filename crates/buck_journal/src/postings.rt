@@ -1,0 +1,153 @@
+//! The sheets and the postings of a journal's items.
+ghost use Rattle.std.specs.Prelude.{◌≡◌, ◌<◌, ◌≤◌, ◌+◌, length, drop, map, slice_get};
+ghost use Rattle.buck_record.specs.Reading.{Gives, listed};
+ghost use Rattle.buck_journal.specs.declared.fault.JournalFault.TheVariants.{Memory};
+ghost use Rattle.buck_journal.specs.inner.Lists.{lists_in};
+ghost use Rattle.buck_journal.specs.Journal.{is_first, posting_follows, cut_at, demand_at, posting_at, sheets_from, postings_from};
+
+use crate::fault::JournalFault;
+use crate::items::{call_at, is_at, sheet_at, targets_at, worth_at};
+use crate::parts::{logs_at, stem_at};
+use buck_book::{Demand, Entry, Posting};
+use buck_dp::Cutting;
+use buck_record::check::check;
+use buck_record::{Piece, Slot};
+use std::alloc::Global;
+use std::sync::Arc;
+
+/// The first item of a cut.
+const CUT: Slot = Slot {
+    number: 981,
+    kind: 1,
+};
+
+/// The first item of a demand.
+const DEMAND: Slot = Slot {
+    number: 982,
+    kind: 1,
+};
+
+/// Whether an item begins a posting.
+fn is_first(item: &Piece<'_>) -> bool
+    ensures { result ≡ is_first item.now }
+{
+    is_at(item, CUT) || is_at(item, DEMAND)
+}
+
+/// After a posting comes the next one, or the end.
+#[tactic(auto, unfolding(crate::specs::Journal::posting_follows))]
+fn posting_follows<'a>(items: &'a [Piece<'a>], k: usize) -> Result<(), JournalFault>
+    requires { k ≤ length items.now + 6 }
+    ensures { result ≡ posting_follows items.now k }
+{
+    if k >= items.len() {
+        return Ok(());
+    }
+    check(is_first(&items[k]), JournalFault::Shape { item: k + 1 })
+}
+
+/// A cut, which so many postings come before.
+#[tactic(auto, unfolding(crate::specs::Journal::cut_at))]
+fn cut_at<'a>(
+    alloc: Global,
+    items: &'a [Piece<'a>],
+    k: usize,
+    before: usize,
+) -> Result<Posting, JournalFault>
+    requires { k < length items.now }
+    ensures { Gives Memory result (cut_at items.now k before) }
+{
+    let call = call_at(alloc, CUT, items, k, before)?;
+    let stem = stem_at(alloc, items, k + 1)?;
+    let logs = logs_at(alloc, items, k + 4)?;
+    let worth = worth_at(items, k + 5)?;
+    posting_follows(items, k + 6)?;
+    let stem = Arc::new(alloc, stem)?;
+    let cutting = Arc::new(alloc, Cutting { logs })?;
+    Ok(Posting::Cut(Entry {
+        harvester: call.harvester,
+        number: call.number,
+        stem,
+        version: call.version,
+        cutting,
+        worth,
+    }))
+}
+
+/// A demand, which so many postings come before.
+#[tactic(auto, unfolding(crate::specs::Journal::demand_at))]
+fn demand_at<'a>(
+    alloc: Global,
+    items: &'a [Piece<'a>],
+    k: usize,
+    before: usize,
+) -> Result<Posting, JournalFault>
+    requires { k < length items.now }
+    ensures { Gives Memory result (demand_at items.now k before) }
+{
+    let call = call_at(alloc, DEMAND, items, k, before)?;
+    let targets = targets_at(alloc, items, k + 1)?;
+    posting_follows(items, k + 2)?;
+    let targets = Arc::new(alloc, targets.into_vec())?;
+    Ok(Posting::Demand(Demand {
+        harvester: call.harvester,
+        number: call.number,
+        version: call.version,
+        targets,
+    }))
+}
+
+/// The posting that an item begins.
+#[tactic(auto, unfolding(crate::specs::Journal::posting_at))]
+fn posting_at<'a>(
+    alloc: Global,
+    first: &Piece<'_>,
+    items: &'a [Piece<'a>],
+    k: usize,
+    before: usize,
+) -> Result<Posting, JournalFault>
+    requires { k < length items.now }
+    ensures { Gives Memory result (posting_at first.now items.now k before) }
+{
+    if is_at(first, CUT) {
+        cut_at(alloc, items, k, before)
+    } else {
+        demand_at(alloc, items, k, before)
+    }
+}
+
+/// The prices of the sheets, up to the first posting.
+pub(crate) fn sheets_in<'a>(
+    alloc: Global,
+    items: &'a [Piece<'a>],
+) -> Result<Vec<Vec<u32>>, JournalFault>
+    ensures { Gives Memory (lists_in result) (sheets_from items.now 1 (drop 1 items.now)) }
+{
+    let mut sheets = Vec::new(alloc);
+    for k in 1..items.len() {
+        if is_first(&items[k]) {
+            return Ok(sheets);
+        }
+        let prices = sheet_at(alloc, items, k)?;
+        sheets.push(prices.into_vec())?;
+    }
+    Ok(sheets)
+}
+
+/// The postings.
+pub(crate) fn postings_in<'a>(
+    alloc: Global,
+    items: &'a [Piece<'a>],
+) -> Result<Vec<Posting>, JournalFault>
+    ensures { Gives Memory (listed result) (postings_from items.now 0 0 items.now) }
+{
+    let mut postings = Vec::new(alloc);
+    for k in 0..items.len() {
+        let item = &items[k];
+        if is_first(item) {
+            let posting = posting_at(alloc, item, items, k, postings.len())?;
+            postings.push(posting)?;
+        }
+    }
+    Ok(postings)
+}

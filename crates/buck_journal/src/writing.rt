@@ -1,0 +1,195 @@
+//! The text of a journal.
+ghost use Rattle.std.specs.Prelude.{◌≡◌, [], ◌∷◌, ◌++◌, IfOk, OnOk, codes, map};
+ghost use Rattle.std.specs.List.{flat_map};
+ghost use Rattle.buck_record.specs.Written.{spelled};
+ghost use Rattle.buck_journal.specs.Written.{item_text, zone_numbers, log_numbers, sheet_text, cut_text, demand_text, posting_text, journal_text};
+
+use buck_book::{Demand, Entry, Posting};
+use buck_record::{Memory, put_number, put_numbers};
+use buck_stem::Stem;
+use buck_value::{Log, Sheet};
+use std::alloc::Global;
+use std::sync::Arc;
+
+fn put(out: &mut Vec<u8>, text: &[u8]) -> Result<(), Memory>
+    ensures { OnOk result (out.new.items ≡ out.old.items ++ text.now) }
+{
+    out.extend_from_slice(text)?;
+    Ok(())
+}
+
+/// Puts numbers, each after a blank.
+fn put_words(out: &mut Vec<u8>, numbers: &[u32]) -> Result<(), Memory>
+    ensures { OnOk result (out.new.items ≡ out.old.items ++ spelled numbers.now) }
+{
+    for number in numbers {
+        put_number(out, u128::from(*number))?;
+    }
+    Ok(())
+}
+
+/// Puts diameters in mm, each after a blank.
+fn put_samples(out: &mut Vec<u8>, samples: &[u16]) -> Result<(), Memory>
+    ensures { OnOk result (out.new.items ≡ out.old.items ++ spelled samples.now) }
+{
+    for sample in samples {
+        put_number(out, u128::from(*sample))?;
+    }
+    Ok(())
+}
+
+/// Puts the start of each zone and its grade, each after a blank.
+fn put_zones(out: &mut Vec<u8>, zones: &[(u32, u8)]) -> Result<(), Memory>
+    ensures { OnOk result (out.new.items ≡ out.old.items ++ spelled (zone_numbers zones.now)) }
+{
+    for zone in zones {
+        put_numbers(out, &[u128::from(zone.0), u128::from(zone.1)])?;
+    }
+    Ok(())
+}
+
+/// Puts the start, the length and the assortment of each log, each after a blank.
+fn put_logs(out: &mut Vec<u8>, logs: &[Log]) -> Result<(), Memory>
+    ensures { OnOk result (out.new.items ≡ out.old.items ++ spelled (log_numbers logs.now)) }
+{
+    for log in logs {
+        let start = u128::from(log.start);
+        let length = u128::from(log.length);
+        put_numbers(out, &[start, length, u128::from(log.assortment)])?;
+    }
+    Ok(())
+}
+
+/// Puts an item of a few numbers.
+fn put_few(out: &mut Vec<u8>, head: &[u8], numbers: &[u128]) -> Result<(), Memory>
+    ensures { OnOk result (out.new.items ≡ out.old.items ++ item_text head.now numbers.now) }
+{
+    put(out, head)?;
+    put_numbers(out, numbers)?;
+    put(out, b"~\n")
+}
+
+/// Puts an item of a list of numbers.
+fn put_list(out: &mut Vec<u8>, head: &[u8], numbers: &[u32]) -> Result<(), Memory>
+    ensures { OnOk result (out.new.items ≡ out.old.items ++ item_text head.now numbers.now) }
+{
+    put(out, head)?;
+    put_words(out, numbers)?;
+    put(out, b"~\n")
+}
+
+/// Puts the items of a stem.
+fn put_stem(out: &mut Vec<u8>, stem: &Stem) -> Result<(), Memory>
+    ensures { OnOk result (out.new.items ≡ out.old.items ++ (
+        item_text (codes "981 2") (stem.now.number ∷ stem.now.species ∷ [])
+        ++ item_text (codes "981 3") stem.now.samples
+        ++ item_text (codes "981 4") (zone_numbers stem.now.zones))) }
+{
+    let number = u128::from(stem.number());
+    put_few(out, b"981 2", &[number, u128::from(stem.species())])?;
+    put(out, b"981 3")?;
+    put_samples(out, stem.samples())?;
+    put(out, b"~\n981 4")?;
+    put_zones(out, stem.zones())?;
+    put(out, b"~\n")
+}
+
+/// Puts the item that begins a posting.
+fn put_call(
+    out: &mut Vec<u8>,
+    head: &[u8],
+    harvester: u32,
+    number: u32,
+    version: u32,
+) -> Result<(), Memory>
+    ensures { OnOk result (out.new.items
+        ≡ out.old.items ++ item_text head.now (harvester ∷ number ∷ version ∷ [])) }
+{
+    let harvester = u128::from(harvester);
+    let number = u128::from(number);
+    put_few(out, head, &[harvester, number, u128::from(version)])
+}
+
+/// Puts the item of a cutting.
+fn put_cutting(out: &mut Vec<u8>, logs: &[Log]) -> Result<(), Memory>
+    ensures { OnOk result (out.new.items
+        ≡ out.old.items ++ item_text (codes "981 5") (log_numbers logs.now)) }
+{
+    put(out, b"981 5")?;
+    put_logs(out, logs)?;
+    put(out, b"~\n")
+}
+
+/// Puts the items of an entry.
+#[tactic(auto, unfolding(crate::specs::Written::cut_text))]
+fn put_entry(out: &mut Vec<u8>, entry: &Entry) -> Result<(), Memory>
+    ensures { OnOk result (out.new.items ≡ out.old.items ++ cut_text entry.now) }
+{
+    put_call(out, b"981 1", entry.harvester, entry.number, entry.version)?;
+    put_stem(out, &entry.stem)?;
+    put_cutting(out, entry.cutting.logs.as_slice())?;
+    put_few(out, b"981 6", &[u128::from(entry.worth)])
+}
+
+/// Puts the items of a demand.
+#[tactic(auto, unfolding(crate::specs::Written::demand_text))]
+fn put_demand(out: &mut Vec<u8>, demand: &Demand) -> Result<(), Memory>
+    ensures { OnOk result (out.new.items ≡ out.old.items ++ demand_text demand.now) }
+{
+    put_call(
+        out,
+        b"982 1",
+        demand.harvester,
+        demand.number,
+        demand.version,
+    )?;
+    put_list(out, b"982 2", demand.targets.as_slice())
+}
+
+fn put_posting(out: &mut Vec<u8>, posting: &Posting) -> Result<(), Memory>
+    ensures { OnOk result (out.new.items ≡ out.old.items ++ posting_text posting.now) }
+{
+    match posting {
+        Posting::Cut(entry) => put_entry(out, entry),
+        Posting::Demand(demand) => put_demand(out, demand),
+    }
+}
+
+fn put_sheets(out: &mut Vec<u8>, sheets: &[Arc<Sheet>]) -> Result<(), Memory>
+    ensures { OnOk result (out.new.items
+        ≡ out.old.items ++ flat_map sheet_text (map (λ s. s.value.prices) sheets.now)) }
+{
+    for sheet in sheets {
+        put_list(out, b"971 1", sheet.prices())?;
+    }
+    Ok(())
+}
+
+fn put_postings(out: &mut Vec<u8>, postings: &[Posting]) -> Result<(), Memory>
+    ensures { OnOk result (out.new.items ≡ out.old.items ++ flat_map posting_text postings.now) }
+{
+    for posting in postings {
+        put_posting(out, posting)?;
+    }
+    Ok(())
+}
+
+/// The text of a journal: an item that says the kind of file, one for each sheet with its prices, in the order of the
+/// versions, and then the items of each posting, in their order. Each item is its number, a blank, its kind, then a
+/// blank before each number, in decimal without leading zeros, then a tilde and a line feed. Refused as [`Memory`]
+/// alone.
+#[tactic(auto, unfolding(crate::specs::Written::journal_text))]
+pub fn journal_text(
+    alloc: Global,
+    sheets: &[Arc<Sheet>],
+    postings: &[Posting],
+) -> Result<Vec<u8>, Memory>
+    ensures { IfOk result (λ text.
+        text.items ≡ journal_text (map (λ s. s.value.prices) sheets.now) postings.now) }
+{
+    let mut out = Vec::new(alloc);
+    put(&mut out, b"1 2 JRN~\n")?;
+    put_sheets(&mut out, sheets)?;
+    put_postings(&mut out, postings)?;
+    Ok(out)
+}
