@@ -1,0 +1,51 @@
+-- a run goes on
+use Rattle.std.proofs.Common.{◌≡◌, ℕ, zero, suc, ◌+◌, ◌<◌, ◌≤◌, List, [], ◌∷◌, ◌++◌, length, take, get_or, map, refl, sym, ap, subst, ◌∙◌, arith, append_assoc, append-nil}
+use Rattle.std.specs.Prelude.{Some, None, Option, slice_get}
+use Rattle.std.proofs.lemmas.List.{map-append, length-map}
+use Rattle.buck_stem.specs.Stem.{StemParts}
+use Rattle.buck_book.proofs.Ends.{take_one_more}
+use Rattle.buck_fleet.specs.declared.seat.Kept.{Kept}
+use Rattle.buck_fleet.specs.declared.seat.Reply.{Reply}
+use Rattle.buck_fleet.specs.Seat.{SeatParts, Keeps, KeepsNothing, seen_of}
+use Rattle.buck_fleet.specs.Reply.{IsReplyFor, kept_of}
+use Rattle.buck_fleet.specs.Run.{HasCut, HasRun, stem_cut}
+
+pub got : {A : Type 0} (f : A → StemParts) (xs : List A) (n : ℕ) (x : A) → n < length xs → x ≡ get_or xs n x → slice_get (map f xs) n ≡ Some (f x)
+got f [] n x lt is = absurd (omega arith)
+got f (y ∷ ys) zero x lt is = ap (λ z. Some (f z)) (sym is)
+got f (y ∷ ys) (suc n) x lt is = got f ys n x (omega arith) is
+
+pub none_cut : (stems : List StemParts) (s : SeatParts) → HasCut 0 stems s s
+none_cut stems s = record {
+  more = [];
+  kept = record { same_harvester = refl; kept_are = sym (append-nil s.kept); same_parts = refl; seen_rises = omega arith };
+  within = omega arith;
+  each = refl;
+}
+
+pub one_more_cut : (n : ℕ) (stems : List StemParts) (a b c : SeatParts) (r : Reply) (stem : StemParts) → HasCut n stems a b → IsReplyFor b c stem r → slice_get stems n ≡ Some stem → n < length stems → HasCut (n + 1) stems a c
+one_more_cut n stems a b c r stem cut reply at lt = record {
+  more = cut.more ++ kept_of r ∷ [];
+  kept = record {
+    same_harvester = reply.kept.same_harvester ∙ cut.kept.same_harvester;
+    kept_are = reply.kept.kept_are ∙ ap (λ (l : List Kept). l ++ kept_of r ∷ []) cut.kept.kept_are ∙ append_assoc a.kept cut.more (kept_of r ∷ []);
+    same_parts = reply.kept.same_parts ∙ cut.kept.same_parts;
+    seen_rises = omega (arith, reply.kept.seen_rises, cut.kept.seen_rises);
+  };
+  within = omega arith;
+  each = map-append (λ (k : Kept). stem_cut k.entry) cut.more (kept_of r ∷ []) ∙ (λ t. cut.each t ++ Some (reply.same_stem t) ∷ [])
+      ∙ sym (map-append (λ (s : StemParts). Some s) (take n stems) (stem ∷ [])) ∙ ap (λ (l : List StemParts). map (λ (s : StemParts). Some s) l) (sym (take_one_more stems n stem at));
+}
+
+pub still_cut : (n : ℕ) (stems : List StemParts) (a b c : SeatParts) → HasCut n stems a b → KeepsNothing b c → HasCut n stems a c
+still_cut n stems a b c cut k = record {
+  more = cut.more;
+  kept = record {
+    same_harvester = k.same_harvester ∙ cut.kept.same_harvester;
+    kept_are = k.kept_are ∙ cut.kept.kept_are;
+    same_parts = k.same_parts ∙ cut.kept.same_parts;
+    seen_rises = omega (arith, k.seen_rises, cut.kept.seen_rises);
+  };
+  within = cut.within;
+  each = cut.each;
+}

@@ -1,0 +1,10 @@
+use Rattle.std.proofs.Common.{◌≡◌, length}
+use Rattle.buck_fleet.specs.inner.Lists.{lists_of}
+use Rattle.buck_fleet.proofs.Places.{Places}
+use Rattle.buck_fleet.proofs.close.collect.Given as goal
+
+abbrev pub invariant-loop-seat : goal.invariant-loop-seat
+invariant-loop-seat g l = Places l.fn.seats.items l.seats.items (lists_of l.kept.items) l.all.parts l.all.amount × (length l.kept.items ≡ length l.initial.kept.items)
+
+abbrev pub decreases-loop-seat : goal.decreases-loop-seat
+decreases-loop-seat g l = length l.seats.items

@@ -1,0 +1,20 @@
+use Rattle.std.proofs.Common.{arith, ◌≡◌, ap, ◌∙◌, sym, length}
+use Rattle.std.specs.Prelude.{Some}
+use Rattle.std.proofs.lemmas.List.{length-map}
+use Rattle.std.specs.declared.sync.Arc.{Arc}
+use Rattle.std.specs.declared.alloc.Global.{Global}
+use Rattle.std.specs.Arc.{arc_value}
+use Rattle.buck_stem.specs.declared.stem.Stem.{Stem}
+use Rattle.buck_stem.specs.Stem.{StemParts}
+use Rattle.buck_fleet.proofs.Running.{got, one_more_cut}
+use Rattle.buck_fleet.proofs.run.cut_all.Goals as goal
+
+pub loop-stem-preserved : goal.loop-stem-preserved
+loop-stem-preserved g c =
+    let f = λ (a : Arc Stem Global). arc_value a in
+    let lt = c.loop-stem-test.true in
+    let len = length-map c.args.stems.now f in
+    let at = got f c.args.stems.now c.loop-stem.stem-index c.stem-item.result lt c.stem-item.is in (
+      c.in-Ok-cut.ensures.seat,
+      one_more_cut _ _ _ _ _ c.in-Ok-cut._reply _ c.loop-stem.invariant.1 c.in-Ok-cut.ensures.reply (at ∙ ap (λ (s : StemParts). Some s) (sym c.in-Ok.ensures.cases)) (omega (arith, lt, len)),
+    )

@@ -1,0 +1,6 @@
+use Rattle.buck_fleet.specs.Fleet.{IsSeatIn}
+use Rattle.buck_fleet.specs.Run.{HasCut, stems_of}
+use Rattle.buck_fleet.proofs.run.cut_all.Given as goal
+
+abbrev pub invariant-loop-stem : goal.invariant-loop-stem
+invariant-loop-stem g l = IsSeatIn l.fleet l.seat × HasCut l.stem-index (stems_of l.stems) l.initial.seat l.seat

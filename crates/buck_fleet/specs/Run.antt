@@ -1,0 +1,47 @@
+-- What a run of all seats leaves in them.
+use Rattle.std.specs.Prelude.{◌≡◌, ℕ, ◌<◌, ◌≤◌, List, [], ◌++◌, length, map, take, Option, Some, None, All, slice_index_or}
+use Rattle.std.specs.declared.sync.Arc.{Arc}
+use Rattle.std.specs.declared.vec.Vec.{Vec}
+use Rattle.std.specs.declared.alloc.Global.{Global}
+use Rattle.std.specs.Arc.{arc_value}
+use Rattle.buck_stem.specs.declared.stem.Stem.{Stem}
+use Rattle.buck_stem.specs.Stem.{StemParts}
+use Rattle.buck_book.specs.declared.posting.Posting.{Posting}
+use Rattle.buck_book.specs.declared.posting.Posting.TheVariants.{Cut, Demand}
+use Rattle.buck_fleet.specs.declared.seat.Kept.{Kept}
+use Rattle.buck_fleet.specs.Seat.{SeatParts, Keeps}
+use Rattle.buck_fleet.specs.Fleet.{FleetParts, IsSeatIn}
+use Rattle.buck_fleet.specs.Crew.{IsCrew, parts_of}
+
+-- the stem that a posting cut
+abbrev pub stem_cut : Posting → Option StemParts
+stem_cut (Cut e) = Some e.stem
+stem_cut (Demand d) = None
+
+-- the stems of a harvester's list
+abbrev pub stems_of : List (Arc Stem Global) → List StemParts
+stems_of = map (λ (a : Arc Stem Global). arc_value a)
+
+-- those of the list at a place
+abbrev pub stems_at : List (Vec (Arc Stem Global) Global) → ℕ → List StemParts
+stems_at lists i = slice_index_or (map (λ (v : Vec (Arc Stem Global) Global). stems_of v.items) lists) i []
+
+-- the first n stems were cut, in order: one reply for each was kept, and nothing else
+pub record HasCut (n : ℕ) (stems : List StemParts) (before after : SeatParts) : Type 0 where
+  pub more : List Kept
+  pub kept : Keeps before (before.kept ++ more) after
+  pub within : n ≤ length stems
+  pub each : map (λ k. stem_cut k.entry) more ≡ map Some (take n stems)
+
+-- stems from the beginning of the list were cut; where nothing stopped the run, all of them
+pub record HasRun (stems : List StemParts) (before after : SeatParts) : Type 0 where
+  pub beginning : (n : ℕ) × HasCut n stems before after
+  pub whole : after.stopped ≡ None → HasCut (length stems) stems before after
+
+-- each seat has run through the list at its place; the seats stand in the same order, are of the fleet as before, and have together what they had of the ledger
+pub record HaveRun (f : FleetParts) (lists : List (Vec (Arc Stem Global) Global)) (before after : List SeatParts) : Type 0 where
+  pub number : length after ≡ length before
+  pub of_fleet : All (IsSeatIn f) after
+  pub same_crew : (n : ℕ) → IsCrew n before → IsCrew n after
+  pub same_parts : parts_of after ≡ parts_of before
+  pub runs : (i : ℕ) (d : SeatParts) → i < length before → HasRun (stems_at lists i) (slice_index_or before i d) (slice_index_or after i d)

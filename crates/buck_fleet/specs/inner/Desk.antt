@@ -1,0 +1,59 @@
+-- What is done under the lock.
+use Rattle.std.specs.Prelude.{◌≡◌, ◌≢◌, ℕ, ◌≤◌, List, [], ◌∷◌, ◌++◌, length}
+use Rattle.buck_book.specs.declared.posting.Posting.TheVariants.{Cut, Demand}
+use Rattle.buck_book.specs.declared.ready.Refusal.{Refusal}
+use Rattle.buck_book.specs.declared.ready.Refusal.TheVariants.{Full, Stale, Memory}
+use Rattle.buck_book.specs.Plan.{PlanParts, IsPlan}
+use Rattle.buck_book.specs.History.{HistoryParts, in_force, version_of}
+use Rattle.buck_book.specs.Book.{BookParts, entry_of, demand_of}
+use Rattle.buck_fleet.specs.declared.seat.Reply.{Reply}
+use Rattle.buck_fleet.specs.declared.seat.DemandReply.{DemandReply}
+use Rattle.buck_fleet.specs.Seat.{SeatParts, KeepsOne, seen_of}
+use Rattle.buck_fleet.specs.declared.cut.Attempt.{Attempt}
+use Rattle.buck_fleet.specs.declared.cut.Attempt.TheVariants.{Done, Outdated, Refused}
+use Rattle.buck_fleet.specs.declared.seat.Path.TheVariants.{Optimistic}
+use Rattle.buck_fleet.specs.Reply.{kept_of, kept_demand_of, IsReplyFor, IsOfPlan}
+
+-- the plan of the sheet in force was committed: its entry is the next of the history and is kept, and the version in force has been seen
+pub record IsReplyAt {F : Type 0} (before after : BookParts F) (seat_before seat_after : SeatParts) (p : PlanParts) (r : Reply) : Type 0 where
+  pub under : p.sheet ≡ in_force before.history
+  pub planned : IsPlan p
+  pub entry_is : r.entry ≡ entry_of before.history seat_before.harvester p
+  pub position_is : r.position ≡ length before.history.postings
+  pub postings_are : after.history.postings ≡ before.history.postings ++ Cut r.entry ∷ []
+  pub kept : KeepsOne seat_before (kept_of r) seat_after
+  pub same_instruction : after.history.instruction ≡ before.history.instruction
+  pub seen : version_of after.history ≤ seen_of seat_after
+
+-- a plan is stale where another sheet is in force
+abbrev pub HasOtherSheet : PlanParts → Refusal → Type 0
+HasOtherSheet p Full = Unit {0}
+HasOtherSheet p (Stale sheet) = sheet.value ≢ p.sheet
+HasOtherSheet p Memory = Unit {0}
+
+-- the plan's own sheet wasn't in force then
+abbrev pub WasStale : HistoryParts → PlanParts → Refusal → Type 0
+WasStale h p Full = Unit {0}
+WasStale h p (Stale sheet) = p.sheet ≢ in_force h
+WasStale h p Memory = Unit {0}
+
+-- the plan wasn't committed
+pub record IsPlanRefused {F : Type 0} (before after : BookParts F) (p : PlanParts) (e : Refusal) : Type 0 where
+  pub same_history : after.history ≡ before.history
+  pub other_sheet : HasOtherSheet p e
+  pub stale : WasStale before.history p e
+
+-- the demand was committed: it is the next posting of the history and is kept, and the version that it begins has been seen
+pub record IsDemandReplyAt {F : Type 0} (before after : BookParts F) (seat_before seat_after : SeatParts) (targets : List ℕ) (r : DemandReply) : Type 0 where
+  pub demand_is : r.demand ≡ demand_of before.history seat_before.harvester targets
+  pub position_is : r.position ≡ length before.history.postings
+  pub postings_are : after.history.postings ≡ before.history.postings ++ Demand r.demand ∷ []
+  pub kept : KeepsOne seat_before (kept_demand_of r) seat_after
+  pub same_instruction : after.history.instruction ≡ before.history.instruction
+  pub seen : version_of after.history ≤ seen_of seat_after
+
+-- what became of a plan that was brought to the book
+abbrev pub IsAttempt : SeatParts → SeatParts → PlanParts → ℕ → Attempt → Type 0
+IsAttempt before after p attempt (Done r) = IsReplyFor before after p.stem r × IsOfPlan p r.entry × (r.attempts ≡ attempt) × (r.path ≡ Optimistic)
+IsAttempt before after p attempt Outdated = after ≡ before
+IsAttempt before after p attempt (Refused fault) = after ≡ before

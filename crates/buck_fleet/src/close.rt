@@ -1,0 +1,230 @@
+//! How a fleet is closed, and what it hands out.
+ghost use Rattle.std.specs.Prelude.{◌≡◌, ◌≢◌, ℕ, ◌-◌, ◌<◌, ◌≤◌, ◌==◌, ◌↔◌, [], length, map, All, IsTrue, IfOk, IfErr, IfNone, IfSome, slice_index_or};
+ghost use Rattle.std.specs.List.{sum_by};
+ghost use Rattle.buck_book.specs.Posting.{harvester_of};
+ghost use Rattle.buck_book.specs.History.{IsLawful};
+ghost use Rattle.buck_book.specs.Book.{sheets_from};
+ghost use Rattle.buck_fleet.specs.Crew.{IsCrew, parts_of};
+ghost use Rattle.buck_fleet.specs.Closed.{ClosedParts, kept_by, replies_from, replies_of, IsHandedOut, IsOneHistory, IsCloseFault, DifferFirstAt};
+ghost use Rattle.buck_fleet.specs.inner.Lists.{lists_of, AreEmpty};
+
+use crate::desk::Desk;
+use crate::fleet::Fleet;
+use crate::seat::{Kept, Seat};
+use buck_apt::Instruction;
+use buck_book::{Parts, Posting};
+use buck_value::Sheet;
+use std::marker::Model;
+use std::sync::Arc;
+use std::sync::ledger::{Ledger, Share};
+use thiserror::Error;
+
+/// Why a fleet doesn't close well.
+#[derive(Clone, Copy, PartialEq, Eq, Debug, Drop, Error)]
+pub enum CloseFault {
+    /// The book's instruction isn't the fleet's.
+    #[error("the instruction is another")]
+    Instruction,
+    /// A harvester's postings with their positions and its kept list differ at this number, from 1. No lower harvester's
+    /// do, and this one's don't at a lower number.
+    #[error("the calls of harvester {harvester} differ at number {number}")]
+    Calls { harvester: u32, number: u32 },
+}
+
+/// What a fleet hands out when it is closed: a lawful history, and what each seat kept.
+#[derive(Drop)]
+pub struct Closed {
+    instruction: Arc<Instruction>,
+    sheets: Vec<Arc<Sheet>>,
+    entries: Vec<Posting>,
+    kept: Vec<Vec<Kept>>,
+}
+
+impl Model for Closed {
+    ghost use Rattle.std.specs.Prelude.{◌≡◌, map};
+    ghost use Rattle.buck_book.specs.History.{IsLawful};
+    ghost use Rattle.buck_book.specs.Book.{sheets_from};
+    ghost use Rattle.buck_fleet.specs.Closed.{ClosedParts};
+    ghost use Rattle.buck_fleet.specs.inner.Lists.{lists_of};
+
+    ghost Value = { ClosedParts };
+
+    ghost view = { λ c. record {
+      history = record { instruction = c.instruction.value; sheets = map (λ a. a.value.prices) c.sheets.items; postings = c.entries.items };
+      kept = lists_of c.kept.items;
+    } };
+
+    ghost invariant = { λ c.
+        IsLawful (record { instruction = c.instruction.value; sheets = map (λ a. a.value.prices) c.sheets.items; postings = c.entries.items })
+        × (map (λ a. a.value) c.sheets.items ≡ sheets_from 0 c.instruction.value (map (λ a. a.value.prices) c.sheets.items)) };
+}
+
+/// Puts each seat's kept list in its harvester's place, and takes its share in.
+fn collect<L: Ledger>(seats: Vec<Seat<L>>, kept: &mut Vec<Vec<Kept>>, all: &mut Share<L>)
+    requires crew { IsCrew (length kept.old.items) seats.items }
+    requires empty { AreEmpty (lists_of kept.old.items) }
+    requires share { (all.old.parts ≡ 0) × (all.old.amount ≡ 0) }
+    ensures lists { All (λ s. slice_index_or (lists_of kept.new.items) (s.harvester - 1) [] ≡ s.kept) seats.items }
+    ensures number { length kept.new.items ≡ length kept.old.items }
+    ensures parts { all.new.parts ≡ parts_of seats.items }
+    ensures amount { all.new.amount ≡ sum_by length (lists_of kept.new.items) }
+{
+    let mut seats = seats;
+    while let Some(seat) = seats.pop() {
+        let Seat {
+            harvester,
+            place: _,
+            kept: list,
+            share,
+            stopped: _,
+        } = seat;
+        all.merge(share);
+        let its_place = &mut kept[harvester as usize - 1];
+        *its_place = list;
+    }
+}
+
+/// Whether a posting is a harvester's.
+fn is_of(posting: &Posting, harvester: u32) -> bool
+    ensures { result ≡ (harvester_of posting.now == harvester) }
+{
+    match posting {
+        Posting::Cut(entry) => entry.harvester == harvester,
+        Posting::Demand(demand) => demand.harvester == harvester,
+    }
+}
+
+/// Whether a posting was kept at this position.
+fn is_kept_as(kept: &Kept, position: usize, posting: &Posting) -> bool
+    ensures { IsTrue result ↔ (kept.now ≡ record { position = position; entry = posting.now }) }
+{
+    if kept.position as usize != position {
+        return false;
+    }
+    kept.entry.same(posting)
+}
+
+/// The first number at which a harvester's kept list and its postings of a history differ, from 1.
+fn first_difference(entries: &[Posting], kept: &[Kept], harvester: u32) -> Option<u32>
+    requires few { length entries.now ≤ 1000000 }
+    ensures none { IfNone result (kept.now ≡ replies_from harvester 0 entries.now) }
+    ensures some { IfSome result (λ number. DifferFirstAt number kept.now (replies_from harvester 0 entries.now)) }
+{
+    let mut k = 0usize;
+    for (i, entry) in entries.iter().enumerate() {
+        if is_of(entry, harvester) {
+            if k >= kept.len() {
+                return Some(k as u32 + 1);
+            }
+            if !is_kept_as(&kept[k], i, entry) {
+                return Some(k as u32 + 1);
+            }
+            k += 1;
+        }
+    }
+    if k < kept.len() {
+        return Some(k as u32 + 1);
+    }
+    None
+}
+
+impl Closed {
+    /// The instruction that the history is lawful for.
+    pub fn instruction(&self) -> &Arc<Instruction>
+        ensures { result.now.value ≡ self.now.history.instruction }
+    {
+        &self.instruction
+    }
+
+    /// The sheets, by version.
+    pub fn sheets(&self) -> &[Arc<Sheet>]
+        ensures sheets { map (λ a. a.value) result.now ≡ sheets_from 0 self.now.history.instruction self.now.history.sheets }
+        ensures lawful { IsLawful self.now.history }
+    {
+        self.sheets.as_slice()
+    }
+
+    /// The postings, in the order of their commits.
+    pub fn entries(&self) -> &[Posting]
+        ensures postings { result.now ≡ self.now.history.postings }
+        ensures lawful { IsLawful self.now.history }
+    {
+        self.entries.as_slice()
+    }
+
+    /// What each seat kept, by harvester.
+    pub fn kept(&self) -> &[Vec<Kept>]
+        ensures { lists_of result.now ≡ self.now.kept }
+    {
+        self.kept.as_slice()
+    }
+
+    /// The first difference of the lowest harvester that has one.
+    fn fault(&self) -> Option<CloseFault>
+        requires few { length self.now.history.postings ≤ 1000000 }
+        requires seats { length self.now.kept ≤ 64 }
+        ensures none { IfNone result ((h : ℕ) → 0 < h → h ≤ length self.now.kept → kept_by h self.now ≡ replies_of h self.now.history) }
+        ensures some { IfSome result (IsCloseFault self.now.history.instruction (length self.now.kept) self.now) }
+    {
+        for (i, kept) in self.kept.iter().enumerate() {
+            let harvester = i as u32 + 1;
+            match first_difference(self.entries.as_slice(), kept.as_slice(), harvester) {
+                Some(number) => return Some(CloseFault::Calls { harvester, number }),
+                None => {}
+            }
+        }
+        None
+    }
+}
+
+impl<F: Drop, L: Ledger> Fleet<F, L> {
+    /// Closes the fleet: takes all its seats in, in any order, and compares what each kept with the history. It takes no
+    /// memory. Where it answers Ok the history is one of a single thread, and holds each seat's replies once and in
+    /// their order and nothing else. Refused as `Instruction` where the book's instruction isn't the fleet's, else as
+    /// `Calls`; the history is handed out all the same.
+    pub fn close(self, seats: Vec<Seat<L>>) -> Result<Closed, (CloseFault, Closed)>
+        requires crew { IsCrew self.seats seats.items }
+        requires parts { parts_of seats.items ≡ L.parts }
+        requires few { self.seats ≤ 64 }
+        ensures ok { IfOk result (IsOneHistory self.instruction self.seats seats.items) }
+        ensures handed_out { IfErr result (λ e. IsHandedOut self.seats seats.items e.1) }
+        ensures fault { IfErr result (λ e. IsCloseFault self.instruction self.seats e.1 e.0) }
+    {
+        let Fleet {
+            instruction,
+            board: _,
+            desk,
+            kept,
+        } = self;
+        let mut kept = kept;
+        let Desk {
+            book,
+            mut calls,
+            rest,
+        } = desk.into_inner();
+        let mut all = rest;
+        collect(seats, &mut kept, &mut all);
+        calls.audit(&mut all);
+        let is_same = book.instruction().same(&instruction);
+        let Parts {
+            instruction,
+            sheets,
+            entries,
+            targets: _,
+            counts: _,
+        } = book.into_parts();
+        let closed = Closed {
+            instruction,
+            sheets,
+            entries,
+            kept,
+        };
+        if !is_same {
+            return Err((CloseFault::Instruction, closed));
+        }
+        match closed.fault() {
+            Some(fault) => Err((fault, closed)),
+            None => Ok(closed),
+        }
+    }
+}

@@ -1,0 +1,144 @@
+//! How a stem is cut: plans without the lock, and in the end one under it.
+ghost use Rattle.std.specs.Prelude.{◌≡◌, ◌+◌, ◌-◌, ◌≤◌, IfOk, IfErr};
+ghost use Rattle.buck_rule.specs.Stored.{AllAnswer};
+ghost use Rattle.buck_fleet.specs.Seat.{KeepsNothing, seen_of};
+ghost use Rattle.buck_fleet.specs.Fleet.{IsSeatIn};
+ghost use Rattle.buck_fleet.specs.Reply.{IsReplyFor, AreAttempts};
+ghost use Rattle.buck_fleet.specs.inner.Desk.{IsAttempt};
+
+use crate::fault::CutFault;
+use crate::fleet::Fleet;
+use crate::gate::Gate;
+use crate::seat::{Path, Reply, Seat};
+use buck_book::{Plan, Refusal};
+use buck_record::Memory;
+use buck_rule::Standing;
+use buck_stem::Stem;
+use buck_value::Sheet;
+use std::alloc::Global;
+use std::sync::ledger::Ledger;
+use std::sync::{Arc, Wait};
+
+/// What became of a plan that was brought to the book.
+#[derive(Drop)]
+pub enum Attempt {
+    /// It was committed.
+    Done(Reply),
+    /// Another sheet was in force.
+    Outdated,
+    /// It was refused for another reason.
+    Refused(CutFault),
+}
+
+/// Plans a stem under a sheet.
+fn plan_for(alloc: Global, sheet: &Arc<Sheet>, stem: &Arc<Stem>) -> Result<Plan, Memory>
+    ensures sheet { IfOk result (λ p. p.sheet ≡ sheet.now.value) }
+    ensures stem { IfOk result (λ p. p.stem ≡ stem.now.value) }
+{
+    Plan::make(alloc, sheet.clone()?, stem.clone()?)
+}
+
+impl<F: Fn(&Standing) -> u64 + Drop, L: Ledger> Fleet<F, L> {
+    /// One optimistic critical section.
+    fn bring<R: Wait>(
+        &self,
+        rt: &R,
+        alloc: Global,
+        seat: &mut Seat<L>,
+        plan: Plan,
+        attempt: u8,
+    ) -> Attempt
+        requires answers { AllAnswer F.Fn }
+        requires seat { IsSeatIn self.now seat.old }
+        ensures seat { IsSeatIn self.now seat.new }
+        ensures became { IsAttempt seat.old seat.new plan attempt result }
+    {
+        let mut desk = self.desk.lock(rt);
+        match desk.commit(
+            rt,
+            alloc,
+            &self.board,
+            seat,
+            plan,
+            attempt,
+            Path::Optimistic,
+        ) {
+            Ok(reply) => Attempt::Done(reply),
+            Err((Refusal::Stale { .. }, _)) => Attempt::Outdated,
+            Err((Refusal::Full, _)) => Attempt::Refused(CutFault::Full),
+            Err((Refusal::Memory, _)) => Attempt::Refused(CutFault::Memory),
+        }
+    }
+
+    /// The locked plan: it is made and committed in one critical section, under the sheet in force.
+    fn cut_locked<R: Wait>(
+        &self,
+        rt: &R,
+        alloc: Global,
+        seat: &mut Seat<L>,
+        stem: &Arc<Stem>,
+        attempts: u8,
+    ) -> Result<Reply, CutFault>
+        requires answers { AllAnswer F.Fn }
+        requires seat { IsSeatIn self.now seat.old }
+        ensures seat { IsSeatIn self.now seat.new }
+        ensures reply { IfOk result (IsReplyFor seat.old seat.new stem.now.value) }
+        ensures told { IfOk result (λ r. (r.attempts ≡ attempts) × (r.path ≡ Path.Locked)) }
+        ensures left { IfErr result (λ e. seat.new ≡ seat.old) }
+    {
+        let mut desk = self.desk.lock(rt);
+        let plan = plan_for(alloc, desk.book.sheet(), stem)?;
+        match desk.commit(rt, alloc, &self.board, seat, plan, attempts, Path::Locked) {
+            Ok(reply) => Ok(reply),
+            Err((Refusal::Stale { .. }, _)) => unreachable!(),
+            Err((Refusal::Full, _)) => Err(CutFault::Full),
+            Err((Refusal::Memory, _)) => Err(CutFault::Memory),
+        }
+    }
+
+    /// Cuts a stem for a seat of this fleet. Up to three times it plans against the newest sheet without the lock, tells
+    /// the gate, and commits the plan if its sheet is still in force; it plans under the lock after the third time, or as
+    /// soon as no sheet is shown that is newer than that of the attempt before. Refused as `Full` at the capacity, and
+    /// as `Memory` where a growth was refused; history and kept list are then as before.
+    pub fn cut<R: Wait, G: Gate>(
+        &self,
+        rt: &R,
+        alloc: Global,
+        seat: &mut Seat<L>,
+        stem: Arc<Stem>,
+        gate: &G,
+    ) -> Result<Reply, CutFault>
+        requires answers { AllAnswer F.Fn }
+        requires seat { IsSeatIn self.now seat.old }
+        ensures seat { IsSeatIn self.now seat.new }
+        ensures reply { IfOk result (IsReplyFor seat.old seat.new stem.value) }
+        ensures attempts { IfOk result (λ r. AreAttempts r.path r.attempts) }
+        ensures newer { IfOk result (λ r. seen_of seat.old + (r.attempts - 1) ≤ seen_of seat.new) }
+        ensures optimistic { IfOk result (λ r. r.path ≡ Path.Optimistic → seen_of seat.old + (r.attempts - 1) ≤ r.entry.version) }
+        ensures locked_at_once { IfOk result (λ r. r.attempts ≡ 0 → 1 ≤ seen_of seat.new) }
+        ensures left { IfErr result (λ e. KeepsNothing seat.old seat.new) }
+    {
+        let mut attempts = 0u8;
+        let mut before = 0u32;
+        for attempt in 1..4u8 {
+            let Some(shown) = self.snapshot(&mut *seat) else {
+                break
+            };
+            let version = shown.version();
+            if 1 < attempt && version <= before {
+                break;
+            }
+            // Plan: without the lock.
+            let plan = plan_for(alloc, shown.sheet(), &stem)?;
+            gate.planned(rt, seat.harvester(), attempt, &plan);
+            match self.bring(rt, alloc, &mut *seat, plan, attempt) {
+                Attempt::Done(reply) => return Ok(reply),
+                Attempt::Refused(fault) => return Err(fault),
+                Attempt::Outdated => {}
+            }
+            attempts = attempt;
+            before = version;
+        }
+        self.cut_locked(rt, alloc, &mut *seat, &stem, attempts)
+    }
+}

@@ -1,0 +1,160 @@
+//! The desk: what lies under the lock, and all that is done there.
+ghost use Rattle.std.specs.Prelude.{◌≡◌, length, IfOk, IfErr};
+ghost use Rattle.buck_rule.specs.Stored.{AllAnswer};
+ghost use Rattle.buck_board.specs.Board.{IsSeatOf};
+ghost use Rattle.buck_book.specs.Plan.{IsPlan};
+ghost use Rattle.buck_fleet.specs.inner.Desk.{IsPlanRefused, IsReplyAt, IsDemandReplyAt};
+
+use crate::seat::{DemandReply, Kept, Path, Reply, Seat};
+use buck_board::Board;
+use buck_book::{Book, Demand, DemandRefusal, Entry, Plan, Posting, Ready, Refusal};
+use buck_dp::Cutting;
+use buck_record::Memory;
+use buck_rule::Standing;
+use buck_stem::Stem;
+use std::alloc::Global;
+use std::sync::ledger::{Ledger, Share};
+use std::sync::{Arc, Wait, ledger};
+
+/// What lies under the lock: the book, and the total of what the seats keep.
+#[derive(Drop)]
+pub struct Desk<F, L: Ledger> {
+    pub(crate) book: Book<F>,
+    pub(crate) calls: ledger::Book<L>,
+    pub(crate) rest: Share<L>,
+    ghost counted: { length book.history.postings ≡ calls.total },
+    ghost no_parts: { rest.parts ≡ 0 },
+    ghost no_amount: { rest.amount ≡ 0 },
+}
+
+/// The stem and the cutting of a plan, for the seat's kept list.
+fn shared(plan: &Plan) -> Result<(Arc<Stem>, Arc<Cutting>), Memory>
+    ensures stem { IfOk result (λ s. s.0.value ≡ plan.now.stem) }
+    ensures logs { IfOk result (λ s. s.1.value.logs.items ≡ plan.now.logs) }
+    ensures best { IsPlan plan.now }
+{
+    let cutting = plan.cutting().clone()?;
+    let stem = plan.stem().clone()?;
+    Ok((stem, cutting))
+}
+
+/// Puts the next sheet up, where the commit ends a period.
+fn show_next<R: Wait>(rt: &R, alloc: Global, board: &Board, ready: &Ready) -> Result<(), Memory> {
+    match ready.next_sheet() {
+        None => Ok(()),
+        Some(sheet) => board.put_up(rt, alloc, sheet.clone()?),
+    }
+}
+
+impl<F: Fn(&Standing) -> u64 + Drop, L: Ledger> Desk<F, L> {
+    /// Commits a plan for a seat, if its sheet is in force: adds its entry to the history and to the seat's kept list,
+    /// and raises the front to the version in force.
+    pub fn commit<R: Wait>(
+        &mut self,
+        rt: &R,
+        alloc: Global,
+        board: &Board,
+        seat: &mut Seat<L>,
+        plan: Plan,
+        attempts: u8,
+        path: Path,
+    ) -> Result<Reply, (Refusal, Plan)>
+        requires answers { AllAnswer F.Fn }
+        requires seat { IsSeatOf board.now seat.old.place }
+        ensures seat { IsSeatOf board.now seat.new.place }
+        ensures ok { IfOk result (IsReplyAt self.old.book self.new.book seat.old seat.new plan) }
+        ensures told { IfOk result (λ r. (r.attempts ≡ attempts) × (r.path ≡ path)) }
+        ensures refused { IfErr result (λ e. IsPlanRefused self.old.book self.new.book plan e.0) }
+        ensures plan { IfErr result (λ e. (e.1 ≡ plan) × (seat.new ≡ seat.old)) }
+    {
+        let Desk { book, calls, .. } = self;
+        if seat.kept.reserve(1).is_err() {
+            return Err((Refusal::Memory, plan));
+        }
+        let (stem, cutting) = match shared(&plan) {
+            Ok(both) => both,
+            Err(_) => return Err((Refusal::Memory, plan)),
+        };
+        let ready = match book.prepare(alloc, &plan) {
+            Ok(ready) => ready,
+            Err(refusal) => return Err((refusal, plan)),
+        };
+        if show_next(rt, alloc, board, &ready).is_err() {
+            return Err((Refusal::Memory, plan));
+        }
+        let position = book.len() as u32;
+        // Try, or Locked: the entry is added.
+        let entry = book.commit(ready, seat.harvester, plan);
+        let Seat {
+            place,
+            kept,
+            share,
+            ..
+        } = seat;
+        calls.add(share, 1);
+        kept.push_reserved(Kept {
+            position,
+            entry: Posting::Cut(Entry {
+                harvester: entry.harvester,
+                number: entry.number,
+                stem,
+                version: entry.version,
+                cutting,
+                worth: entry.worth,
+            }),
+        });
+        // Raise: before the lock is given back.
+        board.raise(place, book.version());
+        Ok(Reply {
+            entry,
+            position,
+            attempts,
+            path,
+        })
+    }
+
+    /// Puts new targets in force for a seat: adds the demand to the history and to the seat's kept list, and raises the
+    /// front to the version in force.
+    pub fn retarget<R: Wait>(
+        &mut self,
+        rt: &R,
+        alloc: Global,
+        board: &Board,
+        seat: &mut Seat<L>,
+        targets: &Arc<Vec<u32>>,
+    ) -> Result<DemandReply, DemandRefusal>
+        requires answers { AllAnswer F.Fn }
+        requires seat { IsSeatOf board.now seat.old.place }
+        ensures seat { IsSeatOf board.now seat.new.place }
+        ensures ok { IfOk result (IsDemandReplyAt self.old.book self.new.book seat.old seat.new targets.now.value.items) }
+        ensures refused { IfErr result (λ e. (self.new.book.history ≡ self.old.book.history) × (seat.new ≡ seat.old)) }
+    {
+        let Desk { book, calls, .. } = self;
+        seat.kept.reserve(1)?;
+        let copy = targets.clone()?;
+        let ready = book.prepare_demand(alloc, targets)?;
+        board.put_up(rt, alloc, ready.next_sheet().clone()?)?;
+        let position = book.len() as u32;
+        // Retarget: the demand is added.
+        let demand = book.commit_demand(ready, seat.harvester);
+        let Seat {
+            place,
+            kept,
+            share,
+            ..
+        } = seat;
+        calls.add(share, 1);
+        kept.push_reserved(Kept {
+            position,
+            entry: Posting::Demand(Demand {
+                harvester: demand.harvester,
+                number: demand.number,
+                version: demand.version,
+                targets: copy,
+            }),
+        });
+        // Raise: before the lock is given back.
+        board.raise(place, book.version());
+        Ok(DemandReply { demand, position })
+    }
+}

@@ -1,0 +1,112 @@
+//! Why the calls of a seat are refused. The history and the kept list are then as before.
+ghost use Rattle.buck_fleet.specs.Refused.{GivesBack};
+ghost use Rattle.buck_fleet.specs.inner.Desk.{HasOtherSheet};
+
+use buck_book::{DemandRefusal, Plan, Refusal, TargetsFault};
+use buck_record::Memory;
+use buck_value::Sheet;
+use std::alloc::AllocError;
+use std::sync::Arc;
+use thiserror::Error;
+
+/// Why a caller's plan wasn't committed. It is given back.
+#[derive(Drop)]
+pub enum TryFault {
+    /// The history is at its capacity.
+    Full { plan: Plan },
+    /// The plan was made under another sheet than the one in force.
+    Stale { in_force: Arc<Sheet>, plan: Plan },
+    /// A growth was refused.
+    Memory { plan: Plan },
+}
+
+/// Why a stem wasn't cut.
+#[derive(Clone, Copy, PartialEq, Eq, Debug, Drop, Error)]
+pub enum CutFault {
+    /// The history is at its capacity.
+    #[error("the history is at its capacity")]
+    Full,
+    /// A growth was refused.
+    #[error("out of memory")]
+    Memory,
+}
+
+impl From<AllocError> for CutFault {
+    fn from(_error: AllocError) -> CutFault {
+        CutFault::Memory
+    }
+}
+
+impl From<Memory> for CutFault {
+    fn from(_error: Memory) -> CutFault {
+        CutFault::Memory
+    }
+}
+
+/// Why a harvester stopped before the end of its list.
+#[derive(Clone, Copy, PartialEq, Eq, Debug, Drop, Error)]
+pub enum RunFault {
+    /// The history is at its capacity.
+    #[error("the history is at its capacity")]
+    Full,
+    /// A growth was refused.
+    #[error("out of memory")]
+    Memory,
+}
+
+impl From<CutFault> for RunFault {
+    fn from(fault: CutFault) -> RunFault {
+        match fault {
+            CutFault::Full => RunFault::Full,
+            CutFault::Memory => RunFault::Memory,
+        }
+    }
+}
+
+/// Why new targets weren't put in force.
+#[derive(Clone, Copy, PartialEq, Eq, Debug, Drop, Error)]
+pub enum RetargetFault {
+    /// The history is at its capacity. It comes before `Targets`.
+    #[error("the history is at its capacity")]
+    Full,
+    /// The targets aren't valid.
+    #[error("{0}")]
+    Targets(TargetsFault),
+    /// A growth was refused.
+    #[error("out of memory")]
+    Memory,
+}
+
+impl From<AllocError> for RetargetFault {
+    fn from(_error: AllocError) -> RetargetFault {
+        RetargetFault::Memory
+    }
+}
+
+impl From<Memory> for RetargetFault {
+    fn from(_error: Memory) -> RetargetFault {
+        RetargetFault::Memory
+    }
+}
+
+impl From<DemandRefusal> for RetargetFault {
+    fn from(refusal: DemandRefusal) -> RetargetFault {
+        match refusal {
+            DemandRefusal::Full => RetargetFault::Full,
+            DemandRefusal::Targets(fault) => RetargetFault::Targets(fault),
+            DemandRefusal::Memory => RetargetFault::Memory,
+        }
+    }
+}
+
+/// A refused plan, with why.
+pub(crate) fn try_fault(refusal: Refusal, plan: Plan) -> TryFault
+    requires { HasOtherSheet plan refusal }
+    ensures { GivesBack plan result }
+{
+    match refusal {
+        Refusal::Full => TryFault::Full { plan },
+        Refusal::Stale { in_force } => TryFault::Stale { in_force, plan },
+        Refusal::Memory => TryFault::Memory { plan },
+    }
+}

@@ -1,0 +1,108 @@
+//! Fleets, and the calls of their seats.
+ghost use Rattle.std.specs.Prelude.{◌≡◌, ◌≤◌, IfOk, IfErr, IfSome, IfNone};
+ghost use Rattle.buck_rule.specs.Stored.{AllAnswer};
+ghost use Rattle.buck_board.specs.Board.{IsSnapshotOf, version_of};
+ghost use Rattle.buck_fleet.specs.Seat.{KeepsNothing, seen_of};
+ghost use Rattle.buck_fleet.specs.Fleet.{IsSeatIn};
+ghost use Rattle.buck_fleet.specs.Reply.{IsReplyFor, IsOfPlan, IsReplyToTargets};
+ghost use Rattle.buck_fleet.specs.Refused.{GivesBack};
+
+use crate::desk::Desk;
+use crate::fault::{RetargetFault, TryFault, try_fault};
+use crate::seat::{DemandReply, Kept, Path, Reply, Seat};
+use buck_apt::Instruction;
+use buck_board::{Board, Snapshot};
+use buck_book::Plan;
+use buck_rule::Standing;
+use std::alloc::Global;
+use std::marker::Model;
+use std::sync::ledger::Ledger;
+use std::sync::{Arc, Mutex, Wait};
+
+/// A fleet of harvesters that cut towards one book. Threads share it by a reference, each with seats of its own.
+#[derive(Drop)]
+pub struct Fleet<F, L: Ledger> {
+    pub(crate) instruction: Arc<Instruction>,
+    pub(crate) board: Board,
+    pub(crate) desk: Mutex<Desk<F, L>>,
+    pub(crate) kept: Vec<Vec<Kept>>,
+}
+
+impl<F, L: Ledger> Model for Fleet<F, L> {
+    ghost use Rattle.std.specs.Prelude.{length};
+    ghost use Rattle.buck_fleet.specs.Fleet.{FleetParts};
+    ghost use Rattle.buck_fleet.specs.inner.Lists.{lists_of, AreEmpty};
+
+    ghost Value = { FleetParts };
+
+    ghost view = { λ f. record { instruction = f.instruction.value; seats = length f.kept.items; board = f.board } };
+
+    ghost invariant = { λ f. AreEmpty (lists_of f.kept.items) };
+}
+
+impl<F, L: Ledger> Fleet<F, L> {
+    /// The newest sheet that the board shows to a seat of this fleet. It waits for nobody and takes no memory. None
+    /// where that sheet couldn't be put up; the base sheet is always shown.
+    pub fn snapshot<'a>(&'a self, seat: &mut Seat<L>) -> Option<Snapshot<'a>>
+        requires seat { IsSeatIn self.now seat.old }
+        ensures seat { IsSeatIn self.now seat.new }
+        ensures kept { KeepsNothing seat.old seat.new }
+        ensures version { IfSome result (λ s. version_of s ≡ seen_of seat.new) }
+        ensures board { IfSome result (IsSnapshotOf self.now.board) }
+        ensures none { IfNone result (1 ≤ seen_of seat.new) }
+    {
+        // Read: one load of the front.
+        self.board.read(&mut seat.place)
+    }
+}
+
+impl<F: Fn(&Standing) -> u64 + Drop, L: Ledger> Fleet<F, L> {
+    /// Commits a caller's plan for a seat of this fleet, if the plan's sheet is in force: one critical section. Refused
+    /// as `Full` at the capacity, else as `Stale` where another sheet is in force, and as `Memory` where a growth was
+    /// refused; the plan is then given back, and history and kept list are as before.
+    pub fn try_commit<R: Wait>(
+        &self,
+        rt: &R,
+        alloc: Global,
+        seat: &mut Seat<L>,
+        plan: Plan,
+    ) -> Result<Reply, TryFault>
+        requires answers { AllAnswer F.Fn }
+        requires seat { IsSeatIn self.now seat.old }
+        ensures seat { IsSeatIn self.now seat.new }
+        ensures reply { IfOk result (IsReplyFor seat.old seat.new plan.stem) }
+        ensures planned { IfOk result (λ r. IsOfPlan plan r.entry) }
+        ensures told { IfOk result (λ r. (r.attempts ≡ 1) × (r.path ≡ Path.Optimistic)) }
+        ensures refused { IfErr result (GivesBack plan) }
+        ensures left { IfErr result (λ e. KeepsNothing seat.old seat.new) }
+    {
+        let mut desk = self.desk.lock(rt);
+        match desk.commit(rt, alloc, &self.board, seat, plan, 1, Path::Optimistic) {
+            Ok(reply) => Ok(reply),
+            Err((refusal, plan)) => Err(try_fault(refusal, plan)),
+        }
+    }
+
+    /// Puts new targets in force for a seat of this fleet, class by class: one critical section. They end the running
+    /// period. Refused as `Full` at the capacity, else as `Targets` where they aren't valid, and as `Memory` where a
+    /// growth was refused; history and kept list are then as before.
+    pub fn retarget<R: Wait>(
+        &self,
+        rt: &R,
+        alloc: Global,
+        seat: &mut Seat<L>,
+        targets: Arc<Vec<u32>>,
+    ) -> Result<DemandReply, RetargetFault>
+        requires answers { AllAnswer F.Fn }
+        requires seat { IsSeatIn self.now seat.old }
+        ensures seat { IsSeatIn self.now seat.new }
+        ensures reply { IfOk result (IsReplyToTargets seat.old seat.new targets.value.items) }
+        ensures left { IfErr result (λ e. KeepsNothing seat.old seat.new) }
+    {
+        let mut desk = self.desk.lock(rt);
+        match desk.retarget(rt, alloc, &self.board, seat, &targets) {
+            Ok(reply) => Ok(reply),
+            Err(refusal) => Err(RetargetFault::from(refusal)),
+        }
+    }
+}

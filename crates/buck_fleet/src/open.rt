@@ -1,0 +1,143 @@
+//! How a fleet is opened.
+ghost use Rattle.std.specs.Prelude.{◌≡◌, ◌+◌, ◌<◌, ◌≤◌, [], length, All, IfOk, IfErr, vec_len, vec_capacity};
+ghost use Rattle.buck_board.specs.Board.{IsSeatOf, seen_by};
+ghost use Rattle.buck_fleet.specs.Crew.{AreOpened};
+ghost use Rattle.buck_fleet.specs.Refused.{IsOpenFault};
+ghost use Rattle.buck_fleet.specs.inner.Lists.{lists_of, AreEmpty};
+
+use crate::desk::Desk;
+use crate::fleet::Fleet;
+use crate::seat::{Kept, Seat};
+use buck_apt::Instruction;
+use buck_board::{Board, BoardSeat};
+use buck_book::Book;
+use buck_record::Memory;
+use buck_rule::{Rule, Standing};
+use std::alloc::{AllocError, Global};
+use std::sync::ledger::{Blank, Ledger, Share};
+use std::sync::{Arc, Mutex, Wait};
+use thiserror::Error;
+
+/// Why a fleet isn't opened.
+#[derive(Clone, Copy, PartialEq, Eq, Debug, Drop, Error)]
+pub enum OpenFault {
+    /// Not 1 to 64 seats.
+    #[error("not 1 to 64 seats")]
+    Seats,
+    /// Not 1 to 1,000,000 postings.
+    #[error("not 1 to 1000000 postings")]
+    Capacity,
+    /// A growth was refused.
+    #[error("out of memory")]
+    Memory,
+}
+
+impl From<AllocError> for OpenFault {
+    ghost use Rattle.std.specs.Prelude.{◌≡◌};
+    ghost use Rattle.buck_fleet.specs.declared.open.OpenFault.TheVariants.{Memory};
+
+    ghost from_gives = { λ _ e. e ≡ Memory };
+
+    fn from(_error: AllocError) -> OpenFault {
+        OpenFault::Memory
+    }
+}
+
+impl From<Memory> for OpenFault {
+    ghost use Rattle.std.specs.Prelude.{◌≡◌};
+    ghost use Rattle.buck_fleet.specs.declared.open.OpenFault.TheVariants.{Memory};
+
+    ghost from_gives = { λ _ e. e ≡ Memory };
+
+    fn from(_error: Memory) -> OpenFault {
+        OpenFault::Memory
+    }
+}
+
+/// Gives each harvester a seat, from the first on, with a place at the board and one part of the ledger. The last one
+/// has all parts that are left.
+fn seat_all<L: Ledger>(
+    alloc: Global,
+    board: &Board,
+    seats: &mut Vec<Seat<L>>,
+    places: Vec<BoardSeat>,
+    share: Share<L>,
+    count: u32,
+)
+    requires count { (0 < count) × (count ≤ 64) × (vec_len places ≡ count) }
+    requires places { All (IsSeatOf board.now) places.items }
+    requires unseen { All (λ s. seen_by s ≡ 0) places.items }
+    requires share { (share.parts ≡ 64) × (share.amount ≡ 0) }
+    requires room { (seats.old.items ≡ []) × (count ≤ vec_capacity seats.old) }
+    ensures { AreOpened board.now count seats.new.items }
+{
+    let mut share = share;
+    let mut places = places;
+    for harvester in 1..count {
+        let Some(place) = places.pop() else {
+            unreachable!()
+        };
+        let one = share.split_off(1, 0);
+        seats.push_reserved(Seat::make(alloc, harvester, place, one));
+    }
+    let Some(place) = places.pop() else {
+        unreachable!()
+    };
+    seats.push_reserved(Seat::make(alloc, count, place, share));
+}
+
+/// Makes an empty list for each harvester.
+fn empty_lists(alloc: Global, lists: &mut Vec<Vec<Kept>>, count: u32)
+    requires room { (lists.old.items ≡ []) × (count ≤ vec_capacity lists.old) }
+    ensures number { length lists.new.items ≡ count }
+    ensures empty { AreEmpty (lists_of lists.new.items) }
+{
+    for _ in 0..count {
+        lists.push_reserved(Vec::new(alloc));
+    }
+}
+
+impl<F: Fn(&Standing) -> u64 + Drop, L: Ledger> Fleet<F, L> {
+    /// A fleet with this many seats, 1 to 64, and an empty history that may have this many postings, 1 to 1,000,000.
+    /// The blank is the one that the fleet's ledger is named by, of 64 parts. Refused as `Seats`, else as `Capacity`,
+    /// and as `Memory` where a growth was refused.
+    pub fn open<R: Wait>(
+        rt: &R,
+        alloc: Global,
+        blank: Blank,
+        instruction: Arc<Instruction>,
+        rule: Rule<F>,
+        seats: u32,
+        capacity: u32,
+    ) -> Result<(Fleet<F, L>, Vec<Seat<L>>), OpenFault>
+        requires blank { (blank.name ≡ L.name) × (blank.parts ≡ L.parts) × (blank.parts ≡ 64) }
+        ensures instruction { IfOk result (λ r. r.0.instruction ≡ instruction.value) }
+        ensures number { IfOk result (λ r. r.0.seats ≡ seats) }
+        ensures seats { IfOk result (λ r. AreOpened r.0.board seats r.1.items) }
+        ensures fault { IfErr result (IsOpenFault seats capacity) }
+    {
+        if seats == 0 || seats > 64 {
+            return Err(OpenFault::Seats);
+        }
+        if capacity == 0 || capacity > 1_000_000 {
+            return Err(OpenFault::Capacity);
+        }
+        let mut kept: Vec<Vec<Kept>> = Vec::with_capacity(alloc, seats as usize)?;
+        let mut made: Vec<Seat<L>> = Vec::with_capacity(alloc, seats as usize)?;
+        let shown = instruction.clone()?;
+        let book = Book::open(alloc, instruction, rule, capacity)?;
+        let base = book.sheet().clone()?;
+        let (board, places) = Board::open(rt, alloc, seats, base)?;
+        empty_lists(alloc, &mut kept, seats);
+        let (calls, mut share) = blank.open::<L>();
+        let rest = share.empty();
+        seat_all(alloc, &board, &mut made, places, share, seats);
+        let fleet = Fleet {
+            instruction: shown,
+            board,
+            desk: Mutex::new(Desk { book, calls, rest }),
+            kept,
+        };
+        Ok((fleet, made))
+    }
+}

@@ -1,0 +1,171 @@
+//! A run of a whole fleet: one worker for each seat.
+ghost use Rattle.std.specs.Prelude.{◌≡◌, ℕ, ◌+◌, ◌<◌, ◌≤◌, length, All, IfOk, IfErr, IfNone, None, slice_index_or};
+ghost use Rattle.buck_rule.specs.Stored.{AllAnswer};
+ghost use Rattle.buck_fleet.specs.Seat.{SeatParts};
+ghost use Rattle.buck_fleet.specs.Fleet.{IsSeatIn};
+ghost use Rattle.buck_fleet.specs.Run.{HasCut, HasRun, HaveRun, stems_of, stems_at};
+
+use crate::fault::RunFault;
+use crate::fleet::Fleet;
+use crate::gate::Gate;
+use crate::seat::Seat;
+use buck_rule::Standing;
+use buck_stem::Stem;
+use std::alloc::Global;
+use std::sync::ledger::Ledger;
+use std::sync::{Arc, Wait};
+use std::thread::{Threads, for_each_mut};
+
+/// Cuts a list in order, and stops at the first fault.
+fn cut_all<F: Fn(&Standing) -> u64 + Drop, L: Ledger, R: Wait, G: Gate>(
+    rt: &R,
+    alloc: Global,
+    fleet: &Fleet<F, L>,
+    seat: &mut Seat<L>,
+    stems: &[Arc<Stem>],
+    gate: &G,
+) -> Option<RunFault>
+    requires answers { AllAnswer F.Fn }
+    requires seat { IsSeatIn fleet.now seat.old }
+    ensures seat { IsSeatIn fleet.now seat.new }
+    ensures cut { (n : ℕ) × HasCut n (stems_of stems.now) seat.old seat.new }
+    ensures whole { IfNone result (HasCut (length (stems_of stems.now)) (stems_of stems.now) seat.old seat.new) }
+{
+    for stem in stems {
+        let Ok(stem) = stem.clone() else {
+            return Some(RunFault::Memory);
+        };
+        match fleet.cut(rt, alloc, &mut *seat, stem, gate) {
+            Ok(_reply) => {}
+            Err(fault) => return Some(RunFault::from(fault)),
+        }
+    }
+    None
+}
+
+/// Cuts a list in order, and notes in the seat why it stopped.
+fn run_one<F: Fn(&Standing) -> u64 + Drop, L: Ledger, R: Wait, G: Gate>(
+    rt: &R,
+    alloc: Global,
+    fleet: &Fleet<F, L>,
+    seat: &mut Seat<L>,
+    stems: &[Arc<Stem>],
+    gate: &G,
+)
+    requires answers { AllAnswer F.Fn }
+    requires seat { IsSeatIn fleet.now seat.old }
+    ensures seat { IsSeatIn fleet.now seat.new }
+    ensures run { HasRun (stems_of stems.now) seat.old seat.new }
+{
+    let stopped = cut_all(rt, alloc, fleet, &mut *seat, stems, gate);
+    seat.note(stopped);
+}
+
+/// Cuts all lists, each in a thread of its own.
+fn run_each<
+    F: Fn(&Standing) -> u64 + Drop + Send,
+    L: Ledger + Send + Sync,
+    R: Threads + Wait + Sync,
+    G: Gate + Sync,
+>(
+    rt: &R,
+    alloc: Global,
+    fleet: &Fleet<F, L>,
+    seats: &mut [Seat<L>],
+    lists: &[Vec<Arc<Stem>>],
+    gate: &G,
+)
+    requires answers { AllAnswer F.Fn }
+    requires lists { length seats.old ≡ length lists.now }
+    requires seats { All (IsSeatIn fleet.now) seats.old }
+    ensures number { length seats.new ≡ length seats.old }
+    ensures each { (i : ℕ) (d : SeatParts) → i < length seats.old → IsSeatIn fleet.now (slice_index_or seats.new i d) × HasRun (stems_at lists.now i) (slice_index_or seats.old i d) (slice_index_or seats.new i d) }
+{
+    if seats.len() == 0 {
+        return;
+    }
+    let threads = seats.len();
+    for_each_mut(
+        rt,
+        seats,
+        threads,
+        &|i: usize, seat: &mut Seat<L>|
+            requires { AllAnswer F.Fn × (i < length lists.now) × IsSeatIn fleet.now seat.old }
+            ensures { IsSeatIn fleet.entry.now seat.new × HasRun (stems_at lists.entry.now i) seat.old seat.new }
+        { run_one(rt, alloc, fleet, seat, lists[i].as_slice(), gate) },
+    );
+}
+
+/// What stopped the lowest harvester that was stopped.
+fn first_stop<L: Ledger>(seats: &[Seat<L>]) -> Option<RunFault>
+    ensures none { IfNone result (All (λ s. s.stopped ≡ None) seats.now) }
+{
+    let mut lowest = 65u32;
+    let mut first = None;
+    for seat in seats {
+        match seat.stopped {
+            None => {}
+            Some(fault) => {
+                if seat.harvester < lowest {
+                    lowest = seat.harvester;
+                    first = Some(fault);
+                }
+            }
+        }
+    }
+    first
+}
+
+/// Cuts all lists, each in a thread of its own, and says what stopped the lowest harvester that was stopped.
+fn run_all<
+    F: Fn(&Standing) -> u64 + Drop + Send,
+    L: Ledger + Send + Sync,
+    R: Threads + Wait + Sync,
+    G: Gate + Sync,
+>(
+    rt: &R,
+    alloc: Global,
+    fleet: &Fleet<F, L>,
+    seats: &mut [Seat<L>],
+    lists: &[Vec<Arc<Stem>>],
+    gate: &G,
+) -> Option<RunFault>
+    requires answers { AllAnswer F.Fn }
+    requires lists { length seats.old ≡ length lists.now }
+    requires seats { All (IsSeatIn fleet.now) seats.old }
+    ensures run { HaveRun fleet.now lists.now seats.old seats.new }
+    ensures none { IfNone result (All (λ s. s.stopped ≡ None) seats.new) }
+{
+    run_each(rt, alloc, fleet, &mut *seats, lists, gate);
+    first_stop(&*seats)
+}
+
+/// Cuts one list of stems by each seat of a fleet, each in a thread of its own and in order. A harvester stops at its
+/// first fault, and the others go on. The seats come back in the order given, also where a growth was refused; of several
+/// faults that of the lowest harvester is answered.
+pub fn run_fleet<
+    F: Fn(&Standing) -> u64 + Drop + Send,
+    L: Ledger + Send + Sync,
+    R: Threads + Wait + Sync,
+    G: Gate + Sync,
+>(
+    rt: &R,
+    alloc: Global,
+    fleet: &Fleet<F, L>,
+    seats: Vec<Seat<L>>,
+    lists: &[Vec<Arc<Stem>>],
+    gate: &G,
+) -> Result<Vec<Seat<L>>, (RunFault, Vec<Seat<L>>)>
+    requires answers { AllAnswer F.Fn }
+    requires lists { length seats.items ≡ length lists.now }
+    requires seats { All (IsSeatIn fleet.now) seats.items }
+    ensures ok { IfOk result (λ s. HaveRun fleet.now lists.now seats.items s.items) }
+    ensures whole { IfOk result (λ s. All (λ x. x.stopped ≡ None) s.items) }
+    ensures stopped { IfErr result (λ e. HaveRun fleet.now lists.now seats.items e.1.items) }
+{
+    let mut seats = seats;
+    match run_all(rt, alloc, fleet, seats.as_mut_slice(), lists, gate) {
+        None => Ok(seats),
+        Some(fault) => Err((fault, seats)),
+    }
+}

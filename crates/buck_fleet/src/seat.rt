@@ -1,0 +1,118 @@
+//! Seats, and what their calls answer.
+ghost use Rattle.std.specs.Prelude.{◌≡◌, ◌<◌, ◌≤◌, [], length, None};
+ghost use Rattle.buck_board.specs.declared.seat.BoardSeat.{BoardSeat};
+ghost use Rattle.buck_fleet.specs.Seat.{seen_of};
+
+use crate::fault::RunFault;
+use buck_board::BoardSeat;
+use buck_book::{Demand, Entry, Posting};
+use std::alloc::Global;
+use std::marker::Model;
+use std::sync::ledger::{Ledger, Share};
+
+/// A posting that a seat was answered, with its position in the history, from 0.
+#[derive(Drop)]
+pub struct Kept {
+    /// How many postings stand before it.
+    pub position: u32,
+    /// The entry or the demand.
+    pub entry: Posting,
+}
+
+/// How an entry came to be.
+#[derive(Clone, Copy, PartialEq, Eq, Debug, Drop)]
+pub enum Path {
+    /// By a plan that was made without the lock.
+    Optimistic,
+    /// By a plan that was made under the lock, against the sheet in force.
+    Locked,
+}
+
+/// What a call that cuts a stem answers.
+#[derive(Drop)]
+pub struct Reply {
+    /// What was cut, as it stands in the history.
+    pub entry: Entry,
+    /// How many postings stand before it.
+    pub position: u32,
+    /// How many plans made without the lock were brought to the book: 1 to 3 on the path `Optimistic`, 0 to 3 on
+    /// `Locked`.
+    pub attempts: u8,
+    /// How it came to be.
+    pub path: Path,
+}
+
+/// What a call that puts new targets in force answers.
+#[derive(Drop)]
+pub struct DemandReply {
+    /// The demand, as it stands in the history.
+    pub demand: Demand,
+    /// How many postings stand before it.
+    pub position: u32,
+}
+
+/// A harvester's seat: any thread may use it, one at a time. It keeps each posting that it was answered.
+#[derive(Drop)]
+pub struct Seat<L: Ledger> {
+    pub(crate) harvester: u32,
+    pub(crate) place: BoardSeat,
+    pub(crate) kept: Vec<Kept>,
+    pub(crate) share: Share<L>,
+    pub(crate) stopped: Option<RunFault>,
+}
+
+impl<L: Ledger> Model for Seat<L> {
+    ghost use Rattle.std.specs.Prelude.{◌≡◌, ◌<◌, ◌≤◌, length};
+    ghost use Rattle.buck_fleet.specs.Seat.{SeatParts};
+
+    ghost Value = { SeatParts };
+
+    ghost view = { λ s. record { harvester = s.harvester; place = s.place; kept = s.kept.items; parts = s.share.parts; stopped = s.stopped } };
+
+    ghost invariant = { λ s. (s.share.amount ≡ length s.kept.items) × (0 < s.share.parts) × (0 < s.harvester) × (s.harvester ≤ 64) };
+}
+
+impl<L: Ledger> Seat<L> {
+    /// A seat that has kept nothing.
+    pub(crate) fn make(alloc: Global, harvester: u32, place: BoardSeat, share: Share<L>) -> Seat<L>
+        requires harvester { (0 < harvester) × (harvester ≤ 64) }
+        requires share { (0 < share.parts) × (share.amount ≡ 0) }
+        ensures { result ≡ record { harvester = harvester; place = place; kept = []; parts = share.parts; stopped = None } }
+    {
+        Seat {
+            harvester,
+            place,
+            kept: Vec::new(alloc),
+            share,
+            stopped: None,
+        }
+    }
+
+    /// Notes why its run stopped.
+    pub(crate) fn note(&mut self, stopped: Option<RunFault>)
+        ensures { self.new ≡ record { harvester = self.old.harvester; place = self.old.place; kept = self.old.kept; parts = self.old.parts; stopped = stopped } }
+    {
+        self.stopped = stopped;
+    }
+
+    /// Its harvester, from 1 on.
+    pub fn harvester(&self) -> u32
+        ensures { result ≡ self.now.harvester }
+    {
+        self.harvester
+    }
+
+    /// The newest version that it has seen.
+    pub fn seen(&self) -> u32
+        ensures { result ≡ seen_of self.now }
+    {
+        self.place.seen()
+    }
+
+    /// What it was answered, in order.
+    pub fn kept(&self) -> &[Kept]
+        ensures { result.now ≡ self.now.kept }
+    {
+        self.kept.as_slice()
+    }
+}
