@@ -99,20 +99,20 @@ module _ (i : InstructionParts) (c : Class) (v : IsInstruction i) (k : IsClass i
       λ j. record { base = b j; limit = i.limit; target = t j; targets = ts j; count = n j; counts = ns j }
 
 -- prices that keep the relation after cuts do so in words that know of no demand, and the other way round
-meets_to_alone : (i : InstructionParts) (es : List EntryParts) (prices : List ℕ) → IsInstruction i → PricesMeet i (map Cut es) prices → alone.PricesMeet i es prices
+pub meets_to_alone : (i : InstructionParts) (es : List EntryParts) (prices : List ℕ) → IsInstruction i → PricesMeet i (map Cut es) prices → alone.PricesMeet i es prices
 meets_to_alone i es prices v m = record {
   one_each = m.one_each;
   each_meets = λ c k. subst (λ s. Meets s (slice_index prices (index_of i c))) (same_standing i c v k es) (m.each_meets c k);
 }
 
-meets_from_alone : (i : InstructionParts) (es : List EntryParts) (prices : List ℕ) → IsInstruction i → alone.PricesMeet i es prices → PricesMeet i (map Cut es) prices
+pub meets_from_alone : (i : InstructionParts) (es : List EntryParts) (prices : List ℕ) → IsInstruction i → alone.PricesMeet i es prices → PricesMeet i (map Cut es) prices
 meets_from_alone i es prices v m = record {
   one_each = m.one_each;
   each_meets = λ c k. subst (λ s. Meets s (slice_index prices (index_of i c))) (sym (same_standing i c v k es)) (m.each_meets c k);
 }
 
 -- base prices keep the relation where nothing was cut
-base_meets : (i : InstructionParts) → IsInstruction i → alone.PricesMeet i [] (base_prices i)
+pub base_meets : (i : InstructionParts) → IsInstruction i → alone.PricesMeet i [] (base_prices i)
 base_meets i v = record {
   one_each = length-base_prices i v;
   each_meets = λ c k. record {
@@ -148,12 +148,12 @@ place_of (a ∷ as_) q lt = elim (cases_lt q (classes_of a)) [
 ]
 
 -- each place is a class's
-record ClassAt (i : InstructionParts) (q : ℕ) : Type 0 where
-  class : Class
-  is_class : IsClass i class
-  place : index_of i class ≡ q
+pub record ClassAt (i : InstructionParts) (q : ℕ) : Type 0 where
+  pub class : Class
+  pub is_class : IsClass i class
+  pub place : index_of i class ≡ q
 
-class_at : (i : InstructionParts) (q : ℕ) → q < classes i → ClassAt i q
+pub class_at : (i : InstructionParts) (q : ℕ) → q < classes i → ClassAt i q
 class_at i q lt =
     let p : PlaceIn i.assortments q = place_of i.assortments q lt in
     let wide : ℕ = length p.a.lengths in
@@ -171,7 +171,7 @@ class_at i q lt =
     record { class = c; is_class = k; place = omega (arith, inner_is i c k, div-add-mod' p.inner wide, p.is) }
 
 -- prices in the relation where nothing was cut are the base prices
-base_alone : (i : InstructionParts) (prices : List ℕ) → IsInstruction i → alone.PricesMeet i [] prices → prices ≡ base_prices i
+pub base_alone : (i : InstructionParts) (prices : List ℕ) → IsInstruction i → alone.PricesMeet i [] prices → prices ≡ base_prices i
 base_alone i prices v m =
     same_number_lists prices (base_prices i) (m.one_each ∙ sym (length-base_prices i v))
     (λ q lt.

@@ -8,3 +8,5 @@ pub mod Standings
 pub mod Sheets
 pub mod Books
 pub mod Alone
+pub mod Relations
+pub mod Walks

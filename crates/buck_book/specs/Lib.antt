@@ -8,4 +8,5 @@ pub mod CutsAlone
 pub mod Pricing
 pub mod Book
 pub mod Refused
+pub mod Walk
 pub mod inner

@@ -1,5 +1,5 @@
 //! The book of one thread.
-ghost use Rattle.std.specs.Prelude.{◌≡◌, ℕ, ◌+◌, ◌<◌, ◌≤◌, [], ◌∷◌, ◌++◌, false, IfOk, IfErr, IfSome, OnOk, IsTrue, ◌↔◌, length, map, vec_len, vec_capacity};
+ghost use Rattle.std.specs.Prelude.{◌≡◌, ℕ, ◌+◌, ◌<◌, ◌≤◌, [], ◌∷◌, ◌++◌, false, All, IfOk, IfErr, IfSome, OnOk, IsTrue, ◌↔◌, length, map, vec_len, vec_capacity};
 ghost use Rattle.std.specs.Option.{option_to_list, option_map};
 ghost use Rattle.buck_apt.specs.Instruction.{IsInstruction, IsClass, index_of};
 ghost use Rattle.buck_rule.specs.Stored.{Answers};
@@ -116,7 +116,7 @@ fn base_sheets(alloc: Global, instruction: Arc<Instruction>) -> Result<Vec<Arc<S
 }
 
 /// The instruction's targets, class by class.
-fn targets_at_opening(alloc: Global, instruction: &Instruction) -> Result<Vec<u32>, AllocError>
+pub fn targets_at_opening(alloc: Global, instruction: &Instruction) -> Result<Vec<u32>, AllocError>
     ensures targets { IfOk result (λ targets. targets.items ≡ opening_targets instruction.now) }
     ensures valid { IsInstruction instruction.now }
 {
@@ -168,16 +168,29 @@ fn place_of(sheet: &Sheet, stem: &Stem, log: &Log) -> u32
     }
 }
 
+/// The place of the class of each log of an admissible cutting.
+pub fn places_of(
+    alloc: Global,
+    sheet: &Sheet,
+    stem: &Stem,
+    logs: &[Log],
+) -> Result<Vec<u32>, AllocError>
+    requires { All (IsAllowed sheet.now.instruction stem.now) logs.now }
+    ensures { IfOk result (λ tally. tally.items ≡ tally_of sheet.now.instruction stem.now logs.now) }
+{
+    let mut places = Vec::with_capacity(alloc, logs.len())?;
+    for log in logs {
+        places.push(place_of(sheet, stem, log))?;
+    }
+    Ok(places)
+}
+
 /// The place of the class of each log of a plan.
-fn places_of(alloc: Global, plan: &Plan) -> Result<Vec<u32>, AllocError>
+fn tally_of(alloc: Global, plan: &Plan) -> Result<Vec<u32>, AllocError>
     ensures { IfOk result (λ tally. tally.items ≡ tally_of plan.now.sheet.instruction plan.now.stem plan.now.logs) }
 {
     let cutting = plan.cutting();
-    let mut places = Vec::with_capacity(alloc, cutting.logs.len())?;
-    for log in cutting.logs.as_slice() {
-        places.push(place_of(plan.sheet(), plan.stem(), log))?;
-    }
-    Ok(places)
+    places_of(alloc, plan.sheet(), plan.stem(), cutting.logs.as_slice())
 }
 
 impl<F: Drop> Book<F> {
@@ -267,6 +280,7 @@ impl<F: Drop> Book<F> {
             ≡ sheets_from 0 self.history.instruction self.history.sheets }
         ensures entries { result.entries.items ≡ self.history.postings }
         ensures targets { result.targets.value.items ≡ targets_of self.history.instruction self.history.postings }
+        ensures valid { AreTargets self.history.instruction result.targets.value.items }
         ensures counts { AreClassCounts self.history.instruction self.history.postings result.counts.items }
         ensures kept { IsBook self }
     {
@@ -524,7 +538,7 @@ impl<F: Fn(&Standing) -> u64> Book<F> {
     {
         let stem = plan.stem().clone()?;
         let cutting = plan.cutting().clone()?;
-        let tally = places_of(alloc, plan)?;
+        let tally = tally_of(alloc, plan)?;
         if !self.is_period_end() {
             return Ok(Ready {
                 stem,

@@ -10,7 +10,9 @@ mod plan;
 mod posting;
 mod pricing;
 mod ready;
+mod relation;
 mod targets;
+mod walk;
 
 pub use book::{Book, Parts};
 pub use buck_record::Memory;
@@ -20,3 +22,4 @@ pub use plan::Plan;
 pub use posting::{Demand, Posting};
 pub use ready::{Ready, Refusal};
 pub use targets::{TargetsFault, check_targets};
+pub use walk::Walk;

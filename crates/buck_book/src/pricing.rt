@@ -36,7 +36,7 @@ impl<'a> Model for Standings<'a> {
 
 impl<'a> Standings<'a> {
     /// What is wanted of the assortment at a place, given the classes before it.
-    fn targets_sum(&self, assortment: &Assortment, at: u8, before: usize) -> u64
+    pub fn targets_sum(&self, assortment: &Assortment, at: u8, before: usize) -> u64
         requires exists { slice_get self.now.instruction.assortments at ≡ Some assortment.now }
         requires before { before ≡ classes_before self.now.instruction at }
         ensures { result ≡ targets_sum self.now.instruction assortment.now at self.now.targets }
@@ -45,7 +45,7 @@ impl<'a> Standings<'a> {
     }
 
     /// How a class of an assortment stands, given its place among all and what is wanted of the assortment.
-    fn standing(
+    pub fn standing(
         &self,
         assortment: &Assortment,
         targets: u64,

@@ -1,0 +1,87 @@
+-- Prices in the relation, class by class.
+use Rattle.std.proofs.Common.{◌≡◌, ℕ, ◌+◌, ◌<◌, inl, inr, List, Option, Some, None, length, slice_index, refl, sym, subst, arith}
+use Rattle.std.specs.Prelude.{IfSome, IfNone}
+use Rattle.std.proofs.lemmas.Bool.{cases_lt}
+use Rattle.buck_apt.specs.declared.class.Class.{Class}
+use Rattle.buck_apt.specs.Instruction.{InstructionParts, AssortmentParts, IsClass, classes, index_of}
+use Rattle.buck_rule.specs.Relation.{Meets}
+use Rattle.buck_book.specs.declared.posting.Posting.{Posting}
+use Rattle.buck_book.specs.Posting.{targets_of}
+use Rattle.buck_book.specs.History.{PricesMeet}
+use Rattle.buck_book.specs.Walk.{IsWrongPrice}
+use Rattle.buck_book.specs.inner.Running.{AreCounts}
+use Rattle.buck_book.specs.inner.Pricing.{StandingsParts, IsClassOf, standing_by}
+use Rattle.buck_book.specs.inner.Walk.{AreMetBelow, IsFirstWrong}
+use Rattle.buck_book.proofs.Places.{one_place, place_lt, inner_is}
+use Rattle.buck_book.proofs.Standings.{one_assortment, standing_is}
+
+-- one class more
+pub met_more : (s : StandingsParts) (prices : List ℕ) (c : Class) (n : ℕ) (k : IsClass s.instruction c) → index_of s.instruction c ≡ n
+    → Meets (standing_by s k.assortment c) (slice_index prices n)
+    → AreMetBelow s prices n
+    → AreMetBelow s prices (n + 1)
+met_more s prices c n k place met below = λ d l lt. elim (cases_lt (index_of s.instruction d) n) [
+  | inl old ↦ below d l old
+  | inr new ↦ here d (one_place s.instruction c d k l (omega (arith, place))) l
+]
+  where
+    here : (d : Class) → c ≡ d → (l : IsClass s.instruction d) → Meets (standing_by s l.assortment d) (slice_index prices (index_of s.instruction d))
+    here d one =
+        subst (λ (x : Class). (l : IsClass s.instruction x) → Meets (standing_by s l.assortment x) (slice_index prices (index_of s.instruction x))) one
+        (λ l.
+        subst (λ q. Meets (standing_by s l.assortment c) (slice_index prices q)) (sym place)
+        (subst (λ a. Meets (standing_by s a c) (slice_index prices n)) (one_assortment s.instruction c k l) met))
+
+-- no class has a place below 0
+pub met_none : (s : StandingsParts) (prices : List ℕ) → AreMetBelow s prices 0
+met_none s prices = λ c k lt. absurd (omega arith)
+
+module _ (i : InstructionParts) (targets by_class by_assortment : List ℕ) (ps : List Posting) (prices : List ℕ)
+    (wanted : targets ≡ targets_of i ps) (counts : AreCounts i ps by_class by_assortment) where
+  -- by running counts that are right, the prices of all classes keep the relation after the postings
+  pub all_met : length prices ≡ classes i
+      → AreMetBelow (record { instruction = i; targets = targets; by_class = by_class; by_assortment = by_assortment }) prices (classes i)
+      → PricesMeet i ps prices
+  all_met all met = record {
+    one_each = all;
+    each_meets = λ c k.
+        subst (λ s. Meets s (slice_index prices (index_of i c))) (standing_is i targets by_class by_assortment ps c wanted counts k)
+        (met c k (place_lt i c k));
+  }
+
+  pub is_wrong : (at : ℕ) → IsFirstWrong (record { instruction = i; targets = targets; by_class = by_class; by_assortment = by_assortment }) prices at
+      → IsWrongPrice i ps prices at
+  is_wrong at w = record {
+    class = w.class;
+    exists = w.exists;
+    place = w.place;
+    wrong = λ m. w.wrong
+        (subst (λ q. Meets (standing_by (record { instruction = i; targets = targets; by_class = by_class; by_assortment = by_assortment }) w.exists.assortment w.class) (slice_index prices q)) w.place
+        (subst (λ s. Meets s (slice_index prices (index_of i w.class))) (sym (standing_is i targets by_class by_assortment ps w.class wanted counts w.exists)) m));
+    least = λ c k lt. subst (λ s. Meets s (slice_index prices (index_of i c))) (standing_is i targets by_class by_assortment ps c wanted counts k) (w.least c k lt);
+  }
+
+-- what a fact about an option gives
+pub weaken_some : {X : Type 0} {P Q : X → Type 0} (o : Option X) → ((x : X) → P x → Q x) → IfSome o P → IfSome o Q
+weaken_some None f p = p
+weaken_some (Some x) f p = f x p
+
+pub weaken_none : {X : Type 0} {P Q : Type 0} (o : Option X) → (P → Q) → IfNone o P → IfNone o Q
+weaken_none None f p = f p
+weaken_none (Some x) f p = p
+
+-- a class of a row
+pub record RowClass (i : InstructionParts) (a : AssortmentParts) (first : Class) (column : ℕ) : Type 0 where
+  pub is_class : IsClass i (record { assortment = first.assortment; row = first.row; column = column })
+  pub own : is_class.assortment ≡ a
+  pub place : index_of i (record { assortment = first.assortment; row = first.row; column = column }) ≡ index_of i first + column
+  pub below : index_of i first + column < classes i
+
+pub in_row : (i : InstructionParts) (a : AssortmentParts) (first : Class) (column : ℕ) → IsClassOf i a first → first.column ≡ 0 → column < length a.lengths
+    → RowClass i a first column
+in_row i a first column k start lt =
+    let c : Class = record { assortment = first.assortment; row = first.row; column = column } in
+    let l : IsClass i c = record { assortment = a; exists = k.exists; row = k.row; column = lt } in
+    let f : IsClass i first = record { assortment = a; exists = k.exists; row = k.row; column = k.column } in
+    let here : index_of i c ≡ index_of i first + column = omega (arith, inner_is i c l, inner_is i first f, start) in
+    record { is_class = l; own = refl; place = here; below = omega (arith, here, place_lt i c l) }

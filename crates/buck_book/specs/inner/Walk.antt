@@ -1,0 +1,58 @@
+-- What runs on along a way through postings.
+use Rattle.std.specs.Prelude.{◌≡◌, ℕ, ◌+◌, ◌*◌, ◌<◌, ◌≤◌, ◌==◌, cond, List, length, slice_index, unwrap_or}
+use Rattle.std.specs.Ordering.{nat_cmp}
+use Rattle.std.specs.BTreeMap.{get, BTreeMap}
+use Rattle.buck_apt.specs.declared.class.Class.{Class}
+use Rattle.buck_apt.specs.Instruction.{IsInstruction, IsClass, index_of}
+use Rattle.buck_rule.specs.Relation.{Meets}
+use Rattle.buck_book.specs.Posting.{ends_of, cuts_since_end, targets_of}
+use Rattle.buck_book.specs.Targets.{AreTargets}
+use Rattle.buck_book.specs.Counts.{calls_of}
+use Rattle.buck_book.specs.Walk.{WalkParts, passed}
+use Rattle.buck_book.specs.inner.Running.{AreCounts, AreAtMost}
+use Rattle.buck_book.specs.inner.Pricing.{StandingsParts, standing_by}
+
+-- how many calls a harvester has
+abbrev pub calls_in : BTreeMap ℕ ℕ → ℕ → ℕ
+calls_in calls h = unwrap_or (get nat_cmp calls h) 0
+
+-- one harvester has one call more
+abbrev pub IsCalled : BTreeMap ℕ ℕ → ℕ → BTreeMap ℕ ℕ → Type 0
+IsCalled before harvester after = (h : ℕ) → calls_in after h ≡ calls_in before h + cond (harvester == h) 1 0
+
+-- what is kept beside the place
+pub record PassedParts : Type 0 where
+  pub targets : List ℕ  -- those in force
+  pub cuts : ℕ  -- since the last end
+  pub version : ℕ
+  pub by_class : List ℕ
+  pub by_assortment : List ℕ
+  pub calls : ℕ → ℕ  -- by harvester
+
+-- it is what the postings that were passed say
+pub record Tells (w : WalkParts) (n : PassedParts) : Type 0 where
+  pub valid : IsInstruction w.instruction
+  pub few : length w.postings ≤ 1000000
+  pub within : w.at ≤ length w.postings
+  pub targets_are : n.targets ≡ targets_of w.instruction (passed w)
+  pub targets_valid : AreTargets w.instruction n.targets
+  pub cuts_are : n.cuts ≡ cuts_since_end w.instruction (passed w)
+  pub version_is : n.version ≡ ends_of w.instruction (passed w)
+  pub counts_are : AreCounts w.instruction (passed w) n.by_class n.by_assortment
+  pub counts_low : AreAtMost (80 * w.at) n.by_class n.by_assortment
+  pub calls_are : (h : ℕ) → n.calls h ≡ calls_of h (passed w)
+
+-- the prices of all classes below a place keep the price relation
+abbrev pub AreMetBelow : StandingsParts → List ℕ → ℕ → Type 0
+AreMetBelow s prices n =
+    (c : Class) (k : IsClass s.instruction c)
+    → index_of s.instruction c < n
+    → Meets (standing_by s k.assortment c) (slice_index prices (index_of s.instruction c))
+
+-- the price of the class at this place doesn't, and those of all classes before it do
+pub record IsFirstWrong (s : StandingsParts) (prices : List ℕ) (at : ℕ) : Type 0 where
+  pub class : Class
+  pub exists : IsClass s.instruction class
+  pub place : index_of s.instruction class ≡ at
+  pub wrong : Meets (standing_by s exists.assortment class) (slice_index prices at) → ⊥
+  pub least : AreMetBelow s prices at
