@@ -2,3 +2,10 @@ pub mod Tuples
 pub mod Limits
 pub mod Walk
 pub mod Stages
+pub mod Replays
+pub mod Faults
+pub mod NoFault
+pub mod Lines
+pub mod Again
+pub mod Texts
+pub mod Within

@@ -1,3 +1,5 @@
 pub mod Written
 pub mod Journal
+pub mod Replay
+pub mod Ranges
 pub mod inner

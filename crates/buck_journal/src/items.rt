@@ -1,5 +1,5 @@
 //! The items of a journal, one by one.
-ghost use Rattle.std.specs.Prelude.{◌≡◌, ◌≤◌, ◌<◌, ◌+◌, IfOk, length, true};
+ghost use Rattle.std.specs.Prelude.{◌≡◌, ◌≤◌, ◌<◌, ◌+◌, IfOk, OnOk, length, true};
 ghost use Rattle.buck_record.specs.Table.{is_at};
 ghost use Rattle.buck_record.specs.Rules.{slot, all_within};
 ghost use Rattle.buck_record.specs.Reading.{Gives, listed};
@@ -147,7 +147,8 @@ pub(crate) fn call_at<'a>(
     before: usize,
 ) -> Result<Call, JournalFault>
     requires { k ≤ length items.now + 5 }
-    ensures { Gives Memory result (call_at slot items.now k before) }
+    ensures value { Gives Memory result (call_at slot items.now k before) }
+    ensures few { OnOk result (before < 1000000) }
 {
     let numbers = numbers_at(alloc, slot, items, k)?;
     if numbers.len() != 3 {

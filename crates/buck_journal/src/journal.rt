@@ -1,5 +1,5 @@
 //! Journals, and how one is read.
-ghost use Rattle.std.specs.Prelude.{◌≡◌};
+ghost use Rattle.std.specs.Prelude.{◌≡◌, ◌≤◌, IfOk, length};
 ghost use Rattle.buck_record.specs.Reading.{Gives};
 ghost use Rattle.buck_journal.specs.declared.fault.JournalFault.TheVariants.{Memory};
 ghost use Rattle.buck_journal.specs.Journal.{says_journal, journal_in, journal_of};
@@ -46,7 +46,8 @@ fn says_journal(items: &[Piece<'_>]) -> bool
 /// The journal of a file's items.
 #[tactic(auto, unfolding(crate::specs::Journal::journal_in))]
 fn journal_in<'a>(alloc: Global, items: &'a [Piece<'a>]) -> Result<Journal, JournalFault>
-    ensures { Gives Memory result (journal_in items.now) }
+    ensures value { Gives Memory result (journal_in items.now) }
+    ensures few { IfOk result (λ journal. length journal.entries ≤ 1000000) }
 {
     check(says_journal(items), JournalFault::NotJournal)?;
     let sheets = sheets_in(alloc, items)?;
@@ -57,9 +58,10 @@ fn journal_in<'a>(alloc: Global, items: &'a [Piece<'a>]) -> Result<Journal, Jour
 /// Reads a journal, whose bytes are items between tildes (see docs/FORMATS.md).
 ///
 /// The answer is what was written, or the first refusal that applies, as [`JournalFault`] says; and `Memory` where a
-/// growth was refused. A journal needs no sheet and no posting. Its items stand in one sequence, and none is skipped.
+/// growth was refused. A journal needs no sheet and no posting, and has at most 1,000,000 postings. Its items stand in one sequence, and none is skipped.
 pub fn read_journal(alloc: Global, bytes: &[u8]) -> Result<Journal, JournalFault>
-    ensures { Gives Memory result (journal_of bytes.now) }
+    ensures value { Gives Memory result (journal_of bytes.now) }
+    ensures few { IfOk result (λ journal. length journal.entries ≤ 1000000) }
 {
     let items = items_in(alloc, bytes, fault::head)?;
     journal_in(alloc, items.as_slice())

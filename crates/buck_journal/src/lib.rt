@@ -2,14 +2,20 @@
 #![tactic(auto)]
 
 mod call;
+mod checks;
 mod fault;
 mod items;
 mod journal;
+pub mod laws;
 mod parts;
 mod postings;
+mod replay_fault;
+mod replaying;
 mod writing;
 
 pub use buck_record::Memory;
 pub use fault::JournalFault;
 pub use journal::{Journal, read_journal};
+pub use replay_fault::ReplayFault;
+pub use replaying::replay;
 pub use writing::journal_text;

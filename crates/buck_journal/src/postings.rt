@@ -1,5 +1,5 @@
 //! The sheets and the postings of a journal's items.
-ghost use Rattle.std.specs.Prelude.{◌≡◌, ◌<◌, ◌≤◌, ◌+◌, length, drop, map, slice_get};
+ghost use Rattle.std.specs.Prelude.{◌≡◌, ◌<◌, ◌≤◌, ◌+◌, IfOk, OnOk, length, drop, map, slice_get};
 ghost use Rattle.buck_record.specs.Reading.{Gives, listed};
 ghost use Rattle.buck_journal.specs.declared.fault.JournalFault.TheVariants.{Memory};
 ghost use Rattle.buck_journal.specs.inner.Lists.{lists_in};
@@ -55,7 +55,8 @@ fn cut_at<'a>(
     before: usize,
 ) -> Result<Posting, JournalFault>
     requires { k < length items.now }
-    ensures { Gives Memory result (cut_at items.now k before) }
+    ensures value { Gives Memory result (cut_at items.now k before) }
+    ensures few { OnOk result (before < 1000000) }
 {
     let call = call_at(alloc, CUT, items, k, before)?;
     let stem = stem_at(alloc, items, k + 1)?;
@@ -83,7 +84,8 @@ fn demand_at<'a>(
     before: usize,
 ) -> Result<Posting, JournalFault>
     requires { k < length items.now }
-    ensures { Gives Memory result (demand_at items.now k before) }
+    ensures value { Gives Memory result (demand_at items.now k before) }
+    ensures few { OnOk result (before < 1000000) }
 {
     let call = call_at(alloc, DEMAND, items, k, before)?;
     let targets = targets_at(alloc, items, k + 1)?;
@@ -107,7 +109,8 @@ fn posting_at<'a>(
     before: usize,
 ) -> Result<Posting, JournalFault>
     requires { k < length items.now }
-    ensures { Gives Memory result (posting_at first.now items.now k before) }
+    ensures value { Gives Memory result (posting_at first.now items.now k before) }
+    ensures few { OnOk result (before < 1000000) }
 {
     if is_at(first, CUT) {
         cut_at(alloc, items, k, before)
@@ -139,7 +142,8 @@ pub(crate) fn postings_in<'a>(
     alloc: Global,
     items: &'a [Piece<'a>],
 ) -> Result<Vec<Posting>, JournalFault>
-    ensures { Gives Memory (listed result) (postings_from items.now 0 0 items.now) }
+    ensures value { Gives Memory (listed result) (postings_from items.now 0 0 items.now) }
+    ensures few { IfOk result (λ postings. length postings.items ≤ 1000000) }
 {
     let mut postings = Vec::new(alloc);
     for k in 0..items.len() {

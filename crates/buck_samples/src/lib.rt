@@ -3,8 +3,10 @@
 
 mod fault;
 mod instruction;
+mod journal;
 mod stem;
 
 pub use fault::SampleFault;
 pub use instruction::{MAX, SAW, SAW_AND_POLE, edited, instruction_of, saw_instruction, saw_text};
+pub use journal::two_stem_journal;
 pub use stem::{stem_of, stem_text, uniform_stem};

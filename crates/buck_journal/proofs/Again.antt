@@ -1,0 +1,289 @@
+-- Items that were written are read again as what was written.
+use Rattle.std.proofs.Common.{◌≡◌, ℕ, suc, ◌+◌, ◌*◌, ◌%◌, ◌<◌, ◌≤◌, ◌==◌, ◌&&◌, true, List, [], ◌∷◌, ◌++◌, Some, Ok, length, map, slice_get, refl, ap, ◌∙◌, arith, eq-eqb}
+use Rattle.std.specs.Prelude.{nat_le, nat_lt}
+use Rattle.std.specs.List.{AllByRecursion, flat_map}
+use Rattle.std.proofs.lemmas.Bool.Decides.{nat_tests}
+use Rattle.buck_record.specs.Item.{ItemParts}
+use Rattle.buck_record.specs.Rules.{slot, within, all_within}
+use Rattle.buck_record.proofs.PassLemmas.{both, within_ok}
+use Rattle.buck_stem.specs.Stm.{zones_of}
+use Rattle.buck_value.specs.declared.log.Log.{Log}
+use Rattle.buck_book.specs.declared.posting.Posting.{Posting}
+use Rattle.buck_book.specs.declared.posting.Posting.TheVariants.{Cut, Demand}
+use Rattle.buck_book.specs.Entry.{EntryParts, DemandParts}
+use Rattle.buck_journal.specs.declared.call.Call.{Call}
+use Rattle.buck_journal.specs.Journal.{rest_at, numbers_at, sheet_at, is_call, call_at, head_at, samples_at, is_zone, are_zones, zones_at, stem_at, is_log, are_logs, logs_of, logs_at, worth_at, targets_at, follows, posting_follows, cut_at, demand_at, posting_at, sheets_from, postings_from, journal_in}
+use Rattle.buck_journal.specs.Written.{zone_numbers, log_numbers}
+use Rattle.buck_journal.specs.Ranges.{AreSheetPrices, call_of_cut, call_of_demand, IsCutInRange, IsDemandInRange, IsInRange}
+use Rattle.buck_journal.proofs.Lines.{told, numbers_told, worth_told, kind_item}
+
+-- an item of numbers
+abbrev pub made : ℕ → ℕ → List ℕ → ItemParts
+made number kind ns = record { number = number; kind = kind; rest = told ns }
+
+nat_le_yes : (a b : ℕ) → a ≤ b → nat_le a b ≡ true
+nat_le_yes a b le = grind (arith, nat_tests)
+
+nat_lt_yes : (a b : ℕ) → a < b → nat_lt a b ≡ true
+nat_lt_yes a b lt = grind (arith, nat_tests)
+
+version_small : (v : ℕ) → nat_le v 1000000 ≡ true → v ≤ 4294967295
+version_small v h = let le : v ≤ 1000000 = grind (arith, nat_tests) in omega arith
+
+-- numbers that are in range are small
+pub in_small : (low high : ℕ) (ns : List ℕ) → high ≤ 4294967295 → all_within low high ns ≡ true → AllByRecursion (λ n. n ≤ 4294967295) ns
+in_small low high [] le h = tt
+in_small low high (n ∷ ns) le h =
+    let p = both (within low high n) (all_within low high ns) h in
+    (omega (arith, (within_ok low high n p.0).1), in_small low high ns le p.1)
+
+module _ (items : List ItemParts) (k : ℕ) where
+  pub sheet_again : (prices : List ℕ) → slice_get items k ≡ Some (made 971 1 prices) → AreSheetPrices prices → sheet_at items k ≡ Ok prices
+  unfolding sheet_at numbers_at rest_at
+  sheet_again prices there r =
+      rw (there, numbers_told prices (in_small 0 20000000 prices (omega arith) r.range), nat_le_yes (length prices) 16384 r.number, r.range) refl
+
+  pub samples_again : (samples : List ℕ) → slice_get items k ≡ Some (made 981 3 samples) → within 1 401 (length samples) ≡ true → all_within 0 1500 samples ≡ true
+      → samples_at items k ≡ Ok samples
+  unfolding samples_at numbers_at rest_at
+  samples_again samples there number range =
+      rw (there, numbers_told samples (in_small 0 1500 samples (omega arith) range), number, range) refl
+
+  pub targets_again : (targets : List ℕ) → slice_get items k ≡ Some (made 982 2 targets) → length targets ≤ 16384 → all_within 0 1000000 targets ≡ true → targets_at items k ≡ Ok targets
+  unfolding targets_at numbers_at rest_at
+  targets_again targets there number range =
+      rw (there, numbers_told targets (in_small 0 1000000 targets (omega arith) range), nat_le_yes (length targets) 16384 number, range) refl
+
+  pub head_again : (number species : ℕ) → slice_get items k ≡ Some (made 981 2 (number ∷ species ∷ [])) → number ≤ 4294967295 → within 1 255 species ≡ true
+      → head_at items k ≡ Ok (number, species)
+  unfolding head_at numbers_at rest_at
+  head_again number species there le range =
+      rw (there, numbers_told (number ∷ species ∷ []) (le, ((let h = within_ok 1 255 species range in omega (arith, h.1)), tt)), range) refl
+
+  pub worth_again : (worth : ℕ) → slice_get items k ≡ Some (made 981 6 (worth ∷ [])) → worth ≤ 18446744073709551615 → worth_at items k ≡ Ok worth
+  unfolding worth_at rest_at
+  worth_again worth there le = rw (there, worth_told worth le) refl
+
+  pub call_small : (c : Call) → is_call c ≡ true → AllByRecursion (λ n. n ≤ 4294967295) (c.harvester ∷ c.number ∷ c.version ∷ [])
+  call_small c h =
+      let p = both (within 1 64 c.harvester) (within 1 1000000 c.number && nat_le c.version 1000000) h in
+      let q = both (within 1 1000000 c.number) (nat_le c.version 1000000) p.1 in
+      (omega (arith, (within_ok 1 64 c.harvester p.0).1), (omega (arith, (within_ok 1 1000000 c.number q.0).1), (version_small c.version q.1, tt)))
+
+  pub cut_call_again : (c : Call) (before : ℕ) → slice_get items k ≡ Some (made 981 1 (c.harvester ∷ c.number ∷ c.version ∷ [])) → is_call c ≡ true → before < 1000000
+      → call_at (slot 981 1) items k before ≡ Ok c
+  unfolding call_at numbers_at rest_at
+  cut_call_again c before there range few =
+      rw (there, numbers_told (c.harvester ∷ c.number ∷ c.version ∷ []) (call_small c range), nat_lt_yes before 1000000 few, range) refl
+
+  pub demand_call_again : (c : Call) (before : ℕ) → slice_get items k ≡ Some (made 982 1 (c.harvester ∷ c.number ∷ c.version ∷ [])) → is_call c ≡ true → before < 1000000
+      → call_at (slot 982 1) items k before ≡ Ok c
+  unfolding call_at numbers_at rest_at
+  demand_call_again c before there range few =
+      rw (there, numbers_told (c.harvester ∷ c.number ∷ c.version ∷ []) (call_small c range), nat_lt_yes before 1000000 few, range) refl
+
+-- zones and their numbers
+pub zones_back : (zones : List (ℕ × ℕ)) → zones_of (zone_numbers zones) ≡ zones
+zones_back [] = refl
+zones_back (z ∷ zs) = ap (λ ys. z ∷ ys) (zones_back zs)
+
+pub zones_length : (zones : List (ℕ × ℕ)) → length (zone_numbers zones) ≡ 2 * length zones
+zones_length [] = refl
+zones_length (z ∷ zs) = let h = zones_length zs in omega arith
+
+pub zones_small : (low : ℕ) (zones : List (ℕ × ℕ)) → are_zones low (zone_numbers zones) ≡ true → AllByRecursion (λ n. n ≤ 4294967295) (zone_numbers zones)
+zones_small low [] h = tt
+zones_small low (z ∷ zs) h =
+    let p = both (is_zone low z.0 z.1) (are_zones (z.0 + 1) (zone_numbers zs)) h in
+    let q = both (within low 40000 z.0) (within 1 8 z.1) p.0 in
+    (omega (arith, (within_ok low 40000 z.0 q.0).1), (omega (arith, (within_ok 1 8 z.1 q.1).1), zones_small (z.0 + 1) zs p.1))
+
+-- logs and their numbers
+pub logs_back : (logs : List Log) → logs_of (log_numbers logs) ≡ logs
+logs_back [] = refl
+logs_back (g ∷ gs) = ap (λ ys. g ∷ ys) (logs_back gs)
+
+pub logs_length : (logs : List Log) → length (log_numbers logs) ≡ 3 * length logs
+logs_length [] = refl
+logs_length (g ∷ gs) = let h = logs_length gs in omega arith
+
+pub logs_small : (logs : List Log) → are_logs (log_numbers logs) ≡ true → AllByRecursion (λ n. n ≤ 4294967295) (log_numbers logs)
+logs_small [] h = tt
+logs_small (g ∷ gs) h =
+    let p = both (is_log g.start g.length g.assortment) (are_logs (log_numbers gs)) h in
+    let q = both (within 0 40000 g.start) (within 0 30000 g.length && within 0 15 g.assortment) p.0 in
+    let r = both (within 0 30000 g.length) (within 0 15 g.assortment) q.1 in
+    (omega (arith, (within_ok 0 40000 g.start q.0).1), (omega (arith, (within_ok 0 30000 g.length r.0).1), (omega (arith, (within_ok 0 15 g.assortment r.1).1), logs_small gs p.1)))
+
+even_rest : (n m : ℕ) → n ≡ 2 * m → (n % 2 == 0) ≡ true
+even_rest n m e = eq-eqb (n % 2) 0 (omega arith)
+
+third_rest : (n m : ℕ) → n ≡ 3 * m → (n % 3 == 0) ≡ true
+third_rest n m e = eq-eqb (n % 3) 0 (omega arith)
+
+module _ (items : List ItemParts) (k : ℕ) where
+  pub zones_again : (zones : List (ℕ × ℕ)) → slice_get items k ≡ Some (made 981 4 (zone_numbers zones)) → length zones ≤ 100 → are_zones 0 (zone_numbers zones) ≡ true
+      → zones_at items k ≡ Ok zones
+  unfolding zones_at numbers_at rest_at
+  zones_again zones there number range =
+      rw (
+        there,
+        numbers_told (zone_numbers zones) (zones_small 0 zones range),
+        even_rest (length (zone_numbers zones)) (length zones) (zones_length zones),
+        nat_le_yes (length (zone_numbers zones)) 200 (omega (arith, zones_length zones)),
+        range,
+        zones_back zones,
+      ) refl
+
+  pub logs_again : (logs : List Log) → slice_get items k ≡ Some (made 981 5 (log_numbers logs)) → length logs ≤ 80 → are_logs (log_numbers logs) ≡ true
+      → logs_at items k ≡ Ok logs
+  unfolding logs_at numbers_at rest_at
+  logs_again logs there number range =
+      rw (
+        there,
+        numbers_told (log_numbers logs) (logs_small logs range),
+        third_rest (length (log_numbers logs)) (length logs) (logs_length logs),
+        nat_le_yes (length (log_numbers logs)) 240 (omega (arith, logs_length logs)),
+        range,
+        logs_back logs,
+      ) refl
+
+-- what stands from a place on
+abbrev Stands : List ItemParts → ℕ → List ItemParts → Type 0
+Stands items k rest = (j : ℕ) → slice_get items (k + j) ≡ slice_get rest j
+
+next_stands : (items : List ItemParts) (k : ℕ) (x : ItemParts) (rest : List ItemParts) → Stands items k (x ∷ rest) → Stands items (k + 1) rest
+next_stands items k x rest at j =
+    let e : k + 1 + j ≡ k + suc j = omega arith in
+    ap (slice_get items) e ∙ at (suc j)
+
+first_stands : (items : List ItemParts) (k : ℕ) (x : ItemParts) (rest : List ItemParts) → Stands items k (x ∷ rest) → slice_get items k ≡ Some x
+first_stands items k x rest at =
+    let e : k ≡ k + 0 = omega arith in
+    ap (slice_get items) e ∙ at 0
+
+abbrev pub posting_items : Posting → List ItemParts
+posting_items (Cut e) =
+    made 981 1 (e.harvester ∷ e.number ∷ e.version ∷ [])
+    ∷ made 981 2 (e.stem.number ∷ e.stem.species ∷ [])
+    ∷ made 981 3 e.stem.samples
+    ∷ made 981 4 (zone_numbers e.stem.zones)
+    ∷ made 981 5 (log_numbers e.logs)
+    ∷ made 981 6 (e.worth ∷ [])
+    ∷ []
+posting_items (Demand d) = made 982 1 (d.harvester ∷ d.number ∷ d.version ∷ []) ∷ made 982 2 d.targets ∷ []
+
+then_follows : (place : ℕ) (ps : List Posting) → follows place (slice_get (flat_map posting_items ps) 0) ≡ Ok tt
+then_follows place [] = refl
+then_follows place (Cut e ∷ ps) = refl
+then_follows place (Demand d ∷ ps) = refl
+
+follows_again : (items : List ItemParts) (k : ℕ) (ps : List Posting) → Stands items k (flat_map posting_items ps) → posting_follows items k ≡ Ok tt
+unfolding posting_follows
+follows_again items k ps at =
+    let e : k ≡ k + 0 = omega arith in
+    ap (follows (k + 1)) (ap (slice_get items) e ∙ at 0) ∙ then_follows (k + 1) ps
+
+module _ (items : List ItemParts) (k before : ℕ) (few : before < 1000000) where
+  cut_again : (e : EntryParts) → IsCutInRange e
+      → slice_get items k ≡ Some (made 981 1 (e.harvester ∷ e.number ∷ e.version ∷ []))
+      → slice_get items (k + 1) ≡ Some (made 981 2 (e.stem.number ∷ e.stem.species ∷ []))
+      → slice_get items (k + 1 + 1) ≡ Some (made 981 3 e.stem.samples)
+      → slice_get items (k + 1 + 2) ≡ Some (made 981 4 (zone_numbers e.stem.zones))
+      → slice_get items (k + 4) ≡ Some (made 981 5 (log_numbers e.logs))
+      → slice_get items (k + 5) ≡ Some (made 981 6 (e.worth ∷ []))
+      → posting_follows items (k + 6) ≡ Ok tt
+      → cut_at items k before ≡ Ok (Cut e)
+  unfolding cut_at stem_at
+  cut_again e r a b c d f g goes_on =
+      rw (
+        cut_call_again items k (call_of_cut e) before a r.call few,
+        head_again items (k + 1) e.stem.number e.stem.species b r.stem_number r.species,
+        samples_again items (k + 1 + 1) e.stem.samples c r.samples_number r.samples_range,
+        zones_again items (k + 1 + 2) e.stem.zones d r.zones_number r.zones_range,
+        logs_again items (k + 4) e.logs f r.logs_number r.logs_range,
+        worth_again items (k + 5) e.worth g r.worth,
+        goes_on,
+      ) refl
+
+  demand_again : (d : DemandParts) → IsDemandInRange d
+      → slice_get items k ≡ Some (made 982 1 (d.harvester ∷ d.number ∷ d.version ∷ []))
+      → slice_get items (k + 1) ≡ Some (made 982 2 d.targets)
+      → posting_follows items (k + 2) ≡ Ok tt
+      → demand_at items k before ≡ Ok (Demand d)
+  unfolding demand_at
+  demand_again d r a b goes_on =
+      rw (
+        demand_call_again items k (call_of_demand d) before a r.call few,
+        targets_again items (k + 1) d.targets b r.targets_number r.targets_range,
+        goes_on,
+      ) refl
+
+  cut_stands : (e : EntryParts) (ps : List Posting) → IsCutInRange e → Stands items k (flat_map posting_items (Cut e ∷ ps)) → cut_at items k before ≡ Ok (Cut e)
+  cut_stands e ps r at =
+      cut_again e r (ap (slice_get items) (let q : k ≡ k + 0 = omega arith in q) ∙ at 0) (at 1)
+      (ap (slice_get items) (let q : k + 1 + 1 ≡ k + 2 = omega arith in q) ∙ at 2)
+      (ap (slice_get items) (let q : k + 1 + 2 ≡ k + 3 = omega arith in q) ∙ at 3)
+      (at 4) (at 5)
+      (follows_again items (k + 6) ps (λ j. ap (slice_get items) (let q : k + 6 + j ≡ k + suc (suc (suc (suc (suc (suc j))))) = omega arith in q) ∙ at (suc (suc (suc (suc (suc (suc j))))))))
+
+  demand_stands : (d : DemandParts) (ps : List Posting) → IsDemandInRange d → Stands items k (flat_map posting_items (Demand d ∷ ps)) → demand_at items k before ≡ Ok (Demand d)
+  demand_stands d ps r at =
+      demand_again d r (ap (slice_get items) (let q : k ≡ k + 0 = omega arith in q) ∙ at 0) (at 1)
+      (follows_again items (k + 2) ps (λ j. ap (slice_get items) (let q : k + 2 + j ≡ k + suc (suc j) = omega arith in q) ∙ at (suc (suc j))))
+
+abbrev pub sheet_item : List ℕ → ItemParts
+sheet_item prices = made 971 1 prices
+
+module _ (items : List ItemParts) where
+  stands_past_cut : (k : ℕ) (e : EntryParts) (ps : List Posting) → Stands items k (flat_map posting_items (Cut e ∷ ps)) → Stands items (k + 1 + 1 + 1 + 1 + 1 + 1) (flat_map posting_items ps)
+  stands_past_cut k e ps at = λ j. ap (slice_get items) (let q : k + 1 + 1 + 1 + 1 + 1 + 1 + j ≡ k + suc (suc (suc (suc (suc (suc j))))) = omega arith in q) ∙ at (suc (suc (suc (suc (suc (suc j))))))
+
+  stands_past_demand : (k : ℕ) (d : DemandParts) (ps : List Posting) → Stands items k (flat_map posting_items (Demand d ∷ ps)) → Stands items (k + 1 + 1) (flat_map posting_items ps)
+  stands_past_demand k d ps at = λ j. ap (slice_get items) (let q : k + 1 + 1 + j ≡ k + suc (suc j) = omega arith in q) ∙ at (suc (suc j))
+
+  postings_again : (k before : ℕ) (ps : List Posting) → AllByRecursion IsInRange ps → before + length ps ≤ 1000000 → Stands items k (flat_map posting_items ps)
+      → postings_from items k before (flat_map posting_items ps) ≡ Ok ps
+  unfolding postings_from posting_at
+  postings_again k before [] r few at = refl
+  postings_again k before (Cut e ∷ ps) r few at =
+      rw (
+        cut_stands items k before (omega arith) e ps r.0 at,
+        postings_again (k + 1 + 1 + 1 + 1 + 1 + 1) (before + 1) ps r.1 (omega arith) (stands_past_cut k e ps at),
+      ) refl
+  postings_again k before (Demand d ∷ ps) r few at =
+      rw (
+        demand_stands items k before (omega arith) d ps r.0 at,
+        postings_again (k + 1 + 1) (before + 1) ps r.1 (omega arith) (stands_past_demand k d ps at),
+      ) refl
+
+  no_more_sheets : (k : ℕ) (ps : List Posting) → sheets_from items k (flat_map posting_items ps) ≡ Ok []
+  unfolding sheets_from
+  no_more_sheets k [] = refl
+  no_more_sheets k (Cut e ∷ ps) = refl
+  no_more_sheets k (Demand d ∷ ps) = refl
+
+  sheets_again : (k : ℕ) (pss : List (List ℕ)) (ps : List Posting) → AllByRecursion AreSheetPrices pss → Stands items k (map sheet_item pss ++ flat_map posting_items ps)
+      → sheets_from items k (map sheet_item pss ++ flat_map posting_items ps) ≡ Ok pss
+  unfolding sheets_from
+  sheets_again k [] ps r at = no_more_sheets k ps
+  sheets_again k (prices ∷ pss) ps r at =
+      rw (
+        sheet_again items k prices (first_stands items k _ _ at) r.0,
+        sheets_again (k + 1) pss ps r.1 (next_stands items k _ _ at),
+      ) refl
+
+  past_sheets : (k : ℕ) (pss : List (List ℕ)) (ps : List Posting) → AllByRecursion IsInRange ps → length ps ≤ 1000000 → Stands items k (map sheet_item pss ++ flat_map posting_items ps)
+      → postings_from items k 0 (map sheet_item pss ++ flat_map posting_items ps) ≡ Ok ps
+  unfolding postings_from
+  past_sheets k [] ps r few at = postings_again k 0 ps r (omega arith) at
+  past_sheets k (prices ∷ pss) ps r few at = past_sheets (k + 1) pss ps r few (next_stands items k _ _ at)
+
+-- the journal of items that were written
+pub journal_again : (pss : List (List ℕ)) (ps : List Posting) → AllByRecursion AreSheetPrices pss → AllByRecursion IsInRange ps → length ps ≤ 1000000
+    → journal_in (kind_item ∷ (map sheet_item pss ++ flat_map posting_items ps)) ≡ Ok (record { sheets = pss; entries = ps })
+unfolding journal_in postings_from
+journal_again pss ps r q few =
+    let items : List ItemParts = kind_item ∷ (map sheet_item pss ++ flat_map posting_items ps) in
+    let at : Stands items 1 (map sheet_item pss ++ flat_map posting_items ps) = λ j. ap (slice_get items) (let q : 1 + j ≡ suc j = omega arith in q) in
+    rw (sheets_again items 1 pss ps r at, past_sheets items 1 pss ps q few at) refl

@@ -1,0 +1,191 @@
+-- A history in which no fault stands is lawful: what isn't wrong is right.
+use Rattle.std.proofs.Common.{◌≡◌, ℕ, zero, suc, ◌+◌, ◌<◌, ◌≤◌, ◌⊎◌, inl, inr, List, [], ◌∷◌, length, take, slice_get, Some, refl, sym, ◌∙◌, ap, subst, arith}
+use Rattle.std.specs.Prelude.{Contains, slice_index}
+use Rattle.std.proofs.lemmas.Bool.{cases_eq, cases_lt, cases_order}
+use Rattle.std.proofs.lemmas.Map.Made.{Contains-tail}
+use Rattle.std.proofs.lemmas.Option.{slice_get_within, slice_get_cases, same_Some}
+use Rattle.buck_apt.specs.declared.class.Class.{Class}
+use Rattle.buck_apt.specs.Instruction.{InstructionParts, AssortmentParts, IsInstruction, IsClass, index_of}
+use Rattle.buck_rule.specs.declared.standing.Standing.{Standing}
+use Rattle.buck_rule.specs.Relation.{Meets}
+use Rattle.buck_stem.specs.Stem.{StemParts}
+use Rattle.buck_value.specs.declared.log.Log.{Log}
+use Rattle.buck_value.specs.Sheet.{SheetParts}
+use Rattle.buck_value.specs.Allowed.{IsAllowed, Allows, end_of}
+use Rattle.buck_dp.specs.Cutting.{IsCutFrom}
+use Rattle.buck_dp.specs.Best.{IsAdmissible, cutting_worth}
+use Rattle.buck_book.specs.declared.posting.Posting.{Posting}
+use Rattle.buck_book.specs.declared.posting.Posting.TheVariants as posting
+use Rattle.buck_book.specs.Targets.{AreTargets}
+use Rattle.buck_book.specs.History.{HistoryParts, IsLawful, Follows, standing_of}
+use Rattle.buck_book.specs.Walk.{MeetsAfter}
+use Rattle.buck_journal.specs.declared.replay_fault.ReplayFault.{ReplayFault}
+use Rattle.buck_journal.specs.declared.replay_fault.ReplayFault.TheVariants.{Sheet, Price, Numbering, Version, Cutting, Worth, Outvalued, Targets}
+use Rattle.buck_journal.specs.Replay.{version_at, prices_then, Begins, HasSheet, IsSheetRight, IsSheetFault, IsContentFault, IsPostingFault, IsNumbered, IsOfVersion, IsFaultAt, IsRightBefore, IsFirstFault}
+use Rattle.buck_journal.specs.inner.Replay.{sheet_then, HoldsUnder}
+use Rattle.buck_journal.proofs.Replays.{follows_here, lawful_when}
+
+eq_of : (a b : ℕ) → ((a ≡ b → ⊥) → ⊥) → a ≡ b
+eq_of a b nn = elim (cases_eq a b) [ inl e ↦ e | inr ne ↦ absurd (nn ne) ]
+
+le_of : (a b : ℕ) → ((a ≤ b → ⊥) → ⊥) → a ≤ b
+le_of a b nn = elim (cases_lt b a) [ inl gt ↦ absurd (nn (λ le. absurd (omega arith))) | inr le ↦ omega arith ]
+
+lt_of : (a b : ℕ) → ((a < b → ⊥) → ⊥) → a < b
+lt_of a b nn = elim (cases_lt a b) [ inl lt ↦ lt | inr ge ↦ absurd (nn (λ lt. absurd (omega arith))) ]
+
+contains_or : (xs : List ℕ) (x : ℕ) → Contains xs x ⊎ (Contains xs x → ⊥)
+contains_or [] x = inr (λ c. absurd (let lt = c.1 in omega arith))
+contains_or (y ∷ ys) x = elim (cases_eq y x) [
+  | inl same ↦ inl (0, omega arith, same)
+  | inr other ↦ elim (contains_or ys x) [
+    | inl c ↦ inl (suc c.0, (let lt = c.1 in omega arith), c.2)
+    | inr none ↦ inr (λ c. none (Contains-tail y ys x other c))
+  ]
+]
+
+contains_of : (xs : List ℕ) (x : ℕ) → ((Contains xs x → ⊥) → ⊥) → Contains xs x
+contains_of xs x nn = elim (contains_or xs x) [ inl c ↦ c | inr none ↦ absurd (nn none) ]
+
+allows_of : (step : ℕ) (a : AssortmentParts) (stem : StemParts) (g : Log) → ((Allows step a stem g → ⊥) → ⊥) → Allows step a stem g
+allows_of step a stem g nn = record {
+  species = eq_of _ _ (λ no_. nn (λ al. no_ al.species));
+  on_module = eq_of _ _ (λ no_. nn (λ al. no_ al.on_module));
+  length_offered = contains_of _ _ (λ no_. nn (λ al. no_ al.length_offered));
+  within = le_of _ _ (λ no_. nn (λ al. no_ al.within));
+  grades = λ x ge lt. contains_of _ _ (λ no_. nn (λ al. no_ (al.grades x ge lt)));
+  thick_enough = le_of _ _ (λ no_. nn (λ al. no_ al.thick_enough));
+  thin_enough = lt_of _ _ (λ no_. nn (λ al. no_ al.thin_enough));
+  priced = λ z. nn (λ al. al.priced z);
+}
+
+allowed_of : (i : InstructionParts) (stem : StemParts) (g : Log) → ((IsAllowed i stem g → ⊥) → ⊥) → IsAllowed i stem g
+allowed_of i stem g nn = elim (slice_get_cases i.assortments g.assortment).1 [
+  | inl some ↦ record {
+    assortment = some.0;
+    exists = some.2;
+    allows = allows_of i.«module» some.0 stem g (λ no_. nn (λ al.
+        no_ (subst (λ a. Allows i.«module» a stem g) (same_Some al.assortment some.0 (sym al.exists ∙ some.2)) al.allows)));
+  }
+  | inr past ↦ absurd (nn (λ al. absurd (omega (arith, past.0, slice_get_within i.assortments g.assortment al.assortment al.exists))))
+]
+
+cut_of : (i : InstructionParts) (stem : StemParts) (from : ℕ) (gs : List Log) → ((IsCutFrom (IsAllowed i stem) (end_of i) from gs → ⊥) → ⊥)
+    → IsCutFrom (IsAllowed i stem) (end_of i) from gs
+cut_of i stem from [] nn = tt
+cut_of i stem from (g ∷ gs) nn = (
+  le_of _ _ (λ no_. nn (λ c. no_ c.0)),
+  allowed_of i stem g (λ no_. nn (λ c. no_ c.1)),
+  cut_of i stem (end_of i g) gs (λ no_. nn (λ c. no_ c.2)),
+)
+
+targets_of : (i : InstructionParts) (targets : List ℕ) → ((AreTargets i targets → ⊥) → ⊥) → AreTargets i targets
+targets_of i targets nn = record {
+  one_each = eq_of _ _ (λ no_. nn (λ t. no_ t.one_each));
+  low = λ k lt. le_of _ _ (λ no_. nn (λ t. no_ (t.low k lt)));
+  low_sums = λ at lt a exists. le_of _ _ (λ no_. nn (λ t. no_ (t.low_sums at lt a exists)));
+}
+
+meets_of : (s : Standing) (price : ℕ) → ((Meets s price → ⊥) → ⊥) → Meets s price
+meets_of s price nn = record {
+  even = λ e. eq_of _ _ (λ no_. nn (λ m. no_ (m.even e)));
+  under = λ lt. (le_of _ _ (λ no_. nn (λ m. no_ (m.under lt).0)), le_of _ _ (λ no_. nn (λ m. no_ (m.under lt).1)));
+  over = λ lt. (le_of _ _ (λ no_. nn (λ m. no_ (m.over lt).0)), le_of _ _ (λ no_. nn (λ m. no_ (m.over lt).1)));
+}
+
+-- what a posting says is right where no fault stands in it
+holds_of : (s : SheetParts) (x : Posting) (k : ℕ) → ((fault : ReplayFault) → IsContentFault s x k fault → ⊥) → HoldsUnder s x
+holds_of s (posting.Cut e) k none =
+    let cut : IsAdmissible s e.stem e.logs = cut_of s.instruction e.stem 0 e.logs (λ no_. none (Cutting k) (refl, no_)) in
+    let is : e.worth ≡ cutting_worth s e.stem e.logs = eq_of _ _ (λ no_. none (Worth k) (refl, cut, no_)) in (
+      record {
+        admissible = cut;
+        none_outvalues = λ others theirs. elim (cases_lt (cutting_worth s e.stem e.logs) (cutting_worth s e.stem others)) [
+          | inl more ↦ absurd (none (Outvalued k) (refl, cut, is, (others, theirs, more)))
+          | inr le ↦ omega arith
+        ];
+      },
+      is,
+    )
+holds_of s (posting.Demand d) k none = targets_of s.instruction d.targets (λ no_. none (Targets k) (refl, no_))
+
+module _ (h : HistoryParts) where
+  sheet_of : (k : ℕ) → ((fault : ReplayFault) → IsSheetFault h k fault → ⊥) → IsSheetRight h k
+  sheet_of k none = (has, record { one_each = has.1; each_meets = λ c l. below (suc (index_of h.instruction c)) c l (omega arith) })
+    where
+      has : HasSheet h k
+      has = (
+        lt_of _ _ (λ no_. none (Sheet (version_at h k)) (refl, λ has. no_ has.0)),
+        eq_of _ _ (λ no_. none (Sheet (version_at h k)) (refl, λ has. no_ has.1)),
+      )
+
+      below : (n : ℕ) (c : Class) (l : IsClass h.instruction c) → index_of h.instruction c < n → MeetsAfter h.instruction (take k h.postings) (prices_then h k) c l
+      below zero c l lt = absurd (omega arith)
+      below (suc n) c l lt =
+          meets_of (standing_of h.instruction l.assortment c (take k h.postings)) (slice_index (prices_then h k) (index_of h.instruction c))
+          (λ wrong. none (Price (version_at h k) (index_of h.instruction c)) (
+            refl,
+            has,
+            record {
+              class = c;
+              exists = l;
+              place = refl;
+              wrong = wrong;
+              least = λ d m less. below n d m (omega arith);
+            },
+          ))
+
+  follows_of : (k : ℕ) (x : Posting) → ((fault : ReplayFault) → IsPostingFault (sheet_then h k) (take k h.postings) x k fault → ⊥)
+      → Follows h.instruction h.sheets (take k h.postings) x
+  follows_of k x none =
+      let n : IsNumbered (take k h.postings) x = eq_of _ _ (λ no_. none (Numbering k) (inl (refl, no_))) in
+      let o : IsOfVersion h.instruction (take k h.postings) x = eq_of _ _ (λ no_. none (Version k) (inl (refl, n, no_))) in
+      follows_here h k k x refl (record { numbered = n; of_version = o; holds = holds_of (sheet_then h k) x k (λ fault wrong. none fault (inr (n, o, wrong))) })
+
+  module _ (none : (fault : ReplayFault) → IsFirstFault h fault → ⊥) where
+    one_more : (k : ℕ) (x : Posting) → slice_get h.postings k ≡ Some x → IsRightBefore h k → IsRightBefore h (suc k)
+    one_more k x at before = record {
+      sheets = λ j lt b. elim (cases_eq j k) [
+        | inl same ↦ subst (λ m. IsSheetRight h m) (sym same) (sheet (subst (λ m. Begins h m) same b))
+        | inr other ↦ before.sheets j (omega arith) b
+      ];
+      postings = λ j y lt there. elim (cases_eq j k) [
+        | inl same ↦ last j y same there
+        | inr other ↦ before.postings j y (omega arith) there
+      ];
+    }
+      where
+        met : (fault : ReplayFault) → IsFaultAt h k x fault → ⊥
+        met fault wrong = none fault (inl (record { at = k; next = x; there = at; right = before; wrong = wrong }))
+
+        sheet : Begins h k → IsSheetRight h k
+        sheet b = sheet_of k (λ fault wrong. met fault (inl (b, wrong)))
+
+        follows : Follows h.instruction h.sheets (take k h.postings) x
+        follows = follows_of k x (λ fault wrong. met fault (inr (sheet, wrong)))
+
+        last : (j : ℕ) (y : Posting) → j ≡ k → slice_get h.postings j ≡ Some y → Follows h.instruction h.sheets (take j h.postings) y
+        last j y same there =
+            let one : x ≡ y = same_Some x y (sym at ∙ ap (λ m. slice_get h.postings m) (sym same) ∙ there) in
+            subst (λ m. Follows h.instruction h.sheets (take m h.postings) y) (sym same) (subst (λ z. Follows h.instruction h.sheets (take k h.postings) z) one follows)
+
+    right_to : (k : ℕ) → k ≤ length h.postings → IsRightBefore h k
+    right_to zero le = record { sheets = λ j lt b. absurd (omega arith); postings = λ j x lt at. absurd (omega arith) }
+    right_to (suc k) le = elim (slice_get_cases h.postings k).1 [
+      | inl some ↦ one_more k some.0 some.2 (right_to k (omega arith))
+      | inr past ↦ absurd (omega (arith, past.0))
+    ]
+
+    pub lawful_without : IsInstruction h.instruction → IsLawful h
+    lawful_without v =
+        let n : ℕ = length h.postings in
+        let all : IsRightBefore h n = right_to n (omega arith) in
+        let number : length h.sheets ≡ version_at h n + 1 = elim (cases_order (length h.sheets) (version_at h n + 1)) [
+          | inl same ↦ same
+          | inr (inl few) ↦ absurd (none (Sheet (length h.sheets)) (inr (record { right = all; wrong = inl (inl (omega arith, refl)) })))
+          | inr (inr many) ↦ absurd (none (Sheet (version_at h n + 1)) (inr (record { right = all; wrong = inl (inr (omega arith, refl)) })))
+        ] in
+        lawful_when h v all (record {
+          number = number;
+          last_sheet = λ b. sheet_of n (λ fault wrong. none fault (inr (record { right = all; wrong = inr (number, b, wrong) })));
+        })

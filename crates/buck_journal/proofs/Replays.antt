@@ -1,0 +1,229 @@
+-- What a replay shows of a history: where each posting may follow and each sheet is right it is lawful, and where a
+-- fault stands in it it isn't.
+use Rattle.std.proofs.Common.{◌≡◌, ◌≢◌, ℕ, ◌+◌, ◌<◌, ◌≤◌, inl, inr, false, List, [], ◌∷◌, ◌++◌, length, take, slice_get, Option, Some, None, refl, sym, ◌∙◌, ap, subst, arith}
+use Rattle.std.specs.Prelude.{Result, Ok, Err, IfErr, is_some}
+use Rattle.std.specs.Option.{option_map}
+use Rattle.std.proofs.lemmas.Bool.{cases_lt, cases_eq}
+use Rattle.std.proofs.lemmas.List.{take_all}
+use Rattle.std.proofs.lemmas.Option.{slice_get_within, slice_get_cases, same_Some, none-some}
+use Rattle.buck_apt.specs.Instruction.{InstructionParts, IsInstruction}
+use Rattle.buck_value.specs.Sheet.{SheetParts, IsPriceAt}
+use Rattle.buck_value.specs.Sheet as sheet
+use Rattle.buck_value.specs.declared.fault.SheetFault.{SheetFault}
+use Rattle.buck_dp.specs.Best.{IsBest, cutting_worth}
+use Rattle.buck_book.specs.declared.posting.Posting.{Posting}
+use Rattle.buck_book.specs.declared.posting.Posting.TheVariants.{Cut, Demand}
+use Rattle.buck_book.specs.Posting.{planned_version, ends_of, cuts_since_end}
+use Rattle.buck_book.specs.History.{HistoryParts, IsLawful, Follows, Holds, IsEnd, PricesMeet, standing_of, prices_at, sheet_at}
+use Rattle.buck_book.specs.Walk.{WalkParts, walk_of}
+use Rattle.buck_book.proofs.Ends.{true_false, take_one_more, ends_with_end, cuts_with_end, ends_without}
+use Rattle.buck_book.proofs.Standings.{meets_within, no_fault}
+use Rattle.buck_book.proofs.Alone.{ClassAt, class_at, base_alone, meets_to_alone}
+use Rattle.buck_journal.specs.declared.replay_fault.ReplayFault.{ReplayFault}
+use Rattle.buck_journal.specs.Journal.{JournalParts}
+use Rattle.buck_journal.specs.Replay.{history_of, version_at, Begins, IsSheetRight, IsSheetFault, IsRightBefore, IsPostingFault, IsFaultAtEnd, IsMet, IsFirstFault}
+use Rattle.buck_journal.specs.inner.Replay.{sheet_then, HoldsUnder, IsRightUnder, AreRightUnder, IsMetUnder, IsEndRight}
+
+-- prices that keep the price relation somewhere make a sheet
+pub is_sheet : (i : InstructionParts) (ps : List Posting) (prices : List ℕ) (fault : SheetFault) → IsInstruction i → PricesMeet i ps prices → sheet.IsSheetFault i prices fault → ⊥
+is_sheet i ps prices fault v m wrong = no_fault i prices fault m.one_each (λ k lt. in_span k lt) wrong
+  where
+    in_span : (k : ℕ) → k < length prices → IsPriceAt i prices k
+    in_span k lt =
+        let w : ClassAt i k = class_at i k (omega (arith, m.one_each)) in
+        subst (λ n. IsPriceAt i prices n) w.place (meets_within (standing_of i w.is_class.assortment w.class ps) _ (m.each_meets w.class w.is_class))
+
+-- where no period begins after a posting, the version stays
+pub version_stays : (i : InstructionParts) (ps : List Posting) (k : ℕ) (x : Posting) → slice_get ps k ≡ Some x → cuts_since_end i (take (k + 1) ps) ≢ 0
+    → ends_of i (take (k + 1) ps) ≡ ends_of i (take k ps)
+version_stays i ps k x at goes_on =
+    let longer : take (k + 1) ps ≡ take k ps ++ x ∷ [] = take_one_more ps k x at in
+    let no_end : IsEnd i (take k ps) x → ⊥ = λ e. goes_on (ap (λ xs. cuts_since_end i xs) longer ∙ cuts_with_end i (take k ps) x e) in
+    ap (λ xs. ends_of i xs) longer ∙ ends_without i (take k ps) x no_end
+
+-- a stretch of right postings, one longer
+pub right_more : (s : SheetParts) (ps : List Posting) (from to : ℕ) (x : Posting) → slice_get ps to ≡ Some x
+    → AreRightUnder s ps from to
+    → ends_of s.instruction (take to ps) ≡ s.version
+    → (from < to → cuts_since_end s.instruction (take to ps) ≢ 0)
+    → IsRightUnder s (take to ps) x
+    → AreRightUnder s ps from (to + 1)
+right_more s ps from to x at r version goes_on right = record {
+  postings = λ j y ge lt there. elim (cases_eq j to) [
+    | inl same ↦ last j y same there
+    | inr other ↦ r.postings j y ge (omega arith) there
+  ];
+  in_force = λ j ge lt. elim (cases_eq j to) [
+    | inl same ↦ ap (λ n. ends_of s.instruction (take n ps)) same ∙ version
+    | inr other ↦ r.in_force j ge (omega arith)
+  ];
+  inside = λ j gt lt. elim (cases_eq j to) [
+    | inl same ↦ λ none. goes_on (omega arith) (ap (λ n. cuts_since_end s.instruction (take n ps)) (sym same) ∙ none)
+    | inr other ↦ r.inside j gt (omega arith)
+  ];
+}
+  where
+    last : (j : ℕ) (y : Posting) → j ≡ to → slice_get ps j ≡ Some y → IsRightUnder s (take j ps) y
+    last j y same there =
+        let one : x ≡ y = same_Some x y (sym at ∙ ap (λ n. slice_get ps n) (sym same) ∙ there) in
+        subst (λ n. IsRightUnder s (take n ps) y) (sym same) (subst (λ z. IsRightUnder s (take to ps) z) one right)
+
+pub right_none : (s : SheetParts) (ps : List Posting) (from : ℕ) → AreRightUnder s ps from from
+right_none s ps from = record {
+  postings = λ j y ge lt there. absurd (omega arith);
+  in_force = λ j ge lt. absurd (omega arith);
+  inside = λ j gt lt. absurd (omega arith);
+}
+
+module _ (h : HistoryParts) (from : ℕ) where
+  sheet_is : (v : ℕ) → v ≡ version_at h from → sheet_at h.instruction h.sheets v ≡ sheet_then h from
+  sheet_is v e = ap (λ w. sheet_at h.instruction h.sheets w) e
+
+  holds_here : (x : Posting) → planned_version x ≡ version_at h from → HoldsUnder (sheet_then h from) x → Holds h.instruction h.sheets x
+  holds_here (Cut e) v k = (
+    subst (λ t. IsBest t e.stem e.logs) (sym (sheet_is e.version v)) k.0,
+    subst (λ t. e.worth ≡ cutting_worth t e.stem e.logs) (sym (sheet_is e.version v)) k.1,
+  )
+  holds_here (Demand d) v k = k
+
+  pub follows_here : (j : ℕ) (x : Posting) → version_at h j ≡ version_at h from → IsRightUnder (sheet_then h from) (take j h.postings) x
+      → Follows h.instruction h.sheets (take j h.postings) x
+  follows_here j x same r = record {
+    number_is_next = r.numbered;
+    version_in_force = r.of_version;
+    holds = holds_here x (r.of_version ∙ same) r.holds;
+  }
+
+  -- a stretch of right postings from a right sheet on
+  pub right_along : (to : ℕ) → IsRightBefore h from → IsSheetRight h from → AreRightUnder (sheet_then h from) h.postings from to → IsRightBefore h to
+  right_along to before sheet r = record {
+    sheets = λ j lt b. elim (cases_lt j from) [
+      | inl old ↦ before.sheets j old b
+      | inr new ↦ elim (cases_eq j from) [
+        | inl same ↦ subst (λ n. IsSheetRight h n) (sym same) sheet
+        | inr other ↦ absurd (r.inside j (omega arith) lt b)
+      ]
+    ];
+    postings = λ j x lt at. elim (cases_lt j from) [
+      | inl old ↦ before.postings j x old at
+      | inr new ↦ follows_here j x (r.in_force j (omega arith) lt) (r.postings j x (omega arith) lt at)
+    ];
+  }
+
+  pub met_along : (fault : ReplayFault) → IsRightBefore h from → IsSheetRight h from → IsMetUnder (sheet_then h from) h.postings from fault → IsMet h fault
+  met_along fault before sheet m = record {
+    at = m.at;
+    next = m.next;
+    there = m.there;
+    right = right_along m.at before sheet m.right;
+    wrong = inr (
+      (λ b. elim (cases_eq m.at from) [
+        | inl same ↦ subst (λ n. IsSheetRight h n) (sym same) sheet
+        | inr other ↦ absurd (m.goes_on (let ge = m.past in omega arith) b)
+      ]),
+      subst (λ t. IsPostingFault t (take m.at h.postings) m.next m.at fault) (sym (sheet_is (version_at h m.at) m.in_force)) m.wrong,
+    );
+  }
+
+-- all postings may follow, and all sheets are right
+pub lawful_when : (h : HistoryParts) → IsInstruction h.instruction → IsRightBefore h (length h.postings) → IsEndRight h (length h.postings) → IsLawful h
+lawful_when h v before last =
+    let i : InstructionParts = h.instruction in
+    let whole : take (length h.postings) h.postings ≡ h.postings = take_all (length h.postings) h.postings (omega arith) in
+    record {
+      postings_follow = λ k x at. before.postings k x (slice_get_within h.postings k x at) at;
+      sheets_number = last.number ∙ ap (λ ps. ends_of i ps + 1) whole;
+      base_sheet = base_alone i (prices_at h.sheets 0) v (meets_to_alone i [] (prices_at h.sheets 0) v (right_at 0 (omega arith) refl).1);
+      sheets_meet = λ k x at e.
+          let longer : take (k + 1) h.postings ≡ take k h.postings ++ x ∷ [] = take_one_more h.postings k x at in
+          let begins : cuts_since_end i (take (k + 1) h.postings) ≡ 0 = ap (λ ps. cuts_since_end i ps) longer ∙ cuts_with_end i (take k h.postings) x e in
+          let version : version_at h (k + 1) ≡ version_at h k + 1 = ap (λ ps. ends_of i ps) longer ∙ ends_with_end i (take k h.postings) x e in
+          subst (λ n. PricesMeet i (take (k + 1) h.postings) (prices_at h.sheets n)) version
+          (right_at (k + 1) (omega (arith, slice_get_within h.postings k x at)) begins).1;
+    }
+  where
+    right_at : (j : ℕ) → j ≤ length h.postings → Begins h j → IsSheetRight h j
+    right_at j le b = elim (cases_eq j (length h.postings)) [
+      | inl same ↦ subst (λ n. IsSheetRight h n) (sym same) (last.last_sheet (subst (λ n. Begins h n) same b))
+      | inr other ↦ before.sheets j (omega arith) b
+    ]
+
+-- what a fact about a fault gives
+pub weaken_err : {T E : Type 0} {P Q : E → Type 0} (r : Result T E) → ((e : E) → P e → Q e) → IfErr r P → IfErr r Q
+weaken_err (Ok x) f p = p
+weaken_err (Err e) f p = f e p
+
+-- where nothing comes next, all was passed
+pub none_left : {X Y : Type 0} (f : X → Y) (o : Option X) (ys : List Y) (k : ℕ) → option_map f o ≡ slice_get ys k → is_some o ≡ false → length ys ≤ k
+none_left f None ys k e none = elim (slice_get_cases ys k).1 [
+  | inl some ↦ absurd (none-some some.0 (e ∙ some.2))
+  | inr past ↦ past.0
+]
+none_left f (Some x) ys k e none = absurd (true_false none)
+
+-- a posting is passed under a sheet
+module _ (s : SheetParts) (i : InstructionParts) (ps : List Posting) (from : ℕ) (w w' : WalkParts) (x : Posting)
+    (same : w ≡ walk_of i ps w.at) (further : w' ≡ walk_of w.instruction w.postings (w.at + 1)) (there : Some x ≡ slice_get w.postings w.at) where
+  postings_are : w.postings ≡ ps
+  postings_are = ap (λ (v : WalkParts). v.postings) same
+
+  there' : slice_get ps w.at ≡ Some x
+  there' = ap (λ q. slice_get q w.at) (sym postings_are) ∙ sym there
+
+  pub at_next : w'.at ≡ w.at + 1
+  at_next = ap (λ (v : WalkParts). v.at) further
+
+  pub same_next : w' ≡ walk_of i ps w'.at
+  same_next = further ∙ (λ j. walk_of (ap (λ (v : WalkParts). v.instruction) same j) (postings_are j) (sym at_next j))
+
+  pub right_next : AreRightUnder s ps from w.at → ends_of s.instruction (take w.at ps) ≡ s.version
+      → (from < w.at → cuts_since_end s.instruction (take w.at ps) ≢ 0)
+      → IsRightUnder s (take w.at w.postings) x
+      → AreRightUnder s ps from w'.at
+  right_next r version goes_on right =
+      subst (λ n. AreRightUnder s ps from n) (sym at_next)
+      (right_more s ps from w.at x there' r version goes_on (subst (λ q. IsRightUnder s (take w.at q) x) postings_are right))
+
+  pub goes_on_next : s.instruction ≡ i → (cuts_since_end w'.instruction (take w'.at w'.postings) ≡ 0 → ⊥) → cuts_since_end s.instruction (take w'.at ps) ≢ 0
+  goes_on_next own no_ e = no_ (sym (λ j. cuts_since_end (own' j) (take w'.at (postings' j))) ∙ e)
+    where
+      own' : s.instruction ≡ w'.instruction
+      own' = own ∙ sym (ap (λ (v : WalkParts). v.instruction) same_next)
+
+      postings' : ps ≡ w'.postings
+      postings' = sym (ap (λ (v : WalkParts). v.postings) same_next)
+
+  pub version_next : cuts_since_end s.instruction (take w'.at ps) ≢ 0 → ends_of s.instruction (take w.at ps) ≡ s.version → ends_of s.instruction (take w'.at ps) ≡ s.version
+  version_next goes_on version =
+      ap (λ n. ends_of s.instruction (take n ps)) at_next
+      ∙ version_stays s.instruction ps w.at x there' (subst (λ n. cuts_since_end s.instruction (take n ps) ≢ 0) at_next goes_on)
+      ∙ version
+
+-- a sheet that isn't right is met at the posting that begins its period
+pub sheet_met : (h : HistoryParts) (from : ℕ) (fault : ReplayFault) → from < length h.postings → IsRightBefore h from → Begins h from → IsSheetFault h from fault → IsMet h fault
+sheet_met h from fault lt before b wrong = elim (slice_get_cases h.postings from).1 [
+  | inl some ↦ record { at = from; next = some.0; there = some.2; right = before; wrong = inl (b, wrong) }
+  | inr past ↦ absurd (omega (arith, past.0))
+]
+
+-- after the last posting
+module _ (i : InstructionParts) (jr : JournalParts) (w : WalkParts) (pss : List (List ℕ))
+    (same : w ≡ walk_of i jr.entries w.at) (sheets : pss ≡ jr.sheets) (all : length jr.entries ≤ w.at) (within : w.at ≤ length w.postings)
+    (before : IsRightBefore (history_of i jr) w.at) where
+  whole : record { instruction = w.instruction; sheets = pss; postings = w.postings } ≡ history_of i jr
+  whole = λ j. record { instruction = ap (λ (v : WalkParts). v.instruction) same j; sheets = sheets j; postings = ap (λ (v : WalkParts). v.postings) same j }
+
+  at_end : w.at ≡ length jr.entries
+  at_end = omega (arith, ap (λ (v : WalkParts). length v.postings) same)
+
+  before_end : IsRightBefore (history_of i jr) (length jr.entries)
+  before_end = subst (λ n. IsRightBefore (history_of i jr) n) at_end before
+
+  pub lawful_at_end : IsInstruction i → IsEndRight (record { instruction = w.instruction; sheets = pss; postings = w.postings }) w.at → IsLawful (history_of i jr)
+  lawful_at_end v right = lawful_when (history_of i jr) v before_end (subst (λ n. IsEndRight (history_of i jr) n) at_end (subst (λ h. IsEndRight h w.at) whole right))
+
+  pub met_at_end : (fault : ReplayFault) → IsFaultAtEnd (record { instruction = w.instruction; sheets = pss; postings = w.postings }) w.at fault → IsFirstFault (history_of i jr) fault
+  met_at_end fault wrong = inr (record {
+    right = before_end;
+    wrong = subst (λ n. IsFaultAtEnd (history_of i jr) n fault) at_end (subst (λ h. IsFaultAtEnd h w.at fault) whole wrong);
+  })

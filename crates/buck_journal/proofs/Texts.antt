@@ -1,0 +1,200 @@
+-- The text of a journal is read again.
+use Rattle.std.proofs.Common.{◌≡◌, ℕ, ◌<◌, ◌^◌, true, List, [], ◌∷◌, ◌++◌, Some, Ok, map, refl, sym, ap, ◌∙◌, arith, append_assoc, codes}
+use Rattle.std.specs.List.{AllByRecursion, flat_map}
+use Rattle.std.proofs.lemmas.List.{map-append, append-nil}
+use Rattle.std.proofs.lemmas.Grind.{flat_map-append}
+use Rattle.std.proofs.lemmas.List.Elements.{recursion_from_All}
+use Rattle.buck_record.specs.Reading.{with_fault}
+use Rattle.buck_record.specs.Rules.{within}
+use Rattle.buck_record.proofs.PassLemmas.{within_ok}
+use Rattle.buck_record.specs.Record.{items_of, number_at_most}
+use Rattle.buck_book.specs.declared.posting.Posting.{Posting}
+use Rattle.buck_book.specs.declared.posting.Posting.TheVariants.{Cut, Demand}
+use Rattle.buck_book.specs.Entry.{EntryParts, DemandParts}
+use Rattle.buck_journal.specs.declared.fault.JournalFault.TheVariants as fault
+use Rattle.buck_journal.specs.Journal.{journal_of}
+use Rattle.buck_journal.specs.Written.{item_text, sheet_text, cut_text, demand_text, posting_text, journal_text, zone_numbers, log_numbers}
+use Rattle.buck_journal.specs.Ranges.{AreSheetPrices, IsCutInRange, IsDemandInRange, IsInRange, AreInRange, call_of_cut, call_of_demand}
+use Rattle.buck_journal.proofs.Lines.{Head, Line, smaller, text_of, item_at, items_again, kind_item}
+use Rattle.buck_journal.proofs.Again.{in_small, call_small, zones_small, logs_small, sheet_item, posting_items, journal_again}
+use Rattle.buck_journal.proofs.Stages.{journal_of_items}
+
+-- the numbers and kinds of heads
+number_971 : number_at_most 65535 (57 ∷ 55 ∷ 49 ∷ []) ≡ Some 971
+unfolding number_at_most
+number_971 = refl
+
+number_981 : number_at_most 65535 (57 ∷ 56 ∷ 49 ∷ []) ≡ Some 981
+unfolding number_at_most
+number_981 = refl
+
+number_982 : number_at_most 65535 (57 ∷ 56 ∷ 50 ∷ []) ≡ Some 982
+unfolding number_at_most
+number_982 = refl
+
+kind_1 : number_at_most 65535 (49 ∷ []) ≡ Some 1
+unfolding number_at_most
+kind_1 = refl
+
+kind_2 : number_at_most 65535 (50 ∷ []) ≡ Some 2
+unfolding number_at_most
+kind_2 = refl
+
+kind_3 : number_at_most 65535 (51 ∷ []) ≡ Some 3
+unfolding number_at_most
+kind_3 = refl
+
+kind_4 : number_at_most 65535 (52 ∷ []) ≡ Some 4
+unfolding number_at_most
+kind_4 = refl
+
+kind_5 : number_at_most 65535 (53 ∷ []) ≡ Some 5
+unfolding number_at_most
+kind_5 = refl
+
+kind_6 : number_at_most 65535 (54 ∷ []) ≡ Some 6
+unfolding number_at_most
+kind_6 = refl
+
+abbrev head_971_1 : Head
+head_971_1 = record { a = 57; b = 55; c = 49; k = 49; number = 971; kind = 1; dark = (refl, refl, refl, refl); plain = (refl, refl, refl, refl); number_is = number_971; kind_is = kind_1 }
+
+abbrev head_981_1 : Head
+head_981_1 = record { a = 57; b = 56; c = 49; k = 49; number = 981; kind = 1; dark = (refl, refl, refl, refl); plain = (refl, refl, refl, refl); number_is = number_981; kind_is = kind_1 }
+
+abbrev head_981_2 : Head
+head_981_2 = record { a = 57; b = 56; c = 49; k = 50; number = 981; kind = 2; dark = (refl, refl, refl, refl); plain = (refl, refl, refl, refl); number_is = number_981; kind_is = kind_2 }
+
+abbrev head_981_3 : Head
+head_981_3 = record { a = 57; b = 56; c = 49; k = 51; number = 981; kind = 3; dark = (refl, refl, refl, refl); plain = (refl, refl, refl, refl); number_is = number_981; kind_is = kind_3 }
+
+abbrev head_981_4 : Head
+head_981_4 = record { a = 57; b = 56; c = 49; k = 52; number = 981; kind = 4; dark = (refl, refl, refl, refl); plain = (refl, refl, refl, refl); number_is = number_981; kind_is = kind_4 }
+
+abbrev head_981_5 : Head
+head_981_5 = record { a = 57; b = 56; c = 49; k = 53; number = 981; kind = 5; dark = (refl, refl, refl, refl); plain = (refl, refl, refl, refl); number_is = number_981; kind_is = kind_5 }
+
+abbrev head_981_6 : Head
+head_981_6 = record { a = 57; b = 56; c = 49; k = 54; number = 981; kind = 6; dark = (refl, refl, refl, refl); plain = (refl, refl, refl, refl); number_is = number_981; kind_is = kind_6 }
+
+abbrev head_982_1 : Head
+head_982_1 = record { a = 57; b = 56; c = 50; k = 49; number = 982; kind = 1; dark = (refl, refl, refl, refl); plain = (refl, refl, refl, refl); number_is = number_982; kind_is = kind_1 }
+
+abbrev head_982_2 : Head
+head_982_2 = record { a = 57; b = 56; c = 50; k = 50; number = 982; kind = 2; dark = (refl, refl, refl, refl); plain = (refl, refl, refl, refl); number_is = number_982; kind_is = kind_2 }
+
+abbrev line_of : (h : Head) (ns : List ℕ) → AllByRecursion (λ n. n < 2 ^ 64) ns → Line
+line_of h ns small = record { head = h; numbers = ns; small = small }
+
+abbrev sheet_lines : (pss : List (List ℕ)) → AllByRecursion AreSheetPrices pss → List Line
+sheet_lines [] r = []
+sheet_lines (prices ∷ pss) r = line_of head_971_1 prices (smaller prices (in_small 0 20000000 prices (omega arith) r.0.range)) ∷ sheet_lines pss r.1
+
+species_small : (n : ℕ) → within 1 255 n ≡ true → n < 2 ^ 64
+species_small n h = let le = within_ok 1 255 n h in omega (arith, le.1)
+
+cut_lines : (e : EntryParts) → IsCutInRange e → List Line
+cut_lines e r =
+    line_of head_981_1 (e.harvester ∷ e.number ∷ e.version ∷ []) (smaller (e.harvester ∷ e.number ∷ e.version ∷ []) (call_small [] 0 (call_of_cut e) r.call))
+    ∷ line_of head_981_2 (e.stem.number ∷ e.stem.species ∷ []) ((let h = r.stem_number in omega arith), (species_small e.stem.species r.species, tt))
+    ∷ line_of head_981_3 e.stem.samples (smaller e.stem.samples (in_small 0 1500 e.stem.samples (omega arith) r.samples_range))
+    ∷ line_of head_981_4 (zone_numbers e.stem.zones) (smaller (zone_numbers e.stem.zones) (zones_small 0 e.stem.zones r.zones_range))
+    ∷ line_of head_981_5 (log_numbers e.logs) (smaller (log_numbers e.logs) (logs_small e.logs r.logs_range))
+    ∷ line_of head_981_6 (e.worth ∷ []) ((let h = r.worth in omega arith), tt)
+    ∷ []
+
+demand_lines : (d : DemandParts) → IsDemandInRange d → List Line
+demand_lines d r =
+    line_of head_982_1 (d.harvester ∷ d.number ∷ d.version ∷ []) (smaller (d.harvester ∷ d.number ∷ d.version ∷ []) (call_small [] 0 (call_of_demand d) r.call))
+    ∷ line_of head_982_2 d.targets (smaller d.targets (in_small 0 1000000 d.targets (omega arith) r.targets_range))
+    ∷ []
+
+posting_lines : (ps : List Posting) → AllByRecursion IsInRange ps → List Line
+posting_lines [] r = []
+posting_lines (Cut e ∷ ps) r = cut_lines e r.0 ++ posting_lines ps r.1
+posting_lines (Demand d ∷ ps) r = demand_lines d r.0 ++ posting_lines ps r.1
+
+-- their texts
+sheets_text : (pss : List (List ℕ)) (r : AllByRecursion AreSheetPrices pss) → flat_map text_of (sheet_lines pss r) ≡ flat_map sheet_text pss
+sheets_text [] r = refl
+sheets_text (prices ∷ pss) r = ap (λ xs. sheet_text prices ++ xs) (sheets_text pss r.1)
+
+six : (a b c d e f : List ℕ) → a ++ (b ++ (c ++ (d ++ (e ++ (f ++ []))))) ≡ ((((a ++ b) ++ c) ++ d) ++ e) ++ f
+six a b c d e f =
+    ap (λ xs. a ++ (b ++ (c ++ (d ++ (e ++ xs))))) (append-nil f)
+    ∙ sym (append_assoc a b (c ++ (d ++ (e ++ f))))
+    ∙ sym (append_assoc (a ++ b) c (d ++ (e ++ f)))
+    ∙ sym (append_assoc ((a ++ b) ++ c) d (e ++ f))
+    ∙ sym (append_assoc (((a ++ b) ++ c) ++ d) e f)
+
+six_lines : (a b c d e f : Line)
+    → flat_map text_of (a ∷ b ∷ c ∷ d ∷ e ∷ f ∷ []) ≡ ((((text_of a ++ text_of b) ++ text_of c) ++ text_of d) ++ text_of e) ++ text_of f
+six_lines a b c d e f = six (text_of a) (text_of b) (text_of c) (text_of d) (text_of e) (text_of f)
+
+cut_parts : (e : EntryParts) (r : IsCutInRange e) → flat_map text_of (cut_lines e r) ≡ cut_text e
+unfolding cut_lines cut_text
+cut_parts e r =
+    six_lines
+    (line_of head_981_1 (e.harvester ∷ e.number ∷ e.version ∷ []) (smaller (e.harvester ∷ e.number ∷ e.version ∷ []) (call_small [] 0 (call_of_cut e) r.call)))
+    (line_of head_981_2 (e.stem.number ∷ e.stem.species ∷ []) ((let h = r.stem_number in omega arith), (species_small e.stem.species r.species, tt)))
+    (line_of head_981_3 e.stem.samples (smaller e.stem.samples (in_small 0 1500 e.stem.samples (omega arith) r.samples_range)))
+    (line_of head_981_4 (zone_numbers e.stem.zones) (smaller (zone_numbers e.stem.zones) (zones_small 0 e.stem.zones r.zones_range)))
+    (line_of head_981_5 (log_numbers e.logs) (smaller (log_numbers e.logs) (logs_small e.logs r.logs_range)))
+    (line_of head_981_6 (e.worth ∷ []) ((let h = r.worth in omega arith), tt))
+
+cut_texts : (e : EntryParts) (r : IsCutInRange e) (more : List ℕ) → flat_map text_of (cut_lines e r) ++ more ≡ cut_text e ++ more
+cut_texts e r more = ap (λ xs. xs ++ more) (cut_parts e r)
+
+demand_texts : (d : DemandParts) (r : IsDemandInRange d) (more : List ℕ) → flat_map text_of (demand_lines d r) ++ more ≡ demand_text d ++ more
+unfolding demand_lines demand_text
+demand_texts d r more =
+    ap (λ xs. xs ++ more)
+    (ap (λ xs. item_text (codes "982 1") (d.harvester ∷ d.number ∷ d.version ∷ []) ++ xs) (append-nil (item_text (codes "982 2") d.targets)))
+
+postings_text : (ps : List Posting) (r : AllByRecursion IsInRange ps) → flat_map text_of (posting_lines ps r) ≡ flat_map posting_text ps
+unfolding posting_lines
+postings_text [] r = refl
+postings_text (Cut e ∷ ps) r =
+    flat_map-append text_of (cut_lines e r.0) (posting_lines ps r.1)
+    ∙ ap (λ xs. flat_map text_of (cut_lines e r.0) ++ xs) (postings_text ps r.1)
+    ∙ cut_texts e r.0 (flat_map posting_text ps)
+postings_text (Demand d ∷ ps) r =
+    flat_map-append text_of (demand_lines d r.0) (posting_lines ps r.1)
+    ∙ ap (λ xs. flat_map text_of (demand_lines d r.0) ++ xs) (postings_text ps r.1)
+    ∙ demand_texts d r.0 (flat_map posting_text ps)
+
+-- their items
+sheets_items : (pss : List (List ℕ)) (r : AllByRecursion AreSheetPrices pss) → map item_at (sheet_lines pss r) ≡ map sheet_item pss
+sheets_items [] r = refl
+sheets_items (prices ∷ pss) r = ap (λ xs. sheet_item prices ∷ xs) (sheets_items pss r.1)
+
+postings_items : (ps : List Posting) (r : AllByRecursion IsInRange ps) → map item_at (posting_lines ps r) ≡ flat_map posting_items ps
+unfolding posting_lines cut_lines demand_lines
+postings_items [] r = refl
+postings_items (Cut e ∷ ps) r = ap (λ xs. posting_items (Cut e) ++ xs) (postings_items ps r.1)
+postings_items (Demand d ∷ ps) r = ap (λ xs. posting_items (Demand d) ++ xs) (postings_items ps r.1)
+
+lines_of : (pss : List (List ℕ)) (ps : List Posting) → AllByRecursion AreSheetPrices pss → AllByRecursion IsInRange ps → List Line
+lines_of pss ps r q = sheet_lines pss r ++ posting_lines ps q
+
+text_lines : (pss : List (List ℕ)) (ps : List Posting) (r : AllByRecursion AreSheetPrices pss) (q : AllByRecursion IsInRange ps)
+    → item_text (codes "1 2 JRN") [] ++ flat_map text_of (lines_of pss ps r q) ≡ journal_text pss ps
+unfolding lines_of journal_text
+text_lines pss ps r q =
+    ap (λ xs. item_text (codes "1 2 JRN") [] ++ xs)
+    (flat_map-append text_of (sheet_lines pss r) (posting_lines ps q) ∙ (λ j. sheets_text pss r j ++ postings_text ps q j))
+
+item_lines : (pss : List (List ℕ)) (ps : List Posting) (r : AllByRecursion AreSheetPrices pss) (q : AllByRecursion IsInRange ps)
+    → map item_at (lines_of pss ps r q) ≡ map sheet_item pss ++ flat_map posting_items ps
+unfolding lines_of
+item_lines pss ps r q = map-append item_at (sheet_lines pss r) (posting_lines ps q) ∙ (λ j. sheets_items pss r j ++ postings_items ps q j)
+
+-- the journal of a journal's text is what was written
+pub read_again : (pss : List (List ℕ)) (ps : List Posting) → AreInRange pss ps → journal_of (journal_text pss ps) ≡ Ok (record { sheets = pss; entries = ps })
+read_again pss ps range =
+    let r : AllByRecursion AreSheetPrices pss = recursion_from_All AreSheetPrices pss range.sheets in
+    let q : AllByRecursion IsInRange ps = recursion_from_All IsInRange ps range.postings in
+    let items : items_of (journal_text pss ps) ≡ Ok (kind_item ∷ (map sheet_item pss ++ flat_map posting_items ps)) =
+    ap items_of (sym (text_lines pss ps r q)) ∙ items_again (lines_of pss ps r q) ∙ ap (λ xs. Ok (kind_item ∷ xs)) (item_lines pss ps r q) in
+    journal_of_items (journal_text pss ps) (kind_item ∷ (map sheet_item pss ++ flat_map posting_items ps)) (ap (with_fault fault.Head) items)
+    ∙ journal_again pss ps r q range.few

@@ -1,0 +1,114 @@
+//! Whether a journal is lawful.
+ghost use Rattle.std.specs.Prelude.{◌≡◌, ◌≢◌, ◌+◌, ◌<◌, ◌≤◌, OnOk, IfOk, IfErr, length, slice_get, Some};
+ghost use Rattle.buck_book.specs.Posting.{ends_of, cuts_since_end};
+ghost use Rattle.buck_book.specs.History.{IsLawful};
+ghost use Rattle.buck_book.specs.Walk.{walk_of, passed};
+ghost use Rattle.buck_journal.specs.Replay.{history_of, Begins, IsPostingFault, IsRightBefore, IsMet, IsFirstFault};
+ghost use Rattle.buck_journal.specs.declared.replay_fault.ReplayFault.TheVariants.{Memory};
+ghost use Rattle.buck_journal.specs.inner.Replay.{along, IsRightUnder, AreRightUnder, IsMetUnder};
+
+use crate::checks::{check_call, check_content, check_end, opened_sheet};
+use crate::journal::Journal;
+use crate::replay_fault::ReplayFault;
+use buck_apt::Instruction;
+use buck_book::{Posting, Walk};
+use buck_value::{Sheet, Tables, room_of};
+use std::alloc::Global;
+use std::sync::Arc;
+
+/// Passes a posting that may follow under the sheet in force, whose tables are given back.
+fn replay_posting<'w, 's>(
+    alloc: Global,
+    sheet: &Sheet,
+    tables: Tables<'s>,
+    walk: Walk<'w>,
+    posting: &Posting,
+) -> Result<(Tables<'s>, Walk<'w>), ReplayFault>
+    requires tables { tables.sheet ≡ sheet.now }
+    requires instruction { sheet.now.instruction ≡ walk.instruction }
+    requires next { slice_get walk.postings walk.at ≡ Some posting.now }
+    ensures right { OnOk result (IsRightUnder sheet.now (passed walk.entry) posting.now) }
+    ensures tables { IfOk result (λ r. r.0.sheet ≡ sheet.now) }
+    ensures further { IfOk result (λ r.
+        r.1 ≡ walk_of walk.entry.instruction walk.entry.postings (walk.entry.at + 1)) }
+    ensures refused { IfErr result (λ e.
+        e ≢ Memory → IsPostingFault sheet.now (passed walk.entry) posting.now walk.entry.at e) }
+{
+    check_call(&walk, posting)?;
+    let tables = check_content(alloc, tables, posting, walk.at())?;
+    let walk = walk.pass(alloc, sheet, posting)?;
+    Ok((tables, walk))
+}
+
+/// Passes postings that may follow under the sheet in force, until a period begins or none is left.
+fn replay_under<'w>(alloc: Global, sheet: &Sheet, walk: Walk<'w>) -> Result<Walk<'w>, ReplayFault>
+    requires instruction { sheet.now.instruction ≡ walk.instruction }
+    requires version { ends_of sheet.now.instruction (passed walk) ≡ sheet.now.version }
+    requires more { walk.at < length walk.postings }
+    ensures right { IfOk result (λ w.
+        AreRightUnder sheet.now walk.entry.postings walk.entry.at w.at) }
+    ensures same { IfOk result (λ w. w ≡ walk_of walk.entry.instruction walk.entry.postings w.at) }
+    ensures further { IfOk result (λ w. walk.entry.at < w.at) }
+    ensures begins { IfOk result (λ w.
+        w.at < length w.postings → cuts_since_end w.instruction (passed w) ≡ 0) }
+    ensures refused { IfErr result (λ e.
+        e ≢ Memory → IsMetUnder sheet.now walk.entry.postings walk.entry.at e) }
+{
+    let mut tables = Tables::make(alloc, sheet, room_of(sheet))?;
+    let mut walk = walk;
+    loop {
+        let Some(posting) = walk.next() else {
+            return Ok(walk);
+        };
+        (tables, walk) = replay_posting(alloc, sheet, tables, walk, posting)?;
+        if walk.begins_period() {
+            return Ok(walk);
+        }
+    }
+}
+
+/// Passes the postings of a period, from its first on.
+fn replay_period<'w>(
+    alloc: Global,
+    instruction: &Arc<Instruction>,
+    sheets: &[Vec<u32>],
+    walk: Walk<'w>,
+) -> Result<Walk<'w>, ReplayFault>
+    requires instruction { walk.instruction ≡ instruction.now.value }
+    requires right { IsRightBefore (along walk sheets.now) walk.at }
+    requires begins { Begins (along walk sheets.now) walk.at }
+    requires more { walk.at < length walk.postings }
+    ensures right { IfOk result (λ w. IsRightBefore (along walk.entry sheets.now) w.at) }
+    ensures same { IfOk result (λ w. w ≡ walk_of walk.entry.instruction walk.entry.postings w.at) }
+    ensures further { IfOk result (λ w. walk.entry.at < w.at) }
+    ensures begins { IfOk result (λ w.
+        w.at < length w.postings → Begins (along w sheets.now) w.at) }
+    ensures refused { IfErr result (λ e. e ≢ Memory → IsMet (along walk.entry sheets.now) e) }
+{
+    let sheet = opened_sheet(alloc, instruction, sheets, &walk)?;
+    replay_under(alloc, &sheet, walk)
+}
+
+/// Whether a journal of at most 1,000,000 postings is lawful for an instruction: each cutting is one that none
+/// outvalues under the sheet in force there, and the prices move only by the price relation, with the targets in force
+/// and with what was cut before. Any journal may be asked of. Refused by the first fault that stands in it, as
+/// [`ReplayFault`] says, and as `Memory` where a growth was refused.
+pub fn replay(
+    alloc: Global,
+    instruction: &Arc<Instruction>,
+    journal: &Journal,
+) -> Result<(), ReplayFault>
+    requires { length journal.now.entries ≤ 1000000 }
+    ensures lawful { OnOk result (IsLawful (history_of instruction.now.value journal.now)) }
+    ensures refused { IfErr result (λ e.
+        e ≢ Memory → IsFirstFault (history_of instruction.now.value journal.now) e) }
+{
+    let _valid = instruction.period();
+    let sheets = journal.sheets.as_slice();
+    let mut walk = Walk::opening(alloc, instruction, journal.entries.as_slice())?;
+    while walk.next().is_some() {
+        walk = replay_period(alloc, instruction, sheets, walk)?;
+    }
+    let _at = walk.at();
+    check_end(instruction, sheets, &walk)
+}
