@@ -1,0 +1,8 @@
+pub mod Lists
+pub mod Moves
+pub mod Sound
+pub mod Sheets
+pub mod Committed
+pub mod Kept
+pub mod Counting
+pub mod Rising

@@ -1,0 +1,154 @@
+-- The three things that a step may do: one harvester alone changes, a posting is added, or the front is raised.
+use Rattle.std.proofs.Common.{◌≡◌, ◌≢◌, ◌⊎◌, inl, inr, ⊎_elim, ℕ, ◌+◌, ◌<◌, ◌≤◌, Option, sym, refl, subst, arith, le_refl}
+use Rattle.buck_value.specs.Sheet.{SheetParts}
+use Rattle.buck_dp.specs.Best.{IsBest, cutting_worth}
+use Rattle.buck_book.specs.declared.posting.Posting.{Posting}
+use Rattle.buck_book.specs.declared.posting.Posting.TheVariants.{Cut, Demand}
+use Rattle.buck_book.specs.Posting.{harvester_of}
+use Rattle.buck_book.specs.Plan.{PlanParts}
+use Rattle.buck_book.specs.History.{HistoryParts, version_of, in_force}
+use Rattle.buck_book.specs.History as history
+use Rattle.buck_book.specs.Book.{entry_of, demand_of, IsNext}
+use Rattle.buck_world.specs.declared.stage.Stage.{Stage}
+use Rattle.buck_world.specs.declared.stage.Stage.TheVariants.{Idle, Reading, Planned, Answered}
+use Rattle.buck_world.specs.declared.harvester.Harvester.{Harvester}
+use Rattle.buck_world.specs.declared.event.Event.{Event}
+use Rattle.buck_world.specs.declared.event.Event.TheVariants.{Read, Plan, Try, Locked, Retarget, Raise, Leave}
+use Rattle.buck_world.specs.World.{WorldParts, IsHarvester, at, IsAnswered, NobodyAnswered, with_harvester, with_posting, with_front}
+use Rattle.buck_world.specs.Step.{IsPlanUnder, Adds, Step, IsIdleOrReading}
+use Rattle.buck_world.specs.Kept.{IsFit}
+use Rattle.buck_world.specs.Run.{harvester_of_event}
+use Rattle.buck_world.specs.inner.Sound.{IsGoing, IsSound}
+
+-- harvester h alone changes, and is answered neither before nor after
+pub record IsQuiet (w : WorldParts) (h : ℕ) (w' : WorldParts) : Type 0 where
+  pub now : Harvester
+  pub is : w' ≡ with_harvester w h now
+  pub before : (at w h).stage ≢ Answered
+  pub after : now.stage ≢ Answered
+  pub no_less : (at w h).seen ≤ now.seen
+  pub fit : IsFit w.history w.front now
+  pub going : IsGoing now.stage → now.stale < 3
+
+-- h's posting is added
+pub record IsAdded (w : WorldParts) (h : ℕ) (w' : WorldParts) : Type 0 where
+  pub posting : Posting
+  pub next : Option SheetParts
+  pub is : w' ≡ with_posting w h posting next
+  pub nobody : NobodyAnswered w
+  pub by_h : harvester_of posting ≡ h
+  pub follows : history.Follows w.history.instruction w.history.sheets w.history.postings posting
+  pub is_next : IsNext w.history posting next
+
+-- h raises the front
+pub record IsRaised (w : WorldParts) (h : ℕ) (w' : WorldParts) : Type 0 where
+  pub is : w' ≡ with_front w h
+  pub was : IsAnswered w h
+
+abbrev pub IsMove : WorldParts → ℕ → WorldParts → Type 0
+IsMove w h w' = IsQuiet w h w' ⊎ IsAdded w h w' ⊎ IsRaised w h w'
+
+-- the entry of a plan under the sheet in force may follow
+entry_follows : (h : HistoryParts) (n : ℕ) (p : PlanParts) → IsPlanUnder h (version_of h) p → history.Follows h.instruction h.sheets h.postings (Cut (entry_of h n p))
+entry_follows h n p under =
+    let k = under.planned in
+    let holds : IsBest p.sheet p.stem p.logs × (p.worth ≡ cutting_worth p.sheet p.stem p.logs) = (k.first_best.best, k.worth_is) in
+    record {
+      number_is_next = refl;
+      version_in_force = refl;
+      holds = subst (λ (s : SheetParts). IsBest s p.stem p.logs × (p.worth ≡ cutting_worth s p.stem p.logs)) under.sheet_is holds;
+    }
+
+not_answered : (stage : Stage) → IsIdleOrReading stage → stage ≢ Answered
+not_answered Idle is e = absurd (cc)
+not_answered Reading is e = absurd (cc)
+not_answered (Planned p) is e = absurd is
+not_answered Answered is e = absurd is
+
+-- nobody holds a plan
+no_plan : (w : WorldParts) (seen stale : ℕ) (stage : Stage) → ((p : PlanParts) → stage ≢ Planned p) → seen ≤ w.front → stale ≤ 3 → IsFit w.history w.front (record { stage = stage; seen = seen; stale = stale })
+no_plan w seen stale stage none low few = record { plan = λ p e. absurd (none p e); seen = low; stale = few }
+
+going_of : (x : Stage) (p : PlanParts) → x ≡ Planned p → IsGoing x
+going_of x p e = subst (λ (s : Stage). IsGoing s) (sym e) tt
+
+pub move_of : (w w' : WorldParts) (e : Event) → IsSound w → Step w e w' → IsMove w (harvester_of_event e) w'
+move_of w w' (Read h v) s (a, f) = let fit = s.world.fits h a.0 in inl record {
+  now = record { stage = Reading; seen = v; stale = (at w h).stale };
+  is = f;
+  before = λ e. let x = a.1 in cc;
+  after = λ e. cc;
+  no_less = a.3;
+  fit = no_plan w v (at w h).stale Reading (λ p e. cc) a.4 fit.stale;
+  going = λ _. a.2;
+}
+move_of w w' (Plan h stem) s (a, (p, is_stem, under, f)) = let fit = s.world.fits h a.0 in inl record {
+  now = record { stage = Planned p; seen = (at w h).seen; stale = (at w h).stale };
+  is = f;
+  before = λ e. let x = a.1 in cc;
+  after = λ e. cc;
+  no_less = le_refl (at w h).seen;
+  fit = record {
+    plan = λ q e. let same : p ≡ q = cc in subst (λ (z : PlanParts). IsPlanUnder w.history (at w h).seen z) same under;
+    seen = fit.seen;
+    stale = fit.stale;
+  };
+  going = λ _. (s.placed h a.0).going (subst (λ (z : Stage). IsGoing z) (sym a.1) tt);
+}
+move_of w w' (Try h) s (a, (p, is, t)) = let fit = s.world.fits h a.0 in ⊎_elim
+    (λ (k : ((at w h).seen ≡ version_of w.history) × Adds w h (Cut (entry_of w.history h p)) w'). inr (inl record {
+      posting = Cut (entry_of w.history h p);
+      next = k.1.0;
+      is = k.1.2;
+      nobody = a.2;
+      by_h = refl;
+      follows = entry_follows w.history h p (subst (λ (v : ℕ). IsPlanUnder w.history v p) k.0 (fit.plan p is));
+      is_next = k.1.1;
+    }))
+    (λ (k : ((at w h).seen ≢ version_of w.history) × (w' ≡ with_harvester w h (record { stage = Idle; seen = (at w h).seen; stale = (at w h).stale + 1 }))). inl record {
+      now = record { stage = Idle; seen = (at w h).seen; stale = (at w h).stale + 1 };
+      is = k.1;
+      before = a.2 h a.0;
+      after = λ e. cc;
+      no_less = le_refl (at w h).seen;
+      fit = let few = (s.placed h a.0).going (going_of (at w h).stage p is) in no_plan w (at w h).seen ((at w h).stale + 1) Idle (λ q e. cc) fit.seen (omega arith);
+      going = λ f. absurd f;
+    })
+    t
+move_of w w' (Locked h stem) s (a, (p, is_stem, under, f)) = inr (inl record {
+  posting = Cut (entry_of w.history h p);
+  next = f.0;
+  is = f.2;
+  nobody = a.2;
+  by_h = refl;
+  follows = entry_follows w.history h p under;
+  is_next = f.1;
+})
+move_of w w' (Retarget h targets) s (a, (valid, f)) = inr (inl record {
+  posting = Demand (demand_of w.history h targets.value.items);
+  next = f.0;
+  is = f.2;
+  nobody = a.2;
+  by_h = refl;
+  follows = record { number_is_next = refl; version_in_force = refl; holds = valid };
+  is_next = f.1;
+})
+move_of w w' (Raise h) s (a, f) = inr (inr record { is = f; was = a.1 })
+move_of w w' (Leave h) s (a, f) = let fit = s.world.fits h a.0 in inl record {
+  now = record { stage = Idle; seen = (at w h).seen; stale = 0 };
+  is = f;
+  before = a.1;
+  after = λ e. cc;
+  no_less = le_refl (at w h).seen;
+  fit = no_plan w (at w h).seen 0 Idle (λ q e. cc) fit.seen (omega arith);
+  going = λ g. absurd g;
+}
+
+pub in_range : (w w' : WorldParts) (e : Event) → Step w e w' → IsHarvester w (harvester_of_event e)
+in_range w w' (Read h v) (a, f) = a.0
+in_range w w' (Plan h stem) (a, f) = a.0
+in_range w w' (Try h) (a, f) = a.0
+in_range w w' (Locked h stem) (a, f) = a.0
+in_range w w' (Retarget h targets) (a, f) = a.0
+in_range w w' (Raise h) (a, f) = a.0
+in_range w w' (Leave h) (a, f) = a.0

@@ -1,0 +1,6 @@
+use Rattle.std.proofs.Common.{◌≡◌, replicate}
+use Rattle.buck_world.specs.World.{newcomer}
+use Rattle.buck_world.proofs.world.newcomers.Given as goal
+
+abbrev pub invariant-loop : goal.invariant-loop
+invariant-loop l = l.all.items ≡ replicate l.counter newcomer

@@ -1,0 +1,101 @@
+//! New targets in a world.
+ghost use Rattle.std.specs.Prelude.{◌≡◌};
+ghost use Rattle.buck_rule.specs.Stored.{Answers};
+
+use crate::fixtures::*;
+use buck_book::{Posting, TargetsFault};
+use buck_rule::{Rule, Standing, step};
+use buck_samples::saw_instruction;
+use buck_world::{StepFault, World};
+use std::test::Fail;
+
+#[test]
+fn new_targets_end_the_period(rt: HostRuntime) -> Result<(), Fail> {
+    let script = [
+        Line::Does(Do::Retarget(1), OK),
+        Line::Is(1, 1, 0),
+        Line::At(1, Place::Answered, 0, 0),
+        Line::Does(Do::Retarget(2), NO),
+        Line::Does(Do::Raise(1), OK),
+        Line::Is(1, 1, 1),
+        Line::At(1, Place::Idle, 1, 0),
+    ];
+    assert!(rt; plays_new(&rt, 10, &[0, 0, 0, 4], script.as_slice())?);
+    Ok(())
+}
+
+/// Whether targets are refused so, and the world is as before.
+fn refuses(rt: &HostRuntime, targets: &[u32], fault: TargetsFault) -> Result<bool, Fail> {
+    let script = [
+        Line::Does(Do::Retarget(1), Some(StepFault::Targets(fault))),
+        Line::Is(0, 0, 0),
+        Line::At(1, Place::Idle, 0, 0),
+    ];
+    plays_new(rt, 10, targets, script.as_slice())
+}
+
+#[test]
+fn targets_that_are_not_valid(rt: HostRuntime) -> Result<(), Fail> {
+    assert!(rt; refuses(&rt, &[1, 1, 1], TargetsFault::Count)?);
+    assert!(rt; refuses(&rt, &[1, 1, 1_000_001, 1], TargetsFault::Range { at: 2 })?);
+    Ok(())
+}
+
+/// Whether a posting is a cut of one log of this length, or a demand where the length is 0, with this version.
+fn is_posting(posting: &Posting, harvester: u32, number: u32, version: u32, length: u32) -> bool {
+    match posting {
+        Posting::Cut(entry) => {
+            let logs = entry.cutting.logs.as_slice();
+            entry.harvester == harvester
+                && entry.number == number
+                && entry.version == version
+                && logs.len() == 1
+                && logs[0].length == length
+        }
+        Posting::Demand(demand) => {
+            demand.harvester == harvester
+                && demand.number == number
+                && demand.version == version
+                && length == 0
+        }
+    }
+}
+
+/// Whether a world holds a long log of harvester 1, new targets of harvester 2, and a long log of harvester 1.
+fn has_three<F: Drop>(world: &World<F>) -> bool {
+    match world.entries() {
+        [first, second, third] => {
+            is_posting(first, 1, 1, 0, 4_000)
+                && is_posting(second, 2, 1, 1, 0)
+                && is_posting(third, 1, 2, 2, 4_000)
+        }
+        _ => false,
+    }
+}
+
+/// Harvester 1 cuts, harvester 2 puts new targets in force while harvester 1 holds a plan, and harvester 1 cuts again.
+const CUTS: [Line; 12] = [
+    Line::Does(Do::Locked(1), OK),
+    Line::Does(Do::Raise(1), OK),
+    Line::Does(Do::Read(1, 1), OK),
+    Line::Does(Do::Plan(1), OK),
+    Line::Does(Do::Retarget(2), OK),
+    Line::Does(Do::Raise(2), OK),
+    Line::Does(Do::Try(1), OK),
+    Line::Does(Do::Read(1, 2), OK),
+    Line::Does(Do::Plan(1), OK),
+    Line::Does(Do::Try(1), OK),
+    Line::Is(3, 3, 2),
+    Line::At(1, Place::Answered, 2, 1),
+];
+
+#[test]
+fn cuts_around_new_targets(rt: HostRuntime) -> Result<(), Fail> {
+    let rule = Rule::new(|s: &Standing| step(s));
+    let instruction = saw_instruction(rt.alloc(), 1, 500, "1 1 1 1")?;
+    let mut world = World::open(rt.alloc(), instruction, rule, 2, 10)?;
+    let kit = kit_of(&rt, &[0, 0, 0, 4])?;
+    assert!(rt; plays(&rt, &mut world, &kit, CUTS.as_slice())?);
+    assert!(rt; has_three(&world));
+    Ok(())
+}
