@@ -1,12 +1,16 @@
 -- what a closed fleet hands out of its book
-use Rattle.std.proofs.Common.{◌≡◌, ℕ, ◌+◌, ◌-◌, List, [], ◌∷◌, length, refl, sym, ap, subst, ◌∙◌, map}
+use Rattle.std.proofs.Common.{◌≡◌, ℕ, ◌+◌, ◌-◌, ◌<◌, List, [], ◌∷◌, length, get_or, refl, sym, ap, subst, ◌∙◌, map, arith}
 use Rattle.std.specs.Prelude.{All, slice_index_or, slice_get, Some}
 use Rattle.std.specs.List.{sum_by}
 use Rattle.buck_apt.specs.Instruction.{InstructionParts}
-use Rattle.buck_value.specs.Sheet.{SheetParts}
+use Rattle.buck_value.specs.Sheet.{SheetParts, sheet_of}
 use Rattle.buck_book.specs.declared.posting.Posting.{Posting}
-use Rattle.buck_book.specs.History.{HistoryParts, IsLawful}
+use Rattle.buck_book.specs.Posting.{targets_of}
+use Rattle.buck_book.specs.Targets.{AreTargets}
+use Rattle.buck_book.specs.Counts.{AreClassCounts}
+use Rattle.buck_book.specs.History.{HistoryParts, IsLawful, version_of, in_force}
 use Rattle.buck_book.specs.Book.{IsFirst, BookParts, IsBook, sheets_from}
+use Rattle.buck_book.proofs.Sheets.{length-sheets_from, get_or-sheets_from}
 use Rattle.buck_fleet.specs.declared.seat.Kept.{Kept}
 use Rattle.buck_fleet.specs.Seat.{SeatParts}
 use Rattle.buck_fleet.specs.Closed.{ClosedParts, IsHandedOut}
@@ -42,6 +46,16 @@ pub sheets_out : {F : Type 0} (b : BookParts F) (i : InstructionParts) (prices :
     → sheets ≡ sheets_from 0 b.history.instruction b.history.sheets → sheets ≡ sheets_from 0 i prices
 sheets_out b i prices sheets ei es e = e ∙ (λ t. sheets_from 0 (sym ei t) (sym es t))
 
+pub targets_out : (i j : InstructionParts) (ps qs : List Posting) (targets : List ℕ) → j ≡ i → qs ≡ ps → targets ≡ targets_of i ps → targets ≡ targets_of j qs
+targets_out i j ps qs targets ei ep e = e ∙ (λ t. targets_of (sym ei t) (sym ep t))
+
+pub valid_out : (i j : InstructionParts) (targets : List ℕ) → j ≡ i → AreTargets i targets → AreTargets j targets
+valid_out i j targets ei v = subst (λ (x : InstructionParts). AreTargets x targets) (sym ei) v
+
+pub counts_out : (i j : InstructionParts) (ps qs : List Posting) (counts : List ℕ) → j ≡ i → qs ≡ ps → AreClassCounts i ps counts → AreClassCounts j qs counts
+counts_out i j ps qs counts ei ep c =
+    subst (λ (x : InstructionParts). AreClassCounts x qs counts) (sym ei) (subst (λ (l : List Posting). AreClassCounts i l counts) (sym ep) c)
+
 pub counts : (n : ℕ) (seats : List SeatParts) (c : ClosedParts) (lists : List (List Kept)) (total amount : ℕ)
     → c.kept ≡ lists → length lists ≡ n → All (λ s. slice_index_or lists (s.harvester - 1) [] ≡ s.kept) seats → length c.history.postings ≡ total → amount ≡ total → amount ≡ sum_by length lists
     → ((k : ℕ) (x : Posting) → slice_get c.history.postings k ≡ Some x → IsFirst c.history x) → IsHandedOut n seats c
@@ -51,3 +65,14 @@ counts n seats c lists total amount k len all e t a firsts = record {
   total = e ∙ sym t ∙ a ∙ ap (λ (ls : List (List Kept)). sum_by length ls) (sym k);
   first_best = firsts;
 }
+
+-- the last of a lawful history's sheets is the one in force
+pub last_is : (h : HistoryParts) (sheets : List SheetParts) (d : SheetParts) → IsLawful h → sheets ≡ sheets_from 0 h.instruction h.sheets → (0 < length sheets) × (get_or sheets (length sheets - 1) d ≡ in_force h)
+last_is h sheets d lawful e =
+    let long : length sheets ≡ version_of h + 1 = ap (λ (l : List SheetParts). length l) e ∙ length-sheets_from 0 h.instruction h.sheets ∙ lawful.sheets_number in
+    let at : length sheets - 1 ≡ version_of h = omega (arith, long) in
+    let lt : version_of h < length h.sheets = omega (arith, lawful.sheets_number) in
+    let none : 0 + version_of h ≡ version_of h = omega arith in (
+      omega (arith, long),
+      ap (λ (n : ℕ). get_or sheets n d) at ∙ ap (λ (l : List SheetParts). get_or l (version_of h) d) e ∙ get_or-sheets_from 0 h.instruction h.sheets (version_of h) d lt ∙ ap (λ (n : ℕ). sheet_of n h.instruction (get_or h.sheets (version_of h) [])) none,
+    )

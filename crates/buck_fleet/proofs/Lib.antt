@@ -6,3 +6,4 @@ pub mod Keeping
 pub mod Answered
 pub mod Running
 pub mod Crews
+pub mod Stops

@@ -1,14 +1,14 @@
 -- a run goes on
-use Rattle.std.proofs.Common.{◌≡◌, ℕ, zero, suc, ◌+◌, ◌<◌, ◌≤◌, List, [], ◌∷◌, ◌++◌, length, take, get_or, map, refl, sym, ap, subst, ◌∙◌, arith, append_assoc, append-nil}
-use Rattle.std.specs.Prelude.{Some, None, Option, slice_get}
-use Rattle.std.proofs.lemmas.List.{map-append, length-map}
+use Rattle.std.proofs.Common.{◌≡◌, ℕ, zero, suc, ◌+◌, ◌<◌, List, [], ◌∷◌, ◌++◌, length, take, get_or, map, refl, sym, ap, ◌∙◌, arith, append_assoc, append-nil}
+use Rattle.std.specs.Prelude.{Some, slice_get}
+use Rattle.std.proofs.lemmas.List.{map-append}
 use Rattle.buck_stem.specs.Stem.{StemParts}
 use Rattle.buck_book.proofs.Ends.{take_one_more}
 use Rattle.buck_fleet.specs.declared.seat.Kept.{Kept}
 use Rattle.buck_fleet.specs.declared.seat.Reply.{Reply}
-use Rattle.buck_fleet.specs.Seat.{SeatParts, Keeps, KeepsNothing, seen_of}
+use Rattle.buck_fleet.specs.Seat.{SeatParts, KeepsNothing}
 use Rattle.buck_fleet.specs.Reply.{IsReplyFor, kept_of}
-use Rattle.buck_fleet.specs.Run.{HasCut, HasRun, stem_cut}
+use Rattle.buck_fleet.specs.Run.{HasCut, stem_cut}
 
 pub got : {A : Type 0} (f : A → StemParts) (xs : List A) (n : ℕ) (x : A) → n < length xs → x ≡ get_or xs n x → slice_get (map f xs) n ≡ Some (f x)
 got f [] n x lt is = absurd (omega arith)

@@ -3,6 +3,14 @@ use Rattle.std.specs.Prelude.{◌≡◌, ◌≢◌, ℕ, ◌<◌, ◌≤◌, ◌
 use Rattle.buck_book.specs.Plan.{PlanParts}
 use Rattle.buck_fleet.specs.declared.open.OpenFault.{OpenFault}
 use Rattle.buck_fleet.specs.declared.open.OpenFault.TheVariants as opening
+use Rattle.buck_book.specs.declared.demand.DemandRefusal.{DemandRefusal}
+use Rattle.buck_book.specs.declared.demand.DemandRefusal.TheVariants as demanding
+use Rattle.buck_fleet.specs.declared.fault.CutFault.{CutFault}
+use Rattle.buck_fleet.specs.declared.fault.CutFault.TheVariants as cutting
+use Rattle.buck_fleet.specs.declared.fault.RunFault.{RunFault}
+use Rattle.buck_fleet.specs.declared.fault.RunFault.TheVariants as running
+use Rattle.buck_fleet.specs.declared.fault.RetargetFault.{RetargetFault}
+use Rattle.buck_fleet.specs.declared.fault.RetargetFault.TheVariants as retargeting
 use Rattle.buck_fleet.specs.declared.fault.TryFault.{TryFault}
 use Rattle.buck_fleet.specs.declared.fault.TryFault.TheVariants.{Full, Stale, Memory}
 
@@ -17,3 +25,14 @@ abbrev pub GivesBack : PlanParts → TryFault → Type 0
 GivesBack p (Full plan) = plan ≡ p
 GivesBack p (Stale in_force plan) = (plan ≡ p) × (in_force.value ≢ p.sheet)
 GivesBack p (Memory plan) = plan ≡ p
+
+-- a harvester stops for what refused its cut
+abbrev pub stop_of : CutFault → RunFault
+stop_of cutting.Full = running.Full
+stop_of cutting.Memory = running.Memory
+
+-- new targets are refused for what the book refuses them for
+abbrev pub retarget_fault_of : DemandRefusal → RetargetFault
+retarget_fault_of demanding.Full = retargeting.Full
+retarget_fault_of (demanding.Targets fault) = retargeting.Targets fault
+retarget_fault_of demanding.Memory = retargeting.Memory

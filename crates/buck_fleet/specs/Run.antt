@@ -1,5 +1,5 @@
 -- What a run of all seats leaves in them.
-use Rattle.std.specs.Prelude.{◌≡◌, ℕ, ◌<◌, ◌≤◌, List, [], ◌++◌, length, map, take, Option, Some, None, All, slice_index_or}
+use Rattle.std.specs.Prelude.{◌≡◌, ℕ, ◌<◌, ◌≤◌, List, [], ◌++◌, length, map, take, Option, Some, None, All, slice_get, slice_index_or}
 use Rattle.std.specs.declared.sync.Arc.{Arc}
 use Rattle.std.specs.declared.vec.Vec.{Vec}
 use Rattle.std.specs.declared.alloc.Global.{Global}
@@ -8,6 +8,7 @@ use Rattle.buck_stem.specs.declared.stem.Stem.{Stem}
 use Rattle.buck_stem.specs.Stem.{StemParts}
 use Rattle.buck_book.specs.declared.posting.Posting.{Posting}
 use Rattle.buck_book.specs.declared.posting.Posting.TheVariants.{Cut, Demand}
+use Rattle.buck_fleet.specs.declared.fault.RunFault.{RunFault}
 use Rattle.buck_fleet.specs.declared.seat.Kept.{Kept}
 use Rattle.buck_fleet.specs.Seat.{SeatParts, Keeps}
 use Rattle.buck_fleet.specs.Fleet.{FleetParts, IsSeatIn}
@@ -45,3 +46,11 @@ pub record HaveRun (f : FleetParts) (lists : List (Vec (Arc Stem Global) Global)
   pub same_crew : (n : ℕ) → IsCrew n before → IsCrew n after
   pub same_parts : parts_of after ≡ parts_of before
   pub runs : (i : ℕ) (d : SeatParts) → i < length before → HasRun (stems_at lists i) (slice_index_or before i d) (slice_index_or after i d)
+
+-- what stopped the lowest harvester that was stopped
+pub record IsFirstStop (seats : List SeatParts) (fault : RunFault) : Type 0 where
+  pub place : ℕ
+  pub seat : SeatParts
+  pub is_there : slice_get seats place ≡ Some seat
+  pub stopped : seat.stopped ≡ Some fault
+  pub lowest : All (λ s. s.harvester < seat.harvester → s.stopped ≡ None) seats

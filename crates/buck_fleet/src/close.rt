@@ -1,8 +1,10 @@
 //! How a fleet is closed, and what it hands out.
 ghost use Rattle.std.specs.Prelude.{◌≡◌, ◌≢◌, ℕ, ◌-◌, ◌<◌, ◌≤◌, ◌==◌, ◌↔◌, [], length, map, All, IsTrue, IfOk, IfErr, IfNone, IfSome, slice_index_or};
 ghost use Rattle.std.specs.List.{sum_by};
-ghost use Rattle.buck_book.specs.Posting.{harvester_of};
-ghost use Rattle.buck_book.specs.History.{IsLawful};
+ghost use Rattle.buck_book.specs.Posting.{harvester_of, targets_of};
+ghost use Rattle.buck_book.specs.Targets.{AreTargets};
+ghost use Rattle.buck_book.specs.Counts.{AreClassCounts};
+ghost use Rattle.buck_book.specs.History.{IsLawful, in_force};
 ghost use Rattle.buck_book.specs.Book.{sheets_from};
 ghost use Rattle.buck_fleet.specs.Crew.{IsCrew, parts_of};
 ghost use Rattle.buck_fleet.specs.Closed.{ClosedParts, kept_by, replies_from, replies_of, IsHandedOut, IsOneHistory, IsCloseFault, DifferFirstAt};
@@ -38,10 +40,15 @@ pub struct Closed {
     sheets: Vec<Arc<Sheet>>,
     entries: Vec<Posting>,
     kept: Vec<Vec<Kept>>,
+    targets: Arc<Vec<u32>>,
+    counts: Vec<u32>,
 }
 
 impl Model for Closed {
     ghost use Rattle.std.specs.Prelude.{◌≡◌, map};
+    ghost use Rattle.buck_book.specs.Posting.{targets_of};
+    ghost use Rattle.buck_book.specs.Targets.{AreTargets};
+    ghost use Rattle.buck_book.specs.Counts.{AreClassCounts};
     ghost use Rattle.buck_book.specs.History.{IsLawful};
     ghost use Rattle.buck_book.specs.Book.{sheets_from};
     ghost use Rattle.buck_fleet.specs.Closed.{ClosedParts};
@@ -56,7 +63,10 @@ impl Model for Closed {
 
     ghost invariant = { λ c.
         IsLawful (record { instruction = c.instruction.value; sheets = map (λ a. a.value.prices) c.sheets.items; postings = c.entries.items })
-        × (map (λ a. a.value) c.sheets.items ≡ sheets_from 0 c.instruction.value (map (λ a. a.value.prices) c.sheets.items)) };
+        × (map (λ a. a.value) c.sheets.items ≡ sheets_from 0 c.instruction.value (map (λ a. a.value.prices) c.sheets.items))
+        × (c.targets.value.items ≡ targets_of c.instruction.value c.entries.items)
+        × AreTargets c.instruction.value c.targets.value.items
+        × AreClassCounts c.instruction.value c.entries.items c.counts.items };
 }
 
 /// Puts each seat's kept list in its harvester's place, and takes its share in.
@@ -144,12 +154,34 @@ impl Closed {
         self.sheets.as_slice()
     }
 
+    /// The sheet of the last version.
+    pub fn last_sheet(&self) -> &Arc<Sheet>
+        ensures { result.now.value ≡ in_force self.now.history }
+    {
+        &self.sheets[self.sheets.len() - 1]
+    }
+
     /// The postings, in the order of their commits.
     pub fn entries(&self) -> &[Posting]
         ensures postings { result.now ≡ self.now.history.postings }
         ensures lawful { IsLawful self.now.history }
     {
         self.entries.as_slice()
+    }
+
+    /// The targets in force at the end, class by class: those of the last demand, else the instruction's.
+    pub fn targets(&self) -> &[u32]
+        ensures targets { result.now ≡ targets_of self.now.history.instruction self.now.history.postings }
+        ensures valid { AreTargets self.now.history.instruction result.now }
+    {
+        self.targets.as_slice()
+    }
+
+    /// How many logs were cut in each class, in the same order.
+    pub fn counts(&self) -> &[u32]
+        ensures { AreClassCounts self.now.history.instruction self.now.history.postings result.now }
+    {
+        self.counts.as_slice()
     }
 
     /// What each seat kept, by harvester.
@@ -210,14 +242,16 @@ impl<F: Drop, L: Ledger> Fleet<F, L> {
             instruction,
             sheets,
             entries,
-            targets: _,
-            counts: _,
+            targets,
+            counts,
         } = book.into_parts();
         let closed = Closed {
             instruction,
             sheets,
             entries,
             kept,
+            targets,
+            counts,
         };
         if !is_same {
             return Err((CloseFault::Instruction, closed));

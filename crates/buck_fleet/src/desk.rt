@@ -154,7 +154,8 @@ impl<F: Fn(&Standing) -> u64 + Drop, L: Ledger> Desk<F, L> {
             }),
         });
         // Raise: before the lock is given back.
-        board.raise(place, book.version());
+        let begun = book.version();
+        board.raise(place, begun);
         Ok(DemandReply { demand, position })
     }
 }

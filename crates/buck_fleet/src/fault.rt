@@ -32,12 +32,22 @@ pub enum CutFault {
 }
 
 impl From<AllocError> for CutFault {
+    ghost use Rattle.std.specs.Prelude.{◌≡◌};
+    ghost use Rattle.buck_fleet.specs.declared.fault.CutFault.TheVariants.{Memory};
+
+    ghost from_gives = { λ _ e. e ≡ Memory };
+
     fn from(_error: AllocError) -> CutFault {
         CutFault::Memory
     }
 }
 
 impl From<Memory> for CutFault {
+    ghost use Rattle.std.specs.Prelude.{◌≡◌};
+    ghost use Rattle.buck_fleet.specs.declared.fault.CutFault.TheVariants.{Memory};
+
+    ghost from_gives = { λ _ e. e ≡ Memory };
+
     fn from(_error: Memory) -> CutFault {
         CutFault::Memory
     }
@@ -55,6 +65,11 @@ pub enum RunFault {
 }
 
 impl From<CutFault> for RunFault {
+    ghost use Rattle.std.specs.Prelude.{◌≡◌};
+    ghost use Rattle.buck_fleet.specs.Refused.{stop_of};
+
+    ghost from_gives = { λ it e. e ≡ stop_of it };
+
     fn from(fault: CutFault) -> RunFault {
         match fault {
             CutFault::Full => RunFault::Full,
@@ -78,18 +93,33 @@ pub enum RetargetFault {
 }
 
 impl From<AllocError> for RetargetFault {
+    ghost use Rattle.std.specs.Prelude.{◌≡◌};
+    ghost use Rattle.buck_fleet.specs.declared.fault.RetargetFault.TheVariants.{Memory};
+
+    ghost from_gives = { λ _ e. e ≡ Memory };
+
     fn from(_error: AllocError) -> RetargetFault {
         RetargetFault::Memory
     }
 }
 
 impl From<Memory> for RetargetFault {
+    ghost use Rattle.std.specs.Prelude.{◌≡◌};
+    ghost use Rattle.buck_fleet.specs.declared.fault.RetargetFault.TheVariants.{Memory};
+
+    ghost from_gives = { λ _ e. e ≡ Memory };
+
     fn from(_error: Memory) -> RetargetFault {
         RetargetFault::Memory
     }
 }
 
 impl From<DemandRefusal> for RetargetFault {
+    ghost use Rattle.std.specs.Prelude.{◌≡◌};
+    ghost use Rattle.buck_fleet.specs.Refused.{retarget_fault_of};
+
+    ghost from_gives = { λ it e. e ≡ retarget_fault_of it };
+
     fn from(refusal: DemandRefusal) -> RetargetFault {
         match refusal {
             DemandRefusal::Full => RetargetFault::Full,

@@ -1,9 +1,9 @@
 //! A run of a whole fleet: one worker for each seat.
-ghost use Rattle.std.specs.Prelude.{◌≡◌, ℕ, ◌+◌, ◌<◌, ◌≤◌, length, All, IfOk, IfErr, IfNone, None, slice_index_or};
+ghost use Rattle.std.specs.Prelude.{◌≡◌, ℕ, ◌+◌, ◌<◌, ◌≤◌, length, All, IfOk, IfErr, IfNone, IfSome, None, slice_index_or};
 ghost use Rattle.buck_rule.specs.Stored.{AllAnswer};
 ghost use Rattle.buck_fleet.specs.Seat.{SeatParts};
 ghost use Rattle.buck_fleet.specs.Fleet.{IsSeatIn};
-ghost use Rattle.buck_fleet.specs.Run.{HasCut, HasRun, HaveRun, stems_of, stems_at};
+ghost use Rattle.buck_fleet.specs.Run.{HasCut, HasRun, HaveRun, IsFirstStop, stems_of, stems_at};
 
 use crate::fault::RunFault;
 use crate::fleet::Fleet;
@@ -99,6 +99,7 @@ fn run_each<
 /// What stopped the lowest harvester that was stopped.
 fn first_stop<L: Ledger>(seats: &[Seat<L>]) -> Option<RunFault>
     ensures none { IfNone result (All (λ s. s.stopped ≡ None) seats.now) }
+    ensures some { IfSome result (IsFirstStop seats.now) }
 {
     let mut lowest = 65u32;
     let mut first = None;
@@ -135,6 +136,7 @@ fn run_all<
     requires seats { All (IsSeatIn fleet.now) seats.old }
     ensures run { HaveRun fleet.now lists.now seats.old seats.new }
     ensures none { IfNone result (All (λ s. s.stopped ≡ None) seats.new) }
+    ensures some { IfSome result (IsFirstStop seats.new) }
 {
     run_each(rt, alloc, fleet, &mut *seats, lists, gate);
     first_stop(&*seats)
@@ -162,6 +164,7 @@ pub fn run_fleet<
     ensures ok { IfOk result (λ s. HaveRun fleet.now lists.now seats.items s.items) }
     ensures whole { IfOk result (λ s. All (λ x. x.stopped ≡ None) s.items) }
     ensures stopped { IfErr result (λ e. HaveRun fleet.now lists.now seats.items e.1.items) }
+    ensures first { IfErr result (λ e. IsFirstStop e.1.items e.0) }
 {
     let mut seats = seats;
     match run_all(rt, alloc, fleet, seats.as_mut_slice(), lists, gate) {

@@ -1,8 +1,6 @@
 //! Days worked out by hand.
-use crate::callers::day;
 use crate::fixtures::*;
-use buck_rule::{Rule, Standing, linear, steady, step};
-use buck_samples::saw_instruction;
+use buck_rule::{Rule, Standing, linear, step};
 use std::test::Fail;
 
 #[test]
@@ -51,7 +49,9 @@ fn price_falls_to_zero(rt: HostRuntime) -> Result<(), Fail> {
         OneLog(1, 3000, 176_714_400),
         OneLog(2, 3000, 0),
     ];
+    let fallen = [800, 1000, 0, 0];
     assert!(rt; has_entries(&closed, &entries));
+    assert!(rt; has_sheets(&closed, &[BASE, [800, 1000, 1200, 0], fallen, fallen]));
     Ok(())
 }
 
@@ -64,18 +64,13 @@ fn linear_rule_three_stems(rt: HostRuntime) -> Result<(), Fail> {
         OneLog(1, 3000, 132_535_800),
         OneLog(2, 4000, 117_810_000),
     ];
+    let sheets = [
+        BASE,
+        [600, 750, 900, 500],
+        [600, 750, 450, 600],
+        [600, 750, 525, 550],
+    ];
     assert!(rt; has_entries(&closed, &entries));
-    Ok(())
-}
-
-#[test]
-fn fleet_of_two(rt: HostRuntime) -> Result<(), Fail> {
-    let instruction = saw_instruction(rt.alloc(), 1, 0, "1 1 1 1")?;
-    let lists = [list_of(rt.alloc(), 10, 61)?, list_of(rt.alloc(), 10, 61)?];
-    let rule = Rule::new(|s: &Standing| steady(s));
-    let closed = day(&rt, rt.alloc(), instruction, rule, lists.as_slice()).ok_or("refused")?;
-    assert!(rt; closed.entries().len() == 20);
-    assert!(rt; closed.sheets().len() == 21);
-    assert!(rt; closed.kept().len() == 2);
+    assert!(rt; has_sheets(&closed, &sheets));
     Ok(())
 }

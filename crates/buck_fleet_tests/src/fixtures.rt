@@ -1,11 +1,13 @@
-//! Days of a fleet, and what is expected of them.
-ghost use Rattle.std.specs.Prelude.{◌≡◌, length, IfOk};
+//! Days and plays of a fleet, and what is expected of them.
+ghost use Rattle.std.specs.Prelude.{◌≡◌, ◌<◌, ◌≤◌, length, IfOk};
 ghost use Rattle.buck_rule.specs.Stored.{AllAnswer};
 
-use crate::callers::day;
-use buck_book::{Entry, Posting};
-use buck_fleet::Closed;
-use buck_rule::{Rule, Standing};
+use crate::callers::{DayFault, Evening, day, till_evening};
+use crate::play::{Act, PlayFault, Turn, played};
+use crate::stage::Stage;
+use buck_book::{Demand, Entry, Posting};
+use buck_fleet::{Closed, Gate, RunFault};
+use buck_rule::{Rule, Standing, steady, step};
 use buck_samples::{saw_instruction, uniform_stem};
 use buck_stem::Stem;
 use buck_value::{Log, Sheet};
@@ -14,9 +16,23 @@ use std::sync::{Arc, Wait};
 use std::test::Fail;
 use std::thread::Threads;
 
+/// What a stem of 4,000 mm and 250 mm is worth under the base sheet.
+pub const LONG: u64 = 157_080_000;
+
+/// The base prices of the saw instruction.
+pub const BASE: [u32; 4] = [400, 500, 600, 800];
+
 /// An entry of harvester 1 with one log at the butt: its version, the log's length in mm, and its worth.
 #[derive(Clone, Copy)]
 pub struct OneLog(pub u32, pub u32, pub u64);
+
+/// A posting of harvester 1.
+#[derive(Clone, Copy)]
+pub enum Want {
+    Cut(OneLog),
+    /// A demand of this version and these targets.
+    Demand(u32, [u32; 4]),
+}
 
 /// A list of so many stems, each with so many samples of 250 mm.
 pub fn list_of(alloc: Global, number: usize, samples: usize) -> Result<Vec<Arc<Stem>>, Fail> {
@@ -26,6 +42,20 @@ pub fn list_of(alloc: Global, number: usize, samples: usize) -> Result<Vec<Arc<S
         list.push(stem.clone()?)?;
     }
     Ok(list)
+}
+
+/// So many lists, each of so many stems with so many samples of 250 mm.
+pub fn lists_of(
+    alloc: Global,
+    seats: usize,
+    number: usize,
+    samples: usize,
+) -> Result<Vec<Vec<Arc<Stem>>>, Fail> {
+    let mut lists = Vec::new(alloc);
+    for _ in 0..seats {
+        lists.push(list_of(alloc, number, samples)?)?;
+    }
+    Ok(lists)
 }
 
 /// A day of one harvester under the saw instruction, with this period, limit and targets: stems of 4,000 mm.
@@ -40,7 +70,181 @@ pub fn saw_day<F: Fn(&Standing) -> u64 + Drop + Send, R: Threads + Wait + Sync>(
 {
     let instruction = saw_instruction(alloc, saw.0, saw.1, saw.2)?;
     let lists = [list_of(alloc, number, 41)?];
-    Ok(day(rt, alloc, instruction, rule, lists.as_slice()).ok_or("refused")?)
+    Ok(day(rt, alloc, instruction, rule, lists.as_slice())?)
+}
+
+/// A run under the saw instruction in periods of one stem, by the steady rule, told to a gate.
+pub fn steady_evening<R: Threads + Wait + Sync, G: Gate + Sync>(
+    rt: &R,
+    alloc: Global,
+    capacity: u32,
+    lists: &[Vec<Arc<Stem>>],
+    gate: &G,
+) -> Result<Evening, Fail> {
+    if lists.len() == 0 {
+        return Err(Fail::new("no list"));
+    }
+    if lists.len() > 64 {
+        return Err(Fail::new("more than 64 lists"));
+    }
+    let instruction = saw_instruction(alloc, 1, 0, "1 1 1 1")?;
+    let rule = Rule::new(|s: &Standing| steady(s));
+    Ok(till_evening(rt, alloc, instruction, rule, capacity, lists, gate)?)
+}
+
+/// Refuses a run in which a growth was refused.
+pub fn with_memory_to_run(evening: Evening) -> Result<Evening, Fail> {
+    match evening.stopped {
+        Some(RunFault::Memory) => Err(Fail::from(RunFault::Memory)),
+        _ => Ok(evening),
+    }
+}
+
+/// Such a run in which all stems were cut.
+pub fn steady_day<R: Threads + Wait + Sync, G: Gate + Sync>(
+    rt: &R,
+    alloc: Global,
+    lists: &[Vec<Arc<Stem>>],
+    gate: &G,
+) -> Result<Closed, Fail> {
+    let evening = steady_evening(rt, alloc, 100, lists, gate)?;
+    match evening.stopped {
+        None => Ok(evening.closed),
+        Some(fault) => Err(Fail::from(DayFault::Run(fault))),
+    }
+}
+
+/// What a harvester is to do. Stems have so many samples of 250 mm.
+#[derive(Clone, Copy)]
+pub enum Do<'a> {
+    Cut(usize),
+    /// Commits a plan of its own.
+    Commit(usize),
+    /// Commits a plan under this sheet.
+    CommitUnder(&'a Arc<Sheet>, usize),
+    Retarget(&'a [u32]),
+    Look,
+}
+
+/// A stem with so many samples of 250 mm.
+fn stem_of(alloc: Global, samples: usize) -> Result<Arc<Stem>, Fail> {
+    Ok(Arc::new(alloc, uniform_stem(alloc, samples, 250)?)?)
+}
+
+/// What is done, with its stem or its targets.
+fn act_of(alloc: Global, what: Do<'_>) -> Result<Act, Fail> {
+    match what {
+        Do::Cut(samples) => Ok(Act::Cut(stem_of(alloc, samples)?)),
+        Do::Commit(samples) => Ok(Act::Commit(stem_of(alloc, samples)?)),
+        Do::CommitUnder(sheet, samples) => {
+            Ok(Act::CommitUnder(sheet.clone()?, stem_of(alloc, samples)?))
+        }
+        Do::Retarget(targets) => {
+            let targets = Vec::from_slice(alloc, targets)?;
+            Ok(Act::Retarget(Arc::new(alloc, targets)?))
+        }
+        Do::Look => Ok(Act::Look),
+    }
+}
+
+/// What is done in turn, each once harvester 1 has made so many plans.
+pub fn turns_of(alloc: Global, whats: &[(u64, Do<'_>)]) -> Result<Vec<Turn>, Fail> {
+    let mut turns = Vec::with_capacity(alloc, whats.len())?;
+    for (after, what) in whats {
+        let act = act_of(alloc, *what)?;
+        turns.push(Turn { after: *after, act })?;
+    }
+    Ok(turns)
+}
+
+/// What is done in turn, at once.
+pub fn turns_at_once(alloc: Global, whats: &[Do<'_>]) -> Result<Vec<Turn>, Fail> {
+    let mut turns = Vec::with_capacity(alloc, whats.len())?;
+    for what in whats {
+        let act = act_of(alloc, *what)?;
+        turns.push(Turn { after: 0, act })?;
+    }
+    Ok(turns)
+}
+
+/// A play under the saw instruction with this period in stems, limit per mille and capacity.
+pub fn saw_play<F: Fn(&Standing) -> u64 + Drop + Send, R: Threads + Wait + Sync>(
+    rt: &R,
+    alloc: Global,
+    rule: Rule<F>,
+    saw: (u32, u32, u32),
+    lists: &[Vec<Turn>],
+    stage: &Stage,
+) -> Result<Closed, Fail>
+    requires answers { AllAnswer F.Fn }
+    requires lists { (0 < length lists.now) × (length lists.now ≤ 64) }
+{
+    let instruction = saw_instruction(alloc, saw.0, saw.1, "1 1 1 1")?;
+    let closed = played(rt, alloc, instruction, rule, saw.2, lists, stage)?;
+    with_memory(stage)?;
+    Ok(closed)
+}
+
+/// Refuses a play in which a growth was refused to a call.
+pub fn with_memory(stage: &Stage) -> Result<(), Fail> {
+    if stage.is_short() {
+        return Err(Fail::from(PlayFault::Memory));
+    }
+    Ok(())
+}
+
+/// A play of several harvesters, with this period and prices that stay.
+pub fn steady_lists<R: Threads + Wait + Sync>(
+    rt: &R,
+    alloc: Global,
+    period: u32,
+    lists: &[Vec<Turn>],
+    stage: &Stage,
+) -> Result<Closed, Fail>
+    requires { (0 < length lists.now) × (length lists.now ≤ 64) }
+{
+    let rule = Rule::new(|s: &Standing| steady(s));
+    saw_play(rt, alloc, rule, (period, 0, 100), lists, stage)
+}
+
+/// A play of one harvester, in periods of one stem, with prices that stay and this capacity.
+pub fn steady_play<R: Threads + Wait + Sync>(
+    rt: &R,
+    alloc: Global,
+    capacity: u32,
+    whats: &[Do<'_>],
+    stage: &Stage,
+) -> Result<Closed, Fail> {
+    let rule = Rule::new(|s: &Standing| steady(s));
+    let lists = [turns_at_once(alloc, whats)?];
+    saw_play(rt, alloc, rule, (1, 0, capacity), lists.as_slice(), stage)
+}
+
+/// A play of one harvester by the step rule, with this period and a limit of 500 per mille.
+pub fn step_play<R: Threads + Wait + Sync>(
+    rt: &R,
+    alloc: Global,
+    period: u32,
+    whats: &[Do<'_>],
+    stage: &Stage,
+) -> Result<Closed, Fail> {
+    let rule = Rule::new(|s: &Standing| step(s));
+    let lists = [turns_at_once(alloc, whats)?];
+    saw_play(rt, alloc, rule, (period, 500, 100), lists.as_slice(), stage)
+}
+
+/// A play of two harvesters, with this period and prices that stay: the first cuts one stem of 4,000 mm, the other does
+/// what is said, each once the first has made so many plans.
+pub fn held_play<R: Threads + Wait + Sync>(
+    rt: &R,
+    alloc: Global,
+    period: u32,
+    others: &[(u64, Do<'_>)],
+    stage: &Stage,
+) -> Result<Closed, Fail> {
+    let first = turns_at_once(alloc, &[Do::Cut(41)])?;
+    let lists = [first, turns_of(alloc, others)?];
+    steady_lists(rt, alloc, period, lists.as_slice(), stage)
 }
 
 /// Whether an entry is this one, of harvester 1.
@@ -57,18 +261,47 @@ fn is_one_log(entry: &Entry, number: usize, want: &OneLog) -> bool {
         && entry.worth == want.2
 }
 
+/// Whether a demand is this one, of harvester 1.
+fn is_demand(demand: &Demand, number: usize, version: u32, targets: &[u32]) -> bool {
+    demand.harvester == 1
+        && demand.number as usize == number
+        && demand.version == version
+        && demand.targets.as_slice() == targets
+}
+
+/// Whether a posting is this one, of harvester 1.
+fn is_wanted(posting: &Posting, number: usize, want: &Want) -> bool {
+    match (posting, want) {
+        (Posting::Cut(entry), Want::Cut(one)) => is_one_log(entry, number, one),
+        (Posting::Demand(demand), Want::Demand(version, targets)) => {
+            is_demand(demand, number, *version, targets.as_slice())
+        }
+        _ => false,
+    }
+}
+
 /// Whether these are all postings.
+pub fn has_postings(closed: &Closed, wants: &[Want]) -> bool {
+    let postings = closed.entries();
+    if postings.len() != wants.len() {
+        return false;
+    }
+    for (i, posting) in postings.iter().enumerate() {
+        if i >= wants.len() || !is_wanted(posting, i + 1, &wants[i]) {
+            return false;
+        }
+    }
+    true
+}
+
+/// Whether these are all postings, each an entry.
 pub fn has_entries(closed: &Closed, wants: &[OneLog]) -> bool {
     let entries = closed.entries();
     if entries.len() != wants.len() {
         return false;
     }
     for i in 0..entries.len() {
-        let is_right = match &entries[i] {
-            Posting::Cut(entry) => is_one_log(entry, i + 1, &wants[i]),
-            Posting::Demand(_) => false,
-        };
-        if !is_right {
+        if !is_wanted(&entries[i], i + 1, &Want::Cut(wants[i])) {
             return false;
         }
     }
@@ -78,6 +311,14 @@ pub fn has_entries(closed: &Closed, wants: &[OneLog]) -> bool {
 /// Whether a sheet has this version and these prices.
 fn is_sheet(sheet: &Sheet, version: usize, prices: &[u32]) -> bool {
     sheet.version() as usize == version && sheet.prices() == prices
+}
+
+/// Whether a sheet is there, and has this version and these prices.
+pub fn is_shown(sheet: &Option<Arc<Sheet>>, version: usize, prices: [u32; 4]) -> bool {
+    match sheet {
+        Some(sheet) => is_sheet(sheet, version, prices.as_slice()),
+        None => false,
+    }
 }
 
 /// Whether these are all sheets.
@@ -92,4 +333,13 @@ pub fn has_sheets(closed: &Closed, wants: &[[u32; 4]]) -> bool {
         }
     }
     true
+}
+
+/// Whether there are as many postings as the seats kept replies.
+pub fn has_all_kept(closed: &Closed) -> bool {
+    let mut kept = 0usize;
+    for list in closed.kept() {
+        kept = kept.saturating_add(list.len());
+    }
+    kept == closed.entries().len()
 }

@@ -1,7 +1,5 @@
-use Rattle.std.proofs.Common.{◌≡◌, ◌<◌, ℕ}
-use Rattle.std.specs.Prelude.{None, slice_index_or}
-use Rattle.buck_fleet.specs.Seat.{SeatParts}
+use Rattle.buck_fleet.proofs.Stops.{IsStopSoFar}
 use Rattle.buck_fleet.proofs.run.first_stop.Given as goal
 
 abbrev pub invariant-loop-seat : goal.invariant-loop-seat
-invariant-loop-seat g l = l.first ≡ None → (l.lowest ≡ 65) × ((k : ℕ) (d : SeatParts) → k < l.seat-index → (slice_index_or l.seats k d).stopped ≡ None)
+invariant-loop-seat g l = IsStopSoFar l.seat-index l.seats l.lowest l.first

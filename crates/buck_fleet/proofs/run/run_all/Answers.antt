@@ -1,4 +1,4 @@
-use Rattle.std.proofs.Common.{arith, ◌≡◌, ap, ◌∙◌, sym, length}
+use Rattle.std.proofs.Common.{arith}
 use Rattle.buck_fleet.proofs.Crews.{crew_same, parts_same}
 use Rattle.buck_fleet.proofs.run.run_all.Goals as goal
 

@@ -1,6 +1,3 @@
-use Rattle.std.proofs.Common.{◌≡◌, sym, subst, arith}
-use Rattle.buck_fleet.specs.Seat.{SeatParts}
-use Rattle.buck_fleet.specs.Fleet.{IsSeatIn}
 use Rattle.buck_fleet.proofs.run.run_each.Goals as goal
 
 pub returns-clause-each : goal.returns-clause-each

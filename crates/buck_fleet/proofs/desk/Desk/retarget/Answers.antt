@@ -30,5 +30,5 @@ returns-clause-ok g c =
         seen_rises = omega (arith, c.raise.ensures.seen, ap seen_of c.seat.view_is);
       };
       same_instruction = c.commit_demand-demand.ensures.instruction ∙ ap (λ (h : HistoryParts). h.instruction) same;
-      seen = omega (arith, c.raise.ensures.version, c.version.ensures.version);
+      seen = omega (arith, c.raise.ensures.version, c.version-begun.ensures.version);
     }

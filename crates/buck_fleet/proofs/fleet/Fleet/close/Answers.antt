@@ -2,14 +2,14 @@ use Rattle.std.proofs.Common.{length, refl, ap, ◌∙◌, arith}
 use Rattle.std.proofs.lemmas.List.{length-map}
 use Rattle.buck_fleet.specs.Fleet.{FleetParts}
 use Rattle.buck_fleet.specs.inner.Lists.{lists_of}
-use Rattle.buck_fleet.proofs.Counted.{counts, prices_are, lawful_out, firsts_out, sheets_out}
+use Rattle.buck_fleet.proofs.Counted.{counts, prices_are, lawful_out, firsts_out, sheets_out, targets_out, valid_out, counts_out}
 use Rattle.buck_fleet.proofs.fleet.Fleet.close.Goals as goal
 
 pub invariant_of-closed : goal.invariant_of-closed
 invariant_of-closed g c =
     let parts = c.into_parts-instruction.ensures in
     let prices = prices_are (λ a. a.value) _ _ _ _ parts.sheets in
-    (lawful_out c.into_inner-book.result.book _ _ _ parts.kept parts.instruction prices parts.entries, sheets_out c.into_inner-book.result.book _ _ _ parts.instruction prices parts.sheets)
+    (lawful_out c.into_inner-book.result.book _ _ _ parts.kept parts.instruction prices parts.entries, sheets_out c.into_inner-book.result.book _ _ _ parts.instruction prices parts.sheets, targets_out _ _ _ _ _ parts.instruction parts.entries parts.targets, valid_out _ _ _ parts.instruction parts.valid, counts_out _ _ _ _ _ parts.instruction parts.entries parts.counts)
 
 pub returns-then-not-is_same-clause-handed_out : goal.returns-then-not-is_same-clause-handed_out
 returns-then-not-is_same-clause-handed_out g c =
@@ -26,7 +26,7 @@ pub invariant_of-closed-2 : goal.invariant_of-closed-2
 invariant_of-closed-2 g c =
     let parts = c.into_parts-instruction.ensures in
     let prices = prices_are (λ a. a.value) _ _ _ _ parts.sheets in
-    (lawful_out c.into_inner-book.result.book _ _ _ parts.kept parts.instruction prices parts.entries, sheets_out c.into_inner-book.result.book _ _ _ parts.instruction prices parts.sheets)
+    (lawful_out c.into_inner-book.result.book _ _ _ parts.kept parts.instruction prices parts.entries, sheets_out c.into_inner-book.result.book _ _ _ parts.instruction prices parts.sheets, targets_out _ _ _ _ _ parts.instruction parts.entries parts.targets, valid_out _ _ _ parts.instruction parts.valid, counts_out _ _ _ _ _ parts.instruction parts.entries parts.counts)
 
 pub returns-in-Some-clause-handed_out : goal.returns-in-Some-clause-handed_out
 returns-in-Some-clause-handed_out g c =
