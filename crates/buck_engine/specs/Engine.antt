@@ -6,7 +6,7 @@ use Rattle.buck_apt.specs.Apt.{apt_of}
 use Rattle.buck_stem.specs.Stem.{StemParts}
 use Rattle.buck_stem.specs.Stm.{stm_of}
 use Rattle.buck_engine.specs.declared.fault.EngineFault.{EngineFault}
-use Rattle.buck_engine.specs.declared.fault.EngineFault.TheVariants.{Read, Write, Apt, Stm, Memory}
+use Rattle.buck_engine.specs.declared.fault.EngineFault.TheVariants.{Read, Write, Apt, Stm, Journal, Replay, Memory}
 use Rattle.buck_engine.specs.Output.{AppendsSome}
 use Rattle.buck_engine.specs.Text.{IsBuckText}
 
@@ -28,6 +28,8 @@ IsRefusalOf (Read file) apt stm = Unit {0}
 IsRefusalOf Write apt stm = Unit {0}
 IsRefusalOf (Apt fault) apt stm = apt_of apt ≡ Err fault
 IsRefusalOf (Stm file fault) apt stm = (file ≡ 1) × IsOk (apt_of apt) × (stm_of stm ≡ Err fault)
+IsRefusalOf (Journal fault) apt stm = ⊥
+IsRefusalOf (Replay fault) apt stm = ⊥
 IsRefusalOf Memory apt stm = Unit {0}
 
 -- where a fault says that a file can't be read, it is one of these
@@ -36,6 +38,8 @@ IfRead File (Read file) = File file
 IfRead File Write = Unit {0}
 IfRead File (Apt fault) = Unit {0}
 IfRead File (Stm file fault) = Unit {0}
+IfRead File (Journal fault) = Unit {0}
+IfRead File (Replay fault) = Unit {0}
 IfRead File Memory = Unit {0}
 
 -- the fault came before any stem file was looked at
@@ -44,6 +48,8 @@ IsBeforeStems (Read file) = file ≡ 0
 IsBeforeStems Write = ⊥
 IsBeforeStems (Apt fault) = Unit {0}
 IsBeforeStems (Stm file fault) = ⊥
+IsBeforeStems (Journal fault) = ⊥
+IsBeforeStems (Replay fault) = ⊥
 IsBeforeStems Memory = ⊥
 
 -- the answer to the bytes was written

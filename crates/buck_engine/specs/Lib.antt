@@ -1,8 +1,11 @@
 pub mod Faults
 pub mod Output
 pub mod Text
+pub mod Degree
+pub mod Report
 pub mod Engine
 pub mod Files
 pub mod Run
+pub mod Check
 pub mod Laws
 pub mod inner

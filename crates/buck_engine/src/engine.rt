@@ -47,7 +47,7 @@ fn stm_part(input: &[u8]) -> &[u8]
 }
 
 /// The instruction of the bytes of file 0.
-fn instruction_in(alloc: Global, bytes: &[u8]) -> Result<Instruction, EngineFault>
+pub(crate) fn instruction_in(alloc: Global, bytes: &[u8]) -> Result<Instruction, EngineFault>
     ensures { AnswersApt bytes.now result }
 {
     match read_apt(alloc, bytes) {

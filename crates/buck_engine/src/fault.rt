@@ -4,6 +4,7 @@ ghost use Rattle.buck_engine.specs.declared.fault.EngineFault.TheVariants.{Memor
 ghost use Rattle.buck_engine.specs.Faults.{status_of};
 
 use buck_apt::AptFault;
+use buck_journal::{JournalFault, ReplayFault};
 use buck_record::Memory;
 use buck_stem::StmFault;
 use std::alloc::{AllocError, AllocFailed};
@@ -24,6 +25,12 @@ pub enum EngineFault {
     /// The bytes of a stem file are refused.
     #[error("the stems of file {file} are refused: {fault}")]
     Stm { file: u32, fault: StmFault },
+    /// The bytes of the journal are refused.
+    #[error("the journal is refused: {0}")]
+    Journal(JournalFault),
+    /// The journal isn't lawful for the instruction.
+    #[error("the journal is not lawful: {0}")]
+    Replay(ReplayFault),
     /// A growth was refused. It may come in place of any answer.
     #[error("out of memory")]
     Memory,
@@ -82,7 +89,7 @@ impl From<Memory> for TextFault {
 }
 
 /// The exit status of the program after a fault: 1 where a file was refused, 3 where memory ran out, also while a
-/// file was read, and 5 where a file couldn't be read or the output couldn't be written.
+/// file was read, 4 where a journal isn't lawful, and 5 where a file couldn't be read or the output couldn't be written.
 pub fn status(fault: &EngineFault) -> u8
     ensures { result ≡ status_of fault.now }
 {
@@ -93,7 +100,10 @@ pub fn status(fault: &EngineFault) -> u8
             fault: StmFault::Memory,
             ..
         }
+        | EngineFault::Journal(JournalFault::Memory)
+        | EngineFault::Replay(ReplayFault::Memory)
         | EngineFault::Memory => 3,
-        EngineFault::Apt(_) | EngineFault::Stm { .. } => 1,
+        EngineFault::Apt(_) | EngineFault::Stm { .. } | EngineFault::Journal(_) => 1,
+        EngineFault::Replay(_) => 4,
     }
 }

@@ -40,7 +40,7 @@ impl<'a, R: Files> Open for Disk<'a, R> {
     }
 }
 
-/// Opens the instruction file and then the stem file. One that can't be opened is `Read` with its number.
+/// Opens the instruction file and then the other. One that can't be opened is `Read` with its number.
 pub(crate) fn open_both<O: Open>(
     opener: &mut O,
     apt: &str,

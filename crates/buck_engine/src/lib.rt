@@ -5,18 +5,24 @@
 //! from its [`Task`] to its exit status, over files that an [`Open`] opens, as [`Disk`]. [`laws`] says that there is one text.
 #![tactic(auto)]
 
+mod apportionment;
+mod check;
 mod engine;
 mod fault;
 mod files;
 mod input;
 pub mod laws;
 mod output;
+mod report;
 mod run;
 mod text;
 
+pub use apportionment::degree;
+pub use check::run_check;
 pub use engine::{run_bare, run_buck};
 pub use fault::{EngineFault, TextFault, status};
 pub use files::{Disk, Open};
 pub use output::write_fault;
+pub use report::report_text;
 pub use run::{Task, conclude, explain, serve};
 pub use text::buck_text;

@@ -3,11 +3,12 @@ ghost use Rattle.std.specs.Prelude.{◌∷◌};
 ghost use Rattle.std.specs.Fmt.{decimal};
 ghost use Rattle.buck_record.specs.Written.{spelled};
 ghost use Rattle.buck_record.specs.Line.{line_of};
-ghost use Rattle.buck_engine.specs.Faults.{apt_line, stm_line, stm_numbered, fault_line};
+ghost use Rattle.buck_engine.specs.Faults.{apt_line, stm_line, stm_numbered, journal_line, replay_line, fault_line};
 ghost use Rattle.buck_engine.specs.Output.{IsWritten, TellsWritten};
 
 use crate::fault::EngineFault;
 use buck_apt::AptFault;
+use buck_journal::{JournalFault, ReplayFault};
 use buck_stem::StmFault;
 use itoa::Buffer;
 use std::io;
@@ -181,6 +182,49 @@ fn write_stm_fault<W: io::Write>(
     }
 }
 
+/// Writes the line of a journal's fault.
+fn write_journal_fault<W: io::Write>(
+    writer: &mut W,
+    fault: &JournalFault,
+) -> Result<(), EngineFault>
+    ensures { IsWritten (W.contents writer.old) (W.contents writer.new) (journal_line fault.now) result }
+{
+    match fault {
+        JournalFault::Head { item } => write_line(writer, b"journal fault", &[1, *item as u64]),
+        JournalFault::NotJournal => write_line(writer, b"journal fault", &[2]),
+        JournalFault::Shape { item } => write_line(writer, b"journal fault", &[3, *item as u64]),
+        JournalFault::Digits { item } => write_line(writer, b"journal fault", &[4, *item as u64]),
+        JournalFault::Count { item } => write_line(writer, b"journal fault", &[5, *item as u64]),
+        JournalFault::Range { item } => write_line(writer, b"journal fault", &[6, *item as u64]),
+        JournalFault::Memory => write_text(writer, b"memory\n"),
+    }
+}
+
+/// Writes the line of the first fault of a journal that isn't lawful.
+fn write_replay_fault<W: io::Write>(writer: &mut W, fault: &ReplayFault) -> Result<(), EngineFault>
+    ensures { IsWritten (W.contents writer.old) (W.contents writer.new) (replay_line fault.now) result }
+{
+    match fault {
+        ReplayFault::Sheet { version } => {
+            write_line(writer, b"replay fault", &[1, u64::from(*version)])
+        }
+        ReplayFault::Price { version, class } => {
+            write_line(
+                writer,
+                b"replay fault",
+                &[2, u64::from(*version), *class as u64],
+            )
+        }
+        ReplayFault::Numbering { at } => write_line(writer, b"replay fault", &[3, *at as u64]),
+        ReplayFault::Version { at } => write_line(writer, b"replay fault", &[4, *at as u64]),
+        ReplayFault::Cutting { at } => write_line(writer, b"replay fault", &[5, *at as u64]),
+        ReplayFault::Worth { at } => write_line(writer, b"replay fault", &[6, *at as u64]),
+        ReplayFault::Outvalued { at } => write_line(writer, b"replay fault", &[7, *at as u64]),
+        ReplayFault::Memory => write_text(writer, b"memory\n"),
+        ReplayFault::Targets { at } => write_line(writer, b"replay fault", &[9, *at as u64]),
+    }
+}
+
 /// Writes the line of a fault.
 fn write_fault_line<W: io::Write>(writer: &mut W, fault: &EngineFault) -> Result<(), EngineFault>
     ensures { IsWritten (W.contents writer.old) (W.contents writer.new) (fault_line fault.now) result }
@@ -190,6 +234,8 @@ fn write_fault_line<W: io::Write>(writer: &mut W, fault: &EngineFault) -> Result
         EngineFault::Write => write_text(writer, b"write fault\n"),
         EngineFault::Apt(fault) => write_apt_fault(writer, fault),
         EngineFault::Stm { file, fault } => write_stm_fault(writer, *file, fault),
+        EngineFault::Journal(fault) => write_journal_fault(writer, fault),
+        EngineFault::Replay(fault) => write_replay_fault(writer, fault),
         EngineFault::Memory => write_text(writer, b"memory\n"),
     }
 }

@@ -4,8 +4,9 @@ ghost use Rattle.std.specs.Io.KnownBytes.{Keeps};
 ghost use Rattle.buck_engine.specs.declared.fault.EngineFault.{EngineFault};
 ghost use Rattle.buck_engine.specs.Output.{IsWritten};
 ghost use Rattle.buck_engine.specs.Faults.{fault_line};
-ghost use Rattle.buck_engine.specs.Run.{AppendsFirst, IsBareRun, IsRun, RunsFiles, RunsTask, TellsOutcome, status_after};
+ghost use Rattle.buck_engine.specs.Run.{AppendsFirst, IsBareRun, IsCheckRun, IsRun, RunsFiles, RunsTask, TellsOutcome, status_after};
 
+use crate::check::run_check;
 use crate::engine::{run_bare, run_buck};
 use crate::fault::{EngineFault, status};
 use crate::files::{Open, open_both};
@@ -20,6 +21,8 @@ pub enum Task<'a> {
     Bare,
     /// The files of these names.
     Buck { apt: &'a str, stm: &'a str },
+    /// A check of a journal by its instruction, in the files of these names.
+    Check { apt: &'a str, journal: &'a str },
 }
 
 fn run_opened<R: io::Read, W: io::Write>(
@@ -51,11 +54,37 @@ fn run_files<O: Open, W: io::Write>(
     stm: &str,
     writer: &mut W,
 ) -> Result<(), EngineFault>
-    ensures { RunsFiles O.opens O.File.remaining opener.old opener.new apt.now stm.now
+    ensures { RunsFiles IsRun O.opens O.File.remaining opener.old opener.new apt.now stm.now
         (W.contents writer.old) (W.contents writer.new) result }
 {
     let (mut instruction, mut stems) = open_both(opener, apt, stm)?;
     run_opened(alloc, &mut instruction, &mut stems, writer)
+}
+
+fn check_opened<R: io::Read, W: io::Write>(
+    alloc: Global,
+    apt: &mut R,
+    journal: &mut R,
+    writer: &mut W,
+) -> Result<(), EngineFault>
+    ensures { IsCheckRun (R.remaining apt.old) (R.remaining journal.old) (W.contents writer.old) (W.contents writer.new) result }
+{
+    run_check(alloc, apt, journal, writer)
+}
+
+/// Opens both files by their names, the instruction file first, and then checks the journal.
+fn check_files<O: Open, W: io::Write>(
+    alloc: Global,
+    opener: &mut O,
+    apt: &str,
+    journal: &str,
+    writer: &mut W,
+) -> Result<(), EngineFault>
+    ensures { RunsFiles IsCheckRun O.opens O.File.remaining opener.old opener.new apt.now journal.now
+        (W.contents writer.old) (W.contents writer.new) result }
+{
+    let (mut instruction, mut postings) = open_both(opener, apt, journal)?;
+    check_opened(alloc, &mut instruction, &mut postings, writer)
 }
 
 /// Does what the task asks for.
@@ -72,6 +101,7 @@ fn run_task<R: io::Read, O: Open, W: io::Write>(
     match task {
         Task::Bare => run_input(alloc, input, writer),
         Task::Buck { apt, stm } => run_files(alloc, opener, *apt, *stm, writer),
+        Task::Check { apt, journal } => check_files(alloc, opener, *apt, *journal, writer),
     }
 }
 
@@ -115,7 +145,8 @@ pub fn conclude<E: io::Write>(errors: &mut E, outcome: &Result<(), EngineFault>)
 /// Does what the task asks for, and says on `errors` how it ended. The answer is the exit status.
 ///
 /// The files of a task are opened in the order of its words before one of them is read; one that can't be opened is
-/// `Read` with its number. Each fault and what is written before it are those of [`run_buck`] and [`run_bare`].
+/// `Read` with its number. Each fault and what is written before it are those of [`run_buck`], [`run_bare`] and
+/// [`run_check`].
 pub fn serve<R: io::Read, O: Open, W: io::Write, E: io::Write>(
     alloc: Global,
     task: &Task<'_>,

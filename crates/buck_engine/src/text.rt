@@ -15,7 +15,7 @@ use std::alloc::Global;
 use std::sync::Arc;
 
 /// Puts a line that ends with a name.
-fn put_named_line(
+pub(crate) fn put_named_line(
     out: &mut Vec<u8>,
     words: &[u8],
     numbers: &[u128],
@@ -80,7 +80,12 @@ fn put_stem(out: &mut Vec<u8>, stem: &Stem, logs: usize, worth: u64) -> Result<(
 
 /// Puts the line of the total.
 #[tactic(auto, unfolding(crate::specs::Text::total_line))]
-fn put_total(out: &mut Vec<u8>, stems: usize, logs: u128, worth: u128) -> Result<(), Memory>
+pub(crate) fn put_total(
+    out: &mut Vec<u8>,
+    stems: usize,
+    logs: u128,
+    worth: u128,
+) -> Result<(), Memory>
     ensures { OnOk result (out.new.items ≡ out.old.items ++ total_line stems logs worth) }
 {
     put_line(out, b"TOTAL", &[stems as u128, logs, worth])

@@ -2,6 +2,7 @@
 use crate::helpers::{bare, buck};
 use buck_apt::AptFault;
 use buck_engine::{EngineFault, TextFault, status, write_fault};
+use buck_journal::{JournalFault, ReplayFault};
 use buck_samples::{SAW, stem_text};
 use buck_stem::StmFault;
 use std::test::Fail;
@@ -94,6 +95,44 @@ fn stem_faults(rt: HostRuntime) {
             "{line}"
         );
     }
+}
+
+#[test]
+fn journal_faults(rt: HostRuntime) {
+    for (fault, line) in [
+        (JournalFault::Head { item: 7 }, "journal fault 1 7\n"),
+        (JournalFault::NotJournal, "journal fault 2\n"),
+        (JournalFault::Shape { item: 13 }, "journal fault 3 13\n"),
+        (JournalFault::Digits { item: 13 }, "journal fault 4 13\n"),
+        (JournalFault::Count { item: 13 }, "journal fault 5 13\n"),
+        (JournalFault::Range { item: 13 }, "journal fault 6 13\n"),
+    ] {
+        assert!(rt; says(&rt, EngineFault::Journal(fault), line, 1), "{line}");
+    }
+    let fault = EngineFault::Journal(JournalFault::Memory);
+    assert!(rt; says(&rt, fault, "memory\n", 3));
+}
+
+#[test]
+fn replay_faults(rt: HostRuntime) {
+    let (version, class, at) = (3, 16383, 999_999);
+    for (fault, line) in [
+        (ReplayFault::Sheet { version }, "replay fault 1 3\n"),
+        (
+            ReplayFault::Price { version, class },
+            "replay fault 2 3 16383\n",
+        ),
+        (ReplayFault::Numbering { at }, "replay fault 3 999999\n"),
+        (ReplayFault::Version { at }, "replay fault 4 999999\n"),
+        (ReplayFault::Cutting { at }, "replay fault 5 999999\n"),
+        (ReplayFault::Worth { at }, "replay fault 6 999999\n"),
+        (ReplayFault::Outvalued { at }, "replay fault 7 999999\n"),
+        (ReplayFault::Targets { at }, "replay fault 9 999999\n"),
+    ] {
+        assert!(rt; says(&rt, EngineFault::Replay(fault), line, 4), "{line}");
+    }
+    let fault = EngineFault::Replay(ReplayFault::Memory);
+    assert!(rt; says(&rt, fault, "memory\n", 3));
 }
 
 #[test]

@@ -1,5 +1,5 @@
 //! What the tests share.
-use buck_engine::{EngineFault, run_bare, run_buck};
+use buck_engine::{EngineFault, run_bare, run_buck, run_check};
 use std::test::Fail;
 
 /// How a run ended, and what was written.
@@ -35,6 +35,15 @@ pub fn buck<'x>(rt: &HostRuntime, apt: &'x str, stm: &'x str) -> Run {
     let mut stems = stm.as_bytes();
     let mut written = Vec::new(rt.alloc());
     let outcome = run_buck(rt.alloc(), &mut instruction, &mut stems, &mut written);
+    Run { outcome, written }
+}
+
+/// A check of a journal.
+pub fn check<'x>(rt: &HostRuntime, apt: &'x str, journal: &'x str) -> Run {
+    let mut instruction = apt.as_bytes();
+    let mut postings = journal.as_bytes();
+    let mut written = Vec::new(rt.alloc());
+    let outcome = run_check(rt.alloc(), &mut instruction, &mut postings, &mut written);
     Run { outcome, written }
 }
 

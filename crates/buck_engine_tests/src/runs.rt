@@ -2,7 +2,7 @@
 ghost use Rattle.std.specs.Prelude.{⊤};
 
 use buck_engine::{EngineFault, Open, Task, conclude, explain, serve};
-use buck_samples::{SAW, stem_text};
+use buck_samples::{SAW, edited, saw_text, stem_text, two_stem_journal};
 use std::test::Fail;
 
 /// Files of these names, and the names that were asked for, each with a blank after it.
@@ -138,6 +138,26 @@ fn fault_lines_on_the_errors_alone(rt: HostRuntime) -> Result<(), Fail> {
             "{line}"
         );
     }
+    Ok(())
+}
+
+#[test]
+fn journals_by_their_names(rt: HostRuntime) -> Result<(), Fail> {
+    let instruction = saw_text(rt.alloc(), 1, 500, "1 1 1 1")?;
+    let journal = two_stem_journal(rt.alloc())?;
+    let other = edited(rt.alloc(), journal.as_str(), "132535800", "132535801")?;
+    let task = Task::Check {
+        apt: "a",
+        journal: "b",
+    };
+    let files = [("a", instruction.as_str()), ("b", journal.as_str())];
+    let run = served(&rt, &task, "", &files);
+    assert!(rt; run.left(0, "LAWFUL 2\n", "", "a b "));
+    let files = [("a", instruction.as_str()), ("b", other.as_str())];
+    let run = served(&rt, &task, "", &files);
+    assert!(rt; run.left(4, "", "replay fault 6 1\n", "a b "));
+    let run = served(&rt, &task, "", &files[..1]);
+    assert!(rt; run.left(5, "", "read fault 1\n", "a b "));
     Ok(())
 }
 

@@ -11,6 +11,15 @@ Exit statuses: 0 all was printed, 1 a file is refused, 2 the words of the comman
 5 a file can't be read or the output can't be written. After 1, 3 and 5 one line on standard error says what went
 wrong: see \"Fault lines and exit statuses\" in docs/FORMATS.md.";
 
+/// The same of a check.
+const VERDICTS: &str =
+    "Prints LAWFUL and the number of postings where each cutting is one that none outvalues under the prices in force,
+and the prices move only by the rule. A journal may have at most 67108864 bytes, as each file.
+
+Exit statuses: 0 the journal is lawful, 1 a file is refused, 2 the words of the command line are wrong, 3 memory ran
+out, 4 the journal is not lawful, 5 a file can't be read or the output can't be written. After 1, 3, 4 and 5 one line on
+standard error says what went wrong: see \"Fault lines and exit statuses\" in docs/FORMATS.md.";
+
 fn file<'a>(alloc: Global, name: &'a str, help: &'a str) -> Arg<'a> {
     Arg::new(alloc, name)
         .required(true)
@@ -30,6 +39,16 @@ fn buck<'a>(alloc: Global) -> Result<Command<'a>, Error> {
     )
 }
 
+fn check<'a>(alloc: Global) -> Result<Command<'a>, Error> {
+    Ok(
+        Command::new(alloc, "check")
+            .about("Checks a journal by the instruction that was cut by")
+            .after_help(VERDICTS)
+            .arg(file(alloc, "APT", "The instruction file"))?
+            .arg(file(alloc, "JOURNAL", "The journal"))?,
+    )
+}
+
 fn command<'a>(alloc: Global) -> Result<Command<'a>, Error> {
     Ok(
         Command::new(alloc, "buckfleet")
@@ -38,7 +57,8 @@ fn command<'a>(alloc: Global) -> Result<Command<'a>, Error> {
                 "Cuts each stem of a stem file into logs of the greatest worth by an instruction file. Without a command, an instruction file, a | and a stem file are read from standard input.",
             )
             .after_help(ENDINGS)
-            .subcommand(buck(alloc)?)?,
+            .subcommand(buck(alloc)?)?
+            .subcommand(check(alloc)?)?,
     )
 }
 
@@ -55,6 +75,10 @@ pub fn parse<'a>(alloc: Global, words: &'a [String]) -> Result<Task<'a>, Error> 
     let matches = command(alloc)?.try_get_matches_from(words)?;
     match matches.subcommand() {
         None => Ok(Task::Bare),
+        Some(("check", files)) => Ok(Task::Check {
+            apt: word(files, "APT"),
+            journal: word(files, "JOURNAL"),
+        }),
         Some((_, files)) => Ok(Task::Buck {
             apt: word(files, "APT"),
             stm: word(files, "STM"),

@@ -1,7 +1,8 @@
 //! `buckfleet`: the best cutting of felled stems into logs, by a bucking instruction.
 //!
 //! `buckfleet buck APT STM` reads an instruction file and a stem file and prints how each stem is to be cut; without
-//! words it reads both from standard input, with a `|` between them. See docs/FORMATS.md for the files, the text, the
+//! words it reads both from standard input, with a `|` between them. `buckfleet check APT JOURNAL` says whether a journal
+//! is lawful for an instruction. See docs/FORMATS.md for the files, the text, the
 //! fault lines and the exit statuses.
 #![tactic(auto)]
 

@@ -4,8 +4,11 @@ use Rattle.buck_apt.specs.Instruction.{InstructionParts}
 use Rattle.buck_apt.specs.Apt.{apt_of}
 use Rattle.buck_stem.specs.Stem.{StemParts}
 use Rattle.buck_stem.specs.Stm.{stm_of}
+use Rattle.buck_journal.specs.Journal.{JournalParts, journal_of}
+use Rattle.buck_journal.specs.Replay.{history_of, IsFirstFault}
+use Rattle.buck_book.specs.History.{IsLawful}
 use Rattle.buck_engine.specs.declared.fault.EngineFault.{EngineFault}
-use Rattle.buck_engine.specs.declared.fault.EngineFault.TheVariants.{Read, Write, Apt, Stm, Memory}
+use Rattle.buck_engine.specs.declared.fault.EngineFault.TheVariants.{Read, Write, Apt, Stm, Journal, Replay, Memory}
 
 -- the instruction of a file's bytes, or its refusal
 abbrev pub AnswersApt : List ℕ → Result InstructionParts EngineFault → Type 0
@@ -14,6 +17,8 @@ AnswersApt bytes (Err (Read file)) = ⊥
 AnswersApt bytes (Err Write) = ⊥
 AnswersApt bytes (Err (Apt fault)) = apt_of bytes ≡ Err fault
 AnswersApt bytes (Err (Stm file fault)) = ⊥
+AnswersApt bytes (Err (Journal fault)) = ⊥
+AnswersApt bytes (Err (Replay fault)) = ⊥
 AnswersApt bytes (Err Memory) = Unit {0}
 
 -- the stems of the bytes of file 1, or its refusal
@@ -23,4 +28,28 @@ AnswersStm bytes (Err (Read file)) = ⊥
 AnswersStm bytes (Err Write) = ⊥
 AnswersStm bytes (Err (Apt fault)) = ⊥
 AnswersStm bytes (Err (Stm file fault)) = (file ≡ 1) × (stm_of bytes ≡ Err fault)
+AnswersStm bytes (Err (Journal fault)) = ⊥
+AnswersStm bytes (Err (Replay fault)) = ⊥
 AnswersStm bytes (Err Memory) = Unit {0}
+
+-- the journal of the bytes of file 1, or its refusal
+abbrev pub AnswersJournal : List ℕ → Result JournalParts EngineFault → Type 0
+AnswersJournal bytes (Ok journal) = journal_of bytes ≡ Ok journal
+AnswersJournal bytes (Err (Read file)) = ⊥
+AnswersJournal bytes (Err Write) = ⊥
+AnswersJournal bytes (Err (Apt fault)) = ⊥
+AnswersJournal bytes (Err (Stm file fault)) = ⊥
+AnswersJournal bytes (Err (Journal fault)) = journal_of bytes ≡ Err fault
+AnswersJournal bytes (Err (Replay fault)) = ⊥
+AnswersJournal bytes (Err Memory) = Unit {0}
+
+-- whether a journal is lawful for an instruction, or its first fault
+abbrev pub AnswersReplay : InstructionParts → JournalParts → Result (Unit {0}) EngineFault → Type 0
+AnswersReplay i journal (Ok _) = IsLawful (history_of i journal)
+AnswersReplay i journal (Err (Read file)) = ⊥
+AnswersReplay i journal (Err Write) = ⊥
+AnswersReplay i journal (Err (Apt fault)) = ⊥
+AnswersReplay i journal (Err (Stm file fault)) = ⊥
+AnswersReplay i journal (Err (Journal fault)) = ⊥
+AnswersReplay i journal (Err (Replay fault)) = IsFirstFault (history_of i journal) fault
+AnswersReplay i journal (Err Memory) = Unit {0}

@@ -1,0 +1,17 @@
+-- What the lines of a report are put from.
+use Rattle.std.specs.Prelude.{◌≡◌, ◌<◌, length, slice_get, Some}
+use Rattle.buck_apt.specs.declared.class.Class.{Class}
+use Rattle.buck_apt.specs.Instruction.{InstructionParts, AssortmentParts, classes}
+use Rattle.buck_engine.specs.Report.{EndingParts}
+
+-- a number of each kind for each class
+pub record IsEnding (e : EndingParts) : Type 0 where
+  pub targets : length e.targets ≡ classes e.instruction
+  pub counts : length e.counts ≡ classes e.instruction
+  pub prices : length e.prices ≡ classes e.instruction
+
+-- the class is one of this assortment of the instruction
+pub record IsClassIn (i : InstructionParts) (a : AssortmentParts) (c : Class) : Type 0 where
+  pub exists : slice_get i.assortments c.assortment ≡ Some a
+  pub row : c.row < length a.diameters
+  pub column : c.column < length a.lengths
