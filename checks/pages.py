@@ -25,14 +25,6 @@ PROMISES = [
         ],
     ),
     (
-        "a whole run of the program",
-        [
-            "buck_engine.specs.Run:RunsTask",
-            "buck_engine.specs.Run:TellsOutcome",
-            "buck_engine.specs.Run:status_after",
-        ],
-    ),
-    (
         "the history of a book",
         [
             "buck_book.specs.Book:IsBook",
@@ -50,6 +42,22 @@ PROMISES = [
         ],
     ),
     (
+        "a checked journal",
+        [
+            "buck_engine.specs.Check:IsFoundLawful",
+            "buck_engine.specs.Check:IsCheckRefusal",
+            "buck_engine.specs.Check:AppendsLawfulPrefix",
+        ],
+    ),
+    (
+        "a whole run of the program",
+        [
+            "buck_engine.specs.Run:RunsTask",
+            "buck_engine.specs.Run:TellsOutcome",
+            "buck_engine.specs.Run:status_after",
+        ],
+    ),
+    (
         "the closed fleet",
         [
             "buck_fleet.specs.Closed:IsOneHistory",
@@ -63,6 +71,30 @@ PROMISES = [
             "buck_fleet.specs.Run:HaveRun",
             "buck_fleet.specs.Refused:IsOpenFault",
             "buck_fleet.specs.Refused:GivesBack",
+            "buck_fleet.specs.Run:IsFirstStop",
+        ],
+    ),
+    ("the report", ["buck_engine.specs.Report:IsReport", "buck_engine.specs.Degree:IsDegree"]),
+    (
+        "the world and its runs",
+        [
+            "buck_world.specs.Step:Step",
+            "buck_world.specs.Refused:HasRoom",
+            "buck_world.specs.Refused:IsRefusal",
+            "buck_world.specs.Kept:IsKept",
+            "buck_world.specs.World:opening",
+            "buck_world.specs.Laws:HistoryIsLawful",
+            "buck_world.specs.Laws:PostingsAreThoseAdded",
+            "buck_world.specs.Laws:NoOldPlanIsAdded",
+            "buck_world.specs.Laws:StaleAtMostThree",
+            "buck_world.specs.Laws:OneAnswered",
+            "buck_world.specs.Laws:FrontIsNearVersion",
+            "buck_world.specs.Laws:ReadsNeverFall",
+            "buck_world.specs.Laws:ReadsAfterReplies",
+            "buck_world.specs.Laws:LiftsAreTheFront",
+            "buck_world.specs.Laws:StaleAndLiftsAtMostFront",
+            "buck_world.specs.Laws:StaleAtMostLiftsOfOthers",
+            "buck_world.specs.Laws:AllStaleAtMost",
         ],
     ),
 ]
