@@ -2,9 +2,18 @@
 use crate::callers::day;
 use crate::fixtures::*;
 use buck_engine::{degree, report_text};
+use buck_fleet::Closed;
 use buck_rule::{Rule, Standing, steady, step};
 use buck_samples::saw_instruction;
 use std::test::Fail;
+
+/// The degree of the first assortment.
+fn first_degree(closed: &Closed) -> Option<u32> {
+    if closed.instruction().assortments().len() == 0 {
+        return None;
+    }
+    degree(closed, 0)
+}
 
 /// Whether a text ends so.
 fn is_end(text: &[u8], end: &[u8]) -> bool {
@@ -26,7 +35,7 @@ DEGREE 0 5000 saw
 TOTAL 2 2 289615800
 ";
     assert!(rt; text.as_slice() == want.as_slice());
-    assert!(rt; degree(&closed, 0) == Some(5000));
+    assert!(rt; first_degree(&closed) == Some(5000));
     Ok(())
 }
 
