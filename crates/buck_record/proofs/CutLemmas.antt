@@ -1,5 +1,5 @@
 -- The first word of a text, while its digits are read one after the other.
-use Rattle.std.proofs.Common.{◌≡◌, ℕ, ◌+◌, ◌*◌, ◌<◌, ◌≤◌, true, false, List, Some, None, length, not, get_or, take, drop, sym, ap, ◌∙◌, arith, inl, inr, length-take-le}
+use Rattle.std.proofs.Common.{◌≡◌, ℕ, ◌+◌, ◌*◌, ◌<◌, ◌≤◌, true, false, List, Some, None, length, not, get_or, take, drop, refl, sym, ap, ◌∙◌, arith, inl, inr, length-take-le}
 use Rattle.std.specs.List.{position_or_len}
 use Rattle.std.specs.Char.{is_ascii_digit, digit_value}
 use Rattle.std.specs.Str.Parse.{digits_value}
@@ -11,7 +11,7 @@ use Rattle.std.proofs.lemmas.Bool.Decides.{nat_tests}
 use borrow.Author.Count.{below_more}
 use Rattle.buck_record.specs.White.{is_white, first_word, after_word}
 use Rattle.buck_record.specs.Record.{number_at_most}
-use Rattle.buck_record.proofs.NumberLemmas.{AreDigits, number-some, number-not_digits, number-too_large}
+use Rattle.buck_record.proofs.NumberLemmas.{AreDigits, number-some, number-none, number-not_digits, number-too_large}
 
 white_no_digit : (b : ℕ) → is_white b ≡ true → is_ascii_digit b ≡ false
 white_no_digit b h = grind (arith, nat_tests)
@@ -31,7 +31,7 @@ module _ (text : List ℕ) (i : ℕ) (digits : AreDigits (take i text)) where
       ]
 
   -- the word goes on past a byte that isn't white
-  goes_on : i < length text → is_white (get_or text i 0) ≡ false → i < position_or_len is_white text
+  pub goes_on : i < length text → is_white (get_or text i 0) ≡ false → i < position_or_len is_white text
   goes_on inside dark =
       elim (cases_lt i (position_or_len is_white text)) [
         | inl lt ↦ lt
@@ -48,7 +48,7 @@ module _ (text : List ℕ) (i : ℕ) (digits : AreDigits (take i text)) where
   bounded = prefix_len-le-length (λ b. not (is_white b)) text
 
   -- the word is the digits, and the rest begins after the white byte
-  word_is : i ≤ length text → (i < length text → is_white (get_or text i 0) ≡ true) → first_word text ≡ take i text
+  pub word_is : i ≤ length text → (i < length text → is_white (get_or text i 0) ≡ true) → first_word text ≡ take i text
   unfolding first_word
   word_is within end = ap (λ n. take n text) (ends within end)
 
@@ -81,3 +81,9 @@ module _ (text : List ℕ) (i : ℕ) (digits : AreDigits (take i text)) where
   cut-whole most n within filled end value small =
       let word = word_is within end in
       rw word (number-some most (take i text) digits (rw word at filled) (omega arith) ∙ ap Some (sym value))
+
+-- a text with no byte, or with a white one at its front, begins with no number
+pub no_word : (most : ℕ) (text : List ℕ) → (0 < length text → is_white (get_or text 0 0) ≡ true) → number_at_most most (first_word text) ≡ None
+no_word most text white =
+    let word : first_word text ≡ take 0 text = word_is text 0 refl (omega arith) white in
+    rw word (number-none most (take 0 text) (λ _ filled _. absurd (omega (arith, filled, length-take-le 0 text (omega arith)))))

@@ -10,3 +10,8 @@ pub mod RoundLemmas
 pub mod CheckLemmas
 pub mod RuleLemmas
 pub mod PassLemmas
+pub mod GroupLemmas
+pub mod LaneLemmas
+pub mod FourLemmas
+pub mod AddLemmas
+pub mod CursorLemmas

@@ -17,7 +17,7 @@ AreDigits word = list_all is_ascii_digit word ≡ true
 pub numeral : IsNumeralModel AreDigits (digits_value 10)
 numeral = numerals_by_value AreDigits (search rules)
 
-and_parts : (a b : Bool) → (a && b) ≡ true → (a ≡ true) × (b ≡ true)
+pub and_parts : (a b : Bool) → (a && b) ≡ true → (a ≡ true) × (b ≡ true)
 and_parts true b h = (refl, h)
 and_parts false b h = absurd (false≢true h)
 

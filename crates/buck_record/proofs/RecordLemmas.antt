@@ -19,7 +19,7 @@ pub start : (bytes : List ℕ) → reads_on [] (split_at bytes 1 0 (matches byte
 unfolding items_of
 start bytes = each_start _ ∙ ap (λ parts. each_from item_of 1 (filled_parts parts)) (splits 126 bytes)
 
-filled_parts-cons : (part : List ℕ) (parts : List (List ℕ)) → 0 < length (trim part) → filled_parts (part ∷ parts) ≡ trim part ∷ filled_parts parts
+pub filled_parts-cons : (part : List ℕ) (parts : List (List ℕ)) → 0 < length (trim part) → filled_parts (part ∷ parts) ≡ trim part ∷ filled_parts parts
 filled_parts-cons part parts h = cond-true _ _ _ (lt-ltb _ _ h)
 
 pub more : (held : List ItemParts) (part : List ℕ) (parts : List (List ℕ)) (item : ItemParts) → 0 < length (trim part) → item_of (trim part) ≡ Some item

@@ -1,13 +1,12 @@
 -- Searches for a white byte, or for one that isn't, as the trims and words.
-use Rattle.std.proofs.Common.{◌≡◌, ℕ, ◌+◌, ◌-◌, Bool, true, false, not, List, [], ◌∷◌, Some, None, length, slice_index, refl, sym, ap, ◌∙◌, arith, inl, inr}
+use Rattle.std.proofs.Common.{◌≡◌, ℕ, ◌-◌, ◌<◌, ◌≤◌, Bool, true, false, not, List, [], ◌∷◌, Some, None, length, take, get_or, refl, sym, ap, ◌∙◌, arith, inl, inr}
 use Rattle.std.specs.Prelude.{position}
 use Rattle.std.specs.List.{prefix_len, suffix_len, position_or_len}
 use Rattle.std.proofs.lemmas.List.Sums.{suffix_len_is}
 use Rattle.std.proofs.lemmas.Bool.{false≢true, cases_Bool}
 use Rattle.std.proofs.lemmas.Bool.Decides.{nat_tests}
-use Rattle.bstr.specs.Find.{IsLastByte}
-use Rattle.bstr.specs.Bytes.{is_in, not_in}
-use Rattle.buck_record.specs.White.{is_white}
+use Rattle.bstr.specs.Bytes.{is_in}
+use Rattle.buck_record.specs.White.{is_white, trim_end}
 use Rattle.buck_record.proofs.TableLemmas.{place-some, place-none}
 
 abbrev pub white : List ℕ
@@ -25,7 +24,7 @@ not_false : (b : Bool) → not b ≡ true → b ≡ false
 not_false true h = absurd (false≢true h)
 not_false false h = refl
 
-no_true : (b : Bool) → (b ≡ true → ⊥) → b ≡ false
+pub no_true : (b : Bool) → (b ≡ true → ⊥) → b ≡ false
 no_true true h = absurd (h refl)
 no_true false h = refl
 
@@ -43,17 +42,16 @@ trim_start-found bs k h = sym (dark-first bs) ∙ place-some (λ b. not (is_whit
 pub trim_start-none : (bs : List ℕ) → position (λ b. not (is_white b)) bs ≡ None → prefix_len is_white bs ≡ length bs
 trim_start-none bs h = sym (dark-first bs) ∙ place-none (λ b. not (is_white b)) bs h
 
-pub trim_end-found : (bs : List ℕ) (k : ℕ) → IsLastByte (not_in white) bs (Some k) → suffix_len is_white bs ≡ length bs - (k + 1)
-trim_end-found bs k h =
-    suffix_len_is is_white bs (k + 1) 0 (omega (arith, h.0.high))
-    (λ j le lt. sym (white_is _) ∙ not_not _ (h.0.after j le lt))
-    (λ lt. let e : k + 1 - 1 ≡ k = omega arith in ap (λ i. is_white (slice_index bs i)) e ∙ sym (white_is _) ∙ not_false _ h.1)
-
-pub trim_end-none : (bs : List ℕ) → IsLastByte (not_in white) bs None → suffix_len is_white bs ≡ length bs - 0
-trim_end-none bs h =
-    suffix_len_is is_white bs 0 0 (omega arith)
-    (λ j le lt. sym (white_is _) ∙ not_not _ (h j le lt))
-    (λ lt. absurd (omega arith))
+-- the bytes from a place on are white, and the one before it isn't
+pub trim_end-found : (bs : List ℕ) (end : ℕ)
+    → end ≤ length bs
+    → ((k : ℕ) → end ≤ k → k < length bs → is_white (get_or bs k 0) ≡ true)
+    → (0 < end → is_white (get_or bs (end - 1) 0) ≡ false)
+    → trim_end bs ≡ take end bs
+unfolding trim_end
+trim_end-found bs end within white dark =
+    let n : suffix_len is_white bs ≡ length bs - end = suffix_len_is is_white bs end 0 within white dark in
+    ap (λ k. take k bs) (omega (arith, n, within))
 
 pub word-found : (bs : List ℕ) (k : ℕ) → position is_white bs ≡ Some k → position_or_len is_white bs ≡ k
 word-found bs k h = place-some is_white bs k h

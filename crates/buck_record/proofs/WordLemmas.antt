@@ -7,7 +7,7 @@ use Rattle.std.proofs.lemmas.List.Sums.{prefix_len-le-length, fails_before_first
 use Rattle.std.proofs.lemmas.Bool.{cases_Bool, cond-true, lt-ltb, cases_lt}
 use Rattle.buck_record.specs.White.{is_white, is_filled, trim_start, first_word, after_word, words}
 
-words-cons_white : (b : ℕ) (bs : List ℕ) → is_white b ≡ true → words (b ∷ bs) ≡ words bs
+pub words-cons_white : (b : ℕ) (bs : List ℕ) → is_white b ≡ true → words (b ∷ bs) ≡ words bs
 unfolding words
 words-cons_white b bs h = ap (filter is_filled) (slice_split-cons_yes is_white b bs h)
 

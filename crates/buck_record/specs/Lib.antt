@@ -7,3 +7,6 @@ pub mod Check
 pub mod Rules
 pub mod Written
 pub mod Line
+pub mod Cursor
+pub mod Added
+pub mod inner

@@ -54,3 +54,20 @@ pub(crate) fn cut_number(most: u64, text: &[u8]) -> Option<(u64, &[u8])>
     }
     Some((value, &text[text.len()..]))
 }
+
+/// The number of at most `most` that is a text's first word, and the bytes after the white byte that ends the word.
+/// `None` also where the text has no byte, or begins with a white one, and so has no first word.
+pub(crate) fn cut_head(most: u64, text: &[u8]) -> Option<(u64, &[u8])>
+    requires { most * 10 + 9 < 2 ^ 64 }
+    ensures value { option_map (λ cut. cut.0) result ≡ number_at_most most (first_word text.now) }
+    ensures after { IfSome result (λ cut. cut.1.now ≡ after_word text.now) }
+    ensures small { IfSome result (λ cut. cut.0 ≤ most) }
+{
+    if text.is_empty() {
+        return None;
+    }
+    if is_white(text[0]) {
+        return None;
+    }
+    cut_number(most, text)
+}

@@ -1,26 +1,33 @@
 //! Files of items: what stands between tildes, each with a number, a kind and a rest.
 //!
-//! [`pieces`] and [`items`] read a file, [`numbers`], [`number`] and [`wide`] the rest of an item. [`table`] looks items
-//! up by number and kind, [`check`] chains the checks of a reader that stands on this crate, [`rules`] has what such
-//! readers share, and [`laws`] says that what is written is read again. [`put_number`], [`put_numbers`] and [`put_line`] write.
+//! [`pieces`] and [`items`] read a file, [`numbers`], [`number`] and [`wide`] the rest of an item. [`next_in`] and
+//! [`is_done`] go over a file with no list of its items, and [`append_numbers`] reads small numbers in one pass.
+//! [`table`] looks items up by number and kind, [`check`] chains the checks of a reader that stands on this crate,
+//! [`rules`] has what such readers share, and [`laws`] says that what is written is read again. [`put_number`],
+//! [`put_numbers`] and [`put_line`] write.
 #![tactic(auto)]
 
 pub mod check;
+mod cursor;
 mod digits;
 mod fault;
 mod group;
 mod item;
+mod lanes;
 pub mod laws;
 mod line;
 mod listed;
 mod memory;
 mod reading;
 pub mod rules;
+mod short;
 mod slot;
+mod small;
 pub mod table;
 mod white;
 mod words;
 
+pub use cursor::{is_done, next_in};
 pub use fault::RecordFault;
 pub use group::Group;
 pub use item::{Item, Piece};
@@ -29,3 +36,4 @@ pub use listed::Listed;
 pub use memory::Memory;
 pub use reading::{items, number, numbers, pieces, wide};
 pub use slot::Slot;
+pub use small::append_numbers;

@@ -1,27 +1,29 @@
 //! The items of a file, and the numbers of a text.
-ghost use Rattle.std.specs.Prelude.{◌≡◌, ◌≤◌, IfOk};
+ghost use Rattle.std.specs.Prelude.{◌≡◌, ◌<◌, ◌≤◌, IfOk, IfSome, length};
+ghost use Rattle.std.specs.Option.{option_map};
 ghost use Rattle.buck_record.specs.declared.fault.RecordFault.TheVariants.{Memory, Head, Digits};
 ghost use Rattle.buck_record.specs.Reading.{Gives, listed, with_fault};
-ghost use Rattle.buck_record.specs.Record.{item_of, items_of, numbers_of, number_of};
+ghost use Rattle.buck_record.specs.Record.{item_of, items_of, number_at_most, numbers_of, number_of};
+ghost use Rattle.buck_record.specs.White.{first_word, after_word};
 
-use crate::digits::{cut_number, number_at_most};
+use crate::digits::{cut_head, cut_number, number_at_most};
 use crate::fault::RecordFault;
 use crate::item::{Item, Piece};
-use crate::white::{cut_word, trim, trim_start};
+use crate::short::front_quick;
+use crate::white::{trim, trim_start};
 use crate::words::Words;
 use bstr::ByteSlice;
 use std::alloc::{AllocError, Global};
 
+/// The item of a piece, where it has a head.
 #[tactic(auto, unfolding(crate::specs::Record::item_of))]
-fn read_piece<'a>(piece: &'a [u8]) -> Option<Piece<'a>>
+pub(crate) fn read_piece<'a>(piece: &'a [u8]) -> Option<Piece<'a>>
     ensures { result ≡ item_of piece.now }
 {
-    let (word, after) = cut_word(piece);
-    let Some(number) = number_at_most(65535, word) else {
+    let Some((number, after)) = cut_head(65535, piece) else {
         return None;
     };
-    let (word, after) = cut_word(trim(after));
-    let Some(kind) = number_at_most(65535, word) else {
+    let Some((kind, after)) = cut_head(65535, trim(after)) else {
         return None;
     };
     Some(Piece {
@@ -84,6 +86,20 @@ pub fn items(alloc: Global, bytes: &[u8]) -> Result<Vec<Item>, RecordFault>
     Ok(to_items(alloc, found.as_slice())?)
 }
 
+/// The number that a text begins with, of at most 4,294,967,295, and the bytes after the white byte that ends its word.
+/// Short words are read straight on, any other digit by digit.
+fn first_number(text: &[u8]) -> Option<(u64, &[u8])>
+    requires { 0 < length (first_word text.now) }
+    ensures value { option_map (λ cut. cut.0) result ≡ number_at_most 4294967295 (first_word text.now) }
+    ensures after { IfSome result (λ cut. cut.1.now ≡ after_word text.now) }
+    ensures small { IfSome result (λ cut. cut.0 ≤ 4294967295) }
+{
+    match front_quick(9999, text) {
+        Some((value, after)) => Some((u64::from(value), after)),
+        None => cut_number(4294967295, text),
+    }
+}
+
 /// The numbers of a text: its words, set apart by white bytes, each of one or more digits and at most 4,294,967,295.
 /// Leading zeros are accepted, and a text of no words gives no numbers.
 ///
@@ -95,7 +111,7 @@ pub fn numbers(alloc: Global, text: &[u8]) -> Result<Vec<u32>, RecordFault>
     let mut held = Vec::new(alloc);
     let mut rest = trim_start(text);
     while !rest.is_empty() {
-        let Some((number, after)) = cut_number(4294967295, rest) else {
+        let Some((number, after)) = first_number(rest) else {
             return Err(RecordFault::Digits {
                 place: held.len() + 1,
             });

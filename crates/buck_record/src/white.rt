@@ -2,11 +2,6 @@
 ghost use Rattle.std.specs.Prelude.{◌≡◌, not, position};
 ghost use Rattle.buck_record.specs.White.{is_white, trim_start, trim_end, trim, first_word, after_word};
 
-use bstr::ByteSlice;
-
-/// Blank, tab, line feed and carriage return.
-const WHITE: [u8; 4] = [32, 9, 10, 13];
-
 /// Whether the byte is a blank, a tab, a line feed or a carriage return.
 pub(crate) fn is_white(byte: u8) -> bool
     ensures { result ≡ is_white byte }
@@ -40,10 +35,14 @@ pub(crate) fn trim_start(bytes: &[u8]) -> &[u8]
 pub(crate) fn trim_end(bytes: &[u8]) -> &[u8]
     ensures { result.now ≡ trim_end bytes.now }
 {
-    match bytes.rfind_not_byteset(&WHITE) {
-        None => &bytes[..0],
-        Some(last) => &bytes[..last + 1],
+    let mut end = bytes.len();
+    while end > 0 {
+        if !is_white(bytes[end - 1]) {
+            return &bytes[..end];
+        }
+        end -= 1;
     }
+    &bytes[..0]
 }
 
 /// The bytes without white bytes at both ends.

@@ -5,6 +5,8 @@
 #[cfg(test)]
 mod chains;
 #[cfg(test)]
+mod cursors;
+#[cfg(test)]
 mod files;
 #[cfg(test)]
 mod long_files;

@@ -7,3 +7,5 @@ pub mod RunLemmas
 pub mod Tables
 pub mod Diameters
 pub mod StageLemmas
+pub mod PlainLemmas
+pub mod JoinLemmas

@@ -4,3 +4,4 @@ pub mod Ready
 pub mod Zones
 pub mod Runs
 pub mod ProfileTables
+pub mod Plain

@@ -4,6 +4,7 @@
 mod draft;
 mod fault;
 mod lines;
+mod plain;
 mod profile;
 mod reading;
 mod rules;

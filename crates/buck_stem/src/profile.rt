@@ -69,6 +69,16 @@ impl<'a> Profile<'a> {
         })
     }
 
+    /// The diameters in mm at the points.
+    pub fn diameters(&self) -> &[u32]
+        ensures number { length result.now ≡ points_of self.now }
+        ensures right { (i : ℕ) → i < points_of self.now
+            → slice_index result.now i ≡ diameter_at self.now.stem.samples (i * self.now.module) }
+        ensures high { (i : ℕ) → i < points_of self.now → slice_index result.now i ≤ 1500 }
+    {
+        self.diameters.as_slice()
+    }
+
     /// How many points there are, the butt among them.
     pub fn points(&self) -> usize
         ensures number { result ≡ points_of self.now }
@@ -114,6 +124,7 @@ impl<'a> Profile<'a> {
         ensures low { result ≤ i }
         ensures same { (j mask : ℕ) → i < j → j < points_of self.now → IsMaskBetween self.now i j mask
             → (k : ℕ) → result ≤ k → k ≤ i → IsMaskBetween self.now k j mask }
+        ensures even { (one : ℕ) × ((k : ℕ) → result ≤ k → k ≤ i → IsMaskBetween self.now k (k + 1) one) }
     {
         self.runs.starts[self.runs.run_of[i] as usize] as usize
     }

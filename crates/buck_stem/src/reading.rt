@@ -10,6 +10,8 @@ ghost use Rattle.buck_stem.specs.Stm.{groups, says_stm, stm_of, parts_of, zones_
 use crate::draft::{Draft, drafts_of};
 use crate::fault::{self, StmFault};
 use crate::lines::{in_number, in_order, in_range, present, single};
+use crate::plain::read_plain;
+use crate::rules::zones_of;
 use crate::slots::STEM;
 use crate::stem::{Stem, stem_of_parts};
 use buck_record::check::check;
@@ -35,18 +37,6 @@ fn samples_of(alloc: Global, numbers: &[u32]) -> Result<Vec<u16>, AllocError>
         samples.push(*number as u16)?;
     }
     Ok(samples)
-}
-
-/// Starts and grades, two by two.
-fn zones_of(alloc: Global, numbers: &[u32]) -> Result<Vec<(u32, u8)>, AllocError>
-    requires { all_within 1 8 (grades numbers.now) ≡ true }
-    ensures { IfOk result (λ zones. zones.items ≡ zones_of numbers.now) }
-{
-    let mut zones = Vec::with_capacity(alloc, numbers.len() / 2)?;
-    for k in 0..numbers.len() / 2 {
-        zones.push((numbers[2 * k], numbers[2 * k + 1] as u8))?;
-    }
-    Ok(zones)
 }
 
 /// The stem of numbers that are as they should be.
@@ -113,13 +103,27 @@ fn stems_in(alloc: Global, drafts: Listed<Draft>) -> Result<Vec<Stem>, StmFault>
     Ok(stems_from(alloc, drafts.into_vec())?)
 }
 
-/// The stems of a stem file's bytes, in file order, or the first refusal that applies, as [`StmFault`] says; and
-/// `Memory` where a growth was refused. Items that aren't in the table are skipped; each must have a number and a
-/// kind.
-pub fn read_stm(alloc: Global, bytes: &[u8]) -> Result<Vec<Stem>, StmFault>
+/// The stems of a file's bytes, or the first refusal that applies, line by line over lists of all items and numbers.
+/// This takes items in any order, and it alone says why a file is refused.
+fn read_by_lines(alloc: Global, bytes: &[u8]) -> Result<Vec<Stem>, StmFault>
     ensures { Gives Memory (listed result) (stm_of bytes.now) }
 {
     let items = items_in(alloc, bytes, fault::head)?;
     let drafts = drafts_in(alloc, items.as_slice())?;
     stems_in(alloc, drafts)
+}
+
+/// The stems of a stem file's bytes, in file order, or the first refusal that applies, as [`StmFault`] says; and
+/// `Memory` where a growth was refused. Items that aren't in the table are skipped; each must have a number and a
+/// kind.
+///
+/// A file whose items stand in the order of the table, stem by stem, is read in one pass over its bytes; any other is
+/// read line by line.
+pub fn read_stm(alloc: Global, bytes: &[u8]) -> Result<Vec<Stem>, StmFault>
+    ensures { Gives Memory (listed result) (stm_of bytes.now) }
+{
+    match read_plain(alloc, bytes)? {
+        Some(stems) => Ok(stems),
+        None => read_by_lines(alloc, bytes),
+    }
 }

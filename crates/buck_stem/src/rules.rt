@@ -1,7 +1,9 @@
-//! Tests of the numbers of zones.
-ghost use Rattle.std.specs.Prelude.{◌≡◌, ◌%◌, ◌==◌, ◌&&◌, nat_le};
+//! Tests of the numbers of zones, and the zones of numbers.
+ghost use Rattle.std.specs.Prelude.{◌≡◌, ◌%◌, ◌==◌, ◌&&◌, nat_le, IfOk, true};
 ghost use Rattle.buck_record.specs.Rules.{within, all_within, is_rising};
-ghost use Rattle.buck_stem.specs.Stm.{starts, grades};
+ghost use Rattle.buck_stem.specs.Stm.{starts, grades, zones_of};
+
+use std::alloc::{AllocError, Global};
 
 fn is_within(low: u32, high: u32, n: u32) -> bool
     ensures { result ≡ within low high n }
@@ -50,4 +52,16 @@ pub(crate) fn is_count_of_zones(count: usize) -> bool
     ensures { result ≡ (count % 2 == 0 && nat_le count 200) }
 {
     count % 2 == 0 && count <= 200
+}
+
+/// Starts and grades, two by two.
+pub(crate) fn zones_of(alloc: Global, numbers: &[u32]) -> Result<Vec<(u32, u8)>, AllocError>
+    requires { all_within 1 8 (grades numbers.now) ≡ true }
+    ensures { IfOk result (λ zones. zones.items ≡ zones_of numbers.now) }
+{
+    let mut zones = Vec::with_capacity(alloc, numbers.len() / 2)?;
+    for k in 0..numbers.len() / 2 {
+        zones.push((numbers[2 * k], numbers[2 * k + 1] as u8))?;
+    }
+    Ok(zones)
 }

@@ -36,16 +36,23 @@ impl Model for Stem {
         × IsRunningLeast s.samples.items s.lows.items };
 }
 
+/// Lowers each sample to the least up to it.
+fn lower(samples: &mut [u16])
+    ensures { IsRunningLeast samples.old samples.new }
+{
+    let mut low = u16::MAX;
+    for i in 0..samples.len() {
+        low = low.min(samples[i]);
+        samples[i] = low;
+    }
+}
+
 /// The least of the samples so far, at each sample.
 fn running_least(alloc: Global, samples: &[u16]) -> Result<Vec<u16>, AllocError>
     ensures { IfOk result (λ lows. IsRunningLeast samples.now lows.items) }
 {
-    let mut lows = Vec::with_capacity(alloc, samples.len())?;
-    let mut low = u16::MAX;
-    for sample in samples {
-        low = low.min(*sample);
-        lows.push(low)?;
-    }
+    let mut lows = Vec::from_slice(alloc, samples)?;
+    lower(lows.as_mut_slice());
     Ok(lows)
 }
 

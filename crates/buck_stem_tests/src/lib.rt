@@ -8,8 +8,14 @@ mod geometry;
 #[cfg(test)]
 mod limits;
 #[cfg(test)]
+mod memory;
+#[cfg(test)]
 mod points;
 #[cfg(test)]
 mod refused;
 #[cfg(test)]
 mod texts;
+#[cfg(test)]
+mod ways;
+#[cfg(test)]
+mod written;

@@ -1,13 +1,14 @@
-use Rattle.std.proofs.Common.{arith}
-use Rattle.std.proofs.lemmas.Grind.{common_steps}
-use Rattle.buck_record.specs.White.{trim_end}
-use Rattle.buck_record.proofs.WhiteLemmas.{trim_end-found, trim_end-none}
+use Rattle.std.proofs.Common.{sym, arith}
+use Rattle.buck_record.proofs.WhiteLemmas.{trim_end-found}
 use Rattle.buck_record.proofs.white.trim_end.Goals as goal
 
-pub returns-in-None : goal.returns-in-None
-unfolding trim_end
-returns-in-None c = rw (trim_end-none c.args.bytes.now c.in-None.ensures) (grind (arith, common_steps))
+pub returns-then-not-is_white : goal.returns-then-not-is_white
+returns-then-not-is_white c =
+    let i = c.loop-end.invariant in
+    sym (trim_end-found c.args.bytes.now c.loop-end.end i.within i.white (λ _. sym c.if-not-is_white.ensures))
 
-pub returns-in-Some : goal.returns-in-Some
-unfolding trim_end
-returns-in-Some c = rw (trim_end-found c.args.bytes.now c.in-Some.last c.in-Some.ensures) (grind (arith, common_steps))
+pub returns : goal.returns
+returns c =
+    let i = c.loop-end.invariant in
+    sym (trim_end-found c.args.bytes.now 0 (omega arith)
+    (λ k _ lt. i.white k (omega arith) lt) (λ lt. absurd (omega arith)))

@@ -2,7 +2,7 @@ use Rattle.std.proofs.Common.{rules}
 use Rattle.std.proofs.lemmas.Result.{err_from_is_err_and}
 use Rattle.buck_stem.specs.declared.fault.StmFault.TheVariants.{Memory, Head}
 use Rattle.buck_stem.proofs.StageLemmas.{stm_without_items, stm_of_items}
-use Rattle.buck_stem.proofs.reading.read_stm.Goals as goal
+use Rattle.buck_stem.proofs.reading.read_by_lines.Goals as goal
 
 pub returns-in_err-items : goal.returns-in_err-items
 returns-in_err-items c =

@@ -1,0 +1,173 @@
+-- Three digits and a blank as one number of four bytes, and as the front of a text.
+use Rattle.std.proofs.Common.{◌≡◌, ℕ, None, ◌+◌, ◌*◌, ◌<◌, ◌≤◌, ◌/◌, ◌%◌, true, List, [], ◌∷◌, Some, length, get_or, take, drop, refl, sym, ap, ◌∙◌, arith, length-take-le, length-drop, w32, false, not, ◌&&◌, nat_le, inl, inr}
+use Rattle.std.specs.Int.{from_le_bytes}
+use Rattle.std.specs.Option.{unwrap_or, is_some}
+use Rattle.std.specs.Char.{is_ascii_digit, digit_value}
+use Rattle.std.specs.Str.Parse.{digits_value}
+use Rattle.std.proofs.lemmas.Bool.Decides.{nat_tests}
+use Rattle.std.proofs.lemmas.Int.Digits.{digits_value_more}
+use Rattle.std.specs.List.{position_or_len, list_all}
+use Rattle.std.proofs.lemmas.List.Sums.{prefix_len-le-length}
+use Rattle.std.proofs.lemmas.Bool.{cases_Bool, false≢true, cond-true, cond-false, ltb-true}
+use Rattle.buck_record.specs.White.{is_filled, is_white, first_word, after_word}
+use Rattle.buck_record.specs.Record.{number_at_most}
+use Rattle.buck_record.proofs.NumberLemmas.{AreDigits, digits-more, and_parts, number-some}
+use Rattle.buck_record.proofs.CutLemmas.{goes_on, word_is, after_is, cut-whole}
+use Rattle.buck_record.proofs.WordLemmas.{words-more}
+use Rattle.buck_record.specs.inner.Front.{IsThree, IsFront}
+
+-- Four bytes less "000 " are three digits, the lowest first, and nothing above them.
+pub three : (g z : ℕ)
+    → g < 4294967296 → z ≡ (g + 3754938320) % 4294967296 → z % 256 ≤ 9 → z / 256 % 256 ≤ 9 → z / 65536 ≤ 9
+    → IsThree g (z % 256 * 100 + z / 256 % 256 * 10 + z / 65536)
+three g z fits is a b c =
+    record {
+      a = z % 256;
+      b = z / 256 % 256;
+      c = z / 65536;
+      digits = (a, b, c);
+      bytes = omega (arith, fits, is, a, b, c);
+      value = omega arith;
+    }
+
+-- the four bytes of such a group
+pub four_bytes : (p q r s : ℕ) → from_le_bytes w32 (p ∷ q ∷ r ∷ s ∷ []) ≡ p + 256 * q + 65536 * r + 16777216 * s
+four_bytes p q r s = omega arith
+
+-- A text that begins with i digits and a white byte.
+pub front-digits : (text : List ℕ) (i v : ℕ)
+    → AreDigits (take i text) → 0 < i → i < length text → is_white (get_or text i 0) ≡ true
+    → v ≡ digits_value 10 (take i text) → v ≤ 4294967295 → IsFront text v (drop (i + 1) text)
+front-digits text i v digits some inside white value small =
+    let word : first_word text ≡ take i text = word_is text i digits (omega arith) (λ _. white) in
+    let filled : 0 < length (first_word text) = rw word (omega (arith, length-take-le i text (omega arith))) in
+    record {
+      after = sym (after_is text i digits (omega arith) (λ _. white));
+      words = words-more text (drop (i + 1) text) filled (sym (after_is text i digits (omega arith) (λ _. white)));
+      value = cut-whole text i digits 4294967295 v (omega arith) filled (λ _. white) value small;
+      shorter = omega (arith, length-drop (i + 1) text);
+      room = λ _. omega (arith, length-drop (i + 1) text);
+    }
+
+-- a digit's byte
+digit : (x a : ℕ) → a ≤ 9 → x ≡ 48 + a → (is_ascii_digit x ≡ true) × (digit_value x ≡ a)
+digit x a small is = rw is (grind (arith, nat_tests), grind (arith, nat_tests))
+
+blank : (x : ℕ) → x ≡ 32 → is_white x ≡ true
+blank x is = rw is refl
+
+-- A text that begins with a group.
+pub front-three : (text : List ℕ) (v : ℕ) → 4 ≤ length text → ((k : ℕ) → get_or text k 0 < 256)
+    → IsThree (from_le_bytes w32 (get_or text 0 0 ∷ get_or text 1 0 ∷ get_or text 2 0 ∷ get_or text 3 0 ∷ [])) v
+    → IsFront text v (drop 4 text)
+front-three text v long byte t =
+    let p = get_or text 0 0 in
+    let q = get_or text 1 0 in
+    let r = get_or text 2 0 in
+    let s = get_or text 3 0 in
+    let sum :
+    p + 256 * q + 65536 * r + 16777216 * s
+    ≡ (48 + t.a) + 256 * (48 + t.b) + 65536 * (48 + t.c) + 16777216 * 32 =
+    sym (four_bytes p q r s) ∙ t.bytes in
+    let d0 = digit p t.a t.digits.0 (omega (arith, sum, byte 0, byte 1, byte 2, byte 3, t.digits)) in
+    let d1 = digit q t.b t.digits.1 (omega (arith, sum, byte 0, byte 1, byte 2, byte 3, t.digits)) in
+    let d2 = digit r t.c t.digits.2 (omega (arith, sum, byte 0, byte 1, byte 2, byte 3, t.digits)) in
+    let white = blank s (omega (arith, sum, byte 0, byte 1, byte 2, byte 3, t.digits)) in
+    let one : AreDigits (take 1 text) = digits-more text 0 (omega arith) refl d0.0 in
+    let two : AreDigits (take 2 text) = digits-more text 1 (omega arith) one d1.0 in
+    let all : AreDigits (take 3 text) = digits-more text 2 (omega arith) two d2.0 in
+    let v0 : digits_value 10 (take 0 text) ≡ 0 = refl in
+    let v1 : digits_value 10 (take 1 text) ≡ digits_value 10 (take 0 text) * 10 + digit_value p =
+    digits_value_more 10 text 0 (omega arith) in
+    let v2 : digits_value 10 (take 2 text) ≡ digits_value 10 (take 1 text) * 10 + digit_value q =
+    digits_value_more 10 text 1 (omega arith) in
+    let v3 : digits_value 10 (take 3 text) ≡ digits_value 10 (take 2 text) * 10 + digit_value r =
+    digits_value_more 10 text 2 (omega arith) in
+    front-digits text 3 v all (omega arith) (omega arith) white
+    (omega (arith, t.value, v0, v1, v2, v3, d0.1, d1.1, d2.1))
+    (omega (arith, t.value, t.digits))
+
+-- a text that begins with no white byte has a first word
+pub filled_word : (text : List ℕ) → 0 < length text → is_white (get_or text 0 0) ≡ false → 0 < length (first_word text)
+unfolding first_word
+filled_word text some dark =
+    let p = position_or_len is_white text in
+    let within : p ≤ length text = prefix_len-le-length (λ b. not (is_white b)) text in
+    omega (arith, goes_on text 0 refl some dark, length-take-le p text within)
+
+left_is : (text : List ℕ)
+    → 0 < length (first_word text)
+    → (length (after_word text) < length text)
+    × (0 < length (after_word text) → length (after_word text) + 2 ≤ length text)
+unfolding first_word after_word
+left_is text filled =
+    let p = position_or_len is_white text in
+    let within : p ≤ length text = prefix_len-le-length (λ b. not (is_white b)) text in
+    let word = length-take-le p text within in
+    let rest = length-drop (p + 1) text in
+    (omega (arith, filled, within, word, rest), λ more. omega (arith, more, filled, within, word, rest))
+
+some_is : (m n : ℕ) → Some m ≡ Some n → m ≡ n
+some_is m n h = ap (λ o. unwrap_or o 0) h
+
+none_is : (n : ℕ) → None ≡ Some n → ⊥
+none_is n h = absurd (false≢true (ap is_some h))
+
+-- a number within one bound, and within another
+pub number_within : (most other n : ℕ) (word : List ℕ)
+    → n ≤ other → number_at_most most word ≡ Some n → number_at_most other word ≡ Some n
+unfolding number_at_most
+number_within most other n word low is =
+    elim (cases_Bool (is_filled word && (list_all is_ascii_digit word && nat_le (digits_value 10 word) most))) [
+      | inl passed ↦
+          let a = and_parts _ _ passed in
+          let b = and_parts _ _ a.1 in
+          let v : digits_value 10 word ≡ n = some_is _ _ (sym (cond-true _ _ _ passed) ∙ is) in
+          number-some other word b.0 (ltb-true _ _ a.0) (omega (arith, v, low)) ∙ ap Some v
+      | inr missed ↦ absurd (none_is n (sym (cond-false _ _ _ missed) ∙ is))
+    ]
+
+-- A text with a first word that is a number.
+pub front-word : (text left : List ℕ) (most v : ℕ)
+    → 0 < length (first_word text)
+    → v ≤ 4294967295
+    → Some v ≡ number_at_most most (first_word text)
+    → left ≡ after_word text
+    → IsFront text v left
+front-word text left most v filled wide value after =
+    let s = left_is text filled in
+    record {
+      after = after;
+      words = words-more text left filled after;
+      value = number_within most 4294967295 v (first_word text) wide (sym value);
+      shorter = rw after s.0;
+      room = rw after s.1;
+    }
+
+-- the digits so far, and what they stand for
+pub record Run (text : List ℕ) (n v : ℕ) : Type 0 where
+  pub digits : AreDigits (take n text)
+  pub value : v ≡ digits_value 10 (take n text)
+
+-- a byte less 48 is at most 9
+is_digit_byte : (x d : ℕ) → x < 256 → d ≡ (x + 208) % 256 → d ≤ 9 → x ≡ 48 + d
+is_digit_byte x d byte is small = omega (arith, byte, is, small)
+
+pub run_more : (text : List ℕ) (n m v d u : ℕ)
+    → Run text n v → n < length text → get_or text n 0 < 256 → d ≡ (get_or text n 0 + 208) % 256 → d ≤ 9
+    → u ≡ v * 10 + d → m ≡ n + 1 → Run text m u
+run_more text n m v d u run inside byte is small more next =
+    let e = digit (get_or text n 0) d small (is_digit_byte (get_or text n 0) d byte is small) in
+    rw next (record {
+      digits = digits-more text n inside run.digits e.0;
+      value = omega (arith, digits_value_more 10 text n inside, run.value, e.1, more);
+    })
+
+pub run_none : (text : List ℕ) → Run text 0 0
+run_none text = record { digits = refl; value = refl }
+
+pub run_front : (text : List ℕ) (n v : ℕ)
+    → Run text n v → 0 < n → n < length text → is_white (get_or text n 0) ≡ true → v ≤ 9999
+    → IsFront text v (drop (n + 1) text)
+run_front text n v run some inside white small =
+    front-digits text n v run.digits some inside white run.value (omega (arith, small))

@@ -1,0 +1,190 @@
+-- A text that is gone through stem by stem.
+use Rattle.std.proofs.Common.{◌≡◌, ℕ, ◌≤◌, Bool, true, false, not, IfOk, IfSome, List, [], ◌∷◌, ◌++◌, All, Option, None, Some, Result, Ok, Err, codes, get_or, length, refl, sym, ap, ◌∙◌, subst, arith, append_assoc}
+use Rattle.std.specs.Str.{bytes_eq}
+use Rattle.std.proofs.lemmas.List.{append-nil}
+use Rattle.std.proofs.lemmas.Bool.{le-leb, and_from}
+use Rattle.std.proofs.lemmas.List.Sums.{list_all-from_AllPass}
+use Rattle.buck_record.specs.Item.{ItemParts}
+use Rattle.buck_record.specs.declared.fault.RecordFault.{RecordFault}
+use Rattle.buck_record.specs.Reading.{each_from, put_front, with_fault}
+use Rattle.buck_record.specs.White.{words}
+use Rattle.buck_record.specs.Record.{items_of, numbers_of, number_of, one_number, number_at_most}
+use Rattle.buck_record.specs.Cursor.{HasItems, Leads, item_in}
+use Rattle.buck_record.specs.Rules.{file_slot, within, all_within}
+use Rattle.buck_stem.specs.declared.draft.Draft.{Draft}
+use Rattle.buck_stem.specs.Slots.{stem_slot, species_slot, samples_slot}
+use Rattle.buck_stem.specs.Stem.{StemParts, stem_of, IsStem}
+use Rattle.buck_stem.specs.Stm.{draft_range, draft_order, draft_count, parts_of, zones_of, stm_of}
+use Rattle.buck_stem.specs.inner.Ready.{IsReadyDraft}
+use Rattle.buck_stem.specs.inner.Plain.{zones_item, ArePlain, AreZones, LeadsNumbers, SaysZones, LeadsZones, LeadsStem, LeadsStems, HasStems}
+use Rattle.buck_stem.proofs.PassLemmas.{is_stem}
+use Rattle.buck_stem.proofs.PlainLemmas.{plain_files}
+
+-- ---- one stem after the other
+items-are : (bytes : List ℕ) (items : List ItemParts) → HasItems bytes items → items_of bytes ≡ Ok items
+unfolding items_of
+items-are bytes items h = h 1
+
+pub stems_start : (text : List ℕ) → LeadsStems text [] text
+stems_start text = λ items others h p. (items, h, p)
+
+pub stems_go_on : (text rest left : List ℕ) (stems : List StemParts) (stem : StemParts)
+    → LeadsStems text stems rest → LeadsStem rest stem left → LeadsStems text (stems ++ stem ∷ []) left
+stems_go_on text rest left stems stem through one = λ items others h p.
+    let m = one items h in
+    let all = through m.0 (stem ∷ others) m.1 (items, m.2, p) in
+    (all.0, all.1, subst (ArePlain all.0) (sym (append_assoc stems (stem ∷ []) others)) all.2)
+
+pub stems_end : (text rest : List ℕ) (stems : List StemParts)
+    → LeadsStems text stems rest → HasItems rest [] → HasStems text stems
+stems_end text rest stems through end =
+    let all = through [] [] end refl in
+    (all.0, all.1, subst (ArePlain all.0) (append-nil stems) all.2)
+
+pub read_stems : (bytes text body : List ℕ) (stems : List StemParts)
+    → Leads bytes (item_in file_slot text) body
+    → bytes_eq text (codes "STM") ≡ true
+    → HasStems body stems
+    → stm_of bytes ≡ Ok stems
+read_stems bytes text body stems first says h =
+    plain_files text h.0 stems h.2 bytes
+    (items-are bytes (item_in file_slot text ∷ h.0) (first.next h.0 h.1)) says
+
+-- ---- the numbers of a stem
+abbrev draft : ℕ → ℕ → List ℕ → List ℕ → Draft
+draft n s ns zs = record { number = n ∷ []; species = s ∷ []; samples = ns; zones = zs }
+
+is-within : (low high n : ℕ) → low ≤ n → n ≤ high → within low high n ≡ true
+is-within low high n l h = and_from _ _ (le-leb _ _ l) (le-leb _ _ h)
+
+module _ (n s : ℕ) (ns zs : List ℕ) (z : AreZones zs) where
+  plain-range : 1 ≤ s → s ≤ 255 → All (λ d. d ≤ 1500) ns → draft_range (draft n s ns zs) ≡ Ok tt
+  unfolding draft_range
+  plain-range low high thin =
+      let species : all_within 1 255 (s ∷ []) ≡ true = and_from _ _ (is-within 1 255 s low high) refl in
+      let samples : all_within 0 1500 ns ≡ true =
+      list_all-from_AllPass (within 0 1500) ns
+      (λ k d lt. is-within 0 1500 (get_or ns k d) (omega arith) (thin k d lt)) in
+      rw (species, samples, z.starts_range, z.grades_range) refl
+
+  plain-order : draft_order (draft n s ns zs) ≡ Ok tt
+  unfolding draft_order
+  plain-order = rw z.order refl
+
+  plain-count : 1 ≤ length ns → length ns ≤ 401 → draft_count (draft n s ns zs) ≡ Ok tt
+  unfolding draft_count
+  plain-count low high = rw (is-within 1 401 (length ns) low high, z.count) refl
+
+  pub plain-ready : 1 ≤ s → s ≤ 255 → All (λ d. d ≤ 1500) ns → 1 ≤ length ns → length ns ≤ 401
+      → IsReadyDraft (draft n s ns zs)
+  plain-ready low high thin some few = record {
+    range = plain-range low high thin;
+    order = plain-order;
+    count = plain-count some few;
+  }
+
+parts-of-draft : (n s : ℕ) (ns zs : List ℕ) → parts_of (draft n s ns zs) ≡ stem_of n s ns (zones_of zs)
+unfolding parts_of
+parts-of-draft n s ns zs = refl
+
+-- they are those of a stem
+pub is_plain_stem : (n s : ℕ) (ns text : List ℕ) (zones : List (ℕ × ℕ))
+    → SaysZones text zones
+    → (1 ≤ s) × (s ≤ 255)
+    → All (λ d. d ≤ 1500) ns
+    → (1 ≤ length ns) × (length ns ≤ 401)
+    → IsStem (stem_of n s ns zones)
+is_plain_stem n s ns text zones z species thin number =
+    let ready = plain-ready n s ns z.numbers z.right species.0 species.1 thin number.0 number.1 in
+    subst (λ zs. IsStem (stem_of n s ns zs)) z.parts
+    (is_stem (draft n s ns z.numbers) ready.range ready.order ready.count)
+
+pub stem_leads : (text one two three left : List ℕ) (n s : ℕ) (ns : List ℕ) (zones : List (ℕ × ℕ)) (stem : StemParts)
+    → LeadsNumbers stem_slot text (n ∷ []) one
+    → LeadsNumbers species_slot one (s ∷ []) two
+    → LeadsNumbers samples_slot two ns three
+    → LeadsZones three zones left
+    → (1 ≤ s) × (s ≤ 255)
+    → All (λ d. d ≤ 1500) ns
+    → (1 ≤ length ns) × (length ns ≤ 401)
+    → stem ≡ stem_of n s ns zones
+    → LeadsStem text stem left
+stem_leads text one two three left n s ns zones stem a b c z species thin number is = λ items h.
+    let after = zones_item z.item ++ items in
+    let sampled = item_in samples_slot c.0 ∷ after in
+    let named = item_in species_slot b.0 ∷ sampled in
+    let zs = z.says.numbers in (
+      item_in stem_slot a.0 ∷ named,
+      a.2.next named (b.2.next sampled (c.2.next after (z.next items h))),
+      record {
+        number = a.0;
+        species = b.0;
+        samples = c.0;
+        zones = z.item;
+        draft = draft n s ns zs;
+        group = refl;
+        numbers = a.1;
+        kinds = b.1;
+        diameters = c.1;
+        grades = z.says.read;
+        ready = plain-ready n s ns zs z.says.right species.0 species.1 thin number.0 number.1;
+        parts = parts-of-draft n s ns zs ∙ ap (λ v. stem_of n s ns v) z.says.parts ∙ sym is;
+      },
+    )
+
+-- a text with no zones
+nothing : numbers_of [] ≡ Ok []
+unfolding numbers_of words each_from
+nothing = refl
+
+pub no_zones : (text : List ℕ) → LeadsZones text [] text
+no_zones text = record {
+  item = None;
+  says = record {
+    numbers = [];
+    read = nothing;
+    right = record { starts_range = refl; grades_range = refl; order = refl; count = refl };
+    parts = refl;
+  };
+  next = λ items h. h;
+}
+
+-- ---- one number is a list of one
+with-fault : (fault : ℕ → RecordFault) (r : Result ℕ ℕ) (n : ℕ) → Ok n ≡ with_fault fault r → r ≡ Ok n
+with-fault fault (Ok m) n h = cc
+with-fault fault (Err e) n h = cc
+
+one-number : (ws : List (List ℕ)) (n : ℕ)
+    → one_number 4294967295 ws ≡ Ok n → each_from (number_at_most 4294967295) 1 ws ≡ Ok (n ∷ [])
+unfolding each_from
+one-number [] n h = cc
+one-number (w ∷ []) n h = go (number_at_most 4294967295 w) refl
+  where
+    go : (o : Option ℕ)
+        → number_at_most 4294967295 w ≡ o
+        → put_front {E = ℕ} (number_at_most 4294967295 w) 1 (Ok []) ≡ Ok (n ∷ [])
+    go None e = let g = rw e at h in cc
+    go (Some m) e = let g = rw e at h in rw e cc
+one-number (w ∷ v ∷ ws) n h = go (number_at_most 4294967295 w) refl
+  where
+    go : (o : Option ℕ)
+        → number_at_most 4294967295 w ≡ o
+        → each_from (number_at_most 4294967295) 1 (w ∷ v ∷ ws) ≡ Ok (n ∷ [])
+    go None e = let g = rw e at h in cc
+    go (Some m) e = let g = rw e at h in cc
+
+pub numbers-one : (t : List ℕ) (n : ℕ) (fault : ℕ → RecordFault)
+    → Ok n ≡ with_fault fault (number_of 4294967295 t) → numbers_of t ≡ Ok (n ∷ [])
+unfolding numbers_of number_of
+numbers-one t n fault h = one-number (words t) n (with-fault fault (one_number 4294967295 (words t)) n h)
+
+-- ---- answers
+pub if_ok_some : {V E : Type 0} (P Q : V → Type 0)
+    → ((v : V) → P v → Q v) → (r : Result (Option V) E) → IfOk r (λ o. IfSome o P) → IfOk r (λ o. IfSome o Q)
+if_ok_some P Q f (Ok (Some v)) h = f v h
+if_ok_some P Q f (Ok None) h = tt
+if_ok_some P Q f (Err e) h = tt
+
+pub not_false : (b : Bool) → false ≡ not b → b ≡ true
+not_false true h = refl
+not_false false h = cc

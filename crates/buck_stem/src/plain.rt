@@ -1,0 +1,171 @@
+//! Files in the plain order, in one pass: the kind of file, and then the number, the species, the diameters and perhaps
+//! the zones of each stem. No list is made for an item, and a stem's lists take no more room than they need.
+ghost use Rattle.std.specs.Prelude.{◌≡◌, ◌≤◌, ◌∷◌, [], IfOk, IfSome, IsTrue, All, Ok, length};
+ghost use Rattle.buck_stem.specs.Slots.{stem_slot, species_slot, samples_slot};
+ghost use Rattle.buck_stem.specs.Stm.{stm_of};
+ghost use Rattle.buck_stem.specs.inner.Plain.{LeadsNumbers, AreZones, SaysZones, LeadsZones, LeadsStem, HasStems};
+
+use crate::rules::{grades_within, is_count_of_zones, starts_rise, starts_within, zones_of};
+use crate::slots::{SAMPLES, SPECIES, STEM, ZONES};
+use crate::stem::{Stem, stem_of_parts};
+use buck_record::rules::FILE;
+use buck_record::{RecordFault, Slot, append_numbers, is_done, next_in, number, numbers};
+use std::alloc::{AllocError, Global};
+
+/// The one number of the item that a text begins with, where that stands in this slot, and what is left after it.
+fn next_number(slot: Slot, text: &[u8]) -> Option<(u32, &[u8])>
+    ensures { IfSome result (λ w. LeadsNumbers slot text.now (w.0 ∷ []) w.1.now) }
+{
+    let Some((rest, left)) = next_in(slot, text) else {
+        return None;
+    };
+    match number(rest) {
+        Ok(value) => Some((value, left)),
+        Err(_) => None,
+    }
+}
+
+/// The species of the item that a text begins with, and what is left after it.
+fn next_species(text: &[u8]) -> Option<(u8, &[u8])>
+    ensures leads { IfSome result (λ w. LeadsNumbers species_slot text.now (w.0 ∷ []) w.1.now) }
+    ensures range { IfSome result (λ w. (1 ≤ w.0) × (w.0 ≤ 255)) }
+{
+    let Some((species, left)) = next_number(SPECIES, text) else {
+        return None;
+    };
+    if species < 1 {
+        return None;
+    }
+    if species > 255 {
+        return None;
+    }
+    Some((species as u8, left))
+}
+
+/// The diameters of the item that a text begins with, and what is left after it. They are read into `room`, which is
+/// kept from stem to stem.
+fn next_samples<'a>(
+    alloc: Global,
+    room: &mut Vec<u16>,
+    text: &'a [u8],
+) -> Result<Option<(Vec<u16>, &'a [u8])>, AllocError>
+    ensures leads { IfOk result (λ o. IfSome o (λ w. LeadsNumbers samples_slot text.now w.0.items w.1.now)) }
+    ensures range { IfOk result (λ o. IfSome o (λ w. All (λ d. d ≤ 1500) w.0.items)) }
+    ensures number { IfOk result (λ o. IfSome o (λ w. (1 ≤ length w.0.items) × (length w.0.items ≤ 401))) }
+{
+    let Some((rest, left)) = next_in(SAMPLES, text) else {
+        return Ok(None);
+    };
+    room.clear();
+    room.reserve(rest.len() / 2 + 1)?;
+    if !append_numbers(1500, rest, room) {
+        return Ok(None);
+    }
+    if room.len() < 1 {
+        return Ok(None);
+    }
+    if room.len() > 401 {
+        return Ok(None);
+    }
+    let samples = Vec::from_slice(alloc, room.as_slice())?;
+    Ok(Some((samples, left)))
+}
+
+/// Whether these are starts and grades by turns, as a stem file has them.
+fn are_zones(numbers: &[u32]) -> bool
+    ensures { IsTrue result → AreZones numbers.now }
+{
+    starts_within(0, 40_000, numbers)
+        && grades_within(1, 8, numbers)
+        && starts_rise(numbers)
+        && is_count_of_zones(numbers.len())
+}
+
+/// The zones that a text says, where they are as they should be.
+fn zones_in(alloc: Global, rest: &[u8]) -> Result<Option<Vec<(u32, u8)>>, AllocError>
+    ensures { IfOk result (λ o. IfSome o (λ zones. SaysZones rest.now zones.items)) }
+{
+    let numbers = match numbers(alloc, rest) {
+        Ok(found) => found,
+        Err(RecordFault::Memory) => return Err(AllocError),
+        Err(_) => return Ok(None),
+    };
+    if !are_zones(numbers.as_slice()) {
+        return Ok(None);
+    }
+    Ok(Some(zones_of(alloc, numbers.as_slice())?))
+}
+
+/// The zones of the item that a text begins with, and what is left after it; or no zones, and the whole text, where it
+/// begins with no item of zones.
+fn next_zones<'a>(
+    alloc: Global,
+    text: &'a [u8],
+) -> Result<Option<(Vec<(u32, u8)>, &'a [u8])>, AllocError>
+    ensures { IfOk result (λ o. IfSome o (λ w. LeadsZones text.now w.0.items w.1.now)) }
+{
+    let Some((rest, left)) = next_in(ZONES, text) else {
+        return Ok(Some((Vec::new(alloc), text)));
+    };
+    let Some(zones) = zones_in(alloc, rest)? else {
+        return Ok(None);
+    };
+    Ok(Some((zones, left)))
+}
+
+/// The stem that a text begins with, and what is left after it.
+fn next_stem<'a>(
+    alloc: Global,
+    room: &mut Vec<u16>,
+    text: &'a [u8],
+) -> Result<Option<(Stem, &'a [u8])>, AllocError>
+    ensures { IfOk result (λ o. IfSome o (λ w. LeadsStem text.now w.0 w.1.now)) }
+{
+    let Some((number, numbered)) = next_number(STEM, text) else {
+        return Ok(None);
+    };
+    let Some((species, named)) = next_species(numbered) else {
+        return Ok(None);
+    };
+    let Some((samples, sampled)) = next_samples(alloc, room, named)? else {
+        return Ok(None);
+    };
+    let Some((zones, left)) = next_zones(alloc, sampled)? else {
+        return Ok(None);
+    };
+    let stem = stem_of_parts(alloc, number, species, samples, zones)?;
+    Ok(Some((stem, left)))
+}
+
+/// The stems of a text in the plain order, up to its end.
+fn stems_of(alloc: Global, body: &[u8]) -> Result<Option<Vec<Stem>>, AllocError>
+    ensures { IfOk result (λ o. IfSome o (λ stems. HasStems body.now stems.items)) }
+{
+    let mut room = Vec::new(alloc);
+    let mut stems = Vec::new(alloc);
+    let mut rest = body;
+    for _ in 0..body.len() {
+        if is_done(rest) {
+            return Ok(Some(stems));
+        }
+        let Some((stem, left)) = next_stem(alloc, &mut room, rest)? else {
+            return Ok(None);
+        };
+        stems.push(stem)?;
+        rest = left;
+    }
+    Ok(None)
+}
+
+/// The stems of a file's bytes, where they are in the plain order and all is right; `None` says nothing of them.
+pub(crate) fn read_plain(alloc: Global, bytes: &[u8]) -> Result<Option<Vec<Stem>>, AllocError>
+    ensures { IfOk result (λ o. IfSome o (λ stems. stm_of bytes.now ≡ Ok stems.items)) }
+{
+    let Some((kind, body)) = next_in(FILE, bytes) else {
+        return Ok(None);
+    };
+    if kind != b"STM".as_slice() {
+        return Ok(None);
+    }
+    stems_of(alloc, body)
+}
