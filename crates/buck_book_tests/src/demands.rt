@@ -56,6 +56,19 @@ fn demand_between_two_stems(rt: HostRuntime) -> Result<(), Fail> {
     Ok(())
 }
 
+/// A demand is counted in no class, and as a call of its harvester.
+#[test]
+fn demand_counts_as_cut(rt: HostRuntime) -> Result<(), Fail> {
+    let rule = Rule::new(|s: &Standing| step(s));
+    let mut book = saw_day(&rt, rule, (1, 500, "1 1 1 1"), 41, 1)?;
+    let targets = targets_of(&rt, &[0, 0, 0, 4])?;
+    let _ = demand(rt.alloc(), &mut book, &targets, 1)?;
+    assert!(rt; has_counts(&book, [0, 0, 0, 1]) && book.calls(1) == 2);
+    let parts = book.into_parts();
+    assert!(rt; parts.counts.as_slice() == [0, 0, 0, 1].as_slice());
+    Ok(())
+}
+
 /// Whether a book holds a long log, a demand, and two short logs of the period that begins with it.
 fn has_demand_within<F: Drop>(book: &Book<F>) -> bool {
     match book.entries() {

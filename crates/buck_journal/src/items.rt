@@ -60,11 +60,11 @@ pub(crate) fn worth_at<'a>(items: &'a [Piece<'a>], k: usize) -> Result<u64, Jour
         number: 981,
         kind: 6,
     };
-    let item = &items[k];
-    if !is_at(item, slot) {
+    let last = &items[k];
+    if !is_at(last, slot) {
         return Err(JournalFault::Shape { item: k + 1 });
     }
-    match wide(item.rest) {
+    match wide(last.rest) {
         Ok(worth) => Ok(worth),
         Err(_) => Err(JournalFault::Digits { item: k + 1 }),
     }

@@ -1,5 +1,5 @@
 //! The stem, the logs and the postings of a journal's items.
-ghost use Rattle.std.specs.Prelude.{◌≡◌, ◌≤◌, ◌<◌, ◌+◌, IfOk, length, true, Ok};
+ghost use Rattle.std.specs.Prelude.{◌≡◌, ◌≤◌, ◌<◌, ◌+◌, IfOk, IfSome, length, true, Ok};
 ghost use Rattle.buck_record.specs.Reading.{Gives, listed};
 ghost use Rattle.buck_record.specs.Rules.{slot, all_within};
 ghost use Rattle.buck_stem.specs.Stem.{IsStem, stem_of};
@@ -9,13 +9,19 @@ ghost use Rattle.buck_journal.specs.inner.Limits.{AreSamples, AreZones};
 ghost use Rattle.buck_journal.specs.Journal.{samples_at, is_zone, are_zones, zones_at, is_log, are_logs, logs_of, logs_at, stem_at};
 
 use crate::fault::JournalFault;
-use crate::items::{head_at, numbers_at};
+use crate::items::{head_at, is_at, numbers_at};
 use buck_record::check::check;
 use buck_record::rules::{all_within, within};
-use buck_record::{Piece, Slot};
+use buck_record::{Piece, Slot, append_numbers};
 use buck_stem::Stem;
 use buck_value::Log;
 use std::alloc::{AllocError, Global};
+
+/// The item of a stem's diameters.
+const SAMPLES: Slot = Slot {
+    number: 981,
+    kind: 3,
+};
 
 /// The samples as they are kept.
 fn samples_of(alloc: Global, numbers: &[u32]) -> Result<Vec<u16>, AllocError>
@@ -29,8 +35,54 @@ fn samples_of(alloc: Global, numbers: &[u32]) -> Result<Vec<u16>, AllocError>
     Ok(samples)
 }
 
-/// The diameters of a stem.
+/// The diameters of a stem, read in one pass, where they are as they should be; `None` says nothing of them.
+fn samples_in_one_pass<'a>(
+    alloc: Global,
+    items: &'a [Piece<'a>],
+    k: usize,
+) -> Result<Option<Vec<u16>>, AllocError>
+    ensures value { IfOk result (λ o. IfSome o (λ samples. samples_at items.now k ≡ Ok samples.items)) }
+    ensures valid { IfOk result (λ o. IfSome o (λ samples. AreSamples samples.items)) }
+{
+    if k >= items.len() {
+        return Ok(None);
+    }
+    let item = &items[k];
+    if !is_at(item, SAMPLES) {
+        return Ok(None);
+    }
+    let mut room = Vec::with_capacity(alloc, item.rest.len() / 2 + 1)?;
+    if !append_numbers(1500, item.rest, &mut room) {
+        return Ok(None);
+    }
+    if !within(1, 401, room.len()) {
+        return Ok(None);
+    }
+    Ok(Some(Vec::from_slice(alloc, room.as_slice())?))
+}
+
+/// The diameters of a stem, number by number.
 #[tactic(auto, using(crate::proofs::Limits::are_samples_ok), unfolding(crate::specs::Journal::samples_at))]
+fn samples_by_numbers<'a>(
+    alloc: Global,
+    items: &'a [Piece<'a>],
+    k: usize,
+) -> Result<Vec<u16>, JournalFault>
+    requires { k ≤ length items.now + 5 }
+    ensures value { Gives Memory (listed result) (samples_at items.now k) }
+    ensures valid { IfOk result (λ samples. AreSamples samples.items) }
+{
+    let numbers = numbers_at(alloc, SAMPLES, items, k)?;
+    if !within(1, 401, numbers.len()) {
+        return Err(JournalFault::Count { item: k + 1 });
+    }
+    if !all_within(0, 1500, numbers.as_slice()) {
+        return Err(JournalFault::Range { item: k + 1 });
+    }
+    Ok(samples_of(alloc, numbers.as_slice())?)
+}
+
+/// The diameters of a stem.
 pub(crate) fn samples_at<'a>(
     alloc: Global,
     items: &'a [Piece<'a>],
@@ -40,18 +92,10 @@ pub(crate) fn samples_at<'a>(
     ensures value { Gives Memory (listed result) (samples_at items.now k) }
     ensures valid { IfOk result (λ samples. AreSamples samples.items) }
 {
-    let slot = Slot {
-        number: 981,
-        kind: 3,
-    };
-    let numbers = numbers_at(alloc, slot, items, k)?;
-    if !within(1, 401, numbers.len()) {
-        return Err(JournalFault::Count { item: k + 1 });
+    match samples_in_one_pass(alloc, items, k)? {
+        Some(samples) => Ok(samples),
+        None => samples_by_numbers(alloc, items, k),
     }
-    if !all_within(0, 1500, numbers.as_slice()) {
-        return Err(JournalFault::Range { item: k + 1 });
-    }
-    Ok(samples_of(alloc, numbers.as_slice())?)
 }
 
 fn is_zone(low: u32, start: u32, grade: u32) -> bool

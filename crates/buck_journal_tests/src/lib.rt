@@ -4,9 +4,13 @@
 #[cfg(test)]
 mod agreement;
 #[cfg(test)]
+mod diameters;
+#[cfg(test)]
 mod fixtures;
 #[cfg(test)]
 mod journals;
+#[cfg(test)]
+mod memory;
 #[cfg(test)]
 mod readings;
 #[cfg(test)]

@@ -78,6 +78,69 @@ fn edited_sheets(rt: HostRuntime) -> Result<(), Fail> {
     Ok(())
 }
 
+/// After the second stem one log of each of two classes was cut, each a half where a quarter is wanted; before it, none of
+/// the first of these.
+#[test]
+fn prices_by_the_counts_of_before_the_entry(rt: HostRuntime) -> Result<(), Fail> {
+    let fault = edited_fault(&rt, "600 750 300 400", "600 750 900 400")?;
+    assert!(rt;
+        fault
+            == Some(ReplayFault::Price {
+                version: 2,
+                class: 2
+            })
+    );
+    Ok(())
+}
+
+/// The sheet after the first stem, with the price that the counts of both stems would give.
+#[test]
+fn prices_by_the_counts_of_the_whole_list(rt: HostRuntime) -> Result<(), Fail> {
+    let fault = edited_fault(&rt, "600 750 900 400", "600 750 300 400")?;
+    assert!(rt;
+        fault
+            == Some(ReplayFault::Price {
+                version: 1,
+                class: 2
+            })
+    );
+    Ok(())
+}
+
+/// The first of several faults is told: a sheet before the posting that begins its period, the number of a posting before
+/// its version, and that before what it says.
+#[test]
+fn faults_in_their_order(rt: HostRuntime) -> Result<(), Fail> {
+    let text = edited(
+        rt.alloc(),
+        two_stems(&rt)?.as_str(),
+        "132535800",
+        "132535801",
+    )?;
+    let instruction = shifting(&rt)?;
+    let late = edited(rt.alloc(), text.as_str(), "981 1 1 2 1", "981 1 1 2 0")?;
+    let fault = fault_of(&rt, &instruction, late.as_str())?;
+    assert!(rt; fault == Some(ReplayFault::Version { at: 1 }));
+    let far = edited(rt.alloc(), text.as_str(), "981 1 1 2 1", "981 1 1 3 0")?;
+    let fault = fault_of(&rt, &instruction, far.as_str())?;
+    assert!(rt; fault == Some(ReplayFault::Numbering { at: 1 }));
+    let dear = edited(
+        rt.alloc(),
+        far.as_str(),
+        "600 750 900 400",
+        "600 750 901 400",
+    )?;
+    let fault = fault_of(&rt, &instruction, dear.as_str())?;
+    assert!(rt;
+        fault
+            == Some(ReplayFault::Price {
+                version: 1,
+                class: 2
+            })
+    );
+    Ok(())
+}
+
 #[test]
 fn the_last_sheet(rt: HostRuntime) -> Result<(), Fail> {
     let last = "971 1 600 750 300 400~\n";

@@ -1,6 +1,6 @@
 //! Texts worked out by hand.
 use crate::fixtures::{OneLog, cut, demand};
-use buck_journal::{Memory, journal_text};
+use buck_journal::journal_text;
 use buck_samples::{saw_instruction, stem_of, uniform_stem};
 use buck_value::Sheet;
 use std::sync::Arc;
@@ -72,22 +72,5 @@ fn zones_and_a_demand(rt: HostRuntime) -> Result<(), Fail> {
 982 2 0 0 1000000 4~
 ";
     assert!(rt; text.as_slice() == want.as_bytes());
-    Ok(())
-}
-
-/// Whether a text is this one, or was refused for want of memory.
-fn is_text_or_memory(text: Result<Vec<u8>, Memory>, want: &[u8]) -> bool {
-    match text {
-        Ok(text) => text.as_slice() == want,
-        Err(Memory) => true,
-    }
-}
-
-#[test]
-fn refused_memory(rt: HostRuntime) -> Result<(), Fail> {
-    let second = demand(&rt, &[7])?;
-    let text = journal_text(rt.alloc(), &[], &[second]);
-    let want = b"1 2 JRN~\n982 1 64 2 1~\n982 2 7~\n";
-    assert!(rt; is_text_or_memory(text, want.as_slice()));
     Ok(())
 }
