@@ -1,13 +1,14 @@
 //! The desk: what lies under the lock, and all that is done there.
-ghost use Rattle.std.specs.Prelude.{◌≡◌, length, IfOk, IfErr};
+ghost use Rattle.std.specs.Prelude.{◌≡◌, ◌<◌, ◌≤◌, ◌++◌, ◌∷◌, [], length, IfOk, IfErr};
 ghost use Rattle.buck_rule.specs.Stored.{AllAnswer};
 ghost use Rattle.buck_board.specs.Board.{IsSeatOf};
 ghost use Rattle.buck_book.specs.Plan.{IsPlan};
+ghost use Rattle.buck_book.specs.Book.{IsReadyFor, IsReadyDemand, entry_of, demand_of};
 ghost use Rattle.buck_fleet.specs.inner.Desk.{IsPlanRefused, IsReplyAt, IsDemandReplyAt};
 
 use crate::seat::{DemandReply, Kept, Path, Reply, Seat};
 use buck_board::Board;
-use buck_book::{Book, Demand, DemandRefusal, Entry, Plan, Posting, Ready, Refusal};
+use buck_book::{Book, Demand, DemandRefusal, Entry, Plan, Posting, Ready, ReadyDemand, Refusal};
 use buck_dp::Cutting;
 use buck_record::Memory;
 use buck_rule::Standing;
@@ -46,6 +47,36 @@ fn show_next<R: Wait>(rt: &R, alloc: Global, board: &Board, ready: &Ready) -> Re
     }
 }
 
+/// Adds the entry of a prepared plan to the history: the entry, and its position.
+fn add_entry<F: Drop>(book: &mut Book<F>, ready: Ready, harvester: u32, plan: Plan) -> (Entry, u32)
+    requires ready { IsReadyFor book.old ready plan }
+    requires harvester { (0 < harvester) × (harvester ≤ 64) }
+    ensures entry { result.0 ≡ entry_of book.old.history harvester plan }
+    ensures position { result.1 ≡ length book.old.history.postings }
+    ensures postings { book.new.history.postings ≡ book.old.history.postings ++ Posting.Cut result.0 ∷ [] }
+    ensures instruction { book.new.history.instruction ≡ book.old.history.instruction }
+{
+    let position = book.len() as u32;
+    // Try, or Locked: the entry is added.
+    let entry = book.commit(ready, harvester, plan);
+    (entry, position)
+}
+
+/// Adds a prepared demand to the history: the demand, and its position.
+fn add_demand<F: Drop>(book: &mut Book<F>, ready: ReadyDemand, harvester: u32) -> (Demand, u32)
+    requires ready { IsReadyDemand book.old ready }
+    requires harvester { (0 < harvester) × (harvester ≤ 64) }
+    ensures demand { result.0 ≡ demand_of book.old.history harvester ready.targets }
+    ensures position { result.1 ≡ length book.old.history.postings }
+    ensures postings { book.new.history.postings ≡ book.old.history.postings ++ Posting.Demand result.0 ∷ [] }
+    ensures instruction { book.new.history.instruction ≡ book.old.history.instruction }
+{
+    let position = book.len() as u32;
+    // Retarget: the demand is added.
+    let demand = book.commit_demand(ready, harvester);
+    (demand, position)
+}
+
 impl<F: Fn(&Standing) -> u64 + Drop, L: Ledger> Desk<F, L> {
     /// Commits a plan for a seat, if its sheet is in force: adds its entry to the history and to the seat's kept list,
     /// and raises the front to the version in force.
@@ -82,9 +113,7 @@ impl<F: Fn(&Standing) -> u64 + Drop, L: Ledger> Desk<F, L> {
         if show_next(rt, alloc, board, &ready).is_err() {
             return Err((Refusal::Memory, plan));
         }
-        let position = book.len() as u32;
-        // Try, or Locked: the entry is added.
-        let entry = book.commit(ready, seat.harvester, plan);
+        let (entry, position) = add_entry(book, ready, seat.harvester, plan);
         let Seat {
             place,
             kept,
@@ -134,9 +163,7 @@ impl<F: Fn(&Standing) -> u64 + Drop, L: Ledger> Desk<F, L> {
         let copy = targets.clone()?;
         let ready = book.prepare_demand(alloc, targets)?;
         board.put_up(rt, alloc, ready.next_sheet().clone()?)?;
-        let position = book.len() as u32;
-        // Retarget: the demand is added.
-        let demand = book.commit_demand(ready, seat.harvester);
+        let (demand, position) = add_demand(book, ready, seat.harvester);
         let Seat {
             place,
             kept,

@@ -6,18 +6,34 @@ use buck_book::{DemandRefusal, Plan, Refusal, TargetsFault};
 use buck_record::Memory;
 use buck_value::Sheet;
 use std::alloc::AllocError;
+use std::fmt::{self, Debug, Formatter};
 use std::sync::Arc;
 use thiserror::Error;
 
 /// Why a caller's plan wasn't committed. It is given back.
-#[derive(Drop)]
+#[derive(Drop, Error)]
 pub enum TryFault {
     /// The history is at its capacity.
+    #[error("the history is at its capacity")]
     Full { plan: Plan },
     /// The plan was made under another sheet than the one in force.
+    #[error("the plan was made under another sheet than the one in force")]
     Stale { in_force: Arc<Sheet>, plan: Plan },
     /// A growth was refused.
+    #[error("out of memory")]
     Memory { plan: Plan },
+}
+
+impl Debug for TryFault {
+    fn fmt<W: fmt::Write>(&self, f: &mut Formatter<W>) -> fmt::Result {
+        match self {
+            TryFault::Full { .. } => f.write_str("Full"),
+            TryFault::Stale { in_force, .. } => {
+                write!(f, "Stale {{ version: {} }}", in_force.version())
+            }
+            TryFault::Memory { .. } => f.write_str("Memory"),
+        }
+    }
 }
 
 /// Why a stem wasn't cut.

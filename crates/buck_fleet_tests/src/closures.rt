@@ -2,9 +2,10 @@
 ghost use Rattle.std.specs.Prelude.{◌≡◌};
 ghost use Rattle.buck_rule.specs.Stored.{AllAnswer};
 
-use crate::fixtures::*;
-use crate::stage::Stage;
 use buck_fleet::Closed;
+use buck_fleet_plays::stage::Stage;
+use buck_fleet_plays::turns::*;
+use buck_fleet_samples::fixtures::*;
 use buck_rule::{Rule, Standing, step};
 use std::alloc::Global;
 use std::sync::Wait;
@@ -20,8 +21,14 @@ fn two_stems<F: Fn(&Standing) -> u64 + Drop + Send, R: Threads + Wait + Sync>(
     requires { AllAnswer F.Fn }
 {
     let stage = Stage::open(alloc)?;
-    let lists = [turns_at_once(alloc, &[Do::Cut(41), Do::Cut(41)])?];
-    saw_play(rt, alloc, rule, (1, 500, 100), lists.as_slice(), &stage)
+    lone_play(
+        rt,
+        alloc,
+        rule,
+        (1, 500, 100),
+        &[Do::Cut(41), Do::Cut(41)],
+        &stage,
+    )
 }
 
 #[test]

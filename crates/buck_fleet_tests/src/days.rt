@@ -1,5 +1,5 @@
 //! Days worked out by hand.
-use crate::fixtures::*;
+use buck_fleet_samples::fixtures::*;
 use buck_rule::{Rule, Standing, linear, step};
 use std::test::Fail;
 

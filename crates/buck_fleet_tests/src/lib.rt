@@ -1,30 +1,11 @@
-//! Tests of fleets: what a caller writes, days worked out by hand, and harvesters that meet.
+//! Tests of fleets: days worked out by hand, the reports of closed fleets, and refused memory.
 #![tactic(auto)]
 
-pub mod callers;
 #[cfg(test)]
 mod closures;
 #[cfg(test)]
 mod days;
 #[cfg(test)]
-mod demands;
-#[cfg(test)]
-mod fixtures;
-#[cfg(test)]
-mod held;
-#[cfg(test)]
-mod judge;
-#[cfg(test)]
-mod meetings;
-#[cfg(test)]
 mod memory;
 #[cfg(test)]
-mod play;
-#[cfg(test)]
-mod refusals;
-#[cfg(test)]
 mod reports;
-#[cfg(test)]
-mod stage;
-#[cfg(test)]
-mod stress;

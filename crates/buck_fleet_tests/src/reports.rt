@@ -1,11 +1,14 @@
 //! Reports of closed fleets, and their degrees.
-use crate::callers::day;
-use crate::fixtures::*;
 use buck_engine::{degree, report_text};
 use buck_fleet::Closed;
+use buck_fleet_samples::callers::day;
+use buck_fleet_samples::fixtures::*;
 use buck_rule::{Rule, Standing, steady, step};
 use buck_samples::saw_instruction;
+use std::alloc::Global;
+use std::sync::Wait;
 use std::test::Fail;
+use std::thread::Threads;
 
 /// The degree of the first assortment.
 fn first_degree(closed: &Closed) -> Option<u32> {
@@ -20,11 +23,21 @@ fn is_end(text: &[u8], end: &[u8]) -> bool {
     text.len() >= end.len() && &text[text.len() - end.len()..] == end
 }
 
+/// The report of a fleet that has cut so many stems of 4,000 mm by the step rule, with these targets.
+fn report_of<R: Threads + Wait + Sync>(
+    rt: &R,
+    alloc: Global,
+    targets: &str,
+    number: usize,
+) -> Result<Vec<u8>, Fail> {
+    let rule = Rule::new(|s: &Standing| step(s));
+    let closed = saw_day(rt, alloc, rule, (1, 500, targets), number)?;
+    Ok(report_text(alloc, &closed)?)
+}
+
 #[test]
 fn report_of_step_rule_two_stems(rt: HostRuntime) -> Result<(), Fail> {
-    let rule = Rule::new(|s: &Standing| step(s));
-    let closed = saw_day(&rt, rt.alloc(), rule, (1, 500, "1 1 1 1"), 2)?;
-    let text = report_text(rt.alloc(), &closed)?;
+    let text = report_of(&rt, rt.alloc(), "1 1 1 1", 2)?;
     let want = b"ENTRY 0 1 1 0 1 1 157080000
 ENTRY 1 1 2 1 1 1 132535800
 CLASS 0 0 0 1 0 400 600
@@ -35,15 +48,20 @@ DEGREE 0 5000 saw
 TOTAL 2 2 289615800
 ";
     assert!(rt; text.as_slice() == want.as_slice());
+    Ok(())
+}
+
+#[test]
+fn degree_of_step_rule_two_stems(rt: HostRuntime) -> Result<(), Fail> {
+    let rule = Rule::new(|s: &Standing| step(s));
+    let closed = saw_day(&rt, rt.alloc(), rule, (1, 500, "1 1 1 1"), 2)?;
     assert!(rt; first_degree(&closed) == Some(5000));
     Ok(())
 }
 
 #[test]
 fn report_of_no_targets(rt: HostRuntime) -> Result<(), Fail> {
-    let rule = Rule::new(|s: &Standing| step(s));
-    let closed = saw_day(&rt, rt.alloc(), rule, (1, 500, "0 0 0 0"), 2)?;
-    let text = report_text(rt.alloc(), &closed)?;
+    let text = report_of(&rt, rt.alloc(), "0 0 0 0", 2)?;
     let want = b"ENTRY 0 1 1 0 1 1 157080000
 ENTRY 1 1 2 1 1 1 157080000
 CLASS 0 0 0 0 0 400 400
@@ -59,19 +77,22 @@ TOTAL 2 2 314160000
 
 #[test]
 fn degree_of_nothing_cut(rt: HostRuntime) -> Result<(), Fail> {
-    let rule = Rule::new(|s: &Standing| step(s));
-    let closed = saw_day(&rt, rt.alloc(), rule, (1, 500, "1 1 1 1"), 0)?;
-    let text = report_text(rt.alloc(), &closed)?;
+    let text = report_of(&rt, rt.alloc(), "1 1 1 1", 0)?;
     assert!(rt; is_end(text.as_slice(), b"DEGREE 0 none saw\nTOTAL 0 0 0\n"));
     Ok(())
 }
 
+/// A fleet of two that has cut ten stems of 6,000 mm each.
+fn fleet_of_two<R: Threads + Wait + Sync>(rt: &R, alloc: Global) -> Result<Closed, Fail> {
+    let instruction = saw_instruction(alloc, 1, 0, "1 1 1 1")?;
+    let lists = [list_of(alloc, 10, 61)?, list_of(alloc, 10, 61)?];
+    let rule = Rule::new(|s: &Standing| steady(s));
+    Ok(day(rt, alloc, instruction, rule, lists.as_slice())?)
+}
+
 #[test]
 fn totals_of_fleet_of_two(rt: HostRuntime) -> Result<(), Fail> {
-    let instruction = saw_instruction(rt.alloc(), 1, 0, "1 1 1 1")?;
-    let lists = [list_of(rt.alloc(), 10, 61)?, list_of(rt.alloc(), 10, 61)?];
-    let rule = Rule::new(|s: &Standing| steady(s));
-    let closed = day(&rt, rt.alloc(), instruction, rule, lists.as_slice())?;
+    let closed = fleet_of_two(&rt, rt.alloc())?;
     let text = report_text(rt.alloc(), &closed)?;
     let want = b"CLASS 0 1 0 1 40 600 600
 CLASS 0 1 1 1 0 800 800

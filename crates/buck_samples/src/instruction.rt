@@ -64,3 +64,21 @@ pub fn saw_instruction(
     let text = saw_text(alloc, period, limit, targets)?;
     instruction_of(alloc, text.as_str())
 }
+
+/// The lower limits of 32 rows.
+const ROWS: &str =
+    "10 20 30 40 50 60 70 80 90 100 110 120 130 140 150 160 170 180 190 200 210 220 230 240 250 260 270 280 290 300 310 320";
+
+/// The lengths of 32 columns in mm.
+const COLUMNS: &str =
+    "1000 1100 1200 1300 1400 1500 1600 1700 1800 1900 2000 2100 2200 2300 2400 2500 2600 2700 2800 2900 3000 3100 3200 3300 3400 3500 3600 3700 3800 3900 4000 4100";
+
+/// An instruction of one assortment with 1,024 classes, of which nothing is wanted: period 1, limit 0.
+pub fn largest_instruction(alloc: Global) -> Result<Arc<Instruction>, SampleFault> {
+    let prices = " 5".repeat(alloc, 1024)?;
+    let targets = " 0".repeat(alloc, 1024)?;
+    let text = format!(in alloc;
+        "1 2 APT~901 1 100~902 1 1~903 1 0~910 1 1~911 1 saw~912 1 1~913 1 1~914 1 1~915 1 {ROWS}~915 2 400~916 1 {COLUMNS}~917 1{prices}~918 1{targets}~"
+    )?;
+    instruction_of(alloc, text.as_str())
+}

@@ -1,5 +1,5 @@
 //! Worlds at their capacity.
-use crate::fixtures::*;
+use buck_world_samples::fixtures::*;
 use std::test::Fail;
 
 #[test]

@@ -1,11 +1,11 @@
-//! Refused memory: a world is then as before. Run with each allocation failing in turn.
+//! Refused memory: a world is then as before, and goes on. Run with each allocation failing in turn.
 ghost use Rattle.std.specs.Prelude.{◌≡◌, IfOk};
 ghost use Rattle.buck_rule.specs.Stored.{Answers};
 
-use crate::fixtures::*;
 use buck_rule::{Rule, Standing, step};
 use buck_samples::saw_instruction;
-use buck_world::World;
+use buck_world::{Memory, World};
+use buck_world_samples::fixtures::*;
 use std::test::Fail;
 
 /// A world of two harvesters, in which harvester 1 holds a plan that is stale.
@@ -32,66 +32,74 @@ fn with_stale_plan<F: Fn(&Standing) -> u64 + Drop>(
     Ok(world)
 }
 
-/// Does one thing that is allowed: whether it was done, or memory was refused and the world is as before. Before it
-/// harvester 1 is idle, or holds its plan.
-fn does_or_stays<F: Fn(&Standing) -> u64 + Drop>(
+/// Whether there are so many postings, and harvester 1 has this place and so many stale attempts.
+fn is_like<F: Drop>(world: &World<F>, want: (usize, Place, u32)) -> bool {
+    world.entries().len() == want.0 && is_at(world, 1, want.1, 0, want.2)
+}
+
+/// Does one thing that is allowed, and once more where memory was refused, as the world is then as before: whether it was
+/// refused. Nothing, where a world is another than it should be.
+fn does_in_the_end<F: Fn(&Standing) -> u64 + Drop>(
     rt: &HostRuntime,
     world: &mut World<F>,
     kit: &Kit,
     what: Do,
-    before: Place,
+    before: (usize, Place, u32),
     after: (usize, Place, u32),
-) -> bool
+) -> Result<Option<bool>, Fail>
     requires { Answers F.Fn world.old.rule }
     ensures { world.new.rule ≡ world.old.rule }
 {
-    let (number, place, stale) = match go(rt, world, kit, what) {
-        Ok(None) => after,
-        Ok(Some(_)) => return false,
-        Err(_) => (1, before, 0),
-    };
-    world.entries().len() == number && is_at(world, 1, place, 0, stale)
+    let is_refused = go(rt, world, kit, what).is_err();
+    if is_refused {
+        if !is_like(world, before) {
+            return Ok(None);
+        }
+        let _ = go(rt, world, kit, what)?;
+    }
+    if !is_like(world, after) {
+        return Ok(None);
+    }
+    Ok(Some(is_refused))
 }
 
-/// Whether a stale try is done, or memory was refused and the world is as before; then the same of another event, once
-/// harvester 1 has left its call.
-fn stays<F: Fn(&Standing) -> u64 + Drop>(
+/// Does a stale try, and another event once harvester 1 has left its call: whether memory was refused.
+fn goes_on<F: Fn(&Standing) -> u64 + Drop>(
     rt: &HostRuntime,
     rule: Rule<F>,
     what: Do,
-) -> Result<bool, Fail>
+) -> Result<(Option<bool>, Option<bool>), Fail>
     requires { Answers F.Fn rule }
 {
     let kit = kit_of(rt, &[0, 0, 0, 4])?;
     let mut world = with_stale_plan(rt, rule, &kit)?;
-    let tried = does_or_stays(
-        rt,
-        &mut world,
-        &kit,
-        Do::Try(1),
-        Place::Planned,
-        (1, Place::Idle, 1),
-    );
+    let held = (1, Place::Planned, 0);
+    let stale = (1, Place::Idle, 1);
+    let tried = does_in_the_end(rt, &mut world, &kit, Do::Try(1), held, stale)?;
     let _ = go(rt, &mut world, &kit, Do::Leave(1))?;
-    let done = does_or_stays(
-        rt,
-        &mut world,
-        &kit,
-        what,
-        Place::Idle,
-        (2, Place::Answered, 0),
-    );
-    Ok(tried && done)
+    let left = (1, Place::Idle, 0);
+    let answered = (2, Place::Answered, 0);
+    let done = does_in_the_end(rt, &mut world, &kit, what, left, answered)?;
+    Ok((tried, done))
+}
+
+/// Ends a test in which memory was refused with an error that says so, where each world was as it should be.
+fn with_memory(told: (Option<bool>, Option<bool>)) -> Result<(), Fail> {
+    match told {
+        (Some(false), Some(false)) => Ok(()),
+        (Some(_), Some(_)) => Err(Fail::from(Memory)),
+        _ => Err(Fail::from("another world")),
+    }
 }
 
 #[test]
 fn refused_memory_of_a_locked_cut(rt: HostRuntime) -> Result<(), Fail> {
-    assert!(rt; stays(&rt, Rule::new(|s: &Standing| step(s)), Do::Locked(1))?);
-    Ok(())
+    let told = goes_on(&rt, Rule::new(|s: &Standing| step(s)), Do::Locked(1))?;
+    with_memory(told)
 }
 
 #[test]
 fn refused_memory_of_new_targets(rt: HostRuntime) -> Result<(), Fail> {
-    assert!(rt; stays(&rt, Rule::new(|s: &Standing| step(s)), Do::Retarget(1))?);
-    Ok(())
+    let told = goes_on(&rt, Rule::new(|s: &Standing| step(s)), Do::Retarget(1))?;
+    with_memory(told)
 }

@@ -2,11 +2,13 @@
 ghost use Rattle.std.specs.Prelude.{◌≡◌};
 ghost use Rattle.buck_rule.specs.Stored.{Answers};
 
-use crate::fixtures::*;
+use buck_apt::Instruction;
 use buck_book::{Posting, TargetsFault};
-use buck_rule::{Rule, Standing, step};
-use buck_samples::saw_instruction;
+use buck_rule::{Rule, Standing, steady, step};
+use buck_samples::{largest_instruction, saw_instruction};
 use buck_world::{StepFault, World};
+use buck_world_samples::fixtures::*;
+use std::sync::Arc;
 use std::test::Fail;
 
 #[test]
@@ -38,6 +40,36 @@ fn refuses(rt: &HostRuntime, targets: &[u32], fault: TargetsFault) -> Result<boo
 fn targets_that_are_not_valid(rt: HostRuntime) -> Result<(), Fail> {
     assert!(rt; refuses(&rt, &[1, 1, 1], TargetsFault::Count)?);
     assert!(rt; refuses(&rt, &[1, 1, 1_000_001, 1], TargetsFault::Range { at: 2 })?);
+    Ok(())
+}
+
+/// What a new world of one harvester answers to its new targets, and how many postings it has then.
+fn after_demand<F: Fn(&Standing) -> u64 + Drop>(
+    rt: &HostRuntime,
+    rule: Rule<F>,
+    instruction: Arc<Instruction>,
+    kit: &Kit,
+) -> Result<(Option<StepFault>, usize), Fail>
+    requires { Answers F.Fn rule }
+{
+    let mut world = World::open(rt.alloc(), instruction, rule, 1, 10)?;
+    let told = go(rt, &mut world, kit, Do::Retarget(1))?;
+    Ok((told, world.entries().len()))
+}
+
+/// 1,000,000 wanted of each of 1,024 classes.
+fn largest_kit(rt: &HostRuntime) -> Result<Kit, Fail> {
+    let targets = vec![in rt.alloc(); 1_000_000; 1024]?;
+    kit_of(rt, targets.as_slice())
+}
+
+#[test]
+fn too_many_targets_together(rt: HostRuntime) -> Result<(), Fail> {
+    let kit = largest_kit(&rt)?;
+    let rule = Rule::new(|s: &Standing| steady(s));
+    let (told, postings) = after_demand(&rt, rule, largest_instruction(rt.alloc())?, &kit)?;
+    let fault = TargetsFault::Sum { assortment: 0 };
+    assert!(rt; told == Some(StepFault::Targets(fault)) && postings == 0);
     Ok(())
 }
 
@@ -89,13 +121,20 @@ const CUTS: [Line; 12] = [
     Line::At(1, Place::Answered, 2, 1),
 ];
 
+/// Whether a new world plays these cuts, and holds their postings then.
+fn plays_cuts<F: Fn(&Standing) -> u64 + Drop>(rt: &HostRuntime, rule: Rule<F>) -> Result<bool, Fail>
+    requires { Answers F.Fn rule }
+{
+    let kit = kit_of(rt, &[0, 0, 0, 4])?;
+    let instruction = saw_instruction(rt.alloc(), 1, 500, "1 1 1 1")?;
+    let mut world = World::open(rt.alloc(), instruction, rule, 2, 10)?;
+    let played = plays(rt, &mut world, &kit, CUTS.as_slice())?;
+    Ok(played && has_three(&world))
+}
+
 #[test]
 fn cuts_around_new_targets(rt: HostRuntime) -> Result<(), Fail> {
     let rule = Rule::new(|s: &Standing| step(s));
-    let instruction = saw_instruction(rt.alloc(), 1, 500, "1 1 1 1")?;
-    let mut world = World::open(rt.alloc(), instruction, rule, 2, 10)?;
-    let kit = kit_of(&rt, &[0, 0, 0, 4])?;
-    assert!(rt; plays(&rt, &mut world, &kit, CUTS.as_slice())?);
-    assert!(rt; has_three(&world));
+    assert!(rt; plays_cuts(&rt, rule)?);
     Ok(())
 }

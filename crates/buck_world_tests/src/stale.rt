@@ -1,5 +1,5 @@
 //! Stale attempts, worked out by hand.
-use crate::fixtures::*;
+use buck_world_samples::fixtures::*;
 use std::test::Fail;
 
 /// Harvester 2's plan is added while harvester 1 holds one of the same version, which is then stale.

@@ -1,18 +1,25 @@
 //! Each row of the table of events, once allowed and once not.
-use crate::callers::{cut_once, world_of_two};
-use crate::fixtures::*;
 use buck_rule::{Rule, Standing, steady};
 use buck_samples::saw_instruction;
 use buck_world::World;
+use buck_world_samples::callers::{cut_once, world_of_two};
+use buck_world_samples::fixtures::*;
 use std::test::Fail;
+
+/// Whether a world of 64 harvesters is the opening.
+fn is_of_sixty_four<F: Drop>(world: &World<F>) -> bool {
+    is(world, 0, 0, 0)
+        && world.harvesters() == 64
+        && is_at(world, 1, Place::Idle, 0, 0)
+        && is_at(world, 64, Place::Idle, 0, 0)
+}
 
 #[test]
 fn opened(rt: HostRuntime) -> Result<(), Fail> {
     let rule = Rule::new(|s: &Standing| steady(s));
     let instruction = saw_instruction(rt.alloc(), 1, 0, "1 1 1 1")?;
     let world = World::open(rt.alloc(), instruction, rule, 64, 1_000_000)?;
-    assert!(rt; is(&world, 0, 0, 0) && world.harvesters() == 64);
-    assert!(rt; is_at(&world, 1, Place::Idle, 0, 0) && is_at(&world, 64, Place::Idle, 0, 0));
+    assert!(rt; is_of_sixty_four(&world));
     Ok(())
 }
 

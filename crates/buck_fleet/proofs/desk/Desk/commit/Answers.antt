@@ -15,22 +15,22 @@ returns-clause-ok g c =
     let ready = c.in-Ok-prepare.ensures.ready in
     let same = c.prepare.ensures.content.history in
     let harvester = ap (λ (s : SeatParts). s.harvester) c.seat.view_is in
-    let entry = c.commit-entry.ensures.entry in
+    let entry = c.add_entry-entry.ensures.entry in
     let field = c.entry.view_is in
     record {
       under = ready.made.sheet_in_force ∙ ap in_force same;
       planned = c.shared.ensures.best;
       entry_is = entry ∙ (λ t. entry_of (same t) (harvester t) c.args.plan);
-      position_is = c.len-position.ensures.number ∙ ap (λ (h : HistoryParts). length h.postings) same;
-      postings_are = c.commit-entry.ensures.postings ∙ ap (λ (h : HistoryParts). h.postings ++ Cut c.commit-entry.result ∷ []) same;
+      position_is = c.add_entry-entry.ensures.position ∙ ap (λ (h : HistoryParts). length h.postings) same;
+      postings_are = c.add_entry-entry.ensures.postings ∙ ap (λ (h : HistoryParts). h.postings ++ Cut c.add_entry-entry.result.0 ∷ []) same;
       kept = record {
         same_harvester = harvester;
-        kept_are = kept_cut _ _ _ _ _ c.commit-entry.result c.push_reserved.ensures.items (c.reserve.ensures.items ∙ ap (λ (s : SeatParts). s.kept) c.seat.view_is)
+        kept_are = kept_cut _ _ _ _ _ c.add_entry-entry.result.0 c.push_reserved.ensures.items (c.reserve.ensures.items ∙ ap (λ (s : SeatParts). s.kept) c.seat.view_is)
             (same_entry _ _ (ap (λ (e : EntryParts). e.harvester) field) (ap (λ (e : EntryParts). e.number) field) (c.in-Ok.ensures.stem ∙ sym (ap (λ (e : EntryParts). e.stem) entry))
             (ap (λ (e : EntryParts). e.version) field) (c.in-Ok.ensures.logs ∙ sym (ap (λ (e : EntryParts). e.logs) entry)) (ap (λ (e : EntryParts). e.worth) field));
         same_parts = c.add.ensures.parts ∙ ap (λ (s : SeatParts). s.parts) c.seat.view_is;
         seen_rises = omega (arith, c.raise.ensures.seen, ap seen_of c.seat.view_is);
       };
-      same_instruction = c.commit-entry.ensures.instruction ∙ ap (λ (h : HistoryParts). h.instruction) same;
+      same_instruction = c.add_entry-entry.ensures.instruction ∙ ap (λ (h : HistoryParts). h.instruction) same;
       seen = omega (arith, c.raise.ensures.version, c.version.ensures.version);
     }
