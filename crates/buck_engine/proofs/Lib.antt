@@ -4,3 +4,8 @@ pub mod BarLemmas
 pub mod Determined
 pub mod Degrees
 pub mod Reports
+pub mod Owned
+pub mod Harvested
+pub mod Harvests
+pub mod Lists
+pub mod Opening

@@ -8,7 +8,7 @@ use Rattle.buck_book.specs.History.{IsLawful}
 use Rattle.buck_journal.specs.Journal.{JournalParts, journal_of}
 use Rattle.buck_journal.specs.Replay.{history_of, IsFirstFault}
 use Rattle.buck_engine.specs.declared.fault.EngineFault.{EngineFault}
-use Rattle.buck_engine.specs.declared.fault.EngineFault.TheVariants.{Read, Write, Apt, Stm, Journal, Replay, Memory}
+use Rattle.buck_engine.specs.declared.fault.EngineFault.TheVariants.{Read, Write, Apt, Stm, Journal, Replay, Seats, Full, Memory, Close}
 use Rattle.buck_engine.specs.Output.{AppendsSome}
 
 -- LAWFUL <postings>
@@ -33,7 +33,10 @@ IsCheckRefusal (Stm file fault) apt journal = ⊥
 IsCheckRefusal (Journal fault) apt journal = IsOk (apt_of apt) × (journal_of journal ≡ Err fault)
 IsCheckRefusal (Replay fault) apt journal =
     (i : InstructionParts) × (j : JournalParts) × (apt_of apt ≡ Ok i) × (journal_of journal ≡ Ok j) × IsFirstFault (history_of i j) fault
+IsCheckRefusal Seats apt journal = ⊥
+IsCheckRefusal Full apt journal = ⊥
 IsCheckRefusal Memory apt journal = Unit {0}
+IsCheckRefusal (Close fault) apt journal = ⊥
 
 -- the line of a lawful journal was written
 abbrev pub AppendsLawful : Option (List ℕ) → Option (List ℕ) → List ℕ → List ℕ → Type 0

@@ -6,7 +6,7 @@ use Rattle.buck_apt.specs.Apt.{apt_of}
 use Rattle.buck_stem.specs.Stem.{StemParts}
 use Rattle.buck_stem.specs.Stm.{stm_of}
 use Rattle.buck_engine.specs.declared.fault.EngineFault.{EngineFault}
-use Rattle.buck_engine.specs.declared.fault.EngineFault.TheVariants.{Read, Write, Apt, Stm, Journal, Replay, Memory}
+use Rattle.buck_engine.specs.declared.fault.EngineFault.TheVariants.{Read, Write, Apt, Stm, Journal, Replay, Seats, Full, Memory, Close}
 use Rattle.buck_engine.specs.Output.{AppendsSome}
 use Rattle.buck_engine.specs.Text.{IsBuckText}
 
@@ -30,7 +30,10 @@ IsRefusalOf (Apt fault) apt stm = apt_of apt ≡ Err fault
 IsRefusalOf (Stm file fault) apt stm = (file ≡ 1) × IsOk (apt_of apt) × (stm_of stm ≡ Err fault)
 IsRefusalOf (Journal fault) apt stm = ⊥
 IsRefusalOf (Replay fault) apt stm = ⊥
+IsRefusalOf Seats apt stm = ⊥
+IsRefusalOf Full apt stm = ⊥
 IsRefusalOf Memory apt stm = Unit {0}
+IsRefusalOf (Close fault) apt stm = ⊥
 
 -- where a fault says that a file can't be read, it is one of these
 abbrev pub IfRead : (ℕ → Type 0) → EngineFault → Type 0
@@ -40,7 +43,10 @@ IfRead File (Apt fault) = Unit {0}
 IfRead File (Stm file fault) = Unit {0}
 IfRead File (Journal fault) = Unit {0}
 IfRead File (Replay fault) = Unit {0}
+IfRead File Seats = Unit {0}
+IfRead File Full = Unit {0}
 IfRead File Memory = Unit {0}
+IfRead File (Close fault) = Unit {0}
 
 -- the fault came before any stem file was looked at
 abbrev pub IsBeforeStems : EngineFault → Type 0
@@ -50,7 +56,10 @@ IsBeforeStems (Apt fault) = Unit {0}
 IsBeforeStems (Stm file fault) = ⊥
 IsBeforeStems (Journal fault) = ⊥
 IsBeforeStems (Replay fault) = ⊥
+IsBeforeStems Seats = ⊥
+IsBeforeStems Full = ⊥
 IsBeforeStems Memory = ⊥
+IsBeforeStems (Close fault) = ⊥
 
 -- the answer to the bytes was written
 abbrev pub AppendsAnswer : Option (List ℕ) → Option (List ℕ) → List ℕ → List ℕ → Type 0

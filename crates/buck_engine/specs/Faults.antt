@@ -10,8 +10,10 @@ use Rattle.buck_journal.specs.declared.fault.JournalFault.{JournalFault}
 use Rattle.buck_journal.specs.declared.fault.JournalFault.TheVariants as journal
 use Rattle.buck_journal.specs.declared.replay_fault.ReplayFault.{ReplayFault}
 use Rattle.buck_journal.specs.declared.replay_fault.ReplayFault.TheVariants as replay
+use Rattle.buck_fleet.specs.declared.close.CloseFault.{CloseFault}
+use Rattle.buck_fleet.specs.declared.close.CloseFault.TheVariants as close
 use Rattle.buck_engine.specs.declared.fault.EngineFault.{EngineFault}
-use Rattle.buck_engine.specs.declared.fault.EngineFault.TheVariants.{Read, Write, Apt, Stm, Journal, Replay, Memory}
+use Rattle.buck_engine.specs.declared.fault.EngineFault.TheVariants.{Read, Write, Apt, Stm, Journal, Replay, Seats, Full, Memory, Close}
 
 abbrev pub memory_line : List ℕ
 memory_line = codes "memory\n"
@@ -76,6 +78,14 @@ replay_line (replay.Outvalued at) = replay_numbered (7 ∷ at ∷ [])
 replay_line replay.Memory = memory_line
 replay_line (replay.Targets at) = replay_numbered (9 ∷ at ∷ [])
 
+-- the same of a fleet that didn't close well
+abbrev pub close_numbered : List ℕ → List ℕ
+close_numbered numbers = line_of (codes "close fault") numbers
+
+abbrev pub close_line : CloseFault → List ℕ
+close_line close.Instruction = close_numbered (1 ∷ [])
+close_line (close.Calls harvester number) = close_numbered (2 ∷ harvester ∷ number ∷ [])
+
 -- the line of a fault
 abbrev pub fault_line : EngineFault → List ℕ
 fault_line (Read file) = line_of (codes "read fault") (file ∷ [])
@@ -84,7 +94,10 @@ fault_line (Apt fault) = apt_line fault
 fault_line (Stm file fault) = stm_line file fault
 fault_line (Journal fault) = journal_line fault
 fault_line (Replay fault) = replay_line fault
+fault_line Seats = codes "seats\n"
+fault_line Full = codes "full\n"
 fault_line Memory = memory_line
+fault_line (Close fault) = close_line fault
 
 -- the exit status after a refused file: 3 where memory ran out in place of the refusal
 abbrev pub apt_status : AptFault → ℕ
@@ -112,4 +125,7 @@ status_of (Apt fault) = apt_status fault
 status_of (Stm file fault) = stm_status fault
 status_of (Journal fault) = journal_status fault
 status_of (Replay fault) = replay_status fault
+status_of Seats = 2
+status_of Full = 3
 status_of Memory = 3
+status_of (Close fault) = 4

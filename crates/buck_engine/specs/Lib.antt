@@ -7,5 +7,8 @@ pub mod Engine
 pub mod Files
 pub mod Run
 pub mod Check
+pub mod Lent
+pub mod Fleet
+pub mod Served
 pub mod Laws
 pub mod inner

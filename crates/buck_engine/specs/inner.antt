@@ -1,3 +1,4 @@
 pub mod Engine
 pub mod Text
 pub mod Report
+pub mod Fleet

@@ -57,14 +57,14 @@ pub(crate) fn instruction_in(alloc: Global, bytes: &[u8]) -> Result<Instruction,
     }
 }
 
-/// The stems of the bytes of file 1.
-fn stems_in(alloc: Global, bytes: &[u8]) -> Result<Vec<Stem>, EngineFault>
-    ensures { AnswersStm bytes.now (listed result) }
+/// The stems of the bytes of the file of this number.
+pub(crate) fn stems_in(alloc: Global, bytes: &[u8], file: u32) -> Result<Vec<Stem>, EngineFault>
+    ensures { AnswersStm file bytes.now (listed result) }
 {
     match read_stm(alloc, bytes) {
         Ok(stems) => Ok(stems),
         Err(StmFault::Memory) => Err(EngineFault::Memory),
-        Err(fault) => Err(EngineFault::Stm { file: 1, fault }),
+        Err(fault) => Err(EngineFault::Stm { file, fault }),
     }
 }
 
@@ -99,7 +99,7 @@ pub fn run_buck<R: io::Read, W: io::Write>(
     let instruction_bytes = read_file(alloc, apt, 0)?;
     let instruction = instruction_in(alloc, instruction_bytes.as_slice())?;
     let stem_bytes = read_file(alloc, stm, 1)?;
-    let stems = stems_in(alloc, stem_bytes.as_slice())?;
+    let stems = stems_in(alloc, stem_bytes.as_slice(), 1)?;
     let text = buck_text(alloc, &instruction, stems.as_slice())?;
     write_text(writer, text.as_slice())
 }
@@ -129,7 +129,7 @@ pub fn run_bare<R: io::Read, W: io::Write>(
 {
     let input = read_file(alloc, reader, 0)?;
     let instruction = instruction_in(alloc, apt_part(input.as_slice()))?;
-    let stems = stems_in(alloc, stm_part(input.as_slice()))?;
+    let stems = stems_in(alloc, stm_part(input.as_slice()), 1)?;
     let text = buck_text(alloc, &instruction, stems.as_slice())?;
     write_text(writer, text.as_slice())
 }

@@ -4,6 +4,7 @@ ghost use Rattle.buck_engine.specs.declared.fault.EngineFault.TheVariants.{Memor
 ghost use Rattle.buck_engine.specs.Faults.{status_of};
 
 use buck_apt::AptFault;
+use buck_fleet::CloseFault;
 use buck_journal::{JournalFault, ReplayFault};
 use buck_record::Memory;
 use buck_stem::StmFault;
@@ -31,6 +32,15 @@ pub enum EngineFault {
     /// The journal isn't lawful for the instruction.
     #[error("the journal is not lawful: {0}")]
     Replay(ReplayFault),
+    /// There are not 1 to 64 stem files.
+    #[error("not 1 to 64 stem files")]
+    Seats,
+    /// There are more stems than a history has room for: 1,000,000.
+    #[error("the history is full")]
+    Full,
+    /// The fleet's history and what its harvesters were answered differ.
+    #[error("the fleet did not close well: {0}")]
+    Close(CloseFault),
     /// A growth was refused. It may come in place of any answer.
     #[error("out of memory")]
     Memory,
@@ -88,8 +98,9 @@ impl From<Memory> for TextFault {
     }
 }
 
-/// The exit status of the program after a fault: 1 where a file was refused, 3 where memory ran out, also while a
-/// file was read, 4 where a journal isn't lawful, and 5 where a file couldn't be read or the output couldn't be written.
+/// The exit status of the program after a fault: 1 where a file was refused, 2 where there are not 1 to 64 stem files,
+/// 3 where memory or the history's room ran out, also while a file was read, 4 where a journal isn't lawful or a fleet
+/// didn't close well, and 5 where a file couldn't be read or the output couldn't be written.
 pub fn status(fault: &EngineFault) -> u8
     ensures { result ≡ status_of fault.now }
 {
@@ -102,8 +113,10 @@ pub fn status(fault: &EngineFault) -> u8
         }
         | EngineFault::Journal(JournalFault::Memory)
         | EngineFault::Replay(ReplayFault::Memory)
+        | EngineFault::Full
         | EngineFault::Memory => 3,
         EngineFault::Apt(_) | EngineFault::Stm { .. } | EngineFault::Journal(_) => 1,
-        EngineFault::Replay(_) => 4,
+        EngineFault::Seats => 2,
+        EngineFault::Close(_) | EngineFault::Replay(_) => 4,
     }
 }

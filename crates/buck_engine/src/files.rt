@@ -1,8 +1,10 @@
 //! Files by their names.
-ghost use Rattle.std.specs.Prelude.{⊤, ℕ, List, Option};
-ghost use Rattle.buck_engine.specs.Files.{AnswersOpening};
+ghost use Rattle.std.specs.Prelude.{◌≡◌, ◌+◌, ⊤, ℕ, List, Option, map, min};
+ghost use Rattle.buck_record.specs.Reading.{listed};
+ghost use Rattle.buck_engine.specs.Files.{AnswersAll, AnswersInputs, AnswersOpening, both_listed};
 
 use crate::fault::EngineFault;
+use std::alloc::Global;
 use std::rt::Files;
 use std::{fs, io};
 
@@ -16,6 +18,18 @@ pub trait Open {
     /// The file of this name, or none where it can't be opened.
     fn open(&mut self, name: &str) -> Option<Self::File>
         ensures { opens self.old name.now result self.new };
+}
+
+/// Makes files by their names.
+pub trait Make {
+    /// A file that was made.
+    type Made: io::Write + Drop;
+
+    ghost makes: { Self → List ℕ → Option Self.Made → Self → Type 0 };
+
+    /// An empty file of this name, in place of one that may be there, or none where it can't be made.
+    fn make(&mut self, name: &str) -> Option<Self::Made>
+        ensures { makes self.old name.now result self.new };
 }
 
 /// The files that a runtime has, by their paths.
@@ -40,6 +54,16 @@ impl<'a, R: Files> Open for Disk<'a, R> {
     }
 }
 
+impl<'a, R: Files> Make for Disk<'a, R> {
+    type Made = R::File;
+
+    ghost makes = { λ _ _ _ _. ⊤ };
+
+    fn make(&mut self, name: &str) -> Option<R::File> {
+        fs::create(self.rt, name).ok()
+    }
+}
+
 /// Opens the instruction file and then the other. One that can't be opened is `Read` with its number.
 pub(crate) fn open_both<O: Open>(
     opener: &mut O,
@@ -54,5 +78,50 @@ pub(crate) fn open_both<O: Open>(
     let Some(stems) = opener.open(stm) else {
         return Err(EngineFault::Read { file: 1 });
     };
+    Ok((instruction, stems))
+}
+
+/// The number of the stem file at a place: one more. A number that a fault can't hold is told as 4,294,967,295.
+fn number_at(place: usize) -> u32
+    ensures { result ≡ min (place + 1) 4294967295 }
+{
+    if place < 4_294_967_294 {
+        place as u32 + 1
+    } else {
+        4_294_967_295
+    }
+}
+
+/// Opens all stem files in order. The first that can't be opened is `Read` with its number.
+fn open_all<O: Open>(
+    alloc: Global,
+    opener: &mut O,
+    stms: &[&str],
+) -> Result<Vec<O::File>, EngineFault>
+    ensures { AnswersAll O.opens opener.old opener.new (map (λ s. s.now) stms.now) (listed result) }
+{
+    let mut files = Vec::new(alloc);
+    for k in 0..stms.len() {
+        match opener.open(stms[k]) {
+            None => return Err(EngineFault::Read { file: number_at(k) }),
+            Some(file) => files.push(file)?,
+        }
+    }
+    Ok(files)
+}
+
+/// Opens the instruction file and then all stem files in order. The first that can't be opened is `Read` with its number.
+pub(crate) fn open_inputs<O: Open>(
+    alloc: Global,
+    opener: &mut O,
+    apt: &str,
+    stms: &[&str],
+) -> Result<(O::File, Vec<O::File>), EngineFault>
+    ensures { AnswersInputs O.opens opener.old opener.new apt.now (map (λ s. s.now) stms.now) (both_listed result) }
+{
+    let Some(instruction) = opener.open(apt) else {
+        return Err(EngineFault::Read { file: 0 });
+    };
+    let stems = open_all(alloc, opener, stms)?;
     Ok((instruction, stems))
 }

@@ -3,11 +3,12 @@ ghost use Rattle.std.specs.Prelude.{◌∷◌};
 ghost use Rattle.std.specs.Fmt.{decimal};
 ghost use Rattle.buck_record.specs.Written.{spelled};
 ghost use Rattle.buck_record.specs.Line.{line_of};
-ghost use Rattle.buck_engine.specs.Faults.{apt_line, stm_line, stm_numbered, journal_line, replay_line, fault_line};
+ghost use Rattle.buck_engine.specs.Faults.{apt_line, stm_line, stm_numbered, journal_line, replay_line, close_line, fault_line};
 ghost use Rattle.buck_engine.specs.Output.{IsWritten, TellsWritten};
 
 use crate::fault::EngineFault;
 use buck_apt::AptFault;
+use buck_fleet::CloseFault;
 use buck_journal::{JournalFault, ReplayFault};
 use buck_stem::StmFault;
 use itoa::Buffer;
@@ -225,6 +226,20 @@ fn write_replay_fault<W: io::Write>(writer: &mut W, fault: &ReplayFault) -> Resu
     }
 }
 
+/// Writes the line of a fleet that didn't close well.
+fn write_close_fault<W: io::Write>(writer: &mut W, fault: &CloseFault) -> Result<(), EngineFault>
+    ensures { IsWritten (W.contents writer.old) (W.contents writer.new) (close_line fault.now) result }
+{
+    match fault {
+        CloseFault::Instruction => write_line(writer, b"close fault", &[1]),
+        CloseFault::Calls { harvester, number } => write_line(
+            writer,
+            b"close fault",
+            &[2, u64::from(*harvester), u64::from(*number)],
+        ),
+    }
+}
+
 /// Writes the line of a fault.
 fn write_fault_line<W: io::Write>(writer: &mut W, fault: &EngineFault) -> Result<(), EngineFault>
     ensures { IsWritten (W.contents writer.old) (W.contents writer.new) (fault_line fault.now) result }
@@ -236,6 +251,9 @@ fn write_fault_line<W: io::Write>(writer: &mut W, fault: &EngineFault) -> Result
         EngineFault::Stm { file, fault } => write_stm_fault(writer, *file, fault),
         EngineFault::Journal(fault) => write_journal_fault(writer, fault),
         EngineFault::Replay(fault) => write_replay_fault(writer, fault),
+        EngineFault::Seats => write_text(writer, b"seats\n"),
+        EngineFault::Full => write_text(writer, b"full\n"),
+        EngineFault::Close(fault) => write_close_fault(writer, fault),
         EngineFault::Memory => write_text(writer, b"memory\n"),
     }
 }

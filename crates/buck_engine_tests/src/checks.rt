@@ -1,7 +1,7 @@
 //! Checks of journals.
 use crate::helpers::{Run, check};
 use buck_apt::AptFault;
-use buck_engine::EngineFault;
+use buck_engine::{EngineFault, status, write_fault};
 use buck_journal::{JournalFault, ReplayFault};
 use buck_samples::{edited, saw_text, two_stem_journal};
 use std::test::Fail;
@@ -34,6 +34,15 @@ fn unlawful_journals(rt: HostRuntime) -> Result<(), Fail> {
         ),
         ("981 1 1 2 1", "981 1 1 2 0", ReplayFault::Version { at: 1 }),
         (
+            "971 1 600 750 900",
+            "971 1 600 750 901",
+            ReplayFault::Price {
+                version: 1,
+                class: 2,
+            },
+        ),
+        ("0 3000 0~", "100 4000 0~", ReplayFault::Cutting { at: 1 }),
+        (
             "971 1 600 750 300 400~",
             "",
             ReplayFault::Sheet { version: 2 },
@@ -46,6 +55,35 @@ fn unlawful_journals(rt: HostRuntime) -> Result<(), Fail> {
     ] {
         let run = edited_check(&rt, old, new)?;
         assert!(rt; run.is_refused(EngineFault::Replay(fault)), "{new}");
+    }
+    Ok(())
+}
+
+/// Whether a check of the journal of two stems with a part replaced by another says this line, with this status.
+fn says(rt: &HostRuntime, edit: (&str, &str), line: &str, code: u8) -> Result<bool, Fail> {
+    let run = edited_check(rt, edit.0, edit.1)?;
+    let Err(fault) = run.outcome else {
+        return Ok(false);
+    };
+    let mut told = Vec::new(rt.alloc());
+    let whole = write_fault(&mut told, &fault);
+    Ok(whole && told.as_slice() == line.as_bytes() && status(&fault) == code)
+}
+
+#[test]
+fn lines_of_edited_journals(rt: HostRuntime) -> Result<(), Fail> {
+    let outvalued = ("0 3000 0~\n981 6 132535800", "0 4000 0~\n981 6 78540000");
+    for (edit, line, code) in [
+        (("132535800", "132535801"), "replay fault 6 1\n", 4),
+        (("600 750 900", "600 750 901"), "replay fault 2 1 2\n", 4),
+        (("981 1 1 2 1", "981 1 1 3 1"), "replay fault 3 1\n", 4),
+        (("981 1 1 2 1", "981 1 1 2 0"), "replay fault 4 1\n", 4),
+        (("0 3000 0~", "100 4000 0~"), "replay fault 5 1\n", 4),
+        (("971 1 600 750 300 400~", ""), "replay fault 1 2\n", 4),
+        (outvalued, "replay fault 7 1\n", 4),
+        (("1 2 JRN", "1 2 APT"), "journal fault 2\n", 1),
+    ] {
+        assert!(rt; says(&rt, edit, line, code)?, "{line}");
     }
     Ok(())
 }

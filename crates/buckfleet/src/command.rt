@@ -1,7 +1,7 @@
 //! The command line.
-use buck_engine::Task;
+use buck_engine::{FleetTask, NamedRule, Task};
 use clap::{Arg, ArgAction, ArgMatches, Command, Error};
-use std::alloc::Global;
+use std::alloc::{AllocFailed, Global};
 
 /// What comes out of a run, and how it ends.
 const ENDINGS: &str =
@@ -19,6 +19,25 @@ and the prices move only by the rule. A journal may have at most 67108864 bytes,
 Exit statuses: 0 the journal is lawful, 1 a file is refused, 2 the words of the command line are wrong, 3 memory ran
 out, 4 the journal is not lawful, 5 a file can't be read or the output can't be written. After 1, 3, 4 and 5 one line on
 standard error says what went wrong: see \"Fault lines and exit statuses\" in docs/FORMATS.md.";
+
+/// The same of a fleet.
+const HARVEST: &str =
+    "Harvester k cuts the stems of the k-th stem file, in file order; 1 to 64 stem files. Which harvester commits first
+is open, so that two runs of several harvesters may print two histories. Prints an ENTRY line for each cut, for each
+assortment a CLASS line for each of its classes and its DEGREE, and last a TOTAL line. The journal, which check reads,
+is written first. Each file may have at most 67108864 bytes, and check reads no longer journal.
+
+The input files are opened in the order of the words, and then OUT is made: a file of that name is emptied first, even
+where the run is refused, and even where OUT names one of the input files.
+
+Exit statuses: 0 all was printed, 1 a file is refused, 2 the words of the command line are wrong or there are not 1 to
+64 stem files, 3 memory ran out or there are more than 1000000 stems, 4 the fleet did not close well, 5 a file can't be
+read or the output or OUT can't be written. After 1, 3, 4 and 5 one line on standard error says what went wrong: see
+\"Fault lines and exit statuses\" in docs/FORMATS.md.";
+
+/// What a rule does.
+const RULES: &str =
+    "How prices follow what was cut: steady not at all, linear by how far a class is off its target, step by the whole span";
 
 fn file<'a>(alloc: Global, name: &'a str, help: &'a str) -> Arg<'a> {
     Arg::new(alloc, name)
@@ -49,6 +68,36 @@ fn check<'a>(alloc: Global) -> Result<Command<'a>, Error> {
     )
 }
 
+fn rule<'a>(alloc: Global) -> Arg<'a> {
+    Arg::new(alloc, "rule")
+        .long("rule")
+        .value_name("RULE")
+        .value_parser(["steady", "linear", "step"].as_slice())
+        .default_value("steady")
+        .help(RULES)
+}
+
+fn journal<'a>(alloc: Global) -> Arg<'a> {
+    Arg::new(alloc, "journal")
+        .long("journal")
+        .value_name("OUT")
+        .help("The file that the journal is written into")
+}
+
+fn fleet<'a>(alloc: Global) -> Result<Command<'a>, Error> {
+    Ok(
+        Command::new(alloc, "fleet")
+            .about(
+                "Cuts stem files by a fleet of harvesters, one for each file, towards the targets of an instruction",
+            )
+            .after_help(HARVEST)
+            .arg(rule(alloc))?
+            .arg(journal(alloc))?
+            .arg(file(alloc, "APT", "The instruction file"))?
+            .arg(file(alloc, "STM", "The stem files, one for each harvester").num_args(1..))?,
+    )
+}
+
 fn command<'a>(alloc: Global) -> Result<Command<'a>, Error> {
     Ok(
         Command::new(alloc, "buckfleet")
@@ -58,6 +107,7 @@ fn command<'a>(alloc: Global) -> Result<Command<'a>, Error> {
             )
             .after_help(ENDINGS)
             .subcommand(buck(alloc)?)?
+            .subcommand(fleet(alloc)?)?
             .subcommand(check(alloc)?)?,
     )
 }
@@ -69,19 +119,62 @@ fn word<'a>(matches: &ArgMatches<'a>, id: &str) -> &'a str {
     }
 }
 
-/// The task that the program's words ask for, the first of which is the program's name. An error is what is to be
-/// printed in its place: help and the version, or what is wrong with the words.
-pub fn parse<'a>(alloc: Global, words: &'a [String]) -> Result<Task<'a>, Error> {
+/// The rule of this name; without one, and with none of its own, the base prices.
+fn named_rule(name: &str) -> NamedRule {
+    match name {
+        "linear" => NamedRule::Linear,
+        "step" => NamedRule::Step,
+        _ => NamedRule::Steady,
+    }
+}
+
+/// The words that stand for stem files.
+fn stem_files<'a>(
+    alloc: Global,
+    matches: &ArgMatches<'a>,
+) -> Result<Vec<&'a str>, AllocFailed<&'a str>> {
+    let mut names = Vec::new(alloc);
+    let Some(words) = matches.get_strs("STM") else {
+        return Ok(names);
+    };
+    for word in words {
+        names.push(*word)?;
+    }
+    Ok(names)
+}
+
+/// What the program's words ask for.
+#[derive(Debug, Drop)]
+pub enum Request<'a> {
+    /// A task that waits for nobody.
+    Plain(Task<'a>),
+    /// A fleet, whose harvesters wait for one another.
+    Fleet(FleetTask<'a>),
+}
+
+fn fleet_task<'a>(alloc: Global, words: &ArgMatches<'a>) -> Result<FleetTask<'a>, Error> {
+    Ok(FleetTask {
+        rule: named_rule(word(words, "rule")),
+        journal: words.get_str("journal"),
+        apt: word(words, "APT"),
+        stms: stem_files(alloc, words)?,
+    })
+}
+
+/// What the program's words ask for, the first of which is the program's name. An error is what is to be printed in its
+/// place: help and the version, or what is wrong with the words.
+pub fn parse<'a>(alloc: Global, words: &'a [String]) -> Result<Request<'a>, Error> {
     let matches = command(alloc)?.try_get_matches_from(words)?;
     match matches.subcommand() {
-        None => Ok(Task::Bare),
-        Some(("check", files)) => Ok(Task::Check {
+        None => Ok(Request::Plain(Task::Bare)),
+        Some(("fleet", words)) => Ok(Request::Fleet(fleet_task(alloc, words)?)),
+        Some(("check", files)) => Ok(Request::Plain(Task::Check {
             apt: word(files, "APT"),
             journal: word(files, "JOURNAL"),
-        }),
-        Some((_, files)) => Ok(Task::Buck {
+        })),
+        Some((_, files)) => Ok(Request::Plain(Task::Buck {
             apt: word(files, "APT"),
             stm: word(files, "STM"),
-        }),
+        })),
     }
 }

@@ -1,21 +1,24 @@
 //! `buckfleet`: the best cutting of felled stems into logs, by a bucking instruction.
 //!
 //! `buckfleet buck APT STM` reads an instruction file and a stem file and prints how each stem is to be cut; without
-//! words it reads both from standard input, with a `|` between them. `buckfleet check APT JOURNAL` says whether a journal
-//! is lawful for an instruction. See docs/FORMATS.md for the files, the text, the
-//! fault lines and the exit statuses.
+//! words it reads both from standard input, with a `|` between them. `buckfleet fleet APT STM..` cuts stem files by a
+//! fleet, one harvester for each, and prints its report; `--journal OUT` writes its journal. `buckfleet check APT JOURNAL`
+//! says whether a journal is lawful for an instruction. See docs/FORMATS.md for the files, the texts, the fault lines and
+//! the exit statuses.
 #![tactic(auto)]
 
 mod command;
 #[cfg(test)]
 mod tests;
 
-use buck_engine::{Disk, EngineFault, conclude, explain, serve};
+use buck_engine::{Disk, EngineFault, conclude, explain, serve, serve_fleet};
 use clap::Error;
 use clap::error::ErrorKind;
-use command::parse;
+use command::{Request, parse};
 use std::alloc::Global;
 use std::process::ExitCode;
+use std::sync::Wait;
+use std::thread::Threads;
 use std::{env, io};
 
 /// What is said where a word of the command line is no text.
@@ -50,7 +53,9 @@ fn refuse_words<W: io::Write, E: io::Write>(
     explain(output, errors, NO_TEXT, true)
 }
 
-fn run(rt: &HostRuntime, alloc: Global) -> u8 {
+/// Does what the words ask for; `threads` is the same runtime, as the leave to start threads and to wait for them. The
+/// answer is the exit status.
+fn run<T: Threads + Wait + Sync>(threads: &T, rt: &HostRuntime, alloc: Global) -> u8 {
     let mut output = io::writer(rt);
     let mut errors = rt.stderr();
     let args = match env::args(rt) {
@@ -61,10 +66,18 @@ fn run(rt: &HostRuntime, alloc: Global) -> u8 {
         return conclude(&mut errors, &Err(EngineFault::Memory));
     };
     match parse(alloc, words.as_slice()) {
-        Ok(task) => serve(
+        Ok(Request::Plain(task)) => serve(
             alloc,
             &task,
             &mut rt.reader(),
+            &mut Disk::of(rt),
+            &mut output,
+            &mut errors,
+        ),
+        Ok(Request::Fleet(task)) => serve_fleet(
+            threads,
+            alloc,
+            &task,
             &mut Disk::of(rt),
             &mut output,
             &mut errors,
@@ -75,5 +88,5 @@ fn run(rt: &HostRuntime, alloc: Global) -> u8 {
 
 fn main(rt: HostRuntime) -> ExitCode {
     let alloc = rt.alloc();
-    ExitCode::from(run(&rt, alloc))
+    ExitCode::from(run(&rt, &rt, alloc))
 }

@@ -1,7 +1,7 @@
 //! What the words of the command line ask for.
-use crate::command::parse;
+use crate::command::{Request, parse};
 use crate::explain_words;
-use buck_engine::Task;
+use buck_engine::{NamedRule, Task};
 use clap::error::ErrorKind;
 use std::test::Fail;
 
@@ -41,7 +41,7 @@ fn ending(rt: &HostRuntime, line: &str) -> Result<(u8, bool, bool), Fail> {
 #[test]
 fn two_files(rt: HostRuntime) -> Result<(), Fail> {
     let all = words(&rt, "buck pine.apt pine.stm")?;
-    let Ok(Task::Buck { apt, stm }) = parse(rt.alloc(), all.as_slice()) else {
+    let Ok(Request::Plain(Task::Buck { apt, stm })) = parse(rt.alloc(), all.as_slice()) else {
         return Err(Fail::from("not the command"));
     };
     assert_eq!(rt; apt, "pine.apt");
@@ -49,10 +49,42 @@ fn two_files(rt: HostRuntime) -> Result<(), Fail> {
     Ok(())
 }
 
+/// Whether the words ask for a fleet with this rule, a journal of this name, if any, and these stem files.
+fn asks(
+    rt: &HostRuntime,
+    line: &str,
+    rule: NamedRule,
+    journal: Option<&str>,
+    stms: &[&str],
+) -> Result<bool, Fail> {
+    let all = words(rt, line)?;
+    let Ok(Request::Fleet(task)) = parse(rt.alloc(), all.as_slice()) else {
+        return Ok(false);
+    };
+    let same = task.rule == rule && task.journal == journal && task.apt == "pine.apt";
+    Ok(same && task.stms.as_slice() == stms)
+}
+
+#[test]
+fn fleets(rt: HostRuntime) -> Result<(), Fail> {
+    let steady = NamedRule::Steady;
+    assert!(rt; asks(&rt, "fleet pine.apt a.stm", steady, None, &["a.stm"])?);
+    let line = "fleet --rule linear pine.apt a.stm b.stm";
+    assert!(rt; asks(&rt, line, NamedRule::Linear, None, &["a.stm", "b.stm"])?);
+    let line = "fleet --rule=step --journal out.jrn pine.apt a.stm";
+    assert!(rt; asks(&rt, line, NamedRule::Step, Some("out.jrn"), &["a.stm"])?);
+    Ok(())
+}
+
 #[test]
 fn no_words(rt: HostRuntime) -> Result<(), Fail> {
     let all = words(&rt, "")?;
-    assert!(rt; matches!(parse(rt.alloc(), all.as_slice()), Ok(Task::Bare)));
+    assert!(rt;
+        matches!(
+            parse(rt.alloc(), all.as_slice()),
+            Ok(Request::Plain(Task::Bare))
+        )
+    );
     Ok(())
 }
 
@@ -66,6 +98,10 @@ fn usage_faults(rt: HostRuntime) -> Result<(), Fail> {
         ("buck pine.apt", missing),
         ("buck pine.apt pine.stm more", unknown),
         ("buck --fast pine.apt pine.stm", unknown),
+        ("fleet", missing),
+        ("fleet pine.apt", missing),
+        ("fleet --rule fast pine.apt a.stm", ErrorKind::InvalidValue),
+        ("check pine.apt", missing),
     ] {
         assert!(rt; refusal(&rt, line)? == Some(kind), "{line}");
         assert!(rt; ending(&rt, line)? == (2, false, true), "{line}");
@@ -78,6 +114,7 @@ fn help_and_version(rt: HostRuntime) -> Result<(), Fail> {
     for (line, kind) in [
         ("--help", ErrorKind::DisplayHelp),
         ("buck --help", ErrorKind::DisplayHelp),
+        ("fleet --help", ErrorKind::DisplayHelp),
         ("--version", ErrorKind::DisplayVersion),
     ] {
         assert!(rt; refusal(&rt, line)? == Some(kind), "{line}");

@@ -1,0 +1,76 @@
+-- Stem files that are read one after the other.
+use Rattle.std.proofs.Common.{◌≡◌, ℕ, zero, suc, ◌+◌, ◌<◌, ◌⊎◌, inl, inr, List, [], ◌∷◌, ◌++◌, length, map, drop, get_or, set, Option, Some, None, Result, Ok, Err, IfSome, IsOk, refl, sym, ap, subst, ◌∙◌, arith, length-append}
+use Rattle.std.specs.Result.{IfErr, IsErrAnd}
+use Rattle.std.specs.declared.sync.Arc.{Arc}
+use Rattle.std.specs.declared.vec.Vec.{Vec}
+use Rattle.std.specs.declared.alloc.Global.{Global}
+use Rattle.std.specs.Prelude.{slice_index_or}
+use Rattle.std.proofs.lemmas.List.{drop-set-lt, get_or-drop, get_or-map, map-append}
+use Rattle.std.proofs.lemmas.Grind.{drop_more_same}
+use Rattle.std.proofs.Math.Seq.{get_or-append_seam}
+use Rattle.buck_stem.specs.Stem.{StemParts}
+use Rattle.buck_stem.specs.declared.stem.Stem.{Stem}
+use Rattle.buck_stem.specs.declared.fault.StmFault.{StmFault}
+use Rattle.buck_stem.specs.Stm.{stm_of}
+use Rattle.buck_fleet.specs.Run.{stems_of, stems_at}
+use Rattle.buck_engine.specs.declared.fault.EngineFault.{EngineFault}
+use Rattle.buck_engine.specs.declared.fault.EngineFault.TheVariants.{Memory}
+use Rattle.buck_engine.specs.inner.Fleet.{AreListsOf, IsListRefusal, IsStemRefusal}
+
+-- what stands at a place of what is left as it was
+pub same_place : {A : Type 0} (f : A → Option (List ℕ)) (now old : List A) (k : ℕ) (x : A) → k < length old → drop k now ≡ drop k old → f (get_or now k x) ≡ get_or (map f old) k None
+same_place f now old k x lt same =
+    let none : k + 0 ≡ k = omega arith in
+    let a : get_or now k x ≡ get_or (drop k now) 0 x = sym (get_or-drop k now 0 x ∙ ap (λ (n : ℕ). get_or now n x) none) in
+    let b : get_or (drop k old) 0 x ≡ get_or old k x = get_or-drop k old 0 x ∙ ap (λ (n : ℕ). get_or old n x) none in
+    let there : get_or now k x ≡ get_or old k x = a ∙ ap (λ (l : List _). get_or l 0 x) same ∙ b in
+    ap f there ∙ sym (get_or-map f old k x None lt)
+
+-- and of the places after it, where it is replaced
+pub same_rest : {A : Type 0} (now old : List A) (k : ℕ) (y : A) → drop k now ≡ drop k old → drop (k + 1) (set now k y) ≡ drop (k + 1) old
+same_rest now old k y same = drop-set-lt (k + 1) now k y (omega arith) ∙ drop_more_same now old k same
+
+-- the stems of a list before the last, and of the last
+stems_before : (lists : List (Vec (Arc Stem Global) Global)) (list : Vec (Arc Stem Global) Global) (j : ℕ) → j < length lists → stems_at (lists ++ list ∷ []) j ≡ stems_at lists j
+stems_before [] list j lt = absurd (omega (arith, lt))
+stems_before (x ∷ xs) list zero lt = refl
+stems_before (x ∷ xs) list (suc j) lt = stems_before xs list j (omega (arith, lt))
+
+stems_last : (lists : List (Vec (Arc Stem Global) Global)) (list : Vec (Arc Stem Global) Global) → stems_at (lists ++ list ∷ []) (length lists) ≡ stems_of list.items
+stems_last [] list = refl
+stems_last (x ∷ xs) list = stems_last xs list
+
+before_or_last : (j k : ℕ) → j < k + 1 → (j < k) ⊎ (j ≡ k)
+before_or_last j k lt = grind (arith, lt)
+
+-- one list more
+pub lists_more : (k : ℕ) (stms : List (Option (List ℕ))) (lists new : List (Vec (Arc Stem Global) Global)) (list : Vec (Arc Stem Global) Global)
+    → length lists ≡ k → new ≡ lists ++ list ∷ [] → AreListsOf k stms lists → IfSome (slice_index_or stms k None) (λ bytes. stm_of bytes ≡ Ok (stems_of list.items)) → AreListsOf (k + 1) stms new
+lists_more k stms lists new list long is made one j lt = elim (before_or_last j k lt) [
+  | inl less ↦ (
+      let same : stems_at new j ≡ stems_at lists j = ap (λ (l : List (Vec (Arc Stem Global) Global)). stems_at l j) is ∙ stems_before lists list j (omega (arith, less, long)) in
+      subst (λ (stems : List StemParts). IfSome (slice_index_or stms j None) (λ bytes. stm_of bytes ≡ Ok stems)) (sym same) (made j less))
+  | inr last ↦ (
+      let same : stems_at new k ≡ stems_of list.items = ap (λ (l : List (Vec (Arc Stem Global) Global)). stems_at l k) is ∙ ap (λ (n : ℕ). stems_at (lists ++ list ∷ []) n) (sym long) ∙ stems_last lists list in
+      subst (λ (n : ℕ). IfSome (slice_index_or stms n None) (λ bytes. stm_of bytes ≡ Ok (stems_at new n))) (sym last)
+      (subst (λ (stems : List StemParts). IfSome (slice_index_or stms k None) (λ bytes. stm_of bytes ≡ Ok stems)) (sym same) one))
+]
+
+is_accepted : (known : Option (List ℕ)) (stems : List StemParts) → IfSome known (λ bytes. stm_of bytes ≡ Ok stems) → IfSome known (λ bytes. IsOk (stm_of bytes))
+is_accepted None stems are = tt
+is_accepted (Some bytes) stems are = rw are refl
+
+-- the files whose stems are there were accepted
+pub accepted : (k : ℕ) (stms : List (Option (List ℕ))) (lists : List (Vec (Arc Stem Global) Global)) → AreListsOf k stms lists → (j : ℕ) → j < k → IfSome (slice_index_or stms j None) (λ bytes. IsOk (stm_of bytes))
+accepted k stms lists made j lt = is_accepted (slice_index_or stms j None) (stems_at lists j) (made j lt)
+
+-- the file at a place is the first that is refused
+pub refused_at : (k : ℕ) (stms : List (Option (List ℕ))) (lists : List (Vec (Arc Stem Global) Global)) (known : Option (List ℕ)) (e : EngineFault)
+    → k < length stms → AreListsOf k stms lists → known ≡ slice_index_or stms k None → IsStemRefusal (k + 1) known e → IsListRefusal stms e
+refused_at k stms lists known e lt made is refusal = record { place = k; exists = lt; accepted = accepted k stms lists made; refusal = subst (λ (o : Option (List ℕ)). IsStemRefusal (k + 1) o e) is refusal }
+
+-- memory ran out at a place
+pub memory_at : {X : Type 0} (k : ℕ) (stms : List (Option (List ℕ))) (lists : List (Vec (Arc Stem Global) Global)) (r : Result X EngineFault)
+    → k < length stms → AreListsOf k stms lists → IsErrAnd r (λ e. e ≡ Memory) → IfErr r (IsListRefusal stms)
+memory_at k stms lists (Ok x) lt made is = tt
+memory_at k stms lists (Err e) lt made is = subst (IsListRefusal stms) (sym is) (record { place = k; exists = lt; accepted = accepted k stms lists made; refusal = tt })
