@@ -6,5 +6,9 @@ pub mod Lists
 pub mod Marks
 pub mod Offered
 pub mod Values
+pub mod Pushed
+pub mod Logs
+pub mod Blocks
+pub mod Pieces
 pub mod Settled
 pub mod Untrimmed

@@ -1,11 +1,9 @@
 -- What the logs of one point offer to its value.
-use Rattle.std.proofs.Common.{◌≡◌, ℕ, ◌+◌, ◌*◌, ◌/◌, ◌%◌, ◌<◌, ◌≤◌, inl, inr, List, [], ◌∷◌, length, slice_index, sum_by, sym, subst, refl, arith, add-mul, mul-le-mul_right}
+use Rattle.std.proofs.Common.{◌≡◌, ℕ, ◌+◌, ◌*◌, ◌/◌, ◌<◌, ◌≤◌, inl, inr, List, [], ◌∷◌, slice_index, sum_by, sym, subst, refl, arith, mul-le-mul_right}
 use Rattle.std.proofs.lemmas.Bool.{cases_lt}
-use Rattle.std.proofs.lemmas.Option.{slice_get_within, get_or_from_slice_get}
-use Rattle.std.proofs.lemmas.List.Elements.{All-get_or, All-contains}
 use Rattle.std.proofs.lemmas.List.Sums.{sum_by-cons}
-use Rattle.buck_apt.specs.Instruction.{InstructionParts, IsInstruction, IsOnModule}
-use Rattle.buck_stem.specs.Stem.{StemParts, stem_length}
+use Rattle.buck_apt.specs.Instruction.{InstructionParts, IsInstruction}
+use Rattle.buck_stem.specs.Stem.{stem_length}
 use Rattle.buck_value.specs.declared.log.Log.{Log}
 use Rattle.buck_value.specs.Sheet.{IsSheet}
 use Rattle.buck_value.specs.Allowed.{IsAllowed, worth_of, end_of}

@@ -3,6 +3,8 @@
 
 mod cutting;
 pub mod laws;
+mod offering;
+mod settling;
 mod table;
 
 pub use buck_record::Memory;

@@ -18,4 +18,7 @@ pub use log::Log;
 pub use prepared::Prepared;
 pub use sheet::Sheet;
 pub use tables::{Tables, room_of};
-pub use worth::{class_of, log_worth, worth_if_allowed, worth_in_class};
+pub use worth::{
+    class_of, column_of, log_worth, row_of, volume_of, worth_if_allowed, worth_in_class,
+    worth_of_piece,
+};

@@ -17,7 +17,7 @@ use buck_apt::{Assortment, Class};
 use buck_stem::Stem;
 
 /// The volume in cm³ of a cylinder, rounded down, from its diameter and its length in mm. A quarter of pi is 0.7854.
-pub(crate) fn volume_of(diameter: u32, length: u32) -> u64
+pub fn volume_of(diameter: u32, length: u32) -> u64
     requires diameter { diameter ≤ 2000 }
     requires length { length ≤ 30000 }
     ensures value { result ≡ volume diameter length }
@@ -29,7 +29,7 @@ pub(crate) fn volume_of(diameter: u32, length: u32) -> u64
 }
 
 /// The worth of a piece in millionths of the price unit, by its price kind, its price and its volume in cm³.
-pub(crate) fn worth_of_piece(kind: u8, price: u32, cubic: u64) -> u64
+pub fn worth_of_piece(kind: u8, price: u32, cubic: u64) -> u64
     requires price { price ≤ 20000000 }
     requires cubic { cubic ≤ 100000000 }
     ensures { result ≡ worth_at kind price cubic }
@@ -43,7 +43,7 @@ pub(crate) fn worth_of_piece(kind: u8, price: u32, cubic: u64) -> u64
 
 /// The row of a top diameter: the limits rise, so it is how many are at most it, less one.
 #[tactic(auto, using(crate::proofs::Rows::row_counted))]
-pub(crate) fn row_of(assortment: &Assortment, diameter: u32) -> usize
+pub fn row_of(assortment: &Assortment, diameter: u32) -> usize
     ensures row { result ≡ row_at assortment.now diameter }
     ensures within { result < length assortment.now.diameters }
 {
@@ -56,7 +56,7 @@ pub(crate) fn row_of(assortment: &Assortment, diameter: u32) -> usize
 }
 
 /// The column of a length, if the assortment has it.
-fn column_of(assortment: &Assortment, length: u32) -> Option<usize>
+pub fn column_of(assortment: &Assortment, length: u32) -> Option<usize>
     ensures { result ≡ position (λ x. x == length) assortment.now.lengths }
 {
     assortment.lengths().iter().position(|l| *l == length)

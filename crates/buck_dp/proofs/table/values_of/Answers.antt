@@ -1,4 +1,4 @@
-use Rattle.std.proofs.Common.{◌≡◌, ◌+◌, ◌-◌, ◌<◌, ◌∙◌, ℕ, slice_index, arith, subst}
+use Rattle.std.proofs.Common.{◌≡◌, ◌+◌, ◌-◌, ◌∙◌, ℕ, slice_index, arith, subst}
 use Rattle.buck_value.specs.Prepared.{PreparedParts, ends_of}
 use Rattle.buck_value.specs.Relaxed.{IsRelaxed, unmarked}
 use Rattle.buck_dp.specs.inner.Values.{AreValuesFrom}

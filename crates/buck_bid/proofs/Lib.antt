@@ -1,0 +1,6 @@
+pub mod ListLemmas
+pub mod LimitLemmas
+pub mod Worths
+pub mod Priced
+pub mod ColumnLemmas
+pub mod TableLemmas

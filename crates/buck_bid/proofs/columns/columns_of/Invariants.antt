@@ -1,0 +1,17 @@
+use Rattle.std.proofs.Common.{◌≡◌, ◌-◌, ◌≤◌, length}
+use Rattle.buck_bid.specs.Offers.{codes_in}
+use Rattle.buck_bid.specs.Columns.{AreColumns, AreReached, IsApart}
+use Rattle.buck_bid.proofs.columns.columns_of.Given as goal
+
+abbrev pub invariant-loop-from : goal.invariant-loop-from
+invariant-loop-from l = record {
+  number : length l.column.items ≡ l.width;
+  reached : length l.reached.items ≡ l.width;
+  within : l.from ≤ length l.offers;
+  best : AreReached l.width l.steps.items l.bids.items l.reached.items;
+  apart : IsApart (codes_in l.offers) l.from;
+  columns : AreColumns l.sheet (codes_in l.offers) l.takers l.band.thinnest l.width l.from l.steps.items l.bids.items;
+}
+
+abbrev pub decreases-loop-from : goal.decreases-loop-from
+decreases-loop-from l = length l.offers - l.from

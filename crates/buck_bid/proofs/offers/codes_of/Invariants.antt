@@ -1,0 +1,12 @@
+use Rattle.std.proofs.Common.{◌≡◌, ℕ, ◌*◌, ◌<◌, ◌≤◌, All, Contains, length, slice_get, Some}
+use Rattle.buck_apt.specs.Instruction.{AssortmentParts}
+use Rattle.buck_bid.specs.Offers.{code_of, IsWhole}
+use Rattle.buck_bid.proofs.offers.codes_of.Given as goal
+
+abbrev pub invariant-loop-place : goal.invariant-loop-place
+invariant-loop-place l = record {
+  few : length l.codes.items ≤ 32 * l.place;
+  whole : (a : ℕ) (x : AssortmentParts) (n : ℕ) → a < l.place → slice_get l.instruction.assortments a ≡ Some x
+      → Contains x.lengths n → Contains l.codes.items (code_of n a);
+  steps : All (λ c. IsWhole l.instruction.«module» c) l.codes.items;
+}

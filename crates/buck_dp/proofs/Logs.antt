@@ -1,0 +1,260 @@
+-- Logs of a stem as bids of columns, and the other way.
+use Rattle.std.proofs.Common.{◌≡◌, ℕ, zero, suc, [], ◌∷◌, get_or, ◌+◌, ◌-◌, ◌*◌, ◌/◌, ◌%◌, ◌<◌, ◌≤◌, ◌↔◌, inl, inr, List, Contains, Option, Some, None, length, slice_get, slice_index, refl, sym, subst, ap, ◌∙◌, arith, add-mul, mul-le-mul_right}
+use Rattle.std.proofs.lemmas.Bool.{cases_lt}
+use Rattle.std.proofs.lemmas.Option.{same_Some}
+use Rattle.std.proofs.Math.Nat.{mul-mod_left, div-mul-le_self, mul-add-div_right, lt-div-mul-add}
+use Rattle.buck_apt.specs.Instruction.{AssortmentParts}
+use Rattle.buck_stem.specs.Stem.{StemParts, HasGradesOf, stem_length, diameter_at}
+use Rattle.buck_value.specs.declared.log.Log.{Log}
+use Rattle.buck_value.specs.Sheet.{SheetParts, IsSheet, price_of}
+use Rattle.buck_value.specs.Volume.{volume, worth_at}
+use Rattle.buck_value.specs.Allowed.{IsAllowed, log_of, top_of, end_of, trim_in, trim_of, top_diameter, class_in, kind_in, worth_of}
+use Rattle.buck_value.specs.Prepared.{PreparedParts, points_of, ends_of, point_after}
+use Rattle.buck_value.specs.Codes.{AreCodes, AreTrims, code_of}
+use Rattle.buck_dp.proofs.Marks.{assortment_low}
+use Rattle.std.proofs.lemmas.List.{get_or_default}
+use Rattle.buck_value.specs.Relaxed.{IsBid, IsFromTo}
+use Rattle.buck_value.proofs.CodesLemmas.{on_module, whole_steps, one_step}
+use Rattle.buck_value.proofs.Classes.{allowed_low}
+use Rattle.buck_bid.specs.Quotes.{class_for, worth_for, IsQuote}
+use Rattle.buck_dp.specs.inner.Settled.{IsLogBid}
+use Rattle.buck_dp.proofs.Places.{after_within}
+use Rattle.buck_dp.proofs.Bounds.{end_within}
+
+same_class : (x : Option AssortmentParts) (stem : StemParts) (g : Log) → class_in x stem g ≡ class_for x g.assortment g.length (top_diameter stem g)
+same_class None stem g = refl
+same_class (Some x) stem g = refl
+
+-- a log is worth what any log of its assortment, length and top diameter is
+same_worth : (s : SheetParts) (stem : StemParts) (g : Log) → worth_of s stem g ≡ worth_for s g.assortment g.length (top_diameter stem g)
+unfolding worth_of
+same_worth s stem g =
+    ap (λ c. worth_at (kind_in (slice_get s.instruction.assortments g.assortment)) (price_of s c) (volume (top_diameter stem g) g.length))
+    (same_class (slice_get s.instruction.assortments g.assortment) stem g)
+
+-- a point lies within the stem
+pub point_within : (m j length : ℕ) → j < length / m + 1 → j * m ≤ length
+point_within m j length lt = (let le : j * m ≤ length / m * m = mul-le-mul_right m (omega arith) in omega (arith, div-mul-le_self length m))
+
+-- what lies within the stem is a point
+pub point_there : (m j length : ℕ) → 0 < m → j * m ≤ length → j < length / m + 1
+point_there m j length pos le = elim (cases_lt j (length / m + 1)) [
+  | inl lt ↦ lt
+  | inr past ↦ absurd (
+      let far : (length / m + 1) * m ≤ j * m = mul-le-mul_right m past in
+      let t : length < length / m * m + m = lt-div-mul-add pos in
+      omega (arith, add-mul (length / m) 1 m)
+      )
+]
+
+-- the point after a trim behind a point
+pub after_trim : (m j trim : ℕ) → 0 < m → point_after m (j * m + trim) ≡ j + point_after m trim
+after_trim m j trim pos =
+    ap (λ n. n / m) (let e : j * m + trim + (m - 1) ≡ j * m + (trim + (m - 1)) = omega arith in e) ∙ mul-add-div_right pos j (trim + (m - 1))
+
+-- an assortment takes the wood of a stem from a place to another, with a trim
+pub record Takes (s : SheetParts) (stem : StemParts) (from to trim a : ℕ) : Type 0 where
+  pub assortment : AssortmentParts
+  pub exists : slice_get s.instruction.assortments a ≡ Some assortment
+  pub species : assortment.species ≡ stem.species
+  pub grades : HasGradesOf stem.zones from to assortment.grades
+  pub own : assortment.trim ≡ trim
+
+module _ (p : PreparedParts) (valid : IsSheet p.sheet) where
+  -- the module
+  abbrev unit : ℕ
+  unit = p.sheet.instruction.«module»
+
+  pos : 0 < unit
+  pos = omega (arith, valid.valid.module_range)
+
+  -- a log from point to point is told by its bid
+  pub log_bid : (i e bid : ℕ) (g : Log) → IsFromTo p i e g → IsBid p g bid → e < ends_of p
+      → (j : ℕ) × (trim : ℕ) × IsLogBid p i j e trim bid
+  log_bid i e bid g between brings ends =
+      let a = brings.allowed in
+      let n : ℕ = g.length / unit in
+      let on : g.length % unit ≡ 0 = on_module p.sheet.instruction g.assortment a.assortment g.length valid.valid a.exists a.allows.length_offered in
+      let low = allowed_low p.sheet.instruction p.stem g valid.valid a in
+      let whole : n * unit ≡ g.length = whole_steps g.length unit on in
+      let some : 0 < n = one_step g.length unit (omega (arith, low.0)) on in
+      let top : top_of g ≡ (i + n) * unit = omega (arith, between.start, whole, add-mul i n unit) in (
+        i + n,
+        trim_of p.sheet.instruction g,
+        record {
+          log = g;
+          between = between;
+          top = top;
+          own = refl;
+          brings = brings;
+          later = omega arith;
+          within = point_there unit (i + n) (stem_length p.stem.samples) pos (omega (arith, top, a.allows.within));
+          ends = ends;
+        },
+      )
+
+  -- where the point after a log lies
+  pub after_is : (i j e trim bid : ℕ) → IsLogBid p i j e trim bid → e ≡ j + point_after unit trim
+  after_is i j e trim bid b =
+      sym b.between.ends ∙ ap (λ n. point_after unit (n + trim_of p.sheet.instruction b.log)) b.top ∙ ap (λ n. point_after unit (j * unit + n)) b.own ∙ after_trim unit j trim pos
+
+  -- the trim of an allowed log is that of its assortment
+  own_trim : (g : Log) → (a : IsAllowed p.sheet.instruction p.stem g) → trim_of p.sheet.instruction g ≡ a.assortment.trim
+  own_trim g a = ap trim_in a.exists
+
+  -- an allowed log is of an assortment that takes its wood
+  pub log_takes : (i j e trim bid : ℕ) → (b : IsLogBid p i j e trim bid) → Takes p.sheet p.stem (i * unit) (j * unit) trim b.log.assortment
+  log_takes i j e trim bid b =
+      let a = b.brings.allowed in
+      record {
+        assortment = a.assortment;
+        exists = a.exists;
+        species = a.allows.species;
+        grades = rw (← b.between.start, ← b.top) a.allows.grades;
+        own = sym (own_trim b.log a) ∙ b.own;
+      }
+
+  -- an assortment that takes some wood takes a part of it
+  pub takes_less : (i k j trim a : ℕ) → i ≤ k → Takes p.sheet p.stem (i * unit) (j * unit) trim a → Takes p.sheet p.stem (k * unit) (j * unit) trim a
+  takes_less i k j trim a le takes = record {
+    assortment = takes.assortment;
+    exists = takes.exists;
+    species = takes.species;
+    grades = λ x low high.
+        let more : i * unit ≤ k * unit = mul-le-mul_right unit le in
+        takes.grades x (omega arith) high;
+    own = takes.own;
+  }
+
+  module _ (diameters : List ℕ)
+      (known : (j : ℕ) → j < points_of p → slice_index diameters j ≡ diameter_at p.stem.samples (j * unit)) where
+    -- the bid of a log is one of its assortment for its length and its top diameter
+    pub log_quote : (i j e trim bid : ℕ) → (b : IsLogBid p i j e trim bid)
+        → IsQuote p.sheet p.codes b.log.assortment ((j - i) * unit) (slice_index diameters j) bid
+    log_quote i j e trim bid b =
+        let a = b.brings.allowed in
+        let parts : (i + (j - i)) * unit ≡ i * unit + (j - i) * unit = add-mul i (j - i) unit in
+        let whole : i + (j - i) ≡ j = omega (arith, b.later) in
+        let both : j * unit ≡ i * unit + (j - i) * unit = rw whole at parts in
+        let l : b.log.length ≡ (j - i) * unit = omega (arith, b.between.start, b.top, both) in
+        let d : top_diameter p.stem b.log ≡ slice_index diameters j =
+        ap (λ x. diameter_at p.stem.samples x) b.top ∙ sym (known j b.within) in
+        subst (λ (n : ℕ). IsQuote p.sheet p.codes b.log.assortment n (slice_index diameters j) bid) l
+        (subst (λ (n : ℕ). IsQuote p.sheet p.codes b.log.assortment b.log.length n bid) d
+        (record {
+          at = record {
+            assortment = a.assortment;
+            exists = a.exists;
+            priced = record {
+              offered = a.allows.length_offered;
+              thick_enough = a.allows.thick_enough;
+              thin_enough = a.allows.thin_enough;
+              priced = a.allows.priced;
+            };
+          };
+          mark = b.brings.mark;
+          marked = record { high = b.brings.marked.high; at = b.brings.marked.at };
+          is = b.brings.is ∙ ap (λ w. w * 1024 + b.brings.mark) (same_worth p.sheet p.stem b.log);
+        }))
+
+    -- a bid of an assortment that takes the wood is that of an allowed log
+    pub quote_log : (i j a bid steps trim : ℕ) → i < j → j * unit + trim ≤ stem_length p.stem.samples → i + steps ≡ j
+        → Takes p.sheet p.stem (i * unit) (j * unit) trim a
+        → IsQuote p.sheet p.codes a (steps * unit) (slice_index diameters j) bid
+        → IsLogBid p i j (j + point_after unit trim) trim bid
+    quote_log i j a bid steps trim lt fits e takes quote =
+        let g : Log = log_of (i * unit) (steps * unit) a in
+        let top : top_of g ≡ j * unit = sym (add-mul i steps unit) ∙ ap (λ n. n * unit) e in
+        let in_stem : j < points_of p = point_there unit j (stem_length p.stem.samples) pos (omega arith) in
+        let d : slice_index diameters j ≡ top_diameter p.stem g = known j in_stem ∙ ap (λ x. diameter_at p.stem.samples x) (sym top) in
+        let q : IsQuote p.sheet p.codes a (steps * unit) (top_diameter p.stem g) bid =
+        subst (λ (n : ℕ). IsQuote p.sheet p.codes a (steps * unit) n bid) d quote in
+        let same : takes.assortment ≡ q.at.assortment = same_Some takes.assortment q.at.assortment (sym takes.exists ∙ q.at.exists) in
+        let own : q.at.assortment.trim ≡ trim = ap (λ (x : AssortmentParts). x.trim) (sym same) ∙ takes.own in
+        let allowed : IsAllowed p.sheet.instruction p.stem g = record {
+          assortment = q.at.assortment;
+          exists = q.at.exists;
+          allows = record {
+            species = ap (λ (x : AssortmentParts). x.species) (sym same) ∙ takes.species;
+            on_module = mul-mod_left i unit;
+            length_offered = q.at.priced.offered;
+            within = omega (arith, top, own, fits);
+            grades = subst (λ (x : AssortmentParts). HasGradesOf p.stem.zones (i * unit) (top_of g) x.grades) same
+                (subst (λ (x : ℕ). HasGradesOf p.stem.zones (i * unit) x takes.assortment.grades) (sym top) takes.grades);
+            thick_enough = q.at.priced.thick_enough;
+            thin_enough = q.at.priced.thin_enough;
+            priced = q.at.priced.priced;
+          };
+        } in
+        let trims : trim_of p.sheet.instruction g ≡ trim = own_trim g allowed ∙ own in
+        let after : point_after unit (end_of p.sheet.instruction g) ≡ j + point_after unit trim =
+        ap (λ n. point_after unit (n + trim_of p.sheet.instruction g)) top ∙ ap (λ n. point_after unit (j * unit + n)) trims ∙ after_trim unit j trim pos in
+        record {
+          log = g;
+          between = record { start = refl; ends = after };
+          top = top;
+          own = trims;
+          brings = record {
+            allowed = allowed;
+            mark = q.mark;
+            marked = record { high = q.marked.high; at = q.marked.at };
+            is = q.is ∙ ap (λ w. w * 1024 + q.mark) (sym (same_worth p.sheet p.stem g));
+          };
+          later = lt;
+          within = in_stem;
+          ends = rw (← after) (after_within unit (stem_length p.stem.samples) (end_of p.sheet.instruction g) pos (end_within p.sheet.instruction p.stem g allowed));
+        }
+
+-- an allowed log lies within its stem with its trim
+pub log_fits : (p : PreparedParts) (i j e trim bid : ℕ) → IsLogBid p i j e trim bid → j * p.sheet.instruction.«module» + trim ≤ stem_length p.stem.samples
+log_fits p i j e trim bid b =
+    let a = b.brings.allowed in
+    let own : a.assortment.trim ≡ trim = sym (ap trim_in a.exists) ∙ b.own in
+    omega (arith, b.top, own, a.allows.within)
+
+-- how many points there are from which a trim lies within a length
+pub points_fit : (m length trim j : ℕ) → 0 < m → trim ≤ length → (j < (length - trim) / m + 1) ↔ (j * m + trim ≤ length)
+points_fit m length trim j pos le = (
+  λ lt. (let p = point_within m j (length - trim) lt in omega arith),
+  λ fits. point_there m j (length - trim) pos (omega arith),
+)
+
+-- the one element of a list
+pub only_trim : (y l : ℕ) → Contains (y ∷ []) l → y ≡ l
+only_trim y l has = at has.0 has.1 has.2
+  where
+    at : (k : ℕ) → k < length (y ∷ []) → get_or (y ∷ []) k l ≡ l → y ≡ l
+    at zero lt is = is
+    at (suc k) lt is = absurd (omega arith)
+
+-- the trim of a log is among those of the instruction
+pub log_trim : (p : PreparedParts) (i j e trim bid : ℕ) (trims : List ℕ) → AreTrims p.sheet.instruction trims → IsLogBid p i j e trim bid → Contains trims trim
+log_trim p i j e trim bid trims are b =
+    let a = b.brings.allowed in
+    let own : a.assortment.trim ≡ trim = sym (ap trim_in a.exists) ∙ b.own in
+    subst (λ t. Contains trims t) own (are.whole b.log.assortment a.assortment a.exists)
+
+-- nothing is in an empty list
+pub none_in : (x : ℕ) → Contains [] x → ⊥
+none_in x has = (let lt : has.0 < 0 = has.1 in absurd (omega arith))
+
+-- no log is shorter than so many steps, where no offer is
+pub logs_long : (p : PreparedParts) (steps : ℕ) → IsSheet p.sheet → AreCodes p.sheet.instruction p.codes
+    → ((k : ℕ) → k < length p.codes → steps * p.sheet.instruction.«module» ≤ slice_index p.codes k / 16)
+    → (i j e trim bid : ℕ) → IsLogBid p i j e trim bid → i + steps ≤ j
+logs_long p steps v are least i j e trim bid b =
+    let a = b.brings.allowed in
+    let m : ℕ = p.sheet.instruction.«module» in
+    let found = are.whole b.log.assortment a.assortment b.log.length a.exists a.allows.length_offered in
+    let low : b.log.assortment < 16 = assortment_low p.sheet.instruction p.stem b.log v.valid a in
+    let code : slice_index p.codes found.0 ≡ code_of b.log.length b.log.assortment =
+    sym (get_or_default p.codes found.0 (code_of b.log.length b.log.assortment) 0 found.1) ∙ found.2 in
+    let l = least found.0 found.1 in
+    let long : b.log.length + i * m ≡ j * m = omega (arith, b.between.start, b.top) in
+    elim (cases_lt j (i + steps)) [
+      | inr le ↦ le
+      | inl less ↦ absurd (
+          let far : (j + 1) * m ≤ (i + steps) * m = mul-le-mul_right m (omega arith) in
+          omega (arith, add-mul j 1 m, add-mul i steps m, v.valid.module_range)
+          )
+    ]

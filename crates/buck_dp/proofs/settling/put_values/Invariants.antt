@@ -1,0 +1,18 @@
+use Rattle.std.proofs.Common.{◌≡◌, ◌≤◌, length}
+use Rattle.buck_bid.specs.Tables.{AreTablesOf}
+use Rattle.buck_dp.specs.inner.Settled.{AreSettled, EndsPast}
+use Rattle.buck_dp.specs.inner.Ground.{ground_of}
+use Rattle.buck_dp.proofs.settling.put_values.Given as goal
+
+abbrev pub decreases-loop-past : goal.decreases-loop-past
+decreases-loop-past l = l.past
+
+abbrev pub invariant-loop-past : goal.invariant-loop-past
+invariant-loop-past l = record {
+  tables : AreTablesOf l.ground.sheet.now l.tables;
+  offers : l.tables.offers.items ≡ l.fn.tables.offers.items;
+  number : length l.values ≡ length l.fn.values;
+  room : length l.bases ≡ length l.fn.bases;
+  high : l.past ≤ length l.fn.values;
+  settled : AreSettled (ground_of l.ground.sheet.now l.ground.stem.now l.fn.tables) l.values l.past (EndsPast 0);
+}
