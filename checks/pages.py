@@ -76,6 +76,15 @@ PROMISES = [
     ),
     ("the report", ["buck_engine.specs.Report:IsReport", "buck_engine.specs.Degree:IsDegree"]),
     (
+        "a fleet over files",
+        [
+            "buck_engine.specs.Fleet:IsFleetRun",
+            "buck_engine.specs.Fleet:IfStopped",
+            "buck_engine.specs.Lent:of_lent",
+            "buck_engine.specs.Served:RunsFleet",
+        ],
+    ),
+    (
         "the world and its runs",
         [
             "buck_world.specs.Step:Step",

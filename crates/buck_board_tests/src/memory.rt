@@ -14,13 +14,13 @@ use std::test::Fail;
 /// So many sheets fill the first room of a list, and part of the second.
 const SOME: u32 = 40;
 
-/// Puts up sheets of the versions from 1 on, and gives how many before the first that was refused, if one was.
+/// Puts up sheets of the versions from 1 on, and gives how many before the first that was refused, and whether one was.
 fn put_up_some<R: Wait>(
     rt: &R,
     alloc: Global,
     board: &Board,
     instruction: &Arc<Instruction>,
-) -> Result<u32, Fail> {
+) -> Result<(u32, bool), Fail> {
     let mut before = 0;
     let mut is_refused = false;
     for version in 1..SOME + 1 {
@@ -34,7 +34,7 @@ fn put_up_some<R: Wait>(
             }
         }
     }
-    Ok(before)
+    Ok((before, is_refused))
 }
 
 /// Whether the versions up to one are shown, and those after it are not.
@@ -61,8 +61,11 @@ fn refused_memory(rt: HostRuntime) -> Result<(), Fail> {
     let alloc = rt.alloc();
     let instruction = saw_instruction(alloc, 1, 1000, "1 1 1 1")?;
     let (board, mut one, mut two) = board_of(&rt, alloc, &instruction)?;
-    let before = put_up_some(&rt, alloc, &board, &instruction)?;
+    let (before, is_refused) = put_up_some(&rt, alloc, &board, &instruction)?;
     assert!(rt; shows(&board, &mut one, 0, &BASE));
     assert!(rt; shows_up_to(&board, &mut one, &mut two, before));
+    if is_refused {
+        return Err(Fail::from(Memory));
+    }
     Ok(())
 }

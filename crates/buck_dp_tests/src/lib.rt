@@ -10,6 +10,8 @@ mod kept_tables;
 #[cfg(test)]
 mod largest;
 #[cfg(test)]
+mod memory;
+#[cfg(test)]
 mod outside;
 #[cfg(test)]
 mod slow;

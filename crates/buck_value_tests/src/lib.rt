@@ -6,6 +6,8 @@ mod classes;
 #[cfg(test)]
 mod fixtures;
 #[cfg(test)]
+mod memory;
+#[cfg(test)]
 mod prepared_stems;
 #[cfg(test)]
 mod sheets;
