@@ -1,7 +1,7 @@
 //! What the words of the command line ask for.
 use crate::command::{Request, parse};
 use crate::explain_words;
-use buck_engine::{NamedRule, Task};
+use buck_engine::Task;
 use clap::error::ErrorKind;
 use std::test::Fail;
 
@@ -46,33 +46,6 @@ fn two_files(rt: HostRuntime) -> Result<(), Fail> {
     };
     assert_eq!(rt; apt, "pine.apt");
     assert_eq!(rt; stm, "pine.stm");
-    Ok(())
-}
-
-/// Whether the words ask for a fleet with this rule, a journal of this name, if any, and these stem files.
-fn asks(
-    rt: &HostRuntime,
-    line: &str,
-    rule: NamedRule,
-    journal: Option<&str>,
-    stms: &[&str],
-) -> Result<bool, Fail> {
-    let all = words(rt, line)?;
-    let Ok(Request::Fleet(task)) = parse(rt.alloc(), all.as_slice()) else {
-        return Ok(false);
-    };
-    let same = task.rule == rule && task.journal == journal && task.apt == "pine.apt";
-    Ok(same && task.stms.as_slice() == stms)
-}
-
-#[test]
-fn fleets(rt: HostRuntime) -> Result<(), Fail> {
-    let steady = NamedRule::Steady;
-    assert!(rt; asks(&rt, "fleet pine.apt a.stm", steady, None, &["a.stm"])?);
-    let line = "fleet --rule linear pine.apt a.stm b.stm";
-    assert!(rt; asks(&rt, line, NamedRule::Linear, None, &["a.stm", "b.stm"])?);
-    let line = "fleet --rule=step --journal out.jrn pine.apt a.stm";
-    assert!(rt; asks(&rt, line, NamedRule::Step, Some("out.jrn"), &["a.stm"])?);
     Ok(())
 }
 
