@@ -8,7 +8,7 @@ use Rattle.buck_value.specs.Sheet.{SheetParts}
 use Rattle.buck_bid.specs.declared.columns.Columns.{Columns}
 use Rattle.buck_bid.specs.declared.tables.Kind.{Kind}
 use Rattle.buck_bid.specs.declared.tables.Takers.{Takers}
-use Rattle.buck_bid.specs.declared.wood.Wood.{Wood}
+use Rattle.buck_value.specs.declared.wood.Wood.{Wood}
 use Rattle.buck_bid.specs.Columns.{AreColumnsOf}
 use Rattle.buck_bid.specs.Wood.{AreTakers}
 use Rattle.buck_bid.specs.declared.tables.Tables.{Tables}

@@ -1,8 +1,29 @@
 -- The logs that an instruction offers, in the order that settles ties.
-use Rattle.std.specs.Prelude.{◌≡◌, ℕ, ◌/◌, ◌%◌, ◌<◌, All, List, map, slice_get, Some}
-use Rattle.buck_apt.specs.Instruction.{InstructionParts}
+use Rattle.std.specs.Prelude.{◌≡◌, ℕ, ◌+◌, ◌-◌, ◌*◌, ◌/◌, ◌%◌, ◌<◌, ◌≤◌, All, Contains, List, length, map, slice_get, slice_index, Some}
+use Rattle.std.specs.List.Sorted.{IsStrictlyIncreasing}
+use Rattle.buck_apt.specs.Instruction.{AssortmentParts, InstructionParts}
+use Rattle.buck_value.specs.declared.log.Log.{Log}
 use Rattle.buck_bid.specs.declared.offers.Offer.{Offer}
-pub use Rattle.buck_value.specs.Codes.{code_of, AreCodes, AreTrims, HasMark}
+
+-- of logs that start at one place, the shorter has the lower code, then the one of the lower assortment
+abbrev pub code_of : ℕ → ℕ → ℕ
+code_of length assortment = length * 16 + assortment
+
+-- a list has the code of each length of each assortment, and they rise
+pub record AreCodes (i : InstructionParts) (codes : List ℕ) : Type 0 where
+  pub rise : IsStrictlyIncreasing codes
+  pub few : length codes ≤ 512
+  pub whole : (a : ℕ) (x : AssortmentParts) (l : ℕ) → slice_get i.assortments a ≡ Some x → Contains x.lengths l → Contains codes (code_of l a)
+
+-- the mark of a log is 1,023 less the place of its code: the lower the code, the higher the mark
+pub record HasMark (codes : List ℕ) (g : Log) (mark : ℕ) : Type 0 where
+  pub high : mark ≤ 1023
+  pub at : slice_get codes (1023 - mark) ≡ Some (code_of g.length g.assortment)
+
+-- a list has the trim allowance of each assortment
+pub record AreTrims (i : InstructionParts) (trims : List ℕ) : Type 0 where
+  pub whole : (a : ℕ) (x : AssortmentParts) → slice_get i.assortments a ≡ Some x → Contains trims x.trim
+  pub low : (k : ℕ) → k < length trims → slice_index trims k ≤ 200
 
 -- the codes of offers: their order is that of the codes
 abbrev pub codes_in : List Offer → List ℕ

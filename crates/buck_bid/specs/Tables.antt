@@ -2,7 +2,7 @@
 use Rattle.std.specs.Prelude.{◌≡◌, ℕ, ◌+◌, List, length, slice_get, slice_index, Some}
 use Rattle.buck_value.specs.Sheet.{SheetParts}
 use Rattle.buck_bid.specs.declared.columns.Columns.{Columns}
-use Rattle.buck_bid.specs.declared.wood.Wood.{Wood}
+use Rattle.buck_value.specs.declared.wood.Wood.{Wood}
 use Rattle.buck_bid.specs.declared.tables.Kind.{Kind}
 use Rattle.buck_bid.specs.declared.tables.Takers.{Takers}
 use Rattle.buck_bid.specs.declared.tables.Tables.{Tables}

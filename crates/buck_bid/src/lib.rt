@@ -10,9 +10,10 @@ mod tables;
 mod wood;
 
 pub use bid::Bid;
+pub use buck_value::Wood;
 pub use columns::{Band, Columns, columns_of};
 pub use limits::{band_of, limits_of};
 pub use offers::{Offer, offers_of};
 pub use push::push_column;
 pub use tables::{Found, Kind, Tables, Takers};
-pub use wood::{Wood, takers_of};
+pub use wood::takers_of;

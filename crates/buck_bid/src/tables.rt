@@ -13,9 +13,9 @@ ghost use Rattle.buck_bid.specs.declared.tables.Takers.{Takers};
 use crate::columns::{Band, Columns, columns_of};
 use crate::limits::limits_of;
 use crate::offers::{Offer, offers_of, trims_of};
-use crate::wood::{Wood, takers_of};
+use crate::wood::takers_of;
 use buck_record::Memory;
-use buck_value::Sheet;
+use buck_value::{Sheet, Wood};
 use std::alloc::{AllocError, Global};
 
 /// Some wood, and where its takers stand.
@@ -237,6 +237,29 @@ fn make_room(kinds: &mut Vec<Kind>, sets: &mut Vec<Takers>, held: usize, room: u
     0
 }
 
+/// Drops the columns of some takers.
+fn drop_bands(takers: &mut Takers)
+    ensures marked { takers.new.marked.items ≡ takers.old.marked.items }
+    ensures made { (s t : SheetParts) (codes limits : List ℕ) → t.instruction ≡ s.instruction
+        → AreMade s codes limits takers.old → AreMade t codes limits takers.new }
+{
+    for band in 0..takers.bands.len() {
+        takers.bands[band] = None;
+    }
+}
+
+/// Drops the columns of all takers.
+fn drop_columns(sets: &mut Vec<Takers>)
+    ensures kept { AreSameTakers sets.old.items sets.new.items }
+    ensures made { (s t : SheetParts) (codes limits : List ℕ) → t.instruction ≡ s.instruction
+        → AreAllMade s codes limits sets.old.items → AreAllMade t codes limits sets.new.items }
+{
+    for set in 0..sets.len() {
+        let takers = &mut sets[set];
+        drop_bands(takers);
+    }
+}
+
 /// Where the columns for some wood and a band stand.
 #[derive(Clone, Copy, Debug)]
 pub struct Found {
@@ -286,6 +309,14 @@ impl Tables {
             held: 0,
             room,
         })
+    }
+
+    /// The same for another sheet of the same instruction: what depends on prices is dropped, and the rest stays.
+    pub fn renew(&mut self)
+        ensures { (s t : SheetParts) → AreTablesOf s self.old → t.instruction ≡ s.instruction → AreTablesOf t self.new }
+    {
+        drop_columns(&mut self.sets);
+        self.held = 0;
     }
 
     /// The limits at which bands start, in mm: the band at a place goes from the limit there to the next one.

@@ -2,7 +2,7 @@
 ghost use Rattle.std.specs.Prelude.{◌≡◌, IfOk};
 ghost use Rattle.buck_book.specs.Plan.{IsPlan};
 
-use buck_dp::{Cutting, best};
+use buck_dp::{Cutting, Planner};
 use buck_record::Memory;
 use buck_stem::Stem;
 use buck_value::Sheet;
@@ -36,9 +36,21 @@ impl Plan {
         ensures stem { IfOk result (λ p. p.stem ≡ stem.value) }
         ensures best { IfOk result IsPlan }
     {
-        let _valid = (sheet.version(), stem.length());
-        let (cutting, worth) = best(alloc, &sheet, &stem)?;
+        let mut planner = Planner::make(alloc, sheet)?;
+        Plan::make_with(alloc, &mut planner, stem)
+    }
+
+    /// The same under the sheet of a planner, which may have planned other stems before: that is faster.
+    pub fn make_with(alloc: Global, planner: &mut Planner, stem: Arc<Stem>) -> Result<Plan, Memory>
+        ensures same { planner.new ≡ planner.old }
+        ensures sheet { IfOk result (λ p. p.sheet ≡ planner.old) }
+        ensures stem { IfOk result (λ p. p.stem ≡ stem.value) }
+        ensures best { IfOk result IsPlan }
+    {
+        let (cutting, worth) = planner.best(alloc, &stem)?;
         let cutting = Arc::new(alloc, cutting)?;
+        let sheet = planner.sheet().clone()?;
+        let _valid = (sheet.version(), stem.length());
         Ok(Plan {
             stem,
             sheet,

@@ -5,15 +5,16 @@ use Rattle.std.proofs.lemmas.Option.{slice_get_within}
 use Rattle.buck_stem.specs.Stem.{IsStem, stem_length, diameter_at}
 use Rattle.buck_stem.specs.Profile.{IsMask}
 use Rattle.buck_value.specs.Sheet.{IsSheet}
-use Rattle.buck_value.specs.Prepared.{PreparedParts, points_of, ends_of, point_after}
-use Rattle.buck_value.specs.Relaxed.{unmarked}
-use Rattle.buck_value.proofs.WoodLemmas.{mask_allows}
+use Rattle.buck_dp.specs.inner.Points.{GroundParts, points_of, ends_of, point_after}
+use Rattle.buck_bid.specs.Bid.{unranked}
+use Rattle.buck_value.proofs.Grades.{mask_allows}
 use Rattle.buck_bid.specs.declared.columns.Columns.{Columns}
-use Rattle.buck_bid.specs.declared.wood.Wood.{Wood}
+use Rattle.buck_value.specs.declared.wood.Wood.{Wood}
 use Rattle.buck_bid.specs.Bid.{rank_in}
 use Rattle.buck_bid.specs.Quotes.{IsQuote}
 use Rattle.buck_bid.specs.Columns.{IsMarked, AreColumnsOf, bid_in}
-use Rattle.buck_bid.specs.Wood.{AreTakers, TakesWood}
+use Rattle.buck_value.specs.Wood.{TakesWood}
+use Rattle.buck_bid.specs.Wood.{AreTakers}
 use Rattle.buck_dp.specs.declared.offering.Span.{Span}
 use Rattle.buck_dp.specs.inner.Values.{IsValue, AreValuesFrom}
 use Rattle.buck_dp.specs.inner.Settled.{IsLogBid, Reaches, AreSettled, EndsPast, StartsFrom}
@@ -25,16 +26,16 @@ abbrev pub Logs : Type 1
 Logs = ℕ → ℕ → ℕ → ℕ → Type 0
 
 -- a settled value is, without its mark, at least each later one
-falls_by : (p : PreparedParts) (values : List ℕ) (s : ℕ) (Done : Logs) → AreSettled p values s Done
-    → (n k j : ℕ) → s ≤ k → k + n ≡ j → unmarked (slice_index values j) ≤ unmarked (slice_index values k)
+falls_by : (p : GroundParts) (values : List ℕ) (s : ℕ) (Done : Logs) → AreSettled p values s Done
+    → (n k j : ℕ) → s ≤ k → k + n ≡ j → unranked (slice_index values j) ≤ unranked (slice_index values k)
 falls_by p values s Done settled zero k j le is = (let q : j ≡ k = omega arith in rw q (omega arith))
 falls_by p values s Done settled (suc n) k j le is =
     let rest = falls_by p values s Done settled n (k + 1) j (omega arith) (omega arith) in
     let here = settled.falls k le in
     omega arith
 
-pub falls_to : (p : PreparedParts) (values : List ℕ) (s k j : ℕ) (Done : Logs) → AreSettled p values s Done
-    → s ≤ k → k ≤ j → unmarked (slice_index values j) ≤ unmarked (slice_index values k)
+pub falls_to : (p : GroundParts) (values : List ℕ) (s k j : ℕ) (Done : Logs) → AreSettled p values s Done
+    → s ≤ k → k ≤ j → unranked (slice_index values j) ≤ unranked (slice_index values k)
 falls_to p values s k j Done settled low le = falls_by p values s Done settled (j - k) k j low (omega arith)
 
 -- what reaches values reaches greater ones
@@ -43,7 +44,7 @@ reaches_more v w i x more (inl here) = inl (omega (arith, more i))
 reaches_more v w i x more (inr later) = inr (later.0, later.1, omega (arith, later.2, more later.0))
 
 -- settled values stay so where fewer logs are told to be done
-pub settled_as : (p : PreparedParts) (values : List ℕ) (s : ℕ) (Done Less : Logs) → AreSettled p values s Done
+pub settled_as : (p : GroundParts) (values : List ℕ) (s : ℕ) (Done Less : Logs) → AreSettled p values s Done
     → ((i j e trim bid : ℕ) → s ≤ e → IsLogBid p i j e trim bid → Less i j e trim → Done i j e trim)
     → AreSettled p values s Less
 settled_as p values s Done Less settled less = record {
@@ -52,14 +53,14 @@ settled_as p values s Done Less settled less = record {
   one = settled.one;
 }
 
-module _ (p : PreparedParts) (valid : IsSheet p.sheet) (values : List ℕ) (s : ℕ) (Done : Logs) (settled : AreSettled p values s Done)
+module _ (p : GroundParts) (valid : IsSheet p.sheet) (values : List ℕ) (s : ℕ) (Done : Logs) (settled : AreSettled p values s Done)
     (done : (i j e trim bid : ℕ) → IsLogBid p i j e trim bid → s ≤ i → Done i j e trim) where
   -- no log brings more than the settled value of the point where it starts
-  none_brings_more : (i j e trim bid : ℕ) → s ≤ i → i < e → IsLogBid p i j e trim bid → bid + unmarked (slice_index values e) ≤ slice_index values i
+  none_brings_more : (i j e trim bid : ℕ) → s ≤ i → i < e → IsLogBid p i j e trim bid → bid + unranked (slice_index values e) ≤ slice_index values i
   none_brings_more i j e trim bid low lt log = elim (settled.each i j e trim bid (omega arith) (done i j e trim bid log low) log) [
     | inl here ↦ here
     | inr later ↦
-        let f : unmarked (slice_index values later.0) ≤ unmarked (slice_index values i) =
+        let f : unranked (slice_index values later.0) ≤ unranked (slice_index values i) =
         falls_to p values s i later.0 Done settled low (omega (arith, later.1)) in
         omega (arith, later.2)
   ]
@@ -69,8 +70,8 @@ module _ (p : PreparedParts) (valid : IsSheet p.sheet) (values : List ℕ) (s : 
   value_right i low =
       let b = settled.one i in
       let lt = b.2 in
-      let skip : unmarked (slice_index values (i + 1)) ≤ slice_index values i = settled.falls i low in
-      let later : unmarked (slice_index values b.0) ≤ unmarked (slice_index values (i + 1)) =
+      let skip : unranked (slice_index values (i + 1)) ≤ slice_index values i = settled.falls i low in
+      let later : unranked (slice_index values b.0) ≤ unranked (slice_index values (i + 1)) =
       falls_to p values s (i + 1) b.0 Done settled (omega arith) (omega arith) in
       let most = b.5 in
       record {
@@ -89,9 +90,9 @@ module _ (p : PreparedParts) (valid : IsSheet p.sheet) (values : List ℕ) (s : 
   pub values_right : length values ≡ ends_of p → AreValuesFrom p values s
   values_right number = record { number = number; right = λ k low lt. value_right k low }
 
-module _ (p : PreparedParts) (v w : List ℕ) (from past : ℕ) (All : Logs)
+module _ (p : GroundParts) (v w : List ℕ) (from past : ℕ) (All : Logs)
     (others : (k : ℕ) → (k < from) ⊎ (past ≤ k) → slice_index w k ≡ slice_index v k)
-    (raised : (k : ℕ) → from ≤ k → k < past → slice_index w k ≡ max (slice_index v k) (unmarked (slice_index w (k + 1))))
+    (raised : (k : ℕ) → from ≤ k → k < past → slice_index w k ≡ max (slice_index v k) (unranked (slice_index w (k + 1))))
     (settled : AreSettled p v past All) (all : (i j e trim : ℕ) → All i j e trim) where
   raised_kept : (k : ℕ) → slice_index v k ≤ slice_index w k
   raised_kept k = elim (cases_lt k from) [
@@ -115,8 +116,8 @@ module _ (p : PreparedParts) (v w : List ℕ) (from past : ℕ) (All : Logs)
     ];
     each = λ i j e trim bid low far log.
         let same : slice_index w e ≡ slice_index v e = others e (inr far) in
-        reaches_more v w i (bid + unmarked (slice_index w e)) raised_kept
-        (subst (λ (x : ℕ). Reaches v i (bid + unmarked x)) (sym same) (settled.each i j e trim bid far (all i j e trim) log));
+        reaches_more v w i (bid + unranked (slice_index w e)) raised_kept
+        (subst (λ (x : ℕ). Reaches v i (bid + unranked x)) (sym same) (settled.each i j e trim bid far (all i j e trim) log));
     one = λ i.
         let b = settled.one i in
         let most = b.5 in
@@ -124,7 +125,7 @@ module _ (p : PreparedParts) (v w : List ℕ) (from past : ℕ) (All : Logs)
         let low = b.3 in
         let same : slice_index w b.0 ≡ slice_index v b.0 = others b.0 (inr low) in
         let as_was : slice_index w i ≡ slice_index v i → (e : ℕ) × (bid : ℕ) × (i < e) × (from ≤ e)
-        × ((bid ≡ 0) ⊎ ((j : ℕ) × (trim : ℕ) × IsLogBid p i j e trim bid)) × (slice_index w i ≤ bid + unmarked (slice_index w e)) =
+        × ((bid ≡ 0) ⊎ ((j : ℕ) × (trim : ℕ) × IsLogBid p i j e trim bid)) × (slice_index w i ≤ bid + unranked (slice_index w e)) =
         (λ e. (b.0, b.1, b.2, omega arith, b.4, omega arith)) in
         elim (cases_lt i from) [
           | inl before ↦ as_was (others i (inl before))
@@ -132,7 +133,7 @@ module _ (p : PreparedParts) (v w : List ℕ) (from past : ℕ) (All : Logs)
             | inr beyond ↦ as_was (others i (inr beyond))
             | inl within ↦
                 let r = raised i after within in
-                elim (cases_lt (slice_index v i) (unmarked (slice_index w (i + 1)))) [
+                elim (cases_lt (slice_index v i) (unranked (slice_index w (i + 1)))) [
                   | inl less ↦ (i + 1, 0, omega arith, omega arith, inl refl, omega arith)
                   | inr more ↦ as_was (omega arith)
                 ]
@@ -141,14 +142,14 @@ module _ (p : PreparedParts) (v w : List ℕ) (from past : ℕ) (All : Logs)
   }
 
 -- before the first block all values are 0
-pub settled_start : (p : PreparedParts) (v : List ℕ) (s : ℕ) (Done : Logs) → ends_of p ≤ s → ((k : ℕ) → slice_index v k ≡ 0) → AreSettled p v s Done
+pub settled_start : (p : GroundParts) (v : List ℕ) (s : ℕ) (Done : Logs) → ends_of p ≤ s → ((k : ℕ) → slice_index v k ≡ 0) → AreSettled p v s Done
 settled_start p v s Done past zeros = record {
   falls = λ k le. omega (arith, zeros k, zeros (k + 1));
   each = λ i j e trim bid low done log. absurd (omega (arith, log.ends));
   one = λ i. (i + s + 1, 0, omega arith, omega arith, inl refl, omega (arith, zeros i));
 }
 
-module _ (p : PreparedParts) (valid : IsSheet p.sheet) (sound : IsStem p.stem) (diameters : List ℕ)
+module _ (p : GroundParts) (valid : IsSheet p.sheet) (sound : IsStem p.stem) (diameters : List ℕ)
     (known : (j : ℕ) → j < points_of p → slice_index diameters j ≡ diameter_at p.stem.samples (j * p.sheet.instruction.«module»))
     (v w bases : List ℕ) (from past own : ℕ) (trims : List ℕ) (span : Span) (wood : Wood) (takers : List Bool) (c : Columns)
     (short : (i j e trim bid : ℕ) → IsLogBid p i j e trim bid → from ≤ i → past ≤ e)
@@ -161,7 +162,7 @@ module _ (p : PreparedParts) (valid : IsSheet p.sheet) (sound : IsStem p.stem) (
     (fits : (j : ℕ) → span.from ≤ j → j < span.past → j * p.sheet.instruction.«module» + own ≤ stem_length p.stem.samples)
     (range : (j : ℕ) → span.from ≤ j → j < span.past
     → (from ≤ j + point_after p.sheet.instruction.«module» own) × (j + point_after p.sheet.instruction.«module» own < past))
-    (base : (j : ℕ) → span.from ≤ j → j < span.past → slice_index bases j ≡ unmarked (slice_index v (j + point_after p.sheet.instruction.«module» own)))
+    (base : (j : ℕ) → span.from ≤ j → j < span.past → slice_index bases j ≡ unranked (slice_index v (j + point_after p.sheet.instruction.«module» own)))
     (settled : AreSettled p v from (StartsFrom past trims own span.past span.from span.stop))
     (pushed : ArePushed (IsOfColumns diameters span c (length c.steps.items)) bases v w) where
   -- the module
@@ -243,7 +244,7 @@ module _ (p : PreparedParts) (valid : IsSheet p.sheet) (sound : IsStem p.stem) (
         elim (real k o.0 o.1 o.2) [
           | inr log ↦ absurd (let far = short k o.0 (after o.0) own o.1 log low in omega (arith, r.1))
           | inl none ↦
-              let f : unmarked (slice_index v (after o.0)) ≤ unmarked (slice_index v k) =
+              let f : unranked (slice_index v (after o.0)) ≤ unranked (slice_index v k) =
               falls_to p v from k (after o.0) (StartsFrom past trims own span.past span.from span.stop) settled low (omega (arith, later_top k o.0 o.1 o.2)) in
               let b = base o.0 top.0 top.1 in
               let is = o.3 in
@@ -254,7 +255,7 @@ module _ (p : PreparedParts) (valid : IsSheet p.sheet) (sound : IsStem p.stem) (
 
   -- a log that starts in the span and ends at its tops reaches the values
   reaches_here : (i j e bid : ℕ) → span.first ≤ i → i < span.stop → span.from ≤ j → j < span.past → IsLogBid p i j e own bid
-      → Reaches w i (bid + unmarked (slice_index v e))
+      → Reaches w i (bid + unranked (slice_index v e))
   reaches_here i j e bid first stop low high log =
       let ends : e ≡ after j = after_is p valid i j e own bid log in
       let band = in_band j low high in
@@ -267,8 +268,8 @@ module _ (p : PreparedParts) (valid : IsSheet p.sheet) (sound : IsStem p.stem) (
       let coded : 1023 - quote.mark < length p.codes = slice_get_within p.codes (1023 - quote.mark) _ quote.marked.at in
       let s = columns.columns.served log.log.assortment (j - i) (place j) bid marked (omega (arith, band.0, band.1)) quote (omega arith) in
       let other : ℕ = bid_in c.bids.items width s.column (place j) in
-      let b : slice_index bases j ≡ unmarked (slice_index v e) = rw ends (base j low high) in
-      let offered : (k : ℕ) → span.first ≤ k → k < span.stop → k + slice_index c.steps.items s.column ≡ j → other + unmarked (slice_index v e) ≤ slice_index w k =
+      let b : slice_index bases j ≡ unranked (slice_index v e) = rw ends (base j low high) in
+      let offered : (k : ℕ) → span.first ≤ k → k < span.stop → k + slice_index c.steps.items s.column ≡ j → other + unranked (slice_index v e) ≤ slice_index w k =
       (λ k low_k high_k at.
       let r : other + slice_index bases j ≤ slice_index w k =
       pushed.reached k j other (record { at = s.column; done = s.there; start = (low_k, high_k); top = (low, high); long = at; is = refl }) in
@@ -306,9 +307,9 @@ module _ (p : PreparedParts) (valid : IsSheet p.sheet) (sound : IsStem p.stem) (
         omega arith;
     each = λ i j e trim bid low done log.
         let is : slice_index w e ≡ slice_index v e = same e low in
-        let was : StartsFrom past trims own span.past span.from span.stop i j e trim → Reaches w i (bid + unmarked (slice_index v e)) =
-        (λ o. reaches_more v w i (bid + unmarked (slice_index v e)) pushed.kept (settled.each i j e trim bid low o log)) in
-        subst (λ (x : ℕ). Reaches w i (bid + unmarked x)) (sym is)
+        let was : StartsFrom past trims own span.past span.from span.stop i j e trim → Reaches w i (bid + unranked (slice_index v e)) =
+        (λ o. reaches_more v w i (bid + unranked (slice_index v e)) pushed.kept (settled.each i j e trim bid low o log)) in
+        subst (λ (x : ℕ). Reaches w i (bid + unranked x)) (sym is)
         (elim done [
           | inl before ↦ was (inl before)
           | inr here ↦ elim (cases_lt j span.past) [

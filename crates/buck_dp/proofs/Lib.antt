@@ -1,5 +1,6 @@
 pub mod Optimal
 pub mod Places
+pub mod Steps
 pub mod Bounds
 pub mod Walk
 pub mod Lists
@@ -10,5 +11,4 @@ pub mod Pushed
 pub mod Logs
 pub mod Blocks
 pub mod Pieces
-pub mod Settled
 pub mod Untrimmed

@@ -9,12 +9,12 @@ use Rattle.buck_value.specs.declared.log.Log.{Log}
 use Rattle.buck_value.specs.Sheet.{SheetParts, IsSheet, price_of}
 use Rattle.buck_value.specs.Volume.{volume, worth_at}
 use Rattle.buck_value.specs.Allowed.{IsAllowed, log_of, top_of, end_of, trim_in, trim_of, top_diameter, class_in, kind_in, worth_of}
-use Rattle.buck_value.specs.Prepared.{PreparedParts, points_of, ends_of, point_after}
-use Rattle.buck_value.specs.Codes.{AreCodes, AreTrims, code_of}
+use Rattle.buck_dp.specs.inner.Points.{GroundParts, points_of, ends_of, point_after}
+use Rattle.buck_bid.specs.Offers.{AreCodes, AreTrims, code_of}
 use Rattle.buck_dp.proofs.Marks.{assortment_low}
 use Rattle.std.proofs.lemmas.List.{get_or_default}
-use Rattle.buck_value.specs.Relaxed.{IsBid, IsFromTo}
-use Rattle.buck_value.proofs.CodesLemmas.{on_module, whole_steps, one_step}
+use Rattle.buck_dp.specs.inner.Points.{IsBid, IsFromTo}
+use Rattle.buck_dp.proofs.Steps.{on_module, whole_steps, one_step}
 use Rattle.buck_value.proofs.Classes.{allowed_low}
 use Rattle.buck_bid.specs.Quotes.{class_for, worth_for, IsQuote}
 use Rattle.buck_dp.specs.inner.Settled.{IsLogBid}
@@ -60,7 +60,7 @@ pub record Takes (s : SheetParts) (stem : StemParts) (from to trim a : ℕ) : Ty
   pub grades : HasGradesOf stem.zones from to assortment.grades
   pub own : assortment.trim ≡ trim
 
-module _ (p : PreparedParts) (valid : IsSheet p.sheet) where
+module _ (p : GroundParts) (valid : IsSheet p.sheet) where
   -- the module
   abbrev unit : ℕ
   unit = p.sheet.instruction.«module»
@@ -206,7 +206,7 @@ module _ (p : PreparedParts) (valid : IsSheet p.sheet) where
         }
 
 -- an allowed log lies within its stem with its trim
-pub log_fits : (p : PreparedParts) (i j e trim bid : ℕ) → IsLogBid p i j e trim bid → j * p.sheet.instruction.«module» + trim ≤ stem_length p.stem.samples
+pub log_fits : (p : GroundParts) (i j e trim bid : ℕ) → IsLogBid p i j e trim bid → j * p.sheet.instruction.«module» + trim ≤ stem_length p.stem.samples
 log_fits p i j e trim bid b =
     let a = b.brings.allowed in
     let own : a.assortment.trim ≡ trim = sym (ap trim_in a.exists) ∙ b.own in
@@ -228,7 +228,7 @@ only_trim y l has = at has.0 has.1 has.2
     at (suc k) lt is = absurd (omega arith)
 
 -- the trim of a log is among those of the instruction
-pub log_trim : (p : PreparedParts) (i j e trim bid : ℕ) (trims : List ℕ) → AreTrims p.sheet.instruction trims → IsLogBid p i j e trim bid → Contains trims trim
+pub log_trim : (p : GroundParts) (i j e trim bid : ℕ) (trims : List ℕ) → AreTrims p.sheet.instruction trims → IsLogBid p i j e trim bid → Contains trims trim
 log_trim p i j e trim bid trims are b =
     let a = b.brings.allowed in
     let own : a.assortment.trim ≡ trim = sym (ap trim_in a.exists) ∙ b.own in
@@ -239,7 +239,7 @@ pub none_in : (x : ℕ) → Contains [] x → ⊥
 none_in x has = (let lt : has.0 < 0 = has.1 in absurd (omega arith))
 
 -- no log is shorter than so many steps, where no offer is
-pub logs_long : (p : PreparedParts) (steps : ℕ) → IsSheet p.sheet → AreCodes p.sheet.instruction p.codes
+pub logs_long : (p : GroundParts) (steps : ℕ) → IsSheet p.sheet → AreCodes p.sheet.instruction p.codes
     → ((k : ℕ) → k < length p.codes → steps * p.sheet.instruction.«module» ≤ slice_index p.codes k / 16)
     → (i j e trim bid : ℕ) → IsLogBid p i j e trim bid → i + steps ≤ j
 logs_long p steps v are least i j e trim bid b =

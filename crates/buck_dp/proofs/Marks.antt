@@ -7,7 +7,7 @@ use Rattle.buck_apt.specs.Instruction.{InstructionParts, IsInstruction}
 use Rattle.buck_stem.specs.Stem.{StemParts}
 use Rattle.buck_value.specs.declared.log.Log.{Log}
 use Rattle.buck_value.specs.Allowed.{IsAllowed}
-use Rattle.buck_value.specs.Codes.{AreCodes, HasMark, code_of}
+use Rattle.buck_bid.specs.Offers.{AreCodes, HasMark, code_of}
 use Rattle.buck_dp.specs.Order.{IsLogBefore}
 use Rattle.buck_dp.proofs.Optimal.{same_log}
 

@@ -5,7 +5,7 @@ use Rattle.std.proofs.lemmas.Bool.{cases_lt}
 use Rattle.buck_stem.specs.Stem.{StemParts, stem_length}
 use Rattle.buck_stem.specs.Profile.{IsMask, IsMaskBetween, ProfileParts, profile_of}
 use Rattle.buck_value.specs.Sheet.{IsSheet}
-use Rattle.buck_value.specs.Prepared.{PreparedParts, ends_of, point_after}
+use Rattle.buck_dp.specs.inner.Points.{GroundParts, ends_of, point_after}
 use Rattle.buck_dp.proofs.Places.{after_within}
 use Rattle.buck_dp.proofs.Logs.{after_trim}
 
@@ -48,7 +48,7 @@ mask_to zones m i from j mask one before le is even = elim (cases_lt from j) [
 ]
 
 -- the point after a trim that fits is one of the ends
-pub after_fits : (p : PreparedParts) (j trim : ℕ) → IsSheet p.sheet → j * p.sheet.instruction.«module» + trim ≤ stem_length p.stem.samples
+pub after_fits : (p : GroundParts) (j trim : ℕ) → IsSheet p.sheet → j * p.sheet.instruction.«module» + trim ≤ stem_length p.stem.samples
     → j + point_after p.sheet.instruction.«module» trim < ends_of p
 after_fits p j trim v fits =
     let m : ℕ = p.sheet.instruction.«module» in

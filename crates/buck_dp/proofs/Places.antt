@@ -2,7 +2,7 @@
 use Rattle.std.proofs.Common.{◌≡◌, ℕ, ◌+◌, ◌-◌, ◌*◌, ◌/◌, ◌%◌, ◌<◌, ◌≤◌, ◌⊎◌, inl, inr, arith, mul-le-mul_right}
 use Rattle.std.proofs.lemmas.Bool.{cases_lt}
 use Rattle.std.proofs.Math.Nat.{lt-div-mul-add, div-mul-le_self}
-use Rattle.buck_value.specs.Prepared.{point_after}
+use Rattle.buck_dp.specs.inner.Points.{point_after}
 
 -- a start at or after a place is there, or a step later
 pub next_start : (m here s : ℕ) → 0 < m → here % m ≡ 0 → s % m ≡ 0 → here ≤ s → (s ≡ here) ⊎ (here + m ≤ s)

@@ -8,9 +8,10 @@ use Rattle.buck_stem.specs.Stem.{StemParts, IsStem, stem_length}
 use Rattle.buck_value.specs.declared.log.Log.{Log}
 use Rattle.buck_value.specs.Sheet.{SheetParts, IsSheet}
 use Rattle.buck_value.specs.Allowed.{IsAllowed, worth_of, end_of}
-use Rattle.buck_value.specs.Prepared.{PreparedParts, points_of, ends_of, point_after}
-use Rattle.buck_value.specs.Codes.{AreCodes, HasMark, code_of}
-use Rattle.buck_value.specs.Relaxed.{IsFromTo, IsBid, unmarked}
+use Rattle.buck_dp.specs.inner.Points.{GroundParts, points_of, ends_of, point_after}
+use Rattle.buck_bid.specs.Offers.{AreCodes, HasMark, code_of}
+use Rattle.buck_dp.specs.inner.Points.{IsFromTo, IsBid}
+use Rattle.buck_bid.specs.Bid.{unranked}
 use Rattle.buck_dp.specs.Best.{IsFirstBest, cutting_worth}
 use Rattle.buck_dp.specs.Cutting.{IsCutFrom}
 use Rattle.buck_dp.specs.inner.Table.{IsTop, IsAtOrBefore}
@@ -23,7 +24,7 @@ use Rattle.buck_dp.proofs.Places.{next_start, past_top}
 use Rattle.buck_dp.proofs.Walk.{AnyRest, same_worth, top_is_first_best}
 
 -- lists of which each starts at or after the next point, or here with a log that is offered, cover all
-covers : (p : PreparedParts) (i value : ℕ) (gs hs : List Log) → IsSheet p.sheet
+covers : (p : GroundParts) (i value : ℕ) (gs hs : List Log) → IsSheet p.sheet
     → ((d : Log) → d.start ≡ i * p.sheet.instruction.«module» → IsAllowed p.sheet.instruction p.stem d
     → IsOffered p value d)
     → ((ks : List Log) → IsCutAt p ((i + 1) * p.sheet.instruction.«module») ks → IsNoWorseIn p gs ks)
@@ -44,11 +45,11 @@ covers p i value gs (h ∷ hs) s offer later here c =
     ]
 
 -- where no log starts, the best is that of the next point
-best_skipped : (p : PreparedParts) (values : List ℕ) (i : ℕ) → IsSheet p.sheet → AreCodes p.sheet.instruction p.codes
+best_skipped : (p : GroundParts) (values : List ℕ) (i : ℕ) → IsSheet p.sheet → AreCodes p.sheet.instruction p.codes
     → i < ends_of p
     → IsValue p values i
     → AreBestAfter p values i
-    → slice_index values i ≡ unmarked (slice_index values (i + 1))
+    → slice_index values i ≡ unranked (slice_index values (i + 1))
     → BestAt p values i
 best_skipped p values i s codes lt v after is =
     let m : ℕ = p.sheet.instruction.«module» in
@@ -78,7 +79,7 @@ starts_before Allowed ends from g more [] lt c = tt
 starts_before Allowed ends from g more (h ∷ hs) lt c = inl (inl (omega (arith, c.0)))
 
 -- a list that starts before a place is no worse than those cut from there on that are worth no more
-no_worse_later : (p : PreparedParts) (from : ℕ) (g : Log) (more gs hs : List Log) → g.start < from
+no_worse_later : (p : GroundParts) (from : ℕ) (g : Log) (more gs hs : List Log) → g.start < from
     → IsTopAt p from gs
     → sum_of p gs ≤ sum_of p (g ∷ more)
     → IsCutAt p from hs
@@ -92,7 +93,7 @@ no_worse_later p from g more gs hs lt t le c =
     IsNoWorse-trans w (g ∷ more) gs hs first (t.top hs c)
 
 -- of the logs of one point that bring as much, the one of the highest mark is first
-no_worse_here : (p : PreparedParts) (value mark : ℕ) (g d : Log) (more : List Log)
+no_worse_here : (p : GroundParts) (value mark : ℕ) (g d : Log) (more : List Log)
     → IsSheet p.sheet → AreCodes p.sheet.instruction p.codes
     → IsAllowed p.sheet.instruction p.stem g
     → IsAllowed p.sheet.instruction p.stem d
@@ -126,7 +127,7 @@ no_worse_here p value mark g d more s codes a b m t is at o =
     ]
 
 -- where a log starts, the best is that log and the best after it
-best_begun : (p : PreparedParts) (values : List ℕ) (i j : ℕ) (g : Log) (bid : ℕ)
+best_begun : (p : GroundParts) (values : List ℕ) (i j : ℕ) (g : Log) (bid : ℕ)
     → IsSheet p.sheet → AreCodes p.sheet.instruction p.codes
     → i < ends_of p
     → IsValue p values i
@@ -134,7 +135,7 @@ best_begun : (p : PreparedParts) (values : List ℕ) (i j : ℕ) (g : Log) (bid 
     → i < j → j < ends_of p
     → IsFromTo p i j g
     → IsBid p g bid
-    → slice_index values i ≡ bid + unmarked (slice_index values j)
+    → slice_index values i ≡ bid + unranked (slice_index values j)
     → BestAt p values i
 best_begun p values i j g bid s codes lt v after ij jn ft b is =
     let m : ℕ = p.sheet.instruction.«module» in
@@ -168,7 +169,7 @@ best_begun p values i j g bid s codes lt v after ij jn ft b is =
     )
 
 -- past the last point nothing can be cut
-nothing_past : (p : PreparedParts) (n : ℕ) → points_of p ≤ n → IsSheet p.sheet
+nothing_past : (p : GroundParts) (n : ℕ) → points_of p ≤ n → IsSheet p.sheet
     → IsTopAt p (n * p.sheet.instruction.«module») []
 nothing_past p n past s =
     let m : ℕ = p.sheet.instruction.«module» in
@@ -180,7 +181,7 @@ nothing_past p n past s =
     past_top m (stem_length p.stem.samples) d.start pos (omega arith) (omega arith))
 
 -- so the best there is worth nothing
-best_past : (p : PreparedParts) (value : ℕ) → IsSheet p.sheet → value ≡ 0
+best_past : (p : GroundParts) (value : ℕ) → IsSheet p.sheet → value ≡ 0
     → (gs : List Log) × IsBestFrom p (ends_of p) value gs
 best_past p value s z = (
   [],
@@ -193,7 +194,7 @@ best_past p value s z = (
 )
 
 -- a right value tells the best from its point on, by the best from each later point
-best_at : (p : PreparedParts) (values : List ℕ) (i : ℕ) → IsSheet p.sheet → AreCodes p.sheet.instruction p.codes
+best_at : (p : GroundParts) (values : List ℕ) (i : ℕ) → IsSheet p.sheet → AreCodes p.sheet.instruction p.codes
     → i < ends_of p
     → IsValue p values i
     → AreBestAfter p values i
@@ -204,7 +205,7 @@ best_at p values i s codes lt v after = elim v.one [
 ]
 
 -- of at most so many points, from the last on
-best_of_last : (p : PreparedParts) (values : List ℕ) (from left i : ℕ)
+best_of_last : (p : GroundParts) (values : List ℕ) (from left i : ℕ)
     → IsSheet p.sheet → AreCodes p.sheet.instruction p.codes
     → AreValuesFrom p values from
     → from ≤ i
@@ -222,7 +223,7 @@ best_of_last p values from (suc left) i s codes right low le past = elim (cases_
 ]
 
 -- where the values from a point on are right, that point's tells the best from there
-pub values_best : (p : PreparedParts) (values : List ℕ) (i : ℕ)
+pub values_best : (p : GroundParts) (values : List ℕ) (i : ℕ)
     → IsSheet p.sheet → IsStem p.stem → AreCodes p.sheet.instruction p.codes
     → AreValuesFrom p values i
     → i ≤ ends_of p
@@ -231,7 +232,7 @@ values_best p values i s t codes right le =
     best_of_last p values i (ends_of p) i s codes right (omega arith) le (omega arith)
 
 -- a value is well below what 64 bits hold
-pub value_low : (p : PreparedParts) (values : List ℕ) (i : ℕ)
+pub value_low : (p : GroundParts) (values : List ℕ) (i : ℕ)
     → IsSheet p.sheet → IsStem p.stem → AreCodes p.sheet.instruction p.codes
     → AreValuesFrom p values i
     → i ≤ ends_of p
@@ -244,14 +245,14 @@ value_low p values i s t codes right le =
     omega arith
 
 -- values that are right from the butt on are right from any point on
-right_later : (p : PreparedParts) (values : List ℕ) (i : ℕ) → AreValuesFrom p values 0 → AreValuesFrom p values i
+right_later : (p : GroundParts) (values : List ℕ) (i : ℕ) → AreValuesFrom p values 0 → AreValuesFrom p values i
 right_later p values i right = record {
   number = right.number;
   right = λ k le lt. right.right k (omega arith) lt;
 }
 
 -- where no log starts, the best from the next point on will do
-pub walk_skip : (p : PreparedParts) (values : List ℕ) (i : ℕ) (logs : List Log)
+pub walk_skip : (p : GroundParts) (values : List ℕ) (i : ℕ) (logs : List Log)
     → IsSheet p.sheet → IsStem p.stem → AreCodes p.sheet.instruction p.codes
     → AreValuesFrom p values 0
     → i < ends_of p
@@ -268,7 +269,7 @@ walk_skip p values i logs s t codes right lt none any rest top =
     })
 
 -- a best list begins with the log of its point's mark
-begins_with : (p : PreparedParts) (i mark : ℕ) (g : Log) (gs : List Log) → IsSheet p.sheet
+begins_with : (p : GroundParts) (i mark : ℕ) (g : Log) (gs : List Log) → IsSheet p.sheet
     → IsTopAt p (i * p.sheet.instruction.«module») gs
     → ((d : Log) × (rest : List Log) × (j : ℕ) × (gs ≡ d ∷ rest) × (j < ends_of p)
     × IsFromTo p i j d × HasMark p.codes d mark)
@@ -286,7 +287,7 @@ begins_with p i mark g gs s t (d, more, j, is, jn, ft, m) at code low =
     (more, subst (λ x. IsTopAt p from (x ∷ more)) (sym (same_log g d (at ∙ sym ft.start) parts.0 parts.1)) top)
 
 -- a mark other than 0 is that of a code
-pub mark_within : (p : PreparedParts) (values : List ℕ) (i : ℕ)
+pub mark_within : (p : GroundParts) (values : List ℕ) (i : ℕ)
     → IsSheet p.sheet → IsStem p.stem → AreCodes p.sheet.instruction p.codes
     → AreValuesFrom p values 0
     → i < ends_of p
@@ -298,7 +299,7 @@ mark_within p values i s t codes right lt some =
     mark_place p.codes first.0 (slice_index values i % 1024) first.6
 
 -- the log of a mark is allowed and ends at a later point, and the best from there on may follow it
-pub walk_log : (p : PreparedParts) (values : List ℕ) (i : ℕ) (g : Log) (logs : List Log)
+pub walk_log : (p : GroundParts) (values : List ℕ) (i : ℕ) (g : Log) (logs : List Log)
     → IsSheet p.sheet → IsStem p.stem → AreCodes p.sheet.instruction p.codes
     → AreValuesFrom p values 0
     → i < ends_of p
@@ -330,7 +331,7 @@ walk_log p values i g logs s t codes right lt some at code low any =
     )
 
 -- past the last point the logs so far are the best
-pub walk_end : (p : PreparedParts) (n : ℕ) (logs : List Log)
+pub walk_end : (p : GroundParts) (n : ℕ) (logs : List Log)
     → points_of p ≤ n
     → IsSheet p.sheet
     → AnyRest p.sheet p.stem (n * p.sheet.instruction.«module») logs
@@ -338,7 +339,7 @@ pub walk_end : (p : PreparedParts) (n : ℕ) (logs : List Log)
 walk_end p n logs past s any = subst (λ gs. IsTopAt p 0 gs) (append-nil logs) (any [] (nothing_past p n past s))
 
 -- the value of the butt tells its worth
-pub walk_worth : (p : PreparedParts) (values : List ℕ) (logs : List Log)
+pub walk_worth : (p : GroundParts) (values : List ℕ) (logs : List Log)
     → IsSheet p.sheet → IsStem p.stem → AreCodes p.sheet.instruction p.codes
     → AreValuesFrom p values 0
     → IsTop (IsAllowed p.sheet.instruction p.stem) (end_of p.sheet.instruction) (worth_of p.sheet p.stem) 0 logs

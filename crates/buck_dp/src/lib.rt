@@ -2,11 +2,17 @@
 #![tactic(auto)]
 
 mod cutting;
+mod ends;
+mod following;
+mod judging;
 pub mod laws;
 mod offering;
+mod planner;
+mod planning;
 mod settling;
-mod table;
 
 pub use buck_record::Memory;
 pub use cutting::Cutting;
-pub use table::{admissible, best, best_of, best_with, worth};
+pub use judging::{admissible, worth};
+pub use planner::Planner;
+pub use planning::best;

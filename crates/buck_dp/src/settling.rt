@@ -3,8 +3,8 @@
 //! there ends there; then all logs that end there are offered to the points where they start.
 ghost use Rattle.std.specs.Prelude.{◌≡◌, ℕ, List, [], ◌∷◌, ◌++◌, ◌↔◌, ◌+◌, ◌-◌, ◌*◌, ◌/◌, ◌<◌, ◌≤◌, ◌⊎◌, All, IfOk, OnOk, Some, max, length, slice_get, slice_index};
 ghost use Rattle.buck_stem.specs.Stem.{stem_length};
-ghost use Rattle.buck_value.specs.Prepared.{points_of, ends_of, point_after, prepared_of};
-ghost use Rattle.buck_value.specs.Relaxed.{unmarked};
+ghost use Rattle.buck_dp.specs.inner.Points.{points_of, ends_of, point_after, ground_with};
+ghost use Rattle.buck_bid.specs.Bid.{unranked};
 ghost use Rattle.buck_bid.specs.Tables.{AreTablesOf};
 ghost use Rattle.buck_dp.specs.inner.Values.{AreValuesFrom};
 ghost use Rattle.buck_dp.specs.inner.Settled.{AreSettled, EndsPast, HasTrim, TopsFrom};
@@ -40,8 +40,8 @@ fn settle_block(values: &mut [Bid], bases: &mut [Bid], from: usize, past: usize)
     ensures room { length bases.new ≡ length bases.old }
     ensures others { (k : ℕ) → (k < from) ⊎ (past ≤ k) → slice_index values.new k ≡ slice_index values.old k }
     ensures raised { (k : ℕ) → from ≤ k → k < past
-        → slice_index values.new k ≡ max (slice_index values.old k) (unmarked (slice_index values.new (k + 1))) }
-    ensures bases { (k : ℕ) → from ≤ k → k < past → slice_index bases.new k ≡ unmarked (slice_index values.new k) }
+        → slice_index values.new k ≡ max (slice_index values.old k) (unranked (slice_index values.new (k + 1))) }
+    ensures bases { (k : ℕ) → from ≤ k → k < past → slice_index bases.new k ≡ unranked (slice_index values.new k) }
 {
     let mut base = if past < values.len() {
         values[past].unranked()
@@ -204,7 +204,7 @@ fn offer_trim(
     requires room { length bases.now ≡ ends_of (ground_of ground.sheet.now ground.stem.now tables.old) }
     requires order { from < past }
     requires past { past ≤ ends_of (ground_of ground.sheet.now ground.stem.now tables.old) }
-    requires base { (e : ℕ) → from ≤ e → e < past → slice_index bases.now e ≡ unmarked (slice_index values.old e) }
+    requires base { (e : ℕ) → from ≤ e → e < past → slice_index bases.now e ≡ unranked (slice_index values.old e) }
     requires low { (e : ℕ) → from ≤ e → e < past → slice_index bases.now e ≤ 4000000000000000000 }
     requires long { AreLong (ground_of ground.sheet.now ground.stem.now tables.old) (past - from) }
     ensures tables { AreTablesOf ground.entry.sheet.now tables.new }
@@ -257,7 +257,7 @@ fn offer_block(
     requires room { length bases.now ≡ ends_of (ground_of ground.sheet.now ground.stem.now tables.old) }
     requires order { from < past }
     requires past { past ≤ ends_of (ground_of ground.sheet.now ground.stem.now tables.old) }
-    requires base { (e : ℕ) → from ≤ e → e < past → slice_index bases.now e ≡ unmarked (slice_index values.old e) }
+    requires base { (e : ℕ) → from ≤ e → e < past → slice_index bases.now e ≡ unranked (slice_index values.old e) }
     requires low { (e : ℕ) → from ≤ e → e < past → slice_index bases.now e ≤ 4000000000000000000 }
     requires long { AreLong (ground_of ground.sheet.now ground.stem.now tables.old) (past - from) }
     requires settled { AreSettled (ground_of ground.sheet.now ground.stem.now tables.old) values.old from (EndsPast past) }

@@ -1,9 +1,8 @@
 //! The first of the best cuttings of stems worked out by hand.
 use crate::fixtures::{base_of, is_best, log, sheet_with};
-use buck_dp::best_of;
 use buck_samples::{SAW, SAW_AND_POLE, edited, saw_text, stem_of, uniform_stem};
 use buck_stem::Stem;
-use buck_value::{Log, Prepared, Sheet};
+use buck_value::{Log, Sheet};
 use std::test::Fail;
 
 /// Whether the best cutting of a stem of so many samples of one diameter has these logs and this worth.
@@ -68,44 +67,6 @@ fn one_long_log(rt: HostRuntime) -> Result<(), Fail> {
 fn two_short_logs(rt: HostRuntime) -> Result<(), Fail> {
     let logs = [log(0, 3000, 0), log(3000, 3000, 0)];
     assert!(rt; is_best_sawn(&rt, 61, 250, &logs, 176_714_400)?);
-    Ok(())
-}
-
-/// Whether the best cutting of a prepared stem is one log of 4,000 mm with this worth.
-fn is_long(rt: &HostRuntime, prepared: &mut Prepared<'_, '_>, worth: u64) -> Result<bool, Fail> {
-    let (cutting, total) = best_of(rt.alloc(), prepared)?;
-    Ok(cutting.logs.as_slice() == [log(0, 4000, 0)].as_slice() && total == worth)
-}
-
-/// The same each time that it is asked.
-fn is_long_twice(
-    rt: &HostRuntime,
-    prepared: &mut Prepared<'_, '_>,
-    worth: u64,
-) -> Result<bool, Fail> {
-    if !is_long(rt, prepared, worth)? {
-        return Ok(false);
-    }
-    is_long(rt, prepared, worth)
-}
-
-/// The same of a stem that is prepared once.
-fn is_long_prepared(
-    rt: &HostRuntime,
-    sheet: &Sheet,
-    stem: &Stem,
-    worth: u64,
-) -> Result<bool, Fail> {
-    let mut prepared = Prepared::make(rt.alloc(), sheet, stem)?;
-    is_long_twice(rt, &mut prepared, worth)
-}
-
-/// A prepared stem is cut as the stem itself, each time it is asked.
-#[test]
-fn prepared_stem_asked_twice(rt: HostRuntime) -> Result<(), Fail> {
-    let sheet = base_of(&rt, SAW)?;
-    let stem = uniform_stem(rt.alloc(), 41, 250)?;
-    assert!(rt; is_long_prepared(&rt, &sheet, &stem, 157_080_000)?);
     Ok(())
 }
 

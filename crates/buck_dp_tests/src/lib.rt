@@ -6,13 +6,13 @@ mod cuttings;
 #[cfg(test)]
 mod fixtures;
 #[cfg(test)]
-mod kept_tables;
-#[cfg(test)]
 mod largest;
 #[cfg(test)]
 mod memory;
 #[cfg(test)]
 mod outside;
+#[cfg(test)]
+mod planners;
 #[cfg(test)]
 mod slow;
 #[cfg(test)]

@@ -7,10 +7,10 @@ ghost use Rattle.buck_engine.specs.Text.{IsBuckText, IsTextUnder, base_sheet, lo
 
 use crate::fault::TextFault;
 use buck_apt::Instruction;
-use buck_dp::best_with;
+use buck_dp::Planner;
 use buck_record::{Memory, put_line, put_numbers};
 use buck_stem::Stem;
-use buck_value::{Log, Sheet, Tables, class_of, room_of, worth_in_class};
+use buck_value::{Log, Sheet, class_of, worth_in_class};
 use std::alloc::Global;
 use std::sync::Arc;
 
@@ -91,49 +91,46 @@ pub(crate) fn put_total(
     put_line(out, b"TOTAL", &[stems as u128, logs, worth])
 }
 
-/// Cuts a stem, and puts its lines. The answer is how many logs there are, their worth, and the sheet's tables for the
-/// next stem.
-fn put_cut<'a>(
+/// Cuts a stem, and puts its lines. The answer is how many logs there are, and their worth.
+fn put_cut(
     alloc: Global,
     out: &mut Vec<u8>,
-    sheet: &Sheet,
-    tables: Tables<'a>,
+    planner: &mut Planner,
     stem: &Stem,
-) -> Result<(usize, u64, Tables<'a>), Memory>
-    requires { tables.sheet ≡ sheet.now }
-    ensures put { IfOk result (λ cut. IsPut sheet.now stem.now out.old.items out.new.items cut.0 cut.1) }
+) -> Result<(usize, u64), Memory>
+    ensures same { planner.new ≡ planner.old }
+    ensures put { IfOk result (λ cut. IsPut planner.old stem.now out.old.items out.new.items cut.0 cut.1) }
     ensures logs_fit { IfOk result (λ cut. cut.0 < 2 ^ 64) }
     ensures worth_fits { IfOk result (λ cut. cut.1 < 2 ^ 64) }
-    ensures same { IfOk result (λ cut. cut.2.sheet ≡ sheet.now) }
 {
-    let (cutting, worth, tables) = best_with(alloc, tables, stem)?;
+    let (cutting, worth) = planner.best(alloc, stem)?;
     let logs = cutting.logs.as_slice();
     put_stem(out, stem, logs.len(), worth)?;
-    put_logs(out, sheet, stem, logs)?;
-    Ok((logs.len(), worth, tables))
+    put_logs(out, planner.sheet(), stem, logs)?;
+    Ok((logs.len(), worth))
 }
 
 /// The sheet of the base prices.
-fn base_sheet(alloc: Global, instruction: &Instruction) -> Result<Sheet, Memory>
-    ensures { IfOk result (λ sheet. sheet ≡ base_sheet instruction.now) }
+fn base_sheet(alloc: Global, instruction: &Instruction) -> Result<Arc<Sheet>, Memory>
+    ensures { IfOk result (λ sheet. sheet.value ≡ base_sheet instruction.now) }
 {
     let shared = Arc::new(alloc, instruction.copy(alloc)?)?;
-    Sheet::base(alloc, shared)
+    let sheet = Sheet::base(alloc, shared)?;
+    Ok(Arc::new(alloc, sheet)?)
 }
 
 /// The text of the stems, bucked under a sheet.
-fn text_under<'a>(alloc: Global, sheet: &'a Sheet, stems: &[Stem]) -> Result<Vec<u8>, Memory>
-    ensures { IfOk result (λ text. IsTextUnder sheet.now stems.now text.items) }
+fn text_under(alloc: Global, sheet: Arc<Sheet>, stems: &[Stem]) -> Result<Vec<u8>, Memory>
+    ensures { IfOk result (λ text. IsTextUnder sheet.value stems.now text.items) }
 {
     let mut out = Vec::new(alloc);
     let mut logs = 0;
     let mut worth = 0;
-    let mut tables = Tables::make(alloc, sheet, room_of(sheet))?;
+    let mut planner = Planner::make(alloc, sheet)?;
     for stem in stems {
-        let (count, value, same) = put_cut(alloc, &mut out, sheet, tables, stem)?;
+        let (count, value) = put_cut(alloc, &mut out, &mut planner, stem)?;
         logs += count as u128;
         worth += u128::from(value);
-        tables = same;
     }
     put_total(&mut out, stems.len(), logs, worth)?;
     Ok(out)
@@ -157,5 +154,5 @@ pub fn buck_text(
     ensures { IfOk result (λ text. IsBuckText instruction.now stems.now text.items) }
 {
     let sheet = base_sheet(alloc, instruction)?;
-    Ok(text_under(alloc, &sheet, stems)?)
+    Ok(text_under(alloc, sheet, stems)?)
 }

@@ -87,6 +87,7 @@ fn collect<L: Ledger>(seats: Vec<Seat<L>>, kept: &mut Vec<Vec<Kept>>, all: &mut 
             kept: list,
             share,
             stopped: _,
+            planner: _,
         } = seat;
         all.merge(share);
         let its_place = &mut kept[harvester as usize - 1];

@@ -11,10 +11,8 @@ use crate::fleet::Fleet;
 use crate::gate::Gate;
 use crate::seat::{Path, Reply, Seat};
 use buck_book::{Plan, Refusal};
-use buck_record::Memory;
 use buck_rule::Standing;
 use buck_stem::Stem;
-use buck_value::Sheet;
 use std::alloc::Global;
 use std::sync::ledger::Ledger;
 use std::sync::{Arc, Wait};
@@ -28,14 +26,6 @@ pub enum Attempt {
     Outdated,
     /// It was refused for another reason.
     Refused(CutFault),
-}
-
-/// Plans a stem under a sheet.
-fn plan_for(alloc: Global, sheet: &Arc<Sheet>, stem: &Arc<Stem>) -> Result<Plan, Memory>
-    ensures sheet { IfOk result (λ p. p.sheet ≡ sheet.now.value) }
-    ensures stem { IfOk result (λ p. p.stem ≡ stem.now.value) }
-{
-    Plan::make(alloc, sheet.clone()?, stem.clone()?)
 }
 
 impl<F: Fn(&Standing) -> u64 + Drop, L: Ledger> Fleet<F, L> {
@@ -87,7 +77,7 @@ impl<F: Fn(&Standing) -> u64 + Drop, L: Ledger> Fleet<F, L> {
         ensures left { IfErr result (λ e. seat.new ≡ seat.old) }
     {
         let mut desk = self.desk.lock(rt);
-        let plan = plan_for(alloc, desk.book.sheet(), stem)?;
+        let plan = seat.plan(alloc, desk.book.sheet(), stem)?;
         match desk.commit(rt, alloc, &self.board, seat, plan, attempts, Path::Locked) {
             Ok(reply) => Ok(reply),
             Err((Refusal::Stale { .. }, _)) => unreachable!(),
@@ -129,7 +119,7 @@ impl<F: Fn(&Standing) -> u64 + Drop, L: Ledger> Fleet<F, L> {
                 break;
             }
             // Plan: without the lock.
-            let plan = plan_for(alloc, shown.sheet(), &stem)?;
+            let plan = seat.plan(alloc, shown.sheet(), &stem)?;
             gate.planned(rt, seat.harvester(), attempt, &plan);
             match self.bring(rt, alloc, &mut *seat, plan, attempt) {
                 Attempt::Done(reply) => return Ok(reply),

@@ -1,13 +1,18 @@
 //! Seats, and what their calls answer.
-ghost use Rattle.std.specs.Prelude.{◌≡◌, ◌<◌, ◌≤◌, [], length, None};
+ghost use Rattle.std.specs.Prelude.{◌≡◌, ◌<◌, ◌≤◌, [], IfOk, length, None};
 ghost use Rattle.buck_board.specs.declared.seat.BoardSeat.{BoardSeat};
 ghost use Rattle.buck_fleet.specs.Seat.{seen_of};
 
 use crate::fault::RunFault;
 use buck_board::BoardSeat;
-use buck_book::{Demand, Entry, Posting};
+use buck_book::{Demand, Entry, Plan, Posting};
+use buck_dp::Planner;
+use buck_record::Memory;
+use buck_stem::Stem;
+use buck_value::Sheet;
 use std::alloc::Global;
 use std::marker::Model;
+use std::sync::Arc;
 use std::sync::ledger::{Ledger, Share};
 
 /// A posting that a seat was answered, with its position in the history, from 0.
@@ -59,6 +64,8 @@ pub struct Seat<L: Ledger> {
     pub(crate) kept: Vec<Kept>,
     pub(crate) share: Share<L>,
     pub(crate) stopped: Option<RunFault>,
+    /// What plans its stems, under the sheet that it planned under last.
+    pub(crate) planner: Option<Planner>,
 }
 
 impl<L: Ledger> Model for Seat<L> {
@@ -70,6 +77,32 @@ impl<L: Ledger> Model for Seat<L> {
     ghost view = { λ s. record { harvester = s.harvester; place = s.place; kept = s.kept.items; parts = s.share.parts; stopped = s.stopped } };
 
     ghost invariant = { λ s. (s.share.amount ≡ length s.kept.items) × (0 < s.share.parts) × (0 < s.harvester) × (s.harvester ≤ 64) };
+}
+
+/// Plans a stem under a sheet, with the planner that is there. It is renewed where the sheet is another.
+fn plan_with(
+    alloc: Global,
+    kept: &mut Option<Planner>,
+    sheet: &Arc<Sheet>,
+    stem: &Arc<Stem>,
+) -> Result<Plan, Memory>
+    ensures sheet { IfOk result (λ p. p.sheet ≡ sheet.now.value) }
+    ensures stem { IfOk result (λ p. p.stem ≡ stem.now.value) }
+{
+    match kept {
+        Some(planner) => {
+            if !planner.sheet().same(sheet) {
+                planner.renew(alloc, sheet.clone()?)?;
+            }
+            Plan::make_with(alloc, planner, stem.clone()?)
+        }
+        None => {
+            let mut planner = Planner::make(alloc, sheet.clone()?)?;
+            let plan = Plan::make_with(alloc, &mut planner, stem.clone()?)?;
+            *kept = Some(planner);
+            Ok(plan)
+        }
+    }
 }
 
 impl<L: Ledger> Seat<L> {
@@ -85,6 +118,7 @@ impl<L: Ledger> Seat<L> {
             kept: Vec::new(alloc),
             share,
             stopped: None,
+            planner: None,
         }
     }
 
@@ -93,6 +127,20 @@ impl<L: Ledger> Seat<L> {
         ensures { self.new ≡ record { harvester = self.old.harvester; place = self.old.place; kept = self.old.kept; parts = self.old.parts; stopped = stopped } }
     {
         self.stopped = stopped;
+    }
+
+    /// Plans a stem under a sheet. It asks nobody else and waits for nobody.
+    pub(crate) fn plan(
+        &mut self,
+        alloc: Global,
+        sheet: &Arc<Sheet>,
+        stem: &Arc<Stem>,
+    ) -> Result<Plan, Memory>
+        ensures same { self.new ≡ self.old }
+        ensures sheet { IfOk result (λ p. p.sheet ≡ sheet.now.value) }
+        ensures stem { IfOk result (λ p. p.stem ≡ stem.now.value) }
+    {
+        plan_with(alloc, &mut self.planner, sheet, stem)
     }
 
     /// Its harvester, from 1 on.

@@ -12,8 +12,8 @@ ghost use Rattle.buck_journal.specs.inner.Replay.{along, sheet_then, HoldsUnder,
 use crate::replay_fault::ReplayFault;
 use buck_apt::Instruction;
 use buck_book::{Demand, Entry, Posting, Walk, check_targets};
-use buck_dp::{admissible, best_with, worth};
-use buck_value::{Sheet, Tables};
+use buck_dp::{Planner, admissible, worth};
+use buck_value::Sheet;
 use std::alloc::Global;
 use std::sync::Arc;
 
@@ -79,31 +79,31 @@ pub(crate) fn opened_sheet(
     }
 }
 
-/// Checks what a cut at a place says under a sheet, whose tables are given back.
-fn check_cut<'s>(
+/// Checks what a cut at a place says under a planner's sheet.
+fn check_cut(
     alloc: Global,
-    tables: Tables<'s>,
+    planner: &mut Planner,
     entry: &Entry,
     at: usize,
-) -> Result<Tables<'s>, ReplayFault>
-    ensures best { OnOk result (IsBest tables.entry.sheet entry.now.stem entry.now.logs) }
+) -> Result<(), ReplayFault>
+    ensures same { planner.new ≡ planner.old }
+    ensures best { OnOk result (IsBest planner.old entry.now.stem entry.now.logs) }
     ensures worth { OnOk result
-        (entry.now.worth ≡ cutting_worth tables.entry.sheet entry.now.stem entry.now.logs) }
-    ensures same { IfOk result (λ t. t.sheet ≡ tables.entry.sheet) }
+        (entry.now.worth ≡ cutting_worth planner.old entry.now.stem entry.now.logs) }
     ensures refused { IfErr result (λ e.
-        e ≢ Memory → IsCutFault tables.entry.sheet entry.now at e) }
+        e ≢ Memory → IsCutFault planner.old entry.now at e) }
 {
-    if !admissible(tables.sheet(), &entry.stem, &entry.cutting) {
+    if !admissible(planner.sheet(), &entry.stem, &entry.cutting) {
         return Err(ReplayFault::Cutting { at });
     }
-    if worth(tables.sheet(), &entry.stem, &entry.cutting) != entry.worth {
+    if worth(planner.sheet(), &entry.stem, &entry.cutting) != entry.worth {
         return Err(ReplayFault::Worth { at });
     }
-    let (_best, most, tables) = best_with(alloc, tables, &entry.stem)?;
+    let (_best, most) = planner.best(alloc, &entry.stem)?;
     if most > entry.worth {
         return Err(ReplayFault::Outvalued { at });
     }
-    Ok(tables)
+    Ok(())
 }
 
 /// Checks the targets of a demand at a place.
@@ -117,24 +117,21 @@ fn check_demand(instruction: &Instruction, demand: &Demand, at: usize) -> Result
     }
 }
 
-/// Checks what a posting at a place says under a sheet, whose tables are given back.
-pub(crate) fn check_content<'s>(
+/// Checks what a posting at a place says under a planner's sheet.
+pub(crate) fn check_content(
     alloc: Global,
-    tables: Tables<'s>,
+    planner: &mut Planner,
     posting: &Posting,
     at: usize,
-) -> Result<Tables<'s>, ReplayFault>
-    ensures right { OnOk result (HoldsUnder tables.entry.sheet posting.now) }
-    ensures same { IfOk result (λ t. t.sheet ≡ tables.entry.sheet) }
+) -> Result<(), ReplayFault>
+    ensures same { planner.new ≡ planner.old }
+    ensures right { OnOk result (HoldsUnder planner.old posting.now) }
     ensures refused { IfErr result (λ e.
-        e ≢ Memory → IsContentFault tables.entry.sheet posting.now at e) }
+        e ≢ Memory → IsContentFault planner.old posting.now at e) }
 {
     match posting {
-        Posting::Cut(entry) => check_cut(alloc, tables, entry, at),
-        Posting::Demand(demand) => {
-            check_demand(tables.sheet().instruction(), demand, at)?;
-            Ok(tables)
-        }
+        Posting::Cut(entry) => check_cut(alloc, planner, entry, at),
+        Posting::Demand(demand) => check_demand(planner.sheet().instruction(), demand, at),
     }
 }
 

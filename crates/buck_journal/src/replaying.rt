@@ -12,65 +12,74 @@ use crate::journal::Journal;
 use crate::replay_fault::ReplayFault;
 use buck_apt::Instruction;
 use buck_book::{Posting, Walk};
-use buck_value::{Sheet, Tables, room_of};
-use std::alloc::Global;
+use buck_dp::Planner;
+use buck_value::Sheet;
+use std::alloc::{AllocError, Global};
 use std::sync::Arc;
 
-/// Passes a posting that may follow under the sheet in force, whose tables are given back.
-fn replay_posting<'w, 's>(
+/// Passes a posting that may follow under the sheet in force, a planner's.
+fn replay_posting<'w>(
     alloc: Global,
-    sheet: &Sheet,
-    tables: Tables<'s>,
+    planner: &mut Planner,
     walk: Walk<'w>,
     posting: &Posting,
-) -> Result<(Tables<'s>, Walk<'w>), ReplayFault>
-    requires tables { tables.sheet ≡ sheet.now }
-    requires instruction { sheet.now.instruction ≡ walk.instruction }
+) -> Result<Walk<'w>, ReplayFault>
+    requires instruction { planner.old.instruction ≡ walk.instruction }
     requires next { slice_get walk.postings walk.at ≡ Some posting.now }
-    ensures right { OnOk result (IsRightUnder sheet.now (passed walk.entry) posting.now) }
-    ensures tables { IfOk result (λ r. r.0.sheet ≡ sheet.now) }
-    ensures further { IfOk result (λ r.
-        r.1 ≡ walk_of walk.entry.instruction walk.entry.postings (walk.entry.at + 1)) }
+    ensures same { planner.new ≡ planner.old }
+    ensures right { OnOk result (IsRightUnder planner.old (passed walk.entry) posting.now) }
+    ensures further { IfOk result (λ w.
+        w ≡ walk_of walk.entry.instruction walk.entry.postings (walk.entry.at + 1)) }
     ensures refused { IfErr result (λ e.
-        e ≢ Memory → IsPostingFault sheet.now (passed walk.entry) posting.now walk.entry.at e) }
+        e ≢ Memory → IsPostingFault planner.old (passed walk.entry) posting.now walk.entry.at e) }
 {
     check_call(&walk, posting)?;
-    let tables = check_content(alloc, tables, posting, walk.at())?;
-    let walk = walk.pass(alloc, sheet, posting)?;
-    Ok((tables, walk))
+    check_content(alloc, planner, posting, walk.at())?;
+    Ok(walk.pass(alloc, planner.sheet(), posting)?)
 }
 
-/// Passes postings that may follow under the sheet in force, until a period begins or none is left.
-fn replay_under<'w>(alloc: Global, sheet: &Sheet, walk: Walk<'w>) -> Result<Walk<'w>, ReplayFault>
-    requires instruction { sheet.now.instruction ≡ walk.instruction }
-    requires version { ends_of sheet.now.instruction (passed walk) ≡ sheet.now.version }
+/// Passes postings that may follow under the sheet in force, a planner's, until a period begins or none is left.
+fn replay_under<'w>(
+    alloc: Global,
+    planner: &mut Planner,
+    walk: Walk<'w>,
+) -> Result<Walk<'w>, ReplayFault>
+    requires instruction { planner.old.instruction ≡ walk.instruction }
+    requires version { ends_of planner.old.instruction (passed walk) ≡ planner.old.version }
     requires more { walk.at < length walk.postings }
     ensures right { IfOk result (λ w.
-        AreRightUnder sheet.now walk.entry.postings walk.entry.at w.at) }
+        AreRightUnder planner.old walk.entry.postings walk.entry.at w.at) }
     ensures same { IfOk result (λ w. w ≡ walk_of walk.entry.instruction walk.entry.postings w.at) }
     ensures further { IfOk result (λ w. walk.entry.at < w.at) }
     ensures begins { IfOk result (λ w.
         w.at < length w.postings → cuts_since_end w.instruction (passed w) ≡ 0) }
     ensures refused { IfErr result (λ e.
-        e ≢ Memory → IsMetUnder sheet.now walk.entry.postings walk.entry.at e) }
+        e ≢ Memory → IsMetUnder planner.old walk.entry.postings walk.entry.at e) }
 {
-    let mut tables = Tables::make(alloc, sheet, room_of(sheet))?;
     let mut walk = walk;
     loop {
         let Some(posting) = walk.next() else {
             return Ok(walk);
         };
-        (tables, walk) = replay_posting(alloc, sheet, tables, walk, posting)?;
+        walk = replay_posting(alloc, planner, walk, posting)?;
         if walk.begins_period() {
             return Ok(walk);
         }
     }
 }
 
-/// Passes the postings of a period, from its first on.
+/// A sheet that planners may share.
+fn share(alloc: Global, sheet: Sheet) -> Result<Arc<Sheet>, AllocError>
+    ensures { IfOk result (λ s. s.value ≡ sheet) }
+{
+    Ok(Arc::new(alloc, sheet)?)
+}
+
+/// Passes the postings of a period, from its first on. The planner plans under the period's sheet then.
 fn replay_period<'w>(
     alloc: Global,
     instruction: &Arc<Instruction>,
+    planner: &mut Planner,
     sheets: &[Vec<u32>],
     walk: Walk<'w>,
 ) -> Result<Walk<'w>, ReplayFault>
@@ -86,7 +95,9 @@ fn replay_period<'w>(
     ensures refused { IfErr result (λ e. e ≢ Memory → IsMet (along walk.entry sheets.now) e) }
 {
     let sheet = opened_sheet(alloc, instruction, sheets, &walk)?;
-    replay_under(alloc, &sheet, walk)
+    let shared = share(alloc, sheet)?;
+    planner.renew(alloc, shared)?;
+    replay_under(alloc, planner, walk)
 }
 
 /// Whether a journal of at most 1,000,000 postings is lawful for an instruction: each cutting is one that none
@@ -105,9 +116,11 @@ pub fn replay(
 {
     let _valid = instruction.period();
     let sheets = journal.sheets.as_slice();
+    let base = Sheet::base(alloc, instruction.clone()?)?;
+    let mut planner = Planner::make(alloc, share(alloc, base)?)?;
     let mut walk = Walk::opening(alloc, instruction, journal.entries.as_slice())?;
     while walk.next().is_some() {
-        walk = replay_period(alloc, instruction, sheets, walk)?;
+        walk = replay_period(alloc, instruction, &mut planner, sheets, walk)?;
     }
     let _at = walk.at();
     check_end(instruction, sheets, &walk)

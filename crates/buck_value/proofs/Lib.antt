@@ -2,11 +2,6 @@ pub mod Prices
 pub mod Classes
 pub mod Rows
 pub mod Rates
-pub mod WoodLemmas
-pub mod CodesLemmas
-pub mod PushLemmas
-pub mod TablesLemmas
-pub mod LadderLemmas
-pub mod CellLemmas
-pub mod RelaxLemmas
+pub mod Stands
+pub mod Grades
 pub mod Untrimmed

@@ -2,9 +2,6 @@ pub mod Sheet
 pub mod Volume
 pub mod Allowed
 pub mod Prepared
-pub mod Codes
-pub mod Relaxed
-pub mod Quotes
-pub mod Push
+pub mod Wood
 pub mod Untrimmed
 pub mod inner

@@ -1,5 +1,5 @@
 -- A stem prepared for cutting under a sheet, as clauses see it.
-use Rattle.std.specs.Prelude.{ℕ, ◌+◌, ◌-◌, ◌*◌, ◌/◌, List, [], slice_get, slice_index, Option, Some, None}
+use Rattle.std.specs.Prelude.{ℕ, ◌+◌, ◌*◌, ◌/◌, List, [], slice_get, slice_index, Option, Some, None}
 use Rattle.buck_apt.specs.Instruction.{AssortmentParts}
 use Rattle.buck_stem.specs.Stem.{StemParts, stem_length}
 use Rattle.buck_value.specs.declared.log.Log.{Log}
@@ -9,22 +9,13 @@ use Rattle.buck_value.specs.Allowed.{log_of}
 pub record PreparedParts : Type 0 where
   pub sheet : SheetParts
   pub stem : StemParts
-  pub codes : List ℕ  -- of the logs that the instruction offers
 
-abbrev pub prepared_of : SheetParts → StemParts → List ℕ → PreparedParts
-prepared_of sheet stem codes = record { sheet = sheet; stem = stem; codes = codes }
+abbrev pub prepared_of : SheetParts → StemParts → PreparedParts
+prepared_of sheet stem = record { sheet = sheet; stem = stem }
 
 -- how many points there are, the places at which a log may start: the multiples of the module, the butt among them
 abbrev pub points_of : PreparedParts → ℕ
 points_of p = stem_length p.stem.samples / p.sheet.instruction.«module» + 1
-
--- how many places there are from which a cutting goes on: the points, and one past the last, since a trim may end between
-abbrev pub ends_of : PreparedParts → ℕ
-ends_of p = points_of p + 1
-
--- the first point at or after a place
-abbrev pub point_after : ℕ → ℕ → ℕ
-point_after step place = (place + (step - 1)) / step
 
 abbrev pub lengths_in : Option AssortmentParts → List ℕ
 lengths_in None = []

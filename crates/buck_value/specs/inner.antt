@@ -1,1 +1,2 @@
 pub mod Sheet
+pub mod Wood

@@ -1,15 +1,12 @@
 //! Price sheets: which logs of a stem are allowed, their class and their worth.
 #![tactic(auto)]
 
-mod codes;
 mod fault;
-mod ladder;
 pub mod laws;
 mod log;
 mod prepared;
-mod push;
 mod sheet;
-mod tables;
+mod wood;
 mod worth;
 
 pub use buck_record::Memory;
@@ -17,7 +14,7 @@ pub use fault::SheetFault;
 pub use log::Log;
 pub use prepared::Prepared;
 pub use sheet::Sheet;
-pub use tables::{Tables, room_of};
+pub use wood::{Wood, takes};
 pub use worth::{
     class_of, column_of, log_worth, row_of, volume_of, worth_if_allowed, worth_in_class,
     worth_of_piece,

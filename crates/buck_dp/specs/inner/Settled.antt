@@ -2,11 +2,12 @@
 use Rattle.std.specs.Prelude.{◌≡◌, ℕ, ◌+◌, ◌*◌, ◌/◌, ◌<◌, ◌≤◌, ◌⊎◌, List, slice_index, Contains}
 use Rattle.buck_value.specs.declared.log.Log.{Log}
 use Rattle.buck_value.specs.Allowed.{top_of, trim_of}
-use Rattle.buck_value.specs.Prepared.{PreparedParts, points_of, ends_of}
-use Rattle.buck_value.specs.Relaxed.{IsFromTo, IsBid, unmarked}
+use Rattle.buck_dp.specs.inner.Points.{GroundParts, points_of, ends_of}
+use Rattle.buck_dp.specs.inner.Points.{IsFromTo, IsBid}
+use Rattle.buck_bid.specs.Bid.{unranked}
 
 -- the bid of an allowed log with a trim from point i, whose length ends at point j and after which point e is the first
-pub record IsLogBid (p : PreparedParts) (i j e trim bid : ℕ) : Type 0 where
+pub record IsLogBid (p : GroundParts) (i j e trim bid : ℕ) : Type 0 where
   pub log : Log
   pub between : IsFromTo p i e log
   pub top : top_of log ≡ j * p.sheet.instruction.«module»
@@ -22,13 +23,13 @@ Reaches values i v = (v ≤ slice_index values i) ⊎ ((k : ℕ) × (i < k) × (
 
 -- the points from s on are settled; of the logs after which one of these is the first, those that are done bring no more than
 -- the values tell; and each value is at most what a log, or starting none, brings
-pub record AreSettled (p : PreparedParts) (values : List ℕ) (s : ℕ) (Done : ℕ → ℕ → ℕ → ℕ → Type 0) : Type 0 where
-  pub falls : (k : ℕ) → s ≤ k → unmarked (slice_index values (k + 1)) ≤ slice_index values k
+pub record AreSettled (p : GroundParts) (values : List ℕ) (s : ℕ) (Done : ℕ → ℕ → ℕ → ℕ → Type 0) : Type 0 where
+  pub falls : (k : ℕ) → s ≤ k → unranked (slice_index values (k + 1)) ≤ slice_index values k
   pub each : (i j e trim bid : ℕ) → s ≤ e → Done i j e trim → IsLogBid p i j e trim bid
-      → Reaches values i (bid + unmarked (slice_index values e))
+      → Reaches values i (bid + unranked (slice_index values e))
   pub one : (i : ℕ) → (e : ℕ) × (bid : ℕ) × (i < e) × (s ≤ e)
       × ((bid ≡ 0) ⊎ ((j : ℕ) × (trim : ℕ) × IsLogBid p i j e trim bid))
-      × (slice_index values i ≤ bid + unmarked (slice_index values e))
+      × (slice_index values i ≤ bid + unranked (slice_index values e))
 
 -- logs after which a point from `past` on is the first
 abbrev pub EndsPast : ℕ → ℕ → ℕ → ℕ → ℕ → Type 0

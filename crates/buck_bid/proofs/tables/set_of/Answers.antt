@@ -1,7 +1,7 @@
 use Rattle.std.proofs.Common.{◌≡◌, length, slice_get, Some, refl, subst}
 use Rattle.std.proofs.lemmas.Option.{slice_get_read}
 use Rattle.buck_bid.specs.declared.tables.Kind.{Kind}
-use Rattle.buck_bid.specs.declared.wood.Wood.{Wood}
+use Rattle.buck_value.specs.declared.wood.Wood.{Wood}
 use Rattle.buck_bid.specs.Tables.{HasTakers}
 use Rattle.buck_bid.proofs.tables.set_of.Goals as goal
 

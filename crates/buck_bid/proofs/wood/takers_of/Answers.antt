@@ -4,7 +4,7 @@ use Rattle.std.proofs.lemmas.Bool.{cases_lt}
 use Rattle.std.proofs.lemmas.Option.{same_Some, slice_get_within}
 use Rattle.std.proofs.lemmas.List.{get_or_append_left, get_or_push}
 use Rattle.buck_apt.specs.Instruction.{AssortmentParts}
-use Rattle.buck_bid.specs.Wood.{TakesWood}
+use Rattle.buck_value.specs.Wood.{TakesWood}
 use Rattle.buck_bid.proofs.ListLemmas.{read_at}
 use Rattle.buck_bid.proofs.wood.takers_of.Goals as goal
 

@@ -1,7 +1,7 @@
 use Rattle.std.proofs.Common.{◌≡◌, ℕ, ◌<◌, ◌↔◌, length, slice_get, Some}
 use Rattle.buck_apt.specs.Instruction.{AssortmentParts}
 use Rattle.buck_bid.specs.Columns.{IsMarked}
-use Rattle.buck_bid.specs.Wood.{TakesWood}
+use Rattle.buck_value.specs.Wood.{TakesWood}
 use Rattle.buck_bid.proofs.wood.takers_of.Given as goal
 
 abbrev pub invariant-loop-place : goal.invariant-loop-place

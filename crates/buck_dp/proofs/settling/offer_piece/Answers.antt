@@ -3,11 +3,11 @@ use Rattle.buck_apt.specs.Instruction.{InstructionParts}
 use Rattle.buck_stem.specs.Stem.{StemParts}
 use Rattle.buck_stem.specs.Profile.{ProfileParts, IsMask}
 use Rattle.buck_stem.specs.Profile as grid
-use Rattle.buck_value.specs.Prepared.{PreparedParts, point_after}
+use Rattle.buck_dp.specs.inner.Points.{GroundParts, point_after}
 use Rattle.buck_value.specs.Sheet.{SheetParts}
-use Rattle.buck_value.specs.Relaxed.{unmarked}
+use Rattle.buck_bid.specs.Bid.{unranked}
 use Rattle.buck_bid.specs.declared.columns.Columns.{Columns}
-use Rattle.buck_bid.specs.declared.wood.Wood.{Wood}
+use Rattle.buck_value.specs.declared.wood.Wood.{Wood}
 use Rattle.buck_bid.specs.declared.offers.Offer.{Offer}
 use Rattle.buck_bid.specs.Offers.{codes_in}
 use Rattle.buck_bid.specs.Columns.{AreColumnsOf}
@@ -20,7 +20,7 @@ use Rattle.buck_dp.proofs.settling.offer_piece.Goals as goal
 
 pub loop-stop-init : goal.loop-stop-init
 loop-stop-init c =
-    let p : PreparedParts = ground_of c.args.ground.sheet.now c.args.ground.stem.now c.args.tables.now in
+    let p : GroundParts = ground_of c.args.ground.sheet.now c.args.ground.stem.now c.args.tables.now in
     record {
       tables = c.requires.tables;
       offers = refl;
@@ -37,7 +37,7 @@ loop-stop-init c =
 
 pub returns-clause-offered : goal.returns-clause-offered
 returns-clause-offered c start end trims piece settled =
-    let p : PreparedParts = ground_of c.args.ground.sheet.now c.args.ground.stem.now c.args.tables.now in
+    let p : GroundParts = ground_of c.args.ground.sheet.now c.args.ground.stem.now c.args.tables.now in
     let done = c.loop-stop.invariant.offered start end trims piece settled in
     record {
       settled = settled_as p c.loop-stop.values start (StartsFrom end trims c.args.trim c.args.past c.args.from c.loop-stop.stop) (TopsFrom end trims c.args.trim c.args.from) done.settled
@@ -51,7 +51,7 @@ bases_after-requires c =
     c.module.ensures.«module» ∙ ap (λ (i : InstructionParts). i.«module») c.deref.ensures ∙ ap (λ (i : InstructionParts). i.«module») c.instruction.ensures.instruction in
     let rise : c.steps_after-rise.result ≡ point_after c.args.ground.sheet.now.instruction.«module» c.args.trim =
     c.steps_after-rise.ensures.rise ∙ ap (λ n. point_after n c.args.trim) unit in
-    let p : PreparedParts = ground_of c.args.ground.sheet.now c.args.ground.stem.now c.args.tables.now in
+    let p : GroundParts = ground_of c.args.ground.sheet.now c.args.ground.stem.now c.args.tables.now in
     let top = after_fits p (c.args.past - 1) c.args.trim c.requires.ground.valid (c.requires.fits (c.args.past - 1) (omega (arith, c.requires.order)) (omega (arith, c.requires.order))) in
     omega (arith, c.requires.room)
 
@@ -61,7 +61,7 @@ push_columns-requires-clause-bases c =
     c.module.ensures.«module» ∙ ap (λ (i : InstructionParts). i.«module») c.deref.ensures ∙ ap (λ (i : InstructionParts). i.«module») c.instruction.ensures.instruction in
     let rise : c.steps_after-rise.result ≡ point_after c.args.ground.sheet.now.instruction.«module» c.args.trim =
     c.steps_after-rise.ensures.rise ∙ ap (λ n. point_after n c.args.trim) unit in
-    let p : PreparedParts = ground_of c.args.ground.sheet.now c.args.ground.stem.now c.args.tables.now in
+    let p : GroundParts = ground_of c.args.ground.sheet.now c.args.ground.stem.now c.args.tables.now in
     let top = after_fits p (c.args.past - 1) c.args.trim c.requires.ground.valid (c.requires.fits (c.args.past - 1) (omega (arith, c.requires.order)) (omega (arith, c.requires.order))) in
     omega (arith, c.requires.room, c.bases_after.ensures.number, c.requires.order)
 
@@ -135,7 +135,7 @@ loop-stop-preserved c =
     ap (λ (x : Columns). x.band.past) cols ∙ f.thin ∙ ap (λ (xs : List ℕ). slice_index xs (c.in_ok-found.found.band + 1)) same_limits ∙ ap (λ n. slice_index limits (n + 1)) band in
     let sheet : SheetParts = c.args.ground.sheet.now in
     let stem : StemParts = c.args.ground.stem.now in
-    let p : PreparedParts = ground_of sheet stem c.args.tables.now in
+    let p : GroundParts = ground_of sheet stem c.args.tables.now in
     let step : ℕ = sheet.instruction.«module» in
     let same_offers : c.find.new.self.offers.items ≡ c.args.tables.now.offers.items = c.find.ensures.offers ∙ c.loop-stop.invariant.offers in
     let profile = c.requires.ground.same in
@@ -164,11 +164,11 @@ loop-stop-preserved c =
       offered = λ start end trims piece settled.
           let was = c.loop-stop.invariant.offered start end trims piece settled in
           let base : (j : ℕ) → span.from ≤ j → j < span.past
-          → slice_index c.bases_after.result.now j ≡ unmarked (slice_index c.loop-stop.values (j + point_after step c.args.trim)) =
+          → slice_index c.bases_after.result.now j ≡ unranked (slice_index c.loop-stop.values (j + point_after step c.args.trim)) =
           (λ j low high.
           let r = piece.range j low high in
           c.bases_after.ensures.shifted j ∙ ap (λ n. slice_index c.args.bases.now (j + n)) rise ∙ piece.base (j + point_after step c.args.trim) r.0 r.1
-          ∙ ap unmarked (sym (was.later (j + point_after step c.args.trim) r.0))) in
+          ∙ ap unranked (sym (was.later (j + point_after step c.args.trim) r.0))) in
           let in_band : (j : ℕ) → span.from ≤ j → j < span.past
           → (c.columns.result.now.band.thinnest ≤ slice_index c.args.ground.diameters.now j) × (slice_index c.args.ground.diameters.now j < c.columns.result.now.band.past) =
           (λ j low high. (omega (arith, c.requires.in_band j low high), omega (arith, c.requires.in_band j low high))) in

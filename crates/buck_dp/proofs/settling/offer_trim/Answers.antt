@@ -5,8 +5,8 @@ use Rattle.buck_stem.specs.Stem.{StemParts, stem_length}
 use Rattle.buck_stem.specs.Profile.{ProfileParts}
 use Rattle.buck_stem.specs.Profile as grid
 use Rattle.buck_value.specs.Sheet.{SheetParts, IsSheet}
-use Rattle.buck_value.specs.Prepared.{PreparedParts, points_of, point_after, prepared_of}
-use Rattle.buck_value.specs.Relaxed.{unmarked}
+use Rattle.buck_dp.specs.inner.Points.{GroundParts, points_of, point_after, ground_with}
+use Rattle.buck_bid.specs.Bid.{unranked}
 use Rattle.buck_bid.specs.declared.offers.Offer.{Offer}
 use Rattle.buck_bid.specs.Offers.{codes_in}
 use Rattle.buck_dp.specs.inner.Settled.{IsLogBid, AreSettled, HasTrim, TopsFrom}
@@ -24,7 +24,7 @@ rise_is s d i unit rise trim is deref of rises =
 pub loop-high-init : goal.loop-high-init
 loop-high-init c =
     let s : SheetParts = c.args.ground.sheet.now in
-    let p : PreparedParts = ground_of s c.args.ground.stem.now c.args.tables.now in
+    let p : GroundParts = ground_of s c.args.ground.stem.now c.args.tables.now in
     let step : ℕ = s.instruction.«module» in
     let unit : c.module-module.result ≡ step =
     c.module-module.ensures.«module» ∙ ap (λ (x : InstructionParts). x.«module») c.deref.ensures ∙ ap (λ (x : InstructionParts). x.«module») c.instruction.ensures.instruction in
@@ -54,7 +54,7 @@ loop-high-init c =
     }
 
 -- tops from which a trim lies within the stem are points
-tops_there : (p : PreparedParts) (high trim : ℕ) → IsSheet p.sheet → 0 < high
+tops_there : (p : GroundParts) (high trim : ℕ) → IsSheet p.sheet → 0 < high
     → ((j : ℕ) → j < high → j * p.sheet.instruction.«module» + trim ≤ stem_length p.stem.samples) → high ≤ points_of p
 tops_there p high trim v some fits =
     let pos : 0 < p.sheet.instruction.«module» = omega (arith, v.valid.module_range) in
@@ -63,26 +63,26 @@ tops_there p high trim v some fits =
 
 pub run_start-run-requires : goal.run_start-run-requires
 run_start-run-requires c =
-    let p : PreparedParts = ground_of c.args.ground.sheet.now c.args.ground.stem.now c.args.tables.now in
+    let p : GroundParts = ground_of c.args.ground.sheet.now c.args.ground.stem.now c.args.tables.now in
     let there = tops_there p c.loop-high.high c.args.trim c.requires.ground.valid (omega (arith, c.loop-high-test.true)) c.loop-high.invariant.fits in
     subst (λ (q : ProfileParts). c.loop-high.high - 2 + 1 < grid.points_of q) (sym c.requires.ground.same)
     (omega (arith, c.loop-high-test.true, c.max-low.ensures))
 
 pub band_of-band-requires-clause-diameter : goal.band_of-band-requires-clause-diameter
 band_of-band-requires-clause-diameter c =
-    let p : PreparedParts = ground_of c.args.ground.sheet.now c.args.ground.stem.now c.args.tables.now in
+    let p : GroundParts = ground_of c.args.ground.sheet.now c.args.ground.stem.now c.args.tables.now in
     let there = tops_there p c.loop-high.high c.args.trim c.requires.ground.valid (omega (arith, c.loop-high-test.true)) c.loop-high.invariant.fits in
     c.requires.ground.thin (c.loop-high.high - 1) (omega (arith, c.loop-high-test.true))
 
 pub piece_start-start-requires-clause-high : goal.piece_start-start-requires-clause-high
 piece_start-start-requires-clause-high c =
-    let p : PreparedParts = ground_of c.args.ground.sheet.now c.args.ground.stem.now c.args.tables.now in
+    let p : GroundParts = ground_of c.args.ground.sheet.now c.args.ground.stem.now c.args.tables.now in
     let there = tops_there p c.loop-high.high c.args.trim c.requires.ground.valid (omega (arith, c.loop-high-test.true)) c.loop-high.invariant.fits in
     omega (arith, c.requires.ground.number)
 
 pub offer_piece-requires-clause-past : goal.offer_piece-requires-clause-past
 offer_piece-requires-clause-past c =
-    let p : PreparedParts = ground_of c.args.ground.sheet.now c.args.ground.stem.now c.args.tables.now in
+    let p : GroundParts = ground_of c.args.ground.sheet.now c.args.ground.stem.now c.args.tables.now in
     let there = tops_there p c.loop-high.high c.args.trim c.requires.ground.valid (omega (arith, c.loop-high-test.true)) c.loop-high.invariant.fits in
     omega (arith, c.requires.ground.number)
 
@@ -95,7 +95,7 @@ pub loop-high-preserved : goal.loop-high-preserved
 loop-high-preserved c =
     let s : SheetParts = c.args.ground.sheet.now in
     let stem : StemParts = c.args.ground.stem.now in
-    let p : PreparedParts = ground_of s stem c.args.tables.now in
+    let p : GroundParts = ground_of s stem c.args.tables.now in
     let step : ℕ = s.instruction.«module» in
     let rise : c.steps_after-rise.result ≡ point_after step c.args.trim =
     rise_is s _ _ c.module-module.result c.steps_after-rise.result c.args.trim c.module-module.ensures.«module» c.deref.ensures c.instruction.ensures.instruction c.steps_after-rise.ensures.rise in
@@ -119,19 +119,19 @@ loop-high-preserved c =
             short = λ i j e t bid log low. omega (arith, c.requires.long i j e t bid log, after_is p c.requires.ground.valid i j e t bid log);
             far = λ i j e t bid log low. omega (arith, c.requires.long i j e t bid log, c.requires.order);
             range = λ j low lt. (omega arith, omega arith);
-            base = λ e low lt. c.requires.base e low lt ∙ ap unmarked (sym (was.later e low));
+            base = λ e low lt. c.requires.base e low lt ∙ ap unranked (sym (was.later e low));
           } in
-          let new = subst (λ (os : List Offer). IsOffered (prepared_of s stem (codes_in os)) c.loop-high.values c.offer_piece.new.values c.args.from (TopsFrom c.args.past trims c.args.trim start)) offers
+          let new = subst (λ (os : List Offer). IsOffered (ground_with s stem (codes_in os)) c.loop-high.values c.offer_piece.new.values c.args.from (TopsFrom c.args.past trims c.args.trim start)) offers
           (c.in_ok-offer_piece.ensures.offered c.args.from c.args.past trims
-          (subst (λ (os : List Offer). IsPieceOf (prepared_of s stem (codes_in os)) c.loop-high.values c.args.bases.now c.args.from c.args.past c.args.trim start high) (sym offers) piece)
-          (subst (λ (os : List Offer). AreSettled (prepared_of s stem (codes_in os)) c.loop-high.values c.args.from (TopsFrom c.args.past trims c.args.trim high)) (sym offers) was.settled)) in
+          (subst (λ (os : List Offer). IsPieceOf (ground_with s stem (codes_in os)) c.loop-high.values c.args.bases.now c.args.from c.args.past c.args.trim start high) (sym offers) piece)
+          (subst (λ (os : List Offer). AreSettled (ground_with s stem (codes_in os)) c.loop-high.values c.args.from (TopsFrom c.args.past trims c.args.trim high)) (sym offers) was.settled)) in
           record { settled = new.settled; later = λ k low. new.later k low ∙ was.later k low };
     }
 
 pub returns-clause-offered : goal.returns-clause-offered
 returns-clause-offered c trims settled =
     let s : SheetParts = c.args.ground.sheet.now in
-    let p : PreparedParts = ground_of s c.args.ground.stem.now c.args.tables.now in
+    let p : GroundParts = ground_of s c.args.ground.stem.now c.args.tables.now in
     let step : ℕ = s.instruction.«module» in
     let rise : c.steps_after-rise.result ≡ point_after step c.args.trim =
     rise_is s _ _ c.module-module.result c.steps_after-rise.result c.args.trim c.module-module.ensures.«module» c.deref.ensures c.instruction.ensures.instruction c.steps_after-rise.ensures.rise in

@@ -1,4 +1,4 @@
-use Rattle.std.proofs.Common.{subst}
+use Rattle.std.proofs.Common.{◌∙◌, subst}
 use Rattle.std.proofs.lemmas.Result.{err_from_is_err_and}
 use Rattle.buck_book.proofs.Sheets.{weaken_ok}
 use Rattle.buck_journal.specs.inner.Replay.{along, AreRightUnder, IsMetUnder}
@@ -17,7 +17,7 @@ returns-clause-right c =
     let a = c.args.walk in
     let h = along a c.args.sheets.now in
     weaken_ok c.replay_under.result
-    (λ w r. right_along h a.at w.at c.requires.right c.in_ok-sheet.ensures.right (subst (λ s. AreRightUnder s a.postings a.at w.at) c.in_ok-sheet.ensures.sheet r))
+    (λ w r. right_along h a.at w.at c.requires.right c.in_ok-sheet.ensures.right (subst (λ s. AreRightUnder s a.postings a.at w.at) (c.in_ok-renew.ensures.renewed ∙ c.in_ok-shared.ensures ∙ c.in_ok-sheet.ensures.sheet) r))
     c.replay_under.ensures.right
 
 pub returns-clause-refused : goal.returns-clause-refused
@@ -25,5 +25,5 @@ returns-clause-refused c =
     let a = c.args.walk in
     let h = along a c.args.sheets.now in
     weaken_err c.replay_under.result
-    (λ e met told. met_along h a.at e c.requires.right c.in_ok-sheet.ensures.right (subst (λ s. IsMetUnder s a.postings a.at e) c.in_ok-sheet.ensures.sheet (met told)))
+    (λ e met told. met_along h a.at e c.requires.right c.in_ok-sheet.ensures.right (subst (λ s. IsMetUnder s a.postings a.at e) (c.in_ok-renew.ensures.renewed ∙ c.in_ok-shared.ensures ∙ c.in_ok-sheet.ensures.sheet) (met told)))
     c.replay_under.ensures.refused

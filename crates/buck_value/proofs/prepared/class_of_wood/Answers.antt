@@ -3,13 +3,13 @@ use Rattle.std.proofs.Common.{◌≡◌, ℕ, ◌+◌, ◌*◌, ◌≤◌, lengt
 use Rattle.buck_apt.specs.declared.class.Class.{Class}
 use Rattle.buck_apt.specs.Instruction.{AssortmentParts}
 use Rattle.buck_stem.specs.Stem.{StemParts}
-use Rattle.buck_value.specs.declared.ladder.Wood.{Wood}
+use Rattle.buck_value.specs.declared.wood.Wood.{Wood}
 use Rattle.buck_value.specs.declared.log.Log.{Log}
 use Rattle.buck_value.specs.Allowed.{log_of, top_of, top_diameter, row_at, column_of, class_place}
-use Rattle.buck_value.specs.Quotes.{IsWood}
+use Rattle.buck_value.specs.inner.Wood.{IsWood}
 use Rattle.buck_value.proofs.Classes.{allows_by_tests}
-use Rattle.buck_value.proofs.WoodLemmas.{mask_allows}
-use Rattle.buck_value.proofs.LadderLemmas.{found_at, column_is}
+use Rattle.buck_value.proofs.Grades.{mask_allows}
+use Rattle.buck_value.proofs.Stands.{found_at, column_is}
 use Rattle.buck_value.proofs.prepared.class_of_wood.Goals as goal
 
 -- the class of its numbers
@@ -17,9 +17,9 @@ abbrev make_class : ℕ → ℕ → ℕ → Class
 make_class a row column = record { assortment = a; row = row; column = column }
 
 -- the row of logs of some wood
-row_is : (a : AssortmentParts) (step row : ℕ) (stem : StemParts) (wood : Wood) (g : Log) → row ≡ row_at a wood.diameter
-    → IsWood step wood stem g → row ≡ row_at a (top_diameter stem g)
-row_is a step row stem wood g is w = is ∙ ap (row_at a) (sym w.top)
+row_is : (a : AssortmentParts) (step row : ℕ) (stem : StemParts) (wood : Wood) (d : ℕ) (g : Log) → row ≡ row_at a d
+    → IsWood step wood d stem g → row ≡ row_at a (top_diameter stem g)
+row_is a step row stem wood d g is w = is ∙ ap (row_at a) (sym w.top)
 
 pub returns-then-not-takes-clause-none : goal.returns-then-not-takes-clause-none
 returns-then-not-takes-clause-none c = λ step stem start w al.
@@ -36,7 +36,7 @@ returns-then-price-eq0-clause-none c = λ step stem start w al.
     let g : Log = log_of start (slice_index a.lengths c.args.column) c.args.place in
     let column : column_of a g.length ≡ c.args.column =
     column_is a c.args.column c.lengths-lengths.ensures.valid c.requires.column in
-    let rows : row ≡ row_at a (top_diameter stem g) = row_is a step row stem c.args.wood g c.row_of-row.ensures.row w in
+    let rows : row ≡ row_at a (top_diameter stem g) = row_is a step row stem c.args.wood c.args.diameter g c.row_of-row.ensures.row w in
     let place : class_place a stem g ≡ row * length a.lengths + c.args.column =
     omega (arith, column, ap (λ r. r * length a.lengths) rows) in
     al.priced (ap (slice_index a.prices) place ∙ sym c.price.ensures ∙ c.if-price-eq0.true)
@@ -47,15 +47,15 @@ returns-clause-allowed c = λ step stem start w.
     let wood : Wood = c.args.wood in
     let g : Log = log_of start (slice_index a.lengths c.args.column) c.args.place in
     let taken = c.takes.ensures.0 c.if-not-takes.false in
-    let low : slice_index c.diameters.result.now 0 ≤ wood.diameter = c.if-wood-diameters.false in
-    allows_by_tests step a stem g c.args.column c.row_of-row.result c.price.result wood.diameter
+    let low : slice_index c.diameters.result.now 0 ≤ c.args.diameter = c.if-diameter-diameters.false in
+    allows_by_tests step a stem g c.args.column c.row_of-row.result c.price.result c.args.diameter
     (taken.0 ∙ sym w.species) w.on_module
     (found_at a.lengths c.args.column c.lengths-lengths.ensures.valid.lengths_rise c.requires.column)
     (omega (arith, w.within, c.requires.trim))
     ((mask_allows stem start (top_of g) wood.grades a.grades w.valid w.grades).0 taken.1)
     (sym w.top)
     (rw c.diameters.ensures.limits at low)
-    (omega (arith, c.upper.ensures, c.if-upper-wood.false))
+    (omega (arith, c.upper.ensures, c.if-upper-diameter.false))
     c.row_of-row.ensures.row c.price.ensures c.if-price-eq0.false
 
 pub returns-clause-class : goal.returns-clause-class
@@ -65,6 +65,6 @@ returns-clause-class c = λ step stem start w.
     let g : Log = log_of start (slice_index a.lengths c.args.column) c.args.place in
     let column : column_of a g.length ≡ c.args.column =
     column_is a c.args.column c.lengths-lengths.ensures.valid c.requires.column in
-    let rows : row ≡ row_at a (top_diameter stem g) = row_is a step row stem c.args.wood g c.row_of-row.ensures.row w in
+    let rows : row ≡ row_at a (top_diameter stem g) = row_is a step row stem c.args.wood c.args.diameter g c.row_of-row.ensures.row w in
     ap (λ r. make_class c.args.place r c.args.column) rows
     ∙ ap (make_class c.args.place (row_at a (top_diameter stem g))) (sym column)

@@ -2,7 +2,7 @@ use Rattle.std.proofs.Common.{◌≡◌, ◌+◌, ◌*◌, ◌≤◌, ◌∙◌,
 use Rattle.buck_stem.specs.Stem.{stem_length}
 use Rattle.buck_stem.specs.Profile.{profile_of}
 use Rattle.buck_value.specs.Prepared.{PreparedParts}
-use Rattle.buck_value.proofs.RelaxLemmas.{has_wood, wood_there}
+use Rattle.buck_value.proofs.Grades.{has_wood, wood_there}
 use Rattle.buck_value.proofs.prepared.Prepared.wood.Goals as goal
 
 pub returns-clause-wood : goal.returns-clause-wood
@@ -15,5 +15,5 @@ returns-clause-wood c = λ g at.
     rw (c.wood_of.ensures.trim, same) c.requires.fits in
     wood_there p c.wood_of.result c.args.trim c.args.i c.args.j g
     (has_wood q p.stem p.sheet.instruction.«module» c.args.i c.args.j c.wood_of.result same
-    c.wood_of.ensures.valid c.wood_of.ensures.species c.wood_of.ensures.grades c.wood_of.ensures.diameter fits)
+    c.wood_of.ensures.valid c.wood_of.ensures.species c.wood_of.ensures.grades fits)
     at

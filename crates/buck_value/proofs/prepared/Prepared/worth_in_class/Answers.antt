@@ -3,7 +3,7 @@ use Rattle.std.proofs.lemmas.Option.{get_or_from_slice_get}
 use Rattle.buck_apt.specs.Instruction.{AssortmentParts, IsClass, index_of}
 use Rattle.buck_stem.specs.Stem.{diameter_at}
 use Rattle.buck_value.specs.declared.log.Log.{Log}
-use Rattle.buck_value.specs.Sheet.{SheetParts, price_of}
+use Rattle.buck_value.specs.Sheet.{SheetParts, IsSheet, price_of}
 use Rattle.buck_value.specs.Volume.{volume}
 use Rattle.buck_value.specs.Allowed.{top_diameter}
 use Rattle.buck_value.specs.Prepared.{PreparedParts, lengths_in, log_at}
@@ -15,7 +15,7 @@ pub price-price-requires : goal.price-price-requires
 price-price-requires c =
     let p : PreparedParts = c.args.self.now in
     let g : Log = log_at p c.args.i c.args.assortment c.args.column in
-    let sheet : c.behind-self.inside.sheet.now ≡ p.sheet = cc in
+    let sheet : c.self.inside.sheet.now ≡ p.sheet = cc in
     let class : IsClass p.sheet.instruction c.args.class =
     subst (λ k. IsClass p.sheet.instruction k) (sym c.requires.class)
     (class_is_class p.sheet.instruction p.stem g c.assortment-chosen.ensures.sheet.valid c.requires.allowed) in
@@ -23,8 +23,9 @@ price-price-requires c =
 
 pub worth_of_piece-requires-clause-price : goal.worth_of_piece-requires-clause-price
 worth_of_piece-requires-clause-price c =
-    let s : SheetParts = c.behind-self.inside.sheet.now in
-    rw c.price-price.ensures.price (price-le s (index_of s.instruction c.args.class) c.behind-self.invariant.valid)
+    let s : SheetParts = c.self.inside.sheet.now in
+    let sheet : s ≡ c.args.self.now.sheet = cc in
+    rw c.price-price.ensures.price (price-le s (index_of s.instruction c.args.class) (subst IsSheet (sym sheet) c.assortment-chosen.ensures.sheet))
 
 pub worth_of_piece-requires-clause-cubic : goal.worth_of_piece-requires-clause-cubic
 worth_of_piece-requires-clause-cubic c =
@@ -39,7 +40,7 @@ returns c =
     let x : AssortmentParts = c.assortment-chosen.result.now in
     let there : slice_get all c.args.assortment ≡ Some x = c.assortment-chosen.ensures.there in
     let l : ℕ = slice_index c.lengths.result.now c.args.column in
-    let sheet : c.behind-self.inside.sheet.now ≡ p.sheet = cc in
+    let sheet : c.self.inside.sheet.now ≡ p.sheet = cc in
     let long : l ≡ g.length =
     ap (λ (ls : List ℕ). slice_index ls c.args.column) (c.lengths.ensures.lengths ∙ sym (ap lengths_in there)) in
     let top : c.diameter-top.result ≡ top_diameter p.stem g =

@@ -1,0 +1,14 @@
+use Rattle.std.proofs.Common.{◌≤◌, ◌*◌, ◌-◌}
+use Rattle.buck_dp.specs.inner.Points.{ground_with, ends_of}
+use Rattle.buck_bid.specs.Offers.{codes_in}
+use Rattle.buck_dp.proofs.Walk.{AnyRest}
+use Rattle.buck_dp.proofs.following.follow.Given as goal
+
+abbrev pub invariant-loop-i : goal.invariant-loop-i
+invariant-loop-i l = record {
+  within : l.i ≤ ends_of (ground_with l.ground.sheet.now l.ground.stem.now (codes_in l.offers));
+  best : AnyRest l.ground.sheet.now l.ground.stem.now (l.i * l.ground.sheet.now.instruction.«module») l.logs.items;
+}
+
+abbrev pub decreases-loop-i : goal.decreases-loop-i
+decreases-loop-i l = ends_of (ground_with l.ground.sheet.now l.ground.stem.now (codes_in l.offers)) - l.i
