@@ -65,9 +65,14 @@ pub accepted : (k : ℕ) (stms : List (Option (List ℕ))) (lists : List (Vec (A
 accepted k stms lists made j lt = is_accepted (slice_index_or stms j None) (stems_at lists j) (made j lt)
 
 -- the file at a place is the first that is refused
-pub refused_at : (k : ℕ) (stms : List (Option (List ℕ))) (lists : List (Vec (Arc Stem Global) Global)) (known : Option (List ℕ)) (e : EngineFault)
-    → k < length stms → AreListsOf k stms lists → known ≡ slice_index_or stms k None → IsStemRefusal (k + 1) known e → IsListRefusal stms e
-refused_at k stms lists known e lt made is refusal = record { place = k; exists = lt; accepted = accepted k stms lists made; refusal = subst (λ (o : Option (List ℕ)). IsStemRefusal (k + 1) o e) is refusal }
+pub refused_at : (k : ℕ) (stms : List (Option (List ℕ))) (lists : List (Vec (Arc Stem Global) Global)) (known : Option (List ℕ)) (e : EngineFault) (number : ℕ)
+    → k < length stms → AreListsOf k stms lists → known ≡ slice_index_or stms k None → IsStemRefusal number known e → number ≡ k + 1 → IsListRefusal stms e
+refused_at k stms lists known e number lt made is refusal from_1 = record {
+  place = k;
+  exists = lt;
+  accepted = accepted k stms lists made;
+  refusal = subst (λ (n : ℕ). IsStemRefusal n (slice_index_or stms k None) e) from_1 (subst (λ (o : Option (List ℕ)). IsStemRefusal number o e) is refusal);
+}
 
 -- memory ran out at a place
 pub memory_at : {X : Type 0} (k : ℕ) (stms : List (Option (List ℕ))) (lists : List (Vec (Arc Stem Global) Global)) (r : Result X EngineFault)

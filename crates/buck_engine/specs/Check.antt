@@ -32,7 +32,8 @@ IsCheckRefusal (Apt fault) apt journal = apt_of apt ≡ Err fault
 IsCheckRefusal (Stm file fault) apt journal = ⊥
 IsCheckRefusal (Journal fault) apt journal = IsOk (apt_of apt) × (journal_of journal ≡ Err fault)
 IsCheckRefusal (Replay fault) apt journal =
-    (i : InstructionParts) × (j : JournalParts) × (apt_of apt ≡ Ok i) × (journal_of journal ≡ Ok j) × IsFirstFault (history_of i j) fault
+    (i : InstructionParts) × (j : JournalParts) × (apt_of apt ≡ Ok i) × (journal_of journal ≡ Ok j)
+    × IsFirstFault (history_of i j) fault
 IsCheckRefusal Seats apt journal = ⊥
 IsCheckRefusal Full apt journal = ⊥
 IsCheckRefusal Memory apt journal = Unit {0}

@@ -91,9 +91,11 @@ pub record WroteSome (h : HistoryParts) (OfJournal : OfWriter) (old new : Option
       ⊎ (OfJournal (λ a b. Appends a b (journal_text h.sheets h.postings)) × AppendsSome old new report)
 
 -- how a run of a fleet ended, and what it wrote
-pub record IsFleetRun (apt : Option (List ℕ)) (stms : List (Option (List ℕ))) (OfJournal : OfWriter) (old new : Option (List ℕ)) (outcome : Result (Unit {0}) EngineFault) : Type 0 where
+pub record IsFleetRun (apt : Option (List ℕ)) (stms : List (Option (List ℕ))) (OfJournal : OfWriter)
+    (old new : Option (List ℕ)) (outcome : Result (Unit {0}) EngineFault) : Type 0 where
   pub ok : OnOk outcome ((h : HistoryParts) × IsHarvest apt stms h × WroteAll h OfJournal old new)
   pub refused : IfErr outcome (λ e. IsFleetRefusal e apt stms)
   pub seats : AreNoSeats (length stms) → outcome ≡ Err Seats
   pub unwritten : IfErr outcome (λ e. e ≢ Write → OfJournal Keeps × Keeps old new)
-  pub prefix : IfErr outcome (λ e. e ≡ Write → (h : HistoryParts) × IsHarvest apt stms h × WroteSome h OfJournal old new)
+  pub prefix : IfErr outcome (λ e. e ≡ Write →
+      (h : HistoryParts) × IsHarvest apt stms h × WroteSome h OfJournal old new)

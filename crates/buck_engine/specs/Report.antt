@@ -37,13 +37,15 @@ unfoldable pub class_line : EndingParts → AssortmentParts → Class → List �
 class_line e a c =
     line_of
     (codes "CLASS")
-    (c.assortment ∷ c.row ∷ c.column ∷ slice_index e.targets (index_of e.instruction c) ∷ slice_index e.counts (index_of e.instruction c)
+    (c.assortment ∷ c.row ∷ c.column ∷ slice_index e.targets (index_of e.instruction c)
+    ∷ slice_index e.counts (index_of e.instruction c)
     ∷ slice_index a.prices (c.row * length a.lengths + c.column) ∷ slice_index e.prices (index_of e.instruction c) ∷ [])
 
 -- a line for each class of a row, and those of all rows of the assortment at a place
 abbrev pub row_lines : EndingParts → AssortmentParts → ℕ → ℕ → List ℕ
 row_lines e a at row =
-    flat_map (λ column. class_line e a (record { assortment = at; row = row; column = column })) (range_with_len 0 (length a.lengths))
+    flat_map (λ column. class_line e a (record { assortment = at; row = row; column = column }))
+    (range_with_len 0 (length a.lengths))
 
 abbrev pub class_lines : EndingParts → AssortmentParts → ℕ → List ℕ
 class_lines e a at = flat_map (λ row. row_lines e a at row) (range_with_len 0 (length a.diameters))
@@ -56,7 +58,8 @@ degree_line at None name = codes "DEGREE" ++ (spelled (at ∷ []) ++ named_line_
 -- the lines of the assortment at a place: those of its classes, then its degree
 unfoldable pub assortment_lines : EndingParts → ℕ → AssortmentParts → List ℕ
 assortment_lines e at a =
-    class_lines e a at ++ degree_line at (degree_of (part_of e.instruction a at e.targets) (part_of e.instruction a at e.counts)) a.name
+    class_lines e a at
+    ++ degree_line at (degree_of (part_of e.instruction a at e.targets) (part_of e.instruction a at e.counts)) a.name
 
 -- those of all assortments, of which the first stands at this place
 abbrev pub all_lines : EndingParts → ℕ → List AssortmentParts → List ℕ

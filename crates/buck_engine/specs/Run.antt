@@ -23,10 +23,12 @@ pub record IsRun (apt stm old new : Option (List ℕ)) (outcome : Result (Unit {
 -- the same over one input with a bar between the two
 pub record IsBareRun (input old new : Option (List ℕ)) (outcome : Result (Unit {0}) EngineFault) : Type 0 where
   pub ok : OnOk outcome (IfSome input (λ i. AppendsAnswer old new (before_first is_bar i) (after_first is_bar i)))
-  pub refused : IfErr outcome (λ e. IfSome input (λ i. IsRefusalOf e (before_first is_bar i) (after_first is_bar i)))
+  pub refused : IfErr outcome
+      (λ e. IfSome input (λ i. IsRefusalOf e (before_first is_bar i) (after_first is_bar i)))
   pub read : IfErr outcome (IfRead (λ file. file ≡ 0))
   pub unwritten : IfErr outcome (λ e. e ≢ Write → Keeps old new)
-  pub prefix : IfErr outcome (λ e. e ≡ Write → IfSome input (λ i. AppendsPrefix old new (before_first is_bar i) (after_first is_bar i)))
+  pub prefix : IfErr outcome (λ e. e ≡ Write →
+      IfSome input (λ i. AppendsPrefix old new (before_first is_bar i) (after_first is_bar i)))
 
 -- the same of a check over an instruction file and a journal
 pub record IsCheckRun (apt journal old new : Option (List ℕ)) (outcome : Result (Unit {0}) EngineFault) : Type 0 where
@@ -34,28 +36,37 @@ pub record IsCheckRun (apt journal old new : Option (List ℕ)) (outcome : Resul
   pub refused : IfErr outcome (λ e. IfSome apt (λ i. IfSome journal (λ j. IsCheckRefusal e i j)))
   pub read : IfErr outcome (IfRead (λ file. (file ≡ 0) ⊎ ((file ≡ 1) × IfSome apt (λ i. IsOk (apt_of i)))))
   pub unwritten : IfErr outcome (λ e. e ≢ Write → Keeps old new)
-  pub prefix : IfErr outcome (λ e. e ≡ Write → IfSome apt (λ i. IfSome journal (λ j. AppendsLawfulPrefix old new i j)))
+  pub prefix : IfErr outcome (λ e. e ≡ Write →
+      IfSome apt (λ i. IfSome journal (λ j. AppendsLawfulPrefix old new i j)))
 
--- how a run over two files ends: their bytes, where they are known, what is there of the output before and after, and the outcome
+-- how a run over two files ends: their bytes, where they are known, what is there of the output before and after, and
+-- the outcome
 abbrev pub RunOverTwo : Type 1
-RunOverTwo = Option (List ℕ) → Option (List ℕ) → Option (List ℕ) → Option (List ℕ) → Result (Unit {0}) EngineFault → Type 0
+RunOverTwo = Option (List ℕ) → Option (List ℕ) → Option (List ℕ) → Option (List ℕ)
+    → Result (Unit {0}) EngineFault → Type 0
 
 -- a run over the files that were opened; where one can't be, nothing is written
-abbrev pub RunsOpened : {F : Type 0} → RunOverTwo → (F → Option (List ℕ)) → Result (F × F) EngineFault → Option (List ℕ) → Option (List ℕ) → Result (Unit {0}) EngineFault → Type 0
+abbrev pub RunsOpened : {F : Type 0} → RunOverTwo → (F → Option (List ℕ)) → Result (F × F) EngineFault
+    → Option (List ℕ) → Option (List ℕ) → Result (Unit {0}) EngineFault → Type 0
 RunsOpened Runs held (Ok files) old new outcome = Runs (held files.0) (held files.1) old new outcome
 RunsOpened Runs held (Err fault) old new outcome = (outcome ≡ Err fault) × Keeps old new
 
 -- both files are opened by their names, and then it is run over them
-pub record RunsFiles {O F : Type 0} (Runs : RunOverTwo) (opens : O → List ℕ → Option F → O → Type 0) (held : F → Option (List ℕ)) (start end : O) (first second : List ℕ) (old new : Option (List ℕ)) (outcome : Result (Unit {0}) EngineFault) : Type 0 where
+pub record RunsFiles {O F : Type 0} (Runs : RunOverTwo) (opens : O → List ℕ → Option F → O → Type 0)
+    (held : F → Option (List ℕ)) (start end : O) (first second : List ℕ) (old new : Option (List ℕ))
+    (outcome : Result (Unit {0}) EngineFault) : Type 0 where
   pub opened : Result (F × F) EngineFault
   pub answers : AnswersOpening opens start end first second opened
   pub runs : RunsOpened Runs held opened old new outcome
 
 -- what a task asks for: over the input, or over the files of its names
-abbrev pub RunsTask : {O F : Type 0} → (O → List ℕ → Option F → O → Type 0) → (F → Option (List ℕ)) → O → O → Option (List ℕ) → Task → Option (List ℕ) → Option (List ℕ) → Result (Unit {0}) EngineFault → Type 0
+abbrev pub RunsTask : {O F : Type 0} → (O → List ℕ → Option F → O → Type 0) → (F → Option (List ℕ)) → O → O
+    → Option (List ℕ) → Task → Option (List ℕ) → Option (List ℕ) → Result (Unit {0}) EngineFault → Type 0
 RunsTask opens held start end input Bare old new outcome = IsBareRun input old new outcome
-RunsTask opens held start end input (Buck apt stm) old new outcome = RunsFiles IsRun opens held start end apt.now stm.now old new outcome
-RunsTask opens held start end input (Check apt journal) old new outcome = RunsFiles IsCheckRun opens held start end apt.now journal.now old new outcome
+RunsTask opens held start end input (Buck apt stm) old new outcome =
+    RunsFiles IsRun opens held start end apt.now stm.now old new outcome
+RunsTask opens held start end input (Check apt journal) old new outcome =
+    RunsFiles IsCheckRun opens held start end apt.now journal.now old new outcome
 
 -- the exit status of a run
 abbrev pub status_after : Result (Unit {0}) EngineFault → ℕ

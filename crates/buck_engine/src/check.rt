@@ -60,9 +60,9 @@ fn lawful_text(alloc: Global, postings: usize) -> Result<Vec<u8>, Memory>
 /// only by the price relation.
 ///
 /// The instruction file is file 0 and the journal is file 1. The instruction file is refused where it must be before
-/// the journal is read. `Read` comes where a reader fails or a file is longer than 67,108,864 bytes, `Apt` and `Journal`
-/// where the bytes of a file are refused, `Replay` with the first fault of a journal that isn't lawful, `Write` where
-/// the writer fails, which leaves a prefix of the text, and `Memory` where a growth was refused.
+/// the journal is read. `Read` comes where a reader fails or a file is longer than 67,108,864 bytes, `Apt` and
+/// `Journal` where the bytes of a file are refused, `Replay` with the first fault of a journal that isn't lawful,
+/// `Write` where the writer fails, which leaves a prefix of the text, and `Memory` where a growth was refused.
 pub fn run_check<R: io::Read, W: io::Write>(
     alloc: Global,
     apt: &mut R,
@@ -73,13 +73,16 @@ pub fn run_check<R: io::Read, W: io::Write>(
     ensures ok { OnOk result (IfSome (R.remaining apt.old) (λ instruction. IfSome (R.remaining journal.old) (λ postings.
         AppendsLawful (W.contents writer.old) (W.contents writer.new) instruction postings))) }
     // A refusal is that of the bytes of the first file that has one, or the first fault of the journal.
-    ensures refused { IfErr result (λ e. IfSome (R.remaining apt.old) (λ instruction. IfSome (R.remaining journal.old) (λ postings.
+    ensures refused { IfErr result (λ e.
+        IfSome (R.remaining apt.old) (λ instruction. IfSome (R.remaining journal.old) (λ postings.
         IsCheckRefusal e instruction postings))) }
     // The journal can't be read only where the instruction is not refused.
-    ensures read { IfErr result (IfRead (λ file. (file ≡ 0) ⊎ ((file ≡ 1) × IfSome (R.remaining apt.old) (λ instruction. IsOk (apt_of instruction))))) }
+    ensures read { IfErr result (IfRead (λ file.
+        (file ≡ 0) ⊎ ((file ≡ 1) × IfSome (R.remaining apt.old) (λ instruction. IsOk (apt_of instruction))))) }
     // Only a failed write leaves anything written, and then a prefix of the text.
     ensures unwritten { IfErr result (λ e. e ≢ Write → Keeps (W.contents writer.old) (W.contents writer.new)) }
-    ensures prefix { IfErr result (λ e. e ≡ Write → IfSome (R.remaining apt.old) (λ instruction. IfSome (R.remaining journal.old) (λ postings.
+    ensures prefix { IfErr result (λ e. e ≡ Write →
+        IfSome (R.remaining apt.old) (λ instruction. IfSome (R.remaining journal.old) (λ postings.
         AppendsLawfulPrefix (W.contents writer.old) (W.contents writer.new) instruction postings))) }
 {
     let instruction_bytes = read_file(alloc, apt, 0)?;

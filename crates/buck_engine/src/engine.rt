@@ -85,15 +85,18 @@ pub fn run_buck<R: io::Read, W: io::Write>(
     ensures ok { OnOk result (IfSome (R.remaining apt.old) (λ instruction. IfSome (R.remaining stm.old) (λ stems.
         AppendsAnswer (W.contents writer.old) (W.contents writer.new) instruction stems))) }
     // A refusal is that of the bytes of the first file that has one.
-    ensures refused { IfErr result (λ e. IfSome (R.remaining apt.old) (λ instruction. IfSome (R.remaining stm.old) (λ stems.
+    ensures refused { IfErr result (λ e.
+        IfSome (R.remaining apt.old) (λ instruction. IfSome (R.remaining stm.old) (λ stems.
         IsRefusalOf e instruction stems))) }
     // The stem file can't be read only where the instruction is not refused.
-    ensures read { IfErr result (IfRead (λ file. (file ≡ 0) ⊎ ((file ≡ 1) × IfSome (R.remaining apt.old) (λ instruction. IsOk (apt_of instruction))))) }
+    ensures read { IfErr result (IfRead (λ file.
+        (file ≡ 0) ⊎ ((file ≡ 1) × IfSome (R.remaining apt.old) (λ instruction. IsOk (apt_of instruction))))) }
     // Where the instruction is refused, nothing was read of the stems.
     ensures order { IfErr result (λ e. IsBeforeStems e → stm.new ≡ stm.old) }
     // Only a failed write leaves anything written, and then a prefix of the text.
     ensures unwritten { IfErr result (λ e. e ≢ Write → Keeps (W.contents writer.old) (W.contents writer.new)) }
-    ensures prefix { IfErr result (λ e. e ≡ Write → IfSome (R.remaining apt.old) (λ instruction. IfSome (R.remaining stm.old) (λ stems.
+    ensures prefix { IfErr result (λ e. e ≡ Write →
+        IfSome (R.remaining apt.old) (λ instruction. IfSome (R.remaining stm.old) (λ stems.
         AppendsPrefix (W.contents writer.old) (W.contents writer.new) instruction stems))) }
 {
     let instruction_bytes = read_file(alloc, apt, 0)?;
@@ -116,7 +119,8 @@ pub fn run_bare<R: io::Read, W: io::Write>(
 ) -> Result<(), EngineFault>
     // What is written is the text of the instruction and the stems that the bytes read have.
     ensures ok { OnOk result (IfSome (R.remaining reader.old) (λ input.
-        AppendsAnswer (W.contents writer.old) (W.contents writer.new) (before_first is_bar input) (after_first is_bar input))) }
+        AppendsAnswer (W.contents writer.old) (W.contents writer.new)
+        (before_first is_bar input) (after_first is_bar input))) }
     // A refusal is that of the bytes of the first file that has one.
     ensures refused { IfErr result (λ e. IfSome (R.remaining reader.old) (λ input.
         IsRefusalOf e (before_first is_bar input) (after_first is_bar input))) }
@@ -125,7 +129,8 @@ pub fn run_bare<R: io::Read, W: io::Write>(
     // Only a failed write leaves anything written, and then a prefix of the text.
     ensures unwritten { IfErr result (λ e. e ≢ Write → Keeps (W.contents writer.old) (W.contents writer.new)) }
     ensures prefix { IfErr result (λ e. e ≡ Write → IfSome (R.remaining reader.old) (λ input.
-        AppendsPrefix (W.contents writer.old) (W.contents writer.new) (before_first is_bar input) (after_first is_bar input))) }
+        AppendsPrefix (W.contents writer.old) (W.contents writer.new)
+        (before_first is_bar input) (after_first is_bar input))) }
 {
     let input = read_file(alloc, reader, 0)?;
     let instruction = instruction_in(alloc, apt_part(input.as_slice()))?;

@@ -110,7 +110,8 @@ fn open_all<O: Open>(
     Ok(files)
 }
 
-/// Opens the instruction file and then all stem files in order. The first that can't be opened is `Read` with its number.
+/// Opens the instruction file and then all stem files in order. The first that can't be opened is `Read` with its
+/// number.
 pub(crate) fn open_inputs<O: Open>(
     alloc: Global,
     opener: &mut O,

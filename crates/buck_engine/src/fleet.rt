@@ -6,11 +6,13 @@ ghost use Rattle.buck_book.specs.History.{HistoryParts};
 ghost use Rattle.buck_journal.specs.Written.{journal_text};
 ghost use Rattle.buck_engine.specs.declared.fault.EngineFault.TheVariants.{Seats, Write};
 ghost use Rattle.buck_engine.specs.Lent.{no_writer, of_lent, of_writer};
-ghost use Rattle.buck_engine.specs.Fleet.{AreNoSeats, IfStopped, IsFleetRefusal, IsFleetRun, IsHarvest, WroteAll, WroteSome};
+ghost use Rattle.buck_engine.specs.Fleet.{AreNoSeats, IfStopped, IsFleetRefusal, IsFleetRun, IsHarvest};
+ghost use Rattle.buck_engine.specs.Fleet.{WroteAll, WroteSome};
 ghost use Rattle.buck_engine.specs.inner.Fleet.{AreWritten};
 
 use crate::fault::EngineFault;
 use crate::harvest::harvested;
+use crate::onlooker::{Nobody, Onlooker};
 use crate::output::write_text;
 use crate::report::report_text;
 use buck_fleet::Closed;
@@ -81,6 +83,7 @@ pub(crate) fn run_reported<
     F: Fn(&Standing) -> u64 + Drop + Send,
     T: Threads + Wait + Sync,
     R: io::Read,
+    O: Onlooker + Sync,
     W: io::Write,
 >(
     rt: &T,
@@ -88,6 +91,7 @@ pub(crate) fn run_reported<
     apt: &mut R,
     stms: &mut [R],
     rule: Rule<F>,
+    onlooker: &O,
     out: &mut W,
 ) -> Result<(), EngineFault>
     requires answers { AllAnswer F.Fn }
@@ -96,7 +100,7 @@ pub(crate) fn run_reported<
     ensures order { IfErr result (IfStopped (λ file. drop file stms.new ≡ drop file stms.old)) }
 {
     seated(stms.len())?;
-    let closed = harvested(rt, alloc, apt, stms, rule)?;
+    let closed = harvested(rt, alloc, apt, stms, rule, onlooker)?;
     write_report(alloc, &closed, out)
 }
 
@@ -105,6 +109,7 @@ pub(crate) fn run_journalled<
     F: Fn(&Standing) -> u64 + Drop + Send,
     T: Threads + Wait + Sync,
     R: io::Read,
+    O: Onlooker + Sync,
     J: io::Write,
     W: io::Write,
 >(
@@ -113,6 +118,7 @@ pub(crate) fn run_journalled<
     apt: &mut R,
     stms: &mut [R],
     rule: Rule<F>,
+    onlooker: &O,
     journal: &mut J,
     out: &mut W,
 ) -> Result<(), EngineFault>
@@ -122,20 +128,20 @@ pub(crate) fn run_journalled<
     ensures order { IfErr result (IfStopped (λ file. drop file stms.new ≡ drop file stms.old)) }
 {
     seated(stms.len())?;
-    let closed = harvested(rt, alloc, apt, stms, rule)?;
+    let closed = harvested(rt, alloc, apt, stms, rule, onlooker)?;
     write_journal_and_report(alloc, &closed, journal, out)
 }
 
 /// Reads an instruction file and stem files, cuts the stems of the k-th stem file by harvester k of a fleet, each in a
-/// thread of its own and in file order, and writes the fleet's journal, where one is asked for, and then its report; see
-/// [`report_text`](crate::report_text). Nothing is written before both texts are there.
+/// thread of its own and in file order, and writes the fleet's journal, where one is asked for, and then its report;
+/// see [`report_text`](crate::report_text). Nothing is written before both texts are there.
 ///
 /// The instruction file is file 0, the k-th stem file is file k; each is read, and refused where it must be, before the
-/// next. `Seats` comes where there are not 1 to 64 stem files, before anything is read, `Read` where a reader fails or a
-/// file is longer than 67,108,864 bytes, `Apt` and `Stm` where the bytes of a file are refused, `Full` where there are
-/// more stems than 1,000,000, `Memory` where a growth was refused, `Close` where the history and what the harvesters
-/// were answered differ, and `Write` where a writer fails, which leaves a prefix of the journal and no report, or the
-/// whole journal and a prefix of the report.
+/// next. `Seats` comes where there are not 1 to 64 stem files, before anything is read, `Read` where a reader fails or
+/// a file is longer than 67,108,864 bytes, `Apt` and `Stm` where the bytes of a file are refused, `Full` where there
+/// are more stems than 1,000,000, `Memory` where a growth was refused, `Close` where the history and what the
+/// harvesters were answered differ, and `Write` where a writer fails, which leaves a prefix of the journal and no
+/// report, or the whole journal and a prefix of the report.
 pub fn run_fleet_files<
     F: Fn(&Standing) -> u64 + Drop + Send,
     T: Threads + Wait + Sync,
@@ -161,14 +167,15 @@ pub fn run_fleet_files<
     ensures seats { AreNoSeats (length stms.old) → result ≡ Err Seats }
     // Where a file is refused or can't be read, nothing was read of those after it.
     ensures order { IfErr result (IfStopped (λ file. drop file stms.new ≡ drop file stms.old)) }
-    // Only a failed write leaves anything written, and then a prefix of the journal, or all of it and one of the report.
+    // Only a failed write leaves anything written: a prefix of the journal, or all of it and one of the report.
     ensures unwritten { IfErr result (λ e. e ≢ Write →
         of_lent J.contents journal.entry journal.exit Keeps × Keeps (W.contents out.old) (W.contents out.new)) }
-    ensures prefix { IfErr result (λ e. e ≡ Write → (h : HistoryParts) × IsHarvest (R.remaining apt.old) (map R.remaining stms.old) h
+    ensures prefix { IfErr result (λ e. e ≡ Write → (h : HistoryParts)
+        × IsHarvest (R.remaining apt.old) (map R.remaining stms.old) h
         × WroteSome h (of_lent J.contents journal.entry journal.exit) (W.contents out.old) (W.contents out.new)) }
 {
     match journal {
-        None => run_reported(rt, alloc, apt, stms, rule, out),
-        Some(journal) => run_journalled(rt, alloc, apt, stms, rule, journal, out),
+        None => run_reported(rt, alloc, apt, stms, rule, &Nobody, out),
+        Some(journal) => run_journalled(rt, alloc, apt, stms, rule, &Nobody, journal, out),
     }
 }

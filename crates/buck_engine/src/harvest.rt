@@ -6,13 +6,15 @@ ghost use Rattle.buck_fleet.specs.Crew.{IsCrew, parts_of};
 ghost use Rattle.buck_fleet.specs.Closed.{IsOneHistory};
 ghost use Rattle.buck_fleet.specs.Run.{stems_of};
 ghost use Rattle.buck_engine.specs.Fleet.{IfStopped, IsHarvest};
-ghost use Rattle.buck_engine.specs.inner.Fleet.{AreListsOf, HasCutLists, IsCuttingFault, IsHarvestFault, IsListRefusal, IsStemRefusal};
+ghost use Rattle.buck_engine.specs.inner.Fleet.{AreListsOf, HasCutLists, IsCuttingFault};
+ghost use Rattle.buck_engine.specs.inner.Fleet.{IsHarvestFault, IsListRefusal, IsStemRefusal};
 
 use crate::engine::{instruction_in, stems_in};
 use crate::fault::EngineFault;
 use crate::input::read_file;
+use crate::onlooker::{Onlooker, Seen};
 use buck_apt::Instruction;
-use buck_fleet::{Closed, Fleet, NoGate, OpenFault, RunFault, Seat, run_fleet};
+use buck_fleet::{Closed, Fleet, OpenFault, RunFault, Seat, run_fleet};
 use buck_rule::{Rule, Standing};
 use buck_stem::Stem;
 use std::alloc::Global;
@@ -43,7 +45,8 @@ fn stems_of_file<R: io::Read>(
     reader: &mut R,
     file: u32,
 ) -> Result<Vec<Arc<Stem>>, EngineFault>
-    ensures ok { IfOk result (λ list. IfSome (R.remaining reader.old) (λ bytes. stm_of bytes ≡ Ok (stems_of list.items))) }
+    ensures ok { IfOk result (λ list.
+        IfSome (R.remaining reader.old) (λ bytes. stm_of bytes ≡ Ok (stems_of list.items))) }
     ensures refused { IfErr result (IsStemRefusal file (R.remaining reader.old)) }
 {
     let bytes = read_file(alloc, reader, file)?;
@@ -104,6 +107,7 @@ fn cut_with<
     L: Ledger + Send + Sync,
     F: Fn(&Standing) -> u64 + Drop + Send,
     T: Threads + Wait + Sync,
+    O: Onlooker + Sync,
 >(
     rt: &T,
     alloc: Global,
@@ -111,6 +115,7 @@ fn cut_with<
     instruction: Arc<Instruction>,
     rule: Rule<F>,
     lists: &[Vec<Arc<Stem>>],
+    onlooker: &O,
 ) -> Result<Closed, EngineFault>
     requires blank { (blank.name ≡ L.name) × (blank.parts ≡ L.parts) × (blank.parts ≡ 64) }
     requires answers { AllAnswer F.Fn }
@@ -132,19 +137,21 @@ fn cut_with<
         Err(OpenFault::Memory) => return Err(EngineFault::Memory),
         Err(_) => unreachable!(),
     };
-    match run_fleet(rt, alloc, &fleet, seats, lists, &NoGate) {
+    let gate = Seen { by: onlooker };
+    match run_fleet(rt, alloc, &fleet, seats, lists, &gate) {
         Ok(seats) => closed_of(fleet, seats),
         Err((fault, _)) => Err(stopped(fault)),
     }
 }
 
 /// Cuts one list of stems by each harvester of a fleet, each in a thread of its own, and closes it.
-fn cut_lists<F: Fn(&Standing) -> u64 + Drop + Send, T: Threads + Wait + Sync>(
+fn cut_lists<F: Fn(&Standing) -> u64 + Drop + Send, T: Threads + Wait + Sync, O: Onlooker + Sync>(
     rt: &T,
     alloc: Global,
     instruction: Arc<Instruction>,
     rule: Rule<F>,
     lists: &[Vec<Arc<Stem>>],
+    onlooker: &O,
 ) -> Result<Closed, EngineFault>
     requires answers { AllAnswer F.Fn }
     requires lists { (0 < length lists.now) × (length lists.now ≤ 64) }
@@ -152,7 +159,16 @@ fn cut_lists<F: Fn(&Standing) -> u64 + Drop + Send, T: Threads + Wait + Sync>(
     ensures fault { IfErr result IsCuttingFault }
 {
     let blank = Blank::new(64);
-    cut_with::<Brand, F, T>(rt, alloc, blank, instruction, rule, lists)
+    cut_with::<Brand, F, T, O>(rt, alloc, blank, instruction, rule, lists, onlooker)
+}
+
+/// How many stems stand in all lists.
+fn number_of_stems(lists: &[Vec<Arc<Stem>>]) -> usize {
+    let mut number = 0usize;
+    for list in lists {
+        number = number.saturating_add(list.len());
+    }
+    number
 }
 
 /// Reads an instruction file and stem files, and cuts the stems of each by a harvester of its own.
@@ -160,7 +176,15 @@ pub(crate) fn harvested<
     F: Fn(&Standing) -> u64 + Drop + Send,
     T: Threads + Wait + Sync,
     R: io::Read,
->(rt: &T, alloc: Global, apt: &mut R, stms: &mut [R], rule: Rule<F>) -> Result<Closed, EngineFault>
+    O: Onlooker + Sync,
+>(
+    rt: &T,
+    alloc: Global,
+    apt: &mut R,
+    stms: &mut [R],
+    rule: Rule<F>,
+    onlooker: &O,
+) -> Result<Closed, EngineFault>
     requires answers { AllAnswer F.Fn }
     requires seats { (0 < length stms.old) × (length stms.old ≤ 64) }
     ensures ok { IfOk result (λ closed. IsHarvest (R.remaining apt.old) (map R.remaining stms.old) closed.history) }
@@ -170,5 +194,6 @@ pub(crate) fn harvested<
     let bytes = read_file(alloc, apt, 0)?;
     let instruction = Arc::new(alloc, instruction_in(alloc, bytes.as_slice())?)?;
     let lists = read_lists(alloc, stms)?;
-    cut_lists(rt, alloc, instruction, rule, lists.as_slice())
+    onlooker.cutting(number_of_stems(lists.as_slice()));
+    cut_lists(rt, alloc, instruction, rule, lists.as_slice(), onlooker)
 }

@@ -1,9 +1,10 @@
 //! Writing texts and fault lines.
-ghost use Rattle.std.specs.Prelude.{◌∷◌};
+ghost use Rattle.std.specs.Prelude.{◌∷◌, []};
 ghost use Rattle.std.specs.Fmt.{decimal};
 ghost use Rattle.buck_record.specs.Written.{spelled};
 ghost use Rattle.buck_record.specs.Line.{line_of};
-ghost use Rattle.buck_engine.specs.Faults.{apt_line, stm_line, stm_numbered, journal_line, replay_line, close_line, fault_line};
+ghost use Rattle.buck_engine.specs.Faults.{apt_line, apt_numbered, stm_line, stm_numbered, journal_line};
+ghost use Rattle.buck_engine.specs.Faults.{replay_line, close_line, fault_line};
 ghost use Rattle.buck_engine.specs.Output.{IsWritten, TellsWritten};
 
 use crate::fault::EngineFault;
@@ -83,6 +84,23 @@ fn write_stm_line<W: io::Write>(
     write_line(writer, b" fault", numbers)
 }
 
+/// Writes the line of an instruction file's fault of this number, which is one of an item.
+fn write_apt_item<W: io::Write>(
+    writer: &mut W,
+    fault: u64,
+    number: u16,
+    kind: u16,
+) -> Result<(), EngineFault>
+    ensures { IsWritten (W.contents writer.old) (W.contents writer.new)
+        (apt_numbered (fault ∷ number ∷ kind ∷ [])) result }
+{
+    write_line(
+        writer,
+        b"apt fault",
+        &[fault, u64::from(number), u64::from(kind)],
+    )
+}
+
 /// Writes the line of an instruction file's fault.
 fn write_apt_fault<W: io::Write>(writer: &mut W, fault: &AptFault) -> Result<(), EngineFault>
     ensures { IsWritten (W.contents writer.old) (W.contents writer.new) (apt_line fault.now) result }
@@ -90,16 +108,8 @@ fn write_apt_fault<W: io::Write>(writer: &mut W, fault: &AptFault) -> Result<(),
     match fault {
         AptFault::Head { item } => write_line(writer, b"apt fault", &[1, *item as u64]),
         AptFault::NotApt => write_line(writer, b"apt fault", &[2]),
-        AptFault::Missing { number, kind } => write_line(
-            writer,
-            b"apt fault",
-            &[3, u64::from(*number), u64::from(*kind)],
-        ),
-        AptFault::Twice { number, kind } => write_line(
-            writer,
-            b"apt fault",
-            &[4, u64::from(*number), u64::from(*kind)],
-        ),
+        AptFault::Missing { number, kind } => write_apt_item(writer, 3, *number, *kind),
+        AptFault::Twice { number, kind } => write_apt_item(writer, 4, *number, *kind),
         AptFault::Digits {
             number,
             kind,
@@ -109,21 +119,9 @@ fn write_apt_fault<W: io::Write>(writer: &mut W, fault: &AptFault) -> Result<(),
             b"apt fault",
             &[5, u64::from(*number), u64::from(*kind), *place as u64],
         ),
-        AptFault::Range { number, kind } => write_line(
-            writer,
-            b"apt fault",
-            &[6, u64::from(*number), u64::from(*kind)],
-        ),
-        AptFault::Order { number, kind } => write_line(
-            writer,
-            b"apt fault",
-            &[7, u64::from(*number), u64::from(*kind)],
-        ),
-        AptFault::Count { number, kind } => write_line(
-            writer,
-            b"apt fault",
-            &[8, u64::from(*number), u64::from(*kind)],
-        ),
+        AptFault::Range { number, kind } => write_apt_item(writer, 6, *number, *kind),
+        AptFault::Order { number, kind } => write_apt_item(writer, 7, *number, *kind),
+        AptFault::Count { number, kind } => write_apt_item(writer, 8, *number, *kind),
         AptFault::Module { length } => write_line(writer, b"apt fault", &[9, u64::from(*length)]),
         AptFault::Targets { assortment } => write_line(
             writer,
@@ -132,6 +130,20 @@ fn write_apt_fault<W: io::Write>(writer: &mut W, fault: &AptFault) -> Result<(),
         ),
         AptFault::Memory => write_text(writer, b"memory\n"),
     }
+}
+
+/// Writes the line of a stem file's fault of this number, which is one of an item.
+fn write_stm_item<W: io::Write>(
+    writer: &mut W,
+    file: u32,
+    fault: u64,
+    number: u16,
+    kind: u16,
+) -> Result<(), EngineFault>
+    ensures { IsWritten (W.contents writer.old) (W.contents writer.new)
+        (stm_numbered file (fault ∷ number ∷ kind ∷ [])) result }
+{
+    write_stm_line(writer, file, &[fault, u64::from(number), u64::from(kind)])
 }
 
 /// Writes the line of a stem file's fault.
@@ -145,16 +157,8 @@ fn write_stm_fault<W: io::Write>(
     match fault {
         StmFault::Head { item } => write_stm_line(writer, file, &[1, *item as u64]),
         StmFault::NotStm => write_stm_line(writer, file, &[2]),
-        StmFault::Missing { number, kind } => write_stm_line(
-            writer,
-            file,
-            &[3, u64::from(*number), u64::from(*kind)],
-        ),
-        StmFault::Twice { number, kind } => write_stm_line(
-            writer,
-            file,
-            &[4, u64::from(*number), u64::from(*kind)],
-        ),
+        StmFault::Missing { number, kind } => { write_stm_item(writer, file, 3, *number, *kind) }
+        StmFault::Twice { number, kind } => { write_stm_item(writer, file, 4, *number, *kind) }
         StmFault::Digits {
             number,
             kind,
@@ -164,21 +168,9 @@ fn write_stm_fault<W: io::Write>(
             file,
             &[5, u64::from(*number), u64::from(*kind), *place as u64],
         ),
-        StmFault::Range { number, kind } => write_stm_line(
-            writer,
-            file,
-            &[6, u64::from(*number), u64::from(*kind)],
-        ),
-        StmFault::Order { number, kind } => write_stm_line(
-            writer,
-            file,
-            &[7, u64::from(*number), u64::from(*kind)],
-        ),
-        StmFault::Count { number, kind } => write_stm_line(
-            writer,
-            file,
-            &[8, u64::from(*number), u64::from(*kind)],
-        ),
+        StmFault::Range { number, kind } => { write_stm_item(writer, file, 6, *number, *kind) }
+        StmFault::Order { number, kind } => { write_stm_item(writer, file, 7, *number, *kind) }
+        StmFault::Count { number, kind } => { write_stm_item(writer, file, 8, *number, *kind) }
         StmFault::Memory => write_text(writer, b"memory\n"),
     }
 }

@@ -28,9 +28,19 @@ impl<'a> Model for Ending<'a> {
 
     ghost Value = { EndingParts };
 
-    ghost view = { λ e. record { instruction = e.instruction.now; targets = e.targets.now; counts = e.counts.now; prices = e.prices.now } };
+    ghost view = { λ e. record {
+      instruction = e.instruction.now;
+      targets = e.targets.now;
+      counts = e.counts.now;
+      prices = e.prices.now;
+    } };
 
-    ghost invariant = { λ e. IsEnding (record { instruction = e.instruction.now; targets = e.targets.now; counts = e.counts.now; prices = e.prices.now }) };
+    ghost invariant = { λ e. IsEnding (record {
+      instruction = e.instruction.now;
+      targets = e.targets.now;
+      counts = e.counts.now;
+      prices = e.prices.now;
+    }) };
 }
 
 /// Puts the line of a posting at a position.

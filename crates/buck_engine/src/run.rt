@@ -4,7 +4,8 @@ ghost use Rattle.std.specs.Io.KnownBytes.{Keeps};
 ghost use Rattle.buck_engine.specs.declared.fault.EngineFault.{EngineFault};
 ghost use Rattle.buck_engine.specs.Output.{IsWritten};
 ghost use Rattle.buck_engine.specs.Faults.{fault_line};
-ghost use Rattle.buck_engine.specs.Run.{AppendsFirst, IsBareRun, IsCheckRun, IsRun, RunsFiles, RunsTask, TellsOutcome, status_after};
+ghost use Rattle.buck_engine.specs.Run.{AppendsFirst, IsBareRun, IsCheckRun, IsRun, RunsFiles, RunsTask};
+ghost use Rattle.buck_engine.specs.Run.{TellsOutcome, status_after};
 
 use crate::check::run_check;
 use crate::engine::{run_bare, run_buck};
@@ -67,7 +68,8 @@ fn check_opened<R: io::Read, W: io::Write>(
     journal: &mut R,
     writer: &mut W,
 ) -> Result<(), EngineFault>
-    ensures { IsCheckRun (R.remaining apt.old) (R.remaining journal.old) (W.contents writer.old) (W.contents writer.new) result }
+    ensures { IsCheckRun (R.remaining apt.old) (R.remaining journal.old)
+        (W.contents writer.old) (W.contents writer.new) result }
 {
     run_check(alloc, apt, journal, writer)
 }

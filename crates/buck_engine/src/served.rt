@@ -9,6 +9,7 @@ ghost use Rattle.buck_engine.specs.Run.{TellsOutcome, status_after};
 use crate::fault::EngineFault;
 use crate::files::{Make, Open, open_inputs};
 use crate::fleet::{run_journalled, run_reported};
+use crate::onlooker::Onlooker;
 use crate::run::conclude;
 use buck_rule::{Rule, Standing, linear, steady, step};
 use std::alloc::Global;
@@ -45,6 +46,7 @@ fn run_made<
     F: Fn(&Standing) -> u64 + Drop + Send,
     T: Threads + Wait + Sync,
     R: io::Read,
+    L: Onlooker + Sync,
     J: io::Write + Drop,
     W: io::Write,
 >(
@@ -53,15 +55,19 @@ fn run_made<
     apt: &mut R,
     stms: &mut [R],
     rule: Rule<F>,
+    onlooker: &L,
     made: Option<J>,
     writer: &mut W,
 ) -> Result<(), EngineFault>
     requires answers { AllAnswer F.Fn }
-    ensures { RunsMade R.remaining J.contents (apt.old, stms.old) made (W.contents writer.old) (W.contents writer.new) result }
+    ensures { RunsMade R.remaining J.contents (apt.old, stms.old) made
+        (W.contents writer.old) (W.contents writer.new) result }
 {
     match made {
         None => Err(EngineFault::Write),
-        Some(mut journal) => { run_journalled(rt, alloc, apt, stms, rule, &mut journal, writer) }
+        Some(mut journal) => {
+            run_journalled(rt, alloc, apt, stms, rule, onlooker, &mut journal, writer)
+        }
     }
 }
 
@@ -70,6 +76,7 @@ fn run_made<
 fn fleet_files<
     F: Fn(&Standing) -> u64 + Drop + Send,
     T: Threads + Wait + Sync,
+    L: Onlooker + Sync,
     O: Open + Make,
     W: io::Write,
 >(
@@ -77,6 +84,7 @@ fn fleet_files<
     alloc: Global,
     task: &FleetTask<'_>,
     rule: Rule<F>,
+    onlooker: &L,
     opener: &mut O,
     writer: &mut W,
 ) -> Result<(), EngineFault>
@@ -93,6 +101,7 @@ fn fleet_files<
             &mut instruction,
             stems.as_mut_slice(),
             rule,
+            onlooker,
             writer,
         ),
         Some(name) => {
@@ -103,6 +112,7 @@ fn fleet_files<
                 &mut instruction,
                 stems.as_mut_slice(),
                 rule,
+                onlooker,
                 made,
                 writer,
             )
@@ -111,10 +121,11 @@ fn fleet_files<
 }
 
 /// Does what the task asks for, by its rule.
-fn run_fleet_task<T: Threads + Wait + Sync, O: Open + Make, W: io::Write>(
+fn run_fleet_task<T: Threads + Wait + Sync, L: Onlooker + Sync, O: Open + Make, W: io::Write>(
     rt: &T,
     alloc: Global,
     task: &FleetTask<'_>,
+    onlooker: &L,
     opener: &mut O,
     writer: &mut W,
 ) -> Result<(), EngineFault>
@@ -125,28 +136,36 @@ fn run_fleet_task<T: Threads + Wait + Sync, O: Open + Make, W: io::Write>(
     match task.rule {
         NamedRule::Steady => {
             let rule = Rule::new(|s: &Standing| steady(s));
-            fleet_files(rt, alloc, task, rule, opener, writer)
+            fleet_files(rt, alloc, task, rule, onlooker, opener, writer)
         }
         NamedRule::Linear => {
             let rule = Rule::new(|s: &Standing| linear(s));
-            fleet_files(rt, alloc, task, rule, opener, writer)
+            fleet_files(rt, alloc, task, rule, onlooker, opener, writer)
         }
         NamedRule::Step => {
             let rule = Rule::new(|s: &Standing| step(s));
-            fleet_files(rt, alloc, task, rule, opener, writer)
+            fleet_files(rt, alloc, task, rule, onlooker, opener, writer)
         }
     }
 }
 
-/// Runs a fleet over the files of a task, and says on `errors` how it ended. The answer is the exit status.
+/// Runs a fleet over the files of a task, and says on `errors` how it ended. The answer is the exit status. While it
+/// works, the onlooker is told how far it is; [`Nobody`](crate::Nobody) is one that doesn't ask.
 ///
 /// The input files are opened in the order of the words before one of them is read; one that can't be opened is `Read`
 /// with its number. Then the file of the journal is made, where one is wanted; where it can't be made, that is `Write`.
 /// Each fault and what is written before it are those of [`run_fleet_files`](crate::run_fleet_files).
-pub fn serve_fleet<T: Threads + Wait + Sync, O: Open + Make, W: io::Write, E: io::Write>(
+pub fn serve_fleet<
+    T: Threads + Wait + Sync,
+    L: Onlooker + Sync,
+    O: Open + Make,
+    W: io::Write,
+    E: io::Write,
+>(
     rt: &T,
     alloc: Global,
     task: &FleetTask<'_>,
+    onlooker: &L,
     opener: &mut O,
     output: &mut W,
     errors: &mut E,
@@ -158,6 +177,6 @@ pub fn serve_fleet<T: Threads + Wait + Sync, O: Open + Make, W: io::Write, E: io
         × (result ≡ status_after outcome)
         × TellsOutcome (E.contents errors.old) (E.contents errors.new) outcome }
 {
-    let outcome = run_fleet_task(rt, alloc, task, opener, output);
+    let outcome = run_fleet_task(rt, alloc, task, onlooker, opener, output);
     conclude(errors, &outcome)
 }

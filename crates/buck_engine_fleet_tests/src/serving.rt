@@ -2,10 +2,11 @@
 ghost use Rattle.std.specs.Prelude.{⊤};
 
 use crate::helpers::{REPORT, step_text, two_stems};
-use buck_engine::{FleetTask, Make, NamedRule, Open, serve_fleet};
+use buck_engine::{FleetTask, Make, NamedRule, Nobody, Onlooker, Open, serve_fleet};
 use std::alloc::Global;
 use std::io;
 use std::sync::Wait;
+use std::sync::atomic::{AtomicU64, Ordering};
 use std::test::Fail;
 use std::thread::Threads;
 
@@ -87,10 +88,11 @@ impl Ending {
     }
 }
 
-/// A run of a fleet under a rule over the instruction file `a` and stem files of these names.
-fn served<'x, T: Threads + Wait + Sync>(
+/// A run of a fleet under a rule over the instruction file `a` and stem files of these names, at which somebody looks on.
+fn watched<'x, T: Threads + Wait + Sync, L: Onlooker + Sync>(
     rt: &T,
     alloc: Global,
+    onlooker: &L,
     rule: NamedRule,
     journal: Option<&'x str>,
     stms: &[&'x str],
@@ -110,13 +112,34 @@ fn served<'x, T: Threads + Wait + Sync>(
     };
     let mut output = Vec::new(alloc);
     let mut errors = Vec::new(alloc);
-    let status = serve_fleet(rt, alloc, &task, &mut shelf, &mut output, &mut errors);
+    let status = serve_fleet(
+        rt,
+        alloc,
+        &task,
+        onlooker,
+        &mut shelf,
+        &mut output,
+        &mut errors,
+    );
     Ok(Ending {
         status,
         output,
         errors,
         asked: shelf.asked,
     })
+}
+
+/// The same where nobody looks on.
+fn served<'x, T: Threads + Wait + Sync>(
+    rt: &T,
+    alloc: Global,
+    rule: NamedRule,
+    journal: Option<&'x str>,
+    stms: &[&'x str],
+    files: &'x [(&'x str, &'x str)],
+    room: Option<usize>,
+) -> Result<Ending, Fail> {
+    watched(rt, alloc, &Nobody, rule, journal, stms, files, room)
 }
 
 /// What is asked of a run, and what it is to leave.
@@ -255,5 +278,47 @@ fn rules_by_their_names(rt: HostRuntime) -> Result<(), Fail> {
             "{lines}"
         );
     }
+    Ok(())
+}
+
+/// Keeps what it is told.
+#[derive(Drop)]
+struct Counts {
+    stems: AtomicU64,
+    planned: AtomicU64,
+}
+
+impl Onlooker for Counts {
+    fn cutting(&self, stems: usize) {
+        self.stems.fetch_add(stems as u64, Ordering::SeqCst);
+    }
+
+    fn planned(&self) {
+        self.planned.fetch_add(1, Ordering::SeqCst);
+    }
+}
+
+/// Who looks on hears how many stems there are, and of each of them once, also where plans were stale.
+#[test]
+fn who_looks_on(rt: HostRuntime) -> Result<(), Fail> {
+    let apt = step_text(rt.alloc())?;
+    let first = two_stems(rt.alloc(), 1, 2)?;
+    let second = two_stems(rt.alloc(), 3, 4)?;
+    let files = [
+        ("a", apt.as_str()),
+        ("b", first.as_str()),
+        ("c", second.as_str()),
+    ];
+    let counts = Counts {
+        stems: AtomicU64::new(0),
+        planned: AtomicU64::new(0),
+    };
+    let rule = NamedRule::Step;
+    let stms = ["b", "c", "b"];
+    let run = watched(&rt, rt.alloc(), &counts, rule, None, &stms, &files, None)?;
+    assert!(rt; run.status == 0);
+    assert!(rt; run.errors.is_empty());
+    assert!(rt; counts.stems.load(Ordering::SeqCst) == 6);
+    assert!(rt; counts.planned.load(Ordering::SeqCst) == 6);
     Ok(())
 }

@@ -46,6 +46,15 @@ fn file<'a>(alloc: Global, name: &'a str, help: &'a str) -> Arg<'a> {
         .help(help)
 }
 
+fn quiet<'a>(alloc: Global) -> Arg<'a> {
+    Arg::new(alloc, "quiet")
+        .long("quiet")
+        .action(ArgAction::SetTrue)
+        .help(
+            "Don't tell how far long work is, as is done on standard error where that is a terminal",
+        )
+}
+
 fn buck<'a>(alloc: Global) -> Result<Command<'a>, Error> {
     Ok(
         Command::new(alloc, "buck")
@@ -53,6 +62,7 @@ fn buck<'a>(alloc: Global) -> Result<Command<'a>, Error> {
                 "Cuts each stem of a stem file into logs of the greatest worth under the base prices",
             )
             .after_help(ENDINGS)
+            .arg(quiet(alloc))?
             .arg(file(alloc, "APT", "The instruction file"))?
             .arg(file(alloc, "STM", "The stem file"))?,
     )
@@ -63,6 +73,7 @@ fn check<'a>(alloc: Global) -> Result<Command<'a>, Error> {
         Command::new(alloc, "check")
             .about("Checks a journal by the instruction that was cut by")
             .after_help(VERDICTS)
+            .arg(quiet(alloc))?
             .arg(file(alloc, "APT", "The instruction file"))?
             .arg(file(alloc, "JOURNAL", "The journal"))?,
     )
@@ -93,6 +104,7 @@ fn fleet<'a>(alloc: Global) -> Result<Command<'a>, Error> {
             .after_help(HARVEST)
             .arg(rule(alloc))?
             .arg(journal(alloc))?
+            .arg(quiet(alloc))?
             .arg(file(alloc, "APT", "The instruction file"))?
             .arg(file(alloc, "STM", "The stem files, one for each harvester").num_args(1..))?,
     )
@@ -143,13 +155,21 @@ fn stem_files<'a>(
     Ok(names)
 }
 
-/// What the program's words ask for.
+/// What is to be done.
 #[derive(Debug, Drop)]
-pub enum Request<'a> {
+pub enum Work<'a> {
     /// A task that waits for nobody.
     Plain(Task<'a>),
     /// A fleet, whose harvesters wait for one another.
     Fleet(FleetTask<'a>),
+}
+
+/// What the program's words ask for.
+#[derive(Debug, Drop)]
+pub struct Request<'a> {
+    pub work: Work<'a>,
+    /// Whether nothing is to be said on a terminal of how far the work is.
+    pub quiet: bool,
 }
 
 fn fleet_task<'a>(alloc: Global, words: &ArgMatches<'a>) -> Result<FleetTask<'a>, Error> {
@@ -165,16 +185,23 @@ fn fleet_task<'a>(alloc: Global, words: &ArgMatches<'a>) -> Result<FleetTask<'a>
 /// place: help and the version, or what is wrong with the words.
 pub fn parse<'a>(alloc: Global, words: &'a [String]) -> Result<Request<'a>, Error> {
     let matches = command(alloc)?.try_get_matches_from(words)?;
-    match matches.subcommand() {
-        None => Ok(Request::Plain(Task::Bare)),
-        Some(("fleet", words)) => Ok(Request::Fleet(fleet_task(alloc, words)?)),
-        Some(("check", files)) => Ok(Request::Plain(Task::Check {
-            apt: word(files, "APT"),
-            journal: word(files, "JOURNAL"),
-        })),
-        Some((_, files)) => Ok(Request::Plain(Task::Buck {
-            apt: word(files, "APT"),
-            stm: word(files, "STM"),
-        })),
-    }
+    let Some((name, words)) = matches.subcommand() else {
+        let work = Work::Plain(Task::Bare);
+        return Ok(Request { work, quiet: false });
+    };
+    let work = match name {
+        "fleet" => Work::Fleet(fleet_task(alloc, words)?),
+        "check" => Work::Plain(Task::Check {
+            apt: word(words, "APT"),
+            journal: word(words, "JOURNAL"),
+        }),
+        _ => Work::Plain(Task::Buck {
+            apt: word(words, "APT"),
+            stm: word(words, "STM"),
+        }),
+    };
+    Ok(Request {
+        work,
+        quiet: words.get_flag("quiet"),
+    })
 }

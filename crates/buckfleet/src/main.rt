@@ -8,15 +8,19 @@
 #![tactic(auto)]
 
 mod command;
+mod progress;
 #[cfg(test)]
 mod tests;
 
 use buck_engine::{Disk, EngineFault, conclude, explain, serve, serve_fleet};
 use clap::Error;
 use clap::error::ErrorKind;
-use command::{Request, parse};
+use command::{Work, parse};
+use progress::{Progress, Watched};
 use std::alloc::Global;
+use std::io::IsTerminal;
 use std::process::ExitCode;
+use std::rt::Stderr;
 use std::sync::Wait;
 use std::thread::Threads;
 use std::{env, io};
@@ -53,6 +57,18 @@ fn refuse_words<W: io::Write, E: io::Write>(
     explain(output, errors, NO_TEXT, true)
 }
 
+/// Where it is told how far the work is: on standard error, where that is a terminal and nobody wants it quiet.
+fn screen(errors: Stderr, quiet: bool) -> Option<Stderr> {
+    if quiet {
+        return None;
+    }
+    if errors.is_terminal() {
+        Some(errors)
+    } else {
+        None
+    }
+}
+
 /// Does what the words ask for; `threads` is the same runtime, as the leave to start threads and to wait for them. The
 /// answer is the exit status.
 fn run<T: Threads + Wait + Sync>(threads: &T, rt: &HostRuntime, alloc: Global) -> u8 {
@@ -65,24 +81,30 @@ fn run<T: Threads + Wait + Sync>(threads: &T, rt: &HostRuntime, alloc: Global) -
     let Ok(words) = args.collect::<Vec<String>>(alloc) else {
         return conclude(&mut errors, &Err(EngineFault::Memory));
     };
-    match parse(alloc, words.as_slice()) {
-        Ok(Request::Plain(task)) => serve(
+    let request = match parse(alloc, words.as_slice()) {
+        Ok(request) => request,
+        Err(error) => return explain_words(alloc, &mut output, &mut errors, &error),
+    };
+    let progress = Progress::on(alloc, screen(errors, request.quiet));
+    let mut files = Watched::of(Disk::of(rt), &progress);
+    match request.work {
+        Work::Plain(task) => serve(
             alloc,
             &task,
             &mut rt.reader(),
-            &mut Disk::of(rt),
+            &mut files,
             &mut output,
             &mut errors,
         ),
-        Ok(Request::Fleet(task)) => serve_fleet(
+        Work::Fleet(task) => serve_fleet(
             threads,
             alloc,
             &task,
-            &mut Disk::of(rt),
+            &progress,
+            &mut files,
             &mut output,
             &mut errors,
         ),
-        Err(error) => explain_words(alloc, &mut output, &mut errors, &error),
     }
 }
 

@@ -1,2 +1,3 @@
-//! Tests: what the words ask for, and what is said of words that ask for nothing.
+//! Tests: what the words ask for, what is said of words that ask for nothing, and what is told on the way.
+mod progress;
 mod words;

@@ -1,7 +1,7 @@
 //! A morning of one harvester, as the program's command for fleets makes it, and a check of the journal that it wrote.
 #![tactic(auto)]
 
-use buck_engine::{Disk, FleetTask, NamedRule, Task, serve, serve_fleet};
+use buck_engine::{Disk, FleetTask, NamedRule, Nobody, Task, serve, serve_fleet};
 use std::alloc::AllocError;
 use std::io;
 use std::process::ExitCode;
@@ -28,7 +28,15 @@ fn main(rt: HostRuntime) -> ExitCode {
     let mut disk = Disk::of(&rt);
     let mut output = io::writer(&rt);
     let mut errors = rt.stderr();
-    let status = serve_fleet(&rt, alloc, &task, &mut disk, &mut output, &mut errors);
+    let status = serve_fleet(
+        &rt,
+        alloc,
+        &task,
+        &Nobody,
+        &mut disk,
+        &mut output,
+        &mut errors,
+    );
     if status != 0 {
         return ExitCode::from(status);
     }

@@ -9,7 +9,7 @@ pub returns-in-Err-clause-refused : goal.returns-in-Err-clause-refused
 returns-in-Err-clause-refused g c =
     let inv = c.loop-k.invariant in
     let lt : c.loop-k.k < length c.args.stms.now = omega (arith, c.loop-k-test.true, inv.same_number) in
-    refused_at c.loop-k.k _ _ _ _ (omega (arith, lt, length-map c.args.stms.now g.R.Read.remaining)) inv.made (same_place g.R.Read.remaining _ _ c.loop-k.k _ lt inv.rest) c.in-Err.ensures.refused
+    refused_at c.loop-k.k _ _ _ _ _ (omega (arith, lt, length-map c.args.stms.now g.R.Read.remaining)) inv.made (same_place g.R.Read.remaining _ _ c.loop-k.k _ lt inv.rest) c.in-Err.ensures.refused (omega arith)
 
 pub returns-in_err-push-in-Ok-clause-refused : goal.returns-in_err-push-in-Ok-clause-refused
 returns-in_err-push-in-Ok-clause-refused g c =
