@@ -8,13 +8,13 @@ use crate::offers::sort_once;
 use buck_apt::{Assortment, Instruction};
 use std::alloc::{AllocError, Global};
 
-/// Puts the multiples of 32 mm up to 1,504 to a list: so no band is wide.
+/// Puts the multiples of 94 mm up to 1,504 to a list: so no band is wide.
 fn push_multiples(limits: &mut Vec<u32>) -> Result<(), AllocError>
     ensures low { OnOk result (Contains limits.new.items 0) }
     ensures high { OnOk result (Contains limits.new.items 1504) }
 {
-    for multiple in 0..48u32 {
-        limits.push(multiple * 32)?;
+    for multiple in 0..17u32 {
+        limits.push(multiple * 94)?;
     }
     Ok(())
 }
@@ -31,7 +31,7 @@ fn push_limits(limits: &mut Vec<u32>, assortment: &Assortment) -> Result<(), All
 }
 
 /// The diameters in mm at which a band starts: where an assortment has another row, or takes no more logs, and each
-/// multiple of 32.
+/// multiple of 94.
 pub fn limits_of(alloc: Global, instruction: &Instruction) -> Result<Vec<u32>, AllocError>
     ensures { IfOk result (λ limits. AreLimits instruction.now limits.items) }
 {

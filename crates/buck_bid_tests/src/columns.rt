@@ -58,10 +58,10 @@ fn bids_of_one_assortment(rt: HostRuntime) -> Result<(), Fail> {
 #[test]
 fn bids_at_both_ends_of_a_band(rt: HostRuntime) -> Result<(), Fail> {
     let sheet = base_of(&rt, SAW)?;
-    let low = [(30, (70_934_400, 1023)), (40, (126_105_600, 1022))];
-    let high = [(30, (91_926_600, 1023)), (40, (163_425_600, 1022))];
-    assert!(rt; are_bid_of_grade_1(&rt, &sheet, 224, &low)?);
-    assert!(rt; are_bid_of_grade_1(&rt, &sheet, 255, &high)?);
+    let low = [(30, (56_548_800, 1023)), (40, (100_531_200, 1022))];
+    let high = [(30, (111_628_200, 1023)), (40, (198_450_400, 1022))];
+    assert!(rt; are_bid_of_grade_1(&rt, &sheet, 200, &low)?);
+    assert!(rt; are_bid_of_grade_1(&rt, &sheet, 281, &high)?);
     Ok(())
 }
 
@@ -201,11 +201,11 @@ const PIECE_AND_VOLUME: &str = "1 2 APT~901 1 100~902 1 1~903 1 0~910 1 2~
 #[test]
 fn length_outbid_in_a_part_of_a_band_is_kept(rt: HostRuntime) -> Result<(), Fail> {
     let sheet = base_of(&rt, PIECE_AND_VOLUME)?;
-    let low = [(30, (100_000_000, 1023)), (40, (94_579_200, 1022))];
-    let high = [(30, (100_000_000, 1023)), (40, (122_569_200, 1022))];
-    assert!(rt; are_bid_of_grade_1(&rt, &sheet, 224, &low)?);
-    assert!(rt; are_bid_of_grade_1(&rt, &sheet, 255, &high)?);
-    assert!(rt; are_bid_of_grade_1(&rt, &sheet, 223, &[(30, (100_000_000, 1023))])?);
+    let low = [(30, (100_000_000, 1023)), (40, (66_621_600, 1022))];
+    let high = [(30, (100_000_000, 1023)), (40, (148_837_800, 1022))];
+    assert!(rt; are_bid_of_grade_1(&rt, &sheet, 188, &low)?);
+    assert!(rt; are_bid_of_grade_1(&rt, &sheet, 281, &high)?);
+    assert!(rt; are_bid_of_grade_1(&rt, &sheet, 187, &[(30, (100_000_000, 1023))])?);
     Ok(())
 }
 

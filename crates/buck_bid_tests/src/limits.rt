@@ -21,37 +21,37 @@ fn band_at(rt: &HostRuntime, text: &str, diameter: u32) -> Result<(usize, u32, u
     Ok((band, limits[band], limits[band + 1]))
 }
 
-/// Bands start at each multiple of 32 mm up to 1,504, at rows of 100 and 200 mm, and at the upper diameter of 400 mm.
+/// Bands start at each multiple of 94 mm up to 1,504, at rows of 100 and 200 mm, and at the upper diameter of 400 mm.
 #[test]
 fn bands_start_at_rows_and_upper_diameters(rt: HostRuntime) -> Result<(), Fail> {
-    assert_eq!(rt; count_of(&rt, SAW)?, 51);
+    assert_eq!(rt; count_of(&rt, SAW)?, 20);
     Ok(())
 }
 
 /// A row from 0 mm starts where the first band does; an upper diameter of 2,000 mm lies past all that is measured.
 #[test]
 fn upper_diameter_past_all_bands(rt: HostRuntime) -> Result<(), Fail> {
-    assert_eq!(rt; count_of(&rt, MAX)?, 49);
+    assert_eq!(rt; count_of(&rt, MAX)?, 18);
     let last = band_at(&rt, MAX, 1500)?;
-    assert!(rt; last == (46, 1472, 1504));
+    assert!(rt; last == (15, 1410, 1504));
     Ok(())
 }
 
 #[test]
 fn band_of_a_diameter_on_a_limit_and_just_below(rt: HostRuntime) -> Result<(), Fail> {
     for (diameter, want) in [
-        (0, (0, 0, 32)),
-        (31, (0, 0, 32)),
-        (32, (1, 32, 64)),
-        (99, (3, 96, 100)),
-        (100, (4, 100, 128)),
-        (199, (7, 192, 200)),
-        (200, (8, 200, 224)),
-        (399, (14, 384, 400)),
-        (400, (15, 400, 416)),
-        (1471, (48, 1440, 1472)),
-        (1472, (49, 1472, 1504)),
-        (1500, (49, 1472, 1504)),
+        (0, (0, 0, 94)),
+        (93, (0, 0, 94)),
+        (94, (1, 94, 100)),
+        (99, (1, 94, 100)),
+        (100, (2, 100, 188)),
+        (199, (3, 188, 200)),
+        (200, (4, 200, 282)),
+        (399, (6, 376, 400)),
+        (400, (7, 400, 470)),
+        (1409, (17, 1316, 1410)),
+        (1410, (18, 1410, 1504)),
+        (1500, (18, 1410, 1504)),
     ] {
         let found = band_at(&rt, SAW, diameter)?;
         assert!(rt; found == want, "{diameter}");
@@ -63,7 +63,7 @@ fn band_of_a_diameter_on_a_limit_and_just_below(rt: HostRuntime) -> Result<(), F
 #[test]
 fn band_ends_at_the_upper_diameter(rt: HostRuntime) -> Result<(), Fail> {
     let text = edited(rt.alloc(), SAW, "915 2 400", "915 2 401")?;
-    for (diameter, want) in [(400, (14, 384, 401)), (401, (15, 401, 416))] {
+    for (diameter, want) in [(400, (6, 376, 401)), (401, (7, 401, 470))] {
         let found = band_at(&rt, text.as_str(), diameter)?;
         assert!(rt; found == want, "{diameter}");
     }
@@ -78,7 +78,7 @@ fn row_of_the_thickest_diameter(rt: HostRuntime) -> Result<(), Fail> {
         "915 1 100 200~915 2 400",
         "915 1 100 1500~915 2 1501",
     )?;
-    for (diameter, want) in [(1499, (47, 1472, 1500)), (1500, (48, 1500, 1501))] {
+    for (diameter, want) in [(1499, (16, 1410, 1500)), (1500, (17, 1500, 1501))] {
         let found = band_at(&rt, text.as_str(), diameter)?;
         assert!(rt; found == want, "{diameter}");
     }

@@ -258,3 +258,24 @@ logs_long p steps v are least i j e trim bid b =
           omega (arith, add-mul j 1 m, add-mul i steps m, v.valid.module_range)
           )
     ]
+
+-- no log is longer than so many steps, where no offer is
+pub logs_short : (p : GroundParts) (steps : ℕ) → IsSheet p.sheet → AreCodes p.sheet.instruction p.codes
+    → ((k : ℕ) → k < length p.codes → slice_index p.codes k / 16 ≤ steps * p.sheet.instruction.«module»)
+    → (i j e trim bid : ℕ) → IsLogBid p i j e trim bid → j ≤ i + steps
+logs_short p steps v are most i j e trim bid b =
+    let a = b.brings.allowed in
+    let m : ℕ = p.sheet.instruction.«module» in
+    let found = are.whole b.log.assortment a.assortment b.log.length a.exists a.allows.length_offered in
+    let low : b.log.assortment < 16 = assortment_low p.sheet.instruction p.stem b.log v.valid a in
+    let code : slice_index p.codes found.0 ≡ code_of b.log.length b.log.assortment =
+    sym (get_or_default p.codes found.0 (code_of b.log.length b.log.assortment) 0 found.1) ∙ found.2 in
+    let h = most found.0 found.1 in
+    let short : b.log.length + i * m ≡ j * m = omega (arith, b.between.start, b.top) in
+    elim (cases_lt (i + steps) j) [
+      | inr le ↦ le
+      | inl more ↦ absurd (
+          let far : (i + steps + 1) * m ≤ j * m = mul-le-mul_right m (omega arith) in
+          omega (arith, add-mul (i + steps) 1 m, add-mul i steps m, v.valid.module_range)
+          )
+    ]

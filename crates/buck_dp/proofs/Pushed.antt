@@ -18,7 +18,7 @@ pushed_start diameters span c bases v = record {
 module _ (diameters bases u v w : List ℕ) (span : Span) (c : Columns) (at steps low high : ℕ)
     (steps_is : steps ≡ slice_index c.steps.items at)
     (few : span.past ≤ 5000)
-    (low_is : low ≡ max span.from (min (span.first + steps) 18446744073709551615)) (high_is : high ≡ min span.past (min (span.stop + steps) 18446744073709551615))
+    (low_is : low ≡ max span.from (span.first + steps)) (high_is : high ≡ min span.past (span.stop + steps))
     (was : ArePushed (IsOfColumns diameters span c at) bases u v) where
   -- the bid of the column for the diameter at point j
   abbrev bid_for : ℕ → ℕ

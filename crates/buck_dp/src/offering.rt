@@ -39,10 +39,13 @@ fn push_reaching(
         → ArePushed (IsOfColumns diameters.now span columns.now (at + 1)) bases.now u values.new }
 {
     let steps = columns.steps[at];
-    let width = (columns.band.past - columns.band.thinnest) as usize;
-    let low = span.from.max(span.first.saturating_add(steps));
-    let high = span.past.min(span.stop.saturating_add(steps));
+    if span.past.saturating_sub(span.first) <= steps {
+        return;
+    }
+    let low = span.from.max(span.first + steps);
+    let high = span.past.min(span.stop + steps);
     if low < high {
+        let width = (columns.band.past - columns.band.thinnest) as usize;
         push_column(
             values,
             bases,

@@ -147,9 +147,11 @@ fn offer_piece(
         → AreSettled (ground_of ground.entry.sheet.now ground.entry.stem.now tables.old) values.old start (TopsFrom end trims trim past)
         → IsOffered (ground_of ground.entry.sheet.now ground.entry.stem.now tables.old) values.old values.new start (TopsFrom end trims trim from)) }
 {
-    let rise = steps_after(ground.sheet.instruction().module(), trim);
+    let module = ground.sheet.instruction().module();
+    let rise = steps_after(module, trim);
+    let low = from.saturating_sub(most_steps(tables.offers(), module));
     let mut stop = from;
-    while stop > 0 {
+    while stop > low {
         let first = ground.profile.run_start(stop - 1);
         let wood = Wood {
             species: ground.stem.species(),
@@ -290,16 +292,26 @@ fn least_steps(offers: &[Offer], step: u32) -> usize
     (offers[0].length / step) as usize
 }
 
+/// How many steps the longest offer is long; 0 where there is none.
+fn most_steps(offers: &[Offer], step: u32) -> usize
+    requires step { (10 ≤ step) × (step ≤ 1000) }
+    requires whole { All (λ c. IsWhole step c) (codes_in offers.now) }
+    requires rise { IsStrictlyIncreasing (codes_in offers.now) }
+    requires low { (k : ℕ) (o : Offer) → slice_get offers.now k ≡ Some o → o.assortment < 16 }
+    ensures { (k : ℕ) → k < length (codes_in offers.now) → slice_index (codes_in offers.now) k / 16 ≤ result * step }
+{
+    if offers.len() == 0 {
+        return 0;
+    }
+    (offers[offers.len() - 1].length / step) as usize
+}
+
 /// So many values of which none is worth anything.
 fn no_values(alloc: Global, count: usize) -> Result<Vec<Bid>, AllocError>
     ensures number { IfOk result (λ v. length v.items ≡ count) }
     ensures zeros { IfOk result (λ v. (k : ℕ) → slice_index v.items k ≡ 0) }
 {
-    let mut values = Vec::with_capacity(alloc, count)?;
-    for _ in 0..count {
-        values.push(Bid::none())?;
-    }
-    Ok(values)
+    vec![in alloc; Bid::none(); count]
 }
 
 /// Puts the values of all points and of the place past the last in place of zeros, block by block from the top end down to

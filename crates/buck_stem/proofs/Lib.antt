@@ -6,6 +6,7 @@ pub mod PassLemmas
 pub mod RunLemmas
 pub mod Tables
 pub mod Diameters
+pub mod Along
 pub mod StageLemmas
 pub mod PlainLemmas
 pub mod JoinLemmas

@@ -4,4 +4,5 @@ pub mod Ready
 pub mod Zones
 pub mod Runs
 pub mod ProfileTables
+pub mod Diameters
 pub mod Plain

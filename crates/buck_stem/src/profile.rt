@@ -44,9 +44,7 @@ fn diameters_of(alloc: Global, stem: &Stem, step: u32) -> Result<Vec<u32>, Alloc
 {
     let points = stem.length() / step + 1;
     let mut diameters = Vec::with_capacity(alloc, points as usize)?;
-    for i in 0..points {
-        diameters.push(stem.diameter_at(i * step))?;
-    }
+    stem.put_diameters(step, &mut diameters)?;
     Ok(diameters)
 }
 

@@ -1,9 +1,10 @@
 //! A felled stem: diameters and grades along it.
 
 ghost use Rattle.std.specs.Int.{bit_at};
-ghost use Rattle.std.specs.Prelude.{◌≡◌, ◌<◌, ◌≤◌, ◌-◌, ◌⊎◌, ℕ, length, ◌↔◌, IfOk, IsOk, Err, IsTrue, Contains, All, slice_index_or};
-ghost use Rattle.buck_stem.specs.Stem.{stem_of, stem_length, diameter_at, grade_at, HasGradesOf, HasGrade, IsGrade, IsRisingFrom, IsStem};
+ghost use Rattle.std.specs.Prelude.{◌≡◌, ◌<◌, ◌≤◌, ◌+◌, ◌-◌, ◌/◌, ◌⊎◌, ℕ, List, length, ◌↔◌, IfOk, IsOk, OnOk, Err, IsTrue, Contains, All, slice_index_or};
+ghost use Rattle.buck_stem.specs.Stem.{stem_of, stem_length, least_to, diameter_at, grade_at, HasGradesOf, HasGrade, IsGrade, IsRisingFrom, IsStem};
 ghost use Rattle.buck_stem.specs.inner.Zones.{start_at, ShowsGrade, HasZone, ZonesFit, IsRunningLeast};
+ghost use Rattle.buck_stem.specs.inner.Diameters.{AreDiametersBy, AreDiametersTo};
 
 use std::alloc::{AllocError, Global};
 use std::marker::Model;
@@ -54,6 +55,61 @@ fn running_least(alloc: Global, samples: &[u16]) -> Result<Vec<u16>, AllocError>
     let mut lows = Vec::from_slice(alloc, samples)?;
     lower(lows.as_mut_slice());
     Ok(lows)
+}
+
+/// Puts the diameters at the samples into an empty list.
+fn push_lows(lows: &[u16], out: &mut Vec<u32>) -> Result<(), AllocError>
+    requires none { length out.old.items ≡ 0 }
+    ensures number { OnOk result (length out.new.items ≡ length lows.now) }
+    ensures right { OnOk result ((samples : List ℕ) → IsRunningLeast samples lows.now → AreDiametersBy samples 100 out.new.items) }
+{
+    for low in lows {
+        out.push(u32::from(*low))?;
+    }
+    Ok(())
+}
+
+/// Puts the diameters at each step from `part` mm past a sample on and before the next sample behind the others. The answer
+/// is how far past the next sample the step after them is, in mm.
+fn push_between(
+    low: u32,
+    next: u32,
+    part: u32,
+    step: u32,
+    out: &mut Vec<u32>,
+) -> Result<u32, AllocError>
+    requires low { (low ≤ 65535) × (next ≤ 65535) }
+    requires step { (10 ≤ step) × (step ≤ 1000) }
+    requires part { part < step }
+    ensures part { IfOk result (λ r. r < step) }
+    ensures right { IfOk result (λ r. (samples : List ℕ) (i : ℕ) → low ≡ least_to samples i → next ≡ least_to samples (i + 1)
+        → AreDiametersTo samples step i part out.old.items → AreDiametersTo samples step (i + 1) r out.new.items) }
+{
+    let mut past = part;
+    while past < 100 {
+        out.push((low * (100 - past) + next * past) / 100)?;
+        past += step;
+    }
+    Ok(past - 100)
+}
+
+/// Puts the diameters at each step along the samples into an empty list.
+fn push_along(lows: &[u16], step: u32, out: &mut Vec<u32>) -> Result<(), AllocError>
+    requires some { 0 < length lows.now }
+    requires step { (10 ≤ step) × (step ≤ 1000) }
+    requires none { length out.old.items ≡ 0 }
+    ensures right { OnOk result ((samples : List ℕ) → IsRunningLeast samples lows.now
+        → (length out.new.items ≡ stem_length samples / step + 1) × AreDiametersBy samples step out.new.items) }
+{
+    let last = lows.len() - 1;
+    let mut part = 0;
+    for i in 0..last {
+        part = push_between(u32::from(lows[i]), u32::from(lows[i + 1]), part, step, out)?;
+    }
+    if part == 0 {
+        out.push(u32::from(lows[last]))?;
+    }
+    Ok(())
 }
 
 fn has_grade(grades: &[u8], grade: u8) -> bool
@@ -291,6 +347,21 @@ impl Stem {
             return low;
         }
         (low * (100 - part) + self.lows[i + 1] as u32 * part) / 100
+    }
+
+    /// Puts the diameters in mm at the multiples of a step, from the butt up to the length, into a list that is empty.
+    pub(crate) fn put_diameters(&self, step: u32, out: &mut Vec<u32>) -> Result<(), AllocError>
+        requires step { (10 ≤ step) × (step ≤ 1000) }
+        requires none { length out.old.items ≡ 0 }
+        ensures number { OnOk result (length out.new.items ≡ stem_length self.now.samples / step + 1) }
+        ensures right { OnOk result (AreDiametersBy self.now.samples step out.new.items) }
+        ensures valid { IsStem self.now }
+    {
+        let lows = self.lows.as_slice();
+        if step == 100 {
+            return push_lows(lows, out);
+        }
+        push_along(lows, step, out)
     }
 
     /// The grade at `x` millimetres from the butt, from 1 to 8: that of the last zone that starts at or before `x`,

@@ -1,22 +1,33 @@
-use Rattle.std.proofs.Common.{◌≡◌, ℕ, ◌+◌, ◌-◌, ◌*◌, ◌<◌, ◌≤◌, List, length, slice_index, refl, sym, subst, ap, ◌∙◌, inl, inr, arith}
+use Rattle.std.proofs.Common.{◌≡◌, ℕ, ◌+◌, ◌-◌, ◌*◌, ◌/◌, ◌<◌, ◌≤◌, List, length, slice_index, refl, sym, subst, ap, ◌∙◌, inl, inr, arith}
 use Rattle.buck_apt.specs.Instruction.{InstructionParts}
 use Rattle.buck_stem.specs.Stem.{StemParts}
 use Rattle.buck_stem.specs.Profile.{ProfileParts, IsMask}
 use Rattle.buck_stem.specs.Profile as grid
 use Rattle.buck_dp.specs.inner.Points.{GroundParts, point_after}
-use Rattle.buck_value.specs.Sheet.{SheetParts}
+use Rattle.buck_value.specs.Sheet.{SheetParts, IsSheet}
 use Rattle.buck_bid.specs.Bid.{unranked}
 use Rattle.buck_bid.specs.declared.columns.Columns.{Columns}
 use Rattle.buck_value.specs.declared.wood.Wood.{Wood}
 use Rattle.buck_bid.specs.declared.offers.Offer.{Offer}
-use Rattle.buck_bid.specs.Offers.{codes_in}
+use Rattle.buck_bid.specs.Offers.{codes_in, AreCodes}
 use Rattle.buck_bid.specs.Columns.{AreColumnsOf}
 use Rattle.buck_dp.specs.declared.offering.Span.{Span}
-use Rattle.buck_dp.specs.inner.Settled.{TopsFrom, StartsFrom}
+use Rattle.buck_dp.specs.inner.Settled.{IsLogBid, TopsFrom, StartsFrom}
 use Rattle.buck_dp.specs.inner.Ground.{ground_of}
 use Rattle.buck_dp.proofs.Blocks.{settled_as, span_pushed, same}
+use Rattle.buck_dp.proofs.Logs.{logs_short}
 use Rattle.buck_dp.proofs.Pieces.{mask_to, mask_of, after_fits}
 use Rattle.buck_dp.proofs.settling.offer_piece.Goals as goal
+
+-- the logs are as short as the longest offer that the code finds
+short_by : (p : GroundParts) (offers seen : List Offer) (most unit : ℕ) → IsSheet p.sheet → AreCodes p.sheet.instruction p.codes → p.codes ≡ codes_in offers
+    → seen ≡ offers → unit ≡ p.sheet.instruction.«module»
+    → ((k : ℕ) → k < length (codes_in seen) → slice_index (codes_in seen) k / 16 ≤ most * unit)
+    → (i j e trim bid : ℕ) → IsLogBid p i j e trim bid → j ≤ i + most
+short_by p offers seen most unit valid codes is same step found =
+    logs_short p most valid codes
+    (subst (λ cs. (k : ℕ) → k < length cs → slice_index cs k / 16 ≤ most * p.sheet.instruction.«module») (ap codes_in same ∙ sym is)
+    (subst (λ u. (k : ℕ) → k < length (codes_in seen) → slice_index (codes_in seen) k / 16 ≤ most * u) step found))
 
 pub loop-stop-init : goal.loop-stop-init
 loop-stop-init c =
@@ -39,16 +50,22 @@ pub returns-clause-offered : goal.returns-clause-offered
 returns-clause-offered c start end trims piece settled =
     let p : GroundParts = ground_of c.args.ground.sheet.now c.args.ground.stem.now c.args.tables.now in
     let done = c.loop-stop.invariant.offered start end trims piece settled in
+    let unit : c.module-module.result ≡ p.sheet.instruction.«module» =
+    c.module-module.ensures.«module» ∙ ap (λ (i : InstructionParts). i.«module») c.deref.ensures ∙ ap (λ (i : InstructionParts). i.«module») c.instruction.ensures.instruction in
+    let reach = short_by p c.args.tables.now.offers.items c.offers.result.now c.most_steps.result c.module-module.result c.requires.ground.valid c.requires.tables.offers.codes refl c.offers.ensures unit c.most_steps.ensures in
     record {
       settled = settled_as p c.loop-stop.values start (StartsFrom end trims c.args.trim c.args.past c.args.from c.loop-stop.stop) (TopsFrom end trims c.args.trim c.args.from) done.settled
-          (λ i j e t bid low log less. elim less [ inl before ↦ inl (inl before) | inr here ↦ inr (here.0, here.1, omega (arith, c.loop-stop-test.false)) ]);
+          (λ i j e t bid low log less. elim less [
+            | inl before ↦ inl (inl before)
+            | inr here ↦ inr (here.0, here.1, omega (arith, c.loop-stop-test.false, c.saturating_sub-low.ensures, reach i j e t bid log, here.1))
+          ]);
       later = done.later;
     }
 
 pub bases_after-requires : goal.bases_after-requires
 bases_after-requires c =
-    let unit : c.module.result ≡ c.args.ground.sheet.now.instruction.«module» =
-    c.module.ensures.«module» ∙ ap (λ (i : InstructionParts). i.«module») c.deref.ensures ∙ ap (λ (i : InstructionParts). i.«module») c.instruction.ensures.instruction in
+    let unit : c.module-module.result ≡ c.args.ground.sheet.now.instruction.«module» =
+    c.module-module.ensures.«module» ∙ ap (λ (i : InstructionParts). i.«module») c.deref.ensures ∙ ap (λ (i : InstructionParts). i.«module») c.instruction.ensures.instruction in
     let rise : c.steps_after-rise.result ≡ point_after c.args.ground.sheet.now.instruction.«module» c.args.trim =
     c.steps_after-rise.ensures.rise ∙ ap (λ n. point_after n c.args.trim) unit in
     let p : GroundParts = ground_of c.args.ground.sheet.now c.args.ground.stem.now c.args.tables.now in
@@ -57,8 +74,8 @@ bases_after-requires c =
 
 pub push_columns-requires-clause-bases : goal.push_columns-requires-clause-bases
 push_columns-requires-clause-bases c =
-    let unit : c.module.result ≡ c.args.ground.sheet.now.instruction.«module» =
-    c.module.ensures.«module» ∙ ap (λ (i : InstructionParts). i.«module») c.deref.ensures ∙ ap (λ (i : InstructionParts). i.«module») c.instruction.ensures.instruction in
+    let unit : c.module-module.result ≡ c.args.ground.sheet.now.instruction.«module» =
+    c.module-module.ensures.«module» ∙ ap (λ (i : InstructionParts). i.«module») c.deref.ensures ∙ ap (λ (i : InstructionParts). i.«module») c.instruction.ensures.instruction in
     let rise : c.steps_after-rise.result ≡ point_after c.args.ground.sheet.now.instruction.«module» c.args.trim =
     c.steps_after-rise.ensures.rise ∙ ap (λ n. point_after n c.args.trim) unit in
     let p : GroundParts = ground_of c.args.ground.sheet.now c.args.ground.stem.now c.args.tables.now in
@@ -67,8 +84,8 @@ push_columns-requires-clause-bases c =
 
 pub push_columns-requires-clause-low : goal.push_columns-requires-clause-low
 push_columns-requires-clause-low c j low lt =
-    let unit : c.module.result ≡ c.args.ground.sheet.now.instruction.«module» =
-    c.module.ensures.«module» ∙ ap (λ (i : InstructionParts). i.«module») c.deref.ensures ∙ ap (λ (i : InstructionParts). i.«module») c.instruction.ensures.instruction in
+    let unit : c.module-module.result ≡ c.args.ground.sheet.now.instruction.«module» =
+    c.module-module.ensures.«module» ∙ ap (λ (i : InstructionParts). i.«module») c.deref.ensures ∙ ap (λ (i : InstructionParts). i.«module») c.instruction.ensures.instruction in
     let rise : c.steps_after-rise.result ≡ point_after c.args.ground.sheet.now.instruction.«module» c.args.trim =
     c.steps_after-rise.ensures.rise ∙ ap (λ n. point_after n c.args.trim) unit in
     let l = c.requires.low j low lt in
@@ -120,8 +137,8 @@ push_columns-requires-clause-thin c j low lt =
 
 pub loop-stop-preserved : goal.loop-stop-preserved
 loop-stop-preserved c =
-    let unit : c.module.result ≡ c.args.ground.sheet.now.instruction.«module» =
-    c.module.ensures.«module» ∙ ap (λ (i : InstructionParts). i.«module») c.deref.ensures ∙ ap (λ (i : InstructionParts). i.«module») c.instruction.ensures.instruction in
+    let unit : c.module-module.result ≡ c.args.ground.sheet.now.instruction.«module» =
+    c.module-module.ensures.«module» ∙ ap (λ (i : InstructionParts). i.«module») c.deref.ensures ∙ ap (λ (i : InstructionParts). i.«module») c.instruction.ensures.instruction in
     let rise : c.steps_after-rise.result ≡ point_after c.args.ground.sheet.now.instruction.«module» c.args.trim =
     c.steps_after-rise.ensures.rise ∙ ap (λ n. point_after n c.args.trim) unit in
     let f = c.in_ok-found.ensures.found in
