@@ -196,6 +196,17 @@ fn is_made(takers: &Takers, band: usize) -> bool
     takers.bands[band].is_some()
 }
 
+/// Whether at a place stand takers whose columns for a band are made.
+fn has_columns(sets: &[Takers], set: usize, band: usize) -> bool
+    ensures { IsTrue result → HasColumns sets.now set band }
+{
+    if set >= sets.len() {
+        return false;
+    }
+    let bands = sets[set].bands.as_slice();
+    band < bands.len() && bands[band].is_some()
+}
+
 /// Makes the columns of the takers at a place for a band, where they aren't there. The answer is how many bids are new.
 fn columns_at(
     alloc: Global,
@@ -326,8 +337,25 @@ impl Tables {
         self.limits.as_slice()
     }
 
-    /// Where the columns for some wood and a band stand. They are made where they aren't there; where too much is kept, all
-    /// are made anew. Refused as `Memory` alone: what was there stays.
+    /// Where the columns for some wood and a band stand, if they are made and such grades had this kind of wood last.
+    #[inline(always)]
+    fn found(&self, wood: Wood, band: usize) -> Option<Found>
+        requires { length self.now.last.items ≡ 256 }
+        ensures found { IfSome result (λ f. (s : SheetParts) → AreTablesOf s self.now → IsFound s self.now wood f.set f.band) }
+        ensures band { IfSome result (λ f. f.band ≡ band) }
+    {
+        let place = self.last[wood.grades as usize];
+        let Some(set) = is_at(self.kinds.as_slice(), place, wood) else {
+            return None;
+        };
+        if has_columns(self.sets.as_slice(), set, band) {
+            return Some(Found { set, band });
+        }
+        None
+    }
+
+    /// Where the columns for some wood and a band stand. They are made where they aren't there; where too much is kept then,
+    /// all are made anew. Refused as `Memory` alone: what was there stays.
     pub fn find(
         &mut self,
         alloc: Global,
@@ -345,6 +373,9 @@ impl Tables {
         ensures found { IfOk result (λ f. IsFound sheet.now self.new wood f.set f.band) }
         ensures band { IfOk result (λ f. f.band ≡ band) }
     {
+        if let Some(found) = self.found(wood, band) {
+            return Ok(found);
+        }
         self.held = make_room(&mut self.kinds, &mut self.sets, self.held, self.room);
         let set = set_of(
             alloc,

@@ -64,16 +64,15 @@ fn places_with(
     Ok((one.0, two.0, again.0))
 }
 
-/// Each has one column of 94 bids. As soon as no fewer bids than the room are kept, all are dropped.
+/// Each has one column of 94 bids. Where what is asked for isn't there, and no fewer bids than the room are kept, all are
+/// dropped.
 #[test]
 fn tables_are_dropped_once_their_room_is_full(rt: HostRuntime) -> Result<(), Fail> {
     let sheet = base_of(&rt, MIXED)?;
     for (room, want) in [
         (0, (0, 0, 0)),
         (94, (0, 0, 0)),
-        (95, (0, 1, 0)),
-        (188, (0, 1, 0)),
-        (189, (0, 1, 1)),
+        (95, (0, 1, 1)),
         (AMPLE, (0, 1, 1)),
     ] {
         let places = places_with(&rt, &sheet, room)?;

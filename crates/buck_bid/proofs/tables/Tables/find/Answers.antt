@@ -8,6 +8,9 @@ use Rattle.buck_bid.specs.Tables.{AreAllMade}
 use Rattle.buck_bid.proofs.TableLemmas.{kinds_same, found_is}
 use Rattle.buck_bid.proofs.tables.Tables.find.Goals as goal
 
+pub returns-in-Some-clause-found : goal.returns-in-Some-clause-found
+returns-in-Some-clause-found c = c.in-Some.ensures.found c.args.sheet.now c.requires.tables
+
 pub set_of-requires-clause-kinds : goal.set_of-requires-clause-kinds
 set_of-requires-clause-kinds c = c.make_room-self.ensures.kinds c.args.sheet.now c.requires.tables.kinds
 
