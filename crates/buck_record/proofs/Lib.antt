@@ -15,3 +15,4 @@ pub mod LaneLemmas
 pub mod FourLemmas
 pub mod AddLemmas
 pub mod CursorLemmas
+pub mod Three
