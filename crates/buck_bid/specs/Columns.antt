@@ -61,7 +61,8 @@ pub record ArePut (steps bids column : List ℕ) (count : ℕ) (new_steps new_bi
 
 -- the offers before a place are shorter than those from there on
 abbrev pub IsApart : List ℕ → ℕ → Type 0
-IsApart codes from = (k n : ℕ) → k < from → from ≤ n → n < length codes → slice_index codes k / 16 < slice_index codes n / 16
+IsApart codes from = (k n : ℕ) → k < from → from ≤ n → n < length codes
+    → slice_index codes k / 16 < slice_index codes n / 16
 
 -- all columns of some takers within a band
 pub record AreColumnsOf (s : SheetParts) (codes : List ℕ) (takers : List Bool) (c : Columns) : Type 0 where

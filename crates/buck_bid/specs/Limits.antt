@@ -8,7 +8,8 @@ pub record AreLimits (i : InstructionParts) (limits : List ℕ) : Type 0 where
   pub rise : IsStrictlyIncreasing limits
   pub low : Contains limits 0
   pub high : Contains limits 1504
-  pub rows : (a : ℕ) (x : AssortmentParts) (d : ℕ) → slice_get i.assortments a ≡ Some x → Contains x.diameters d → Contains limits d
+  pub rows : (a : ℕ) (x : AssortmentParts) (d : ℕ) → slice_get i.assortments a ≡ Some x → Contains x.diameters d
+      → Contains limits d
   pub uppers : (a : ℕ) (x : AssortmentParts) → slice_get i.assortments a ≡ Some x → Contains limits x.upper
 
 -- no row of an assortment starts or ends within the diameters from `low` on and below `past`

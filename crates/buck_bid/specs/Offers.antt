@@ -13,7 +13,8 @@ code_of length assortment = length * 16 + assortment
 pub record AreCodes (i : InstructionParts) (codes : List ℕ) : Type 0 where
   pub rise : IsStrictlyIncreasing codes
   pub few : length codes ≤ 512
-  pub whole : (a : ℕ) (x : AssortmentParts) (l : ℕ) → slice_get i.assortments a ≡ Some x → Contains x.lengths l → Contains codes (code_of l a)
+  pub whole : (a : ℕ) (x : AssortmentParts) (l : ℕ) → slice_get i.assortments a ≡ Some x → Contains x.lengths l
+      → Contains codes (code_of l a)
 
 -- the mark of a log is 1,023 less the place of its code: the lower the code, the higher the mark
 pub record HasMark (codes : List ℕ) (g : Log) (mark : ℕ) : Type 0 where

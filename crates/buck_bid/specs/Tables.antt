@@ -16,7 +16,8 @@ pub record AreMade (s : SheetParts) (codes limits : List ℕ) (x : Takers) : Typ
   pub number : length x.marked.items ≡ length s.instruction.assortments
   pub bands : length x.bands.items ≡ length limits
   pub right : (b : ℕ) (c : Columns) → slice_get x.bands.items b ≡ Some (Some c)
-      → (c.band.thinnest ≡ slice_index limits b) × (c.band.past ≡ slice_index limits (b + 1)) × AreColumnsOf s codes x.marked.items c
+      → (c.band.thinnest ≡ slice_index limits b) × (c.band.past ≡ slice_index limits (b + 1))
+      × AreColumnsOf s codes x.marked.items c
 
 -- some wood has its takers at a place
 pub record HasTakers (s : SheetParts) (sets : List Takers) (wood : Wood) (set : ℕ) : Type 0 where
@@ -32,7 +33,8 @@ AreKinds s sets kinds = (k : ℕ) (q : Kind) → slice_get kinds k ≡ Some q �
 
 -- the same takers at the same places
 abbrev pub AreSameTakers : List Takers → List Takers → Type 0
-AreSameTakers old new = (k : ℕ) (x : Takers) → slice_get old k ≡ Some x → (y : Takers) × (slice_get new k ≡ Some y) × (y.marked.items ≡ x.marked.items)
+AreSameTakers old new = (k : ℕ) (x : Takers) → slice_get old k ≡ Some x
+    → (y : Takers) × (slice_get new k ≡ Some y) × (y.marked.items ≡ x.marked.items)
 
 -- at a place stand takers whose columns for a band are made
 pub record HasColumns (sets : List Takers) (set band : ℕ) : Type 0 where

@@ -63,7 +63,8 @@ fn raise(column: &mut [Bid], price: Price, rank: u32, thinnest: u32)
     ensures number { length column.new ≡ length column.old }
     ensures raised { (at : ℕ) → at < length column.old → slice_index column.new at
         ≡ max (slice_index column.old at) (bid_of (worth_at price.kind price.price (volume (thinnest + at) price.length)) rank) }
-    ensures high { ((at : ℕ) → slice_index column.old at ≤ 2000000000000000000) → (at : ℕ) → slice_index column.new at ≤ 2000000000000000000 }
+    ensures high { ((at : ℕ) → slice_index column.old at ≤ 2000000000000000000) → (at : ℕ)
+        → slice_index column.new at ≤ 2000000000000000000 }
 {
     for at in 0..column.len() {
         column[at] = column[at].or(bid_at(price, rank, thinnest + at as u32));
@@ -74,12 +75,14 @@ fn raise(column: &mut [Bid], price: Price, rank: u32, thinnest: u32)
 fn price_of(sheet: &Sheet, offer: Offer, band: Band) -> Option<Price>
     requires there { offer.assortment < length sheet.now.instruction.assortments }
     requires band { IsBandOf sheet.now.instruction band.thinnest band.past }
-    ensures priced { IfSome result (λ _. (d : ℕ) → band.thinnest ≤ d → d < band.past → IsPricedAt sheet.now offer.assortment offer.length d) }
+    ensures priced { IfSome result (λ _. (d : ℕ) → band.thinnest ≤ d → d < band.past
+        → IsPricedAt sheet.now offer.assortment offer.length d) }
     ensures worth { IfSome result (λ p. (d : ℕ) → band.thinnest ≤ d → d < band.past
         → worth_for sheet.now offer.assortment offer.length d ≡ worth_at p.kind p.price (volume d p.length)) }
     ensures price { IfSome result (λ p. p.price ≤ 20000000) }
     ensures length { IfSome result (λ p. p.length ≤ 30000) }
-    ensures none { IfNone result ((d : ℕ) → band.thinnest ≤ d → d < band.past → IsPricedAt sheet.now offer.assortment offer.length d → ⊥) }
+    ensures none { IfNone result ((d : ℕ) → band.thinnest ≤ d → d < band.past
+        → IsPricedAt sheet.now offer.assortment offer.length d → ⊥) }
 {
     let assortment = &sheet.instruction().assortments()[offer.assortment];
     if band.thinnest < assortment.diameters()[0] {
@@ -171,7 +174,8 @@ fn put_length(
     ensures next { (from < result) × (result ≤ length offers.now) }
     ensures column { IsColumn sheet.now (codes_in offers.now) takers.now band.thinnest long from result column.new }
     ensures earlier { (k : ℕ) → k < result → slice_index (codes_in offers.now) k < long * 16 + 16 }
-    ensures later { (k : ℕ) → result ≤ k → k < length offers.now → long * 16 + 15 < slice_index (codes_in offers.now) k }
+    ensures later { (k : ℕ) → result ≤ k → k < length offers.now
+        → long * 16 + 15 < slice_index (codes_in offers.now) k }
 {
     put_offer(column, sheet, offers, takers, from, band);
     let mut place = from + 1;

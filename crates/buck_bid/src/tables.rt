@@ -67,7 +67,8 @@ fn takers_at(
 ) -> Result<usize, AllocError>
     ensures there { IfOk result (λ k. HasTakers sheet.now sets.new.items wood k) }
     ensures kept { (k : ℕ) (x : Takers) → slice_get sets.old.items k ≡ Some x → slice_get sets.new.items k ≡ Some x }
-    ensures right { (codes : List ℕ) → AreAllMade sheet.now codes limits.now sets.old.items → AreAllMade sheet.now codes limits.now sets.new.items }
+    ensures right { (codes : List ℕ) → AreAllMade sheet.now codes limits.now sets.old.items
+        → AreAllMade sheet.now codes limits.now sets.new.items }
 {
     let marked = takers_of(alloc, sheet.instruction(), wood)?;
     match find_takers(sets.as_slice(), marked.as_slice()) {
@@ -82,7 +83,8 @@ fn takers_at(
 
 /// The kind of some wood, if it stands at a place.
 fn is_at(kinds: &[Kind], place: usize, wood: Wood) -> Option<usize>
-    ensures { IfSome result (λ set. (k : ℕ) × (q : Kind) × (slice_get kinds.now k ≡ Some q) × (q.wood ≡ wood) × (q.set ≡ set)) }
+    ensures { IfSome result (λ set. (k : ℕ) × (q : Kind) × (slice_get kinds.now k ≡ Some q) × (q.wood ≡ wood)
+        × (q.set ≡ set)) }
 {
     if place < kinds.len() && kinds[place].wood == wood {
         return Some(kinds[place].set);
@@ -114,7 +116,8 @@ fn kind_at(
 ) -> Result<usize, AllocError>
     requires kinds { AreKinds sheet.now sets.old.items kinds.old.items }
     ensures kinds { AreKinds sheet.now sets.new.items kinds.new.items }
-    ensures right { (codes : List ℕ) → AreAllMade sheet.now codes limits.now sets.old.items → AreAllMade sheet.now codes limits.now sets.new.items }
+    ensures right { (codes : List ℕ) → AreAllMade sheet.now codes limits.now sets.old.items
+        → AreAllMade sheet.now codes limits.now sets.new.items }
     ensures within { IfOk result (λ k. k < length kinds.new.items) }
     ensures found { IfOk result (λ k. (q : Kind) → slice_get kinds.new.items k ≡ Some q → q.wood ≡ wood) }
 {
@@ -142,7 +145,8 @@ fn set_of(
     requires kinds { AreKinds sheet.now sets.old.items kinds.old.items }
     ensures last { length last.new.items ≡ 256 }
     ensures kinds { AreKinds sheet.now sets.new.items kinds.new.items }
-    ensures right { (codes : List ℕ) → AreAllMade sheet.now codes limits.now sets.old.items → AreAllMade sheet.now codes limits.now sets.new.items }
+    ensures right { (codes : List ℕ) → AreAllMade sheet.now codes limits.now sets.old.items
+        → AreAllMade sheet.now codes limits.now sets.new.items }
     ensures there { IfOk result (λ k. HasTakers sheet.now sets.new.items wood k) }
 {
     match is_at(kinds.as_slice(), last[wood.grades as usize], wood) {
@@ -237,8 +241,10 @@ fn columns_at(
 
 /// Drops all tables where too much is held. The answer is how much is held then.
 fn make_room(kinds: &mut Vec<Kind>, sets: &mut Vec<Takers>, held: usize, room: usize) -> usize
-    ensures kinds { (s : SheetParts) → AreKinds s sets.old.items kinds.old.items → AreKinds s sets.new.items kinds.new.items }
-    ensures made { (s : SheetParts) (codes limits : List ℕ) → AreAllMade s codes limits sets.old.items → AreAllMade s codes limits sets.new.items }
+    ensures kinds { (s : SheetParts) → AreKinds s sets.old.items kinds.old.items
+        → AreKinds s sets.new.items kinds.new.items }
+    ensures made { (s : SheetParts) (codes limits : List ℕ) → AreAllMade s codes limits sets.old.items
+        → AreAllMade s codes limits sets.new.items }
 {
     if held < room {
         return held;
@@ -341,7 +347,8 @@ impl Tables {
     #[inline(always)]
     fn found(&self, wood: Wood, band: usize) -> Option<Found>
         requires { length self.now.last.items ≡ 256 }
-        ensures found { IfSome result (λ f. (s : SheetParts) → AreTablesOf s self.now → IsFound s self.now wood f.set f.band) }
+        ensures found { IfSome result (λ f. (s : SheetParts) → AreTablesOf s self.now
+            → IsFound s self.now wood f.set f.band) }
         ensures band { IfSome result (λ f. f.band ≡ band) }
     {
         let place = self.last[wood.grades as usize];

@@ -29,7 +29,8 @@ standing_of i a c es = record {
 -- one price for each class, each in the price relation with the counts of some entries
 pub record PricesMeet (i : InstructionParts) (es : List EntryParts) (prices : List ℕ) : Type 0 where
   pub one_each : length prices ≡ classes i
-  pub each_meets : (c : Class) (k : IsClass i c) → Meets (standing_of i k.assortment c es) (slice_index prices (index_of i c))
+  pub each_meets : (c : Class) (k : IsClass i c)
+      → Meets (standing_of i k.assortment c es) (slice_index prices (index_of i c))
 
 -- an entry may follow some entries
 pub record Follows (i : InstructionParts) (sheets : List (List ℕ)) (before : List EntryParts) (e : EntryParts) : Type 0 where

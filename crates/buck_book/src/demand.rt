@@ -26,7 +26,8 @@ impl Model for ReadyDemand {
 
     ghost view = { λ r. record { targets = r.stored.value.items; next = r.next.value } };
 
-    ghost invariant = { λ r. (r.in_force.value.items ≡ r.stored.value.items) × (r.answered.value.items ≡ r.stored.value.items) };
+    ghost invariant = { λ r. (r.in_force.value.items ≡ r.stored.value.items)
+        × (r.answered.value.items ≡ r.stored.value.items) };
 }
 
 impl ReadyDemand {

@@ -19,7 +19,8 @@ cutting_worth sheet stem logs = sum_by (worth_of sheet stem) logs
 -- admissible, and no admissible list of logs has a greater worth
 pub record IsBest (sheet : SheetParts) (stem : StemParts) (logs : List Log) : Type 0 where
   pub admissible : IsAdmissible sheet stem logs
-  pub none_outvalues : (others : List Log) → IsAdmissible sheet stem others → cutting_worth sheet stem others ≤ cutting_worth sheet stem logs
+  pub none_outvalues : (others : List Log) → IsAdmissible sheet stem others
+      → cutting_worth sheet stem others ≤ cutting_worth sheet stem logs
 
 -- the best cutting that comes before every other best one
 pub record IsFirstBest (sheet : SheetParts) (stem : StemParts) (logs : List Log) : Type 0 where

@@ -73,7 +73,8 @@ fn piece_start(
     requires last { (thinnest ≤ slice_index diameters.now (high - 1)) × (slice_index diameters.now (high - 1) < past) }
     ensures range { (low ≤ result) × (result < high) }
     ensures run { run < result }
-    ensures band { (j : ℕ) → result ≤ j → j < high → (thinnest ≤ slice_index diameters.now j) × (slice_index diameters.now j < past) }
+    ensures band { (j : ℕ) → result ≤ j → j < high
+        → (thinnest ≤ slice_index diameters.now j) × (slice_index diameters.now j < past) }
 {
     let mut from = high - 1;
     while from > low && from > run + 1 {
@@ -130,9 +131,11 @@ fn offer_piece(
     requires past { past ≤ length ground.diameters.now }
     requires number { length values.old ≡ ends_of (ground_of ground.sheet.now ground.stem.now tables.old) }
     requires room { length bases.now ≡ ends_of (ground_of ground.sheet.now ground.stem.now tables.old) }
-    requires in_band { (j : ℕ) → from ≤ j → j < past → (slice_index tables.old.limits.items band ≤ slice_index ground.diameters.now j)
+    requires in_band { (j : ℕ) → from ≤ j → j < past
+        → (slice_index tables.old.limits.items band ≤ slice_index ground.diameters.now j)
         × (slice_index ground.diameters.now j < slice_index tables.old.limits.items (band + 1)) }
-    requires even { (one : ℕ) × ((k : ℕ) → from ≤ k + 1 → k + 1 < past → IsMaskBetween ground.profile.now k (k + 1) one) }
+    requires even { (one : ℕ)
+        × ((k : ℕ) → from ≤ k + 1 → k + 1 < past → IsMaskBetween ground.profile.now k (k + 1) one) }
     requires fits { (j : ℕ) → from ≤ j → j < past
         → j * ground.sheet.now.instruction.module + trim ≤ stem_length ground.stem.now.samples }
     requires low { (j : ℕ) → from ≤ j → j < past
@@ -284,7 +287,8 @@ fn least_steps(offers: &[Offer], step: u32) -> usize
     requires rise { IsStrictlyIncreasing (codes_in offers.now) }
     requires low { (k : ℕ) (o : Offer) → slice_get offers.now k ≡ Some o → o.assortment < 16 }
     ensures some { 0 < result }
-    ensures least { (k : ℕ) → k < length (codes_in offers.now) → result * step ≤ slice_index (codes_in offers.now) k / 16 }
+    ensures least { (k : ℕ) → k < length (codes_in offers.now)
+        → result * step ≤ slice_index (codes_in offers.now) k / 16 }
 {
     if offers.len() == 0 {
         return 1;

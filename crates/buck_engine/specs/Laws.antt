@@ -6,4 +6,5 @@ use Rattle.buck_engine.specs.Text.{IsBuckText}
 
 -- an instruction and stems have no more than one text
 abbrev pub OneText : Type 0
-OneText = (i : InstructionParts) (stems : List StemParts) (a b : List ℕ) → IsBuckText i stems a → IsBuckText i stems b → a ≡ b
+OneText = (i : InstructionParts) (stems : List StemParts) (a b : List ℕ) → IsBuckText i stems a
+    → IsBuckText i stems b → a ≡ b

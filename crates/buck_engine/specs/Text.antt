@@ -64,7 +64,8 @@ text_of sheet cuts = flat_map (stem_lines sheet) cuts ++ total_line (length cuts
 
 -- each stem is cut by the first of its best cuttings
 abbrev pub IsBucking : SheetParts → List StemParts → List CutStem → Type 0
-IsBucking sheet stems cuts = (map (λ cut. cut.stem) cuts ≡ stems) × All (λ cut. IsFirstBest sheet cut.stem cut.logs) cuts
+IsBucking sheet stems cuts = (map (λ cut. cut.stem) cuts ≡ stems)
+    × All (λ cut. IsFirstBest sheet cut.stem cut.logs) cuts
 
 -- the text of the stems, bucked under a sheet
 pub record IsTextUnder (sheet : SheetParts) (stems : List StemParts) (text : List ℕ) : Type 0 where

@@ -45,7 +45,8 @@ pub record HaveRun (f : FleetParts) (lists : List (Vec (Arc Stem Global) Global)
   pub of_fleet : All (IsSeatIn f) after
   pub same_crew : (n : ℕ) → IsCrew n before → IsCrew n after
   pub same_parts : parts_of after ≡ parts_of before
-  pub runs : (i : ℕ) (d : SeatParts) → i < length before → HasRun (stems_at lists i) (slice_index_or before i d) (slice_index_or after i d)
+  pub runs : (i : ℕ) (d : SeatParts) → i < length before
+      → HasRun (stems_at lists i) (slice_index_or before i d) (slice_index_or after i d)
 
 -- what stopped the lowest harvester that was stopped
 pub record IsFirstStop (seats : List SeatParts) (fault : RunFault) : Type 0 where

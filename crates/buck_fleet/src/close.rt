@@ -196,7 +196,8 @@ impl Closed {
     fn fault(&self) -> Option<CloseFault>
         requires few { length self.now.history.postings ≤ 1000000 }
         requires seats { length self.now.kept ≤ 64 }
-        ensures none { IfNone result ((h : ℕ) → 0 < h → h ≤ length self.now.kept → kept_by h self.now ≡ replies_of h self.now.history) }
+        ensures none { IfNone result ((h : ℕ) → 0 < h → h ≤ length self.now.kept
+            → kept_by h self.now ≡ replies_of h self.now.history) }
         ensures some { IfSome result (IsCloseFault self.now.history.instruction (length self.now.kept) self.now) }
     {
         for (i, kept) in self.kept.iter().enumerate() {

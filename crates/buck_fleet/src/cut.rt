@@ -104,7 +104,8 @@ impl<F: Fn(&Standing) -> u64 + Drop, L: Ledger> Fleet<F, L> {
         ensures reply { IfOk result (IsReplyFor seat.old seat.new stem.value) }
         ensures attempts { IfOk result (λ r. AreAttempts r.path r.attempts) }
         ensures newer { IfOk result (λ r. seen_of seat.old + (r.attempts - 1) ≤ seen_of seat.new) }
-        ensures optimistic { IfOk result (λ r. r.path ≡ Path.Optimistic → seen_of seat.old + (r.attempts - 1) ≤ r.entry.version) }
+        ensures optimistic { IfOk result (λ r. r.path ≡ Path.Optimistic
+            → seen_of seat.old + (r.attempts - 1) ≤ r.entry.version) }
         ensures locked_at_once { IfOk result (λ r. r.attempts ≡ 0 → 1 ≤ seen_of seat.new) }
         ensures left { IfErr result (λ e. KeepsNothing seat.old seat.new) }
     {

@@ -79,7 +79,9 @@ fn run_each<
     requires lists { length seats.old ≡ length lists.now }
     requires seats { All (IsSeatIn fleet.now) seats.old }
     ensures number { length seats.new ≡ length seats.old }
-    ensures each { (i : ℕ) (d : SeatParts) → i < length seats.old → IsSeatIn fleet.now (slice_index_or seats.new i d) × HasRun (stems_at lists.now i) (slice_index_or seats.old i d) (slice_index_or seats.new i d) }
+    ensures each { (i : ℕ) (d : SeatParts) → i < length seats.old
+        → IsSeatIn fleet.now (slice_index_or seats.new i d)
+        × HasRun (stems_at lists.now i) (slice_index_or seats.old i d) (slice_index_or seats.new i d) }
 {
     if seats.len() == 0 {
         return;

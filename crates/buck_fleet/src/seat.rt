@@ -76,7 +76,8 @@ impl<L: Ledger> Model for Seat<L> {
 
     ghost view = { λ s. record { harvester = s.harvester; place = s.place; kept = s.kept.items; parts = s.share.parts; stopped = s.stopped } };
 
-    ghost invariant = { λ s. (s.share.amount ≡ length s.kept.items) × (0 < s.share.parts) × (0 < s.harvester) × (s.harvester ≤ 64) };
+    ghost invariant = { λ s. (s.share.amount ≡ length s.kept.items) × (0 < s.share.parts) × (0 < s.harvester)
+        × (s.harvester ≤ 64) };
 }
 
 /// Plans a stem under a sheet, with the planner that is there. It is renewed where the sheet is another.

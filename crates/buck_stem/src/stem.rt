@@ -61,7 +61,8 @@ fn running_least(alloc: Global, samples: &[u16]) -> Result<Vec<u16>, AllocError>
 fn push_lows(lows: &[u16], out: &mut Vec<u32>) -> Result<(), AllocError>
     requires none { length out.old.items ≡ 0 }
     ensures number { OnOk result (length out.new.items ≡ length lows.now) }
-    ensures right { OnOk result ((samples : List ℕ) → IsRunningLeast samples lows.now → AreDiametersBy samples 100 out.new.items) }
+    ensures right { OnOk result ((samples : List ℕ) → IsRunningLeast samples lows.now
+        → AreDiametersBy samples 100 out.new.items) }
 {
     for low in lows {
         out.push(u32::from(*low))?;
@@ -82,7 +83,8 @@ fn push_between(
     requires step { (10 ≤ step) × (step ≤ 1000) }
     requires part { part < step }
     ensures part { IfOk result (λ r. r < step) }
-    ensures right { IfOk result (λ r. (samples : List ℕ) (i : ℕ) → low ≡ least_to samples i → next ≡ least_to samples (i + 1)
+    ensures right { IfOk result (λ r. (samples : List ℕ) (i : ℕ) → low ≡ least_to samples i
+        → next ≡ least_to samples (i + 1)
         → AreDiametersTo samples step i part out.old.items → AreDiametersTo samples step (i + 1) r out.new.items) }
 {
     let mut past = part;

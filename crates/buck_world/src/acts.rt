@@ -76,7 +76,8 @@ pub fn try_plan<F: Fn(&Standing) -> u64 + Drop>(
         (world_of book.new.history front harvesters.new.items)) }
     ensures room { OnOk result (IsBelow book.old) }
     ensures refused { IfErr result (IsPlanRefusal book.old) }
-    ensures left { OnErr result ((book.new.history ≡ book.old.history) × (harvesters.new.items ≡ harvesters.old.items)) }
+    ensures left { OnErr result ((book.new.history ≡ book.old.history)
+        × (harvesters.new.items ≡ harvesters.old.items)) }
     ensures rule { book.new.rule ≡ book.old.rule }
     ensures capacity { book.new.capacity ≡ book.old.capacity }
     ensures number { vec_len harvesters.new ≡ vec_len harvesters.old }
@@ -116,7 +117,8 @@ pub fn cut_locked<F: Fn(&Standing) -> u64 + Drop>(
         (world_of book.new.history front harvesters.new.items)) }
     ensures room { OnOk result (IsBelow book.old) }
     ensures refused { IfErr result (IsPlanRefusal book.old) }
-    ensures left { OnErr result ((book.new.history ≡ book.old.history) × (harvesters.new.items ≡ harvesters.old.items)) }
+    ensures left { OnErr result ((book.new.history ≡ book.old.history)
+        × (harvesters.new.items ≡ harvesters.old.items)) }
     ensures rule { book.new.rule ≡ book.old.rule }
     ensures capacity { book.new.capacity ≡ book.old.capacity }
     ensures number { vec_len harvesters.new ≡ vec_len harvesters.old }
@@ -152,7 +154,8 @@ pub fn retarget<F: Fn(&Standing) -> u64 + Drop>(
     ensures room { OnOk result
         (IsBelow book.old × AreTargets book.old.history.instruction targets.now.value.items) }
     ensures refused { IfErr result (IsTargetsRefusal book.old targets.now.value.items) }
-    ensures left { OnErr result ((book.new.history ≡ book.old.history) × (harvesters.new.items ≡ harvesters.old.items)) }
+    ensures left { OnErr result ((book.new.history ≡ book.old.history)
+        × (harvesters.new.items ≡ harvesters.old.items)) }
     ensures rule { book.new.rule ≡ book.old.rule }
     ensures capacity { book.new.capacity ≡ book.old.capacity }
     ensures number { vec_len harvesters.new ≡ vec_len harvesters.old }

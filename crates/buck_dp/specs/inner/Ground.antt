@@ -19,7 +19,8 @@ pub record IsGround (sheet : SheetParts) (stem : StemParts) (profile : ProfilePa
   pub sound : IsStem stem
   pub same : profile ≡ profile_of stem sheet.instruction.«module»
   pub number : length diameters ≡ points_of (ground_with sheet stem [])
-  pub known : (j : ℕ) → j < points_of (ground_with sheet stem []) → slice_index diameters j ≡ diameter_at stem.samples (j * sheet.instruction.«module»)
+  pub known : (j : ℕ) → j < points_of (ground_with sheet stem [])
+      → slice_index diameters j ≡ diameter_at stem.samples (j * sheet.instruction.«module»)
   pub thin : (j : ℕ) → j < points_of (ground_with sheet stem []) → slice_index diameters j ≤ 1500
 
 -- no log is shorter than so many steps
@@ -31,7 +32,8 @@ pub record IsPieceOf (p : GroundParts) (values bases : List ℕ) (start end trim
   pub short : (i j e t bid : ℕ) → IsLogBid p i j e t bid → start ≤ i → end ≤ e
   pub far : (i j e t bid : ℕ) → IsLogBid p i j e t bid → from ≤ i → past ≤ j
   pub range : (j : ℕ) → from ≤ j → j < past
-      → (start ≤ j + point_after p.sheet.instruction.«module» trim) × (j + point_after p.sheet.instruction.«module» trim < end)
+      → (start ≤ j + point_after p.sheet.instruction.«module» trim)
+      × (j + point_after p.sheet.instruction.«module» trim < end)
   pub base : (e : ℕ) → start ≤ e → e < end → slice_index bases e ≡ unranked (slice_index values e)
 
 -- once the logs of a piece are offered

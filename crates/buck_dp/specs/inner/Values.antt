@@ -29,5 +29,8 @@ pub record AreValuesFrom (p : GroundParts) (values : List ℕ) (i : ℕ) : Type 
 pub record IsBestFrom (p : GroundParts) (i value : ℕ) (gs : List Log) : Type 0 where
   pub top : IsTop (IsAllowed p.sheet.instruction p.stem) (end_of p.sheet.instruction) (worth_of p.sheet p.stem) (i * p.sheet.instruction.«module») gs
   pub worth_is : value / 1024 ≡ sum_by (worth_of p.sheet p.stem) gs
-  pub later : value % 1024 ≡ 0 → IsCutFrom (IsAllowed p.sheet.instruction p.stem) (end_of p.sheet.instruction) ((i + 1) * p.sheet.instruction.«module») gs
-  pub here : 0 < value % 1024 → (g : Log) × (rest : List Log) × (j : ℕ) × (gs ≡ g ∷ rest) × (j < ends_of p) × IsFromTo p i j g × HasMark p.codes g (value % 1024)
+  pub later : value % 1024 ≡ 0
+      → IsCutFrom (IsAllowed p.sheet.instruction p.stem) (end_of p.sheet.instruction) ((i + 1) * p.sheet.instruction.«module») gs
+  pub here : 0 < value % 1024
+      → (g : Log) × (rest : List Log) × (j : ℕ) × (gs ≡ g ∷ rest) × (j < ends_of p) × IsFromTo p i j g
+      × HasMark p.codes g (value % 1024)

@@ -54,6 +54,7 @@ pub record IsDemandReplyAt {F : Type 0} (before after : BookParts F) (seat_befor
 
 -- what became of a plan that was brought to the book
 abbrev pub IsAttempt : SeatParts → SeatParts → PlanParts → ℕ → Attempt → Type 0
-IsAttempt before after p attempt (Done r) = IsReplyFor before after p.stem r × IsOfPlan p r.entry × (r.attempts ≡ attempt) × (r.path ≡ Optimistic)
+IsAttempt before after p attempt (Done r) = IsReplyFor before after p.stem r × IsOfPlan p r.entry
+    × (r.attempts ≡ attempt) × (r.path ≡ Optimistic)
 IsAttempt before after p attempt Outdated = after ≡ before
 IsAttempt before after p attempt (Refused fault) = after ≡ before
