@@ -89,6 +89,7 @@ pub fn run_check<R: io::Read, W: io::Write>(
     let instruction = Arc::new(alloc, instruction_in(alloc, instruction_bytes.as_slice())?)?;
     let journal_bytes = read_file(alloc, journal, 1)?;
     let journal = journal_in(alloc, journal_bytes.as_slice())?;
+    drop(journal_bytes);
     replayed(alloc, &instruction, &journal)?;
     let text = lawful_text(alloc, journal.entries.len())?;
     write_text(writer, text.as_slice())

@@ -103,6 +103,7 @@ pub fn run_buck<R: io::Read, W: io::Write>(
     let instruction = instruction_in(alloc, instruction_bytes.as_slice())?;
     let stem_bytes = read_file(alloc, stm, 1)?;
     let stems = stems_in(alloc, stem_bytes.as_slice(), 1)?;
+    drop(stem_bytes);
     let text = buck_text(alloc, &instruction, stems.as_slice())?;
     write_text(writer, text.as_slice())
 }
