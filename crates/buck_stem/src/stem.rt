@@ -41,10 +41,10 @@ impl Model for Stem {
 fn lower(samples: &mut [u16])
     ensures { IsRunningLeast samples.old samples.new }
 {
-    let mut low = u16::MAX;
+    let mut low = u32::from(u16::MAX);
     for i in 0..samples.len() {
-        low = low.min(samples[i]);
-        samples[i] = low;
+        low = low.min(u32::from(samples[i]));
+        samples[i] = low as u16;
     }
 }
 

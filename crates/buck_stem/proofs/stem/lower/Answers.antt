@@ -9,10 +9,11 @@ loop-i-preserved c =
     let low = c.loop-i.low in
     let old = c.args.samples.now in
     let new = c.loop-i.samples in
-    let s : ℕ = get_or new i 0 in
+    let s : ℕ = c.from.result in
     let lt : i < length old = omega (arith, c.loop-i-test.true) in
-    let is : s ≡ get_or old i 0 = c.loop-i.invariant.later i (omega arith) in
-    let fit : s ≤ 65535 = search rules in
+    let is : s ≡ get_or old i 0 = c.from.ensures ∙ c.loop-i.invariant.later i (omega arith) in
+    let small : get_or new i 0 ≤ 65535 = search rules in
+    let fit : s ≤ 65535 = omega (arith, small, c.from.ensures) in
     let m = c.min-low.ensures in
     let here = low_here old i low s lt fit is c.loop-i.invariant.low_is in
     record {
