@@ -8,6 +8,7 @@ use crate::memory::Memory;
 use itoa::Buffer;
 
 /// Puts a number of three digits, after a blank: most diameters in mm have three.
+#[inline(always)]
 fn put_three(out: &mut Vec<u8>, number: u32) -> Result<(), Memory>
     requires { (100 ≤ number) × (number < 1000) }
     ensures { OnOk result (out.new.items ≡ out.old.items ++ (32 ∷ decimal number)) }
@@ -20,6 +21,7 @@ fn put_three(out: &mut Vec<u8>, number: u32) -> Result<(), Memory>
 }
 
 /// Puts a number of any digits, after a blank.
+#[inline(never)]
 fn put_any(out: &mut Vec<u8>, number: u128) -> Result<(), Memory>
     ensures { OnOk result (out.new.items ≡ out.old.items ++ (32 ∷ decimal number)) }
 {
@@ -35,6 +37,7 @@ fn put_any(out: &mut Vec<u8>, number: u128) -> Result<(), Memory>
 }
 
 /// Puts a number in decimal, after a blank.
+#[inline(always)]
 pub fn put_number(out: &mut Vec<u8>, number: u128) -> Result<(), Memory>
     ensures { OnOk result (out.new.items ≡ out.old.items ++ (32 ∷ decimal number)) }
 {
