@@ -6,8 +6,9 @@
 It looks at the tests whose names begin with refused_memory: each makes few allocations. For N = 1, 2, .. the Nth
 allocation of each is refused (`rt try --test --fail-alloc N`, compiled with checks and with no proofs). The rule: a test
 in which a growth was refused looks at what stood before, goes on with ample memory, and then ends with an error that
-says that memory ran out. So a test that passes made fewer than N allocations; an answer that changes, a failed
-assertion, a fault or a run with no answer breaks the rule. A crate is done when all its tests passed at three places
+says that memory ran out. So a test that passes made fewer than N allocations, or was
+refused room that a list asks for ahead and does without; an answer that changes, a failed assertion, a fault or a run
+with no answer breaks the rule. A crate is done when all its tests passed at three places
 tried in a row, or at --most, which is then said. With --every S only N = 1, 1 + S, 1 + 2 S, .. are tried. Without names
 it takes every crate of crates.txt that has such a test. It says for each test at how many places an allocation was
 refused; the last line is 'N passed, M failed', counted by these places, and the status is 0 where none failed.

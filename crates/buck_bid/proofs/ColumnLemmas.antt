@@ -12,7 +12,7 @@ use Rattle.buck_bid.specs.declared.offers.Offer.{Offer}
 use Rattle.buck_bid.specs.Bid.{bid_of, worth_in, rank_in}
 use Rattle.buck_bid.specs.Offers.{code_of, codes_in, AreOffers, IsWhole}
 use Rattle.buck_bid.specs.Quotes.{IsPricedAt, IsQuote, worth_for}
-use Rattle.buck_bid.specs.Columns.{IsMarked, IsColumn, AreColumns, AreReached, IsOutbid, ArePut, bid_in}
+use Rattle.buck_bid.specs.Columns.{IsMarked, Marks, IsColumn, IsBeaten, AreColumns, AreReached, IsOutbid, ArePut, bid_in}
 use Rattle.buck_bid.proofs.ListLemmas.{in_order}
 
 -- what stands at a place of a list that is made from another
@@ -171,17 +171,19 @@ module _ (steps bids column : List ℕ) (count : ℕ) (number : length bids ≡ 
       ∙ ap (λ n. get_or column n 0) (let e : length steps * length column + at - length steps * length column ≡ at = omega arith in e)
 
   -- what was reached is still reached, and what the new column reaches too
-  pub reached_more : (old new : List ℕ) → AreReached (length column) steps bids old
+  pub reached_more : (s : SheetParts) (codes : List ℕ) (rivals : List Bool) (thinnest long : ℕ) (old new : List ℕ)
+      → AreReached s codes rivals thinnest long (length column) steps bids old
       → ((at : ℕ) → at < length column → slice_index new at ≡ max (slice_index old at) (worth_in (slice_index column at)))
-      → AreReached (length column) (steps ++ count ∷ []) (bids ++ column) new
-  reached_more old new was raised at lt =
+      → AreReached s codes rivals thinnest long (length column) (steps ++ count ∷ []) (bids ++ column) new
+  reached_more s codes rivals thinnest long old new was raised at lt =
       let r = raised at lt in
       let more : length (steps ++ count ∷ []) ≡ length steps + 1 = length-append steps (count ∷ []) in
       elim (cases_lt (slice_index old at) (worth_in (slice_index column at))) [
-        | inl here ↦ inr (length steps, omega arith, (let b = new_bid at lt in omega arith))
+        | inl here ↦ inr (inl (length steps, omega arith, (let b = new_bid at lt in omega arith)))
         | inr there ↦ elim (was at lt) [
           | inl none ↦ inl (omega arith)
-          | inr some ↦ inr (some.0, (let l = some.1 in omega arith), (let b = same_bid some.0 at some.1 lt in let e = some.2 in omega arith))
+          | inr (inl some) ↦ inr (inl (some.0, (let l = some.1 in omega arith), (let b = same_bid some.0 at some.1 lt in let e = some.2 in omega arith)))
+          | inr (inr by) ↦ inr (inr (by.0, by.1, (let e = by.2 in omega arith)))
         ]
       ]
 
@@ -206,16 +208,16 @@ quote_some s offers a l d bid are q =
     let lt : 1023 - q.mark < length (codes_in offers) = slice_get_within (codes_in offers) (1023 - q.mark) _ q.marked.at in
     omega (arith, q.is, are.codes.few, q.marked.high)
 
-module _ {s : SheetParts} {offers : List Offer} {takers : List Bool} {thinnest long from next count : ℕ} {steps bids column : List ℕ}
+module _ {s : SheetParts} {offers : List Offer} {marks : Marks} {thinnest long from next count : ℕ} {steps bids column : List ℕ}
     (pos : 0 < s.instruction.«module») (v : IsSheet s) (are : AreOffers s.instruction offers)
     (lt : from < length offers) (low : long * 16 ≤ slice_index (codes_in offers) from)
     (near : slice_index (codes_in offers) from < long * 16 + 16)
     (apart : (k : ℕ) → k < from → slice_index (codes_in offers) k / 16 < slice_index (codes_in offers) from / 16)
     (counted : count * s.instruction.«module» ≡ long) (some : 0 < count)
     (at_most : (k : ℕ) → k < next → slice_index (codes_in offers) k < long * 16 + 16)
-    (le : from < next) (filled : IsColumn s (codes_in offers) takers thinnest long from next column)
+    (le : from < next) (filled : IsColumn s (codes_in offers) marks.0 thinnest long from next column)
     (later : (k : ℕ) → next ≤ k → k < length offers → long * 16 + 15 < slice_index (codes_in offers) k)
-    (was : AreColumns s (codes_in offers) takers thinnest (length column) from steps bids) where
+    (was : AreColumns s (codes_in offers) marks thinnest (length column) from steps bids) where
   -- columns that are there are shorter
   are_shorter : (c : ℕ) → c < length steps → slice_index steps c < count
   are_shorter c in_steps =
@@ -223,7 +225,7 @@ module _ {s : SheetParts} {offers : List Offer} {takers : List Bool} {thinnest l
       fewer_steps s.instruction.«module» (slice_index steps c) count (omega arith)
 
   -- a quote of the length, done by now, is among those of the column
-  each_here : (a at bid : ℕ) → IsMarked takers a → at < length column → IsQuote s (codes_in offers) a long (thinnest + at) bid
+  each_here : (a at bid : ℕ) → IsMarked marks.0 a → at < length column → IsQuote s (codes_in offers) a long (thinnest + at) bid
       → 1023 < next + rank_in bid → bid ≤ slice_index column at
   each_here a at bid taken within q done =
       let code : ℕ = code_of long a in
@@ -255,8 +257,8 @@ module _ {s : SheetParts} {offers : List Offer} {takers : List Bool} {thinnest l
       ]
 
   -- columns that stay, with the new one left out
-  module _ (outbid : IsOutbid steps bids column) where
-    pub left_out : AreColumns s (codes_in offers) takers thinnest (length column) next steps bids
+  module _ (outbid : IsOutbid s (codes_in offers) marks.1 thinnest long steps bids column) where
+    pub left_out : AreColumns s (codes_in offers) marks thinnest (length column) next steps bids
     left_out = record {
       number = was.number;
       positive = was.positive;
@@ -271,18 +273,21 @@ module _ {s : SheetParts} {offers : List Offer} {takers : List Bool} {thinnest l
             let more : 0 < bid = quote_some s offers a long (thinnest + at) bid are q' in
             elim (outbid at within) [
               | inl none ↦ absurd (omega arith)
-              | inr by ↦ record {
+              | inr (inl by) ↦ inl (record {
                 column = by.0;
                 there = by.1;
                 serves = inr (rw here (are_shorter by.0 by.1), (let w = by.2 in omega arith));
-              }
+              })
+              | inr (inr by) ↦
+                  inr (subst (λ l. IsBeaten s (codes_in offers) marks.1 (thinnest + at) l (worth_in bid)) (sym counted ∙ ap (λ k. k * s.instruction.«module») (sym here))
+                  (by.0, by.1, (let w = by.2 in omega arith)))
             ]
       ];
       shorter = λ c k in_steps le' in_codes. was.shorter c k in_steps (omega arith) in_codes;
     }
 
   -- or put behind
-  pub put_behind : AreColumns s (codes_in offers) takers thinnest (length column) next (steps ++ count ∷ []) (bids ++ column)
+  pub put_behind : AreColumns s (codes_in offers) marks thinnest (length column) next (steps ++ count ∷ []) (bids ++ column)
   put_behind =
       let more : length (steps ++ count ∷ []) ≡ length steps + 1 = length-append steps (count ∷ []) in
       let same : (c at : ℕ) → c < length steps → at < length column → bid_in (bids ++ column) (length column) c at ≡ bid_in bids (length column) c at =
@@ -315,7 +320,7 @@ module _ {s : SheetParts} {offers : List Offer} {takers : List Bool} {thinnest l
           | inr past ↦
               let e : length steps ≡ c = omega arith in
               subst (λ k. (bid_in (bids ++ column) (length column) k at ≡ 0)
-              ⊎ ((a : ℕ) × IsMarked takers a × IsQuote s (codes_in offers) a (slice_index (steps ++ count ∷ []) k * s.instruction.«module») (thinnest + at) (bid_in (bids ++ column) (length column) k at))) e
+              ⊎ ((a : ℕ) × IsMarked marks.0 a × IsQuote s (codes_in offers) a (slice_index (steps ++ count ∷ []) k * s.instruction.«module») (thinnest + at) (bid_in (bids ++ column) (length column) k at))) e
               (elim (filled.one at within) [
                 | inl none ↦ inl (new at within ∙ none)
                 | inr quoted ↦ inr (
@@ -329,23 +334,25 @@ module _ {s : SheetParts} {offers : List Offer} {takers : List Bool} {thinnest l
         ];
         served = λ a n at bid taken within q done. elim (which_done a n at bid q done) [
           | inr before ↦
-              let r = was.served a n at bid taken within q before in
-              record {
-                column = r.column;
-                there = omega (arith, r.there);
-                serves = elim r.serves [
-                  | inl as_long ↦ inl (kept r.column r.there ∙ as_long.0, (let b = as_long.1 in omega (arith, same r.column at r.there within)))
-                  | inr shorter ↦ inr ((let l = shorter.0 in omega (arith, kept r.column r.there)), (let w = shorter.1 in omega (arith, same r.column at r.there within)))
-                ];
-              }
+              elim (was.served a n at bid taken within q before) [
+                | inr beaten ↦ inr beaten
+                | inl r ↦ inl (record {
+                  column = r.column;
+                  there = omega (arith, r.there);
+                  serves = elim r.serves [
+                    | inl as_long ↦ inl (kept r.column r.there ∙ as_long.0, (let b = as_long.1 in omega (arith, same r.column at r.there within)))
+                    | inr shorter ↦ inr ((let l = shorter.0 in omega (arith, kept r.column r.there)), (let w = shorter.1 in omega (arith, same r.column at r.there within)))
+                  ];
+                })
+              ]
           | inl here ↦
               let q' : IsQuote s (codes_in offers) a long (thinnest + at) bid =
               subst (λ l. IsQuote s (codes_in offers) a l (thinnest + at) bid) (ap (λ k. k * s.instruction.«module») here ∙ counted) q in
-              record {
+              inl (record {
                 column = length steps;
                 there = omega arith;
                 serves = inl (last ∙ sym here, omega (arith, each_here a at bid taken within q' done, new at within));
-              }
+              })
         ];
         shorter = λ c k in_steps le' in_codes. elim (cases_lt c (length steps)) [
           | inl old ↦ rw (kept c old) (was.shorter c k old (omega arith) in_codes)
@@ -356,8 +363,8 @@ module _ {s : SheetParts} {offers : List Offer} {takers : List Bool} {thinnest l
       }
 
   -- so the columns are right either way
-  pub all_right : (new_steps new_bids : List ℕ) → ArePut steps bids column count new_steps new_bids
-      → AreColumns s (codes_in offers) takers thinnest (length column) next new_steps new_bids
+  pub all_right : (new_steps new_bids : List ℕ) → ArePut s (codes_in offers) marks.1 thinnest long steps bids column count new_steps new_bids
+      → AreColumns s (codes_in offers) marks thinnest (length column) next new_steps new_bids
   all_right new_steps new_bids put = elim put.which [
     | inl out ↦ rw (out.1, out.2) (left_out out.0)
     | inr behind ↦ rw (behind.0, behind.1) put_behind
@@ -377,3 +384,48 @@ whole_length step long o pos is w low =
         | inr none ↦ absurd (let z : long / step ≡ 0 = omega arith in omega (arith, ap (λ n. n * step) z))
       ],
     )
+
+-- what is reached for a length is reached for a greater one
+pub reached_longer : (s : SheetParts) (codes : List ℕ) (rivals : List Bool) (thinnest before long width : ℕ) (steps bids reached : List ℕ) → before ≤ long
+    → AreReached s codes rivals thinnest before width steps bids reached → AreReached s codes rivals thinnest long width steps bids reached
+reached_longer s codes rivals thinnest before long width steps bids reached le was at lt = elim (was at lt) [
+  | inl none ↦ inl none
+  | inr (inl by) ↦ inr (inl by)
+  | inr (inr by) ↦
+      let r = by.1 in
+      inr (inr (
+        by.0,
+        record { rival = r.rival; marked = r.marked; steps = r.steps; some = r.some; short = omega (arith, r.short); quote = r.quote },
+        by.2,
+      ))
+]
+
+-- what is reached, raised to what rivals bid for a length
+pub reached_by_rivals : (s : SheetParts) (codes : List ℕ) (rivals : List Bool) (thinnest long count from next width : ℕ) (steps bids column old new : List ℕ)
+    → count * s.instruction.«module» ≡ long → 0 < count → length column ≡ width → IsColumn s codes rivals thinnest long from next column
+    → ((at : ℕ) → at < length column → slice_index new at ≡ max (slice_index old at) (worth_in (slice_index column at)))
+    → AreReached s codes rivals thinnest long width steps bids old → AreReached s codes rivals thinnest long width steps bids new
+reached_by_rivals s codes rivals thinnest long count from next width steps bids column old new counted some wide filled raised was at lt =
+    let r = raised at (omega arith) in
+    elim (cases_lt (slice_index old at) (worth_in (slice_index column at))) [
+      | inr there ↦ elim (was at lt) [
+        | inl none ↦ inl (omega arith)
+        | inr (inl by) ↦ inr (inl (by.0, by.1, (let e = by.2 in omega arith)))
+        | inr (inr by) ↦ inr (inr (by.0, by.1, (let e = by.2 in omega arith)))
+      ]
+      | inl here ↦ elim (filled.one at (omega arith)) [
+        | inl none ↦ absurd (omega arith)
+        | inr q ↦ inr (inr (
+          slice_index column at,
+          record {
+            rival = q.0;
+            marked = q.1;
+            steps = count;
+            some = some;
+            short = omega arith;
+            quote = subst (λ l. IsQuote s codes q.0 l (thinnest + at) (slice_index column at)) (sym counted) q.2;
+          },
+          omega arith,
+        ))
+      ]
+    ]

@@ -1,5 +1,5 @@
 -- Tables that are filled.
-use Rattle.std.proofs.Common.{◌≡◌, ◌≢◌, ℕ, ◌+◌, ◌<◌, ◌⊎◌, inl, inr, List, Option, Some, length, get_or, slice_get, slice_index, set, refl, sym, ◌∙◌, ap, subst, arith}
+use Rattle.std.proofs.Common.{◌≡◌, ◌≢◌, ℕ, ◌+◌, ◌<◌, ◌⊎◌, inl, inr, Bool, List, Option, Some, length, get_or, slice_get, slice_index, set, refl, sym, ◌∙◌, ap, subst, arith}
 use Rattle.std.proofs.Math.ListN.{length-set}
 use Rattle.std.proofs.lemmas.Bool.{cases_order}
 use Rattle.std.proofs.lemmas.Option.{same_Some, slice_get_within, slice_get-get_or, get_or_from_slice_get}
@@ -9,11 +9,15 @@ use Rattle.buck_bid.specs.declared.columns.Columns.{Columns}
 use Rattle.buck_bid.specs.declared.tables.Kind.{Kind}
 use Rattle.buck_bid.specs.declared.tables.Takers.{Takers}
 use Rattle.buck_value.specs.declared.wood.Wood.{Wood}
-use Rattle.buck_bid.specs.Columns.{AreColumnsOf}
+use Rattle.buck_bid.specs.Columns.{AreColumnsOf, Marks}
 use Rattle.buck_bid.specs.Wood.{AreTakers}
 use Rattle.buck_bid.specs.declared.tables.Tables.{Tables}
 use Rattle.buck_bid.specs.Offers.{codes_in}
-use Rattle.buck_bid.specs.Tables.{AreMade, AreAllMade, AreSameTakers, HasColumns, HasTakers, AreKinds, IsFound}
+use Rattle.buck_bid.specs.Tables.{marks_of, AreMade, AreAllMade, AreSameTakers, HasColumns, HasTakers, AreKinds, IsFound}
+
+-- marks are told by their two lists
+pub same_pair : {a b c d : List Bool} → a ≡ b → c ≡ d → ◌≡◌ {A = Marks} (a, c) (b, d)
+same_pair e f = rw (e, f) refl
 
 -- what stands in a list after one element is set
 pub set_cases : {X : Type 0} (xs : List X) (k : ℕ) (y x : X) (j : ℕ) → slice_get (set xs k y) j ≡ Some x
@@ -34,19 +38,20 @@ set_here xs k y lt = slice_get-get_or (set xs k y) k y (omega (arith, length-set
 
 -- takers whose columns for a band are put in
 pub made_more : (s : SheetParts) (codes limits : List ℕ) (x y : Takers) (b : ℕ) (c : Columns) → AreMade s codes limits x
-    → y.marked.items ≡ x.marked.items → y.bands.items ≡ set x.bands.items b (Some c)
+    → marks_of y ≡ marks_of x → y.bands.items ≡ set x.bands.items b (Some c)
     → c.band.thinnest ≡ slice_index limits b → c.band.past ≡ slice_index limits (b + 1)
-    → AreColumnsOf s codes x.marked.items c
+    → AreColumnsOf s codes (marks_of x) c
     → AreMade s codes limits y
 made_more s codes limits x y b c was marked bands low past right = record {
-  number = ap length marked ∙ was.number;
+  number = ap (λ (m : Marks). length m.0) marked ∙ was.number;
+  rivals = ap (λ (m : Marks). length m.1) marked ∙ was.rivals;
   bands = ap length bands ∙ length-set x.bands.items b (Some c) ∙ was.bands;
   right = λ k d at. elim (set_cases x.bands.items b (Some c) (Some d) k (subst (λ (os : List (Option Columns)). slice_get os k ≡ Some (Some d)) bands at)) [
     | inl here ↦
         let same : c ≡ d = same_Some c d here.1 in
-        subst (λ (e : Columns). (e.band.thinnest ≡ slice_index limits k) × (e.band.past ≡ slice_index limits (k + 1)) × AreColumnsOf s codes y.marked.items e) same
-        (rw here.0 low, rw here.0 past, rw marked right)
-    | inr old ↦ (let r = was.right k d old in (r.0, r.1, rw marked r.2))
+        subst (λ (e : Columns). (e.band.thinnest ≡ slice_index limits k) × (e.band.past ≡ slice_index limits (k + 1)) × AreColumnsOf s codes (marks_of y) e) same
+        (rw here.0 low, rw here.0 past, subst (λ (m : Marks). AreColumnsOf s codes m c) (sym marked) right)
+    | inr old ↦ (let r = was.right k d old in (r.0, r.1, subst (λ (m : Marks). AreColumnsOf s codes m d) (sym marked) r.2))
   ];
 }
 
@@ -58,11 +63,11 @@ kinds_kept s old new kinds kept was k q at =
     record { takers = h.takers; there = kept q.set h.takers h.there; right = h.right }
 
 -- takers put in place of the same
-pub same_set : (xs : List Takers) (k : ℕ) (y x : Takers) → slice_get xs k ≡ Some x → y.marked.items ≡ x.marked.items → AreSameTakers xs (set xs k y)
+pub same_set : (xs : List Takers) (k : ℕ) (y x : Takers) → slice_get xs k ≡ Some x → marks_of y ≡ marks_of x → AreSameTakers xs (set xs k y)
 same_set xs k y x at marked j z there = elim (cases_order j k) [
   | inl e ↦
       let same : x ≡ z = same_Some x z (sym at ∙ ap (slice_get xs) (sym e) ∙ there) in
-      (y, ap (slice_get (set xs k y)) e ∙ set_here xs k y (slice_get_within xs k x at), marked ∙ ap (λ (t : Takers). t.marked.items) same)
+      (y, ap (slice_get (set xs k y)) e ∙ set_here xs k y (slice_get_within xs k x at), marked ∙ ap (λ (t : Takers). marks_of t) same)
   | inr other ↦
       let apart : j ≢ k = (λ e. elim other [ inl l ↦ omega arith | inr g ↦ omega arith ]) in
       let lt : j < length xs = slice_get_within xs j z there in (
@@ -97,7 +102,7 @@ found_is s t wood set band old has same made at =
     let r = (made set at.takers at.there).right band at.columns at.made in
     record {
       at = at;
-      right = subst (AreTakers s.instruction wood) (sym y.2 ∙ ap (λ (x : Takers). x.marked.items) is) has.right;
+      right = subst (AreTakers s.instruction wood) (sym y.2 ∙ ap (λ (x : Takers). marks_of x) is) has.right;
       of = r.2;
       thick = r.0;
       thin = r.1;

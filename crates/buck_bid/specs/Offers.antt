@@ -21,8 +21,9 @@ pub record HasMark (codes : List ℕ) (g : Log) (mark : ℕ) : Type 0 where
   pub high : mark ≤ 1023
   pub at : slice_get codes (1023 - mark) ≡ Some (code_of g.length g.assortment)
 
--- a list has the trim allowance of each assortment
+-- a list has the trim allowance of each assortment, and they rise
 pub record AreTrims (i : InstructionParts) (trims : List ℕ) : Type 0 where
+  pub rise : IsStrictlyIncreasing trims
   pub whole : (a : ℕ) (x : AssortmentParts) → slice_get i.assortments a ≡ Some x → Contains trims x.trim
   pub low : (k : ℕ) → k < length trims → slice_index trims k ≤ 200
 

@@ -8,22 +8,26 @@ use Rattle.buck_bid.specs.declared.tables.Takers.{Takers}
 use Rattle.buck_bid.specs.declared.tables.Tables.{Tables}
 use Rattle.buck_bid.specs.Offers.{codes_in, AreOffers, AreTrims}
 use Rattle.buck_bid.specs.Limits.{AreLimits}
-use Rattle.buck_bid.specs.Columns.{AreColumnsOf}
+use Rattle.buck_bid.specs.Columns.{AreColumnsOf, Marks}
 use Rattle.buck_bid.specs.Wood.{AreTakers}
+
+abbrev pub marks_of : Takers → Marks
+marks_of x = (x.marked.items, x.rivals.items)
 
 -- the columns of some takers: of each band the right ones, or none so far
 pub record AreMade (s : SheetParts) (codes limits : List ℕ) (x : Takers) : Type 0 where
   pub number : length x.marked.items ≡ length s.instruction.assortments
+  pub rivals : length x.rivals.items ≡ length s.instruction.assortments
   pub bands : length x.bands.items ≡ length limits
   pub right : (b : ℕ) (c : Columns) → slice_get x.bands.items b ≡ Some (Some c)
       → (c.band.thinnest ≡ slice_index limits b) × (c.band.past ≡ slice_index limits (b + 1))
-      × AreColumnsOf s codes x.marked.items c
+      × AreColumnsOf s codes (marks_of x) c
 
 -- some wood has its takers at a place
 pub record HasTakers (s : SheetParts) (sets : List Takers) (wood : Wood) (set : ℕ) : Type 0 where
   pub takers : Takers
   pub there : slice_get sets set ≡ Some takers
-  pub right : AreTakers s.instruction wood takers.marked.items
+  pub right : AreTakers s.instruction wood (marks_of takers)
 
 abbrev pub AreAllMade : SheetParts → List ℕ → List ℕ → List Takers → Type 0
 AreAllMade s codes limits sets = (k : ℕ) (x : Takers) → slice_get sets k ≡ Some x → AreMade s codes limits x
@@ -34,7 +38,7 @@ AreKinds s sets kinds = (k : ℕ) (q : Kind) → slice_get kinds k ≡ Some q �
 -- the same takers at the same places
 abbrev pub AreSameTakers : List Takers → List Takers → Type 0
 AreSameTakers old new = (k : ℕ) (x : Takers) → slice_get old k ≡ Some x
-    → (y : Takers) × (slice_get new k ≡ Some y) × (y.marked.items ≡ x.marked.items)
+    → (y : Takers) × (slice_get new k ≡ Some y) × (marks_of y ≡ marks_of x)
 
 -- at a place stand takers whose columns for a band are made
 pub record HasColumns (sets : List Takers) (set band : ℕ) : Type 0 where
@@ -55,7 +59,7 @@ pub record AreTablesOf (s : SheetParts) (t : Tables) : Type 0 where
 -- in the tables stand the columns for some wood and a band
 pub record IsFound (s : SheetParts) (t : Tables) (wood : Wood) (set band : ℕ) : Type 0 where
   pub at : HasColumns t.sets.items set band
-  pub right : AreTakers s.instruction wood at.takers.marked.items
-  pub of : AreColumnsOf s (codes_in t.offers.items) at.takers.marked.items at.columns
+  pub right : AreTakers s.instruction wood (marks_of at.takers)
+  pub of : AreColumnsOf s (codes_in t.offers.items) (marks_of at.takers) at.columns
   pub thick : at.columns.band.thinnest ≡ slice_index t.limits.items band
   pub thin : at.columns.band.past ≡ slice_index t.limits.items (band + 1)

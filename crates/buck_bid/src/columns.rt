@@ -1,14 +1,14 @@
 //! Bids by length and top diameter: a column for each length, with a bid for each diameter of a band.
-ghost use Rattle.std.specs.Prelude.{◌≡◌, ℕ, [], ◌+◌, ◌-◌, ◌*◌, ◌<◌, ◌≤◌, ◌⊎◌, ◌↔◌, IsTrue, IsFalse, IfOk, OnOk, IfSome, IfNone, max, length, slice_get, slice_index, Some, Contains};
+ghost use Rattle.std.specs.Prelude.{◌≡◌, ℕ, Bool, List, [], ◌+◌, ◌-◌, ◌*◌, ◌<◌, ◌≤◌, ◌⊎◌, ◌↔◌, IsTrue, IsFalse, IfOk, OnOk, IfSome, IfNone, max, length, slice_get, slice_index, Some, Contains};
 ghost use Rattle.buck_apt.specs.Instruction.{AssortmentParts};
-ghost use Rattle.buck_value.specs.Sheet.{IsSheet};
+ghost use Rattle.buck_value.specs.Sheet.{SheetParts, IsSheet};
 ghost use Rattle.buck_value.specs.Volume.{volume, worth_at};
 ghost use Rattle.buck_bid.specs.Bid.{bid_of, worth_in};
 ghost use Rattle.buck_bid.specs.Offers.{codes_in, AreOffers};
 ghost use Rattle.buck_bid.specs.declared.offers.Offer.{Offer};
 ghost use Rattle.buck_bid.specs.Limits.{IsBand, IsBandOf};
 ghost use Rattle.buck_bid.specs.Quotes.{IsPricedAt, IsQuote, worth_for};
-ghost use Rattle.buck_bid.specs.Columns.{IsMarked, IsColumn, AreColumns, AreReached, ArePut, IsApart, AreColumnsOf};
+ghost use Rattle.buck_bid.specs.Columns.{IsMarked, IsColumn, AreColumns, AreReached, AreReachedBefore, ArePut, IsApart, AreColumnsOf};
 
 use crate::bid::Bid;
 use crate::offers::Offer;
@@ -222,10 +222,13 @@ fn push_column(
 ) -> Result<(), AllocError>
     requires number { length reached.old ≡ length column.now }
     requires room { length bids.old.items ≡ length steps.old.items * length column.now }
-    requires best { AreReached (length column.now) steps.old.items bids.old.items reached.old }
     ensures number { length reached.new ≡ length reached.old }
-    ensures best { OnOk result (AreReached (length column.now) steps.new.items bids.new.items reached.new) }
-    ensures put { OnOk result (ArePut steps.old.items bids.old.items column.now count steps.new.items bids.new.items) }
+    ensures best { OnOk result ((s : SheetParts) (codes : List ℕ) (rivals : List Bool) (thinnest long : ℕ)
+        → AreReached s codes rivals thinnest long (length column.now) steps.old.items bids.old.items reached.old
+        → AreReached s codes rivals thinnest long (length column.now) steps.new.items bids.new.items reached.new) }
+    ensures put { OnOk result ((s : SheetParts) (codes : List ℕ) (rivals : List Bool) (thinnest long : ℕ)
+        → AreReached s codes rivals thinnest long (length column.now) steps.old.items bids.old.items reached.old
+        → ArePut s codes rivals thinnest long steps.old.items bids.old.items column.now count steps.new.items bids.new.items) }
 {
     if !is_needed(column, reached) {
         return Ok(());
@@ -257,6 +260,47 @@ fn clear(column: &mut [Bid])
     }
 }
 
+/// Raises what was reached to the worth of what rivals bid for the length of the offer at a place. It uses a column as room.
+fn reach_rivals(
+    reached: &mut [u64],
+    column: &mut [Bid],
+    sheet: &Sheet,
+    offers: &[Offer],
+    rivals: &[bool],
+    from: usize,
+    band: Band,
+)
+    requires valid { IsSheet sheet.now }
+    requires offers { AreOffers sheet.now.instruction offers.now }
+    requires rivals { length rivals.now ≡ length sheet.now.instruction.assortments }
+    requires band { IsBandOf sheet.now.instruction band.thinnest band.past }
+    requires number { band.thinnest + length column.old ≡ band.past }
+    requires some { 0 < length column.old }
+    requires reached { length reached.old ≡ length column.old }
+    requires from { from < length offers.now }
+    ensures number { length column.new ≡ length column.old }
+    ensures reached { length reached.new ≡ length reached.old }
+    ensures best { (before long : ℕ) (steps : List ℕ) (bids : List ℕ) (o : Offer) → slice_get offers.now from ≡ Some o
+        → o.length ≡ long → before ≤ long
+        → AreReached sheet.now (codes_in offers.now) rivals.now band.thinnest before (length column.old) steps bids reached.old
+        → AreReached sheet.now (codes_in offers.now) rivals.now band.thinnest long (length column.old) steps bids reached.new }
+{
+    if !rivals.contains(&true) {
+        return;
+    }
+    clear(column);
+    let _ = put_length(
+        column,
+        sheet,
+        offers,
+        rivals,
+        from,
+        offers[from].length,
+        band,
+    );
+    reach(reached, column);
+}
+
 /// Puts the column of the length of the offer at a place behind others, unless it is outbid. The answer is the place of
 /// the first offer that is longer.
 fn add_length(
@@ -267,47 +311,55 @@ fn add_length(
     sheet: &Sheet,
     offers: &[Offer],
     takers: &[bool],
+    rivals: &[bool],
     from: usize,
     band: Band,
 ) -> Result<usize, AllocError>
     requires offers { AreOffers sheet.now.instruction offers.now }
     requires takers { length takers.now ≡ length sheet.now.instruction.assortments }
+    requires rivals { length rivals.now ≡ length sheet.now.instruction.assortments }
     requires band { IsBandOf sheet.now.instruction band.thinnest band.past }
     requires number { band.thinnest + length column.old ≡ band.past }
     requires reached { length reached.old ≡ length column.old }
     requires from { from < length offers.now }
-    requires best { AreReached (length column.old) steps.old.items bids.old.items reached.old }
+    requires best { AreReachedBefore sheet.now (codes_in offers.now) rivals.now band.thinnest from (length column.old) steps.old.items bids.old.items reached.old }
     requires apart { IsApart (codes_in offers.now) from }
-    requires columns { AreColumns sheet.now (codes_in offers.now) takers.now band.thinnest (length column.old) from steps.old.items bids.old.items }
+    requires columns { AreColumns sheet.now (codes_in offers.now) (takers.now, rivals.now) band.thinnest (length column.old) from
+        steps.old.items bids.old.items }
     ensures number { length column.new ≡ length column.old }
     ensures reached { length reached.new ≡ length reached.old }
     ensures next { IfOk result (λ n. (from < n) × (n ≤ length offers.now)) }
-    ensures best { OnOk result (AreReached (length column.old) steps.new.items bids.new.items reached.new) }
+    ensures best { IfOk result (λ n. AreReachedBefore sheet.now (codes_in offers.now) rivals.now band.thinnest n (length column.old)
+        steps.new.items bids.new.items reached.new) }
     ensures apart { IfOk result (λ n. IsApart (codes_in offers.now) n) }
-    ensures columns { IfOk result (λ n.
-        AreColumns sheet.now (codes_in offers.now) takers.now band.thinnest (length column.old) n steps.new.items bids.new.items) }
+    ensures columns { IfOk result (λ n. AreColumns sheet.now (codes_in offers.now) (takers.now, rivals.now) band.thinnest
+        (length column.old) n steps.new.items bids.new.items) }
 {
     let long = offers[from].length;
     let module = sheet.instruction().module();
+    reach_rivals(reached, column, sheet, offers, rivals, from, band);
     clear(column);
     let next = put_length(column, sheet, offers, takers, from, long, band);
     push_column(steps, bids, reached, column, (long / module) as usize)?;
     Ok(next)
 }
 
-/// The columns of the bids of some takers within a band, without the lengths that a shorter one outbids at each diameter.
+/// The columns of the bids of some takers within a band, without the lengths that a shorter one outbids at each diameter, or
+/// that rivals of theirs outbid who bid for logs that are no longer.
 pub fn columns_of(
     alloc: Global,
     sheet: &Sheet,
     offers: &[Offer],
     takers: &[bool],
+    rivals: &[bool],
     band: Band,
 ) -> Result<Columns, AllocError>
     requires offers { AreOffers sheet.now.instruction offers.now }
     requires takers { length takers.now ≡ length sheet.now.instruction.assortments }
+    requires rivals { length rivals.now ≡ length sheet.now.instruction.assortments }
     requires band { IsBandOf sheet.now.instruction band.thinnest band.past }
     ensures band { IfOk result (λ c. c.band ≡ band) }
-    ensures right { IfOk result (λ c. AreColumnsOf sheet.now (codes_in offers.now) takers.now c) }
+    ensures right { IfOk result (λ c. AreColumnsOf sheet.now (codes_in offers.now) (takers.now, rivals.now) c) }
 {
     let width = (band.past - band.thinnest) as usize;
     let mut column = no_bids(alloc, width)?;
@@ -324,6 +376,7 @@ pub fn columns_of(
             sheet,
             offers,
             takers,
+            rivals,
             from,
             band,
         )?;

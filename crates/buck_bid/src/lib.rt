@@ -16,4 +16,4 @@ pub use limits::{band_of, limits_of};
 pub use offers::{Offer, offers_of};
 pub use push::push_column;
 pub use tables::{Found, Kind, Tables, Takers};
-pub use wood::takers_of;
+pub use wood::{rivals_of, takers_of};

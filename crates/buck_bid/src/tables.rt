@@ -5,7 +5,7 @@ ghost use Rattle.buck_bid.specs.Offers.{codes_in, AreOffers};
 ghost use Rattle.buck_bid.specs.Limits.{AreLimits};
 ghost use Rattle.buck_bid.specs.Columns.{AreColumnsOf};
 ghost use Rattle.buck_bid.specs.Wood.{AreTakers};
-ghost use Rattle.buck_bid.specs.Tables.{AreMade, AreAllMade, HasTakers, AreKinds, AreSameTakers, HasColumns, AreTablesOf, IsFound};
+ghost use Rattle.buck_bid.specs.Tables.{marks_of, AreMade, AreAllMade, HasTakers, AreKinds, AreSameTakers, HasColumns, AreTablesOf, IsFound};
 ghost use Rattle.buck_bid.specs.declared.columns.Columns.{Columns};
 ghost use Rattle.buck_bid.specs.declared.tables.Kind.{Kind};
 ghost use Rattle.buck_bid.specs.declared.tables.Takers.{Takers};
@@ -13,7 +13,7 @@ ghost use Rattle.buck_bid.specs.declared.tables.Takers.{Takers};
 use crate::columns::{Band, Columns, columns_of};
 use crate::limits::limits_of;
 use crate::offers::{Offer, offers_of, trims_of};
-use crate::wood::takers_of;
+use crate::wood::{rivals_of, takers_of};
 use buck_record::Memory;
 use buck_value::{Sheet, Wood};
 use std::alloc::{AllocError, Global};
@@ -25,10 +25,11 @@ pub struct Kind {
     pub set: usize,
 }
 
-/// A set of assortments that take some wood, and their columns of bids by band, as far as they are made.
+/// A set of assortments that take some wood, their rivals, and their columns of bids by band, as far as they are made.
 #[derive(Drop)]
 pub struct Takers {
     marked: Vec<bool>,
+    rivals: Vec<bool>,
     bands: Vec<Option<Columns>>,
 }
 
@@ -44,13 +45,19 @@ fn no_columns(alloc: Global, count: usize) -> Result<Vec<Option<Columns>>, Alloc
     Ok(bands)
 }
 
+/// Whether the marks of some takers and of their rivals are these.
+fn has_marks(takers: &Takers, marked: &[bool], rivals: &[bool]) -> bool
+    ensures { IsTrue result → marks_of takers.now ≡ (marked.now, rivals.now) }
+{
+    takers.marked.as_slice() == marked && takers.rivals.as_slice() == rivals
+}
+
 /// The place of the same marks among sets of takers.
-fn find_takers(sets: &[Takers], marked: &[bool]) -> Option<usize>
-    ensures { IfSome result (λ k. (x : Takers) × (slice_get sets.now k ≡ Some x) × (x.marked.items ≡ marked.now)) }
+fn find_takers(sets: &[Takers], marked: &[bool], rivals: &[bool]) -> Option<usize>
+    ensures { IfSome result (λ k. (x : Takers) × (slice_get sets.now k ≡ Some x) × (marks_of x ≡ (marked.now, rivals.now))) }
 {
     for k in 0..sets.len() {
-        let takers = &sets[k];
-        if takers.marked.as_slice() == marked {
+        if has_marks(&sets[k], marked, rivals) {
             return Some(k);
         }
     }
@@ -71,11 +78,16 @@ fn takers_at(
         → AreAllMade sheet.now codes limits.now sets.new.items }
 {
     let marked = takers_of(alloc, sheet.instruction(), wood)?;
-    match find_takers(sets.as_slice(), marked.as_slice()) {
+    let rivals = rivals_of(alloc, sheet.instruction(), wood)?;
+    match find_takers(sets.as_slice(), marked.as_slice(), rivals.as_slice()) {
         Some(k) => Ok(k),
         None => {
             let bands = no_columns(alloc, limits.len())?;
-            sets.push(Takers { marked, bands })?;
+            sets.push(Takers {
+                marked,
+                rivals,
+                bands,
+            })?;
             Ok(sets.len() - 1)
         }
     }
@@ -131,7 +143,14 @@ fn kind_at(
     }
 }
 
-/// The place of the takers of some wood. The kind that such grades had last is looked at first.
+/// The place among the last kinds where that of some wood is noted. Other wood may have the same.
+fn note_of(wood: Wood) -> usize
+    ensures { result < 256 }
+{
+    (wood.grades as usize + wood.trim as usize) % 256
+}
+
+/// The place of the takers of some wood. The kind that is noted for such wood is looked at first.
 fn set_of(
     alloc: Global,
     sheet: &Sheet,
@@ -149,11 +168,12 @@ fn set_of(
         → AreAllMade sheet.now codes limits.now sets.new.items }
     ensures there { IfOk result (λ k. HasTakers sheet.now sets.new.items wood k) }
 {
-    match is_at(kinds.as_slice(), last[wood.grades as usize], wood) {
+    let note = note_of(wood);
+    match is_at(kinds.as_slice(), last[note], wood) {
         Some(set) => Ok(set),
         None => {
             let place = kind_at(alloc, sheet, limits, kinds, sets, wood)?;
-            last[wood.grades as usize] = place;
+            last[note] = place;
             Ok(kinds[place].set)
         }
     }
@@ -174,7 +194,7 @@ fn make_columns(
     requires high { slice_index limits.now (band + 1) ≤ 1504 }
     requires made { AreMade sheet.now (codes_in offers.now) limits.now takers.old }
     ensures made { AreMade sheet.now (codes_in offers.now) limits.now takers.new }
-    ensures marked { takers.new.marked.items ≡ takers.old.marked.items }
+    ensures marked { marks_of takers.new ≡ marks_of takers.old }
     ensures there { OnOk result ((c : Columns) × (slice_get takers.new.bands.items band ≡ Some (Some c))) }
 {
     let columns = columns_of(
@@ -182,6 +202,7 @@ fn make_columns(
         sheet,
         offers,
         takers.marked.as_slice(),
+        takers.rivals.as_slice(),
         Band {
             thinnest: limits[band],
             past: limits[band + 1],
@@ -256,7 +277,7 @@ fn make_room(kinds: &mut Vec<Kind>, sets: &mut Vec<Takers>, held: usize, room: u
 
 /// Drops the columns of some takers.
 fn drop_bands(takers: &mut Takers)
-    ensures marked { takers.new.marked.items ≡ takers.old.marked.items }
+    ensures marked { marks_of takers.new ≡ marks_of takers.old }
     ensures made { (s t : SheetParts) (codes limits : List ℕ) → t.instruction ≡ s.instruction
         → AreMade s codes limits takers.old → AreMade t codes limits takers.new }
 {
@@ -293,7 +314,7 @@ pub struct Tables {
     limits: Vec<u32>,
     kinds: Vec<Kind>,
     sets: Vec<Takers>,
-    /// For each set of grades where the kind of such wood was found last.
+    /// Where kinds of wood were found last, each at its note.
     last: Vec<usize>,
     /// How many bids are kept.
     held: usize,
@@ -343,7 +364,7 @@ impl Tables {
         self.limits.as_slice()
     }
 
-    /// Where the columns for some wood and a band stand, if they are made and such grades had this kind of wood last.
+    /// Where the columns for some wood and a band stand, if they are made and this kind of wood is noted.
     #[inline(always)]
     fn found(&self, wood: Wood, band: usize) -> Option<Found>
         requires { length self.now.last.items ≡ 256 }
@@ -351,7 +372,7 @@ impl Tables {
             → IsFound s self.now wood f.set f.band) }
         ensures band { IfSome result (λ f. f.band ≡ band) }
     {
-        let place = self.last[wood.grades as usize];
+        let place = self.last[note_of(wood)];
         let Some(set) = is_at(self.kinds.as_slice(), place, wood) else {
             return None;
         };

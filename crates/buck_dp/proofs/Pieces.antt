@@ -1,11 +1,13 @@
 -- Pieces of tops behind wood with the same grades.
-use Rattle.std.proofs.Common.{◌≡◌, ℕ, zero, suc, ◌+◌, ◌-◌, ◌*◌, ◌<◌, ◌≤◌, inl, inr, List, subst, arith, mul-le-mul_right}
+use Rattle.std.proofs.Common.{◌≡◌, ℕ, zero, suc, ◌+◌, ◌-◌, ◌*◌, ◌<◌, ◌≤◌, inl, inr, List, slice_index, sym, subst, ap, ◌∙◌, arith, mul-le-mul_right}
 use Rattle.std.specs.Int.{bit_at}
 use Rattle.std.proofs.lemmas.Bool.{cases_lt}
 use Rattle.buck_stem.specs.Stem.{StemParts, stem_length}
 use Rattle.buck_stem.specs.Profile.{IsMask, IsMaskBetween, ProfileParts, profile_of}
 use Rattle.buck_value.specs.Sheet.{IsSheet}
 use Rattle.buck_dp.specs.inner.Points.{GroundParts, ends_of, point_after}
+use Rattle.buck_bid.specs.Bid.{unranked}
+use Rattle.buck_dp.specs.inner.Ground.{IsPieceOf}
 use Rattle.buck_dp.proofs.Places.{after_within}
 use Rattle.buck_dp.proofs.Logs.{after_trim}
 
@@ -59,3 +61,12 @@ after_fits p j trim v fits =
 pub mask_of : (q : ProfileParts) (stem : StemParts) (step i j mask : ℕ) → q ≡ profile_of stem step → IsMaskBetween q i j mask
     → IsMask stem.zones (i * step) (j * step) mask
 mask_of q stem step i j mask same is = subst (λ (r : ProfileParts). IsMask r.stem.zones (i * r.«module») (j * r.«module») mask) same is
+
+-- a piece stays one while settled values stay
+pub piece_on : (p : GroundParts) (old new bases : List ℕ) (start from past : ℕ) → IsPieceOf p old bases start from past
+    → ((k : ℕ) → start ≤ k → slice_index new k ≡ slice_index old k) → IsPieceOf p new bases start from past
+piece_on p old new bases start from past piece same = record {
+  order = piece.order;
+  short = piece.short;
+  base = λ e low. piece.base e low ∙ ap unranked (sym (same e low));
+}

@@ -1,17 +1,17 @@
 //! The values of the points of a stem: of each what the best cutting from there on is worth, and which log it begins with.
 //! They are found block by block from the top end down: the points of a block are settled first, since no log that starts
-//! there ends there; then all logs that end there are offered to the points where they start.
+//! there has its top there; then all logs that have it there are offered to the points where they start.
 ghost use Rattle.std.specs.Prelude.{◌≡◌, ℕ, List, [], ◌∷◌, ◌++◌, ◌↔◌, ◌+◌, ◌-◌, ◌*◌, ◌/◌, ◌<◌, ◌≤◌, ◌⊎◌, All, IfOk, OnOk, Some, max, length, slice_get, slice_index};
 ghost use Rattle.buck_stem.specs.Stem.{stem_length};
 ghost use Rattle.buck_dp.specs.inner.Points.{points_of, ends_of, point_after, ground_with};
 ghost use Rattle.buck_bid.specs.Bid.{unranked};
 ghost use Rattle.buck_bid.specs.Tables.{AreTablesOf};
 ghost use Rattle.buck_dp.specs.inner.Values.{AreValuesFrom};
-ghost use Rattle.buck_dp.specs.inner.Settled.{AreSettled, EndsPast, HasTrim, TopsFrom};
+ghost use Rattle.buck_dp.specs.inner.Settled.{AreSettled, TopsFrom, StartsFrom, TrimsFrom};
 ghost use Rattle.buck_bid.specs.declared.offers.Offer.{Offer};
 ghost use Rattle.buck_bid.specs.Offers.{IsWhole, codes_in};
 ghost use Rattle.std.specs.List.Sorted.{IsStrictlyIncreasing};
-ghost use Rattle.buck_dp.specs.inner.Ground.{IsGround, IsPieceOf, IsOffered, AreLong, ground_of};
+ghost use Rattle.buck_dp.specs.inner.Ground.{IsGround, IsInBand, HasMasks, IsPieceOf, IsOffered, AreLong, ground_of};
 ghost use Rattle.buck_stem.specs.Profile.{IsMaskBetween};
 
 use crate::offering::{Span, push_columns};
@@ -42,6 +42,7 @@ fn settle_block(values: &mut [Bid], bases: &mut [Bid], from: usize, past: usize)
     ensures raised { (k : ℕ) → from ≤ k → k < past
         → slice_index values.new k ≡ max (slice_index values.old k) (unranked (slice_index values.new (k + 1))) }
     ensures bases { (k : ℕ) → from ≤ k → k < past → slice_index bases.new k ≡ unranked (slice_index values.new k) }
+    ensures later { (k : ℕ) → past ≤ k → slice_index bases.new k ≡ slice_index bases.old k }
 {
     let mut base = if past < values.len() {
         values[past].unranked()
@@ -109,76 +110,6 @@ fn bases_after(bases: &[Bid], rise: usize) -> &[Bid]
     &bases[rise..]
 }
 
-/// Offers the logs with a trim of which the length ends at the tops from `from` on and before `past`. The steps before
-/// these have the same grades, and their diameters lie in one band.
-fn offer_piece(
-    alloc: Global,
-    ground: Ground<'_>,
-    tables: &mut Tables,
-    values: &mut [Bid],
-    bases: &[Bid],
-    trim: u32,
-    band: usize,
-    from: usize,
-    past: usize,
-) -> Result<(), Memory>
-    requires ground { IsGround ground.sheet.now ground.stem.now ground.profile.now ground.diameters.now }
-    requires tables { AreTablesOf ground.sheet.now tables.old }
-    requires trim { trim ≤ 200 }
-    requires band { band + 1 < length tables.old.limits.items }
-    requires high { slice_index tables.old.limits.items (band + 1) ≤ 1504 }
-    requires order { (0 < from) × (from < past) }
-    requires past { past ≤ length ground.diameters.now }
-    requires number { length values.old ≡ ends_of (ground_of ground.sheet.now ground.stem.now tables.old) }
-    requires room { length bases.now ≡ ends_of (ground_of ground.sheet.now ground.stem.now tables.old) }
-    requires in_band { (j : ℕ) → from ≤ j → j < past
-        → (slice_index tables.old.limits.items band ≤ slice_index ground.diameters.now j)
-        × (slice_index ground.diameters.now j < slice_index tables.old.limits.items (band + 1)) }
-    requires even { (one : ℕ)
-        × ((k : ℕ) → from ≤ k + 1 → k + 1 < past → IsMaskBetween ground.profile.now k (k + 1) one) }
-    requires fits { (j : ℕ) → from ≤ j → j < past
-        → j * ground.sheet.now.instruction.module + trim ≤ stem_length ground.stem.now.samples }
-    requires low { (j : ℕ) → from ≤ j → j < past
-        → slice_index bases.now (j + point_after ground.sheet.now.instruction.module trim) ≤ 4000000000000000000 }
-    ensures tables { AreTablesOf ground.entry.sheet.now tables.new }
-    ensures offers { tables.new.offers.items ≡ tables.old.offers.items }
-    ensures trims { tables.new.trims.items ≡ tables.old.trims.items }
-    ensures limits { tables.new.limits.items ≡ tables.old.limits.items }
-    ensures number { length values.new ≡ length values.old }
-    ensures offered { OnOk result ((start end : ℕ) (trims : List ℕ)
-        → IsPieceOf (ground_of ground.entry.sheet.now ground.entry.stem.now tables.old) values.old bases.now start end trim from past
-        → AreSettled (ground_of ground.entry.sheet.now ground.entry.stem.now tables.old) values.old start (TopsFrom end trims trim past)
-        → IsOffered (ground_of ground.entry.sheet.now ground.entry.stem.now tables.old) values.old values.new start (TopsFrom end trims trim from)) }
-{
-    let module = ground.sheet.instruction().module();
-    let rise = steps_after(module, trim);
-    let low = from.saturating_sub(most_steps(tables.offers(), module));
-    let mut stop = from;
-    while stop > low {
-        let first = ground.profile.run_start(stop - 1);
-        let wood = Wood {
-            species: ground.stem.species(),
-            grades: ground.profile.grades(stop - 1, from),
-            trim,
-        };
-        let found = tables.find(alloc, ground.sheet, wood, band)?;
-        push_columns(
-            values,
-            bases_after(bases, rise),
-            ground.diameters,
-            tables.columns(found),
-            Span {
-                first,
-                stop,
-                from,
-                past,
-            },
-        );
-        stop = first;
-    }
-    Ok(())
-}
-
 /// How many points there are, the butt among them, from which a trim lies within the stem.
 fn points_within(stem: &Stem, step: u32, trim: u32) -> usize
     requires step { (10 ≤ step) × (step ≤ 1000) }
@@ -191,62 +122,157 @@ fn points_within(stem: &Stem, step: u32, trim: u32) -> usize
     ((length - trim) / step) as usize + 1
 }
 
-/// Offers the logs with a trim after which a point from `from` on and before `past` is the first.
+/// Offers the logs of some wood, with its trim, from the starts of a span to its tops. Those with a lesser trim are offered
+/// before, so that a length can be left out for theirs.
 fn offer_trim(
     alloc: Global,
     ground: Ground<'_>,
     tables: &mut Tables,
     values: &mut [Bid],
     bases: &[Bid],
-    trim: u32,
+    wood: Wood,
+    band: usize,
+    span: Span,
+) -> Result<(), Memory>
+    requires ground { IsGround ground.sheet.now ground.stem.now ground.profile.now ground.diameters.now }
+    requires tables { AreTablesOf ground.sheet.now tables.old }
+    requires wood { (wood.species ≡ ground.stem.now.species) × (wood.trim ≤ 200) }
+    requires band { band + 1 < length tables.old.limits.items }
+    requires high { slice_index tables.old.limits.items (band + 1) ≤ 1504 }
+    requires starts { (span.first ≤ span.stop) × (span.stop ≤ span.from) }
+    requires past { (span.from ≤ span.past) × (span.past ≤ length ground.diameters.now) }
+    requires number { length values.old ≡ ends_of (ground_of ground.sheet.now ground.stem.now tables.old) }
+    requires room { length bases.now ≡ ends_of (ground_of ground.sheet.now ground.stem.now tables.old) }
+    requires in_band { IsInBand tables.old.limits.items ground.diameters.now band span.from span.past }
+    requires masks { HasMasks ground.sheet.now ground.stem.now span wood.grades }
+    requires low { (e : ℕ) → span.from ≤ e → slice_index bases.now e ≤ 4000000000000000000 }
+    ensures tables { AreTablesOf ground.entry.sheet.now tables.new }
+    ensures offers { tables.new.offers.items ≡ tables.old.offers.items }
+    ensures trims { tables.new.trims.items ≡ tables.old.trims.items }
+    ensures limits { tables.new.limits.items ≡ tables.old.limits.items }
+    ensures number { length values.new ≡ length values.old }
+    ensures offered { OnOk result ((start n : ℕ) → n < length tables.old.trims.items
+        → slice_index tables.old.trims.items n ≡ wood.trim
+        → IsPieceOf (ground_of ground.entry.sheet.now ground.entry.stem.now tables.old) values.old bases.now start span.from span.past
+        → AreSettled (ground_of ground.entry.sheet.now ground.entry.stem.now tables.old) values.old start
+        (TrimsFrom span.past span.from span.stop span.first tables.old.trims.items n)
+        → IsOffered (ground_of ground.entry.sheet.now ground.entry.stem.now tables.old) values.old values.new start
+        (TrimsFrom span.past span.from span.stop span.first tables.old.trims.items (n + 1))) }
+{
+    let module = ground.sheet.instruction().module();
+    let rise = steps_after(module, wood.trim);
+    let past = span.past.min(points_within(ground.stem, module, wood.trim));
+    if past <= span.from {
+        return Ok(());
+    }
+    let found = tables.find(alloc, ground.sheet, wood, band)?;
+    push_columns(
+        values,
+        bases_after(bases, rise),
+        ground.diameters,
+        tables.columns(found),
+        Span { past, ..span },
+    );
+    Ok(())
+}
+
+/// Offers the logs from the starts of a span, of which the wood up to its tops has these grades, to the tops.
+fn offer_span(
+    alloc: Global,
+    ground: Ground<'_>,
+    tables: &mut Tables,
+    values: &mut [Bid],
+    bases: &[Bid],
+    grades: u8,
+    band: usize,
+    span: Span,
+) -> Result<(), Memory>
+    requires ground { IsGround ground.sheet.now ground.stem.now ground.profile.now ground.diameters.now }
+    requires tables { AreTablesOf ground.sheet.now tables.old }
+    requires band { band + 1 < length tables.old.limits.items }
+    requires high { slice_index tables.old.limits.items (band + 1) ≤ 1504 }
+    requires starts { (span.first ≤ span.stop) × (span.stop ≤ span.from) }
+    requires past { (span.from ≤ span.past) × (span.past ≤ length ground.diameters.now) }
+    requires number { length values.old ≡ ends_of (ground_of ground.sheet.now ground.stem.now tables.old) }
+    requires room { length bases.now ≡ ends_of (ground_of ground.sheet.now ground.stem.now tables.old) }
+    requires in_band { IsInBand tables.old.limits.items ground.diameters.now band span.from span.past }
+    requires masks { HasMasks ground.sheet.now ground.stem.now span grades }
+    requires low { (e : ℕ) → span.from ≤ e → slice_index bases.now e ≤ 4000000000000000000 }
+    ensures tables { AreTablesOf ground.entry.sheet.now tables.new }
+    ensures offers { tables.new.offers.items ≡ tables.old.offers.items }
+    ensures limits { tables.new.limits.items ≡ tables.old.limits.items }
+    ensures number { length values.new ≡ length values.old }
+    ensures offered { OnOk result ((start : ℕ)
+        → IsPieceOf (ground_of ground.entry.sheet.now ground.entry.stem.now tables.old) values.old bases.now start span.from span.past
+        → AreSettled (ground_of ground.entry.sheet.now ground.entry.stem.now tables.old) values.old start
+        (StartsFrom span.past span.from span.stop)
+        → IsOffered (ground_of ground.entry.sheet.now ground.entry.stem.now tables.old) values.old values.new start
+        (StartsFrom span.past span.from span.first)) }
+{
+    let count = tables.trims().len();
+    for at in 0..count {
+        let wood = Wood {
+            species: ground.stem.species(),
+            grades,
+            trim: tables.trims()[at],
+        };
+        offer_trim(alloc, ground, tables, values, bases, wood, band, span)?;
+    }
+    Ok(())
+}
+
+/// Offers the logs of which the length ends at the tops from `from` on and before `past`. The steps before these have the
+/// same grades, and their diameters lie in one band.
+fn offer_piece(
+    alloc: Global,
+    ground: Ground<'_>,
+    tables: &mut Tables,
+    values: &mut [Bid],
+    bases: &[Bid],
+    band: usize,
     from: usize,
     past: usize,
 ) -> Result<(), Memory>
     requires ground { IsGround ground.sheet.now ground.stem.now ground.profile.now ground.diameters.now }
     requires tables { AreTablesOf ground.sheet.now tables.old }
-    requires trim { trim ≤ 200 }
+    requires band { band + 1 < length tables.old.limits.items }
+    requires high { slice_index tables.old.limits.items (band + 1) ≤ 1504 }
+    requires order { (0 < from) × (from < past) }
+    requires past { past ≤ length ground.diameters.now }
     requires number { length values.old ≡ ends_of (ground_of ground.sheet.now ground.stem.now tables.old) }
     requires room { length bases.now ≡ ends_of (ground_of ground.sheet.now ground.stem.now tables.old) }
-    requires order { from < past }
-    requires past { past ≤ ends_of (ground_of ground.sheet.now ground.stem.now tables.old) }
-    requires base { (e : ℕ) → from ≤ e → e < past → slice_index bases.now e ≡ unranked (slice_index values.old e) }
-    requires low { (e : ℕ) → from ≤ e → e < past → slice_index bases.now e ≤ 4000000000000000000 }
-    requires long { AreLong (ground_of ground.sheet.now ground.stem.now tables.old) (past - from) }
+    requires in_band { IsInBand tables.old.limits.items ground.diameters.now band from past }
+    requires even { (one : ℕ)
+        × ((k : ℕ) → from ≤ k + 1 → k + 1 < past → IsMaskBetween ground.profile.now k (k + 1) one) }
+    requires low { (e : ℕ) → from ≤ e → slice_index bases.now e ≤ 4000000000000000000 }
     ensures tables { AreTablesOf ground.entry.sheet.now tables.new }
     ensures offers { tables.new.offers.items ≡ tables.old.offers.items }
-    ensures trims { tables.new.trims.items ≡ tables.old.trims.items }
+    ensures limits { tables.new.limits.items ≡ tables.old.limits.items }
     ensures number { length values.new ≡ length values.old }
-    ensures offered { OnOk result ((trims : List ℕ)
-        → AreSettled (ground_of ground.entry.sheet.now ground.entry.stem.now tables.old) values.old from (HasTrim past trims)
-        → IsOffered (ground_of ground.entry.sheet.now ground.entry.stem.now tables.old) values.old values.new from (HasTrim past (trims ++ trim ∷ []))) }
+    ensures offered { OnOk result ((start : ℕ)
+        → IsPieceOf (ground_of ground.entry.sheet.now ground.entry.stem.now tables.old) values.old bases.now start from past
+        → AreSettled (ground_of ground.entry.sheet.now ground.entry.stem.now tables.old) values.old start (TopsFrom past)
+        → IsOffered (ground_of ground.entry.sheet.now ground.entry.stem.now tables.old) values.old values.new start (TopsFrom from)) }
 {
     let module = ground.sheet.instruction().module();
-    let rise = steps_after(module, trim);
-    let low = from.saturating_sub(rise).max(1);
-    let mut high = past
-        .saturating_sub(rise)
-        .min(points_within(ground.stem, module, trim));
-    while low < high {
-        let run = ground.profile.run_start(high - 2);
-        let limits = tables.limits();
-        let band = band_of(limits, ground.diameters[high - 1]);
-        let start = piece_start(
-            ground.diameters,
-            low,
-            high,
-            run,
-            limits[band],
-            limits[band + 1],
-        );
-        offer_piece(
-            alloc, ground, tables, values, bases, trim, band, start, high,
-        )?;
-        high = start;
+    let low = from.saturating_sub(most_steps(tables.offers(), module));
+    let mut stop = from;
+    while stop > low {
+        let first = ground.profile.run_start(stop - 1);
+        let grades = ground.profile.grades(stop - 1, from);
+        let span = Span {
+            first,
+            stop,
+            from,
+            past,
+        };
+        offer_span(alloc, ground, tables, values, bases, grades, band, span)?;
+        stop = first;
     }
     Ok(())
 }
 
-/// Offers all logs after which a point from `from` on and before `past` is the first.
+/// Offers all logs of which the length ends at a point from `from` on and before `past`.
 fn offer_block(
     alloc: Global,
     ground: Ground<'_>,
@@ -261,21 +287,32 @@ fn offer_block(
     requires number { length values.old ≡ ends_of (ground_of ground.sheet.now ground.stem.now tables.old) }
     requires room { length bases.now ≡ ends_of (ground_of ground.sheet.now ground.stem.now tables.old) }
     requires order { from < past }
-    requires past { past ≤ ends_of (ground_of ground.sheet.now ground.stem.now tables.old) }
-    requires base { (e : ℕ) → from ≤ e → e < past → slice_index bases.now e ≡ unranked (slice_index values.old e) }
-    requires low { (e : ℕ) → from ≤ e → e < past → slice_index bases.now e ≤ 4000000000000000000 }
+    requires base { (e : ℕ) → from ≤ e → slice_index bases.now e ≡ unranked (slice_index values.old e) }
+    requires low { (e : ℕ) → from ≤ e → slice_index bases.now e ≤ 4000000000000000000 }
     requires long { AreLong (ground_of ground.sheet.now ground.stem.now tables.old) (past - from) }
-    requires settled { AreSettled (ground_of ground.sheet.now ground.stem.now tables.old) values.old from (EndsPast past) }
+    requires settled { AreSettled (ground_of ground.sheet.now ground.stem.now tables.old) values.old from (TopsFrom past) }
     ensures tables { AreTablesOf ground.entry.sheet.now tables.new }
     ensures offers { tables.new.offers.items ≡ tables.old.offers.items }
     ensures number { length values.new ≡ length values.old }
     ensures settled { OnOk result
-        (AreSettled (ground_of ground.entry.sheet.now ground.entry.stem.now tables.old) values.new from (EndsPast 0)) }
+        (IsOffered (ground_of ground.entry.sheet.now ground.entry.stem.now tables.old) values.old values.new from (TopsFrom 0)) }
 {
-    let count = tables.trims().len();
-    for at in 0..count {
-        let trim = tables.trims()[at];
-        offer_trim(alloc, ground, tables, values, bases, trim, from, past)?;
+    let low = from.max(1);
+    let mut high = past.min(ground.diameters.len());
+    while low < high {
+        let run = ground.profile.run_start(high - 2);
+        let limits = tables.limits();
+        let band = band_of(limits, ground.diameters[high - 1]);
+        let start = piece_start(
+            ground.diameters,
+            low,
+            high,
+            run,
+            limits[band],
+            limits[band + 1],
+        );
+        offer_piece(alloc, ground, tables, values, bases, band, start, high)?;
+        high = start;
     }
     Ok(())
 }
@@ -331,6 +368,7 @@ fn put_values(
     requires tables { AreTablesOf ground.sheet.now tables.old }
     requires number { length values.old ≡ ends_of (ground_of ground.sheet.now ground.stem.now tables.old) }
     requires zeros { (k : ℕ) → slice_index values.old k ≡ 0 }
+    requires no_bases { (k : ℕ) → slice_index bases.old k ≡ 0 }
     requires room { length bases.old ≡ ends_of (ground_of ground.sheet.now ground.stem.now tables.old) }
     ensures tables { AreTablesOf ground.entry.sheet.now tables.new }
     ensures offers { tables.new.offers.items ≡ tables.old.offers.items }

@@ -11,6 +11,6 @@ returns-clause-right c =
     record {
       order = c.requires.band.order;
       thin = c.requires.band.high;
-      columns = subst (λ n. AreColumns c.args.sheet.now (codes_in c.args.offers.now) c.args.takers.now c.args.band.thinnest (c.args.band.past - c.args.band.thinnest) n c.loop-from.steps.items c.loop-from.bids.items)
+      columns = subst (λ n. AreColumns c.args.sheet.now (codes_in c.args.offers.now) (c.args.takers.now, c.args.rivals.now) c.args.band.thinnest (c.args.band.past - c.args.band.thinnest) n c.loop-from.steps.items c.loop-from.bids.items)
           all c.loop-from.invariant.columns;
     }

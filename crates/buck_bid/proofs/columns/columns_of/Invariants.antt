@@ -1,6 +1,6 @@
 use Rattle.std.proofs.Common.{◌≡◌, ◌-◌, ◌≤◌, length}
 use Rattle.buck_bid.specs.Offers.{codes_in}
-use Rattle.buck_bid.specs.Columns.{AreColumns, AreReached, IsApart}
+use Rattle.buck_bid.specs.Columns.{AreColumns, AreReachedBefore, IsApart}
 use Rattle.buck_bid.proofs.columns.columns_of.Given as goal
 
 abbrev pub invariant-loop-from : goal.invariant-loop-from
@@ -8,9 +8,9 @@ invariant-loop-from l = record {
   number : length l.column.items ≡ l.width;
   reached : length l.reached.items ≡ l.width;
   within : l.from ≤ length l.offers;
-  best : AreReached l.width l.steps.items l.bids.items l.reached.items;
+  best : AreReachedBefore l.sheet (codes_in l.offers) l.rivals l.band.thinnest l.from l.width l.steps.items l.bids.items l.reached.items;
   apart : IsApart (codes_in l.offers) l.from;
-  columns : AreColumns l.sheet (codes_in l.offers) l.takers l.band.thinnest l.width l.from l.steps.items l.bids.items;
+  columns : AreColumns l.sheet (codes_in l.offers) (l.takers, l.rivals) l.band.thinnest l.width l.from l.steps.items l.bids.items;
 }
 
 abbrev pub decreases-loop-from : goal.decreases-loop-from

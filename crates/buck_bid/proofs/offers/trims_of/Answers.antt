@@ -32,6 +32,7 @@ returns c =
     ap length c.assortments-all.ensures.items in
     let trims : List ℕ = c.sort_once.new.numbers.items in
     record {
+      rise = c.in_ok-sort_once.ensures.rise;
       whole = λ a x at.
           let lt : a < length c.args.instruction.now.assortments =
           slice_get_within c.args.instruction.now.assortments a x at in

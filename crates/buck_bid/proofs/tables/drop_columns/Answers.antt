@@ -1,8 +1,7 @@
-use Rattle.std.proofs.Common.{◌≡◌, ℕ, ◌+◌, ◌<◌, inl, inr, List, length, get_or, set, slice_get, Some, refl, sym, ◌∙◌, subst, arith}
+use Rattle.std.proofs.Common.{◌≡◌, ℕ, ◌<◌, inl, inr, List, length, get_or, set, slice_get, Some, refl, sym, ◌∙◌, subst, arith}
 use Rattle.std.proofs.Math.ListN.{length-set}
 use Rattle.std.proofs.lemmas.Bool.{cases_lt}
 use Rattle.std.proofs.lemmas.Option.{same_Some, slice_get_read, slice_get_within}
-use Rattle.buck_value.specs.Sheet.{SheetParts}
 use Rattle.buck_bid.specs.declared.tables.Takers.{Takers}
 use Rattle.buck_bid.specs.Tables.{AreMade}
 use Rattle.buck_bid.proofs.TableLemmas.{set_here, set_cases, same_set}

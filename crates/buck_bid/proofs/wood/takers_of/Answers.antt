@@ -31,10 +31,12 @@ loop-place-preserved c =
       ]);
     }
 
-pub returns : goal.returns
-returns c =
+pub returns-clause-number : goal.returns-clause-number
+returns-clause-number c =
     let all : length c.assortments-all.result.now ≡ length c.args.instruction.now.assortments = ap length c.assortments-all.ensures.items in
-    record {
-      number = omega (arith, c.loop-place.invariant.number, c.loop-place-test.false, c.loop-place.auto.place-end);
-      right = λ a x at. c.loop-place.invariant.right a x (omega (arith, slice_get_within c.args.instruction.now.assortments a x at)) at;
-    }
+    omega (arith, c.loop-place.invariant.number, c.loop-place-test.false, c.loop-place.auto.place-end)
+
+pub returns-clause-right : goal.returns-clause-right
+returns-clause-right c a x at =
+    let all : length c.assortments-all.result.now ≡ length c.args.instruction.now.assortments = ap length c.assortments-all.ensures.items in
+    c.loop-place.invariant.right a x (omega (arith, slice_get_within c.args.instruction.now.assortments a x at)) at

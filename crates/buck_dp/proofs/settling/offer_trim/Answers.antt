@@ -1,18 +1,24 @@
-use Rattle.std.proofs.Common.{◌≡◌, ℕ, ◌+◌, ◌-◌, ◌*◌, ◌<◌, ◌≤◌, List, [], ◌∷◌, ◌++◌, refl, sym, subst, ap, ◌∙◌, inl, inr, arith}
-use Rattle.std.proofs.lemmas.List.Elements.{Contains-append_cases}
-use Rattle.buck_apt.specs.Instruction.{InstructionParts}
+use Rattle.std.proofs.Common.{◌≡◌, ℕ, ◌+◌, ◌-◌, ◌*◌, ◌<◌, ◌≤◌, List, Some, length, slice_get, slice_index, get_or, refl, sym, subst, ap, ◌∙◌, inl, inr, arith}
+use Rattle.std.proofs.lemmas.Bool.{cases_lt}
+use Rattle.std.proofs.lemmas.List.{get_or_default}
+use Rattle.buck_apt.specs.Instruction.{AssortmentParts, InstructionParts}
 use Rattle.buck_stem.specs.Stem.{StemParts, stem_length}
-use Rattle.buck_stem.specs.Profile.{ProfileParts}
-use Rattle.buck_stem.specs.Profile as grid
-use Rattle.buck_value.specs.Sheet.{SheetParts, IsSheet}
-use Rattle.buck_dp.specs.inner.Points.{GroundParts, points_of, point_after, ground_with}
+use Rattle.buck_stem.specs.Profile.{IsMask}
+use Rattle.buck_value.specs.Sheet.{SheetParts}
 use Rattle.buck_bid.specs.Bid.{unranked}
+use Rattle.buck_bid.specs.declared.columns.Columns.{Columns}
 use Rattle.buck_bid.specs.declared.offers.Offer.{Offer}
-use Rattle.buck_bid.specs.Offers.{codes_in}
-use Rattle.buck_dp.specs.inner.Settled.{IsLogBid, AreSettled, HasTrim, TopsFrom}
-use Rattle.buck_dp.specs.inner.Ground.{IsPieceOf, IsOffered, ground_of}
-use Rattle.buck_dp.proofs.Blocks.{settled_as}
-use Rattle.buck_dp.proofs.Logs.{after_is, log_fits, point_there, only_trim}
+use Rattle.buck_bid.specs.Offers.{AreTrims, codes_in}
+use Rattle.buck_bid.specs.Columns.{AreColumnsOf}
+use Rattle.buck_bid.specs.Tables.{marks_of}
+use Rattle.buck_bid.proofs.ListLemmas.{in_order}
+use Rattle.buck_dp.specs.declared.offering.Span.{Span}
+use Rattle.buck_dp.specs.inner.Points.{GroundParts, point_after}
+use Rattle.buck_dp.specs.inner.Settled.{AreSettled, IsTrimBefore, TrimsFrom}
+use Rattle.buck_dp.specs.inner.Ground.{ground_of}
+use Rattle.buck_dp.proofs.Blocks.{settled_as, span_pushed, same}
+use Rattle.buck_dp.proofs.Logs.{log_fits}
+use Rattle.buck_dp.proofs.Pieces.{after_fits}
 use Rattle.buck_dp.proofs.settling.offer_trim.Goals as goal
 
 -- how far a trim reaches up, as the code reckons it
@@ -21,133 +27,169 @@ rise_is : (s : SheetParts) (d i : InstructionParts) (unit rise trim : ℕ) → u
 rise_is s d i unit rise trim is deref of rises =
     rises ∙ ap (λ n. point_after n trim) (is ∙ ap (λ (x : InstructionParts). x.«module») deref ∙ ap (λ (x : InstructionParts). x.«module») of)
 
-pub loop-high-init : goal.loop-high-init
-loop-high-init c =
-    let s : SheetParts = c.args.ground.sheet.now in
-    let p : GroundParts = ground_of s c.args.ground.stem.now c.args.tables.now in
-    let step : ℕ = s.instruction.«module» in
-    let unit : c.module-module.result ≡ step =
-    c.module-module.ensures.«module» ∙ ap (λ (x : InstructionParts). x.«module») c.deref.ensures ∙ ap (λ (x : InstructionParts). x.«module») c.instruction.ensures.instruction in
-    let rise : c.steps_after-rise.result ≡ point_after step c.args.trim =
-    rise_is s _ _ c.module-module.result c.steps_after-rise.result c.args.trim c.module-module.ensures.«module» c.deref.ensures c.instruction.ensures.instruction c.steps_after-rise.ensures.rise in
+-- an assortment's trim that is less than the one at a place stands before it
+lesser_before : (i : InstructionParts) (trims : List ℕ) (n own : ℕ) → AreTrims i trims → n < length trims → slice_index trims n ≡ own
+    → (a : ℕ) (x : AssortmentParts) → slice_get i.assortments a ≡ Some x → x.trim < own → IsTrimBefore trims n x.trim
+lesser_before i trims n own are within is a x at less =
+    let has = are.whole a x at in
+    let there : slice_index trims has.0 ≡ x.trim = sym (get_or_default trims has.0 x.trim 0 has.1) ∙ has.2 in
+    elim (cases_lt has.0 n) [
+      | inl before ↦ (has.0, before, there)
+      | inr after ↦ absurd (let up : get_or trims n 0 ≤ get_or trims has.0 0 = in_order trims are.rise n has.0 after has.1 in omega arith)
+    ]
+
+-- a trim that is done is among the first n and one more
+more_trims : (p : GroundParts) (v : List ℕ) (start past from stop first own n : ℕ) (trims : List ℕ) → n < length trims → slice_index trims n ≡ own
+    → ((j : ℕ) → from ≤ j → j < past → j * p.sheet.instruction.«module» + own ≤ stem_length p.stem.samples → ⊥)
+    → AreSettled p v start (TrimsFrom past from stop first trims n) → AreSettled p v start (TrimsFrom past from stop first trims (n + 1))
+more_trims p v start past from stop first own n trims within is none settled =
+    settled_as p v start (TrimsFrom past from stop first trims n) (TrimsFrom past from stop first trims (n + 1)) settled
+    (λ i j e trim bid low log more. elim more [
+      | inl before ↦ inl before
+      | inr here ↦
+          let t = here.2 in
+          elim (cases_lt t.0 n) [
+            | inl old ↦ inr (here.0, here.1, (t.0, old, t.2))
+            | inr new ↦
+                let own_is : trim ≡ own = sym t.2 ∙ (let m : t.0 ≡ n = omega (arith, t.1) in ap (λ k. slice_index trims k) m) ∙ is in
+                elim (cases_lt j past) [
+                  | inr far ↦ inl (inl far)
+                  | inl near ↦ absurd (none j here.0 near (omega (arith, log_fits p i j e trim bid log, own_is)))
+                ]
+          ]
+    ])
+
+pub returns-then-past-span-clause-offered : goal.returns-then-past-span-clause-offered
+returns-then-past-span-clause-offered c start n within is piece settled =
+    let p : GroundParts = ground_of c.args.ground.sheet.now c.args.ground.stem.now c.args.tables.now in
+    let unit : c.module-module.result ≡ p.sheet.instruction.«module» =
+    c.module-module.ensures.«module» ∙ ap (λ (i : InstructionParts). i.«module») c.deref.ensures ∙ ap (λ (i : InstructionParts). i.«module») c.instruction.ensures.instruction in
     record {
-      tables = c.requires.tables;
-      offers = refl;
-      trims = refl;
-      number = refl;
-      top = omega (arith, c.min-high.ensures, c.saturating_sub-2.ensures);
-      fits = λ j lt. rw unit at ((c.points_within.ensures j).0 (omega (arith, c.min-high.ensures)));
-      offered = λ trims settled. record {
-        settled = settled_as p c.args.values.now c.args.from (HasTrim c.args.past trims) (TopsFrom c.args.past trims c.args.trim c.min-high.result) settled
-            (λ i j e t bid low log less. elim less [
-              | inl before ↦ before
-              | inr here ↦
-                  let own : IsLogBid p i j e c.args.trim bid = subst (λ (x : ℕ). IsLogBid p i j e x bid) here.0 log in
-                  let ends : e ≡ j + point_after step c.args.trim = after_is p c.requires.ground.valid i j e c.args.trim bid own in
-                  let fits = log_fits p i j e c.args.trim bid own in
-                  let within : j < c.points_within.result = (c.points_within.ensures j).1 (rw unit fits) in
-                  let far = here.1 in
-                  inl (omega (arith, c.min-high.ensures, c.saturating_sub-2.ensures))
-            ]);
-        later = λ k low. refl;
-      };
+      settled = more_trims p c.args.values.now start c.args.span.past c.args.span.from c.args.span.stop c.args.span.first c.args.wood.trim n c.args.tables.now.trims.items within is
+          (λ j low lt fits. let there : j < c.points_within.result = (c.points_within.ensures j).1 (rw unit fits) in omega (arith, c.min-past.ensures))
+          settled;
+      later = λ k low. refl;
     }
 
--- tops from which a trim lies within the stem are points
-tops_there : (p : GroundParts) (high trim : ℕ) → IsSheet p.sheet → 0 < high
-    → ((j : ℕ) → j < high → j * p.sheet.instruction.«module» + trim ≤ stem_length p.stem.samples) → high ≤ points_of p
-tops_there p high trim v some fits =
-    let pos : 0 < p.sheet.instruction.«module» = omega (arith, v.valid.module_range) in
-    let h = point_there p.sheet.instruction.«module» (high - 1) (stem_length p.stem.samples) pos (omega (arith, fits (high - 1) (omega arith))) in
+
+pub bases_after-requires : goal.bases_after-requires
+bases_after-requires c =
+    let unit : c.module-module.result ≡ c.args.ground.sheet.now.instruction.«module» =
+    c.module-module.ensures.«module» ∙ ap (λ (i : InstructionParts). i.«module») c.deref.ensures ∙ ap (λ (i : InstructionParts). i.«module») c.instruction.ensures.instruction in
+    let p : GroundParts = ground_of c.args.ground.sheet.now c.args.ground.stem.now c.args.tables.now in
+    let rise : c.steps_after-rise.result ≡ point_after c.args.ground.sheet.now.instruction.«module» c.args.wood.trim =
+    rise_is c.args.ground.sheet.now _ _ c.module-module.result c.steps_after-rise.result c.args.wood.trim c.module-module.ensures.«module» c.deref.ensures c.instruction.ensures.instruction c.steps_after-rise.ensures.rise in
+    let last : c.min-past.result - 1 < c.points_within.result = omega (arith, c.min-past.ensures, c.if-past-span.false) in
+    let top = after_fits p (c.min-past.result - 1) c.args.wood.trim c.requires.ground.valid (rw unit at ((c.points_within.ensures (c.min-past.result - 1)).0 last)) in
+    omega (arith, c.requires.room)
+
+pub push_columns-requires-clause-bases : goal.push_columns-requires-clause-bases
+push_columns-requires-clause-bases c =
+    let unit : c.module-module.result ≡ c.args.ground.sheet.now.instruction.«module» =
+    c.module-module.ensures.«module» ∙ ap (λ (i : InstructionParts). i.«module») c.deref.ensures ∙ ap (λ (i : InstructionParts). i.«module») c.instruction.ensures.instruction in
+    let p : GroundParts = ground_of c.args.ground.sheet.now c.args.ground.stem.now c.args.tables.now in
+    let rise : c.steps_after-rise.result ≡ point_after c.args.ground.sheet.now.instruction.«module» c.args.wood.trim =
+    rise_is c.args.ground.sheet.now _ _ c.module-module.result c.steps_after-rise.result c.args.wood.trim c.module-module.ensures.«module» c.deref.ensures c.instruction.ensures.instruction c.steps_after-rise.ensures.rise in
+    let last : c.min-past.result - 1 < c.points_within.result = omega (arith, c.min-past.ensures, c.if-past-span.false) in
+    let top = after_fits p (c.min-past.result - 1) c.args.wood.trim c.requires.ground.valid (rw unit at ((c.points_within.ensures (c.min-past.result - 1)).0 last)) in
+    omega (arith, c.requires.room, c.bases_after.ensures.number, c.if-past-span.false)
+
+pub push_columns-requires-clause-low : goal.push_columns-requires-clause-low
+push_columns-requires-clause-low c j low lt =
+    let l = c.requires.low (j + c.steps_after-rise.result) (omega arith) in
+    let s = c.bases_after.ensures.shifted j in
     omega arith
 
-pub run_start-run-requires : goal.run_start-run-requires
-run_start-run-requires c =
-    let p : GroundParts = ground_of c.args.ground.sheet.now c.args.ground.stem.now c.args.tables.now in
-    let there = tops_there p c.loop-high.high c.args.trim c.requires.ground.valid (omega (arith, c.loop-high-test.true)) c.loop-high.invariant.fits in
-    subst (λ (q : ProfileParts). c.loop-high.high - 2 + 1 < grid.points_of q) (sym c.requires.ground.same)
-    (omega (arith, c.loop-high-test.true, c.max-low.ensures))
+pub push_columns-requires-clause-order : goal.push_columns-requires-clause-order
+push_columns-requires-clause-order c =
+    let f = c.in_ok-found.ensures.found in
+    subst (λ (x : Columns). x.band.thinnest ≤ x.band.past) (sym (c.columns.ensures f.at)) (omega (arith, f.of.order))
 
-pub band_of-band-requires-clause-diameter : goal.band_of-band-requires-clause-diameter
-band_of-band-requires-clause-diameter c =
-    let p : GroundParts = ground_of c.args.ground.sheet.now c.args.ground.stem.now c.args.tables.now in
-    let there = tops_there p c.loop-high.high c.args.trim c.requires.ground.valid (omega (arith, c.loop-high-test.true)) c.loop-high.invariant.fits in
-    c.requires.ground.thin (c.loop-high.high - 1) (omega (arith, c.loop-high-test.true))
+pub push_columns-requires-clause-number : goal.push_columns-requires-clause-number
+push_columns-requires-clause-number c =
+    let f = c.in_ok-found.ensures.found in
+    subst (λ (x : Columns). length x.bids.items ≡ length x.steps.items * (x.band.past - x.band.thinnest)) (sym (c.columns.ensures f.at)) f.of.columns.number
 
-pub piece_start-start-requires-clause-high : goal.piece_start-start-requires-clause-high
-piece_start-start-requires-clause-high c =
-    let p : GroundParts = ground_of c.args.ground.sheet.now c.args.ground.stem.now c.args.tables.now in
-    let there = tops_there p c.loop-high.high c.args.trim c.requires.ground.valid (omega (arith, c.loop-high-test.true)) c.loop-high.invariant.fits in
-    omega (arith, c.requires.ground.number)
+pub push_columns-requires-clause-high : goal.push_columns-requires-clause-high
+push_columns-requires-clause-high c =
+    let f = c.in_ok-found.ensures.found in
+    subst (λ (x : Columns). (k : ℕ) → slice_index x.bids.items k ≤ 2000000000000000000) (sym (c.columns.ensures f.at)) f.of.columns.high
 
-pub offer_piece-requires-clause-past : goal.offer_piece-requires-clause-past
-offer_piece-requires-clause-past c =
-    let p : GroundParts = ground_of c.args.ground.sheet.now c.args.ground.stem.now c.args.tables.now in
-    let there = tops_there p c.loop-high.high c.args.trim c.requires.ground.valid (omega (arith, c.loop-high-test.true)) c.loop-high.invariant.fits in
-    omega (arith, c.requires.ground.number)
+pub push_columns-requires-clause-thick : goal.push_columns-requires-clause-thick
+push_columns-requires-clause-thick c j low lt =
+    let f = c.in_ok-found.ensures.found in
+    let cols : c.columns.result.now ≡ f.at.columns = c.columns.ensures f.at in
+    let limits : List ℕ = c.args.tables.now.limits.items in
+    let same_limits : c.find.new.self.limits.items ≡ limits = c.find.ensures.limits in
+    let band : c.in_ok-found.found.band ≡ c.args.band = c.in_ok-found.ensures.band in
+    let thick : c.columns.result.now.band.thinnest ≡ slice_index limits c.args.band =
+    ap (λ (x : Columns). x.band.thinnest) cols ∙ f.thick ∙ ap (λ (xs : List ℕ). slice_index xs c.in_ok-found.found.band) same_limits ∙ ap (λ n. slice_index limits n) band in
+    let thin : c.columns.result.now.band.past ≡ slice_index limits (c.args.band + 1) =
+    ap (λ (x : Columns). x.band.past) cols ∙ f.thin ∙ ap (λ (xs : List ℕ). slice_index xs (c.in_ok-found.found.band + 1)) same_limits ∙ ap (λ n. slice_index limits (n + 1)) band in
+    omega (arith, c.requires.in_band j low (omega (arith, c.min-past.ensures)))
 
-pub offer_piece-requires-clause-even : goal.offer_piece-requires-clause-even
-offer_piece-requires-clause-even c =
-    let even = c.run_start-run.ensures.even in
-    (even.0, λ k after before. even.1 k (omega (arith, c.piece_start-start.ensures.run)) (omega arith))
-
-pub loop-high-preserved : goal.loop-high-preserved
-loop-high-preserved c =
-    let s : SheetParts = c.args.ground.sheet.now in
-    let stem : StemParts = c.args.ground.stem.now in
-    let p : GroundParts = ground_of s stem c.args.tables.now in
-    let step : ℕ = s.instruction.«module» in
-    let rise : c.steps_after-rise.result ≡ point_after step c.args.trim =
-    rise_is s _ _ c.module-module.result c.steps_after-rise.result c.args.trim c.module-module.ensures.«module» c.deref.ensures c.instruction.ensures.instruction c.steps_after-rise.ensures.rise in
-    let offers : c.loop-high.tables.offers.items ≡ c.args.tables.now.offers.items = c.loop-high.invariant.offers in
-    let start : ℕ = c.piece_start-start.result in
-    let high : ℕ = c.loop-high.high in
-    let low_is = c.max-low.ensures in
-    let sub_is = c.saturating_sub.ensures in
-    let found = c.piece_start-start.ensures.range in
-    let top = c.loop-high.invariant.top in
-    record {
-      tables = c.in_ok-offer_piece.ensures.tables;
-      offers = c.in_ok-offer_piece.ensures.offers ∙ offers;
-      trims = c.in_ok-offer_piece.ensures.trims ∙ c.loop-high.invariant.trims;
-      number = c.in_ok-offer_piece.ensures.number ∙ c.loop-high.invariant.number;
-      top = omega arith;
-      fits = λ j lt. c.loop-high.invariant.fits j (omega arith);
-      offered = λ trims settled.
-          let was = c.loop-high.invariant.offered trims settled in
-          let piece : IsPieceOf p c.loop-high.values c.args.bases.now c.args.from c.args.past c.args.trim start high = record {
-            short = λ i j e t bid log low. omega (arith, c.requires.long i j e t bid log, after_is p c.requires.ground.valid i j e t bid log);
-            far = λ i j e t bid log low. omega (arith, c.requires.long i j e t bid log, c.requires.order);
-            range = λ j low lt. (omega arith, omega arith);
-            base = λ e low lt. c.requires.base e low lt ∙ ap unranked (sym (was.later e low));
-          } in
-          let new = subst (λ (os : List Offer). IsOffered (ground_with s stem (codes_in os)) c.loop-high.values c.offer_piece.new.values c.args.from (TopsFrom c.args.past trims c.args.trim start)) offers
-          (c.in_ok-offer_piece.ensures.offered c.args.from c.args.past trims
-          (subst (λ (os : List Offer). IsPieceOf (ground_with s stem (codes_in os)) c.loop-high.values c.args.bases.now c.args.from c.args.past c.args.trim start high) (sym offers) piece)
-          (subst (λ (os : List Offer). AreSettled (ground_with s stem (codes_in os)) c.loop-high.values c.args.from (TopsFrom c.args.past trims c.args.trim high)) (sym offers) was.settled)) in
-          record { settled = new.settled; later = λ k low. new.later k low ∙ was.later k low };
-    }
+pub push_columns-requires-clause-thin : goal.push_columns-requires-clause-thin
+push_columns-requires-clause-thin c j low lt =
+    let f = c.in_ok-found.ensures.found in
+    let cols : c.columns.result.now ≡ f.at.columns = c.columns.ensures f.at in
+    let limits : List ℕ = c.args.tables.now.limits.items in
+    let same_limits : c.find.new.self.limits.items ≡ limits = c.find.ensures.limits in
+    let band : c.in_ok-found.found.band ≡ c.args.band = c.in_ok-found.ensures.band in
+    let thick : c.columns.result.now.band.thinnest ≡ slice_index limits c.args.band =
+    ap (λ (x : Columns). x.band.thinnest) cols ∙ f.thick ∙ ap (λ (xs : List ℕ). slice_index xs c.in_ok-found.found.band) same_limits ∙ ap (λ n. slice_index limits n) band in
+    let thin : c.columns.result.now.band.past ≡ slice_index limits (c.args.band + 1) =
+    ap (λ (x : Columns). x.band.past) cols ∙ f.thin ∙ ap (λ (xs : List ℕ). slice_index xs (c.in_ok-found.found.band + 1)) same_limits ∙ ap (λ n. slice_index limits (n + 1)) band in
+    omega (arith, c.requires.in_band j low (omega (arith, c.min-past.ensures)))
 
 pub returns-clause-offered : goal.returns-clause-offered
-returns-clause-offered c trims settled =
-    let s : SheetParts = c.args.ground.sheet.now in
-    let p : GroundParts = ground_of s c.args.ground.stem.now c.args.tables.now in
-    let step : ℕ = s.instruction.«module» in
-    let rise : c.steps_after-rise.result ≡ point_after step c.args.trim =
-    rise_is s _ _ c.module-module.result c.steps_after-rise.result c.args.trim c.module-module.ensures.«module» c.deref.ensures c.instruction.ensures.instruction c.steps_after-rise.ensures.rise in
-    let done = c.loop-high.invariant.offered trims settled in
+returns-clause-offered c start n within is piece settled =
+    let unit : c.module-module.result ≡ c.args.ground.sheet.now.instruction.«module» =
+    c.module-module.ensures.«module» ∙ ap (λ (i : InstructionParts). i.«module») c.deref.ensures ∙ ap (λ (i : InstructionParts). i.«module») c.instruction.ensures.instruction in
+    let p : GroundParts = ground_of c.args.ground.sheet.now c.args.ground.stem.now c.args.tables.now in
+    let rise : c.steps_after-rise.result ≡ point_after c.args.ground.sheet.now.instruction.«module» c.args.wood.trim =
+    rise_is c.args.ground.sheet.now _ _ c.module-module.result c.steps_after-rise.result c.args.wood.trim c.module-module.ensures.«module» c.deref.ensures c.instruction.ensures.instruction c.steps_after-rise.ensures.rise in
+    let f = c.in_ok-found.ensures.found in
+    let cols : c.columns.result.now ≡ f.at.columns = c.columns.ensures f.at in
+    let limits : List ℕ = c.args.tables.now.limits.items in
+    let same_limits : c.find.new.self.limits.items ≡ limits = c.find.ensures.limits in
+    let band : c.in_ok-found.found.band ≡ c.args.band = c.in_ok-found.ensures.band in
+    let thick : c.columns.result.now.band.thinnest ≡ slice_index limits c.args.band =
+    ap (λ (x : Columns). x.band.thinnest) cols ∙ f.thick ∙ ap (λ (xs : List ℕ). slice_index xs c.in_ok-found.found.band) same_limits ∙ ap (λ n. slice_index limits n) band in
+    let thin : c.columns.result.now.band.past ≡ slice_index limits (c.args.band + 1) =
+    ap (λ (x : Columns). x.band.past) cols ∙ f.thin ∙ ap (λ (xs : List ℕ). slice_index xs (c.in_ok-found.found.band + 1)) same_limits ∙ ap (λ n. slice_index limits (n + 1)) band in
+    let sheet : SheetParts = c.args.ground.sheet.now in
+    let stem : StemParts = c.args.ground.stem.now in
+    let step : ℕ = sheet.instruction.«module» in
+    let trims : List ℕ = c.args.tables.now.trims.items in
+    let diameters : List ℕ = c.args.ground.diameters.now in
+    let span : Span = record { first = c.args.span.first; stop = c.args.span.stop; from = c.args.span.from; past = c.min-past.result } in
+    let columns : AreColumnsOf sheet p.codes (marks_of f.at.takers) c.columns.result.now =
+    subst (λ (x : Columns). AreColumnsOf sheet p.codes (marks_of f.at.takers) x) (sym cols)
+    (subst (λ (os : List Offer). AreColumnsOf sheet (codes_in os) (marks_of f.at.takers) f.at.columns) c.find.ensures.offers f.of) in
+    let masks : (i j : ℕ) → span.first ≤ i → i < span.stop → span.from ≤ j → j < span.past → IsMask stem.zones (i * step) (j * step) c.args.wood.grades =
+    (λ i j first stop low high. c.requires.masks i j first stop low (omega (arith, c.min-past.ensures, high))) in
+    let in_band : (j : ℕ) → span.from ≤ j → j < span.past
+    → (c.columns.result.now.band.thinnest ≤ slice_index diameters j) × (slice_index diameters j < c.columns.result.now.band.past) =
+    (λ j low high. (
+      omega (arith, c.requires.in_band j low (omega (arith, c.min-past.ensures, high))),
+      omega (arith, c.requires.in_band j low (omega (arith, c.min-past.ensures, high))),
+    )) in
+    let fits : (j : ℕ) → span.from ≤ j → j < span.past → j * step + c.args.wood.trim ≤ stem_length stem.samples =
+    (λ j low high. rw unit at ((c.points_within.ensures j).0 (omega (arith, c.min-past.ensures, high)))) in
+    let whole : (j : ℕ) → j < c.args.span.past → j * step + c.args.wood.trim ≤ stem_length stem.samples → j < span.past =
+    (λ j lt fit. let there : j < c.points_within.result = (c.points_within.ensures j).1 (rw unit fit) in omega (arith, c.min-past.ensures)) in
+    let base : (j : ℕ) → span.from ≤ j → j < span.past
+    → slice_index c.bases_after.result.now j ≡ unranked (slice_index c.args.values.now (j + point_after step c.args.wood.trim)) =
+    (λ j low high.
+    c.bases_after.ensures.shifted j ∙ ap (λ n. slice_index c.args.bases.now (j + n)) rise
+    ∙ piece.base (j + point_after step c.args.wood.trim) (omega (arith, piece.order))) in
+    let lesser = lesser_before sheet.instruction trims n c.args.wood.trim c.requires.tables.trims within is in
+    let inner : span.past ≤ c.args.span.past = omega (arith, c.min-past.ensures) in
     record {
-      settled = settled_as p c.loop-high.values c.args.from (TopsFrom c.args.past trims c.args.trim c.loop-high.high) (HasTrim c.args.past (trims ++ c.args.trim ∷ [])) done.settled
-          (λ i j e t bid low log less. elim less [
-            | inl past ↦ inl (inl past)
-            | inr has ↦ elim (Contains-append_cases trims (c.args.trim ∷ []) t has) [
-              | inl before ↦ inl (inr before)
-              | inr one ↦
-                  let same : t ≡ c.args.trim = sym (only_trim c.args.trim t one) in
-                  let own : IsLogBid p i j e c.args.trim bid = subst (λ (x : ℕ). IsLogBid p i j e x bid) same log in
-                  let ends : e ≡ j + point_after step c.args.trim = after_is p c.requires.ground.valid i j e c.args.trim bid own in
-                  inr (same, omega (arith, own.later, c.max-low.ensures, c.saturating_sub.ensures, c.loop-high-test.false))
-            ]
-          ]);
-      later = done.later;
+      settled = span_pushed p c.requires.ground.valid c.requires.ground.sound diameters c.requires.ground.known c.args.values.now c.push_columns.new.values c.bases_after.result.now
+          start c.args.span.past c.args.wood.trim n trims span c.args.wood (marks_of f.at.takers) c.columns.result.now piece.short inner piece.order c.requires.wood.0 refl is lesser masks f.right columns in_band fits whole base settled c.push_columns.ensures.pushed;
+      later = λ k low.
+          same p c.requires.ground.valid c.requires.ground.sound diameters c.requires.ground.known c.args.values.now c.push_columns.new.values c.bases_after.result.now
+          start c.args.span.past c.args.wood.trim n trims span c.args.wood (marks_of f.at.takers) c.columns.result.now piece.short inner piece.order c.requires.wood.0 refl is lesser masks f.right columns in_band fits whole base settled c.push_columns.ensures.pushed
+          k low;
     }

@@ -11,4 +11,5 @@ invariant-loop-below l = record {
   raised : (k : ℕ) → l.past - l.below ≤ k → k < l.past
       → slice_index l.values k ≡ max (slice_index l.fn.values k) (unranked (slice_index l.values (k + 1)));
   bases : (k : ℕ) → l.past - l.below ≤ k → k < l.past → slice_index l.bases k ≡ unranked (slice_index l.values k);
+  later : (k : ℕ) → l.past ≤ k → slice_index l.bases k ≡ slice_index l.fn.bases k;
 }

@@ -6,7 +6,7 @@ use Rattle.buck_bid.specs.declared.tables.Takers.{Takers}
 use Rattle.buck_bid.specs.Offers.{codes_in, AreOffers, AreTrims}
 use Rattle.buck_bid.specs.Limits.{AreLimits}
 use Rattle.buck_bid.specs.Wood.{AreTakers}
-use Rattle.buck_bid.specs.Tables.{AreKinds}
+use Rattle.buck_bid.specs.Tables.{AreKinds, marks_of}
 use Rattle.buck_bid.proofs.TableLemmas.{kinds_same}
 use Rattle.buck_bid.proofs.tables.Tables.renew.Goals as goal
 
@@ -17,7 +17,7 @@ kinds_of s t sets kinds same was k q at =
     record {
       takers = h.takers;
       there = h.there;
-      right = subst (λ (i : InstructionParts). AreTakers i q.wood h.takers.marked.items) (sym same) h.right;
+      right = subst (λ (i : InstructionParts). AreTakers i q.wood (marks_of h.takers)) (sym same) h.right;
     }
 
 pub returns : goal.returns
