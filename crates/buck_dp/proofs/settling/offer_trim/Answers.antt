@@ -71,7 +71,6 @@ returns-then-past-span-clause-offered c start n within is piece settled =
       later = λ k low. refl;
     }
 
-
 pub bases_after-requires : goal.bases_after-requires
 bases_after-requires c =
     let unit : c.module-module.result ≡ c.args.ground.sheet.now.instruction.«module» =
