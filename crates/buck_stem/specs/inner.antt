@@ -2,6 +2,7 @@
 pub mod Stages
 pub mod Ready
 pub mod Zones
+pub mod Lows
 pub mod Runs
 pub mod ProfileTables
 pub mod Diameters

@@ -10,6 +10,7 @@ mod reading;
 mod rules;
 mod runs;
 mod same;
+mod samples;
 mod slots;
 mod stem;
 

@@ -6,6 +6,7 @@ ghost use Rattle.buck_stem.specs.Stm.{stm_of};
 ghost use Rattle.buck_stem.specs.inner.Plain.{LeadsNumbers, AreZones, SaysZones, LeadsZones, LeadsStem, HasStems};
 
 use crate::rules::{grades_within, is_count_of_zones, starts_rise, starts_within, zones_of};
+use crate::samples::Samples;
 use crate::slots::{SAMPLES, SPECIES, STEM, ZONES};
 use crate::stem::{Stem, stem_of_parts};
 use buck_record::rules::FILE;
@@ -48,10 +49,10 @@ fn next_samples<'a>(
     alloc: Global,
     room: &mut Vec<u16>,
     text: &'a [u8],
-) -> Result<Option<(Vec<u16>, &'a [u8])>, AllocError>
-    ensures leads { IfOk result (λ o. IfSome o (λ w. LeadsNumbers samples_slot text.now w.0.items w.1.now)) }
-    ensures range { IfOk result (λ o. IfSome o (λ w. All (λ d. d ≤ 1500) w.0.items)) }
-    ensures number { IfOk result (λ o. IfSome o (λ w. (1 ≤ length w.0.items) × (length w.0.items ≤ 401))) }
+) -> Result<Option<(Samples, &'a [u8])>, AllocError>
+    ensures leads { IfOk result (λ o. IfSome o (λ w. LeadsNumbers samples_slot text.now w.0 w.1.now)) }
+    ensures range { IfOk result (λ o. IfSome o (λ w. All (λ d. d ≤ 1500) w.0)) }
+    ensures number { IfOk result (λ o. IfSome o (λ w. (1 ≤ length w.0) × (length w.0 ≤ 401))) }
 {
     let Some((rest, left)) = next_in(SAMPLES, text) else {
         return Ok(None);
@@ -67,7 +68,7 @@ fn next_samples<'a>(
     if room.len() > 401 {
         return Ok(None);
     }
-    let samples = Vec::from_slice(alloc, room.as_slice())?;
+    let samples = Samples::copy_of(alloc, room.as_slice())?;
     Ok(Some((samples, left)))
 }
 
@@ -133,7 +134,7 @@ fn next_stem<'a>(
     let Some((zones, left)) = next_zones(alloc, sampled)? else {
         return Ok(None);
     };
-    let stem = stem_of_parts(alloc, number, species, samples, zones)?;
+    let stem = stem_of_parts(number, species, samples, zones);
     Ok(Some((stem, left)))
 }
 

@@ -3,9 +3,10 @@
 ghost use Rattle.std.specs.Int.{bit_at};
 ghost use Rattle.std.specs.Prelude.{◌≡◌, ◌<◌, ◌≤◌, ◌+◌, ◌-◌, ◌/◌, ◌⊎◌, ℕ, List, length, ◌↔◌, IfOk, IsOk, OnOk, Err, IsTrue, Contains, All, slice_index_or};
 ghost use Rattle.buck_stem.specs.Stem.{stem_of, stem_length, least_to, diameter_at, grade_at, HasGradesOf, HasGrade, IsGrade, IsRisingFrom, IsStem};
-ghost use Rattle.buck_stem.specs.inner.Zones.{start_at, ShowsGrade, HasZone, ZonesFit, IsRunningLeast};
+ghost use Rattle.buck_stem.specs.inner.Zones.{start_at, ShowsGrade, HasZone, ZonesFit};
 ghost use Rattle.buck_stem.specs.inner.Diameters.{AreDiametersBy, AreDiametersTo};
 
+use crate::samples::Samples;
 use std::alloc::{AllocError, Global};
 use std::marker::Model;
 use thiserror::Error;
@@ -15,57 +16,32 @@ use thiserror::Error;
 pub struct Stem {
     number: u32,
     species: u8,
-    /// In mm under bark, one per 100 mm from the butt.
-    samples: Vec<u16>,
+    samples: Samples,
     /// The place in mm where each zone starts, and the grade from there on.
     zones: Vec<(u32, u8)>,
-    /// The least of the samples so far, at each sample.
-    lows: Vec<u16>,
 }
 
 impl Model for Stem {
     ghost use Rattle.std.specs.Prelude.{};
     ghost use Rattle.buck_stem.specs.Stem.{StemParts, stem_of, IsStem};
-    ghost use Rattle.buck_stem.specs.inner.Zones.{IsRunningLeast};
 
     ghost Value = { StemParts };
 
-    ghost view = { λ s. stem_of s.number s.species s.samples.items s.zones.items };
+    ghost view = { λ s. stem_of s.number s.species s.samples s.zones.items };
 
-    ghost invariant = { λ s.
-        IsStem (stem_of s.number s.species s.samples.items s.zones.items)
-        × IsRunningLeast s.samples.items s.lows.items };
-}
-
-/// Lowers each sample to the least up to it.
-fn lower(samples: &mut [u16])
-    ensures { IsRunningLeast samples.old samples.new }
-{
-    let mut low = u32::from(u16::MAX);
-    for i in 0..samples.len() {
-        low = low.min(u32::from(samples[i]));
-        samples[i] = low as u16;
-    }
-}
-
-/// The least of the samples so far, at each sample.
-fn running_least(alloc: Global, samples: &[u16]) -> Result<Vec<u16>, AllocError>
-    ensures { IfOk result (λ lows. IsRunningLeast samples.now lows.items) }
-{
-    let mut lows = Vec::from_slice(alloc, samples)?;
-    lower(lows.as_mut_slice());
-    Ok(lows)
+    ghost invariant = { λ s. IsStem (stem_of s.number s.species s.samples s.zones.items) };
 }
 
 /// Puts the diameters at the samples into an empty list.
-fn push_lows(lows: &[u16], out: &mut Vec<u32>) -> Result<(), AllocError>
+fn push_at_samples(samples: &[u16], out: &mut Vec<u32>) -> Result<(), AllocError>
     requires none { length out.old.items ≡ 0 }
-    ensures number { OnOk result (length out.new.items ≡ length lows.now) }
-    ensures right { OnOk result ((samples : List ℕ) → IsRunningLeast samples lows.now
-        → AreDiametersBy samples 100 out.new.items) }
+    ensures number { OnOk result (length out.new.items ≡ length samples.now) }
+    ensures right { OnOk result (AreDiametersBy samples.now 100 out.new.items) }
 {
-    for low in lows {
-        out.push(u32::from(*low))?;
+    let mut low = u32::from(u16::MAX);
+    for sample in samples {
+        low = low.min(u32::from(*sample));
+        out.push(low)?;
     }
     Ok(())
 }
@@ -96,20 +72,23 @@ fn push_between(
 }
 
 /// Puts the diameters at each step along the samples into an empty list.
-fn push_along(lows: &[u16], step: u32, out: &mut Vec<u32>) -> Result<(), AllocError>
-    requires some { 0 < length lows.now }
+fn push_along(samples: &[u16], step: u32, out: &mut Vec<u32>) -> Result<(), AllocError>
+    requires some { 0 < length samples.now }
     requires step { (10 ≤ step) × (step ≤ 1000) }
     requires none { length out.old.items ≡ 0 }
-    ensures right { OnOk result ((samples : List ℕ) → IsRunningLeast samples lows.now
-        → (length out.new.items ≡ stem_length samples / step + 1) × AreDiametersBy samples step out.new.items) }
+    ensures { OnOk result ((length out.new.items ≡ stem_length samples.now / step + 1)
+        × AreDiametersBy samples.now step out.new.items) }
 {
-    let last = lows.len() - 1;
+    let last = samples.len() - 1;
+    let mut low = u32::from(samples[0]);
     let mut part = 0;
     for i in 0..last {
-        part = push_between(u32::from(lows[i]), u32::from(lows[i + 1]), part, step, out)?;
+        let next = low.min(u32::from(samples[i + 1]));
+        part = push_between(low, next, part, step, out)?;
+        low = next;
     }
     if part == 0 {
-        out.push(u32::from(lows[last]))?;
+        out.push(low)?;
     }
     Ok(())
 }
@@ -253,25 +232,22 @@ fn is_stem(species: u8, samples: &[u16], zones: &[(u32, u8)]) -> bool
         && is_graded(zones)
 }
 
-/// The stem of parts that are within the limits, with the least of its samples so far at each of them.
+/// The stem of parts that are within the limits.
 pub(crate) fn stem_of_parts(
-    alloc: Global,
     number: u32,
     species: u8,
-    samples: Vec<u16>,
+    samples: Samples,
     zones: Vec<(u32, u8)>,
-) -> Result<Stem, AllocError>
-    requires { IsStem (stem_of number species samples.items zones.items) }
-    ensures { IfOk result (λ s. s ≡ stem_of number species samples.items zones.items) }
+) -> Stem
+    requires { IsStem (stem_of number species samples zones.items) }
+    ensures { result ≡ stem_of number species samples zones.items }
 {
-    let lows = running_least(alloc, samples.as_slice())?;
-    Ok(Stem {
+    Stem {
         number,
         species,
         samples,
         zones,
-        lows,
-    })
+    }
 }
 
 impl Stem {
@@ -294,8 +270,8 @@ impl Stem {
         if !is_stem(species, samples.as_slice(), zones.as_slice()) {
             return Err(StemFault::Limits);
         }
-        match stem_of_parts(alloc, number, species, samples, zones) {
-            Ok(stem) => Ok(stem),
+        match Samples::copy_of(alloc, samples.as_slice()) {
+            Ok(samples) => Ok(stem_of_parts(number, species, samples, zones)),
             Err(_) => Err(StemFault::Memory),
         }
     }
@@ -344,11 +320,12 @@ impl Stem {
     {
         let i = (x / 100) as usize;
         let part = x % 100;
-        let low = self.lows[i] as u32;
+        let low = self.samples.least_to(i);
         if part == 0 {
             return low;
         }
-        (low * (100 - part) + self.lows[i + 1] as u32 * part) / 100
+        let next = low.min(u32::from(self.samples.as_slice()[i + 1]));
+        (low * (100 - part) + next * part) / 100
     }
 
     /// Puts the diameters in mm at the multiples of a step, from the butt up to the length, into a list that is empty.
@@ -359,11 +336,11 @@ impl Stem {
         ensures right { OnOk result (AreDiametersBy self.now.samples step out.new.items) }
         ensures valid { IsStem self.now }
     {
-        let lows = self.lows.as_slice();
+        let samples = self.samples.as_slice();
         if step == 100 {
-            return push_lows(lows, out);
+            return push_at_samples(samples, out);
         }
-        push_along(lows, step, out)
+        push_along(samples, step, out)
     }
 
     /// The grade at `x` millimetres from the butt, from 1 to 8: that of the last zone that starts at or before `x`,

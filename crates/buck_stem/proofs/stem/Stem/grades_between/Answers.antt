@@ -10,7 +10,7 @@ returns c = λ g one.
     let outer = c.with_zones.ensures g one in
     rw (← zones)
     (between_iff c.self.inside.zones.items c.args.a c.args.b g c.with_zones.result c.with_grade-mask.result c.grade_at.result
-    c.self.invariant.0.starts_rise lt
+    c.self.invariant.starts_rise lt
     (c.grade_at.ensures.grade ∙ ap (λ zs. grade_at zs c.args.a) (sym zones))
     (rw c.as_slice.ensures.value at outer)
     (c.with_grade-mask.ensures g one))

@@ -7,5 +7,5 @@ returns-then-not-is_stem-clause-limits c = let fits = c.is_stem.ensures c.args.n
 pub stem_of_parts-requires : goal.stem_of_parts-requires
 stem_of_parts-requires c = let fits = c.is_stem.ensures c.args.number in search (rules, fits)
 
-pub returns-in-Err-clause-limits : goal.returns-in-Err-clause-limits
-returns-in-Err-clause-limits c = let fits = c.is_stem.ensures c.args.number in search (rules, fits)
+pub returns-clause-limits : goal.returns-clause-limits
+returns-clause-limits c = let fits = c.is_stem.ensures c.args.number in search (rules, fits)
