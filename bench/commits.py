@@ -4,16 +4,24 @@
     python3 bench/commits.py                   # proves and builds crates/commit_bench, and prints a table
     python3 bench/commits.py --bin PROGRAM     # one that is built already
 
-A line for each number of entries says, of the least of several runs, the processor's nanoseconds for each commit with
-its plan and for each plan alone, and the peak memory. The stem is 3 m long and gives one log.
+A commit is `prepare` with `commit`, timed by itself inside the program: the plans of a period are made before it. The
+stem is 3 m long and gives one log. A line for each number of entries has nanoseconds on the wall: the least, the median
+and the 90th percentile of the commits after which the period goes on, the median of those that end one, for which the
+next sheet is made, and of the plans. Two readings of the clock lie in each figure but a plan's; what they take by
+themselves is taken off, and stands in a column of its own. Each figure is the median of several runs, which take turns
+with those of the other numbers of entries. The peak memory has 8 bytes for each entry's time in it.
 """
 import argparse
 import os
+import statistics
 import subprocess
 import sys
+import tempfile
 
 HERE = os.path.dirname(os.path.abspath(__file__))
 TOP = os.path.dirname(HERE)
+PERIOD = 100
+ENTRIES = [250_000, 500_000, 1_000_000]
 
 
 def build():
@@ -26,22 +34,28 @@ def build():
     return program
 
 
-def run(words):
-    """Seconds of the processor and peak KiB of one run."""
-    with open(os.devnull, "w") as nowhere:
-        child = os.fork()
-        if child == 0:
-            os.dup2(nowhere.fileno(), 1)
-            os.execv(words[0], words)
-        _, status, used = os.wait4(child, 0)
-    if status != 0:
-        sys.exit(f"{' '.join(words)} ended with status {status}")
-    return used.ru_utime + used.ru_stime, used.ru_maxrss
+def output_of(words):
+    """What a run writes as errors are, and its peak memory in KiB."""
+    with open(os.devnull, "w") as nowhere, tempfile.TemporaryFile("w+") as shown:
+        child = subprocess.Popen(words, stdout=nowhere, stderr=shown)
+        _, status, used = os.wait4(child.pid, 0)
+        child.returncode = status
+        shown.seek(0)
+        if status != 0:
+            sys.exit(f"{' '.join(words)} ended with status {status}")
+        return shown.read(), used.ru_maxrss
 
 
-def least(words, times):
-    runs = [run(words) for _ in range(times)]
-    return min(r[0] for r in runs), max(r[1] for r in runs)
+def figures(program, number):
+    """The figures of a run, in the order of the columns."""
+    shown, memory = output_of([program, str(number // PERIOD)])
+    found = {}
+    for line in shown.splitlines():
+        name, *times = line.split()
+        found[name] = [int(time) for time in times]
+    clock = found["clock"][1]
+    least, median, most = [time - clock for time in found["within"]]
+    return [least, median, most, found["ending"][1] - clock, found["plan"][1], clock, memory / 1024]
 
 
 def main():
@@ -50,11 +64,14 @@ def main():
     parser.add_argument("--times", type=int, default=5)
     args = parser.parse_args()
     program = args.bin or build()
-    print("  entries  ns a commit with its plan  ns a plan alone  peak MB")
-    for number in [250_000, 500_000, 1_000_000]:
-        both, memory = least([program, str(number)], args.times)
-        plan, _ = least([program, str(number), "plan"], args.times)
-        print(f"{number:9}  {both / number * 1e9:25.0f}  {plan / number * 1e9:15.0f}  {memory / 1024:7.0f}")
+    runs = {number: [] for number in ENTRIES}
+    for _ in range(args.times):
+        for number in ENTRIES:
+            runs[number].append(figures(program, number))
+    print("  entries  commit: least  median  90th  one that ends a period  a plan  the clock  peak MB")
+    for number in ENTRIES:
+        least, median, most, ending, plan, clock, memory = [statistics.median(each) for each in zip(*runs[number])]
+        print(f"{number:9}  {least:13.0f}  {median:6.0f}  {most:4.0f}  {ending:22.0f}  {plan:6.0f}  {clock:9.0f}  {memory:7.0f}")
 
 
 if __name__ == "__main__":

@@ -1,4 +1,7 @@
-//! Commits as many short entries to a book as the first word says, in periods of 100; with a second word it only plans.
+//! Times commits of short entries to a book of one thread, in periods of 100: the plans of a period are made before its
+//! first commit, so that `prepare` and `commit` are timed by themselves. The word is how many periods, at most 10,000;
+//! without one there are as many. It prints how many entries and sheets the book has, and beside it, as errors are, the
+//! least, the median and the 90th percentile of each kind of call: bench/commits.py makes a table of them.
 #![tactic(auto)]
 
 ghost use Rattle.std.specs.Prelude.{◌≡◌};
@@ -8,64 +11,172 @@ use buck_apt::read_apt;
 use buck_book::{Book, Plan};
 use buck_rule::{Rule, Standing, step};
 use buck_stem::Stem;
+use buck_value::Sheet;
 use std::alloc::Global;
 use std::env;
 use std::process::ExitCode;
 use std::sync::Arc;
+use std::time::{Clock, Instant};
 
 const INSTRUCTION: &str = "1 2 APT~901 1 100~902 1 100~903 1 500~910 1 1~
 911 1 saw~912 1 1~913 1 1~914 1 1~915 1 100 200~915 2 400~
 916 1 3000 4000~917 1 400 500 600 800~918 1 1 1 1 1~";
 
-/// Commits a plan.
-fn commit_one<F: Fn(&Standing) -> u64 + Drop>(
+/// How many entries make a period of the instruction.
+const PERIOD: u32 = 100;
+
+/// The nanoseconds that each call took, by what was called.
+#[derive(Drop)]
+struct Times {
+    /// The clock, read twice with nothing between.
+    clock: Vec<u64>,
+    /// A plan: the part of each that all plans of a period took.
+    plan: Vec<u64>,
+    /// `prepare` and `commit` of an entry after which the period goes on.
+    within: Vec<u64>,
+    /// The same of an entry that ends its period, for which the next sheet is made.
+    ending: Vec<u64>,
+}
+
+impl Times {
+    /// Room for what so many periods take.
+    fn with_room(alloc: Global, periods: u32) -> Option<Times> {
+        let periods = periods as usize;
+        Some(Times {
+            clock: Vec::with_capacity(alloc, periods).ok()?,
+            plan: Vec::with_capacity(alloc, periods).ok()?,
+            within: Vec::with_capacity(alloc, periods * (PERIOD as usize - 1)).ok()?,
+            ending: Vec::with_capacity(alloc, periods).ok()?,
+        })
+    }
+
+    /// Keeps the time of a commit.
+    fn keep_commit(&mut self, is_end: bool, nanos: u64) -> Option<()> {
+        if is_end {
+            self.ending.push(nanos).ok()
+        } else {
+            self.within.push(nanos).ok()
+        }
+    }
+}
+
+/// The nanoseconds since the clock was read.
+fn nanos_since<R: Clock>(rt: &R, start: Instant) -> Option<u64> {
+    let took = start.elapsed(rt).ok()?;
+    u64::try_from(took.as_nanos()).ok()
+}
+
+/// The nanoseconds that the clock itself takes.
+fn clock_nanos<R: Clock>(rt: &R) -> Option<u64> {
+    let start = Instant::now(rt).ok()?;
+    nanos_since(rt, start)
+}
+
+/// Plans a stem for each entry of a period.
+fn plans_of(alloc: Global, sheet: &Arc<Sheet>, stem: &Arc<Stem>) -> Option<Vec<Plan>> {
+    let mut plans = Vec::new(alloc);
+    for _ in 0..PERIOD {
+        let plan = Plan::make(alloc, sheet.clone().ok()?, stem.clone().ok()?).ok()?;
+        plans.push(plan).ok()?;
+    }
+    Some(plans)
+}
+
+/// Prepares and commits a plan, and gives the nanoseconds that both took. The entry is let go after that.
+fn commit_one<R: Clock, F: Fn(&Standing) -> u64 + Drop>(
+    rt: &R,
     alloc: Global,
     book: &mut Book<F>,
     plan: Plan,
+) -> Option<u64>
+    requires { Answers F.Fn book.old.rule }
+    ensures { book.new.rule ≡ book.old.rule }
+{
+    let Ok(start) = Instant::now(rt) else {
+        return None;
+    };
+    let Ok(ready) = book.prepare(alloc, &plan) else {
+        return None;
+    };
+    let _entry = book.commit(ready, 1, plan);
+    nanos_since(rt, start)
+}
+
+/// Commits the plans of a period.
+fn commit_period<R: Clock, F: Fn(&Standing) -> u64 + Drop>(
+    rt: &R,
+    alloc: Global,
+    book: &mut Book<F>,
+    plans: Vec<Plan>,
+    times: &mut Times,
 ) -> Option<()>
     requires { Answers F.Fn book.old.rule }
     ensures { book.new.rule ≡ book.old.rule }
 {
-    match book.prepare(alloc, &plan) {
-        Ok(ready) => {
-            let _ = book.commit(ready, 1, plan);
-            Some(())
-        }
-        Err(_) => None,
+    for plan in plans {
+        let version = book.version();
+        let nanos = commit_one(rt, alloc, book, plan)?;
+        times.keep_commit(book.version() != version, nanos)?;
     }
+    Some(())
 }
 
-/// Plans a stem so often, and commits each plan where asked.
-fn commit_all<F: Fn(&Standing) -> u64 + Drop>(
+/// Plans and commits so many periods.
+fn commit_all<R: Clock, F: Fn(&Standing) -> u64 + Drop>(
+    rt: &R,
     alloc: Global,
     book: &mut Book<F>,
     stem: &Arc<Stem>,
-    number: u32,
-    is_plan_only: bool,
-) -> Option<u64>
+    times: &mut Times,
+    periods: u32,
+) -> Option<()>
     requires { Answers F.Fn book.old.rule }
 {
-    let mut worth = 0u64;
-    for _ in 0..number {
-        let sheet = book.sheet().clone().ok()?;
-        let plan = Plan::make(alloc, sheet, stem.clone().ok()?).ok()?;
-        worth = worth.wrapping_add(plan.worth());
-        if !is_plan_only {
-            commit_one(alloc, book, plan)?;
-        }
+    for _ in 0..periods {
+        times.clock.push(clock_nanos(rt)?).ok()?;
+        let start = Instant::now(rt).ok()?;
+        let plans = plans_of(alloc, book.sheet(), stem)?;
+        times
+            .plan
+            .push(nanos_since(rt, start)? / u64::from(PERIOD))
+            .ok()?;
+        commit_period(rt, alloc, book, plans, times)?;
     }
-    Some(worth)
+    Some(())
 }
 
-fn run(rt: &HostRuntime, alloc: Global, number: u32, is_plan_only: bool) -> Option<u64> {
-    let instruction = read_apt(alloc, INSTRUCTION.as_bytes()).ok()?;
-    let instruction = Arc::new(alloc, instruction).ok()?;
+/// Prints the least, the median and the 90th percentile of the times of a kind of call, after its name.
+fn show(rt: &HostRuntime, name: &str, mut times: Vec<u64>) {
+    times.sort_unstable();
+    let least = times.first().copied().unwrap_or(0);
+    let median = times.get(times.len() / 2).copied().unwrap_or(0);
+    let most = times.get(times.len() / 10 * 9).copied().unwrap_or(0);
+    let _ = eprintln!(rt; "{name} {least} {median} {most}");
+}
+
+/// A stem of 3 m, of which one log is cut.
+fn short_stem(alloc: Global) -> Option<Arc<Stem>> {
     let samples = vec![in alloc; 250; 31].ok()?;
     let stem = Stem::make(alloc, 1, 1, samples, Vec::new(alloc)).ok()?;
-    let stem = Arc::new(alloc, stem).ok()?;
+    Arc::new(alloc, stem).ok()
+}
+
+/// Commits so many periods to a new book, and prints what was measured.
+fn run(rt: &HostRuntime, alloc: Global, periods: u32) -> Option<()> {
+    let instruction = read_apt(alloc, INSTRUCTION.as_bytes()).ok()?;
+    let instruction = Arc::new(alloc, instruction).ok()?;
+    let stem = short_stem(alloc)?;
     let rule = Rule::new(|s: &Standing| step(s));
+    let mut times = Times::with_room(alloc, periods)?;
     let mut book = Book::open(alloc, instruction, rule, 1_000_000).ok()?;
-    commit_all(alloc, &mut book, &stem, number, is_plan_only)
+    commit_all(rt, alloc, &mut book, &stem, &mut times, periods)?;
+    let (entries, sheets) = (book.len(), book.sheets().len());
+    let _ = println!(rt; "{entries} entries, {sheets} sheets");
+    show(rt, "clock", times.clock);
+    show(rt, "plan", times.plan);
+    show(rt, "within", times.within);
+    show(rt, "ending", times.ending);
+    Some(())
 }
 
 fn main(rt: HostRuntime) -> ExitCode {
@@ -76,18 +187,15 @@ fn main(rt: HostRuntime) -> ExitCode {
     let Ok(words) = args.collect::<Vec<String>>(alloc) else {
         return ExitCode::from(1);
     };
-    let number = match words.len() {
-        0 | 1 => 1_000_000,
-        _ => match words[1].as_str().parse::<u32>() {
-            Ok(number) => number,
+    let periods = match words.get(1) {
+        None => 10_000,
+        Some(word) => match word.as_str().parse::<u32>() {
+            Ok(periods) => periods,
             Err(_) => return ExitCode::from(2),
         },
     };
-    match run(&rt, alloc, number, words.len() > 2) {
-        Some(worth) => {
-            let _ = println!(&rt; "{worth}");
-            ExitCode::from(0)
-        }
+    match run(&rt, alloc, periods) {
+        Some(()) => ExitCode::from(0),
         None => ExitCode::from(3),
     }
 }
