@@ -35,7 +35,8 @@ top_diameter stem g = diameter_at stem.samples (top_of g)
 -- the last place at which a test passes, if there is one: the last among the rest, or else the first
 abbrev pub last_position : (ℕ → Bool) → List ℕ → Option ℕ
 last_position test [] = None
-last_position test (x ∷ xs) = option_or (option_map (λ k. k + 1) (last_position test xs)) (if test x then Some 0 else None)
+last_position test (x ∷ xs) =
+    option_or (option_map (λ k. k + 1) (last_position test xs)) (if test x then Some 0 else None)
 
 -- the last row whose lower limit is at most d
 abbrev pub row_at : AssortmentParts → ℕ → ℕ

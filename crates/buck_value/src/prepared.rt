@@ -30,21 +30,23 @@ pub struct Prepared<'s, 't> {
 impl<'s, 't> Model for Prepared<'s, 't> {
     ghost use Rattle.std.specs.Prelude.{◌≡◌};
     ghost use Rattle.buck_stem.specs.Profile.{profile_of};
+    ghost use Rattle.buck_value.specs.Sheet.{IsSheet};
     ghost use Rattle.buck_value.specs.Prepared.{PreparedParts, prepared_of};
 
     ghost Value = { PreparedParts };
 
     ghost view = { λ p. prepared_of p.sheet.now p.stem.now };
 
-    ghost invariant = { λ p. p.profile ≡ profile_of p.stem.now p.sheet.now.instruction.«module» };
+    ghost invariant = { λ p.
+        IsSheet p.sheet.now × (p.profile ≡ profile_of p.stem.now p.sheet.now.instruction.«module») };
 }
 
 /// The module of a sheet's instruction in mm.
 fn module_of(sheet: &Sheet) -> u32
     ensures step { result ≡ sheet.now.instruction.«module» }
     ensures range { (10 ≤ result) × (result ≤ 1000) }
+    ensures valid { IsSheet sheet.now }
 {
-    let _version = sheet.version();
     sheet.instruction().module()
 }
 
@@ -55,6 +57,7 @@ fn fits(stem: &Stem, step: u32, point: usize, trim: u32) -> bool
     requires trim { trim ≤ 200 }
     ensures fits { IsTrue result ↔ (point * step + trim ≤ stem_length stem.now.samples) }
     ensures inside { IsTrue result → point < stem_length stem.now.samples / step + 1 }
+    ensures valid { IsStem stem.now }
 {
     point * step as usize + trim as usize <= stem.length() as usize
 }
@@ -64,12 +67,10 @@ fn wood_of(stem: &Stem, profile: &Profile<'_>, i: usize, j: usize, trim: u32) ->
     requires stem { profile.now.stem ≡ stem.now }
     requires i { i ≤ j }
     requires j { j < grid.points_of profile.now }
-    ensures valid { IsStem profile.now.stem }
     ensures species { profile.now.stem.species ≡ result.species }
     ensures grades { IsMask profile.now.stem.zones (i * profile.now.«module») (j * profile.now.«module») result.grades }
     ensures trim { result.trim ≡ trim }
 {
-    let _points = profile.points();
     Wood {
         species: stem.species(),
         grades: profile.grades(i, j),
@@ -98,7 +99,6 @@ impl<'s, 't> Prepared<'s, 't> {
         ensures sheet { IsSheet self.now.sheet }
         ensures stem { IsStem self.now.stem }
     {
-        let _version = self.sheet.version();
         self.profile.points()
     }
 
@@ -148,7 +148,6 @@ fn class_of_wood(
     if assortment.upper() <= diameter {
         return None;
     }
-    let _lengths = assortment.lengths();
     let row = row_of(assortment, diameter);
     if assortment.price(row, column) == 0 {
         return None;
@@ -179,7 +178,7 @@ impl<'s, 't> Prepared<'s, 't> {
         ensures top { top_of (log_at self.now i assortment column) ≡ result * self.now.sheet.instruction.«module» }
         ensures low { result ≤ 10000 }
     {
-        let _points = self.points();
+        prove!(i < self.points());
         let module = self.sheet.instruction().module();
         i + (self.assortment(assortment).lengths()[column] / module) as usize
     }
@@ -200,17 +199,20 @@ impl<'s, 't> Prepared<'s, 't> {
         ensures fits { IsTrue result
             ↔ (point * self.now.sheet.instruction.«module» + trim ≤ stem_length self.now.stem.samples) }
         ensures inside { IsTrue result → point < points_of self.now }
+        ensures stem { IsStem self.now.stem }
     {
         fits(self.stem, module_of(self.sheet), point, trim)
     }
 
     /// The wood of logs with a trim from point `i`, whose length ends at point `j`.
     fn wood(&self, i: usize, j: usize, trim: u32) -> Wood
+        requires stem { IsStem self.now.stem }
         requires i { i ≤ j }
         requires j { j < points_of self.now }
         requires fits { j * self.now.sheet.instruction.«module» + trim ≤ stem_length self.now.stem.samples }
         ensures wood { (g : Log) → IsToTop self.now trim i j g
-            → IsWood self.now.sheet.instruction.«module» result (diameter_at self.now.stem.samples (j * self.now.sheet.instruction.«module»)) self.now.stem g }
+            → IsWood self.now.sheet.instruction.«module» result
+            (diameter_at self.now.stem.samples (j * self.now.sheet.instruction.«module»)) self.now.stem g }
         ensures trim { result.trim ≡ trim }
     {
         wood_of(self.stem, &self.profile, i, j, trim)
@@ -236,9 +238,12 @@ impl<'s, 't> Prepared<'s, 't> {
         requires i { i < points_of self.now }
         requires assortment { assortment < length self.now.sheet.instruction.assortments }
         requires column { column < length (lengths_of self.now assortment) }
-        ensures allowed { IfSome result (λ _. IsAllowed self.now.sheet.instruction self.now.stem (log_at self.now i assortment column)) }
-        ensures class { IfSome result (λ c. c ≡ class_of self.now.sheet.instruction self.now.stem (log_at self.now i assortment column)) }
-        ensures none { IfNone result (IsAllowed self.now.sheet.instruction self.now.stem (log_at self.now i assortment column) → ⊥) }
+        ensures allowed { IfSome result (λ _.
+            IsAllowed self.now.sheet.instruction self.now.stem (log_at self.now i assortment column)) }
+        ensures class { IfSome result (λ c.
+            c ≡ class_of self.now.sheet.instruction self.now.stem (log_at self.now i assortment column)) }
+        ensures none { IfNone result
+            (IsAllowed self.now.sheet.instruction self.now.stem (log_at self.now i assortment column) → ⊥) }
     {
         let top = self.top(i, assortment, column);
         let chosen = self.assortment(assortment);
@@ -272,9 +277,12 @@ impl<'s, 't> Prepared<'s, 't> {
         requires i { i < points_of self.now }
         requires assortment { assortment < length self.now.sheet.instruction.assortments }
         requires column { column < length (lengths_of self.now assortment) }
-        ensures allowed { IfSome result (λ _. IsAllowed self.now.sheet.instruction self.now.stem (log_at self.now i assortment column)) }
-        ensures worth { IfSome result (λ w. w ≡ worth_of self.now.sheet self.now.stem (log_at self.now i assortment column)) }
-        ensures none { IfNone result (IsAllowed self.now.sheet.instruction self.now.stem (log_at self.now i assortment column) → ⊥) }
+        ensures allowed { IfSome result (λ _.
+            IsAllowed self.now.sheet.instruction self.now.stem (log_at self.now i assortment column)) }
+        ensures worth { IfSome result (λ w.
+            w ≡ worth_of self.now.sheet self.now.stem (log_at self.now i assortment column)) }
+        ensures none { IfNone result
+            (IsAllowed self.now.sheet.instruction self.now.stem (log_at self.now i assortment column) → ⊥) }
     {
         match self.class(i, assortment, column) {
             None => None,

@@ -8,6 +8,7 @@
 ghost use Rattle.std.specs.Prelude.{◌≡◌, ◌+◌, ◌*◌, ◌<◌, ◌≤◌, ◌↔◌, ◌%◌, ◌^◌, ◌==◌, IsTrue, Some, IfSome, IfNone, slice_get, length, position};
 ghost use Rattle.buck_apt.specs.Instruction.{IsClass};
 ghost use Rattle.buck_stem.specs.Stem.{stem_length, HasGradesOf};
+ghost use Rattle.buck_value.specs.Sheet.{IsSheet};
 ghost use Rattle.buck_value.specs.Allowed.{IsAllowed, Allows, log_of, top_of, top_diameter, row_at, class_in, class_of, worth_of};
 ghost use Rattle.buck_value.specs.Volume.{volume, worth_at};
 
@@ -62,13 +63,21 @@ pub fn column_of(assortment: &Assortment, length: u32) -> Option<usize>
     assortment.lengths().iter().position(|l| *l == length)
 }
 
+/// Where the length of a log that lies within a stem ends, in mm from the butt.
+fn end_within(stem: &Stem, log: &Log) -> u32
+    requires { top_of log.now ≤ stem_length stem.now.samples }
+    ensures { result ≡ top_of log.now }
+{
+    prove!(log.start <= stem.length());
+    log.start + log.length
+}
+
 /// The diameter where the length of a log ends.
 fn top_of(stem: &Stem, log: &Log) -> u32
     requires { top_of log.now ≤ stem_length stem.now.samples }
     ensures { result ≡ top_diameter stem.now log.now }
 {
-    let _length = stem.length();
-    stem.diameter_at(log.start + log.length)
+    stem.diameter_at(end_within(stem, log))
 }
 
 /// Whether each grade along the length of a log is one of these.
@@ -77,8 +86,7 @@ fn has_grades_of(stem: &Stem, log: &Log, grades: &[u8]) -> bool
     ensures { IsTrue result
         ↔ HasGradesOf stem.now.zones log.now.start (top_of log.now) grades.now }
 {
-    let _length = stem.length();
-    stem.has_grades_of(log.start, log.start + log.length, grades)
+    stem.has_grades_of(log.start, end_within(stem, log), grades)
 }
 
 /// The class of a log of an assortment, or `None` where that doesn't allow it.
@@ -132,6 +140,7 @@ fn class_in(step: u32, assortment: &Assortment, stem: &Stem, log: &Log) -> Optio
 fn class_of_log(sheet: &Sheet, stem: &Stem, log: &Log) -> Option<Class>
     ensures allowed { IfSome result (λ _. IsAllowed sheet.now.instruction stem.now log.now) }
     ensures class { IfSome result (λ c. c ≡ class_of sheet.now.instruction stem.now log.now) }
+    ensures valid { IsSheet sheet.now }
     ensures none { IfNone result (IsAllowed sheet.now.instruction stem.now log.now → ⊥) }
 {
     let instruction = sheet.instruction();
@@ -161,7 +170,6 @@ pub fn class_of(
     ensures none { IfNone result
         (IsAllowed sheet.now.instruction stem.now (log_of start length assortment) → ⊥) }
 {
-    let _valid = sheet.version();
     let log = Log {
         start,
         length,

@@ -7,7 +7,8 @@ use Rattle.buck_value.specs.declared.wood.Wood.{Wood}
 use Rattle.buck_value.specs.Allowed.{top_of, trim_of, top_diameter}
 use Rattle.buck_value.specs.Prepared.{PreparedParts}
 
--- a log of a stem has this wood and this top diameter; with the trim it lies within the stem, from a multiple of the module on
+-- a log of a stem has this wood and this top diameter; with the trim it lies within the stem, from a multiple of the
+-- module on
 pub record IsWood (step : ℕ) (wood : Wood) (diameter : ℕ) (stem : StemParts) (g : Log) : Type 0 where
   pub valid : IsStem stem
   pub species : stem.species ≡ wood.species

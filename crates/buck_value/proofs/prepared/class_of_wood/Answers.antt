@@ -35,7 +35,7 @@ returns-then-price-eq0-clause-none c = λ step stem start w al.
     let row : ℕ = c.row_of-row.result in
     let g : Log = log_of start (slice_index a.lengths c.args.column) c.args.place in
     let column : column_of a g.length ≡ c.args.column =
-    column_is a c.args.column c.lengths-lengths.ensures.valid c.requires.column in
+    column_is a c.args.column c.diameters.ensures.valid c.requires.column in
     let rows : row ≡ row_at a (top_diameter stem g) = row_is a step row stem c.args.wood c.args.diameter g c.row_of-row.ensures.row w in
     let place : class_place a stem g ≡ row * length a.lengths + c.args.column =
     omega (arith, column, ap (λ r. r * length a.lengths) rows) in
@@ -50,7 +50,7 @@ returns-clause-allowed c = λ step stem start w.
     let low : slice_index c.diameters.result.now 0 ≤ c.args.diameter = c.if-diameter-diameters.false in
     allows_by_tests step a stem g c.args.column c.row_of-row.result c.price.result c.args.diameter
     (taken.0 ∙ sym w.species) w.on_module
-    (found_at a.lengths c.args.column c.lengths-lengths.ensures.valid.lengths_rise c.requires.column)
+    (found_at a.lengths c.args.column c.diameters.ensures.valid.lengths_rise c.requires.column)
     (omega (arith, w.within, c.requires.trim))
     ((mask_allows stem start (top_of g) wood.grades a.grades w.valid w.grades).0 taken.1)
     (sym w.top)
@@ -64,7 +64,7 @@ returns-clause-class c = λ step stem start w.
     let row : ℕ = c.row_of-row.result in
     let g : Log = log_of start (slice_index a.lengths c.args.column) c.args.place in
     let column : column_of a g.length ≡ c.args.column =
-    column_is a c.args.column c.lengths-lengths.ensures.valid c.requires.column in
+    column_is a c.args.column c.diameters.ensures.valid c.requires.column in
     let rows : row ≡ row_at a (top_diameter stem g) = row_is a step row stem c.args.wood c.args.diameter g c.row_of-row.ensures.row w in
     ap (λ r. make_class c.args.place r c.args.column) rows
     ∙ ap (make_class c.args.place (row_at a (top_diameter stem g))) (sym column)

@@ -6,7 +6,7 @@ use Rattle.buck_apt.specs.Instruction.{AssortmentParts}
 use Rattle.buck_stem.specs.Stem.{StemParts, diameter_at}
 use Rattle.buck_value.specs.declared.wood.Wood.{Wood}
 use Rattle.buck_value.specs.declared.log.Log.{Log}
-use Rattle.buck_value.specs.Allowed.{IsAllowed, Allows, log_of, top_of, trim_of, trim_in, class_in, class_of}
+use Rattle.buck_value.specs.Allowed.{IsAllowed, Allows, log_of, top_of, trim_in, class_in, class_of}
 use Rattle.buck_value.specs.Prepared.{PreparedParts, lengths_in, log_at}
 use Rattle.buck_value.specs.inner.Wood.{IsWood, IsToTop}
 use Rattle.buck_value.proofs.prepared.Prepared.class.Goals as goal

@@ -9,11 +9,11 @@ pub returns-clause-wood : goal.returns-clause-wood
 returns-clause-wood c = λ g at.
     let p : PreparedParts = c.args.self.now in
     let same : c.self.inside.profile ≡ profile_of p.stem p.sheet.instruction.«module» =
-    c.self.invariant ∙ ap (λ (q : PreparedParts). profile_of q.stem q.sheet.instruction.«module») c.self.view_is in
+    c.self.invariant.1 ∙ ap (λ (q : PreparedParts). profile_of q.stem q.sheet.instruction.«module») c.self.view_is in
     let q = c.self.inside.profile in
     let fits : c.args.j * q.«module» + c.wood_of.result.trim ≤ stem_length q.stem.samples =
     rw (c.wood_of.ensures.trim, same) c.requires.fits in
     wood_there p c.wood_of.result c.args.trim c.args.i c.args.j g
     (has_wood q p.stem p.sheet.instruction.«module» c.args.i c.args.j c.wood_of.result same
-    c.wood_of.ensures.valid c.wood_of.ensures.species c.wood_of.ensures.grades fits)
+    (rw same c.requires.stem) c.wood_of.ensures.species c.wood_of.ensures.grades fits)
     at
