@@ -1,5 +1,5 @@
--- Bids. One number holds a worth and, in its last ten bits, a rank, so that one comparison settles the worth and then the
--- rank.
+-- Bids. One number holds a worth and, in its last ten bits, a rank, so that one comparison settles the worth and then
+-- the rank.
 use Rattle.std.specs.Prelude.{ℕ, ◌+◌, ◌*◌, ◌/◌, ◌%◌}
 
 abbrev pub bid_of : ℕ → ℕ → ℕ

@@ -17,9 +17,10 @@ Marks = List Bool × List Bool
 abbrev pub bid_in : List ℕ → ℕ → ℕ → ℕ → ℕ
 bid_in bids width column at = slice_index bids (column * width + at)
 
--- the bids of one length by the offers from the one at place `from` on and before `next`: no taker bids more, and each is
--- 0 or a bid of a taker
-pub record IsColumn (s : SheetParts) (codes : List ℕ) (takers : List Bool) (thinnest l from next : ℕ) (column : List ℕ) : Type 0 where
+-- the bids of one length by the offers from the one at place `from` on and before `next`: no taker bids more, and each
+-- is 0 or a bid of a taker
+pub record IsColumn (s : SheetParts) (codes : List ℕ) (takers : List Bool) (thinnest l from next : ℕ)
+    (column : List ℕ) : Type 0 where
   pub each : (a at bid : ℕ) → IsMarked takers a → at < length column → IsQuote s codes a l (thinnest + at) bid
       → 1023 < next + rank_in bid → rank_in bid + from ≤ 1023 → bid ≤ slice_index column at
   pub one : (at : ℕ) → at < length column → (slice_index column at ≡ 0)
@@ -46,9 +47,10 @@ pub record IsRivalBid (s : SheetParts) (codes : List ℕ) (rivals : List Bool) (
 abbrev pub IsBeaten : SheetParts → List ℕ → List Bool → ℕ → ℕ → ℕ → Type 0
 IsBeaten s codes rivals d long worth = (bid : ℕ) × IsRivalBid s codes rivals d long bid × (worth < worth_in bid)
 
--- columns by the first offers: each bid is 0 or one of a taker, each bid of a taker is served or beaten, and the offers to
--- come are longer than the columns
-pub record AreColumns (s : SheetParts) (codes : List ℕ) (marks : Marks) (thinnest width done : ℕ) (steps bids : List ℕ) : Type 0 where
+-- columns by the first offers: each bid is 0 or one of a taker, each bid of a taker is served or beaten, and the offers
+-- to come are longer than the columns
+pub record AreColumns (s : SheetParts) (codes : List ℕ) (marks : Marks) (thinnest width done : ℕ)
+    (steps bids : List ℕ) : Type 0 where
   pub number : length bids ≡ length steps * width
   pub positive : (c : ℕ) → c < length steps → 0 < slice_index steps c
   pub high : (k : ℕ) → slice_index bids k ≤ 2000000000000000000
@@ -82,8 +84,8 @@ IsOutbid s codes rivals thinnest long steps bids column = (at : ℕ) → at < le
     ⊎ IsBeaten s codes rivals (thinnest + at) long (worth_in (slice_index column at))
 
 -- columns once a new one, of so many steps, is put behind them, or is left out since it is outbid
-pub record ArePut (s : SheetParts) (codes : List ℕ) (rivals : List Bool) (thinnest long : ℕ) (steps bids column : List ℕ) (count : ℕ)
-    (new_steps new_bids : List ℕ) : Type 0 where
+pub record ArePut (s : SheetParts) (codes : List ℕ) (rivals : List Bool) (thinnest long : ℕ)
+    (steps bids column : List ℕ) (count : ℕ) (new_steps new_bids : List ℕ) : Type 0 where
   pub which : (IsOutbid s codes rivals thinnest long steps bids column × (new_steps ≡ steps) × (new_bids ≡ bids))
       ⊎ ((new_steps ≡ steps ++ count ∷ []) × (new_bids ≡ bids ++ column))
 
@@ -96,4 +98,5 @@ IsApart codes from = (k n : ℕ) → k < from → from ≤ n → n < length code
 pub record AreColumnsOf (s : SheetParts) (codes : List ℕ) (marks : Marks) (c : Columns) : Type 0 where
   pub order : c.band.thinnest < c.band.past
   pub thin : c.band.past ≤ 2001
-  pub columns : AreColumns s codes marks c.band.thinnest (c.band.past - c.band.thinnest) (length codes) c.steps.items c.bids.items
+  pub columns : AreColumns s codes marks c.band.thinnest (c.band.past - c.band.thinnest) (length codes)
+      c.steps.items c.bids.items

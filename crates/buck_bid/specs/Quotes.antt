@@ -1,5 +1,5 @@
--- What an assortment bids for logs of a length and a top diameter. Nothing else of a log counts for its bid; its stem and
--- its place there only decide which assortments take it.
+-- What an assortment bids for logs of a length and a top diameter. Nothing else of a log counts for its bid; its stem
+-- and its place there only decide which assortments take it.
 use Rattle.std.specs.Prelude.{◌≡◌, ◌≢◌, ℕ, ◌+◌, ◌*◌, ◌<◌, ◌≤◌, List, length, slice_get, slice_index, Contains, Option, Some, None}
 use Rattle.buck_apt.specs.declared.class.Class.{Class}
 use Rattle.buck_apt.specs.Instruction.{AssortmentParts}

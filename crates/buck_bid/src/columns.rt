@@ -23,8 +23,8 @@ pub struct Band {
     pub past: u32,
 }
 
-/// Bids for logs by their length and their top diameter: for each of these lengths, in steps of the module, a bid for each
-/// diameter of a band.
+/// Bids for logs by their length and their top diameter: for each of these lengths, in steps of the module, a bid for
+/// each diameter of a band.
 #[derive(Debug, Drop)]
 pub struct Columns {
     pub band: Band,
@@ -62,7 +62,8 @@ fn raise(column: &mut [Bid], price: Price, rank: u32, thinnest: u32)
     requires thin { thinnest + length column.old ≤ 2001 }
     ensures number { length column.new ≡ length column.old }
     ensures raised { (at : ℕ) → at < length column.old → slice_index column.new at
-        ≡ max (slice_index column.old at) (bid_of (worth_at price.kind price.price (volume (thinnest + at) price.length)) rank) }
+        ≡ max (slice_index column.old at)
+        (bid_of (worth_at price.kind price.price (volume (thinnest + at) price.length)) rank) }
     ensures high { ((at : ℕ) → slice_index column.old at ≤ 2000000000000000000) → (at : ℕ)
         → slice_index column.new at ≤ 2000000000000000000 }
 {
@@ -228,7 +229,8 @@ fn push_column(
         → AreReached s codes rivals thinnest long (length column.now) steps.new.items bids.new.items reached.new) }
     ensures put { OnOk result ((s : SheetParts) (codes : List ℕ) (rivals : List Bool) (thinnest long : ℕ)
         → AreReached s codes rivals thinnest long (length column.now) steps.old.items bids.old.items reached.old
-        → ArePut s codes rivals thinnest long steps.old.items bids.old.items column.now count steps.new.items bids.new.items) }
+        → ArePut s codes rivals thinnest long steps.old.items bids.old.items column.now count
+        steps.new.items bids.new.items) }
 {
     if !is_needed(column, reached) {
         return Ok(());
@@ -260,7 +262,8 @@ fn clear(column: &mut [Bid])
     }
 }
 
-/// Raises what was reached to the worth of what rivals bid for the length of the offer at a place. It uses a column as room.
+/// Raises what was reached to the worth of what rivals bid for the length of the offer at a place. It uses a column as
+/// room.
 fn reach_rivals(
     reached: &mut [u64],
     column: &mut [Bid],
@@ -282,13 +285,16 @@ fn reach_rivals(
     ensures reached { length reached.new ≡ length reached.old }
     ensures best { (before long : ℕ) (steps : List ℕ) (bids : List ℕ) (o : Offer) → slice_get offers.now from ≡ Some o
         → o.length ≡ long → before ≤ long
-        → AreReached sheet.now (codes_in offers.now) rivals.now band.thinnest before (length column.old) steps bids reached.old
-        → AreReached sheet.now (codes_in offers.now) rivals.now band.thinnest long (length column.old) steps bids reached.new }
+        → AreReached sheet.now (codes_in offers.now) rivals.now band.thinnest before (length column.old)
+        steps bids reached.old
+        → AreReached sheet.now (codes_in offers.now) rivals.now band.thinnest long (length column.old)
+        steps bids reached.new }
 {
     if !rivals.contains(&true) {
         return;
     }
     clear(column);
+    // Where the next length begins isn't needed here: who puts the column of the takers for the same length finds it.
     let _ = put_length(
         column,
         sheet,
@@ -322,18 +328,21 @@ fn add_length(
     requires number { band.thinnest + length column.old ≡ band.past }
     requires reached { length reached.old ≡ length column.old }
     requires from { from < length offers.now }
-    requires best { AreReachedBefore sheet.now (codes_in offers.now) rivals.now band.thinnest from (length column.old) steps.old.items bids.old.items reached.old }
+    requires best { AreReachedBefore sheet.now (codes_in offers.now) rivals.now band.thinnest from (length column.old)
+        steps.old.items bids.old.items reached.old }
     requires apart { IsApart (codes_in offers.now) from }
-    requires columns { AreColumns sheet.now (codes_in offers.now) (takers.now, rivals.now) band.thinnest (length column.old) from
-        steps.old.items bids.old.items }
+    requires columns { AreColumns sheet.now (codes_in offers.now) (takers.now, rivals.now) band.thinnest
+        (length column.old) from steps.old.items bids.old.items }
     ensures number { length column.new ≡ length column.old }
     ensures reached { length reached.new ≡ length reached.old }
     ensures next { IfOk result (λ n. (from < n) × (n ≤ length offers.now)) }
-    ensures best { IfOk result (λ n. AreReachedBefore sheet.now (codes_in offers.now) rivals.now band.thinnest n (length column.old)
+    ensures best { IfOk result (λ n.
+        AreReachedBefore sheet.now (codes_in offers.now) rivals.now band.thinnest n (length column.old)
         steps.new.items bids.new.items reached.new) }
     ensures apart { IfOk result (λ n. IsApart (codes_in offers.now) n) }
-    ensures columns { IfOk result (λ n. AreColumns sheet.now (codes_in offers.now) (takers.now, rivals.now) band.thinnest
-        (length column.old) n steps.new.items bids.new.items) }
+    ensures columns { IfOk result (λ n.
+        AreColumns sheet.now (codes_in offers.now) (takers.now, rivals.now) band.thinnest (length column.old) n
+        steps.new.items bids.new.items) }
 {
     let long = offers[from].length;
     let module = sheet.instruction().module();
@@ -344,8 +353,8 @@ fn add_length(
     Ok(next)
 }
 
-/// The columns of the bids of some takers within a band, without the lengths that a shorter one outbids at each diameter, or
-/// that rivals of theirs outbid who bid for logs that are no longer.
+/// The columns of the bids of some takers within a band, without the lengths that a shorter one outbids at each
+/// diameter, or that rivals of theirs outbid who bid for logs that are no longer.
 pub fn columns_of(
     alloc: Global,
     sheet: &Sheet,

@@ -26,7 +26,8 @@ pub fn push_column(
     requires thin { (j : ℕ) → from ≤ j → j < past → slice_index diameters.now j - thinnest < length bids.now }
     ensures number { length values.new ≡ length values.old }
     ensures raised { (j : ℕ) → from ≤ j → j < past
-        → slice_index values.new (j - steps) ≡ max (slice_index values.old (j - steps)) (slice_index bids.now (slice_index diameters.now j - thinnest) + slice_index bases.now j) }
+        → slice_index values.new (j - steps) ≡ max (slice_index values.old (j - steps))
+        (slice_index bids.now (slice_index diameters.now j - thinnest) + slice_index bases.now j) }
     ensures others { (i : ℕ) → (i + steps < from) ⊎ (past ≤ i + steps)
         → slice_index values.new i ≡ slice_index values.old i }
 {

@@ -54,7 +54,8 @@ fn has_marks(takers: &Takers, marked: &[bool], rivals: &[bool]) -> bool
 
 /// The place of the same marks among sets of takers.
 fn find_takers(sets: &[Takers], marked: &[bool], rivals: &[bool]) -> Option<usize>
-    ensures { IfSome result (λ k. (x : Takers) × (slice_get sets.now k ≡ Some x) × (marks_of x ≡ (marked.now, rivals.now))) }
+    ensures { IfSome result (λ k. (x : Takers)
+        × (slice_get sets.now k ≡ Some x) × (marks_of x ≡ (marked.now, rivals.now))) }
 {
     for k in 0..sets.len() {
         if has_marks(&sets[k], marked, rivals) {
@@ -305,8 +306,8 @@ pub struct Found {
     pub band: usize,
 }
 
-/// The tables of a sheet: what logs bid under it by their length and their top diameter, for each set of takers and each
-/// band of diameters that was asked for. They are kept from stem to stem, so that each is made once.
+/// The tables of a sheet: what logs bid under it by their length and their top diameter, for each set of takers and
+/// each band of diameters that was asked for. They are kept from stem to stem, so that each is made once.
 #[derive(Drop)]
 pub struct Tables {
     offers: Vec<Offer>,
@@ -382,8 +383,8 @@ impl Tables {
         None
     }
 
-    /// Where the columns for some wood and a band stand. They are made where they aren't there; where too much is kept then,
-    /// all are made anew. Refused as `Memory` alone: what was there stays.
+    /// Where the columns for some wood and a band stand. They are made where they aren't there; where too much is kept
+    /// then, all are made anew. Refused as `Memory` alone: what was there stays.
     pub fn find(
         &mut self,
         alloc: Global,

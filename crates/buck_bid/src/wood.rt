@@ -45,7 +45,8 @@ pub fn takers_of(
     Ok(takers)
 }
 
-/// For each assortment whether it is a rival of those that take some wood: whether it takes it with a trim that is less.
+/// For each assortment whether it is a rival of those that take some wood: whether it takes it with a trim that is
+/// less.
 pub fn rivals_of(
     alloc: Global,
     instruction: &Instruction,
