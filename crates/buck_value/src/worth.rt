@@ -7,7 +7,7 @@
 //! isn't 0. Its row is the last whose lower limit is at most its top diameter, its column the place of its length.
 ghost use Rattle.std.specs.Prelude.{◌≡◌, ◌+◌, ◌*◌, ◌<◌, ◌≤◌, ◌↔◌, ◌%◌, ◌^◌, ◌==◌, IsTrue, Some, IfSome, IfNone, slice_get, length, position};
 ghost use Rattle.buck_apt.specs.Instruction.{IsClass};
-ghost use Rattle.buck_stem.specs.Stem.{stem_length, HasGradesOf};
+ghost use Rattle.buck_stem.specs.Stem.{IsStem, stem_length, HasGradesOf};
 ghost use Rattle.buck_value.specs.Sheet.{IsSheet};
 ghost use Rattle.buck_value.specs.Allowed.{IsAllowed, Allows, log_of, top_of, top_diameter, row_at, class_in, class_of, worth_of};
 ghost use Rattle.buck_value.specs.Volume.{volume, worth_at};
@@ -95,6 +95,7 @@ fn class_in(step: u32, assortment: &Assortment, stem: &Stem, log: &Log) -> Optio
     ensures allowed { IfSome result (λ _. Allows step assortment.now stem.now log.now) }
     ensures class { IfSome result (λ c. c ≡ class_in (Some assortment.now) stem.now log.now) }
     ensures none { IfNone result (Allows step assortment.now stem.now log.now → ⊥) }
+    ensures stem { IsStem stem.now }
 {
     let whole = stem.length();
     if assortment.species() != stem.species() {
@@ -140,8 +141,9 @@ fn class_in(step: u32, assortment: &Assortment, stem: &Stem, log: &Log) -> Optio
 fn class_of_log(sheet: &Sheet, stem: &Stem, log: &Log) -> Option<Class>
     ensures allowed { IfSome result (λ _. IsAllowed sheet.now.instruction stem.now log.now) }
     ensures class { IfSome result (λ c. c ≡ class_of sheet.now.instruction stem.now log.now) }
-    ensures valid { IsSheet sheet.now }
     ensures none { IfNone result (IsAllowed sheet.now.instruction stem.now log.now → ⊥) }
+    ensures valid { IsSheet sheet.now }
+    ensures stem { IfSome result (λ _. IsStem stem.now) }
 {
     let instruction = sheet.instruction();
     let all = instruction.assortments();
@@ -169,6 +171,7 @@ pub fn class_of(
     ensures exists { IfSome result (λ c. IsClass sheet.now.instruction c) }
     ensures none { IfNone result
         (IsAllowed sheet.now.instruction stem.now (log_of start length assortment) → ⊥) }
+    ensures stem { IfSome result (λ _. IsStem stem.now) }
 {
     let log = Log {
         start,
@@ -197,6 +200,8 @@ pub fn worth_if_allowed(sheet: &Sheet, stem: &Stem, log: &Log) -> Option<u64>
     ensures allowed { IfSome result (λ _. IsAllowed sheet.now.instruction stem.now log.now) }
     ensures worth { IfSome result (λ w. w ≡ worth_of sheet.now stem.now log.now) }
     ensures none { IfNone result (IsAllowed sheet.now.instruction stem.now log.now → ⊥) }
+    ensures valid { IsSheet sheet.now }
+    ensures stem { IfSome result (λ _. IsStem stem.now) }
 {
     match class_of_log(sheet, stem, log) {
         None => None,
@@ -209,7 +214,9 @@ pub fn worth_if_allowed(sheet: &Sheet, stem: &Stem, log: &Log) -> Option<u64>
 /// the cylinder of its top diameter and its length, rounded down. It takes no memory.
 pub fn log_worth(sheet: &Sheet, stem: &Stem, log: &Log) -> u64
     requires { IsAllowed sheet.now.instruction stem.now log.now }
-    ensures { result ≡ worth_of sheet.now stem.now log.now }
+    ensures worth { result ≡ worth_of sheet.now stem.now log.now }
+    ensures valid { IsSheet sheet.now }
+    ensures stem { IsStem stem.now }
 {
     match worth_if_allowed(sheet, stem, log) {
         Some(worth) => worth,
