@@ -1,5 +1,5 @@
--- Cuttings as if no assortment had a trim allowance, for the law that nothing else changes where each trim is 0. No other
--- contract leads here.
+-- Cuttings as if no assortment had a trim allowance, for the law that nothing else changes where each trim is 0. No
+-- other contract leads here.
 use Rattle.std.specs.Prelude.{List}
 use Rattle.buck_value.specs.declared.log.Log.{Log}
 use Rattle.buck_stem.specs.Stem.{StemParts}

@@ -1,5 +1,6 @@
 //! Where logs end.
 ghost use Rattle.std.specs.Prelude.{◌≡◌, ◌≤◌};
+ghost use Rattle.buck_stem.specs.Stem.{IsStem};
 ghost use Rattle.buck_value.specs.Sheet.{IsSheet};
 ghost use Rattle.buck_value.specs.Allowed.{IsAllowed, end_of};
 ghost use Rattle.buck_dp.specs.inner.Points.{point_after};
@@ -13,24 +14,24 @@ pub(crate) fn module_of(sheet: &Sheet) -> u32
     ensures range { (10 ≤ result) × (result ≤ 1000) }
     ensures valid { IsSheet sheet.now }
 {
-    let _version = sheet.version();
     sheet.instruction().module()
 }
 
 /// Where an allowed log ends, in mm from the butt: it takes up its length and the trim allowance of its assortment.
 pub(crate) fn end_of(sheet: &Sheet, stem: &Stem, log: &Log) -> u32
-    requires { IsAllowed sheet.now.instruction stem.now log.now }
+    requires stem { IsStem stem.now }
+    requires allowed { IsAllowed sheet.now.instruction stem.now log.now }
     ensures value { result ≡ end_of sheet.now.instruction log.now }
     ensures within { result ≤ 40000 }
 {
-    let _length = (sheet.version(), stem.length());
     let all = sheet.instruction().assortments();
     log.start + log.length + all[log.assortment as usize].trim()
 }
 
 /// The first point at or after the end of an allowed log: the next log can start there.
 pub(crate) fn point_after(sheet: &Sheet, stem: &Stem, log: &Log) -> usize
-    requires { IsAllowed sheet.now.instruction stem.now log.now }
+    requires stem { IsStem stem.now }
+    requires allowed { IsAllowed sheet.now.instruction stem.now log.now }
     ensures { result ≡ point_after sheet.now.instruction.module (end_of sheet.now.instruction log.now) }
 {
     let step = module_of(sheet);

@@ -38,8 +38,8 @@ fn log_at(sheet: &Sheet, offers: &[Offer], rank: usize, i: usize) -> Log
     }
 }
 
-/// The logs of the best cutting, from the values of all points. The rank of a value tells the offer that the first log is
-/// of; where it has none, no log starts.
+/// The logs of the best cutting, from the values of all points. The rank of a value tells the offer that the first log
+/// is of; where it has none, no log starts.
 pub(crate) fn follow(
     alloc: Global,
     ground: Ground<'_>,
@@ -49,8 +49,10 @@ pub(crate) fn follow(
     requires ground { IsGround ground.sheet.now ground.stem.now ground.profile.now ground.diameters.now }
     requires offers { AreOffers ground.sheet.now.instruction offers.now }
     requires values { AreValuesFrom (ground_with ground.sheet.now ground.stem.now (codes_in offers.now)) values.now 0 }
-    ensures { IfOk result (λ logs. IsTop (IsAllowed ground.entry.sheet.now.instruction ground.entry.stem.now)
-        (end_of ground.entry.sheet.now.instruction) (worth_of ground.entry.sheet.now ground.entry.stem.now) 0 logs.items) }
+    ensures { let sheet = ground.entry.sheet.now in
+        let stem = ground.entry.stem.now in
+        IfOk result (λ logs.
+        IsTop (IsAllowed sheet.instruction stem) (end_of sheet.instruction) (worth_of sheet stem) 0 logs.items) }
 {
     let points = ground.diameters.len();
     let mut logs = Vec::new(alloc);

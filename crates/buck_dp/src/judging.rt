@@ -3,7 +3,7 @@ ghost use Rattle.std.specs.Prelude.{◌≡◌, ◌↔◌, IsTrue};
 ghost use Rattle.buck_dp.specs.Best.{IsAdmissible, cutting_worth};
 
 use crate::cutting::Cutting;
-use crate::ends::{end_of, module_of};
+use crate::ends::end_of;
 use buck_stem::Stem;
 use buck_value::{Log, Sheet, class_of, log_worth};
 
@@ -12,7 +12,6 @@ use buck_value::{Log, Sheet, class_of, log_worth};
 pub fn admissible(sheet: &Sheet, stem: &Stem, cutting: &Cutting) -> bool
     ensures { IsTrue result ↔ IsAdmissible sheet.now stem.now cutting.now.logs.items }
 {
-    let _valid = stem.length();
     let mut from = 0;
     for log in cutting.logs.as_slice() {
         if log.start < from {
@@ -32,7 +31,6 @@ pub fn worth(sheet: &Sheet, stem: &Stem, cutting: &Cutting) -> u64
     requires { IsAdmissible sheet.now stem.now cutting.now.logs.items }
     ensures { result ≡ cutting_worth sheet.now stem.now cutting.now.logs.items }
 {
-    let _valid = (module_of(sheet), stem.length());
     let mut total = 0;
     for log in cutting.logs.as_slice() {
         total += log_worth(sheet, stem, log);

@@ -29,7 +29,8 @@ fn push_reaching(
     requires order { columns.now.band.thinnest ≤ columns.now.band.past }
     requires few { span.past ≤ 5000 }
     requires low { (j : ℕ) → span.from ≤ j → j < span.past → slice_index bases.now j ≤ 4000000000000000000 }
-    requires number { length columns.now.bids.items ≡ length columns.now.steps.items * (columns.now.band.past - columns.now.band.thinnest) }
+    requires number { length columns.now.bids.items
+        ≡ length columns.now.steps.items * (columns.now.band.past - columns.now.band.thinnest) }
     requires high { (k : ℕ) → slice_index columns.now.bids.items k ≤ 2000000000000000000 }
     requires thick { (j : ℕ) → span.from ≤ j → j < span.past → columns.now.band.thinnest ≤ slice_index diameters.now j }
     requires thin { (j : ℕ) → span.from ≤ j → j < span.past → slice_index diameters.now j < columns.now.band.past }
@@ -74,12 +75,14 @@ pub fn push_columns(
     requires order { columns.now.band.thinnest ≤ columns.now.band.past }
     requires few { span.past ≤ 5000 }
     requires low { (j : ℕ) → span.from ≤ j → j < span.past → slice_index bases.now j ≤ 4000000000000000000 }
-    requires number { length columns.now.bids.items ≡ length columns.now.steps.items * (columns.now.band.past - columns.now.band.thinnest) }
+    requires number { length columns.now.bids.items
+        ≡ length columns.now.steps.items * (columns.now.band.past - columns.now.band.thinnest) }
     requires high { (k : ℕ) → slice_index columns.now.bids.items k ≤ 2000000000000000000 }
     requires thick { (j : ℕ) → span.from ≤ j → j < span.past → columns.now.band.thinnest ≤ slice_index diameters.now j }
     requires thin { (j : ℕ) → span.from ≤ j → j < span.past → slice_index diameters.now j < columns.now.band.past }
     ensures number { length values.new ≡ length values.old }
-    ensures pushed { ArePushed (IsOfColumns diameters.now span columns.now (length columns.now.steps.items)) bases.now values.old values.new }
+    ensures pushed { ArePushed (IsOfColumns diameters.now span columns.now (length columns.now.steps.items)) bases.now
+        values.old values.new }
 {
     for at in 0..columns.steps.len() {
         push_reaching(values, bases, diameters, columns, at, span);

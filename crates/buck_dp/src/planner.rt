@@ -13,8 +13,8 @@ use std::alloc::Global;
 use std::marker::Model;
 use std::sync::Arc;
 
-/// Plans stem after stem under one sheet. It keeps what it has found of the sheet, so that each stem is planned faster than
-/// by [`best`](crate::best), with the same answer.
+/// Plans stem after stem under one sheet. It keeps what it has found of the sheet, so that each stem is planned faster
+/// than by [`best`](crate::best), with the same answer.
 #[derive(Drop)]
 pub struct Planner {
     sheet: Arc<Sheet>,
@@ -32,7 +32,8 @@ impl Model for Planner {
     ghost invariant = { λ p. AreTablesOf p.sheet.value p.tables };
 }
 
-/// Makes the tables of a sheet those of another one. What depends on the instruction alone stays where both have the same.
+/// Makes the tables of a sheet those of another one. What depends on the instruction alone stays where both have the
+/// same.
 fn turn_to(alloc: Global, tables: &mut Tables, from: &Sheet, to: &Sheet) -> Result<(), Memory>
     requires { AreTablesOf from.now tables.old }
     ensures turned { OnOk result (AreTablesOf to.now tables.new) }

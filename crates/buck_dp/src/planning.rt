@@ -66,8 +66,8 @@ fn cut_wanted(
     Ok((Cutting { logs }, worth))
 }
 
-/// The first of the best cuttings of a stem under a sheet, and its worth, by tables of the sheet. A stem of a species that
-/// no assortment takes is left at once.
+/// The first of the best cuttings of a stem under a sheet, and its worth, by tables of the sheet. A stem of a species
+/// that no assortment takes is left at once.
 pub(crate) fn best_under(
     alloc: Global,
     sheet: &Sheet,
@@ -94,8 +94,8 @@ pub(crate) fn best_under(
 /// The cutting is admissible, no admissible list of logs is worth more, and it comes before every other such one: at
 /// the first difference stands the lower start, then the shorter log, then the lower assortment, and a list that goes
 /// on comes before its own prefix. So a log worth nothing is cut where it is allowed. Where no log is allowed, the
-/// cutting is empty and worth 0. `Memory` where a list couldn't grow: the tables of the sheet, the values of the points,
-/// and the logs. Stem after stem is planned faster by a [`Planner`](crate::Planner).
+/// cutting is empty and worth 0. `Memory` where a list couldn't grow: the tables of the sheet, the values of the
+/// points, and the logs. Stem after stem is planned faster by a [`Planner`](crate::Planner).
 ///
 /// Bucking as a longest path, solved by dynamic programming over the places of a stem: M. Näsberg, "Mathematical
 /// Programming Models for Optimal Log Bucking", Linköping, 1985.

@@ -1,6 +1,6 @@
-//! The values of the points of a stem: of each what the best cutting from there on is worth, and which log it begins with.
-//! They are found block by block from the top end down: the points of a block are settled first, since no log that starts
-//! there has its top there; then all logs that have it there are offered to the points where they start.
+//! The values of the points of a stem: of each what the best cutting from there on is worth, and which log it begins
+//! with. They are found block by block from the top end down: the points of a block are settled first, since no log
+//! that starts there has its top there; then all logs that have it there are offered to the points where they start.
 ghost use Rattle.std.specs.Prelude.{◌≡◌, ℕ, List, [], ◌∷◌, ◌++◌, ◌↔◌, ◌+◌, ◌-◌, ◌*◌, ◌/◌, ◌<◌, ◌≤◌, ◌⊎◌, All, IfOk, OnOk, Some, max, length, slice_get, slice_index};
 ghost use Rattle.buck_stem.specs.Stem.{stem_length};
 ghost use Rattle.buck_dp.specs.inner.Points.{points_of, ends_of, point_after, ground_with};
@@ -30,8 +30,8 @@ pub struct Ground<'a> {
     pub diameters: &'a [u32],
 }
 
-/// Settles the points from `from` on and before `past`, from the last down: a value is raised to the next one without its
-/// rank. Each base is the value without its rank.
+/// Settles the points from `from` on and before `past`, from the last down: a value is raised to the next one without
+/// its rank. Each base is the value without its rank.
 fn settle_block(values: &mut [Bid], bases: &mut [Bid], from: usize, past: usize)
     requires order { from ≤ past }
     requires past { past ≤ length values.old }
@@ -58,8 +58,8 @@ fn settle_block(values: &mut [Bid], bases: &mut [Bid], from: usize, past: usize)
     }
 }
 
-/// The first top of a piece that ends before `high`: its logs have the same grades, from step `run` on, and its diameters
-/// lie in one band.
+/// The first top of a piece that ends before `high`: its logs have the same grades, from step `run` on, and its
+/// diameters lie in one band.
 fn piece_start(
     diameters: &[u32],
     low: usize,
@@ -122,8 +122,8 @@ fn points_within(stem: &Stem, step: u32, trim: u32) -> usize
     ((length - trim) / step) as usize + 1
 }
 
-/// Offers the logs of some wood, with its trim, from the starts of a span to its tops. Those with a lesser trim are offered
-/// before, so that a length can be left out for theirs.
+/// Offers the logs of some wood, with its trim, from the starts of a span to its tops. Those with a lesser trim are
+/// offered before, so that a length can be left out for theirs.
 fn offer_trim(
     alloc: Global,
     ground: Ground<'_>,
@@ -151,12 +151,13 @@ fn offer_trim(
     ensures trims { tables.new.trims.items ≡ tables.old.trims.items }
     ensures limits { tables.new.limits.items ≡ tables.old.limits.items }
     ensures number { length values.new ≡ length values.old }
-    ensures offered { OnOk result ((start n : ℕ) → n < length tables.old.trims.items
+    ensures offered { let p = ground_of ground.entry.sheet.now ground.entry.stem.now tables.old in
+        OnOk result ((start n : ℕ) → n < length tables.old.trims.items
         → slice_index tables.old.trims.items n ≡ wood.trim
-        → IsPieceOf (ground_of ground.entry.sheet.now ground.entry.stem.now tables.old) values.old bases.now start span.from span.past
-        → AreSettled (ground_of ground.entry.sheet.now ground.entry.stem.now tables.old) values.old start
+        → IsPieceOf p values.old bases.now start span.from span.past
+        → AreSettled p values.old start
         (TrimsFrom span.past span.from span.stop span.first tables.old.trims.items n)
-        → IsOffered (ground_of ground.entry.sheet.now ground.entry.stem.now tables.old) values.old values.new start
+        → IsOffered p values.old values.new start
         (TrimsFrom span.past span.from span.stop span.first tables.old.trims.items (n + 1))) }
 {
     let module = ground.sheet.instruction().module();
@@ -202,12 +203,10 @@ fn offer_span(
     ensures offers { tables.new.offers.items ≡ tables.old.offers.items }
     ensures limits { tables.new.limits.items ≡ tables.old.limits.items }
     ensures number { length values.new ≡ length values.old }
-    ensures offered { OnOk result ((start : ℕ)
-        → IsPieceOf (ground_of ground.entry.sheet.now ground.entry.stem.now tables.old) values.old bases.now start span.from span.past
-        → AreSettled (ground_of ground.entry.sheet.now ground.entry.stem.now tables.old) values.old start
-        (StartsFrom span.past span.from span.stop)
-        → IsOffered (ground_of ground.entry.sheet.now ground.entry.stem.now tables.old) values.old values.new start
-        (StartsFrom span.past span.from span.first)) }
+    ensures offered { let p = ground_of ground.entry.sheet.now ground.entry.stem.now tables.old in
+        OnOk result ((start : ℕ) → IsPieceOf p values.old bases.now start span.from span.past
+        → AreSettled p values.old start (StartsFrom span.past span.from span.stop)
+        → IsOffered p values.old values.new start (StartsFrom span.past span.from span.first)) }
 {
     let count = tables.trims().len();
     for at in 0..count {
@@ -221,8 +220,8 @@ fn offer_span(
     Ok(())
 }
 
-/// Offers the logs of which the length ends at the tops from `from` on and before `past`. The steps before these have the
-/// same grades, and their diameters lie in one band.
+/// Offers the logs of which the length ends at the tops from `from` on and before `past`. The steps before these have
+/// the same grades, and their diameters lie in one band.
 fn offer_piece(
     alloc: Global,
     ground: Ground<'_>,
@@ -249,10 +248,10 @@ fn offer_piece(
     ensures offers { tables.new.offers.items ≡ tables.old.offers.items }
     ensures limits { tables.new.limits.items ≡ tables.old.limits.items }
     ensures number { length values.new ≡ length values.old }
-    ensures offered { OnOk result ((start : ℕ)
-        → IsPieceOf (ground_of ground.entry.sheet.now ground.entry.stem.now tables.old) values.old bases.now start from past
-        → AreSettled (ground_of ground.entry.sheet.now ground.entry.stem.now tables.old) values.old start (TopsFrom past)
-        → IsOffered (ground_of ground.entry.sheet.now ground.entry.stem.now tables.old) values.old values.new start (TopsFrom from)) }
+    ensures offered { let p = ground_of ground.entry.sheet.now ground.entry.stem.now tables.old in
+        OnOk result ((start : ℕ) → IsPieceOf p values.old bases.now start from past
+        → AreSettled p values.old start (TopsFrom past)
+        → IsOffered p values.old values.new start (TopsFrom from)) }
 {
     let module = ground.sheet.instruction().module();
     let low = from.saturating_sub(most_steps(tables.offers(), module));
@@ -290,12 +289,13 @@ fn offer_block(
     requires base { (e : ℕ) → from ≤ e → slice_index bases.now e ≡ unranked (slice_index values.old e) }
     requires low { (e : ℕ) → from ≤ e → slice_index bases.now e ≤ 4000000000000000000 }
     requires long { AreLong (ground_of ground.sheet.now ground.stem.now tables.old) (past - from) }
-    requires settled { AreSettled (ground_of ground.sheet.now ground.stem.now tables.old) values.old from (TopsFrom past) }
+    requires settled { AreSettled (ground_of ground.sheet.now ground.stem.now tables.old) values.old from
+        (TopsFrom past) }
     ensures tables { AreTablesOf ground.entry.sheet.now tables.new }
     ensures offers { tables.new.offers.items ≡ tables.old.offers.items }
     ensures number { length values.new ≡ length values.old }
-    ensures settled { OnOk result
-        (IsOffered (ground_of ground.entry.sheet.now ground.entry.stem.now tables.old) values.old values.new from (TopsFrom 0)) }
+    ensures settled { let p = ground_of ground.entry.sheet.now ground.entry.stem.now tables.old in
+        OnOk result (IsOffered p values.old values.new from (TopsFrom 0)) }
 {
     let low = from.max(1);
     let mut high = past.min(ground.diameters.len());
@@ -355,8 +355,8 @@ fn no_values(alloc: Global, count: usize) -> Result<Vec<Bid>, AllocError>
     vec![in alloc; Bid::none(); count]
 }
 
-/// Puts the values of all points and of the place past the last in place of zeros, block by block from the top end down to
-/// the butt. It uses the bases as room.
+/// Puts the values of all points and of the place past the last in place of zeros, block by block from the top end down
+/// to the butt. It uses the bases as room.
 fn put_values(
     alloc: Global,
     ground: Ground<'_>,
@@ -373,7 +373,8 @@ fn put_values(
     ensures tables { AreTablesOf ground.entry.sheet.now tables.new }
     ensures offers { tables.new.offers.items ≡ tables.old.offers.items }
     ensures number { length values.new ≡ length values.old }
-    ensures right { OnOk result (AreValuesFrom (ground_of ground.entry.sheet.now ground.entry.stem.now tables.old) values.new 0) }
+    ensures right { let p = ground_of ground.entry.sheet.now ground.entry.stem.now tables.old in
+        OnOk result (AreValuesFrom p values.new 0) }
 {
     let module = ground.sheet.instruction().module();
     let least = least_steps(tables.offers(), module);
@@ -393,7 +394,8 @@ pub fn values_of(alloc: Global, ground: Ground<'_>, tables: &mut Tables) -> Resu
     requires tables { AreTablesOf ground.sheet.now tables.old }
     ensures tables { AreTablesOf ground.entry.sheet.now tables.new }
     ensures offers { tables.new.offers.items ≡ tables.old.offers.items }
-    ensures right { IfOk result (λ v. AreValuesFrom (ground_of ground.entry.sheet.now ground.entry.stem.now tables.old) v.items 0) }
+    ensures right { let p = ground_of ground.entry.sheet.now ground.entry.stem.now tables.old in
+        IfOk result (λ v. AreValuesFrom p v.items 0) }
 {
     let ends = ground.diameters.len() + 1;
     let mut values = no_values(alloc, ends)?;

@@ -20,7 +20,8 @@ ground_with sheet stem codes = record { sheet = sheet; stem = stem; codes = code
 abbrev pub points_of : GroundParts → ℕ
 points_of p = stem_length p.stem.samples / p.sheet.instruction.«module» + 1
 
--- how many places there are from which a cutting goes on: the points, and one past the last, since a trim may end between
+-- how many places there are from which a cutting goes on: the points, and one past the last, since a trim may end
+-- between
 abbrev pub ends_of : GroundParts → ℕ
 ends_of p = points_of p + 1
 

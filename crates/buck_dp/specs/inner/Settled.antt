@@ -21,8 +21,8 @@ pub record IsLogBid (p : GroundParts) (i j e trim bid : ℕ) : Type 0 where
 abbrev pub Reaches : List ℕ → ℕ → ℕ → Type 0
 Reaches values i v = (v ≤ slice_index values i) ⊎ ((k : ℕ) × (i < k) × (v / 1024 < slice_index values k / 1024))
 
--- the points from s on are settled; of the logs whose length ends at one of these, those that are done bring no more than the
--- values tell; and each value is at most what a log, or starting none, brings
+-- the points from s on are settled; of the logs whose length ends at one of these, those that are done bring no more
+-- than the values tell; and each value is at most what a log, or starting none, brings
 pub record AreSettled (p : GroundParts) (values : List ℕ) (s : ℕ) (Done : ℕ → ℕ → ℕ → Type 0) : Type 0 where
   pub falls : (k : ℕ) → s ≤ k → unranked (slice_index values (k + 1)) ≤ slice_index values k
   pub each : (i j e trim bid : ℕ) → s ≤ j → Done i j trim → IsLogBid p i j e trim bid

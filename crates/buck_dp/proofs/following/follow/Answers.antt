@@ -25,8 +25,8 @@ log_at-log-requires-clause-rank c =
     c.requires.values (omega (arith, g.number)) (omega arith) in
     (omega arith, omega (arith, place, c.rank_at-rank.ensures, codes_number c.args.offers.now))
 
-pub point_after-i-requires : goal.point_after-i-requires
-point_after-i-requires c =
+pub point_after-i-requires-clause-allowed : goal.point_after-i-requires-clause-allowed
+point_after-i-requires-clause-allowed c =
     let p : GroundParts = ground_with c.args.ground.sheet.now c.args.ground.stem.now (codes_in c.args.offers.now) in
     let g = c.requires.ground in
     let log = c.log_at-log.ensures in

@@ -17,7 +17,7 @@ overflow_add-total c =
     omega (
       arith,
       c.loop-log.invariant,
-      c.log_worth-total.ensures,
+      c.log_worth-total.ensures.worth,
       sum_by_more_le (worth_of c.args.sheet.now c.args.stem.now) c.as_slice-log-items.result.now c.loop-log.log-index (record { start = 0; length = 0; assortment = 0 }) c.loop-log-test.true,
-      cut_worth-le c.args.sheet.now c.args.stem.now 0 c.as_slice-log-items.result.now c.module_of.ensures.valid c.length.ensures.valid (omega arith) all,
+      cut_worth-le c.args.sheet.now c.args.stem.now 0 c.as_slice-log-items.result.now c.log_worth-total.ensures.valid c.log_worth-total.ensures.stem (omega arith) all,
     )
