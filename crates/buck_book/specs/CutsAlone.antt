@@ -33,13 +33,15 @@ pub record PricesMeet (i : InstructionParts) (es : List EntryParts) (prices : Li
       → Meets (standing_of i k.assortment c es) (slice_index prices (index_of i c))
 
 -- an entry may follow some entries
-pub record Follows (i : InstructionParts) (sheets : List (List ℕ)) (before : List EntryParts) (e : EntryParts) : Type 0 where
+pub record Follows (i : InstructionParts) (sheets : List (List ℕ)) (before : List EntryParts)
+    (e : EntryParts) : Type 0 where
   pub number_is_next : e.number ≡ count_by (λ x. x.harvester == e.harvester) before + 1
   pub version_in_force : e.version ≡ length before / i.period
   pub best : IsBest (sheet_at i sheets e.version) e.stem e.logs
   pub worth_is : e.worth ≡ cutting_worth (sheet_at i sheets e.version) e.stem e.logs
 
--- a lawful history: one sheet more than full periods, each sheet's prices in the relation with the entries before it, and each entry may follow those before it
+-- a lawful history: one sheet more than full periods, each sheet's prices in the relation with the entries before it,
+-- and each entry may follow those before it
 pub record IsLawful (i : InstructionParts) (sheets : List (List ℕ)) (es : List EntryParts) : Type 0 where
   pub sheets_number : length sheets ≡ length es / i.period + 1
   pub sheets_meet : (v : ℕ) → v < length sheets → PricesMeet i (take (v * i.period) es) (prices_at sheets v)

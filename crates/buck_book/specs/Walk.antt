@@ -1,5 +1,5 @@
 -- A way through the postings of a history, from the opening on.
-use Rattle.std.specs.Prelude.{◌≡◌, ℕ, ◌<◌, List, take, slice_index, slice_get, Some}
+use Rattle.std.specs.Prelude.{◌≡◌, ℕ, ◌<◌, List, take, slice_index}
 use Rattle.buck_apt.specs.declared.class.Class.{Class}
 use Rattle.buck_apt.specs.Instruction.{InstructionParts, IsClass, index_of}
 use Rattle.buck_rule.specs.Relation.{Meets}

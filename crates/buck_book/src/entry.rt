@@ -30,7 +30,14 @@ impl Model for Entry {
 
     ghost Value = { EntryParts };
 
-    ghost view = { λ e. record { harvester = e.harvester; number = e.number; stem = e.stem.value; version = e.version; logs = e.cutting.value.logs.items; worth = e.worth } };
+    ghost view = { λ e. record {
+      harvester = e.harvester;
+      number = e.number;
+      stem = e.stem.value;
+      version = e.version;
+      logs = e.cutting.value.logs.items;
+      worth = e.worth;
+    } };
 }
 
 /// Whether two lists of logs are equal.

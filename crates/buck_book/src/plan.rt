@@ -50,7 +50,8 @@ impl Plan {
         let (cutting, worth) = planner.best(alloc, &stem)?;
         let cutting = Arc::new(alloc, cutting)?;
         let sheet = planner.sheet().clone()?;
-        let _valid = (sheet.version(), stem.length());
+        // No stem is longer: this one is within the limits.
+        prove!(stem.length() <= 40_000);
         Ok(Plan {
             stem,
             sheet,

@@ -24,7 +24,12 @@ impl Model for Demand {
 
     ghost Value = { DemandParts };
 
-    ghost view = { λ d. record { harvester = d.harvester; number = d.number; version = d.version; targets = d.targets.value.items } };
+    ghost view = { λ d. record {
+      harvester = d.harvester;
+      number = d.number;
+      version = d.version;
+      targets = d.targets.value.items;
+    } };
 }
 
 /// What stands in a history.

@@ -29,9 +29,19 @@ impl<'a> Model for Standings<'a> {
 
     ghost Value = { StandingsParts };
 
-    ghost view = { λ s. record { instruction = s.instruction.now; targets = s.targets.now; by_class = s.counts.now.by_class.items; by_assortment = s.counts.now.by_assortment.items } };
+    ghost view = { λ s. record {
+      instruction = s.instruction.now;
+      targets = s.targets.now;
+      by_class = s.counts.now.by_class.items;
+      by_assortment = s.counts.now.by_assortment.items;
+    } };
 
-    ghost invariant = { λ s. CanPrice (record { instruction = s.instruction.now; targets = s.targets.now; by_class = s.counts.now.by_class.items; by_assortment = s.counts.now.by_assortment.items }) };
+    ghost invariant = { λ s. CanPrice (record {
+      instruction = s.instruction.now;
+      targets = s.targets.now;
+      by_class = s.counts.now.by_class.items;
+      by_assortment = s.counts.now.by_assortment.items;
+    }) };
 }
 
 impl<'a> Standings<'a> {
@@ -92,7 +102,8 @@ fn add_class<F: Fn(&Standing) -> u64>(
 ) -> Result<(), AllocError>
     requires answers { Answers F.Fn rule.now }
     requires class { IsClassOf standings.now.instruction assortment.now class }
-    requires targets { targets ≡ targets_sum standings.now.instruction assortment.now class.assortment standings.now.targets }
+    requires targets { targets
+        ≡ targets_sum standings.now.instruction assortment.now class.assortment standings.now.targets }
     requires next { vec_len prices.old ≡ index_of standings.now.instruction class }
     requires priced { ArePriced F.Fn rule.now standings.now prices.old.items }
     ensures priced { OnOk result (ArePriced F.Fn rule.now standings.now prices.new.items) }
@@ -115,7 +126,8 @@ fn add_row<F: Fn(&Standing) -> u64>(
     requires answers { Answers F.Fn rule.now }
     requires class { IsClassOf standings.now.instruction assortment.now first }
     requires first { first.column ≡ 0 }
-    requires targets { targets ≡ targets_sum standings.now.instruction assortment.now first.assortment standings.now.targets }
+    requires targets { targets
+        ≡ targets_sum standings.now.instruction assortment.now first.assortment standings.now.targets }
     requires next { vec_len prices.old ≡ index_of standings.now.instruction first }
     requires priced { ArePriced F.Fn rule.now standings.now prices.old.items }
     ensures priced { OnOk result (ArePriced F.Fn rule.now standings.now prices.new.items) }

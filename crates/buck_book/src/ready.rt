@@ -27,7 +27,12 @@ impl Model for Ready {
 
     ghost Value = { ReadyParts };
 
-    ghost view = { λ r. record { stem = r.stem.value; logs = r.cutting.value.logs.items; tally = r.tally.items; next = option_map (λ a. a.value) r.next } };
+    ghost view = { λ r. record {
+      stem = r.stem.value;
+      logs = r.cutting.value.logs.items;
+      tally = r.tally.items;
+      next = option_map (λ a. a.value) r.next;
+    } };
 }
 
 impl Ready {

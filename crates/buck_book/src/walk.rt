@@ -1,7 +1,7 @@
 //! A way through the postings of a history.
 ghost use Rattle.std.specs.Prelude.{◌≡◌, ℕ, ◌+◌, ◌<◌, ◌≤◌, ◌^◌, ◌==◌, ◌↔◌, IsTrue, IfOk, IfSome, IfNone, OnOk, cond, length, slice_get, Some};
 ghost use Rattle.std.specs.Option.{option_map};
-ghost use Rattle.buck_apt.specs.Instruction.{classes};
+ghost use Rattle.buck_apt.specs.Instruction.{IsInstruction, classes};
 ghost use Rattle.buck_value.specs.Allowed.{IsAllowed, end_of};
 ghost use Rattle.buck_dp.specs.Cutting.{IsCutFrom};
 ghost use Rattle.buck_book.specs.Posting.{ends_of, cuts_since_end};
@@ -116,7 +116,8 @@ fn after_cut<'a>(
     ensures { IfOk result (λ w.
         w ≡ walk_of walk.entry.instruction walk.entry.postings (walk.entry.at + 1)) }
 {
-    let _valid = entry.stem.length();
+    // No stem is longer, so its logs are few, and the counts stay small.
+    prove!(entry.stem.length() <= 40_000);
     let logs = entry.cutting.logs.as_slice();
     let places = places_of(alloc, sheet, &entry.stem, logs)?;
     let Walk {
@@ -209,7 +210,9 @@ impl<'a> Walk<'a> {
 
     /// The posting that comes next, if there is one.
     pub fn next(&self) -> Option<&'a Posting>
-        ensures { option_map (λ x. x.now) result ≡ slice_get self.now.postings self.now.at }
+        ensures next { option_map (λ x. x.now) result ≡ slice_get self.now.postings self.now.at }
+        ensures within { self.now.at ≤ length self.now.postings }
+        ensures valid { IsInstruction self.now.instruction }
     {
         self.postings.get(self.at)
     }
@@ -236,8 +239,8 @@ impl<'a> Walk<'a> {
         calls_in(&self.calls, harvester) + 1
     }
 
-    /// The first class whose price, of one for each class, doesn't keep the price relation with the targets in force and
-    /// with what was cut up to here, by its place among all classes. It takes no memory.
+    /// The first class whose price, of one for each class, doesn't keep the price relation with the targets in force
+    /// and with what was cut up to here, by its place among all classes. It takes no memory.
     pub fn wrong_price(&self, prices: &[u32]) -> Option<usize>
         requires { length prices.now ≡ classes self.now.instruction }
         ensures found { IfSome result (λ at.
@@ -253,8 +256,8 @@ impl<'a> Walk<'a> {
         first_wrong(&standings, prices)
     }
 
-    /// The place after the next posting, whose logs, if it is a cut, are an admissible cutting, and whose targets, if it
-    /// is a demand, are valid. The sheet is any of the instruction. Refused as `Memory` alone.
+    /// The place after the next posting, whose logs, if it is a cut, are an admissible cutting, and whose targets, if
+    /// it is a demand, are valid. The sheet is any of the instruction. Refused as `Memory` alone.
     pub fn pass(self, alloc: Global, sheet: &Sheet, posting: &Posting) -> Result<Walk<'a>, Memory>
         requires next { slice_get self.postings self.at ≡ Some posting.now }
         requires instruction { sheet.now.instruction ≡ self.instruction }

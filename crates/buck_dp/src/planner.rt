@@ -1,5 +1,6 @@
 //! Planners.
 ghost use Rattle.std.specs.Prelude.{◌≡◌, ◌≤◌, IfOk, IfErr, OnOk};
+ghost use Rattle.buck_value.specs.Sheet.{IsSheet};
 ghost use Rattle.buck_bid.specs.Tables.{AreTablesOf};
 ghost use Rattle.buck_dp.specs.Best.{IsFirstBest, cutting_worth};
 
@@ -70,6 +71,7 @@ impl Planner {
         ensures first { IfOk result (λ found. IsFirstBest self.old stem.now found.0.logs.items) }
         ensures worth { IfOk result (λ found. found.1 ≡ cutting_worth self.old stem.now found.0.logs.items) }
         ensures high { IfOk result (λ found. found.1 ≤ 2800000000000000) }
+        ensures valid { IsSheet self.old }
     {
         best_under(alloc, &self.sheet, stem, &mut self.tables)
     }

@@ -1,5 +1,6 @@
 //! The best cutting of a stem.
 ghost use Rattle.std.specs.Prelude.{◌⊎◌, ◌≡◌, ◌<◌, ◌≤◌, IfOk, IsTrue, length, slice_index};
+ghost use Rattle.buck_value.specs.Sheet.{IsSheet};
 ghost use Rattle.buck_value.specs.Allowed.{IsAllowed};
 ghost use Rattle.buck_value.specs.declared.log.Log.{Log};
 ghost use Rattle.buck_bid.specs.Bid.{worth_in};
@@ -21,7 +22,8 @@ pub(crate) const ROOM: usize = 500_000;
 
 /// Whether some assortment takes the stem's species.
 fn is_wanted(sheet: &Sheet, stem: &Stem) -> bool
-    ensures { IsTrue result ⊎ ((g : Log) → IsAllowed sheet.now.instruction stem.now g → ⊥) }
+    ensures wanted { IsTrue result ⊎ ((g : Log) → IsAllowed sheet.now.instruction stem.now g → ⊥) }
+    ensures valid { IsSheet sheet.now }
 {
     let species = stem.species();
     for assortment in sheet.instruction().assortments() {
@@ -79,6 +81,7 @@ pub(crate) fn best_under(
     ensures first { IfOk result (λ found. IsFirstBest sheet.now stem.now found.0.logs.items) }
     ensures worth { IfOk result (λ found. found.1 ≡ cutting_worth sheet.now stem.now found.0.logs.items) }
     ensures high { IfOk result (λ found. found.1 ≤ 2800000000000000) }
+    ensures valid { IsSheet sheet.now }
 {
     if !is_wanted(sheet, stem) {
         let none = Cutting {

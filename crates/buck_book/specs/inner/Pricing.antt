@@ -18,7 +18,8 @@ pub record StandingsParts : Type 0 where
   pub by_class : List ℕ
   pub by_assortment : List ℕ
 
--- prices can be made: the targets are valid, there is a count for each class and each assortment, no class has more logs than its assortment, and no assortment too many
+-- prices can be made: the targets are valid, there is a count for each class and each assortment, no class has more
+-- logs than its assortment, and no assortment too many
 pub record CanPrice (s : StandingsParts) : Type 0 where
   pub valid : IsInstruction s.instruction
   pub targets : AreTargets s.instruction s.targets
@@ -31,7 +32,8 @@ pub record CanPrice (s : StandingsParts) : Type 0 where
 -- how a class stands by them
 abbrev pub standing_by : StandingsParts → AssortmentParts → Class → Standing
 standing_by s a c =
-    standing_at s.instruction a c s.targets (slice_index s.by_class (index_of s.instruction c)) (slice_index s.by_assortment c.assortment)
+    standing_at s.instruction a c s.targets
+    (slice_index s.by_class (index_of s.instruction c)) (slice_index s.by_assortment c.assortment)
 
 -- the class is one of this assortment of the instruction
 pub record IsClassOf (i : InstructionParts) (a : AssortmentParts) (c : Class) : Type 0 where
@@ -40,18 +42,21 @@ pub record IsClassOf (i : InstructionParts) (a : AssortmentParts) (c : Class) : 
   pub column : c.column < length a.lengths
 
 -- a price that the closure can give to a standing, and that keeps the price relation with it
-pub record IsAnswer {F : Type 0} (g : Shared F (Bor Standing × Unit {0}) ℕ) (f : F) (s : Standing) (price : ℕ) : Type 0 where
+pub record IsAnswer {F : Type 0} (g : Shared F (Bor Standing × Unit {0}) ℕ) (f : F)
+    (s : Standing) (price : ℕ) : Type 0 where
   pub given : FnReturnsAt g f s price
   pub met : Meets s price
 
 -- the first classes have prices: each is the closure's answer to its class's standing, within its span
-pub record ArePriced {F : Type 0} (g : Shared F (Bor Standing × Unit {0}) ℕ) (f : F) (s : StandingsParts) (prices : List ℕ) : Type 0 where
+pub record ArePriced {F : Type 0} (g : Shared F (Bor Standing × Unit {0}) ℕ) (f : F)
+    (s : StandingsParts) (prices : List ℕ) : Type 0 where
   pub answered : (c : Class) (k : IsClass s.instruction c) → index_of s.instruction c < length prices
       → IsAnswer g f (standing_by s k.assortment c) (slice_index prices (index_of s.instruction c))
   pub in_span : (k : ℕ) → k < length prices → IsPriceAt s.instruction prices k
 
 -- a sheet of a version, whose prices are answers to how the classes stand
-pub record IsPricedSheet {F : Type 0} (g : Shared F (Bor Standing × Unit {0}) ℕ) (f : F) (s : StandingsParts) (version : ℕ) (x : SheetParts) : Type 0 where
+pub record IsPricedSheet {F : Type 0} (g : Shared F (Bor Standing × Unit {0}) ℕ) (f : F)
+    (s : StandingsParts) (version : ℕ) (x : SheetParts) : Type 0 where
   pub made : x ≡ sheet_of version s.instruction x.prices
   pub one_each : length x.prices ≡ classes s.instruction
   pub priced : ArePriced g f s x.prices

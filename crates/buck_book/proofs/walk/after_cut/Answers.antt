@@ -24,7 +24,7 @@ add-requires-clause-places c =
     let same : c.args.sheet.now.instruction ≡ c.walk.inside.instruction.now = c.requires.instruction ∙ ap (λ (w : WalkParts). w.instruction) (sym c.walk.view_is) in
     let tally : c.as_slice.result.now ≡ tally_of c.walk.inside.instruction.now e.stem e.logs = c.as_slice.ensures.value ∙ c.in_ok-places.ensures ∙ (λ j. tally_of (same j) (stem j) (logs j)) in
     let cutting = rw (sym c.walk.view_is) at c.requires.cutting in
-    places_here _ _ c.walk.invariant e (rw own at c.length-valid.ensures.valid) cutting c.as_slice.result.now tally
+    places_here _ _ c.walk.invariant e (rw own at c.length.ensures.valid) cutting c.as_slice.result.now tally
 
 pub add-requires-clause-assortments : goal.add-requires-clause-assortments
 add-requires-clause-assortments c =
@@ -35,7 +35,7 @@ add-requires-clause-assortments c =
     let same : c.args.sheet.now.instruction ≡ c.walk.inside.instruction.now = c.requires.instruction ∙ ap (λ (w : WalkParts). w.instruction) (sym c.walk.view_is) in
     let tally : c.as_slice.result.now ≡ tally_of c.walk.inside.instruction.now e.stem e.logs = c.as_slice.ensures.value ∙ c.in_ok-places.ensures ∙ (λ j. tally_of (same j) (stem j) (logs j)) in
     let cutting = rw (sym c.walk.view_is) at c.requires.cutting in
-    rw logs (assortments_here _ _ c.walk.invariant e (rw own at c.length-valid.ensures.valid) cutting c.as_slice.result.now tally)
+    rw logs (assortments_here _ _ c.walk.invariant e (rw own at c.length.ensures.valid) cutting c.as_slice.result.now tally)
 
 pub add-requires-clause-few : goal.add-requires-clause-few
 add-requires-clause-few c =
@@ -46,7 +46,7 @@ add-requires-clause-few c =
     let same : c.args.sheet.now.instruction ≡ c.walk.inside.instruction.now = c.requires.instruction ∙ ap (λ (w : WalkParts). w.instruction) (sym c.walk.view_is) in
     let tally : c.as_slice.result.now ≡ tally_of c.walk.inside.instruction.now e.stem e.logs = c.as_slice.ensures.value ∙ c.in_ok-places.ensures ∙ (λ j. tally_of (same j) (stem j) (logs j)) in
     let cutting = rw (sym c.walk.view_is) at c.requires.cutting in
-    let valid = rw own at c.length-valid.ensures.valid in
+    let valid = rw own at c.length.ensures.valid in
     (few_places_here _ _ c.walk.invariant e valid cutting c.as_slice.result.now tally, rw logs (few_here _ _ c.walk.invariant e valid cutting))
 
 pub cuts_then-requires : goal.cuts_then-requires
@@ -67,7 +67,7 @@ invariant_of-result c =
     let same : c.args.sheet.now.instruction ≡ c.walk.inside.instruction.now = c.requires.instruction ∙ ap (λ (w : WalkParts). w.instruction) (sym c.walk.view_is) in
     let tally : c.as_slice.result.now ≡ tally_of c.walk.inside.instruction.now e.stem e.logs = c.as_slice.ensures.value ∙ c.in_ok-places.ensures ∙ (λ j. tally_of (same j) (stem j) (logs j)) in
     let cutting = rw (sym c.walk.view_is) at c.requires.cutting in
-    let valid = rw own at c.length-valid.ensures.valid in
+    let valid = rw own at c.length.ensures.valid in
     let next : slice_get c.walk.inside.postings.now c.walk.inside.at ≡ Some (Cut e) = rw (sym c.walk.view_is) at c.requires.next in
     let who : c.entry.inside.harvester ≡ e.harvester = ap (λ (x : EntryParts). x.harvester) c.entry.view_is in
     let period : c.period-period.result ≡ c.walk.inside.instruction.now.period = c.period-period.ensures.period in

@@ -14,5 +14,5 @@ unwanted sheet stem b no_one (inr none) = none
 
 pub returns-then-not-is_wanted-clause-first : goal.returns-then-not-is_wanted-clause-first
 returns-then-not-is_wanted-clause-first c =
-    let none = unwanted c.args.sheet.now c.args.stem.now c.is_wanted.result c.if-not-is_wanted.true c.is_wanted.ensures in
+    let none = unwanted c.args.sheet.now c.args.stem.now c.is_wanted.result c.if-not-is_wanted.true c.is_wanted.ensures.wanted in
     rw c.new.ensures.items (nothing_first c.args.sheet.now c.args.stem.now none)

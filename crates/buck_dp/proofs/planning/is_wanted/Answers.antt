@@ -21,8 +21,8 @@ loop-assortment-preserved c = λ k x lt at same. elim (cases_lt k c.loop-assortm
       c.if-species.false (c.species.ensures ∙ ap (λ (z : AssortmentParts). z.species) e ∙ same ∙ sym c.species-species.ensures)
 ]
 
-pub returns : goal.returns
-returns c =
+pub returns-clause-wanted : goal.returns-clause-wanted
+returns-clause-wanted c =
     let i = c.args.sheet.now.instruction in
     let all : c.assortments-assortment-items.result.now ≡ i.assortments = cc in
     inr (λ g a.
