@@ -1,5 +1,6 @@
 //! What a journal's sheets and postings have to be.
 ghost use Rattle.std.specs.Prelude.{◌≡◌, ◌≢◌, ◌+◌, ◌<◌, ◌≤◌, OnOk, IfOk, IfErr, IfNone, IfSome, length, map};
+ghost use Rattle.buck_apt.specs.Instruction.{IsInstruction};
 ghost use Rattle.buck_dp.specs.Best.{IsBest, cutting_worth};
 ghost use Rattle.buck_book.specs.Targets.{AreTargets};
 ghost use Rattle.buck_book.specs.Posting.{harvester_of, number_of, planned_version};
@@ -43,6 +44,7 @@ fn right_prices<'a>(
         prices.now ≡ prices_then (along walk.now sheets.now) walk.now.at) }
     ensures refused { IfErr result (λ fault.
         IsSheetFault (along walk.now sheets.now) walk.now.at fault) }
+    ensures valid { OnOk result (IsInstruction instruction.now) }
 {
     let version = walk.version();
     let Some(prices) = prices_of(sheets, version) else {
@@ -70,7 +72,6 @@ pub(crate) fn opened_sheet(
     ensures refused { IfErr result (λ e.
         e ≢ Memory → IsSheetFault (along walk.now sheets.now) walk.now.at e) }
 {
-    let _valid = instruction.period();
     let prices = right_prices(instruction, sheets, walk)?;
     let prices = Vec::from_slice(alloc, prices)?;
     match Sheet::with_prices(instruction.clone()?, walk.version(), prices) {
@@ -194,7 +195,7 @@ pub(crate) fn check_end(
 {
     check_number(sheets, walk.version())?;
     if walk.begins_period() {
-        let _right = right_prices(instruction, sheets, walk)?;
+        right_prices(instruction, sheets, walk)?;
     }
     Ok(())
 }

@@ -58,7 +58,8 @@ fn journal_in<'a>(alloc: Global, items: &'a [Piece<'a>]) -> Result<Journal, Jour
 /// Reads a journal, whose bytes are items between tildes (see docs/FORMATS.md).
 ///
 /// The answer is what was written, or the first refusal that applies, as [`JournalFault`] says; and `Memory` where a
-/// growth was refused. A journal needs no sheet and no posting, and has at most 1,000,000 postings. Its items stand in one sequence, and none is skipped.
+/// growth was refused. A journal needs no sheet and no posting, and has at most 1,000,000 postings. Its items stand in
+/// one sequence, and none is skipped.
 pub fn read_journal(alloc: Global, bytes: &[u8]) -> Result<Journal, JournalFault>
     ensures value { Gives Memory result (journal_of bytes.now) }
     ensures few { IfOk result (λ journal. length journal.entries ≤ 1000000) }

@@ -114,7 +114,6 @@ pub fn replay(
     ensures refused { IfErr result (λ e.
         e ≢ Memory → IsFirstFault (history_of instruction.now.value journal.now) e) }
 {
-    let _valid = instruction.period();
     let sheets = journal.sheets.as_slice();
     let base = Sheet::base(alloc, instruction.clone()?)?;
     let mut planner = Planner::make(alloc, share(alloc, base)?)?;
@@ -122,6 +121,5 @@ pub fn replay(
     while walk.next().is_some() {
         walk = replay_period(alloc, instruction, &mut planner, sheets, walk)?;
     }
-    let _at = walk.at();
     check_end(instruction, sheets, &walk)
 }

@@ -13,7 +13,7 @@ unreachable-requires c =
     let i = c.args.instruction.now.value in
     let w = c.args.walk.now in
     let then = prices_then (along w c.args.sheets.now) w.at in
-    let valid : IsInstruction i = subst IsInstruction c.deref.ensures c.period-valid.ensures.valid in
+    let valid : IsInstruction i = subst IsInstruction c.deref.ensures c.in_ok-prices.ensures.valid in
     let meets : PricesMeet i (passed w) then = subst (λ j. PricesMeet j (passed w) then) c.requires c.in_ok-prices.ensures.right.1 in
     let wrong : IsSheetFault i c.in_ok-prices-2.prices.items c.in-Err.field-0 =
     subst (λ j. IsSheetFault j c.in_ok-prices-2.prices.items c.in-Err.field-0) c.in_ok-clone.ensures.cases c.in-Err.ensures.refused in

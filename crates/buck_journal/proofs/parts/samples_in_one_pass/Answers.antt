@@ -1,4 +1,4 @@
-use Rattle.std.proofs.Common.{◌≡◌, ◌++◌, All, ◌≤◌, true, IsTrue, Ok, length, slice_get, Some, sym, ap, ◌∙◌, subst, refl, rules, arith}
+use Rattle.std.proofs.Common.{◌≡◌, ◌++◌, All, ◌≤◌, IsTrue, Ok, length, slice_get, Some, sym, ap, ◌∙◌, subst, refl, rules, arith}
 use Rattle.std.proofs.lemmas.Option.{slice_get_read}
 use Rattle.buck_record.specs.Item.{ItemParts}
 use Rattle.buck_record.specs.Record.{numbers_of}

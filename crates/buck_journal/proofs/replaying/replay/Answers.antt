@@ -11,12 +11,12 @@ returns-clause-lawful c =
     let all : length c.args.journal.now.entries ≤ c.loop-alloc.walk.at =
     omega (
       arith,
-      none_left (λ x. x.now) c.next.result c.loop-alloc.walk.postings c.loop-alloc.walk.at c.next.ensures (sym c.is_some.ensures ∙ c.loop-alloc-test.false),
+      none_left (λ x. x.now) c.next.result c.loop-alloc.walk.postings c.loop-alloc.walk.at c.next.ensures.next (sym c.is_some.ensures ∙ c.loop-alloc-test.false),
       ap (λ (w : WalkParts). length w.postings) inv.same,
     ) in
     weaken_ok c.check_end.result
-    (λ u right. lawful_at_end c.args.instruction.now.value c.args.journal.now c.loop-alloc.walk _ inv.same inv.sheets all c.at-at.ensures.within inv.right
-    (subst IsInstruction c.deref.ensures c.period-valid.ensures.valid) right)
+    (λ u right. lawful_at_end c.args.instruction.now.value c.args.journal.now c.loop-alloc.walk _ inv.same inv.sheets all c.next.ensures.within inv.right
+    (subst IsInstruction (ap (λ (w : WalkParts). w.instruction) inv.same) c.next.ensures.valid) right)
     c.check_end.ensures.right
 
 pub returns-clause-refused : goal.returns-clause-refused
@@ -25,9 +25,9 @@ returns-clause-refused c =
     let all : length c.args.journal.now.entries ≤ c.loop-alloc.walk.at =
     omega (
       arith,
-      none_left (λ x. x.now) c.next.result c.loop-alloc.walk.postings c.loop-alloc.walk.at c.next.ensures (sym c.is_some.ensures ∙ c.loop-alloc-test.false),
+      none_left (λ x. x.now) c.next.result c.loop-alloc.walk.postings c.loop-alloc.walk.at c.next.ensures.next (sym c.is_some.ensures ∙ c.loop-alloc-test.false),
       ap (λ (w : WalkParts). length w.postings) inv.same,
     ) in
     weaken_err c.check_end.result
-    (λ e wrong told. met_at_end c.args.instruction.now.value c.args.journal.now c.loop-alloc.walk _ inv.same inv.sheets all c.at-at.ensures.within inv.right e wrong)
+    (λ e wrong told. met_at_end c.args.instruction.now.value c.args.journal.now c.loop-alloc.walk _ inv.same inv.sheets all c.next.ensures.within inv.right e wrong)
     c.check_end.ensures.refused
