@@ -261,7 +261,8 @@ impl<'s, 't> Prepared<'s, 't> {
         requires assortment { assortment < length self.now.sheet.instruction.assortments }
         requires column { column < length (lengths_of self.now assortment) }
         requires allowed { IsAllowed self.now.sheet.instruction self.now.stem (log_at self.now i assortment column) }
-        requires class { class ≡ class_of self.now.sheet.instruction self.now.stem (log_at self.now i assortment column) }
+        requires class { class
+            ≡ class_of self.now.sheet.instruction self.now.stem (log_at self.now i assortment column) }
         ensures { result ≡ worth_of self.now.sheet self.now.stem (log_at self.now i assortment column) }
     {
         let chosen = self.assortment(assortment);
