@@ -36,7 +36,9 @@ unfoldable pub log_line : SheetParts → StemParts → Log → List ℕ
 log_line sheet stem g =
     named_line_of
     (codes "LOG")
-    (g.start ∷ g.length ∷ top_diameter stem g ∷ (class_of sheet.instruction stem g).row ∷ (class_of sheet.instruction stem g).column ∷ worth_of sheet stem g ∷ [])
+    (g.start ∷ g.length ∷ top_diameter stem g
+    ∷ (class_of sheet.instruction stem g).row ∷ (class_of sheet.instruction stem g).column
+    ∷ worth_of sheet stem g ∷ [])
     (name_of sheet.instruction g)
 
 -- STEM <stem number> <stem length> <number of logs> <worth>
@@ -45,7 +47,9 @@ stem_line stem logs worth = line_of (codes "STEM") (stem.number ∷ stem_length 
 
 -- the lines of a stem: its own, and one for each log
 unfoldable pub stem_lines : SheetParts → CutStem → List ℕ
-stem_lines sheet cut = stem_line cut.stem (length cut.logs) (cutting_worth sheet cut.stem cut.logs) ++ flat_map (log_line sheet cut.stem) cut.logs
+stem_lines sheet cut =
+    stem_line cut.stem (length cut.logs) (cutting_worth sheet cut.stem cut.logs)
+    ++ flat_map (log_line sheet cut.stem) cut.logs
 
 -- all logs, and their worth
 abbrev pub logs_of : List CutStem → ℕ
@@ -60,7 +64,8 @@ total_line stems logs worth = line_of (codes "TOTAL") (stems ∷ logs ∷ worth 
 
 -- the lines of each stem, then the total
 abbrev pub text_of : SheetParts → List CutStem → List ℕ
-text_of sheet cuts = flat_map (stem_lines sheet) cuts ++ total_line (length cuts) (logs_of cuts) (worth_of_all sheet cuts)
+text_of sheet cuts =
+    flat_map (stem_lines sheet) cuts ++ total_line (length cuts) (logs_of cuts) (worth_of_all sheet cuts)
 
 -- each stem is cut by the first of its best cuttings
 abbrev pub IsBucking : SheetParts → List StemParts → List CutStem → Type 0

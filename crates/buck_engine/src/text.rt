@@ -40,7 +40,6 @@ fn put_log(out: &mut Vec<u8>, sheet: &Sheet, stem: &Stem, log: &Log) -> Result<(
     let Some(class) = class_of(sheet, stem, log.start, log.assortment, log.length) else {
         unreachable!()
     };
-    let _valid = stem.length();
     let assortment = &sheet.instruction().assortments()[log.assortment as usize];
     let numbers = [
         u128::from(log.start),

@@ -1,4 +1,5 @@
--- What a closed fleet hands out, and the headline: the history is one of a single thread, and holds each seat's replies.
+-- What a closed fleet hands out, and the headline: the history is one of a single thread, and holds each seat's
+-- replies.
 use Rattle.std.specs.Prelude.{◌≡◌, ◌≢◌, ℕ, ◌+◌, ◌-◌, ◌<◌, ◌≤◌, ◌==◌, List, [], ◌∷◌, length, take, cond, All, slice_get, slice_index_or, Some}
 use Rattle.std.specs.List.{sum_by}
 use Rattle.buck_apt.specs.Instruction.{InstructionParts}
@@ -23,19 +24,24 @@ kept_by h c = slice_index_or c.kept (h - 1) []
 abbrev pub replies_from : ℕ → ℕ → List Posting → List Kept
 replies_from h position [] = []
 replies_from h position (x ∷ more) =
-    cond (harvester_of x == h) ((record { position = position; entry = x }) ∷ replies_from h (position + 1) more) (replies_from h (position + 1) more)
+    cond (harvester_of x == h)
+    ((record { position = position; entry = x }) ∷ replies_from h (position + 1) more)
+    (replies_from h (position + 1) more)
 
 abbrev pub replies_of : ℕ → HistoryParts → List Kept
 replies_of h history = replies_from h 0 history.postings
 
--- whatever `close` answers: the kept lists are those of the n seats, and there are as many postings as they hold; each cutting is the first of the best under the sheet of its version
+-- whatever `close` answers: the kept lists are those of the n seats, and there are as many postings as they hold; each
+-- cutting is the first of the best under the sheet of its version
 pub record IsHandedOut (n : ℕ) (seats : List SeatParts) (c : ClosedParts) : Type 0 where
   pub lists : All (λ s. kept_by s.harvester c ≡ s.kept) seats
   pub number : length c.kept ≡ n
   pub total : length c.history.postings ≡ sum_by length c.kept
   pub first_best : (k : ℕ) (x : Posting) → slice_get c.history.postings k ≡ Some x → IsFirst c.history x
 
--- the headline: the history is lawful for the instruction that the fleet was opened with; it holds what each of the n seats was answered, each reply once, at the position that was answered, in the seat's order; and it holds nothing else
+-- the headline: the history is lawful for the instruction that the fleet was opened with; it holds what each of the n
+-- seats was answered, each reply once, at the position that was answered, in the seat's order; and it holds nothing
+-- else
 pub record IsOneHistory (i : InstructionParts) (n : ℕ) (seats : List SeatParts) (c : ClosedParts) : Type 0 where
   pub same_instruction : c.history.instruction ≡ i
   pub lawful : IsLawful c.history
@@ -48,7 +54,8 @@ pub record DifferFirstAt (number : ℕ) (these those : List Kept) : Type 0 where
   pub like_before : take (number - 1) these ≡ take (number - 1) those
   pub unlike_there : slice_get these (number - 1) ≢ slice_get those (number - 1)
 
--- why a fleet doesn't close well: the instructions differ; or else a harvester's kept list and its postings differ, that of the lowest such harvester at the lowest such number
+-- why a fleet doesn't close well: the instructions differ; or else a harvester's kept list and its postings differ,
+-- that of the lowest such harvester at the lowest such number
 abbrev pub IsCloseFault : InstructionParts → ℕ → ClosedParts → CloseFault → Type 0
 IsCloseFault i n c Instruction = c.history.instruction ≢ i
 IsCloseFault i n c (Calls harvester number) =

@@ -25,7 +25,8 @@ pub record IsNew (b : Board) (i : ℕ) (s : SeatParts) : Type 0 where
   pub nothing_seen : seen_of s ≡ 0
   pub of_board : IsSeatOf b s.place
 
--- the seats of a new fleet: n of them, the harvesters from 1 on in order, with all 64 parts of the ledger; so they are its crew
+-- the seats of a new fleet: n of them, the harvesters from 1 on in order, with all 64 parts of the ledger; so they are
+-- its crew
 pub record AreOpened (b : Board) (n : ℕ) (seats : List SeatParts) : Type 0 where
   pub number : length seats ≡ n
   pub each : (i : ℕ) (d : SeatParts) → i < n → IsNew b i (slice_index_or seats i d)

@@ -39,8 +39,10 @@ pub record HasRun (stems : List StemParts) (before after : SeatParts) : Type 0 w
   pub beginning : (n : ℕ) × HasCut n stems before after
   pub whole : after.stopped ≡ None → HasCut (length stems) stems before after
 
--- each seat has run through the list at its place; the seats stand in the same order, are of the fleet as before, and have together what they had of the ledger
-pub record HaveRun (f : FleetParts) (lists : List (Vec (Arc Stem Global) Global)) (before after : List SeatParts) : Type 0 where
+-- each seat has run through the list at its place; the seats stand in the same order, are of the fleet as before, and
+-- have together what they had of the ledger
+pub record HaveRun (f : FleetParts) (lists : List (Vec (Arc Stem Global) Global))
+    (before after : List SeatParts) : Type 0 where
   pub number : length after ≡ length before
   pub of_fleet : All (IsSeatIn f) after
   pub same_crew : (n : ℕ) → IsCrew n before → IsCrew n after

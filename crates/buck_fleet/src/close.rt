@@ -27,8 +27,8 @@ pub enum CloseFault {
     /// The book's instruction isn't the fleet's.
     #[error("the instruction is another")]
     Instruction,
-    /// A harvester's postings with their positions and its kept list differ at this number, from 1. No lower harvester's
-    /// do, and this one's don't at a lower number.
+    /// A harvester's postings with their positions and its kept list differ at this number, from 1. No lower
+    /// harvester's do, and this one's don't at a lower number.
     #[error("the calls of harvester {harvester} differ at number {number}")]
     Calls { harvester: u32, number: u32 },
 }
@@ -57,13 +57,22 @@ impl Model for Closed {
     ghost Value = { ClosedParts };
 
     ghost view = { λ c. record {
-      history = record { instruction = c.instruction.value; sheets = map (λ a. a.value.prices) c.sheets.items; postings = c.entries.items };
+      history = record {
+        instruction = c.instruction.value;
+        sheets = map (λ a. a.value.prices) c.sheets.items;
+        postings = c.entries.items;
+      };
       kept = lists_of c.kept.items;
     } };
 
     ghost invariant = { λ c.
-        IsLawful (record { instruction = c.instruction.value; sheets = map (λ a. a.value.prices) c.sheets.items; postings = c.entries.items })
-        × (map (λ a. a.value) c.sheets.items ≡ sheets_from 0 c.instruction.value (map (λ a. a.value.prices) c.sheets.items))
+        IsLawful (record {
+          instruction = c.instruction.value;
+          sheets = map (λ a. a.value.prices) c.sheets.items;
+          postings = c.entries.items;
+        })
+        × (map (λ a. a.value) c.sheets.items
+        ≡ sheets_from 0 c.instruction.value (map (λ a. a.value.prices) c.sheets.items))
         × (c.targets.value.items ≡ targets_of c.instruction.value c.entries.items)
         × AreTargets c.instruction.value c.targets.value.items
         × AreClassCounts c.instruction.value c.entries.items c.counts.items };
@@ -149,7 +158,8 @@ impl Closed {
 
     /// The sheets, by version.
     pub fn sheets(&self) -> &[Arc<Sheet>]
-        ensures sheets { map (λ a. a.value) result.now ≡ sheets_from 0 self.now.history.instruction self.now.history.sheets }
+        ensures sheets { map (λ a. a.value) result.now
+            ≡ sheets_from 0 self.now.history.instruction self.now.history.sheets }
         ensures lawful { IsLawful self.now.history }
     {
         self.sheets.as_slice()
@@ -212,8 +222,8 @@ impl Closed {
 }
 
 impl<F: Drop, L: Ledger> Fleet<F, L> {
-    /// Closes the fleet: takes all its seats in, in any order, and compares what each kept with the history. It takes no
-    /// memory. Where it answers Ok the history is one of a single thread, and holds each seat's replies once and in
+    /// Closes the fleet: takes all its seats in, in any order, and compares what each kept with the history. It takes
+    /// no memory. Where it answers Ok the history is one of a single thread, and holds each seat's replies once and in
     /// their order and nothing else. Refused as `Instruction` where the book's instruction isn't the fleet's, else as
     /// `Calls`; the history is handed out all the same.
     pub fn close(self, seats: Vec<Seat<L>>) -> Result<Closed, (CloseFault, Closed)>

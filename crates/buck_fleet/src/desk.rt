@@ -155,7 +155,8 @@ impl<F: Fn(&Standing) -> u64 + Drop, L: Ledger> Desk<F, L> {
         requires answers { AllAnswer F.Fn }
         requires seat { IsSeatOf board.now seat.old.place }
         ensures seat { IsSeatOf board.now seat.new.place }
-        ensures ok { IfOk result (IsDemandReplyAt self.old.book self.new.book seat.old seat.new targets.now.value.items) }
+        ensures ok { IfOk result
+            (IsDemandReplyAt self.old.book self.new.book seat.old seat.new targets.now.value.items) }
         ensures refused { IfErr result (λ e. (self.new.book.history ≡ self.old.book.history) × (seat.new ≡ seat.old)) }
     {
         let Desk { book, calls, .. } = self;

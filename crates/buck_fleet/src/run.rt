@@ -145,8 +145,8 @@ fn run_all<
 }
 
 /// Cuts one list of stems by each seat of a fleet, each in a thread of its own and in order. A harvester stops at its
-/// first fault, and the others go on. The seats come back in the order given, also where a growth was refused; of several
-/// faults that of the lowest harvester is answered.
+/// first fault, and the others go on. The seats come back in the order given, also where a growth was refused; of
+/// several faults that of the lowest harvester is answered.
 pub fn run_fleet<
     F: Fn(&Standing) -> u64 + Drop + Send,
     L: Ledger + Send + Sync,

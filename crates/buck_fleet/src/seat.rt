@@ -74,7 +74,13 @@ impl<L: Ledger> Model for Seat<L> {
 
     ghost Value = { SeatParts };
 
-    ghost view = { λ s. record { harvester = s.harvester; place = s.place; kept = s.kept.items; parts = s.share.parts; stopped = s.stopped } };
+    ghost view = { λ s. record {
+      harvester = s.harvester;
+      place = s.place;
+      kept = s.kept.items;
+      parts = s.share.parts;
+      stopped = s.stopped;
+    } };
 
     ghost invariant = { λ s. (s.share.amount ≡ length s.kept.items) × (0 < s.share.parts) × (0 < s.harvester)
         × (s.harvester ≤ 64) };
@@ -111,7 +117,13 @@ impl<L: Ledger> Seat<L> {
     pub(crate) fn make(alloc: Global, harvester: u32, place: BoardSeat, share: Share<L>) -> Seat<L>
         requires harvester { (0 < harvester) × (harvester ≤ 64) }
         requires share { (0 < share.parts) × (share.amount ≡ 0) }
-        ensures { result ≡ record { harvester = harvester; place = place; kept = []; parts = share.parts; stopped = None } }
+        ensures { result ≡ record {
+          harvester = harvester;
+          place = place;
+          kept = [];
+          parts = share.parts;
+          stopped = None;
+        } }
     {
         Seat {
             harvester,
@@ -125,7 +137,7 @@ impl<L: Ledger> Seat<L> {
 
     /// Notes why its run stopped.
     pub(crate) fn note(&mut self, stopped: Option<RunFault>)
-        ensures { self.new ≡ record { harvester = self.old.harvester; place = self.old.place; kept = self.old.kept; parts = self.old.parts; stopped = stopped } }
+        ensures { self.new ≡ record self.old { stopped = stopped } }
     {
         self.stopped = stopped;
     }

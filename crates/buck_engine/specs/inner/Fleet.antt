@@ -42,7 +42,8 @@ pub record IsListRefusal (stms : List (Option (List ℕ))) (e : EngineFault) : T
 
 -- a lawful history of an instruction, in which harvester k + 1 cut exactly the stems of the list at place k, and nobody
 -- else has a posting
-pub record HasCutLists (i : InstructionParts) (lists : List (Vec (Arc Stem Global) Global)) (h : HistoryParts) : Type 0 where
+pub record HasCutLists (i : InstructionParts) (lists : List (Vec (Arc Stem Global) Global))
+    (h : HistoryParts) : Type 0 where
   pub same_instruction : h.instruction ≡ i
   pub lawful : IsLawful h
   pub stems : (k : ℕ) → k < length lists → stems_cut_by (k + 1) h ≡ map Some (stems_at lists k)
@@ -68,7 +69,8 @@ pub record IsHarvestFault (apt : Option (List ℕ)) (stms : List (Option (List �
   pub refusal : IsFleetRefusal e apt stms
 
 -- what was written of the texts of a history
-abbrev pub AreWritten : HistoryParts → OfWriter → Option (List ℕ) → Option (List ℕ) → Result (Unit {0}) EngineFault → Type 0
+abbrev pub AreWritten : HistoryParts → OfWriter → Option (List ℕ) → Option (List ℕ) → Result (Unit {0}) EngineFault
+    → Type 0
 AreWritten h OfJournal old new (Ok _) = WroteAll h OfJournal old new
 AreWritten h OfJournal old new (Err (Read file)) = ⊥
 AreWritten h OfJournal old new (Err Write) = WroteSome h OfJournal old new

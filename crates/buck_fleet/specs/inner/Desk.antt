@@ -14,8 +14,10 @@ use Rattle.buck_fleet.specs.declared.cut.Attempt.TheVariants.{Done, Outdated, Re
 use Rattle.buck_fleet.specs.declared.seat.Path.TheVariants.{Optimistic}
 use Rattle.buck_fleet.specs.Reply.{kept_of, kept_demand_of, IsReplyFor, IsOfPlan}
 
--- the plan of the sheet in force was committed: its entry is the next of the history and is kept, and the version in force has been seen
-pub record IsReplyAt {F : Type 0} (before after : BookParts F) (seat_before seat_after : SeatParts) (p : PlanParts) (r : Reply) : Type 0 where
+-- the plan of the sheet in force was committed: its entry is the next of the history and is kept, and the version in
+-- force has been seen
+pub record IsReplyAt {F : Type 0} (before after : BookParts F) (seat_before seat_after : SeatParts)
+    (p : PlanParts) (r : Reply) : Type 0 where
   pub under : p.sheet ≡ in_force before.history
   pub planned : IsPlan p
   pub entry_is : r.entry ≡ entry_of before.history seat_before.harvester p
@@ -43,8 +45,10 @@ pub record IsPlanRefused {F : Type 0} (before after : BookParts F) (p : PlanPart
   pub other_sheet : HasOtherSheet p e
   pub stale : WasStale before.history p e
 
--- the demand was committed: it is the next posting of the history and is kept, and the version that it begins has been seen
-pub record IsDemandReplyAt {F : Type 0} (before after : BookParts F) (seat_before seat_after : SeatParts) (targets : List ℕ) (r : DemandReply) : Type 0 where
+-- the demand was committed: it is the next posting of the history and is kept, and the version that it begins has been
+-- seen
+pub record IsDemandReplyAt {F : Type 0} (before after : BookParts F) (seat_before seat_after : SeatParts)
+    (targets : List ℕ) (r : DemandReply) : Type 0 where
   pub demand_is : r.demand ≡ demand_of before.history seat_before.harvester targets
   pub position_is : r.position ≡ length before.history.postings
   pub postings_are : after.history.postings ≡ before.history.postings ++ Demand r.demand ∷ []
