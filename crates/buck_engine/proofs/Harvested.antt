@@ -1,6 +1,6 @@
 -- What a fleet has cut that was opened anew, run to the end of all lists, and closed.
-use Rattle.std.proofs.Common.{◌≡◌, ℕ, zero, suc, ◌+◌, ◌-◌, ◌<◌, ◌≤◌, List, [], ◌∷◌, ◌++◌, length, map, take, get_or, refl, sym, ap, subst, ◌∙◌, arith, add-one, take_all}
-use Rattle.std.specs.Prelude.{All, Some, None, slice_index_or}
+use Rattle.std.proofs.Common.{◌≡◌, ℕ, zero, suc, ◌+◌, ◌-◌, ◌<◌, ◌≤◌, List, [], ◌∷◌, ◌++◌, length, map, take, get_or, refl, sym, ap, subst, ◌∙◌, arith, take_all}
+use Rattle.std.specs.Prelude.{All, Some, None}
 use Rattle.std.specs.List.{sum_by}
 use Rattle.std.specs.declared.sync.Arc.{Arc}
 use Rattle.std.specs.declared.vec.Vec.{Vec}
@@ -11,16 +11,13 @@ use Rattle.buck_apt.specs.Instruction.{InstructionParts}
 use Rattle.buck_stem.specs.Stem.{StemParts}
 use Rattle.buck_stem.specs.declared.stem.Stem.{Stem}
 use Rattle.buck_book.specs.declared.posting.Posting.{Posting}
-use Rattle.buck_book.specs.Posting.{harvester_of}
-use Rattle.buck_book.specs.History.{HistoryParts}
 use Rattle.buck_board.specs.declared.board.Board.{Board}
 use Rattle.buck_fleet.specs.declared.seat.Kept.{Kept}
 use Rattle.buck_fleet.specs.Seat.{SeatParts}
 use Rattle.buck_fleet.specs.Fleet.{FleetParts}
 use Rattle.buck_fleet.specs.Crew.{AreOpened}
-use Rattle.buck_fleet.specs.Run.{stem_cut, stems_at, HaveRun, HasRun, HasCut}
+use Rattle.buck_fleet.specs.Run.{stem_cut, stems_at, HaveRun, HasRun}
 use Rattle.buck_fleet.specs.Closed.{ClosedParts, kept_by, replies_from, replies_of, IsOneHistory}
-use Rattle.buck_engine.specs.Fleet.{stems_cut_by}
 use Rattle.buck_engine.specs.inner.Fleet.{HasCutLists}
 use Rattle.buck_engine.proofs.Owned.{owned, all_of_them}
 

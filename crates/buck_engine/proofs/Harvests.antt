@@ -1,11 +1,10 @@
 -- What was written of the texts of a history.
-use Rattle.std.proofs.Common.{◌≡◌, ℕ, List, map, Option, Result, Ok, Err, inl, inr, sym, subst, ◌∙◌, ap}
+use Rattle.std.proofs.Common.{◌≡◌, ℕ, List, Option, Result, Ok, Err, inl, inr, sym, subst}
 use Rattle.std.specs.Io.KnownBytes.{Appends}
 use Rattle.std.proofs.KnownBytes.{Keeps-refl}
 use Rattle.buck_book.specs.History.{HistoryParts}
 use Rattle.buck_journal.specs.Written.{journal_text}
 use Rattle.buck_engine.specs.declared.fault.EngineFault.{EngineFault}
-use Rattle.buck_engine.specs.declared.fault.EngineFault.TheVariants.{Write}
 use Rattle.buck_engine.specs.Lent.{of_writer}
 use Rattle.buck_engine.specs.Output.{AppendsSome, IsWritten}
 use Rattle.buck_engine.specs.Report.{IsReport}

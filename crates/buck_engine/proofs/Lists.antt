@@ -1,16 +1,14 @@
 -- Stem files that are read one after the other.
-use Rattle.std.proofs.Common.{◌≡◌, ℕ, zero, suc, ◌+◌, ◌<◌, ◌⊎◌, inl, inr, List, [], ◌∷◌, ◌++◌, length, map, drop, get_or, set, Option, Some, None, Result, Ok, Err, IfSome, IsOk, refl, sym, ap, subst, ◌∙◌, arith, length-append}
+use Rattle.std.proofs.Common.{◌≡◌, ℕ, zero, suc, ◌+◌, ◌<◌, ◌⊎◌, inl, inr, List, [], ◌∷◌, ◌++◌, length, map, drop, get_or, set, Option, Some, None, Result, Ok, Err, IfSome, IsOk, refl, sym, ap, subst, ◌∙◌, arith}
 use Rattle.std.specs.Result.{IfErr, IsErrAnd}
 use Rattle.std.specs.declared.sync.Arc.{Arc}
 use Rattle.std.specs.declared.vec.Vec.{Vec}
 use Rattle.std.specs.declared.alloc.Global.{Global}
 use Rattle.std.specs.Prelude.{slice_index_or}
-use Rattle.std.proofs.lemmas.List.{drop-set-lt, get_or-drop, get_or-map, map-append}
+use Rattle.std.proofs.lemmas.List.{drop-set-lt, get_or-drop, get_or-map}
 use Rattle.std.proofs.lemmas.Grind.{drop_more_same}
-use Rattle.std.proofs.Math.Seq.{get_or-append_seam}
 use Rattle.buck_stem.specs.Stem.{StemParts}
 use Rattle.buck_stem.specs.declared.stem.Stem.{Stem}
-use Rattle.buck_stem.specs.declared.fault.StmFault.{StmFault}
 use Rattle.buck_stem.specs.Stm.{stm_of}
 use Rattle.buck_fleet.specs.Run.{stems_of, stems_at}
 use Rattle.buck_engine.specs.declared.fault.EngineFault.{EngineFault}

@@ -1,14 +1,9 @@
 -- Who a history's postings belong to: where the harvesters 1 to n have all postings between them, nobody else has one.
-use Rattle.std.proofs.Common.{◌≡◌, ℕ, zero, suc, Bool, true, false, ◌+◌, ◌-◌, ◌<◌, ◌≤◌, ◌==◌, ◌⊎◌, inl, inr, cond, List, [], ◌∷◌, ◌++◌, length, take, get_or, refl, sym, ap, subst, ◌∙◌, arith, add-one}
+use Rattle.std.proofs.Common.{◌≡◌, ℕ, zero, suc, Bool, true, false, ◌+◌, ◌<◌, ◌≤◌, ◌==◌, ◌⊎◌, inl, inr, cond, List, [], ◌∷◌, length, refl, arith}
 use Rattle.std.proofs.lemmas.Bool.Decides.{nat_tests}
-use Rattle.std.proofs.Math.Seq.{take-suc}
-use Rattle.std.proofs.lemmas.List.Sums.{sum_by-append}
-use Rattle.std.proofs.Common.{take_all}
-use Rattle.std.specs.Prelude.{All, slice_index_or}
-use Rattle.std.specs.List.{sum_by}
+use Rattle.std.specs.Prelude.{All}
 use Rattle.buck_book.specs.declared.posting.Posting.{Posting}
 use Rattle.buck_book.specs.Posting.{harvester_of}
-use Rattle.buck_fleet.specs.declared.seat.Kept.{Kept}
 use Rattle.buck_fleet.specs.Closed.{replies_from}
 
 -- how many postings the harvesters 1 to n have

@@ -1,4 +1,4 @@
-use Rattle.std.proofs.Common.{rules, ◌≡◌, ◌∙◌, ap}
+use Rattle.std.proofs.Common.{◌∙◌}
 use Rattle.buck_journal.specs.Written.{journal_text}
 use Rattle.buck_fleet.proofs.Counted.{prices_are}
 use Rattle.buck_engine.proofs.fleet.journal_of.Goals as goal

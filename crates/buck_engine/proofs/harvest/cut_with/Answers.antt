@@ -1,4 +1,4 @@
-use Rattle.std.proofs.Common.{ℕ, sym, subst, arith}
+use Rattle.std.proofs.Common.{ℕ, sym, subst}
 use Rattle.std.proofs.lemmas.Result.{IfOk-weaker}
 use Rattle.buck_fleet.specs.Crew.{IsCrew}
 use Rattle.buck_engine.proofs.Harvested.{has_cut_lists}

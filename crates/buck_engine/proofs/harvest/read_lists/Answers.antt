@@ -1,4 +1,4 @@
-use Rattle.std.proofs.Common.{rules, ◌≡◌, ◌<◌, ◌+◌, ◌∙◌, ℕ, List, Option, IfSome, Ok, length, map, None, slice_index_or, arith, sym, subst, length-set}
+use Rattle.std.proofs.Common.{rules, ◌≡◌, ◌<◌, ◌∙◌, ℕ, List, Option, IfSome, Ok, length, arith, subst, length-set}
 use Rattle.std.proofs.lemmas.List.{length-map}
 use Rattle.buck_stem.specs.Stm.{stm_of}
 use Rattle.buck_fleet.specs.Run.{stems_of}

@@ -1,4 +1,4 @@
-use Rattle.std.proofs.Common.{◌≡◌, ◌+◌, length, map, drop}
+use Rattle.std.proofs.Common.{◌≡◌, length, map, drop}
 use Rattle.buck_engine.specs.inner.Fleet.{AreListsOf}
 use Rattle.buck_engine.proofs.harvest.read_lists.Given as goal
 
