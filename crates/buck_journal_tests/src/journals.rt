@@ -1,7 +1,7 @@
 //! Journals of the saw instruction, and what a replay of them answers.
 use buck_apt::Instruction;
 use buck_journal::{Journal, ReplayFault, read_journal, replay};
-use buck_samples::{edited, saw_instruction, two_stem_journal};
+use buck_samples::{demand_journal, edited, saw_instruction, two_stem_journal};
 use std::sync::Arc;
 use std::test::Fail;
 
@@ -42,29 +42,7 @@ pub fn two_stems(rt: &HostRuntime) -> Result<String, Fail> {
 
 /// The same with a demand between the stems.
 pub fn with_demand(rt: &HostRuntime) -> Result<String, Fail> {
-    let samples = " 250".repeat(rt.alloc(), 41)?;
-    Ok(format!(in rt.alloc();
-        "1 2 JRN~
-971 1 400 500 600 800~
-971 1 600 750 900 400~
-971 1 400 500 600 800~
-971 1 400 500 600 800~
-981 1 1 1 0~
-981 2 1 1~
-981 3{samples}~
-981 4~
-981 5 0 4000 0~
-981 6 157080000~
-982 1 1 2 1~
-982 2 0 0 0 4~
-981 1 1 3 2~
-981 2 2 1~
-981 3{samples}~
-981 4~
-981 5 0 4000 0~
-981 6 157080000~
-"
-    )?)
+    Ok(demand_journal(rt.alloc())?)
 }
 
 /// The fault of the journal of two stems with its first part `old` replaced by `new`.

@@ -3,7 +3,7 @@
 use crate::fixtures::demand;
 use crate::journals::{shifting, two_stems};
 use buck_journal::{Journal, ReplayFault, journal_text, read_journal, replay};
-use buck_samples::edited;
+use buck_samples::{SHORT_JOURNAL, edited};
 use std::test::Fail;
 
 #[test]
@@ -15,22 +15,9 @@ fn refused_memory_of_a_text(rt: HostRuntime) -> Result<(), Fail> {
     Ok(())
 }
 
-/// A journal of one cut and one demand.
-const SHORT: &str = "1 2 JRN~
-971 1 400 500 600 800~
-981 1 1 1 0~
-981 2 7 1~
-981 3 250 250~
-981 4 0 1 3000 8~
-981 5 0 4000 0~
-981 6 157080000~
-982 1 64 2 1~
-982 2 0 0 1000000 4~
-";
-
 #[test]
 fn refused_memory_of_a_reading(rt: HostRuntime) -> Result<(), Fail> {
-    let journal = read_journal(rt.alloc(), SHORT.as_bytes())?;
+    let journal = read_journal(rt.alloc(), SHORT_JOURNAL.as_bytes())?;
     assert!(rt; journal.sheets.len() == 1 && journal.entries.len() == 2);
     Ok(())
 }

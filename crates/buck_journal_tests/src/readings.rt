@@ -1,21 +1,8 @@
 //! What is read of journals, and what is refused.
 use buck_book::Posting;
 use buck_journal::{Journal, JournalFault, read_journal};
-use buck_samples::edited;
+use buck_samples::{SHORT_JOURNAL, edited};
 use std::test::Fail;
-
-/// A journal of one sheet, one cut and one demand.
-const SHORT: &str = "1 2 JRN~
-971 1 400 500 600 800~
-981 1 1 1 0~
-981 2 7 1~
-981 3 250 250~
-981 4 0 1 3000 8~
-981 5 0 4000 0~
-981 6 157080000~
-982 1 64 2 1~
-982 2 0 0 1000000 4~
-";
 
 /// Whether a posting is the cut of the short journal.
 fn is_cut(posting: &Posting) -> bool {
@@ -52,7 +39,7 @@ fn is_short(journal: &Journal) -> bool {
 
 #[test]
 fn read(rt: HostRuntime) -> Result<(), Fail> {
-    let journal = read_journal(rt.alloc(), SHORT.as_bytes())?;
+    let journal = read_journal(rt.alloc(), SHORT_JOURNAL.as_bytes())?;
     assert!(rt; is_short(&journal));
     Ok(())
 }
@@ -67,7 +54,7 @@ fn refusal(rt: &HostRuntime, text: &str) -> Option<JournalFault> {
 
 /// The refusal of the short journal with its first part `old` replaced by `new`.
 fn refusal_of(rt: &HostRuntime, old: &str, new: &str) -> Result<Option<JournalFault>, Fail> {
-    let text = edited(rt.alloc(), SHORT, old, new)?;
+    let text = edited(rt.alloc(), SHORT_JOURNAL, old, new)?;
     Ok(refusal(rt, text.as_str()))
 }
 

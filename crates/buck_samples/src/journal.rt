@@ -2,6 +2,19 @@
 use crate::fault::SampleFault;
 use std::alloc::Global;
 
+/// A journal of the saw instruction: one sheet, one cut of a short stem with two zones, and one demand. It isn't lawful.
+pub const SHORT_JOURNAL: &str = "1 2 JRN~
+971 1 400 500 600 800~
+981 1 1 1 0~
+981 2 7 1~
+981 3 250 250~
+981 4 0 1 3000 8~
+981 5 0 4000 0~
+981 6 157080000~
+982 1 64 2 1~
+982 2 0 0 1000000 4~
+";
+
 /// The journal of two stems of 4,000 mm and 250 mm, cut under the step rule by the saw instruction with period 1, limit
 /// 500 and targets 1 1 1 1.
 pub fn two_stem_journal(alloc: Global) -> Result<String, SampleFault> {
@@ -23,6 +36,33 @@ pub fn two_stem_journal(alloc: Global) -> Result<String, SampleFault> {
 981 4~
 981 5 0 3000 0~
 981 6 132535800~
+"
+    )?)
+}
+
+/// The same with a demand between the stems, for the last of the four classes alone.
+pub fn demand_journal(alloc: Global) -> Result<String, SampleFault> {
+    let samples = " 250".repeat(alloc, 41)?;
+    Ok(format!(in alloc;
+        "1 2 JRN~
+971 1 400 500 600 800~
+971 1 600 750 900 400~
+971 1 400 500 600 800~
+971 1 400 500 600 800~
+981 1 1 1 0~
+981 2 1 1~
+981 3{samples}~
+981 4~
+981 5 0 4000 0~
+981 6 157080000~
+982 1 1 2 1~
+982 2 0 0 0 4~
+981 1 1 3 2~
+981 2 2 1~
+981 3{samples}~
+981 4~
+981 5 0 4000 0~
+981 6 157080000~
 "
     )?)
 }
