@@ -55,7 +55,8 @@ head_slots = module_slot ∷ period_slot ∷ limit_slot ∷ count_slot ∷ []
 -- the items that each assortment has after its name
 abbrev pub member_slots : List Slot
 member_slots =
-    species_slot ∷ grades_slot ∷ price_kind_slot ∷ diameters_slot ∷ upper_slot ∷ lengths_slot ∷ prices_slot ∷ targets_slot ∷ []
+    species_slot ∷ grades_slot ∷ price_kind_slot ∷ diameters_slot ∷ upper_slot
+    ∷ lengths_slot ∷ prices_slot ∷ targets_slot ∷ []
 
 -- all items that may stand in an assortment after its name, in the order of the table
 abbrev pub assortment_slots : List Slot

@@ -22,7 +22,8 @@ IsSeatAt f s = s.place.table_id ≡ f.table.shared.table_id
 abbrev pub IsSeatOf : Board → BoardSeat → Type 0
 IsSeatOf b s = IsSeatAt b.front s
 
--- after a raise the seat has seen the greater of the version and the word that was found, which was no less than what it had seen
+-- after a raise the seat has seen the greater of the version and the word that was found, which was no less than what
+-- it had seen
 abbrev pub IsRaised : BoardSeat → ℕ → BoardSeat → Type 0
 IsRaised before version after = (word : ℕ) × (seen_by before ≤ word) × (seen_by after ≡ max word version)
 

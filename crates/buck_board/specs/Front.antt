@@ -15,6 +15,7 @@ IsFront s = (front : ℕ) × (s.words ≡ front ∷ []) × IsSeenUpTo front s.vi
 abbrev pub Reads : Step (Unit {0}) → Me (Unit {0}) ℕ → ℕ → Me (Unit {0}) ℕ → Type 0
 Reads s before found after = (before.0 ≤ found) × (found < 2 ^ 32) × (after.0 ≡ found)
 
--- what a raise to s.first tells: the greater of that and the word found is seen, and no more than the word had been seen before
+-- what a raise to s.first tells: the greater of that and the word found is seen, and no more than the word had been
+-- seen before
 abbrev pub Raises : Step (Unit {0}) → Me (Unit {0}) ℕ → ℕ → Me (Unit {0}) ℕ → Type 0
 Raises s before found after = (before.0 ≤ found) × (found < 2 ^ 32) × (after.0 ≡ max found s.first)

@@ -47,6 +47,7 @@ abbrev pub IsMaker : {X Y E : Type 0} → E → (Bor X → Result Y E → Type 0
 IsMaker {X} {Y} {E} memory post f = (x : Bor X) (r : Result Y E) → post x r → Gives memory r (f x.now)
 
 -- the answer is what the closure makes of the elements, or the first fault, memory aside
-abbrev pub MakesEach : {A X Y E : Type 0} → (A → E → Type 0) → (Bor X → Result Y E → Type 0) → List X → Result (List Y) E → Type 0
+abbrev pub MakesEach : {A X Y E : Type 0} → (A → E → Type 0) → (Bor X → Result Y E → Type 0) → List X
+    → Result (List Y) E → Type 0
 MakesEach {A} {X} {Y} {E} gives post xs r =
     (memory : E) (f : X → Result Y E) → IsMemory gives memory → IsMaker memory post f → Gives memory r (make_each f xs)

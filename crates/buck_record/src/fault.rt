@@ -7,9 +7,10 @@ use thiserror::Error;
 
 /// What is wrong with a file or a text of numbers.
 ///
-/// - `Head`: the item, counted from 1 in file order, is the first that does not begin with two numbers of at most 65,535.
-/// - `Digits`: the word, counted from 1, is the first that is no number, or one past the limit. Where one number is asked
-///   for, place 1 stands also for a text of no words, and place 2 for a second word.
+/// - `Head`: the item, counted from 1 in file order, is the first that does not begin with two numbers of at most
+///   65,535.
+/// - `Digits`: the word, counted from 1, is the first that is no number, or one past the limit. Where one number is
+///   asked for, place 1 stands also for a text of no words, and place 2 for a second word.
 /// - `Memory`: a growth was refused. It comes in place of any other answer of a call that takes memory.
 #[derive(Clone, Copy, Debug, PartialEq, Eq, Error)]
 pub enum RecordFault {

@@ -46,8 +46,8 @@ fn push_at_samples(samples: &[u16], out: &mut Vec<u32>) -> Result<(), AllocError
     Ok(())
 }
 
-/// Puts the diameters at each step from `part` mm past a sample on and before the next sample behind the others. The answer
-/// is how far past the next sample the step after them is, in mm.
+/// Puts the diameters at each step from `part` mm past a sample on and before the next sample behind the others. The
+/// answer is how far past the next sample the step after them is, in mm.
 fn push_between(
     low: u32,
     next: u32,
