@@ -4,10 +4,13 @@
     python3 bench/hostile.py --bin PATH/buckfleet FOLDER
 
 Makes the files in FOLDER, one after the other, and runs the program in its bare form with each on standard input: once
-as the instruction, and once as the stems behind an instruction that is right. A line for each run says how long it
-took, the most memory that it held, its exit status and the first line that it wrote. It ends in status 1 where a run
-took longer than --seconds, held more than --times the length of its input, was ended by a signal, or wrote another
-first line than the one that is known for it.
+as the instruction, and once as the stems behind an instruction that is right. Then it runs the commands over the longest
+files that are accepted: instructions of the most classes, the most stems, the longest stems, and journals of the most
+postings, sheets and bytes; and over an instruction file of blanks, one of a byte too many, and both once more where each
+read gives one byte, which takes some minutes. A line for each run says how long it took, the most memory that it held,
+also in lengths of what it read, its exit status and the first line that it wrote. It ends in status 1 where a run took
+longer than --seconds (forty times as long where each read gives one byte), held more than --times the length of what it
+read, was ended by a signal, or wrote another first line than the one that is known for it.
 
 --only WORD runs those whose name has the word, --size makes files of another length, --keep leaves them, and the same
 --seed makes the same files.
@@ -107,10 +110,153 @@ FILES = [
 ]
 
 
+def filled(text, size):
+    """A text with blanks after it."""
+    return text.ljust(size)
+
+
+def longer(numbers, size):
+    """A list of numbers, with zeros before each, so that it has about so many bytes and no more."""
+    width = size // max(len(numbers), 1) - 1
+    return b" ".join(b"%d" % n if width < 10 else b"%0*d" % (width, n) for n in numbers)
+
+
+def assortments(size):
+    """16 assortments of 1,024 classes, with the greatest prices and targets, of about so many bytes."""
+    room = size // 32
+    rows = b" ".join(b"%d" % (10 * k) for k in range(32))
+    columns = b" ".join(b"%d" % (1000 + 100 * k) for k in range(32))
+    prices = longer([10000000] * 1024, room - 1000)
+    targets = longer([1000000] * 1000 + [0] * 24, room - 1000)
+    one = b"911 1 %s~912 1 255~913 1 1 2 3 4 5 6 7 8~914 1 1~" % (b"x" * 32)
+    one += b"915 1 %s~915 2 2000~916 1 %s~917 1 %s~918 1 %s~919 1 200~" % (rows, columns, prices, targets)
+    return b"1 2 APT~901 1 100~902 1 1000~903 1 1000~910 1 16~" + one * 16
+
+
+def most_classes(_source, size):
+    """An instruction of the most classes, whose numbers fill the file."""
+    return filled(assortments(size), size)
+
+
+def most_items(_source, size):
+    """An instruction of the most classes, and then items of no table."""
+    return after(assortments(0), b"0 0~", size)
+
+
+SHORTEST_STEM = b"951 1 1~952 1 1~953 1 9~"
+ZONES = b" ".join(b"%d %d" % (400 * k, k % 8 + 1) for k in range(100))
+LONGEST_STEM = b"951 1 4294967295~952 1 255~953 1 %s~954 1 %s~" % (b" ".join([b"1500"] * 401), ZONES)
+
+
+def most_stems(_source, size):
+    """The most stems that a file may have, of one sample each: 2,796,202."""
+    return after(b"1 2 STM~", SHORTEST_STEM, size)
+
+
+def longest_stems(_source, size):
+    """Stems of the most samples and zones."""
+    return after(b"1 2 STM~", LONGEST_STEM, size)
+
+
+def one_stem(_source, size):
+    """One stem, whose samples fill the file."""
+    samples = longer([1500] * 401, size - 100)
+    return filled(b"1 2 STM~951 1 1~952 1 1~953 1 %s~" % samples, size)
+
+
+# The instruction of the journals: a new sheet after every thousandth cut, or after a demand, and prices that never move.
+JUDGE = INSTRUCTION.replace(b"902 1 1~", b"902 1 1000~")
+SHEET = b"971 1 400 500 600 800~\n"
+MOST_POSTINGS = 1000000
+CUT = b"981 1 %d %d %d~\n981 2 1 1~\n981 3" + b" 250" * 41 + b"~\n981 4~\n981 5 0 4000 0~\n981 6 157080000~\n"
+SHORT_CUT = b"981 1 1 %d %d~981 2 1 1~981 3 9~981 4~981 5~981 6 0~"
+DEMAND = b"982 1 1 %d %d~982 2 1 1 1 1~"
+
+
+def journal(sheets, postings):
+    return b"1 2 JRN~\n" + SHEET * sheets + b"".join(postings)
+
+
+def cuts(number):
+    """A journal of so many cuts of a stem of 4,000 mm, by 64 harvesters in turn."""
+    postings = (CUT % (k % 64 + 1, k // 64 + 1, k // 1000) for k in range(number))
+    return journal(number // 1000 + 1, postings)
+
+
+LONGEST_JOURNAL = 279000
+
+
+def cuts_that_fill(_source, size):
+    return filled(cuts(LONGEST_JOURNAL), size)
+
+
+def just_postings(_source, _size):
+    """A journal of the most postings, each a cut of a stem of one sample."""
+    postings = [SHORT_CUT % (k + 1, k // 1000) for k in range(MOST_POSTINGS)]
+    return journal(MOST_POSTINGS // 1000 + 1, postings)
+
+
+def one_more(source, size):
+    """The same with a posting more."""
+    return just_postings(source, size) + SHORT_CUT % (1, 1000)
+
+
+def demands(_source, size):
+    """A journal of the most postings, each a demand, and so of the most sheets that belong to one."""
+    postings = [DEMAND % (k + 1, k) for k in range(MOST_POSTINGS)]
+    return filled(journal(MOST_POSTINGS + 1, postings).replace(b"\n", b""), size)
+
+
+def longest_sheets(_source, size):
+    """A journal of sheets of the most prices, and no posting."""
+    return after(b"1 2 JRN~", b"971 1" + b" 0" * 16384 + b"~", size)
+
+
+def blanks(_source, size):
+    return b" " * size
+
+
+def just(text):
+    return lambda source, size: text
+
+
+# The runs by name: the words, what makes the files a and b, how many bytes more than the limit they are made to fill,
+# and the first line.
+BUCK, FLEET, CHECK = ["buck", "a", "b"], ["fleet", "a", "b"], ["check", "a", "b"]
+SAW, JUDGED, NO_STEMS = just(INSTRUCTION), just(JUDGE), just(b"1 2 STM~")
+POSTING_TOO_MANY = 1 + (MOST_POSTINGS // 1000 + 1) + 6 * MOST_POSTINGS + 1
+COMMANDS = [
+    ("an instruction of blanks", BUCK, blanks, NO_STEMS, 0, "apt fault 2"),
+    ("an instruction of blanks, a byte too many", BUCK, blanks, NO_STEMS, 1, "read fault 0"),
+    ("an instruction of most classes", BUCK, most_classes, NO_STEMS, 0, "TOTAL 0 0 0"),
+    ("an instruction of most classes and items", BUCK, most_items, NO_STEMS, 0, "TOTAL 0 0 0"),
+    ("most stems", BUCK, SAW, most_stems, 0, "STEM 1 0 0 0"),
+    ("most stems by a fleet", FLEET, SAW, most_stems, 0, "full"),
+    ("longest stems", BUCK, SAW, longest_stems, 0, "STEM 4294967295 40000 0 0"),
+    ("one stem", BUCK, SAW, one_stem, 0, "STEM 1 40000 0 0"),
+    ("a journal of cuts", CHECK, JUDGED, cuts_that_fill, 0, f"LAWFUL {LONGEST_JOURNAL}"),
+    ("a journal of most postings", CHECK, JUDGED, just_postings, 0, f"LAWFUL {MOST_POSTINGS}"),
+    ("a journal of a posting too many", CHECK, JUDGED, one_more, 0, f"journal fault 5 {POSTING_TOO_MANY}"),
+    ("a journal of most demands", CHECK, JUDGED, demands, 0, f"LAWFUL {MOST_POSTINGS}"),
+    ("a journal of longest sheets", CHECK, JUDGED, longest_sheets, 0, "replay fault 1 1"),
+]
+
+
 def write(path, prefix, make, seed, size):
     with open(path, "wb") as out:
         out.write(prefix)
         out.write(make(random.Random(seed), size - len(prefix)))
+
+
+def drip(path, end):
+    """Writes a file into a pipe, byte after byte. The pipe is one of packets, so that a read gives what a write wrote."""
+    with open(path, "rb") as given:
+        text = given.read()
+    try:
+        for at in range(len(text)):
+            os.write(end, text[at : at + 1])
+    except BrokenPipeError:
+        pass
 
 
 def made(path, *given):
@@ -122,19 +268,56 @@ def made(path, *given):
         sys.exit(f"{path} was not made")
 
 
-def run(program, path):
+def ended(child, start):
     """Seconds, seconds of processor time, MiB held at most, exit status and first line of a run."""
-    with open(path, "rb") as given:
-        start = time.monotonic()
-        child = subprocess.Popen([program], stdin=given, stdout=subprocess.PIPE, stderr=subprocess.STDOUT)
-        first = child.stdout.readline()
-        while child.stdout.read(1 << 20):
-            pass
-        _, status, usage = os.wait4(child.pid, 0)
-        took = time.monotonic() - start
+    first = child.stdout.readline()
+    while child.stdout.read(1 << 20):
+        pass
+    _, status, usage = os.wait4(child.pid, 0)
+    took = time.monotonic() - start
     child.returncode = os.waitstatus_to_exitcode(status)
     text = first.decode("utf-8", "replace").rstrip("\n")
     return took, usage.ru_utime + usage.ru_stime, usage.ru_maxrss / 1024, child.returncode, text
+
+
+def run(program, words, stdin, folder):
+    with open(stdin, "rb") as given:
+        start = time.monotonic()
+        child = subprocess.Popen(
+            [program, *words], stdin=given, stdout=subprocess.PIPE, stderr=subprocess.STDOUT, cwd=folder
+        )
+        return ended(child, start)
+
+
+def run_dripped(program, words, path, folder):
+    """The same where standard input gives a file byte after byte."""
+    out, end = os.pipe2(os.O_DIRECT)
+    start = time.monotonic()
+    child = subprocess.Popen(
+        [program, *words], stdin=out, stdout=subprocess.PIPE, stderr=subprocess.STDOUT, cwd=folder
+    )
+    os.close(out)
+    dripping = multiprocessing.get_context("fork").Process(target=drip, args=(path, end))
+    dripping.start()
+    os.close(end)
+    found = ended(child, start)
+    dripping.join()
+    return found
+
+
+def wrongs(found, line, seconds, most):
+    """What is wrong with a run."""
+    took, _, held, status, first = found
+    faults = []
+    if took > seconds:
+        faults.append("slow")
+    if held * 1048576 > most + 16 * 1048576:
+        faults.append("too much memory")
+    if status < 0:
+        faults.append("ended by a signal")
+    if line is not None and first != line:
+        faults.append(f"not: {line}")
+    return faults
 
 
 def main():
@@ -146,40 +329,50 @@ def main():
     parser.add_argument("--only", default="", help="a word of the names that are run")
     parser.add_argument("--keep", action="store_true", help="leave the files")
     parser.add_argument("--seconds", type=float, default=10.0, help="the longest time that passes")
-    parser.add_argument("--times", type=float, default=20.0, help="the most memory that passes, in lengths of the input")
+    parser.add_argument("--times", type=float, default=20.0, help="the most memory that passes, in lengths of what is read")
     given = parser.parse_args()
 
     os.makedirs(given.folder, exist_ok=True)
     program = os.path.abspath(given.bin)
-    wrong = 0
-    print(f"{'file':42} {'seconds':>8} {'cpu':>6} {'MiB':>6} {'status':>6}  first line")
+    wrong = ran = 0
+    print(f"{'run':44} {'seconds':>8} {'cpu':>6} {'MiB':>6} {'times':>6} {'status':>6}  first line")
+    # The runs: name, words, the files, which of them is standard input and whether it is given byte after byte, first line.
     runs = [
-        (f"{name} as {place}", prefix, make, line, given.size)
+        (f"{name} as {place}", [], {"in": (prefix, make, given.size)}, "in", False, line)
         for name, make, lines in FILES
         for place, prefix, line in [("instruction", b"", lines[0]), ("stems", BEFORE_STEMS, lines[1])]
     ]
-    runs.append(("too long by a byte", b"", lambda r, n: b"~" * n, "read fault 0", given.size + 1))
-    for name, prefix, make, line, size in runs:
+    too_long = {"in": (b"", lambda r, n: b"~" * n, given.size + 1)}
+    runs.append(("too long by a byte", [], too_long, "in", False, "read fault 0"))
+    for name, words, first, second, more, line in COMMANDS:
+        files = {"a": (b"", first, given.size + more), "b": (b"", second, given.size + more)}
+        runs.append((name, words, files, None, False, line))
+    for more, line in ((0, "apt fault 2"), (1, "read fault 0")):
+        files = {"in": (b"", blanks, given.size + more)}
+        runs.append((f"blanks{', a byte too many' * more}, byte after byte", [], files, "in", True, line))
+    for name, words, files, stdin, dripped, line in runs:
         if given.only not in name:
             continue
-        path = os.path.join(given.folder, name.replace(" ", "_"))
-        made(path, prefix, make, given.seed, size)
-        took, cpu, held, status, first = run(program, path)
+        ran += 1
+        paths = {key: os.path.join(given.folder, key) for key in files}
+        for key, (prefix, make, size) in files.items():
+            made(paths[key], prefix, make, given.seed, size)
+        length = sum(os.path.getsize(path) for path in paths.values())
+        if dripped:
+            found = run_dripped(program, words, paths[stdin], given.folder)
+        else:
+            found = run(program, words, paths[stdin] if stdin else os.devnull, given.folder)
         if not given.keep:
-            os.remove(path)
-        faults = []
-        if took > given.seconds:
-            faults.append("slow")
-        if held * 1048576 > given.times * size + 16 * 1048576:
-            faults.append("too much memory")
-        if status < 0:
-            faults.append("ended by a signal")
-        if line is not None and first != line and size >= LIMIT:
-            faults.append(f"not: {line}")
+            for path in paths.values():
+                os.remove(path)
+        known = line if given.size >= LIMIT else None
+        faults = wrongs(found, known, given.seconds * (40 if dripped else 1), given.times * length)
         wrong += bool(faults)
         note = f"  <- {', '.join(faults)}" if faults else ""
-        print(f"{name:42} {took:8.2f} {cpu:6.2f} {held:6.0f} {status:6}  {first[:50]}{note}", flush=True)
-    print(f"{wrong} of {len(runs)} runs are not as they should be" if wrong else "all as they should be")
+        took, cpu, held, status, first = found
+        times = held * 1048576 / length
+        print(f"{name:44} {took:8.2f} {cpu:6.2f} {held:6.0f} {times:6.1f} {status:6}  {first[:50]}{note}", flush=True)
+    print(f"{wrong} of {ran} runs are not as they should be" if wrong else "all as they should be")
     return 1 if wrong else 0
 
 

@@ -1,7 +1,7 @@
 #!/usr/bin/env python3
 """Runs the tests of refused memory with each allocation failing in turn.
 
-    python3 checks/refused_memory.py [--jobs N] [--every S] [--most N] [CRATE ..]
+    python3 checks/refused_memory.py [--jobs N] [--every S] [--most N] [--built] [CRATE ..]
 
 It looks at the tests whose names begin with refused_memory: each makes few allocations. For N = 1, 2, .. the Nth
 allocation of each is refused (`rt try --test --fail-alloc N`, compiled with checks and with no proofs). The rule: a test
@@ -13,7 +13,9 @@ tried in a row, or at --most, which is then said. With --every S only N = 1, 1 +
 it takes every crate of crates.txt that has such a test. It says for each test at how many places an allocation was
 refused; the last line is 'N passed, M failed', counted by these places, and the status is 0 where none failed.
 
-A run takes 10 to 60 seconds on one core, nearly all of it to build the crate anew.
+A run takes 10 to 80 seconds on one core, nearly all of it to build the crate anew. With --built the tests that `rt test`
+left in out/ are run instead, each in a process of its own whose Nth call of `malloc` or `realloc` a small library refuses;
+it is compiled from the lines below, by `cc`. That takes seconds in all, and names the crates that aren't built.
 
 No contract can say that a call answers otherwise than `Memory` where there is memory, and that `Memory` comes only
 where a growth was refused: this is where that is shown. The tests read and write through readers and writers of their
@@ -23,16 +25,46 @@ import argparse
 import concurrent.futures
 import os
 import re
+import shutil
 import subprocess
 import sys
+import tempfile
 
 from quick import TOP, crates
 
 QUIET = 3
 BATCH = 8
+QUIET_BUILT = 20
 NAMED = "refused_memory"
 MEMORY = re.compile(r"memory|alloc", re.I)
 OUTCOME = re.compile(r"^test (\S+) \.\.\. (ok|FAILED)\n((?:    .*\n)*)", re.M)
+
+
+REFUSER = """
+#define _GNU_SOURCE
+#include <dlfcn.h>
+#include <stdatomic.h>
+#include <stdlib.h>
+
+static atomic_long calls;
+static long refused;
+static void *(*take)(size_t);
+static void *(*move)(void *, size_t);
+
+__attribute__((constructor)) static void start(void) {
+    take = dlsym(RTLD_NEXT, "malloc");
+    move = dlsym(RTLD_NEXT, "realloc");
+    refused = atol(getenv("REFUSED"));
+}
+
+void *malloc(size_t size) {
+    return refused && atomic_fetch_add(&calls, 1) + 1 == refused ? NULL : take(size);
+}
+
+void *realloc(void *old, size_t size) {
+    return refused && atomic_fetch_add(&calls, 1) + 1 == refused ? NULL : move(old, size);
+}
+"""
 
 
 def has_such_tests(crate):
@@ -86,19 +118,75 @@ def swept(crate, places, pool):
     return refused, broken, quiet >= QUIET
 
 
+def tried_built(program, refuser, name, number):
+    """What became of a built test where this allocation is refused, and the text of the run."""
+    run = subprocess.run(
+        [program, name],
+        env={"LD_PRELOAD": refuser, "REFUSED": str(number)},
+        capture_output=True,
+        text=True,
+        timeout=60,
+    )
+    text = run.stdout + run.stderr
+    said = "".join(f"    {line}\n" for line in text.splitlines())
+    return outcome("ok" if run.returncode == 0 else "FAILED", said), text
+
+
+def swept_built(crate, program, refuser, every, most):
+    """As `swept`, of the tests that stand built."""
+    listed = subprocess.run([program, "--list"], capture_output=True, text=True).stdout
+    names = [line.rsplit(":", 1)[0] for line in listed.splitlines()]
+    refused, broken, whole = {}, {}, True
+    for name in (name for name in names if name.split("::")[-1].startswith(NAMED)):
+        refused[name] = broken[name] = quiet = 0
+        for number in range(1, most + 1, every):
+            became, text = tried_built(program, refuser, name, number)
+            refused[name] += became == "refused"
+            broken[name] += became == "broken"
+            if became == "broken":
+                print(f"{crate}: {name}: allocation {number}:\n{text}", flush=True)
+            quiet = quiet + 1 if became == "passed" else 0
+            if quiet >= QUIET_BUILT:
+                break
+        whole = whole and quiet >= QUIET_BUILT
+    return refused, broken, whole
+
+
+def built_refuser(folder):
+    """The library that refuses an allocation."""
+    source, library = os.path.join(folder, "refuser.c"), os.path.join(folder, "refuser.so")
+    with open(source, "w") as out:
+        out.write(REFUSER)
+    subprocess.run(["cc", "-O1", "-shared", "-fPIC", "-o", library, source, "-ldl"], check=True)
+    return library
+
+
 def main():
     parser = argparse.ArgumentParser(description=__doc__, formatter_class=argparse.RawDescriptionHelpFormatter)
     parser.add_argument("--jobs", type=int, default=2)
     parser.add_argument("--every", type=int, default=1)
     parser.add_argument("--most", type=int, default=400)
+    parser.add_argument("--built", action="store_true", help="run the tests that `rt test` left in out/")
     parser.add_argument("crates", nargs="*", metavar="CRATE")
     args = parser.parse_args()
     names = args.crates or [crate for crate in crates() if has_such_tests(crate)]
     places = range(1, args.most + 1, args.every)
     passed = failed = 0
-    with concurrent.futures.ThreadPoolExecutor(args.jobs) as pool:
+    if args.built and shutil.which("cc") is None:
+        print("there is no cc here: nothing was run")
+        return 0
+    with concurrent.futures.ThreadPoolExecutor(args.jobs) as pool, tempfile.TemporaryDirectory() as folder:
+        refuser = built_refuser(folder) if args.built else None
         for crate in names:
-            refused, broken, whole = swept(crate, places, pool)
+            program = os.path.join(TOP, "crates", crate, "out", f"{crate}_tests")
+            if args.built and not os.path.exists(program):
+                print(f"{crate}: not built: `rt test` in its folder builds it", flush=True)
+                failed += 1
+                continue
+            if args.built:
+                refused, broken, whole = swept_built(crate, program, refuser, args.every, args.most)
+            else:
+                refused, broken, whole = swept(crate, places, pool)
             end = "none is refused after these" if whole else f"not looked further than {args.most}"
             for name in sorted(refused):
                 print(f"{crate}: {name}: refused at {refused[name]} places, {broken[name]} broke the rule", flush=True)
