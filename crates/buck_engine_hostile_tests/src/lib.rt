@@ -1,9 +1,6 @@
-//! Tests of the engines over readers and writers that fail, end early or go by single bytes, over files of blanks that are
-//! as long as a file may be, and without memory.
+//! Tests of the engines over readers and writers that fail, end early or go by single bytes, and without memory.
 #![tactic(auto)]
 
-#[cfg(test)]
-mod blanks;
 #[cfg(test)]
 mod fleets;
 #[cfg(test)]

@@ -218,6 +218,22 @@ fn files_of_the_greatest_length(rt: HostRuntime) {
     assert!(rt; refuses_blanks(&rt, 67_108_865, EngineFault::Read { file: 0 }));
 }
 
+/// Whether an instruction file of so many blanks is refused by this fault, with nothing written and nothing read of the
+/// stem file.
+fn refuses_instruction(rt: &HostRuntime, left: usize, fault: EngineFault) -> bool {
+    let mut first = Blanks { left };
+    let mut second = Blanks { left: 1 };
+    let mut written = Vec::new(rt.alloc());
+    let outcome = run_buck(rt.alloc(), &mut first, &mut second, &mut written);
+    outcome == Err(fault) && written.is_empty() && second.left == 1
+}
+
+#[test]
+fn instructions_of_the_greatest_length(rt: HostRuntime) {
+    assert!(rt; refuses_instruction(&rt, 67_108_864, EngineFault::Apt(AptFault::NotApt)));
+    assert!(rt; refuses_instruction(&rt, 67_108_865, EngineFault::Read { file: 0 }));
+}
+
 #[test]
 fn input_without_end(rt: HostRuntime) {
     assert!(rt; refuses_blanks(&rt, usize::MAX, EngineFault::Read { file: 0 }));
