@@ -348,8 +348,9 @@ def main():
         files = {"a": (b"", first, given.size + more), "b": (b"", second, given.size + more)}
         runs.append((name, words, files, None, False, line))
     for more, line in ((0, "apt fault 2"), (1, "read fault 0")):
-        files = {"in": (b"", blanks, given.size + more)}
-        runs.append((f"blanks{', a byte too many' * more}, byte after byte", [], files, "in", True, line))
+        files = {"in": (b"", blanks, given.size + more), "b": (b"", NO_STEMS, given.size)}
+        words = ["buck", "/dev/stdin", "b"]
+        runs.append((f"blanks{', a byte too many' * more}, byte after byte", words, files, "in", True, line))
     for name, words, files, stdin, dripped, line in runs:
         if given.only not in name:
             continue
