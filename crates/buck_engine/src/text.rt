@@ -10,7 +10,7 @@ use buck_apt::Instruction;
 use buck_dp::Planner;
 use buck_record::{Memory, put_line, put_numbers};
 use buck_stem::Stem;
-use buck_value::{Log, Sheet, class_of, worth_in_class};
+use buck_value::{Log, Sheet, log_valuation};
 use std::alloc::Global;
 use std::sync::Arc;
 
@@ -37,17 +37,17 @@ fn put_log(out: &mut Vec<u8>, sheet: &Sheet, stem: &Stem, log: &Log) -> Result<(
     requires { IsAllowed sheet.now.instruction stem.now log.now }
     ensures { OnOk result (out.new.items ≡ out.old.items ++ log_line sheet.now stem.now log.now) }
 {
-    let Some(class) = class_of(sheet, stem, log.start, log.assortment, log.length) else {
+    let Some(found) = log_valuation(sheet, stem, log) else {
         unreachable!()
     };
     let assortment = &sheet.instruction().assortments()[log.assortment as usize];
     let numbers = [
         u128::from(log.start),
         u128::from(log.length),
-        u128::from(stem.diameter_at(log.start + log.length)),
-        u128::from(class.row),
-        u128::from(class.column),
-        u128::from(worth_in_class(sheet, stem, log, class)),
+        u128::from(found.top),
+        u128::from(found.class.row),
+        u128::from(found.class.column),
+        u128::from(found.worth),
     ];
     put_named_line(out, b"LOG", &numbers, assortment.name())
 }

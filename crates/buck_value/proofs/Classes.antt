@@ -1,5 +1,5 @@
 -- Which logs an assortment allows, as the code tests it, and their classes.
-use Rattle.std.proofs.Common.{◌≡◌, ◌≢◌, ℕ, ◌+◌, ◌*◌, ◌%◌, ◌<◌, ◌≤◌, ◌==◌, List, Contains, Option, Some, None, IfSome, IsTrue, true, false, true≢false, length, get_or, slice_get, slice_index, unwrap_or, position, refl, sym, ◌∙◌, ap, subst, inl, inr, arith, eqb-true, eq-eqb, cond, nat_lt, nat_le}
+use Rattle.std.proofs.Common.{◌≡◌, ◌≢◌, ℕ, ◌+◌, ◌*◌, ◌%◌, ◌<◌, ◌≤◌, ◌==◌, List, Contains, Option, Some, None, IsTrue, true, false, true≢false, length, get_or, slice_get, slice_index, unwrap_or, position, refl, sym, ◌∙◌, ap, subst, inl, inr, arith, eqb-true, eq-eqb, cond, nat_lt, nat_le}
 use Rattle.std.proofs.lemmas.Option.{none-some, slice_get_within, get_or_from_slice_get}
 use Rattle.std.proofs.lemmas.Bool.{cases_lt}
 use Rattle.std.proofs.lemmas.Bool.Decides.{nat_tests}
@@ -105,14 +105,6 @@ class_is_class i stem g v a =
     column_within : (a : AssortmentParts) (l : ℕ) → Contains a.lengths l → column_of a l < length a.lengths
     column_within a l c = column_cases a.lengths l (position (λ x. x == l) a.lengths) refl c
 
--- the same of a class that may have been found
-pub found_is_class : (i : InstructionParts) (stem : StemParts) (g : Log) (found : Option Class) → IsInstruction i
-    → IfSome found (λ _. IsAllowed i stem g)
-    → IfSome found (λ c. c ≡ class_of i stem g)
-    → IfSome found (λ c. IsClass i c)
-found_is_class i stem g None v a e = a
-found_is_class i stem g (Some c) v a e = subst (λ k. IsClass i k) (sym e) (class_is_class i stem g v a)
-
 -- the measures of an allowed log are small
 pub allowed_low : (i : InstructionParts) (stem : StemParts) (g : Log) → IsInstruction i → IsAllowed i stem g
     → (500 ≤ g.length) × (g.length ≤ 30000) × (top_diameter stem g ≤ 2000)
@@ -122,17 +114,21 @@ allowed_low i stem g v a =
     let thin : top_diameter stem g < a.assortment.upper = a.allows.thin_enough in
     (range.0, range.1, omega (arith, valid.upper_range))
 
--- what an allowed log is worth, by its assortment's price kind
-pub worth_by_parts : (s : SheetParts) (stem : StemParts) (g : Log) (kind price cubic : ℕ) (all : List AssortmentParts) (x : AssortmentParts)
-    → (a : IsAllowed s.instruction stem g)
-    → all ≡ s.instruction.assortments
-    → x ≡ get_or all g.assortment x
-    → kind ≡ x.price_kind
-    → price ≡ price_of s (class_of s.instruction stem g)
-    → cubic ≡ volume (top_diameter stem g) g.length
-    → worth_at kind price cubic ≡ worth_of s stem g
+-- the class of a log is of its assortment
+class_assortment : (o : Option AssortmentParts) (stem : StemParts) (g : Log) → (class_in o stem g).assortment ≡ g.assortment
+class_assortment None stem g = refl
+class_assortment (Some a) stem g = refl
+
+-- what a log is worth, by its class and its top diameter
+pub worth_by_class : (s : SheetParts) (stem : StemParts) (g : Log) (class : Class) (top : ℕ)
+    → class ≡ class_of s.instruction stem g → top ≡ top_diameter stem g
+    → worth_at (kind_in (slice_get s.instruction.assortments class.assortment)) (price_of s class) (volume top g.length)
+    ≡ worth_of s stem g
 unfolding worth_of
-worth_by_parts s stem g kind price cubic all x a same is is_kind is_price is_cubic =
-    let here : x ≡ a.assortment = is ∙ ap (λ xs. get_or xs g.assortment x) same ∙ get_or_from_slice_get s.instruction.assortments g.assortment a.assortment x a.exists in
-    let kinds : kind ≡ kind_in (slice_get s.instruction.assortments g.assortment) = is_kind ∙ ap (λ y. y.price_kind) here ∙ ap kind_in (sym a.exists) in
-    rw (kinds, is_price, is_cubic) refl
+worth_by_class s stem g class top is_class is_top =
+    let all = s.instruction.assortments in
+    let place : class.assortment ≡ g.assortment =
+    ap (λ (k : Class). k.assortment) is_class ∙ class_assortment (slice_get all g.assortment) stem g in
+    ap (λ a. worth_at (kind_in (slice_get all a)) (price_of s class) (volume top g.length)) place
+    ∙ ap (λ k. worth_at (kind_in (slice_get all g.assortment)) (price_of s k) (volume top g.length)) is_class
+    ∙ ap (λ d. worth_at (kind_in (slice_get all g.assortment)) (price_of s (class_of s.instruction stem g)) (volume d g.length)) is_top

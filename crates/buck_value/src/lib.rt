@@ -16,6 +16,6 @@ pub use prepared::Prepared;
 pub use sheet::Sheet;
 pub use wood::{Wood, takes};
 pub use worth::{
-    class_of, column_of, log_worth, row_of, volume_of, worth_if_allowed, worth_in_class,
+    Valuation, class_of, column_of, log_valuation, log_worth, row_of, volume_of, worth_if_allowed,
     worth_of_piece,
 };

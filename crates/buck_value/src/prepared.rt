@@ -11,7 +11,7 @@ ghost use Rattle.buck_value.specs.inner.Wood.{IsWood, IsToTop};
 use crate::log::Log;
 use crate::sheet::Sheet;
 use crate::wood::{Wood, takes};
-use crate::worth::{row_of, volume_of, worth_of_piece};
+use crate::worth::{row_of, worth_in_class};
 use buck_apt::{Assortment, Class};
 use buck_record::Memory;
 use buck_stem::{Profile, Stem};
@@ -255,23 +255,6 @@ impl<'s, 't> Prepared<'s, 't> {
         class_of_wood(chosen, wood, self.diameter(top), assortment, column)
     }
 
-    /// What an allowed log of a class is worth.
-    fn worth_in_class(&self, i: usize, assortment: usize, column: usize, class: Class) -> u64
-        requires i { i < points_of self.now }
-        requires assortment { assortment < length self.now.sheet.instruction.assortments }
-        requires column { column < length (lengths_of self.now assortment) }
-        requires allowed { IsAllowed self.now.sheet.instruction self.now.stem (log_at self.now i assortment column) }
-        requires class { class
-            ≡ class_of self.now.sheet.instruction self.now.stem (log_at self.now i assortment column) }
-        ensures { result ≡ worth_of self.now.sheet self.now.stem (log_at self.now i assortment column) }
-    {
-        let chosen = self.assortment(assortment);
-        let length = chosen.lengths()[column];
-        let top = self.diameter(self.top(i, assortment, column));
-        let price = self.sheet.price(class);
-        worth_of_piece(chosen.price_kind(), price, volume_of(top, length))
-    }
-
     /// What the log of point `i`, an assortment and a column is worth, in millionths of the price unit, or `None` where
     /// it isn't allowed.
     pub fn worth(&self, i: usize, assortment: usize, column: usize) -> Option<u64>
@@ -287,7 +270,11 @@ impl<'s, 't> Prepared<'s, 't> {
     {
         match self.class(i, assortment, column) {
             None => None,
-            Some(class) => Some(self.worth_in_class(i, assortment, column, class)),
+            Some(class) => {
+                let top = self.diameter(self.top(i, assortment, column));
+                let length = self.assortment(assortment).lengths()[column];
+                Some(worth_in_class(self.sheet, class, top, length))
+            }
         }
     }
 }

@@ -8,8 +8,8 @@
 ghost use Rattle.std.specs.Prelude.{◌≡◌, ◌+◌, ◌*◌, ◌<◌, ◌≤◌, ◌↔◌, ◌%◌, ◌^◌, ◌==◌, IsTrue, Some, IfSome, IfNone, slice_get, length, position};
 ghost use Rattle.buck_apt.specs.Instruction.{IsClass};
 ghost use Rattle.buck_stem.specs.Stem.{IsStem, stem_length, HasGradesOf};
-ghost use Rattle.buck_value.specs.Sheet.{IsSheet};
-ghost use Rattle.buck_value.specs.Allowed.{IsAllowed, Allows, log_of, top_of, top_diameter, row_at, class_in, class_of, worth_of};
+ghost use Rattle.buck_value.specs.Sheet.{IsSheet, price_of};
+ghost use Rattle.buck_value.specs.Allowed.{IsAllowed, Allows, log_of, top_of, top_diameter, row_at, class_in, class_of, kind_in, worth_of};
 ghost use Rattle.buck_value.specs.Volume.{volume, worth_at};
 
 use crate::log::Log;
@@ -89,11 +89,19 @@ fn has_grades_of(stem: &Stem, log: &Log, grades: &[u8]) -> bool
     stem.has_grades_of(log.start, end_within(stem, log), grades)
 }
 
-/// The class of a log of an assortment, or `None` where that doesn't allow it.
-fn class_in(step: u32, assortment: &Assortment, stem: &Stem, log: &Log) -> Option<Class>
+/// The class and the top diameter in mm of a log that is allowed.
+#[derive(Clone, Copy, Debug)]
+struct Measured {
+    class: Class,
+    top: u32,
+}
+
+/// The class and the top diameter of a log of an assortment, or `None` where that doesn't allow it.
+fn measure_in(step: u32, assortment: &Assortment, stem: &Stem, log: &Log) -> Option<Measured>
     requires { 0 < step }
     ensures allowed { IfSome result (λ _. Allows step assortment.now stem.now log.now) }
-    ensures class { IfSome result (λ c. c ≡ class_in (Some assortment.now) stem.now log.now) }
+    ensures class { IfSome result (λ m. m.class ≡ class_in (Some assortment.now) stem.now log.now) }
+    ensures top { IfSome result (λ m. m.top ≡ top_diameter stem.now log.now) }
     ensures none { IfNone result (Allows step assortment.now stem.now log.now → ⊥) }
     ensures stem { IsStem stem.now }
 {
@@ -130,17 +138,19 @@ fn class_in(step: u32, assortment: &Assortment, stem: &Stem, log: &Log) -> Optio
     if assortment.price(row, column) == 0 {
         return None;
     }
-    Some(Class {
+    let class = Class {
         assortment: log.assortment,
         row: row as u8,
         column: column as u8,
-    })
+    };
+    Some(Measured { class, top })
 }
 
-/// The class of a log, or `None` where it isn't allowed.
-fn class_of_log(sheet: &Sheet, stem: &Stem, log: &Log) -> Option<Class>
+/// The class and the top diameter of a log, or `None` where it isn't allowed.
+fn measure(sheet: &Sheet, stem: &Stem, log: &Log) -> Option<Measured>
     ensures allowed { IfSome result (λ _. IsAllowed sheet.now.instruction stem.now log.now) }
-    ensures class { IfSome result (λ c. c ≡ class_of sheet.now.instruction stem.now log.now) }
+    ensures class { IfSome result (λ m. m.class ≡ class_of sheet.now.instruction stem.now log.now) }
+    ensures top { IfSome result (λ m. m.top ≡ top_diameter stem.now log.now) }
     ensures none { IfNone result (IsAllowed sheet.now.instruction stem.now log.now → ⊥) }
     ensures valid { IsSheet sheet.now }
     ensures stem { IfSome result (λ _. IsStem stem.now) }
@@ -151,7 +161,7 @@ fn class_of_log(sheet: &Sheet, stem: &Stem, log: &Log) -> Option<Class>
     if place >= all.len() {
         return None;
     }
-    class_in(instruction.module(), &all[place], stem, log)
+    measure_in(instruction.module(), &all[place], stem, log)
 }
 
 /// The class of the log that starts `start` mm from the butt, is `length` mm long and of the assortment at this place,
@@ -178,20 +188,54 @@ pub fn class_of(
         length,
         assortment,
     };
-    class_of_log(sheet, stem, &log)
+    match measure(sheet, stem, &log) {
+        None => None,
+        Some(found) => Some(found.class),
+    }
 }
 
-/// What an allowed log is worth, where its class is found already; see [`log_worth`].
-pub fn worth_in_class(sheet: &Sheet, stem: &Stem, log: &Log, class: Class) -> u64
-    requires allowed { IsAllowed sheet.now.instruction stem.now log.now }
-    requires class { class ≡ class_of sheet.now.instruction stem.now log.now }
-    ensures { result ≡ worth_of sheet.now stem.now log.now }
+/// What a log of a class, a top diameter and a length in mm is worth.
+pub(crate) fn worth_in_class(sheet: &Sheet, class: Class, top: u32, length: u32) -> u64
+    requires class { IsClass sheet.now.instruction class }
+    requires top { top ≤ 2000 }
+    requires length { length ≤ 30000 }
+    ensures { result ≡ worth_at (kind_in (slice_get sheet.now.instruction.assortments class.assortment))
+        (price_of sheet.now class) (volume top length) }
 {
     let all = sheet.instruction().assortments();
-    let kind = all[log.assortment as usize].price_kind();
-    let price = sheet.price(class);
-    let top = top_of(stem, log);
-    worth_of_piece(kind, price, volume_of(top, log.length))
+    let kind = all[class.assortment as usize].price_kind();
+    worth_of_piece(kind, sheet.price(class), volume_of(top, length))
+}
+
+/// What a log that is allowed measures, and what it is worth.
+#[derive(Clone, Copy, Debug, PartialEq, Eq)]
+pub struct Valuation {
+    pub class: Class,
+    /// The diameter in mm where its length ends.
+    pub top: u32,
+    /// In millionths of the price unit.
+    pub worth: u64,
+}
+
+/// The class, the top diameter and the worth of a log under a sheet, or `None` where it isn't allowed; see
+/// [`class_of`] and [`log_worth`]. Any log may be asked for. It takes no memory.
+pub fn log_valuation(sheet: &Sheet, stem: &Stem, log: &Log) -> Option<Valuation>
+    ensures allowed { IfSome result (λ _. IsAllowed sheet.now.instruction stem.now log.now) }
+    ensures class { IfSome result (λ v. v.class ≡ class_of sheet.now.instruction stem.now log.now) }
+    ensures top { IfSome result (λ v. v.top ≡ top_diameter stem.now log.now) }
+    ensures worth { IfSome result (λ v. v.worth ≡ worth_of sheet.now stem.now log.now) }
+    ensures none { IfNone result (IsAllowed sheet.now.instruction stem.now log.now → ⊥) }
+    ensures valid { IsSheet sheet.now }
+    ensures stem { IfSome result (λ _. IsStem stem.now) }
+{
+    match measure(sheet, stem, log) {
+        None => None,
+        Some(found) => Some(Valuation {
+            class: found.class,
+            top: found.top,
+            worth: worth_in_class(sheet, found.class, found.top, log.length),
+        }),
+    }
 }
 
 /// What a log is worth under a sheet, in millionths of the price unit, or `None` where it isn't allowed; see
@@ -203,9 +247,9 @@ pub fn worth_if_allowed(sheet: &Sheet, stem: &Stem, log: &Log) -> Option<u64>
     ensures valid { IsSheet sheet.now }
     ensures stem { IfSome result (λ _. IsStem stem.now) }
 {
-    match class_of_log(sheet, stem, log) {
+    match log_valuation(sheet, stem, log) {
         None => None,
-        Some(class) => Some(worth_in_class(sheet, stem, log, class)),
+        Some(found) => Some(found.worth),
     }
 }
 

@@ -1,8 +1,9 @@
 //! What logs are worth.
 use crate::fixtures::{base_of, sheet_with};
+use buck_apt::Class;
 use buck_samples::{MAX, SAW, SAW_AND_POLE, edited, saw_text, uniform_stem};
 use buck_stem::Stem;
-use buck_value::{Log, Sheet, class_of, log_worth, worth_if_allowed};
+use buck_value::{Log, Sheet, Valuation, class_of, log_valuation, log_worth, worth_if_allowed};
 use std::test::Fail;
 
 /// A log that starts so many mm from the butt, of a length in mm and an assortment.
@@ -56,6 +57,29 @@ fn volume_is_rounded_down(rt: HostRuntime) -> Result<(), Fail> {
         (41, 190, log(0, 4000, 0), Some(56_705_500)),
     ];
     assert!(rt; are_worth(&rt, &sheet, &cases)?);
+    Ok(())
+}
+
+#[test]
+fn what_a_log_measures(rt: HostRuntime) -> Result<(), Fail> {
+    let sheet = base_of(&rt, SAW)?;
+    let stem = uniform_stem(rt.alloc(), 41, 190)?;
+    let found = log_valuation(&sheet, &stem, &log(0, 4000, 0));
+    let class = Class {
+        assortment: 0,
+        row: 0,
+        column: 1,
+    };
+    let worth = 56_705_500;
+    assert!(rt;
+        found
+            == Some(Valuation {
+                class,
+                top: 190,
+                worth
+            })
+    );
+    assert!(rt; log_valuation(&sheet, &stem, &log(0, 4100, 0)).is_none());
     Ok(())
 }
 

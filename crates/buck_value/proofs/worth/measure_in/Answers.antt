@@ -1,7 +1,7 @@
 use Rattle.std.proofs.Common.{◌≡◌, ◌≤◌, Some, position, ◌==◌, slice_index, refl, sym, ◌∙◌, arith, rules}
 use Rattle.buck_value.specs.Allowed.{top_of}
 use Rattle.buck_value.proofs.Classes.{allows_by_tests, column_none, grades_fail, grades_pass}
-use Rattle.buck_value.proofs.worth.class_in.Goals as goal
+use Rattle.buck_value.proofs.worth.measure_in.Goals as goal
 
 pub returns-in_default-clause-none : goal.returns-in_default-clause-none
 returns-in_default-clause-none c = λ a.
