@@ -5,7 +5,7 @@ ghost use Rattle.buck_bid.specs.Tables.{AreTablesOf};
 ghost use Rattle.buck_dp.specs.Best.{IsFirstBest, cutting_worth};
 
 use crate::cutting::Cutting;
-use crate::planning::{ROOM, best_under};
+use crate::planning::{Lists, ROOM, best_under};
 use buck_bid::Tables;
 use buck_record::Memory;
 use buck_stem::Stem;
@@ -19,7 +19,14 @@ use std::sync::Arc;
 #[derive(Drop)]
 pub struct Planner {
     sheet: Arc<Sheet>,
+    kept: Box<Kept>,
+}
+
+/// What a planner keeps from stem to stem: the tables of its sheet, and lists.
+#[derive(Drop)]
+struct Kept {
     tables: Tables,
+    lists: Lists,
 }
 
 impl Model for Planner {
@@ -30,7 +37,7 @@ impl Model for Planner {
 
     ghost view = { λ p. p.sheet.value };
 
-    ghost invariant = { λ p. AreTablesOf p.sheet.value p.tables };
+    ghost invariant = { λ p. AreTablesOf p.sheet.value p.kept.value.tables };
 }
 
 /// Makes the tables of a sheet those of another one. What depends on the instruction alone stays where both have the
@@ -54,7 +61,9 @@ impl Planner {
         ensures { IfOk result (λ p. p ≡ sheet.value) }
     {
         let tables = Tables::make(alloc, &sheet, ROOM)?;
-        Ok(Planner { sheet, tables })
+        let lists = Lists::new(alloc);
+        let kept = Box::new(alloc, Kept { tables, lists })?;
+        Ok(Planner { sheet, kept })
     }
 
     /// The sheet under which it plans.
@@ -73,7 +82,8 @@ impl Planner {
         ensures high { IfOk result (λ found. found.1 ≤ 2800000000000000) }
         ensures valid { IsSheet self.old }
     {
-        best_under(alloc, &self.sheet, stem, &mut self.tables)
+        let kept = self.kept.as_mut();
+        best_under(alloc, &self.sheet, stem, &mut kept.tables, &mut kept.lists)
     }
 
     /// Plans under another sheet from now on. Refused as `Memory` alone: it then plans under the sheet as before.
@@ -81,7 +91,7 @@ impl Planner {
         ensures renewed { OnOk result (self.new ≡ sheet.value) }
         ensures left { IfErr result (λ _. self.new ≡ self.old) }
     {
-        turn_to(alloc, &mut self.tables, &self.sheet, &sheet)?;
+        turn_to(alloc, &mut self.kept.as_mut().tables, &self.sheet, &sheet)?;
         self.sheet = sheet;
         Ok(())
     }

@@ -10,15 +10,35 @@ ghost use Rattle.buck_dp.specs.Best.{IsFirstBest, cutting_worth};
 use crate::cutting::Cutting;
 use crate::ends::module_of;
 use crate::following::follow;
-use crate::settling::{Ground, values_of};
+use crate::settling::{Ground, find_values};
 use buck_bid::{Bid, Tables};
 use buck_record::Memory;
-use buck_stem::{Profile, Stem};
+use buck_stem::{Profile, ProfileLists, Stem};
 use buck_value::Sheet;
 use std::alloc::Global;
+use std::mem;
 
 /// How many bids tables keep, before all are made anew: 4 MB.
 pub(crate) const ROOM: usize = 500_000;
+
+/// The lists that are kept from stem to stem. What they hold of the stem before is of no account.
+#[derive(Drop)]
+pub(crate) struct Lists {
+    profile: ProfileLists,
+    values: Vec<Bid>,
+    bases: Vec<Bid>,
+}
+
+impl Lists {
+    /// Empty lists.
+    pub(crate) fn new(alloc: Global) -> Lists {
+        Lists {
+            profile: ProfileLists::new(alloc),
+            values: Vec::new(alloc),
+            bases: Vec::new(alloc),
+        }
+    }
+}
 
 /// Whether some assortment takes the stem's species.
 fn is_wanted(sheet: &Sheet, stem: &Stem) -> bool
@@ -48,6 +68,7 @@ fn cut_wanted(
     sheet: &Sheet,
     stem: &Stem,
     tables: &mut Tables,
+    lists: &mut Lists,
 ) -> Result<(Cutting, u64), Memory>
     requires tables { AreTablesOf sheet.now tables.old }
     ensures tables { AreTablesOf sheet.now tables.new }
@@ -55,16 +76,18 @@ fn cut_wanted(
     ensures worth { IfOk result (λ found. found.1 ≡ cutting_worth sheet.now stem.now found.0.logs.items) }
     ensures high { IfOk result (λ found. found.1 ≤ 2800000000000000) }
 {
-    let profile = Profile::make(alloc, stem, module_of(sheet))?;
+    let room = mem::replace(&mut lists.profile, ProfileLists::new(alloc));
+    let profile = Profile::make_with(room, stem, module_of(sheet))?;
     let ground = Ground {
         sheet,
         stem,
         profile: &profile,
         diameters: profile.diameters(),
     };
-    let values = values_of(alloc, ground, tables)?;
-    let logs = follow(alloc, ground, tables.offers(), values.as_slice())?;
-    let worth = worth_at_butt(values.as_slice());
+    find_values(alloc, ground, tables, &mut lists.values, &mut lists.bases)?;
+    let logs = follow(alloc, ground, tables.offers(), lists.values.as_slice())?;
+    let worth = worth_at_butt(lists.values.as_slice());
+    lists.profile = profile.into_lists();
     Ok((Cutting { logs }, worth))
 }
 
@@ -75,6 +98,7 @@ pub(crate) fn best_under(
     sheet: &Sheet,
     stem: &Stem,
     tables: &mut Tables,
+    lists: &mut Lists,
 ) -> Result<(Cutting, u64), Memory>
     requires tables { AreTablesOf sheet.now tables.old }
     ensures tables { AreTablesOf sheet.now tables.new }
@@ -89,7 +113,7 @@ pub(crate) fn best_under(
         };
         return Ok((none, 0));
     }
-    cut_wanted(alloc, sheet, stem, tables)
+    cut_wanted(alloc, sheet, stem, tables, lists)
 }
 
 /// The first of the best cuttings of a stem under a sheet, and its worth in millionths of the price unit.
@@ -107,5 +131,5 @@ pub fn best(alloc: Global, sheet: &Sheet, stem: &Stem) -> Result<(Cutting, u64),
     ensures worth { IfOk result (λ found. found.1 ≡ cutting_worth sheet.now stem.now found.0.logs.items) }
 {
     let mut tables = Tables::make(alloc, sheet, ROOM)?;
-    best_under(alloc, sheet, stem, &mut tables)
+    best_under(alloc, sheet, stem, &mut tables, &mut Lists::new(alloc))
 }

@@ -347,12 +347,13 @@ fn most_steps(offers: &[Offer], step: u32) -> usize
     (offers[offers.len() - 1].length / step) as usize
 }
 
-/// So many values of which none is worth anything.
-fn no_values(alloc: Global, count: usize) -> Result<Vec<Bid>, AllocError>
-    ensures number { IfOk result (λ v. length v.items ≡ count) }
-    ensures zeros { IfOk result (λ v. (k : ℕ) → slice_index v.items k ≡ 0) }
+/// Makes a list one of so many values of which none is worth anything.
+fn clear_values(values: &mut Vec<Bid>, count: usize) -> Result<(), AllocError>
+    ensures number { OnOk result (length values.new.items ≡ count) }
+    ensures zeros { OnOk result ((k : ℕ) → slice_index values.new.items k ≡ 0) }
 {
-    vec![in alloc; Bid::none(); count]
+    values.clear();
+    values.resize(count, Bid::none())
 }
 
 /// Puts the values of all points and of the place past the last in place of zeros, block by block from the top end down
@@ -388,24 +389,30 @@ fn put_values(
     Ok(())
 }
 
-/// The values of all points of a stem, and of the place past the last.
-pub fn values_of(alloc: Global, ground: Ground<'_>, tables: &mut Tables) -> Result<Vec<Bid>, Memory>
+/// Puts the values of all points of a stem, and of the place past the last, in the place of others. It uses a second
+/// list as room.
+pub fn find_values(
+    alloc: Global,
+    ground: Ground<'_>,
+    tables: &mut Tables,
+    values: &mut Vec<Bid>,
+    bases: &mut Vec<Bid>,
+) -> Result<(), Memory>
     requires ground { IsGround ground.sheet.now ground.stem.now ground.profile.now ground.diameters.now }
     requires tables { AreTablesOf ground.sheet.now tables.old }
     ensures tables { AreTablesOf ground.entry.sheet.now tables.new }
     ensures offers { tables.new.offers.items ≡ tables.old.offers.items }
     ensures right { let p = ground_of ground.entry.sheet.now ground.entry.stem.now tables.old in
-        IfOk result (λ v. AreValuesFrom p v.items 0) }
+        OnOk result (AreValuesFrom p values.new.items 0) }
 {
     let ends = ground.diameters.len() + 1;
-    let mut values = no_values(alloc, ends)?;
-    let mut bases = no_values(alloc, ends)?;
+    clear_values(values, ends)?;
+    clear_values(bases, ends)?;
     put_values(
         alloc,
         ground,
         tables,
         values.as_mut_slice(),
         bases.as_mut_slice(),
-    )?;
-    Ok(values)
+    )
 }

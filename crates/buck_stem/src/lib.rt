@@ -16,6 +16,6 @@ mod stem;
 
 pub use buck_record::Memory;
 pub use fault::StmFault;
-pub use profile::Profile;
+pub use profile::{Profile, ProfileLists};
 pub use reading::read_stm;
 pub use stem::{Stem, StemFault};

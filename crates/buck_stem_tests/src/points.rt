@@ -2,7 +2,7 @@
 ghost use Rattle.std.specs.Prelude.{◌≤◌};
 
 use buck_samples::stem_of;
-use buck_stem::{Profile, Stem};
+use buck_stem::{Profile, ProfileLists, Stem};
 use std::alloc::Global;
 use std::test::Fail;
 
@@ -107,22 +107,38 @@ fn runs_agree(profile: &Profile<'_>) -> bool {
     true
 }
 
-/// Whether the points of a stem of 400 mm have the stem's grades, and its runs are of steps alike.
-fn points_agree(alloc: Global, zones: &[(u32, u8)], step: u32) -> Result<bool, Fail>
+/// The lists of a profile of a longer stem.
+fn used_lists(alloc: Global) -> Result<ProfileLists, Fail> {
+    let stem = stem_of(alloc, &[300; 9], &[(0, 2), (95, 3), (200, 5), (555, 1)])?;
+    let profile = Profile::make(alloc, &stem, 10)?;
+    Ok(profile.into_lists())
+}
+
+/// Whether the points of a stem of 400 mm have the stem's grades, and its runs are of steps alike. The profile is made in
+/// these lists.
+fn points_agree(
+    alloc: Global,
+    lists: ProfileLists,
+    zones: &[(u32, u8)],
+    step: u32,
+) -> Result<bool, Fail>
     requires { (10 ≤ step) × (step ≤ 1000) }
 {
     let stem = stem_of(alloc, &[250; 5], zones)?;
-    let profile = Profile::make(alloc, &stem, step)?;
+    let profile = Profile::make_with(lists, &stem, step)?;
     if profile.points() != (stem.length() / step + 1) as usize {
         return Ok(false);
     }
     Ok(grades_agree(&profile, &stem, step) && runs_agree(&profile))
 }
 
-/// The same at several modules.
+/// The same at several modules, each in empty lists and in those of another stem.
 fn all_points_agree(alloc: Global, zones: &[(u32, u8)]) -> Result<bool, Fail> {
     for step in [10, 30, 70, 100, 150, 399, 1000] {
-        if !points_agree(alloc, zones, step)? {
+        if !points_agree(alloc, ProfileLists::new(alloc), zones, step)? {
+            return Ok(false);
+        }
+        if !points_agree(alloc, used_lists(alloc)?, zones, step)? {
             return Ok(false);
         }
     }

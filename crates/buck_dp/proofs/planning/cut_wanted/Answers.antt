@@ -26,8 +26,8 @@ returns-clause-worth c =
     sound c.in_ok-profile.profile _ c.args.stem.now _ c.in_ok-profile.ensures c.profile.view_is c.profile.invariant.valid in
     c.worth_at_butt-worth.ensures
     ∙ ap (λ vs. slice_index vs 0 / 1024) c.as_slice-2.ensures.value
-    ∙ walk_worth p c.in_ok-values.values.items logs c.module_of.ensures.valid stem c.requires.tables.offers.codes
-    c.in_ok-values.ensures.right c.in_ok-logs.ensures
+    ∙ walk_worth p c.find_values.new.values.items logs c.module_of.ensures.valid stem c.requires.tables.offers.codes
+    c.in_ok-find_values.ensures.right c.in_ok-logs.ensures
 
 pub returns-clause-high : goal.returns-clause-high
 returns-clause-high c =
