@@ -7,7 +7,7 @@ use Rattle.std.proofs.lemmas.Option.{none-some, same_Some, slice_get_within, get
 use Rattle.std.proofs.lemmas.List.{length-map, get_or_append_left, get_or-append_right, get_or_push}
 use Rattle.buck_apt.specs.Instruction.{InstructionParts}
 use Rattle.buck_value.specs.Sheet.{SheetParts, IsSheet}
-use Rattle.buck_value.specs.Volume.{volume, worth_at}
+use Rattle.buck_value.specs.Volume.{worth_at}
 use Rattle.buck_bid.specs.declared.offers.Offer.{Offer}
 use Rattle.buck_bid.specs.Bid.{bid_of, worth_in, rank_in}
 use Rattle.buck_bid.specs.Offers.{code_of, codes_in, AreOffers, IsWhole}
@@ -68,14 +68,14 @@ module _ {s : SheetParts} {offers : List Offer} {takers : List Bool} {thinnest l
   }
 
   -- and so does one whose bids it is raised to
-  pub put_raised : (new : List ℕ) (kind price length_is : ℕ) → place < 512 → IsMarked takers o.assortment
+  pub put_raised : (new : List ℕ) (kind price : ℕ) (cubic : ℕ → ℕ) → place < 512 → IsMarked takers o.assortment
       → length new ≡ length old
-      → ((k : ℕ) → k < length old → slice_index new k ≡ max (slice_index old k) (bid_of (worth_at kind price (volume (thinnest + k) length_is)) (1023 - place)))
+      → ((k : ℕ) → k < length old → slice_index new k ≡ max (slice_index old k) (bid_of (worth_at kind price (cubic k)) (1023 - place)))
       → ((k : ℕ) → slice_index new k ≤ 2000000000000000000)
       → ((k : ℕ) → k < length old → IsPricedAt s o.assortment o.length (thinnest + k))
-      → ((k : ℕ) → k < length old → worth_for s o.assortment o.length (thinnest + k) ≡ worth_at kind price (volume (thinnest + k) length_is))
+      → ((k : ℕ) → k < length old → worth_for s o.assortment o.length (thinnest + k) ≡ worth_at kind price (cubic k))
       → IsColumn s (codes_in offers) takers thinnest l from (place + 1) new
-  put_raised new kind price length_is few taken number raised high priced worths = record {
+  put_raised new kind price cubic few taken number raised high priced worths = record {
     each = λ a k bid marked lt q done rest.
         let lt' : k < length old = omega arith in
         let r = raised k lt' in
@@ -84,16 +84,16 @@ module _ {s : SheetParts} {offers : List Offer} {takers : List Bool} {thinnest l
           | inr at_most ↦
               let rank : rank_in bid + place ≡ 1023 = omega arith in
               let same = quote_of s offers a l (thinnest + k) bid place o v are at q rank in
-              let w : worth_for s a l (thinnest + k) ≡ worth_at kind price (volume (thinnest + k) length_is) =
+              let w : worth_for s a l (thinnest + k) ≡ worth_at kind price (cubic k) =
               ap (λ b. worth_for s b l (thinnest + k)) (sym same.1) ∙ ap (λ n. worth_for s o.assortment n (thinnest + k)) (sym long) ∙ worths k lt' in
               let m : q.mark ≡ 1023 - place = omega (arith, quote_rank s (codes_in offers) a l (thinnest + k) bid q) in
-              let is : bid ≡ bid_of (worth_at kind price (volume (thinnest + k) length_is)) (1023 - place) = q.is ∙ ap (λ n. bid_of n q.mark) w ∙ ap (λ n. bid_of (worth_at kind price (volume (thinnest + k) length_is)) n) m in
+              let is : bid ≡ bid_of (worth_at kind price (cubic k)) (1023 - place) = q.is ∙ ap (λ n. bid_of n q.mark) w ∙ ap (λ n. bid_of (worth_at kind price (cubic k)) n) m in
               omega arith
         ];
     one = λ k lt.
         let lt' : k < length old = omega arith in
         let r = raised k lt' in
-        let bid : ℕ = bid_of (worth_at kind price (volume (thinnest + k) length_is)) (1023 - place) in
+        let bid : ℕ = bid_of (worth_at kind price (cubic k)) (1023 - place) in
         elim (cases_lt (slice_index old k) bid) [
           | inl more ↦
               let e : slice_index new k ≡ bid = omega arith in

@@ -3,13 +3,12 @@ use Rattle.std.proofs.Common.{◌≡◌, ◌≢◌, ℕ, suc, ◌+◌, ◌*◌, 
 use Rattle.std.proofs.lemmas.Bool.Decides.{nat_tests}
 use Rattle.std.proofs.lemmas.Option.{same_Some}
 use Rattle.std.proofs.lemmas.List.{get_or_default}
-use Rattle.buck_apt.specs.Instruction.{AssortmentParts, IsAssortment, IsClass, index_of}
+use Rattle.buck_apt.specs.Instruction.{AssortmentParts, IsInstruction, IsAssortment, IsClass}
 use Rattle.buck_apt.specs.declared.class.Class.{Class}
-use Rattle.buck_value.specs.Sheet.{SheetParts, IsSheet, price_of}
+use Rattle.buck_value.specs.Sheet.{SheetParts, price_of}
 use Rattle.buck_value.specs.Volume.{volume, worth_at}
 use Rattle.buck_value.specs.Allowed.{last_position, row_at, column_of, kind_in}
 use Rattle.buck_value.proofs.Classes.{column_some, column_is, row_within}
-use Rattle.buck_value.proofs.Prices.{price-le}
 use Rattle.buck_bid.specs.Limits.{IsBand}
 use Rattle.buck_bid.specs.Quotes.{class_for, worth_for, IsPriced, IsPricedAt}
 use Rattle.buck_bid.proofs.ListLemmas.{valid_at}
@@ -41,7 +40,7 @@ row_same x low d past band from lt =
 
 -- what the code has found of an offer's assortment and a band
 pub record IsFound (s : SheetParts) (a l low past column row : ℕ) (x : AssortmentParts) : Type 0 where
-  pub valid : IsSheet s
+  pub valid : IsInstruction s.instruction
   pub exists : slice_get s.instruction.assortments a ≡ Some x
   pub band : IsBand x low past
   pub thick : slice_index x.diameters 0 ≤ low
@@ -51,7 +50,7 @@ pub record IsFound (s : SheetParts) (a l low past column row : ℕ) (x : Assortm
 
 module _ {s : SheetParts} {a l low past column row : ℕ} {x : AssortmentParts} (f : IsFound s a l low past column row x) where
   one_valid : IsAssortment x
-  one_valid = valid_at s.instruction a x f.valid.valid f.exists
+  one_valid = valid_at s.instruction a x f.valid f.exists
 
   -- the place of the class
   class_place : (d : ℕ) → low ≤ d → d < past → row_at x d * length x.lengths + column_of x l ≡ row * length x.lengths + column
@@ -107,9 +106,6 @@ module _ {s : SheetParts} {a l low past column row : ℕ} {x : AssortmentParts} 
     where
       makes : ℕ → ℕ → Class
       makes r n = record { assortment = a; row = r; column = n }
-
-  pub price_low : (price : ℕ) → price ≡ price_of s class_is → price ≤ 20000000
-  price_low price is = rw is (price-le s (index_of s.instruction class_is) f.valid)
 
   pub length_low : l ≤ 30000
   length_low =

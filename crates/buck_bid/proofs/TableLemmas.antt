@@ -6,6 +6,10 @@ use Rattle.std.proofs.lemmas.Option.{same_Some, slice_get_within, slice_get-get_
 use Rattle.std.proofs.lemmas.List.{get_or-set_same, get_or-set_other}
 use Rattle.buck_value.specs.Sheet.{SheetParts}
 use Rattle.buck_bid.specs.declared.columns.Columns.{Columns}
+use Rattle.buck_bid.specs.declared.measures.Measures.{Measures}
+use Rattle.buck_bid.specs.declared.offers.Offer.{Offer}
+use Rattle.buck_bid.specs.Measures.{AreMeasures}
+use Rattle.buck_apt.specs.Instruction.{InstructionParts}
 use Rattle.buck_bid.specs.declared.tables.Kind.{Kind}
 use Rattle.buck_bid.specs.declared.tables.Takers.{Takers}
 use Rattle.buck_value.specs.declared.wood.Wood.{Wood}
@@ -13,7 +17,7 @@ use Rattle.buck_bid.specs.Columns.{AreColumnsOf, Marks}
 use Rattle.buck_bid.specs.Wood.{AreTakers}
 use Rattle.buck_bid.specs.declared.tables.Tables.{Tables}
 use Rattle.buck_bid.specs.Offers.{codes_in}
-use Rattle.buck_bid.specs.Tables.{marks_of, AreMade, AreAllMade, AreSameTakers, HasColumns, HasTakers, AreKinds, IsFound}
+use Rattle.buck_bid.specs.Tables.{marks_of, AreMade, AreAllMade, AreAllMeasured, AreSameTakers, HasColumns, HasTakers, AreKinds, IsFound}
 
 -- marks are told by their two lists
 pub same_pair : {a b c d : List Bool} → a ≡ b → c ≡ d → ◌≡◌ {A = Marks} (a, c) (b, d)
@@ -52,6 +56,20 @@ made_more s codes limits x y b c was marked bands low past right = record {
         subst (λ (e : Columns). (e.band.thinnest ≡ slice_index limits k) × (e.band.past ≡ slice_index limits (k + 1)) × AreColumnsOf s codes (marks_of y) e) same
         (rw here.0 low, rw here.0 past, subst (λ (m : Marks). AreColumnsOf s codes m c) (sym marked) right)
     | inr old ↦ (let r = was.right k d old in (r.0, r.1, subst (λ (m : Marks). AreColumnsOf s codes m d) (sym marked) r.2))
+  ];
+}
+
+-- bands of which one more is measured
+pub measured_more : (i : InstructionParts) (offers : List Offer) (limits : List ℕ) (old : List (Option Measures)) (b : ℕ) (m : Measures)
+    → AreAllMeasured i offers limits old → m.band.thinnest ≡ slice_index limits b → m.band.past ≡ slice_index limits (b + 1) → AreMeasures i offers m
+    → AreAllMeasured i offers limits (set old b (Some m))
+measured_more i offers limits old b m was low past right = record {
+  number = length-set old b (Some m) ∙ was.number;
+  right = λ k n at. elim (set_cases old b (Some m) (Some n) k at) [
+    | inl here ↦
+        subst (λ (o : Measures). (o.band.thinnest ≡ slice_index limits k) × (o.band.past ≡ slice_index limits (k + 1)) × AreMeasures i offers o) (same_Some m n here.1)
+        (rw here.0 low, rw here.0 past, right)
+    | inr before ↦ was.right k n before
   ];
 }
 

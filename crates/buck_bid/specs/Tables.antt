@@ -1,13 +1,17 @@
 -- The columns of a sheet that are made so far, for each set of takers and each band.
-use Rattle.std.specs.Prelude.{◌≡◌, ℕ, ◌+◌, List, length, slice_get, slice_index, Some}
+use Rattle.std.specs.Prelude.{◌≡◌, ℕ, ◌+◌, List, length, slice_get, slice_index, Option, Some}
+use Rattle.buck_apt.specs.Instruction.{InstructionParts}
 use Rattle.buck_value.specs.Sheet.{SheetParts}
 use Rattle.buck_bid.specs.declared.columns.Columns.{Columns}
+use Rattle.buck_bid.specs.declared.measures.Measures.{Measures}
+use Rattle.buck_bid.specs.declared.offers.Offer.{Offer}
 use Rattle.buck_value.specs.declared.wood.Wood.{Wood}
 use Rattle.buck_bid.specs.declared.tables.Kind.{Kind}
 use Rattle.buck_bid.specs.declared.tables.Takers.{Takers}
 use Rattle.buck_bid.specs.declared.tables.Tables.{Tables}
 use Rattle.buck_bid.specs.Offers.{codes_in, AreOffers, AreTrims}
 use Rattle.buck_bid.specs.Limits.{AreLimits}
+use Rattle.buck_bid.specs.Measures.{AreMeasures}
 use Rattle.buck_bid.specs.Columns.{AreColumnsOf, Marks}
 use Rattle.buck_bid.specs.Wood.{AreTakers}
 
@@ -47,11 +51,20 @@ pub record HasColumns (sets : List Takers) (set band : ℕ) : Type 0 where
   pub columns : Columns
   pub made : slice_get takers.bands.items band ≡ Some (Some columns)
 
+-- the measures of the offers within each band, or none so far
+pub record AreAllMeasured (i : InstructionParts) (offers : List Offer) (limits : List ℕ)
+    (measures : List (Option Measures)) : Type 0 where
+  pub number : length measures ≡ length limits
+  pub right : (b : ℕ) (m : Measures) → slice_get measures b ≡ Some (Some m)
+      → (m.band.thinnest ≡ slice_index limits b) × (m.band.past ≡ slice_index limits (b + 1))
+      × AreMeasures i offers m
+
 -- the tables are those of a sheet
 pub record AreTablesOf (s : SheetParts) (t : Tables) : Type 0 where
   pub offers : AreOffers s.instruction t.offers.items
   pub trims : AreTrims s.instruction t.trims.items
   pub limits : AreLimits s.instruction t.limits.items
+  pub measures : AreAllMeasured s.instruction t.offers.items t.limits.items t.measures.items
   pub last : length t.last.items ≡ 256
   pub sets : AreAllMade s (codes_in t.offers.items) t.limits.items t.sets.items
   pub kinds : AreKinds s t.sets.items t.kinds.items

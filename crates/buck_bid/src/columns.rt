@@ -1,27 +1,19 @@
 //! Bids by length and top diameter: a column for each length, with a bid for each diameter of a band.
 ghost use Rattle.std.specs.Prelude.{◌≡◌, ℕ, Bool, List, [], ◌+◌, ◌-◌, ◌*◌, ◌<◌, ◌≤◌, ◌⊎◌, ◌↔◌, IsTrue, IsFalse, IfOk, OnOk, IfSome, IfNone, max, length, slice_get, slice_index, Some, Contains};
-ghost use Rattle.buck_apt.specs.Instruction.{AssortmentParts};
+ghost use Rattle.buck_apt.specs.Instruction.{classes};
 ghost use Rattle.buck_value.specs.Sheet.{SheetParts, IsSheet};
-ghost use Rattle.buck_value.specs.Volume.{volume, worth_at};
+ghost use Rattle.buck_value.specs.Volume.{worth_at};
 ghost use Rattle.buck_bid.specs.Bid.{bid_of, worth_in};
 ghost use Rattle.buck_bid.specs.Offers.{codes_in, AreOffers};
 ghost use Rattle.buck_bid.specs.declared.offers.Offer.{Offer};
-ghost use Rattle.buck_bid.specs.Limits.{IsBand, IsBandOf};
-ghost use Rattle.buck_bid.specs.Quotes.{IsPricedAt, IsQuote, worth_for};
+ghost use Rattle.buck_bid.specs.Measures.{AreMeasures};
 ghost use Rattle.buck_bid.specs.Columns.{IsMarked, IsColumn, AreColumns, AreReached, AreReachedBefore, ArePut, IsApart, AreColumnsOf};
 
 use crate::bid::Bid;
+use crate::measures::{Band, Measure, Measures, Pricing};
 use crate::offers::Offer;
-use buck_apt::{Assortment, Class};
-use buck_value::{Sheet, column_of, row_of, volume_of, worth_of_piece};
+use buck_value::{Sheet, worth_of_piece};
 use std::alloc::{AllocError, Global};
-
-/// Diameters in mm from `thinnest` on and below `past`, within which no assortment changes its row.
-#[derive(Clone, Copy, Debug)]
-pub struct Band {
-    pub thinnest: u32,
-    pub past: u32,
-}
 
 /// Bids for logs by their length and their top diameter: for each of these lengths, in steps of the module, a bid for
 /// each diameter of a band.
@@ -32,83 +24,73 @@ pub struct Columns {
     pub bids: Vec<Bid>,
 }
 
-/// What logs of one length are sold for within a band: the price kind of their assortment, the price in force of their
-/// class, and their length.
+/// What logs are sold for: the price kind of their assortment, and the price in force of their class.
 #[derive(Clone, Copy, Debug)]
 struct Price {
     kind: u8,
     price: u32,
-    length: u32,
 }
 
-/// The bid for logs of a top diameter.
-fn bid_at(price: Price, rank: u32, diameter: u32) -> Bid
+/// The bid for a log of a volume.
+fn bid_at(price: Price, rank: u32, volume: u32) -> Bid
     requires price { price.price ≤ 20000000 }
-    requires length { price.length ≤ 30000 }
     requires rank { rank ≤ 1023 }
-    requires diameter { diameter ≤ 2000 }
-    ensures value { result ≡ bid_of (worth_at price.kind price.price (volume diameter price.length)) rank }
+    requires volume { volume ≤ 94260000 }
+    ensures value { result ≡ bid_of (worth_at price.kind price.price volume) rank }
     ensures high { result ≤ 2000000000000000000 }
 {
-    let volume = volume_of(diameter, price.length);
-    Bid::of(worth_of_piece(price.kind, price.price, volume), rank)
+    Bid::of(
+        worth_of_piece(price.kind, price.price, u64::from(volume)),
+        rank,
+    )
 }
 
-/// Raises a column to the bids at a price.
-fn raise(column: &mut [Bid], price: Price, rank: u32, thinnest: u32)
+/// Raises a column to the bids at a price, by the volume for each diameter.
+fn raise(column: &mut [Bid], price: Price, rank: u32, volumes: &[u32])
     requires price { price.price ≤ 20000000 }
-    requires length { price.length ≤ 30000 }
     requires rank { rank ≤ 1023 }
-    requires thin { thinnest + length column.old ≤ 2001 }
+    requires volumes { length column.old ≤ length volumes.now }
+    requires low { (at : ℕ) → slice_index volumes.now at ≤ 94260000 }
     ensures number { length column.new ≡ length column.old }
     ensures raised { (at : ℕ) → at < length column.old → slice_index column.new at
         ≡ max (slice_index column.old at)
-        (bid_of (worth_at price.kind price.price (volume (thinnest + at) price.length)) rank) }
+        (bid_of (worth_at price.kind price.price (slice_index volumes.now at)) rank) }
     ensures high { ((at : ℕ) → slice_index column.old at ≤ 2000000000000000000) → (at : ℕ)
         → slice_index column.new at ≤ 2000000000000000000 }
 {
     for at in 0..column.len() {
-        column[at] = column[at].or(bid_at(price, rank, thinnest + at as u32));
+        column[at] = column[at].or(bid_at(price, rank, volumes[at]));
     }
 }
 
-/// What the logs of an offer are sold for within a band, or `None` where its assortment has no price for them.
-fn price_of(sheet: &Sheet, offer: Offer, band: Band) -> Option<Price>
-    requires there { offer.assortment < length sheet.now.instruction.assortments }
-    requires band { IsBandOf sheet.now.instruction band.thinnest band.past }
-    ensures priced { IfSome result (λ _. (d : ℕ) → band.thinnest ≤ d → d < band.past
-        → IsPricedAt sheet.now offer.assortment offer.length d) }
-    ensures worth { IfSome result (λ p. (d : ℕ) → band.thinnest ≤ d → d < band.past
-        → worth_for sheet.now offer.assortment offer.length d ≡ worth_at p.kind p.price (volume d p.length)) }
-    ensures price { IfSome result (λ p. p.price ≤ 20000000) }
-    ensures length { IfSome result (λ p. p.length ≤ 30000) }
-    ensures none { IfNone result ((d : ℕ) → band.thinnest ≤ d → d < band.past
-        → IsPricedAt sheet.now offer.assortment offer.length d → ⊥) }
+/// The measure of the offer at a place.
+fn measure_at(measures: &Measures, place: usize) -> Option<Measure>
+    requires { place < length measures.now.each.items }
+    ensures { slice_get measures.now.each.items place ≡ Some result }
 {
-    let assortment = &sheet.instruction().assortments()[offer.assortment];
-    if band.thinnest < assortment.diameters()[0] {
-        return None;
+    measures.each[place]
+}
+
+/// The volumes from a place on.
+fn volumes_from(volumes: &[u32], from: usize) -> &[u32]
+    requires { from ≤ length volumes.now }
+    ensures number { length result.now + from ≡ length volumes.now }
+    ensures shifted { (at : ℕ) → slice_index result.now at ≡ slice_index volumes.now (from + at) }
+{
+    &volumes[from..]
+}
+
+/// What logs that are priced so are sold for under a sheet.
+fn price_of(sheet: &Sheet, pricing: Pricing) -> Price
+    requires { pricing.class < classes sheet.now.instruction }
+    ensures kind { result.kind ≡ pricing.kind }
+    ensures price { result.price ≡ slice_index sheet.now.prices pricing.class }
+    ensures low { result.price ≤ 20000000 }
+{
+    Price {
+        kind: pricing.kind,
+        price: sheet.prices()[pricing.class],
     }
-    if assortment.upper() <= band.thinnest {
-        return None;
-    }
-    let Some(column) = column_of(assortment, offer.length) else {
-        return None;
-    };
-    let row = row_of(assortment, band.thinnest);
-    if assortment.price(row, column) == 0 {
-        return None;
-    }
-    let class = Class {
-        assortment: offer.assortment as u8,
-        row: row as u8,
-        column: column as u8,
-    };
-    Some(Price {
-        kind: assortment.price_kind(),
-        price: sheet.price(class),
-        length: offer.length,
-    })
 }
 
 /// Whether an assortment is marked as a taker.
@@ -127,27 +109,32 @@ fn put_offer(
     offers: &[Offer],
     takers: &[bool],
     place: usize,
-    band: Band,
+    measures: &Measures,
 )
     requires valid { IsSheet sheet.now }
     requires offers { AreOffers sheet.now.instruction offers.now }
     requires takers { length takers.now ≡ length sheet.now.instruction.assortments }
-    requires band { IsBandOf sheet.now.instruction band.thinnest band.past }
-    requires number { band.thinnest + length column.old ≡ band.past }
+    requires measures { AreMeasures sheet.now.instruction offers.now measures.now }
+    requires number { measures.now.band.thinnest + length column.old ≡ measures.now.band.past }
     requires some { 0 < length column.old }
     requires place { place < length offers.now }
     ensures number { length column.new ≡ length column.old }
     ensures column { (l from : ℕ) (o : Offer) → slice_get offers.now place ≡ Some o → o.length ≡ l → from ≤ place
-        → IsColumn sheet.now (codes_in offers.now) takers.now band.thinnest l from place column.old
-        → IsColumn sheet.now (codes_in offers.now) takers.now band.thinnest l from (place + 1) column.new }
+        → IsColumn sheet.now (codes_in offers.now) takers.now measures.now.band.thinnest l from place column.old
+        → IsColumn sheet.now (codes_in offers.now) takers.now measures.now.band.thinnest l from (place + 1) column.new }
 {
     let offer = offers[place];
     if !is_marked(takers, offer.assortment) {
         return;
     }
-    match price_of(sheet, offer, band) {
+    match measure_at(measures, place) {
         None => {}
-        Some(price) => raise(column, price, (1023 - place) as u32, band.thinnest),
+        Some(measure) => raise(
+            column,
+            price_of(sheet, measure.pricing),
+            (1023 - place) as u32,
+            volumes_from(measures.volumes.as_slice(), measure.volumes),
+        ),
     }
 }
 
@@ -160,28 +147,29 @@ fn put_length(
     takers: &[bool],
     from: usize,
     long: u32,
-    band: Band,
+    measures: &Measures,
 ) -> usize
     requires valid { IsSheet sheet.now }
     requires offers { AreOffers sheet.now.instruction offers.now }
     requires takers { length takers.now ≡ length sheet.now.instruction.assortments }
-    requires band { IsBandOf sheet.now.instruction band.thinnest band.past }
-    requires number { band.thinnest + length column.old ≡ band.past }
+    requires measures { AreMeasures sheet.now.instruction offers.now measures.now }
+    requires number { measures.now.band.thinnest + length column.old ≡ measures.now.band.past }
     requires some { 0 < length column.old }
     requires zeros { (at : ℕ) → slice_index column.old at ≡ 0 }
     requires from { from < length offers.now }
     requires length { (o : Offer) → slice_get offers.now from ≡ Some o → o.length ≡ long }
     ensures number { length column.new ≡ length column.old }
     ensures next { (from < result) × (result ≤ length offers.now) }
-    ensures column { IsColumn sheet.now (codes_in offers.now) takers.now band.thinnest long from result column.new }
+    ensures column { IsColumn sheet.now (codes_in offers.now) takers.now measures.now.band.thinnest long from result
+        column.new }
     ensures earlier { (k : ℕ) → k < result → slice_index (codes_in offers.now) k < long * 16 + 16 }
     ensures later { (k : ℕ) → result ≤ k → k < length offers.now
         → long * 16 + 15 < slice_index (codes_in offers.now) k }
 {
-    put_offer(column, sheet, offers, takers, from, band);
+    put_offer(column, sheet, offers, takers, from, measures);
     let mut place = from + 1;
     while place < offers.len() && offers[place].length == long {
-        put_offer(column, sheet, offers, takers, place, band);
+        put_offer(column, sheet, offers, takers, place, measures);
         place += 1;
     }
     place
@@ -271,13 +259,13 @@ fn reach_rivals(
     offers: &[Offer],
     rivals: &[bool],
     from: usize,
-    band: Band,
+    measures: &Measures,
 )
     requires valid { IsSheet sheet.now }
     requires offers { AreOffers sheet.now.instruction offers.now }
     requires rivals { length rivals.now ≡ length sheet.now.instruction.assortments }
-    requires band { IsBandOf sheet.now.instruction band.thinnest band.past }
-    requires number { band.thinnest + length column.old ≡ band.past }
+    requires measures { AreMeasures sheet.now.instruction offers.now measures.now }
+    requires number { measures.now.band.thinnest + length column.old ≡ measures.now.band.past }
     requires some { 0 < length column.old }
     requires reached { length reached.old ≡ length column.old }
     requires from { from < length offers.now }
@@ -285,9 +273,9 @@ fn reach_rivals(
     ensures reached { length reached.new ≡ length reached.old }
     ensures best { (before long : ℕ) (steps : List ℕ) (bids : List ℕ) (o : Offer) → slice_get offers.now from ≡ Some o
         → o.length ≡ long → before ≤ long
-        → AreReached sheet.now (codes_in offers.now) rivals.now band.thinnest before (length column.old)
+        → AreReached sheet.now (codes_in offers.now) rivals.now measures.now.band.thinnest before (length column.old)
         steps bids reached.old
-        → AreReached sheet.now (codes_in offers.now) rivals.now band.thinnest long (length column.old)
+        → AreReached sheet.now (codes_in offers.now) rivals.now measures.now.band.thinnest long (length column.old)
         steps bids reached.new }
 {
     if !rivals.contains(&true) {
@@ -302,7 +290,7 @@ fn reach_rivals(
         rivals,
         from,
         offers[from].length,
-        band,
+        measures,
     );
     reach(reached, column);
 }
@@ -319,62 +307,83 @@ fn add_length(
     takers: &[bool],
     rivals: &[bool],
     from: usize,
-    band: Band,
+    measures: &Measures,
 ) -> Result<usize, AllocError>
     requires offers { AreOffers sheet.now.instruction offers.now }
     requires takers { length takers.now ≡ length sheet.now.instruction.assortments }
     requires rivals { length rivals.now ≡ length sheet.now.instruction.assortments }
-    requires band { IsBandOf sheet.now.instruction band.thinnest band.past }
-    requires number { band.thinnest + length column.old ≡ band.past }
+    requires measures { AreMeasures sheet.now.instruction offers.now measures.now }
+    requires number { measures.now.band.thinnest + length column.old ≡ measures.now.band.past }
     requires reached { length reached.old ≡ length column.old }
     requires from { from < length offers.now }
-    requires best { AreReachedBefore sheet.now (codes_in offers.now) rivals.now band.thinnest from (length column.old)
-        steps.old.items bids.old.items reached.old }
+    requires best { AreReachedBefore sheet.now (codes_in offers.now) rivals.now measures.now.band.thinnest from
+        (length column.old) steps.old.items bids.old.items reached.old }
     requires apart { IsApart (codes_in offers.now) from }
-    requires columns { AreColumns sheet.now (codes_in offers.now) (takers.now, rivals.now) band.thinnest
+    requires columns { AreColumns sheet.now (codes_in offers.now) (takers.now, rivals.now) measures.now.band.thinnest
         (length column.old) from steps.old.items bids.old.items }
     ensures number { length column.new ≡ length column.old }
     ensures reached { length reached.new ≡ length reached.old }
     ensures next { IfOk result (λ n. (from < n) × (n ≤ length offers.now)) }
     ensures best { IfOk result (λ n.
-        AreReachedBefore sheet.now (codes_in offers.now) rivals.now band.thinnest n (length column.old)
-        steps.new.items bids.new.items reached.new) }
+        AreReachedBefore sheet.now (codes_in offers.now) rivals.now measures.now.band.thinnest n
+        (length column.old) steps.new.items bids.new.items reached.new) }
     ensures apart { IfOk result (λ n. IsApart (codes_in offers.now) n) }
     ensures columns { IfOk result (λ n.
-        AreColumns sheet.now (codes_in offers.now) (takers.now, rivals.now) band.thinnest (length column.old) n
-        steps.new.items bids.new.items) }
+        AreColumns sheet.now (codes_in offers.now) (takers.now, rivals.now) measures.now.band.thinnest
+        (length column.old) n steps.new.items bids.new.items) }
 {
     let long = offers[from].length;
     let module = sheet.instruction().module();
-    reach_rivals(reached, column, sheet, offers, rivals, from, band);
+    reach_rivals(reached, column, sheet, offers, rivals, from, measures);
     clear(column);
-    let next = put_length(column, sheet, offers, takers, from, long, band);
+    let next = put_length(column, sheet, offers, takers, from, long, measures);
     push_column(steps, bids, reached, column, (long / module) as usize)?;
     Ok(next)
 }
 
+/// Empty lists of steps and of bids, in the room of columns that are given up.
+fn emptied(alloc: Global, room: Option<Columns>) -> (Vec<usize>, Vec<Bid>)
+    ensures { (result.0.items ≡ []) × (result.1.items ≡ []) }
+{
+    match room {
+        None => (Vec::new(alloc), Vec::new(alloc)),
+        Some(columns) => {
+            let Columns {
+                mut steps,
+                mut bids,
+                ..
+            } = columns;
+            steps.clear();
+            bids.clear();
+            (steps, bids)
+        }
+    }
+}
+
 /// The columns of the bids of some takers within a band, without the lengths that a shorter one outbids at each
-/// diameter, or that rivals of theirs outbid who bid for logs that are no longer.
+/// diameter, or that rivals of theirs outbid who bid for logs that are no longer. They take the room of columns that
+/// are given up.
 pub fn columns_of(
     alloc: Global,
     sheet: &Sheet,
     offers: &[Offer],
     takers: &[bool],
     rivals: &[bool],
-    band: Band,
+    measures: &Measures,
+    room: Option<Columns>,
 ) -> Result<Columns, AllocError>
     requires offers { AreOffers sheet.now.instruction offers.now }
     requires takers { length takers.now ≡ length sheet.now.instruction.assortments }
     requires rivals { length rivals.now ≡ length sheet.now.instruction.assortments }
-    requires band { IsBandOf sheet.now.instruction band.thinnest band.past }
-    ensures band { IfOk result (λ c. c.band ≡ band) }
+    requires measures { AreMeasures sheet.now.instruction offers.now measures.now }
+    ensures band { IfOk result (λ c. c.band ≡ measures.now.band) }
     ensures right { IfOk result (λ c. AreColumnsOf sheet.now (codes_in offers.now) (takers.now, rivals.now) c) }
 {
+    let band = measures.band;
     let width = (band.past - band.thinnest) as usize;
     let mut column = no_bids(alloc, width)?;
     let mut reached = vec![in alloc; 0u64; width]?;
-    let mut steps = Vec::new(alloc);
-    let mut bids = Vec::new(alloc);
+    let (mut steps, mut bids) = emptied(alloc, room);
     let mut from = 0;
     while from < offers.len() {
         from = add_length(
@@ -387,7 +396,7 @@ pub fn columns_of(
             takers,
             rivals,
             from,
-            band,
+            measures,
         )?;
     }
     Ok(Columns { band, steps, bids })

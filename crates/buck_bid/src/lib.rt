@@ -4,6 +4,7 @@
 mod bid;
 mod columns;
 mod limits;
+mod measures;
 mod offers;
 mod push;
 mod tables;
@@ -11,8 +12,9 @@ mod wood;
 
 pub use bid::Bid;
 pub use buck_value::Wood;
-pub use columns::{Band, Columns, columns_of};
+pub use columns::{Columns, columns_of};
 pub use limits::{band_of, limits_of};
+pub use measures::{Band, Measures, measures_of};
 pub use offers::{Offer, offers_of};
 pub use push::push_column;
 pub use tables::{Found, Kind, Tables, Takers};

@@ -5,18 +5,21 @@ ghost use Rattle.buck_bid.specs.Offers.{codes_in, AreOffers};
 ghost use Rattle.buck_bid.specs.Limits.{AreLimits};
 ghost use Rattle.buck_bid.specs.Columns.{AreColumnsOf};
 ghost use Rattle.buck_bid.specs.Wood.{AreTakers};
-ghost use Rattle.buck_bid.specs.Tables.{marks_of, AreMade, AreAllMade, HasTakers, AreKinds, AreSameTakers, HasColumns, AreTablesOf, IsFound};
+ghost use Rattle.buck_bid.specs.Tables.{marks_of, AreMade, AreAllMade, HasTakers, AreKinds, AreSameTakers, HasColumns, AreAllMeasured, AreTablesOf, IsFound};
 ghost use Rattle.buck_bid.specs.declared.columns.Columns.{Columns};
+ghost use Rattle.buck_bid.specs.declared.measures.Measures.{Measures};
 ghost use Rattle.buck_bid.specs.declared.tables.Kind.{Kind};
 ghost use Rattle.buck_bid.specs.declared.tables.Takers.{Takers};
 
-use crate::columns::{Band, Columns, columns_of};
+use crate::columns::{Columns, columns_of};
 use crate::limits::limits_of;
+use crate::measures::{Band, Measures, measures_of};
 use crate::offers::{Offer, offers_of, trims_of};
 use crate::wood::{rivals_of, takers_of};
 use buck_record::Memory;
 use buck_value::{Sheet, Wood};
 use std::alloc::{AllocError, Global};
+use std::mem;
 
 /// Some wood, and where its takers stand.
 #[derive(Clone, Copy, Debug)]
@@ -31,6 +34,8 @@ pub struct Takers {
     marked: Vec<bool>,
     rivals: Vec<bool>,
     bands: Vec<Option<Columns>>,
+    /// Columns that were dropped, by band: their room is taken by those of the next sheet.
+    rooms: Vec<Option<Columns>>,
 }
 
 /// So many bands without columns.
@@ -84,10 +89,12 @@ fn takers_at(
         Some(k) => Ok(k),
         None => {
             let bands = no_columns(alloc, limits.len())?;
+            let rooms = no_columns(alloc, limits.len())?;
             sets.push(Takers {
                 marked,
                 rivals,
                 bands,
+                rooms,
             })?;
             Ok(sets.len() - 1)
         }
@@ -180,12 +187,79 @@ fn set_of(
     }
 }
 
+/// So many bands in which nothing is measured.
+fn no_measures(alloc: Global, count: usize) -> Result<Vec<Option<Measures>>, AllocError>
+    ensures number { IfOk result (λ v. length v.items ≡ count) }
+    ensures none { IfOk result (λ v. (b : ℕ) (m : Measures) → slice_get v.items b ≡ Some (Some m) → ⊥) }
+{
+    let mut measures = Vec::with_capacity(alloc, count)?;
+    for band in 0..count {
+        measures.push(None)?;
+    }
+    Ok(measures)
+}
+
+/// Measures the offers within a band, where that isn't done.
+fn measure(
+    alloc: Global,
+    sheet: &Sheet,
+    offers: &[Offer],
+    limits: &[u32],
+    measures: &mut Vec<Option<Measures>>,
+    band: usize,
+) -> Result<(), AllocError>
+    requires limits { AreLimits sheet.now.instruction limits.now }
+    requires band { band + 1 < length limits.now }
+    requires high { slice_index limits.now (band + 1) ≤ 1504 }
+    requires right { AreAllMeasured sheet.now.instruction offers.now limits.now measures.old.items }
+    ensures right { AreAllMeasured sheet.now.instruction offers.now limits.now measures.new.items }
+    ensures there { OnOk result ((m : Measures) × (slice_get measures.new.items band ≡ Some (Some m))) }
+{
+    if measures[band].is_some() {
+        return Ok(());
+    }
+    let band_there = Band {
+        thinnest: limits[band],
+        past: limits[band + 1],
+    };
+    let made = measures_of(alloc, sheet.instruction(), offers, band_there)?;
+    measures[band] = Some(made);
+    Ok(())
+}
+
+/// The measures of a band.
+fn measures_at(measures: &[Option<Measures>], band: usize) -> &Measures
+    requires { (m : Measures) × (slice_get measures.now band ≡ Some (Some m)) }
+    ensures { slice_get measures.now band ≡ Some (Some result.now) }
+{
+    match &measures[band] {
+        Some(measures) => measures,
+        None => unreachable!(),
+    }
+}
+
+/// Takes the room for the columns of a band, if there is one.
+fn take_room(rooms: &mut Vec<Option<Columns>>, band: usize) -> Option<Columns> {
+    if band >= rooms.len() {
+        return None;
+    }
+    mem::replace(&mut rooms[band], None)
+}
+
+/// Leaves the room of columns that are dropped for the next of their band.
+fn leave_room(rooms: &mut Vec<Option<Columns>>, band: usize, columns: Option<Columns>) {
+    if columns.is_some() && band < rooms.len() {
+        rooms[band] = columns;
+    }
+}
+
 /// Makes the columns of some takers for a band. The answer is how many bids they have.
 fn make_columns(
     alloc: Global,
     sheet: &Sheet,
     offers: &[Offer],
     limits: &[u32],
+    measures: &mut Vec<Option<Measures>>,
     takers: &mut Takers,
     band: usize,
 ) -> Result<usize, AllocError>
@@ -193,21 +267,22 @@ fn make_columns(
     requires limits { AreLimits sheet.now.instruction limits.now }
     requires band { band + 1 < length limits.now }
     requires high { slice_index limits.now (band + 1) ≤ 1504 }
+    requires measures { AreAllMeasured sheet.now.instruction offers.now limits.now measures.old.items }
     requires made { AreMade sheet.now (codes_in offers.now) limits.now takers.old }
+    ensures measures { AreAllMeasured sheet.now.instruction offers.now limits.now measures.new.items }
     ensures made { AreMade sheet.now (codes_in offers.now) limits.now takers.new }
     ensures marked { marks_of takers.new ≡ marks_of takers.old }
     ensures there { OnOk result ((c : Columns) × (slice_get takers.new.bands.items band ≡ Some (Some c))) }
 {
+    measure(alloc, sheet, offers, limits, measures, band)?;
     let columns = columns_of(
         alloc,
         sheet,
         offers,
         takers.marked.as_slice(),
         takers.rivals.as_slice(),
-        Band {
-            thinnest: limits[band],
-            past: limits[band + 1],
-        },
+        measures_at(measures.as_slice(), band),
+        take_room(&mut takers.rooms, band),
     )?;
     let count = columns.bids.len();
     takers.bands[band] = Some(columns);
@@ -239,6 +314,7 @@ fn columns_at(
     sheet: &Sheet,
     offers: &[Offer],
     limits: &[u32],
+    measures: &mut Vec<Option<Measures>>,
     sets: &mut Vec<Takers>,
     set: usize,
     band: usize,
@@ -248,7 +324,9 @@ fn columns_at(
     requires band { band + 1 < length limits.now }
     requires high { slice_index limits.now (band + 1) ≤ 1504 }
     requires set { set < length sets.old.items }
+    requires measures { AreAllMeasured sheet.now.instruction offers.now limits.now measures.old.items }
     requires made { AreAllMade sheet.now (codes_in offers.now) limits.now sets.old.items }
+    ensures measures { AreAllMeasured sheet.now.instruction offers.now limits.now measures.new.items }
     ensures made { AreAllMade sheet.now (codes_in offers.now) limits.now sets.new.items }
     ensures kept { AreSameTakers sets.old.items sets.new.items }
     ensures there { OnOk result (HasColumns sets.new.items set band) }
@@ -257,7 +335,7 @@ fn columns_at(
     if is_made(takers, band) {
         return Ok(0);
     }
-    let count = make_columns(alloc, sheet, offers, limits, takers, band)?;
+    let count = make_columns(alloc, sheet, offers, limits, measures, takers, band)?;
     Ok(count)
 }
 
@@ -283,7 +361,8 @@ fn drop_bands(takers: &mut Takers)
         → AreMade s codes limits takers.old → AreMade t codes limits takers.new }
 {
     for band in 0..takers.bands.len() {
-        takers.bands[band] = None;
+        let columns = mem::replace(&mut takers.bands[band], None);
+        leave_room(&mut takers.rooms, band, columns);
     }
 }
 
@@ -313,6 +392,8 @@ pub struct Tables {
     offers: Vec<Offer>,
     trims: Vec<u32>,
     limits: Vec<u32>,
+    /// The measures of the offers within each band, as far as they were asked for.
+    measures: Vec<Option<Measures>>,
     kinds: Vec<Kind>,
     sets: Vec<Takers>,
     /// Where kinds of wood were found last, each at its note.
@@ -338,10 +419,13 @@ impl Tables {
         ensures { IfOk result (AreTablesOf sheet.now) }
     {
         let instruction = sheet.instruction();
+        let limits = limits_of(alloc, instruction)?;
+        let measures = no_measures(alloc, limits.len())?;
         Ok(Tables {
             offers: offers_of(alloc, instruction)?,
             trims: trims_of(alloc, instruction)?,
-            limits: limits_of(alloc, instruction)?,
+            limits,
+            measures,
             kinds: Vec::new(alloc),
             sets: Vec::new(alloc),
             last: no_places(alloc, 256)?,
@@ -420,6 +504,7 @@ impl Tables {
             sheet,
             self.offers.as_slice(),
             self.limits.as_slice(),
+            &mut self.measures,
             &mut self.sets,
             set,
             band,

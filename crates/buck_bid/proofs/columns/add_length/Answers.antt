@@ -23,9 +23,9 @@ returns-clause-best c =
     record {
       long = o.length;
       below = λ k le lt. omega (arith, c.put_length-next.ensures.later k le (omega (arith, codes_number offers)));
-      each = subst (λ w. AreReached c.args.sheet.now (codes_in offers) c.args.rivals.now c.args.band.thinnest o.length w c.push_column.new.steps.items c.push_column.new.bids.items c.push_column.new.reached) wide
-          (c.in_ok-push_column.ensures.best c.args.sheet.now (codes_in offers) c.args.rivals.now c.args.band.thinnest o.length
-          (subst (λ w. AreReached c.args.sheet.now (codes_in offers) c.args.rivals.now c.args.band.thinnest o.length w c.args.steps.now.items c.args.bids.now.items c.reach_rivals.new.reached) (sym wide)
+      each = subst (λ w. AreReached c.args.sheet.now (codes_in offers) c.args.rivals.now c.args.measures.now.band.thinnest o.length w c.push_column.new.steps.items c.push_column.new.bids.items c.push_column.new.reached) wide
+          (c.in_ok-push_column.ensures.best c.args.sheet.now (codes_in offers) c.args.rivals.now c.args.measures.now.band.thinnest o.length
+          (subst (λ w. AreReached c.args.sheet.now (codes_in offers) c.args.rivals.now c.args.measures.now.band.thinnest o.length w c.args.steps.now.items c.args.bids.now.items c.reach_rivals.new.reached) (sym wide)
           (c.reach_rivals.ensures.best c.requires.best.long o.length c.args.steps.now.items c.args.bids.now.items o at refl (omega (arith, before, code, low)) c.requires.best.each)));
     }
 
@@ -44,10 +44,10 @@ returns-clause-columns c =
     (c.requires.offers.steps c.args.from 0 (omega (arith, codes_number offers, c.requires.from)))) low in
     let wide : length c.put_length-next.new.column ≡ length c.args.column.now = c.put_length-next.ensures.number ∙ c.clear.ensures.number ∙ c.reach_rivals.ensures.number in
     let before = c.requires.best.below c.args.from (omega arith) (omega (arith, codes_number offers, c.requires.from)) in
-    let reached : AreReached c.args.sheet.now (codes_in offers) c.args.rivals.now c.args.band.thinnest o.length (length c.put_length-next.new.column) c.args.steps.now.items c.args.bids.now.items c.reach_rivals.new.reached =
-    subst (λ w. AreReached c.args.sheet.now (codes_in offers) c.args.rivals.now c.args.band.thinnest o.length w c.args.steps.now.items c.args.bids.now.items c.reach_rivals.new.reached) (sym wide)
+    let reached : AreReached c.args.sheet.now (codes_in offers) c.args.rivals.now c.args.measures.now.band.thinnest o.length (length c.put_length-next.new.column) c.args.steps.now.items c.args.bids.now.items c.reach_rivals.new.reached =
+    subst (λ w. AreReached c.args.sheet.now (codes_in offers) c.args.rivals.now c.args.measures.now.band.thinnest o.length w c.args.steps.now.items c.args.bids.now.items c.reach_rivals.new.reached) (sym wide)
     (c.reach_rivals.ensures.best c.requires.best.long o.length c.args.steps.now.items c.args.bids.now.items o at refl (omega (arith, before, code, low)) c.requires.best.each) in
-    subst (λ w. AreColumns c.args.sheet.now (codes_in offers) (c.args.takers.now, c.args.rivals.now) c.args.band.thinnest w c.put_length-next.result c.push_column.new.steps.items c.push_column.new.bids.items) wide
+    subst (λ w. AreColumns c.args.sheet.now (codes_in offers) (c.args.takers.now, c.args.rivals.now) c.args.measures.now.band.thinnest w c.put_length-next.result c.push_column.new.steps.items c.push_column.new.bids.items) wide
     (all_right pos c.instruction.ensures.valid c.requires.offers c.requires.from (omega arith) (omega arith)
     (λ k lt. c.requires.apart k c.args.from lt (omega arith) (omega (arith, codes_number offers, c.requires.from)))
     (rw unit whole.0) (rw unit whole.1)
@@ -55,5 +55,5 @@ returns-clause-columns c =
     (let n = c.put_length-next.ensures.next in n.0)
     c.put_length-next.ensures.column
     c.put_length-next.ensures.later
-    (subst (λ w. AreColumns c.args.sheet.now (codes_in offers) (c.args.takers.now, c.args.rivals.now) c.args.band.thinnest w c.args.from c.args.steps.now.items c.args.bids.now.items) (sym wide) c.requires.columns)
-    c.push_column.new.steps.items c.push_column.new.bids.items (c.in_ok-push_column.ensures.put c.args.sheet.now (codes_in offers) c.args.rivals.now c.args.band.thinnest o.length reached))
+    (subst (λ w. AreColumns c.args.sheet.now (codes_in offers) (c.args.takers.now, c.args.rivals.now) c.args.measures.now.band.thinnest w c.args.from c.args.steps.now.items c.args.bids.now.items) (sym wide) c.requires.columns)
+    c.push_column.new.steps.items c.push_column.new.bids.items (c.in_ok-push_column.ensures.put c.args.sheet.now (codes_in offers) c.args.rivals.now c.args.measures.now.band.thinnest o.length reached))

@@ -9,8 +9,8 @@ returns-clause-right c =
     let all : c.loop-from.from ≡ length (codes_in c.args.offers.now) =
     omega (arith, c.loop-from-test.false, c.loop-from.invariant.within, codes_number c.args.offers.now) in
     record {
-      order = c.requires.band.order;
-      thin = c.requires.band.high;
-      columns = subst (λ n. AreColumns c.args.sheet.now (codes_in c.args.offers.now) (c.args.takers.now, c.args.rivals.now) c.args.band.thinnest (c.args.band.past - c.args.band.thinnest) n c.loop-from.steps.items c.loop-from.bids.items)
+      order = c.requires.measures.order;
+      thin = c.requires.measures.high;
+      columns = subst (λ n. AreColumns c.args.sheet.now (codes_in c.args.offers.now) (c.args.takers.now, c.args.rivals.now) c.args.measures.now.band.thinnest (c.args.measures.now.band.past - c.args.measures.now.band.thinnest) n c.loop-from.steps.items c.loop-from.bids.items)
           all c.loop-from.invariant.columns;
     }

@@ -21,7 +21,7 @@ loop-place-init c =
       within = omega arith;
       place = omega (arith, c.requires.from);
       column = c.put_offer.ensures.column c.args.long c.args.from (get_or c.args.offers.now c.args.from blank) at (c.requires.length (get_or c.args.offers.now c.args.from blank) at) (omega arith)
-          (put_start c.args.sheet.now (codes_in c.args.offers.now) c.args.takers.now c.args.band.thinnest c.args.long c.args.from c.args.column.now c.requires.zeros);
+          (put_start c.args.sheet.now (codes_in c.args.offers.now) c.args.takers.now c.args.measures.now.band.thinnest c.args.long c.args.from c.args.column.now c.requires.zeros);
       earlier = λ k lt. none_longer c.args.sheet.now.instruction c.args.offers.now c.args.from k c.args.long (get_or c.args.offers.now c.args.from blank) c.requires.offers at
           (c.requires.length (get_or c.args.offers.now c.args.from blank) at) (omega arith);
     }

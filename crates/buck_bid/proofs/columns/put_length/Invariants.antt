@@ -11,6 +11,6 @@ invariant-loop-place l = record {
   number : length l.column ≡ length l.fn.column;
   within : (l.from < l.place);
   place : l.place ≤ length l.offers;
-  column : IsColumn l.sheet (codes_in l.offers) l.takers l.band.thinnest l.long l.from l.place l.column;
+  column : IsColumn l.sheet (codes_in l.offers) l.takers l.measures.band.thinnest l.long l.from l.place l.column;
   earlier : (k : ℕ) → k < l.place → slice_index (codes_in l.offers) k < l.long * 16 + 16;
 }

@@ -24,7 +24,7 @@ returns-clause-best c before long steps bids o there is le was =
     let whole = whole_length s.instruction.«module» first.length first pos refl
     (subst (IsWhole s.instruction.«module») code (c.requires.offers.steps c.args.from 0 (omega (arith, codes_number offers, c.requires.from)))) low in
     let wide : length c.put_length.new.column ≡ length c.args.column.now = c.put_length.ensures.number ∙ c.clear.ensures.number in
-    subst (λ n. AreReached s (codes_in offers) c.args.rivals.now c.args.band.thinnest n (length c.args.column.now) steps bids c.reach.new.reached) long_is
-    (reached_by_rivals s (codes_in offers) c.args.rivals.now c.args.band.thinnest first.length (first.length / s.instruction.«module») c.args.from c.put_length.result
+    subst (λ n. AreReached s (codes_in offers) c.args.rivals.now c.args.measures.now.band.thinnest n (length c.args.column.now) steps bids c.reach.new.reached) long_is
+    (reached_by_rivals s (codes_in offers) c.args.rivals.now c.args.measures.now.band.thinnest first.length (first.length / s.instruction.«module») c.args.from c.put_length.result
     (length c.args.column.now) steps bids c.put_length.new.column c.args.reached.now c.reach.new.reached whole.0 whole.1 wide c.put_length.ensures.column c.reach.ensures.raised
-    (reached_longer s (codes_in offers) c.args.rivals.now c.args.band.thinnest before first.length (length c.args.column.now) steps bids c.args.reached.now (omega (arith, long_is)) was))
+    (reached_longer s (codes_in offers) c.args.rivals.now c.args.measures.now.band.thinnest before first.length (length c.args.column.now) steps bids c.args.reached.now (omega (arith, long_is)) was))

@@ -39,8 +39,8 @@ returns-in-Some-clause-there c =
 pub returns-in_ok-push-in-None-clause-there : goal.returns-in_ok-push-in-None-clause-there
 returns-in_ok-push-in-None-clause-there c =
     record {
-      takers = record { marked = c.in_ok-marked.marked; rivals = c.in_ok-rivals.rivals; bands = c.in_ok-bands-in-None.bands };
-      there = rw c.in_ok-push-in-None.ensures.items (pushed_at c.args.sets.now.items _ (c.len.result - 1) (omega (arith, length-append c.args.sets.now.items (record { marked = c.in_ok-marked.marked; rivals = c.in_ok-rivals.rivals; bands = c.in_ok-bands-in-None.bands } ∷ []), c.len.ensures, ap length c.in_ok-push-in-None.ensures.items)));
+      takers = record { marked = c.in_ok-marked.marked; rivals = c.in_ok-rivals.rivals; bands = c.in_ok-bands-in-None.bands; rooms = c.in_ok-rooms-in-None.rooms };
+      there = rw c.in_ok-push-in-None.ensures.items (pushed_at c.args.sets.now.items _ (c.len.result - 1) (omega (arith, length-append c.args.sets.now.items (record { marked = c.in_ok-marked.marked; rivals = c.in_ok-rivals.rivals; bands = c.in_ok-bands-in-None.bands; rooms = c.in_ok-rooms-in-None.rooms } ∷ []), c.len.ensures, ap length c.in_ok-push-in-None.ensures.items)));
       right = taken c.args.sheet.now.instruction c.deref.result.now c.deref-2.result.now c.args.wood c.in_ok-marked.marked.items c.in_ok-rivals.rivals.items
           (c.deref.ensures ∙ c.instruction.ensures.instruction) (c.deref-2.ensures ∙ c.instruction-2.ensures.instruction) c.in_ok-marked.ensures.number c.in_ok-rivals.ensures.number c.in_ok-marked.ensures.right c.in_ok-rivals.ensures.right;
     }

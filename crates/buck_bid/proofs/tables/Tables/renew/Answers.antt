@@ -6,7 +6,7 @@ use Rattle.buck_bid.specs.declared.tables.Takers.{Takers}
 use Rattle.buck_bid.specs.Offers.{codes_in, AreOffers, AreTrims}
 use Rattle.buck_bid.specs.Limits.{AreLimits}
 use Rattle.buck_bid.specs.Wood.{AreTakers}
-use Rattle.buck_bid.specs.Tables.{AreKinds, marks_of}
+use Rattle.buck_bid.specs.Tables.{AreKinds, AreAllMeasured, marks_of}
 use Rattle.buck_bid.proofs.TableLemmas.{kinds_same}
 use Rattle.buck_bid.proofs.tables.Tables.renew.Goals as goal
 
@@ -28,6 +28,7 @@ returns c s t was same =
       offers = subst (λ (i : InstructionParts). AreOffers i old.offers.items) (sym same) was.offers;
       trims = subst (λ (i : InstructionParts). AreTrims i old.trims.items) (sym same) was.trims;
       limits = subst (λ (i : InstructionParts). AreLimits i old.limits.items) (sym same) was.limits;
+      measures = subst (λ (i : InstructionParts). AreAllMeasured i old.offers.items old.limits.items old.measures.items) (sym same) was.measures;
       last = was.last;
       sets = c.drop_columns.ensures.made s t (codes_in old.offers.items) old.limits.items same was.sets;
       kinds = kinds_of s t sets old.kinds.items same
