@@ -1,5 +1,5 @@
 -- Items that were written are read again as what was written.
-use Rattle.std.proofs.Common.{◌≡◌, ℕ, suc, ◌+◌, ◌*◌, ◌%◌, ◌<◌, ◌≤◌, ◌==◌, ◌&&◌, true, List, [], ◌∷◌, ◌++◌, Some, Ok, length, map, slice_get, refl, ap, ◌∙◌, arith, eq-eqb}
+use Rattle.std.proofs.Common.{◌≡◌, ℕ, ◌+◌, ◌*◌, ◌%◌, ◌<◌, ◌≤◌, ◌==◌, ◌&&◌, true, List, [], ◌∷◌, ◌++◌, Some, Ok, length, map, slice_get, refl, ap, arith, eq-eqb, codes}
 use Rattle.std.specs.Prelude.{nat_le, nat_lt}
 use Rattle.std.specs.List.{AllByRecursion, flat_map}
 use Rattle.std.proofs.lemmas.Bool.Decides.{nat_tests}
@@ -12,10 +12,12 @@ use Rattle.buck_book.specs.declared.posting.Posting.{Posting}
 use Rattle.buck_book.specs.declared.posting.Posting.TheVariants.{Cut, Demand}
 use Rattle.buck_book.specs.Entry.{EntryParts, DemandParts}
 use Rattle.buck_journal.specs.declared.call.Call.{Call}
-use Rattle.buck_journal.specs.Journal.{rest_at, numbers_at, sheet_at, is_call, call_at, head_at, samples_at, is_zone, are_zones, zones_at, stem_at, is_log, are_logs, logs_of, logs_at, worth_at, targets_at, follows, posting_follows, cut_at, demand_at, posting_at, sheets_from, postings_from, journal_in}
+use Rattle.buck_journal.specs.Journal.{rest_at, numbers_at, sheet_at, is_call, call_at, head_at, samples_at, is_zone, are_zones, zones_at, is_log, are_logs, logs_of, logs_at, worth_at, targets_at, journal_in}
 use Rattle.buck_journal.specs.Written.{zone_numbers, log_numbers}
 use Rattle.buck_journal.specs.Ranges.{AreSheetPrices, call_of_cut, call_of_demand, IsCutInRange, IsDemandInRange, IsInRange}
+use Rattle.buck_journal.specs.inner.Plain.{ArePostings, AreParts}
 use Rattle.buck_journal.proofs.Lines.{told, numbers_told, worth_told, kind_item}
+use Rattle.buck_journal.proofs.OnePass.{cut_postings, demand_postings, no_postings, sheet_parts, postings_alone, in_order}
 
 -- an item of numbers
 abbrev pub made : ℕ → ℕ → List ℕ → ItemParts
@@ -148,20 +150,6 @@ module _ (items : List ItemParts) (k : ℕ) where
         logs_back logs,
       ) refl
 
--- what stands from a place on
-abbrev Stands : List ItemParts → ℕ → List ItemParts → Type 0
-Stands items k rest = (j : ℕ) → slice_get items (k + j) ≡ slice_get rest j
-
-next_stands : (items : List ItemParts) (k : ℕ) (x : ItemParts) (rest : List ItemParts) → Stands items k (x ∷ rest) → Stands items (k + 1) rest
-next_stands items k x rest at j =
-    let e : k + 1 + j ≡ k + suc j = omega arith in
-    ap (slice_get items) e ∙ at (suc j)
-
-first_stands : (items : List ItemParts) (k : ℕ) (x : ItemParts) (rest : List ItemParts) → Stands items k (x ∷ rest) → slice_get items k ≡ Some x
-first_stands items k x rest at =
-    let e : k ≡ k + 0 = omega arith in
-    ap (slice_get items) e ∙ at 0
-
 abbrev pub posting_items : Posting → List ItemParts
 posting_items (Cut e) =
     made 981 1 (e.harvester ∷ e.number ∷ e.version ∷ [])
@@ -173,117 +161,48 @@ posting_items (Cut e) =
     ∷ []
 posting_items (Demand d) = made 982 1 (d.harvester ∷ d.number ∷ d.version ∷ []) ∷ made 982 2 d.targets ∷ []
 
-then_follows : (place : ℕ) (ps : List Posting) → follows place (slice_get (flat_map posting_items ps) 0) ≡ Ok tt
-then_follows place [] = refl
-then_follows place (Cut e ∷ ps) = refl
-then_follows place (Demand d ∷ ps) = refl
+-- the postings of a file's last items
+module _ (before : ℕ) (few : before < 1000000) (items : List ItemParts) (others : List Posting) (more : ArePostings (before + 1) items others) where
+  cut_again : (e : EntryParts) → IsCutInRange e → ArePostings before (posting_items (Cut e) ++ items) (Cut e ∷ others)
+  cut_again e r =
+      cut_postings before (call_of_cut e) e.stem e.logs e.worth (told (e.harvester ∷ e.number ∷ e.version ∷ []))
+      (told (e.stem.number ∷ e.stem.species ∷ [])) (told e.stem.samples) (told (zone_numbers e.stem.zones))
+      (told (log_numbers e.logs)) (told (e.worth ∷ [])) items others
+      (λ all k there. cut_call_again all k (call_of_cut e) before there r.call few)
+      (λ all k there. head_again all k e.stem.number e.stem.species there r.stem_number r.species)
+      (λ all k there. samples_again all k e.stem.samples there r.samples_number r.samples_range)
+      (λ all k there. zones_again all k e.stem.zones there r.zones_number r.zones_range)
+      (λ all k there. logs_again all k e.logs there r.logs_number r.logs_range)
+      (λ all k there. worth_again all k e.worth there r.worth)
+      more
 
-follows_again : (items : List ItemParts) (k : ℕ) (ps : List Posting) → Stands items k (flat_map posting_items ps) → posting_follows items k ≡ Ok tt
-unfolding posting_follows
-follows_again items k ps at =
-    let e : k ≡ k + 0 = omega arith in
-    ap (follows (k + 1)) (ap (slice_get items) e ∙ at 0) ∙ then_follows (k + 1) ps
+  demand_again : (d : DemandParts) → IsDemandInRange d → ArePostings before (posting_items (Demand d) ++ items) (Demand d ∷ others)
+  demand_again d r =
+      demand_postings before (call_of_demand d) d.targets (told (d.harvester ∷ d.number ∷ d.version ∷ [])) (told d.targets) items others
+      (λ all k there. demand_call_again all k (call_of_demand d) before there r.call few)
+      (λ all k there. targets_again all k d.targets there r.targets_number r.targets_range)
+      more
 
-module _ (items : List ItemParts) (k before : ℕ) (few : before < 1000000) where
-  cut_again : (e : EntryParts) → IsCutInRange e
-      → slice_get items k ≡ Some (made 981 1 (e.harvester ∷ e.number ∷ e.version ∷ []))
-      → slice_get items (k + 1) ≡ Some (made 981 2 (e.stem.number ∷ e.stem.species ∷ []))
-      → slice_get items (k + 1 + 1) ≡ Some (made 981 3 e.stem.samples)
-      → slice_get items (k + 1 + 2) ≡ Some (made 981 4 (zone_numbers e.stem.zones))
-      → slice_get items (k + 4) ≡ Some (made 981 5 (log_numbers e.logs))
-      → slice_get items (k + 5) ≡ Some (made 981 6 (e.worth ∷ []))
-      → posting_follows items (k + 6) ≡ Ok tt
-      → cut_at items k before ≡ Ok (Cut e)
-  unfolding cut_at stem_at
-  cut_again e r a b c d f g goes_on =
-      rw (
-        cut_call_again items k (call_of_cut e) before a r.call few,
-        head_again items (k + 1) e.stem.number e.stem.species b r.stem_number r.species,
-        samples_again items (k + 1 + 1) e.stem.samples c r.samples_number r.samples_range,
-        zones_again items (k + 1 + 2) e.stem.zones d r.zones_number r.zones_range,
-        logs_again items (k + 4) e.logs f r.logs_number r.logs_range,
-        worth_again items (k + 5) e.worth g r.worth,
-        goes_on,
-      ) refl
-
-  demand_again : (d : DemandParts) → IsDemandInRange d
-      → slice_get items k ≡ Some (made 982 1 (d.harvester ∷ d.number ∷ d.version ∷ []))
-      → slice_get items (k + 1) ≡ Some (made 982 2 d.targets)
-      → posting_follows items (k + 2) ≡ Ok tt
-      → demand_at items k before ≡ Ok (Demand d)
-  unfolding demand_at
-  demand_again d r a b goes_on =
-      rw (
-        demand_call_again items k (call_of_demand d) before a r.call few,
-        targets_again items (k + 1) d.targets b r.targets_number r.targets_range,
-        goes_on,
-      ) refl
-
-  cut_stands : (e : EntryParts) (ps : List Posting) → IsCutInRange e → Stands items k (flat_map posting_items (Cut e ∷ ps)) → cut_at items k before ≡ Ok (Cut e)
-  cut_stands e ps r at =
-      cut_again e r (ap (slice_get items) (let q : k ≡ k + 0 = omega arith in q) ∙ at 0) (at 1)
-      (ap (slice_get items) (let q : k + 1 + 1 ≡ k + 2 = omega arith in q) ∙ at 2)
-      (ap (slice_get items) (let q : k + 1 + 2 ≡ k + 3 = omega arith in q) ∙ at 3)
-      (at 4) (at 5)
-      (follows_again items (k + 6) ps (λ j. ap (slice_get items) (let q : k + 6 + j ≡ k + suc (suc (suc (suc (suc (suc j))))) = omega arith in q) ∙ at (suc (suc (suc (suc (suc (suc j))))))))
-
-  demand_stands : (d : DemandParts) (ps : List Posting) → IsDemandInRange d → Stands items k (flat_map posting_items (Demand d ∷ ps)) → demand_at items k before ≡ Ok (Demand d)
-  demand_stands d ps r at =
-      demand_again d r (ap (slice_get items) (let q : k ≡ k + 0 = omega arith in q) ∙ at 0) (at 1)
-      (follows_again items (k + 2) ps (λ j. ap (slice_get items) (let q : k + 2 + j ≡ k + suc (suc j) = omega arith in q) ∙ at (suc (suc j))))
+postings_again : (before : ℕ) (ps : List Posting) → AllByRecursion IsInRange ps → before + length ps ≤ 1000000
+    → ArePostings before (flat_map posting_items ps) ps
+postings_again before [] r few = no_postings before
+postings_again before (Cut e ∷ ps) r few =
+    cut_again before (omega arith) (flat_map posting_items ps) ps (postings_again (before + 1) ps r.1 (omega arith)) e r.0
+postings_again before (Demand d ∷ ps) r few =
+    demand_again before (omega arith) (flat_map posting_items ps) ps (postings_again (before + 1) ps r.1 (omega arith)) d r.0
 
 abbrev pub sheet_item : List ℕ → ItemParts
 sheet_item prices = made 971 1 prices
 
-module _ (items : List ItemParts) where
-  stands_past_cut : (k : ℕ) (e : EntryParts) (ps : List Posting) → Stands items k (flat_map posting_items (Cut e ∷ ps)) → Stands items (k + 1 + 1 + 1 + 1 + 1 + 1) (flat_map posting_items ps)
-  stands_past_cut k e ps at = λ j. ap (slice_get items) (let q : k + 1 + 1 + 1 + 1 + 1 + 1 + j ≡ k + suc (suc (suc (suc (suc (suc j))))) = omega arith in q) ∙ at (suc (suc (suc (suc (suc (suc j))))))
-
-  stands_past_demand : (k : ℕ) (d : DemandParts) (ps : List Posting) → Stands items k (flat_map posting_items (Demand d ∷ ps)) → Stands items (k + 1 + 1) (flat_map posting_items ps)
-  stands_past_demand k d ps at = λ j. ap (slice_get items) (let q : k + 1 + 1 + j ≡ k + suc (suc j) = omega arith in q) ∙ at (suc (suc j))
-
-  postings_again : (k before : ℕ) (ps : List Posting) → AllByRecursion IsInRange ps → before + length ps ≤ 1000000 → Stands items k (flat_map posting_items ps)
-      → postings_from items k before (flat_map posting_items ps) ≡ Ok ps
-  unfolding postings_from posting_at
-  postings_again k before [] r few at = refl
-  postings_again k before (Cut e ∷ ps) r few at =
-      rw (
-        cut_stands items k before (omega arith) e ps r.0 at,
-        postings_again (k + 1 + 1 + 1 + 1 + 1 + 1) (before + 1) ps r.1 (omega arith) (stands_past_cut k e ps at),
-      ) refl
-  postings_again k before (Demand d ∷ ps) r few at =
-      rw (
-        demand_stands items k before (omega arith) d ps r.0 at,
-        postings_again (k + 1 + 1) (before + 1) ps r.1 (omega arith) (stands_past_demand k d ps at),
-      ) refl
-
-  no_more_sheets : (k : ℕ) (ps : List Posting) → sheets_from items k (flat_map posting_items ps) ≡ Ok []
-  unfolding sheets_from
-  no_more_sheets k [] = refl
-  no_more_sheets k (Cut e ∷ ps) = refl
-  no_more_sheets k (Demand d ∷ ps) = refl
-
-  sheets_again : (k : ℕ) (pss : List (List ℕ)) (ps : List Posting) → AllByRecursion AreSheetPrices pss → Stands items k (map sheet_item pss ++ flat_map posting_items ps)
-      → sheets_from items k (map sheet_item pss ++ flat_map posting_items ps) ≡ Ok pss
-  unfolding sheets_from
-  sheets_again k [] ps r at = no_more_sheets k ps
-  sheets_again k (prices ∷ pss) ps r at =
-      rw (
-        sheet_again items k prices (first_stands items k _ _ at) r.0,
-        sheets_again (k + 1) pss ps r.1 (next_stands items k _ _ at),
-      ) refl
-
-  past_sheets : (k : ℕ) (pss : List (List ℕ)) (ps : List Posting) → AllByRecursion IsInRange ps → length ps ≤ 1000000 → Stands items k (map sheet_item pss ++ flat_map posting_items ps)
-      → postings_from items k 0 (map sheet_item pss ++ flat_map posting_items ps) ≡ Ok ps
-  unfolding postings_from
-  past_sheets k [] ps r few at = postings_again k 0 ps r (omega arith) at
-  past_sheets k (prices ∷ pss) ps r few at = past_sheets (k + 1) pss ps r few (next_stands items k _ _ at)
+parts_again : (pss : List (List ℕ)) (ps : List Posting) → AllByRecursion AreSheetPrices pss → AllByRecursion IsInRange ps → length ps ≤ 1000000
+    → AreParts (map sheet_item pss ++ flat_map posting_items ps) pss ps
+parts_again [] ps r q few = postings_alone (flat_map posting_items ps) ps (postings_again 0 ps q (omega arith))
+parts_again (prices ∷ pss) ps r q few =
+    sheet_parts (told prices) prices (map sheet_item pss ++ flat_map posting_items ps) pss ps
+    (λ all k there. sheet_again all k prices there r.0) (parts_again pss ps r.1 q few)
 
 -- the journal of items that were written
 pub journal_again : (pss : List (List ℕ)) (ps : List Posting) → AllByRecursion AreSheetPrices pss → AllByRecursion IsInRange ps → length ps ≤ 1000000
     → journal_in (kind_item ∷ (map sheet_item pss ++ flat_map posting_items ps)) ≡ Ok (record { sheets = pss; entries = ps })
-unfolding journal_in postings_from
 journal_again pss ps r q few =
-    let items : List ItemParts = kind_item ∷ (map sheet_item pss ++ flat_map posting_items ps) in
-    let at : Stands items 1 (map sheet_item pss ++ flat_map posting_items ps) = λ j. ap (slice_get items) (let q : 1 + j ≡ suc j = omega arith in q) in
-    rw (sheets_again items 1 pss ps r at, past_sheets items 1 pss ps q few at) refl
+    in_order (codes "JRN") (map sheet_item pss ++ flat_map posting_items ps) pss ps refl (parts_again pss ps r q few)

@@ -9,3 +9,4 @@ pub mod Lines
 pub mod Again
 pub mod Texts
 pub mod Within
+pub mod OnePass

@@ -2,3 +2,4 @@
 pub mod Limits
 pub mod Lists
 pub mod Replay
+pub mod Plain

@@ -9,6 +9,7 @@ ghost use Rattle.buck_journal.specs.Journal.{rest_at, numbers_at, sheet_at, call
 
 use crate::call::Call;
 use crate::fault::JournalFault;
+use crate::slots::{HEAD, SHEET, TARGETS, WORTH};
 use buck_record::check::check;
 use buck_record::rules::{all_within, within};
 use buck_record::{Listed, Piece, RecordFault, Slot, numbers, wide};
@@ -56,12 +57,8 @@ pub(crate) fn worth_at<'a>(items: &'a [Piece<'a>], k: usize) -> Result<u64, Jour
     if k >= items.len() {
         return Err(JournalFault::Shape { item: k + 1 });
     }
-    let slot = Slot {
-        number: 981,
-        kind: 6,
-    };
     let last = &items[k];
-    if !is_at(last, slot) {
+    if !is_at(last, WORTH) {
         return Err(JournalFault::Shape { item: k + 1 });
     }
     match wide(last.rest) {
@@ -80,11 +77,7 @@ pub(crate) fn sheet_at<'a>(
     requires { k ≤ length items.now + 5 }
     ensures { Gives Memory result (sheet_at items.now k) }
 {
-    let slot = Slot {
-        number: 971,
-        kind: 1,
-    };
-    let prices = numbers_at(alloc, slot, items, k)?;
+    let prices = numbers_at(alloc, SHEET, items, k)?;
     check(prices.len() <= 16_384, JournalFault::Count { item: k + 1 })?;
     check(
         all_within(0, 20_000_000, prices.as_slice()),
@@ -103,11 +96,7 @@ pub(crate) fn targets_at<'a>(
     requires { k ≤ length items.now + 5 }
     ensures { Gives Memory result (targets_at items.now k) }
 {
-    let slot = Slot {
-        number: 982,
-        kind: 2,
-    };
-    let targets = numbers_at(alloc, slot, items, k)?;
+    let targets = numbers_at(alloc, TARGETS, items, k)?;
     check(targets.len() <= 16_384, JournalFault::Count { item: k + 1 })?;
     check(
         all_within(0, 1_000_000, targets.as_slice()),
@@ -116,7 +105,8 @@ pub(crate) fn targets_at<'a>(
     Ok(targets)
 }
 
-fn call_of(numbers: &[u32]) -> Call
+/// What three numbers say.
+pub(crate) fn call_of(numbers: &[u32]) -> Call
     requires { length numbers.now ≡ 3 }
     ensures { result ≡ call_of numbers.now }
 {
@@ -127,7 +117,8 @@ fn call_of(numbers: &[u32]) -> Call
     }
 }
 
-fn is_call(call: Call) -> bool
+/// Whether harvester, number and version are in range.
+pub(crate) fn is_call(call: Call) -> bool
     ensures { result ≡ is_call call }
 {
     1 <= call.harvester
@@ -173,11 +164,7 @@ pub(crate) fn head_at<'a>(
     ensures value { Gives Memory result (head_at items.now k) }
     ensures species { IfOk result (λ head. (1 ≤ head.1) × (head.1 ≤ 255)) }
 {
-    let slot = Slot {
-        number: 981,
-        kind: 2,
-    };
-    let numbers = numbers_at(alloc, slot, items, k)?;
+    let numbers = numbers_at(alloc, HEAD, items, k)?;
     if numbers.len() != 2 {
         return Err(JournalFault::Count { item: k + 1 });
     }

@@ -6,6 +6,7 @@ ghost use Rattle.buck_journal.specs.Journal.{says_journal, journal_in, journal_o
 
 use crate::fault::{self, JournalFault};
 use crate::items::is_at;
+use crate::plain::read_plain;
 use crate::postings::{postings_in, sheets_in};
 use buck_book::Posting;
 use buck_record::Piece;
@@ -55,6 +56,15 @@ fn journal_in<'a>(alloc: Global, items: &'a [Piece<'a>]) -> Result<Journal, Jour
     Ok(Journal { sheets, entries })
 }
 
+/// The journal of a file's bytes, or the first refusal that applies, by the list of the file's items.
+fn read_by_items(alloc: Global, bytes: &[u8]) -> Result<Journal, JournalFault>
+    ensures value { Gives Memory result (journal_of bytes.now) }
+    ensures few { IfOk result (λ journal. length journal.entries ≤ 1000000) }
+{
+    let items = items_in(alloc, bytes, fault::head)?;
+    journal_in(alloc, items.as_slice())
+}
+
 /// Reads a journal, whose bytes are items between tildes (see docs/FORMATS.md).
 ///
 /// The answer is what was written, or the first refusal that applies, as [`JournalFault`] says; and `Memory` where a
@@ -64,6 +74,8 @@ pub fn read_journal(alloc: Global, bytes: &[u8]) -> Result<Journal, JournalFault
     ensures value { Gives Memory result (journal_of bytes.now) }
     ensures few { IfOk result (λ journal. length journal.entries ≤ 1000000) }
 {
-    let items = items_in(alloc, bytes, fault::head)?;
-    journal_in(alloc, items.as_slice())
+    match read_plain(alloc, bytes)? {
+        Some(journal) => Ok(journal),
+        None => read_by_items(alloc, bytes),
+    }
 }

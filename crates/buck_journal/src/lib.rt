@@ -8,9 +8,11 @@ mod items;
 mod journal;
 pub mod laws;
 mod parts;
+mod plain;
 mod postings;
 mod replay_fault;
 mod replaying;
+mod slots;
 mod writing;
 
 pub use buck_record::Memory;

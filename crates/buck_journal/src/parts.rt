@@ -9,19 +9,14 @@ ghost use Rattle.buck_journal.specs.inner.Limits.{AreSamples, AreZones};
 ghost use Rattle.buck_journal.specs.Journal.{samples_at, is_zone, are_zones, zones_at, is_log, are_logs, logs_of, logs_at, stem_at};
 
 use crate::fault::JournalFault;
-use crate::items::{head_at, is_at, numbers_at};
+use crate::items::{head_at, numbers_at};
+use crate::slots::{LOGS, SAMPLES, ZONES};
+use buck_record::Piece;
 use buck_record::check::check;
 use buck_record::rules::{all_within, within};
-use buck_record::{Piece, Slot, append_numbers};
 use buck_stem::Stem;
 use buck_value::Log;
 use std::alloc::{AllocError, Global};
-
-/// The item of a stem's diameters.
-const SAMPLES: Slot = Slot {
-    number: 981,
-    kind: 3,
-};
 
 /// The samples as they are kept.
 fn samples_of(alloc: Global, numbers: &[u32]) -> Result<Vec<u16>, AllocError>
@@ -35,35 +30,9 @@ fn samples_of(alloc: Global, numbers: &[u32]) -> Result<Vec<u16>, AllocError>
     Ok(samples)
 }
 
-/// The diameters of a stem, read in one pass, where they are as they should be; `None` says nothing of them.
-fn samples_in_one_pass<'a>(
-    alloc: Global,
-    items: &'a [Piece<'a>],
-    k: usize,
-) -> Result<Option<Vec<u16>>, AllocError>
-    ensures value { IfOk result (λ o. IfSome o (λ samples. samples_at items.now k ≡ Ok samples.items)) }
-    ensures valid { IfOk result (λ o. IfSome o (λ samples. AreSamples samples.items)) }
-{
-    if k >= items.len() {
-        return Ok(None);
-    }
-    let item = &items[k];
-    if !is_at(item, SAMPLES) {
-        return Ok(None);
-    }
-    let mut room = Vec::with_capacity(alloc, item.rest.len() / 2 + 1)?;
-    if !append_numbers(1500, item.rest, &mut room) {
-        return Ok(None);
-    }
-    if !within(1, 401, room.len()) {
-        return Ok(None);
-    }
-    Ok(Some(Vec::from_slice(alloc, room.as_slice())?))
-}
-
-/// The diameters of a stem, number by number.
+/// The diameters of a stem.
 #[tactic(auto, using(crate::proofs::Limits::are_samples_ok), unfolding(crate::specs::Journal::samples_at))]
-fn samples_by_numbers<'a>(
+pub(crate) fn samples_at<'a>(
     alloc: Global,
     items: &'a [Piece<'a>],
     k: usize,
@@ -82,22 +51,6 @@ fn samples_by_numbers<'a>(
     Ok(samples_of(alloc, numbers.as_slice())?)
 }
 
-/// The diameters of a stem.
-pub(crate) fn samples_at<'a>(
-    alloc: Global,
-    items: &'a [Piece<'a>],
-    k: usize,
-) -> Result<Vec<u16>, JournalFault>
-    requires { k ≤ length items.now + 5 }
-    ensures value { Gives Memory (listed result) (samples_at items.now k) }
-    ensures valid { IfOk result (λ samples. AreSamples samples.items) }
-{
-    match samples_in_one_pass(alloc, items, k)? {
-        Some(samples) => Ok(samples),
-        None => samples_by_numbers(alloc, items, k),
-    }
-}
-
 fn is_zone(low: u32, start: u32, grade: u32) -> bool
     ensures { result ≡ is_zone low start grade }
 {
@@ -111,7 +64,7 @@ fn is_log(start: u32, length: u32, assortment: u32) -> bool
 }
 
 /// Whether starts rise and are at most 40,000, and grades are from 1 to 8.
-fn are_zones(numbers: &[u32]) -> bool
+pub(crate) fn are_zones(numbers: &[u32]) -> bool
     ensures { result ≡ are_zones 0 numbers.now }
 {
     let mut low = 0;
@@ -126,7 +79,7 @@ fn are_zones(numbers: &[u32]) -> bool
 }
 
 /// Starts and grades, two by two.
-fn zones_of(alloc: Global, numbers: &[u32]) -> Result<Vec<(u32, u8)>, AllocError>
+pub(crate) fn zones_of(alloc: Global, numbers: &[u32]) -> Result<Vec<(u32, u8)>, AllocError>
     requires { are_zones 0 numbers.now ≡ true }
     ensures { IfOk result (λ zones. zones.items ≡ zones_of numbers.now) }
 {
@@ -148,11 +101,7 @@ pub(crate) fn zones_at<'a>(
     ensures value { Gives Memory (listed result) (zones_at items.now k) }
     ensures valid { IfOk result (λ zones. AreZones zones.items) }
 {
-    let slot = Slot {
-        number: 981,
-        kind: 4,
-    };
-    let numbers = numbers_at(alloc, slot, items, k)?;
+    let numbers = numbers_at(alloc, ZONES, items, k)?;
     check(numbers.len() % 2 == 0, JournalFault::Count { item: k + 1 })?;
     if numbers.len() > 200 {
         return Err(JournalFault::Count { item: k + 1 });
@@ -164,7 +113,7 @@ pub(crate) fn zones_at<'a>(
 }
 
 /// Whether starts, lengths and assortments are in range.
-fn are_logs(numbers: &[u32]) -> bool
+pub(crate) fn are_logs(numbers: &[u32]) -> bool
     ensures { result ≡ are_logs numbers.now }
 {
     for k in 0..numbers.len() / 3 {
@@ -176,7 +125,7 @@ fn are_logs(numbers: &[u32]) -> bool
 }
 
 /// Starts, lengths and assortments, three by three.
-fn logs_of(alloc: Global, numbers: &[u32]) -> Result<Vec<Log>, AllocError>
+pub(crate) fn logs_of(alloc: Global, numbers: &[u32]) -> Result<Vec<Log>, AllocError>
     requires { are_logs numbers.now ≡ true }
     ensures { IfOk result (λ logs. logs.items ≡ logs_of numbers.now) }
 {
@@ -201,11 +150,7 @@ pub(crate) fn logs_at<'a>(
     requires { k ≤ length items.now + 5 }
     ensures { Gives Memory (listed result) (logs_at items.now k) }
 {
-    let slot = Slot {
-        number: 981,
-        kind: 5,
-    };
-    let numbers = numbers_at(alloc, slot, items, k)?;
+    let numbers = numbers_at(alloc, LOGS, items, k)?;
     check(numbers.len() % 3 == 0, JournalFault::Count { item: k + 1 })?;
     check(numbers.len() <= 240, JournalFault::Count { item: k + 1 })?;
     if !are_logs(numbers.as_slice()) {
@@ -215,19 +160,19 @@ pub(crate) fn logs_at<'a>(
 }
 
 /// The stem of parts within the limits.
-fn stem_of(
+pub(crate) fn stem_of(
     alloc: Global,
     number: u32,
     species: u8,
     samples: Vec<u16>,
     zones: Vec<(u32, u8)>,
-) -> Result<Stem, JournalFault>
+) -> Result<Stem, AllocError>
     requires { IsStem (stem_of number species samples.items zones.items) }
-    ensures { Gives Memory result (Ok (stem_of number species samples.items zones.items)) }
+    ensures { IfOk result (λ stem. stem ≡ stem_of number species samples.items zones.items) }
 {
     match Stem::make(alloc, number, species, samples, zones) {
         Ok(stem) => Ok(stem),
-        Err(_) => Err(JournalFault::Memory),
+        Err(_) => Err(AllocError),
     }
 }
 
@@ -244,5 +189,5 @@ pub(crate) fn stem_at<'a>(
     let (number, species) = head_at(alloc, items, k)?;
     let samples = samples_at(alloc, items, k + 1)?;
     let zones = zones_at(alloc, items, k + 2)?;
-    stem_of(alloc, number, species, samples, zones)
+    Ok(stem_of(alloc, number, species, samples, zones)?)
 }

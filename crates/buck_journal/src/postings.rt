@@ -3,29 +3,21 @@ ghost use Rattle.std.specs.Prelude.{◌≡◌, ◌<◌, ◌≤◌, ◌+◌, IfOk
 ghost use Rattle.buck_record.specs.Reading.{Gives, listed};
 ghost use Rattle.buck_journal.specs.declared.fault.JournalFault.TheVariants.{Memory};
 ghost use Rattle.buck_journal.specs.inner.Lists.{lists_in};
-ghost use Rattle.buck_journal.specs.Journal.{is_first, posting_follows, cut_at, demand_at, posting_at, sheets_from, postings_from};
+ghost use Rattle.buck_journal.specs.Journal.{is_first, posting_follows, entry_of, cut_at, demand_of, demand_at, posting_at, sheets_from, postings_from};
 
+use crate::call::Call;
 use crate::fault::JournalFault;
 use crate::items::{call_at, is_at, sheet_at, targets_at, worth_at};
 use crate::parts::{logs_at, stem_at};
+use crate::slots::{CUT, DEMAND};
 use buck_book::{Demand, Entry, Posting};
 use buck_dp::Cutting;
+use buck_record::Piece;
 use buck_record::check::check;
-use buck_record::{Piece, Slot};
-use std::alloc::Global;
+use buck_stem::Stem;
+use buck_value::Log;
+use std::alloc::{AllocError, Global};
 use std::sync::Arc;
-
-/// The first item of a cut.
-const CUT: Slot = Slot {
-    number: 981,
-    kind: 1,
-};
-
-/// The first item of a demand.
-const DEMAND: Slot = Slot {
-    number: 982,
-    kind: 1,
-};
 
 /// Whether an item begins a posting.
 fn is_first(item: &Piece<'_>) -> bool
@@ -46,6 +38,28 @@ fn posting_follows<'a>(items: &'a [Piece<'a>], k: usize) -> Result<(), JournalFa
     check(is_first(&items[k]), JournalFault::Shape { item: k + 1 })
 }
 
+/// The cut of a call and its parts.
+pub(crate) fn cut_of(
+    alloc: Global,
+    call: Call,
+    stem: Stem,
+    logs: Vec<Log>,
+    worth: u64,
+) -> Result<Posting, AllocError>
+    ensures { IfOk result (λ p. p ≡ Posting.Cut (entry_of call stem logs.items worth)) }
+{
+    let stem = Arc::new(alloc, stem)?;
+    let cutting = Arc::new(alloc, Cutting { logs })?;
+    Ok(Posting::Cut(Entry {
+        harvester: call.harvester,
+        number: call.number,
+        stem,
+        version: call.version,
+        cutting,
+        worth,
+    }))
+}
+
 /// A cut, which so many postings come before.
 #[tactic(auto, unfolding(crate::specs::Journal::cut_at))]
 fn cut_at<'a>(
@@ -63,15 +77,19 @@ fn cut_at<'a>(
     let logs = logs_at(alloc, items, k + 4)?;
     let worth = worth_at(items, k + 5)?;
     posting_follows(items, k + 6)?;
-    let stem = Arc::new(alloc, stem)?;
-    let cutting = Arc::new(alloc, Cutting { logs })?;
-    Ok(Posting::Cut(Entry {
+    Ok(cut_of(alloc, call, stem, logs, worth)?)
+}
+
+/// The demand of a call and its targets.
+pub(crate) fn demand_of(alloc: Global, call: Call, targets: Vec<u32>) -> Result<Posting, AllocError>
+    ensures { IfOk result (λ p. p ≡ Posting.Demand (demand_of call targets.items)) }
+{
+    let targets = Arc::new(alloc, targets)?;
+    Ok(Posting::Demand(Demand {
         harvester: call.harvester,
         number: call.number,
-        stem,
         version: call.version,
-        cutting,
-        worth,
+        targets,
     }))
 }
 
@@ -90,13 +108,7 @@ fn demand_at<'a>(
     let call = call_at(alloc, DEMAND, items, k, before)?;
     let targets = targets_at(alloc, items, k + 1)?;
     posting_follows(items, k + 2)?;
-    let targets = Arc::new(alloc, targets.into_vec())?;
-    Ok(Posting::Demand(Demand {
-        harvester: call.harvester,
-        number: call.number,
-        version: call.version,
-        targets,
-    }))
+    Ok(demand_of(alloc, call, targets.into_vec())?)
 }
 
 /// The posting that an item begins.

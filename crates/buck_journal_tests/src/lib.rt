@@ -19,3 +19,5 @@ mod replays;
 mod slow;
 #[cfg(test)]
 mod texts;
+#[cfg(test)]
+mod ways;

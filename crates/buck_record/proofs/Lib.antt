@@ -15,4 +15,5 @@ pub mod LaneLemmas
 pub mod FourLemmas
 pub mod AddLemmas
 pub mod CursorLemmas
+pub mod QuickLemmas
 pub mod Three

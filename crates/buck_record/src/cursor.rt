@@ -17,7 +17,7 @@ fn first_tilde(text: &[u8]) -> Option<usize>
 }
 
 /// The bytes up to the first tilde, and those after it.
-fn cut_part(text: &[u8]) -> (&[u8], &[u8])
+pub(crate) fn cut_part(text: &[u8]) -> (&[u8], &[u8])
     ensures part { result.0.now ≡ before_first is_tilde text.now }
     ensures left { result.1.now ≡ after_first is_tilde text.now }
 {

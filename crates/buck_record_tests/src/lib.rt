@@ -11,6 +11,8 @@ mod files;
 #[cfg(test)]
 mod long_files;
 #[cfg(test)]
+mod quick;
+#[cfg(test)]
 mod readings;
 #[cfg(test)]
 mod rules;

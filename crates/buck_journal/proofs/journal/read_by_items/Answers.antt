@@ -2,7 +2,7 @@ use Rattle.std.proofs.Common.{rules}
 use Rattle.std.proofs.lemmas.Result.{err_from_is_err_and}
 use Rattle.buck_journal.specs.declared.fault.JournalFault.TheVariants.{Memory, Head}
 use Rattle.buck_journal.proofs.Stages.{journal_without_items, journal_of_items}
-use Rattle.buck_journal.proofs.journal.read_journal.Goals as goal
+use Rattle.buck_journal.proofs.journal.read_by_items.Goals as goal
 
 pub returns-in_err-items : goal.returns-in_err-items
 returns-in_err-items c =

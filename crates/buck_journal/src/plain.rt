@@ -1,0 +1,366 @@
+//! Journals in one pass, with no list of their items: the kind of file, the sheets, and then the items of each posting.
+//! The numbers of an item are read into a room that is kept from item to item.
+ghost use Rattle.std.specs.Prelude.{◌≡◌, ◌<◌, ◌≤◌, IfOk, IfSome, Ok, length, map};
+ghost use Rattle.buck_record.specs.Rules.{slot};
+ghost use Rattle.buck_journal.specs.Journal.{call_at, head_at, samples_at, zones_at, logs_at, worth_at, targets_at, sheet_at, journal_of};
+ghost use Rattle.buck_journal.specs.inner.Limits.{AreSamples, AreZones};
+ghost use Rattle.buck_journal.specs.inner.Plain.{LeadsNumbers, LeadsTo, LeadsStem, LeadsPosting, LeadsPostings, HasPostings, LeadsSheets};
+
+use crate::call::Call;
+use crate::items::{call_of, is_call};
+use crate::journal::Journal;
+use crate::parts::{are_logs, are_zones, logs_of, stem_of, zones_of};
+use crate::postings::{cut_of, demand_of};
+use crate::slots::{CUT, DEMAND, HEAD, LOGS, SAMPLES, SHEET, TARGETS, WORTH, ZONES};
+use buck_book::Posting;
+use buck_record::rules::{FILE, all_within, within};
+use buck_record::{Slot, append_numbers, is_done, next_quick, numbers_into, wide};
+use buck_stem::Stem;
+use buck_value::Log;
+use std::alloc::{AllocError, Global};
+
+/// Reads the numbers of the item that a text begins with, where that stands in this slot, into `room`; and what is left
+/// after it.
+fn next_numbers<'a>(
+    room: &mut Vec<u32>,
+    slot: Slot,
+    text: &'a [u8],
+) -> Result<Option<&'a [u8]>, AllocError>
+    ensures { IfOk result (λ o. IfSome o (λ left. LeadsNumbers slot text.now room.new.items left.now)) }
+{
+    let Some((rest, left)) = next_quick(slot, text) else {
+        return Ok(None);
+    };
+    if !numbers_into(rest, room)? {
+        return Ok(None);
+    }
+    Ok(Some(left))
+}
+
+/// What the first item of a posting says, which so many come before, and what is left after it.
+fn next_call<'a>(
+    room: &mut Vec<u32>,
+    slot: Slot,
+    text: &'a [u8],
+    before: usize,
+) -> Result<Option<(Call, &'a [u8])>, AllocError>
+    ensures leads { IfOk result (λ o. IfSome o (λ w.
+        LeadsTo slot (λ items k. call_at slot items k before) text.now w.0 w.1.now)) }
+    ensures few { IfOk result (λ o. IfSome o (λ w. before < 1000000)) }
+{
+    let Some(left) = next_numbers(room, slot, text)? else {
+        return Ok(None);
+    };
+    if room.len() != 3 {
+        return Ok(None);
+    }
+    if before >= 1_000_000 {
+        return Ok(None);
+    }
+    let call = call_of(room.as_slice());
+    if !is_call(call) {
+        return Ok(None);
+    }
+    Ok(Some((call, left)))
+}
+
+/// The number and the species of a stem, and what is left after them.
+#[tactic(auto, using(crate::proofs::OnePass::head_leads))]
+fn next_head<'a>(
+    room: &mut Vec<u32>,
+    text: &'a [u8],
+) -> Result<Option<((u32, u8), &'a [u8])>, AllocError>
+    ensures leads { IfOk result (λ o. IfSome o (λ w. LeadsTo (slot 981 2) head_at text.now w.0 w.1.now)) }
+    ensures species { IfOk result (λ o. IfSome o (λ w. (1 ≤ w.0.1) × (w.0.1 ≤ 255))) }
+{
+    let Some(left) = next_numbers(room, HEAD, text)? else {
+        return Ok(None);
+    };
+    let numbers = room.as_slice();
+    if numbers.len() != 2 {
+        return Ok(None);
+    }
+    let species = numbers[1];
+    if species < 1 {
+        return Ok(None);
+    }
+    if species > 255 {
+        return Ok(None);
+    }
+    Ok(Some(((numbers[0], species as u8), left)))
+}
+
+/// The diameters of a stem, and what is left after them.
+fn next_samples<'a>(
+    alloc: Global,
+    text: &'a [u8],
+) -> Result<Option<(Vec<u16>, &'a [u8])>, AllocError>
+    ensures leads { IfOk result (λ o. IfSome o (λ w.
+        LeadsTo (slot 981 3) samples_at text.now w.0.items w.1.now)) }
+    ensures valid { IfOk result (λ o. IfSome o (λ w. AreSamples w.0.items)) }
+{
+    let Some((rest, left)) = next_quick(SAMPLES, text) else {
+        return Ok(None);
+    };
+    let mut samples = Vec::with_capacity(alloc, rest.len() / 2 + 1)?;
+    if !append_numbers(1500, rest, &mut samples) {
+        return Ok(None);
+    }
+    if !within(1, 401, samples.len()) {
+        return Ok(None);
+    }
+    Ok(Some((samples, left)))
+}
+
+/// The zones of a stem, and what is left after them.
+fn next_zones<'a>(
+    alloc: Global,
+    room: &mut Vec<u32>,
+    text: &'a [u8],
+) -> Result<Option<(Vec<(u32, u8)>, &'a [u8])>, AllocError>
+    ensures leads { IfOk result (λ o. IfSome o (λ w. LeadsTo (slot 981 4) zones_at text.now w.0.items w.1.now)) }
+    ensures valid { IfOk result (λ o. IfSome o (λ w. AreZones w.0.items)) }
+{
+    let Some(left) = next_numbers(room, ZONES, text)? else {
+        return Ok(None);
+    };
+    if room.len() % 2 != 0 {
+        return Ok(None);
+    }
+    if room.len() > 200 {
+        return Ok(None);
+    }
+    if !are_zones(room.as_slice()) {
+        return Ok(None);
+    }
+    let zones = zones_of(alloc, room.as_slice())?;
+    Ok(Some((zones, left)))
+}
+
+/// A stem, and what is left after its items.
+#[tactic(auto, using(crate::proofs::Limits::is_stem_ok))]
+fn next_stem<'a>(
+    alloc: Global,
+    room: &mut Vec<u32>,
+    text: &'a [u8],
+) -> Result<Option<(Stem, &'a [u8])>, AllocError>
+    ensures { IfOk result (λ o. IfSome o (λ w. LeadsStem text.now w.0 w.1.now)) }
+{
+    let Some((head, named)) = next_head(room, text)? else {
+        return Ok(None);
+    };
+    let Some((samples, sampled)) = next_samples(alloc, named)? else {
+        return Ok(None);
+    };
+    let Some((zones, left)) = next_zones(alloc, room, sampled)? else {
+        return Ok(None);
+    };
+    let stem = stem_of(alloc, head.0, head.1, samples, zones)?;
+    Ok(Some((stem, left)))
+}
+
+/// The logs of a cutting, and what is left after them.
+fn next_logs<'a>(
+    alloc: Global,
+    room: &mut Vec<u32>,
+    text: &'a [u8],
+) -> Result<Option<(Vec<Log>, &'a [u8])>, AllocError>
+    ensures { IfOk result (λ o. IfSome o (λ w. LeadsTo (slot 981 5) logs_at text.now w.0.items w.1.now)) }
+{
+    let Some(left) = next_numbers(room, LOGS, text)? else {
+        return Ok(None);
+    };
+    if room.len() % 3 != 0 {
+        return Ok(None);
+    }
+    if room.len() > 240 {
+        return Ok(None);
+    }
+    if !are_logs(room.as_slice()) {
+        return Ok(None);
+    }
+    let logs = logs_of(alloc, room.as_slice())?;
+    Ok(Some((logs, left)))
+}
+
+/// The worth of a cutting, and what is left after it.
+fn next_worth(text: &[u8]) -> Option<(u64, &[u8])>
+    ensures { IfSome result (λ w. LeadsTo (slot 981 6) worth_at text.now w.0 w.1.now) }
+{
+    let Some((rest, left)) = next_quick(WORTH, text) else {
+        return None;
+    };
+    match wide(rest) {
+        Ok(worth) => Some((worth, left)),
+        Err(_) => None,
+    }
+}
+
+/// A cut, which so many postings come before, and what is left after its items.
+fn next_cut<'a>(
+    alloc: Global,
+    room: &mut Vec<u32>,
+    text: &'a [u8],
+    before: usize,
+) -> Result<Option<(Posting, &'a [u8])>, AllocError>
+    ensures leads { IfOk result (λ o. IfSome o (λ w. LeadsPosting text.now before w.0 w.1.now)) }
+    ensures few { IfOk result (λ o. IfSome o (λ w. before < 1000000)) }
+{
+    let Some((call, called)) = next_call(room, CUT, text, before)? else {
+        return Ok(None);
+    };
+    let Some((stem, felled)) = next_stem(alloc, room, called)? else {
+        return Ok(None);
+    };
+    let Some((logs, logged)) = next_logs(alloc, room, felled)? else {
+        return Ok(None);
+    };
+    let Some((worth, left)) = next_worth(logged) else {
+        return Ok(None);
+    };
+    let cut = cut_of(alloc, call, stem, logs, worth)?;
+    Ok(Some((cut, left)))
+}
+
+/// The targets of a demand, and what is left after them.
+#[tactic(auto, using(crate::proofs::OnePass::targets_lead))]
+fn next_targets<'a>(
+    alloc: Global,
+    room: &mut Vec<u32>,
+    text: &'a [u8],
+) -> Result<Option<(Vec<u32>, &'a [u8])>, AllocError>
+    ensures { IfOk result (λ o. IfSome o (λ w. LeadsTo (slot 982 2) targets_at text.now w.0.items w.1.now)) }
+{
+    let Some(left) = next_numbers(room, TARGETS, text)? else {
+        return Ok(None);
+    };
+    if room.len() > 16_384 {
+        return Ok(None);
+    }
+    if !all_within(0, 1_000_000, room.as_slice()) {
+        return Ok(None);
+    }
+    let targets = Vec::from_slice(alloc, room.as_slice())?;
+    Ok(Some((targets, left)))
+}
+
+/// A demand, which so many postings come before, and what is left after its items.
+fn next_demand<'a>(
+    alloc: Global,
+    room: &mut Vec<u32>,
+    text: &'a [u8],
+    before: usize,
+) -> Result<Option<(Posting, &'a [u8])>, AllocError>
+    ensures leads { IfOk result (λ o. IfSome o (λ w. LeadsPosting text.now before w.0 w.1.now)) }
+    ensures few { IfOk result (λ o. IfSome o (λ w. before < 1000000)) }
+{
+    let Some((call, called)) = next_call(room, DEMAND, text, before)? else {
+        return Ok(None);
+    };
+    let Some((targets, left)) = next_targets(alloc, room, called)? else {
+        return Ok(None);
+    };
+    let demand = demand_of(alloc, call, targets)?;
+    Ok(Some((demand, left)))
+}
+
+/// A posting, which so many come before, and what is left after its items.
+fn next_posting<'a>(
+    alloc: Global,
+    room: &mut Vec<u32>,
+    text: &'a [u8],
+    before: usize,
+) -> Result<Option<(Posting, &'a [u8])>, AllocError>
+    ensures leads { IfOk result (λ o. IfSome o (λ w. LeadsPosting text.now before w.0 w.1.now)) }
+    ensures few { IfOk result (λ o. IfSome o (λ w. before < 1000000)) }
+{
+    match next_cut(alloc, room, text, before)? {
+        Some(cut) => Ok(Some(cut)),
+        None => next_demand(alloc, room, text, before),
+    }
+}
+
+/// The postings of a text, up to its end.
+fn postings_of(
+    alloc: Global,
+    room: &mut Vec<u32>,
+    text: &[u8],
+) -> Result<Option<Vec<Posting>>, AllocError>
+    ensures value { IfOk result (λ o. IfSome o (λ postings. HasPostings text.now postings.items)) }
+    ensures few { IfOk result (λ o. IfSome o (λ postings. length postings.items ≤ 1000000)) }
+{
+    let mut postings = Vec::new(alloc);
+    let mut rest = text;
+    for _ in 0..text.len() {
+        if is_done(rest) {
+            return Ok(Some(postings));
+        }
+        let Some((posting, left)) = next_posting(alloc, room, rest, postings.len())? else {
+            return Ok(None);
+        };
+        postings.push(posting)?;
+        rest = left;
+    }
+    Ok(None)
+}
+
+/// The prices of a sheet, and what is left after them.
+#[tactic(auto, using(crate::proofs::OnePass::prices_lead))]
+fn next_sheet<'a>(
+    alloc: Global,
+    room: &mut Vec<u32>,
+    text: &'a [u8],
+) -> Result<Option<(Vec<u32>, &'a [u8])>, AllocError>
+    ensures { IfOk result (λ o. IfSome o (λ w. LeadsTo (slot 971 1) sheet_at text.now w.0.items w.1.now)) }
+{
+    let Some(left) = next_numbers(room, SHEET, text)? else {
+        return Ok(None);
+    };
+    if room.len() > 16_384 {
+        return Ok(None);
+    }
+    if !all_within(0, 20_000_000, room.as_slice()) {
+        return Ok(None);
+    }
+    let prices = Vec::from_slice(alloc, room.as_slice())?;
+    Ok(Some((prices, left)))
+}
+
+/// The sheets that a text begins with, and what is left after them.
+fn sheets_of<'a>(
+    alloc: Global,
+    room: &mut Vec<u32>,
+    text: &'a [u8],
+) -> Result<(Vec<Vec<u32>>, &'a [u8]), AllocError>
+    ensures { IfOk result (λ w. LeadsSheets text.now (map (λ v. v.items) w.0.items) w.1.now) }
+{
+    let mut sheets = Vec::new(alloc);
+    let mut rest = text;
+    for _ in 0..text.len() {
+        let Some((prices, left)) = next_sheet(alloc, room, rest)? else {
+            return Ok((sheets, rest));
+        };
+        sheets.push(prices)?;
+        rest = left;
+    }
+    Ok((sheets, rest))
+}
+
+/// The journal of a file's bytes, where all of it is right; `None` says nothing of them.
+pub(crate) fn read_plain(alloc: Global, bytes: &[u8]) -> Result<Option<Journal>, AllocError>
+    ensures value { IfOk result (λ o. IfSome o (λ journal. journal_of bytes.now ≡ Ok journal)) }
+    ensures few { IfOk result (λ o. IfSome o (λ journal. length journal.entries ≤ 1000000)) }
+{
+    let Some((kind, body)) = next_quick(FILE, bytes) else {
+        return Ok(None);
+    };
+    if kind != b"JRN".as_slice() {
+        return Ok(None);
+    }
+    let mut room = Vec::new(alloc);
+    let (sheets, rest) = sheets_of(alloc, &mut room, body)?;
+    match postings_of(alloc, &mut room, rest)? {
+        Some(entries) => Ok(Some(Journal { sheets, entries })),
+        None => Ok(None),
+    }
+}
