@@ -2,7 +2,6 @@
 ghost use Rattle.std.specs.Prelude.{◌≡◌, ◌≤◌, ◌<◌, ◌+◌, IfOk, IfSome, length, true, Ok};
 ghost use Rattle.buck_record.specs.Reading.{Gives, listed};
 ghost use Rattle.buck_record.specs.Rules.{slot, all_within};
-ghost use Rattle.buck_stem.specs.Stem.{IsStem, stem_of};
 ghost use Rattle.buck_stem.specs.Stm.{zones_of};
 ghost use Rattle.buck_journal.specs.declared.fault.JournalFault.TheVariants.{Memory};
 ghost use Rattle.buck_journal.specs.inner.Limits.{AreSamples, AreZones};
@@ -159,23 +158,6 @@ pub(crate) fn logs_at<'a>(
     Ok(logs_of(alloc, numbers.as_slice())?)
 }
 
-/// The stem of parts within the limits.
-pub(crate) fn stem_of(
-    alloc: Global,
-    number: u32,
-    species: u8,
-    samples: Vec<u16>,
-    zones: Vec<(u32, u8)>,
-) -> Result<Stem, AllocError>
-    requires { IsStem (stem_of number species samples.items zones.items) }
-    ensures { IfOk result (λ stem. stem ≡ stem_of number species samples.items zones.items) }
-{
-    match Stem::make(alloc, number, species, samples, zones) {
-        Ok(stem) => Ok(stem),
-        Err(_) => Err(AllocError),
-    }
-}
-
 /// The stem of a cut.
 #[tactic(auto, using(crate::proofs::Limits::is_stem_ok), unfolding(crate::specs::Journal::stem_at))]
 pub(crate) fn stem_at<'a>(
@@ -189,5 +171,6 @@ pub(crate) fn stem_at<'a>(
     let (number, species) = head_at(alloc, items, k)?;
     let samples = samples_at(alloc, items, k + 1)?;
     let zones = zones_at(alloc, items, k + 2)?;
-    Ok(stem_of(alloc, number, species, samples, zones)?)
+    let stem = Stem::of_parts(alloc, number, species, samples.as_slice(), zones)?;
+    Ok(stem)
 }

@@ -1,5 +1,5 @@
 //! Journals in one pass, with no list of their items: the kind of file, the sheets, and then the items of each posting.
-//! The numbers of an item are read into a room that is kept from item to item.
+//! The numbers of an item, and the diameters of a stem, are read into rooms that are kept from item to item.
 ghost use Rattle.std.specs.Prelude.{◌≡◌, ◌<◌, ◌≤◌, IfOk, IfSome, Ok, length, map};
 ghost use Rattle.buck_record.specs.Rules.{slot};
 ghost use Rattle.buck_journal.specs.Journal.{call_at, head_at, samples_at, zones_at, logs_at, worth_at, targets_at, sheet_at, journal_of};
@@ -9,7 +9,7 @@ ghost use Rattle.buck_journal.specs.inner.Plain.{LeadsNumbers, LeadsTo, LeadsSte
 use crate::call::Call;
 use crate::items::{call_of, is_call};
 use crate::journal::Journal;
-use crate::parts::{are_logs, are_zones, logs_of, stem_of, zones_of};
+use crate::parts::{are_logs, are_zones, logs_of, zones_of};
 use crate::postings::{cut_of, demand_of};
 use crate::slots::{CUT, DEMAND, HEAD, LOGS, SAMPLES, SHEET, TARGETS, WORTH, ZONES};
 use buck_book::Posting;
@@ -90,26 +90,24 @@ fn next_head<'a>(
     Ok(Some(((numbers[0], species as u8), left)))
 }
 
-/// The diameters of a stem, and what is left after them.
-fn next_samples<'a>(
-    alloc: Global,
-    text: &'a [u8],
-) -> Result<Option<(Vec<u16>, &'a [u8])>, AllocError>
-    ensures leads { IfOk result (λ o. IfSome o (λ w.
-        LeadsTo (slot 981 3) samples_at text.now w.0.items w.1.now)) }
-    ensures valid { IfOk result (λ o. IfSome o (λ w. AreSamples w.0.items)) }
+/// Reads the diameters of a stem into `samples`; and what is left after them.
+fn next_samples<'a>(samples: &mut Vec<u16>, text: &'a [u8]) -> Result<Option<&'a [u8]>, AllocError>
+    ensures leads { IfOk result (λ o. IfSome o (λ left.
+        LeadsTo (slot 981 3) samples_at text.now samples.new.items left.now)) }
+    ensures valid { IfOk result (λ o. IfSome o (λ _. AreSamples samples.new.items)) }
 {
     let Some((rest, left)) = next_quick(SAMPLES, text) else {
         return Ok(None);
     };
-    let mut samples = Vec::with_capacity(alloc, rest.len() / 2 + 1)?;
-    if !append_numbers(1500, rest, &mut samples) {
+    samples.clear();
+    samples.reserve(rest.len() / 2 + 1)?;
+    if !append_numbers(1500, rest, samples) {
         return Ok(None);
     }
     if !within(1, 401, samples.len()) {
         return Ok(None);
     }
-    Ok(Some((samples, left)))
+    Ok(Some(left))
 }
 
 /// The zones of a stem, and what is left after them.
@@ -142,6 +140,7 @@ fn next_zones<'a>(
 fn next_stem<'a>(
     alloc: Global,
     room: &mut Vec<u32>,
+    samples: &mut Vec<u16>,
     text: &'a [u8],
 ) -> Result<Option<(Stem, &'a [u8])>, AllocError>
     ensures { IfOk result (λ o. IfSome o (λ w. LeadsStem text.now w.0 w.1.now)) }
@@ -149,13 +148,13 @@ fn next_stem<'a>(
     let Some((head, named)) = next_head(room, text)? else {
         return Ok(None);
     };
-    let Some((samples, sampled)) = next_samples(alloc, named)? else {
+    let Some(sampled) = next_samples(samples, named)? else {
         return Ok(None);
     };
     let Some((zones, left)) = next_zones(alloc, room, sampled)? else {
         return Ok(None);
     };
-    let stem = stem_of(alloc, head.0, head.1, samples, zones)?;
+    let stem = Stem::of_parts(alloc, head.0, head.1, samples.as_slice(), zones)?;
     Ok(Some((stem, left)))
 }
 
@@ -200,6 +199,7 @@ fn next_worth(text: &[u8]) -> Option<(u64, &[u8])>
 fn next_cut<'a>(
     alloc: Global,
     room: &mut Vec<u32>,
+    samples: &mut Vec<u16>,
     text: &'a [u8],
     before: usize,
 ) -> Result<Option<(Posting, &'a [u8])>, AllocError>
@@ -209,7 +209,7 @@ fn next_cut<'a>(
     let Some((call, called)) = next_call(room, CUT, text, before)? else {
         return Ok(None);
     };
-    let Some((stem, felled)) = next_stem(alloc, room, called)? else {
+    let Some((stem, felled)) = next_stem(alloc, room, samples, called)? else {
         return Ok(None);
     };
     let Some((logs, logged)) = next_logs(alloc, room, felled)? else {
@@ -268,13 +268,14 @@ fn next_demand<'a>(
 fn next_posting<'a>(
     alloc: Global,
     room: &mut Vec<u32>,
+    samples: &mut Vec<u16>,
     text: &'a [u8],
     before: usize,
 ) -> Result<Option<(Posting, &'a [u8])>, AllocError>
     ensures leads { IfOk result (λ o. IfSome o (λ w. LeadsPosting text.now before w.0 w.1.now)) }
     ensures few { IfOk result (λ o. IfSome o (λ w. before < 1000000)) }
 {
-    match next_cut(alloc, room, text, before)? {
+    match next_cut(alloc, room, samples, text, before)? {
         Some(cut) => Ok(Some(cut)),
         None => next_demand(alloc, room, text, before),
     }
@@ -289,13 +290,15 @@ fn postings_of(
     ensures value { IfOk result (λ o. IfSome o (λ postings. HasPostings text.now postings.items)) }
     ensures few { IfOk result (λ o. IfSome o (λ postings. length postings.items ≤ 1000000)) }
 {
+    let mut samples = Vec::new(alloc);
     let mut postings = Vec::new(alloc);
     let mut rest = text;
     for _ in 0..text.len() {
         if is_done(rest) {
             return Ok(Some(postings));
         }
-        let Some((posting, left)) = next_posting(alloc, room, rest, postings.len())? else {
+        let before = postings.len();
+        let Some((posting, left)) = next_posting(alloc, room, &mut samples, rest, before)? else {
             return Ok(None);
         };
         postings.push(posting)?;

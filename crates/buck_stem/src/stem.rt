@@ -270,10 +270,26 @@ impl Stem {
         if !is_stem(species, samples.as_slice(), zones.as_slice()) {
             return Err(StemFault::Limits);
         }
-        match Samples::copy_of(alloc, samples.as_slice()) {
-            Ok(samples) => Ok(stem_of_parts(number, species, samples, zones)),
+        match Stem::of_parts(alloc, number, species, samples.as_slice(), zones) {
+            Ok(stem) => Ok(stem),
             Err(_) => Err(StemFault::Memory),
         }
+    }
+
+    /// The stem of parts that are known to be within the limits of a stem file, as [`make`](Stem::make) has it and with
+    /// no test of them. Refused where a growth is, alone.
+    pub fn of_parts(
+        alloc: Global,
+        number: u32,
+        species: u8,
+        samples: &[u16],
+        zones: Vec<(u32, u8)>,
+    ) -> Result<Stem, AllocError>
+        requires { IsStem (stem_of number species samples.now zones.items) }
+        ensures { IfOk result (λ s. s ≡ stem_of number species samples.now zones.items) }
+    {
+        let samples = Samples::copy_of(alloc, samples)?;
+        Ok(stem_of_parts(number, species, samples, zones))
     }
 
     /// The stem's number in its file.

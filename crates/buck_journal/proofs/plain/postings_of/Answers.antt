@@ -16,10 +16,10 @@ loop-preserved c =
     let left = c.in-Some.left.now in
     let ps = c.loop.postings.items in
     let p = c.in-Some.posting in
-    let count : c.len.result ≡ length ps = search rules in
-    let one : LeadsPosting rest c.len.result p left = rw c.in-Some.is at c.in_ok-posting.ensures.leads in
+    let count : c.len-before.result ≡ length ps = search rules in
+    let one : LeadsPosting rest c.len-before.result p left = rw c.in-Some.is at c.in_ok-posting.ensures.leads in
     let few = rw c.in-Some.is at c.in_ok-posting.ensures.few in
     rw c.in_ok-push.ensures.items (record {
-      leads = postings_go_on text rest left ps p c.len.result c.loop.invariant.leads count one;
+      leads = postings_go_on text rest left ps p c.len-before.result c.loop.invariant.leads count one;
       few = omega (arith, length_push ps p, few, count);
     })
