@@ -276,8 +276,10 @@ impl Stem {
         }
     }
 
-    /// The stem of parts that are known to be within the limits of a stem file, as [`make`](Stem::make) has it and with
-    /// no test of them. Refused where a growth is, alone.
+    /// The stem of parts that are known to be within the limits of a stem file, as [`make`](Stem::make) has it, with no
+    /// test of them: its number, its species, its diameters in mm under bark, one per 100 mm from the butt, and its
+    /// zones, each the place in mm where it starts and the grade from there on. It copies the diameters, and is refused
+    /// only where there is no memory for the copy; the zones are then dropped.
     pub fn of_parts(
         alloc: Global,
         number: u32,
