@@ -1,6 +1,7 @@
 //! Felled stems: their diameters and grades along the length, and the files that they are read from.
 #![tactic(auto)]
 
+mod body;
 mod draft;
 mod fault;
 mod lines;

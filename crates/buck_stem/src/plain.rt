@@ -6,9 +6,8 @@ ghost use Rattle.buck_stem.specs.Stm.{stm_of};
 ghost use Rattle.buck_stem.specs.inner.Plain.{LeadsNumbers, AreZones, SaysZones, LeadsZones, LeadsStem, HasStems};
 
 use crate::rules::{grades_within, is_count_of_zones, starts_rise, starts_within, zones_of};
-use crate::samples::Samples;
 use crate::slots::{SAMPLES, SPECIES, STEM, ZONES};
-use crate::stem::{Stem, stem_of_parts};
+use crate::stem::Stem;
 use buck_record::rules::FILE;
 use buck_record::{RecordFault, Slot, append_numbers, is_done, next_in, number, numbers};
 use std::alloc::{AllocError, Global};
@@ -43,16 +42,12 @@ fn next_species(text: &[u8]) -> Option<(u8, &[u8])>
     Some((species as u8, left))
 }
 
-/// The diameters of the item that a text begins with, and what is left after it. They are read into `room`, which is
-/// kept from stem to stem.
-fn next_samples<'a>(
-    alloc: Global,
-    room: &mut Vec<u16>,
-    text: &'a [u8],
-) -> Result<Option<(Samples, &'a [u8])>, AllocError>
-    ensures leads { IfOk result (λ o. IfSome o (λ w. LeadsNumbers samples_slot text.now w.0 w.1.now)) }
-    ensures range { IfOk result (λ o. IfSome o (λ w. All (λ d. d ≤ 1500) w.0)) }
-    ensures number { IfOk result (λ o. IfSome o (λ w. (1 ≤ length w.0) × (length w.0 ≤ 401))) }
+/// Puts the diameters of the item that a text begins with into `room`, in the place of those of the stem before. The
+/// answer is what is left after it.
+fn next_samples<'a>(room: &mut Vec<u16>, text: &'a [u8]) -> Result<Option<&'a [u8]>, AllocError>
+    ensures leads { IfOk result (λ o. IfSome o (λ left. LeadsNumbers samples_slot text.now room.new.items left.now)) }
+    ensures range { IfOk result (λ o. IfSome o (λ _. All (λ d. d ≤ 1500) room.new.items)) }
+    ensures number { IfOk result (λ o. IfSome o (λ _. (1 ≤ length room.new.items) × (length room.new.items ≤ 401))) }
 {
     let Some((rest, left)) = next_in(SAMPLES, text) else {
         return Ok(None);
@@ -68,8 +63,7 @@ fn next_samples<'a>(
     if room.len() > 401 {
         return Ok(None);
     }
-    let samples = Samples::copy_of(alloc, room.as_slice())?;
-    Ok(Some((samples, left)))
+    Ok(Some(left))
 }
 
 /// Whether these are starts and grades by turns, as a stem file has them.
@@ -128,13 +122,13 @@ fn next_stem<'a>(
     let Some((species, named)) = next_species(numbered) else {
         return Ok(None);
     };
-    let Some((samples, sampled)) = next_samples(alloc, room, named)? else {
+    let Some(sampled) = next_samples(room, named)? else {
         return Ok(None);
     };
     let Some((zones, left)) = next_zones(alloc, sampled)? else {
         return Ok(None);
     };
-    let stem = stem_of_parts(number, species, samples, zones);
+    let stem = Stem::of_parts(alloc, number, species, room.as_slice(), zones)?;
     Ok(Some((stem, left)))
 }
 

@@ -12,9 +12,8 @@ use crate::fault::{self, StmFault};
 use crate::lines::{in_number, in_order, in_range, present, single};
 use crate::plain::read_plain;
 use crate::rules::zones_of;
-use crate::samples::Samples;
 use crate::slots::STEM;
-use crate::stem::{Stem, stem_of_parts};
+use crate::stem::Stem;
 use buck_record::check::check;
 use buck_record::rules::{FILE, items_in};
 use buck_record::table::{groups, rest};
@@ -47,10 +46,9 @@ fn stem_from(alloc: Global, draft: &Draft) -> Result<Stem, AllocError>
 {
     let number = draft.number.as_slice()[0];
     let species = draft.species.as_slice()[0] as u8;
-    let list = samples_of(alloc, draft.samples.as_slice())?;
-    let samples = Samples::copy_of(alloc, list.as_slice())?;
+    let samples = samples_of(alloc, draft.samples.as_slice())?;
     let zones = zones_of(alloc, draft.zones.as_slice())?;
-    Ok(stem_of_parts(number, species, samples, zones))
+    Stem::of_parts(alloc, number, species, samples.as_slice(), zones)
 }
 
 /// The stems of drafts that passed the last three lines. Each draft is given up once its stem is made.

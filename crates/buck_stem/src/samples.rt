@@ -38,6 +38,16 @@ fn least_with(before: u32, samples: &[u16]) -> u32
     low
 }
 
+/// The least of samples from the first up to sample `i`.
+pub(crate) fn least_in(samples: &[u16], i: usize) -> u32
+    requires { i < length samples.now }
+    ensures least { result ≡ least_to samples.now i }
+    ensures small { result ≤ 65535 }
+{
+    let low = least_with(u32::from(u16::MAX), &samples[..i]);
+    low.min(u32::from(samples[i]))
+}
+
 /// Puts behind samples the least of those before every 16th.
 fn push_lows(list: &mut Vec<u16>) -> Result<(), AllocError>
     ensures samples { OnOk result (take (length list.old.items) list.new.items ≡ list.old.items) }
@@ -70,13 +80,6 @@ impl Samples {
         ensures { result.now ≡ self.now }
     {
         &self.list[..self.count]
-    }
-
-    /// How many there are.
-    pub(crate) fn len(&self) -> usize
-        ensures { result ≡ length self.now }
-    {
-        self.count
     }
 
     /// The least of the samples from the butt up to sample `i`.

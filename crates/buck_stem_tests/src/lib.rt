@@ -6,6 +6,8 @@ mod accepted;
 #[cfg(test)]
 mod geometry;
 #[cfg(test)]
+mod kept;
+#[cfg(test)]
 mod limits;
 #[cfg(test)]
 mod memory;

@@ -23,14 +23,14 @@ pub samples_of-requires : goal.samples_of-requires
 samples_of-requires c = rw c.as_slice-3.ensures (range_ok c.args.draft.now c.requires.range).samples
 
 pub zones_of-requires : goal.zones_of-requires
-zones_of-requires c = rw c.as_slice-5.ensures (range_ok c.args.draft.now c.requires.range).grades
+zones_of-requires c = rw c.as_slice-4.ensures (range_ok c.args.draft.now c.requires.range).grades
 
-pub stem_of_parts-requires : goal.stem_of_parts-requires
-stem_of_parts-requires c =
-    rw (c.in_ok-samples.ensures, c.as_slice-4.ensures.value, c.in_ok-list.ensures, c.in_ok-zones.ensures, c.as_slice.ensures, c.as_slice-2.ensures, c.as_slice-3.ensures, c.as_slice-5.ensures)
+pub of_parts-requires : goal.of_parts-requires
+of_parts-requires c =
+    rw (c.as_slice-5.ensures.value, c.in_ok-samples.ensures, c.in_ok-zones.ensures, c.as_slice.ensures, c.as_slice-2.ensures, c.as_slice-3.ensures, c.as_slice-4.ensures)
     (is_stem c.args.draft.now c.requires.range c.requires.order c.requires.count)
 
 pub returns : goal.returns
 returns c =
     rw (parts_are c.args.draft.now)
-    (rw (c.in_ok-samples.ensures, c.as_slice-4.ensures.value, c.in_ok-list.ensures, c.in_ok-zones.ensures, c.as_slice.ensures, c.as_slice-2.ensures, c.as_slice-3.ensures, c.as_slice-5.ensures) at c.stem_of_parts.ensures)
+    (rw (c.as_slice-5.ensures.value, c.in_ok-samples.ensures, c.in_ok-zones.ensures, c.as_slice.ensures, c.as_slice-2.ensures, c.as_slice-3.ensures, c.as_slice-4.ensures) at c.of_parts.ensures)
