@@ -8,15 +8,12 @@ use crate::offers::sort_once;
 use buck_apt::{Assortment, Instruction};
 use std::alloc::{AllocError, Global};
 
-/// Puts the multiples of 94 mm up to 1,504 to a list: so no band is wide.
-fn push_multiples(limits: &mut Vec<u32>) -> Result<(), AllocError>
-    ensures low { OnOk result (Contains limits.new.items 0) }
-    ensures high { OnOk result (Contains limits.new.items 1504) }
+/// The limits between which all diameters lie.
+fn outer_limits(alloc: Global) -> Result<Vec<u32>, AllocError>
+    ensures low { IfOk result (λ limits. Contains limits.items 0) }
+    ensures high { IfOk result (λ limits. Contains limits.items 1504) }
 {
-    for multiple in 0..17u32 {
-        limits.push(multiple * 94)?;
-    }
-    Ok(())
+    Vec::from_slice(alloc, &[0, 1_504])
 }
 
 /// Puts the lower limits of an assortment's rows and its upper diameter to a list.
@@ -30,17 +27,48 @@ fn push_limits(limits: &mut Vec<u32>, assortment: &Assortment) -> Result<(), All
     Ok(())
 }
 
-/// The diameters in mm at which a band starts: where an assortment has another row, or takes no more logs, and each
-/// multiple of 94.
+/// Whether a limit lies nearer to a diameter than 47 mm.
+fn has_near(limits: &[u32], diameter: u32) -> bool {
+    for limit in limits {
+        if limit.abs_diff(diameter) < 47 {
+            return true;
+        }
+    }
+    false
+}
+
+/// Puts a diameter to a list of limits where none is near.
+fn push_far(limits: &mut Vec<u32>, diameter: u32) -> Result<(), AllocError>
+    ensures kept { OnOk result ((x : ℕ) → Contains limits.old.items x → Contains limits.new.items x) }
+{
+    if has_near(limits.as_slice(), diameter) {
+        return Ok(());
+    }
+    limits.push(diameter)?;
+    Ok(())
+}
+
+/// Puts multiples of 94 mm to a list of limits where none is near: so no band is wide, and none is narrow for a multiple.
+fn fill_gaps(limits: &mut Vec<u32>) -> Result<(), AllocError>
+    ensures kept { OnOk result ((x : ℕ) → Contains limits.old.items x → Contains limits.new.items x) }
+{
+    for multiple in 1..16u32 {
+        push_far(limits, multiple * 94)?;
+    }
+    Ok(())
+}
+
+/// The diameters in mm at which a band starts: where an assortment has another row, or takes no more logs, and some in
+/// between, so that no band is wider than 188 mm.
 pub fn limits_of(alloc: Global, instruction: &Instruction) -> Result<Vec<u32>, AllocError>
     ensures { IfOk result (λ limits. AreLimits instruction.now limits.items) }
 {
-    let mut limits = Vec::new(alloc);
-    push_multiples(&mut limits)?;
+    let mut limits = outer_limits(alloc)?;
     let all = instruction.assortments();
     for place in 0..all.len() {
         push_limits(&mut limits, &all[place])?;
     }
+    fill_gaps(&mut limits)?;
     sort_once(&mut limits)?;
     Ok(limits)
 }

@@ -60,7 +60,9 @@ fn push_reaching(
     }
 }
 
-/// Offers the bids of all columns from the tops of a span to its starts.
+/// Offers the bids of all columns from the tops of a span to its starts. It stays a function of its own, so that its
+/// loops have the registers to themselves.
+#[inline(never)]
 pub fn push_columns(
     values: &mut [Bid],
     bases: &[Bid],

@@ -98,6 +98,9 @@ fn steps_after(step: u32, trim: u32) -> usize
     ensures rise { result ≡ point_after step trim }
     ensures low { result ≤ 20 }
 {
+    if trim == 0 {
+        return 0;
+    }
     ((trim + (step - 1)) / step) as usize
 }
 
