@@ -4,8 +4,10 @@ pub mod CutLemmas
 pub mod EachLemmas
 pub mod SplitLemmas
 pub mod RecordLemmas
+pub mod KeptLemmas
 pub mod WordLemmas
 pub mod TableLemmas
+pub mod SlotLemmas
 pub mod RoundLemmas
 pub mod CheckLemmas
 pub mod RuleLemmas

@@ -25,22 +25,22 @@ module _ {X : Type 0} (p : X → Bool) (xs : List X) where
     | inr le ↦ omega (arith, bounded)
   ]
 
-group-cons : (slot : Slot) (x : ItemParts) (xs : List ItemParts) → is_at slot x ≡ true → groups_of slot (x ∷ xs) ≡ (x ∷ before_first (is_at slot) xs) ∷ groups_of slot xs
+pub group-cons : (slot : Slot) (x : ItemParts) (xs : List ItemParts) → is_at slot x ≡ true → groups_of slot (x ∷ xs) ≡ (x ∷ before_first (is_at slot) xs) ∷ groups_of slot xs
 unfolding groups_of
 group-cons slot x xs h = cond-true _ _ _ h
 
-group-skip : (slot : Slot) (x : ItemParts) (xs : List ItemParts) → is_at slot x ≡ false → groups_of slot (x ∷ xs) ≡ groups_of slot xs
+pub group-skip : (slot : Slot) (x : ItemParts) (xs : List ItemParts) → is_at slot x ≡ false → groups_of slot (x ∷ xs) ≡ groups_of slot xs
 unfolding groups_of
 group-skip slot x xs h = cond-false _ _ _ h
 
-groups-nil : (slot : Slot) → groups_of slot [] ≡ []
+pub groups-nil : (slot : Slot) → groups_of slot [] ≡ []
 unfolding groups_of
 groups-nil slot = refl
 
 drop-here : (items : List ItemParts) (i : ℕ) (d : ItemParts) → i < length items → drop i items ≡ get_or items i d ∷ drop (i + 1) items
 drop-here items i d lt = rw add-one (drop-cons items i d lt)
 
-take-one_more : (n : ℕ) (x : ItemParts) (xs : List ItemParts) → take (1 + n) (x ∷ xs) ≡ x ∷ take n xs
+pub take-one_more : (n : ℕ) (x : ItemParts) (xs : List ItemParts) → take (1 + n) (x ∷ xs) ≡ x ∷ take n xs
 take-one_more n x xs = let e : 1 + n ≡ suc n = omega arith in rw e refl
 
 group-is : (slot : Slot) (x : ItemParts) (rest : List ItemParts) → take (1 + length (before_first (is_at slot) rest)) (x ∷ rest) ≡ x ∷ before_first (is_at slot) rest

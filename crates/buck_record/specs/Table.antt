@@ -1,6 +1,6 @@
 -- Items by number and kind, and groups of items.
-use Rattle.std.specs.Prelude.{ℕ, Bool, ◌&&◌, ◌==◌, List, [], ◌∷◌, nat_lt, Option, count_by, find, if◌then◌else◌}
-use Rattle.std.specs.List.{before_first}
+use Rattle.std.specs.Prelude.{ℕ, Bool, ◌&&◌, ◌==◌, List, [], ◌∷◌, filter, nat_lt, Option, Result, Ok, Err, count_by, find, if◌then◌else◌}
+use Rattle.std.specs.List.{before_first, list_any}
 use Rattle.std.specs.Option.{option_map_or}
 use Rattle.buck_record.specs.Item.{ItemParts}
 use Rattle.buck_record.specs.declared.slot.Slot.{Slot}
@@ -8,6 +8,15 @@ use Rattle.buck_record.specs.declared.slot.Slot.{Slot}
 -- the item has the slot's number and kind
 abbrev pub is_at : Slot → ItemParts → Bool
 is_at slot item = item.number == slot.number && item.kind == slot.kind
+
+-- the item stands in one of the slots
+abbrev pub is_in : List Slot → ItemParts → Bool
+is_in slots item = list_any (λ slot. is_at slot item) slots
+
+-- the items in one of the slots, of those that were read
+abbrev pub only_in : List Slot → Result (List ItemParts) ℕ → Result (List ItemParts) ℕ
+only_in slots (Ok items) = Ok (filter (is_in slots) items)
+only_in slots (Err place) = Err place
 
 -- how many items stand in a slot
 abbrev pub count_in : Slot → List ItemParts → ℕ

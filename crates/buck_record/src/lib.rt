@@ -1,7 +1,8 @@
 //! Files of items: what stands between tildes, each with a number, a kind and a rest.
 //!
-//! [`pieces`] and [`items`] read a file, [`numbers`], [`number`] and [`wide`] the rest of an item. [`next_in`] and
-//! [`is_done`] go over a file with no list of its items, and [`append_numbers`] reads small numbers in one pass.
+//! [`pieces`] and [`items`] read a file, [`pieces_at`] only the items in some slots; [`numbers`], [`number`] and [`wide`]
+//! read the rest of an item. [`next_in`] and [`is_done`] go over a file with no list of its items, and [`append_numbers`]
+//! reads small numbers in one pass.
 //! [`table`] looks items up by number and kind, [`check`] chains the checks of a reader that stands on this crate,
 //! [`rules`] has what such readers share, and [`laws`] says that what is written is read again. [`put_number`],
 //! [`put_numbers`] and [`put_line`] write.
@@ -38,6 +39,6 @@ pub use line::{put_line, put_number, put_numbers};
 pub use listed::Listed;
 pub use memory::Memory;
 pub use quick::next_quick;
-pub use reading::{items, number, numbers, pieces, wide};
+pub use reading::{items, number, numbers, pieces, pieces_at, wide};
 pub use slot::Slot;
 pub use small::append_numbers;

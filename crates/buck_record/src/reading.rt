@@ -4,12 +4,15 @@ ghost use Rattle.std.specs.Option.{option_map};
 ghost use Rattle.buck_record.specs.declared.fault.RecordFault.TheVariants.{Memory, Head, Digits};
 ghost use Rattle.buck_record.specs.Reading.{Gives, listed, with_fault};
 ghost use Rattle.buck_record.specs.Record.{item_of, items_of, number_at_most, numbers_of, number_of};
+ghost use Rattle.buck_record.specs.Table.{only_in};
 ghost use Rattle.buck_record.specs.White.{first_word, after_word};
 
 use crate::digits::{cut_head, cut_number, number_at_most};
 use crate::fault::RecordFault;
 use crate::item::{Item, Piece};
 use crate::short::front_quick;
+use crate::slot::Slot;
+use crate::table::is_in;
 use crate::white::{trim, trim_start};
 use crate::words::Words;
 use bstr::ByteSlice;
@@ -53,6 +56,34 @@ pub fn pieces<'a>(alloc: Global, bytes: &'a [u8]) -> Result<Vec<Piece<'a>>, Reco
                 });
             };
             held.push(item)?;
+        }
+    }
+    Ok(held)
+}
+
+/// The items of a file's bytes that stand in one of the slots, as [`pieces`] has them. All others are read and left out,
+/// and take no memory.
+///
+/// Refused as [`pieces`] refuses: as `Head` with the least item, counted from 1 among all, that has no head.
+pub fn pieces_at<'a>(
+    alloc: Global,
+    bytes: &'a [u8],
+    slots: &[Slot],
+) -> Result<Vec<Piece<'a>>, RecordFault>
+    ensures { Gives Memory (listed result) (with_fault (λ k. Head k) (only_in slots.now (items_of bytes.now))) }
+{
+    let mut held = Vec::new(alloc);
+    let mut read = 0usize;
+    for part in bytes.split_str(b"~") {
+        let text = trim(part);
+        if !text.is_empty() {
+            read += 1;
+            let Some(item) = read_piece(text) else {
+                return Err(RecordFault::Head { item: read });
+            };
+            if is_in(&item, slots) {
+                held.push(item)?;
+            }
         }
     }
     Ok(held)

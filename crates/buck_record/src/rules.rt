@@ -2,12 +2,13 @@
 ghost use Rattle.std.specs.Prelude.{◌≡◌, ℕ};
 ghost use Rattle.buck_record.specs.Reading.{Gives, IsMemory, with_fault};
 ghost use Rattle.buck_record.specs.Record.{items_of};
+ghost use Rattle.buck_record.specs.Table.{only_in};
 ghost use Rattle.buck_record.specs.Rules.{NamesItem, NamesWord, numbers_in, within, all_within, is_rising};
 
 use crate::fault::RecordFault;
 use crate::item::Piece;
 use crate::listed::Listed;
-use crate::reading::{numbers, pieces};
+use crate::reading::{numbers, pieces, pieces_at};
 use crate::slot::Slot;
 use crate::table::rest;
 use std::alloc::{AllocError, Global};
@@ -29,6 +30,25 @@ pub fn items_in<'a, E: From<AllocError>, F: FnOnce(usize) -> E>(
     match pieces(alloc, bytes) {
         Ok(found) => Ok(Listed::of(found)),
         Err(RecordFault::Head { item }) => Err(fault(item)),
+        Err(_) => Err(E::from(AllocError)),
+    }
+}
+
+/// The items of a file's bytes that stand in one of the slots, as [`pieces_at`] has them, and refused as [`items_in`]
+/// refuses.
+pub fn items_at<'a, E: From<AllocError>, F: FnOnce(usize) -> E>(
+    alloc: Global,
+    bytes: &'a [u8],
+    slots: &[Slot],
+    fault: F,
+) -> Result<Listed<Piece<'a>>, E>
+    requires { F.IsAlwaysCallable fault }
+    ensures { (m : E) (f : ℕ → E) → IsMemory E.from_gives m → NamesItem (F.post fault) f
+        → Gives m result (with_fault f (only_in slots.now (items_of bytes.now))) }
+{
+    match pieces_at(alloc, bytes, slots) {
+        Ok(found) => Ok(Listed::of(found)),
+        Err(RecordFault::Head { item: place }) => Err(fault(place)),
         Err(_) => Err(E::from(AllocError)),
     }
 }

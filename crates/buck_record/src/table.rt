@@ -2,7 +2,7 @@
 ghost use Rattle.std.specs.Prelude.{◌≡◌, ◌<◌, ◌+◌, length, take, drop, IfOk, map, find, position};
 ghost use Rattle.std.specs.List.{before_first};
 ghost use Rattle.std.specs.Option.{option_copied};
-ghost use Rattle.buck_record.specs.Table.{is_at, count_in, rest_in, first_missing, first_twice, groups_of};
+ghost use Rattle.buck_record.specs.Table.{is_at, is_in, count_in, rest_in, first_missing, first_twice, groups_of};
 
 use crate::group::Group;
 use crate::item::Piece;
@@ -14,6 +14,13 @@ fn is_at(item: &Piece<'_>, slot: Slot) -> bool
     ensures { result ≡ is_at slot item.now }
 {
     item.number == slot.number && item.kind == slot.kind
+}
+
+/// Whether the item stands in one of the slots.
+pub(crate) fn is_in(item: &Piece<'_>, slots: &[Slot]) -> bool
+    ensures { result ≡ is_in slots.now item.now }
+{
+    slots.iter().any(|slot| is_at(item, *slot))
 }
 
 /// How many of the items stand in a slot.

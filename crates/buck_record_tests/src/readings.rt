@@ -15,7 +15,8 @@ pub(crate) fn fault_of<T: Drop>(
     }
 }
 
-fn are_pieces(found: &[Piece<'_>], wanted: &[Wanted<'_>]) -> bool {
+/// Whether these are a file's items.
+pub(crate) fn are_pieces(found: &[Piece<'_>], wanted: &[Wanted<'_>]) -> bool {
     let same = found.iter().zip(wanted).all(|(piece, want)| piece.number == want.0
         && piece.kind == want.1
         && piece.rest == want.2);

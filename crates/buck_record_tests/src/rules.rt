@@ -1,9 +1,9 @@
 //! What readers share, with the faults of record files for theirs.
-use crate::readings::fault_of;
+use crate::readings::{Wanted, are_pieces, fault_of};
 use crate::tables::{FILE, NAME, SPECIES};
 use buck_record::check::{check, make_each, none_of};
-use buck_record::rules::{all_within, is_rising, items_in, numbers_in, within};
-use buck_record::{Listed, Piece, RecordFault, Slot, pieces, rules};
+use buck_record::rules::{all_within, is_rising, items_at, items_in, numbers_in, within};
+use buck_record::{Listed, Piece, RecordFault, Slot, pieces, pieces_at, rules};
 use std::test::Fail;
 
 /// The fault that names a slot, by its number.
@@ -54,6 +54,33 @@ fn items_with_a_fault_of_their_own(rt: HostRuntime) -> Result<(), Fail> {
     assert!(rt;
         fault_of(items_in(rt.alloc(), b"1 2 APT~x~", other))?
             == Some(RecordFault::Digits { place: 2 })
+    );
+    Ok(())
+}
+
+#[test]
+fn items_of_some_slots(rt: HostRuntime) -> Result<(), Fail> {
+    let bytes = b"1 2 APT~911 1 a~ ~912 2 7~912 1 1~65535 9~911 1 b";
+    let slots = [SPECIES, NAME];
+    let wanted: [Wanted<'_>; 3] = [(911, 1, b"a"), (912, 1, b"1"), (911, 1, b"b")];
+    assert!(rt; are_pieces(pieces_at(rt.alloc(), bytes, &slots)?.as_slice(), &wanted));
+    assert!(rt; pieces_at(rt.alloc(), bytes, &[])?.is_empty());
+    let other = |item| RecordFault::Digits { place: item };
+    assert!(rt; has_items(items_at(rt.alloc(), bytes, &slots, other)?, 3));
+    assert!(rt; has_items(items_at(rt.alloc(), bytes, &[rules::FILE], other)?, 1));
+    Ok(())
+}
+
+#[test]
+fn items_left_out_are_read(rt: HostRuntime) -> Result<(), Fail> {
+    let bytes = b"1 2 APT~911 1 a~ ~912 2 7~912 x~";
+    let fault = Some(RecordFault::Head { item: 4 });
+    assert!(rt; fault_of(pieces_at(rt.alloc(), bytes, &[NAME]))? == fault);
+    assert!(rt; fault_of(pieces_at(rt.alloc(), bytes, &[]))? == fault);
+    let other = |item| RecordFault::Digits { place: item };
+    assert!(rt;
+        fault_of(items_at(rt.alloc(), bytes, &[NAME], other))?
+            == Some(RecordFault::Digits { place: 4 })
     );
     Ok(())
 }

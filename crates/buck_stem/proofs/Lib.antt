@@ -8,5 +8,6 @@ pub mod Tables
 pub mod Diameters
 pub mod Along
 pub mod StageLemmas
+pub mod TableLemmas
 pub mod PlainLemmas
 pub mod JoinLemmas
