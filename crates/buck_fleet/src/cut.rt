@@ -43,7 +43,7 @@ impl<F: Fn(&Standing) -> u64 + Drop, L: Ledger> Fleet<F, L> {
         ensures seat { IsSeatIn self.now seat.new }
         ensures became { IsAttempt seat.old seat.new plan attempt result }
     {
-        let mut desk = self.desk.lock(rt);
+        let mut desk = self.lock(rt);
         match desk.commit(
             rt,
             alloc,
@@ -76,7 +76,7 @@ impl<F: Fn(&Standing) -> u64 + Drop, L: Ledger> Fleet<F, L> {
         ensures told { IfOk result (λ r. (r.attempts ≡ attempts) × (r.path ≡ Path.Locked)) }
         ensures left { IfErr result (λ e. seat.new ≡ seat.old) }
     {
-        let mut desk = self.desk.lock(rt);
+        let mut desk = self.lock(rt);
         let plan = seat.plan(alloc, desk.book.sheet(), stem)?;
         match desk.commit(rt, alloc, &self.board, seat, plan, attempts, Path::Locked) {
             Ok(reply) => Ok(reply),

@@ -15,9 +15,13 @@ use buck_board::{Board, Snapshot};
 use buck_book::Plan;
 use buck_rule::Standing;
 use std::alloc::Global;
+use std::hint::spin_loop;
 use std::marker::Model;
 use std::sync::ledger::Ledger;
-use std::sync::{Arc, Mutex, Wait};
+use std::sync::{Arc, Mutex, MutexGuard, Wait};
+
+/// How often a thread asks for the lock before it may sleep: for about as long as it would take to be woken.
+const ASKS: u32 = 1_000;
 
 /// A fleet of harvesters that cut towards one book. Threads share it by a reference, each with seats of its own.
 #[derive(Drop)]
@@ -54,6 +58,18 @@ impl<F, L: Ledger> Fleet<F, L> {
         // Read: one load of the front.
         self.board.read(&mut seat.place)
     }
+
+    /// Takes the lock. Most of what is done behind it is shorter than a wake, so a thread asks many times before it
+    /// sleeps.
+    pub(crate) fn lock<R: Wait>(&self, rt: &R) -> MutexGuard<'_, Desk<F, L>> {
+        for _ in 0..ASKS {
+            if let Some(desk) = self.desk.try_lock() {
+                return desk;
+            }
+            spin_loop();
+        }
+        self.desk.lock(rt)
+    }
 }
 
 impl<F: Fn(&Standing) -> u64 + Drop, L: Ledger> Fleet<F, L> {
@@ -76,7 +92,7 @@ impl<F: Fn(&Standing) -> u64 + Drop, L: Ledger> Fleet<F, L> {
         ensures refused { IfErr result (GivesBack plan) }
         ensures left { IfErr result (λ e. KeepsNothing seat.old seat.new) }
     {
-        let mut desk = self.desk.lock(rt);
+        let mut desk = self.lock(rt);
         match desk.commit(rt, alloc, &self.board, seat, plan, 1, Path::Optimistic) {
             Ok(reply) => Ok(reply),
             Err((refusal, plan)) => Err(try_fault(refusal, plan)),
@@ -99,7 +115,7 @@ impl<F: Fn(&Standing) -> u64 + Drop, L: Ledger> Fleet<F, L> {
         ensures reply { IfOk result (IsReplyToTargets seat.old seat.new targets.value.items) }
         ensures left { IfErr result (λ e. KeepsNothing seat.old seat.new) }
     {
-        let mut desk = self.desk.lock(rt);
+        let mut desk = self.lock(rt);
         match desk.retarget(rt, alloc, &self.board, seat, &targets) {
             Ok(reply) => Ok(reply),
             Err(refusal) => Err(RetargetFault::from(refusal)),
