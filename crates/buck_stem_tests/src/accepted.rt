@@ -1,6 +1,7 @@
 //! Files that have stems.
 use buck_samples::stem_text;
 use buck_stem::{Stem, read_stm};
+use std::alloc::Global;
 use std::test::Fail;
 
 /// Whether a stem has this number, these samples and these zones.
@@ -29,10 +30,15 @@ fn is_one_of(stems: &[Stem], species: u8, length: u32, zones: &[(u32, u8)]) -> b
     stem.number() == 7 && stem.zones() == zones
 }
 
+/// A file of stem 7 of species 3 with 41 samples and two zones.
+fn text_with_zones(alloc: Global) -> Result<String, Fail> {
+    let samples = " 250".repeat(alloc, 41)?;
+    Ok(format!(in alloc; "1 2 STM~951 1 7~952 1 3~953 1{samples}~954 1 0 1 3000 2~")?)
+}
+
 #[test]
 fn one_stem(rt: HostRuntime) -> Result<(), Fail> {
-    let samples = " 250".repeat(rt.alloc(), 41)?;
-    let text = format!(in rt.alloc(); "1 2 STM~951 1 7~952 1 3~953 1{samples}~954 1 0 1 3000 2~")?;
+    let text = text_with_zones(rt.alloc())?;
     let stems = read_stm(rt.alloc(), text.as_bytes())?;
     assert!(rt; is_one_of(stems.as_slice(), 3, 4000, &[(0, 1), (3000, 2)]));
     Ok(())
@@ -94,11 +100,18 @@ fn items_outside_the_table(rt: HostRuntime) -> Result<(), Fail> {
     Ok(())
 }
 
+/// Whether there is one stem, that of the next test.
+fn is_shared(stems: &[Stem]) -> bool {
+    if stems.len() != 1 {
+        return false;
+    }
+    is_stem_of(&stems[0], 1, &[250, 250, 250], &[(100, 3)])
+}
+
 #[test]
 fn stem_of_the_shared_text(rt: HostRuntime) -> Result<(), Fail> {
     let text = stem_text(rt.alloc(), 3, "250", "954 1 100 3~")?;
     let stems = read_stm(rt.alloc(), text.as_bytes())?;
-    assert!(rt; stems.len() == 1);
-    assert!(rt; is_stem_of(&stems[0], 1, &[250, 250, 250], &[(100, 3)]));
+    assert!(rt; is_shared(stems.as_slice()));
     Ok(())
 }

@@ -113,12 +113,17 @@ fn agree_below(end: u32, one: &Stem, other: &Stem) -> bool {
     true
 }
 
+/// Whether a stem and the short one have the same grades, at each place of the short one and from each up to each other.
+fn agrees_with_short(alloc: Global, zoned: &Stem) -> Result<bool, Fail> {
+    let stem = short_stem(alloc)?;
+    Ok(agree_below(301, &stem, zoned))
+}
+
 /// The stem is 300 mm long.
 #[test]
 fn zones_past_the_end(rt: HostRuntime) -> Result<(), Fail> {
-    let stem = short_stem(rt.alloc())?;
     let zones = [(100, 3), (301, 7), (40_000, 8)];
     let zoned = stem_of(rt.alloc(), &[250, 240, 245, 201], &zones)?;
-    assert!(rt; agree_below(301, &stem, &zoned));
+    assert!(rt; agrees_with_short(rt.alloc(), &zoned)?);
     Ok(())
 }

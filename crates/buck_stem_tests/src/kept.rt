@@ -1,5 +1,5 @@
 //! Short stems, which take no memory of their own, beside long ones: around seven samples, with no zone and with one.
-use buck_samples::stem_of;
+use buck_samples::{SampleFault, stem_of};
 use buck_stem::{Profile, Stem, read_stm};
 use std::alloc::Global;
 use std::test::Fail;
@@ -77,6 +77,11 @@ fn is_right(
     has_profile(alloc, stem, count)
 }
 
+/// The stem of the first so many samples and these zones.
+fn stem_of_first(alloc: Global, count: usize, zones: &[(u32, u8)]) -> Result<Stem, SampleFault> {
+    stem_of(alloc, &SAMPLES[..count.min(17)], zones)
+}
+
 /// Whether the stem of the first so many samples and these zones is right.
 fn is_made_right(
     alloc: Global,
@@ -84,23 +89,44 @@ fn is_made_right(
     zones: &[(u32, u8)],
     grade: u8,
 ) -> Result<bool, Fail> {
-    if count > 17 {
-        return Ok(false);
-    }
-    let stem = stem_of(alloc, &SAMPLES[..count], zones)?;
+    let stem = stem_of_first(alloc, count, zones)?;
     is_right(alloc, &stem, count, zones, grade)
+}
+
+/// Puts a sample behind a text, after a blank.
+fn put_sample(alloc: Global, text: &mut String, sample: u16) -> Result<(), Fail> {
+    let word = format!(in alloc; " {sample}")?;
+    text.push_str(word.as_str())?;
+    Ok(())
+}
+
+/// The words of the first so many samples, each after a blank.
+fn words_of(alloc: Global, count: usize) -> Result<String, Fail> {
+    let mut text = String::new(alloc);
+    for i in 0..count.min(17) {
+        put_sample(alloc, &mut text, SAMPLES[i])?;
+    }
+    Ok(text)
 }
 
 /// The text of the first so many samples, and of the zones' item.
 fn text_of(alloc: Global, count: usize, zones: &str) -> Result<String, Fail> {
-    let mut text = String::from_str(alloc, "1 2 STM~951 1 1~952 1 1~953 1")?;
-    for sample in SAMPLES.iter().take(count) {
-        let word = format!(in alloc; " {sample}")?;
-        text.push_str(word.as_str())?;
+    let samples = words_of(alloc, count)?;
+    Ok(format!(in alloc; "1 2 STM~951 1 1~952 1 1~953 1{samples}~{zones}")?)
+}
+
+/// Whether there is one stem, and it is right.
+fn is_one_right(
+    alloc: Global,
+    stems: &[Stem],
+    count: usize,
+    zones: &[(u32, u8)],
+    grade: u8,
+) -> Result<bool, Fail> {
+    if stems.len() != 1 {
+        return Ok(false);
     }
-    text.push_str("~")?;
-    text.push_str(zones)?;
-    Ok(text)
+    is_right(alloc, &stems[0], count, zones, grade)
 }
 
 /// Whether the one stem of a file with the first so many samples is right.
@@ -113,10 +139,7 @@ fn is_read_right(
 ) -> Result<bool, Fail> {
     let text = text_of(alloc, count, item)?;
     let stems = read_stm(alloc, text.as_bytes())?;
-    if stems.len() != 1 {
-        return Ok(false);
-    }
-    is_right(alloc, &stems[0], count, zones, grade)
+    is_one_right(alloc, stems.as_slice(), count, zones, grade)
 }
 
 #[test]
@@ -141,15 +164,33 @@ fn with_a_zone(rt: HostRuntime) -> Result<(), Fail> {
     Ok(())
 }
 
+/// Whether a stem is the same as that of the first so many samples and these zones.
+fn is_same_as(
+    alloc: Global,
+    stem: &Stem,
+    count: usize,
+    zones: &[(u32, u8)],
+) -> Result<bool, SampleFault> {
+    let other = stem_of_first(alloc, count, zones)?;
+    Ok(stem.same(&other))
+}
+
+/// Whether the stem of the first so many samples and no zone is the same as that of so many and these zones.
+fn are_same(
+    alloc: Global,
+    count: usize,
+    other: usize,
+    zones: &[(u32, u8)],
+) -> Result<bool, SampleFault> {
+    let stem = stem_of_first(alloc, count, &[])?;
+    is_same_as(alloc, &stem, other, zones)
+}
+
 /// A long stem and a short one are the same only where all parts are.
 #[test]
 fn short_and_long_are_compared(rt: HostRuntime) -> Result<(), Fail> {
-    let short = stem_of(rt.alloc(), &SAMPLES[..7], &[])?;
-    let again = stem_of(rt.alloc(), &SAMPLES[..7], &[])?;
-    let zoned = stem_of(rt.alloc(), &SAMPLES[..7], &[(0, 1)])?;
-    let longer = stem_of(rt.alloc(), &SAMPLES[..8], &[])?;
-    assert!(rt; short.same(&again));
-    assert!(rt; !short.same(&zoned));
-    assert!(rt; !longer.same(&short));
+    assert!(rt; are_same(rt.alloc(), 7, 7, &[])?);
+    assert!(rt; !are_same(rt.alloc(), 7, 7, &[(0, 1)])?);
+    assert!(rt; !are_same(rt.alloc(), 8, 7, &[])?);
     Ok(())
 }

@@ -80,11 +80,16 @@ fn zones_rise(rt: HostRuntime) -> Result<(), Fail> {
     Ok(())
 }
 
+/// The fault of a stem with so many zones, if it is refused.
+fn refusal_of_zones(alloc: Global, count: u32) -> Result<Option<StemFault>, Fail> {
+    let zones = rising_zones(alloc, count)?;
+    refusal(alloc, 1, 250, 41, zones.as_slice())
+}
+
 #[test]
 fn number_of_zones(rt: HostRuntime) -> Result<(), Fail> {
     for (count, want) in [(100, None), (101, Some(StemFault::Limits))] {
-        let zones = rising_zones(rt.alloc(), count)?;
-        let given = refusal(rt.alloc(), 1, 250, 41, zones.as_slice())?;
+        let given = refusal_of_zones(rt.alloc(), count)?;
         assert!(rt; given == want, "{count}");
     }
     Ok(())

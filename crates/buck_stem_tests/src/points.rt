@@ -28,16 +28,20 @@ fn has_diameters_at(alloc: Global, stem: &Stem, step: u32, wanted: &[u32]) -> Re
     Ok(has_diameters(&profile, wanted))
 }
 
+/// The same of the profile of a stem of four samples.
+fn has_diameters_of_four(alloc: Global, step: u32, wanted: &[u32]) -> Result<bool, Fail>
+    requires { (10 ≤ step) × (step ≤ 1000) }
+{
+    let stem = stem_of(alloc, &[250, 240, 245, 201], &[(100, 3)])?;
+    has_diameters_at(alloc, &stem, step, wanted)
+}
+
 #[test]
 fn profile_of_stem(rt: HostRuntime) -> Result<(), Fail> {
-    let stem = stem_of(rt.alloc(), &[250, 240, 245, 201], &[(100, 3)])?;
-    let at_100 = has_diameters_at(rt.alloc(), &stem, 100, &[250, 240, 240, 201])?;
-    assert!(rt; at_100);
-    let wanted = [250, 246, 242, 240, 240, 240, 224, 208];
-    let at_40 = has_diameters_at(rt.alloc(), &stem, 40, &wanted)?;
-    assert!(rt; at_40);
-    let at_1000 = has_diameters_at(rt.alloc(), &stem, 1000, &[250])?;
-    assert!(rt; at_1000);
+    assert!(rt; has_diameters_of_four(rt.alloc(), 100, &[250, 240, 240, 201])?);
+    let at_40 = [250, 246, 242, 240, 240, 240, 224, 208];
+    assert!(rt; has_diameters_of_four(rt.alloc(), 40, &at_40)?);
+    assert!(rt; has_diameters_of_four(rt.alloc(), 1000, &[250])?);
     Ok(())
 }
 
@@ -57,13 +61,21 @@ fn has_masks(profile: &Profile<'_>, wanted: &[(usize, usize, u8)]) -> bool {
     true
 }
 
+/// Whether the profile of a stem at 100 mm has four points, with these masks between them.
+fn has_masks_at_100(
+    alloc: Global,
+    stem: &Stem,
+    wanted: &[(usize, usize, u8)],
+) -> Result<bool, Fail> {
+    let profile = Profile::make(alloc, stem, 100)?;
+    Ok(profile.points() == 4 && has_masks(&profile, wanted))
+}
+
 #[test]
 fn profile_grades(rt: HostRuntime) -> Result<(), Fail> {
     let stem = stem_of(rt.alloc(), &[250, 240, 245, 201], &[(100, 3)])?;
-    let profile = Profile::make(rt.alloc(), &stem, 100)?;
-    assert!(rt; profile.points() == 4);
     let wanted = [(0, 1, 1), (0, 2, 5), (1, 1, 0), (1, 3, 4), (0, 0, 0)];
-    assert!(rt; has_masks(&profile, &wanted));
+    assert!(rt; has_masks_at_100(rt.alloc(), &stem, &wanted)?);
     Ok(())
 }
 
@@ -114,6 +126,16 @@ fn used_lists(alloc: Global) -> Result<ProfileLists, Fail> {
     Ok(profile.into_lists())
 }
 
+/// Whether a profile has the points of the stem, its grades between them, and runs of steps alike.
+fn agrees(profile: &Profile<'_>, stem: &Stem, step: u32) -> bool
+    requires { 10 ≤ step }
+{
+    if profile.points() != (stem.length() / step + 1) as usize {
+        return false;
+    }
+    grades_agree(profile, stem, step) && runs_agree(profile)
+}
+
 /// Whether the points of a stem of 400 mm have the stem's grades, and its runs are of steps alike. The profile is made in
 /// these lists.
 fn points_agree(
@@ -126,10 +148,7 @@ fn points_agree(
 {
     let stem = stem_of(alloc, &[250; 5], zones)?;
     let profile = Profile::make_with(lists, &stem, step)?;
-    if profile.points() != (stem.length() / step + 1) as usize {
-        return Ok(false);
-    }
-    Ok(grades_agree(&profile, &stem, step) && runs_agree(&profile))
+    Ok(agrees(&profile, &stem, step))
 }
 
 /// The same at several modules, each in empty lists and in those of another stem.
@@ -180,13 +199,17 @@ fn has_starts(profile: &Profile<'_>, wanted: &[(u16, usize)]) -> bool {
     true
 }
 
+/// Whether the profile of a stem at 100 mm has eleven points, and runs with these starts.
+fn has_starts_at_100(alloc: Global, stem: &Stem, wanted: &[(u16, usize)]) -> Result<bool, Fail> {
+    let profile = Profile::make(alloc, stem, 100)?;
+    Ok(profile.points() == 11 && has_starts(&profile, wanted))
+}
+
 #[test]
 fn starts_of_runs(rt: HostRuntime) -> Result<(), Fail> {
     let zones = [(200, 2), (450, 3), (470, 2), (1000, 4)];
     let stem = stem_of(rt.alloc(), &[250; 11], &zones)?;
-    let profile = Profile::make(rt.alloc(), &stem, 100)?;
-    assert!(rt; profile.points() == 11);
     let wanted = [(0, 0), (1, 0), (2, 2), (3, 2), (4, 4), (5, 5), (9, 5)];
-    assert!(rt; has_starts(&profile, &wanted));
+    assert!(rt; has_starts_at_100(rt.alloc(), &stem, &wanted)?);
     Ok(())
 }

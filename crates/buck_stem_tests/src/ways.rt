@@ -156,17 +156,27 @@ fn have_zones(stems: &[Stem], first: &[(u32, u8)], second: &[(u32, u8)]) -> bool
     stems[0].zones() == first && stems[1].zones() == second
 }
 
+/// Whether a file of these items of two stems has these zones.
+fn has_zones(
+    alloc: Global,
+    items: (&str, &str),
+    first: &[(u32, u8)],
+    second: &[(u32, u8)],
+) -> Result<bool, Fail> {
+    let (before, after) = items;
+    let text = format!(in alloc; "1 2 STM~{before}{after}")?;
+    let stems = read_stm(alloc, text.as_bytes())?;
+    Ok(have_zones(stems.as_slice(), first, second))
+}
+
 #[test]
 fn zones_of_their_own_stem(rt: HostRuntime) -> Result<(), Fail> {
     let zoned = "951 1 1~952 1 1~953 1 250 240~954 1 0 2 100 3~";
     let plain = "951 1 2~952 1 1~953 1 250 240~";
     let none = "951 1 3~952 1 1~953 1 250 240~954 1~";
-    let before = format!(in rt.alloc(); "1 2 STM~{zoned}{plain}")?;
-    let stems = read_stm(rt.alloc(), before.as_bytes())?;
-    assert!(rt; have_zones(stems.as_slice(), &[(0, 2), (100, 3)], &[]));
-    let after = format!(in rt.alloc(); "1 2 STM~{none}{zoned}")?;
-    let stems = read_stm(rt.alloc(), after.as_bytes())?;
-    assert!(rt; have_zones(stems.as_slice(), &[], &[(0, 2), (100, 3)]));
+    let zones = [(0, 2), (100, 3)];
+    assert!(rt; has_zones(rt.alloc(), (zoned, plain), &zones, &[])?);
+    assert!(rt; has_zones(rt.alloc(), (none, zoned), &[], &zones)?);
     Ok(())
 }
 
@@ -177,16 +187,26 @@ fn samples_with(alloc: Global, place: usize, word: &str) -> Result<String, Fail>
     Ok(format!(in alloc; "{before}{word}{after}")?)
 }
 
+/// Whether a file is refused so.
+fn is_refused_so(alloc: Global, bytes: &[u8], want: StmFault) -> Result<bool, StmFault> {
+    match read_stm(alloc, bytes) {
+        Ok(_) => Ok(false),
+        Err(StmFault::Memory) => Err(StmFault::Memory),
+        Err(fault) => Ok(fault == want),
+    }
+}
+
+/// A file whose samples have this word at a place.
+fn text_with(alloc: Global, place: usize, word: &str) -> Result<String, Fail> {
+    let samples = samples_with(alloc, place, word)?;
+    Ok(format!(in alloc; "1 2 STM~951 1 1~952 1 1~953 1 {samples}~")?)
+}
+
 /// Whether a file whose samples have this word at a place is refused so, both ways alike.
 fn is_refused_at(alloc: Global, place: usize, word: &str, want: StmFault) -> Result<bool, Fail> {
-    let samples = samples_with(alloc, place, word)?;
-    let text = format!(in alloc; "1 2 STM~951 1 1~952 1 1~953 1 {samples}~")?;
+    let text = text_with(alloc, place, word)?;
     let alike = agree_on(alloc, text.as_bytes())?;
-    match read_stm(alloc, text.as_bytes()) {
-        Ok(_) => Ok(false),
-        Err(StmFault::Memory) => Err(Fail::from(StmFault::Memory)),
-        Err(fault) => Ok(alike && fault == want),
-    }
+    Ok(alike && is_refused_so(alloc, text.as_bytes(), want)?)
 }
 
 #[test]
@@ -246,13 +266,17 @@ fn zones_that_are_refused(rt: HostRuntime) -> Result<(), Fail> {
     Ok(())
 }
 
+/// Whether both ways agree on a file of one stem of so many samples.
+fn agree_on_samples(alloc: Global, count: usize) -> Result<bool, Fail> {
+    let samples = " 250".repeat(alloc, count)?;
+    let text = format!(in alloc; "1 2 STM~951 1 1~952 1 1~953 1{samples}~")?;
+    Ok(agree_on(alloc, text.as_bytes())?)
+}
+
 #[test]
 fn numbers_of_samples_and_zones(rt: HostRuntime) -> Result<(), Fail> {
-    let alloc = rt.alloc();
     for count in [0, 1, 3, 4, 5, 400, 401, 402, 403] {
-        let samples = " 250".repeat(alloc, count)?;
-        let text = format!(in alloc; "1 2 STM~951 1 1~952 1 1~953 1{samples}~")?;
-        assert!(rt; agree_on(alloc, text.as_bytes())?, "{count} samples");
+        assert!(rt; agree_on_samples(rt.alloc(), count)?, "{count} samples");
     }
     Ok(())
 }

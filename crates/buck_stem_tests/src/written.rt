@@ -47,18 +47,34 @@ fn written(alloc: Global, value: u16, chance: &mut Chance) -> Result<String, Fai
     })
 }
 
+/// Puts a sample behind others, and what is written of it behind a text.
+fn put_sample(
+    alloc: Global,
+    chance: &mut Chance,
+    samples: &mut Vec<u16>,
+    text: &mut Vec<u8>,
+) -> Result<(), Fail> {
+    let value = sample(chance);
+    samples.push(value)?;
+    let word = written(alloc, value, chance)?;
+    text.extend_from_slice(word.as_bytes())?;
+    Ok(())
+}
+
+/// Whether a file has one stem, of these samples.
+fn is_read_as(alloc: Global, bytes: &[u8], samples: &[u16]) -> Result<bool, Fail> {
+    let stems = read_stm(alloc, bytes)?;
+    Ok(stems.len() == 1 && stems[0].samples() == samples)
+}
+
 /// Whether a file of one stem of so many samples is read as what was written.
 fn is_read_again(alloc: Global, count: usize, chance: &mut Chance) -> Result<bool, Fail> {
     let mut samples = Vec::new(alloc);
     let mut text = Vec::from_slice(alloc, b"1 2 STM~951 1 1~952 1 1~953 1 ".as_slice())?;
     for _ in 0..count {
-        let value = sample(chance);
-        samples.push(value)?;
-        let word = written(alloc, value, chance)?;
-        text.extend_from_slice(word.as_bytes())?;
+        put_sample(alloc, chance, &mut samples, &mut text)?;
     }
-    let stems = read_stm(alloc, text.as_slice())?;
-    Ok(stems.len() == 1 && stems[0].samples() == samples.as_slice())
+    is_read_as(alloc, text.as_slice(), samples.as_slice())
 }
 
 #[test]
