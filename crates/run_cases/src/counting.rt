@@ -1,0 +1,107 @@
+//! Files of cases, counted.
+use crate::case::Case;
+use crate::running::{Outcome, outcome_of};
+use buck_record::Memory;
+use std::alloc::Global;
+use std::sync::Wait;
+use std::thread::Threads;
+
+/// How many differences of a file are shown.
+const SHOWN: u32 = 3;
+
+/// What is said of the cases of a file so far.
+#[derive(Drop)]
+struct Count {
+    cases: u32,
+    differ: u32,
+    /// What differs, for a reader.
+    told: Vec<u8>,
+}
+
+/// Adds what came of a case, or what it wanted.
+fn put_outcome(told: &mut Vec<u8>, name: &str, outcome: &Outcome) -> Result<(), Memory> {
+    told.extend_from_slice(name.as_bytes())?;
+    told.extend_from_slice(outcome.text.as_slice())?;
+    told.extend_from_slice(outcome.journal.as_slice())?;
+    told.extend_from_slice(outcome.line.as_slice())?;
+    Ok(())
+}
+
+impl Count {
+    /// Counts a case that was read whole: it is run, and compared with what it wants.
+    fn run<T: Threads + Wait + Sync>(
+        &mut self,
+        rt: &T,
+        alloc: Global,
+        case: &Case<'_>,
+    ) -> Result<(), Memory> {
+        let got = outcome_of(rt, alloc, case);
+        self.cases = self.cases.saturating_add(1);
+        if got.is_same(&case.wanted) {
+            return Ok(());
+        }
+        self.tell(case.title)?;
+        if self.differ <= SHOWN {
+            put_outcome(&mut self.told, "  wanted:\n", &case.wanted)?;
+            put_outcome(&mut self.told, "  got:\n", &got)?;
+        }
+        Ok(())
+    }
+
+    /// Counts a case that differs, and names it if it is among the first.
+    fn tell(&mut self, title: &str) -> Result<(), Memory> {
+        self.differ = self.differ.saturating_add(1);
+        if self.differ <= SHOWN {
+            self.told.extend_from_slice(b"  differs: ")?;
+            self.told.extend_from_slice(title.as_bytes())?;
+            self.told.extend_from_slice(b"\n")?;
+        }
+        Ok(())
+    }
+}
+
+/// Runs the cases of a file, one after the other.
+fn count_all<T: Threads + Wait + Sync>(rt: &T, alloc: Global, text: &str) -> Result<Count, Memory> {
+    let mut count = Count {
+        cases: 0,
+        differ: 0,
+        told: Vec::new(alloc),
+    };
+    let mut case = Case::none(alloc);
+    let mut begun = false;
+    for line in text.lines() {
+        match line.strip_prefix("== ") {
+            Some(title) => {
+                if begun {
+                    count.run(rt, alloc, &case)?;
+                }
+                begun = true;
+                case.begin(title);
+            }
+            None => {
+                if !case.read(line)? {
+                    count.tell(line)?;
+                }
+            }
+        }
+    }
+    if begun {
+        count.run(rt, alloc, &case)?;
+    }
+    Ok(count)
+}
+
+/// The line of a file of cases, and below it what differs.
+pub fn report_on<T: Threads + Wait + Sync>(
+    rt: &T,
+    alloc: Global,
+    name: &str,
+    text: &str,
+) -> Result<Vec<u8>, Memory> {
+    let count = count_all(rt, alloc, text)?;
+    let line = format!(in alloc; "{name}: {} cases, {} differ\n", count.cases, count.differ)?;
+    let mut report = Vec::new(alloc);
+    report.extend_from_slice(line.as_bytes())?;
+    report.extend_from_slice(count.told.as_slice())?;
+    Ok(report)
+}
