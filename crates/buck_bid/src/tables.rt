@@ -246,9 +246,10 @@ fn take_room(rooms: &mut Vec<Option<Columns>>, band: usize) -> Option<Columns> {
     mem::replace(&mut rooms[band], None)
 }
 
-/// Leaves the room of columns that are dropped for the next of their band.
+/// Leaves the room of columns that are dropped for the next of their band. Where there are none, the room that an earlier
+/// sheet left is dropped too, so that room is kept for no more columns than those of one sheet.
 fn leave_room(rooms: &mut Vec<Option<Columns>>, band: usize, columns: Option<Columns>) {
-    if columns.is_some() && band < rooms.len() {
+    if band < rooms.len() {
         rooms[band] = columns;
     }
 }
@@ -468,7 +469,8 @@ impl Tables {
     }
 
     /// Where the columns for some wood and a band stand. They are made where they aren't there; where too much is kept
-    /// then, all are made anew. Refused as `Memory` alone: what was there stays.
+    /// then, all are made anew. Refused as `Memory` alone: the tables are good as before, and some columns may have been
+    /// dropped.
     pub fn find(
         &mut self,
         alloc: Global,
