@@ -6,6 +6,7 @@ use Rattle.std.proofs.lemmas.Option.{slice_get_within, get_or_from_slice_get}
 use Rattle.buck_apt.specs.Instruction.{InstructionParts}
 use Rattle.buck_book.specs.declared.posting.Posting.{Posting}
 use Rattle.buck_book.specs.declared.posting.Posting.TheVariants.{Cut, Demand}
+use Rattle.buck_book.specs.Entry.{DemandParts}
 use Rattle.buck_book.specs.Posting.{is_end, ends_from, cuts_from, ends_of, cuts_since_end, targets_after}
 use Rattle.buck_book.specs.History.{IsEnd}
 
@@ -72,6 +73,14 @@ module _ (i : InstructionParts) (ps : List Posting) (x : Posting) where
   cuts_without e =
       cuts-append i.period 0 ps (x ∷ [])
       ∙ cuts_no i.period (cuts_since_end i ps) x [] (false_from_ne_true (is_end i.period (cuts_since_end i ps) x) e)
+
+-- the ends before a demand, the demand itself, and those of what comes after it as of a new history
+module _ (i : InstructionParts) (before after : List Posting) (d : DemandParts) where
+  pub ends_around : ends_of i (before ++ Demand d ∷ after) ≡ ends_of i before + 1 + ends_of i after
+  ends_around = ends-append i.period 0 before (Demand d ∷ after) ∙ omega arith
+
+  pub cuts_around : cuts_since_end i (before ++ Demand d ∷ after) ≡ cuts_since_end i after
+  cuts_around = cuts-append i.period 0 before (Demand d ∷ after)
 
 -- fewer postings have no more ends
 pub ends_take-le : (i : InstructionParts) (ps : List Posting) (k : ℕ) → ends_of i (take k ps) ≤ ends_of i ps

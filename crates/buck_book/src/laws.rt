@@ -1,10 +1,10 @@
 //! What follows from the definitions of a history, for all histories: each law is the contract of an empty function.
-ghost use Rattle.std.specs.Prelude.{◌≡◌, ℕ, ◌/◌, ◌%◌, ◌<◌, ◌≤◌, ◌↔◌, List, length, Option, map};
+ghost use Rattle.std.specs.Prelude.{◌≡◌, ℕ, ◌+◌, ◌/◌, ◌%◌, ◌<◌, ◌≤◌, ◌↔◌, List, ◌∷◌, ◌++◌, length, Option, map};
 ghost use Rattle.buck_apt.specs.Instruction.{InstructionParts, IsInstruction};
 ghost use Rattle.buck_value.specs.Sheet.{SheetParts};
 ghost use Rattle.buck_book.specs.declared.posting.Posting.{Posting};
-ghost use Rattle.buck_book.specs.declared.posting.Posting.TheVariants.{Cut};
-ghost use Rattle.buck_book.specs.Entry.{EntryParts};
+ghost use Rattle.buck_book.specs.declared.posting.Posting.TheVariants.{Cut, Demand};
+ghost use Rattle.buck_book.specs.Entry.{EntryParts, DemandParts};
 ghost use Rattle.buck_book.specs.Posting.{ends_of, cuts_since_end};
 ghost use Rattle.buck_book.specs.History.{HistoryParts, IsLawful, Follows, first_of, history_with};
 ghost use Rattle.buck_book.specs.Book.{IsNext};
@@ -37,4 +37,12 @@ pub fn lawful_of_cuts_alone()
     ensures { (i : InstructionParts) (sheets : List (List ℕ)) (es : List EntryParts)
         → IsInstruction i
         → IsLawful (alone.history_of i sheets es) ↔ alone.IsLawful i sheets es }
+{}
+
+/// A demand is an end, and what comes after it goes on as a history of its own: the ends are those before it, itself, and
+/// those of what comes after, counted as from an opening.
+pub fn ends_around_a_demand()
+    ensures { (i : InstructionParts) (before after : List Posting) (d : DemandParts)
+        → (ends_of i (before ++ Demand d ∷ after) ≡ ends_of i before + 1 + ends_of i after)
+        × (cuts_since_end i (before ++ Demand d ∷ after) ≡ cuts_since_end i after) }
 {}
