@@ -1,7 +1,7 @@
 //! What the first item of a posting says.
 
 /// Who added a posting, which of its harvester's calls it is, and the version in force before it.
-#[derive(Clone, Copy, Debug)]
+#[derive(Clone, Copy)]
 pub(crate) struct Call {
     pub harvester: u32,
     pub number: u32,

@@ -293,7 +293,8 @@ fn postings_of(
     let mut samples = Vec::new(alloc);
     let mut postings = Vec::new(alloc);
     let mut rest = text;
-    for _ in 0..text.len() {
+    // One turn at least: where no posting is left, the text has ended.
+    for _ in 0..text.len().max(1) {
         if is_done(rest) {
             return Ok(Some(postings));
         }
