@@ -2,13 +2,15 @@
 use Rattle.std.proofs.Common.{◌≡◌, ℕ, zero, suc, ◌+◌, ◌<◌, List, [], ◌∷◌, ◌++◌, length, take, get_or, map, refl, sym, ap, ◌∙◌, arith, append_assoc, append-nil}
 use Rattle.std.specs.Prelude.{Some, slice_get}
 use Rattle.std.proofs.lemmas.List.{map-append}
+use Rattle.std.proofs.lemmas.List.Elements.{All-append, All-cons}
 use Rattle.buck_stem.specs.Stem.{StemParts}
 use Rattle.buck_book.proofs.Ends.{take_one_more}
 use Rattle.buck_fleet.specs.declared.seat.Kept.{Kept}
 use Rattle.buck_fleet.specs.declared.seat.Reply.{Reply}
 use Rattle.buck_fleet.specs.Seat.{SeatParts, KeepsNothing}
 use Rattle.buck_fleet.specs.Reply.{IsReplyFor, kept_of}
-use Rattle.buck_fleet.specs.Run.{HasCut, stem_cut}
+use Rattle.buck_book.specs.Posting.{harvester_of}
+use Rattle.buck_fleet.specs.Run.{HasCut, IsFirstBestCut, stem_cut}
 
 pub got : {A : Type 0} (f : A → StemParts) (xs : List A) (n : ℕ) (x : A) → n < length xs → x ≡ get_or xs n x → slice_get (map f xs) n ≡ Some (f x)
 got f [] n x lt is = absurd (omega arith)
@@ -21,6 +23,8 @@ none_cut stems s = record {
   kept = record { same_harvester = refl; kept_are = sym (append-nil s.kept); same_parts = refl; seen_rises = omega arith };
   within = omega arith;
   each = refl;
+  own = λ i d lt. absurd (omega (arith, lt));
+  best = λ i d lt. absurd (omega (arith, lt));
 }
 
 pub one_more_cut : (n : ℕ) (stems : List StemParts) (a b c : SeatParts) (r : Reply) (stem : StemParts) → HasCut n stems a b → IsReplyFor b c stem r → slice_get stems n ≡ Some stem → n < length stems → HasCut (n + 1) stems a c
@@ -35,6 +39,10 @@ one_more_cut n stems a b c r stem cut reply at lt = record {
   within = omega arith;
   each = map-append (λ (k : Kept). stem_cut k.entry) cut.more (kept_of r ∷ []) ∙ (λ t. cut.each t ++ Some (reply.same_stem t) ∷ [])
       ∙ sym (map-append (λ (s : StemParts). Some s) (take n stems) (stem ∷ [])) ∙ ap (λ (l : List StemParts). map (λ (s : StemParts). Some s) l) (sym (take_one_more stems n stem at));
+  own = All-append (λ (k : Kept). harvester_of k.entry ≡ a.harvester) cut.more (kept_of r ∷ []) cut.own
+      (All-cons (λ (k : Kept). harvester_of k.entry ≡ a.harvester) (kept_of r) [] (reply.own_harvester ∙ cut.kept.same_harvester) (λ i d lt. absurd (omega (arith, lt))));
+  best = All-append (λ (k : Kept). IsFirstBestCut k.entry) cut.more (kept_of r ∷ []) cut.best
+      (All-cons (λ (k : Kept). IsFirstBestCut k.entry) (kept_of r) [] reply.first_best (λ i d lt. absurd (omega (arith, lt))));
 }
 
 pub still_cut : (n : ℕ) (stems : List StemParts) (a b c : SeatParts) → HasCut n stems a b → KeepsNothing b c → HasCut n stems a c
@@ -48,4 +56,6 @@ still_cut n stems a b c cut k = record {
   };
   within = cut.within;
   each = cut.each;
+  own = cut.own;
+  best = cut.best;
 }

@@ -1,7 +1,9 @@
 -- What a closed fleet hands out, and the headline: the history is one of a single thread, and holds each seat's
 -- replies.
-use Rattle.std.specs.Prelude.{◌≡◌, ◌≢◌, ℕ, ◌+◌, ◌-◌, ◌<◌, ◌≤◌, ◌==◌, List, [], ◌∷◌, length, take, cond, All, slice_get, slice_index_or, Some}
+use Rattle.std.specs.Prelude.{◌≡◌, ◌≢◌, ℕ, ◌+◌, ◌-◌, ◌<◌, ◌≤◌, ◌==◌, List, [], ◌∷◌, length, map, take, cond, All, slice_get, slice_index_or, Some}
 use Rattle.std.specs.List.{sum_by}
+use Rattle.std.specs.declared.vec.Vec.{Vec}
+use Rattle.std.specs.declared.alloc.Global.{Global}
 use Rattle.buck_apt.specs.Instruction.{InstructionParts}
 use Rattle.buck_book.specs.declared.posting.Posting.{Posting}
 use Rattle.buck_book.specs.Posting.{harvester_of}
@@ -15,6 +17,10 @@ use Rattle.buck_fleet.specs.Seat.{SeatParts}
 pub record ClosedParts : Type 0 where
   pub history : HistoryParts
   pub kept : List (List Kept)  -- the seats' kept lists, by harvester
+
+-- the kept lists in a list of vectors
+abbrev pub lists_of : List (Vec Kept Global) → List (List Kept)
+lists_of = map (λ (v : Vec Kept Global). v.items)
 
 -- a harvester's kept list
 abbrev pub kept_by : ℕ → ClosedParts → List Kept

@@ -8,11 +8,13 @@ use Rattle.buck_stem.specs.declared.stem.Stem.{Stem}
 use Rattle.buck_stem.specs.Stem.{StemParts}
 use Rattle.buck_book.specs.declared.posting.Posting.{Posting}
 use Rattle.buck_book.specs.declared.posting.Posting.TheVariants.{Cut, Demand}
+use Rattle.buck_book.specs.Posting.{harvester_of}
 use Rattle.buck_fleet.specs.declared.fault.RunFault.{RunFault}
 use Rattle.buck_fleet.specs.declared.seat.Kept.{Kept}
 use Rattle.buck_fleet.specs.Seat.{SeatParts, Keeps}
 use Rattle.buck_fleet.specs.Fleet.{FleetParts, IsSeatIn}
 use Rattle.buck_fleet.specs.Crew.{IsCrew, parts_of}
+use Rattle.buck_fleet.specs.Reply.{IsFirstBestSomewhere}
 
 -- the stem that a posting cut
 abbrev pub stem_cut : Posting → Option StemParts
@@ -27,17 +29,27 @@ stems_of = map (λ (a : Arc Stem Global). arc_value a)
 abbrev pub stems_at : List (Vec (Arc Stem Global) Global) → ℕ → List StemParts
 stems_at lists i = slice_index_or (map (λ (v : Vec (Arc Stem Global) Global). stems_of v.items) lists) i []
 
--- the first n stems were cut, in order: one reply for each was kept, and nothing else
+-- a cut, by the first of the best cuttings under some sheet of its version
+abbrev pub IsFirstBestCut : Posting → Type 0
+IsFirstBestCut (Cut e) = IsFirstBestSomewhere e
+IsFirstBestCut (Demand d) = ⊥
+
+-- the first n stems were cut, in order: one reply for each was kept, the seat's own and the first of the best, and nothing
+-- else
 pub record HasCut (n : ℕ) (stems : List StemParts) (before after : SeatParts) : Type 0 where
   pub more : List Kept
   pub kept : Keeps before (before.kept ++ more) after
   pub within : n ≤ length stems
   pub each : map (λ k. stem_cut k.entry) more ≡ map Some (take n stems)
+  pub own : All (λ k. harvester_of k.entry ≡ before.harvester) more
+  pub best : All (λ k. IsFirstBestCut k.entry) more
 
--- stems from the beginning of the list were cut; where nothing stopped the run, all of them
+-- stems from the beginning of the list were cut; where nothing stopped the run, all of them, and where something did,
+-- not all
 pub record HasRun (stems : List StemParts) (before after : SeatParts) : Type 0 where
   pub beginning : (n : ℕ) × HasCut n stems before after
   pub whole : after.stopped ≡ None → HasCut (length stems) stems before after
+  pub part : (fault : RunFault) → after.stopped ≡ Some fault → (n : ℕ) × (n < length stems) × HasCut n stems before after
 
 -- each seat has run through the list at its place; the seats stand in the same order, are of the fleet as before, and
 -- have together what they had of the ledger

@@ -7,8 +7,8 @@ ghost use Rattle.buck_book.specs.Counts.{AreClassCounts};
 ghost use Rattle.buck_book.specs.History.{IsLawful, in_force};
 ghost use Rattle.buck_book.specs.Book.{sheets_from};
 ghost use Rattle.buck_fleet.specs.Crew.{IsCrew, parts_of};
-ghost use Rattle.buck_fleet.specs.Closed.{ClosedParts, kept_by, replies_from, replies_of, IsHandedOut, IsOneHistory, IsCloseFault, DifferFirstAt};
-ghost use Rattle.buck_fleet.specs.inner.Lists.{lists_of, AreEmpty};
+ghost use Rattle.buck_fleet.specs.Closed.{ClosedParts, kept_by, lists_of, replies_from, replies_of, IsHandedOut, IsOneHistory, IsCloseFault, DifferFirstAt};
+ghost use Rattle.buck_fleet.specs.inner.Lists.{AreEmpty};
 
 use crate::desk::Desk;
 use crate::fleet::Fleet;
@@ -51,8 +51,7 @@ impl Model for Closed {
     ghost use Rattle.buck_book.specs.Counts.{AreClassCounts};
     ghost use Rattle.buck_book.specs.History.{IsLawful};
     ghost use Rattle.buck_book.specs.Book.{sheets_from};
-    ghost use Rattle.buck_fleet.specs.Closed.{ClosedParts};
-    ghost use Rattle.buck_fleet.specs.inner.Lists.{lists_of};
+    ghost use Rattle.buck_fleet.specs.Closed.{ClosedParts, lists_of};
 
     ghost Value = { ClosedParts };
 
@@ -229,7 +228,6 @@ impl<F: Drop, L: Ledger> Fleet<F, L> {
     pub fn close(self, seats: Vec<Seat<L>>) -> Result<Closed, (CloseFault, Closed)>
         requires crew { IsCrew self.seats seats.items }
         requires parts { parts_of seats.items ≡ L.parts }
-        requires few { self.seats ≤ 64 }
         ensures ok { IfOk result (IsOneHistory self.instruction self.seats seats.items) }
         ensures handed_out { IfErr result (λ e. IsHandedOut self.seats seats.items e.1) }
         ensures fault { IfErr result (λ e. IsCloseFault self.instruction self.seats e.1 e.0) }

@@ -81,6 +81,7 @@ impl<F: Fn(&Standing) -> u64 + Drop, L: Ledger> Fleet<F, L> {
         match desk.commit(rt, alloc, &self.board, seat, plan, attempts, Path::Locked) {
             Ok(reply) => Ok(reply),
             Err((Refusal::Stale { .. }, _)) => unreachable!(),
+            // Leave: the call ends refused.
             Err((Refusal::Full, _)) => Err(CutFault::Full),
             Err((Refusal::Memory, _)) => Err(CutFault::Memory),
         }
@@ -124,6 +125,7 @@ impl<F: Fn(&Standing) -> u64 + Drop, L: Ledger> Fleet<F, L> {
             gate.planned(rt, seat.harvester(), attempt, &plan);
             match self.bring(rt, alloc, &mut *seat, plan, attempt) {
                 Attempt::Done(reply) => return Ok(reply),
+                // Leave: the call ends refused.
                 Attempt::Refused(fault) => return Err(fault),
                 Attempt::Outdated => {}
             }

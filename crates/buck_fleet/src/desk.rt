@@ -108,6 +108,7 @@ impl<F: Fn(&Standing) -> u64 + Drop, L: Ledger> Desk<F, L> {
         };
         let ready = match book.prepare(alloc, &plan) {
             Ok(ready) => ready,
+            // Try, of a plan that is outdated: nothing is added.
             Err(refusal) => return Err((refusal, plan)),
         };
         if show_next(rt, alloc, board, &ready).is_err() {

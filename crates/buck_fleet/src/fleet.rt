@@ -33,15 +33,16 @@ pub struct Fleet<F, L: Ledger> {
 }
 
 impl<F, L: Ledger> Model for Fleet<F, L> {
-    ghost use Rattle.std.specs.Prelude.{length};
+    ghost use Rattle.std.specs.Prelude.{length, ◌≤◌};
     ghost use Rattle.buck_fleet.specs.Fleet.{FleetParts};
-    ghost use Rattle.buck_fleet.specs.inner.Lists.{lists_of, AreEmpty};
+    ghost use Rattle.buck_fleet.specs.Closed.{lists_of};
+    ghost use Rattle.buck_fleet.specs.inner.Lists.{AreEmpty};
 
     ghost Value = { FleetParts };
 
     ghost view = { λ f. record { instruction = f.instruction.value; seats = length f.kept.items; board = f.board } };
 
-    ghost invariant = { λ f. AreEmpty (lists_of f.kept.items) };
+    ghost invariant = { λ f. record { empty : AreEmpty (lists_of f.kept.items); few : length f.kept.items ≤ 64 } };
 }
 
 impl<F, L: Ledger> Fleet<F, L> {
@@ -95,6 +96,7 @@ impl<F: Fn(&Standing) -> u64 + Drop, L: Ledger> Fleet<F, L> {
         let mut desk = self.lock(rt);
         match desk.commit(rt, alloc, &self.board, seat, plan, 1, Path::Optimistic) {
             Ok(reply) => Ok(reply),
+            // Leave: the call ends refused.
             Err((refusal, plan)) => Err(try_fault(refusal, plan)),
         }
     }
@@ -118,6 +120,7 @@ impl<F: Fn(&Standing) -> u64 + Drop, L: Ledger> Fleet<F, L> {
         let mut desk = self.lock(rt);
         match desk.retarget(rt, alloc, &self.board, seat, &targets) {
             Ok(reply) => Ok(reply),
+            // Leave: the call ends refused.
             Err(refusal) => Err(RetargetFault::from(refusal)),
         }
     }

@@ -3,7 +3,8 @@ ghost use Rattle.std.specs.Prelude.{◌≡◌, ◌+◌, ◌<◌, ◌≤◌, [], 
 ghost use Rattle.buck_board.specs.Board.{IsSeatOf, seen_by};
 ghost use Rattle.buck_fleet.specs.Crew.{AreOpened};
 ghost use Rattle.buck_fleet.specs.Refused.{IsOpenFault};
-ghost use Rattle.buck_fleet.specs.inner.Lists.{lists_of, AreEmpty};
+ghost use Rattle.buck_fleet.specs.Closed.{lists_of};
+ghost use Rattle.buck_fleet.specs.inner.Lists.{AreEmpty};
 
 use crate::desk::Desk;
 use crate::fleet::Fleet;
@@ -111,6 +112,7 @@ impl<F: Fn(&Standing) -> u64 + Drop, L: Ledger> Fleet<F, L> {
         capacity: u32,
     ) -> Result<(Fleet<F, L>, Vec<Seat<L>>), OpenFault>
         requires blank { (blank.name ≡ L.name) × (blank.parts ≡ L.parts) × (blank.parts ≡ 64) }
+        ensures room { IfOk result (λ _. (0 < seats) × (seats ≤ 64) × (0 < capacity) × (capacity ≤ 1000000)) }
         ensures instruction { IfOk result (λ r. r.0.instruction ≡ instruction.value) }
         ensures number { IfOk result (λ r. r.0.seats ≡ seats) }
         ensures seats { IfOk result (λ r. AreOpened r.0.board seats r.1.items) }

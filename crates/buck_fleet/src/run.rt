@@ -30,6 +30,8 @@ fn cut_all<F: Fn(&Standing) -> u64 + Drop, L: Ledger, R: Wait, G: Gate>(
     ensures seat { IsSeatIn fleet.now seat.new }
     ensures cut { (n : ℕ) × HasCut n (stems_of stems.now) seat.old seat.new }
     ensures whole { IfNone result (HasCut (length (stems_of stems.now)) (stems_of stems.now) seat.old seat.new) }
+    ensures part { IfSome result (λ _. (n : ℕ) × (n < length (stems_of stems.now))
+        × HasCut n (stems_of stems.now) seat.old seat.new) }
 {
     for stem in stems {
         let Ok(stem) = stem.clone() else {

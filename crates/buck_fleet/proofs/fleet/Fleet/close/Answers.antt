@@ -1,7 +1,7 @@
 use Rattle.std.proofs.Common.{length, refl, ap, ◌∙◌, arith}
 use Rattle.std.proofs.lemmas.List.{length-map}
 use Rattle.buck_fleet.specs.Fleet.{FleetParts}
-use Rattle.buck_fleet.specs.inner.Lists.{lists_of}
+use Rattle.buck_fleet.specs.Closed.{lists_of}
 use Rattle.buck_fleet.proofs.Counted.{counts, prices_are, lawful_out, firsts_out, sheets_out, targets_out, valid_out, counts_out}
 use Rattle.buck_fleet.proofs.fleet.Fleet.close.Goals as goal
 
