@@ -1,5 +1,5 @@
 //! From the bytes of files to the bytes of a text.
-ghost use Rattle.std.specs.Prelude.{◌≡◌, ◌≢◌, ◌⊎◌, IsOk, OnOk, IfErr, IfSome};
+ghost use Rattle.std.specs.Prelude.{◌≡◌, ◌≢◌, ◌≤◌, ◌⊎◌, length, IsOk, OnOk, IfErr, IfSome};
 ghost use Rattle.std.specs.List.{before_first, after_first};
 ghost use Rattle.std.specs.Io.KnownBytes.{Keeps};
 ghost use Rattle.bstr.specs.Find.{IsFirstByte, is_byte};
@@ -93,7 +93,11 @@ pub fn run_buck<R: io::Read, W: io::Write>(
         (file ≡ 0) ⊎ ((file ≡ 1) × IfSome (R.remaining apt.old) (λ instruction. IsOk (apt_of instruction))))) }
     // Where the instruction is refused, nothing was read of the stems.
     ensures order { IfErr result (λ e. IsBeforeStems e → stm.new ≡ stm.old) }
-    // Only a failed write leaves anything written, and then a prefix of the text.
+    // A file that is longer than a file may be is never read as one.
+    ensures limit { OnOk result (IfSome (R.remaining apt.old) (λ bytes. length bytes ≤ 67108864)
+        × IfSome (R.remaining stm.old) (λ bytes. length bytes ≤ 67108864)) }
+    // Only a failed write touches the writer, and leaves a prefix of the text.
+    ensures untouched { IfErr result (λ e. e ≢ Write → writer.new ≡ writer.old) }
     ensures unwritten { IfErr result (λ e. e ≢ Write → Keeps (W.contents writer.old) (W.contents writer.new)) }
     ensures prefix { IfErr result (λ e. e ≡ Write →
         IfSome (R.remaining apt.old) (λ instruction. IfSome (R.remaining stm.old) (λ stems.
@@ -127,7 +131,10 @@ pub fn run_bare<R: io::Read, W: io::Write>(
         IsRefusalOf e (before_first is_bar input) (after_first is_bar input))) }
     // What can't be read is file 0.
     ensures read { IfErr result (IfRead (λ file. file ≡ 0)) }
-    // Only a failed write leaves anything written, and then a prefix of the text.
+    // Input that is longer than a file may be is never read as one.
+    ensures limit { OnOk result (IfSome (R.remaining reader.old) (λ bytes. length bytes ≤ 67108864)) }
+    // Only a failed write touches the writer, and leaves a prefix of the text.
+    ensures untouched { IfErr result (λ e. e ≢ Write → writer.new ≡ writer.old) }
     ensures unwritten { IfErr result (λ e. e ≢ Write → Keeps (W.contents writer.old) (W.contents writer.new)) }
     ensures prefix { IfErr result (λ e. e ≡ Write → IfSome (R.remaining reader.old) (λ input.
         AppendsPrefix (W.contents writer.old) (W.contents writer.new)

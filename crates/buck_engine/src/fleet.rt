@@ -98,6 +98,7 @@ pub(crate) fn run_reported<
     ensures run { IsFleetRun (R.remaining apt.old) (map R.remaining stms.old) no_writer
         (W.contents out.old) (W.contents out.new) result }
     ensures order { IfErr result (IfStopped (λ file. drop file stms.new ≡ drop file stms.old)) }
+    ensures unread { IfErr result (λ e. e ≡ Seats → apt.new ≡ apt.old) }
 {
     seated(stms.len())?;
     let closed = harvested(rt, alloc, apt, stms, rule, onlooker)?;
@@ -126,6 +127,7 @@ pub(crate) fn run_journalled<
     ensures run { IsFleetRun (R.remaining apt.old) (map R.remaining stms.old)
         (of_writer (J.contents journal.old) (J.contents journal.new)) (W.contents out.old) (W.contents out.new) result }
     ensures order { IfErr result (IfStopped (λ file. drop file stms.new ≡ drop file stms.old)) }
+    ensures unread { IfErr result (λ e. e ≡ Seats → apt.new ≡ apt.old) }
 {
     seated(stms.len())?;
     let closed = harvested(rt, alloc, apt, stms, rule, onlooker)?;
@@ -167,6 +169,8 @@ pub fn run_fleet_files<
     ensures seats { AreNoSeats (length stms.old) → result ≡ Err Seats }
     // Where a file is refused or can't be read, nothing was read of those after it.
     ensures order { IfErr result (IfStopped (λ file. drop file stms.new ≡ drop file stms.old)) }
+    // Where there are not 1 to 64 stem files, nothing was read of the instruction either.
+    ensures unread { IfErr result (λ e. e ≡ Seats → apt.new ≡ apt.old) }
     // Only a failed write leaves anything written: a prefix of the journal, or all of it and one of the report.
     ensures unwritten { IfErr result (λ e. e ≢ Write →
         of_lent J.contents journal.entry journal.exit Keeps × Keeps (W.contents out.old) (W.contents out.new)) }
