@@ -1,6 +1,7 @@
 //! What a person who looks on is told while long work goes on: which long files were read, and how far a fleet is. Of
 //! short work nothing is told.
-ghost use Rattle.std.specs.Prelude.{◌≡◌, ⊤};
+ghost use Rattle.std.specs.Prelude.{◌≡◌};
+ghost use Rattle.std.specs.Option.{option_map};
 
 use buck_engine::{Make, Onlooker, Open};
 use std::alloc::Global;
@@ -134,7 +135,8 @@ impl<'a, R, S: io::Write + Copy> WatchedFile<'a, R, S> {
 impl<'a, O: Open, S: io::Write + Copy> Open for Watched<'a, O, S> {
     type File = WatchedFile<'a, O::File, S>;
 
-    ghost opens = { λ _ _ _ _. ⊤ };
+    // What is opened is what the other opener opens by this name.
+    ghost opens = { λ w name f v. O.opens w.files name (option_map (λ x. x.file) f) v.files };
 
     fn open(&mut self, name: &str) -> Option<WatchedFile<'a, O::File, S>> {
         let Some(file) = self.files.open(name) else {
@@ -152,7 +154,8 @@ impl<'a, O: Open, S: io::Write + Copy> Open for Watched<'a, O, S> {
 impl<'a, O: Make, S> Make for Watched<'a, O, S> {
     type Made = O::Made;
 
-    ghost makes = { λ _ _ _ _. ⊤ };
+    // What is made is what the other makes by this name.
+    ghost makes = { λ w name f v. O.makes w.files name f v.files };
 
     fn make(&mut self, name: &str) -> Option<O::Made> {
         self.files.make(name)
