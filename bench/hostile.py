@@ -212,6 +212,33 @@ def longest_sheets(_source, size):
     return after(b"1 2 JRN~", b"971 1" + b" 0" * 16384 + b"~", size)
 
 
+def shortest_sheets(_source, size):
+    """A journal of sheets of one price, and no posting, up to the last byte."""
+    start = b"1 2 JRN~"
+    return start + b"971 1 0~" * ((size - len(start)) // 8)
+
+
+def pickers():
+    """Eight assortments of 32 lengths in periods of one stem, each of which takes all grades but one."""
+    columns = b" ".join(b"%d" % (500 + 110 * k) for k in range(32))
+    some = b" ".join([b"%d"] * 7)
+    one = b"911 1 no%d~912 1 1~913 1 " + some + b"~914 1 1~915 1 0~915 2 2000~916 1 " + columns + b"~917 1 "
+    each = b" ".join(b"%d" % (400 + k) for k in range(32)) + b"~918 1 " + b" ".join([b"1"] * 32) + b"~"
+    all_of_them = b"".join(one % (k, *[g for g in range(1, 9) if g != k]) + each for k in range(1, 9))
+    return b"1 2 APT~901 1 10~902 1 1~903 1 0~910 1 8~" + all_of_them
+
+
+def kinds_of_wood(_source, _size):
+    """A stem for each set of grades and each of 16 diameters."""
+    stems = []
+    for at in range(255 * 16):
+        grades = [g for g in range(1, 9) if (at // 16 + 1) >> (g - 1) & 1]
+        zones = b" ".join(b"%d %d" % (k, g) for k, g in enumerate(grades))
+        samples = b" ".join([b"%d" % (100 + 80 * (at % 16))] * 41)
+        stems.append(b"951 1 %d~952 1 1~953 1 %s~954 1 %s~" % (at, samples, zones))
+    return b"1 2 STM~" + b"".join(stems)
+
+
 def blanks(_source, size):
     return b" " * size
 
@@ -239,6 +266,8 @@ COMMANDS = [
     ("a journal of a posting too many", CHECK, JUDGED, one_more, 0, f"journal fault 5 {POSTING_TOO_MANY}"),
     ("a journal of most demands", CHECK, JUDGED, demands, 0, f"LAWFUL {MOST_POSTINGS}"),
     ("a journal of longest sheets", CHECK, JUDGED, longest_sheets, 0, "replay fault 1 1"),
+    ("a journal of shortest sheets", CHECK, JUDGED, shortest_sheets, 0, "replay fault 1 0"),
+    ("a new sheet for each kind of wood", FLEET, just(pickers()), kinds_of_wood, 0, None),
 ]
 
 
