@@ -1,11 +1,12 @@
 #!/usr/bin/env python3
-"""Runs the tests of every crate under the checking interpreter, with no proofs: a quick look at a change.
+"""A look at your own change in some minutes: the tests of every crate and the worked cases, with no proofs.
 
     python3 checks/quick.py [--jobs N] [CRATE ..]
 
-It stops at an index out of bounds, an overflow, a failed assertion. It proves nothing: `rt ci` is the gate.
-Without names it takes every crate of crates.txt that has a #[test]. The last line is 'N passed, M failed', and the
-status is 0 where none failed.
+They run under the checking interpreter, which stops at an index out of bounds, an overflow, a failed assertion. It proves
+nothing: `rt ci` is the gate, and `rt verdict` and `rt must-fail NAME` are the gate for one crate. Without names it takes
+every crate of crates.txt that has a #[test], and run_cases. The last line is 'N passed, M failed', where a file of cases
+counts as one, and the status is 0 where none failed.
 """
 import argparse
 import concurrent.futures
@@ -15,6 +16,7 @@ import subprocess
 import sys
 
 TOP = os.path.dirname(os.path.dirname(os.path.abspath(__file__)))
+CASES = "run_cases"
 
 
 def crates():
@@ -33,6 +35,12 @@ def has_tests(crate):
     return False
 
 
+def counted_cases(text):
+    """How many files of cases have no difference, and how many have one; none where no file was run."""
+    found = [int(it) for it in re.findall(r"^\w+: \d+ cases, (\d+) differ$", text, re.M)]
+    return (found.count(0), len(found) - found.count(0)) if found else None
+
+
 def counted(text):
     """How many tests passed and failed, by the line that ends them; none where there is no such line."""
     found = re.search(r"^test result: \w+\. (\d+) passed; (\d+) failed", text, re.M)
@@ -40,11 +48,16 @@ def counted(text):
 
 
 def tried(crate):
-    run = subprocess.run(
-        ["rt", "try", "--test", "--seconds", "300"], cwd=os.path.join(TOP, "crates", crate), capture_output=True, text=True
-    )
+    folder = os.path.join(TOP, "crates", crate)
+    words = ["rt", "try", "--seconds", "300"]
+    if crate == CASES:
+        data = os.path.join(folder, "data")
+        words += [word for name in sorted(os.listdir(data)) for word in ("--data", f"{name}={os.path.join(data, name)}")]
+    else:
+        words += ["--test"]
+    run = subprocess.run(words, cwd=folder, capture_output=True, text=True)
     text = run.stdout + run.stderr
-    return crate, run.returncode, counted(text), text
+    return crate, run.returncode, counted_cases(text) if crate == CASES else counted(text), text
 
 
 def main():
@@ -52,7 +65,7 @@ def main():
     parser.add_argument("--jobs", type=int, default=2)
     parser.add_argument("crates", nargs="*", metavar="CRATE")
     args = parser.parse_args()
-    names = args.crates or [crate for crate in crates() if has_tests(crate)]
+    names = args.crates or [crate for crate in crates() if has_tests(crate) or crate == CASES]
     passed = failed = 0
     with concurrent.futures.ThreadPoolExecutor(args.jobs) as pool:
         for crate, status, counts, text in pool.map(tried, names):
