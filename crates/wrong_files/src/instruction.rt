@@ -1,0 +1,201 @@
+//! Wrong bodies of instructions and their reader.
+#![tactic(auto, unfolding(buck_record::specs::Record::numbers_of, buck_record::specs::Record::number_at_most, buck_record::specs::Record::item_of, buck_record::specs::Record::items_of, buck_record::specs::White::words, buck_record::specs::White::first_word, buck_record::specs::White::after_word, buck_record::specs::White::trim_start, buck_record::specs::White::trim_end, buck_record::specs::Reading::each_from, buck_record::specs::Table::rest_in, buck_record::specs::Table::groups_of, buck_record::specs::Rules::numbers_in, buck_record::specs::Check::each, buck_record::specs::Check::make_each, buck_apt::specs::Apt::apt_of, buck_apt::specs::Apt::group_present, buck_apt::specs::Apt::present, buck_apt::specs::Apt::group_single, buck_apt::specs::Apt::single, buck_apt::specs::Apt::numbers_or, buck_apt::specs::Apt::draft_of, buck_apt::specs::Apt::file_draft_of, buck_apt::specs::Apt::draft_range, buck_apt::specs::Apt::in_range, buck_apt::specs::Apt::draft_order, buck_apt::specs::Apt::in_order, buck_apt::specs::Apt::draft_count, buck_apt::specs::Apt::in_number, buck_apt::specs::Apt::on_module, buck_apt::specs::Apt::in_targets))]
+
+ghost use Rattle.std.specs.Prelude.{◌≡◌, ◌≢◌, ◌<◌, ◌+◌, ◌*◌, length, slice_get, slice_index, sum};
+ghost use Rattle.buck_apt.specs.Instruction.{IsClass, classes_before, place_in};
+
+use buck_apt::{AptFault, Assortment, Class, Instruction, read_apt};
+use std::alloc::Global;
+
+/// An instruction of one assortment with one class.
+const ONE_CLASS: &[u8] =
+    b"1 2 APT~901 1 100~902 1 7~903 1 500~910 1 1~911 1 SAW~912 1 1~913 1 1~914 1 2~915 1 100~915 2 900~916 1 3000~917 1 600~918 1 4~";
+
+/// An assortment's lower limit of 1,501 mm is let by.
+pub fn lower_limit_of_1501_accepted(alloc: Global) {
+    let right = read_apt(
+        alloc,
+        b"1 2 APT~901 1 100~902 1 7~903 1 500~910 1 1~911 1 SAW~912 1 1~913 1 1~914 1 2~915 1 1501~915 2 1600~916 1 3000~917 1 600~918 1 4~",
+    )
+    .is_ok();
+    let wrong = true;
+    prove!(right != wrong);
+}
+
+/// The first item of the head that is missing is the period.
+pub fn period_missing_before_module(alloc: Global) {
+    if let Err(fault) = read_apt(alloc, b"1 2 APT") {
+        let wrong = AptFault::Missing {
+            number: 902,
+            kind: 1,
+        };
+        prove!(fault != wrong);
+    }
+}
+
+/// A trim allowance that is left out is refused as a missing number.
+pub fn absent_trim_refused(alloc: Global) {
+    if let Err(fault) = read_apt(alloc, ONE_CLASS) {
+        let wrong = AptFault::Count {
+            number: 919,
+            kind: 1,
+        };
+        prove!(fault != wrong);
+    }
+}
+
+/// An instruction whose one assortment has two rows and two columns.
+const FOUR_CLASSES: &[u8] =
+    b"1 2 APT~901 1 100~902 1 7~903 1 500~910 1 1~911 1 SAW~912 1 1~913 1 1~914 1 2~915 1 100 200~915 2 900~916 1 3000 4000~917 1 600 700 800 900~918 1 4 5 6 7~";
+
+/// An instruction of two assortments, of two classes and of one.
+const TWO_ASSORTMENTS: &[u8] =
+    b"1 2 APT~901 1 100~902 1 7~903 1 500~910 1 2~911 1 SAW~912 1 1~913 1 1~914 1 2~915 1 100 200~915 2 900~916 1 3000~917 1 600 700~918 1 4 5~911 1 PULP~912 1 1~913 1 1~914 1 1~915 1 50~915 2 500~916 1 3000~917 1 200~918 1 0~";
+
+/// A member that stands before the first name is let by.
+pub fn items_before_the_first_name_accepted(alloc: Global) {
+    let right = read_apt(
+        alloc,
+        b"1 2 APT~901 1 100~902 1 7~903 1 500~910 1 1~919 1 0~911 1 SAW~912 1 1~913 1 1~914 1 2~915 1 100~915 2 900~916 1 3000~917 1 600~918 1 4~",
+    )
+    .is_ok();
+    let wrong = true;
+    prove!(right != wrong);
+}
+
+/// An item that stands twice in its assortment is let by.
+pub fn second_item_accepted(alloc: Global) {
+    let right = read_apt(
+        alloc,
+        b"1 2 APT~901 1 100~902 1 7~903 1 500~910 1 1~911 1 SAW~912 1 1~912 1 2~913 1 1~914 1 2~915 1 100~915 2 900~916 1 3000~917 1 600~918 1 4~",
+    )
+    .is_ok();
+    let wrong = true;
+    prove!(right != wrong);
+}
+
+/// A range is looked at before items that stand twice.
+pub fn range_before_twice(alloc: Global) {
+    if let Err(fault) = read_apt(
+        alloc,
+        b"1 2 APT~901 1 5~901 1 5~902 1 7~903 1 500~910 1 1~911 1 SAW~912 1 1~913 1 1~914 1 2~915 1 100~915 2 900~916 1 3000~917 1 600~918 1 4~",
+    ) {
+        let wrong = AptFault::Range {
+            number: 901,
+            kind: 1,
+        };
+        prove!(fault != wrong);
+    }
+}
+
+/// An instruction has no assortment.
+pub fn assortments_are_none(instruction: &Instruction) {
+    let right = instruction.assortments().len();
+    let wrong = 0;
+    prove!(right != wrong);
+}
+
+/// The classes are the rows.
+pub fn classes_are_rows(alloc: Global) {
+    let Ok(instruction) = read_apt(alloc, FOUR_CLASSES) else {
+        return;
+    };
+    if let Some(assortment) = instruction.assortments().first() {
+        let right = assortment.classes();
+        let wrong = assortment.diameters().len();
+        prove!(right != wrong);
+    }
+}
+
+/// A class's target for its price.
+pub fn price_is_target(assortment: &Assortment, row: usize, column: usize)
+    requires class { (row < length assortment.now.diameters) × (column < length assortment.now.lengths) }
+    requires differ { slice_index assortment.now.prices (row * length assortment.now.lengths + column)
+        ≢ slice_index assortment.now.targets (row * length assortment.now.lengths + column) }
+{
+    let right = assortment.price(row, column);
+    let wrong = assortment.target(row, column);
+    prove!(right != wrong);
+}
+
+/// The target of the row's first column.
+pub fn target_of_first_column(assortment: &Assortment, row: usize, column: usize)
+    requires class { (row < length assortment.now.diameters) × (column < length assortment.now.lengths) }
+    requires differ { slice_index assortment.now.targets (row * length assortment.now.lengths + column)
+        ≢ slice_index assortment.now.targets (row * length assortment.now.lengths) }
+{
+    let right = assortment.target(row, column);
+    let wrong = assortment.target(row, 0);
+    prove!(right != wrong);
+}
+
+/// The targets of an assortment together are nothing.
+pub fn targets_sum_is_nothing(assortment: &Assortment)
+    requires { 0 < sum assortment.now.targets }
+{
+    let right = assortment.targets_sum();
+    let wrong = 0;
+    prove!(right != wrong);
+}
+
+/// The classes of the first assortment are left out.
+pub fn classes_without_the_first_assortment(alloc: Global) {
+    let Ok(instruction) = read_apt(alloc, TWO_ASSORTMENTS) else {
+        return;
+    };
+    let right = instruction.classes();
+    let wrong = 1;
+    prove!(right != wrong);
+}
+
+/// The place of a class within its assortment alone.
+pub fn index_without_offset(instruction: &Instruction, class: Class, wrong: usize)
+    requires class { IsClass instruction.now class }
+    requires wrong { wrong ≡ place_in (slice_get instruction.now.assortments class.assortment) class.row class.column }
+    requires offset { classes_before instruction.now class.assortment ≢ 0 }
+{
+    let right = instruction.index(class);
+    prove!(right != wrong);
+}
+
+/// Two instructions are called equal though their assortments differ.
+pub fn same_by_number_of_assortments(one: &Instruction, other: &Instruction)
+    requires { one.now.assortments ≢ other.now.assortments }
+{
+    let right = one.same(other);
+    let wrong = true;
+    prove!(right != wrong);
+}
+
+/// Two assortments are called equal though their targets differ.
+pub fn same_without_targets(one: &Assortment, other: &Assortment)
+    requires { one.now.targets ≢ other.now.targets }
+{
+    let right = one.same(other);
+    let wrong = true;
+    prove!(right != wrong);
+}
+
+/// A copy's period is the limit.
+pub fn copy_of_another_period(alloc: Global, instruction: &Instruction)
+    requires { instruction.now.period ≢ instruction.now.limit }
+{
+    let Ok(copy) = instruction.copy(alloc) else {
+        return;
+    };
+    let right = copy.period();
+    let wrong = instruction.limit();
+    prove!(right != wrong);
+}
+
+/// A copy's targets are the prices.
+pub fn copy_without_targets(alloc: Global, assortment: &Assortment)
+    requires { assortment.now.targets ≢ assortment.now.prices }
+{
+    let Ok(copy) = assortment.copy(alloc) else {
+        return;
+    };
+    let right = copy.targets();
+    let wrong = assortment.prices();
+    prove!(right != wrong);
+}

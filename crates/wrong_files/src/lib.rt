@@ -1,0 +1,6 @@
+//! Wrong bodies of the readers of files, each proved wrong by a caller.
+#![tactic(auto)]
+
+pub mod instruction;
+pub mod record;
+pub mod stem;

@@ -1,0 +1,477 @@
+//! Wrong bodies of what reads items and numbers, and of what writes them.
+#![tactic(auto, unfolding(buck_record::specs::Record::number_of, buck_record::specs::Record::numbers_of, buck_record::specs::Record::number_at_most, buck_record::specs::Record::item_of, buck_record::specs::Record::items_of, buck_record::specs::White::words, buck_record::specs::White::first_word, buck_record::specs::White::after_word, buck_record::specs::White::trim_start, buck_record::specs::White::trim_end, buck_record::specs::Reading::each_from, buck_record::specs::Table::rest_in, buck_record::specs::Table::groups_of, buck_record::specs::Rules::numbers_in, buck_record::specs::Check::each, buck_record::specs::Check::make_each))]
+
+ghost use Rattle.std.specs.Prelude.{◌≡◌, ◌≤◌, ◌+◌, ◌*◌, [], ◌∷◌, nat_le, length, IsTrue, Ok};
+ghost use Rattle.std.specs.Vec.{vec_len, vec_capacity};
+ghost use Rattle.buck_record.specs.Check.{check, each, make_each, none_of};
+ghost use Rattle.buck_record.specs.Reading.{Gives, with_fault};
+ghost use Rattle.buck_record.specs.Record.{items_of};
+ghost use Rattle.buck_record.specs.Rules.{file_slot, numbers_in};
+ghost use Rattle.buck_record.specs.Table.{only_in};
+ghost use Rattle.buck_record.specs.declared.fault.RecordFault.TheVariants.{Memory, Head, Digits};
+
+use buck_record::check::{all_absent, check, each, is_there, make_each, none_of};
+use buck_record::rules::{FILE, all_within, is_rising, items_at, items_in, numbers_in, within};
+use buck_record::table::{count, front, groups, missing, rest, twice};
+use buck_record::{
+    Group, Listed, Piece, RecordFault, Slot, append_numbers, is_done, items, next_in, number,
+    numbers, numbers_into, pieces, pieces_at, put_line, put_number, wide,
+};
+use std::alloc::Global;
+
+const LOWER: Slot = Slot {
+    number: 915,
+    kind: 1,
+};
+
+const UPPER: Slot = Slot {
+    number: 915,
+    kind: 2,
+};
+
+/// Two items of one number, and of two kinds.
+const TWO_KINDS: [Piece<'static>; 2] = [
+    Piece {
+        number: 915,
+        kind: 1,
+        rest: b"100 200",
+    },
+    Piece {
+        number: 915,
+        kind: 2,
+        rest: b"900",
+    },
+];
+
+/// Three items, of which the first and the last stand in one slot.
+const TWO_OF_A_SLOT: [Piece<'static>; 3] = [
+    Piece {
+        number: 915,
+        kind: 1,
+        rest: b"100 200",
+    },
+    Piece {
+        number: 915,
+        kind: 2,
+        rest: b"900",
+    },
+    Piece {
+        number: 915,
+        kind: 1,
+        rest: b"300",
+    },
+];
+
+/// A piece of white bytes alone is taken for an item.
+pub fn pieces_empty_kept(alloc: Global) {
+    let right = pieces(alloc, b" ~1 2 APT");
+    if let Err(fault) = right {
+        let wrong = RecordFault::Head { item: 1 };
+        prove!(fault != wrong);
+    }
+}
+
+/// A kind past 65,535 is read.
+pub fn pieces_kind_65536_accepted(alloc: Global) {
+    let right = pieces(alloc, b"1 65536 APT").is_ok();
+    let wrong = true;
+    prove!(right != wrong);
+}
+
+/// A refusal names the item by its place among those that were kept.
+pub fn pieces_at_counts_only_the_kept(alloc: Global) {
+    let right = pieces_at(alloc, b"7 7 other~no head", &[FILE]);
+    if let Err(fault) = right {
+        let wrong = RecordFault::Head { item: 1 };
+        prove!(fault != wrong);
+    }
+}
+
+/// An item's number is its kind.
+pub fn items_kind_for_number(alloc: Global) {
+    let Ok(held) = items(alloc, b"915 2 900") else {
+        return;
+    };
+    if let Some(item) = held.first() {
+        let right = item.number;
+        let wrong = 2;
+        prove!(right != wrong);
+    }
+}
+
+/// The greatest number is refused.
+pub fn numbers_4294967295_refused(alloc: Global) {
+    let right = numbers(alloc, b"4294967295");
+    if let Err(fault) = right {
+        let wrong = RecordFault::Digits { place: 1 };
+        prove!(fault != wrong);
+    }
+}
+
+/// The last of four digits is dropped.
+pub fn last_digit_of_short_words_dropped(alloc: Global) {
+    let Ok(right) = numbers(alloc, b"1234 5") else {
+        return;
+    };
+    let wrong: &[u32] = &[123, 5];
+    prove!(right.as_slice() != wrong);
+}
+
+/// A comma ends a word.
+pub fn is_white_comma_too() {
+    let right = number(b"7,");
+    let wrong: Result<u32, RecordFault> = Ok(7);
+    prove!(right != wrong);
+}
+
+/// The second word of a text is passed over.
+pub fn number_second_word_ignored() {
+    let right = number(b"7 8");
+    let wrong: Result<u32, RecordFault> = Ok(7);
+    prove!(right != wrong);
+}
+
+/// A wide number is read up to 4,294,967,295 alone.
+pub fn wide_as_narrow_as_number() {
+    let right = wide(b"4294967296");
+    let wrong: Result<u64, RecordFault> = Err(RecordFault::Digits { place: 1 });
+    prove!(right != wrong);
+}
+
+/// What is left after an item is the whole text.
+pub fn next_in_leaves_the_whole_text(slot: Slot, text: &[u8]) {
+    if let Some((_, left)) = next_in(slot, text) {
+        let right = left.len();
+        let wrong = text.len();
+        prove!(right != wrong);
+    }
+}
+
+fn has_no_items(text: &[u8]) -> bool
+    ensures { IsTrue result → items_of text.now ≡ Ok [] }
+{
+    is_done(text)
+}
+
+/// A text with an item is said to have none.
+pub fn done_before_the_last_items() {
+    let right = has_no_items(b"1 2 APT");
+    let wrong = true;
+    prove!(right != wrong);
+}
+
+/// A colon, the byte after the 9, is read as a digit.
+pub fn ten_is_a_digit(held: &mut Vec<u16>)
+    requires { 2 * vec_len held.old + 17 ≤ 2 * vec_capacity held.old }
+{
+    let right = append_numbers(999, b"30: 300 300 300 ", held);
+    let wrong = true;
+    prove!(right != wrong);
+}
+
+/// A colon is read as a digit, into a list that is kept.
+pub fn ten_is_a_digit_of_a_kept_list(held: &mut Vec<u32>) {
+    let Ok(right) = numbers_into(b"30: 300 300 300 ", held) else {
+        return;
+    };
+    let wrong = true;
+    prove!(right != wrong);
+}
+
+/// Words of other forms than one to four digits are refused.
+pub fn other_words_refused(held: &mut Vec<u16>)
+    requires { 2 * vec_len held.old + 6 ≤ 2 * vec_capacity held.old }
+{
+    let right = append_numbers(999, b"00012", held);
+    let wrong = false;
+    prove!(right != wrong);
+}
+
+/// Such words are refused for a list that is kept.
+pub fn other_words_of_a_kept_list_refused(held: &mut Vec<u32>) {
+    let Ok(right) = numbers_into(b"00012", held) else {
+        return;
+    };
+    let wrong = false;
+    prove!(right != wrong);
+}
+
+/// A short word is read as the next number.
+pub fn short_words_of_a_kept_list_one_more(held: &mut Vec<u32>) {
+    let Ok(true) = numbers_into(b"12 900", held) else {
+        return;
+    };
+    let wrong: &[u32] = &[13, 900];
+    prove!(held.as_slice() != wrong);
+}
+
+/// Items are looked up by their number alone.
+pub fn count_without_kind() {
+    let right = count(&TWO_KINDS, LOWER);
+    let wrong = 2;
+    prove!(right != wrong);
+}
+
+/// Of two items in a slot the last is read.
+pub fn last_of_two() {
+    let right = rest(&TWO_OF_A_SLOT, LOWER);
+    let wrong = b"300".as_slice();
+    prove!(right != wrong);
+}
+
+/// A slot with one item is said to have none.
+pub fn missing_names_what_stands_once() {
+    let right = missing(&TWO_KINDS, &[LOWER, UPPER]);
+    let wrong = Some(LOWER);
+    prove!(right != wrong);
+}
+
+/// Two items in a slot are let by.
+pub fn twice_accepted() {
+    let right = twice(&TWO_OF_A_SLOT, &[LOWER]);
+    let wrong = None;
+    prove!(right != wrong);
+}
+
+/// The items before the first in a slot, and that one too.
+pub fn front_with_the_first() {
+    let right = front(&TWO_KINDS, UPPER).len();
+    let wrong = 2;
+    prove!(right != wrong);
+}
+
+/// A group goes up to the end, past the next item of its slot.
+pub fn groups_up_to_the_end(alloc: Global) {
+    let Ok(found) = groups(alloc, &TWO_OF_A_SLOT, LOWER) else {
+        return;
+    };
+    if let Some(group) = found.as_slice().first() {
+        let right = group.items().len();
+        let wrong = 3;
+        prove!(right != wrong);
+    }
+}
+
+/// The fault comes where the test holds.
+pub fn check_turned_around() {
+    let right = check(true, RecordFault::Memory);
+    let wrong = Err(RecordFault::Memory);
+    prove!(right != wrong);
+}
+
+fn place_of(slot: Slot) -> RecordFault
+    ensures { result ≡ Digits slot.number }
+{
+    RecordFault::Digits {
+        place: usize::from(slot.number),
+    }
+}
+
+fn none_found(found: Option<Slot>) -> Result<(), RecordFault>
+    ensures { result ≡ none_of found (λ number kind. Digits number) }
+{
+    none_of(found, place_of)
+}
+
+/// A slot that was found is let by.
+pub fn none_of_lets_by() {
+    let right = none_found(Some(UPPER));
+    let wrong = Ok(());
+    prove!(right != wrong);
+}
+
+fn at_most_8(number: u32) -> Result<(), RecordFault>
+    ensures { result ≡ check (nat_le number 8) (Digits number) }
+{
+    check(
+        number <= 8,
+        RecordFault::Digits {
+            place: number as usize,
+        },
+    )
+}
+
+fn each_at_most_8(numbers: &[u32]) -> Result<(), RecordFault>
+    ensures { result ≡ each (λ number. check (nat_le number 8) (Digits number)) numbers.now }
+{
+    each(numbers, |number| at_most_8(*number))
+}
+
+/// The fault of the last element that has one.
+pub fn each_names_the_last() {
+    let right = each_at_most_8(&[8, 9, 10]);
+    let wrong = Err(RecordFault::Digits { place: 10 });
+    prove!(right != wrong);
+}
+
+fn doubled(number: u32) -> Result<u64, RecordFault>
+    ensures { result ≡ Ok (2 * number) }
+{
+    Ok(2 * u64::from(number))
+}
+
+fn each_doubled(alloc: Global, numbers: &[u32]) -> Result<Listed<u64>, RecordFault>
+    ensures { Gives Memory result (make_each (λ number. Ok (2 * number)) numbers.now) }
+{
+    make_each(alloc, numbers, |number| doubled(*number))
+}
+
+/// What is made of the first element is left out.
+pub fn make_each_without_the_first(alloc: Global) {
+    let Ok(right) = each_doubled(alloc, &[1, 2]) else {
+        return;
+    };
+    let wrong: &[u64] = &[4];
+    prove!(right.as_slice() != wrong);
+}
+
+/// An item that stands once is said not to be there.
+pub fn is_there_only_if_twice() {
+    let right = is_there(&TWO_KINDS, UPPER);
+    let wrong = false;
+    prove!(right != wrong);
+}
+
+/// All are said to be absent where one is.
+pub fn all_absent_if_one_is() {
+    let right = all_absent(&[FILE, UPPER], &TWO_KINDS);
+    let wrong = true;
+    prove!(right != wrong);
+}
+
+fn head(item: usize) -> RecordFault
+    ensures { result ≡ Head item }
+{
+    RecordFault::Head { item }
+}
+
+fn items_of<'a>(alloc: Global, bytes: &'a [u8]) -> Result<Listed<Piece<'a>>, RecordFault>
+    ensures { Gives Memory result (with_fault (λ place. Head place) (items_of bytes.now)) }
+{
+    items_in(alloc, bytes, head)
+}
+
+/// A refusal names the item after the one with no head.
+pub fn items_in_fault_one_off(alloc: Global) {
+    if let Err(fault) = items_of(alloc, b"no head") {
+        let wrong = RecordFault::Head { item: 2 };
+        prove!(fault != wrong);
+    }
+}
+
+fn kind_of<'a>(alloc: Global, bytes: &'a [u8]) -> Result<Listed<Piece<'a>>, RecordFault>
+    ensures { Gives Memory result (with_fault (λ place. Head place) (only_in (file_slot ∷ []) (items_of bytes.now))) }
+{
+    items_at(alloc, bytes, &[FILE], head)
+}
+
+/// A refusal names the item after the one with no head.
+pub fn items_at_fault_one_off(alloc: Global) {
+    if let Err(fault) = kind_of(alloc, b"no head") {
+        let wrong = RecordFault::Head { item: 2 };
+        prove!(fault != wrong);
+    }
+}
+
+fn digits(_slot: Slot, place: usize) -> RecordFault
+    ensures { result ≡ Digits place }
+{
+    RecordFault::Digits { place }
+}
+
+#[tactic(auto)]
+fn numbers_of<'a>(
+    alloc: Global,
+    slot: Slot,
+    items: &'a [Piece<'a>],
+) -> Result<Listed<u32>, RecordFault>
+    ensures { Gives Memory result (numbers_in (λ number kind place. Digits place) slot items.now) }
+{
+    numbers_in(alloc, slot, items, digits)
+}
+
+/// The numbers of the kind of file, whatever slot is asked for.
+pub fn numbers_in_of_the_kind_of_file(alloc: Global) {
+    let Ok(right) = numbers_of(alloc, UPPER, &TWO_KINDS) else {
+        return;
+    };
+    let wrong: &[u32] = &[];
+    prove!(right.as_slice() != wrong);
+}
+
+/// The lowest number is left out.
+pub fn within_without_the_lowest() {
+    let right = within(1, 8, 1);
+    let wrong = false;
+    prove!(right != wrong);
+}
+
+/// The highest number is left out.
+pub fn all_within_without_the_highest() {
+    let right = all_within(1, 8, &[1, 8]);
+    let wrong = false;
+    prove!(right != wrong);
+}
+
+/// Two equal numbers are said to rise.
+pub fn is_rising_stands_still() {
+    let right = is_rising(&[1, 5, 5]);
+    let wrong = true;
+    prove!(right != wrong);
+}
+
+/// A number is written with a zero before it in the place of the blank.
+pub fn put_number_without_a_blank(alloc: Global) {
+    let mut out = Vec::new(alloc);
+    let Ok(()) = put_number(&mut out, 7) else {
+        return;
+    };
+    let wrong: &[u8] = b"07";
+    prove!(out.as_slice() != wrong);
+}
+
+/// A line has no line feed at its end.
+pub fn put_line_without_end(alloc: Global) {
+    let mut out = Vec::new(alloc);
+    let Ok(()) = put_line(&mut out, b"LAWFUL", &[2]) else {
+        return;
+    };
+    let wrong: &[u8] = b"LAWFUL 2";
+    prove!(out.as_slice() != wrong);
+}
+
+/// A list is turned around when it is taken over.
+pub fn listed_of_turned_around(alloc: Global) {
+    let Ok(held) = Vec::from_slice(alloc, &[1, 2, 3]) else {
+        return;
+    };
+    let list: Listed<u32> = Listed::of(held);
+    let wrong: &[u32] = &[3, 2, 1];
+    prove!(list.as_slice() != wrong);
+}
+
+/// The first half of a list is given for all of it.
+pub fn listed_slice_of_the_first_half(list: &Listed<u32>)
+    requires { 1 ≤ length list.now }
+{
+    let right = list.as_slice().len();
+    let wrong = list.len() / 2;
+    prove!(right != wrong);
+}
+
+/// A list is turned around when it is given back.
+pub fn into_vec_turned_around(alloc: Global) {
+    let Ok(held) = Vec::from_slice(alloc, &[1, 2, 3]) else {
+        return;
+    };
+    let right = Listed::of(held).into_vec();
+    let wrong: &[u32] = &[3, 2, 1];
+    prove!(right.as_slice() != wrong);
+}
+
+/// A group has the second half of its items.
+pub fn group_of_the_second_half() {
+    let right = Group::of(&TWO_KINDS).items().len();
+    let wrong = 1;
+    prove!(right != wrong);
+}

@@ -1,0 +1,321 @@
+//! Wrong bodies of stems, their profiles and their reader.
+#![tactic(auto, unfolding(buck_record::specs::Record::numbers_of, buck_record::specs::Record::number_at_most, buck_record::specs::Record::item_of, buck_record::specs::Record::items_of, buck_record::specs::White::words, buck_record::specs::White::first_word, buck_record::specs::White::after_word, buck_record::specs::White::trim_start, buck_record::specs::White::trim_end, buck_record::specs::Reading::each_from, buck_record::specs::Table::rest_in, buck_record::specs::Table::groups_of, buck_record::specs::Rules::numbers_in, buck_record::specs::Check::each, buck_record::specs::Check::make_each, buck_stem::specs::Stm::stm_of, buck_stem::specs::Stm::stem_present, buck_stem::specs::Stm::present, buck_stem::specs::Stm::stem_single, buck_stem::specs::Stm::single, buck_stem::specs::Stm::draft_of, buck_stem::specs::Stm::draft_range, buck_stem::specs::Stm::in_range, buck_stem::specs::Stm::draft_order, buck_stem::specs::Stm::in_order, buck_stem::specs::Stm::draft_count, buck_stem::specs::Stm::in_number, buck_stem::specs::Stm::parts_of))]
+
+ghost use Rattle.std.specs.Int.{bit_at};
+ghost use Rattle.std.specs.Prelude.{◌≡◌, ◌≢◌, ◌<◌, ◌≤◌, ◌+◌, ◌-◌, ◌*◌, ◌/◌, [], ◌∷◌, Contains, IfSome};
+ghost use Rattle.buck_stem.specs.Profile.{points_of, profile_of};
+ghost use Rattle.buck_stem.specs.Stem.{stem_of, stem_length, diameter_at, grade_at, HasGrade};
+
+use buck_stem::{Profile, ProfileLists, Stem, StemFault, StmFault, read_stm};
+use std::alloc::Global;
+
+/// Each file of stems is refused.
+pub fn always_refuses_read_stm(alloc: Global) {
+    if let Err(fault) = read_stm(alloc, b"1 2 STM~951 1 7~952 1 1~953 1 300 290~") {
+        let wrong = StmFault::NotStm;
+        prove!(fault != wrong);
+    }
+}
+
+/// A refusal names the item after the one with no head.
+pub fn head_of_the_next_item(alloc: Global) {
+    if let Err(fault) = read_stm(alloc, b"1 2 STM~no head~") {
+        let wrong = StmFault::Head { item: 3 };
+        prove!(fault != wrong);
+    }
+}
+
+/// Zones before the first stem number are let by.
+pub fn zones_before_the_first_number_accepted(alloc: Global) {
+    let right = read_stm(alloc, b"1 2 STM~954 1 500 2~951 1 7~952 1 1~953 1 300 290~").is_ok();
+    let wrong = true;
+    prove!(right != wrong);
+}
+
+/// A second item of zones is let by.
+pub fn second_item_of_zones_accepted(alloc: Global) {
+    let right = read_stm(
+        alloc,
+        b"1 2 STM~951 1 7~952 1 1~953 1 300 290~954 1 50 2~954 1 60 2~",
+    )
+    .is_ok();
+    let wrong = true;
+    prove!(right != wrong);
+}
+
+/// A range is looked at before items that stand twice.
+pub fn range_before_twice(alloc: Global) {
+    if let Err(fault) = read_stm(alloc, b"1 2 STM~951 1 7~952 1 0~952 1 0~953 1 300 290~") {
+        let wrong = StmFault::Range {
+            number: 952,
+            kind: 1,
+        };
+        prove!(fault != wrong);
+    }
+}
+
+/// A diameter of 1,501 mm is let by.
+pub fn diameter_of_1501_accepted(alloc: Global) {
+    let right = read_stm(alloc, b"1 2 STM~951 1 7~952 1 1~953 1 1501 290~").is_ok();
+    let wrong = true;
+    prove!(right != wrong);
+}
+
+/// Zones in any order are let by.
+pub fn zones_in_any_order_accepted(alloc: Global) {
+    let right = read_stm(
+        alloc,
+        b"1 2 STM~951 1 7~952 1 1~953 1 300 290~954 1 60 2 50 3~",
+    )
+    .is_ok();
+    let wrong = true;
+    prove!(right != wrong);
+}
+
+/// An item of zones is passed over.
+pub fn read_without_zones(alloc: Global) {
+    let Ok(stems) = read_stm(alloc, b"1 2 STM~951 1 7~952 1 1~953 1 300 290~954 1 50 2~") else {
+        return;
+    };
+    if let Some(stem) = stems.first() {
+        let right = stem.zones().len();
+        let wrong = 0;
+        prove!(right != wrong);
+    }
+}
+
+/// A stem that was read is lost.
+pub fn read_stem_lost(alloc: Global) {
+    let Ok(stems) = read_stm(
+        alloc,
+        b"1 2 STM~951 1 7~952 1 1~953 1 300 290~951 1 8~952 1 1~953 1 300~",
+    ) else {
+        return;
+    };
+    let right = stems.len();
+    let wrong = 1;
+    prove!(right != wrong);
+}
+
+fn stem(alloc: Global, samples: &[u16], zones: &[(u32, u8)]) -> Option<Stem>
+    ensures { IfSome result (λ stem. stem ≡ stem_of 7 1 samples.now zones.now) }
+{
+    let Ok(samples) = Vec::from_slice(alloc, samples) else {
+        return None;
+    };
+    let Ok(zones) = Vec::from_slice(alloc, zones) else {
+        return None;
+    };
+    match Stem::make(alloc, 7, 1, samples, zones) {
+        Ok(stem) => Some(stem),
+        Err(_) => None,
+    }
+}
+
+/// Parts within all limits are refused.
+pub fn make_refuses_a_stem(alloc: Global) {
+    let Ok(samples) = Vec::from_slice(alloc, &[300, 290]) else {
+        return;
+    };
+    if let Err(fault) = Stem::make(alloc, 7, 1, samples, Vec::new(alloc)) {
+        let wrong = StemFault::Limits;
+        prove!(fault != wrong);
+    }
+}
+
+/// A number past 65,535 is cut down.
+pub fn of_parts_number_of_16_bits(alloc: Global, stem: &Stem)
+    requires { 65535 < stem.now.number }
+{
+    let _valid = stem.length();
+    let Ok(zones) = Vec::from_slice(alloc, stem.zones()) else {
+        return;
+    };
+    let Ok(made) = Stem::of_parts(alloc, stem.number(), stem.species(), stem.samples(), zones)
+    else {
+        return;
+    };
+    let right = made.number();
+    let wrong = 65_535;
+    prove!(right != wrong);
+}
+
+/// The length counts the sample at the butt.
+pub fn length_of_all_samples(stem: &Stem) {
+    let right = stem.length() as usize;
+    let wrong = 100 * stem.samples().len();
+    prove!(right != wrong);
+}
+
+/// A sample is the least so far.
+pub fn samples_are_the_least_ones(alloc: Global) {
+    let Some(stem) = stem(alloc, &[300, 280, 290, 280, 280, 280, 280, 280], &[]) else {
+        return;
+    };
+    let right = stem.samples();
+    let wrong: &[u16] = &[300, 280, 280, 280, 280, 280, 280, 280];
+    prove!(right != wrong);
+}
+
+/// A stem of few samples loses its one zone.
+pub fn short_without_its_zones(alloc: Global) {
+    let Some(stem) = stem(alloc, &[300, 290], &[(50, 2)]) else {
+        return;
+    };
+    let right = stem.zones().len();
+    let wrong = 0;
+    prove!(right != wrong);
+}
+
+/// Two stems are called equal though their zones differ.
+pub fn same_without_zones(one: &Stem, other: &Stem)
+    requires { one.now.zones ≢ other.now.zones }
+{
+    let right = one.same(other);
+    let wrong = true;
+    prove!(right != wrong);
+}
+
+/// The sample itself, without the least so far.
+pub fn diameter_of_the_raw_sample(alloc: Global) {
+    let Some(stem) = stem(alloc, &[300, 280, 290], &[]) else {
+        return;
+    };
+    let right = stem.diameter_at(200);
+    let wrong = 290;
+    prove!(right != wrong);
+}
+
+/// The least so far passes over the last of 16 samples.
+pub fn running_least_without_the_last(alloc: Global) {
+    let Some(stem) = stem(
+        alloc,
+        &[
+            300, 300, 300, 300, 300, 300, 300, 300, 300, 300, 300, 300, 300, 300, 300, 280, 290,
+        ],
+        &[],
+    ) else {
+        return;
+    };
+    let right = stem.diameter_at(1600);
+    let wrong = 290;
+    prove!(right != wrong);
+}
+
+/// The least so far starts below 1,500 mm.
+pub fn short_samples_below_1500(alloc: Global) {
+    let Some(stem) = stem(alloc, &[1500], &[]) else {
+        return;
+    };
+    let right = stem.diameter_at(0);
+    let wrong = 1499;
+    prove!(right != wrong);
+}
+
+/// A zone begins after its start.
+pub fn grade_in_after_its_start(alloc: Global) {
+    let Some(stem) = stem(alloc, &[300, 290], &[(50, 2)]) else {
+        return;
+    };
+    let right = stem.grade_at(50);
+    let wrong = 1;
+    prove!(right != wrong);
+}
+
+/// The grade at the first place stands for all: a mask without the grade of some place.
+pub fn grade_at_start_alone(stem: &Stem, a: u32, b: u32, x: u32, wrong: u8)
+    requires place { (a ≤ x) × (x < b) }
+    requires lacks { bit_at wrong (grade_at stem.now.zones x - 1) ≢ 1 }
+{
+    let _grade = stem.grade_at(x);
+    let right = stem.grades_between(a, b);
+    prove!(right != wrong);
+}
+
+/// The grade at the first place stands for all, where a zone begins between two samples.
+pub fn grade_at_start_alone_of_a_zone(alloc: Global) {
+    let Some(stem) = stem(alloc, &[300, 290], &[(50, 2)]) else {
+        return;
+    };
+    grade_at_start_alone(&stem, 0, 100, 50, 1);
+}
+
+/// The grade at the first place is looked at, and no other.
+pub fn grade_at_start_alone_fitting(stem: &Stem, a: u32, b: u32, x: u32, grades: &[u8])
+    requires place { (a ≤ x) × (x < b) }
+    requires lacks { Contains grades.now (grade_at stem.now.zones x) → ⊥ }
+{
+    let right = stem.has_grades_of(a, b, grades);
+    let wrong = true;
+    prove!(right != wrong);
+}
+
+/// The butt isn't counted among the points.
+pub fn points_without_the_butt(profile: &Profile<'_>, wrong: usize)
+    requires { wrong ≡ stem_length profile.now.stem.samples / profile.now.module }
+{
+    let right = profile.points();
+    prove!(right != wrong);
+}
+
+/// The diameter at an earlier point.
+pub fn diameter_of_an_earlier_point(profile: &Profile<'_>, i: usize, earlier: usize)
+    requires points { (earlier < i) × (i < points_of profile.now) }
+    requires differ { diameter_at profile.now.stem.samples (earlier * profile.now.module)
+        ≢ diameter_at profile.now.stem.samples (i * profile.now.module) }
+{
+    let right = profile.diameter(i);
+    let wrong = profile.diameter(earlier);
+    prove!(right != wrong);
+}
+
+/// Between two samples the line is gone along half as far.
+pub fn diameters_of_half_the_places(profile: &Profile<'_>)
+    requires { profile.now ≡ profile_of (stem_of 7 1 (300 ∷ 280 ∷ []) []) 50 }
+{
+    let right = profile.diameter(1);
+    let wrong = 295;
+    prove!(right != wrong);
+}
+
+/// A diameter of an earlier profile is kept.
+pub fn make_with_keeps_a_diameter(lists: ProfileLists, stem: &Stem)
+    requires { stem_length stem.now.samples ≡ 100 }
+{
+    let Ok(profile) = Profile::make_with(lists, stem, 100) else {
+        return;
+    };
+    let right = profile.diameters().len();
+    let wrong = 3;
+    prove!(right != wrong);
+}
+
+/// The grades from an earlier point on: a mask with a grade that no place has.
+pub fn grades_from_an_earlier_point(profile: &Profile<'_>, i: usize, j: usize, grade: u8, wrong: u8)
+    requires points { (i ≤ j) × (j < points_of profile.now) }
+    requires shows { (1 ≤ grade) × (bit_at wrong (grade - 1) ≡ 1) }
+    requires none { HasGrade profile.now.stem.zones (i * profile.now.module) (j * profile.now.module) grade → ⊥ }
+{
+    let right = profile.grades(i, j);
+    prove!(right != wrong);
+}
+
+/// The grades of an earlier step: a mask with a grade that no place of the step has.
+pub fn step_grades_of_an_earlier_step(profile: &Profile<'_>, i: usize, grade: u8, wrong: u8)
+    requires points { i + 1 < points_of profile.now }
+    requires shows { (1 ≤ grade) × (bit_at wrong (grade - 1) ≡ 1) }
+    requires none { HasGrade profile.now.stem.zones (i * profile.now.module) ((i + 1) * profile.now.module) grade → ⊥ }
+{
+    let right = profile.step_grades(i);
+    prove!(right != wrong);
+}
+
+/// The first step of an earlier run: a step with a grade that step `i` hasn't.
+pub fn run_start_of_an_earlier_run(profile: &Profile<'_>, i: usize, grade: u8, wrong: usize)
+    requires points { (wrong ≤ i) × (i + 1 < points_of profile.now) }
+    requires shows { (1 ≤ grade) × HasGrade profile.now.stem.zones (wrong * profile.now.module) ((wrong + 1) * profile.now.module) grade }
+    requires none { HasGrade profile.now.stem.zones (i * profile.now.module) ((i + 1) * profile.now.module) grade → ⊥ }
+{
+    let right = profile.run_start(i);
+    prove!(right != wrong);
+}
