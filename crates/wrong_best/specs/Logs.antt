@@ -1,9 +1,9 @@
 -- What the conditions of this crate say of a log.
-use Rattle.std.specs.Prelude.{◌≡◌, ◌≢◌, ℕ, ◌+◌, ◌*◌, slice_get, slice_index, Some}
+use Rattle.std.specs.Prelude.{◌≡◌, ◌≢◌, ℕ, slice_get, Some}
 use Rattle.buck_apt.specs.Instruction.{AssortmentParts}
-use Rattle.buck_stem.specs.Stem.{StemParts, diameter_at}
+use Rattle.buck_stem.specs.Stem.{StemParts}
 use Rattle.buck_value.specs.declared.log.Log.{Log}
-use Rattle.buck_value.specs.Sheet.{SheetParts, price_of, base_prices}
+use Rattle.buck_value.specs.Sheet.{SheetParts, price_of}
 use Rattle.buck_value.specs.Volume.{volume, worth_at}
 use Rattle.buck_value.specs.Allowed.{row_at, top_diameter, class_of, kind_in}
 
