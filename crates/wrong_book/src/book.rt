@@ -1,5 +1,5 @@
 //! Wrong answers of books.
-ghost use Rattle.std.specs.Prelude.{◌≡◌, ◌≢◌, ℕ, ◌+◌, ◌<◌, ◌≤◌, [], ◌∷◌, None, Some, length, slice_index};
+ghost use Rattle.std.specs.Prelude.{◌≡◌, ◌≢◌, ℕ, ◌+◌, ◌<◌, ◌≤◌, ◌↔◌, IsTrue, [], ◌∷◌, None, Some, length, slice_index};
 ghost use Rattle.std.specs.Fn.{FnReturnsAt};
 ghost use Rattle.buck_apt.specs.Instruction.{IsClass, classes, index_of};
 ghost use Rattle.buck_rule.specs.Stored.{Answers};
@@ -76,7 +76,8 @@ pub fn counts_stale_attempts<F: Fn(&Standing) -> u64 + Drop>(
     book: &mut Book<F>,
     plan: &Plan,
     class: Class,
-) requires answers { Answers F.Fn book.old.rule }
+)
+    requires answers { Answers F.Fn book.old.rule }
     requires class { IsClass book.old.history.instruction class }
     requires stale { plan.now.sheet ≢ in_force book.old.history }
 {
@@ -147,7 +148,8 @@ pub fn prepare_past_capacity<F: Fn(&Standing) -> u64 + Drop>(
     alloc: Global,
     book: &mut Book<F>,
     plan: &Plan,
-) requires answers { Answers F.Fn book.old.rule }
+)
+    requires answers { Answers F.Fn book.old.rule }
     requires full { length book.old.history.postings ≡ book.old.capacity }
 {
     let right = book.prepare(alloc, plan).is_ok();
@@ -160,7 +162,8 @@ pub fn prepare_unchecked<F: Fn(&Standing) -> u64 + Drop>(
     alloc: Global,
     book: &mut Book<F>,
     plan: &Plan,
-) requires answers { Answers F.Fn book.old.rule }
+)
+    requires answers { Answers F.Fn book.old.rule }
     requires stale { plan.now.sheet ≢ in_force book.old.history }
 {
     let right = book.prepare(alloc, plan).is_ok();
@@ -173,7 +176,8 @@ pub fn prepare_by_version<F: Fn(&Standing) -> u64 + Drop>(
     alloc: Global,
     book: &mut Book<F>,
     plan: &Plan,
-) requires answers { Answers F.Fn book.old.rule }
+)
+    requires answers { Answers F.Fn book.old.rule }
     requires version { plan.now.sheet.version ≡ version_of book.old.history }
     requires stale { plan.now.sheet ≢ in_force book.old.history }
 {
@@ -187,7 +191,8 @@ pub fn prepare_stale_before_full<F: Fn(&Standing) -> u64 + Drop>(
     alloc: Global,
     book: &mut Book<F>,
     plan: &Plan,
-) requires answers { Answers F.Fn book.old.rule }
+)
+    requires answers { Answers F.Fn book.old.rule }
     requires full { length book.old.history.postings ≡ book.old.capacity }
 {
     let refused = book.prepare(alloc, plan);
@@ -201,7 +206,8 @@ pub fn full_below_the_capacity<F: Fn(&Standing) -> u64 + Drop>(
     alloc: Global,
     book: &mut Book<F>,
     plan: &Plan,
-) requires answers { Answers F.Fn book.old.rule }
+)
+    requires answers { Answers F.Fn book.old.rule }
     requires below { length book.old.history.postings < book.old.capacity }
 {
     let refused = book.prepare(alloc, plan);
@@ -215,7 +221,8 @@ pub fn fresh_plan_is_stale<F: Fn(&Standing) -> u64 + Drop>(
     alloc: Global,
     book: &mut Book<F>,
     plan: &Plan,
-) requires answers { Answers F.Fn book.old.rule }
+)
+    requires answers { Answers F.Fn book.old.rule }
     requires fresh { plan.now.sheet ≡ in_force book.old.history }
 {
     let refused = book.prepare(alloc, plan);
@@ -229,7 +236,8 @@ pub fn stale_carries_plans_sheet<F: Fn(&Standing) -> u64 + Drop>(
     alloc: Global,
     book: &mut Book<F>,
     plan: &Plan,
-) requires answers { Answers F.Fn book.old.rule }
+)
+    requires answers { Answers F.Fn book.old.rule }
 {
     let Err(Refusal::Stale { in_force }) = book.prepare(alloc, plan) else {
         return;
@@ -261,11 +269,16 @@ pub fn next_sheet_without_new_entry<F: Fn(&Standing) -> u64 + Drop>(
     requires class { IsClass book.old.history.instruction class }
     requires wrong { IsNoAnswerWith F.Fn book.old plan.now class wrong }
 {
+    let place = book.instruction().index(class);
     let ready = book.prepare(alloc, plan)?;
     let Some(sheet) = ready.next_sheet() else {
         return Ok(());
     };
-    let right = sheet.price(class);
+    let prices = sheet.prices();
+    if place >= prices.len() {
+        return Ok(());
+    }
+    let right = prices[place];
     prove!(right != wrong);
     Ok(())
 }
@@ -283,8 +296,13 @@ pub fn sheet_of_demand_by_targets_before<F: Fn(&Standing) -> u64 + Drop>(
     requires class { IsClass book.old.history.instruction class }
     requires wrong { IsNoAnswerWithDemand F.Fn book.old targets.now.value.items class wrong }
 {
+    let place = book.instruction().index(class);
     let ready = book.prepare_demand(alloc, targets)?;
-    let right = ready.next_sheet().price(class);
+    let prices = ready.next_sheet().prices();
+    if place >= prices.len() {
+        return Ok(());
+    }
+    let right = prices[place];
     prove!(right != wrong);
     Ok(())
 }
@@ -294,7 +312,8 @@ pub fn demand_past_capacity<F: Fn(&Standing) -> u64 + Drop>(
     alloc: Global,
     book: &mut Book<F>,
     targets: &Arc<Vec<u32>>,
-) requires answers { Answers F.Fn book.old.rule }
+)
+    requires answers { Answers F.Fn book.old.rule }
     requires full { length book.old.history.postings ≡ book.old.capacity }
 {
     let right = book.prepare_demand(alloc, targets).is_ok();
@@ -307,7 +326,8 @@ pub fn demand_unchecked<F: Fn(&Standing) -> u64 + Drop>(
     alloc: Global,
     book: &mut Book<F>,
     targets: &Arc<Vec<u32>>,
-) requires answers { Answers F.Fn book.old.rule }
+)
+    requires answers { Answers F.Fn book.old.rule }
     requires not_valid { AreTargets book.old.history.instruction targets.now.value.items → ⊥ }
 {
     let right = book.prepare_demand(alloc, targets).is_ok();
@@ -320,7 +340,8 @@ pub fn demand_targets_before_full<F: Fn(&Standing) -> u64 + Drop>(
     alloc: Global,
     book: &mut Book<F>,
     targets: &Arc<Vec<u32>>,
-) requires answers { Answers F.Fn book.old.rule }
+)
+    requires answers { Answers F.Fn book.old.rule }
     requires full { length book.old.history.postings ≡ book.old.capacity }
 {
     let refused = book.prepare_demand(alloc, targets);
@@ -364,11 +385,8 @@ pub fn range_before_count(instruction: &Instruction, targets: &[u32])
 }
 
 /// The entry that is answered stands for an older one: the history is as long as before.
-pub fn commit_replaces_entry<F: Drop>(
-    book: &mut Book<F>,
-    ready: Ready,
-    plan: Plan,
-) requires { IsReadyFor book.old ready plan }
+pub fn commit_replaces_entry<F: Drop>(book: &mut Book<F>, ready: Ready, plan: Plan)
+    requires { IsReadyFor book.old ready plan }
 {
     let wrong = book.len();
     let _entry = book.commit(ready, 1, plan);
@@ -464,12 +482,19 @@ pub fn posting_same_by_number(one: &Posting, two: &Posting)
     prove!(right != wrong);
 }
 
+/// Whether a list has no logs.
+fn is_empty(logs: &[Log]) -> bool
+    ensures { IsTrue result ↔ (logs.now ≡ []) }
+{
+    logs.is_empty()
+}
+
 /// A plan has no logs, though one that is worth something may be cut.
 pub fn plan_without_logs(plan: &Plan, log: &Log)
     requires allowed { IsAllowed plan.now.sheet.instruction plan.now.stem log.now }
     requires dear { 0 < worth_of plan.now.sheet plan.now.stem log.now }
 {
-    let right = plan.cutting().logs.is_empty();
+    let right = is_empty(plan.cutting().logs.as_slice());
     let wrong = true;
     prove!(right != wrong);
 }

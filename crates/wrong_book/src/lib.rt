@@ -5,4 +5,5 @@
 //! says where the wrong body would answer otherwise.
 #![tactic(auto)]
 
+pub mod book;
 pub mod rule;
