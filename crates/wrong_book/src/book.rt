@@ -4,7 +4,7 @@ ghost use Rattle.std.specs.Fn.{FnReturnsAt};
 ghost use Rattle.buck_apt.specs.Instruction.{IsClass, classes, index_of};
 ghost use Rattle.buck_rule.specs.Stored.{Answers};
 ghost use Rattle.buck_value.specs.Allowed.{IsAllowed, worth_of};
-ghost use Rattle.buck_book.specs.Posting.{opening_targets, targets_of};
+ghost use Rattle.buck_book.specs.Posting.{opening_targets, targets_of, cuts_since_end};
 ghost use Rattle.buck_book.specs.Targets.{AreTargets};
 ghost use Rattle.buck_book.specs.Counts.{count_of, assortment_count_of, calls_of};
 ghost use Rattle.buck_book.specs.History.{in_force, version_of};
@@ -519,6 +519,83 @@ pub fn plan_of_another_stem(
 {
     let plan = Plan::make(alloc, sheet, stem)?;
     let right = plan.stem().same(wrong);
+    let wrong = true;
+    prove!(right != wrong);
+    Ok(())
+}
+
+/// A demand ends no period: the version stays.
+pub fn targets_without_end<F: Fn(&Standing) -> u64 + Drop>(
+    alloc: Global,
+    instruction: Arc<Instruction>,
+    rule: Rule<F>,
+    targets: &Arc<Vec<u32>>,
+) -> Result<(), DemandRefusal>
+    requires { Answers F.Fn rule }
+{
+    let mut book = Book::open(alloc, instruction, rule, 10)?;
+    let ready = book.prepare_demand(alloc, targets)?;
+    let _demand = book.commit_demand(ready, 1);
+    let right = book.version();
+    let wrong = 0;
+    prove!(right != wrong);
+    Ok(())
+}
+
+/// A next sheet at each stem, whatever the period.
+
+pub fn next_sheet_at_each_stem<F: Fn(&Standing) -> u64 + Drop>(
+    alloc: Global,
+    book: &mut Book<F>,
+    plan: &Plan,
+) -> Result<(), Refusal>
+    requires answers { Answers F.Fn book.old.rule }
+    requires within { cuts_since_end book.old.history.instruction book.old.history.postings + 1
+        < book.old.history.instruction.period }
+{
+    let ready = book.prepare(alloc, plan)?;
+    let right = ready.next_sheet().is_some();
+    let wrong = true;
+    prove!(right != wrong);
+    Ok(())
+}
+
+/// No next sheet at the end of a period.
+pub fn no_next_sheet<F: Fn(&Standing) -> u64 + Drop>(
+    alloc: Global,
+    book: &mut Book<F>,
+    plan: &Plan,
+) -> Result<(), Refusal>
+    requires answers { Answers F.Fn book.old.rule }
+    requires last { cuts_since_end book.old.history.instruction book.old.history.postings + 1
+        ≡ book.old.history.instruction.period }
+{
+    let ready = book.prepare(alloc, plan)?;
+    let right = ready.next_sheet().is_none();
+    let wrong = true;
+    prove!(right != wrong);
+    Ok(())
+}
+
+/// A demand counts as the first cut of the period that begins with it.
+pub fn demand_counts_towards_period<F: Fn(&Standing) -> u64 + Drop>(
+    alloc: Global,
+    instruction: Arc<Instruction>,
+    rule: Rule<F>,
+    targets: &Arc<Vec<u32>>,
+    stem: Arc<Stem>,
+) -> Result<(), DemandRefusal>
+    requires answers { Answers F.Fn rule }
+    requires two { instruction.value.period ≡ 2 }
+{
+    let mut book = Book::open(alloc, instruction, rule, 10)?;
+    let ready = book.prepare_demand(alloc, targets)?;
+    let _demand = book.commit_demand(ready, 1);
+    let plan = Plan::make(alloc, book.sheet().clone()?, stem)?;
+    let Ok(ready) = book.prepare(alloc, &plan) else {
+        return Ok(());
+    };
+    let right = ready.next_sheet().is_some();
     let wrong = true;
     prove!(right != wrong);
     Ok(())
