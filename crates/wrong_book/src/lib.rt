@@ -6,5 +6,6 @@
 #![tactic(auto)]
 
 pub mod book;
+pub mod reading;
 pub mod rule;
 pub mod walk;
