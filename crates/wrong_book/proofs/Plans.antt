@@ -1,5 +1,5 @@
 -- What the first of the best isn't.
-use Rattle.std.proofs.Common.{◌≡◌, ℕ, ◌<◌, ◌≤◌, List, [], ◌∷◌, Option, None, Some, refl, subst, arith, rules}
+use Rattle.std.proofs.Common.{◌≡◌, ◌<◌, List, [], ◌∷◌, Option, None, Some, refl, subst, arith, rules}
 use Rattle.buck_apt.specs.Instruction.{InstructionParts}
 use Rattle.buck_book.specs.declared.posting.Posting.{Posting}
 use Rattle.buck_book.specs.declared.posting.Posting.TheVariants.{Cut, Demand}
@@ -10,7 +10,7 @@ use Rattle.buck_stem.specs.Stem.{StemParts}
 use Rattle.buck_value.specs.declared.log.Log.{Log}
 use Rattle.buck_value.specs.Sheet.{SheetParts}
 use Rattle.buck_value.specs.Allowed.{IsAllowed, worth_of}
-use Rattle.buck_dp.specs.Best.{IsFirstBest, cutting_worth}
+use Rattle.buck_dp.specs.Best.{IsFirstBest}
 
 -- no log, where one that is worth something is allowed
 pub not_empty : (sheet : SheetParts) (stem : StemParts) (logs : List Log) (g : Log)

@@ -7,5 +7,7 @@
 
 pub mod book;
 pub mod reading;
+pub mod replaying;
 pub mod rule;
 pub mod walk;
+pub mod writing;

@@ -1,6 +1,5 @@
-use Rattle.std.proofs.Common.{◌≡◌, [], ◌∷◌, None, arith, rules}
+use Rattle.std.proofs.Common.{◌≡◌, [], ◌∷◌, None, rules}
 use Rattle.buck_book.specs.declared.posting.Posting.TheVariants.{Cut, Demand}
-use Rattle.buck_book.specs.History.{IsEnd}
 use Rattle.buck_book.specs.Book.{entry_of}
 use Rattle.wrong_book.proofs.Plans.{no_sheet, no_end_after_demand}
 use Rattle.wrong_book.proofs.book.demand_counts_towards_period.Goals as goal
