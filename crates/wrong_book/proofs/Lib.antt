@@ -1,0 +1,4 @@
+pub mod Plans
+pub mod Read
+pub mod Lawful
+pub mod Texts

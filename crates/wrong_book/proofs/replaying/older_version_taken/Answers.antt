@@ -1,0 +1,13 @@
+use Rattle.std.proofs.Common.{[], arith, rules}
+use Rattle.buck_book.specs.declared.posting.Posting.TheVariants.{Cut, Demand}
+use Rattle.buck_book.specs.History.{IsLawful}
+use Rattle.wrong_book.proofs.Lawful.{made, told, second_follows}
+use Rattle.wrong_book.proofs.replaying.older_version_taken.Goals as goal
+
+pub prove-unreachable-requires : goal.prove-unreachable-requires
+prove-unreachable-requires c =
+    let i = c.args.instruction.now.value in
+    let sheets = c.args.journal.now.sheets in
+    let lawful : IsLawful (made i sheets c.args.journal.now.entries) = search rules in
+    let follows = second_follows i sheets (Demand c.args.demand.now) (Cut c.args.entry.now) [] (told i sheets _ _ c.requires.both lawful) in
+    omega (arith, follows.version_in_force, c.requires.version)

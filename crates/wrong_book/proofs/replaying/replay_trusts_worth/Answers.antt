@@ -1,0 +1,14 @@
+use Rattle.std.proofs.Common.{[], arith, rules}
+use Rattle.buck_book.specs.declared.posting.Posting.TheVariants.{Cut}
+use Rattle.buck_book.specs.History.{IsLawful}
+use Rattle.wrong_book.proofs.Lawful.{made, told, first_follows}
+use Rattle.wrong_book.proofs.replaying.replay_trusts_worth.Goals as goal
+
+pub prove-unreachable-requires : goal.prove-unreachable-requires
+prove-unreachable-requires c =
+    let i = c.args.instruction.now.value in
+    let sheets = c.args.journal.now.sheets in
+    let lawful : IsLawful (made i sheets c.args.journal.now.entries) = search rules in
+    let follows = first_follows i sheets (Cut c.args.entry.now) [] (told i sheets _ _ c.requires.only lawful) in
+    let most = follows.holds.0.none_outvalues c.args.dearer.now.logs.items c.requires.admissible in
+    omega (arith, most, c.requires.more)

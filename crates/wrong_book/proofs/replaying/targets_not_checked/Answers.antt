@@ -1,0 +1,13 @@
+use Rattle.std.proofs.Common.{[], rules}
+use Rattle.buck_book.specs.declared.posting.Posting.TheVariants.{Demand}
+use Rattle.buck_book.specs.History.{IsLawful}
+use Rattle.wrong_book.proofs.Lawful.{made, told, first_follows}
+use Rattle.wrong_book.proofs.replaying.targets_not_checked.Goals as goal
+
+pub prove-unreachable-requires : goal.prove-unreachable-requires
+prove-unreachable-requires c =
+    let i = c.args.instruction.now.value in
+    let sheets = c.args.journal.now.sheets in
+    let lawful : IsLawful (made i sheets c.args.journal.now.entries) = search rules in
+    let follows = first_follows i sheets (Demand c.args.demand.now) [] (told i sheets _ _ c.requires.only lawful) in
+    c.requires.not_valid follows.holds

@@ -1,0 +1,123 @@
+//! Wrong answers of price rules.
+use buck_rule::{Rule, Standing, linear, meets, steady, step};
+
+/// A class under its target: one piece of four is wanted, and one log of another class was cut.
+const UNDER: Standing = Standing {
+    base: 600,
+    limit: 500,
+    target: 1,
+    targets: 4,
+    count: 0,
+    counts: 1,
+};
+
+/// The same class over its target: it is the one that was cut.
+const OVER: Standing = Standing {
+    base: 600,
+    limit: 500,
+    target: 1,
+    targets: 4,
+    count: 1,
+    counts: 1,
+};
+
+/// The same class on its target: one of four logs is of it.
+const EVEN: Standing = Standing {
+    base: 600,
+    limit: 500,
+    target: 1,
+    targets: 4,
+    count: 1,
+    counts: 4,
+};
+
+/// A class over its target whose span is 1.
+const CHEAP: Standing = Standing {
+    base: 3,
+    limit: 500,
+    target: 1,
+    targets: 4,
+    count: 1,
+    counts: 1,
+};
+
+/// The base price in the place of what the closure answers.
+pub fn closure_not_asked() {
+    let standing = UNDER;
+    let rule = Rule::new(|s: &Standing| step(s));
+    let right = rule.answer(&standing);
+    let wrong = 600;
+    prove!(right != wrong);
+}
+
+/// The steady price is the base price and its span.
+pub fn steady_by_span() {
+    let standing = UNDER;
+    let right = steady(&standing);
+    let wrong = 900;
+    prove!(right != wrong);
+}
+
+/// A step down for a class under its target.
+pub fn step_under_and_over_swapped() {
+    let standing = UNDER;
+    let right = step(&standing);
+    let wrong = 300;
+    prove!(right != wrong);
+}
+
+/// A step up for a class over its target.
+pub fn step_over_and_under_swapped() {
+    let standing = OVER;
+    let right = step(&standing);
+    let wrong = 900;
+    prove!(right != wrong);
+}
+
+/// The part over the target is taken of both shares together.
+pub fn linear_of_wrong_whole() {
+    let standing = OVER;
+    let right = linear(&standing);
+    let wrong = 600 - 300 * (4 - 1) / (4 + 1);
+    prove!(right != wrong);
+}
+
+/// The part of the span is rounded up.
+pub fn linear_rounded_up() {
+    let standing = CHEAP;
+    let right = linear(&standing);
+    let wrong = 2;
+    prove!(right != wrong);
+}
+
+/// Under the target one price more is let in than the span reaches.
+pub fn meets_wide_above_the_span() {
+    let standing = UNDER;
+    let right = meets(&standing, 901);
+    let wrong = true;
+    prove!(right != wrong);
+}
+
+/// The upper end of the span is left out.
+pub fn meets_without_the_end_of_the_span() {
+    let standing = UNDER;
+    let right = meets(&standing, 900);
+    let wrong = false;
+    prove!(right != wrong);
+}
+
+/// On the target a lower price is let in.
+pub fn meets_wide_on_target() {
+    let standing = EVEN;
+    let right = meets(&standing, 599);
+    let wrong = true;
+    prove!(right != wrong);
+}
+
+/// Over the target a price above the base price is let in.
+pub fn meets_upwards_over_its_target() {
+    let standing = OVER;
+    let right = meets(&standing, 601);
+    let wrong = true;
+    prove!(right != wrong);
+}

@@ -1,0 +1,112 @@
+//! Wrong answers of a way through the postings of a history.
+ghost use Rattle.std.specs.Prelude.{◌≡◌, ◌≢◌, ◌+◌, ◌<◌, ◌≤◌, [], ◌∷◌, length};
+ghost use Rattle.buck_apt.specs.Instruction.{classes};
+ghost use Rattle.buck_book.specs.Posting.{cuts_since_end};
+ghost use Rattle.buck_book.specs.Counts.{calls_of};
+ghost use Rattle.buck_book.specs.History.{PricesMeet};
+ghost use Rattle.buck_book.specs.Targets.{AreTargets};
+ghost use Rattle.buck_book.specs.Walk.{passed};
+ghost use Rattle.wrong_book.specs.Books.{IsRightPriceAt};
+
+use buck_apt::Instruction;
+use buck_book::{Demand, Memory, Posting, Walk};
+use buck_value::Sheet;
+use std::alloc::Global;
+
+/// No period begins at the opening.
+pub fn begins_after_a_cut(alloc: Global, instruction: &Instruction) -> Result<(), Memory> {
+    let walk = Walk::opening(alloc, instruction, &[])?;
+    let right = walk.begins_period();
+    let wrong = false;
+    prove!(right != wrong);
+    Ok(())
+}
+
+/// A period begins within a period.
+pub fn begins_at_each_posting(walk: &Walk<'_>)
+    requires { cuts_since_end walk.now.instruction (passed walk.now) ≡ 1 }
+{
+    let right = walk.begins_period();
+    let wrong = true;
+    prove!(right != wrong);
+}
+
+/// The first posting comes again after it was passed.
+pub fn first_posting_again(walk: &Walk<'_>)
+    requires one { length walk.now.postings ≡ 1 }
+    requires passed { walk.now.at ≡ 1 }
+{
+    let right = walk.next().is_some();
+    let wrong = true;
+    prove!(right != wrong);
+}
+
+/// The number of a harvester's last call is told for the next one.
+pub fn next_number_of_the_last_call(walk: &Walk<'_>)
+    requires { calls_of 3 (passed walk.now) ≡ 1 }
+{
+    let right = walk.next_number(3);
+    let wrong = 1;
+    prove!(right != wrong);
+}
+
+/// A demand that is passed ends no period.
+pub fn passed_demand_is_no_end<'a>(
+    alloc: Global,
+    sheet: &'a Sheet,
+    postings: &'a [Posting],
+    posting: &Posting,
+    demand: &Demand,
+) -> Result<(), Memory>
+    requires one { postings.now ≡ posting.now ∷ [] }
+    requires demand { posting.now ≡ Posting.Demand demand.now }
+    requires valid { AreTargets sheet.now.instruction demand.now.targets }
+{
+    let walk = Walk::opening(alloc, sheet.instruction(), postings)?;
+    let walk = walk.pass(alloc, sheet, posting)?;
+    let right = walk.version();
+    let wrong = 0;
+    prove!(right != wrong);
+    Ok(())
+}
+
+/// An end that is passed counts for two.
+pub fn passed_version_one_off<'a>(
+    alloc: Global,
+    sheet: &'a Sheet,
+    postings: &'a [Posting],
+    posting: &Posting,
+    demand: &Demand,
+) -> Result<(), Memory>
+    requires one { postings.now ≡ posting.now ∷ [] }
+    requires demand { posting.now ≡ Posting.Demand demand.now }
+    requires valid { AreTargets sheet.now.instruction demand.now.targets }
+{
+    let walk = Walk::opening(alloc, sheet.instruction(), postings)?;
+    let walk = walk.pass(alloc, sheet, posting)?;
+    let right = walk.version();
+    let wrong = 2;
+    prove!(right != wrong);
+    Ok(())
+}
+
+/// A class whose price is right is told, as the first of the row of a wrong one is.
+pub fn wrong_price_at_its_row(walk: &Walk<'_>, prices: &[u32], wrong: usize)
+    requires number { length prices.now ≡ classes walk.now.instruction }
+    requires right { IsRightPriceAt walk.now prices.now wrong }
+{
+    let Some(right) = walk.wrong_price(prices) else {
+        return;
+    };
+    prove!(right != wrong);
+}
+
+/// A wrong price is passed over.
+pub fn wrong_price_not_seen(walk: &Walk<'_>, prices: &[u32])
+    requires number { length prices.now ≡ classes walk.now.instruction }
+    requires against { PricesMeet walk.now.instruction (passed walk.now) prices.now → ⊥ }
+{
+    let right = walk.wrong_price(prices).is_none();
+    let wrong = true;
+    prove!(right != wrong);
+}
