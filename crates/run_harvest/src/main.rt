@@ -1,11 +1,16 @@
-//! An ordinary harvest: 5,000 stems, made by a formula, bucked from memory to memory. The last line is printed.
+//! Long work, made by formulas and done from memory to memory. The last line of each is printed: an ordinary harvest of
+//! 5,000 stems; a check of a journal of 30,000 cuts that a fleet of one harvester wrote; and as many stems as a history
+//! has room for, and one more, by such a fleet.
 #![tactic(auto)]
 
-use buck_engine::{EngineFault, run_buck};
+use buck_engine::{EngineFault, run_buck, run_check, run_fleet_files, write_fault};
 use buck_record::{Memory, put_number};
+use buck_rule::{Rule, Standing, step};
 use std::alloc::Global;
 use std::process::ExitCode;
-use std::str;
+use std::sync::Wait;
+use std::thread::Threads;
+use std::{io, str};
 
 /// How many stems are felled.
 const STEMS: u32 = 5_000;
@@ -47,6 +52,12 @@ const INSTRUCTION: &str = "1 2 APT~
 918 1 100 100 100 100 100~
 ";
 
+/// The instruction of the fleets: prices that may move by half after each 1,000 stems.
+const SAW: &str = "1 2 APT~901 1 100~902 1 1000~903 1 500~910 1 1~
+911 1 saw~912 1 1~913 1 1~914 1 1~915 1 100 200~915 2 400~
+916 1 3000 4000~917 1 400 500 600 800~918 1 1 1 1 1~
+";
+
 /// The diameter of a stem at its sample of this place, in mm: 3 mm less for each two samples, and never below 60.
 fn diameter(stem: u32, sample: u32) -> u32 {
     let butt = 180 + stem % 241;
@@ -81,27 +92,125 @@ fn stems(alloc: Global) -> Result<Vec<u8>, Memory> {
     Ok(out)
 }
 
+/// What an engine wrote, or the line of its fault.
+fn written_or_fault(
+    alloc: Global,
+    outcome: Result<(), EngineFault>,
+    written: Vec<u8>,
+) -> Result<Vec<u8>, Memory> {
+    match outcome {
+        Ok(()) => Ok(written),
+        Err(fault) => {
+            let mut line = Vec::new(alloc);
+            if !write_fault(&mut line, &fault) {
+                return Err(Memory);
+            }
+            Ok(line)
+        }
+    }
+}
+
 /// The text of the harvest.
-fn text(alloc: Global) -> Result<Vec<u8>, EngineFault> {
+fn harvest(alloc: Global) -> Result<Vec<u8>, Memory> {
     let file = stems(alloc)?;
     let mut written = Vec::new(alloc);
-    run_buck(
+    let outcome = run_buck(
         alloc,
         &mut INSTRUCTION.as_bytes(),
         &mut file.as_slice(),
         &mut written,
-    )?;
+    );
+    written_or_fault(alloc, outcome, written)
+}
+
+/// A stem file of this many stems, each of so many samples of 250 mm.
+fn like_stems(alloc: Global, number: u32, samples: u32) -> Result<Vec<u8>, Memory> {
+    let mut out = Vec::new(alloc);
+    out.extend_from_slice(b"1 2 STM~")?;
+    for _ in 0..number {
+        out.extend_from_slice(b"951 1 1~952 1 1~953 1")?;
+        for _ in 0..samples {
+            out.extend_from_slice(b" 250")?;
+        }
+        out.extend_from_slice(b"~")?;
+    }
+    Ok(out)
+}
+
+/// The report of a fleet of one harvester under the step rule, or the line of its fault, and its journal.
+fn fleet<'x, T: Threads + Wait + Sync>(
+    rt: &T,
+    alloc: Global,
+    apt: &'x [u8],
+    stm: &'x [u8],
+) -> Result<(Vec<u8>, Vec<u8>), Memory> {
+    let mut apt = apt;
+    let mut journal = Vec::new(alloc);
+    let mut report = Vec::new(alloc);
+    let outcome = run_fleet_files(
+        rt,
+        alloc,
+        &mut apt,
+        &mut [stm],
+        Rule::new(|s: &Standing| step(s)),
+        Some(&mut journal),
+        &mut report,
+    );
+    Ok((written_or_fault(alloc, outcome, report)?, journal))
+}
+
+/// The check of the journal of a fleet that cut this many stems of 3,000 mm, in periods of 1,000.
+fn checked<T: Threads + Wait + Sync>(rt: &T, alloc: Global, stems: u32) -> Result<Vec<u8>, Memory> {
+    let file = like_stems(alloc, stems, 31)?;
+    let (_, journal) = fleet(rt, alloc, SAW.as_bytes(), file.as_slice())?;
+    let mut written = Vec::new(alloc);
+    let outcome = run_check(
+        alloc,
+        &mut SAW.as_bytes(),
+        &mut journal.as_slice(),
+        &mut written,
+    );
+    written_or_fault(alloc, outcome, written)
+}
+
+/// What a fleet says of this many stems of no length.
+fn filled<T: Threads + Wait + Sync>(rt: &T, alloc: Global, stems: u32) -> Result<Vec<u8>, Memory> {
+    let file = like_stems(alloc, stems, 1)?;
+    let (written, _) = fleet(rt, alloc, SAW.as_bytes(), file.as_slice())?;
     Ok(written)
 }
 
+/// The last line of a text, or that memory ran out.
+fn last_line(text: &Result<Vec<u8>, Memory>) -> &str {
+    match text {
+        Err(_) => "memory",
+        Ok(text) => match str::from_utf8(text.as_slice()) {
+            Ok(lines) => lines.lines().last().unwrap_or(""),
+            Err(_) => "",
+        },
+    }
+}
+
+fn run<T: Threads + Wait + Sync, P: Print>(threads: &T, rt: &P, alloc: Global) -> io::Result<()> {
+    println!(rt; "5,000 stems: {}", last_line(&harvest(alloc)))?;
+    println!(rt;
+        "30,000 cuts: {}",
+        last_line(&checked(threads, alloc, 30_000))
+    )?;
+    println!(rt;
+        "1,000,000 stems: {}",
+        last_line(&filled(threads, alloc, 1_000_000))
+    )?;
+    println!(rt;
+        "1,000,001 stems: {}",
+        last_line(&filled(threads, alloc, 1_000_001))
+    )
+}
+
 fn main(rt: HostRuntime) -> ExitCode {
-    let Ok(written) = text(rt.alloc()) else {
-        return ExitCode::from(1);
-    };
-    let last = match str::from_utf8(written.as_slice()) {
-        Ok(lines) => lines.lines().last().unwrap_or(""),
-        Err(_) => "",
-    };
-    let _ = println!(rt; "{last}");
-    ExitCode::from(0)
+    let alloc = rt.alloc();
+    match run(&rt, &rt, alloc) {
+        Ok(()) => ExitCode::from(0),
+        Err(_) => ExitCode::from(1),
+    }
 }
