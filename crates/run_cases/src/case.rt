@@ -148,6 +148,11 @@ impl<'a> Case<'a> {
         }
     }
 
+    /// Whether there is a case.
+    pub fn is_begun(&self) -> bool {
+        !self.title.is_empty()
+    }
+
     /// Begins the next case: its files are those of the case before, and it wants nothing yet.
     pub fn begin(&mut self, title: &'a str) {
         self.title = title;

@@ -1,7 +1,7 @@
 //! Files of cases, counted.
 use crate::case::Case;
 use crate::running::{Outcome, outcome_of};
-use buck_record::Memory;
+use buck_record::{Memory, put_number};
 use std::alloc::Global;
 use std::sync::Wait;
 use std::thread::Threads;
@@ -60,48 +60,73 @@ impl Count {
     }
 }
 
+/// Reads the next line of a file of cases: a case that is whole then is run.
+fn read_line<'a, T: Threads + Wait + Sync>(
+    rt: &T,
+    alloc: Global,
+    line: &'a str,
+    case: &mut Case<'a>,
+    count: &mut Count,
+) -> Result<(), Memory> {
+    match line.strip_prefix("== ") {
+        Some(title) => {
+            if case.is_begun() {
+                count.run(rt, alloc, case)?;
+            }
+            case.begin(title);
+        }
+        None => {
+            if !case.read(line)? {
+                count.tell(line)?;
+            }
+        }
+    }
+    Ok(())
+}
+
 /// Runs the cases of a file, one after the other.
-fn count_all<T: Threads + Wait + Sync>(rt: &T, alloc: Global, text: &str) -> Result<Count, Memory> {
+fn run_all<'a, T: Threads + Wait + Sync>(
+    rt: &T,
+    alloc: Global,
+    text: &'a str,
+    case: &mut Case<'a>,
+    count: &mut Count,
+) -> Result<(), Memory> {
+    for line in text.lines() {
+        read_line(rt, alloc, line, case, count)?;
+    }
+    if case.is_begun() {
+        count.run(rt, alloc, case)?;
+    }
+    Ok(())
+}
+
+/// Puts the line of a file of cases, and below it what differs.
+fn put_report(out: &mut Vec<u8>, name: &str, count: &Count) -> Result<(), Memory> {
+    out.extend_from_slice(name.as_bytes())?;
+    out.extend_from_slice(b":")?;
+    put_number(out, u128::from(count.cases))?;
+    out.extend_from_slice(b" cases,")?;
+    put_number(out, u128::from(count.differ))?;
+    out.extend_from_slice(b" differ\n")?;
+    out.extend_from_slice(count.told.as_slice())?;
+    Ok(())
+}
+
+/// Runs the cases of a file, and puts what is said of them.
+pub fn report_on<T: Threads + Wait + Sync>(
+    rt: &T,
+    alloc: Global,
+    name: &str,
+    text: &str,
+    out: &mut Vec<u8>,
+) -> Result<(), Memory> {
     let mut count = Count {
         cases: 0,
         differ: 0,
         told: Vec::new(alloc),
     };
     let mut case = Case::none(alloc);
-    let mut begun = false;
-    for line in text.lines() {
-        match line.strip_prefix("== ") {
-            Some(title) => {
-                if begun {
-                    count.run(rt, alloc, &case)?;
-                }
-                begun = true;
-                case.begin(title);
-            }
-            None => {
-                if !case.read(line)? {
-                    count.tell(line)?;
-                }
-            }
-        }
-    }
-    if begun {
-        count.run(rt, alloc, &case)?;
-    }
-    Ok(count)
-}
-
-/// The line of a file of cases, and below it what differs.
-pub fn report_on<T: Threads + Wait + Sync>(
-    rt: &T,
-    alloc: Global,
-    name: &str,
-    text: &str,
-) -> Result<Vec<u8>, Memory> {
-    let count = count_all(rt, alloc, text)?;
-    let line = format!(in alloc; "{name}: {} cases, {} differ\n", count.cases, count.differ)?;
-    let mut report = Vec::new(alloc);
-    report.extend_from_slice(line.as_bytes())?;
-    report.extend_from_slice(count.told.as_slice())?;
-    Ok(report)
+    run_all(rt, alloc, text, &mut case, &mut count)?;
+    put_report(out, name, &count)
 }

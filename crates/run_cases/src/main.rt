@@ -34,9 +34,10 @@ fn run<T: Threads + Wait + Sync>(threads: &T, rt: &HostRuntime, alloc: Global) -
     let mut output = io::writer(rt);
     for name in FILES {
         let text = fs::read_to_string(rt, name)?;
-        let Ok(report) = report_on(threads, alloc, name, text.as_str()) else {
+        let mut report = Vec::new(alloc);
+        if report_on(threads, alloc, name, text.as_str(), &mut report).is_err() {
             return Err(io::ErrorKind::OutOfMemory.into());
-        };
+        }
         output.write_all(report.as_slice())?;
     }
     Ok(())

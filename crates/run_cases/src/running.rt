@@ -1,4 +1,6 @@
 //! What comes of a case.
+ghost use Rattle.buck_rule.specs.Stored.{AllAnswer};
+
 use crate::case::{Case, Engine, Inputs};
 use buck_engine::{
     EngineFault, NamedRule, run_bare, run_buck, run_check, run_fleet_files, status, write_fault,
@@ -48,7 +50,23 @@ impl Outcome {
     }
 }
 
-/// A fleet of one harvester, by a rule of a name.
+/// A fleet of one harvester.
+fn run_by<F: Fn(&Standing) -> u64 + Drop + Send, T: Threads + Wait + Sync>(
+    rt: &T,
+    alloc: Global,
+    rule: Rule<F>,
+    inputs: &Inputs,
+    got: &mut Outcome,
+) -> Result<(), EngineFault>
+    requires { AllAnswer F.Fn }
+{
+    let mut apt = inputs.apt.as_slice();
+    let mut stms = [inputs.stm.as_slice()];
+    let journal = Some(&mut got.journal);
+    run_fleet_files(rt, alloc, &mut apt, &mut stms, rule, journal, &mut got.text)
+}
+
+/// The same by a rule of a name.
 fn run_fleet<T: Threads + Wait + Sync>(
     rt: &T,
     alloc: Global,
@@ -56,22 +74,10 @@ fn run_fleet<T: Threads + Wait + Sync>(
     inputs: &Inputs,
     got: &mut Outcome,
 ) -> Result<(), EngineFault> {
-    let mut apt = inputs.apt.as_slice();
-    let mut stms = [inputs.stm.as_slice()];
-    let journal = Some(&mut got.journal);
     match rule {
-        NamedRule::Steady => {
-            let rule = Rule::new(|s: &Standing| steady(s));
-            run_fleet_files(rt, alloc, &mut apt, &mut stms, rule, journal, &mut got.text)
-        }
-        NamedRule::Linear => {
-            let rule = Rule::new(|s: &Standing| linear(s));
-            run_fleet_files(rt, alloc, &mut apt, &mut stms, rule, journal, &mut got.text)
-        }
-        NamedRule::Step => {
-            let rule = Rule::new(|s: &Standing| step(s));
-            run_fleet_files(rt, alloc, &mut apt, &mut stms, rule, journal, &mut got.text)
-        }
+        NamedRule::Steady => run_by(rt, alloc, Rule::new(|s: &Standing| steady(s)), inputs, got),
+        NamedRule::Linear => run_by(rt, alloc, Rule::new(|s: &Standing| linear(s)), inputs, got),
+        NamedRule::Step => run_by(rt, alloc, Rule::new(|s: &Standing| step(s)), inputs, got),
     }
 }
 
