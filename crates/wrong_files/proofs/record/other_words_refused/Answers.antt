@@ -1,4 +1,4 @@
-use Rattle.std.proofs.Common.{rules, [], ◌∷◌, refl, arith}
+use Rattle.std.proofs.Common.{rules, [], ◌∷◌, refl}
 use Rattle.buck_record.specs.Reading.{each_from}
 use Rattle.buck_record.specs.Record.{number_at_most, numbers_of}
 use Rattle.buck_record.specs.White.{words}

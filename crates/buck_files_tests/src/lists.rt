@@ -1,0 +1,92 @@
+//! The calls of a reader that make lists: each makes one where there is memory.
+use buck_record::check::{check, each, make_each};
+use buck_record::rules::{FILE, items_at, items_in, numbers_in};
+use buck_record::table::groups;
+use buck_record::{Group, RecordFault, Slot, pieces_at};
+use std::alloc::Global;
+use std::test::Fail;
+
+/// Two groups of a slot `911 1`, after other items.
+const ITEMS: &[u8] = b"1 2 APT~901 1 100~911 1 saw~912 1 1 7~911 1 pole~912 1 2~912 1 3~";
+
+const NAME: Slot = Slot {
+    number: 911,
+    kind: 1,
+};
+
+const SPECIES: Slot = Slot {
+    number: 912,
+    kind: 1,
+};
+
+fn place(item: usize) -> RecordFault {
+    RecordFault::Head { item }
+}
+
+fn word(_slot: Slot, place: usize) -> RecordFault {
+    RecordFault::Digits { place }
+}
+
+/// Whether the groups have so many items.
+fn have_sizes(groups: &[Group<'_>], first: usize, second: usize) -> bool {
+    match groups {
+        [one, other] => one.items().len() == first && other.items().len() == second,
+        _ => false,
+    }
+}
+
+/// How many items there are in all, in the slot of the kind of file, and in that of names.
+fn counts(alloc: Global) -> Result<(usize, usize, usize), RecordFault> {
+    let all = items_in(alloc, ITEMS, place)?.len();
+    let file = items_at(alloc, ITEMS, &[FILE], place)?.len();
+    let names = pieces_at(alloc, ITEMS, &[NAME])?.len();
+    Ok((all, file, names))
+}
+
+/// Whether the names begin groups of two and of three items.
+fn has_groups(alloc: Global) -> Result<bool, RecordFault> {
+    let items = items_in(alloc, ITEMS, place)?;
+    let found = groups(alloc, items.as_slice(), NAME)?;
+    Ok(have_sizes(found.as_slice(), 2, 3))
+}
+
+/// Whether the first species are 1 and 7.
+fn has_numbers(alloc: Global) -> Result<bool, RecordFault> {
+    let items = items_in(alloc, ITEMS, place)?;
+    let found = numbers_in(alloc, SPECIES, items.as_slice(), word)?;
+    Ok(found.as_slice() == [1, 7].as_slice())
+}
+
+#[test]
+fn lists_of_items(rt: HostRuntime) -> Result<(), Fail> {
+    assert!(rt; counts(rt.alloc())? == (7, 1, 2));
+    assert!(rt; has_groups(rt.alloc())?);
+    assert!(rt; has_numbers(rt.alloc())?);
+    Ok(())
+}
+
+/// Half of an even number.
+fn half(number: &u32) -> Result<u32, RecordFault> {
+    check(
+        *number % 2 == 0,
+        RecordFault::Digits {
+            place: *number as usize,
+        },
+    )?;
+    Ok(*number / 2)
+}
+
+/// Whether the halves of some numbers are these.
+fn are_halved(alloc: Global, numbers: &[u32], wanted: &[u32]) -> Result<bool, RecordFault> {
+    let halves = make_each(alloc, numbers, |number| half(number))?;
+    Ok(halves.into_vec().as_slice() == wanted)
+}
+
+#[test]
+fn lists_made_of_each(rt: HostRuntime) -> Result<(), Fail> {
+    assert!(rt; are_halved(rt.alloc(), &[2, 8, 4], &[1, 4, 2])?);
+    let odd = Err(RecordFault::Digits { place: 5 });
+    assert!(rt; are_halved(rt.alloc(), &[2, 5, 4, 7], &[]) == odd);
+    assert!(rt; each(&[2, 4], |number| check(*number < 5, place(*number))) == Ok(()));
+    Ok(())
+}
