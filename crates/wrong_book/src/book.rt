@@ -1,5 +1,5 @@
 //! Wrong answers of books.
-ghost use Rattle.std.specs.Prelude.{◌≡◌, ◌≢◌, ℕ, ◌+◌, ◌<◌, ◌≤◌, ◌↔◌, IsTrue, [], ◌∷◌, None, Some, length, slice_index};
+ghost use Rattle.std.specs.Prelude.{◌≡◌, ◌≢◌, ℕ, ◌+◌, ◌<◌, ◌≤◌, ◌↔◌, IsTrue, [], ◌∷◌, None, Some, length, slice_get};
 ghost use Rattle.std.specs.Fn.{FnReturnsAt};
 ghost use Rattle.buck_apt.specs.Instruction.{IsClass, classes, index_of};
 ghost use Rattle.buck_rule.specs.Stored.{Answers};
@@ -384,8 +384,29 @@ pub fn range_before_count(instruction: &Instruction, targets: &[u32])
     prove!(right != wrong);
 }
 
-/// The entry that is answered stands for an older one: the history is as long as before.
-pub fn commit_replaces_entry<F: Drop>(book: &mut Book<F>, ready: Ready, plan: Plan)
+/// The first entry is replaced by another one, be that lawful.
+pub fn commit_replaces_entry<F: Drop>(
+    book: &mut Book<F>,
+    ready: Ready,
+    plan: Plan,
+    first: &Posting,
+    other: &Posting,
+)
+    requires ready { IsReadyFor book.old ready plan }
+    requires first { slice_get book.old.history.postings 0 ≡ Some first.now }
+    requires differ { first.now ≢ other.now }
+{
+    let _entry = book.commit(ready, 1, plan);
+    let Some(found) = book.entries().first() else {
+        return;
+    };
+    let right = found.same(other);
+    let wrong = true;
+    prove!(right != wrong);
+}
+
+/// An entry is answered, and none is added.
+pub fn commit_adds_nothing<F: Drop>(book: &mut Book<F>, ready: Ready, plan: Plan)
     requires { IsReadyFor book.old ready plan }
 {
     let wrong = book.len();
