@@ -41,24 +41,3 @@ pub fn are_alike(board: &Board, a: &Snapshot, b: &Snapshot) -> bool
     board.agree(a, b);
     a.sheet().same(b.sheet())
 }
-
-/// Raises by one seat and reads by the other, which may have seen more or less.
-pub fn raise_and_read(board: &Board, one: &mut BoardSeat, two: &mut BoardSeat, version: u32) -> bool
-    requires one { IsSeatOf board.now one.old }
-    requires two { IsSeatOf board.now two.old }
-    ensures one { IsSeatOf board.now one.new }
-    ensures two { IsSeatOf board.now two.new }
-    ensures raised { version ≤ seen_by one.new }
-    ensures shown { IsTrue result }
-{
-    board.raise(&mut *one, version);
-    let a = board.read(&mut *one);
-    let b = board.read(&mut *two);
-    match a {
-        None => true,
-        Some(a) => match b {
-            None => true,
-            Some(b) => a.version() != b.version() || are_alike(board, &a, &b),
-        },
-    }
-}

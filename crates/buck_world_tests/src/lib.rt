@@ -1,16 +1,15 @@
-//! Tests of the world: runs worked out by hand, each row of its table once allowed and once not, the texts of its faults,
-//! and refused memory.
+//! Tests of the world: runs worked out by hand, a search over all short runs, the texts of its faults, and refused memory.
 #![tactic(auto)]
 
 #[cfg(test)]
-mod full;
+mod fixtures;
 #[cfg(test)]
 mod memory;
 #[cfg(test)]
-mod retargets;
+mod plain;
 #[cfg(test)]
-mod stale;
+mod runs;
 #[cfg(test)]
-mod table;
+mod search;
 #[cfg(test)]
 mod texts;

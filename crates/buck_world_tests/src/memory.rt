@@ -2,10 +2,10 @@
 ghost use Rattle.std.specs.Prelude.{◌≡◌, IfOk};
 ghost use Rattle.buck_rule.specs.Stored.{Answers};
 
+use crate::fixtures::*;
 use buck_rule::{Rule, Standing, step};
 use buck_samples::saw_instruction;
 use buck_world::{Memory, World};
-use buck_world_samples::fixtures::*;
 use std::test::Fail;
 
 /// A world of two harvesters, in which harvester 1 holds a plan that is stale.
@@ -19,15 +19,10 @@ fn with_stale_plan<F: Fn(&Standing) -> u64 + Drop>(
 {
     let instruction = saw_instruction(rt.alloc(), 1, 500, "1 1 1 1")?;
     let mut world = World::open(rt.alloc(), instruction, rule, 2, 10)?;
-    let script = [
-        Line::Does(Do::Read(1, 0), OK),
-        Line::Does(Do::Plan(1), OK),
-        Line::Does(Do::Locked(2), OK),
-        Line::Does(Do::Raise(2), OK),
-    ];
-    let played = plays(rt, &mut world, kit, script.as_slice())?;
-    if !played {
-        return Err(Fail::from("the world wasn't reached"));
+    for what in [Do::Read(1, 0), Do::Plan(1), Do::Locked(2), Do::Raise(2)] {
+        if go(rt, &mut world, kit, what)? != OK {
+            return Err(Fail::from("the world wasn't reached"));
+        }
     }
     Ok(world)
 }

@@ -1,5 +1,5 @@
 use Rattle.std.proofs.Common.{◌≡◌}
-use Rattle.buck_world_search.proofs.search.agrees_along.Given as goal
+use Rattle.buck_world_tests.proofs.search.agrees_along.Given as goal
 
 abbrev pub invariant-loop-what : goal.invariant-loop-what
 invariant-loop-what g l = record {

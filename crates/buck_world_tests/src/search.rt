@@ -3,19 +3,19 @@
 ghost use Rattle.std.specs.Prelude.{◌≡◌, ◌≤◌};
 ghost use Rattle.buck_rule.specs.Stored.{Answers};
 
+use crate::fixtures::*;
 use crate::plain::{Plain, does, opened};
 use buck_apt::Instruction;
 use buck_book::{Book, Demand, Entry, Plan, Posting};
 use buck_rule::{Rule, Standing, step};
 use buck_samples::saw_instruction;
 use buck_world::World;
-use buck_world_samples::fixtures::*;
 use std::sync::Arc;
 use std::test::Fail;
 
 /// What is searched: the worlds of an instruction, and the letters of their runs.
 #[derive(Drop)]
-struct Shape {
+pub struct Shape {
     instruction: Arc<Instruction>,
     kit: Kit,
     harvesters: u32,
@@ -175,7 +175,7 @@ fn letters_after<F: Fn(&Standing) -> u64 + Drop>(
 }
 
 /// Does a run from the opening on: the letters that are allowed next, if all is as it should be.
-fn after_run(rt: &HostRuntime, shape: &Shape, run: &[Do]) -> Result<Option<Vec<Do>>, Fail> {
+pub fn after_run(rt: &HostRuntime, shape: &Shape, run: &[Do]) -> Result<Option<Vec<Do>>, Fail> {
     let rule = Rule::new(|s: &Standing| step(s));
     let instruction = shape.instruction.clone()?;
     let mut world = World::open(
@@ -259,7 +259,7 @@ fn add_letters(letters: &mut Vec<Do>, h: u32, is_all: bool) -> Result<(), Fail> 
 }
 
 /// The worlds of so many harvesters.
-fn shape_of(
+pub fn shape_of(
     rt: &HostRuntime,
     harvesters: u32,
     capacity: u32,
@@ -283,23 +283,22 @@ fn shape_of(
     })
 }
 
-#[test]
-fn two_harvesters(rt: HostRuntime) -> Result<(), Fail> {
-    let shape = shape_of(&rt, 2, 3, 1, false)?;
-    assert!(rt; search(&rt, &shape, 7)? == Some(1_690));
-    Ok(())
+/// How many runs there are of two harvesters up to seven events, of three up to five, and of two with all letters up to
+/// five.
+fn numbers_of_runs(rt: &HostRuntime) -> Result<[Option<usize>; 3], Fail> {
+    let two = shape_of(rt, 2, 3, 1, false)?;
+    let three = shape_of(rt, 3, 2, 1, false)?;
+    let all = shape_of(rt, 2, 3, 2, true)?;
+    Ok([
+        search(rt, &two, 7)?,
+        search(rt, &three, 5)?,
+        search(rt, &all, 5)?,
+    ])
 }
 
 #[test]
-fn three_harvesters(rt: HostRuntime) -> Result<(), Fail> {
-    let shape = shape_of(&rt, 3, 2, 1, false)?;
-    assert!(rt; search(&rt, &shape, 5)? == Some(2_307));
-    Ok(())
-}
-
-#[test]
-fn two_harvesters_with_all_letters(rt: HostRuntime) -> Result<(), Fail> {
-    let shape = shape_of(&rt, 2, 3, 2, true)?;
-    assert!(rt; search(&rt, &shape, 5)? == Some(6_132));
+fn all_runs(rt: HostRuntime) -> Result<(), Fail> {
+    let numbers = [Some(1_690), Some(2_307), Some(6_132)];
+    assert!(rt; numbers_of_runs(&rt)? == numbers);
     Ok(())
 }

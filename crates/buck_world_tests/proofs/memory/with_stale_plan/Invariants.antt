@@ -1,7 +1,7 @@
 use Rattle.std.proofs.Common.{◌≡◌}
-use Rattle.buck_world_search.proofs.search.next_letters.Given as goal
+use Rattle.buck_world_tests.proofs.memory.with_stale_plan.Given as goal
 
 abbrev pub invariant-loop-what : goal.invariant-loop-what
 invariant-loop-what g l = record {
-  rule : l.world.rule ≡ l.fn.world.rule;
+  rule : l.world.rule ≡ l.initial.world.rule;
 }
