@@ -1,45 +1,59 @@
-//! The line and the exit status of each fault.
-use crate::helpers::{bare, buck};
+//! The line, the exit status and the text of each fault.
+use crate::streams::{Sink, Trouble};
 use buck_apt::AptFault;
 use buck_engine::{EngineFault, TextFault, status, write_fault};
+use buck_fleet::CloseFault;
 use buck_journal::{JournalFault, ReplayFault};
-use buck_samples::{SAW, stem_text};
 use buck_stem::StmFault;
+use std::alloc::{AllocError, Global};
 use std::test::Fail;
 
-/// Whether the fault has this line and this exit status.
-fn says(rt: &HostRuntime, fault: EngineFault, line: &str, code: u8) -> bool {
-    let mut written = Vec::new(rt.alloc());
-    write_fault(&mut written, &fault)
-        && written.as_slice() == line.as_bytes()
+/// Whether a fault has this line and this exit status; and where a write takes nothing, the answer says so and what was
+/// written before is there.
+fn says(fault: EngineFault, line: &str, code: u8) -> bool {
+    let mut whole = Sink::of(8);
+    let is_whole = write_fault(&mut whole, &fault);
+    let mut torn = Sink::of(3);
+    torn.trouble = Trouble::Ends(2);
+    let is_torn = !write_fault(&mut torn, &fault);
+    is_whole
+        && whole.bytes() == line.as_bytes()
+        && is_torn
+        && line.as_bytes().starts_with(torn.bytes())
+        && !torn.bytes().is_empty()
         && status(&fault) == code
 }
 
-#[test]
-fn engine_faults(rt: HostRuntime) {
-    let apt = AptFault::Memory;
-    let stm = StmFault::Memory;
+/// The line that isn't said of its fault, if there is one: of the engines' own faults.
+fn wrong_engine_line() -> Option<&'static str> {
+    let calls = CloseFault::Calls {
+        harvester: 64,
+        number: 1_000_000,
+    };
     for (fault, line, code) in [
         (EngineFault::Read { file: 0 }, "read fault 0\n", 5),
         (EngineFault::Read { file: 64 }, "read fault 64\n", 5),
         (EngineFault::Write, "write fault\n", 5),
         (EngineFault::Memory, "memory\n", 3),
-        (EngineFault::Apt(apt), "memory\n", 3),
-        (
-            EngineFault::Stm {
-                file: 2,
-                fault: stm,
-            },
-            "memory\n",
-            3,
-        ),
+        (EngineFault::Seats, "seats\n", 2),
+        (EngineFault::Full, "full\n", 3),
+        (EngineFault::Apt(AptFault::Memory), "memory\n", 3),
+        (EngineFault::Journal(JournalFault::Memory), "memory\n", 3),
+        (EngineFault::Replay(ReplayFault::Memory), "memory\n", 3),
+        (EngineFault::Close(calls), "close fault 2 64 1000000\n", 4),
+        (EngineFault::Close(CloseFault::Instruction), CLOSED, 4),
     ] {
-        assert!(rt; says(&rt, fault, line, code), "{line}");
+        if !says(fault, line, code) {
+            return Some(line);
+        }
     }
+    None
 }
 
-#[test]
-fn instruction_faults(rt: HostRuntime) {
+const CLOSED: &str = "close fault 1\n";
+
+/// The same of an instruction file's.
+fn wrong_apt_line() -> Option<&'static str> {
     let (number, kind, place) = (65535, 1, 1024);
     for (fault, line) in [
         (AptFault::Head { item: 15 }, "apt fault 1 15\n"),
@@ -60,45 +74,64 @@ fn instruction_faults(rt: HostRuntime) {
         (AptFault::Module { length: 3050 }, "apt fault 9 3050\n"),
         (AptFault::Targets { assortment: 0 }, "apt fault 10 0\n"),
     ] {
-        assert!(rt; says(&rt, EngineFault::Apt(fault), line, 1), "{line}");
+        if !says(EngineFault::Apt(fault), line, 1) {
+            return Some(line);
+        }
     }
+    None
 }
 
-#[test]
-fn stem_faults(rt: HostRuntime) {
+/// The same of a stem file's.
+fn wrong_stm_line() -> Option<&'static str> {
     let (number, kind, place) = (954, 1, 7);
-    for (file, fault, line) in [
-        (1, StmFault::Head { item: 2 }, "stm 1 fault 1 2\n"),
-        (1, StmFault::NotStm, "stm 1 fault 2\n"),
+    for (fault, line, code) in [
+        (StmFault::Head { item: 2 }, "stm 12 fault 1 2\n", 1),
+        (StmFault::NotStm, "stm 12 fault 2\n", 1),
         (
-            1,
             StmFault::Missing { number, kind },
-            "stm 1 fault 3 954 1\n",
-        ),
-        (1, StmFault::Twice { number, kind }, "stm 1 fault 4 954 1\n"),
-        (
+            "stm 12 fault 3 954 1\n",
             1,
+        ),
+        (
+            StmFault::Twice { number, kind },
+            "stm 12 fault 4 954 1\n",
+            1,
+        ),
+        (
             StmFault::Digits {
                 number,
                 kind,
                 place,
             },
-            "stm 1 fault 5 954 1 7\n",
+            "stm 12 fault 5 954 1 7\n",
+            1,
         ),
-        (1, StmFault::Range { number, kind }, "stm 1 fault 6 954 1\n"),
-        (1, StmFault::Order { number, kind }, "stm 1 fault 7 954 1\n"),
-        (1, StmFault::Count { number, kind }, "stm 1 fault 8 954 1\n"),
-        (12, StmFault::NotStm, "stm 12 fault 2\n"),
+        (
+            StmFault::Range { number, kind },
+            "stm 12 fault 6 954 1\n",
+            1,
+        ),
+        (
+            StmFault::Order { number, kind },
+            "stm 12 fault 7 954 1\n",
+            1,
+        ),
+        (
+            StmFault::Count { number, kind },
+            "stm 12 fault 8 954 1\n",
+            1,
+        ),
+        (StmFault::Memory, "memory\n", 3),
     ] {
-        assert!(rt;
-            says(&rt, EngineFault::Stm { file, fault }, line, 1),
-            "{line}"
-        );
+        if !says(EngineFault::Stm { file: 12, fault }, line, code) {
+            return Some(line);
+        }
     }
+    None
 }
 
-#[test]
-fn journal_faults(rt: HostRuntime) {
+/// The same of a journal's.
+fn wrong_journal_line() -> Option<&'static str> {
     for (fault, line) in [
         (JournalFault::Head { item: 7 }, "journal fault 1 7\n"),
         (JournalFault::NotJournal, "journal fault 2\n"),
@@ -107,14 +140,15 @@ fn journal_faults(rt: HostRuntime) {
         (JournalFault::Count { item: 13 }, "journal fault 5 13\n"),
         (JournalFault::Range { item: 13 }, "journal fault 6 13\n"),
     ] {
-        assert!(rt; says(&rt, EngineFault::Journal(fault), line, 1), "{line}");
+        if !says(EngineFault::Journal(fault), line, 1) {
+            return Some(line);
+        }
     }
-    let fault = EngineFault::Journal(JournalFault::Memory);
-    assert!(rt; says(&rt, fault, "memory\n", 3));
+    None
 }
 
-#[test]
-fn replay_faults(rt: HostRuntime) {
+/// The same of a journal's that isn't lawful.
+fn wrong_replay_line() -> Option<&'static str> {
     let (version, class, at) = (3, 16383, 999_999);
     for (fault, line) in [
         (ReplayFault::Sheet { version }, "replay fault 1 3\n"),
@@ -129,78 +163,66 @@ fn replay_faults(rt: HostRuntime) {
         (ReplayFault::Outvalued { at }, "replay fault 7 999999\n"),
         (ReplayFault::Targets { at }, "replay fault 9 999999\n"),
     ] {
-        assert!(rt; says(&rt, EngineFault::Replay(fault), line, 4), "{line}");
+        if !says(EngineFault::Replay(fault), line, 4) {
+            return Some(line);
+        }
     }
-    let fault = EngineFault::Replay(ReplayFault::Memory);
-    assert!(rt; says(&rt, fault, "memory\n", 3));
+    None
 }
 
 #[test]
-fn refused_files(rt: HostRuntime) -> Result<(), Fail> {
-    let stem = stem_text(rt.alloc(), 41, "250", "")?;
-    let not_apt = EngineFault::Apt(AptFault::NotApt);
-    let not_stm = EngineFault::Stm {
-        file: 1,
-        fault: StmFault::NotStm,
-    };
-    // Of two refused files the first is named.
-    for (apt, stm, fault) in [
-        ("", stem.as_str(), not_apt),
-        (SAW, "", not_stm),
-        ("", "", not_apt),
+fn lines_and_statuses(rt: HostRuntime) {
+    for wrong in [
+        wrong_engine_line(),
+        wrong_apt_line(),
+        wrong_stm_line(),
+        wrong_journal_line(),
+        wrong_replay_line(),
     ] {
-        assert!(rt; buck(&rt, apt, stm).is_refused(fault), "{fault}");
+        assert!(rt; wrong == None);
     }
-    Ok(())
 }
 
-#[test]
-fn refused_inputs(rt: HostRuntime) -> Result<(), Fail> {
-    let two_bars = format!(in rt.alloc(); "{SAW}|1 2 STM~|~")?;
-    let not_stm = StmFault::NotStm;
-    let head = StmFault::Head { item: 2 };
-    assert!(rt; bare(&rt, b"").is_refused(EngineFault::Apt(AptFault::NotApt)));
-    // Without a bar the stem file is empty, and a second bar is a byte of it.
-    for (input, fault) in [(SAW, not_stm), (two_bars.as_str(), head)] {
-        let run = bare(&rt, input.as_bytes());
-        assert!(rt;
-            run.is_refused(EngineFault::Stm { file: 1, fault }),
-            "{fault}"
-        );
-    }
-    Ok(())
-}
-
-/// Whether the fault is shown so.
-fn shows(rt: &HostRuntime, fault: EngineFault, text: &str) -> Result<bool, Fail> {
-    let shown = format!(in rt.alloc(); "{fault}")?;
-    Ok(shown.as_str() == text)
-}
-
-#[test]
-fn display_texts(rt: HostRuntime) -> Result<(), Fail> {
+/// The text that a fault isn't shown as, if there is one.
+fn wrong_text(alloc: Global) -> Result<Option<&'static str>, AllocError> {
     let fault = StmFault::NotStm;
     for (fault, text) in [
         (EngineFault::Read { file: 1 }, "file 1 can't be read"),
         (EngineFault::Write, "the output can't be written"),
-        (
-            EngineFault::Apt(AptFault::NotApt),
-            "the instruction is refused: the file is not an instruction",
-        ),
-        (
-            EngineFault::Stm { file: 2, fault },
-            "the stems of file 2 are refused: the file is not one of stems",
-        ),
+        (EngineFault::Apt(AptFault::NotApt), APT),
+        (EngineFault::Stm { file: 2, fault }, STM),
+        (EngineFault::Journal(JournalFault::NotJournal), JOURNAL),
+        (EngineFault::Replay(ReplayFault::Worth { at: 1 }), REPLAY),
+        (EngineFault::Close(CloseFault::Instruction), CLOSE),
+        (EngineFault::Seats, "not 1 to 64 stem files"),
+        (EngineFault::Full, "the history is full"),
         (EngineFault::Memory, "out of memory"),
     ] {
-        assert!(rt; shows(&rt, fault, text)?, "{text}");
+        let shown = format!(in alloc; "{fault}")?;
+        if shown.as_str() != text {
+            return Ok(Some(text));
+        }
     }
-    Ok(())
+    let shown = format!(in alloc; "{}", TextFault::Memory)?;
+    Ok(if shown.as_str() == "out of memory" {
+        None
+    } else {
+        Some("out of memory")
+    })
 }
 
+const APT: &str = "the instruction is refused: the file is not an instruction";
+
+const STM: &str = "the stems of file 2 are refused: the file is not one of stems";
+
+const JOURNAL: &str = "the journal is refused: the file is not a journal";
+
+const REPLAY: &str = "the journal is not lawful: the worth of posting 1 is not that of its logs";
+
+const CLOSE: &str = "the fleet did not close well: the instruction is another";
+
 #[test]
-fn display_text_of_a_text_fault(rt: HostRuntime) -> Result<(), Fail> {
-    let memory = format!(in rt.alloc(); "{}", TextFault::Memory)?;
-    assert_eq!(rt; memory.as_str(), "out of memory");
+fn texts(rt: HostRuntime) -> Result<(), Fail> {
+    assert!(rt; wrong_text(rt.alloc())? == None);
     Ok(())
 }

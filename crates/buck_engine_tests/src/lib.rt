@@ -1,18 +1,18 @@
-//! Tests of the engines: what is printed for files, what is said of faults, and whole runs over readers, writers and
-//! openers that fail.
+//! Tests of the engines: readers, writers and openers that fail, memory that is refused, files at the limit of length,
+//! what is said of faults, and whole runs.
 #![tactic(auto)]
 
 #[cfg(test)]
-mod checks;
+mod failing;
 #[cfg(test)]
 mod faults;
 #[cfg(test)]
-mod helpers;
+mod lengths;
 #[cfg(test)]
-mod runs;
+mod memory;
+#[cfg(test)]
+mod serving;
 #[cfg(test)]
 mod streams;
 #[cfg(test)]
-mod texts;
-#[cfg(test)]
-mod trims;
+mod work;
