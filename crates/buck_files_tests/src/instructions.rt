@@ -9,7 +9,7 @@ const BOTH: &str =
     "1 2 APT~901 1 100~902 1 1~903 1 0~910 1 2~911 1 saw~912 1 1~913 1 1~914 1 1~915 1 100 200~915 2 400~916 1 3000 4000~917 1 400 500 600 800~918 1 1 1 1 1~911 1 pole~912 1 2~913 1 1 2~914 1 2~915 1 50~915 2 300~916 1 500 600 700~917 1 1 2 3~918 1 4 5 6~";
 
 /// In each line parts of that file and what stands in their places, then the text of the refusal; no text where the file
-/// is accepted. The last 22 have two faults or more.
+/// is accepted. From the one with `919 1 x` on each has two faults.
 const EDITS: &str = "APT > apt = the file is not an instruction
 901 1 100 > 901 1 4294967295 = item 901 1 is out of range
 901 1 100 > 901 1 100~77 3~77 3 x =

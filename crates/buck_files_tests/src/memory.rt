@@ -3,6 +3,7 @@
 use buck_apt::{AptFault, Instruction, read_apt};
 use buck_samples::{SAW, stem_of};
 use buck_stem::{Profile, Stem, StmFault, read_stm};
+use std::alloc::Global;
 use std::test::Fail;
 
 /// Whether an instruction is the saw instruction, by its numbers.
@@ -86,10 +87,14 @@ fn refused_memory_of_refused_stems(rt: HostRuntime) -> Result<(), Fail> {
     }
 }
 
+/// How many points the profile of a stem has at 100 mm.
+fn points_of(alloc: Global, stem: &Stem) -> Result<usize, Fail> {
+    Ok(Profile::make(alloc, stem, 100)?.points())
+}
+
 #[test]
 fn refused_memory_of_a_profile(rt: HostRuntime) -> Result<(), Fail> {
     let stem = stem_of(rt.alloc(), &[250, 250, 250], &[])?;
-    let profile = Profile::make(rt.alloc(), &stem, 100)?;
-    assert!(rt; profile.points() == 3);
+    assert!(rt; points_of(rt.alloc(), &stem)? == 3);
     Ok(())
 }

@@ -29,9 +29,17 @@ fn first_other<T: Display>(alloc: Global, rows: &[(T, &str)]) -> Result<usize, F
     Ok(0)
 }
 
-/// Whether the three faults of readers that ran out of memory say so.
-fn say_memory(alloc: Global) -> Result<bool, Fail> {
-    let instruction = first_other(alloc, &[(AptFault::Memory, "out of memory")])?;
+const APT_FAULTS: [(AptFault, &str); 2] = [
+    (
+        AptFault::Targets { assortment: 3 },
+        "the targets of assortment 3 are too many",
+    ),
+    (AptFault::Memory, "out of memory"),
+];
+
+/// Whether the faults of readers that ran out of memory say so, and that of targets has its text.
+fn have_texts(alloc: Global) -> Result<bool, Fail> {
+    let instruction = first_other(alloc, &APT_FAULTS)?;
     let stem = first_other(alloc, &[(StmFault::Memory, "out of memory")])?;
     let none = first_other(alloc, &[(Memory, "out of memory")])?;
     Ok(instruction == 0 && stem == 0 && none == 0)
@@ -42,7 +50,7 @@ fn say_memory(alloc: Global) -> Result<bool, Fail> {
 fn texts_of_faults(rt: HostRuntime) -> Result<(), Fail> {
     assert_eq!(rt; first_other(rt.alloc(), &RECORD_FAULTS)?, 0);
     assert_eq!(rt; first_other(rt.alloc(), &STEM_FAULTS)?, 0);
-    assert!(rt; say_memory(rt.alloc())?);
+    assert!(rt; have_texts(rt.alloc())?);
     Ok(())
 }
 

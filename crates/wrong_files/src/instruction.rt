@@ -199,3 +199,16 @@ pub fn copy_without_targets(alloc: Global, assortment: &Assortment)
     let wrong = assortment.prices();
     prove!(right != wrong);
 }
+
+/// Values at which four of these are told apart.
+pub fn classes_that_differ(alloc: Global) {
+    let Ok(instruction) = read_apt(alloc, FOUR_CLASSES) else {
+        return;
+    };
+    if let Some(assortment) = instruction.assortments().first() {
+        price_is_target(assortment, 1, 0);
+        target_of_first_column(assortment, 0, 1);
+        targets_sum_is_nothing(assortment);
+        copy_without_targets(alloc, assortment);
+    }
+}

@@ -319,3 +319,16 @@ pub fn run_start_of_an_earlier_run(profile: &Profile<'_>, i: usize, grade: u8, w
     let right = profile.run_start(i);
     prove!(right != wrong);
 }
+
+/// Values at which three of these are told apart.
+pub fn points_that_differ(alloc: Global) {
+    let Some(stem) = stem(alloc, &[300, 280], &[]) else {
+        return;
+    };
+    let Ok(profile) = Profile::make(alloc, &stem, 50) else {
+        return;
+    };
+    points_without_the_butt(&profile, 2);
+    diameter_of_an_earlier_point(&profile, 2, 0);
+    diameters_of_half_the_places(&profile);
+}
