@@ -1,6 +1,9 @@
-//! Plays of fleets, which the tests of fleets share: stages on which harvesters meet, and what each does in turn.
+//! Fleets that tests play, each harvester in a thread of its own: what callers write, stages and turns, and what is
+//! expected of a closed fleet.
 #![tactic(auto)]
 
+pub mod callers;
+pub mod fixtures;
 pub mod play;
 pub mod stage;
 pub mod turns;

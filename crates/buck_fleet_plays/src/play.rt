@@ -12,6 +12,7 @@ use buck_apt::Instruction;
 use buck_book::Plan;
 use buck_fleet::{CloseFault, Closed, CutFault, Fleet, OpenFault, RetargetFault, Seat, TryFault};
 use buck_rule::{Rule, Standing};
+use buck_samples::uniform_stem;
 use buck_stem::Stem;
 use buck_value::Sheet;
 use std::alloc::Global;
@@ -20,26 +21,20 @@ use std::sync::ledger::{Blank, Ledger};
 use std::sync::{Arc, Wait};
 use std::thread::{Threads, for_each_mut};
 
-/// What a harvester does in a turn.
-#[derive(Drop)]
-pub enum Act {
-    /// Cuts a stem.
-    Cut(Arc<Stem>),
-    /// Commits a plan of its own for a stem, made under the sheet that is shown.
-    Commit(Arc<Stem>),
-    /// Commits a plan for a stem, made under a given sheet.
-    CommitUnder(Arc<Sheet>, Arc<Stem>),
+/// What a harvester does. Stems have so many samples of 250 mm.
+#[derive(Clone, Copy)]
+pub enum Do<'a> {
+    /// Waits until harvester 1 has made so many plans.
+    Await(u64),
+    Cut(usize),
+    /// Commits a plan of its own, made under the sheet that is shown.
+    Commit(usize),
+    /// Commits a plan made under the first sheet that the stage keeps.
+    CommitKept(usize),
     /// Puts new targets in force.
-    Retarget(Arc<Vec<u32>>),
+    Retarget(&'a [u32]),
     /// Looks at the newest sheet, and keeps it on the stage.
     Look,
-}
-
-/// A turn of a harvester: it begins when harvester 1 has made so many plans.
-#[derive(Drop)]
-pub struct Turn {
-    pub after: u64,
-    pub act: Act,
 }
 
 /// Why a play didn't come to its end.
@@ -51,13 +46,19 @@ pub enum PlayFault {
     Close(CloseFault),
 }
 
+/// A stem with so many samples of 250 mm. None where a growth was refused.
+fn stem_of(alloc: Global, samples: usize) -> Option<Arc<Stem>> {
+    let stem = uniform_stem(alloc, samples, 250).ok()?;
+    Arc::new(alloc, stem).ok()
+}
+
 /// Cuts a stem.
 fn cut<F: Fn(&Standing) -> u64 + Drop, L: Ledger, R: Wait>(
     rt: &R,
     alloc: Global,
     fleet: &Fleet<F, L>,
     seat: &mut Seat<L>,
-    stem: &Arc<Stem>,
+    samples: usize,
     stage: &Stage,
 ) -> Told
     requires answers { AllAnswer F.Fn }
@@ -65,7 +66,7 @@ fn cut<F: Fn(&Standing) -> u64 + Drop, L: Ledger, R: Wait>(
     ensures seat { IsSeatIn fleet.now seat.new }
     ensures same { (seat.new.harvester ≡ seat.old.harvester) × (seat.new.parts ≡ seat.old.parts) }
 {
-    let Ok(stem) = stem.clone() else {
+    let Some(stem) = stem_of(alloc, samples) else {
         return Told::Memory;
     };
     match fleet.cut(rt, alloc, seat, stem, stage) {
@@ -103,44 +104,26 @@ fn commit<F: Fn(&Standing) -> u64 + Drop, L: Ledger, R: Wait>(
     }
 }
 
-/// A plan for a stem under a sheet. None where a growth was refused.
-fn plan_for(alloc: Global, sheet: &Arc<Sheet>, stem: &Arc<Stem>) -> Option<Plan> {
-    Plan::make(alloc, sheet.clone().ok()?, stem.clone().ok()?).ok()
+/// A plan under a sheet. None where a growth was refused.
+fn plan_for(alloc: Global, sheet: &Arc<Sheet>, samples: usize) -> Option<Plan> {
+    Plan::make(alloc, sheet.clone().ok()?, stem_of(alloc, samples)?).ok()
 }
 
-/// A plan for a stem under the newest sheet that is shown. None where none is shown or a growth was refused.
+/// A plan under the newest sheet that is shown. None where none is shown or a growth was refused.
 fn plan_shown<F, L: Ledger>(
     alloc: Global,
     fleet: &Fleet<F, L>,
     seat: &mut Seat<L>,
-    stem: &Arc<Stem>,
+    samples: usize,
 ) -> Option<Plan>
     requires seat { IsSeatIn fleet.now seat.old }
     ensures seat { IsSeatIn fleet.now seat.new }
     ensures same { (seat.new.harvester ≡ seat.old.harvester) × (seat.new.parts ≡ seat.old.parts) }
 {
     match fleet.snapshot(seat) {
-        Some(shown) => plan_for(alloc, shown.sheet(), stem),
+        Some(shown) => plan_for(alloc, shown.sheet(), samples),
         None => None,
     }
-}
-
-/// Commits a plan of its own for a stem.
-fn commit_own<F: Fn(&Standing) -> u64 + Drop, L: Ledger, R: Wait>(
-    rt: &R,
-    alloc: Global,
-    fleet: &Fleet<F, L>,
-    seat: &mut Seat<L>,
-    stem: &Arc<Stem>,
-    stage: &Stage,
-) -> Told
-    requires answers { AllAnswer F.Fn }
-    requires seat { IsSeatIn fleet.now seat.old }
-    ensures seat { IsSeatIn fleet.now seat.new }
-    ensures same { (seat.new.harvester ≡ seat.old.harvester) × (seat.new.parts ≡ seat.old.parts) }
-{
-    let plan = plan_shown(alloc, fleet, &mut *seat, stem);
-    commit(rt, alloc, fleet, &mut *seat, plan, stage)
 }
 
 /// Puts new targets in force.
@@ -149,14 +132,17 @@ fn retarget<F: Fn(&Standing) -> u64 + Drop, L: Ledger, R: Wait>(
     alloc: Global,
     fleet: &Fleet<F, L>,
     seat: &mut Seat<L>,
-    targets: &Arc<Vec<u32>>,
+    targets: &[u32],
 ) -> Told
     requires answers { AllAnswer F.Fn }
     requires seat { IsSeatIn fleet.now seat.old }
     ensures seat { IsSeatIn fleet.now seat.new }
     ensures same { (seat.new.harvester ≡ seat.old.harvester) × (seat.new.parts ≡ seat.old.parts) }
 {
-    let Ok(targets) = targets.clone() else {
+    let Ok(targets) = Vec::from_slice(alloc, targets) else {
+        return Told::Memory;
+    };
+    let Ok(targets) = Arc::new(alloc, targets) else {
         return Told::Memory;
     };
     match fleet.retarget(rt, alloc, seat, targets) {
@@ -190,50 +176,66 @@ fn look<F, L: Ledger, R: Wait>(
     }
 }
 
-/// Does what a turn says.
+/// Does what is said: what the call was told, if it is one.
 fn carry_out<F: Fn(&Standing) -> u64 + Drop, L: Ledger, R: Wait>(
     rt: &R,
     alloc: Global,
     fleet: &Fleet<F, L>,
     seat: &mut Seat<L>,
-    act: &Act,
+    what: Do<'_>,
     stage: &Stage,
-) -> Told
+) -> Option<Told>
     requires answers { AllAnswer F.Fn }
     requires seat { IsSeatIn fleet.now seat.old }
     ensures seat { IsSeatIn fleet.now seat.new }
     ensures same { (seat.new.harvester ≡ seat.old.harvester) × (seat.new.parts ≡ seat.old.parts) }
 {
-    match act {
-        Act::Cut(stem) => cut(rt, alloc, fleet, seat, stem, stage),
-        Act::Commit(stem) => commit_own(rt, alloc, fleet, seat, stem, stage),
-        Act::CommitUnder(sheet, stem) => {
-            commit(rt, alloc, fleet, seat, plan_for(alloc, sheet, stem), stage)
+    match what {
+        Do::Await(plans) => {
+            stage.wait_for_plans(plans);
+            None
         }
-        Act::Retarget(targets) => retarget(rt, alloc, fleet, seat, targets),
-        Act::Look => look(rt, fleet, seat, stage),
+        Do::Cut(samples) => Some(cut(rt, alloc, fleet, seat, samples, stage)),
+        Do::Commit(samples) => {
+            let plan = plan_shown(alloc, fleet, &mut *seat, samples);
+            Some(commit(rt, alloc, fleet, seat, plan, stage))
+        }
+        Do::CommitKept(samples) => {
+            let plan = match stage.shown_at(rt, 0) {
+                Some(sheet) => plan_for(alloc, &sheet, samples),
+                None => None,
+            };
+            Some(commit(rt, alloc, fleet, seat, plan, stage))
+        }
+        Do::Retarget(targets) => Some(retarget(rt, alloc, fleet, seat, targets)),
+        Do::Look => Some(look(rt, fleet, seat, stage)),
     }
 }
 
-/// Does what a turn says, and once more where a growth was refused and the stage asks for it.
-fn act_again<F: Fn(&Standing) -> u64 + Drop, L: Ledger, R: Wait>(
+/// Does what is said, and once more where a growth was refused and the stage asks for it; tells the stage.
+fn play_turn<F: Fn(&Standing) -> u64 + Drop, L: Ledger, R: Wait>(
     rt: &R,
     alloc: Global,
     fleet: &Fleet<F, L>,
     seat: &mut Seat<L>,
-    turn: &Turn,
+    what: Do<'_>,
     stage: &Stage,
-) -> Told
+)
     requires answers { AllAnswer F.Fn }
     requires seat { IsSeatIn fleet.now seat.old }
     ensures seat { IsSeatIn fleet.now seat.new }
     ensures same { (seat.new.harvester ≡ seat.old.harvester) × (seat.new.parts ≡ seat.old.parts) }
 {
-    let told = carry_out(rt, alloc, fleet, &mut *seat, &turn.act, stage);
+    let Some(told) = carry_out(rt, alloc, fleet, &mut *seat, what, stage) else {
+        return;
+    };
     if !stage.asks_again(&told) {
-        return told;
+        stage.tell(rt, seat.harvester(), told);
+        return;
     }
-    carry_out(rt, alloc, fleet, &mut *seat, &turn.act, stage)
+    if let Some(told) = carry_out(rt, alloc, fleet, &mut *seat, what, stage) {
+        stage.tell(rt, seat.harvester(), told);
+    }
 }
 
 /// Plays the turns of one seat.
@@ -242,7 +244,7 @@ fn play_one<F: Fn(&Standing) -> u64 + Drop, L: Ledger, R: Wait>(
     alloc: Global,
     fleet: &Fleet<F, L>,
     seat: &mut Seat<L>,
-    turns: &[Turn],
+    turns: &[Do<'_>],
     stage: &Stage,
 )
     requires answers { AllAnswer F.Fn }
@@ -250,10 +252,8 @@ fn play_one<F: Fn(&Standing) -> u64 + Drop, L: Ledger, R: Wait>(
     ensures seat { IsSeatIn fleet.now seat.new }
     ensures same { (seat.new.harvester ≡ seat.old.harvester) × (seat.new.parts ≡ seat.old.parts) }
 {
-    for turn in turns {
-        stage.wait_for_plans(turn.after);
-        let told = act_again(rt, alloc, fleet, &mut *seat, turn, stage);
-        stage.tell(rt, seat.harvester(), told);
+    for what in turns {
+        play_turn(rt, alloc, fleet, &mut *seat, *what, stage);
     }
 }
 
@@ -267,7 +267,7 @@ fn play_each<
     alloc: Global,
     fleet: &Fleet<F, L>,
     seats: &mut [Seat<L>],
-    lists: &[Vec<Turn>],
+    lists: &[Vec<Do<'_>>],
     stage: &Stage,
 )
     requires answers { AllAnswer F.Fn }
@@ -303,7 +303,7 @@ fn play_all<
     alloc: Global,
     fleet: &Fleet<F, L>,
     seats: &mut [Seat<L>],
-    lists: &[Vec<Turn>],
+    lists: &[Vec<Do<'_>>],
     stage: &Stage,
 )
     requires answers { AllAnswer F.Fn }
@@ -326,7 +326,7 @@ fn seats_played<
     alloc: Global,
     fleet: &Fleet<F, L>,
     seats: Vec<Seat<L>>,
-    lists: &[Vec<Turn>],
+    lists: &[Vec<Do<'_>>],
     stage: &Stage,
 ) -> Vec<Seat<L>>
     requires answers { AllAnswer F.Fn }
@@ -352,7 +352,7 @@ fn played_of<
     instruction: Arc<Instruction>,
     rule: Rule<F>,
     capacity: u32,
-    lists: &[Vec<Turn>],
+    lists: &[Vec<Do<'_>>],
     stage: &Stage,
 ) -> Result<Closed, PlayFault>
     requires blank { (blank.name ≡ L.name) × (blank.parts ≡ L.parts) × (blank.parts ≡ 64) }
@@ -387,7 +387,7 @@ pub fn played<F: Fn(&Standing) -> u64 + Drop + Send, R: Threads + Wait + Sync>(
     instruction: Arc<Instruction>,
     rule: Rule<F>,
     capacity: u32,
-    lists: &[Vec<Turn>],
+    lists: &[Vec<Do<'_>>],
     stage: &Stage,
 ) -> Result<Closed, PlayFault>
     requires answers { AllAnswer F.Fn }

@@ -214,7 +214,7 @@ impl Meeting {
 
     /// Whether all have met.
     pub fn have_met(&self) -> bool {
-        !self.is_late.load(Ordering::SeqCst) && self.come.load(Ordering::SeqCst) == self.number
+        !self.is_late.load(Ordering::SeqCst) && self.come.load(Ordering::SeqCst) >= self.number
     }
 }
 

@@ -2,70 +2,49 @@
 ghost use Rattle.std.specs.Prelude.{◌≡◌};
 ghost use Rattle.buck_rule.specs.Stored.{AllAnswer};
 
-use buck_fleet::Closed;
+use buck_fleet_plays::fixtures::*;
+use buck_fleet_plays::play::Do;
 use buck_fleet_plays::stage::Stage;
 use buck_fleet_plays::turns::*;
-use buck_fleet_samples::fixtures::*;
 use buck_rule::{Rule, Standing, step};
 use std::alloc::Global;
 use std::sync::Wait;
 use std::test::Fail;
 use std::thread::Threads;
 
-/// Two stems of 4,000 mm cut by a rule, in periods of one stem and with a limit of 500 per mille.
-fn two_stems<F: Fn(&Standing) -> u64 + Drop + Send, R: Threads + Wait + Sync>(
+/// Whether two stems of 4,000 mm are cut so by a rule, in periods of one stem and with a limit of 500 per mille: the length
+/// in mm of the second one's log and what it is worth, and the sheets after the base sheet.
+fn cuts<F: Fn(&Standing) -> u64 + Drop + Send, R: Threads + Wait + Sync>(
     rt: &R,
     alloc: Global,
     rule: Rule<F>,
-) -> Result<Closed, Fail>
+    second: (u32, u64),
+    sheets: [[u32; 4]; 2],
+) -> Result<bool, Fail>
     requires { AllAnswer F.Fn }
 {
     let stage = Stage::open(alloc)?;
-    lone_play(
-        rt,
-        alloc,
-        rule,
-        (1, 500, 100),
-        &[Do::Cut(41), Do::Cut(41)],
-        &stage,
-    )
+    let whats = [Do::Cut(41), Do::Cut(41)];
+    let closed = lone_play(rt, alloc, rule, (1, 500, 100), &whats, &stage)?;
+    let postings = [
+        Want::Cut(OneLog(0, 4000, LONG)),
+        Want::Cut(OneLog(1, second.0, second.1)),
+    ];
+    Ok(has_postings(&closed, &postings) && has_sheets(&closed, &[BASE, sheets[0], sheets[1]]))
 }
 
 #[test]
-fn dearer_alone(rt: HostRuntime) -> Result<(), Fail> {
-    let rule = Rule::new(|s: &Standing| step(s).max(s.base));
-    let closed = two_stems(&rt, rt.alloc(), rule)?;
-    let dearer = [600, 750, 900, 800];
-    assert!(rt; has_entries(&closed, &[OneLog(0, 4000, LONG), OneLog(1, 4000, LONG)]));
-    assert!(rt; has_sheets(&closed, &[BASE, dearer, dearer]));
-    Ok(())
-}
-
-#[test]
-fn cheaper_alone(rt: HostRuntime) -> Result<(), Fail> {
-    let rule = Rule::new(|s: &Standing| step(s).min(s.base));
-    let closed = two_stems(&rt, rt.alloc(), rule)?;
-    assert!(rt;
-        has_entries(
-            &closed,
-            &[OneLog(0, 4000, LONG), OneLog(1, 3000, 88_357_200)]
-        )
-    );
-    assert!(rt; has_sheets(&closed, &[BASE, [400, 500, 600, 400], [400, 500, 300, 400]]));
-    Ok(())
-}
-
-#[test]
-fn up_to_a_captured_cap(rt: HostRuntime) -> Result<(), Fail> {
+fn ends_of_the_relation(rt: HostRuntime) -> Result<(), Fail> {
+    let alloc = rt.alloc();
+    let dearer = Rule::new(|s: &Standing| step(s).max(s.base));
+    let sheets = [[600, 750, 900, 800], [600, 750, 900, 800]];
+    assert!(rt; cuts(&rt, alloc, dearer, (4000, LONG), sheets)?);
+    let cheaper = Rule::new(|s: &Standing| step(s).min(s.base));
+    let sheets = [[400, 500, 600, 400], [400, 500, 300, 400]];
+    assert!(rt; cuts(&rt, alloc, cheaper, (3000, 88_357_200), sheets)?);
     let cap = 700;
-    let rule = Rule::new(move |s: &Standing| step(s).min(s.base.max(cap)));
-    let closed = two_stems(&rt, rt.alloc(), rule)?;
-    assert!(rt;
-        has_entries(
-            &closed,
-            &[OneLog(0, 4000, LONG), OneLog(1, 3000, 103_083_400)]
-        )
-    );
-    assert!(rt; has_sheets(&closed, &[BASE, [600, 700, 700, 400], [600, 700, 300, 400]]));
+    let capped = Rule::new(move |s: &Standing| step(s).min(s.base.max(cap)));
+    let sheets = [[600, 700, 700, 400], [600, 700, 300, 400]];
+    assert!(rt; cuts(&rt, alloc, capped, (3000, 103_083_400), sheets)?);
     Ok(())
 }

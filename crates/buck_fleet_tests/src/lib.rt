@@ -1,11 +1,22 @@
-//! Tests of fleets: days worked out by hand, the reports of closed fleets, and refused memory.
+//! Tests of fleets: gates that hold a harvester, meetings of threads, refusals, demands, closures at the ends of the price
+//! relation, refused memory, many harvesters under a plain slow judge, and the texts of faults.
 #![tactic(auto)]
 
 #[cfg(test)]
+mod alone;
+#[cfg(test)]
 mod closures;
 #[cfg(test)]
-mod days;
+mod held;
+#[cfg(test)]
+mod judge;
+#[cfg(test)]
+mod meetings;
 #[cfg(test)]
 mod memory;
 #[cfg(test)]
-mod reports;
+mod refusals;
+#[cfg(test)]
+mod stress;
+#[cfg(test)]
+mod texts;

@@ -1,9 +1,9 @@
 //! Refused memory: history and kept lists are then as before. Run with each allocation failing in turn.
 use buck_fleet::{Closed, NoGate, RunFault};
-use buck_fleet_plays::play::PlayFault;
+use buck_fleet_plays::fixtures::*;
+use buck_fleet_plays::play::{Do, PlayFault};
 use buck_fleet_plays::stage::Stage;
 use buck_fleet_plays::turns::*;
-use buck_fleet_samples::fixtures::*;
 use std::test::Fail;
 
 /// Ends a test in which memory was refused to a call with an error that says so.
@@ -14,43 +14,38 @@ fn with_memory_all_along(stage: &Stage) -> Result<(), Fail> {
     Ok(())
 }
 
-/// Whether two stems were cut, the second under the sheet of the first, and are kept.
-fn has_two_cuts(closed: &Closed) -> bool {
-    let sheets = [BASE, [600, 750, 900, 400], [600, 750, 300, 400]];
-    let entries = [OneLog(0, 4000, LONG), OneLog(1, 3000, 132_535_800)];
-    has_entries(closed, entries.as_slice())
-        && has_sheets(closed, sheets.as_slice())
-        && has_all_kept(closed)
-}
-
-/// A cut that is refused for want of memory is made once more: the history is that of ample memory.
-#[test]
-fn refused_memory_of_cuts(rt: HostRuntime) -> Result<(), Fail> {
-    let stage = Stage::patient(rt.alloc())?;
-    let closed = step_play(&rt, rt.alloc(), 1, &[Do::Cut(41), Do::Cut(41)], &stage)?;
-    assert!(rt; has_two_cuts(&closed));
-    with_memory_all_along(&stage)
-}
-
-/// Whether a plan of its own, a demand and a cut are the postings, and are kept.
+/// Whether a cut, a plan of its own, a demand and a cut are the postings, and are kept.
 fn has_one_of_each(closed: &Closed) -> bool {
     let wants = [
         Want::Cut(OneLog(0, 4000, LONG)),
-        Want::Demand(1, [0, 0, 0, 4]),
-        Want::Cut(OneLog(2, 4000, LONG)),
+        Want::Cut(OneLog(1, 3000, 132_535_800)),
+        Want::Demand(2, [0, 0, 0, 4]),
+        Want::Cut(OneLog(3, 4000, 235_620_000)),
     ];
-    let sheets = [BASE, [600, 750, 900, 400], BASE, BASE];
+    let wanted = [400, 500, 300, 1200];
+    let sheets = [
+        BASE,
+        [600, 750, 900, 400],
+        [600, 750, 300, 400],
+        wanted,
+        wanted,
+    ];
     has_postings(closed, wants.as_slice())
         && has_sheets(closed, sheets.as_slice())
         && has_all_kept(closed)
 }
 
-/// So it is with plans of a caller's own and with demands.
+/// A call that is refused for want of memory is made once more: the history is that of ample memory.
 #[test]
 fn refused_memory_of_each_call(rt: HostRuntime) -> Result<(), Fail> {
     let stage = Stage::patient(rt.alloc())?;
-    let whats = [Do::Commit(41), Do::Retarget(&[0, 0, 0, 4]), Do::Cut(41)];
-    let closed = step_play(&rt, rt.alloc(), 1, &whats, &stage)?;
+    let whats = [
+        Do::Cut(41),
+        Do::Commit(41),
+        Do::Retarget(&[0, 0, 0, 4]),
+        Do::Cut(41),
+    ];
+    let closed = step_play(&rt, rt.alloc(), (1, 500, 100), &whats, &stage)?;
     assert!(rt; has_one_of_each(&closed));
     with_memory_all_along(&stage)
 }

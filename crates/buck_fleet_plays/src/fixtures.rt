@@ -1,7 +1,5 @@
 //! Days of a fleet, and what is expected of its history.
-ghost use Rattle.buck_rule.specs.Stored.{AllAnswer};
-
-use crate::callers::{DayFault, Evening, day, till_evening};
+use crate::callers::{DayFault, Evening, till_evening};
 use buck_book::{Demand, Entry, Posting};
 use buck_fleet::{Closed, Gate, RunFault};
 use buck_rule::{Rule, Standing, steady};
@@ -53,21 +51,6 @@ pub fn lists_of(
         lists.push(list_of(alloc, number, samples)?)?;
     }
     Ok(lists)
-}
-
-/// A day of one harvester under the saw instruction, with this period, limit and targets: stems of 4,000 mm.
-pub fn saw_day<F: Fn(&Standing) -> u64 + Drop + Send, R: Threads + Wait + Sync>(
-    rt: &R,
-    alloc: Global,
-    rule: Rule<F>,
-    saw: (u32, u32, &str),
-    number: usize,
-) -> Result<Closed, Fail>
-    requires { AllAnswer F.Fn }
-{
-    let instruction = saw_instruction(alloc, saw.0, saw.1, saw.2)?;
-    let lists = [list_of(alloc, number, 41)?];
-    Ok(day(rt, alloc, instruction, rule, lists.as_slice())?)
 }
 
 /// A run under the saw instruction in periods of one stem, by the steady rule, told to a gate.
@@ -152,20 +135,6 @@ pub fn has_postings(closed: &Closed, wants: &[Want]) -> bool {
     }
     for (i, posting) in postings.iter().enumerate() {
         if i >= wants.len() || !is_wanted(posting, i + 1, &wants[i]) {
-            return false;
-        }
-    }
-    true
-}
-
-/// Whether these are all postings, each an entry.
-pub fn has_entries(closed: &Closed, wants: &[OneLog]) -> bool {
-    let entries = closed.entries();
-    if entries.len() != wants.len() {
-        return false;
-    }
-    for i in 0..entries.len() {
-        if !is_wanted(&entries[i], i + 1, &Want::Cut(wants[i])) {
             return false;
         }
     }

@@ -1,6 +1,6 @@
 use Rattle.std.proofs.Common.{ℕ, sym, subst}
 use Rattle.buck_fleet.specs.Crew.{IsCrew}
-use Rattle.buck_fleet_samples.proofs.callers.day_of.Goals as goal
+use Rattle.buck_fleet_plays.proofs.callers.day_of.Goals as goal
 
 pub close_day-requires-clause-crew : goal.close_day-requires-clause-crew
 close_day-requires-clause-crew g c =

@@ -1,8 +1,8 @@
 //! Fleets in which the first plans of all harvesters wait for each other, so that no two run on one thread.
 use crate::judge::{counts_of, degree_of, worth_of};
 use buck_fleet::Closed;
+use buck_fleet_plays::fixtures::*;
 use buck_fleet_plays::stage::Meeting;
-use buck_fleet_samples::fixtures::*;
 use std::test::Fail;
 
 /// Whether so many logs of the third class were cut, and none of the others.
@@ -23,22 +23,12 @@ fn has_totals(closed: &Closed, entries: u64, worth: u64) -> bool {
 }
 
 #[test]
-fn fleet_of_two(rt: HostRuntime) -> Result<(), Fail> {
-    let meeting = Meeting::of(2);
-    let lists = [list_of(rt.alloc(), 10, 61)?, list_of(rt.alloc(), 10, 61)?];
-    let closed = steady_day(&rt, rt.alloc(), lists.as_slice(), &meeting)?;
-    assert!(rt; has_totals(&closed, 20, 3_534_288_000));
-    assert!(rt; closed.sheets().len() == 21 && has_all_kept(&closed));
-    Ok(())
-}
-
-#[test]
 fn fleet_on_one_thread(rt: HostRuntime) -> Result<(), Fail> {
     let meeting = Meeting::of(2);
-    let lists = [list_of(rt.alloc(), 1, 41)?, list_of(rt.alloc(), 1, 41)?];
+    let lists = lists_of(rt.alloc(), 2, 10, 61)?;
     let closed = steady_day(&rt, rt.alloc(), lists.as_slice(), &meeting)?;
-    assert!(rt; meeting.have_met());
-    assert!(rt; closed.entries().len() == 2);
+    assert!(rt; meeting.have_met() && has_totals(&closed, 20, 3_534_288_000));
+    assert!(rt; closed.sheets().len() == 21 && has_all_kept(&closed));
     Ok(())
 }
 
@@ -47,8 +37,7 @@ fn fleet_of_sixty_four(rt: HostRuntime) -> Result<(), Fail> {
     let meeting = Meeting::of(64);
     let lists = lists_of(rt.alloc(), 64, 1, 61)?;
     let closed = steady_day(&rt, rt.alloc(), lists.as_slice(), &meeting)?;
-    assert!(rt; meeting.have_met());
-    assert!(rt; has_totals(&closed, 64, 11_309_721_600));
+    assert!(rt; meeting.have_met() && has_totals(&closed, 64, 11_309_721_600));
     assert!(rt; closed.sheets().len() == 65 && has_all_kept(&closed));
     Ok(())
 }
