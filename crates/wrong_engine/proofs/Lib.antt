@@ -1,0 +1,3 @@
+pub mod Unlike
+pub mod Decimals
+pub mod Missing

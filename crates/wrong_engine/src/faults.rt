@@ -1,0 +1,51 @@
+//! Wrong bodies of what is said of a fault.
+use buck_apt::AptFault;
+use buck_engine::{EngineFault, conclude, explain, status, write_fault};
+use std::alloc::Global;
+
+/// Status 1, as after a refused file, where there are not 1 to 64 stem files.
+pub fn seats_as_a_refused_file() {
+    let wrong = 1;
+    let right = status(&EngineFault::Seats);
+    prove!(right != wrong);
+}
+
+/// Status 0 after a fault.
+pub fn conclude_status_0_after_a_fault(errors: &mut Vec<u8>) {
+    let wrong = 0;
+    let right = conclude(errors, &Err(EngineFault::Write));
+    prove!(right != wrong);
+}
+
+/// Status 1, as after a refused file, where the words are wrong.
+pub fn explain_usage_ends_with_1(output: &mut Vec<u8>, errors: &mut Vec<u8>) {
+    let wrong = 1;
+    let right = explain(output, errors, b"usage\n", true);
+    prove!(right != wrong);
+}
+
+/// The line of a fault without its number.
+pub fn fault_line_without_a_field(alloc: Global) {
+    let mut line = Vec::new(alloc);
+    let wrong = b"apt fault 15\n".as_slice();
+    let is_whole = write_fault(&mut line, &EngineFault::Apt(AptFault::Head { item: 15 }));
+    if is_whole {
+        prove!(line.as_slice() != wrong);
+    }
+}
+
+/// Says that the line was written where nothing was.
+pub fn write_fault_always_true(alloc: Global) {
+    let mut line = Vec::new(alloc);
+    let is_whole = write_fault(&mut line, &EngineFault::Seats);
+    let is_wrong = is_whole && line.is_empty();
+    prove!(!is_wrong);
+}
+
+/// Status 0 where nothing of the help was written.
+pub fn write_fault_taken_for_success(alloc: Global, errors: &mut Vec<u8>) {
+    let mut output = Vec::new(alloc);
+    let status = explain(&mut output, errors, b"help\n", false);
+    let is_wrong = status == 0 && output.is_empty();
+    prove!(!is_wrong);
+}

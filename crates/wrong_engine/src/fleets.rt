@@ -1,0 +1,55 @@
+//! Wrong bodies of a fleet over files.
+use buck_engine::{EngineFault, run_fleet_files};
+use buck_rule::{Rule, Standing, steady};
+use std::alloc::Global;
+use std::sync::Wait;
+use std::thread::Threads;
+
+/// 65 stem files are accepted.
+pub fn seats_65_accepted<T: Threads + Wait + Sync>(rt: &T, alloc: Global, out: &mut Vec<u8>) {
+    let rule = Rule::new(|s: &Standing| steady(s));
+    let mut instruction = b"".as_slice();
+    let mut stems = [b"".as_slice(); 65];
+    let right = run_fleet_files(
+        rt,
+        alloc,
+        &mut instruction,
+        &mut stems,
+        rule,
+        None::<&mut Vec<u8>>,
+        out,
+    );
+    let is_refused = right == Err(EngineFault::Seats);
+    prove!(is_refused);
+}
+
+/// The report is written before the journal.
+pub fn journal_after_the_report<'x, T: Threads + Wait + Sync>(
+    rt: &T,
+    alloc: Global,
+    apt: &'x [u8],
+    stms: &mut [&'x [u8]],
+) {
+    let rule = Rule::new(|s: &Standing| steady(s));
+    let mut instruction = apt;
+    let mut journal = Vec::new(alloc);
+    let mut report = Vec::new(alloc);
+    let outcome = run_fleet_files(
+        rt,
+        alloc,
+        &mut instruction,
+        stms,
+        rule,
+        Some(&mut journal),
+        &mut report,
+    );
+    if report.is_empty() {
+        return;
+    }
+    let is_unwritten = journal.is_empty();
+    match outcome {
+        Ok(()) => prove!(!is_unwritten),
+        Err(EngineFault::Write) => prove!(!is_unwritten),
+        Err(_) => unreachable!(),
+    }
+}
