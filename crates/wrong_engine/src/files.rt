@@ -1,5 +1,5 @@
 //! Wrong bodies of the engines over files of one thread.
-ghost use Rattle.std.specs.Prelude.{◌≡◌, ◌≢◌, ◌-◌, length, take, IsOk, Ok, Err};
+ghost use Rattle.std.specs.Prelude.{◌≡◌, ◌≢◌, ◌-◌, ◌<◌, length, take, IsOk, Ok, Err};
 ghost use Rattle.std.specs.List.{before_first, before_last};
 ghost use Rattle.buck_apt.specs.Instruction.{InstructionParts};
 ghost use Rattle.buck_apt.specs.Apt.{apt_of};
@@ -105,6 +105,32 @@ pub fn check_taken_for_lawful<'x>(
     let mut instruction = apt;
     let mut postings = journal;
     let right = run_check(alloc, &mut instruction, &mut postings, out);
+    let is_refused = right.is_err();
+    prove!(is_refused);
+}
+
+/// The journal is read although the instruction is refused.
+pub fn journal_read_before_the_instruction_is_refused<'x>(
+    alloc: Global,
+    apt: &'x [u8],
+    journal: &'x [u8],
+    out: &mut Vec<u8>,
+) {
+    let mut instruction = apt;
+    let mut postings = journal;
+    let outcome = run_check(alloc, &mut instruction, &mut postings, out);
+    let is_read = postings.len() != journal.len();
+    let is_wrong = is_read && matches!(outcome, Err(EngineFault::Apt(_)));
+    prove!(!is_wrong);
+}
+
+/// An instruction file that is longer than a file may be is read as one.
+pub fn longer_file_accepted<'x>(alloc: Global, apt: &'x [u8], stm: &'x [u8], out: &mut Vec<u8>)
+    requires long { 67108864 < length apt.now }
+{
+    let mut instruction = apt;
+    let mut stems = stm;
+    let right = run_buck(alloc, &mut instruction, &mut stems, out);
     let is_refused = right.is_err();
     prove!(is_refused);
 }

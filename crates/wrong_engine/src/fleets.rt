@@ -23,6 +23,29 @@ pub fn seats_65_accepted<T: Threads + Wait + Sync>(rt: &T, alloc: Global, out: &
     prove!(is_refused);
 }
 
+/// The instruction is read before the number of stem files is looked at.
+pub fn seats_told_after_the_instruction_was_read<'x, T: Threads + Wait + Sync>(
+    rt: &T,
+    alloc: Global,
+    apt: &'x [u8],
+    out: &mut Vec<u8>,
+) {
+    let rule = Rule::new(|s: &Standing| steady(s));
+    let mut instruction = apt;
+    let mut stems = [b"".as_slice(); 65];
+    let _ = run_fleet_files(
+        rt,
+        alloc,
+        &mut instruction,
+        &mut stems,
+        rule,
+        None::<&mut Vec<u8>>,
+        out,
+    );
+    let is_read = instruction.len() != apt.len();
+    prove!(!is_read);
+}
+
 /// The report is written before the journal.
 pub fn journal_after_the_report<'x, T: Threads + Wait + Sync>(
     rt: &T,

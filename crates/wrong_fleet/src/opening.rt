@@ -44,3 +44,37 @@ pub fn seat_all_one_harvester_twice<F: Fn(&Standing) -> u64 + Drop, L: Ledger, R
     prove!(right != wrong);
     Ok(opened)
 }
+
+/// A fleet is opened whose history has room for nothing.
+pub fn open_without_room<F: Fn(&Standing) -> u64 + Drop, L: Ledger, R: Wait>(
+    rt: &R,
+    alloc: Global,
+    blank: Blank,
+    instruction: Arc<Instruction>,
+    rule: Rule<F>,
+) -> Result<(Fleet<F, L>, Vec<Seat<L>>), OpenFault>
+    requires blank { (blank.name ≡ L.name) × (blank.parts ≡ L.parts) × (blank.parts ≡ 64) }
+{
+    let opened = Fleet::<F, L>::open(rt, alloc, blank, instruction, rule, 1, 0);
+    let right = opened.is_ok();
+    let wrong = true;
+    prove!(right != wrong);
+    opened
+}
+
+/// A fleet is opened whose history has room for a posting too many.
+pub fn open_with_room_for_one_more<F: Fn(&Standing) -> u64 + Drop, L: Ledger, R: Wait>(
+    rt: &R,
+    alloc: Global,
+    blank: Blank,
+    instruction: Arc<Instruction>,
+    rule: Rule<F>,
+) -> Result<(Fleet<F, L>, Vec<Seat<L>>), OpenFault>
+    requires blank { (blank.name ≡ L.name) × (blank.parts ≡ L.parts) × (blank.parts ≡ 64) }
+{
+    let opened = Fleet::<F, L>::open(rt, alloc, blank, instruction, rule, 1, 1_000_001);
+    let right = opened.is_ok();
+    let wrong = true;
+    prove!(right != wrong);
+    opened
+}

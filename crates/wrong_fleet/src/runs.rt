@@ -96,3 +96,34 @@ pub fn run_fleet_turned_around<
     }
     Ok(seats)
 }
+
+/// A fault is told although the one seat's whole list was cut.
+pub fn run_stopped_after_all_was_cut<
+    F: Fn(&Standing) -> u64 + Drop + Send,
+    L: Ledger + Send + Sync,
+    R: Threads + Wait + Sync,
+    G: Gate + Sync,
+>(
+    rt: &R,
+    alloc: Global,
+    fleet: &Fleet<F, L>,
+    seats: Vec<Seat<L>>,
+    lists: &[Vec<Arc<Stem>>],
+    gate: &G,
+) -> Result<Vec<Seat<L>>, (RunFault, Vec<Seat<L>>)>
+    requires answers { AllAnswer F.Fn }
+    requires lists { length seats.items ≡ length lists.now }
+    requires seats { All (IsSeatIn fleet.now) seats.items }
+    requires one { length lists.now ≡ 1 }
+{
+    let before = seats[0].kept().len();
+    match run_fleet(rt, alloc, fleet, seats, lists, gate) {
+        Ok(seats) => Ok(seats),
+        Err((fault, seats)) => {
+            let right = seats[0].kept().len();
+            let wrong = before.saturating_add(lists[0].len());
+            prove!(right != wrong);
+            Err((fault, seats))
+        }
+    }
+}
