@@ -1,219 +1,216 @@
 //! Histories worked out by hand.
-use crate::callers::{commit_both, cut_times};
+ghost use Rattle.std.specs.Prelude.{◌≡◌};
+ghost use Rattle.buck_rule.specs.Stored.{Answers};
+
+use crate::callers::{cut_times, demand};
 use crate::fixtures::*;
-use buck_book::{Book, Entry, Posting};
+use buck_book::Book;
 use buck_rule::{Rule, Standing, linear, step};
-use buck_samples::{MAX, instruction_of, saw_instruction, uniform_stem};
-use buck_value::Log;
+use buck_stem::Stem;
 use std::sync::Arc;
 use std::test::Fail;
 
-#[test]
-fn opened(rt: HostRuntime) -> Result<(), Fail> {
-    let rule = Rule::new(|s: &Standing| step(s));
-    let book = saw_day(&rt, rule, (1, 500, "1 1 1 1"), 41, 0)?;
-    assert!(rt; has_entries(&book, &[]));
-    assert!(rt; has_sheets(&book, &[[400, 500, 600, 800]]));
-    Ok(())
+/// What harvester 1 does: it cuts a stem of 4,000 mm and 250 mm, or puts new targets in force.
+#[derive(Clone, Copy)]
+enum Does {
+    Cut,
+    Demand([u32; 4]),
 }
 
-#[test]
-fn step_rule_two_stems(rt: HostRuntime) -> Result<(), Fail> {
-    let rule = Rule::new(|s: &Standing| step(s));
-    let book = saw_day(&rt, rule, (1, 500, "1 1 1 1"), 41, 2)?;
-    let entries = [OneLog(1, 0, 4000, LONG), OneLog(2, 1, 3000, 132_535_800)];
-    let sheets = [
-        [400, 500, 600, 800],
-        [600, 750, 900, 400],
-        [600, 750, 300, 400],
-    ];
-    assert!(rt; has_entries(&book, &entries));
-    assert!(rt; has_sheets(&book, &sheets));
-    assert!(rt; has_counts(&book, [0, 0, 1, 1]));
-    Ok(())
-}
+/// The period, the limit and the targets, whether the rule is the linear one and not the step, what is done, the
+/// prices of the first sheets, the class counts, and all postings.
+type History = (
+    (u32, u32, &'static str),
+    bool,
+    &'static [Does],
+    &'static [[u32; 4]],
+    [u32; 4],
+    &'static [Wanted],
+);
 
-#[test]
-fn period_of_two(rt: HostRuntime) -> Result<(), Fail> {
-    let rule = Rule::new(|s: &Standing| step(s));
-    let book = saw_day(&rt, rule, (2, 500, "1 1 1 1"), 41, 2)?;
-    let entries = [OneLog(1, 0, 4000, LONG), OneLog(2, 0, 4000, LONG)];
-    let sheets = [[400, 500, 600, 800], [600, 750, 900, 400]];
-    assert!(rt; has_entries(&book, &entries));
-    assert!(rt; has_sheets(&book, &sheets));
-    Ok(())
-}
+/// What a log of 4,000 mm is that opens a history.
+const FIRST: Wanted = Wanted::Cut(OneLog(1, 0, 4000, LONG));
 
-#[test]
-fn within_a_period(rt: HostRuntime) -> Result<(), Fail> {
-    let rule = Rule::new(|s: &Standing| step(s));
-    let book = saw_day(&rt, rule, (2, 500, "1 1 1 1"), 41, 1)?;
-    assert!(rt; has_entries(&book, &[OneLog(1, 0, 4000, LONG)]));
-    assert!(rt; has_sheets(&book, &[[400, 500, 600, 800]]));
-    Ok(())
-}
+const HISTORIES: [History; 10] = [
+    ((1, 500, "1 1 1 1"), false, &[], &[BASE], [0; 4], &[]),
+    (
+        (1, 500, "1 1 1 1"),
+        false,
+        &[Does::Cut, Does::Cut],
+        &[BASE, [600, 750, 900, 400], [600, 750, 300, 400]],
+        [0, 0, 1, 1],
+        &[FIRST, Wanted::Cut(OneLog(2, 1, 3000, 132_535_800))],
+    ),
+    (
+        (2, 500, "1 1 1 1"),
+        false,
+        &[Does::Cut, Does::Cut],
+        &[BASE, [600, 750, 900, 400]],
+        [0, 0, 0, 2],
+        &[FIRST, Wanted::Cut(OneLog(2, 0, 4000, LONG))],
+    ),
+    (
+        (1, 500, "0 0 0 0"),
+        false,
+        &[Does::Cut, Does::Cut],
+        &[BASE, BASE, BASE],
+        [0, 0, 0, 2],
+        &[FIRST, Wanted::Cut(OneLog(2, 1, 4000, LONG))],
+    ),
+    (
+        (1, 1000, "1 1 1 1"),
+        false,
+        &[Does::Cut, Does::Cut, Does::Cut],
+        &[BASE, [800, 1000, 1200, 0], [800, 1000, 0, 0]],
+        [0, 0, 2, 1],
+        &[
+            FIRST,
+            Wanted::Cut(OneLog(2, 1, 3000, 176_714_400)),
+            Wanted::Cut(OneLog(3, 2, 3000, 0)),
+        ],
+    ),
+    (
+        (1, 500, "1 1 1 1"),
+        true,
+        &[Does::Cut, Does::Cut, Does::Cut],
+        &[BASE, [600, 750, 900, 500], [600, 750, 450, 600]],
+        [0, 0, 1, 2],
+        &[
+            FIRST,
+            Wanted::Cut(OneLog(2, 1, 3000, 132_535_800)),
+            Wanted::Cut(OneLog(3, 2, 4000, 117_810_000)),
+        ],
+    ),
+    (
+        (1, 500, "1 1 1 1"),
+        false,
+        &[Does::Cut, Does::Demand([0, 0, 0, 4]), Does::Cut],
+        &[BASE, [600, 750, 900, 400], BASE, BASE],
+        [0, 0, 0, 2],
+        &[
+            FIRST,
+            Wanted::Demand(2, 1, [0, 0, 0, 4]),
+            Wanted::Cut(OneLog(3, 2, 4000, LONG)),
+        ],
+    ),
+    (
+        (2, 500, "1 1 1 1"),
+        false,
+        &[Does::Cut, Does::Demand([1; 4]), Does::Cut, Does::Cut],
+        &[BASE, [600, 750, 900, 400], [600, 750, 300, 400]],
+        [0, 0, 2, 1],
+        &[
+            FIRST,
+            Wanted::Demand(2, 0, [1; 4]),
+            Wanted::Cut(OneLog(3, 1, 3000, 132_535_800)),
+            Wanted::Cut(OneLog(4, 1, 3000, 132_535_800)),
+        ],
+    ),
+    (
+        (1, 500, "1 1 1 1"),
+        false,
+        &[Does::Demand([0; 4])],
+        &[BASE, BASE],
+        [0; 4],
+        &[Wanted::Demand(1, 0, [0; 4])],
+    ),
+    (
+        (2, 500, "1 1 1 1"),
+        false,
+        &[Does::Cut, Does::Demand([0, 0, 0, 4]), Does::Demand([1; 4])],
+        &[BASE, BASE, [600, 750, 900, 400]],
+        [0, 0, 0, 1],
+        &[
+            FIRST,
+            Wanted::Demand(2, 0, [0, 0, 0, 4]),
+            Wanted::Demand(3, 1, [1; 4]),
+        ],
+    ),
+];
 
-#[test]
-fn no_targets(rt: HostRuntime) -> Result<(), Fail> {
-    let rule = Rule::new(|s: &Standing| step(s));
-    let book = saw_day(&rt, rule, (1, 500, "0 0 0 0"), 41, 2)?;
-    let entries = [OneLog(1, 0, 4000, LONG), OneLog(2, 1, 4000, LONG)];
-    let base = [400, 500, 600, 800];
-    assert!(rt; has_entries(&book, &entries));
-    assert!(rt; has_sheets(&book, &[base, base, base]));
-    Ok(())
-}
-
-#[test]
-fn price_falls_to_zero(rt: HostRuntime) -> Result<(), Fail> {
-    let rule = Rule::new(|s: &Standing| step(s));
-    let book = saw_day(&rt, rule, (1, 1000, "1 1 1 1"), 41, 2)?;
-    let sheets = [
-        [400, 500, 600, 800],
-        [800, 1000, 1200, 0],
-        [800, 1000, 0, 0],
-    ];
-    assert!(rt; has_sheets(&book, &sheets));
-    Ok(())
-}
-
-#[test]
-fn logs_worth_nothing(rt: HostRuntime) -> Result<(), Fail> {
-    let rule = Rule::new(|s: &Standing| step(s));
-    let book = saw_day(&rt, rule, (1, 1000, "1 1 1 1"), 41, 3)?;
-    let entries = [
-        OneLog(1, 0, 4000, LONG),
-        OneLog(2, 1, 3000, 176_714_400),
-        OneLog(3, 2, 3000, 0),
-    ];
-    assert!(rt; has_entries(&book, &entries));
-    Ok(())
-}
-
-#[test]
-fn linear_rule_two_stems(rt: HostRuntime) -> Result<(), Fail> {
-    let rule = Rule::new(|s: &Standing| linear(s));
-    let book = saw_day(&rt, rule, (1, 500, "1 1 1 1"), 41, 2)?;
-    let sheets = [
-        [400, 500, 600, 800],
-        [600, 750, 900, 500],
-        [600, 750, 450, 600],
-    ];
-    assert!(rt; has_sheets(&book, &sheets));
-    Ok(())
-}
-
-#[test]
-fn linear_rule_three_stems(rt: HostRuntime) -> Result<(), Fail> {
-    let rule = Rule::new(|s: &Standing| linear(s));
-    let book = saw_day(&rt, rule, (1, 500, "1 1 1 1"), 41, 3)?;
-    let entries = [
-        OneLog(1, 0, 4000, LONG),
-        OneLog(2, 1, 3000, 132_535_800),
-        OneLog(3, 2, 4000, 117_810_000),
-    ];
-    assert!(rt; has_entries(&book, &entries));
-    Ok(())
-}
-
-/// Whether a book tells the numbers of two entries of harvester 1, and of three sheets.
-fn tells_two_entries<F: Drop>(book: &Book<F>) -> bool {
-    book.len() == 2
-        && book.capacity() == 10
-        && book.calls(1) == 2
-        && book.calls(2) == 0
-        && book.sheets().len() == 3
-}
-
-#[test]
-fn what_a_book_tells(rt: HostRuntime) -> Result<(), Fail> {
-    let rule = Rule::new(|s: &Standing| step(s));
-    let book = saw_day(&rt, rule, (1, 500, "1 1 1 1"), 41, 2)?;
-    let instruction = saw_instruction(rt.alloc(), 1, 500, "1 1 1 1")?;
-    assert!(rt; book.instruction().same(&instruction));
-    assert!(rt; tells_two_entries(&book));
-    Ok(())
-}
-
-#[test]
-fn parts_of_a_book(rt: HostRuntime) -> Result<(), Fail> {
-    let rule = Rule::new(|s: &Standing| step(s));
-    let book = saw_day(&rt, rule, (1, 500, "1 1 1 1"), 41, 2)?;
-    let parts = book.into_parts();
-    assert_eq!(rt; parts.sheets.len(), 3);
-    assert_eq!(rt; parts.entries.len(), 2);
-    assert!(rt; parts.targets.as_slice() == [1, 1, 1, 1].as_slice());
-    assert!(rt; parts.counts.as_slice() == [0, 0, 1, 1].as_slice());
-    Ok(())
-}
-
-/// Whether an entry is a harvester's first, under the base sheet.
-fn is_first(entry: &Entry, harvester: u32) -> bool {
-    entry.harvester == harvester && entry.number == 1 && entry.version == 0
-}
-
-/// Whether each of two harvesters has one entry, and the period has ended.
-fn tells_two_harvesters<F: Drop>(book: &Book<F>) -> bool {
-    book.calls(1) == 1 && book.calls(2) == 1 && book.version() == 1
-}
-
-#[test]
-fn two_harvesters_in_one_period(rt: HostRuntime) -> Result<(), Fail> {
-    let rule = Rule::new(|s: &Standing| step(s));
-    let mut book = saw_day(&rt, rule, (2, 500, "1 1 1 1"), 41, 0)?;
-    let stem = stem_of_samples(&rt, 41)?;
-    let (one, two) = (plan_for(&rt, &book, &stem)?, plan_for(&rt, &book, &stem)?);
-    let (first, second) = commit_both(rt.alloc(), &mut book, one, two)?;
-    assert!(rt; is_first(&first, 1));
-    assert!(rt; is_first(&second, 2));
-    assert!(rt; tells_two_harvesters(&book));
-    Ok(())
-}
-
-#[test]
-fn entries_again(rt: HostRuntime) -> Result<(), Fail> {
-    let rule = Rule::new(|s: &Standing| step(s));
-    let book = saw_day(&rt, rule, (2, 500, "1 1 1 1"), 41, 2)?;
-    let entries = book.entries();
-    assert!(rt; entries.len() == 2);
-    let again = entries[0].clone()?;
-    assert!(rt; again.same(&entries[0]));
-    assert!(rt; !again.same(&entries[1]));
-    Ok(())
-}
-
-/// Whether an entry has so many logs, of which this is the last, and this worth.
-fn ends_with(entry: &Entry, number: usize, start: u32, length: u32, worth: u64) -> bool {
-    let last = Log {
-        start,
-        length,
-        assortment: 0,
-    };
-    let logs = entry.cutting.logs.as_slice();
-    logs.len() == number && logs.last() == Some(&last) && entry.worth == worth
-}
-
-#[test]
-fn largest_numbers(rt: HostRuntime) -> Result<(), Fail> {
-    let rule = Rule::new(|s: &Standing| step(s));
-    let instruction = instruction_of(rt.alloc(), MAX)?;
-    let stem = Arc::new(rt.alloc(), uniform_stem(rt.alloc(), 401, 1500)?)?;
-    let mut book = Book::open(rt.alloc(), instruction, rule, 1_000_000)?;
-    cut_times(rt.alloc(), &mut book, &stem, 2)?;
-    assert!(rt; are_largest(book.entries()));
-    assert!(rt;
-        book.sheets().len() == 3 && book.sheets()[1].prices() == [0, 20_000_000].as_slice()
-    );
-    Ok(())
-}
-
-/// Whether the first entry has 80 logs of 500 mm, and the second 21, of which the last takes 30,000 mm.
-fn are_largest(entries: &[Posting]) -> bool {
-    match entries {
-        [Posting::Cut(first), Posting::Cut(second)] => {
-            ends_with(first, 80, 39_500, 500, 706_860_000_000_000)
-                && ends_with(second, 21, 10_000, 30_000, 1_060_290_000_000_000)
+/// Does one thing in a book.
+fn do_one<F: Fn(&Standing) -> u64 + Drop>(
+    rt: &HostRuntime,
+    book: &mut Book<F>,
+    stem: &Arc<Stem>,
+    what: Does,
+) -> Result<(), Fail>
+    requires { Answers F.Fn book.old.rule }
+    ensures { book.new.rule ≡ book.old.rule }
+{
+    match what {
+        Does::Cut => cut_times(rt.alloc(), book, stem, 1)?,
+        Does::Demand(targets) => {
+            let targets = targets_of(rt, targets.as_slice())?;
+            let _ = demand(rt.alloc(), book, &targets, 1)?;
         }
-        _ => false,
     }
+    Ok(())
+}
+
+/// Does some things in a book, one after the other.
+fn do_all<F: Fn(&Standing) -> u64 + Drop>(
+    rt: &HostRuntime,
+    book: &mut Book<F>,
+    stem: &Arc<Stem>,
+    does: &[Does],
+) -> Result<(), Fail>
+    requires { Answers F.Fn book.old.rule }
+    ensures { book.new.rule ≡ book.old.rule }
+{
+    for what in does {
+        do_one(rt, book, stem, *what)?;
+    }
+    Ok(())
+}
+
+/// Whether a book is that of a row.
+fn is_as_told<F: Drop>(book: Book<F>, row: History) -> bool {
+    if !begins_with(&book, row.3) || !has_postings(&book, row.5) {
+        return false;
+    }
+    book.into_parts().counts.as_slice() == row.4.as_slice()
+}
+
+/// Whether the history of a row is as it was worked out.
+fn is_right(rt: &HostRuntime, row: History) -> Result<bool, Fail> {
+    let is_linear = row.1;
+    let rule = Rule::new(move |s: &Standing| if is_linear { linear(s) } else { step(s) });
+    let mut book = saw_day(rt, rule, row.0, 0)?;
+    let stem = long_stem(rt)?;
+    do_all(rt, &mut book, &stem, row.2)?;
+    Ok(is_as_told(book, row))
+}
+
+/// The place of the first row, counted from 1, whose history differs; 0 where none does.
+fn wrong_history(rt: &HostRuntime) -> Result<usize, Fail> {
+    let mut at: usize = 0;
+    for row in HISTORIES {
+        at = at.saturating_add(1);
+        if !is_right(rt, row)? {
+            return Ok(at);
+        }
+    }
+    Ok(0)
+}
+
+#[test]
+fn histories(rt: HostRuntime) -> Result<(), Fail> {
+    assert_eq!(rt; wrong_history(&rt)?, 0);
+    Ok(())
+}
+
+/// A plan from before a demand is refused as stale, and one of the sheet that came after it isn't.
+#[test]
+fn plan_from_before_a_demand(rt: HostRuntime) -> Result<(), Fail> {
+    let rule = Rule::new(|s: &Standing| step(s));
+    let mut book = saw_day(&rt, rule, (2, 500, "1 1 1 1"), 0)?;
+    let stem = long_stem(&rt)?;
+    let stale = plan_for(&rt, &book, &stem)?;
+    do_one(&rt, &mut book, &stem, Does::Demand([1; 4]))?;
+    assert!(rt; is_stale(&rt, &mut book, &stale, 1, &BASE));
+    let fresh = plan_for(&rt, &book, &stem)?;
+    let entry = commit(&rt, &mut book, fresh)?;
+    assert!(rt; is_one_log(&entry, OneLog(2, 1, 4000, LONG)));
+    Ok(())
 }

@@ -1,9 +1,8 @@
-//! Tests of the book of one thread: histories worked out by hand, refusals, refused memory, and what a caller writes.
+//! Tests of books and journals: histories and targets worked out by hand, what callers write, both ways of the reader of
+//! journals, texts of faults, and refused memory.
 #![tactic(auto)]
 
 pub mod callers;
-#[cfg(test)]
-mod demands;
 #[cfg(test)]
 mod fixtures;
 #[cfg(test)]
@@ -11,6 +10,8 @@ mod histories;
 #[cfg(test)]
 mod memory;
 #[cfg(test)]
-mod refusals;
-#[cfg(test)]
 mod targets;
+#[cfg(test)]
+mod texts;
+#[cfg(test)]
+mod ways;

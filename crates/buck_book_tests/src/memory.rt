@@ -1,11 +1,14 @@
-//! Refused memory: a book is then as before, and goes on. Run with each allocation failing in turn.
+//! Refused memory: a book is then as before, and goes on; what is written, read or judged of a journal is refused as
+//! `Memory`, and else as with ample memory. Run with each allocation failing in turn.
 ghost use Rattle.std.specs.Prelude.{◌≡◌};
 ghost use Rattle.buck_rule.specs.Stored.{Answers};
 
 use crate::callers::demand;
 use crate::fixtures::*;
-use buck_book::{Book, DemandRefusal, Plan, Refusal};
+use buck_book::{Book, Demand, DemandRefusal, Plan, Posting, Refusal};
+use buck_journal::{Journal, ReplayFault, journal_text, read_journal, replay};
 use buck_rule::{Rule, Standing, step};
+use buck_samples::{SHORT_JOURNAL, edited, saw_instruction, two_stem_journal};
 use std::sync::Arc;
 use std::test::Fail;
 
@@ -20,9 +23,9 @@ fn with_memory(is_refused: bool) -> Result<(), Fail> {
 /// Whether a book is that of one stem.
 fn is_after_one_stem<F: Drop>(book: &Book<F>) -> bool {
     book.calls(1) == 1
-        && has_entries(book, &[OneLog(1, 0, 4000, LONG)])
-        && has_sheets(book, &[[400, 500, 600, 800], [600, 750, 900, 400]])
-        && has_counts(book, [0, 0, 0, 1])
+        && book.version() == 1
+        && has_postings(book, &[Wanted::Cut(OneLog(1, 0, 4000, LONG))])
+        && begins_with(book, &[BASE, [600, 750, 900, 400]])
 }
 
 /// Whether a plan is refused for want of memory; it is prepared, or refused for nothing else.
@@ -44,14 +47,14 @@ fn is_refused_memory<F: Fn(&Standing) -> u64>(
 #[test]
 fn refused_memory(rt: HostRuntime) -> Result<(), Fail> {
     let rule = Rule::new(|s: &Standing| step(s));
-    let mut book = saw_day(&rt, rule, (1, 500, "1 1 1 1"), 41, 1)?;
-    let stem = stem_of_samples(&rt, 41)?;
+    let mut book = saw_day(&rt, rule, (1, 500, "1 1 1 1"), 1)?;
+    let stem = long_stem(&rt)?;
     let plan = plan_for(&rt, &book, &stem)?;
     assert!(rt; is_after_one_stem(&book));
     let is_refused = is_refused_memory(&rt, &mut book, &plan)?;
     assert!(rt; is_after_one_stem(&book));
     let second = commit(&rt, &mut book, plan)?;
-    assert!(rt; is_one_log(&second, &OneLog(2, 1, 3000, 132_535_800)));
+    assert!(rt; is_one_log(&second, OneLog(2, 1, 3000, 132_535_800)));
     with_memory(is_refused)
 }
 
@@ -74,11 +77,81 @@ fn is_demand_refused_memory<F: Fn(&Standing) -> u64>(
 #[test]
 fn refused_memory_of_a_demand(rt: HostRuntime) -> Result<(), Fail> {
     let rule = Rule::new(|s: &Standing| step(s));
-    let mut book = saw_day(&rt, rule, (1, 500, "1 1 1 1"), 41, 1)?;
+    let mut book = saw_day(&rt, rule, (1, 500, "1 1 1 1"), 1)?;
     let targets = targets_of(&rt, &[0, 0, 0, 4])?;
     let is_refused = is_demand_refused_memory(&rt, &mut book, &targets)?;
     assert!(rt; is_after_one_stem(&book));
     let answered = demand(rt.alloc(), &mut book, &targets, 1)?;
     assert!(rt; says(&answered, 2, 1, &[0, 0, 0, 4]));
     with_memory(is_refused)
+}
+
+#[test]
+fn refused_memory_of_a_text(rt: HostRuntime) -> Result<(), Fail> {
+    let targets = targets_of(&rt, &[7])?;
+    let second = Posting::Demand(Demand {
+        harvester: 64,
+        number: 2,
+        version: 1,
+        targets,
+    });
+    let text = journal_text(rt.alloc(), &[], &[second])?;
+    let want = b"1 2 JRN~\n982 1 64 2 1~\n982 2 7~\n";
+    assert!(rt; text.as_slice() == want.as_slice());
+    Ok(())
+}
+
+#[test]
+fn refused_memory_of_a_reading(rt: HostRuntime) -> Result<(), Fail> {
+    let journal = read_journal(rt.alloc(), SHORT_JOURNAL.as_bytes())?;
+    assert!(rt; journal.sheets.len() == 1 && journal.entries.len() == 2);
+    Ok(())
+}
+
+/// The journal of two stems, in which the second cutting is worth more than is said.
+fn cheap(rt: &HostRuntime) -> Result<Journal, Fail> {
+    let text = edited(
+        rt.alloc(),
+        two_stem_journal(rt.alloc())?.as_str(),
+        "132535800",
+        "132535799",
+    )?;
+    Ok(read_journal(rt.alloc(), text.as_bytes())?)
+}
+
+#[test]
+fn refused_memory_of_a_replay(rt: HostRuntime) -> Result<(), Fail> {
+    let instruction = saw_instruction(rt.alloc(), 1, 500, "1 1 1 1")?;
+    let journal = cheap(&rt)?;
+    if journal.entries.len() > 2 {
+        return Err(Fail::from("more than two postings"));
+    }
+    match replay(rt.alloc(), &instruction, &journal) {
+        Err(ReplayFault::Worth { at: 1 }) => Ok(()),
+        Err(fault) => Err(Fail::from(fault)),
+        Ok(()) => Err(Fail::from("the journal was found lawful")),
+    }
+}
+
+#[test]
+fn refused_memory_of_a_lawful_replay(rt: HostRuntime) -> Result<(), Fail> {
+    let instruction = saw_instruction(rt.alloc(), 1, 500, "1 1 1 1")?;
+    let text = two_stem_journal(rt.alloc())?;
+    let journal = read_journal(rt.alloc(), text.as_bytes())?;
+    if journal.entries.len() > 2 {
+        return Err(Fail::from("more than two postings"));
+    }
+    Ok(replay(rt.alloc(), &instruction, &journal)?)
+}
+
+#[test]
+fn refused_memory_of_a_second_posting(rt: HostRuntime) -> Result<(), Fail> {
+    let journal = read_journal(rt.alloc(), SHORT_JOURNAL.as_bytes())?;
+    assert!(rt; journal.entries.len() == 2);
+    let (cut, demand) = (&journal.entries[0], &journal.entries[1]);
+    let again = cut.clone()?;
+    assert!(rt; again.same(cut) && !again.same(demand));
+    let again = demand.clone()?;
+    assert!(rt; again.same(demand) && !again.same(cut));
+    Ok(())
 }

@@ -1,8 +1,6 @@
-//! Sheets, logs, and whether a cutting is the best.
-use buck_dp::best;
+//! Sheets and logs.
 use buck_samples::instruction_of;
-use buck_stem::Stem;
-use buck_value::{Log, Sheet};
+use buck_value::{Log, Sheet, SheetFault};
 use std::test::Fail;
 
 /// The sheet of the base prices of a text's instruction.
@@ -11,11 +9,15 @@ pub fn base_of(rt: &HostRuntime, text: &str) -> Result<Sheet, Fail> {
     Ok(Sheet::base(rt.alloc(), instruction)?)
 }
 
-/// The sheet of a text's instruction and these prices, of version 1.
-pub fn sheet_with(rt: &HostRuntime, text: &str, prices: &[u32]) -> Result<Sheet, Fail> {
+/// The sheet of a text's instruction and these prices, of version 1, or why they are refused.
+pub fn sheet_with(
+    rt: &HostRuntime,
+    text: &str,
+    prices: &[u32],
+) -> Result<Result<Sheet, SheetFault>, Fail> {
     let prices = prices.to_vec(rt.alloc())?;
     let instruction = instruction_of(rt.alloc(), text)?;
-    Ok(Sheet::with_prices(instruction, 1, prices)?)
+    Ok(Sheet::with_prices(instruction, 1, prices))
 }
 
 /// A log that starts so many mm from the butt, of a length in mm and an assortment.
@@ -25,16 +27,4 @@ pub fn log(start: u32, length: u32, assortment: u8) -> Log {
         length,
         assortment,
     }
-}
-
-/// Whether the best cutting of a stem has these logs and this worth.
-pub fn is_best(
-    rt: &HostRuntime,
-    sheet: &Sheet,
-    stem: &Stem,
-    logs: &[Log],
-    worth: u64,
-) -> Result<bool, Fail> {
-    let (cutting, total) = best(rt.alloc(), sheet, stem)?;
-    Ok(cutting.logs.as_slice() == logs && total == worth)
 }

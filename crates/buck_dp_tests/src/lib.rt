@@ -1,21 +1,16 @@
-//! Tests of the best cutting: cuttings worked out by hand, and a plain search over all lists of logs.
+//! Tests of sheets, bids and cuttings: classes and prices worked out by hand, a plain search over all lists of logs, and
+//! refused memory.
 #![tactic(auto)]
 
 #[cfg(test)]
-mod cuttings;
+mod bids;
 #[cfg(test)]
 mod fixtures;
 #[cfg(test)]
-mod largest;
-#[cfg(test)]
 mod memory;
 #[cfg(test)]
-mod outside;
-#[cfg(test)]
-mod planners;
+mod sheets;
 #[cfg(test)]
 mod slow;
 #[cfg(test)]
 mod small_stems;
-#[cfg(test)]
-mod trims;

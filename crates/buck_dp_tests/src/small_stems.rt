@@ -1,12 +1,14 @@
-//! The best cutting of many small stems, against the plain search.
+//! What planners cut of many small stems, one after the other, against the plain search.
 ghost use Rattle.std.specs.Prelude.{◌<◌};
 
-use crate::fixtures::{base_of, is_best, sheet_with};
+use crate::fixtures::{base_of, sheet_with};
 use crate::slow::slow_best;
+use buck_dp::Planner;
 use buck_samples::{stem_of, uniform_stem};
 use buck_stem::Stem;
 use buck_value::Sheet;
 use std::alloc::AllocError;
+use std::sync::Arc;
 use std::test::Fail;
 
 /// Two assortments by volume and one by the piece, with like prices and one class that isn't bought.
@@ -84,80 +86,124 @@ fn some_prices(rt: &HostRuntime, bases: &[u32], seed: u64) -> Result<Vec<u32>, A
     Ok(prices)
 }
 
-/// Whether `best` gives the first of the best lists of logs, and its worth.
-fn agrees(rt: &HostRuntime, sheet: &Sheet, stem: &Stem) -> Result<bool, Fail> {
-    let (first, most) = slow_best(rt, sheet, stem)?;
-    is_best(rt, sheet, stem, first.as_slice(), most)
+/// Whether a planner gives the first of the best lists of logs, and its worth.
+fn agrees(rt: &HostRuntime, planner: &mut Planner, stem: &Stem) -> Result<bool, Fail> {
+    let (first, most) = slow_best(rt, planner.sheet(), stem)?;
+    let (cutting, worth) = planner.best(rt.alloc(), stem)?;
+    Ok(cutting.logs.as_slice() == first.as_slice() && worth == most)
 }
 
 /// The same at the small stem of a seed.
-fn agrees_at(rt: &HostRuntime, sheet: &Sheet, seed: u64) -> Result<bool, Fail> {
+fn agrees_at(rt: &HostRuntime, planner: &mut Planner, seed: u64) -> Result<bool, Fail> {
     let stem = small_stem(rt, seed)?;
-    agrees(rt, sheet, &stem)
+    agrees(rt, planner, &stem)
+}
+
+/// The same at the small stems of seeds that follow on one another.
+fn agrees_from(
+    rt: &HostRuntime,
+    planner: &mut Planner,
+    seed: u64,
+    number: u64,
+) -> Result<bool, Fail> {
+    for more in 0..number {
+        if !agrees_at(rt, planner, seed.saturating_add(more))? {
+            return Ok(false);
+        }
+    }
+    Ok(true)
+}
+
+/// A planner under a sheet.
+fn planner_of(rt: &HostRuntime, sheet: Sheet) -> Result<Planner, Fail> {
+    let sheet = Arc::new(rt.alloc(), sheet)?;
+    Ok(Planner::make(rt.alloc(), sheet)?)
 }
 
 #[test]
 fn at_base_prices(rt: HostRuntime) -> Result<(), Fail> {
-    let sheet = base_of(&rt, SMALL)?;
-    for seed in 0..30 {
-        assert!(rt; agrees_at(&rt, &sheet, seed)?, "seed {seed}");
-    }
+    let mut planner = planner_of(&rt, base_of(&rt, SMALL)?)?;
+    assert!(rt; agrees_from(&rt, &mut planner, 0, 30)?);
     Ok(())
 }
 
 #[test]
 fn with_trims(rt: HostRuntime) -> Result<(), Fail> {
-    let sheet = base_of(&rt, TRIMMED)?;
-    for seed in 300..330 {
-        assert!(rt; agrees_at(&rt, &sheet, seed)?, "seed {seed}");
-    }
-    Ok(())
-}
-
-/// The same at the small stem and the prices of a seed.
-fn agrees_at_prices(rt: &HostRuntime, bases: &[u32], seed: u64) -> Result<bool, Fail> {
-    let prices = some_prices(rt, bases, seed)?;
-    let sheet = sheet_with(rt, SMALL, prices.as_slice())?;
-    agrees_at(rt, &sheet, seed)
-}
-
-#[test]
-fn at_other_prices(rt: HostRuntime) -> Result<(), Fail> {
-    let bases = base_of(&rt, SMALL)?;
-    for seed in 100..130 {
-        assert!(rt; agrees_at_prices(&rt, bases.prices(), seed)?, "seed {seed}");
-    }
+    let mut planner = planner_of(&rt, base_of(&rt, TRIMMED)?)?;
+    assert!(rt; agrees_from(&rt, &mut planner, 300, 30)?);
     Ok(())
 }
 
 #[test]
 fn where_all_is_worth_nothing(rt: HostRuntime) -> Result<(), Fail> {
-    let sheet = sheet_with(&rt, SMALL, &[0; 11])?;
-    for seed in 200..210 {
-        assert!(rt; agrees_at(&rt, &sheet, seed)?, "seed {seed}");
-    }
+    let mut planner = planner_of(&rt, sheet_with(&rt, SMALL, &[0; 11])??)?;
+    assert!(rt; agrees_from(&rt, &mut planner, 200, 10)?);
     Ok(())
 }
 
-/// The same at a stem of one diameter.
-fn agrees_in(rt: &HostRuntime, sheet: &Sheet, count: usize, diameter: u16) -> Result<bool, Fail> {
-    let stem = uniform_stem(rt.alloc(), count, diameter)?;
-    agrees(rt, sheet, &stem)
+/// Whether a planner that is renewed with the prices of a seed agrees at the small stem of that seed.
+fn agrees_renewed(
+    rt: &HostRuntime,
+    planner: &mut Planner,
+    bases: &[u32],
+    seed: u64,
+) -> Result<bool, Fail> {
+    let prices = some_prices(rt, bases, seed)?;
+    let sheet = sheet_with(rt, SMALL, prices.as_slice())??;
+    planner.renew(rt.alloc(), Arc::new(rt.alloc(), sheet)?)?;
+    agrees_at(rt, planner, seed)
+}
+
+/// The same for seeds that follow on one another.
+fn agrees_under_one_after_another(
+    rt: &HostRuntime,
+    planner: &mut Planner,
+    bases: &[u32],
+) -> Result<bool, Fail> {
+    for seed in 100..130 {
+        if !agrees_renewed(rt, planner, bases, seed)? {
+            return Ok(false);
+        }
+    }
+    Ok(true)
+}
+
+/// Under one sheet after another, and at last under one of another instruction.
+#[test]
+fn at_other_prices(rt: HostRuntime) -> Result<(), Fail> {
+    let base = base_of(&rt, SMALL)?;
+    let mut planner = planner_of(&rt, base_of(&rt, SMALL)?)?;
+    assert!(rt; agrees_under_one_after_another(&rt, &mut planner, base.prices())?);
+    let trimmed = Arc::new(rt.alloc(), base_of(&rt, TRIMMED)?)?;
+    planner.renew(rt.alloc(), trimmed)?;
+    assert!(rt; agrees_from(&rt, &mut planner, 100, 10)?);
+    Ok(())
+}
+
+/// A number of samples, and the one diameter that they have.
+const UNIFORM: [(usize, u16); 6] = [
+    (6, 250),
+    (11, 250),
+    (13, 250),
+    (15, 90),
+    (16, 160),
+    (17, 450),
+];
+
+/// Whether a planner agrees at each stem of one diameter.
+fn agrees_on_uniform(rt: &HostRuntime, planner: &mut Planner) -> Result<bool, Fail> {
+    for (count, diameter) in UNIFORM {
+        let stem = uniform_stem(rt.alloc(), count, diameter)?;
+        if !agrees(rt, planner, &stem)? {
+            return Ok(false);
+        }
+    }
+    Ok(true)
 }
 
 #[test]
 fn of_one_diameter(rt: HostRuntime) -> Result<(), Fail> {
-    let sheet = base_of(&rt, SMALL)?;
-    for (count, diameter) in [
-        (6, 250),
-        (11, 250),
-        (13, 250),
-        (15, 90),
-        (16, 160),
-        (17, 450),
-    ] {
-        let same = agrees_in(&rt, &sheet, count, diameter)?;
-        assert!(rt; same, "{count} of {diameter}");
-    }
+    let mut planner = planner_of(&rt, base_of(&rt, SMALL)?)?;
+    assert!(rt; agrees_on_uniform(&rt, &mut planner)?);
     Ok(())
 }

@@ -1,34 +1,14 @@
-//! Sheets, wood, and the columns that tables give.
+//! Wood, and the columns that tables give.
 ghost use Rattle.std.specs.Prelude.{◌≤◌, IfOk};
 ghost use Rattle.buck_bid.specs.Tables.{AreTablesOf, IsFound};
 
 use buck_bid::{Bid, Columns, Found, Tables, Wood, band_of};
-use buck_samples::{edited, instruction_of};
 use buck_value::{Memory, Sheet};
 use std::alloc::{AllocError, Global};
 use std::test::Fail;
 
 /// More room than any of these tests takes.
 pub const AMPLE: usize = 1_000_000;
-
-/// The sheet of the base prices of a text's instruction.
-pub fn base_of(rt: &HostRuntime, text: &str) -> Result<Sheet, Fail> {
-    let instruction = instruction_of(rt.alloc(), text)?;
-    Ok(Sheet::base(rt.alloc(), instruction)?)
-}
-
-/// The same of a text in which a part is replaced.
-pub fn base_with(rt: &HostRuntime, text: &str, old: &str, new: &str) -> Result<Sheet, Fail> {
-    let text = edited(rt.alloc(), text, old, new)?;
-    base_of(rt, text.as_str())
-}
-
-/// The sheet of a text's instruction and these prices, of version 1.
-pub fn sheet_with(rt: &HostRuntime, text: &str, prices: &[u32]) -> Result<Sheet, Fail> {
-    let prices = prices.to_vec(rt.alloc())?;
-    let instruction = instruction_of(rt.alloc(), text)?;
-    Ok(Sheet::with_prices(instruction, 1, prices)?)
-}
 
 /// Wood of species 1 with these grades, cut without trim.
 pub fn wood_of(grades: u8) -> Wood {
