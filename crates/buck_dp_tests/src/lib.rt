@@ -3,8 +3,6 @@
 #![tactic(auto)]
 
 #[cfg(test)]
-mod bids;
-#[cfg(test)]
 mod fixtures;
 #[cfg(test)]
 mod memory;

@@ -1,8 +1,6 @@
 //! Refused memory: what is made is then refused as `Memory`, and else as with ample memory. Run with each allocation
 //! failing in turn.
-use crate::bids::{AMPLE, bid_at, find_at, fresh_at, is_same, shown_at, wood_of};
 use crate::fixtures::{base_of, log, sheet_with};
-use buck_bid::{Tables, offers_of};
 use buck_dp::{Planner, best};
 use buck_samples::{SAW, uniform_stem};
 use buck_value::{Prepared, SheetFault};
@@ -28,35 +26,6 @@ fn refused_memory_of_a_prepared_stem(rt: HostRuntime) -> Result<(), Fail> {
 }
 
 #[test]
-fn refused_memory_of_offers(rt: HostRuntime) -> Result<(), Fail> {
-    let sheet = base_of(&rt, SAW)?;
-    let offers = offers_of(rt.alloc(), sheet.instruction())?;
-    assert!(rt; offers.len() == 2);
-    Ok(())
-}
-
-#[test]
-fn refused_memory_of_columns(rt: HostRuntime) -> Result<(), Fail> {
-    let sheet = base_of(&rt, SAW)?;
-    let shown = fresh_at(&rt, &sheet, wood_of(1), 250)?;
-    assert!(rt; bid_at(&shown, 1, 250) == Some((157_080_000, 1022)));
-    Ok(())
-}
-
-/// Where the columns of a second band are refused, those of the first are given again as they were.
-#[test]
-fn refused_memory_of_kept_tables(rt: HostRuntime) -> Result<(), Fail> {
-    let sheet = base_of(&rt, SAW)?;
-    let mut tables = Tables::make(rt.alloc(), &sheet, AMPLE)?;
-    let first = shown_at(&rt, &mut tables, &sheet, wood_of(1), 250)?;
-    let second = find_at(rt.alloc(), &mut tables, &sheet, wood_of(1), 150);
-    let again = shown_at(&rt, &mut tables, &sheet, wood_of(1), 250)?;
-    assert!(rt; is_same(&first, &again));
-    second?;
-    Ok(())
-}
-
-#[test]
 fn refused_memory_of_a_cutting(rt: HostRuntime) -> Result<(), Fail> {
     let sheet = base_of(&rt, SAW)?;
     let stem = uniform_stem(rt.alloc(), 41, 250)?;
@@ -65,16 +34,18 @@ fn refused_memory_of_a_cutting(rt: HostRuntime) -> Result<(), Fail> {
     Ok(())
 }
 
-/// A planner plans on after it was refused.
+/// A planner plans on after it was refused, be it for a stem as thick as one before or for another.
 #[test]
 fn refused_memory_of_a_planner(rt: HostRuntime) -> Result<(), Fail> {
     let sheet = Arc::new(rt.alloc(), base_of(&rt, SAW)?)?;
     let stem = uniform_stem(rt.alloc(), 41, 250)?;
+    let thinner = uniform_stem(rt.alloc(), 41, 150)?;
     let mut planner = Planner::make(rt.alloc(), sheet)?;
     let first = planner.best(rt.alloc(), &stem).is_ok();
+    let second = planner.best(rt.alloc(), &thinner).is_ok();
     let (cutting, worth) = planner.best(rt.alloc(), &stem)?;
     assert!(rt; worth == 157_080_000 && cutting.logs.as_slice() == [log(0, 4000, 0)].as_slice());
-    if first {
+    if first && second {
         return Ok(());
     }
     Err(Fail::from("out of memory"))
