@@ -1,7 +1,6 @@
 //! Wrong answers of books.
-ghost use Rattle.std.specs.Prelude.{◌≡◌, ◌≢◌, ℕ, ◌+◌, ◌<◌, ◌≤◌, ◌↔◌, IsTrue, [], ◌∷◌, None, Some, length, slice_get};
-ghost use Rattle.std.specs.Fn.{FnReturnsAt};
-ghost use Rattle.buck_apt.specs.Instruction.{IsClass, classes, index_of};
+ghost use Rattle.std.specs.Prelude.{◌≡◌, ◌≢◌, ◌+◌, ◌<◌, ◌↔◌, IsTrue, [], None, Some, length, slice_get};
+ghost use Rattle.buck_apt.specs.Instruction.{IsClass, classes};
 ghost use Rattle.buck_rule.specs.Stored.{Answers};
 ghost use Rattle.buck_value.specs.Allowed.{IsAllowed, worth_of};
 ghost use Rattle.buck_book.specs.Posting.{opening_targets, targets_of, cuts_since_end};

@@ -4,7 +4,7 @@ ghost use Rattle.buck_value.specs.Sheet.{base_prices};
 ghost use Rattle.buck_dp.specs.Best.{IsAdmissible, cutting_worth};
 ghost use Rattle.buck_book.specs.Posting.{ends_of};
 ghost use Rattle.buck_book.specs.Targets.{AreTargets};
-ghost use Rattle.buck_book.specs.History.{IsLawful, IsEnd, PricesMeet, prices_at, sheet_at};
+ghost use Rattle.buck_book.specs.History.{IsLawful, PricesMeet, prices_at, sheet_at};
 ghost use Rattle.buck_journal.specs.Replay.{history_of};
 
 use buck_apt::Instruction;

@@ -1,5 +1,5 @@
 //! Wrong answers of a way through the postings of a history.
-ghost use Rattle.std.specs.Prelude.{◌≡◌, ◌≢◌, ◌+◌, ◌<◌, ◌≤◌, [], ◌∷◌, length};
+ghost use Rattle.std.specs.Prelude.{◌≡◌, ◌<◌, [], ◌∷◌, length};
 ghost use Rattle.buck_apt.specs.Instruction.{classes};
 ghost use Rattle.buck_book.specs.Posting.{cuts_since_end};
 ghost use Rattle.buck_book.specs.Counts.{calls_of};
