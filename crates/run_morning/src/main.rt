@@ -1,17 +1,21 @@
-//! A morning of one harvester, as the program's command for fleets makes it, and a check of the journal that it wrote.
+//! A morning, as the program's commands make it: a fleet of one harvester, a check of the journal that it wrote, two
+//! files that are bucked, and last an instruction that is refused. So the status is 1, and the line of that fault stands
+//! on standard error: `apt fault 9 3050`.
 #![tactic(auto)]
 
 use buck_engine::{Disk, FleetTask, NamedRule, Nobody, Task, serve, serve_fleet};
-use std::alloc::AllocError;
+use std::alloc::{AllocError, Global};
 use std::io;
 use std::process::ExitCode;
+use std::sync::Wait;
+use std::thread::Threads;
 
 const APT: &str = "morning.apt";
 
 const JOURNAL: &str = "morning.jrn";
 
 /// The task of the harvester whose stems stand in this file.
-fn harvest<'a>(alloc: std::alloc::Global, stm: &'a str) -> Result<FleetTask<'a>, AllocError> {
+fn harvest<'a>(alloc: Global, stm: &'a str) -> Result<FleetTask<'a>, AllocError> {
     Ok(FleetTask {
         rule: NamedRule::Linear,
         journal: Some(JOURNAL),
@@ -20,37 +24,46 @@ fn harvest<'a>(alloc: std::alloc::Global, stm: &'a str) -> Result<FleetTask<'a>,
     })
 }
 
-fn main(rt: HostRuntime) -> ExitCode {
-    let alloc = rt.alloc();
-    let Ok(task) = harvest(alloc, "morning_1.stm") else {
-        return ExitCode::from(3);
+/// The status of the harvest; `threads` is the same runtime, as the leave to start threads and to wait for them.
+fn harvested<T: Threads + Wait + Sync>(threads: &T, rt: &HostRuntime) -> u8 {
+    let Ok(task) = harvest(rt.alloc(), "morning_1.stm") else {
+        return 3;
     };
-    let mut disk = Disk::of(&rt);
-    let mut output = io::writer(&rt);
-    let mut errors = rt.stderr();
-    let status = serve_fleet(
-        &rt,
-        alloc,
+    serve_fleet(
+        threads,
+        rt.alloc(),
         &task,
         &Nobody,
-        &mut disk,
-        &mut output,
-        &mut errors,
-    );
-    if status != 0 {
-        return ExitCode::from(status);
-    }
-    let check = Task::Check {
-        apt: APT,
-        journal: JOURNAL,
-    };
-    let status = serve(
-        alloc,
-        &check,
+        &mut Disk::of(rt),
+        &mut io::writer(rt),
+        &mut rt.stderr(),
+    )
+}
+
+/// The status of a task over files.
+fn served(rt: &HostRuntime, task: &Task<'_>) -> u8 {
+    serve(
+        rt.alloc(),
+        task,
         &mut rt.reader(),
-        &mut disk,
-        &mut output,
-        &mut errors,
-    );
-    ExitCode::from(status)
+        &mut Disk::of(rt),
+        &mut io::writer(rt),
+        &mut rt.stderr(),
+    )
+}
+
+fn main(rt: HostRuntime) -> ExitCode {
+    if harvested(&rt, &rt) != 0 {
+        return ExitCode::from(10);
+    }
+    let (apt, journal, stm) = (APT, JOURNAL, "pine.stm");
+    if served(&rt, &Task::Check { apt, journal }) != 0 {
+        return ExitCode::from(11);
+    }
+    let apt = "pine.apt";
+    if served(&rt, &Task::Buck { apt, stm }) != 0 {
+        return ExitCode::from(12);
+    }
+    let apt = "refused.apt";
+    ExitCode::from(served(&rt, &Task::Buck { apt, stm }))
 }
