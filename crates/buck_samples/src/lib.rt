@@ -11,4 +11,4 @@ pub use instruction::{
     MAX, SAW, SAW_AND_POLE, edited, instruction_of, largest_instruction, saw_instruction, saw_text,
 };
 pub use journal::{SHORT_JOURNAL, demand_journal, two_stem_journal};
-pub use stem::{stem_of, stem_text, uniform_stem};
+pub use stem::{stem_of, uniform_stem};

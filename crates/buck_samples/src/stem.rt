@@ -15,15 +15,3 @@ pub fn uniform_stem(alloc: Global, count: usize, diameter: u16) -> Result<Stem, 
     let samples = vec![in alloc; diameter; count]?;
     Ok(Stem::make(alloc, 1, 1, samples, Vec::new(alloc))?)
 }
-
-/// A stem file of stem 1 of species 1 with `count` samples, all alike, and what else is said of it.
-pub fn stem_text(
-    alloc: Global,
-    count: usize,
-    sample: &str,
-    more: &str,
-) -> Result<String, SampleFault> {
-    let one = format!(in alloc; " {sample}")?;
-    let samples = one.as_str().repeat(alloc, count)?;
-    Ok(format!(in alloc; "1 2 STM~951 1 1~952 1 1~953 1{samples}~{more}")?)
-}
