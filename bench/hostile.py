@@ -266,7 +266,7 @@ COMMANDS = [
     ("a journal of a posting too many", CHECK, JUDGED, one_more, 0, f"journal fault 5 {POSTING_TOO_MANY}"),
     ("a journal of most demands", CHECK, JUDGED, demands, 0, f"LAWFUL {MOST_POSTINGS}"),
     ("a journal of longest sheets", CHECK, JUDGED, longest_sheets, 0, "replay fault 1 1"),
-    ("a journal of shortest sheets", CHECK, JUDGED, shortest_sheets, 0, "replay fault 1 0"),
+    ("a journal of shortest sheets", CHECK, JUDGED, shortest_sheets, 0, "replay fault 1 1"),
     ("a new sheet for each kind of wood", FLEET, just(pickers()), kinds_of_wood, 0, None),
 ]
 
