@@ -1,75 +1,101 @@
 //! Why a file has no instruction.
-ghost use Rattle.std.specs.Prelude.{◌≡◌};
-ghost use Rattle.buck_record.specs.Rules.{of_slot};
+ghost use Rattle.std.specs.Prelude.{◌≡◌, ◌∷◌, []};
+ghost use Rattle.buck_apt.specs.Faults.{apt_numbers};
 ghost use Rattle.buck_apt.specs.declared.fault.AptFault.TheVariants.{Memory, Head, Missing, Twice, Digits, Range, Order, Count};
 
-use buck_record::Slot;
+use buck_record::text::write_fields;
+use buck_record::{FaultNumbers, FormFault, Numbered, Slot};
 use std::alloc::{AllocError, AllocFailed};
-use thiserror::Error;
+use std::error::Error;
+use std::fmt;
 
 /// What is wrong with an instruction file: the first refusal that applies, in this order. Items and places count
 /// from 1; an item of the file's table is named by its number and kind.
-#[derive(Clone, Copy, Debug, PartialEq, Eq, Error)]
+#[derive(Clone, Copy, Debug, PartialEq, Eq)]
 pub enum AptFault {
     /// An item has no head of two numbers below 65,536.
-    #[error("item {item} has no head")]
     Head {
         item: usize,
     },
     /// The file doesn't say that it is an instruction.
-    #[error("the file is not an instruction")]
     NotApt,
     /// An item that must be there isn't; of an item before the first name of an assortment, that name.
-    #[error("item {number} {kind} is missing")]
     Missing {
         number: u16,
         kind: u16,
     },
     /// An item stands twice in the file or in its assortment.
-    #[error("item {number} {kind} stands twice")]
     Twice {
         number: u16,
         kind: u16,
     },
     /// A word of an item isn't a number below 4,294,967,296.
-    #[error("word {place} of item {number} {kind} is not a number")]
     Digits {
         number: u16,
         kind: u16,
         place: usize,
     },
     /// A number is outside its range, or a name outside its rule.
-    #[error("item {number} {kind} is out of range")]
     Range {
         number: u16,
         kind: u16,
     },
     /// A list is against its order.
-    #[error("item {number} {kind} is out of order")]
     Order {
         number: u16,
         kind: u16,
     },
     /// An item has not as many numbers as it should have.
-    #[error("item {number} {kind} has another count of numbers")]
     Count {
         number: u16,
         kind: u16,
     },
     /// A length isn't a multiple of the module.
-    #[error("length {length} is not a multiple of the module")]
     Module {
         length: u32,
     },
     /// The targets of an assortment, counted from 0, are above 1,000,000,000 together.
-    #[error("the targets of assortment {assortment} are too many")]
     Targets {
         assortment: usize,
     },
     /// A growth was refused. It may come in place of any answer.
-    #[error("out of memory")]
     Memory,
 }
+
+impl AptFault {
+    /// The words before a fault's fields in its text, and those after them.
+    fn words(&self) -> (&'static str, &'static str) {
+        match self {
+            AptFault::Head { .. } => ("item", " has no head"),
+            AptFault::NotApt => ("the file is not an instruction", ""),
+            AptFault::Missing { .. } => ("item", " is missing"),
+            AptFault::Twice { .. } => ("item", " stands twice"),
+            AptFault::Digits { .. } => ("word", " is not a number"),
+            AptFault::Range { .. } => ("item", " is out of range"),
+            AptFault::Order { .. } => ("item", " is out of order"),
+            AptFault::Count { .. } => ("item", " has another count of numbers"),
+            AptFault::Module { .. } => ("length", " is not a multiple of the module"),
+            AptFault::Targets { .. } => ("the targets of assortment", " are too many"),
+            AptFault::Memory => ("out of memory", ""),
+        }
+    }
+}
+
+impl fmt::Display for AptFault {
+    fn fmt<W: fmt::Write>(&self, f: &mut fmt::Formatter<W>) -> fmt::Result {
+        let (before, after) = self.words();
+        match self {
+            AptFault::Digits {
+                number,
+                kind,
+                place,
+            } => write!(f, "{before} {place} of item {number} {kind}{after}"),
+            _ => write_fields(f, before, self, after),
+        }
+    }
+}
+
+impl Error for AptFault {}
 
 impl From<AllocError> for AptFault {
     ghost from_gives = { λ _ e. e ≡ Memory };
@@ -87,61 +113,93 @@ impl<T: Drop> From<AllocFailed<T>> for AptFault {
     }
 }
 
-/// An item has no head.
-pub(crate) fn head(item: usize) -> AptFault
-    ensures { result ≡ Head item }
-{
-    AptFault::Head { item }
-}
+impl FormFault for AptFault {
+    ghost out_of_memory = { Memory };
 
-/// A word of the slot's item is no number.
-pub(crate) fn digits(slot: Slot, place: usize) -> AptFault
-    ensures { result ≡ Digits slot.number slot.kind place }
-{
-    let Slot { number, kind } = slot;
-    AptFault::Digits {
-        number,
-        kind,
-        place,
+    ghost headless = { Head };
+
+    ghost missing = { Missing };
+
+    ghost twice = { Twice };
+
+    ghost digits = { Digits };
+
+    ghost range = { Range };
+
+    ghost order = { Order };
+
+    ghost count = { Count };
+
+    fn out_of_memory() -> AptFault {
+        AptFault::Memory
+    }
+
+    fn headless(item: usize) -> AptFault {
+        AptFault::Head { item }
+    }
+
+    fn missing(slot: Slot) -> AptFault {
+        let Slot { number, kind } = slot;
+        AptFault::Missing { number, kind }
+    }
+
+    fn twice(slot: Slot) -> AptFault {
+        let Slot { number, kind } = slot;
+        AptFault::Twice { number, kind }
+    }
+
+    fn digits(slot: Slot, place: usize) -> AptFault {
+        let Slot { number, kind } = slot;
+        AptFault::Digits {
+            number,
+            kind,
+            place,
+        }
+    }
+
+    fn range(slot: Slot) -> AptFault {
+        let Slot { number, kind } = slot;
+        AptFault::Range { number, kind }
+    }
+
+    fn order(slot: Slot) -> AptFault {
+        let Slot { number, kind } = slot;
+        AptFault::Order { number, kind }
+    }
+
+    fn count(slot: Slot) -> AptFault {
+        let Slot { number, kind } = slot;
+        AptFault::Count { number, kind }
     }
 }
 
-/// The slot has no item.
-pub(crate) fn missing(slot: Slot) -> AptFault
-    ensures { result ≡ of_slot Missing slot }
+/// A fault's number, and the slot that it names.
+fn at(fault: u64, number: u16, kind: u16) -> FaultNumbers
+    ensures { result ≡ fault ∷ number ∷ kind ∷ [] }
 {
-    let Slot { number, kind } = slot;
-    AptFault::Missing { number, kind }
+    FaultNumbers::of(&[fault, u64::from(number), u64::from(kind)])
 }
 
-/// The slot has two items.
-pub(crate) fn twice(slot: Slot) -> AptFault
-    ensures { result ≡ of_slot Twice slot }
-{
-    let Slot { number, kind } = slot;
-    AptFault::Twice { number, kind }
-}
+impl Numbered for AptFault {
+    ghost numbers = { apt_numbers };
 
-/// The slot's item is out of range.
-pub(crate) fn range(slot: Slot) -> AptFault
-    ensures { result ≡ of_slot Range slot }
-{
-    let Slot { number, kind } = slot;
-    AptFault::Range { number, kind }
-}
-
-/// The slot's item is out of order.
-pub(crate) fn order(slot: Slot) -> AptFault
-    ensures { result ≡ of_slot Order slot }
-{
-    let Slot { number, kind } = slot;
-    AptFault::Order { number, kind }
-}
-
-/// The slot's item has another count of numbers.
-pub(crate) fn count(slot: Slot) -> AptFault
-    ensures { result ≡ of_slot Count slot }
-{
-    let Slot { number, kind } = slot;
-    AptFault::Count { number, kind }
+    fn numbers(&self) -> FaultNumbers {
+        match self {
+            AptFault::Head { item } => FaultNumbers::of(&[1, *item as u64]),
+            AptFault::NotApt => FaultNumbers::of(&[2]),
+            AptFault::Missing { number, kind } => at(3, *number, *kind),
+            AptFault::Twice { number, kind } => at(4, *number, *kind),
+            AptFault::Digits {
+                number,
+                kind,
+                place,
+            } => FaultNumbers::of(&[5, u64::from(*number), u64::from(*kind), *place as u64]),
+            AptFault::Range { number, kind } => at(6, *number, *kind),
+            AptFault::Order { number, kind } => at(7, *number, *kind),
+            AptFault::Count { number, kind } => at(8, *number, *kind),
+            AptFault::Module { length } => FaultNumbers::of(&[9, u64::from(*length)]),
+            AptFault::Targets { assortment } => FaultNumbers::of(&[10, *assortment as u64]),
+            AptFault::Memory => FaultNumbers::of(&[]),
+        }
+    }
 }

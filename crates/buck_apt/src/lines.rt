@@ -24,16 +24,16 @@ ghost use Rattle.buck_apt.specs.Apt.{
 ghost use Rattle.buck_apt.specs.inner.Parts.{within_limits};
 
 use crate::draft::{Draft, FileDraft};
-use crate::fault::{self, AptFault};
+use crate::fault::AptFault;
 use crate::rules::{all_above, first_off_module, is_above, is_name, is_one};
 use crate::slots::{
     ALONE, COUNT, DIAMETERS, GRADES, HEAD, IN_ASSORTMENT, LENGTHS, LIMIT, MEMBERS, MODULE, NAME,
     PERIOD, PRICE_KIND, PRICES, SPECIES, TARGETS, TRIM, UPPER,
 };
-use buck_record::check::{all_absent, check, each, is_there, none_of};
+use buck_record::check::{all_absent, all_single, all_there, check, each, is_there};
 use buck_record::rules::{all_within, is_rising, within};
-use buck_record::table::{front, missing, twice};
-use buck_record::{Group, Piece};
+use buck_record::table::front;
+use buck_record::{FormFault, Group, Piece};
 
 /// There is a name, and no item of an assortment stands before the first one.
 fn begins_with_name<'a>(items: &'a [Piece<'a>]) -> bool
@@ -43,16 +43,16 @@ fn begins_with_name<'a>(items: &'a [Piece<'a>]) -> bool
 }
 
 #[tactic(auto, unfolding(crate::specs::Apt::group_present))]
-fn group_present(group: &Group<'_>) -> Result<(), AptFault>
+fn group_present<'a>(group: &'a [Piece<'a>]) -> Result<(), AptFault>
     ensures { result ≡ group_present group.now }
 {
-    none_of(missing(group.items(), &MEMBERS), fault::missing)
+    all_there(&MEMBERS, group)
 }
 
 fn each_present(groups: &[Group<'_>]) -> Result<(), AptFault>
     ensures { result ≡ each group_present groups.now }
 {
-    each(groups, |group| group_present(group))
+    each(groups, |group| group_present(group.items()))
 }
 
 /// Each item that must be there is.
@@ -61,22 +61,22 @@ pub(crate) fn present<'a>(items: &'a [Piece<'a>], assortments: &[Group<'_>]) -> 
     requires { assortments.now ≡ groups items.now }
     ensures { result ≡ present items.now }
 {
-    none_of(missing(items, &HEAD), fault::missing)?;
-    check(begins_with_name(items), fault::missing(NAME))?;
+    all_there::<AptFault>(&HEAD, items)?;
+    check(begins_with_name(items), AptFault::missing(NAME))?;
     each_present(assortments)
 }
 
 #[tactic(auto, unfolding(crate::specs::Apt::group_single))]
-fn group_single(group: &Group<'_>) -> Result<(), AptFault>
+fn group_single<'a>(group: &'a [Piece<'a>]) -> Result<(), AptFault>
     ensures { result ≡ group_single group.now }
 {
-    none_of(twice(group.items(), &IN_ASSORTMENT), fault::twice)
+    all_single(&IN_ASSORTMENT, group)
 }
 
 fn each_single(groups: &[Group<'_>]) -> Result<(), AptFault>
     ensures { result ≡ each group_single groups.now }
 {
-    each(groups, |group| group_single(group))
+    each(groups, |group| group_single(group.items()))
 }
 
 /// No item stands twice in the file or in its assortment.
@@ -85,7 +85,7 @@ pub(crate) fn single<'a>(items: &'a [Piece<'a>], assortments: &[Group<'_>]) -> R
     requires { assortments.now ≡ groups items.now }
     ensures { result ≡ single items.now }
 {
-    none_of(twice(items, &ALONE), fault::twice)?;
+    all_single::<AptFault>(&ALONE, items)?;
     each_single(assortments)
 }
 
@@ -97,30 +97,30 @@ fn draft_range(draft: &Draft) -> Result<(), AptFault>
     let lengths = draft.lengths.as_slice();
     let prices = draft.prices.as_slice();
     let targets = draft.targets.as_slice();
-    check(is_name(draft.name.as_slice()), fault::range(NAME))?;
+    check(is_name(draft.name.as_slice()), AptFault::range(NAME))?;
     check(
         all_within(1, 255, draft.species.as_slice()),
-        fault::range(SPECIES),
+        AptFault::range(SPECIES),
     )?;
     check(
         all_within(1, 8, draft.grades.as_slice()),
-        fault::range(GRADES),
+        AptFault::range(GRADES),
     )?;
     check(
         all_within(1, 2, draft.price_kind.as_slice()),
-        fault::range(PRICE_KIND),
+        AptFault::range(PRICE_KIND),
     )?;
-    check(all_within(0, 1500, diameters), fault::range(DIAMETERS))?;
+    check(all_within(0, 1500, diameters), AptFault::range(DIAMETERS))?;
     check(
         all_within(1, 2000, draft.upper.as_slice()),
-        fault::range(UPPER),
+        AptFault::range(UPPER),
     )?;
-    check(all_within(500, 30_000, lengths), fault::range(LENGTHS))?;
-    check(all_within(0, 10_000_000, prices), fault::range(PRICES))?;
-    check(all_within(0, 1_000_000, targets), fault::range(TARGETS))?;
+    check(all_within(500, 30_000, lengths), AptFault::range(LENGTHS))?;
+    check(all_within(0, 10_000_000, prices), AptFault::range(PRICES))?;
+    check(all_within(0, 1_000_000, targets), AptFault::range(TARGETS))?;
     check(
         all_within(0, 200, draft.trim.as_slice()),
-        fault::range(TRIM),
+        AptFault::range(TRIM),
     )
 }
 
@@ -137,19 +137,19 @@ pub(crate) fn in_range(file: &FileDraft) -> Result<(), AptFault>
 {
     check(
         all_within(10, 1000, file.module.as_slice()),
-        fault::range(MODULE),
+        AptFault::range(MODULE),
     )?;
     check(
         all_within(1, 1000, file.period.as_slice()),
-        fault::range(PERIOD),
+        AptFault::range(PERIOD),
     )?;
     check(
         all_within(0, 1000, file.limit.as_slice()),
-        fault::range(LIMIT),
+        AptFault::range(LIMIT),
     )?;
     check(
         all_within(1, 16, file.count.as_slice()),
-        fault::range(COUNT),
+        AptFault::range(COUNT),
     )?;
     each_range(file.drafts.as_slice())
 }
@@ -159,13 +159,16 @@ fn draft_order(draft: &Draft) -> Result<(), AptFault>
     ensures { result ≡ draft_order draft.now }
 {
     let diameters = draft.diameters.as_slice();
-    check(is_rising(draft.grades.as_slice()), fault::order(GRADES))?;
-    check(is_rising(diameters), fault::order(DIAMETERS))?;
+    check(is_rising(draft.grades.as_slice()), AptFault::order(GRADES))?;
+    check(is_rising(diameters), AptFault::order(DIAMETERS))?;
     check(
         all_above(diameters, draft.upper.as_slice()),
-        fault::order(UPPER),
+        AptFault::order(UPPER),
     )?;
-    check(is_rising(draft.lengths.as_slice()), fault::order(LENGTHS))
+    check(
+        is_rising(draft.lengths.as_slice()),
+        AptFault::order(LENGTHS),
+    )
 }
 
 /// Each list is in its order.
@@ -193,18 +196,18 @@ fn draft_count(draft: &Draft) -> Result<(), AptFault>
     let columns = draft.lengths.len();
     let prices = draft.prices.as_slice();
     let targets = draft.targets.as_slice();
-    check(is_one(draft.species.as_slice()), fault::count(SPECIES))?;
-    check(within(1, 8, draft.grades.len()), fault::count(GRADES))?;
+    check(is_one(draft.species.as_slice()), AptFault::count(SPECIES))?;
+    check(within(1, 8, draft.grades.len()), AptFault::count(GRADES))?;
     check(
         is_one(draft.price_kind.as_slice()),
-        fault::count(PRICE_KIND),
+        AptFault::count(PRICE_KIND),
     )?;
-    check(within(1, 32, rows), fault::count(DIAMETERS))?;
-    check(is_one(draft.upper.as_slice()), fault::count(UPPER))?;
-    check(within(1, 32, columns), fault::count(LENGTHS))?;
-    check(is_full(prices, rows, columns), fault::count(PRICES))?;
-    check(is_full(targets, rows, columns), fault::count(TARGETS))?;
-    check(is_one(draft.trim.as_slice()), fault::count(TRIM))
+    check(within(1, 32, rows), AptFault::count(DIAMETERS))?;
+    check(is_one(draft.upper.as_slice()), AptFault::count(UPPER))?;
+    check(within(1, 32, columns), AptFault::count(LENGTHS))?;
+    check(is_full(prices, rows, columns), AptFault::count(PRICES))?;
+    check(is_full(targets, rows, columns), AptFault::count(TARGETS))?;
+    check(is_one(draft.trim.as_slice()), AptFault::count(TRIM))
 }
 
 fn each_count(drafts: &[Draft]) -> Result<(), AptFault>
@@ -226,12 +229,12 @@ pub(crate) fn in_number(file: &FileDraft) -> Result<(), AptFault>
     ensures { result ≡ in_number file.now }
 {
     let drafts = file.drafts.as_slice();
-    check(is_one(file.module.as_slice()), fault::count(MODULE))?;
-    check(is_one(file.period.as_slice()), fault::count(PERIOD))?;
-    check(is_one(file.limit.as_slice()), fault::count(LIMIT))?;
+    check(is_one(file.module.as_slice()), AptFault::count(MODULE))?;
+    check(is_one(file.period.as_slice()), AptFault::count(PERIOD))?;
+    check(is_one(file.limit.as_slice()), AptFault::count(LIMIT))?;
     check(
         is_number_of(drafts, file.count.as_slice()),
-        fault::count(COUNT),
+        AptFault::count(COUNT),
     )?;
     each_count(drafts)
 }

@@ -1,10 +1,12 @@
 -- Texts, one after the other.
-use Rattle.std.proofs.Common.{◌≡◌, ℕ, Bool, true, false, ◌+◌, ◌-◌, ◌<◌, ◌≤◌, List, ◌∷◌, ◌++◌, Option, Result, Ok, Err, length, take, drop, sym, ap, ◌∙◌, subst, arith, take_all, take-append-drop, length-take-le, length-drop, get_or, add-one, drop-cons, length-append}
+use Rattle.std.proofs.Common.{◌≡◌, ℕ, Bool, true, false, ◌+◌, ◌-◌, ◌<◌, ◌≤◌, List, [], ◌∷◌, ◌++◌, Option, Result, Ok, Err, length, take, drop, codes, refl, sym, ap, ◌∙◌, subst, arith, take_all, take-append-drop, length-take-le, length-drop, get_or, add-one, drop-cons, length-append}
 use Rattle.std.proofs.lemmas.List.{take-append-le}
 use Rattle.std.proofs.lemmas.Grind.{flat_map-append}
 use Rattle.std.specs.List.{flat_map}
 use Rattle.std.specs.Fmt.{decimal}
 use Rattle.buck_record.specs.Written.{spelled}
+use Rattle.buck_record.specs.Line.{line_of}
+use Rattle.buck_engine.specs.Faults.{memory_line, numbered_line}
 use Rattle.std.proofs.Math.Seq.{take-append-add}
 use Rattle.std.proofs.KnownBytes.{Appends-trans}
 use Rattle.std.specs.Io.KnownBytes.{Appends}
@@ -26,6 +28,16 @@ stopped a b s t f (Err e) h (w, (k, lt, q)) =
     (h ∙ w, (k, omega (arith, lt, length-append s t), subst (Appends a b) (sym (take-append-le k s t (omega (arith, lt)))) q))
 
 pub ruleset steps = (then_written, stopped)
+
+-- the line of a fault with a number, and of one with none
+pub told : (a b : Option (List ℕ)) (kind file numbers found : List ℕ) (r : Result (Unit {0}) EngineFault) → found ≡ numbers → 0 < length found
+    → IsWritten a b (kind ++ (spelled file ++ line_of (codes " fault") found)) r → IsWritten a b (numbered_line kind file numbers) r
+told a b kind file numbers [] r e h w = absurd (omega (arith, h))
+told a b kind file numbers (n ∷ ns) r e h w = subst (λ (l : List ℕ). IsWritten a b (numbered_line kind file l) r) e w
+
+pub unnumbered : (kind file numbers : List ℕ) → length numbers ≡ 0 → numbered_line kind file numbers ≡ memory_line
+unnumbered kind file [] h = refl
+unnumbered kind file (n ∷ ns) h = absurd (omega (arith, h))
 
 -- a write of what is left of a text
 pub fits : (text : List ℕ) (at n : ℕ) → at ≤ length text → n ≤ length (take (length text - at) (drop at text)) → at + n ≤ length text

@@ -1,12 +1,12 @@
 //! Why a run failed, and what is said of it.
 ghost use Rattle.std.specs.Prelude.{◌≡◌};
 ghost use Rattle.buck_engine.specs.declared.fault.EngineFault.TheVariants.{Memory};
-ghost use Rattle.buck_engine.specs.Faults.{status_of};
+ghost use Rattle.buck_engine.specs.Faults.{status_of, status_or};
 
 use buck_apt::AptFault;
 use buck_fleet::CloseFault;
 use buck_journal::{JournalFault, ReplayFault};
-use buck_record::Memory;
+use buck_record::{Memory, Numbered};
 use buck_stem::StmFault;
 use std::alloc::{AllocError, AllocFailed};
 use thiserror::Error;
@@ -98,6 +98,16 @@ impl From<Memory> for TextFault {
     }
 }
 
+/// The status of a fault that has a number, and 3 where memory ran out in its place.
+fn status_or<F: Numbered>(refused: u8, fault: &F) -> u8
+    ensures { result ≡ status_or refused (F.numbers fault.now) }
+{
+    match fault.numbers().as_slice() {
+        [] => 3,
+        [_, ..] => refused,
+    }
+}
+
 /// The exit status of the program after a fault: 1 where a file was refused, 2 where there are not 1 to 64 stem files,
 /// 3 where memory or the history's room ran out, also while a file was read, 4 where a journal isn't lawful or a fleet
 /// didn't close well, and 5 where a file couldn't be read or the output couldn't be written.
@@ -106,17 +116,12 @@ pub fn status(fault: &EngineFault) -> u8
 {
     match fault {
         EngineFault::Read { .. } | EngineFault::Write => 5,
-        EngineFault::Apt(AptFault::Memory)
-        | EngineFault::Stm {
-            fault: StmFault::Memory,
-            ..
-        }
-        | EngineFault::Journal(JournalFault::Memory)
-        | EngineFault::Replay(ReplayFault::Memory)
-        | EngineFault::Full
-        | EngineFault::Memory => 3,
-        EngineFault::Apt(_) | EngineFault::Stm { .. } | EngineFault::Journal(_) => 1,
+        EngineFault::Apt(fault) => status_or(1, fault),
+        EngineFault::Stm { fault, .. } => status_or(1, fault),
+        EngineFault::Journal(fault) => status_or(1, fault),
+        EngineFault::Replay(fault) => status_or(4, fault),
+        EngineFault::Close(fault) => status_or(4, fault),
         EngineFault::Seats => 2,
-        EngineFault::Close(_) | EngineFault::Replay(_) => 4,
+        EngineFault::Full | EngineFault::Memory => 3,
     }
 }

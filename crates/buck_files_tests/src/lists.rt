@@ -1,4 +1,5 @@
 //! The calls of a reader that make lists: each makes one where there is memory.
+use buck_apt::AptFault;
 use buck_record::check::{check, each, make_each};
 use buck_record::rules::{FILE, items_at, items_in, numbers_in};
 use buck_record::table::groups;
@@ -23,10 +24,6 @@ fn place(item: usize) -> RecordFault {
     RecordFault::Head { item }
 }
 
-fn word(_slot: Slot, place: usize) -> RecordFault {
-    RecordFault::Digits { place }
-}
-
 /// Whether the groups have so many items.
 fn have_sizes(groups: &[Group<'_>], first: usize, second: usize) -> bool {
     match groups {
@@ -35,12 +32,16 @@ fn have_sizes(groups: &[Group<'_>], first: usize, second: usize) -> bool {
     }
 }
 
-/// How many items there are in all, in the slot of the kind of file, and in that of names.
-fn counts(alloc: Global) -> Result<(usize, usize, usize), RecordFault> {
+/// How many items there are in all, and in the slot of names.
+fn counts(alloc: Global) -> Result<(usize, usize), RecordFault> {
     let all = items_in(alloc, ITEMS, place)?.len();
-    let file = items_at(alloc, ITEMS, &[FILE], place)?.len();
     let names = pieces_at(alloc, ITEMS, &[NAME])?.len();
-    Ok((all, file, names))
+    Ok((all, names))
+}
+
+/// How many items there are in the slot of the kind of file.
+fn files(alloc: Global) -> Result<usize, AptFault> {
+    Ok(items_at::<AptFault>(alloc, ITEMS, &[FILE])?.len())
 }
 
 /// Whether the names begin groups of two and of three items.
@@ -51,15 +52,16 @@ fn has_groups(alloc: Global) -> Result<bool, RecordFault> {
 }
 
 /// Whether the first species are 1 and 7.
-fn has_numbers(alloc: Global) -> Result<bool, RecordFault> {
-    let items = items_in(alloc, ITEMS, place)?;
-    let found = numbers_in(alloc, SPECIES, items.as_slice(), word)?;
+fn has_numbers(alloc: Global) -> Result<bool, AptFault> {
+    let items = items_at::<AptFault>(alloc, ITEMS, &[SPECIES])?;
+    let found = numbers_in::<AptFault>(alloc, SPECIES, items.as_slice())?;
     Ok(found.as_slice() == [1, 7].as_slice())
 }
 
 #[test]
 fn lists_of_items(rt: HostRuntime) -> Result<(), Fail> {
-    assert!(rt; counts(rt.alloc())? == (7, 1, 2));
+    assert!(rt; counts(rt.alloc())? == (7, 2));
+    assert!(rt; files(rt.alloc())? == 1);
     assert!(rt; has_groups(rt.alloc())?);
     assert!(rt; has_numbers(rt.alloc())?);
     Ok(())

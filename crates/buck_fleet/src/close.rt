@@ -8,6 +8,7 @@ ghost use Rattle.buck_book.specs.History.{IsLawful, in_force};
 ghost use Rattle.buck_book.specs.Book.{sheets_from};
 ghost use Rattle.buck_fleet.specs.Crew.{IsCrew, parts_of};
 ghost use Rattle.buck_fleet.specs.Closed.{ClosedParts, kept_by, lists_of, replies_from, replies_of, IsHandedOut, IsOneHistory, IsCloseFault, DifferFirstAt};
+ghost use Rattle.buck_fleet.specs.Faults.{close_numbers};
 ghost use Rattle.buck_fleet.specs.inner.Lists.{AreEmpty};
 
 use crate::desk::Desk;
@@ -15,6 +16,7 @@ use crate::fleet::Fleet;
 use crate::seat::{Kept, Seat};
 use buck_apt::Instruction;
 use buck_book::{Parts, Posting};
+use buck_record::{FaultNumbers, Numbered};
 use buck_value::Sheet;
 use std::marker::Model;
 use std::sync::Arc;
@@ -31,6 +33,21 @@ pub enum CloseFault {
     /// harvester's do, and this one's don't at a lower number.
     #[error("the calls of harvester {harvester} differ at number {number}")]
     Calls { harvester: u32, number: u32 },
+}
+
+impl Numbered for CloseFault {
+    ghost numbers = { close_numbers };
+
+    fn numbers(&self) -> FaultNumbers {
+        match self {
+            CloseFault::Instruction => FaultNumbers::of(&[1]),
+            CloseFault::Calls { harvester, number } => FaultNumbers::of(&[
+                2,
+                u64::from(*harvester),
+                u64::from(*number),
+            ]),
+        }
+    }
 }
 
 /// What a fleet hands out when it is closed: a lawful history, and what each seat kept.

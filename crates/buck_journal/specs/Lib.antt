@@ -2,4 +2,5 @@ pub mod Written
 pub mod Journal
 pub mod Replay
 pub mod Ranges
+pub mod Faults
 pub mod inner

@@ -1,7 +1,9 @@
 //! Why a file has no journal.
 ghost use Rattle.std.specs.Prelude.{◌≡◌};
+ghost use Rattle.buck_journal.specs.Faults.{journal_numbers};
 ghost use Rattle.buck_journal.specs.declared.fault.JournalFault.TheVariants.{Memory, Head};
 
+use buck_record::{FaultNumbers, Numbered};
 use std::alloc::{AllocError, AllocFailed};
 use thiserror::Error;
 
@@ -55,4 +57,20 @@ pub(crate) fn head(item: usize) -> JournalFault
     ensures { result ≡ Head item }
 {
     JournalFault::Head { item }
+}
+
+impl Numbered for JournalFault {
+    ghost numbers = { journal_numbers };
+
+    fn numbers(&self) -> FaultNumbers {
+        match self {
+            JournalFault::Head { item } => FaultNumbers::of(&[1, *item as u64]),
+            JournalFault::NotJournal => FaultNumbers::of(&[2]),
+            JournalFault::Shape { item } => FaultNumbers::of(&[3, *item as u64]),
+            JournalFault::Digits { item } => FaultNumbers::of(&[4, *item as u64]),
+            JournalFault::Count { item } => FaultNumbers::of(&[5, *item as u64]),
+            JournalFault::Range { item } => FaultNumbers::of(&[6, *item as u64]),
+            JournalFault::Memory => FaultNumbers::of(&[]),
+        }
+    }
 }

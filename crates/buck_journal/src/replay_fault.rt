@@ -1,7 +1,9 @@
 //! Why a journal isn't lawful.
 ghost use Rattle.std.specs.Prelude.{◌≡◌};
+ghost use Rattle.buck_journal.specs.Faults.{replay_numbers};
 ghost use Rattle.buck_journal.specs.declared.replay_fault.ReplayFault.TheVariants.{Memory};
 
+use buck_record::{FaultNumbers, Numbered};
 use std::alloc::AllocError;
 use thiserror::Error;
 
@@ -54,5 +56,27 @@ impl From<buck_record::Memory> for ReplayFault {
 
     fn from(_e: buck_record::Memory) -> ReplayFault {
         ReplayFault::Memory
+    }
+}
+
+impl Numbered for ReplayFault {
+    ghost numbers = { replay_numbers };
+
+    fn numbers(&self) -> FaultNumbers {
+        match self {
+            ReplayFault::Sheet { version } => FaultNumbers::of(&[1, u64::from(*version)]),
+            ReplayFault::Price { version, class } => FaultNumbers::of(&[
+                2,
+                u64::from(*version),
+                *class as u64,
+            ]),
+            ReplayFault::Numbering { at } => FaultNumbers::of(&[3, *at as u64]),
+            ReplayFault::Version { at } => FaultNumbers::of(&[4, *at as u64]),
+            ReplayFault::Cutting { at } => FaultNumbers::of(&[5, *at as u64]),
+            ReplayFault::Worth { at } => FaultNumbers::of(&[6, *at as u64]),
+            ReplayFault::Outvalued { at } => FaultNumbers::of(&[7, *at as u64]),
+            ReplayFault::Memory => FaultNumbers::of(&[]),
+            ReplayFault::Targets { at } => FaultNumbers::of(&[9, *at as u64]),
+        }
     }
 }

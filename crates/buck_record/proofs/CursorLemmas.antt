@@ -12,8 +12,10 @@ use Rattle.buck_record.specs.White.{trim, trim_start, trim_end}
 use Rattle.buck_record.specs.Reading.{each_from, put_front}
 use Rattle.buck_record.specs.Record.{item_of, is_tilde, filled_parts, pieces}
 use Rattle.buck_record.specs.Cursor.{HasItems, Leads}
-use Rattle.buck_record.proofs.RecordLemmas.{filled_parts-cons}
 use Rattle.buck_record.proofs.WhiteLemmas.{no_true}
+
+filled_parts-cons : (part : List ℕ) (parts : List (List ℕ)) → 0 < length (trim part) → filled_parts (part ∷ parts) ≡ trim part ∷ filled_parts parts
+filled_parts-cons part parts h = cond-true _ _ _ (lt-ltb _ _ h)
 
 filled-skip : (part : List ℕ) (parts : List (List ℕ))
     → length (trim part) ≡ 0 → filled_parts (part ∷ parts) ≡ filled_parts parts
@@ -74,50 +76,58 @@ each-nil : (k : ℕ) → each_from item_of k [] ≡ Ok []
 unfolding each_from
 each-nil k = refl
 
--- the first item, and what is left after the tilde
-pub leads : (text part piece left : List ℕ) (item : ItemParts)
-    → part ≡ before_first is_tilde text
-    → left ≡ after_first is_tilde text
-    → piece ≡ trim part
-    → 0 < length piece
-    → item_of piece ≡ Some item
-    → Leads text item left
-leads text part piece left item is after cut some head =
-    let p = position_or_len is_tilde text in
-    let full : 0 < length (trim (before_first is_tilde text)) = rw (← is, ← cut) some in
-    let long = not-nil text full in
-    let here : pieces text ≡ piece ∷ pieces left =
+-- a text that is cut at its first tilde, and the first part trimmed
+pub record IsCut (text piece left : List ℕ) : Type 0 where
+  pub trimmed : piece ≡ trim (before_first is_tilde text)
+  pub after : left ≡ after_first is_tilde text
+
+pub is_cut : (text part piece left : List ℕ) → part ≡ before_first is_tilde text → left ≡ after_first is_tilde text → piece ≡ trim part → IsCut text piece left
+is_cut text part piece left is after cut = record { trimmed = cut ∙ ap trim is; after = after }
+
+-- what is left is shorter, where there is something
+pub cut-shorter : (text piece left : List ℕ) → IsCut text piece left → 0 < length text → length left < length text
+cut-shorter text piece left c some =
+    rw c.after (omega (arith, some, length-drop (position_or_len is_tilde text + 1) text))
+
+-- the first part is a piece, or is left out
+pub cut-piece : (text piece left : List ℕ) → IsCut text piece left → 0 < length piece → pieces text ≡ piece ∷ pieces left
+cut-piece text piece left c some =
+    let full : 0 < length (trim (before_first is_tilde text)) = rw (← c.trimmed) some in
     first-part text
     ∙ filled_parts-cons (before_first is_tilde text) (slice_split is_tilde (after_first is_tilde text)) full
-    ∙ rw (cut, is, after) refl in
+    ∙ rw (c.trimmed, c.after) refl
+
+pub cut-none : (text piece left : List ℕ) → IsCut text piece left → length piece ≡ 0 → pieces text ≡ pieces left
+cut-none text piece left c none =
+    let empty : length (trim (before_first is_tilde text)) ≡ 0 = rw (← c.trimmed) none in
+    first-part text
+    ∙ filled-skip (before_first is_tilde text) (slice_split is_tilde (after_first is_tilde text)) empty
+    ∙ ap pieces (sym c.after)
+
+-- the first item, and what is left after the tilde
+pub leads : (text piece left : List ℕ) (item : ItemParts) → IsCut text piece left → 0 < length piece → item_of piece ≡ Some item → Leads text item left
+leads text piece left item c some head =
+    let full : 0 < length (trim (before_first is_tilde text)) = rw (← c.trimmed) some in
+    let here = cut-piece text piece left c some in
     record {
       next = λ items h k.
           ap (each_from item_of k) here
           ∙ each-cons k piece (pieces left)
           ∙ rw (head, h (k + 1)) (put-some item k items);
-      shorter = rw after (omega (arith, long, length-drop (p + 1) text));
+      shorter = cut-shorter text piece left c (not-nil text full);
     }
 
 nil : (xs : List ℕ) → length xs ≡ 0 → xs ≡ []
 nil [] h = refl
 nil (x ∷ xs) h = absurd (omega (arith, h))
 
+pub none-left : (text : List ℕ) → length text ≡ 0 → pieces text ≡ []
+none-left text h = ap pieces (nil text h) ∙ pieces-nil
+
 -- an empty piece, and nothing left
-pub done : (text part piece left : List ℕ)
-    → part ≡ before_first is_tilde text
-    → left ≡ after_first is_tilde text
-    → piece ≡ trim part
-    → length piece ≡ 0
-    → length left ≡ 0
-    → HasItems text []
-done text part piece left is after cut none end =
-    let empty : length (trim (before_first is_tilde text)) ≡ 0 = rw (← is, ← cut) none in
-    let gone : after_first is_tilde text ≡ [] = nil (after_first is_tilde text) (rw (← after) end) in
-    let here : pieces text ≡ [] =
-    first-part text
-    ∙ filled-skip (before_first is_tilde text) (slice_split is_tilde (after_first is_tilde text)) empty
-    ∙ ap pieces gone
-    ∙ pieces-nil in
+pub done : (text piece left : List ℕ) → IsCut text piece left → length piece ≡ 0 → length left ≡ 0 → HasItems text []
+done text piece left c none end =
+    let here : pieces text ≡ [] = cut-none text piece left c none ∙ none-left left end in
     λ k. ap (each_from item_of k) here ∙ each-nil k
 
 -- the first tilde that a search finds

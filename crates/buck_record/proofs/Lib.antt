@@ -2,7 +2,6 @@ pub mod WhiteLemmas
 pub mod NumberLemmas
 pub mod CutLemmas
 pub mod EachLemmas
-pub mod SplitLemmas
 pub mod RecordLemmas
 pub mod KeptLemmas
 pub mod WordLemmas

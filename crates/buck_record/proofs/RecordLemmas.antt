@@ -1,37 +1,28 @@
 -- The items of a file, piece by piece.
-use Rattle.std.proofs.Common.{◌≡◌, ℕ, ◌+◌, ◌<◌, List, [], ◌∷◌, ◌++◌, Some, None, Result, Ok, Err, length, refl, sym, ap, ◌∙◌}
+use Rattle.std.proofs.Common.{◌≡◌, ℕ, ◌+◌, List, [], ◌∷◌, ◌++◌, Some, None, Result, Ok, Err, length, refl, sym, ap, ◌∙◌}
 use Rattle.std.proofs.lemmas.List.{length_push}
-use Rattle.std.proofs.lemmas.Bool.{lt-ltb, cond-true}
-use Rattle.bstr.specs.Find.{matches}
-use Rattle.bstr.specs.Text.{split_at}
 use Rattle.buck_record.specs.Item.{ItemParts}
-use Rattle.buck_record.specs.White.{trim, words}
+use Rattle.buck_record.specs.White.{words}
 use Rattle.buck_record.specs.Reading.{with_front, each_from}
-use Rattle.buck_record.specs.Record.{item_of, items_of, filled_parts, number_at_most, numbers_of, number_of}
+use Rattle.buck_record.specs.Record.{item_of, items_of, pieces, number_at_most, numbers_of, number_of}
 use Rattle.buck_record.proofs.EachLemmas.{each_more, each_stop, each_done, each_start}
-use Rattle.buck_record.proofs.SplitLemmas.{splits}
 
 -- what is read before, and what is still to be read
 abbrev pub reads_on : List ItemParts → List (List ℕ) → Result (List ItemParts) ℕ
-reads_on held parts = with_front held (each_from item_of (length held + 1) (filled_parts parts))
+reads_on held rest = with_front held (each_from item_of (length held + 1) rest)
 
-pub start : (bytes : List ℕ) → reads_on [] (split_at bytes 1 0 (matches bytes (126 ∷ []) 0)) ≡ items_of bytes
+pub start : (bytes : List ℕ) → reads_on [] (pieces bytes) ≡ items_of bytes
 unfolding items_of
-start bytes = each_start _ ∙ ap (λ parts. each_from item_of 1 (filled_parts parts)) (splits 126 bytes)
+start bytes = each_start _
 
-pub filled_parts-cons : (part : List ℕ) (parts : List (List ℕ)) → 0 < length (trim part) → filled_parts (part ∷ parts) ≡ trim part ∷ filled_parts parts
-filled_parts-cons part parts h = cond-true _ _ _ (lt-ltb _ _ h)
+pub more : (held : List ItemParts) (piece : List ℕ) (rest : List (List ℕ)) (item : ItemParts) → item_of piece ≡ Some item
+    → reads_on held (piece ∷ rest) ≡ reads_on (held ++ item ∷ []) rest
+more held piece rest item e =
+    each_more item_of held (length held + 1) piece rest item e
+    ∙ ap (λ k. with_front (held ++ item ∷ []) (each_from item_of (k + 1) rest)) (sym (length_push held item))
 
-pub more : (held : List ItemParts) (part : List ℕ) (parts : List (List ℕ)) (item : ItemParts) → 0 < length (trim part) → item_of (trim part) ≡ Some item
-    → reads_on held (part ∷ parts) ≡ reads_on (held ++ item ∷ []) parts
-more held part parts item h e =
-    rw (filled_parts-cons part parts h)
-    (each_more item_of held (length held + 1) (trim part) (filled_parts parts) item e
-    ∙ ap (λ k. with_front (held ++ item ∷ []) (each_from item_of (k + 1) (filled_parts parts))) (sym (length_push held item)))
-
-pub stop : (held : List ItemParts) (part : List ℕ) (parts : List (List ℕ)) → 0 < length (trim part) → item_of (trim part) ≡ None
-    → reads_on held (part ∷ parts) ≡ Err (length held + 1)
-stop held part parts h e = rw (filled_parts-cons part parts h) (each_stop item_of held (length held + 1) (trim part) (filled_parts parts) e)
+pub stop : (held : List ItemParts) (piece : List ℕ) (rest : List (List ℕ)) → item_of piece ≡ None → reads_on held (piece ∷ rest) ≡ Err (length held + 1)
+stop held piece rest e = each_stop item_of held (length held + 1) piece rest e
 
 pub done : (held : List ItemParts) → reads_on held [] ≡ Ok held
 done held = each_done item_of held (length held + 1)

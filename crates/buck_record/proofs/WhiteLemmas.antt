@@ -4,17 +4,8 @@ use Rattle.std.specs.Prelude.{position}
 use Rattle.std.specs.List.{prefix_len, suffix_len, position_or_len}
 use Rattle.std.proofs.lemmas.List.Sums.{suffix_len_is}
 use Rattle.std.proofs.lemmas.Bool.{false≢true, cases_Bool}
-use Rattle.std.proofs.lemmas.Bool.Decides.{nat_tests}
-use Rattle.bstr.specs.Bytes.{is_in}
 use Rattle.buck_record.specs.White.{is_white, trim_end}
 use Rattle.buck_record.proofs.TableLemmas.{place-some, place-none}
-
-abbrev pub white : List ℕ
-white = 32 ∷ 9 ∷ 10 ∷ 13 ∷ []
-
-pub white_is : (b : ℕ) → is_in white b ≡ is_white b
-unfolding is_in
-white_is b = grind (arith, nat_tests)
 
 not_not : (b : Bool) → (not b ≡ true → ⊥) → b ≡ true
 not_not true h = refl

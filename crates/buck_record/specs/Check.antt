@@ -20,10 +20,6 @@ abbrev pub none_of : {E : Type 0} → Option Slot → (ℕ → ℕ → E) → Re
 none_of None fault = Ok tt
 none_of (Some slot) fault = Err (fault slot.number slot.kind)
 
--- a closure makes the fault that names a slot
-abbrev pub NamesSlot : {E : Type 0} → (Slot → E → Type 0) → (ℕ → ℕ → E) → Type 0
-NamesSlot {E} post fault = (s : Slot) (e : E) → post s e → e ≡ fault s.number s.kind
-
 -- the first fault of the elements
 unfoldable pub each : {X E : Type 0} → (X → Result (Unit {0}) E) → List X → Result (Unit {0}) E
 each f [] = Ok tt

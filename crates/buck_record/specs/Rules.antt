@@ -15,7 +15,7 @@ abbrev pub file_slot : Slot
 file_slot = slot 1 2
 
 -- the fault that names a slot
-abbrev pub of_slot : {E : Type 0} → (ℕ → ℕ → E) → Slot → E
+abbrev pub of_slot : {F : Type 0} → (ℕ → ℕ → F) → Slot → F
 of_slot fault s = fault s.number s.kind
 
 -- none of the members stands before the first item in a slot
@@ -26,10 +26,6 @@ has_no_strays first members items =
 -- the numbers of an item, none where it is absent; or the fault of the first word that isn't a number
 unfoldable pub numbers_in : {E : Type 0} → (ℕ → ℕ → ℕ → E) → Slot → List ItemParts → Result (List ℕ) E
 numbers_in fault s items = with_fault (of_slot fault s) (numbers_of (rest_in s items))
-
--- a closure makes the fault that names a word of an item: the item's slot, and the word's place
-abbrev pub NamesWord : {E : Type 0} → (Slot → ℕ → E → Type 0) → (ℕ → ℕ → ℕ → E) → Type 0
-NamesWord {E} post fault = (s : Slot) (place : ℕ) (e : E) → post s place e → e ≡ of_slot fault s place
 
 -- a closure makes the fault that names an item by its place
 abbrev pub NamesItem : {E : Type 0} → (ℕ → E → Type 0) → (ℕ → E) → Type 0

@@ -1,13 +1,14 @@
 //! Checks one after the other: the first that fails is the answer.
-ghost use Rattle.std.specs.Prelude.{◌≡◌, ◌==◌, ℕ, nat_lt};
+ghost use Rattle.std.specs.Prelude.{◌≡◌, ◌==◌, nat_lt};
 ghost use Rattle.std.specs.List.{list_all};
-ghost use Rattle.buck_record.specs.Check.{check, none_of, NamesSlot, ChecksEach, MakesEach};
-ghost use Rattle.buck_record.specs.Table.{count_in};
+ghost use Rattle.buck_record.specs.Check.{check, none_of, ChecksEach, MakesEach};
+ghost use Rattle.buck_record.specs.Table.{count_in, first_missing, first_twice};
 
+use crate::form::FormFault;
 use crate::item::Piece;
 use crate::listed::Listed;
 use crate::slot::Slot;
-use crate::table::count;
+use crate::table::{count, missing, twice};
 use std::alloc::{AllocError, Global};
 
 /// Nothing where the test holds, and else the fault.
@@ -17,14 +18,23 @@ pub fn check<E: Drop>(holds: bool, fault: E) -> Result<(), E>
     if holds { Ok(()) } else { Err(fault) }
 }
 
-/// The fault that is made of a slot, where there is one, and else nothing.
-pub fn none_of<E, F: FnOnce(Slot) -> E>(found: Option<Slot>, fault: F) -> Result<(), E>
-    requires { F.IsAlwaysCallable fault }
-    ensures { (f : ℕ → ℕ → E) → NamesSlot (F.post fault) f → result ≡ none_of found f }
+/// The fault of the first of the slots that has no item.
+pub fn all_there<E: FormFault>(slots: &[Slot], items: &[Piece<'_>]) -> Result<(), E>
+    ensures { result ≡ none_of (first_missing slots.now items.now) E.missing }
 {
-    match found {
+    match missing(items, slots) {
         None => Ok(()),
-        Some(slot) => Err(fault(slot)),
+        Some(slot) => Err(E::missing(slot)),
+    }
+}
+
+/// The fault of the first of the slots that has more than one item.
+pub fn all_single<E: FormFault>(slots: &[Slot], items: &[Piece<'_>]) -> Result<(), E>
+    ensures { result ≡ none_of (first_twice slots.now items.now) E.twice }
+{
+    match twice(items, slots) {
+        None => Ok(()),
+        Some(slot) => Err(E::twice(slot)),
     }
 }
 

@@ -1,19 +1,19 @@
 //! Items, one after the other, with no list of them.
-ghost use Rattle.std.specs.Prelude.{◌≡◌, [], position, IfSome, IsTrue};
+ghost use Rattle.std.specs.Prelude.{◌≡◌, ◌<◌, [], ◌∷◌, length, position, IfSome, IfNone, IsTrue};
 ghost use Rattle.std.specs.List.{before_first, after_first};
-ghost use Rattle.buck_record.specs.Record.{is_tilde};
+ghost use Rattle.buck_record.specs.Record.{is_tilde, pieces};
 ghost use Rattle.buck_record.specs.Cursor.{HasItems, Leads, item_in};
 
 use crate::item::Piece;
 use crate::reading::read_piece;
 use crate::slot::Slot;
 use crate::white::trim;
-use memchr::memchr;
+use bstr::ByteSlice;
 
 fn first_tilde(text: &[u8]) -> Option<usize>
     ensures { result ≡ position is_tilde text.now }
 {
-    memchr(b'~', text)
+    text.find_byte(b'~')
 }
 
 /// The bytes up to the first tilde, and those after it.
@@ -25,6 +25,24 @@ pub(crate) fn cut_part(text: &[u8]) -> (&[u8], &[u8])
         None => (text, &text[text.len()..]),
         Some(end) => (&text[..end], &text[end + 1..]),
     }
+}
+
+/// The first piece of a text, and what is left of the text after the tilde that ends it. `None` where there is none.
+pub(crate) fn cut_piece(text: &[u8]) -> Option<(&[u8], &[u8])>
+    ensures first { IfSome result (λ w. pieces text.now ≡ w.0.now ∷ pieces w.1.now) }
+    ensures shorter { IfSome result (λ w. length w.1.now < length text.now) }
+    ensures none { IfNone result (pieces text.now ≡ []) }
+{
+    let mut rest = text;
+    while !rest.is_empty() {
+        let (part, left) = cut_part(rest);
+        let piece = trim(part);
+        if !piece.is_empty() {
+            return Some((piece, left));
+        }
+        rest = left;
+    }
+    None
 }
 
 /// The item that a text begins with, and what is left of the text after the tilde that ends it. `None` where there is

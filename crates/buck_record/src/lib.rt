@@ -4,7 +4,8 @@
 //! read the rest of an item. [`next_in`] and [`is_done`] go over a file with no list of its items, and [`append_numbers`]
 //! reads small numbers in one pass.
 //! [`table`] looks items up by number and kind, [`check`] chains the checks of a reader that stands on this crate,
-//! [`rules`] has what such readers share, and [`laws`] says that what is written is read again. [`put_number`],
+//! [`rules`] has what such readers share, and [`laws`] says that what is written is read again. [`FormFault`] is what
+//! their faults have in common, [`Numbered`] what is told of a fault, and [`text`] writes its text. [`put_number`],
 //! [`put_numbers`] and [`put_line`] write.
 #![tactic(auto)]
 
@@ -12,6 +13,7 @@ pub mod check;
 mod cursor;
 mod digits;
 mod fault;
+mod form;
 mod group;
 mod into;
 mod item;
@@ -20,6 +22,7 @@ pub mod laws;
 mod line;
 mod listed;
 mod memory;
+mod numbered;
 mod quick;
 mod reading;
 pub mod rules;
@@ -27,17 +30,20 @@ mod short;
 mod slot;
 mod small;
 pub mod table;
+pub mod text;
 mod white;
 mod words;
 
 pub use cursor::{is_done, next_in};
 pub use fault::RecordFault;
+pub use form::FormFault;
 pub use group::Group;
 pub use into::numbers_into;
 pub use item::{Item, Piece};
 pub use line::{put_line, put_number, put_numbers};
 pub use listed::Listed;
 pub use memory::Memory;
+pub use numbered::{FaultNumbers, Numbered};
 pub use quick::next_quick;
 pub use reading::{items, number, numbers, pieces, pieces_at, wide};
 pub use slot::Slot;

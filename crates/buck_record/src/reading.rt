@@ -7,6 +7,7 @@ ghost use Rattle.buck_record.specs.Record.{item_of, items_of, number_at_most, nu
 ghost use Rattle.buck_record.specs.Table.{only_in};
 ghost use Rattle.buck_record.specs.White.{first_word, after_word};
 
+use crate::cursor::cut_piece;
 use crate::digits::{cut_head, cut_number, number_at_most};
 use crate::fault::RecordFault;
 use crate::item::{Item, Piece};
@@ -15,7 +16,6 @@ use crate::slot::Slot;
 use crate::table::is_in;
 use crate::white::{trim, trim_start};
 use crate::words::Words;
-use bstr::ByteSlice;
 use std::alloc::{AllocError, Global};
 
 /// The item of a piece, where it has a head.
@@ -47,16 +47,15 @@ pub fn pieces<'a>(alloc: Global, bytes: &'a [u8]) -> Result<Vec<Piece<'a>>, Reco
     ensures { Gives Memory (listed result) (with_fault (λ k. Head k) (items_of bytes.now)) }
 {
     let mut held = Vec::new(alloc);
-    for part in bytes.split_str(b"~") {
-        let piece = trim(part);
-        if !piece.is_empty() {
-            let Some(item) = read_piece(piece) else {
-                return Err(RecordFault::Head {
-                    item: held.len() + 1,
-                });
-            };
-            held.push(item)?;
-        }
+    let mut rest = bytes;
+    while let Some((piece, left)) = cut_piece(rest) {
+        let Some(item) = read_piece(piece) else {
+            return Err(RecordFault::Head {
+                item: held.len() + 1,
+            });
+        };
+        held.push(item)?;
+        rest = left;
     }
     Ok(held)
 }
@@ -74,17 +73,16 @@ pub fn pieces_at<'a>(
 {
     let mut held = Vec::new(alloc);
     let mut read = 0usize;
-    for part in bytes.split_str(b"~") {
-        let text = trim(part);
-        if !text.is_empty() {
-            read += 1;
-            let Some(item) = read_piece(text) else {
-                return Err(RecordFault::Head { item: read });
-            };
-            if is_in(&item, slots) {
-                held.push(item)?;
-            }
+    let mut rest = bytes;
+    while let Some((piece, left)) = cut_piece(rest) {
+        read += 1;
+        let Some(item) = read_piece(piece) else {
+            return Err(RecordFault::Head { item: read });
+        };
+        if is_in(&item, slots) {
+            held.push(item)?;
         }
+        rest = left;
     }
     Ok(held)
 }

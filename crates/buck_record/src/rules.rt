@@ -3,9 +3,10 @@ ghost use Rattle.std.specs.Prelude.{◌≡◌, ℕ};
 ghost use Rattle.buck_record.specs.Reading.{Gives, IsMemory, with_fault};
 ghost use Rattle.buck_record.specs.Record.{items_of};
 ghost use Rattle.buck_record.specs.Table.{only_in};
-ghost use Rattle.buck_record.specs.Rules.{NamesItem, NamesWord, numbers_in, within, all_within, is_rising};
+ghost use Rattle.buck_record.specs.Rules.{NamesItem, numbers_in, within, all_within, is_rising};
 
 use crate::fault::RecordFault;
+use crate::form::FormFault;
 use crate::item::Piece;
 use crate::listed::Listed;
 use crate::reading::{numbers, pieces, pieces_at};
@@ -34,43 +35,36 @@ pub fn items_in<'a, E: From<AllocError>, F: FnOnce(usize) -> E>(
     }
 }
 
-/// The items of a file's bytes that stand in one of the slots, as [`pieces_at`] has them, and refused as [`items_in`]
-/// refuses.
-pub fn items_at<'a, E: From<AllocError>, F: FnOnce(usize) -> E>(
+/// The items of a file's bytes that stand in one of the slots, as [`pieces_at`] has them, with the faults of a file form.
+pub fn items_at<'a, E: FormFault>(
     alloc: Global,
     bytes: &'a [u8],
     slots: &[Slot],
-    fault: F,
 ) -> Result<Listed<Piece<'a>>, E>
-    requires { F.IsAlwaysCallable fault }
-    ensures { (m : E) (f : ℕ → E) → IsMemory E.from_gives m → NamesItem (F.post fault) f
-        → Gives m result (with_fault f (only_in slots.now (items_of bytes.now))) }
+    ensures { Gives E.out_of_memory result (with_fault E.headless (only_in slots.now (items_of bytes.now))) }
 {
     match pieces_at(alloc, bytes, slots) {
         Ok(found) => Ok(Listed::of(found)),
-        Err(RecordFault::Head { item: place }) => Err(fault(place)),
-        Err(_) => Err(E::from(AllocError)),
+        Err(RecordFault::Head { item }) => Err(E::headless(item)),
+        Err(_) => Err(E::out_of_memory()),
     }
 }
 
 /// The numbers of the first item in a slot, as [`numbers`] has them, and none where no item stands there. Refused by
-/// the fault that is made of the slot and of the place of the first word, counted from 1, that is no number, or by that
-/// of a refused growth.
+/// the fault that names the slot and the place of the first word, counted from 1, that is no number, or by that of a
+/// refused growth.
 #[tactic(auto, unfolding(crate::specs::Rules::numbers_in))]
-pub fn numbers_in<'a, E: From<AllocError>, F: FnOnce(Slot, usize) -> E>(
+pub fn numbers_in<'a, E: FormFault>(
     alloc: Global,
     slot: Slot,
     items: &'a [Piece<'a>],
-    fault: F,
 ) -> Result<Listed<u32>, E>
-    requires { F.IsAlwaysCallable fault }
-    ensures { (m : E) (f : ℕ → ℕ → ℕ → E) → IsMemory E.from_gives m → NamesWord (F.post fault) f
-        → Gives m result (numbers_in f slot items.now) }
+    ensures { Gives E.out_of_memory result (numbers_in E.digits slot items.now) }
 {
     match numbers(alloc, rest(items, slot)) {
         Ok(found) => Ok(Listed::of(found)),
-        Err(RecordFault::Digits { place }) => Err(fault(slot, place)),
-        Err(_) => Err(E::from(AllocError)),
+        Err(RecordFault::Digits { place }) => Err(E::digits(slot, place)),
+        Err(_) => Err(E::out_of_memory()),
     }
 }
 

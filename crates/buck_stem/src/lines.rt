@@ -18,13 +18,13 @@ ghost use Rattle.buck_stem.specs.Stm.{
 };
 
 use crate::draft::Draft;
-use crate::fault::{self, StmFault};
+use crate::fault::StmFault;
 use crate::rules::{grades_within, is_count_of_zones, starts_rise, starts_within};
 use crate::slots::{MEMBERS, NEEDED, SAMPLES, SPECIES, STEM, ZONES};
-use buck_record::check::{all_absent, check, each, none_of};
+use buck_record::check::{all_absent, all_single, all_there, check, each};
 use buck_record::rules::{FILE, all_within, within};
-use buck_record::table::{front, missing, twice};
-use buck_record::{Group, Piece};
+use buck_record::table::front;
+use buck_record::{FormFault, Group, Piece};
 
 /// No item of a stem stands before the first number.
 fn has_no_strays<'a>(items: &'a [Piece<'a>]) -> bool
@@ -34,16 +34,16 @@ fn has_no_strays<'a>(items: &'a [Piece<'a>]) -> bool
 }
 
 #[tactic(auto, unfolding(crate::specs::Stm::stem_present))]
-fn stem_present(stem: &Group<'_>) -> Result<(), StmFault>
+fn stem_present<'a>(stem: &'a [Piece<'a>]) -> Result<(), StmFault>
     ensures { result ≡ stem_present stem.now }
 {
-    none_of(missing(stem.items(), &NEEDED), fault::missing)
+    all_there(&NEEDED, stem)
 }
 
 fn each_present(stems: &[Group<'_>]) -> Result<(), StmFault>
     ensures { result ≡ each stem_present stems.now }
 {
-    each(stems, |stem| stem_present(stem))
+    each(stems, |stem| stem_present(stem.items()))
 }
 
 /// Each item that must be there is.
@@ -52,21 +52,21 @@ pub(crate) fn present<'a>(items: &'a [Piece<'a>], stems: &[Group<'_>]) -> Result
     requires { stems.now ≡ groups items.now }
     ensures { result ≡ present items.now }
 {
-    check(has_no_strays(items), fault::missing(STEM))?;
+    check(has_no_strays(items), StmFault::missing(STEM))?;
     each_present(stems)
 }
 
 #[tactic(auto, unfolding(crate::specs::Stm::stem_single))]
-fn stem_single(stem: &Group<'_>) -> Result<(), StmFault>
+fn stem_single<'a>(stem: &'a [Piece<'a>]) -> Result<(), StmFault>
     ensures { result ≡ stem_single stem.now }
 {
-    none_of(twice(stem.items(), &MEMBERS), fault::twice)
+    all_single(&MEMBERS, stem)
 }
 
 fn each_single(stems: &[Group<'_>]) -> Result<(), StmFault>
     ensures { result ≡ each stem_single stems.now }
 {
-    each(stems, |stem| stem_single(stem))
+    each(stems, |stem| stem_single(stem.items()))
 }
 
 /// No item stands twice in the file or in its stem.
@@ -75,7 +75,7 @@ pub(crate) fn single<'a>(items: &'a [Piece<'a>], stems: &[Group<'_>]) -> Result<
     requires { stems.now ≡ groups items.now }
     ensures { result ≡ single items.now }
 {
-    none_of(twice(items, &[FILE]), fault::twice)?;
+    all_single::<StmFault>(&[FILE], items)?;
     each_single(stems)
 }
 
@@ -86,15 +86,15 @@ fn draft_range(draft: &Draft) -> Result<(), StmFault>
     let zones = draft.zones.as_slice();
     check(
         all_within(1, 255, draft.species.as_slice()),
-        fault::range(SPECIES),
+        StmFault::range(SPECIES),
     )?;
     check(
         all_within(0, 1500, draft.samples.as_slice()),
-        fault::range(SAMPLES),
+        StmFault::range(SAMPLES),
     )?;
     check(
         starts_within(0, 40_000, zones) && grades_within(1, 8, zones),
-        fault::range(ZONES),
+        StmFault::range(ZONES),
     )
 }
 
@@ -110,7 +110,7 @@ pub(crate) fn in_range(drafts: &[Draft]) -> Result<(), StmFault>
 fn draft_order(draft: &Draft) -> Result<(), StmFault>
     ensures { result ≡ draft_order draft.now }
 {
-    check(starts_rise(draft.zones.as_slice()), fault::order(ZONES))
+    check(starts_rise(draft.zones.as_slice()), StmFault::order(ZONES))
 }
 
 /// The starts of each stem's zones rise.
@@ -125,10 +125,13 @@ pub(crate) fn in_order(drafts: &[Draft]) -> Result<(), StmFault>
 fn draft_count(draft: &Draft) -> Result<(), StmFault>
     ensures { result ≡ draft_count draft.now }
 {
-    check(draft.number.len() == 1, fault::count(STEM))?;
-    check(draft.species.len() == 1, fault::count(SPECIES))?;
-    check(within(1, 401, draft.samples.len()), fault::count(SAMPLES))?;
-    check(is_count_of_zones(draft.zones.len()), fault::count(ZONES))
+    check(draft.number.len() == 1, StmFault::count(STEM))?;
+    check(draft.species.len() == 1, StmFault::count(SPECIES))?;
+    check(
+        within(1, 401, draft.samples.len()),
+        StmFault::count(SAMPLES),
+    )?;
+    check(is_count_of_zones(draft.zones.len()), StmFault::count(ZONES))
 }
 
 /// There are as many numbers as there should be.

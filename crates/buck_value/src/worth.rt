@@ -90,7 +90,7 @@ fn has_grades_of(stem: &Stem, log: &Log, grades: &[u8]) -> bool
 }
 
 /// The class and the top diameter in mm of a log that is allowed.
-#[derive(Clone, Copy, Debug)]
+#[derive(Clone, Copy)]
 struct Measured {
     class: Class,
     top: u32,

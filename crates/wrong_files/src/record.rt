@@ -3,19 +3,19 @@
 
 ghost use Rattle.std.specs.Prelude.{◌≡◌, ◌≤◌, ◌+◌, ◌*◌, [], ◌∷◌, nat_le, length, IsTrue, Ok};
 ghost use Rattle.std.specs.Vec.{vec_len, vec_capacity};
-ghost use Rattle.buck_record.specs.Check.{check, each, make_each, none_of};
+ghost use Rattle.buck_record.specs.Check.{check, each, make_each};
 ghost use Rattle.buck_record.specs.Reading.{Gives, with_fault};
 ghost use Rattle.buck_record.specs.Record.{items_of};
-ghost use Rattle.buck_record.specs.Rules.{file_slot, numbers_in};
-ghost use Rattle.buck_record.specs.Table.{only_in};
 ghost use Rattle.buck_record.specs.declared.fault.RecordFault.TheVariants.{Memory, Head, Digits};
 
-use buck_record::check::{all_absent, check, each, is_there, make_each, none_of};
+use buck_apt::AptFault;
+use buck_record::check::{all_absent, all_single, all_there, check, each, is_there, make_each};
 use buck_record::rules::{FILE, all_within, is_rising, items_at, items_in, numbers_in, within};
 use buck_record::table::{count, front, groups, missing, rest, twice};
 use buck_record::{
-    Group, Listed, Piece, RecordFault, Slot, append_numbers, is_done, items, next_in, number,
-    numbers, numbers_into, pieces, pieces_at, put_line, put_number, wide,
+    FaultNumbers, FormFault, Group, Listed, Numbered, Piece, RecordFault, Slot, append_numbers,
+    is_done, items, next_in, number, numbers, numbers_into, pieces, pieces_at, put_line,
+    put_number, wide,
 };
 use std::alloc::Global;
 
@@ -259,24 +259,17 @@ pub fn check_turned_around() {
     prove!(right != wrong);
 }
 
-fn place_of(slot: Slot) -> RecordFault
-    ensures { result ≡ Digits slot.number }
-{
-    RecordFault::Digits {
-        place: usize::from(slot.number),
-    }
-}
-
-fn none_found(found: Option<Slot>) -> Result<(), RecordFault>
-    ensures { result ≡ none_of found (λ number kind. Digits number) }
-{
-    none_of(found, place_of)
-}
-
-/// A slot that was found is let by.
-pub fn none_of_lets_by() {
-    let right = none_found(Some(UPPER));
+/// A slot with no item is let by.
+pub fn all_there_lets_by() {
+    let right: Result<(), AptFault> = all_there(&[UPPER, FILE], &TWO_KINDS);
     let wrong = Ok(());
+    prove!(right != wrong);
+}
+
+/// An item that stands once is said to stand twice.
+pub fn all_single_at_most_none() {
+    let right: Result<(), AptFault> = all_single(&[UPPER], &TWO_KINDS);
+    let wrong = Err(AptFault::twice(UPPER));
     prove!(right != wrong);
 }
 
@@ -359,43 +352,44 @@ pub fn items_in_fault_one_off(alloc: Global) {
     }
 }
 
-fn kind_of<'a>(alloc: Global, bytes: &'a [u8]) -> Result<Listed<Piece<'a>>, RecordFault>
-    ensures { Gives Memory result (with_fault (λ place. Head place) (only_in (file_slot ∷ []) (items_of bytes.now))) }
-{
-    items_at(alloc, bytes, &[FILE], head)
-}
-
 /// A refusal names the item after the one with no head.
 pub fn items_at_fault_one_off(alloc: Global) {
-    if let Err(fault) = kind_of(alloc, b"no head") {
-        let wrong = RecordFault::Head { item: 2 };
+    let right: Result<Listed<Piece<'_>>, AptFault> = items_at(alloc, b"no head", &[FILE]);
+    if let Err(fault) = right {
+        let wrong = AptFault::Head { item: 2 };
         prove!(fault != wrong);
     }
 }
 
-fn digits(_slot: Slot, place: usize) -> RecordFault
-    ensures { result ≡ Digits place }
-{
-    RecordFault::Digits { place }
-}
-
-#[tactic(auto)]
-fn numbers_of<'a>(
-    alloc: Global,
-    slot: Slot,
-    items: &'a [Piece<'a>],
-) -> Result<Listed<u32>, RecordFault>
-    ensures { Gives Memory result (numbers_in (λ number kind place. Digits place) slot items.now) }
-{
-    numbers_in(alloc, slot, items, digits)
-}
-
 /// The numbers of the kind of file, whatever slot is asked for.
 pub fn numbers_in_of_the_kind_of_file(alloc: Global) {
-    let Ok(right) = numbers_of(alloc, UPPER, &TWO_KINDS) else {
+    let right: Result<Listed<u32>, AptFault> = numbers_in(alloc, UPPER, &TWO_KINDS);
+    let Ok(right) = right else {
         return;
     };
     let wrong: &[u32] = &[];
+    prove!(right.as_slice() != wrong);
+}
+
+/// The last field of a fault is left out.
+pub fn fault_numbers_without_the_last() {
+    let right = FaultNumbers::of(&[5, 916, 1]);
+    let wrong: &[u64] = &[5, 916];
+    prove!(right.as_slice() != wrong);
+}
+
+/// The number of a fault is given as its first field.
+pub fn fault_fields_with_the_number() {
+    let numbers = FaultNumbers::of(&[5, 916, 1]);
+    let right = numbers.fields();
+    let wrong: &[u64] = &[5, 916, 1];
+    prove!(right != wrong);
+}
+
+/// A fault of an item is told by another number.
+pub fn numbers_of_another_fault() {
+    let right = AptFault::missing(UPPER).numbers();
+    let wrong: &[u64] = &[4, 915, 2];
     prove!(right.as_slice() != wrong);
 }
 

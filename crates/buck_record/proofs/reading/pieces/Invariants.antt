@@ -1,10 +1,11 @@
-use Rattle.std.proofs.Common.{◌≡◌}
-use Rattle.buck_record.specs.Record.{items_of}
+use Rattle.std.proofs.Common.{◌≡◌, length}
+use Rattle.buck_record.specs.Record.{pieces, items_of}
 use Rattle.buck_record.proofs.RecordLemmas.{reads_on}
 use Rattle.buck_record.proofs.reading.pieces.Given as goal
 
-abbrev pub invariant-loop-part : goal.invariant-loop-part
-invariant-loop-part l =
-    (goal.iterator-loop-part).can_next l.part-iterator ×
-    (goal.iterator-loop-part).is_finite l.part-iterator ×
-    (reads_on l.held.items l.part-iterator ≡ items_of l.fn.bytes)
+-- what is held and the pieces that are left give the items
+abbrev pub invariant-loop-piece : goal.invariant-loop-piece
+invariant-loop-piece l = reads_on l.held.items (pieces l.rest) ≡ items_of l.fn.bytes
+
+abbrev pub decreases-loop-piece : goal.decreases-loop-piece
+decreases-loop-piece l = length l.rest

@@ -1,0 +1,8 @@
+-- What is told of a fleet that didn't close well: the fault's number, then its fields in the order of their definition.
+use Rattle.std.specs.Prelude.{ℕ, List, [], ◌∷◌}
+use Rattle.buck_fleet.specs.declared.close.CloseFault.{CloseFault}
+use Rattle.buck_fleet.specs.declared.close.CloseFault.TheVariants.{Instruction, Calls}
+
+abbrev pub close_numbers : CloseFault → List ℕ
+close_numbers Instruction = 1 ∷ []
+close_numbers (Calls harvester number) = 2 ∷ harvester ∷ number ∷ []
