@@ -1,150 +1,70 @@
 #!/usr/bin/env python3
 """Prints the pages of definitions that a reader must believe, promise by promise, with their lines.
 
-    python3 checks/pages.py
+    python3 checks/pages.py [--write]
 
-For each promise it goes from the words of its contract to all definitions that these lead to, within specs/. A page is
-counted by the lines of the definitions that are reached, with their comments. The headline is counted by itself, each
-promise after it beside those above. It ends in status 1 where docs/PROOFS.md has other numbers.
+It reads the clauses of all public functions of the libraries, and goes from their words to all definitions that these
+lead to, within specs/. PROMISES says which calls a promise is about; the calls that it leaves over stand together at
+the end. A page is counted by the lines of the definitions that are reached, with their comments: the headline by
+itself, each promise beside those above it. Last come the types of the code that clauses and pages name. It ends in
+status 1 where docs/PROOFS.md has other numbers or types (--write puts these there), and where a clause leads into
+specs/inner/.
 """
+import fnmatch
 import os
 import re
 import sys
 
 TOP = os.path.dirname(os.path.dirname(os.path.abspath(__file__)))
 
-HEADLINE = (
-    "the headline",
-    [
-        "buck_fleet.specs.Closed:IsOneHistory",
-        "buck_fleet.specs.Closed:IsHandedOut",
-        "buck_fleet.specs.Closed:IsCloseFault",
-        "buck_fleet.specs.Crew:IsCrew",
-        "buck_fleet.specs.Crew:parts_of",
-    ],
-)
+HEADLINE = ("the headline", ["buck_fleet::Fleet::close"])
 
 PROMISES = [
-    ("the best cutting", ["buck_dp.specs.Best:IsFirstBest", "buck_dp.specs.Best:cutting_worth"]),
+    ("the best cutting", ["buck_dp::best", "buck_dp::worth", "buck_dp::admissible", "buck_dp::Planner::best"]),
     (
         "the printed text",
         [
-            "buck_engine.specs.Engine:AppendsAnswer",
-            "buck_engine.specs.Engine:IsRefusalOf",
-            "buck_engine.specs.Engine:AppendsPrefix",
-            "buck_engine.specs.Engine:IsBeforeStems",
-            "buck_engine.specs.Faults:fault_line",
-            "buck_engine.specs.Faults:status_of",
+            "buck_engine::run_buck",
+            "buck_engine::run_bare",
+            "buck_engine::buck_text",
+            "buck_engine::write_fault",
+            "buck_engine::status",
         ],
     ),
-    (
-        "the history of a book",
-        [
-            "buck_book.specs.Book:IsBook",
-            "buck_book.specs.Book:IsReadyFor",
-            "buck_book.specs.Book:SameContent",
-            "buck_book.specs.Book:IsReadyDemand",
-            "buck_book.specs.Book:entry_of",
-            "buck_book.specs.Book:demand_of",
-            "buck_book.specs.History:sheets_with",
-            "buck_book.specs.Refused:IsRefusal",
-            "buck_book.specs.Refused:IsDemandRefusal",
-            "buck_book.specs.Pricing:AreAnswersWith",
-            "buck_book.specs.Pricing:AreAnswersWithDemand",
-            "buck_rule.specs.Stored:Answers",
-        ],
-    ),
-    (
-        "a checked journal",
-        [
-            "buck_engine.specs.Check:IsFoundLawful",
-            "buck_engine.specs.Check:IsCheckRefusal",
-            "buck_engine.specs.Check:AppendsLawfulPrefix",
-        ],
-    ),
-    (
-        "a whole run of the program",
-        [
-            "buck_engine.specs.Run:RunsTask",
-            "buck_engine.specs.Run:TellsOutcome",
-            "buck_engine.specs.Run:status_after",
-        ],
-    ),
-    (
-        "the closed fleet",
-        [
-            "buck_fleet.specs.Closed:IsOneHistory",
-            "buck_fleet.specs.Closed:IsCloseFault",
-            "buck_fleet.specs.Crew:IsCrew",
-            "buck_fleet.specs.Crew:AreOpened",
-            "buck_fleet.specs.Reply:IsReplyFor",
-            "buck_fleet.specs.Reply:IsOfPlan",
-            "buck_fleet.specs.Reply:AreAttempts",
-            "buck_fleet.specs.Reply:IsReplyToTargets",
-            "buck_fleet.specs.Run:HaveRun",
-            "buck_fleet.specs.Refused:IsOpenFault",
-            "buck_fleet.specs.Refused:GivesBack",
-            "buck_fleet.specs.Run:IsFirstStop",
-        ],
-    ),
-    ("the report", ["buck_engine.specs.Report:IsReport", "buck_engine.specs.Degree:IsDegree"]),
-    (
-        "a fleet over files",
-        [
-            "buck_engine.specs.Fleet:IsFleetRun",
-            "buck_engine.specs.Fleet:IfStopped",
-            "buck_engine.specs.Lent:of_lent",
-            "buck_engine.specs.Served:RunsFleet",
-        ],
-    ),
-    (
-        "the world and its runs",
-        [
-            "buck_world.specs.Step:Step",
-            "buck_world.specs.Refused:HasRoom",
-            "buck_world.specs.Refused:IsRefusal",
-            "buck_world.specs.Kept:IsKept",
-            "buck_world.specs.World:opening",
-            "buck_world.specs.Laws:HistoryIsLawful",
-            "buck_world.specs.Laws:PostingsAreThoseAdded",
-            "buck_world.specs.Laws:NoOldPlanIsAdded",
-            "buck_world.specs.Laws:StaleAtMostThree",
-            "buck_world.specs.Laws:OneAnswered",
-            "buck_world.specs.Laws:FrontIsNearVersion",
-            "buck_world.specs.Laws:ReadsNeverFall",
-            "buck_world.specs.Laws:ReadsAfterReplies",
-            "buck_world.specs.Laws:LiftsAreTheFront",
-            "buck_world.specs.Laws:StaleAndLiftsAtMostFront",
-            "buck_world.specs.Laws:StaleAtMostLiftsOfOthers",
-            "buck_world.specs.Laws:AllStaleAtMost",
-        ],
-    ),
+    ("the history of a book", ["buck_book::Book::*", "buck_rule::Rule::*"]),
+    ("a checked journal", ["buck_engine::run_check", "buck_journal::read_journal", "buck_journal::replay"]),
+    ("a whole run of the program", ["buck_engine::serve", "buck_engine::conclude", "buck_engine::explain"]),
+    ("the closed fleet", ["buck_fleet::Fleet::*", "buck_fleet::Closed::*", "buck_fleet::run_fleet"]),
+    ("the report", ["buck_engine::report_text", "buck_engine::degree"]),
+    ("a fleet over files", ["buck_engine::run_fleet_files", "buck_engine::serve_fleet"]),
+    ("the world and its runs", ["buck_world::*"]),
+    ("all other public calls", ["*"]),
 ]
+
+TYPES = "Beside the pages stand the types of the code that they and the clauses name, plain structs and enums in `src/`: "
 
 HEAD = r"(?:abbrev|unfoldable|pub record|record)\s+(?:pub\s+)?"
 
 
-def pages():
-    """Each page of specs/: its lines, the names it takes from other pages, and where each definition stands."""
-    found = {}
-    for folder, _, files in os.walk(os.path.join(TOP, "crates")):
-        if "/specs" not in folder or "/out/" in folder + "/":
-            continue
-        for name in files:
-            path = os.path.join(folder, name)
-            words = os.path.relpath(path, os.path.join(TOP, "crates"))[: -len(".antt")].split(os.sep)
-            with open(path) as text:
-                found[".".join(words)] = page(text.read().split("\n"))
-    return found
+def words_of(text):
+    """The words of a clause or a definition that may be names."""
+    return sorted(set(re.findall(r"[^\s(){},;:→×.λ]+", text) + re.findall(r"[A-Za-z_]\w*", text)))
+
+
+def taken_by(lines, form):
+    """Where each name that these lines import stands."""
+    taken = {}
+    for line in lines:
+        use = re.match(form + r"use Rattle\.(\S+)\.\{(.*)\}", line)
+        if use:
+            taken.update({name.strip(): use[1] for name in use[2].split(",")})
+    return taken
 
 
 def page(lines):
-    taken = {}
+    """A page of specs/: its lines, the names it takes from other pages, and where each definition stands."""
     stands = {}
     for at, line in enumerate(lines):
-        use = re.match(r"(?:pub )?use Rattle\.(\S+)\.\{(.*)\}", line)
-        if use:
-            taken.update({name.strip(): use[1] for name in use[2].split(",")})
         definition = re.match(HEAD + r"(\S+)", line)
         if definition:
             first, last = at, at
@@ -153,60 +73,176 @@ def page(lines):
             while last + 1 < len(lines) and lines[last + 1].strip() and not re.match(HEAD + r"|--", lines[last + 1]):
                 last += 1
             stands[definition[1]] = (at, first, last)
-    return lines, taken, stands
+    return lines, taken_by(lines, r"(?:pub )?"), stands
+
+
+def files_in(crate, part, ending):
+    """The files of a crate in one of its folders: the words of each path, and its lines."""
+    top = os.path.join(TOP, "crates", crate, part)
+    for folder, _, names in sorted(os.walk(top)):
+        for name in sorted(names):
+            if name.endswith(ending):
+                path = os.path.join(folder, name)
+                with open(path) as text:
+                    yield os.path.relpath(path, top)[: -len(ending)].split(os.sep), text.read().split("\n")
+
+
+def libraries():
+    """The libraries of the product, lowest first."""
+    with open(os.path.join(TOP, "crates.txt")) as text:
+        names = [line.split(":")[0] for line in text]
+    return [name for name in names if name.startswith("buck_") and not re.search("_(samples|plays|tests)$", name)]
+
+
+def exported(lines):
+    """What the root of a crate hands out: its public modules, and the names it takes from private ones."""
+    text = "\n".join(lines)
+    modules = set(re.findall(r"^pub mod (\w+);", text, re.M))
+    names = {}
+    for module, several, one in re.findall(r"^pub use (\w+)::(?:\{([^}]*)\}|(\w+));", text, re.M):
+        for name in re.findall(r"\w+", several or one):
+            names[name] = module
+    return modules, names
+
+
+def clauses(lines, at):
+    """The clauses of the function whose head stands at this line."""
+    found = []
+    for line in lines[at:]:
+        if re.match(r"\s*(requires|ensures)\b", line) or found and not line.strip().startswith("//"):
+            found.append(line)
+        if re.match(r"\s*\{\}?$", line) or not found and re.search(r" \{\}?$|;$", line) or re.search(r"\};$", line):
+            break
+    return "\n".join(found)
+
+
+def public_calls(crate):
+    """Each public function of a crate that has clauses: its name, its clauses, and where the names in them stand."""
+    files = list(files_in(crate, "src", ".rt"))
+    modules, names = exported(next(lines for words, lines in files if words == ["lib"]))
+    for words, lines in files:
+        taken = taken_by(lines, "ghost ")
+        holder, is_trait = None, False
+        for at, line in enumerate(lines):
+            block = re.match(r"(impl|pub trait)\b(?:<.*?>(?= ))? *(?:[^{]* for )?(\w+)", line.replace("->", ""))
+            if block:
+                holder, is_trait = block[2], block[1] == "pub trait"
+            elif line == "}":
+                holder = None
+            call = re.match(r"\s*(pub )?fn (\w+)", line)
+            if not call or not (call[1] or is_trait):
+                continue
+            outer = holder or call[2]
+            if words[0] in modules or outer in names:
+                where = [words[0]] if words[0] in modules else []
+                name = "::".join([crate] + where + ([holder] if holder else []) + [call[2]])
+                yield name, clauses(lines, at), taken
 
 
 def reached(found, roots):
-    """The definitions that the roots lead to, each as its page and its name."""
-    seen, left = [], [tuple(root.split(":")) for root in roots]
+    """The definitions that the roots lead to, each as its page and its name, and the types of the code among them."""
+    seen, types, left = [], set(), list(roots)
     while left:
         at = left.pop(0)
-        if at in seen or at[0] not in found or at[1] not in found[at[0]][2]:
+        declared = re.match(r"(buck_\w+)\.specs\.declared\.\w+\.(\w+)", at[0])
+        if declared:
+            types.add((declared[1], declared[2]))
+        if at in seen or at[0] not in found:
+            continue
+        lines, taken, stands = found[at[0]]
+        if at[1] not in stands:
+            left += [(taken[at[1]], at[1])] if at[1] in taken else []
             continue
         seen.append(at)
-        lines, taken, stands = found[at[0]]
         head, _, last = stands[at[1]]
-        text = "\n".join(lines[head : last + 1])
-        for word in sorted(set(re.findall(r"[^\s(){},;:→×.λ]+", text) + re.findall(r"[A-Za-z_]\w*", text))):
+        for word in words_of("\n".join(lines[head : last + 1])):
             if word in stands:
                 left.append((at[0], word))
             elif word in taken:
                 left.append((taken[word], word))
-    return seen
+    return seen, types
 
 
 def counted(found, known, roots):
-    """How many lines of each page the roots lead to, beside what is known already."""
+    """How many lines of each page the roots lead to, beside what is known already; and the types of the code."""
     lengths = {}
-    for name, definition in reached(found, roots):
+    seen, types = reached(found, roots)
+    for name, definition in seen:
         _, first, last = found[name][2][definition]
         if (name, definition) not in known:
             lengths[name] = lengths.get(name, 0) + last - first + 1
         known.add((name, definition))
-    return lengths
+    return lengths, types
 
 
-def spelled(promise, lengths):
-    """The counts of a promise as docs/PROOFS.md has them."""
+def roots_of(calls, patterns, left):
+    """The words of the clauses of the calls that a promise is about, which are then no longer left over."""
+    roots = []
+    for name, text, taken in calls:
+        if any(fnmatch.fnmatch(name, pattern) for pattern in patterns):
+            roots += [(taken[word], word) for word in words_of(text) if word in taken]
+            left.discard(name)
+    return roots
+
+
+def spelled(place, promise, lengths):
+    """The line of docs/PROOFS.md on a promise."""
     pages = ", ".join(f"`{name.replace('.specs.', '/specs/').replace('.', '/')}` ({lengths[name]})" for name in lengths)
-    return f"**{promise[0].upper()}{promise[1:]}**: {sum(lengths.values())} lines in {len(lengths)} pages", pages
+    head = f"{place}. **{promise[0].upper()}{promise[1:]}**: {sum(lengths.values())} lines in {len(lengths)} pages"
+    return f"{head}, {'beside those above' if place > 1 else 'by itself'}: {pages}."
+
+
+def spelled_types(types):
+    """The line of docs/PROOFS.md on the types of the code, crate by crate."""
+    crates = [(crate, sorted(name for at, name in types if at == crate)) for crate in libraries()]
+    names = "; ".join(f"`{crate}`: " + ", ".join(f"`{name}`" for name in names) for crate, names in crates if names)
+    return f"{TYPES}{names}."
+
+
+def lines_wanted():
+    """The lines that docs/PROOFS.md must have, and what leads into specs/inner/."""
+    found = {}
+    calls = []
+    for crate in libraries():
+        for words, lines in files_in(crate, "specs", ".antt"):
+            found[".".join([crate, "specs"] + words)] = page(lines)
+        calls += public_calls(crate)
+    counts = [counted(found, set(), roots_of(calls, HEADLINE[1], set()))]
+    known = set()
+    left = {name for name, _, _ in calls}
+    for _, patterns in PROMISES:
+        about = [call for call in calls if call[0] in left]
+        counts.append(counted(found, known, roots_of(about, patterns, left)))
+    wanted, types, inner = [], set(), []
+    for place, (lengths, named) in enumerate(counts):
+        promise = ([HEADLINE] + PROMISES)[place][0]
+        wanted.append(spelled(place, promise, lengths))
+        types |= named
+        inner += [f"{promise} leads to {name}" for name in lengths if ".inner." in name]
+    return wanted + [spelled_types(types)], inner
 
 
 def main():
-    found = pages()
-    with open(os.path.join(TOP, "docs", "PROOFS.md")) as proofs:
-        told = proofs.read()
-    known = set()
-    counts = [(HEADLINE[0], counted(found, set(), HEADLINE[1]))]
-    counts += [(promise, counted(found, known, roots)) for promise, roots in PROMISES]
-    missing = []
-    for promise, lengths in counts:
-        head, names = spelled(promise, lengths)
-        print(f"{head}: {names}.\n")
-        missing += [] if head in told and names in told else [promise]
-    for promise in missing:
-        print(f"docs/PROOFS.md has other numbers: {promise}")
-    return 1 if missing else 0
+    path = os.path.join(TOP, "docs", "PROOFS.md")
+    with open(path) as text:
+        told = text.read().split("\n")
+    wanted, wrong = lines_wanted()
+    for line in wanted:
+        print(line + "\n")
+        head = line.split(":")[0]
+        at = [k for k, other in enumerate(told) if other.split(":")[0] == head]
+        if line in told:
+            continue
+        if "--write" in sys.argv and len(at) == 1:
+            told[at[0]] = line
+        else:
+            wrong.append(f"docs/PROOFS.md has another line: {head}")
+    if "--write" in sys.argv:
+        with open(path, "w") as text:
+            text.write("\n".join(told))
+    for line in wrong:
+        print(line)
+    return 1 if wrong else 0
 
 
 if __name__ == "__main__":

@@ -11,9 +11,10 @@ use Rattle.buck_book.specs.Counts.{AreClassCounts}
 use Rattle.buck_book.specs.History.{HistoryParts, IsLawful, version_of, in_force}
 use Rattle.buck_book.specs.Book.{IsFirst, BookParts, IsBook, sheets_from}
 use Rattle.buck_book.proofs.Sheets.{length-sheets_from, get_or-sheets_from}
+use Rattle.buck_fleet.specs.declared.close.CloseFault.{CloseFault}
 use Rattle.buck_fleet.specs.declared.seat.Kept.{Kept}
 use Rattle.buck_fleet.specs.Seat.{SeatParts}
-use Rattle.buck_fleet.specs.Closed.{ClosedParts, IsHandedOut}
+use Rattle.buck_fleet.specs.Closed.{ClosedParts, IsHandedOut, IsCloseFault}
 
 -- a history of these parts
 abbrev pub history_of : InstructionParts → List (List ℕ) → List Posting → HistoryParts
@@ -30,7 +31,7 @@ prices_are f xs v i prices e = fused f xs ∙ ap (λ (l : List SheetParts). map 
   from v i [] = refl
   from v i (p ∷ ps) = ap (λ (l : List (List ℕ)). p ∷ l) (from (v + 1) i ps)
 
-history_same : (h : HistoryParts) (i : InstructionParts) (prices : List (List ℕ)) (ps : List Posting) → i ≡ h.instruction → prices ≡ h.sheets → ps ≡ h.postings → history_of i prices ps ≡ h
+pub history_same : (h : HistoryParts) (i : InstructionParts) (prices : List (List ℕ)) (ps : List Posting) → i ≡ h.instruction → prices ≡ h.sheets → ps ≡ h.postings → history_of i prices ps ≡ h
 history_same h i prices ps a b c = λ t. record { instruction = a t; sheets = b t; postings = c t }
 
 pub lawful_out : {F : Type 0} (b : BookParts F) (i : InstructionParts) (prices : List (List ℕ)) (ps : List Posting) → IsBook b → i ≡ b.history.instruction → prices ≡ b.history.sheets → ps ≡ b.history.postings
@@ -56,15 +57,18 @@ pub counts_out : (i j : InstructionParts) (ps qs : List Posting) (counts : List 
 counts_out i j ps qs counts ei ep c =
     subst (λ (x : InstructionParts). AreClassCounts x qs counts) (sym ei) (subst (λ (l : List Posting). AreClassCounts i l counts) (sym ep) c)
 
-pub counts : (n : ℕ) (seats : List SeatParts) (c : ClosedParts) (lists : List (List Kept)) (total amount : ℕ)
-    → c.kept ≡ lists → length lists ≡ n → All (λ s. slice_index_or lists (s.harvester - 1) [] ≡ s.kept) seats → length c.history.postings ≡ total → amount ≡ total → amount ≡ sum_by length lists
-    → ((k : ℕ) (x : Posting) → slice_get c.history.postings k ≡ Some x → IsFirst c.history x) → IsHandedOut n seats c
-counts n seats c lists total amount k len all e t a firsts = record {
-  lists = subst (λ (ls : List (List Kept)). All (λ s. slice_index_or ls (s.harvester - 1) [] ≡ s.kept) seats) (sym k) all;
-  number = ap (λ (ls : List (List Kept)). length ls) k ∙ len;
-  total = e ∙ sym t ∙ a ∙ ap (λ (ls : List (List Kept)). sum_by length ls) (sym k);
-  first_best = firsts;
+-- what `close` hands out, by what it takes in: the kept lists, and the history with the first of the best cuttings
+pub handed_out : (n : ℕ) (seats : List SeatParts) (c : ClosedParts) (h : HistoryParts) (lists : List (List Kept)) → c.history ≡ h → c.kept ≡ lists → length lists ≡ n
+    → All (λ s. slice_index_or lists (s.harvester - 1) [] ≡ s.kept) seats → length h.postings ≡ sum_by length lists → ((k : ℕ) (x : Posting) → slice_get h.postings k ≡ Some x → IsFirst h x) → IsHandedOut n seats c
+handed_out n seats c h lists eh ek len all total firsts = record {
+  lists = subst (λ (ls : List (List Kept)). All (λ s. slice_index_or ls (s.harvester - 1) [] ≡ s.kept) seats) (sym ek) all;
+  number = ap (λ (ls : List (List Kept)). length ls) ek ∙ len;
+  total = ap (λ (x : HistoryParts). length x.postings) eh ∙ total ∙ ap (λ (ls : List (List Kept)). sum_by length ls) (sym ek);
+  first_best = subst (λ (x : HistoryParts). (k : ℕ) (p : Posting) → slice_get x.postings k ≡ Some p → IsFirst x p) (sym eh) firsts;
 }
+
+pub fault_at : (i j : InstructionParts) (n m : ℕ) (c : ClosedParts) (f : CloseFault) → i ≡ j → n ≡ m → IsCloseFault i n c f → IsCloseFault j m c f
+fault_at i j n m c f ei en h = subst (λ (x : InstructionParts). IsCloseFault x m c f) ei (subst (λ (x : ℕ). IsCloseFault i x c f) en h)
 
 -- the last of a lawful history's sheets is the one in force
 pub last_is : (h : HistoryParts) (sheets : List SheetParts) (d : SheetParts) → IsLawful h → sheets ≡ sheets_from 0 h.instruction h.sheets → (0 < length sheets) × (get_or sheets (length sheets - 1) d ≡ in_force h)

@@ -60,12 +60,13 @@ pub record DifferFirstAt (number : ℕ) (these those : List Kept) : Type 0 where
   pub like_before : take (number - 1) these ≡ take (number - 1) those
   pub unlike_there : slice_get these (number - 1) ≢ slice_get those (number - 1)
 
--- why a fleet doesn't close well: the instructions differ; or else a harvester's kept list and its postings differ,
--- that of the lowest such harvester at the lowest such number
+-- why a fleet doesn't close well: the instructions differ; or they don't, and a harvester's kept list and its postings
+-- differ, those of the lowest such harvester, at the lowest such number
 abbrev pub IsCloseFault : InstructionParts → ℕ → ClosedParts → CloseFault → Type 0
 IsCloseFault i n c Instruction = c.history.instruction ≢ i
 IsCloseFault i n c (Calls harvester number) =
-    (0 < harvester)
+    (c.history.instruction ≡ i)
+    × (0 < harvester)
     × (harvester ≤ n)
     × DifferFirstAt number (kept_by harvester c) (replies_of harvester c.history)
     × ((h : ℕ) → 0 < h → h < harvester → kept_by h c ≡ replies_of h c.history)

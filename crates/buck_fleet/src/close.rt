@@ -1,11 +1,11 @@
 //! How a fleet is closed, and what it hands out.
-ghost use Rattle.std.specs.Prelude.{◌≡◌, ◌≢◌, ℕ, ◌-◌, ◌<◌, ◌≤◌, ◌==◌, ◌↔◌, [], length, map, All, IsTrue, IfOk, IfErr, IfNone, IfSome, slice_index_or};
+ghost use Rattle.std.specs.Prelude.{◌≡◌, ◌≢◌, ℕ, ◌-◌, ◌<◌, ◌≤◌, ◌==◌, ◌↔◌, [], length, map, All, IsTrue, IfOk, IfErr, IfNone, IfSome, Some, slice_get, slice_index_or};
 ghost use Rattle.std.specs.List.{sum_by};
 ghost use Rattle.buck_book.specs.Posting.{harvester_of, targets_of};
 ghost use Rattle.buck_book.specs.Targets.{AreTargets};
 ghost use Rattle.buck_book.specs.Counts.{AreClassCounts};
 ghost use Rattle.buck_book.specs.History.{IsLawful, in_force};
-ghost use Rattle.buck_book.specs.Book.{sheets_from};
+ghost use Rattle.buck_book.specs.Book.{IsFirst, sheets_from};
 ghost use Rattle.buck_fleet.specs.Crew.{IsCrew, parts_of};
 ghost use Rattle.buck_fleet.specs.Closed.{ClosedParts, kept_by, lists_of, replies_from, replies_of, IsHandedOut, IsOneHistory, IsCloseFault, DifferFirstAt};
 ghost use Rattle.buck_fleet.specs.Faults.{close_numbers};
@@ -15,7 +15,7 @@ use crate::desk::Desk;
 use crate::fleet::Fleet;
 use crate::seat::{Kept, Seat};
 use buck_apt::Instruction;
-use buck_book::{Parts, Posting};
+use buck_book::{Book, Parts, Posting};
 use buck_record::{FaultNumbers, Numbered};
 use buck_value::Sheet;
 use std::marker::Model;
@@ -120,6 +120,54 @@ fn collect<L: Ledger>(seats: Vec<Seat<L>>, kept: &mut Vec<Vec<Kept>>, all: &mut 
     }
 }
 
+/// Takes all seats in, and holds what they kept against the ledger's total. The book is what is left of the desk.
+fn take_in<F: Drop, L: Ledger>(
+    desk: Desk<F, L>,
+    seats: Vec<Seat<L>>,
+    kept: &mut Vec<Vec<Kept>>,
+) -> Book<F>
+    requires crew { IsCrew (length kept.old.items) seats.items }
+    requires empty { AreEmpty (lists_of kept.old.items) }
+    requires parts { parts_of seats.items ≡ L.parts }
+    ensures lists { All (λ s. slice_index_or (lists_of kept.new.items) (s.harvester - 1) [] ≡ s.kept) seats.items }
+    ensures number { length kept.new.items ≡ length kept.old.items }
+    ensures total { length result.history.postings ≡ sum_by length (lists_of kept.new.items) }
+{
+    let Desk {
+        book,
+        mut calls,
+        rest,
+    } = desk;
+    let mut all = rest;
+    collect(seats, &mut *kept, &mut all);
+    calls.audit(&mut all);
+    book
+}
+
+/// What is handed out of a book, beside the kept lists.
+fn hand_out<F: Drop>(book: Book<F>, kept: Vec<Vec<Kept>>) -> Closed
+    ensures history { result.history ≡ book.history }
+    ensures kept { result.kept ≡ lists_of kept.items }
+    ensures first_best { (k : ℕ) (x : Posting) → slice_get book.history.postings k ≡ Some x → IsFirst book.history x }
+    ensures few { length book.history.postings ≤ 1000000 }
+{
+    let Parts {
+        instruction,
+        sheets,
+        entries,
+        targets,
+        counts,
+    } = book.into_parts();
+    Closed {
+        instruction,
+        sheets,
+        entries,
+        kept,
+        targets,
+        counts,
+    }
+}
+
 /// Whether a posting is a harvester's.
 fn is_of(posting: &Posting, harvester: u32) -> bool
     ensures { result ≡ (harvester_of posting.now == harvester) }
@@ -219,7 +267,7 @@ impl Closed {
     }
 
     /// The first difference of the lowest harvester that has one.
-    fn fault(&self) -> Option<CloseFault>
+    fn difference(&self) -> Option<CloseFault>
         requires few { length self.now.history.postings ≤ 1000000 }
         requires seats { length self.now.kept ≤ 64 }
         ensures none { IfNone result ((h : ℕ) → 0 < h → h ≤ length self.now.kept
@@ -234,6 +282,21 @@ impl Closed {
             }
         }
         None
+    }
+
+    /// Why a fleet of this instruction doesn't close well.
+    fn fault(&self, instruction: &Instruction) -> Option<CloseFault>
+        requires few { length self.now.history.postings ≤ 1000000 }
+        requires seats { length self.now.kept ≤ 64 }
+        ensures same { IfNone result (self.now.history.instruction ≡ instruction.now) }
+        ensures none { IfNone result ((h : ℕ) → 0 < h → h ≤ length self.now.kept
+            → kept_by h self.now ≡ replies_of h self.now.history) }
+        ensures some { IfSome result (IsCloseFault instruction.now (length self.now.kept) self.now) }
+    {
+        if !self.instruction.same(instruction) {
+            return Some(CloseFault::Instruction);
+        }
+        self.difference()
     }
 }
 
@@ -256,34 +319,9 @@ impl<F: Drop, L: Ledger> Fleet<F, L> {
             kept,
         } = self;
         let mut kept = kept;
-        let Desk {
-            book,
-            mut calls,
-            rest,
-        } = desk.into_inner();
-        let mut all = rest;
-        collect(seats, &mut kept, &mut all);
-        calls.audit(&mut all);
-        let is_same = book.instruction().same(&instruction);
-        let Parts {
-            instruction,
-            sheets,
-            entries,
-            targets,
-            counts,
-        } = book.into_parts();
-        let closed = Closed {
-            instruction,
-            sheets,
-            entries,
-            kept,
-            targets,
-            counts,
-        };
-        if !is_same {
-            return Err((CloseFault::Instruction, closed));
-        }
-        match closed.fault() {
+        let book = take_in(desk.into_inner(), seats, &mut kept);
+        let closed = hand_out(book, kept);
+        match closed.fault(&instruction) {
             Some(fault) => Err((fault, closed)),
             None => Ok(closed),
         }

@@ -1,5 +1,5 @@
 //! How a fleet is opened.
-ghost use Rattle.std.specs.Prelude.{◌≡◌, ◌+◌, ◌<◌, ◌≤◌, [], length, All, IfOk, IfErr, vec_len, vec_capacity};
+ghost use Rattle.std.specs.Prelude.{◌≡◌, ◌+◌, ◌<◌, ◌≤◌, [], length, All, OnOk, IfOk, IfErr, vec_len};
 ghost use Rattle.buck_board.specs.Board.{IsSeatOf, seen_by};
 ghost use Rattle.buck_fleet.specs.Crew.{AreOpened};
 ghost use Rattle.buck_fleet.specs.Refused.{IsOpenFault};
@@ -55,23 +55,65 @@ impl From<Memory> for OpenFault {
     }
 }
 
+/// Whether so many seats and postings may be.
+fn check_room(seats: u32, capacity: u32) -> Result<(), OpenFault>
+    ensures room { OnOk result ((0 < seats) × (seats ≤ 64) × (0 < capacity) × (capacity ≤ 1000000)) }
+    ensures fault { IfErr result (IsOpenFault seats capacity) }
+{
+    if seats == 0 || seats > 64 {
+        return Err(OpenFault::Seats);
+    }
+    if capacity == 0 || capacity > 1_000_000 {
+        return Err(OpenFault::Capacity);
+    }
+    Ok(())
+}
+
+/// An empty list for each harvester.
+fn empty_lists(alloc: Global, count: u32) -> Result<Vec<Vec<Kept>>, Memory>
+    ensures number { IfOk result (λ v. length v.items ≡ count) }
+    ensures empty { IfOk result (λ v. AreEmpty (lists_of v.items)) }
+{
+    let mut lists = Vec::with_capacity(alloc, count as usize)?;
+    for _ in 0..count {
+        lists.push_reserved(Vec::new(alloc));
+    }
+    Ok(lists)
+}
+
+/// A board that shows the sheet of a new book, and a place at it for each seat.
+fn show_base<R: Wait, F: Drop>(
+    rt: &R,
+    alloc: Global,
+    book: &Book<F>,
+    seats: u32,
+) -> Result<(Board, Vec<BoardSeat>), Memory>
+    requires seats { (1 ≤ seats) × (seats ≤ 64) }
+    requires new { book.now.history.postings ≡ [] }
+    ensures number { IfOk result (λ b. vec_len b.1 ≡ seats) }
+    ensures places { IfOk result (λ b. All (IsSeatOf b.0) b.1.items) }
+    ensures unseen { IfOk result (λ b. All (λ s. seen_by s ≡ 0) b.1.items) }
+{
+    let base = book.sheet().clone()?;
+    Board::open(rt, alloc, seats, base)
+}
+
 /// Gives each harvester a seat, from the first on, with a place at the board and one part of the ledger. The last one
 /// has all parts that are left.
 fn seat_all<L: Ledger>(
     alloc: Global,
     board: &Board,
-    seats: &mut Vec<Seat<L>>,
     places: Vec<BoardSeat>,
     share: Share<L>,
     count: u32,
-)
+) -> Result<Vec<Seat<L>>, Memory>
     requires count { (0 < count) × (count ≤ 64) × (vec_len places ≡ count) }
     requires places { All (IsSeatOf board.now) places.items }
     requires unseen { All (λ s. seen_by s ≡ 0) places.items }
     requires share { (share.parts ≡ 64) × (share.amount ≡ 0) }
-    requires room { (seats.old.items ≡ []) × (count ≤ vec_capacity seats.old) }
-    ensures { AreOpened board.now count seats.new.items }
+    ensures { IfOk result (λ s. AreOpened board.now count s.items) }
 {
+    let mut seats = Vec::with_capacity(alloc, count as usize)?;
     let mut share = share;
     let mut places = places;
     for harvester in 1..count {
@@ -85,17 +127,7 @@ fn seat_all<L: Ledger>(
         unreachable!()
     };
     seats.push_reserved(Seat::make(alloc, count, place, share));
-}
-
-/// Makes an empty list for each harvester.
-fn empty_lists(alloc: Global, lists: &mut Vec<Vec<Kept>>, count: u32)
-    requires room { (lists.old.items ≡ []) × (count ≤ vec_capacity lists.old) }
-    ensures number { length lists.new.items ≡ count }
-    ensures empty { AreEmpty (lists_of lists.new.items) }
-{
-    for _ in 0..count {
-        lists.push_reserved(Vec::new(alloc));
-    }
+    Ok(seats)
 }
 
 impl<F: Fn(&Standing) -> u64 + Drop, L: Ledger> Fleet<F, L> {
@@ -118,22 +150,14 @@ impl<F: Fn(&Standing) -> u64 + Drop, L: Ledger> Fleet<F, L> {
         ensures seats { IfOk result (λ r. AreOpened r.0.board seats r.1.items) }
         ensures fault { IfErr result (IsOpenFault seats capacity) }
     {
-        if seats == 0 || seats > 64 {
-            return Err(OpenFault::Seats);
-        }
-        if capacity == 0 || capacity > 1_000_000 {
-            return Err(OpenFault::Capacity);
-        }
-        let mut kept: Vec<Vec<Kept>> = Vec::with_capacity(alloc, seats as usize)?;
-        let mut made: Vec<Seat<L>> = Vec::with_capacity(alloc, seats as usize)?;
+        check_room(seats, capacity)?;
+        let kept = empty_lists(alloc, seats)?;
         let shown = instruction.clone()?;
         let book = Book::open(alloc, instruction, rule, capacity)?;
-        let base = book.sheet().clone()?;
-        let (board, places) = Board::open(rt, alloc, seats, base)?;
-        empty_lists(alloc, &mut kept, seats);
+        let (board, places) = show_base(rt, alloc, &book, seats)?;
         let (calls, mut share) = blank.open::<L>();
         let rest = share.empty();
-        seat_all(alloc, &board, &mut made, places, share, seats);
+        let made = seat_all(alloc, &board, places, share, seats)?;
         let fleet = Fleet {
             instruction: shown,
             board,

@@ -1,57 +1,38 @@
-use Rattle.std.proofs.Common.{length, refl, ap, ◌∙◌, arith}
+use Rattle.std.proofs.Common.{rules, length, ap, ◌∙◌, arith, List}
 use Rattle.std.proofs.lemmas.List.{length-map}
+use Rattle.buck_fleet.specs.declared.seat.Kept.{Kept}
 use Rattle.buck_fleet.specs.Fleet.{FleetParts}
 use Rattle.buck_fleet.specs.Closed.{lists_of}
-use Rattle.buck_fleet.proofs.Counted.{counts, prices_are, lawful_out, firsts_out, sheets_out, targets_out, valid_out, counts_out}
+use Rattle.buck_fleet.proofs.Counted.{handed_out, fault_at}
 use Rattle.buck_fleet.proofs.fleet.Fleet.close.Goals as goal
-
-pub invariant_of-closed : goal.invariant_of-closed
-invariant_of-closed g c =
-    let parts = c.into_parts-instruction.ensures in
-    let prices = prices_are (λ a. a.value) _ _ _ _ parts.sheets in
-    (lawful_out c.into_inner-book.result.book _ _ _ parts.kept parts.instruction prices parts.entries, sheets_out c.into_inner-book.result.book _ _ _ parts.instruction prices parts.sheets, targets_out _ _ _ _ _ parts.instruction parts.entries parts.targets, valid_out _ _ _ parts.instruction parts.valid, counts_out _ _ _ _ _ parts.instruction parts.entries parts.counts)
-
-pub returns-then-not-is_same-clause-handed_out : goal.returns-then-not-is_same-clause-handed_out
-returns-then-not-is_same-clause-handed_out g c =
-    let parts = c.into_parts-instruction.ensures in
-    let prices = prices_are (λ a. a.value) _ _ _ _ parts.sheets in
-    let total = ap length parts.entries ∙ c.into_inner-book.result.counted in
-    let whole = c.audit.ensures.whole (c.collect.ensures.parts ∙ c.requires.parts) in
-    let len = length-map c.collect.new.kept.items (λ v. v.items) in
-    let n = ap (λ (f : FleetParts). f.seats) c.self.view_is in
-    counts _ _ _ (lists_of c.collect.new.kept.items) _ _ refl (len ∙ (c.collect.ensures.number ∙ n)) c.collect.ensures.lists total whole c.collect.ensures.amount
-    (firsts_out c.into_inner-book.result.book _ _ _ parts.kept parts.instruction prices parts.entries)
-
-pub invariant_of-closed-2 : goal.invariant_of-closed-2
-invariant_of-closed-2 g c =
-    let parts = c.into_parts-instruction.ensures in
-    let prices = prices_are (λ a. a.value) _ _ _ _ parts.sheets in
-    (lawful_out c.into_inner-book.result.book _ _ _ parts.kept parts.instruction prices parts.entries, sheets_out c.into_inner-book.result.book _ _ _ parts.instruction prices parts.sheets, targets_out _ _ _ _ _ parts.instruction parts.entries parts.targets, valid_out _ _ _ parts.instruction parts.valid, counts_out _ _ _ _ _ parts.instruction parts.entries parts.counts)
 
 pub returns-in-Some-clause-handed_out : goal.returns-in-Some-clause-handed_out
 returns-in-Some-clause-handed_out g c =
-    let parts = c.into_parts-instruction.ensures in
-    let prices = prices_are (λ a. a.value) _ _ _ _ parts.sheets in
-    let total = ap length parts.entries ∙ c.into_inner-book.result.counted in
-    let whole = c.audit.ensures.whole (c.collect.ensures.parts ∙ c.requires.parts) in
-    let len = length-map c.collect.new.kept.items (λ v. v.items) in
+    let taken = c.take_in-book.ensures in
+    let out = c.hand_out-closed.ensures in
+    let len = length-map c.take_in-book.new.kept.items (λ v. v.items) in
     let n = ap (λ (f : FleetParts). f.seats) c.self.view_is in
-    counts _ _ _ (lists_of c.collect.new.kept.items) _ _ refl (len ∙ (c.collect.ensures.number ∙ n)) c.collect.ensures.lists total whole c.collect.ensures.amount
-    (firsts_out c.into_inner-book.result.book _ _ _ parts.kept parts.instruction prices parts.entries)
+    handed_out _ _ _ _ (lists_of c.take_in-book.new.kept.items) out.history out.kept (len ∙ (taken.number ∙ n)) taken.lists taken.total out.first_best
+
+pub returns-in-Some-clause-fault : goal.returns-in-Some-clause-fault
+returns-in-Some-clause-fault g c =
+    let len = length-map c.take_in-book.new.kept.items (λ v. v.items) in
+    let n = ap (λ (f : FleetParts). f.seats) c.self.view_is in
+    let i = ap (λ (f : FleetParts). f.instruction) c.self.view_is in
+    let k = ap (λ (l : List (List Kept)). length l) c.hand_out-closed.ensures.kept in
+    fault_at _ _ _ _ c.hand_out-closed.result _ (c.deref.ensures ∙ i) (k ∙ len ∙ c.take_in-book.ensures.number ∙ n) c.in-Some.ensures.some
 
 pub returns-clause-ok : goal.returns-clause-ok
 returns-clause-ok g c =
-    let parts = c.into_parts-instruction.ensures in
-    let prices = prices_are (λ a. a.value) _ _ _ _ parts.sheets in
-    let total = ap length parts.entries ∙ c.into_inner-book.result.counted in
-    let whole = c.audit.ensures.whole (c.collect.ensures.parts ∙ c.requires.parts) in
-    let len = length-map c.collect.new.kept.items (λ v. v.items) in
+    let taken = c.take_in-book.ensures in
+    let out = c.hand_out-closed.ensures in
+    let len = length-map c.take_in-book.new.kept.items (λ v. v.items) in
     let n = ap (λ (f : FleetParts). f.seats) c.self.view_is in
     let i = ap (λ (f : FleetParts). f.instruction) c.self.view_is in
+    let k = ap (λ (l : List (List Kept)). length l) out.kept in
     record {
-      same_instruction = grind (arith, c.same-is_same.ensures, c.if-not-is_same.false, c.if-not-is_same.ensures, c.deref.ensures, c.deref-2.ensures, c.instruction.ensures, parts.instruction, i);
-      lawful = lawful_out c.into_inner-book.result.book _ _ _ parts.kept parts.instruction prices parts.entries;
-      replies = λ h pos le. c.in-None.ensures.none h pos (omega (arith, le, len, c.collect.ensures.number, n));
-      handed_out = counts _ _ _ (lists_of c.collect.new.kept.items) _ _ refl (len ∙ (c.collect.ensures.number ∙ n)) c.collect.ensures.lists total whole c.collect.ensures.amount
-          (firsts_out c.into_inner-book.result.book _ _ _ parts.kept parts.instruction prices parts.entries);
+      same_instruction = c.in-None.ensures.same ∙ c.deref.ensures ∙ i;
+      lawful = search rules;
+      replies = λ h pos le. c.in-None.ensures.none h pos (omega (arith, le, len, taken.number, n, k));
+      handed_out = handed_out _ _ _ _ (lists_of c.take_in-book.new.kept.items) out.history out.kept (len ∙ (taken.number ∙ n)) taken.lists taken.total out.first_best;
     }
