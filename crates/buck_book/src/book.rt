@@ -394,24 +394,18 @@ impl<F: Drop> Book<F> {
         let caller = (harvester - 1) as usize;
         self.calls[caller] = number;
         self.cuts = cuts_with(self.cuts, &next);
-        let stored = Entry {
-            harvester,
-            number,
-            stem: stored_stem,
-            version,
-            cutting: stored_cutting,
-            worth,
-        };
-        add_posting(&mut self.postings, Posting::Cut(stored));
-        add_sheet(&mut self.sheets, next);
-        Entry {
+        let entry = Entry {
             harvester,
             number,
             stem,
             version,
             cutting,
             worth,
-        }
+        };
+        let stored = entry.sharing(stored_stem, stored_cutting);
+        add_posting(&mut self.postings, Posting::Cut(stored));
+        add_sheet(&mut self.sheets, next);
+        entry
     }
 
     /// Adds a demand at the end of the history, which ends the period, and the next sheet; answers the demand. It takes
@@ -438,20 +432,15 @@ impl<F: Drop> Book<F> {
         self.calls[caller] = number;
         self.cuts = 0;
         self.targets = in_force;
-        let posting = Posting::Demand(Demand {
-            harvester,
-            number,
-            version,
-            targets: stored,
-        });
-        add_posting(&mut self.postings, posting);
-        add_sheet(&mut self.sheets, Some(next));
-        Demand {
+        let demand = Demand {
             harvester,
             number,
             version,
             targets: answered,
-        }
+        };
+        add_posting(&mut self.postings, Posting::Demand(demand.sharing(stored)));
+        add_sheet(&mut self.sheets, Some(next));
+        demand
     }
 }
 

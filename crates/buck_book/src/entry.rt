@@ -56,20 +56,29 @@ fn same_logs(these: &[Log], those: &[Log]) -> bool
 }
 
 impl Entry {
-    /// A second entry of the same value, which shares the stem and the cutting. Refused as `Memory` alone.
-    pub fn clone(&self) -> Result<Entry, Memory>
-        ensures { IfOk result (λ e. e ≡ self.now) }
+    /// A second entry of the same value, made of an equal stem and an equal cutting.
+    pub fn sharing(&self, stem: Arc<Stem>, cutting: Arc<Cutting>) -> Entry
+        requires stem { stem.value ≡ self.now.stem }
+        requires logs { cutting.value.logs.items ≡ self.now.logs }
+        ensures { result ≡ self.now }
     {
-        let stem = self.stem.clone()?;
-        let cutting = self.cutting.clone()?;
-        Ok(Entry {
+        Entry {
             harvester: self.harvester,
             number: self.number,
             stem,
             version: self.version,
             cutting,
             worth: self.worth,
-        })
+        }
+    }
+
+    /// A second entry of the same value, which shares the stem and the cutting. Refused as `Memory` alone.
+    pub fn clone(&self) -> Result<Entry, Memory>
+        ensures { IfOk result (λ e. e ≡ self.now) }
+    {
+        let stem = self.stem.clone()?;
+        let cutting = self.cutting.clone()?;
+        Ok(self.sharing(stem, cutting))
     }
 
     /// Whether all parts are equal: the stem and the logs too.

@@ -42,17 +42,24 @@ pub enum Posting {
 }
 
 impl Demand {
-    /// A second demand of the same value, which shares the targets. Refused as `Memory` alone.
-    pub fn clone(&self) -> Result<Demand, Memory>
-        ensures { IfOk result (λ d. d ≡ self.now) }
+    /// A second demand of the same value, made of equal targets.
+    pub fn sharing(&self, targets: Arc<Vec<u32>>) -> Demand
+        requires { targets.value.items ≡ self.now.targets }
+        ensures { result ≡ self.now }
     {
-        let targets = self.targets.clone()?;
-        Ok(Demand {
+        Demand {
             harvester: self.harvester,
             number: self.number,
             version: self.version,
             targets,
-        })
+        }
+    }
+
+    /// A second demand of the same value, which shares the targets. Refused as `Memory` alone.
+    pub fn clone(&self) -> Result<Demand, Memory>
+        ensures { IfOk result (λ d. d ≡ self.now) }
+    {
+        Ok(self.sharing(self.targets.clone()?))
     }
 
     /// Whether all parts are equal: the targets too.

@@ -4,12 +4,6 @@ use Rattle.buck_book.specs.declared.posting.Posting.TheVariants.{Cut, Demand}
 use Rattle.buck_book.specs.Entry.{EntryParts, DemandParts}
 use Rattle.buck_fleet.specs.declared.seat.Kept.{Kept}
 
-pub same_entry : (e f : EntryParts) → e.harvester ≡ f.harvester → e.number ≡ f.number → e.stem ≡ f.stem → e.version ≡ f.version → e.logs ≡ f.logs → e.worth ≡ f.worth → e ≡ f
-same_entry e f h n s v l w = λ t. record { harvester = h t; number = n t; stem = s t; version = v t; logs = l t; worth = w t }
-
-pub same_demand : (d e : DemandParts) → d.harvester ≡ e.harvester → d.number ≡ e.number → d.version ≡ e.version → d.targets ≡ e.targets → d ≡ e
-same_demand d e h n v w = λ t. record { harvester = h t; number = n t; version = v t; targets = w t }
-
 -- one more is kept
 pub kept_cut : (before items after : List Kept) (position : ℕ) (e f : EntryParts) → after ≡ items ++ (record { position = position; entry = Cut e }) ∷ [] → items ≡ before → e ≡ f
     → after ≡ before ++ (record { position = position; entry = Cut f }) ∷ []

@@ -4,6 +4,7 @@ ghost use Rattle.buck_rule.specs.Stored.{AllAnswer};
 ghost use Rattle.buck_board.specs.Board.{IsSeatOf};
 ghost use Rattle.buck_book.specs.Plan.{IsPlan};
 ghost use Rattle.buck_book.specs.Book.{IsReadyFor, IsReadyDemand, entry_of, demand_of};
+ghost use Rattle.buck_book.specs.Refused.{IsRefusal};
 ghost use Rattle.buck_fleet.specs.inner.Desk.{IsPlanRefused, IsReplyAt, IsDemandReplyAt};
 
 use crate::seat::{DemandReply, Kept, Path, Reply, Seat};
@@ -39,12 +40,43 @@ fn shared(plan: &Plan) -> Result<(Arc<Stem>, Arc<Cutting>), Memory>
     Ok((stem, cutting))
 }
 
-/// Puts the next sheet up, where the commit ends a period.
-fn show_next<R: Wait>(rt: &R, alloc: Global, board: &Board, ready: &Ready) -> Result<(), Memory> {
-    match ready.next_sheet() {
-        None => Ok(()),
-        Some(sheet) => board.put_up(rt, alloc, sheet.clone()?),
+/// Prepares the commit of a plan, and puts the next sheet up, where it ends a period.
+fn prepare_plan<R: Wait, F: Fn(&Standing) -> u64 + Drop>(
+    rt: &R,
+    alloc: Global,
+    book: &mut Book<F>,
+    board: &Board,
+    plan: &Plan,
+) -> Result<Ready, Refusal>
+    requires { AllAnswer F.Fn }
+    ensures history { book.new.history ≡ book.old.history }
+    ensures ready { IfOk result (λ r. IsReadyFor book.new r plan.now) }
+    ensures refused { IfErr result (IsRefusal book.old plan.now) }
+{
+    // Try, of a plan that is outdated: nothing is added.
+    let ready = book.prepare(alloc, plan)?;
+    if let Some(sheet) = ready.next_sheet() {
+        board.put_up(rt, alloc, sheet.clone()?)?;
     }
+    Ok(ready)
+}
+
+/// Prepares the commit of new targets, and puts the next sheet up.
+fn prepare_targets<R: Wait, F: Fn(&Standing) -> u64 + Drop>(
+    rt: &R,
+    alloc: Global,
+    book: &mut Book<F>,
+    board: &Board,
+    targets: &Arc<Vec<u32>>,
+) -> Result<ReadyDemand, DemandRefusal>
+    requires { AllAnswer F.Fn }
+    ensures history { book.new.history ≡ book.old.history }
+    ensures ready { IfOk result (λ r. IsReadyDemand book.new r) }
+    ensures targets { IfOk result (λ r. r.targets ≡ targets.now.value.items) }
+{
+    let ready = book.prepare_demand(alloc, targets)?;
+    board.put_up(rt, alloc, ready.next_sheet().clone()?)?;
+    Ok(ready)
 }
 
 /// Adds the entry of a prepared plan to the history: the entry, and its position.
@@ -106,15 +138,12 @@ impl<F: Fn(&Standing) -> u64 + Drop, L: Ledger> Desk<F, L> {
             Ok(both) => both,
             Err(_) => return Err((Refusal::Memory, plan)),
         };
-        let ready = match book.prepare(alloc, &plan) {
+        let ready = match prepare_plan(rt, alloc, book, board, &plan) {
             Ok(ready) => ready,
-            // Try, of a plan that is outdated: nothing is added.
             Err(refusal) => return Err((refusal, plan)),
         };
-        if show_next(rt, alloc, board, &ready).is_err() {
-            return Err((Refusal::Memory, plan));
-        }
         let (entry, position) = add_entry(book, ready, seat.harvester, plan);
+        let kept_entry = entry.sharing(stem, cutting);
         let Seat {
             place,
             kept,
@@ -124,14 +153,7 @@ impl<F: Fn(&Standing) -> u64 + Drop, L: Ledger> Desk<F, L> {
         calls.add(share, 1);
         kept.push_reserved(Kept {
             position,
-            entry: Posting::Cut(Entry {
-                harvester: entry.harvester,
-                number: entry.number,
-                stem,
-                version: entry.version,
-                cutting,
-                worth: entry.worth,
-            }),
+            entry: Posting::Cut(kept_entry),
         });
         // Raise: before the lock is given back.
         board.raise(place, book.version());
@@ -163,9 +185,9 @@ impl<F: Fn(&Standing) -> u64 + Drop, L: Ledger> Desk<F, L> {
         let Desk { book, calls, .. } = self;
         seat.kept.reserve(1)?;
         let copy = targets.clone()?;
-        let ready = book.prepare_demand(alloc, targets)?;
-        board.put_up(rt, alloc, ready.next_sheet().clone()?)?;
+        let ready = prepare_targets(rt, alloc, book, board, targets)?;
         let (demand, position) = add_demand(book, ready, seat.harvester);
+        let kept_demand = demand.sharing(copy);
         let Seat {
             place,
             kept,
@@ -175,12 +197,7 @@ impl<F: Fn(&Standing) -> u64 + Drop, L: Ledger> Desk<F, L> {
         calls.add(share, 1);
         kept.push_reserved(Kept {
             position,
-            entry: Posting::Demand(Demand {
-                harvester: demand.harvester,
-                number: demand.number,
-                version: demand.version,
-                targets: copy,
-            }),
+            entry: Posting::Demand(kept_demand),
         });
         // Raise: before the lock is given back.
         let begun = book.version();

@@ -10,3 +10,5 @@ pub mod Again
 pub mod Texts
 pub mod Within
 pub mod OnePass
+pub mod Sequence
+pub mod Alone

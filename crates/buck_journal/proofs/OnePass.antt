@@ -125,13 +125,13 @@ prices_lead text ns left l few range =
     (l.0, λ items k there. rw (there, l.1, le-leb (length ns) 16384 few, range) refl, l.2)
 
 -- ---- what stands from a place on
-next_stands : (items : List ItemParts) (k : ℕ) (x : ItemParts) (rest : List ItemParts)
+pub next_stands : (items : List ItemParts) (k : ℕ) (x : ItemParts) (rest : List ItemParts)
     → Stands items k (x ∷ rest) → Stands items (k + 1) rest
 next_stands items k x rest at j =
     let e : k + 1 + j ≡ k + suc j = omega arith in
     ap (slice_get items) e ∙ at (suc j)
 
-first_stands : (items : List ItemParts) (k : ℕ) (rest : List ItemParts)
+pub first_stands : (items : List ItemParts) (k : ℕ) (rest : List ItemParts)
     → Stands items k rest → slice_get items k ≡ slice_get rest 0
 first_stands items k rest at =
     let e : k ≡ k + 0 = omega arith in

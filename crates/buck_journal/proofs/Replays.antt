@@ -153,14 +153,6 @@ pub weaken_err : {T E : Type 0} {P Q : E → Type 0} (r : Result T E) → ((e : 
 weaken_err (Ok x) f p = p
 weaken_err (Err e) f p = f e p
 
--- where nothing comes next, all was passed
-pub none_left : {X Y : Type 0} (f : X → Y) (o : Option X) (ys : List Y) (k : ℕ) → option_map f o ≡ slice_get ys k → is_some o ≡ false → length ys ≤ k
-none_left f None ys k e none = elim (slice_get_cases ys k).1 [
-  | inl some ↦ absurd (none-some some.0 (e ∙ some.2))
-  | inr past ↦ past.0
-]
-none_left f (Some x) ys k e none = absurd (true_false none)
-
 -- a posting is passed under a sheet
 module _ (s : SheetParts) (i : InstructionParts) (ps : List Posting) (from : ℕ) (w w' : WalkParts) (x : Posting)
     (same : w ≡ walk_of i ps w.at) (further : w' ≡ walk_of w.instruction w.postings (w.at + 1)) (there : Some x ≡ slice_get w.postings w.at) where
@@ -207,23 +199,14 @@ sheet_met h from fault lt before b wrong = elim (slice_get_cases h.postings from
 ]
 
 -- after the last posting
-module _ (i : InstructionParts) (jr : JournalParts) (w : WalkParts) (pss : List (List ℕ))
-    (same : w ≡ walk_of i jr.entries w.at) (sheets : pss ≡ jr.sheets) (all : length jr.entries ≤ w.at) (within : w.at ≤ length w.postings)
-    (before : IsRightBefore (history_of i jr) w.at) where
-  whole : record { instruction = w.instruction; sheets = pss; postings = w.postings } ≡ history_of i jr
-  whole = λ j. record { instruction = ap (λ (v : WalkParts). v.instruction) same j; sheets = sheets j; postings = ap (λ (v : WalkParts). v.postings) same j }
-
-  at_end : w.at ≡ length jr.entries
-  at_end = omega (arith, ap (λ (v : WalkParts). length v.postings) same)
-
-  before_end : IsRightBefore (history_of i jr) (length jr.entries)
-  before_end = subst (λ n. IsRightBefore (history_of i jr) n) at_end before
-
-  pub lawful_at_end : IsInstruction i → IsEndRight (record { instruction = w.instruction; sheets = pss; postings = w.postings }) w.at → IsLawful (history_of i jr)
-  lawful_at_end v right = lawful_when (history_of i jr) v before_end (subst (λ n. IsEndRight (history_of i jr) n) at_end (subst (λ h. IsEndRight h w.at) whole right))
-
-  pub met_at_end : (fault : ReplayFault) → IsFaultAtEnd (record { instruction = w.instruction; sheets = pss; postings = w.postings }) w.at fault → IsFirstFault (history_of i jr) fault
-  met_at_end fault wrong = inr (record {
-    right = before_end;
-    wrong = subst (λ n. IsFaultAtEnd (history_of i jr) n fault) at_end (subst (λ h. IsFaultAtEnd h w.at fault) whole wrong);
-  })
+pub lawful_at_end : (i : InstructionParts) (jr : JournalParts) (w : WalkParts) (pss : List (List ℕ)) (ps : List Posting)
+    → w ≡ walk_of i ps (length ps) → pss ≡ jr.sheets → ps ≡ jr.entries
+    → IsInstruction i
+    → IsRightBefore (record { instruction = i; sheets = pss; postings = ps }) (length ps)
+    → IsEndRight (record { instruction = w.instruction; sheets = pss; postings = w.postings }) w.at
+    → IsLawful (history_of i jr)
+lawful_at_end i jr w pss ps end sheets entries v before right =
+    let last : IsEndRight (record { instruction = i; sheets = pss; postings = ps }) (length ps) =
+    subst (λ (x : WalkParts). IsEndRight (record { instruction = x.instruction; sheets = pss; postings = x.postings }) x.at) end right in
+    subst IsLawful (λ j. record { instruction = i; sheets = sheets j; postings = entries j })
+    (lawful_when (record { instruction = i; sheets = pss; postings = ps }) v before last)

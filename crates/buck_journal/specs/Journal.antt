@@ -241,3 +241,8 @@ unfoldable pub journal_of : List ℕ → Result JournalParts JournalFault
 journal_of bytes = do
   items ← with_fault Head (items_of bytes)
   journal_in items
+
+-- how many items a posting has
+abbrev pub number_of_items : Posting → ℕ
+number_of_items (Cut e) = 6
+number_of_items (Demand d) = 2

@@ -1,5 +1,6 @@
 pub mod Written
 pub mod Journal
+pub mod CutsAlone
 pub mod Replay
 pub mod Ranges
 pub mod Faults

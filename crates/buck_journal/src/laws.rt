@@ -1,10 +1,13 @@
 //! What follows from the definitions of a journal, for all journals: each law is the contract of an empty function.
-ghost use Rattle.std.specs.Prelude.{◌≡◌, ℕ, ◌≤◌, List, length, slice_get, Some, Ok};
+ghost use Rattle.std.specs.Prelude.{◌≡◌, ℕ, ◌+◌, ◌≤◌, List, length, slice_get, sum_by, Some, Ok};
+ghost use Rattle.buck_record.specs.Item.{ItemParts};
+ghost use Rattle.buck_record.specs.Record.{items_of};
 ghost use Rattle.buck_apt.specs.Instruction.{IsInstruction};
 ghost use Rattle.buck_book.specs.declared.posting.Posting.{Posting};
 ghost use Rattle.buck_book.specs.History.{HistoryParts, IsLawful};
 ghost use Rattle.buck_journal.specs.declared.replay_fault.ReplayFault.{ReplayFault};
-ghost use Rattle.buck_journal.specs.Journal.{journal_of};
+ghost use Rattle.buck_journal.specs.Journal.{JournalParts, number_of_items, journal_in, journal_of};
+ghost use Rattle.buck_journal.specs.CutsAlone as alone;
 ghost use Rattle.buck_journal.specs.Ranges.{AreInRange, IsOfBook};
 ghost use Rattle.buck_journal.specs.Replay.{IsFirstFault};
 ghost use Rattle.buck_journal.specs.Written.{journal_text};
@@ -15,6 +18,21 @@ pub fn what_is_written_is_read()
     ensures { (sheets : List (List ℕ)) (postings : List Posting) → AreInRange sheets postings
         → journal_of (journal_text sheets postings)
         ≡ Ok (record { sheets = sheets; entries = postings }) }
+{}
+
+/// No item of a journal is skipped: beside the kind of file there is one item for each sheet, and there are six for each
+/// cut and two for each demand.
+pub fn no_item_is_skipped()
+    ensures { (bytes : List ℕ) (journal : JournalParts) → journal_of bytes ≡ Ok journal
+        → (items : List ItemParts)
+        × (items_of bytes ≡ Ok items)
+        × (length items ≡ 1 + length journal.sheets + sum_by number_of_items journal.entries) }
+{}
+
+/// Where no item begins a demand, the items are read as in the words that know of no demand: the same journal, or the same
+/// refusal.
+pub fn cuts_alone_are_read_as_before()
+    ensures { (items : List ItemParts) → alone.HasNoDemand items → journal_in items ≡ alone.journal_in items }
 {}
 
 /// A lawful history of at most 1,000,000 postings lies within a journal's ranges, where its harvesters are from 1 to 64

@@ -1,5 +1,6 @@
 //! Whether a journal is lawful.
 ghost use Rattle.std.specs.Prelude.{◌≡◌, ◌≢◌, ◌+◌, ◌<◌, ◌≤◌, OnOk, IfOk, IfErr, length, slice_get, Some};
+ghost use Rattle.buck_apt.specs.Instruction.{IsInstruction};
 ghost use Rattle.buck_book.specs.Posting.{ends_of, cuts_since_end};
 ghost use Rattle.buck_book.specs.History.{IsLawful};
 ghost use Rattle.buck_book.specs.Walk.{walk_of, passed};
@@ -100,6 +101,59 @@ fn replay_period<'w>(
     replay_under(alloc, planner, walk)
 }
 
+/// Passes the postings that are left, period by period.
+fn replay_periods<'w>(
+    alloc: Global,
+    instruction: &Arc<Instruction>,
+    planner: &mut Planner,
+    sheets: &[Vec<u32>],
+    walk: Walk<'w>,
+) -> Result<Walk<'w>, ReplayFault>
+    requires instruction { walk.instruction ≡ instruction.now.value }
+    requires right { IsRightBefore (along walk sheets.now) walk.at }
+    requires begins { Begins (along walk sheets.now) walk.at }
+    ensures right { IfOk result (λ w. IsRightBefore (along walk.entry sheets.now) w.at) }
+    ensures end { IfOk result (λ w. w
+        ≡ walk_of walk.entry.instruction walk.entry.postings (length walk.entry.postings)) }
+    ensures valid { OnOk result (IsInstruction walk.entry.instruction) }
+    ensures refused { IfErr result (λ e. e ≢ Memory → IsMet (along walk.entry sheets.now) e) }
+{
+    let mut walk = walk;
+    while walk.next().is_some() {
+        walk = replay_period(alloc, instruction, planner, sheets, walk)?;
+    }
+    Ok(walk)
+}
+
+/// A planner of the instruction, under its base sheet at first.
+fn planner_of(
+    alloc: Global,
+    instruction: &Arc<Instruction>,
+) -> Result<Planner, buck_record::Memory> {
+    let base = Sheet::base(alloc, instruction.clone()?)?;
+    Ok(Planner::make(alloc, share(alloc, base)?)?)
+}
+
+/// Passes all postings, from the first on.
+fn replay_all<'w>(
+    alloc: Global,
+    instruction: &'w Arc<Instruction>,
+    sheets: &[Vec<u32>],
+    postings: &'w [Posting],
+) -> Result<Walk<'w>, ReplayFault>
+    requires { length postings.now ≤ 1000000 }
+    ensures right { OnOk result (IsRightBefore
+        (along (walk_of instruction.now.value postings.now 0) sheets.now) (length postings.now)) }
+    ensures end { IfOk result (λ w. w ≡ walk_of instruction.now.value postings.now (length postings.now)) }
+    ensures valid { OnOk result (IsInstruction instruction.now.value) }
+    ensures refused { IfErr result (λ e.
+        e ≢ Memory → IsMet (along (walk_of instruction.now.value postings.now 0) sheets.now) e) }
+{
+    let mut planner = planner_of(alloc, instruction)?;
+    let walk = Walk::opening(alloc, instruction, postings)?;
+    replay_periods(alloc, instruction, &mut planner, sheets, walk)
+}
+
 /// Whether a journal of at most 1,000,000 postings is lawful for an instruction: each cutting is one that none
 /// outvalues under the sheet in force there, and the prices move only by the price relation, with the targets in force
 /// and with what was cut before. Any journal may be asked of. Refused by the first fault that stands in it, as
@@ -115,11 +169,6 @@ pub fn replay(
         e ≢ Memory → IsFirstFault (history_of instruction.now.value journal.now) e) }
 {
     let sheets = journal.sheets.as_slice();
-    let base = Sheet::base(alloc, instruction.clone()?)?;
-    let mut planner = Planner::make(alloc, share(alloc, base)?)?;
-    let mut walk = Walk::opening(alloc, instruction, journal.entries.as_slice())?;
-    while walk.next().is_some() {
-        walk = replay_period(alloc, instruction, &mut planner, sheets, walk)?;
-    }
+    let walk = replay_all(alloc, instruction, sheets, journal.entries.as_slice())?;
     check_end(instruction, sheets, &walk)
 }

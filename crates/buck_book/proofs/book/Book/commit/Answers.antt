@@ -40,8 +40,7 @@ invariant_of-self g c =
     (values_added (λ a. a.value) _ _ _ _ c.add_sheet.ensures next)
     (prices_added (λ a. a.value) _ _ _ _ c.add_sheet.ensures next)
     c.add_posting.ensures
-    (entry_same _ _ refl number (ap (λ (x : ReadyParts). x.stem) c.ready.view_is ∙ ready.made.same_stem) (rw (sym c.self.view_is) at c.version-version.ensures.version)
-    (ap (λ (x : ReadyParts). x.logs) c.ready.view_is ∙ ready.made.same_logs) c.into_parts-stem.ensures.worth)
+    (c.sharing-stored.ensures ∙ entry_same _ _ refl number c.into_parts-stem.ensures.stem (rw (sym c.self.view_is) at c.version-version.ensures.version) c.into_parts-stem.ensures.logs c.into_parts-stem.ensures.worth)
     (c.cuts_with-self-inside.ensures ∙ ap (λ o. cuts_after c.self.inside.cuts o) (sym next))
     classes_grown assortments_grown number refl
 

@@ -14,6 +14,6 @@ invariant_of-self g c =
     (values_added (λ a. a.value) _ _ (Some c.ready.inside.next) (Some c.args.ready.next) c.add_sheet.ensures (ap Some next))
     (prices_added (λ a. a.value) _ _ (Some c.ready.inside.next) (Some c.args.ready.next) c.add_sheet.ensures (ap Some next))
     c.add_posting.ensures
-    (demand_same _ _ refl number (rw (sym c.self.view_is) at c.version-version.ensures.version) targets)
+    (c.sharing.ensures ∙ demand_same _ _ refl number (rw (sym c.self.view_is) at c.version-version.ensures.version) (c.ready.invariant.1 ∙ targets))
     (c.ready.invariant.0 ∙ targets)
     number refl

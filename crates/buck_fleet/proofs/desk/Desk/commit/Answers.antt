@@ -1,22 +1,17 @@
-use Rattle.std.proofs.Common.{◌++◌, ◌∷◌, [], arith, sym, ap, ◌∙◌, length}
+use Rattle.std.proofs.Common.{◌++◌, ◌∷◌, [], arith, ap, ◌∙◌, length}
 use Rattle.buck_book.specs.declared.posting.Posting.TheVariants.{Cut}
-use Rattle.buck_book.specs.Entry.{EntryParts}
 use Rattle.buck_book.specs.History.{HistoryParts, in_force}
 use Rattle.buck_book.specs.Book.{entry_of}
 use Rattle.buck_fleet.specs.Seat.{SeatParts, seen_of}
-use Rattle.buck_fleet.proofs.Keeping.{same_entry, kept_cut}
+use Rattle.buck_fleet.proofs.Keeping.{kept_cut}
 use Rattle.buck_fleet.proofs.desk.Desk.commit.Goals as goal
-
-pub prepare-requires : goal.prepare-requires
-prepare-requires g c = record { answers = c.requires.answers _ }
 
 pub returns-clause-ok : goal.returns-clause-ok
 returns-clause-ok g c =
-    let ready = c.in-Ok-prepare.ensures.ready in
-    let same = c.prepare.ensures.content.history in
+    let ready = c.in-Ok-prepare_plan.ensures.ready in
+    let same = c.prepare_plan.ensures.history in
     let harvester = ap (λ (s : SeatParts). s.harvester) c.seat.view_is in
     let entry = c.add_entry-entry.ensures.entry in
-    let field = c.entry.view_is in
     record {
       under = ready.made.sheet_in_force ∙ ap in_force same;
       planned = c.shared.ensures.best;
@@ -26,8 +21,7 @@ returns-clause-ok g c =
       kept = record {
         same_harvester = harvester;
         kept_are = kept_cut _ _ _ _ _ c.add_entry-entry.result.0 c.push_reserved.ensures.items (c.reserve.ensures.items ∙ ap (λ (s : SeatParts). s.kept) c.seat.view_is)
-            (same_entry _ _ (ap (λ (e : EntryParts). e.harvester) field) (ap (λ (e : EntryParts). e.number) field) (c.in-Ok.ensures.stem ∙ sym (ap (λ (e : EntryParts). e.stem) entry))
-            (ap (λ (e : EntryParts). e.version) field) (c.in-Ok.ensures.logs ∙ sym (ap (λ (e : EntryParts). e.logs) entry)) (ap (λ (e : EntryParts). e.worth) field));
+            c.sharing-kept_entry.ensures;
         same_parts = c.add.ensures.parts ∙ ap (λ (s : SeatParts). s.parts) c.seat.view_is;
         seen_rises = omega (arith, c.raise.ensures.seen, ap seen_of c.seat.view_is);
       };
