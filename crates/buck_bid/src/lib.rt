@@ -14,7 +14,7 @@ pub use bid::Bid;
 pub use buck_value::Wood;
 pub use columns::{Columns, columns_of};
 pub use limits::{band_of, limits_of};
-pub use measures::{Band, Measures, measures_of};
+pub use measures::{Band, Measures, Pricing, measures_of, pricing_of};
 pub use offers::{Offer, offers_of};
 pub use push::push_column;
 pub use tables::{Found, Kind, Tables, Takers};

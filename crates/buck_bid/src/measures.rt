@@ -51,7 +51,7 @@ struct Run {
 }
 
 /// How the logs of an offer are priced within a band, or `None` where its assortment has no price for them.
-fn pricing_of(instruction: &Instruction, offer: Offer, band: Band) -> Option<Pricing>
+pub fn pricing_of(instruction: &Instruction, offer: Offer, band: Band) -> Option<Pricing>
     requires band { IsBandOf instruction.now band.thinnest band.past }
     ensures pricing { IfSome result (λ p.
         IsPricing instruction.now offer.assortment offer.length band.thinnest band.past p) }

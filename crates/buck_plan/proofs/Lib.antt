@@ -1,0 +1,10 @@
+pub mod BidLemmas
+pub mod CellLemmas
+pub mod TopLemmas
+pub mod FoundLemmas
+pub mod PartLemmas
+pub mod PruneLemmas
+pub mod QuoteLemmas
+pub mod SiteLemmas
+pub mod KeptLemmas
+pub mod PricingLemmas

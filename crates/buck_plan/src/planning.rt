@@ -1,0 +1,247 @@
+//! The search of a stem: from the top end down one top at a time, and for each the logs with it, by the parts of their
+//! starts.
+ghost use Rattle.std.specs.Prelude.{◌≡◌, ℕ, ◌+◌, ◌<◌, ◌≤◌, IfOk, OnOk};
+ghost use Rattle.buck_dp.specs.inner.Points.{points_of, ground_with};
+ghost use Rattle.buck_plan.specs.Parts.{HasTakers};
+ghost use Rattle.buck_plan.specs.Site.{IsSite, IsMemoFor, ground_of};
+ghost use Rattle.buck_plan.specs.Takers.{AreKnown};
+
+use crate::keeping::{Kept, Market, Spot, all_logs};
+use crate::kinds::{Group, Kinds};
+use crate::menu::Menu;
+use crate::offering::{Cell, Reach};
+use crate::search::Search;
+use crate::takers::Kind;
+use buck_record::Memory;
+use buck_stem::{Profile, Stem};
+use std::alloc::Global;
+
+/// A stem at its points, and the sheet under which it is cut.
+#[derive(Clone, Copy)]
+pub struct Site<'a> {
+    pub market: Market<'a>,
+    pub stem: &'a Stem,
+    pub profile: &'a Profile<'a>,
+}
+
+/// What is kept from stem to stem.
+#[derive(Drop)]
+pub struct Memo {
+    pub kinds: Kinds,
+    pub kept: Kept,
+    /// A row that isn't kept.
+    pub spare: Vec<Cell>,
+}
+
+/// The starts from point `first` on and before another: the same assortments take the wood from these to a top.
+#[derive(Clone, Copy)]
+pub struct Part {
+    pub first: usize,
+    pub group: Group,
+}
+
+/// The starts before a point that have the grades of the last of them, and who takes their wood up to a top.
+fn run_before(site: Site<'_>, kinds: &mut Kinds, top: usize, stop: usize) -> Result<Part, Memory>
+    requires site { IsSite site }
+    requires order { (0 < stop) × (stop ≤ top) }
+    requires top { top < points_of (ground_of site) }
+    requires known { AreKnown site.market.sheet.now.instruction kinds.old }
+    ensures known { AreKnown site.entry.market.sheet.now.instruction kinds.new }
+    ensures first { IfOk result (λ p. p.first < stop) }
+    ensures takers { IfOk result (λ p. (i : ℕ) → p.first ≤ i → i < stop
+        → HasTakers (ground_of site.entry) p.group.takers i top) }
+{
+    let first = site.profile.run_start(stop - 1);
+    let kind = Kind {
+        species: site.stem.species(),
+        grades: site.profile.grades(stop - 1, top),
+    };
+    let group = kinds.group_of(site.market.sheet, kind)?;
+    Ok(Part { first, group })
+}
+
+/// The starts before a point of which the same assortments take the wood up to a top.
+fn part_before(site: Site<'_>, kinds: &mut Kinds, top: usize, stop: usize) -> Result<Part, Memory>
+    requires site { IsSite site }
+    requires order { (0 < stop) × (stop ≤ top) }
+    requires top { top < points_of (ground_of site) }
+    requires known { AreKnown site.market.sheet.now.instruction kinds.old }
+    ensures known { AreKnown site.entry.market.sheet.now.instruction kinds.new }
+    ensures first { IfOk result (λ p. p.first < stop) }
+    ensures takers { IfOk result (λ p. (i : ℕ) → p.first ≤ i → i < stop
+        → HasTakers (ground_of site.entry) p.group.takers i top) }
+{
+    let low = top.saturating_sub(site.market.menu.most_steps);
+    let mut part = run_before(site, kinds, top, stop)?;
+    while part.first > low {
+        let next = run_before(site, kinds, top, part.first)?;
+        if !next.group.takers.same(part.group.takers) {
+            return Ok(part);
+        }
+        part = Part {
+            first: next.first,
+            group: part.group,
+        };
+    }
+    Ok(part)
+}
+
+/// Whether the row of a part is one that other tops ask for too: it has the nearest starts, and as good as all logs.
+fn is_common(menu: &Menu, part: Part, top: usize, stop: usize) -> bool
+    requires { part.first ≤ top }
+{
+    stop == top && (part.first == 0 || top - part.first >= menu.most_steps)
+}
+
+/// Offers the logs with the top that was settled last, from the starts of a part.
+fn offer_part(
+    alloc: Global,
+    site: Site<'_>,
+    memo: &mut Memo,
+    search: &mut Search<'_>,
+    part: Part,
+) -> Result<(), Memory>
+    requires site { IsSite site }
+    requires memo { IsMemoFor site memo.old }
+    requires ground { search.old.ground ≡ ground_of site }
+    requires top { search.old.from < points_of (ground_of site) }
+    requires order { part.first < search.old.stop }
+    requires takers { (i : ℕ) → part.first ≤ i → i < search.old.stop
+        → HasTakers (ground_of site) part.group.takers i search.old.from }
+    ensures memo { IsMemoFor site.entry memo.new }
+    ensures ground { OnOk result (search.new.ground ≡ search.old.ground) }
+    ensures from { OnOk result (search.new.from ≡ search.old.from) }
+    ensures stop { OnOk result (search.new.stop ≡ part.first) }
+{
+    let top = search.from();
+    let stop = search.stop();
+    let menu = site.market.menu;
+    let diameters = site.profile.diameters();
+    let diameter = diameters[top];
+    let left = site.stem.length() - top as u32 * site.market.sheet.instruction().module();
+    if left >= menu.most_trim && is_common(menu, part, top, stop) {
+        let place = memo.kept.row(alloc, site.market, part.group, diameter)?;
+        search.offer_part(part.first, memo.kept.cells(place));
+        return Ok(());
+    }
+    let reach = Reach {
+        past: top - stop,
+        far: top - part.first,
+        room: left.min(menu.most_trim),
+    };
+    memo.kept.draw(
+        alloc,
+        &mut memo.spare,
+        site.market,
+        part.group,
+        Spot { diameter, reach },
+    )?;
+    search.offer_part(part.first, memo.spare.as_slice());
+    Ok(())
+}
+
+/// Offers the logs with the top that was settled last from the starts to which they aren't offered yet.
+fn offer_rest(
+    alloc: Global,
+    site: Site<'_>,
+    memo: &mut Memo,
+    search: &mut Search<'_>,
+) -> Result<(), Memory>
+    requires site { IsSite site }
+    requires memo { IsMemoFor site memo.old }
+    requires ground { search.old.ground ≡ ground_of site }
+    requires top { search.old.from < points_of (ground_of site) }
+    ensures memo { IsMemoFor site.entry memo.new }
+    ensures ground { OnOk result (search.new.ground ≡ search.old.ground) }
+    ensures from { OnOk result (search.new.from ≡ search.old.from) }
+    ensures stop { OnOk result (search.new.stop ≡ 0) }
+{
+    let top = search.from();
+    let low = top.saturating_sub(site.market.menu.most_steps);
+    while search.stop() > low {
+        let part = part_before(site, &mut memo.kinds, top, search.stop())?;
+        if part.group.takers.is_empty() {
+            search.close_top();
+            return Ok(());
+        }
+        offer_part(alloc, site, memo, search, part)?;
+    }
+    search.close_top();
+    Ok(())
+}
+
+/// Offers the logs with the top that was settled last, of which the nearest starts are a part.
+fn offer_top(
+    alloc: Global,
+    site: Site<'_>,
+    memo: &mut Memo,
+    search: &mut Search<'_>,
+    near: Part,
+) -> Result<(), Memory>
+    requires site { IsSite site }
+    requires memo { IsMemoFor site memo.old }
+    requires ground { search.old.ground ≡ ground_of site }
+    requires top { search.old.from < points_of (ground_of site) }
+    requires stop { search.old.stop ≡ search.old.from }
+    requires order { near.first < search.old.from }
+    requires takers { (i : ℕ) → near.first ≤ i → i < search.old.from
+        → HasTakers (ground_of site) near.group.takers i search.old.from }
+    ensures memo { IsMemoFor site.entry memo.new }
+    ensures ground { OnOk result (search.new.ground ≡ search.old.ground) }
+    ensures from { OnOk result (search.new.from ≡ search.old.from) }
+    ensures stop { OnOk result (search.new.stop ≡ 0) }
+{
+    if near.group.takers.is_empty() {
+        search.close_top();
+        return Ok(());
+    }
+    offer_part(alloc, site, memo, search, near)?;
+    offer_rest(alloc, site, memo, search)
+}
+
+/// Searches the tops behind the steps of one run.
+fn search_run(
+    alloc: Global,
+    site: Site<'_>,
+    memo: &mut Memo,
+    search: &mut Search<'_>,
+) -> Result<(), Memory>
+    requires site { IsSite site }
+    requires memo { IsMemoFor site memo.old }
+    requires ground { search.old.ground ≡ ground_of site }
+    requires from { (1 < search.old.from) × (search.old.from ≤ points_of (ground_of site)) }
+    requires stop { search.old.stop ≡ 0 }
+    ensures memo { IsMemoFor site.entry memo.new }
+    ensures ground { OnOk result (search.new.ground ≡ search.old.ground) }
+    ensures from { OnOk result ((0 < search.new.from) × (search.new.from < search.old.from)) }
+    ensures stop { OnOk result (search.new.stop ≡ 0) }
+{
+    let run = site.profile.run_start(search.from() - 2);
+    let near = part_before(site, &mut memo.kinds, run + 1, run + 1)?;
+    while search.from() > run + 1 {
+        search.settle_top();
+        offer_top(alloc, site, memo, search, near)?;
+    }
+    Ok(())
+}
+
+/// Searches a stem from the top end down to the butt.
+pub fn search_stem<'a>(alloc: Global, site: Site<'a>, memo: &mut Memo) -> Result<Search<'a>, Memory>
+    requires site { IsSite site }
+    requires memo { IsMemoFor site memo.old }
+    ensures memo { IsMemoFor site.entry memo.new }
+    ensures ground { IfOk result (λ s. s.ground ≡ ground_of site.entry) }
+    ensures whole { IfOk result (λ s. (s.from ≡ 0) × (s.stop ≡ 0)) }
+{
+    let mut search = Search::start(
+        alloc,
+        site.market.sheet,
+        site.stem,
+        site.market.menu.offers.as_slice(),
+    )?;
+    while search.from() > 1 {
+        search_run(alloc, site, memo, &mut search)?;
+    }
+    search.settle_top();
+    Ok(search)
+}
