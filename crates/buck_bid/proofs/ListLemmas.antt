@@ -113,18 +113,3 @@ pub pushed_at : {X : Type 0} (xs : List X) (y : X) (k : ℕ) → length xs ≡ k
 pushed_at xs y k e =
     slice_get-get_or (xs ++ y ∷ []) k y (omega (arith, length-append xs (y ∷ [])))
     ∙ ap Some (get_or_push xs y y k e)
-
--- marks of which each is equal
-pub same_marks : (xs ys : List Bool) → pointwise beq xs ys ≡ true → xs ≡ ys
-same_marks [] [] e = refl
-same_marks [] (y ∷ ys) e = absurd (true≢false (sym e))
-same_marks (x ∷ xs) [] e = absurd (true≢false (sym e))
-same_marks (true ∷ xs) (true ∷ ys) e = ap (λ (zs : List Bool). true ∷ zs) (same_marks xs ys e)
-same_marks (true ∷ xs) (false ∷ ys) e = absurd (true≢false (sym e))
-same_marks (false ∷ xs) (true ∷ ys) e = absurd (true≢false (sym e))
-same_marks (false ∷ xs) (false ∷ ys) e = ap (λ (zs : List Bool). false ∷ zs) (same_marks xs ys e)
-
--- what is there
-pub some_of : {X : Type 0} (o : Option X) → is_some o ≡ true → (x : X) × (o ≡ Some x)
-some_of (Some x) e = (x, refl)
-some_of None e = absurd (true≢false (sym e))

@@ -1,17 +1,9 @@
 -- Bids. One number holds a worth and, in its last ten bits, a rank, so that one comparison settles the worth and then
 -- the rank.
-use Rattle.std.specs.Prelude.{ℕ, ◌+◌, ◌*◌, ◌/◌, ◌%◌}
+use Rattle.std.specs.Prelude.{ℕ, ◌+◌, ◌*◌, ◌/◌}
 
 abbrev pub bid_of : ℕ → ℕ → ℕ
 bid_of worth rank = worth * 1024 + rank
-
--- what is bid, in millionths of the price unit
-abbrev pub worth_in : ℕ → ℕ
-worth_in bid = bid / 1024
-
--- what settles ties: the higher is first
-abbrev pub rank_in : ℕ → ℕ
-rank_in bid = bid % 1024
 
 -- the bid of the same worth with the lowest rank
 abbrev pub unranked : ℕ → ℕ

@@ -1,5 +1,5 @@
 -- The logs that an instruction offers, in the order that settles ties.
-use Rattle.std.specs.Prelude.{◌≡◌, ℕ, ◌+◌, ◌-◌, ◌*◌, ◌/◌, ◌%◌, ◌<◌, ◌≤◌, All, Contains, List, length, map, slice_get, slice_index, Some}
+use Rattle.std.specs.Prelude.{◌≡◌, ℕ, ◌+◌, ◌-◌, ◌*◌, ◌/◌, ◌%◌, ◌<◌, ◌≤◌, All, Contains, List, length, map, slice_get, Some}
 use Rattle.std.specs.List.Sorted.{IsStrictlyIncreasing}
 use Rattle.buck_apt.specs.Instruction.{AssortmentParts, InstructionParts}
 use Rattle.buck_value.specs.declared.log.Log.{Log}
@@ -20,12 +20,6 @@ pub record AreCodes (i : InstructionParts) (codes : List ℕ) : Type 0 where
 pub record HasMark (codes : List ℕ) (g : Log) (mark : ℕ) : Type 0 where
   pub high : mark ≤ 1023
   pub at : slice_get codes (1023 - mark) ≡ Some (code_of g.length g.assortment)
-
--- a list has the trim allowance of each assortment, and they rise
-pub record AreTrims (i : InstructionParts) (trims : List ℕ) : Type 0 where
-  pub rise : IsStrictlyIncreasing trims
-  pub whole : (a : ℕ) (x : AssortmentParts) → slice_get i.assortments a ≡ Some x → Contains trims x.trim
-  pub low : (k : ℕ) → k < length trims → slice_index trims k ≤ 200
 
 -- the codes of offers: their order is that of the codes
 abbrev pub codes_in : List Offer → List ℕ

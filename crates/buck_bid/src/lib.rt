@@ -1,21 +1,10 @@
-//! What logs bid: by their length and their top diameter, for the assortments that take their wood.
+//! What an instruction offers, and how its logs are priced within a band of diameters.
 #![tactic(auto)]
 
-mod bid;
-mod columns;
 mod limits;
-mod measures;
 mod offers;
-mod push;
-mod tables;
-mod wood;
+mod prices;
 
-pub use bid::Bid;
-pub use buck_value::Wood;
-pub use columns::{Columns, columns_of};
 pub use limits::{band_of, limits_of};
-pub use measures::{Band, Measures, measures_of};
 pub use offers::{Offer, offers_of};
-pub use push::push_column;
-pub use tables::{Found, Kind, Tables, Takers};
-pub use wood::{rivals_of, takers_of};
+pub use prices::{Band, Pricing, pricing_of};

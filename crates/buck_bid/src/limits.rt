@@ -27,39 +27,7 @@ fn push_limits(limits: &mut Vec<u32>, assortment: &Assortment) -> Result<(), All
     Ok(())
 }
 
-/// Whether a limit lies nearer to a diameter than 47 mm.
-fn has_near(limits: &[u32], diameter: u32) -> bool {
-    for limit in limits {
-        if limit.abs_diff(diameter) < 47 {
-            return true;
-        }
-    }
-    false
-}
-
-/// Puts a diameter to a list of limits where none is near.
-fn push_far(limits: &mut Vec<u32>, diameter: u32) -> Result<(), AllocError>
-    ensures kept { OnOk result ((x : ℕ) → Contains limits.old.items x → Contains limits.new.items x) }
-{
-    if has_near(limits.as_slice(), diameter) {
-        return Ok(());
-    }
-    limits.push(diameter)?;
-    Ok(())
-}
-
-/// Puts multiples of 94 mm to a list of limits where none is near: so no band is wide, and none is narrow for a multiple.
-fn fill_gaps(limits: &mut Vec<u32>) -> Result<(), AllocError>
-    ensures kept { OnOk result ((x : ℕ) → Contains limits.old.items x → Contains limits.new.items x) }
-{
-    for multiple in 1..16u32 {
-        push_far(limits, multiple * 94)?;
-    }
-    Ok(())
-}
-
-/// The diameters in mm at which a band starts: where an assortment has another row, or takes no more logs, and some in
-/// between, so that no band is wider than 188 mm.
+/// The diameters in mm at which a band starts: where an assortment has another row, or takes no more logs.
 pub fn limits_of(alloc: Global, instruction: &Instruction) -> Result<Vec<u32>, AllocError>
     ensures { IfOk result (λ limits. AreLimits instruction.now limits.items) }
 {
@@ -68,7 +36,6 @@ pub fn limits_of(alloc: Global, instruction: &Instruction) -> Result<Vec<u32>, A
     for place in 0..all.len() {
         push_limits(&mut limits, &all[place])?;
     }
-    fill_gaps(&mut limits)?;
     sort_once(&mut limits)?;
     Ok(limits)
 }

@@ -1,7 +1,7 @@
 //! The logs that an instruction offers, in the order that settles ties.
 ghost use Rattle.std.specs.Prelude.{◌≡◌, ℕ, ◌+◌, ◌*◌, ◌%◌, ◌<◌, ◌≤◌, IfOk, OnOk, All, Contains, length};
 ghost use Rattle.std.specs.List.Sorted.{IsStrictlyIncreasing};
-ghost use Rattle.buck_bid.specs.Offers.{code_of, codes_in, AreCodes, AreOffers, AreTrims, IsWhole};
+ghost use Rattle.buck_bid.specs.Offers.{code_of, codes_in, AreCodes, AreOffers, IsWhole};
 
 use buck_apt::{Assortment, Instruction};
 use std::alloc::{AllocError, Global};
@@ -77,17 +77,4 @@ pub fn offers_of(alloc: Global, instruction: &Instruction) -> Result<Vec<Offer>,
         offers.push(offer_of(*code))?;
     }
     Ok(offers)
-}
-
-/// The trim allowances of all assortments, each once.
-pub fn trims_of(alloc: Global, instruction: &Instruction) -> Result<Vec<u32>, AllocError>
-    ensures { IfOk result (λ trims. AreTrims instruction.now trims.items) }
-{
-    let mut trims = Vec::new(alloc);
-    let all = instruction.assortments();
-    for place in 0..all.len() {
-        trims.push(all[place].trim())?;
-    }
-    sort_once(&mut trims)?;
-    Ok(trims)
 }

@@ -1,5 +1,5 @@
 -- Logs of a stem as bids of columns, and the other way.
-use Rattle.std.proofs.Common.{◌≡◌, ℕ, zero, suc, [], ◌∷◌, get_or, ◌+◌, ◌-◌, ◌*◌, ◌/◌, ◌%◌, ◌<◌, ◌≤◌, ◌↔◌, inl, inr, List, Contains, Option, Some, None, length, slice_get, slice_index, refl, sym, subst, ap, ◌∙◌, arith, add-mul, mul-le-mul_right}
+use Rattle.std.proofs.Common.{◌≡◌, ℕ, ◌+◌, ◌-◌, ◌*◌, ◌/◌, ◌%◌, ◌<◌, ◌≤◌, inl, inr, List, Option, Some, None, length, slice_get, slice_index, refl, sym, subst, ap, ◌∙◌, arith, add-mul, mul-le-mul_right}
 use Rattle.std.proofs.lemmas.Bool.{cases_lt}
 use Rattle.std.proofs.lemmas.Option.{same_Some}
 use Rattle.std.proofs.Math.Nat.{mul-mod_left, div-mul-le_self, mul-add-div_right, lt-div-mul-add}
@@ -10,7 +10,7 @@ use Rattle.buck_value.specs.Sheet.{SheetParts, IsSheet, price_of}
 use Rattle.buck_value.specs.Volume.{volume, worth_at}
 use Rattle.buck_value.specs.Allowed.{IsAllowed, log_of, top_of, end_of, trim_in, trim_of, top_diameter, class_in, kind_in, worth_of}
 use Rattle.buck_dp.specs.inner.Points.{GroundParts, points_of, ends_of, point_after}
-use Rattle.buck_bid.specs.Offers.{AreCodes, AreTrims, code_of}
+use Rattle.buck_bid.specs.Offers.{AreCodes, code_of}
 use Rattle.buck_dp.proofs.Marks.{assortment_low}
 use Rattle.std.proofs.lemmas.List.{get_or_default}
 use Rattle.buck_dp.specs.inner.Points.{IsBid, IsFromTo}
@@ -211,53 +211,6 @@ log_fits p i j e trim bid b =
     let a = b.brings.allowed in
     let own : a.assortment.trim ≡ trim = sym (ap trim_in a.exists) ∙ b.own in
     omega (arith, b.top, own, a.allows.within)
-
--- how many points there are from which a trim lies within a length
-pub points_fit : (m length trim j : ℕ) → 0 < m → trim ≤ length → (j < (length - trim) / m + 1) ↔ (j * m + trim ≤ length)
-points_fit m length trim j pos le = (
-  λ lt. (let p = point_within m j (length - trim) lt in omega arith),
-  λ fits. point_there m j (length - trim) pos (omega arith),
-)
-
--- the one element of a list
-pub only_trim : (y l : ℕ) → Contains (y ∷ []) l → y ≡ l
-only_trim y l has = at has.0 has.1 has.2
-  where
-    at : (k : ℕ) → k < length (y ∷ []) → get_or (y ∷ []) k l ≡ l → y ≡ l
-    at zero lt is = is
-    at (suc k) lt is = absurd (omega arith)
-
--- the trim of a log is among those of the instruction
-pub log_trim : (p : GroundParts) (i j e trim bid : ℕ) (trims : List ℕ) → AreTrims p.sheet.instruction trims → IsLogBid p i j e trim bid → Contains trims trim
-log_trim p i j e trim bid trims are b =
-    let a = b.brings.allowed in
-    let own : a.assortment.trim ≡ trim = sym (ap trim_in a.exists) ∙ b.own in
-    subst (λ t. Contains trims t) own (are.whole b.log.assortment a.assortment a.exists)
-
--- nothing is in an empty list
-pub none_in : (x : ℕ) → Contains [] x → ⊥
-none_in x has = (let lt : has.0 < 0 = has.1 in absurd (omega arith))
-
--- no log is shorter than so many steps, where no offer is
-pub logs_long : (p : GroundParts) (steps : ℕ) → IsSheet p.sheet → AreCodes p.sheet.instruction p.codes
-    → ((k : ℕ) → k < length p.codes → steps * p.sheet.instruction.«module» ≤ slice_index p.codes k / 16)
-    → (i j e trim bid : ℕ) → IsLogBid p i j e trim bid → i + steps ≤ j
-logs_long p steps v are least i j e trim bid b =
-    let a = b.brings.allowed in
-    let m : ℕ = p.sheet.instruction.«module» in
-    let found = are.whole b.log.assortment a.assortment b.log.length a.exists a.allows.length_offered in
-    let low : b.log.assortment < 16 = assortment_low p.sheet.instruction p.stem b.log v.valid a in
-    let code : slice_index p.codes found.0 ≡ code_of b.log.length b.log.assortment =
-    sym (get_or_default p.codes found.0 (code_of b.log.length b.log.assortment) 0 found.1) ∙ found.2 in
-    let l = least found.0 found.1 in
-    let long : b.log.length + i * m ≡ j * m = omega (arith, b.between.start, b.top) in
-    elim (cases_lt j (i + steps)) [
-      | inr le ↦ le
-      | inl less ↦ absurd (
-          let far : (j + 1) * m ≤ (i + steps) * m = mul-le-mul_right m (omega arith) in
-          omega (arith, add-mul j 1 m, add-mul i steps m, v.valid.module_range)
-          )
-    ]
 
 -- no log is longer than so many steps, where no offer is
 pub logs_short : (p : GroundParts) (steps : ℕ) → IsSheet p.sheet → AreCodes p.sheet.instruction p.codes

@@ -1,5 +1,5 @@
 -- Places on the stem, as multiples of a step.
-use Rattle.std.proofs.Common.{◌≡◌, ℕ, ◌+◌, ◌-◌, ◌*◌, ◌/◌, ◌%◌, ◌<◌, ◌≤◌, ◌⊎◌, inl, inr, arith, add-mul, mul-le-mul_right}
+use Rattle.std.proofs.Common.{◌≡◌, ℕ, ◌+◌, ◌-◌, ◌*◌, ◌/◌, ◌%◌, ◌<◌, ◌≤◌, ◌⊎◌, inl, inr, arith, mul-le-mul_right}
 use Rattle.std.proofs.lemmas.Bool.{cases_lt}
 use Rattle.std.proofs.Math.Nat.{lt-div-mul-add, div-mul-le_self}
 use Rattle.std.proofs.lemmas.Nat.{le-div}
@@ -54,10 +54,3 @@ after_within m total x pos le = elim (cases_lt (point_after m x) (total / m + 1 
 -- after a later place the point is no earlier
 pub after_in_order : (m a b : ℕ) → 0 < m → a ≤ b → point_after m a ≤ point_after m b
 after_in_order m a b pos le = le-div (point_after m a) (b + (m - 1)) m pos (omega (arith, div-mul-le_self (a + (m - 1)) m))
-
--- what is no longer has no more steps
-pub no_more_steps : (m a b : ℕ) → 0 < m → a * m ≤ b * m → a ≤ b
-no_more_steps m a b pos le = elim (cases_lt b a) [
-  | inr few ↦ few
-  | inl more ↦ absurd (let h : (b + 1) * m ≤ a * m = mul-le-mul_right m (omega arith) in omega (arith, add-mul b 1 m))
-]

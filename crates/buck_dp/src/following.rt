@@ -1,28 +1,22 @@
-//! The values of a stem's points, followed from the butt: the logs of the best cutting.
-ghost use Rattle.std.specs.Prelude.{◌≡◌, ℕ, ◌-◌, ◌*◌, ◌%◌, ◌<◌, ◌≤◌, IfOk, length, slice_index};
+//! The choices of a stem's points, followed from the butt: the logs of the best cutting.
+ghost use Rattle.std.specs.Prelude.{◌≡◌, ℕ, List, ◌-◌, ◌*◌, ◌<◌, ◌≤◌, IfOk, length, slice_index};
+ghost use Rattle.buck_stem.specs.Stem.{IsStem};
+ghost use Rattle.buck_value.specs.Sheet.{IsSheet};
 ghost use Rattle.buck_value.specs.Allowed.{IsAllowed, worth_of, end_of};
-ghost use Rattle.buck_dp.specs.inner.Points.{ground_with, points_of};
 ghost use Rattle.buck_bid.specs.Offers.{AreOffers, codes_in, code_of};
-ghost use Rattle.buck_dp.specs.inner.Ground.{IsGround};
+ghost use Rattle.buck_dp.specs.inner.Points.{ground_with, points_of, point_after};
 ghost use Rattle.buck_dp.specs.inner.Table.{IsTop};
-ghost use Rattle.buck_dp.specs.inner.Values.{AreValuesFrom};
+ghost use Rattle.buck_dp.specs.inner.Bid.{BidParts};
+ghost use Rattle.buck_dp.specs.inner.Searched.{AreSearched};
 
 use crate::ends::{module_of, point_after};
-use crate::settling::Ground;
-use buck_bid::{Bid, Offer};
+use buck_bid::Offer;
+use buck_stem::Stem;
 use buck_value::{Log, Sheet};
 use std::alloc::{AllocError, Global};
 
-/// The rank of a point's value: 0 where no log starts.
-fn rank_at(values: &[Bid], i: usize) -> usize
-    requires { i < length values.now }
-    ensures { result ≡ slice_index values.now i % 1024 }
-{
-    values[i].rank() as usize
-}
-
 /// The log of the offer of a rank that starts at point `i`.
-fn log_at(sheet: &Sheet, offers: &[Offer], rank: usize, i: usize) -> Log
+fn log_at(sheet: &Sheet, offers: &[Offer], rank: u32, i: usize) -> Log
     requires offers { AreOffers sheet.now.instruction offers.now }
     requires rank { (rank ≤ 1023) × (1023 - rank < length offers.now) }
     requires i { i ≤ 4001 }
@@ -30,7 +24,7 @@ fn log_at(sheet: &Sheet, offers: &[Offer], rank: usize, i: usize) -> Log
     ensures code { code_of result.length result.assortment ≡ slice_index (codes_in offers.now) (1023 - rank) }
     ensures assortment { result.assortment < 16 }
 {
-    let offer = offers[1023 - rank];
+    let offer = offers[1023 - rank as usize];
     Log {
         start: i as u32 * module_of(sheet),
         length: offer.length,
@@ -38,33 +32,35 @@ fn log_at(sheet: &Sheet, offers: &[Offer], rank: usize, i: usize) -> Log
     }
 }
 
-/// The logs of the best cutting, from the values of all points. The rank of a value tells the offer that the first log
-/// is of; where it has none, no log starts.
+/// The logs of the best cutting, from the choices of all points: the rank of the first log of the best from there on,
+/// 0 where no log starts.
 pub(crate) fn follow(
     alloc: Global,
-    ground: Ground<'_>,
+    sheet: &Sheet,
+    stem: &Stem,
     offers: &[Offer],
-    values: &[Bid],
+    choices: &[u32],
 ) -> Result<Vec<Log>, AllocError>
-    requires ground { IsGround ground.sheet.now ground.stem.now ground.profile.now ground.diameters.now }
-    requires offers { AreOffers ground.sheet.now.instruction offers.now }
-    requires values { AreValuesFrom (ground_with ground.sheet.now ground.stem.now (codes_in offers.now)) values.now 0 }
-    ensures { let sheet = ground.entry.sheet.now in
-        let stem = ground.entry.stem.now in
-        IfOk result (λ logs.
-        IsTop (IsAllowed sheet.instruction stem) (end_of sheet.instruction) (worth_of sheet stem) 0 logs.items) }
+    requires valid { IsSheet sheet.now }
+    requires sound { IsStem stem.now }
+    requires offers { AreOffers sheet.now.instruction offers.now }
+    requires found { (values : List BidParts)
+        × AreSearched (ground_with sheet.now stem.now (codes_in offers.now)) values choices.now 0 0 }
+    ensures { IfOk result (λ logs.
+        IsTop (IsAllowed sheet.now.instruction stem.now) (end_of sheet.now.instruction) (worth_of sheet.now stem.now) 0
+        logs.items) }
 {
-    let points = ground.diameters.len();
+    let points = choices.len() - 1;
     let mut logs = Vec::new(alloc);
     let mut i = 0;
     while i < points {
-        let rank = rank_at(values, i);
+        let rank = choices[i];
         if rank == 0 {
             i += 1;
         } else {
-            let log = log_at(ground.sheet, offers, rank, i);
+            let log = log_at(sheet, offers, rank, i);
             logs.push(log)?;
-            i = point_after(ground.sheet, ground.stem, &log);
+            i = point_after(sheet, stem, &log);
         }
     }
     Ok(logs)

@@ -1,18 +1,25 @@
 //! The best cutting of one stem: a dynamic programme over cutting positions.
 #![tactic(auto)]
 
+mod bid;
 mod cutting;
 mod ends;
 mod following;
+mod index;
 mod judging;
+mod keeping;
+mod kinds;
 pub mod laws;
+mod menu;
 mod offering;
 mod planner;
 mod planning;
-mod settling;
+mod pricing;
+mod rowing;
+mod search;
+mod takers;
 
 pub use buck_record::Memory;
 pub use cutting::Cutting;
 pub use judging::{admissible, worth};
-pub use planner::Planner;
-pub use planning::best;
+pub use planner::{Planner, best};

@@ -1,92 +1,78 @@
-//! Offers of whole columns of bids.
-ghost use Rattle.std.specs.Prelude.{◌≡◌, ℕ, List, ◌+◌, ◌-◌, ◌*◌, ◌<◌, ◌≤◌, length, slice_index};
-ghost use Rattle.buck_dp.specs.inner.Pushed.{IsOfColumns, ArePushed};
+//! What is done at one top: its value is settled, and its logs are offered to the points where they start.
+ghost use Rattle.std.specs.Prelude.{◌≡◌, ◌≢◌, ℕ, ◌+◌, ◌<◌, ◌≤◌, ◌⊎◌, length, get_or};
+ghost use Rattle.buck_dp.specs.inner.Bid.{bid_of, plus, IsGreater};
+ghost use Rattle.buck_dp.specs.inner.Logs.{bid_at};
+ghost use Rattle.buck_dp.specs.inner.Rows.{IsNear, AreOffered, AreFit};
 
-use buck_bid::{Bid, Columns, push_column};
+use crate::bid::Bid;
 
-/// Starts from point `first` on and before `stop`, and tops from point `from` on and before `past`.
+/// What a log brings that is so many steps long, and how many points after its top the next log can start.
 #[derive(Clone, Copy, Debug)]
-pub struct Span {
-    pub first: usize,
-    pub stop: usize,
-    pub from: usize,
-    pub past: usize,
+pub struct Cell {
+    pub bid: Bid,
+    pub steps: u32,
+    pub rise: u32,
 }
 
-/// Offers the bids of a column from the tops of a span to its starts.
-fn push_reaching(
-    values: &mut [Bid],
-    bases: &[Bid],
-    diameters: &[u32],
-    columns: &Columns,
-    at: usize,
-    span: Span,
-)
-    requires past { span.past ≤ length values.old }
-    requires bases { span.past ≤ length bases.now }
-    requires diameters { span.past ≤ length diameters.now }
-    requires starts { (span.first ≤ span.stop) × (span.stop ≤ 5000) }
-    requires order { columns.now.band.thinnest ≤ columns.now.band.past }
-    requires few { span.past ≤ 5000 }
-    requires low { (j : ℕ) → span.from ≤ j → j < span.past → slice_index bases.now j ≤ 4000000000000000000 }
-    requires number { length columns.now.bids.items
-        ≡ length columns.now.steps.items * (columns.now.band.past - columns.now.band.thinnest) }
-    requires high { (k : ℕ) → slice_index columns.now.bids.items k ≤ 2000000000000000000 }
-    requires thick { (j : ℕ) → span.from ≤ j → j < span.past → columns.now.band.thinnest ≤ slice_index diameters.now j }
-    requires thin { (j : ℕ) → span.from ≤ j → j < span.past → slice_index diameters.now j < columns.now.band.past }
-    requires at { at < length columns.now.steps.items }
+/// Which logs with one top are meant: those longer than `past` steps and of at most `far`, with a trim in mm that is at
+/// most `room`.
+#[derive(Clone, Copy, Debug, PartialEq, Eq)]
+pub struct Reach {
+    pub past: usize,
+    pub far: usize,
+    pub room: u32,
+}
+
+/// Settles a point: its value is what was offered to it, or that of the next point if this is greater. The rank becomes
+/// the choice.
+pub(crate) fn settle(values: &mut [Bid], choices: &mut [u32], point: usize)
+    requires next { point + 1 < length values.old }
+    requires room { point < length choices.old }
     ensures number { length values.new ≡ length values.old }
-    ensures pushed { (u : List ℕ) → ArePushed (IsOfColumns diameters.now span columns.now at) bases.now u values.old
-        → ArePushed (IsOfColumns diameters.now span columns.now (at + 1)) bases.now u values.new }
+    ensures room { length choices.new ≡ length choices.old }
+    ensures others { (k : ℕ) → k ≢ point → bid_at values.new k ≡ bid_at values.old k }
+    ensures other_choices { (k : ℕ) → k ≢ point → get_or choices.new k 0 ≡ get_or choices.old k 0 }
+    ensures greater { IsGreater (bid_at values.old point) (bid_at values.old (point + 1))
+        (bid_of (bid_at values.new point).worth (get_or choices.new point 0)) }
+    ensures even { (bid_at values.new point).rank ≡ 0 }
 {
-    let steps = columns.steps[at];
-    if span.past.saturating_sub(span.first) <= steps {
+    let value = values[point].max(values[point + 1]);
+    choices[point] = value.rank();
+    values[point] = value.without_rank();
+}
+
+/// Offers a cell at a top to the point where its log starts, if that is `first` or a later one, before `stop`.
+fn offer(values: &mut [Bid], top: usize, first: usize, stop: usize, cell: Cell)
+    requires order { (first ≤ stop) × (stop ≤ top) }
+    requires there { IsNear top first stop cell → top + cell.rise < length values.old }
+    requires even { IsNear top first stop cell → (bid_at values.old (top + cell.rise)).rank ≡ 0 }
+    requires low { IsNear top first stop cell
+        → cell.bid.worth + (bid_at values.old (top + cell.rise)).worth ≤ 4000000000000000 }
+    ensures number { length values.new ≡ length values.old }
+    ensures others { (i : ℕ) → (i + cell.steps ≢ top) ⊎ (i < first) ⊎ (stop ≤ i)
+        → bid_at values.new i ≡ bid_at values.old i }
+    ensures raised { (i : ℕ) → i + cell.steps ≡ top → first ≤ i → i < stop
+        → IsGreater (bid_at values.old i) (plus cell.bid (bid_at values.old (top + cell.rise))) (bid_at values.new i) }
+{
+    let steps = cell.steps as usize;
+    if steps > top - first {
         return;
     }
-    let low = span.from.max(span.first + steps);
-    let high = span.past.min(span.stop + steps);
-    if low < high {
-        let width = (columns.band.past - columns.band.thinnest) as usize;
-        push_column(
-            values,
-            bases,
-            diameters,
-            &columns.bids[at * width..at * width + width],
-            columns.band.thinnest,
-            low,
-            high,
-            steps,
-        );
+    if steps <= top - stop {
+        return;
     }
+    let rest = values[top + cell.rise as usize];
+    let start = top - steps;
+    values[start] = values[start].max(cell.bid.plus(rest));
 }
 
-/// Offers the bids of all columns from the tops of a span to its starts. It stays a function of its own, so that its
-/// loops have the registers to themselves.
-#[inline(never)]
-pub fn push_columns(
-    values: &mut [Bid],
-    bases: &[Bid],
-    diameters: &[u32],
-    columns: &Columns,
-    span: Span,
-)
-    requires past { span.past ≤ length values.old }
-    requires bases { span.past ≤ length bases.now }
-    requires diameters { span.past ≤ length diameters.now }
-    requires starts { (span.first ≤ span.stop) × (span.stop ≤ 5000) }
-    requires order { columns.now.band.thinnest ≤ columns.now.band.past }
-    requires few { span.past ≤ 5000 }
-    requires low { (j : ℕ) → span.from ≤ j → j < span.past → slice_index bases.now j ≤ 4000000000000000000 }
-    requires number { length columns.now.bids.items
-        ≡ length columns.now.steps.items * (columns.now.band.past - columns.now.band.thinnest) }
-    requires high { (k : ℕ) → slice_index columns.now.bids.items k ≤ 2000000000000000000 }
-    requires thick { (j : ℕ) → span.from ≤ j → j < span.past → columns.now.band.thinnest ≤ slice_index diameters.now j }
-    requires thin { (j : ℕ) → span.from ≤ j → j < span.past → slice_index diameters.now j < columns.now.band.past }
-    ensures number { length values.new ≡ length values.old }
-    ensures pushed { ArePushed (IsOfColumns diameters.now span columns.now (length columns.now.steps.items)) bases.now
-        values.old values.new }
+/// Offers the cells of a row at a top to the points where their logs start, from `first` on and before `stop`.
+pub(crate) fn offer_row(values: &mut [Bid], top: usize, first: usize, stop: usize, row: &[Cell])
+    requires order { (first ≤ stop) × (stop ≤ top) }
+    requires fit { AreFit row.now top first stop values.old }
+    ensures { AreOffered row.now top first stop (length row.now) values.old values.new }
 {
-    for at in 0..columns.steps.len() {
-        push_reaching(values, bases, diameters, columns, at, span);
+    for cell in row {
+        offer(values, top, first, stop, *cell);
     }
 }

@@ -1,14 +1,21 @@
-//! Planners.
-ghost use Rattle.std.specs.Prelude.{◌≡◌, ◌≤◌, IfOk, IfErr, OnOk};
+//! Planners, and the best cutting of a stem.
+ghost use Rattle.std.specs.Prelude.{◌⊎◌, ◌≡◌, ◌<◌, ◌≤◌, IfOk, IfErr, OnOk, IsTrue, length, slice_index};
 ghost use Rattle.buck_value.specs.Sheet.{IsSheet};
-ghost use Rattle.buck_bid.specs.Tables.{AreTablesOf};
+ghost use Rattle.buck_value.specs.Allowed.{IsAllowed};
+ghost use Rattle.buck_value.specs.declared.log.Log.{Log};
 ghost use Rattle.buck_dp.specs.Best.{IsFirstBest, cutting_worth};
+ghost use Rattle.buck_value.specs.Sheet.{SheetParts};
+ghost use Rattle.buck_dp.specs.declared.menu.Menu.{Menu};
+ghost use Rattle.buck_dp.specs.inner.Site.{IsReady, IsMemo};
 
 use crate::cutting::Cutting;
-use crate::planning::{Lists, ROOM, best_under};
-use buck_bid::Tables;
+use crate::following::follow;
+use crate::keeping::{Kept, Market};
+use crate::kinds::Kinds;
+use crate::menu::Menu;
+use crate::planning::{Memo, Site, search_stem};
 use buck_record::Memory;
-use buck_stem::Stem;
+use buck_stem::{Profile, Stem};
 use buck_value::Sheet;
 use std::alloc::Global;
 use std::marker::Model;
@@ -19,40 +26,145 @@ use std::sync::Arc;
 #[derive(Drop)]
 pub struct Planner {
     sheet: Arc<Sheet>,
-    kept: Box<Kept>,
+    own: Box<Own>,
 }
 
-/// What a planner keeps from stem to stem: the tables of its sheet, and lists.
+/// What a planner keeps from stem to stem.
 #[derive(Drop)]
-struct Kept {
-    tables: Tables,
-    lists: Lists,
+struct Own {
+    menu: Menu,
+    memo: Memo,
 }
 
 impl Model for Planner {
     ghost use Rattle.buck_value.specs.Sheet.{SheetParts};
-    ghost use Rattle.buck_bid.specs.Tables.{AreTablesOf};
+    ghost use Rattle.buck_dp.specs.inner.Site.{IsReady};
 
     ghost Value = { SheetParts };
 
     ghost view = { λ p. p.sheet.value };
 
-    ghost invariant = { λ p. AreTablesOf p.sheet.value p.kept.value.tables };
+    ghost invariant = { λ p. IsReady p.sheet.value p.own.value.menu p.own.value.memo };
 }
 
-/// Makes the tables of a sheet those of another one. What depends on the instruction alone stays where both have the
+/// Whether some assortment takes the stem's species.
+fn is_wanted(sheet: &Sheet, stem: &Stem) -> bool
+    ensures wanted { IsTrue result ⊎ ((g : Log) → IsAllowed sheet.now.instruction stem.now g → ⊥) }
+    ensures valid { IsSheet sheet.now }
+{
+    let species = stem.species();
+    for assortment in sheet.instruction().assortments() {
+        if assortment.species() == species {
+            return true;
+        }
+    }
+    false
+}
+
+/// What a planner under a sheet keeps before the first stem.
+fn own_of(alloc: Global, sheet: &Sheet) -> Result<Own, Memory>
+    ensures { IfOk result (λ o. IsReady sheet.now o.menu o.memo) }
+{
+    let menu = Menu::of(alloc, sheet.instruction())?;
+    let memo = Memo {
+        kinds: Kinds::new(alloc),
+        kept: Kept::new(alloc),
+        spare: Vec::new(alloc),
+    };
+    Ok(Own { menu, memo })
+}
+
+/// Drops what too many kinds of wood have left.
+fn make_room(memo: &mut Memo)
+    ensures { (s : SheetParts) (m : Menu) → IsMemo s m memo.old → IsMemo s m memo.new }
+{
+    if memo.kinds.are_many() {
+        memo.kinds.clear();
+        memo.kept.clear();
+    }
+}
+
+/// The first of the best cuttings of a stem that some assortment's species is, and its worth.
+fn cut_wanted<'a>(
+    alloc: Global,
+    sheet: &'a Sheet,
+    stem: &'a Stem,
+    menu: &'a Menu,
+    memo: &mut Memo,
+) -> Result<(Cutting, u64), Memory>
+    requires ready { IsReady sheet.now menu.now memo.old }
+    ensures ready { IsReady sheet.now menu.now memo.new }
+    ensures first { IfOk result (λ found. IsFirstBest sheet.now stem.now found.0.logs.items) }
+    ensures worth { IfOk result (λ found. found.1 ≡ cutting_worth sheet.now stem.now found.0.logs.items) }
+    ensures high { IfOk result (λ found. found.1 ≤ 2800000000000000) }
+{
+    let profile = Profile::make(alloc, stem, sheet.instruction().module())?;
+    let site = Site {
+        market: Market { sheet, menu },
+        stem,
+        profile: &profile,
+    };
+    make_room(memo);
+    let search = search_stem(alloc, site, memo)?;
+    let logs = follow(alloc, sheet, stem, menu.offers.as_slice(), search.choices())?;
+    Ok((Cutting { logs }, search.worth()))
+}
+
+/// The first of the best cuttings of a stem under a sheet, and its worth. A stem of a species that no assortment takes
+/// is left at once.
+fn best_under(
+    alloc: Global,
+    sheet: &Sheet,
+    stem: &Stem,
+    own: &mut Own,
+) -> Result<(Cutting, u64), Memory>
+    requires own { IsReady sheet.now own.old.menu own.old.memo }
+    ensures own { IsReady sheet.now own.new.menu own.new.memo }
+    ensures first { IfOk result (λ found. IsFirstBest sheet.now stem.now found.0.logs.items) }
+    ensures worth { IfOk result (λ found. found.1 ≡ cutting_worth sheet.now stem.now found.0.logs.items) }
+    ensures high { IfOk result (λ found. found.1 ≤ 2800000000000000) }
+    ensures valid { IsSheet sheet.now }
+{
+    if !is_wanted(sheet, stem) {
+        let none = Cutting {
+            logs: Vec::new(alloc),
+        };
+        return Ok((none, 0));
+    }
+    cut_wanted(alloc, sheet, stem, &own.menu, &mut own.memo)
+}
+
+/// Makes what is kept for a sheet right for another one. What depends on the instruction alone stays where both have the
 /// same.
-fn turn_to(alloc: Global, tables: &mut Tables, from: &Sheet, to: &Sheet) -> Result<(), Memory>
-    requires { AreTablesOf from.now tables.old }
-    ensures turned { OnOk result (AreTablesOf to.now tables.new) }
-    ensures left { IfErr result (λ _. AreTablesOf from.now tables.new) }
+fn turn_to(alloc: Global, own: &mut Own, from: &Sheet, to: &Sheet) -> Result<(), Memory>
+    requires { IsReady from.now own.old.menu own.old.memo }
+    ensures turned { OnOk result (IsReady to.now own.new.menu own.new.memo) }
+    ensures left { IfErr result (λ _. IsReady from.now own.new.menu own.new.memo) }
 {
     if to.instruction().same(from.instruction()) {
-        tables.renew();
+        own.memo.kept.clear();
         return Ok(());
     }
-    *tables = Tables::make(alloc, to, ROOM)?;
+    *own = own_of(alloc, to)?;
     Ok(())
+}
+
+/// The first of the best cuttings of a stem under a sheet, and its worth in millionths of the price unit.
+///
+/// The cutting is admissible, no admissible list of logs is worth more, and it comes before every other such one: at
+/// the first difference stands the lower start, then the shorter log, then the lower assortment, and a list that goes
+/// on comes before its own prefix. So a log worth nothing is cut where it is allowed. Where no log is allowed, the
+/// cutting is empty and worth 0. `Memory` where a list couldn't grow: the price lists of the sheet, the values of the
+/// points, and the logs. Stem after stem is planned faster by a [`Planner`](crate::Planner).
+///
+/// Bucking as a longest path, solved by dynamic programming over the places of a stem: M. Näsberg, "Mathematical
+/// Programming Models for Optimal Log Bucking", Linköping, 1985.
+pub fn best(alloc: Global, sheet: &Sheet, stem: &Stem) -> Result<(Cutting, u64), Memory>
+    ensures first { IfOk result (λ found. IsFirstBest sheet.now stem.now found.0.logs.items) }
+    ensures worth { IfOk result (λ found. found.1 ≡ cutting_worth sheet.now stem.now found.0.logs.items) }
+{
+    let mut own = own_of(alloc, sheet)?;
+    best_under(alloc, sheet, stem, &mut own)
 }
 
 impl Planner {
@@ -60,10 +172,8 @@ impl Planner {
     pub fn make(alloc: Global, sheet: Arc<Sheet>) -> Result<Planner, Memory>
         ensures { IfOk result (λ p. p ≡ sheet.value) }
     {
-        let tables = Tables::make(alloc, &sheet, ROOM)?;
-        let lists = Lists::new(alloc);
-        let kept = Box::new(alloc, Kept { tables, lists })?;
-        Ok(Planner { sheet, kept })
+        let own = Box::new(alloc, own_of(alloc, &sheet)?)?;
+        Ok(Planner { sheet, own })
     }
 
     /// The sheet under which it plans.
@@ -82,8 +192,7 @@ impl Planner {
         ensures high { IfOk result (λ found. found.1 ≤ 2800000000000000) }
         ensures valid { IsSheet self.old }
     {
-        let kept = self.kept.as_mut();
-        best_under(alloc, &self.sheet, stem, &mut kept.tables, &mut kept.lists)
+        best_under(alloc, &self.sheet, stem, self.own.as_mut())
     }
 
     /// Plans under another sheet from now on. Refused as `Memory` alone: it then plans under the sheet as before.
@@ -91,7 +200,7 @@ impl Planner {
         ensures renewed { OnOk result (self.new ≡ sheet.value) }
         ensures left { IfErr result (λ _. self.new ≡ self.old) }
     {
-        turn_to(alloc, &mut self.kept.as_mut().tables, &self.sheet, &sheet)?;
+        turn_to(alloc, self.own.as_mut(), &self.sheet, &sheet)?;
         self.sheet = sheet;
         Ok(())
     }

@@ -1,135 +1,247 @@
-//! The best cutting of a stem.
-ghost use Rattle.std.specs.Prelude.{◌⊎◌, ◌≡◌, ◌<◌, ◌≤◌, IfOk, IsTrue, length, slice_index};
-ghost use Rattle.buck_value.specs.Sheet.{IsSheet};
-ghost use Rattle.buck_value.specs.Allowed.{IsAllowed};
-ghost use Rattle.buck_value.specs.declared.log.Log.{Log};
-ghost use Rattle.buck_bid.specs.Bid.{worth_in};
-ghost use Rattle.buck_bid.specs.Tables.{AreTablesOf};
-ghost use Rattle.buck_dp.specs.Best.{IsFirstBest, cutting_worth};
+//! The search of a stem: from the top end down one top at a time, and for each the logs with it, by the parts of their
+//! starts.
+ghost use Rattle.std.specs.Prelude.{◌≡◌, ℕ, ◌+◌, ◌<◌, ◌≤◌, IfOk, OnOk};
+ghost use Rattle.buck_dp.specs.inner.Points.{points_of, ground_with};
+ghost use Rattle.buck_dp.specs.inner.Parts.{HasTakers};
+ghost use Rattle.buck_dp.specs.inner.Site.{IsSite, IsMemoFor, ground_of};
+ghost use Rattle.buck_dp.specs.inner.Takers.{AreKnown};
 
-use crate::cutting::Cutting;
-use crate::ends::module_of;
-use crate::following::follow;
-use crate::settling::{Ground, find_values};
-use buck_bid::{Bid, Tables};
+use crate::keeping::{Kept, Market, Spot, all_logs};
+use crate::kinds::{Group, Kinds};
+use crate::menu::Menu;
+use crate::offering::{Cell, Reach};
+use crate::search::Search;
+use crate::takers::Kind;
 use buck_record::Memory;
-use buck_stem::{Profile, ProfileLists, Stem};
-use buck_value::Sheet;
+use buck_stem::{Profile, Stem};
 use std::alloc::Global;
-use std::mem;
 
-/// How many bids tables keep, before all are made anew: 4 MB.
-pub(crate) const ROOM: usize = 500_000;
+/// A stem at its points, and the sheet under which it is cut.
+#[derive(Clone, Copy)]
+pub struct Site<'a> {
+    pub market: Market<'a>,
+    pub stem: &'a Stem,
+    pub profile: &'a Profile<'a>,
+}
 
-/// The lists that are kept from stem to stem. What they hold of the stem before is of no account.
+/// What is kept from stem to stem.
 #[derive(Drop)]
-pub(crate) struct Lists {
-    profile: ProfileLists,
-    values: Vec<Bid>,
-    bases: Vec<Bid>,
+pub struct Memo {
+    pub kinds: Kinds,
+    pub kept: Kept,
+    /// A row that isn't kept.
+    pub spare: Vec<Cell>,
 }
 
-impl Lists {
-    /// Empty lists.
-    pub(crate) fn new(alloc: Global) -> Lists {
-        Lists {
-            profile: ProfileLists::new(alloc),
-            values: Vec::new(alloc),
-            bases: Vec::new(alloc),
-        }
-    }
+/// The starts from point `first` on and before another: the same assortments take the wood from these to a top.
+#[derive(Clone, Copy)]
+pub struct Part {
+    pub first: usize,
+    pub group: Group,
 }
 
-/// Whether some assortment takes the stem's species.
-fn is_wanted(sheet: &Sheet, stem: &Stem) -> bool
-    ensures wanted { IsTrue result ⊎ ((g : Log) → IsAllowed sheet.now.instruction stem.now g → ⊥) }
-    ensures valid { IsSheet sheet.now }
+/// The starts before a point that have the grades of the last of them, and who takes their wood up to a top.
+fn run_before(site: Site<'_>, kinds: &mut Kinds, top: usize, stop: usize) -> Result<Part, Memory>
+    requires site { IsSite site }
+    requires order { (0 < stop) × (stop ≤ top) }
+    requires top { top < points_of (ground_of site) }
+    requires known { AreKnown site.market.sheet.now.instruction kinds.old }
+    ensures known { AreKnown site.entry.market.sheet.now.instruction kinds.new }
+    ensures first { IfOk result (λ p. p.first < stop) }
+    ensures takers { IfOk result (λ p. (i : ℕ) → p.first ≤ i → i < stop
+        → HasTakers (ground_of site.entry) p.group.takers i top) }
 {
-    let species = stem.species();
-    for assortment in sheet.instruction().assortments() {
-        if assortment.species() == species {
-            return true;
-        }
-    }
-    false
-}
-
-/// The worth of what is best from the butt on, from the values of all points.
-fn worth_at_butt(values: &[Bid]) -> u64
-    requires { 0 < length values.now }
-    ensures { result ≡ worth_in (slice_index values.now 0) }
-{
-    values[0].worth()
-}
-
-/// The first of the best cuttings of a stem that some assortment's species is, and its worth.
-fn cut_wanted(
-    alloc: Global,
-    sheet: &Sheet,
-    stem: &Stem,
-    tables: &mut Tables,
-    lists: &mut Lists,
-) -> Result<(Cutting, u64), Memory>
-    requires tables { AreTablesOf sheet.now tables.old }
-    ensures tables { AreTablesOf sheet.now tables.new }
-    ensures first { IfOk result (λ found. IsFirstBest sheet.now stem.now found.0.logs.items) }
-    ensures worth { IfOk result (λ found. found.1 ≡ cutting_worth sheet.now stem.now found.0.logs.items) }
-    ensures high { IfOk result (λ found. found.1 ≤ 2800000000000000) }
-{
-    let room = mem::replace(&mut lists.profile, ProfileLists::new(alloc));
-    let profile = Profile::make_with(room, stem, module_of(sheet))?;
-    let ground = Ground {
-        sheet,
-        stem,
-        profile: &profile,
-        diameters: profile.diameters(),
+    let first = site.profile.run_start(stop - 1);
+    let kind = Kind {
+        species: site.stem.species(),
+        grades: site.profile.grades(stop - 1, top),
     };
-    find_values(alloc, ground, tables, &mut lists.values, &mut lists.bases)?;
-    let logs = follow(alloc, ground, tables.offers(), lists.values.as_slice())?;
-    let worth = worth_at_butt(lists.values.as_slice());
-    lists.profile = profile.into_lists();
-    Ok((Cutting { logs }, worth))
+    let group = kinds.group_of(site.market.sheet, kind)?;
+    Ok(Part { first, group })
 }
 
-/// The first of the best cuttings of a stem under a sheet, and its worth, by tables of the sheet. A stem of a species
-/// that no assortment takes is left at once.
-pub(crate) fn best_under(
-    alloc: Global,
-    sheet: &Sheet,
-    stem: &Stem,
-    tables: &mut Tables,
-    lists: &mut Lists,
-) -> Result<(Cutting, u64), Memory>
-    requires tables { AreTablesOf sheet.now tables.old }
-    ensures tables { AreTablesOf sheet.now tables.new }
-    ensures first { IfOk result (λ found. IsFirstBest sheet.now stem.now found.0.logs.items) }
-    ensures worth { IfOk result (λ found. found.1 ≡ cutting_worth sheet.now stem.now found.0.logs.items) }
-    ensures high { IfOk result (λ found. found.1 ≤ 2800000000000000) }
-    ensures valid { IsSheet sheet.now }
+/// The starts before a point of which the same assortments take the wood up to a top.
+fn part_before(site: Site<'_>, kinds: &mut Kinds, top: usize, stop: usize) -> Result<Part, Memory>
+    requires site { IsSite site }
+    requires order { (0 < stop) × (stop ≤ top) }
+    requires top { top < points_of (ground_of site) }
+    requires known { AreKnown site.market.sheet.now.instruction kinds.old }
+    ensures known { AreKnown site.entry.market.sheet.now.instruction kinds.new }
+    ensures first { IfOk result (λ p. p.first < stop) }
+    ensures takers { IfOk result (λ p. (i : ℕ) → p.first ≤ i → i < stop
+        → HasTakers (ground_of site.entry) p.group.takers i top) }
 {
-    if !is_wanted(sheet, stem) {
-        let none = Cutting {
-            logs: Vec::new(alloc),
+    let low = top.saturating_sub(site.market.menu.most_steps);
+    let mut part = run_before(site, kinds, top, stop)?;
+    while part.first > low {
+        let next = run_before(site, kinds, top, part.first)?;
+        if !next.group.takers.same(part.group.takers) {
+            return Ok(part);
+        }
+        part = Part {
+            first: next.first,
+            group: part.group,
         };
-        return Ok((none, 0));
     }
-    cut_wanted(alloc, sheet, stem, tables, lists)
+    Ok(part)
 }
 
-/// The first of the best cuttings of a stem under a sheet, and its worth in millionths of the price unit.
-///
-/// The cutting is admissible, no admissible list of logs is worth more, and it comes before every other such one: at
-/// the first difference stands the lower start, then the shorter log, then the lower assortment, and a list that goes
-/// on comes before its own prefix. So a log worth nothing is cut where it is allowed. Where no log is allowed, the
-/// cutting is empty and worth 0. `Memory` where a list couldn't grow: the tables of the sheet, the values of the
-/// points, and the logs. Stem after stem is planned faster by a [`Planner`](crate::Planner).
-///
-/// Bucking as a longest path, solved by dynamic programming over the places of a stem: M. Näsberg, "Mathematical
-/// Programming Models for Optimal Log Bucking", Linköping, 1985.
-pub fn best(alloc: Global, sheet: &Sheet, stem: &Stem) -> Result<(Cutting, u64), Memory>
-    ensures first { IfOk result (λ found. IsFirstBest sheet.now stem.now found.0.logs.items) }
-    ensures worth { IfOk result (λ found. found.1 ≡ cutting_worth sheet.now stem.now found.0.logs.items) }
+/// Whether the row of a part is one that other tops ask for too: it has the nearest starts, and as good as all logs.
+fn is_common(menu: &Menu, part: Part, top: usize, stop: usize) -> bool
+    requires { part.first ≤ top }
 {
-    let mut tables = Tables::make(alloc, sheet, ROOM)?;
-    best_under(alloc, sheet, stem, &mut tables, &mut Lists::new(alloc))
+    stop == top && (part.first == 0 || top - part.first >= menu.most_steps)
+}
+
+/// Offers the logs with the top that was settled last, from the starts of a part.
+fn offer_part(
+    alloc: Global,
+    site: Site<'_>,
+    memo: &mut Memo,
+    search: &mut Search<'_>,
+    part: Part,
+) -> Result<(), Memory>
+    requires site { IsSite site }
+    requires memo { IsMemoFor site memo.old }
+    requires ground { search.old.ground ≡ ground_of site }
+    requires top { search.old.from < points_of (ground_of site) }
+    requires order { part.first < search.old.stop }
+    requires takers { (i : ℕ) → part.first ≤ i → i < search.old.stop
+        → HasTakers (ground_of site) part.group.takers i search.old.from }
+    ensures memo { IsMemoFor site.entry memo.new }
+    ensures ground { OnOk result (search.new.ground ≡ search.old.ground) }
+    ensures from { OnOk result (search.new.from ≡ search.old.from) }
+    ensures stop { OnOk result (search.new.stop ≡ part.first) }
+{
+    let top = search.from();
+    let stop = search.stop();
+    let menu = site.market.menu;
+    let diameters = site.profile.diameters();
+    let diameter = diameters[top];
+    let left = site.stem.length() - top as u32 * site.market.sheet.instruction().module();
+    if left >= menu.most_trim && is_common(menu, part, top, stop) {
+        let place = memo.kept.row(alloc, site.market, part.group, diameter)?;
+        search.offer_part(part.first, memo.kept.cells(place));
+        return Ok(());
+    }
+    let reach = Reach {
+        past: top - stop,
+        far: top - part.first,
+        room: left.min(menu.most_trim),
+    };
+    memo.kept.draw(
+        alloc,
+        &mut memo.spare,
+        site.market,
+        part.group,
+        Spot { diameter, reach },
+    )?;
+    search.offer_part(part.first, memo.spare.as_slice());
+    Ok(())
+}
+
+/// Offers the logs with the top that was settled last from the starts to which they aren't offered yet.
+fn offer_rest(
+    alloc: Global,
+    site: Site<'_>,
+    memo: &mut Memo,
+    search: &mut Search<'_>,
+) -> Result<(), Memory>
+    requires site { IsSite site }
+    requires memo { IsMemoFor site memo.old }
+    requires ground { search.old.ground ≡ ground_of site }
+    requires top { search.old.from < points_of (ground_of site) }
+    ensures memo { IsMemoFor site.entry memo.new }
+    ensures ground { OnOk result (search.new.ground ≡ search.old.ground) }
+    ensures from { OnOk result (search.new.from ≡ search.old.from) }
+    ensures stop { OnOk result (search.new.stop ≡ 0) }
+{
+    let top = search.from();
+    let low = top.saturating_sub(site.market.menu.most_steps);
+    while search.stop() > low {
+        let part = part_before(site, &mut memo.kinds, top, search.stop())?;
+        if part.group.takers.is_empty() {
+            search.close_top();
+            return Ok(());
+        }
+        offer_part(alloc, site, memo, search, part)?;
+    }
+    search.close_top();
+    Ok(())
+}
+
+/// Offers the logs with the top that was settled last, of which the nearest starts are a part.
+fn offer_top(
+    alloc: Global,
+    site: Site<'_>,
+    memo: &mut Memo,
+    search: &mut Search<'_>,
+    near: Part,
+) -> Result<(), Memory>
+    requires site { IsSite site }
+    requires memo { IsMemoFor site memo.old }
+    requires ground { search.old.ground ≡ ground_of site }
+    requires top { search.old.from < points_of (ground_of site) }
+    requires stop { search.old.stop ≡ search.old.from }
+    requires order { near.first < search.old.from }
+    requires takers { (i : ℕ) → near.first ≤ i → i < search.old.from
+        → HasTakers (ground_of site) near.group.takers i search.old.from }
+    ensures memo { IsMemoFor site.entry memo.new }
+    ensures ground { OnOk result (search.new.ground ≡ search.old.ground) }
+    ensures from { OnOk result (search.new.from ≡ search.old.from) }
+    ensures stop { OnOk result (search.new.stop ≡ 0) }
+{
+    if near.group.takers.is_empty() {
+        search.close_top();
+        return Ok(());
+    }
+    offer_part(alloc, site, memo, search, near)?;
+    offer_rest(alloc, site, memo, search)
+}
+
+/// Searches the tops behind the steps of one run.
+fn search_run(
+    alloc: Global,
+    site: Site<'_>,
+    memo: &mut Memo,
+    search: &mut Search<'_>,
+) -> Result<(), Memory>
+    requires site { IsSite site }
+    requires memo { IsMemoFor site memo.old }
+    requires ground { search.old.ground ≡ ground_of site }
+    requires from { (1 < search.old.from) × (search.old.from ≤ points_of (ground_of site)) }
+    requires stop { search.old.stop ≡ 0 }
+    ensures memo { IsMemoFor site.entry memo.new }
+    ensures ground { OnOk result (search.new.ground ≡ search.old.ground) }
+    ensures from { OnOk result ((0 < search.new.from) × (search.new.from < search.old.from)) }
+    ensures stop { OnOk result (search.new.stop ≡ 0) }
+{
+    let run = site.profile.run_start(search.from() - 2);
+    let near = part_before(site, &mut memo.kinds, run + 1, run + 1)?;
+    while search.from() > run + 1 {
+        search.settle_top();
+        offer_top(alloc, site, memo, search, near)?;
+    }
+    Ok(())
+}
+
+/// Searches a stem from the top end down to the butt.
+pub fn search_stem<'a>(alloc: Global, site: Site<'a>, memo: &mut Memo) -> Result<Search<'a>, Memory>
+    requires site { IsSite site }
+    requires memo { IsMemoFor site memo.old }
+    ensures memo { IsMemoFor site.entry memo.new }
+    ensures ground { IfOk result (λ s. s.ground ≡ ground_of site.entry) }
+    ensures whole { IfOk result (λ s. (s.from ≡ 0) × (s.stop ≡ 0)) }
+{
+    let mut search = Search::start(
+        alloc,
+        site.market.sheet,
+        site.stem,
+        site.market.menu.offers.as_slice(),
+    )?;
+    while search.from() > 1 {
+        search_run(alloc, site, memo, &mut search)?;
+    }
+    search.settle_top();
+    Ok(search)
 }

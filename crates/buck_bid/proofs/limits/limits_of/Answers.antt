@@ -36,12 +36,12 @@ returns c =
     ap length c.assortments-all.ensures.items in
     record {
       rise = c.in_ok-sort_once.ensures.rise;
-      low = c.in_ok-sort_once.ensures.kept 0 (c.in_ok-fill_gaps.ensures.kept 0 c.loop-place.invariant.low);
-      high = c.in_ok-sort_once.ensures.kept 1504 (c.in_ok-fill_gaps.ensures.kept 1504 c.loop-place.invariant.high);
+      low = c.in_ok-sort_once.ensures.kept 0 c.loop-place.invariant.low;
+      high = c.in_ok-sort_once.ensures.kept 1504 c.loop-place.invariant.high;
       rows = λ a x d at has.
-          c.in_ok-sort_once.ensures.kept d (c.in_ok-fill_gaps.ensures.kept d
+          c.in_ok-sort_once.ensures.kept d (
           (c.loop-place.invariant.rows a x d (omega (arith, slice_get_within c.args.instruction.now.assortments a x at)) at has));
       uppers = λ a x at.
-          c.in_ok-sort_once.ensures.kept x.upper (c.in_ok-fill_gaps.ensures.kept x.upper
+          c.in_ok-sort_once.ensures.kept x.upper (
           (c.loop-place.invariant.uppers a x (omega (arith, slice_get_within c.args.instruction.now.assortments a x at)) at));
     }

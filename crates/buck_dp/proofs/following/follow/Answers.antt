@@ -2,57 +2,58 @@ use Rattle.std.proofs.Common.{◌≡◌, ◌*◌, ◌++◌, [], ◌∷◌, ℕ, 
 use Rattle.buck_value.specs.declared.log.Log.{Log}
 use Rattle.buck_dp.specs.inner.Points.{GroundParts, ground_with}
 use Rattle.buck_bid.specs.Offers.{codes_in}
-use Rattle.buck_bid.proofs.ColumnLemmas.{codes_number}
+use Rattle.buck_bid.proofs.OfferLemmas.{codes_number}
 use Rattle.buck_dp.proofs.Walk.{AnyRest}
-use Rattle.buck_dp.proofs.Values.{walk_skip, mark_within, walk_log, walk_end}
+use Rattle.buck_dp.proofs.Values.{walk_end}
+use Rattle.buck_dp.proofs.FoundLemmas.{choice_low, found_skip, found_within, found_log}
 use Rattle.buck_dp.proofs.following.follow.Goals as goal
 
 pub loop-i-preserved-then-rank-eq0 : goal.loop-i-preserved-then-rank-eq0
 loop-i-preserved-then-rank-eq0 c =
-    let p : GroundParts = ground_with c.args.ground.sheet.now c.args.ground.stem.now (codes_in c.args.offers.now) in
-    let g = c.requires.ground in
+    let p : GroundParts = ground_with c.args.sheet.now c.args.stem.now (codes_in c.args.offers.now) in
+    let f = c.requires.found in
     record {
-      within = omega (arith, g.number);
-      best = walk_skip p c.args.values.now c.loop-i.i c.loop-i.logs.items g.valid g.sound c.requires.offers.codes
-          c.requires.values (omega (arith, g.number)) (omega arith) c.loop-i.invariant.best;
+      within = omega (arith, f.1.room);
+      best = found_skip p c.requires.valid f.0 c.args.choices.now f.1 c.requires.sound c.requires.offers.codes c.loop-i.i
+          (omega (arith, f.1.room)) c.loop-i.logs.items (omega arith) c.loop-i.invariant.best;
     }
 
 pub log_at-log-requires-clause-rank : goal.log_at-log-requires-clause-rank
 log_at-log-requires-clause-rank c =
-    let p : GroundParts = ground_with c.args.ground.sheet.now c.args.ground.stem.now (codes_in c.args.offers.now) in
-    let g = c.requires.ground in
-    let place = mark_within p c.args.values.now c.loop-i.i g.valid g.sound c.requires.offers.codes
-    c.requires.values (omega (arith, g.number)) (omega arith) in
-    (omega arith, omega (arith, place, c.rank_at-rank.ensures, codes_number c.args.offers.now))
+    let p : GroundParts = ground_with c.args.sheet.now c.args.stem.now (codes_in c.args.offers.now) in
+    let f = c.requires.found in
+    let place = found_within p c.requires.valid f.0 c.args.choices.now f.1 c.requires.sound c.requires.offers.codes c.loop-i.i
+    (omega (arith, f.1.room)) (omega arith) in
+    (choice_low p c.requires.valid f.0 c.args.choices.now f.1 c.loop-i.i, omega (arith, place, codes_number c.args.offers.now))
 
 pub point_after-i-requires-clause-allowed : goal.point_after-i-requires-clause-allowed
 point_after-i-requires-clause-allowed c =
-    let p : GroundParts = ground_with c.args.ground.sheet.now c.args.ground.stem.now (codes_in c.args.offers.now) in
-    let g = c.requires.ground in
+    let p : GroundParts = ground_with c.args.sheet.now c.args.stem.now (codes_in c.args.offers.now) in
+    let f = c.requires.found in
     let log = c.log_at-log.ensures in
-    let j = walk_log p c.args.values.now c.loop-i.i c.log_at-log.result c.loop-i.logs.items
-    g.valid g.sound c.requires.offers.codes c.requires.values (omega (arith, g.number)) (omega arith)
-    log.start (rw c.rank_at-rank.ensures at log.code) log.assortment c.loop-i.invariant.best in
+    let j = found_log p c.requires.valid f.0 c.args.choices.now f.1 c.requires.sound c.requires.offers.codes c.loop-i.i
+    (omega (arith, f.1.room)) c.log_at-log.result c.loop-i.logs.items (omega arith) log.start log.code log.assortment
+    c.loop-i.invariant.best in
     j.4
 
 pub loop-i-smaller : goal.loop-i-smaller
 loop-i-smaller c =
-    let p : GroundParts = ground_with c.args.ground.sheet.now c.args.ground.stem.now (codes_in c.args.offers.now) in
-    let g = c.requires.ground in
+    let p : GroundParts = ground_with c.args.sheet.now c.args.stem.now (codes_in c.args.offers.now) in
+    let f = c.requires.found in
     let log = c.log_at-log.ensures in
-    let j = walk_log p c.args.values.now c.loop-i.i c.log_at-log.result c.loop-i.logs.items
-    g.valid g.sound c.requires.offers.codes c.requires.values (omega (arith, g.number)) (omega arith)
-    log.start (rw c.rank_at-rank.ensures at log.code) log.assortment c.loop-i.invariant.best in
+    let j = found_log p c.requires.valid f.0 c.args.choices.now f.1 c.requires.sound c.requires.offers.codes c.loop-i.i
+    (omega (arith, f.1.room)) c.log_at-log.result c.loop-i.logs.items (omega arith) log.start log.code log.assortment
+    c.loop-i.invariant.best in
     omega (arith, j.1, j.2, j.3, c.point_after-i.ensures)
 
 pub loop-i-preserved : goal.loop-i-preserved
 loop-i-preserved c =
-    let p : GroundParts = ground_with c.args.ground.sheet.now c.args.ground.stem.now (codes_in c.args.offers.now) in
-    let g = c.requires.ground in
+    let p : GroundParts = ground_with c.args.sheet.now c.args.stem.now (codes_in c.args.offers.now) in
+    let f = c.requires.found in
     let log = c.log_at-log.ensures in
-    let j = walk_log p c.args.values.now c.loop-i.i c.log_at-log.result c.loop-i.logs.items
-    g.valid g.sound c.requires.offers.codes c.requires.values (omega (arith, g.number)) (omega arith)
-    log.start (rw c.rank_at-rank.ensures at log.code) log.assortment c.loop-i.invariant.best in
+    let j = found_log p c.requires.valid f.0 c.args.choices.now f.1 c.requires.sound c.requires.offers.codes c.loop-i.i
+    (omega (arith, f.1.room)) c.log_at-log.result c.loop-i.logs.items (omega arith) log.start log.code log.assortment
+    c.loop-i.invariant.best in
     let at : j.0 ≡ c.point_after-i.result = omega (arith, j.3, c.point_after-i.ensures) in
     let logs : List Log = c.loop-i.logs.items ++ c.log_at-log.result ∷ [] in
     record {
@@ -63,6 +64,6 @@ loop-i-preserved c =
 
 pub returns : goal.returns
 returns c =
-    let p : GroundParts = ground_with c.args.ground.sheet.now c.args.ground.stem.now (codes_in c.args.offers.now) in
-    walk_end p c.loop-i.i c.loop-i.logs.items (omega (arith, c.requires.ground.number)) c.requires.ground.valid
-    c.loop-i.invariant.best
+    let p : GroundParts = ground_with c.args.sheet.now c.args.stem.now (codes_in c.args.offers.now) in
+    let f = c.requires.found in
+    walk_end p c.loop-i.i c.loop-i.logs.items (omega (arith, f.1.room)) c.requires.valid c.loop-i.invariant.best

@@ -1,7 +1,7 @@
 use Rattle.std.proofs.Common.{◌-◌, get_or, sym}
 use Rattle.std.proofs.lemmas.Option.{slice_get-get_or}
 use Rattle.buck_bid.specs.declared.offers.Offer.{Offer}
-use Rattle.buck_bid.proofs.ColumnLemmas.{code_index}
+use Rattle.buck_bid.proofs.OfferLemmas.{code_index}
 use Rattle.buck_dp.proofs.following.log_at.Goals as goal
 
 pub returns-clause-code : goal.returns-clause-code

@@ -1,0 +1,94 @@
+-- Cells offered one after another.
+use Rattle.std.proofs.Common.{◌≡◌, ◌≢◌, ℕ, ◌+◌, ◌<◌, ◌≤◌, ◌⊎◌, inl, inr, List, length, slice_get, Some, refl, sym, subst, ap, ◌∙◌, arith}
+use Rattle.std.proofs.lemmas.Bool.{cases_lt, cases_order}
+use Rattle.std.proofs.lemmas.Option.{same_Some}
+use Rattle.buck_dp.specs.declared.offering.Cell.{Cell}
+use Rattle.buck_dp.specs.inner.Bid.{BidParts, IsAtMost, IsGreater, plus}
+use Rattle.buck_dp.specs.inner.Logs.{bid_at}
+use Rattle.buck_dp.specs.inner.Rows.{IsNear, AreOffered, AreFit}
+use Rattle.buck_dp.proofs.BidLemmas.{IsAtMost-refl, IsAtMost-trans, greater_first, greater_second}
+
+-- before any is offered
+pub offered_none : (cells : List Cell) (top first stop : ℕ) (v : List BidParts) → AreOffered cells top first stop 0 v v
+offered_none cells top first stop v = record {
+  number = refl;
+  kept = λ k. IsAtMost-refl (bid_at v k);
+  done = λ k c lt at near i is. absurd (omega arith);
+  one = λ i. inl refl;
+}
+
+module _ (cells : List Cell) (top first stop n : ℕ) (low : stop ≤ top) (v u : List BidParts)
+    (fit : AreFit cells top first stop v) (offered : AreOffered cells top first stop n v u) where
+  -- from the top on nothing changes
+  pub later_same : (k : ℕ) → top ≤ k → bid_at u k ≡ bid_at v k
+  later_same k le = elim (offered.one k) [
+    | inl e ↦ e
+    | inr o ↦ absurd (omega (arith, o.3.1, o.4))
+  ]
+
+  module _ (c : Cell) (w : List BidParts) (there : slice_get cells n ≡ Some c)
+      (number : length w ≡ length u)
+      (others : (i : ℕ) → (i + c.steps ≢ top) ⊎ (i < first) ⊎ (stop ≤ i) → bid_at w i ≡ bid_at u i)
+      (raised : (i : ℕ) → i + c.steps ≡ top → first ≤ i → i < stop
+      → IsGreater (bid_at u i) (plus c.bid (bid_at u (top + c.rise))) (bid_at w i)) where
+    -- what a point has after a cell is offered: as before, or the greater of that and the offer
+    which : (i : ℕ) → (bid_at w i ≡ bid_at u i)
+        ⊎ ((i + c.steps ≡ top) × IsNear top first stop c
+        × IsGreater (bid_at u i) (plus c.bid (bid_at u (top + c.rise))) (bid_at w i))
+    which i = elim (cases_order (i + c.steps) top) [
+      | inl e ↦ elim (cases_lt i first) [
+        | inl far ↦ inl (others i (inr (inl far)))
+        | inr near ↦ elim (cases_lt i stop) [
+          | inl here ↦ inr (e, (omega arith, omega arith), raised i e near here)
+          | inr done ↦ inl (others i (inr (inr done)))
+        ]
+      ]
+      | inr o ↦ inl (others i (inl (λ e. elim o [ inl a ↦ omega arith | inr a ↦ omega arith ])))
+    ]
+
+    more : (i : ℕ) → IsAtMost (bid_at u i) (bid_at w i)
+    more i = elim (which i) [
+      | inl e ↦ subst (λ x. IsAtMost (bid_at u i) x) (sym e) (IsAtMost-refl (bid_at u i))
+      | inr g ↦ greater_first (bid_at u i) (plus c.bid (bid_at u (top + c.rise))) (bid_at w i) g.2
+    ]
+
+    rest_same : bid_at u (top + c.rise) ≡ bid_at v (top + c.rise)
+    rest_same = later_same (top + c.rise) (omega arith)
+
+    this_done : (i : ℕ) → i + c.steps ≡ top → IsNear top first stop c
+        → IsAtMost (plus c.bid (bid_at v (top + c.rise))) (bid_at w i)
+    this_done i e near =
+        subst (λ x. IsAtMost (plus c.bid x) (bid_at w i)) rest_same
+        (greater_second (bid_at u i) (plus c.bid (bid_at u (top + c.rise))) (bid_at w i) (raised i e (omega (arith, near.0)) (omega (arith, near.1))))
+
+    before_done : (k : ℕ) (d : Cell) → k < n → slice_get cells k ≡ Some d → IsNear top first stop d
+        → (i : ℕ) → i + d.steps ≡ top → IsAtMost (plus d.bid (bid_at v (top + d.rise))) (bid_at w i)
+    before_done k d lt at near i is =
+        IsAtMost-trans (plus d.bid (bid_at v (top + d.rise))) (bid_at u i) (bid_at w i) (offered.done k d lt at near i is) (more i)
+
+    -- one cell more is offered
+    pub offered_more : AreOffered cells top first stop (n + 1) v w
+    offered_more = record {
+      number = number ∙ offered.number;
+      kept = λ k. IsAtMost-trans (bid_at v k) (bid_at u k) (bid_at w k) (offered.kept k) (more k);
+      done = λ k d lt at near i is. elim (cases_lt k n) [
+        | inl before ↦ before_done k d before at near i is
+        | inr here ↦
+            let same : c ≡ d = same_Some c d (sym there ∙ ap (λ x. slice_get cells x) (let e : n ≡ k = omega arith in e) ∙ at) in
+            subst (λ x. IsNear top first stop x → i + x.steps ≡ top → IsAtMost (plus x.bid (bid_at v (top + x.rise))) (bid_at w i))
+            same (λ a b. this_done i b a) near is
+      ];
+      one = λ i. elim (which i) [
+        | inl e ↦ elim (offered.one i) [
+          | inl f ↦ inl (e ∙ f)
+          | inr o ↦ inr (o.0, o.1, o.2, o.3, o.4, e ∙ o.5)
+        ]
+        | inr g ↦ elim g.2 [
+          | inl a ↦ elim (offered.one i) [
+            | inl f ↦ inl (a.0 ∙ f)
+            | inr o ↦ inr (o.0, o.1, o.2, o.3, o.4, a.0 ∙ o.5)
+          ]
+          | inr a ↦ inr (n, c, there, g.1, g.0, a.0 ∙ ap (λ x. plus c.bid x) rest_same)
+        ]
+      ];
+    }

@@ -1,0 +1,116 @@
+-- The quote of an offer.
+use Rattle.std.proofs.Common.{◌≡◌, ℕ, ◌+◌, ◌-◌, ◌*◌, ◌/◌, ◌<◌, ◌≤◌, IfSome, List, length, slice_get, slice_index, Some, refl, sym, subst, ap, ◌∙◌, arith}
+use Rattle.std.proofs.Math.Nat.{mul-div_left}
+use Rattle.std.proofs.lemmas.Option.{same_Some, slice_get_within}
+use Rattle.buck_apt.specs.Instruction.{AssortmentParts}
+use Rattle.buck_value.specs.Sheet.{SheetParts, IsSheet}
+use Rattle.buck_value.specs.Volume.{volume, worth_at}
+use Rattle.buck_bid.specs.declared.prices.Pricing.{Pricing}
+use Rattle.buck_bid.specs.declared.offers.Offer.{Offer}
+use Rattle.buck_bid.specs.Prices.{IsPricing, HasNoPrice}
+use Rattle.buck_bid.specs.Offers.{AreOffers, IsWhole, codes_in, code_of}
+use Rattle.buck_bid.specs.Quotes.{IsPricedAt, worth_for}
+use Rattle.buck_bid.proofs.OfferLemmas.{code_at, code_index, codes_number, whole_length}
+use Rattle.buck_dp.specs.inner.Points.{point_after}
+use Rattle.buck_dp.specs.declared.pricing.Quote.{Quote}
+use Rattle.buck_dp.specs.declared.pricing.Ask.{Ask}
+use Rattle.buck_dp.specs.inner.Bid.{BidParts}
+use Rattle.buck_dp.specs.inner.Takers.{IsTaker}
+use Rattle.buck_dp.specs.inner.Cells.{IsTakersBid}
+use Rattle.buck_dp.specs.inner.Quotes.{quote_bid, IsAsked, IsQuoteOf, HasNoBid}
+use Rattle.buck_dp.proofs.BidLemmas.{same_bid}
+
+module _ (s : SheetParts) (offers : List Offer) (ask : Ask) (place : ℕ) (o : Offer) (valid : IsSheet s) (are : AreOffers s.instruction offers)
+    (at : slice_get offers place ≡ Some o) where
+  abbrev unit : ℕ
+  unit = s.instruction.«module»
+
+  pos : 0 < unit
+  pos = omega (arith, valid.valid.module_range)
+
+  -- a taker's bid of the rank of the offer is for its logs
+  pub bid_own : (steps trim d : ℕ) (bid : BidParts) → bid.rank + place ≡ 1023 → (b : IsTakersBid s (codes_in offers) ask.takers d steps trim bid)
+      → (o.length ≡ steps * unit) × (o.assortment ≡ b.a)
+  bid_own steps trim d bid rank b =
+      let here : slice_get (codes_in offers) place ≡ Some (code_of (steps * unit) b.a) =
+      subst (λ k. slice_get (codes_in offers) k ≡ Some (code_of (steps * unit) b.a)) (let e : 1023 - bid.rank ≡ place = omega arith in e) b.bids.rank.at in
+      let same : code_of o.length o.assortment ≡ code_of (steps * unit) b.a =
+      same_Some (code_of o.length o.assortment) (code_of (steps * unit) b.a) (sym (code_at offers place o at) ∙ here) in
+      let low : o.assortment < 16 = are.low place o at in
+      let low' : b.a < 16 =
+      omega (arith, slice_get_within s.instruction.assortments b.a b.assortment b.exists, valid.valid.assortments_number) in
+      (omega arith, omega arith)
+
+  -- nobody bids for its logs where its assortment isn't among the takers
+  pub no_taker : (IsTaker ask.takers o.assortment → ⊥) → HasNoBid s (codes_in offers) ask place
+  no_taker none steps trim d bid asked rank b =
+      none (subst (λ a. IsTaker ask.takers a) (sym (bid_own steps trim d bid rank b).1) b.taker)
+
+  -- nor where they have no price
+  pub no_price : HasNoPrice s.instruction o.assortment o.length ask.band.thinnest ask.band.past → HasNoBid s (codes_in offers) ask place
+  no_price none steps trim d bid asked rank b =
+      let own = bid_own steps trim d bid rank b in
+      none s d refl asked.0 asked.1
+      (subst (λ a. IsPricedAt s a o.length d) (sym own.1) (subst (λ n. IsPricedAt s b.a n d) (sym own.0) b.bids.at))
+
+  module _ (p : Pricing) (q : Quote) (taker : IsTaker ask.takers o.assortment)
+      (pricing : IsPricing s.instruction o.assortment o.length ask.band.thinnest ask.band.past p) (short : o.length ≤ 30000)
+      (kind : q.kind ≡ p.kind) (price : q.price ≡ slice_index s.prices p.class) (low : q.price ≤ 20000000) (rank : q.rank + place ≡ 1023)
+      (long : q.length ≡ o.length) (steps_is : q.steps ≡ o.length / unit)
+      (trim : IfSome (slice_get s.instruction.assortments o.assortment) (λ (x : AssortmentParts). x.trim ≡ q.trim))
+      (rise : q.rise ≡ point_after unit q.trim) where
+    whole : (o.length / unit * unit ≡ o.length) × (0 < o.length / unit)
+    whole =
+        let lt : place < length offers = slice_get_within offers place o at in
+        whole_length unit o.length o pos refl
+        (subst (IsWhole unit) (code_index offers place o at) (are.steps place 0 (omega (arith, codes_number offers)))) (are.low place o at)
+
+    steps_long : q.steps * unit ≡ o.length
+    steps_long = ap (λ n. n * unit) steps_is ∙ whole.0
+
+    trim_at : (x : AssortmentParts) → slice_get s.instruction.assortments o.assortment ≡ Some x → x.trim ≡ q.trim
+    trim_at x there = subst (λ y. IfSome y (λ (x : AssortmentParts). x.trim ≡ q.trim)) there trim
+
+    -- what a quote is worth at a diameter
+    worth_is : (d : ℕ) → IsAsked ask d → worth_for s o.assortment o.length d ≡ (quote_bid q d).worth
+    worth_is d asked =
+        pricing.worth s d refl asked.0 asked.1 ∙ same p.kind q.kind (slice_index s.prices p.class) q.price (volume d o.length) (volume d q.length)
+        (sym kind) (sym price) (ap (λ n. volume d n) (sym long))
+      where
+        same : (k k' x x' v v' : ℕ) → k ≡ k' → x ≡ x' → v ≡ v' → worth_at k x v ≡ worth_at k' x' v'
+        same k k' x x' v v' e f g = rw (e, f, g) refl
+
+    pub quote_right : IsQuoteOf s (codes_in offers) ask place q
+    quote_right = record {
+      is = record {
+        small = record { length = omega arith; price = low; rank = omega arith };
+        rise = rise;
+        bids = λ d asked.
+            let there : IsPricedAt s o.assortment o.length d = pricing.priced s d refl asked.0 asked.1 in
+            record {
+              a = o.assortment;
+              taker = taker;
+              assortment = there.assortment;
+              exists = there.exists;
+              some = omega (arith, steps_is, whole.1);
+              bids = record {
+                at = subst (λ n. IsPricedAt s o.assortment n d) (sym steps_long) there;
+                rank = record {
+                  high = omega arith;
+                  at = subst (λ k. slice_get (codes_in offers) k ≡ Some (code_of (q.steps * unit) o.assortment)) (let e : place ≡ 1023 - q.rank = omega arith in e)
+                      (code_at offers place o at ∙ ap (λ n. Some (code_of n o.assortment)) (sym steps_long));
+                };
+                worth = sym (ap (λ n. worth_for s o.assortment n d) steps_long ∙ worth_is d asked);
+              };
+              own = trim_at there.assortment there.exists;
+            };
+      };
+      only = λ steps trim d bid asked rank' b.
+          let own = bid_own steps trim d bid rank' b in
+          let worth : bid.worth ≡ (quote_bid q d).worth =
+          b.bids.worth ∙ ap (λ n. worth_for s b.a n d) (sym own.0) ∙ ap (λ a. worth_for s a o.length d) (sym own.1) ∙ worth_is d asked in (
+            steps_is ∙ ap (λ n. n / unit) own.0 ∙ mul-div_left steps pos,
+            sym (trim_at b.assortment (ap (λ a. slice_get s.instruction.assortments a) own.1 ∙ b.exists)) ∙ b.own,
+            same_bid bid (quote_bid q d) worth (omega arith),
+          );
+    }

@@ -1,0 +1,162 @@
+-- Who takes the wood of a stem.
+use Rattle.std.proofs.Common.{◌≡◌, ℕ, ◌+◌, ◌*◌, ◌/◌, ◌<◌, ◌≤◌, ◌⊎◌, inl, inr, List, Contains, length, slice_index, refl, sym, subst, ◌∙◌, arith, mul-le-mul_left, mul-le-mul_right, add-mul}
+use Rattle.std.proofs.Math.Nat.{div-mul-le_self, lt-div-mul-add}
+use Rattle.std.proofs.lemmas.Bool.{cases_lt}
+use Rattle.buck_stem.specs.Stem.{StemParts, IsStem, IsGrade, grade_at, HasGrade, HasGradesOf, stem_length, diameter_at}
+use Rattle.buck_stem.specs.Profile as grid
+use Rattle.buck_stem.specs.Profile.{IsMask, IsMaskBetween, ProfileParts, profile_of}
+use Rattle.buck_stem.proofs.Tables.{grade_at_is}
+use Rattle.buck_value.proofs.Grades.{mask_allows}
+use Rattle.buck_value.specs.Sheet.{IsSheet}
+use Rattle.buck_bid.specs.Offers.{AreCodes, codes_in}
+use Rattle.buck_dp.specs.inner.Points.{GroundParts, points_of}
+use Rattle.buck_dp.proofs.Logs.{logs_short, point_within}
+use Rattle.buck_value.specs.Allowed.{trim_of}
+use Rattle.buck_dp.specs.declared.takers.Takers.{Takers}
+use Rattle.buck_dp.specs.declared.takers.Kind.{Kind}
+use Rattle.buck_dp.specs.inner.Takers.{IsTaker, AreTakersOf}
+use Rattle.buck_dp.specs.inner.Bid.{BidParts}
+use Rattle.buck_dp.specs.inner.Logs.{IsLogAt}
+use Rattle.buck_dp.specs.inner.Parts.{HasTakers}
+use Rattle.buck_dp.specs.inner.Cells.{AreCells}
+use Rattle.buck_dp.specs.inner.Rows.{IsPart}
+use Rattle.buck_dp.specs.inner.Site.{IsSite, ground_of}
+use Rattle.buck_dp.specs.declared.planning.Site.{Site}
+use Rattle.buck_dp.specs.declared.offering.Cell.{Cell}
+use Rattle.buck_dp.specs.declared.offering.Reach.{Reach}
+use Rattle.buck_dp.proofs.PartLemmas.{packed_log, cells_part}
+
+-- a mask of a profile is one of its stem
+pub mask_of : (q : ProfileParts) (stem : StemParts) (step i j mask : ℕ) → q ≡ profile_of stem step → IsMaskBetween q i j mask
+    → IsMask stem.zones (i * step) (j * step) mask
+mask_of q stem step i j mask same is = subst (λ (r : ProfileParts). IsMask r.stem.zones (i * r.«module») (j * r.«module») mask) same is
+
+module _ (p : GroundParts) where
+  abbrev unit : ℕ
+  unit = p.sheet.instruction.«module»
+
+  -- who takes wood of a kind, takes the wood that is of it
+  pub kind_takers : (i t : ℕ) (kind : Kind) (takers : Takers) → IsStem p.stem → kind.species ≡ p.stem.species
+      → IsMask p.stem.zones (i * unit) (t * unit) kind.grades → AreTakersOf p.sheet.instruction kind takers → HasTakers p takers i t
+  kind_takers i t kind takers sound species mask are = λ a x at.
+      let both = are a x at in
+      let grades = mask_allows p.stem (i * unit) (t * unit) kind.grades x.grades sound mask in (
+        λ marked. (let w = both.0 marked in (w.0 ∙ species, grades.0 w.1)),
+        λ takes. both.1 (takes.0 ∙ sym species, grades.1 takes.1),
+      )
+
+  -- where nobody takes the wood from a start, no log starts there or before
+  pub none_before : (i k t e : ℕ) (takers : Takers) (bid : BidParts) → HasTakers p takers i t → ((a : ℕ) → IsTaker takers a → ⊥) → k ≤ i
+      → IsLogAt p k t e bid → ⊥
+  none_before i k t e takers bid has none le log =
+      let a = log.allowed in
+      let low : k * unit ≤ i * unit = mul-le-mul_right unit le in
+      let grades : HasGradesOf p.stem.zones (i * unit) (t * unit) a.assortment.grades =
+      (λ x from to. a.allows.grades x (omega (arith, log.start)) (omega (arith, log.top))) in
+      none log.log.assortment ((has log.log.assortment a.assortment a.exists).1 (a.allows.species, grades))
+
+  -- no log is longer than the longest
+  pub too_long : (most k t e : ℕ) (bid : BidParts) → IsSheet p.sheet → AreCodes p.sheet.instruction p.codes
+      → ((n : ℕ) → n < length p.codes → slice_index p.codes n / 16 ≤ most * unit) → k + most < t → IsLogAt p k t e bid → ⊥
+  too_long most k t e bid valid codes long far log =
+      let short = logs_short p most valid codes long k t e (trim_of p.sheet.instruction log.log) (bid.worth * 1024 + bid.rank)
+      (packed_log p valid k t e bid log) in
+      omega arith
+
+  module _ (sound : IsStem p.stem) (run high one : ℕ)
+      (even : (k : ℕ) → run ≤ k → k < high → IsMask p.stem.zones (k * unit) ((k + 1) * unit) one) (pos : 0 < unit) where
+    -- the grade of a place in one step of a run stands in each
+    moved : (k l x : ℕ) → run ≤ k → k < high → run ≤ l → l < high → k * unit ≤ x → x < (k + 1) * unit
+        → HasGrade p.stem.zones (l * unit) ((l + 1) * unit) (grade_at p.stem.zones x)
+    moved k l x low lt low' lt' from to =
+        let g : ℕ = grade_at p.stem.zones x in
+        let r : IsGrade g = grade_at_is p.stem x sound in
+        (even l low' lt' g r.0).0 ((even k low lt g r.0).1 (x, from, to, refl))
+
+    -- what has grades in a step of a run has them in the rest of it
+    grades_on : (l b t : ℕ) (grades : List ℕ) → run ≤ l → l < high → t ≤ high → b ≤ l
+        → HasGradesOf p.stem.zones (b * unit) ((l + 1) * unit) grades
+        → (x : ℕ) → run * unit ≤ x → x < t * unit → Contains grades (grade_at p.stem.zones x)
+    grades_on l b t grades low lt le before has x from to =
+        let k : ℕ = x / unit in
+        let below : k * unit ≤ x = div-mul-le_self x unit in
+        let above : x < k * unit + unit = lt-div-mul-add pos in
+        let first : run ≤ k = elim (cases_lt k run) [
+          | inr le ↦ le
+          | inl less ↦ absurd (let m : (k + 1) * unit ≤ run * unit = mul-le-mul_right unit (omega arith) in omega (arith, add-mul k 1 unit))
+        ] in
+        let last : k < t = elim (cases_lt k t) [
+          | inl less ↦ less
+          | inr more ↦ absurd (let m : t * unit ≤ k * unit = mul-le-mul_right unit more in omega arith)
+        ] in
+        let y = moved k l x first (omega arith) low lt below (omega (arith, add-mul k 1 unit)) in
+        let up : b * unit ≤ l * unit = mul-le-mul_right unit before in
+        subst (λ g. Contains grades g) y.3 (has y.0 (omega (arith, y.1)) y.2)
+
+    -- who takes the wood up to the first top of a run, takes it up to each top of the run
+    pub near_takers : (first i t : ℕ) (takers : Takers) → run < t → t ≤ high → first ≤ run → first ≤ i → i < t
+        → ((k : ℕ) → first ≤ k → k < run + 1 → HasTakers p takers k (run + 1)) → HasTakers p takers i t
+    near_takers first i t takers lt le low from to has = elim (cases_lt run i) [
+      | inr before ↦ λ a x at.
+          let h = has i from (omega arith) a x at in
+          let short : (run + 1) * unit ≤ t * unit = mul-le-mul_right unit (omega arith) in (
+            λ marked. (let w = h.0 marked in (
+              w.0,
+              λ y low' high'. elim (cases_lt y ((run + 1) * unit)) [
+                | inl near ↦ w.1 y low' near
+                | inr far ↦ grades_on run i t x.grades (omega arith) (omega arith) le before w.1 y (omega (arith, add-mul run 1 unit)) high'
+              ],
+            )),
+            λ takes. h.1 (takes.0, λ y low' high'. takes.1 y low' (omega arith)),
+          )
+      | inl inside ↦ λ a x at.
+          let h = has run low (omega arith) a x at in
+          let start : run * unit ≤ i * unit = mul-le-mul_right unit (omega arith) in
+          let stop : (i + 1) * unit ≤ t * unit = mul-le-mul_right unit (omega arith) in (
+            λ marked. (let w = h.0 marked in (
+              w.0,
+              λ y low' high'.
+                  grades_on run run t x.grades (omega arith) (omega arith) le (omega arith) w.1 y (omega arith) high',
+            )),
+            λ takes. h.1 (
+              takes.0,
+              λ y low' high'.
+                  grades_on i i (run + 1) x.grades (omega arith) (omega arith) (omega arith) (omega arith)
+                  (λ z low'' high''. takes.1 z low'' (omega arith)) y low' high',
+            ),
+          )
+    ]
+
+-- the diameters of a profile are those of its stem
+pub known_of : (q : ProfileParts) (stem : StemParts) (step : ℕ) (ds : List ℕ) → q ≡ profile_of stem step
+    → ((j : ℕ) → j < grid.points_of q → slice_index ds j ≡ diameter_at q.stem.samples (j * q.«module»))
+    → (j : ℕ) → j < grid.points_of (profile_of stem step) → slice_index ds j ≡ diameter_at stem.samples (j * step)
+known_of q stem step ds same known =
+    subst (λ (r : ProfileParts). (j : ℕ) → j < grid.points_of r → slice_index ds j ≡ diameter_at r.stem.samples (j * r.«module»)) same known
+
+module _ (x : Site) (is : IsSite x) where
+  -- the length of the stem reaches each of its points, and these are few
+  pub point_reached : (t : ℕ) → t < points_of (ground_of x)
+      → (t * x.market.sheet.now.instruction.«module» ≤ stem_length x.stem.now.samples) × (t ≤ 4000)
+  point_reached t lt =
+      let m : ℕ = x.market.sheet.now.instruction.«module» in
+      let le : t * m ≤ stem_length x.stem.now.samples = point_within m t (stem_length x.stem.now.samples) lt in
+      let ten : t * 10 ≤ t * m = mul-le-mul_left t (let r = is.valid.valid.module_range in omega arith) in
+      (le, omega (arith, le, ten, is.sound.samples_number))
+
+  -- cells of the takers of a part are a part
+  pub part_offered : (ds : List ℕ) (t first stop : ℕ) (takers : Takers) (reach : Reach) (cells : List Cell)
+      → ((j : ℕ) → j < points_of (ground_of x) → slice_index ds j ≡ diameter_at x.stem.now.samples (j * x.market.sheet.now.instruction.«module»))
+      → reach.past + stop ≤ t → t ≤ reach.far + first
+      → ((i : ℕ) → first ≤ i → i < stop → HasTakers (ground_of x) takers i t)
+      → t * x.market.sheet.now.instruction.«module» + reach.room ≤ stem_length x.stem.now.samples
+      → (reach.room ≡ x.market.menu.now.most_trim) ⊎ (stem_length x.stem.now.samples ≤ t * x.market.sheet.now.instruction.«module» + reach.room)
+      → AreCells x.market.sheet.now (codes_in x.market.menu.now.offers.items) takers (slice_index ds t) reach cells
+      → IsPart (ground_of x) t first stop cells
+  part_offered ds t first stop takers reach cells known past far here fits room are =
+      cells_part (ground_of x) is.valid ds known t first stop takers reach cells past far here fits
+      (λ a y at le. elim room [
+        | inl most ↦ omega (arith, most, is.menu.trims a y at)
+        | inr left ↦ omega arith
+      ])
+      are

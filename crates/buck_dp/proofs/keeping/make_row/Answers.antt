@@ -1,0 +1,35 @@
+use Rattle.std.proofs.Common.{ℕ, List, length, sym, subst, ap, ◌∙◌}
+use Rattle.buck_bid.specs.Offers.{codes_in}
+use Rattle.buck_dp.specs.declared.index.Key.{Key}
+use Rattle.buck_dp.specs.declared.offering.Cell.{Cell}
+use Rattle.buck_dp.specs.declared.offering.Reach.{Reach}
+use Rattle.buck_dp.specs.declared.takers.Takers.{Takers}
+use Rattle.buck_dp.specs.inner.Cells.{AreCells}
+use Rattle.buck_dp.specs.inner.Kept.{all_of, IsRowAt}
+use Rattle.buck_dp.proofs.KeptLemmas.{row_new, all_same}
+use Rattle.buck_dp.proofs.QuoteLemmas.{row_cells, rank_offered}
+use Rattle.buck_dp.proofs.keeping.make_row.Goals as goal
+
+pub put_row-requires-clause-small : goal.put_row-requires-clause-small
+put_row-requires-clause-small c k q at = (c.requires.list.3.real k q at).small
+
+pub returns-clause-row : goal.returns-clause-row
+returns-clause-row c =
+    let s = c.args.market.sheet.now in
+    let m = c.args.market.menu.now in
+    let l = c.requires.list in
+    let d : ℕ = c.args.diameter in
+    let key : Key = record { takers = c.args.group.takers; at = d } in
+    let old : List Cell = c.args.cells.now.items in
+    let row = c.in_ok-put_row.ensures.row in
+    let cells : AreCells s (codes_in m.offers.items) c.args.group.takers d (all_of m) row.0 =
+    subst (λ (r : Reach). AreCells s (codes_in m.offers.items) c.args.group.takers d r row.0)
+    (all_same m c.all_logs.result c.all_logs.ensures.past c.all_logs.ensures.far c.all_logs.ensures.room)
+    (subst (λ (t : Takers). AreCells s (codes_in m.offers.items) t d c.all_logs.result row.0) l.1
+    (row_cells s (codes_in m.offers.items) l.0 (length m.offers.items) d c.all_logs.result c.args.list.now row.0 c.requires.valid l.2
+    (λ steps trim bid b. rank_offered s m.offers.items l.0.takers d steps trim bid b) l.3 row.2)) in
+    let from : ℕ = length c.as_slice-from.result.now in
+    let past : ℕ = length c.as_slice.result.now in
+    subst (λ (xs : List Cell). IsRowAt s m xs key (record { from = from; past = past })) (sym row.1)
+    (row_new s m old row.0 key from past (ap (λ (xs : List Cell). length xs) c.as_slice-from.ensures.value)
+    (ap (λ (xs : List Cell). length xs) (c.as_slice.ensures.value ∙ row.1)) cells)

@@ -1,0 +1,32 @@
+use Rattle.std.proofs.Common.{◌≡◌, ◌<◌, List, length, slice_get, Some, inl, inr, sym, ◌∙◌, ap, arith}
+use Rattle.std.proofs.lemmas.Bool.{cases_lt}
+use Rattle.std.proofs.lemmas.Option.{same_Some, slice_get_within}
+use Rattle.buck_apt.specs.Instruction.{AssortmentParts}
+use Rattle.buck_value.proofs.Stands.{stands}
+use Rattle.buck_dp.proofs.planner.is_wanted.Goals as goal
+
+pub loop-assortment-preserved : goal.loop-assortment-preserved
+loop-assortment-preserved c = λ k x lt at same. elim (cases_lt k c.loop-assortment.assortment-index) [
+  | inl before ↦ c.loop-assortment.invariant k x before at same
+  | inr past ↦
+      let i = c.args.sheet.now.instruction in
+      let y : AssortmentParts = c.assortment-item.result in
+      let here : k ≡ c.loop-assortment.assortment-index = omega arith in
+      let all : c.assortments-assortment-items.result.now ≡ i.assortments = cc in
+      let within : c.loop-assortment.assortment-index < length i.assortments =
+      omega (arith, c.loop-assortment-test.true, ap (λ (xs : List AssortmentParts). length xs) all) in
+      let there : slice_get i.assortments c.loop-assortment.assortment-index ≡ Some y =
+      stands i c.loop-assortment.assortment-index y c.assortments-assortment-items.result.now all within c.assortment-item.is in
+      let e : y ≡ x = same_Some y x (sym there ∙ ap (slice_get i.assortments) (sym here) ∙ at) in
+      c.if-species.false (c.species.ensures ∙ ap (λ (z : AssortmentParts). z.species) e ∙ same ∙ sym c.species-species.ensures)
+]
+
+pub returns-clause-wanted : goal.returns-clause-wanted
+returns-clause-wanted c =
+    let i = c.args.sheet.now.instruction in
+    let all : c.assortments-assortment-items.result.now ≡ i.assortments = cc in
+    inr (λ g a.
+    let within : g.assortment < length i.assortments = slice_get_within i.assortments g.assortment a.assortment a.exists in
+    c.loop-assortment.invariant g.assortment a.assortment
+    (omega (arith, within, c.loop-assortment-test.false, ap (λ (xs : List AssortmentParts). length xs) all))
+    a.exists a.allows.species)

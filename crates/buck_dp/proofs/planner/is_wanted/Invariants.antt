@@ -1,0 +1,7 @@
+use Rattle.std.proofs.Common.{◌≡◌, ◌≢◌, ℕ, ◌<◌, slice_get, Some}
+use Rattle.buck_apt.specs.Instruction.{AssortmentParts}
+use Rattle.buck_dp.proofs.planner.is_wanted.Given as goal
+
+abbrev pub invariant-loop-assortment : goal.invariant-loop-assortment
+invariant-loop-assortment l = (k : ℕ) (x : AssortmentParts) → k < l.assortment-index
+    → slice_get l.sheet.instruction.assortments k ≡ Some x → x.species ≢ l.stem.species

@@ -1,0 +1,22 @@
+use Rattle.std.proofs.Common.{◌-◌, ◌+◌, ℕ, arith}
+use Rattle.buck_dp.specs.inner.Site.{ground_of}
+use Rattle.buck_dp.proofs.SiteLemmas.{mask_of, near_takers}
+use Rattle.buck_dp.proofs.planning.search_run.Goals as goal
+
+pub offer_top-requires-clause-takers : goal.offer_top-requires-clause-takers
+offer_top-requires-clause-takers c i low high =
+    let x = c.args.site in
+    let unit : ℕ = x.market.sheet.now.instruction.«module» in
+    let run : ℕ = c.run_start-run.result in
+    let even = c.run_start-run.ensures.even in
+    let t : ℕ = c.settle_top.new.self.from in
+    let near = c.in_ok-near.ensures in
+    let order = c.requires.from in
+    let now = c.loop-alloc.invariant in
+    near_takers (ground_of x) c.requires.site.sound run (c.args.search.now.from - 1) even.0
+    (λ k from to. mask_of x.profile.now x.stem.now unit k (k + 1) even.0 c.requires.site.profile
+    (even.1 k from (omega (arith, to, order, c.from.ensures.value))))
+    (omega (arith, c.requires.site.valid.valid.module_range))
+    c.in_ok-near.near.first i t c.in_ok-near.near.group.takers
+    (omega (arith, c.settle_top.ensures.from, c.loop-alloc-test.true, c.from-in-loop-alloc.ensures.value))
+    (omega (arith, c.settle_top.ensures.from, now.high)) (omega (arith, near.first)) low high near.takers

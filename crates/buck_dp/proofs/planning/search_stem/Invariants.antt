@@ -1,0 +1,16 @@
+use Rattle.std.proofs.Common.{◌≡◌, ◌<◌, ◌≤◌}
+use Rattle.buck_dp.specs.inner.Points.{points_of}
+use Rattle.buck_dp.specs.inner.Site.{IsMemoFor, ground_of}
+use Rattle.buck_dp.proofs.planning.search_stem.Given as goal
+
+abbrev pub invariant-loop-alloc : goal.invariant-loop-alloc
+invariant-loop-alloc l = record {
+  memo : IsMemoFor l.site l.memo;
+  ground : l.search.ground ≡ ground_of l.site;
+  low : 0 < l.search.from;
+  high : l.search.from ≤ points_of (ground_of l.site);
+  stop : l.search.stop ≡ 0;
+}
+
+abbrev pub decreases-loop-alloc : goal.decreases-loop-alloc
+decreases-loop-alloc l = l.search.from

@@ -1,0 +1,33 @@
+-- Rows that are drawn from price lists at one diameter.
+use Rattle.std.specs.Prelude.{◌≡◌, ℕ, ◌<◌, ◌≤◌, List, slice_get, Some}
+use Rattle.buck_dp.specs.declared.offering.Cell.{Cell}
+use Rattle.buck_dp.specs.declared.offering.Reach.{Reach}
+use Rattle.buck_dp.specs.declared.pricing.Quote.{Quote}
+use Rattle.buck_dp.specs.inner.Quotes.{quote_bid}
+use Rattle.buck_dp.specs.inner.Cells.{IsMet}
+
+-- a quote is for logs within reach
+abbrev pub IsWithin : Reach → Quote → Type 0
+IsWithin reach q = (reach.past < q.steps) × (q.steps ≤ reach.far) × (q.trim ≤ reach.room)
+
+-- the cell of a quote at a diameter
+abbrev pub cell_of : Quote → ℕ → Cell
+cell_of q d = record { bid = quote_bid q d; steps = q.steps; rise = q.rise }
+
+-- a cell bids more worth for logs that are no longer, and leaves no less
+abbrev pub IsCutOff : Cell → Cell → Type 0
+IsCutOff other cell = (other.steps ≤ cell.steps) × (other.rise ≤ cell.rise) × (cell.bid.worth < other.bid.worth)
+
+-- a cell is that of a quote
+pub record IsCellOf (quotes : List Quote) (d : ℕ) (reach : Reach) (c : Cell) : Type 0 where
+  pub place : ℕ
+  pub quote : Quote
+  pub there : slice_get quotes place ≡ Some quote
+  pub within : IsWithin reach quote
+  pub is : c ≡ cell_of quote d
+
+-- the cells of the first n quotes
+pub record IsDrawn (quotes : List Quote) (d : ℕ) (reach : Reach) (n : ℕ) (row : List Cell) : Type 0 where
+  pub real : (k : ℕ) (c : Cell) → slice_get row k ≡ Some c → IsCellOf quotes d reach c
+  pub met : (k : ℕ) (q : Quote) → k < n → slice_get quotes k ≡ Some q → IsWithin reach q
+      → IsMet row q.steps q.rise (quote_bid q d)

@@ -1,0 +1,42 @@
+-- The price lists and the rows of a sheet that are kept.
+use Rattle.std.specs.Prelude.{◌≡◌, ℕ, ◌+◌, List, length, slice_get, slice_index, Some}
+use Rattle.buck_value.specs.Sheet.{SheetParts}
+use Rattle.buck_bid.specs.Offers.{codes_in}
+use Rattle.buck_dp.specs.declared.index.Key.{Key}
+use Rattle.buck_dp.specs.declared.index.Place.{Place}
+use Rattle.buck_dp.specs.declared.index.Head.{Head}
+use Rattle.buck_dp.specs.declared.keeping.Kept.{Kept}
+use Rattle.buck_dp.specs.declared.menu.Menu.{Menu}
+use Rattle.buck_dp.specs.declared.offering.Cell.{Cell}
+use Rattle.buck_dp.specs.declared.offering.Reach.{Reach}
+use Rattle.buck_dp.specs.declared.pricing.Ask.{Ask}
+use Rattle.buck_dp.specs.declared.pricing.Quote.{Quote}
+use Rattle.buck_dp.specs.inner.Cells.{AreCells}
+use Rattle.buck_dp.specs.inner.Index.{IsPlaceIn, part_of}
+use Rattle.buck_dp.specs.inner.Quotes.{AreQuotes}
+
+-- what is asked for by a key: the band at its place
+abbrev pub ask_of : Menu → Key → Ask
+ask_of m key = record {
+  takers = key.takers;
+  band = record { thinnest = slice_index m.limits.items key.at; past = slice_index m.limits.items (key.at + 1) };
+}
+
+-- logs of each length and trim
+abbrev pub all_of : Menu → Reach
+all_of m = record { past = 0; far = 5000; room = m.most_trim }
+
+-- the price list of a key stands at a place
+pub record IsListAt (s : SheetParts) (m : Menu) (quotes : List Quote) (key : Key) (place : Place) : Type 0 where
+  pub within : IsPlaceIn quotes place
+  pub right : AreQuotes s (codes_in m.offers.items) (ask_of m key) (length m.offers.items) (part_of quotes place)
+
+-- the row of a key stands at a place
+pub record IsRowAt (s : SheetParts) (m : Menu) (cells : List Cell) (key : Key) (place : Place) : Type 0 where
+  pub within : IsPlaceIn cells place
+  pub right : AreCells s (codes_in m.offers.items) key.takers key.at (all_of m) (part_of cells place)
+
+-- each list and each row that is kept is right
+pub record AreKept (s : SheetParts) (m : Menu) (k : Kept) : Type 0 where
+  pub lists : (n : ℕ) (h : Head) → slice_get k.lists n ≡ Some h → IsListAt s m k.quotes.items h.key h.place
+  pub rows : (n : ℕ) (h : Head) → slice_get k.rows n ≡ Some h → IsRowAt s m k.cells.items h.key h.place

@@ -1,0 +1,30 @@
+-- The logs of a stem at its points, and what they bid.
+use Rattle.std.specs.Prelude.{◌≡◌, ℕ, ◌+◌, ◌*◌, ◌<◌, ◌≤◌, List, get_or}
+use Rattle.buck_value.specs.declared.log.Log.{Log}
+use Rattle.buck_value.specs.Allowed.{IsAllowed, worth_of, top_of, end_of}
+use Rattle.buck_bid.specs.Offers.{HasMark}
+use Rattle.buck_dp.specs.inner.Points.{GroundParts, points_of, ends_of, point_after}
+use Rattle.buck_dp.specs.inner.Bid.{BidParts, none}
+
+-- an allowed log from point i bids so much; its length ends at point j, and e is the first point after it
+pub record IsLogAt (p : GroundParts) (i j e : ℕ) (bid : BidParts) : Type 0 where
+  pub log : Log
+  pub start : log.start ≡ i * p.sheet.instruction.«module»
+  pub top : top_of log ≡ j * p.sheet.instruction.«module»
+  pub ends : point_after p.sheet.instruction.«module» (end_of p.sheet.instruction log) ≡ e
+  pub allowed : IsAllowed p.sheet.instruction p.stem log
+  pub rank : HasMark p.codes log bid.rank
+  pub worth : bid.worth ≡ worth_of p.sheet p.stem log
+  pub later : i < j
+  pub order : j ≤ e
+  pub within : j < points_of p
+  pub last : e < ends_of p
+
+-- the bid at a place of a list
+abbrev pub bid_at : List BidParts → ℕ → BidParts
+bid_at bids k = get_or bids k none
+
+-- from point k on there is no more worth than 70,000,000,000 for each millimetre
+abbrev pub IsLow : GroundParts → ℕ → ℕ → Type 0
+IsLow p k worth = worth + 70000000000 * (k * p.sheet.instruction.«module»)
+    ≤ 70000000000 * (ends_of p * p.sheet.instruction.«module»)

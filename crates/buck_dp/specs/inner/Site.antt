@@ -1,0 +1,38 @@
+-- A stem at its points, under a sheet, and what is kept of that.
+use Rattle.std.specs.Prelude.{◌≡◌}
+use Rattle.buck_stem.specs.Stem.{IsStem}
+use Rattle.buck_stem.specs.Profile.{profile_of}
+use Rattle.buck_value.specs.Sheet.{SheetParts, IsSheet}
+use Rattle.buck_bid.specs.Offers.{codes_in}
+use Rattle.buck_dp.specs.inner.Points.{GroundParts, ground_with}
+use Rattle.buck_dp.specs.declared.planning.Site.{Site}
+use Rattle.buck_dp.specs.declared.planning.Memo.{Memo}
+use Rattle.buck_dp.specs.declared.menu.Menu.{Menu}
+use Rattle.buck_dp.specs.inner.Menu.{IsMenu}
+use Rattle.buck_dp.specs.inner.Takers.{AreKnown}
+use Rattle.buck_dp.specs.inner.Kept.{AreKept}
+
+-- the stem under the sheet, with the codes of what is offered
+abbrev pub ground_of : Site → GroundParts
+ground_of x = ground_with x.market.sheet.now x.stem.now (codes_in x.market.menu.now.offers.items)
+
+-- the profile is the stem's, and the menu the instruction's
+pub record IsSite (x : Site) : Type 0 where
+  pub valid : IsSheet x.market.sheet.now
+  pub sound : IsStem x.stem.now
+  pub menu : IsMenu x.market.sheet.now.instruction x.market.menu.now
+  pub profile : x.profile.now ≡ profile_of x.stem.now x.market.sheet.now.instruction.«module»
+
+-- what is kept is right under a sheet
+pub record IsMemo (s : SheetParts) (menu : Menu) (m : Memo) : Type 0 where
+  pub kinds : AreKnown s.instruction m.kinds
+  pub kept : AreKept s menu m.kept
+
+-- so under the sheet of a stem
+abbrev pub IsMemoFor : Site → Memo → Type 0
+IsMemoFor x m = IsMemo x.market.sheet.now x.market.menu.now m
+
+-- what a planner keeps is right under its sheet
+pub record IsReady (s : SheetParts) (menu : Menu) (m : Memo) : Type 0 where
+  pub offers : IsMenu s.instruction menu
+  pub right : IsMemo s menu m

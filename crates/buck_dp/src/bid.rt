@@ -1,0 +1,90 @@
+//! Bids.
+ghost use Rattle.std.specs.Prelude.{◌≡◌, ◌+◌, ◌<◌, ◌≤◌};
+ghost use Rattle.buck_dp.specs.inner.Bid.{bid_of, none, most_worth, ranks, IsGreater};
+
+use std::marker::Model;
+
+/// So many ranks there are. A rank stands in the last digits of a bid's number, which hold so many values.
+const RANKS: u64 = 1024;
+
+/// What a log brings: its worth in millionths of the price unit, and its rank among the logs that start where it does,
+/// which settles ties. One number holds both, so that one comparison settles the worth and then the rank.
+#[derive(Clone, Copy, Debug)]
+pub struct Bid {
+    key: u64,
+}
+
+impl Model for Bid {
+    ghost use Rattle.std.specs.Prelude.{◌+◌, ◌*◌, ◌/◌, ◌%◌};
+    ghost use Rattle.buck_dp.specs.inner.Bid.{BidParts, bid_of, ranks};
+
+    ghost Value = { BidParts };
+
+    ghost view = { λ b. bid_of (b.key / ranks) (b.key % ranks) };
+
+    ghost inverse = { λ b. record { key = b.worth * ranks + b.rank } };
+}
+
+impl Bid {
+    /// The bid of no log: it is worth nothing, and any log's rank is higher.
+    pub fn none() -> Bid
+        ensures { result ≡ none }
+    {
+        Bid { key: 0 }
+    }
+
+    /// The bid of a worth and a rank.
+    pub fn of(worth: u64, rank: u32) -> Bid
+        requires worth { worth ≤ most_worth }
+        requires rank { rank < ranks }
+        ensures { result ≡ bid_of worth rank }
+    {
+        Bid {
+            key: worth * RANKS + u64::from(rank),
+        }
+    }
+
+    /// The worth in millionths of the price unit.
+    pub fn worth(self) -> u64
+        ensures { result ≡ self.worth }
+    {
+        self.key / RANKS
+    }
+
+    /// The rank.
+    pub fn rank(self) -> u32
+        ensures rank { result ≡ self.rank }
+        ensures low { result < ranks }
+    {
+        (self.key % RANKS) as u32
+    }
+
+    /// The same worth without the rank.
+    pub fn without_rank(self) -> Bid
+        ensures { result ≡ bid_of self.worth 0 }
+    {
+        Bid {
+            key: self.key - self.key % RANKS,
+        }
+    }
+
+    /// The bid with what follows the log, which has no rank.
+    pub fn plus(self, rest: Bid) -> Bid
+        requires rest { rest.rank ≡ 0 }
+        requires low { self.worth + rest.worth ≤ most_worth }
+        ensures { result ≡ bid_of (self.worth + rest.worth) self.rank }
+    {
+        Bid {
+            key: self.key + rest.key,
+        }
+    }
+
+    /// The greater of two: the one of more worth, or of as much and the higher rank.
+    pub fn max(self, other: Bid) -> Bid
+        ensures { IsGreater self other result }
+    {
+        Bid {
+            key: self.key.max(other.key),
+        }
+    }
+}

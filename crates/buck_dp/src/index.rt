@@ -1,0 +1,99 @@
+//! Where lists and rows stand that are kept.
+ghost use Rattle.std.specs.Prelude.{◌≡◌, ℕ, ◌≤◌, ◌++◌, ◌∷◌, [], IfSome, OnOk, IfErr, slice_get, Some};
+ghost use Rattle.buck_dp.specs.declared.index.Head.{Head};
+ghost use Rattle.buck_dp.specs.inner.Index.{IsKeptAt};
+
+use crate::takers::Takers;
+use std::alloc::{AllocError, Global};
+use std::marker::Model;
+
+/// Whose something is: of some takers, at a diameter or in a band.
+#[derive(Clone, Copy, Debug, PartialEq, Eq)]
+pub struct Key {
+    pub takers: Takers,
+    pub at: usize,
+}
+
+/// From where on something stands in a list, and before where.
+#[derive(Clone, Copy, Debug)]
+pub struct Place {
+    pub from: usize,
+    pub past: usize,
+}
+
+/// What stands at a place, and whose it is.
+#[derive(Clone, Copy, Debug)]
+pub struct Head {
+    pub key: Key,
+    pub place: Place,
+}
+
+/// What is kept, and where. Each head tells whose its place is, so the notes of where a head was put are only hints: they
+/// need not be dropped with the heads.
+#[derive(Drop)]
+pub struct Index {
+    heads: Vec<Head>,
+    notes: Vec<usize>,
+}
+
+impl Model for Index {
+    ghost use Rattle.std.specs.Prelude.{List};
+    ghost use Rattle.buck_dp.specs.declared.index.Head.{Head};
+
+    ghost Value = { List Head };
+
+    ghost view = { λ i. i.heads.items };
+}
+
+impl Index {
+    /// Nothing.
+    pub fn new(alloc: Global) -> Index
+        ensures { result ≡ [] }
+    {
+        Index {
+            heads: Vec::new(alloc),
+            notes: Vec::new(alloc),
+        }
+    }
+
+    /// Where something stands that was noted at a slot.
+    #[inline(always)]
+    pub fn find(&self, key: Key, slot: usize) -> Option<Place>
+        ensures { IfSome result (IsKeptAt self.now key) }
+    {
+        if slot >= self.notes.len() {
+            return None;
+        }
+        let note = self.notes[slot];
+        if note >= self.heads.len() {
+            return None;
+        }
+        let head = self.heads[note];
+        if head.key != key {
+            return None;
+        }
+        Some(head.place)
+    }
+
+    /// Keeps one more, noted at a slot.
+    pub fn keep(&mut self, head: Head, slot: usize) -> Result<(), AllocError>
+        requires slot { slot ≤ 1000000000 }
+        ensures kept { OnOk result (self.new ≡ self.old ++ head ∷ []) }
+        ensures left { IfErr result (λ _. self.new ≡ self.old) }
+    {
+        if slot >= self.notes.len() {
+            self.notes.resize(slot + 1, 0)?;
+        }
+        let note = self.heads.len();
+        self.heads.push(head)?;
+        self.notes[slot] = note;
+        Ok(())
+    }
+
+    /// Drops all.
+    pub fn clear(&mut self)
+        ensures { self.new ≡ [] }
+    {
+        self.heads.clear();
+    }
+}

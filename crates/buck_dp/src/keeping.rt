@@ -1,0 +1,275 @@
+//! What is kept of a sheet from stem to stem: price lists, and rows drawn from them.
+ghost use Rattle.std.specs.Prelude.{◌≡◌, ℕ, ◌+◌, ◌<◌, ◌≤◌, ◌⊎◌, ◌++◌, [], List, IfOk, OnOk, length, slice_index};
+ghost use Rattle.buck_value.specs.Sheet.{SheetParts, IsSheet};
+ghost use Rattle.buck_bid.specs.Offers.{codes_in};
+ghost use Rattle.buck_dp.specs.inner.Menu.{IsMenu};
+ghost use Rattle.buck_dp.specs.inner.Cells.{AreCells};
+ghost use Rattle.buck_dp.specs.inner.Index.{IsPlaceIn, part_of};
+ghost use Rattle.buck_dp.specs.inner.Kept.{AreKept, IsListAt, IsRowAt};
+ghost use Rattle.buck_dp.specs.inner.Quotes.{AreQuotes, IsAsked};
+ghost use Rattle.buck_dp.specs.declared.menu.Menu.{Menu};
+ghost use Rattle.buck_dp.specs.declared.pricing.Ask.{Ask};
+ghost use Rattle.buck_dp.specs.declared.pricing.Quote.{Quote};
+ghost use Rattle.buck_dp.specs.declared.offering.Cell.{Cell};
+
+use crate::index::{Head, Index, Key, Place};
+use crate::kinds::Group;
+use crate::menu::Menu;
+use crate::offering::{Cell, Reach};
+use crate::pricing::{Ask, Quote, price_list};
+use crate::rowing::put_row;
+use buck_record::Memory;
+use buck_value::Sheet;
+use std::alloc::Global;
+
+/// So many quotes are kept at most, and then all are dropped: 1 MB.
+const QUOTES: usize = 32_768;
+
+/// So many cells are kept at most, and then all are dropped: 1 MB.
+const CELLS: usize = 65_536;
+
+/// So many diameters there are, from 0 to 1,500 mm.
+const DIAMETERS: usize = 1_501;
+
+/// So many places of bands are noted apart for each set of takers.
+const BANDS: usize = 512;
+
+/// Logs of each length and trim.
+#[inline(always)]
+pub(crate) fn all_logs(menu: &Menu) -> Reach
+    ensures past { result.past ≡ 0 }
+    ensures far { result.far ≡ 5000 }
+    ensures room { result.room ≡ menu.now.most_trim }
+{
+    Reach {
+        past: 0,
+        far: 5_000,
+        room: menu.most_trim,
+    }
+}
+
+/// A diameter of a stem, and the logs that are meant there.
+#[derive(Clone, Copy)]
+pub struct Spot {
+    pub diameter: u32,
+    pub reach: Reach,
+}
+
+/// A sheet, and what its instruction offers.
+#[derive(Clone, Copy)]
+pub struct Market<'a> {
+    pub sheet: &'a Sheet,
+    pub menu: &'a Menu,
+}
+
+/// The price lists and the rows of a sheet, as far as they were asked for.
+#[derive(Drop)]
+pub struct Kept {
+    quotes: Vec<Quote>,
+    lists: Index,
+    cells: Vec<Cell>,
+    rows: Index,
+}
+
+/// Drops all lists where there is no room for one more.
+fn make_room_for_list(quotes: &mut Vec<Quote>, lists: &mut Index)
+    ensures { ((quotes.new.items ≡ quotes.old.items) × (lists.new ≡ lists.old)) ⊎ (lists.new ≡ []) }
+{
+    if quotes.len() + 512 > QUOTES {
+        quotes.clear();
+        lists.clear();
+    }
+}
+
+/// Drops all rows where there is no room for one more.
+fn make_room_for_row(cells: &mut Vec<Cell>, rows: &mut Index)
+    ensures { ((cells.new.items ≡ cells.old.items) × (rows.new ≡ rows.old)) ⊎ (rows.new ≡ []) }
+{
+    if cells.len() + 512 > CELLS {
+        cells.clear();
+        rows.clear();
+    }
+}
+
+/// Makes the price list of a group in a band.
+fn make_list(
+    alloc: Global,
+    quotes: &mut Vec<Quote>,
+    market: Market<'_>,
+    group: Group,
+    band: usize,
+) -> Result<Place, Memory>
+    requires menu { IsMenu market.sheet.now.instruction market.menu.now }
+    requires band { band + 1 < length market.menu.now.limits.items }
+    requires high { slice_index market.menu.now.limits.items (band + 1) ≤ 1504 }
+    ensures kept { (more : List Quote) × (quotes.new.items ≡ quotes.old.items ++ more) }
+    ensures list { IfOk result (IsListAt market.entry.sheet.now market.entry.menu.now quotes.new.items
+        (record { takers = group.takers; at = band })) }
+{
+    let ask = Ask {
+        takers: group.takers,
+        band: market.menu.band_at(band),
+    };
+    let list = price_list(alloc, market.sheet, market.menu.offers.as_slice(), ask)?;
+    let from = quotes.as_slice().len();
+    quotes.extend_from_slice(list.as_slice())?;
+    Ok(Place {
+        from,
+        past: quotes.as_slice().len(),
+    })
+}
+
+/// Draws the row of a group at a diameter from its price list.
+fn make_row(
+    cells: &mut Vec<Cell>,
+    list: &[Quote],
+    market: Market<'_>,
+    group: Group,
+    diameter: u32,
+) -> Result<Place, Memory>
+    requires valid { IsSheet market.sheet.now }
+    requires menu { IsMenu market.sheet.now.instruction market.menu.now }
+    requires diameter { diameter ≤ 1500 }
+    requires list { (ask : Ask) × (ask.takers ≡ group.takers) × IsAsked ask diameter
+        × AreQuotes market.sheet.now (codes_in market.menu.now.offers.items) ask (length market.menu.now.offers.items) list.now }
+    ensures kept { (more : List Cell) × (cells.new.items ≡ cells.old.items ++ more) }
+    ensures row { IfOk result (IsRowAt market.entry.sheet.now market.entry.menu.now cells.new.items
+        (record { takers = group.takers; at = diameter })) }
+{
+    let from = cells.as_slice().len();
+    put_row(cells, list, diameter, all_logs(market.menu))?;
+    Ok(Place {
+        from,
+        past: cells.as_slice().len(),
+    })
+}
+
+impl Kept {
+    /// Nothing.
+    pub fn new(alloc: Global) -> Kept
+        ensures { (s : SheetParts) (m : Menu) → AreKept s m result }
+    {
+        Kept {
+            quotes: Vec::new(alloc),
+            lists: Index::new(alloc),
+            cells: Vec::new(alloc),
+            rows: Index::new(alloc),
+        }
+    }
+
+    /// Drops all.
+    pub fn clear(&mut self)
+        ensures { (s : SheetParts) (m : Menu) → AreKept s m self.new }
+    {
+        self.quotes.clear();
+        self.lists.clear();
+        self.cells.clear();
+        self.rows.clear();
+    }
+
+    /// Where the price list of a group in a band stands. It is made where it isn't there.
+    fn list(
+        &mut self,
+        alloc: Global,
+        market: Market<'_>,
+        group: Group,
+        band: usize,
+    ) -> Result<Place, Memory>
+        requires menu { IsMenu market.sheet.now.instruction market.menu.now }
+        requires band { band + 1 < length market.menu.now.limits.items }
+        requires high { slice_index market.menu.now.limits.items (band + 1) ≤ 1504 }
+        requires kept { AreKept market.sheet.now market.menu.now self.old }
+        ensures kept { AreKept market.entry.sheet.now market.entry.menu.now self.new }
+        ensures list { IfOk result (IsListAt market.entry.sheet.now market.entry.menu.now self.new.quotes.items
+            (record { takers = group.takers; at = band })) }
+    {
+        let key = Key {
+            takers: group.takers,
+            at: band,
+        };
+        let slot = usize::from(group.number) * BANDS + band % BANDS;
+        if let Some(place) = self.lists.find(key, slot) {
+            return Ok(place);
+        }
+        make_room_for_list(&mut self.quotes, &mut self.lists);
+        let place = make_list(alloc, &mut self.quotes, market, group, band)?;
+        self.lists.keep(Head { key, place }, slot)?;
+        Ok(place)
+    }
+
+    /// Where the row of a group at a diameter stands. It is drawn where it isn't there.
+    pub fn row(
+        &mut self,
+        alloc: Global,
+        market: Market<'_>,
+        group: Group,
+        diameter: u32,
+    ) -> Result<Place, Memory>
+        requires valid { IsSheet market.sheet.now }
+        requires menu { IsMenu market.sheet.now.instruction market.menu.now }
+        requires diameter { diameter ≤ 1500 }
+        requires kept { AreKept market.sheet.now market.menu.now self.old }
+        ensures kept { AreKept market.entry.sheet.now market.entry.menu.now self.new }
+        ensures row { IfOk result (IsRowAt market.entry.sheet.now market.entry.menu.now self.new.cells.items
+            (record { takers = group.takers; at = diameter })) }
+    {
+        let key = Key {
+            takers: group.takers,
+            at: diameter as usize,
+        };
+        let slot = usize::from(group.number) * DIAMETERS + diameter as usize;
+        if let Some(place) = self.rows.find(key, slot) {
+            return Ok(place);
+        }
+        let band = market.menu.band_of(diameter);
+        let list = self.list(alloc, market, group, band)?;
+        make_room_for_row(&mut self.cells, &mut self.rows);
+        let place = make_row(
+            &mut self.cells,
+            &self.quotes[list.from..list.past],
+            market,
+            group,
+            diameter,
+        )?;
+        self.rows.keep(Head { key, place }, slot)?;
+        Ok(place)
+    }
+
+    /// Draws a row of a group at a diameter in the place of another, for the logs within reach. It isn't kept.
+    pub fn draw(
+        &mut self,
+        alloc: Global,
+        spare: &mut Vec<Cell>,
+        market: Market<'_>,
+        group: Group,
+        place: Spot,
+    ) -> Result<(), Memory>
+        requires valid { IsSheet market.sheet.now }
+        requires menu { IsMenu market.sheet.now.instruction market.menu.now }
+        requires diameter { place.diameter ≤ 1500 }
+        requires kept { AreKept market.sheet.now market.menu.now self.old }
+        ensures kept { AreKept market.entry.sheet.now market.entry.menu.now self.new }
+        ensures row { OnOk result (AreCells market.entry.sheet.now (codes_in market.entry.menu.now.offers.items) group.takers
+            place.diameter place.reach spare.new.items) }
+    {
+        let band = market.menu.band_of(place.diameter);
+        let list = self.list(alloc, market, group, band)?;
+        spare.clear();
+        put_row(
+            spare,
+            &self.quotes[list.from..list.past],
+            place.diameter,
+            place.reach,
+        )?;
+        Ok(())
+    }
+
+    /// The cells at a place.
+    #[inline(always)]
+    pub fn cells(&self, place: Place) -> &[Cell]
+        requires { IsPlaceIn self.now.cells.items place }
+        ensures { result.now ≡ part_of self.now.cells.items place }
+    {
+        &self.cells[place.from..place.past]
+    }
+}

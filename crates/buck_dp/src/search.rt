@@ -1,0 +1,203 @@
+//! The search for the best cutting of a stem, from the top end down.
+ghost use Rattle.std.specs.Prelude.{◌≡◌, ℕ, ◌+◌, ◌-◌, ◌*◌, ◌/◌, ◌<◌, ◌≤◌, IfOk, OnOk, List, [], length, get_or};
+ghost use Rattle.buck_stem.specs.Stem.{IsStem};
+ghost use Rattle.buck_value.specs.Sheet.{IsSheet};
+ghost use Rattle.buck_bid.specs.Offers.{codes_in};
+ghost use Rattle.buck_dp.specs.inner.Points.{GroundParts, points_of, ground_with};
+ghost use Rattle.buck_dp.specs.inner.Bid.{BidParts, none};
+ghost use Rattle.buck_dp.specs.inner.Logs.{IsLogAt, bid_at};
+ghost use Rattle.buck_dp.specs.inner.Rows.{IsPart};
+ghost use Rattle.buck_dp.specs.inner.Searched.{AreSearched, IsSearch};
+
+use crate::bid::Bid;
+use crate::offering::{Cell, offer_row, settle};
+use buck_bid::Offer;
+use buck_record::Memory;
+use buck_stem::Stem;
+use buck_value::Sheet;
+use std::alloc::{AllocError, Global};
+use std::marker::Model;
+
+/// A search from the top end of a stem down to the point `from`: the points from there on have their values.
+#[derive(Drop)]
+pub struct Search<'a> {
+    sheet: &'a Sheet,
+    stem: &'a Stem,
+    offers: &'a [Offer],
+    from: usize,
+    stop: usize,
+    values: Vec<Bid>,
+    choices: Vec<u32>,
+}
+
+impl<'a> Model for Search<'a> {
+    ghost use Rattle.buck_bid.specs.Offers.{codes_in};
+    ghost use Rattle.buck_dp.specs.inner.Points.{ground_with};
+    ghost use Rattle.buck_dp.specs.inner.Searched.{SearchParts, IsSearch};
+
+    ghost Value = { SearchParts };
+
+    ghost view = { λ s. record {
+      ground = ground_with s.sheet.now s.stem.now (codes_in s.offers.now);
+      from = s.from;
+      stop = s.stop;
+      values = s.values.items;
+      choices = s.choices.items;
+    } };
+
+    ghost invariant = { λ s. IsSearch (record {
+      ground = ground_with s.sheet.now s.stem.now (codes_in s.offers.now);
+      from = s.from;
+      stop = s.stop;
+      values = s.values.items;
+      choices = s.choices.items;
+    }) };
+}
+
+/// So many bids of no log.
+fn no_bids(alloc: Global, count: usize) -> Result<Vec<Bid>, AllocError>
+    ensures number { IfOk result (λ bids. length bids.items ≡ count) }
+    ensures zeros { IfOk result (λ bids. (k : ℕ) → bid_at bids.items k ≡ none) }
+{
+    let mut bids = Vec::new(alloc);
+    bids.resize(count, Bid::none())?;
+    Ok(bids)
+}
+
+/// So many choices of no log.
+fn no_choices(alloc: Global, count: usize) -> Result<Vec<u32>, AllocError>
+    ensures number { IfOk result (λ choices. length choices.items ≡ count) }
+    ensures zeros { IfOk result (λ choices. (k : ℕ) → get_or choices.items k 0 ≡ 0) }
+{
+    let mut choices = Vec::new(alloc);
+    choices.resize(count, 0)?;
+    Ok(choices)
+}
+
+/// How many points a stem has under a sheet, the butt among them.
+fn points_of(sheet: &Sheet, stem: &Stem) -> usize
+    ensures number { result ≡ points_of (ground_with sheet.now stem.now []) }
+    ensures few { result ≤ 4001 }
+    ensures valid { IsSheet sheet.now }
+    ensures sound { IsStem stem.now }
+{
+    (stem.length() / sheet.instruction().module()) as usize + 1
+}
+
+/// Settles a top, once all logs are offered that have theirs behind it.
+fn settle_once(values: &mut [Bid], choices: &mut [u32], top: usize)
+    requires next { top + 1 < length values.old }
+    requires room { top < length choices.old }
+    ensures number { length values.new ≡ length values.old }
+    ensures room { length choices.new ≡ length choices.old }
+    ensures searched { (p : GroundParts) → IsSheet p.sheet
+        → AreSearched p values.old choices.old (top + 1) 0 → AreSearched p values.new choices.new top top }
+{
+    settle(values, choices, top);
+}
+
+/// Offers the logs with a top that start in one part.
+fn offer_once(values: &mut [Bid], top: usize, first: usize, stop: usize, row: &[Cell])
+    requires order { (first ≤ stop) × (stop ≤ top) }
+    requires ready { (p : GroundParts) × (choices : List ℕ) × IsSheet p.sheet × IsStem p.stem
+        × AreSearched p values.old choices top stop × IsPart p top first stop row.now }
+    ensures number { length values.new ≡ length values.old }
+    ensures searched { (p : GroundParts) (choices : List ℕ) → IsSheet p.sheet → IsStem p.stem
+        → AreSearched p values.old choices top stop → IsPart p top first stop row.now
+        → AreSearched p values.new choices top first }
+{
+    offer_row(values, top, first, stop, row);
+}
+
+impl<'a> Search<'a> {
+    /// A search at the top end of a stem, behind its last point.
+    pub fn start(
+        alloc: Global,
+        sheet: &'a Sheet,
+        stem: &'a Stem,
+        offers: &'a [Offer],
+    ) -> Result<Search<'a>, Memory>
+        ensures ground { IfOk result (λ s. s.ground ≡ ground_with sheet.now stem.now (codes_in offers.now)) }
+        ensures from { IfOk result (λ s. (s.from ≡ points_of s.ground) × (s.stop ≡ 0)) }
+    {
+        let from = points_of(sheet, stem);
+        let values = no_bids(alloc, from + 1)?;
+        let choices = no_choices(alloc, from + 1)?;
+        Ok(Search {
+            sheet,
+            stem,
+            offers,
+            from,
+            stop: 0,
+            values,
+            choices,
+        })
+    }
+
+    /// The first point of those that have their values.
+    pub fn from(&self) -> usize
+        ensures value { result ≡ self.now.from }
+        ensures right { IsSearch self.now }
+    {
+        self.from
+    }
+
+    /// The first start to which the logs with their top at the point that was settled last are offered.
+    pub fn stop(&self) -> usize
+        ensures value { result ≡ self.now.stop }
+        ensures right { IsSearch self.now }
+    {
+        self.stop
+    }
+
+    /// The rank of the first log of the best from each point on, 0 where none starts there.
+    pub fn choices(&self) -> &[u32]
+        ensures value { result.now ≡ self.now.choices }
+        ensures right { IsSearch self.now }
+    {
+        &self.choices
+    }
+
+    /// The worth of the best from the butt on, once all tops are taken.
+    pub fn worth(&self) -> u64
+        ensures { result ≡ (bid_at self.now.values 0).worth }
+    {
+        self.values[0].worth()
+    }
+
+    /// Goes on to the next top, and settles it.
+    pub fn settle_top(&mut self)
+        requires more { 0 < self.old.from }
+        requires offered { self.old.stop ≡ 0 }
+        ensures ground { self.new.ground ≡ self.old.ground }
+        ensures from { self.new.from + 1 ≡ self.old.from }
+        ensures stop { self.new.stop ≡ self.new.from }
+    {
+        let top = self.from - 1;
+        settle_once(self.values.as_mut_slice(), self.choices.as_mut_slice(), top);
+        self.from = top;
+        self.stop = top;
+    }
+
+    /// Offers the logs with the top that was settled last that start in a part more, from `first` on.
+    pub fn offer_part(&mut self, first: usize, row: &[Cell])
+        requires order { first ≤ self.old.stop }
+        requires part { IsPart self.old.ground self.old.from first self.old.stop row.now }
+        ensures ground { self.new.ground ≡ self.old.ground }
+        ensures from { self.new.from ≡ self.old.from }
+        ensures stop { self.new.stop ≡ first }
+    {
+        offer_once(self.values.as_mut_slice(), self.from, first, self.stop, row);
+        self.stop = first;
+    }
+
+    /// Closes the top that was settled last, where no more logs have it.
+    pub fn close_top(&mut self)
+        requires none { (i e : ℕ) (bid : BidParts) → i < self.old.stop → IsLogAt self.old.ground i self.old.from e bid → ⊥ }
+        ensures ground { self.new.ground ≡ self.old.ground }
+        ensures from { self.new.from ≡ self.old.from }
+        ensures stop { self.new.stop ≡ 0 }
+    {
+        self.stop = 0;
+    }
+}
