@@ -15,7 +15,7 @@ import os
 import re
 import sys
 
-TOP = os.path.dirname(os.path.dirname(os.path.abspath(__file__)))
+from quick import TOP, crates
 
 HEADLINE = ("the headline", ["buck_fleet::Fleet::close"])
 
@@ -36,7 +36,7 @@ PROMISES = [
     ("a whole run of the program", ["buck_engine::serve", "buck_engine::conclude", "buck_engine::explain"]),
     ("the closed fleet", ["buck_fleet::Fleet::*", "buck_fleet::Closed::*", "buck_fleet::run_fleet"]),
     ("the report", ["buck_engine::report_text", "buck_engine::degree"]),
-    ("a fleet over files", ["buck_engine::run_fleet_files", "buck_engine::serve_fleet"]),
+    ("a fleet over files", ["buck_engine::run_fleet_files", "buck_engine::serve_fleet", "buck_command::serve_work"]),
     ("the world and its runs", ["buck_world::*"]),
     ("all other public calls", ["*"]),
 ]
@@ -89,9 +89,7 @@ def files_in(crate, part, ending):
 
 def libraries():
     """The libraries of the product, lowest first."""
-    with open(os.path.join(TOP, "crates.txt")) as text:
-        names = [line.split(":")[0] for line in text]
-    return [name for name in names if name.startswith("buck_") and not re.search("_(samples|plays|tests)$", name)]
+    return [name for name in crates() if name.startswith("buck_") and not re.search("_(samples|plays|tests)$", name)]
 
 
 def exported(lines):
@@ -194,8 +192,8 @@ def spelled(place, promise, lengths):
 
 def spelled_types(types):
     """The line of docs/PROOFS.md on the types of the code, crate by crate."""
-    crates = [(crate, sorted(name for at, name in types if at == crate)) for crate in libraries()]
-    names = "; ".join(f"`{crate}`: " + ", ".join(f"`{name}`" for name in names) for crate, names in crates if names)
+    named = [(crate, sorted(name for at, name in types if at == crate)) for crate in libraries()]
+    names = "; ".join(f"`{crate}`: " + ", ".join(f"`{name}`" for name in names) for crate, names in named if names)
     return f"{TYPES}{names}."
 
 

@@ -1,9 +1,21 @@
-//! The command line.
+//! The words of the command line, and what they ask for.
+ghost use Rattle.std.specs.Prelude.{◌≡◌, IfSome};
+ghost use Rattle.buck_command.specs.Words.{rule_name};
+
+use crate::working::Work;
 use buck_engine::{FleetTask, NamedRule, Task};
 use clap::{Arg, ArgAction, ArgMatches, Command, Error};
-use std::alloc::{AllocFailed, Global};
+use std::alloc::Global;
 
-/// What comes out of a run, and how it ends.
+/// What the commands come to, and how any run ends.
+const COMMANDS: &str = "Without a command what is printed is what buck prints of the two files.
+
+Exit statuses: 0 all was printed, 1 a file is refused, 2 the words of the command line are wrong or there are not 1 to
+64 stem files, 3 memory ran out or a fleet has more than 1000000 stems, 4 a journal is not lawful or a fleet did not
+close well, 5 a file can't be read or the output or a journal can't be written. After 1, 3, 4 and 5 one line on standard
+error says what went wrong: see \"Fault lines and exit statuses\" in docs/FORMATS.md.";
+
+/// What comes out of a bucking, and how it ends.
 const ENDINGS: &str =
     "Prints for each stem a STEM line and a LOG line for each of its logs, and last a TOTAL line.
 
@@ -71,7 +83,7 @@ fn buck<'a>(alloc: Global) -> Result<Command<'a>, Error> {
 fn check<'a>(alloc: Global) -> Result<Command<'a>, Error> {
     Ok(
         Command::new(alloc, "check")
-            .about("Checks a journal by the instruction that was cut by")
+            .about("Says whether a journal is lawful for an instruction")
             .after_help(VERDICTS)
             .arg(quiet(alloc))?
             .arg(file(alloc, "APT", "The instruction file"))?
@@ -117,91 +129,106 @@ fn command<'a>(alloc: Global) -> Result<Command<'a>, Error> {
             .about(
                 "Cuts each stem of a stem file into logs of the greatest worth by an instruction file. Without a command, an instruction file, a | and a stem file are read from standard input.",
             )
-            .after_help(ENDINGS)
+            .after_help(COMMANDS)
             .subcommand(buck(alloc)?)?
             .subcommand(fleet(alloc)?)?
             .subcommand(check(alloc)?)?,
     )
 }
 
-fn word<'a>(matches: &ArgMatches<'a>, id: &str) -> &'a str {
+/// Why words ask for no work.
+#[derive(Drop)]
+pub enum Unasked {
+    /// Help or the version is to be said, or what is wrong with the words.
+    Said(Error),
+    /// A word that must be there isn't, though the command line was accepted.
+    Lost,
+}
+
+impl From<Error> for Unasked {
+    fn from(error: Error) -> Unasked {
+        Unasked::Said(error)
+    }
+}
+
+/// A word that the command line must have.
+fn word<'a>(matches: &ArgMatches<'a>, id: &str) -> Result<&'a str, Unasked> {
     match matches.get_str(id) {
-        Some(text) => text,
-        None => "",
+        Some(text) => Ok(text),
+        None => Err(Unasked::Lost),
     }
 }
 
-/// The rule of this name; without one, and with none of its own, the base prices.
-fn named_rule(name: &str) -> NamedRule {
+/// The rule of this name.
+fn named_rule(name: &str) -> Option<NamedRule>
+    ensures { IfSome result (λ rule. name.now ≡ rule_name rule) }
+{
     match name {
-        "linear" => NamedRule::Linear,
-        "step" => NamedRule::Step,
-        _ => NamedRule::Steady,
+        "steady" => Some(NamedRule::Steady),
+        "linear" => Some(NamedRule::Linear),
+        "step" => Some(NamedRule::Step),
+        _ => None,
     }
 }
 
-/// The words that stand for stem files.
-fn stem_files<'a>(
-    alloc: Global,
-    matches: &ArgMatches<'a>,
-) -> Result<Vec<&'a str>, AllocFailed<&'a str>> {
+/// The names of the stem files.
+fn stem_files<'a>(alloc: Global, words: &[&'a str]) -> Result<Vec<&'a str>, Error> {
     let mut names = Vec::new(alloc);
-    let Some(words) = matches.get_strs("STM") else {
-        return Ok(names);
-    };
     for word in words {
         names.push(*word)?;
     }
     Ok(names)
 }
 
-/// What is to be done.
-#[derive(Debug, Drop)]
-pub enum Work<'a> {
-    /// A task that waits for nobody.
-    Plain(Task<'a>),
-    /// A fleet, whose harvesters wait for one another.
-    Fleet(FleetTask<'a>),
+/// What the words after `fleet` ask for.
+fn fleet_task<'a>(alloc: Global, words: &ArgMatches<'a>) -> Result<FleetTask<'a>, Unasked> {
+    let Some(rule) = named_rule(word(words, "rule")?) else {
+        return Err(Unasked::Lost);
+    };
+    let Some(stms) = words.get_strs("STM") else {
+        return Err(Unasked::Lost);
+    };
+    Ok(FleetTask {
+        rule,
+        journal: words.get_str("journal"),
+        apt: word(words, "APT")?,
+        stms: stem_files(alloc, stms)?,
+    })
+}
+
+/// What the words after a command's name ask for.
+fn work_of<'a>(alloc: Global, name: &str, words: &ArgMatches<'a>) -> Result<Work<'a>, Unasked> {
+    match name {
+        "buck" => Ok(Work::Plain(Task::Buck {
+            apt: word(words, "APT")?,
+            stm: word(words, "STM")?,
+        })),
+        "check" => Ok(Work::Plain(Task::Check {
+            apt: word(words, "APT")?,
+            journal: word(words, "JOURNAL")?,
+        })),
+        "fleet" => Ok(Work::Fleet(fleet_task(alloc, words)?)),
+        _ => Err(Unasked::Lost),
+    }
 }
 
 /// What the program's words ask for.
-#[derive(Debug, Drop)]
+#[derive(Drop)]
 pub struct Request<'a> {
     pub work: Work<'a>,
     /// Whether nothing is to be said on a terminal of how far the work is.
     pub quiet: bool,
 }
 
-fn fleet_task<'a>(alloc: Global, words: &ArgMatches<'a>) -> Result<FleetTask<'a>, Error> {
-    Ok(FleetTask {
-        rule: named_rule(word(words, "rule")),
-        journal: words.get_str("journal"),
-        apt: word(words, "APT"),
-        stms: stem_files(alloc, words)?,
-    })
-}
-
-/// What the program's words ask for, the first of which is the program's name. An error is what is to be printed in its
-/// place: help and the version, or what is wrong with the words.
-pub fn parse<'a>(alloc: Global, words: &'a [String]) -> Result<Request<'a>, Error> {
+/// What the program's words ask for, the first of which is the program's name.
+pub fn parse<'a>(alloc: Global, words: &'a [String]) -> Result<Request<'a>, Unasked> {
     let matches = command(alloc)?.try_get_matches_from(words)?;
     let Some((name, words)) = matches.subcommand() else {
         let work = Work::Plain(Task::Bare);
         return Ok(Request { work, quiet: false });
     };
-    let work = match name {
-        "fleet" => Work::Fleet(fleet_task(alloc, words)?),
-        "check" => Work::Plain(Task::Check {
-            apt: word(words, "APT"),
-            journal: word(words, "JOURNAL"),
-        }),
-        _ => Work::Plain(Task::Buck {
-            apt: word(words, "APT"),
-            stm: word(words, "STM"),
-        }),
-    };
     Ok(Request {
-        work,
+        work: work_of(alloc, name, words)?,
         quiet: words.get_flag("quiet"),
     })
 }

@@ -1,5 +1,5 @@
 -- What a run over an instruction file and a stem file answers.
-use Rattle.std.specs.Prelude.{◌≡◌, ℕ, Bool, ◌==◌, List, Option, Ok, Err, IsOk}
+use Rattle.std.specs.Prelude.{◌≡◌, ℕ, ◌≤◌, Bool, ◌==◌, List, length, Option, Ok, Err, IsOk, IfSome}
 use Rattle.std.specs.Io.KnownBytes.{Appends}
 use Rattle.buck_apt.specs.Instruction.{InstructionParts}
 use Rattle.buck_apt.specs.Apt.{apt_of}
@@ -34,6 +34,15 @@ IsRefusalOf Seats apt stm = ⊥
 IsRefusalOf Full apt stm = ⊥
 IsRefusalOf Memory apt stm = Unit {0}
 IsRefusalOf (Close fault) apt stm = ⊥
+
+-- where a fault refuses the instruction, it is the refusal of its bytes, as far as they are known
+abbrev pub IsAptRefusal : Option (List ℕ) → EngineFault → Type 0
+IsAptRefusal apt (Apt fault) = IfSome apt (λ bytes. apt_of bytes ≡ Err fault)
+IsAptRefusal apt _ = Unit {0}
+
+-- a file has no more bytes than it may have, as far as they are known
+abbrev pub IsWithinLimit : Option (List ℕ) → Type 0
+IsWithinLimit file = IfSome file (λ bytes. length bytes ≤ 67108864)
 
 -- where a fault says that a file can't be read, it is one of these
 abbrev pub IfRead : (ℕ → Type 0) → EngineFault → Type 0

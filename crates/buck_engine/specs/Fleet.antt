@@ -12,6 +12,7 @@ use Rattle.buck_fleet.specs.Run.{stem_cut}
 use Rattle.buck_fleet.specs.Closed.{replies_of}
 use Rattle.buck_engine.specs.declared.fault.EngineFault.{EngineFault}
 use Rattle.buck_engine.specs.declared.fault.EngineFault.TheVariants.{Read, Write, Apt, Stm, Journal, Replay, Seats, Full, Memory, Close}
+use Rattle.buck_engine.specs.Engine.{IsWithinLimit}
 use Rattle.buck_engine.specs.Lent.{OfWriter}
 use Rattle.buck_engine.specs.Output.{AppendsSome}
 use Rattle.buck_engine.specs.Report.{IsReport}
@@ -39,6 +40,11 @@ pub record IsHarvest (apt : Option (List ℕ)) (stms : List (Option (List ℕ)))
 pub record IsReached (file : ℕ) (apt : Option (List ℕ)) (stms : List (Option (List ℕ))) : Type 0 where
   pub instruction : 0 < file → IfSome apt (λ bytes. IsOk (apt_of bytes))
   pub stems : (k : ℕ) → k + 1 < file → IfSome (slice_index_or stms k None) (λ bytes. IsOk (stm_of bytes))
+
+-- no file has more bytes than it may have, as far as they are known
+pub record AreWithinLimit (apt : Option (List ℕ)) (stms : List (Option (List ℕ))) : Type 0 where
+  pub instruction : IsWithinLimit apt
+  pub stems : (k : ℕ) → k < length stms → IsWithinLimit (slice_index_or stms k None)
 
 -- a fleet has 1 to 64 seats
 abbrev pub AreNoSeats : ℕ → Type 0

@@ -4,7 +4,7 @@ ghost use Rattle.std.specs.Io.KnownBytes.{Keeps};
 ghost use Rattle.buck_apt.specs.Apt.{apt_of};
 ghost use Rattle.buck_engine.specs.declared.fault.EngineFault.TheVariants.{Write};
 ghost use Rattle.buck_engine.specs.Check.{AppendsLawful, AppendsLawfulPrefix, IsCheckRefusal, lawful_line};
-ghost use Rattle.buck_engine.specs.Engine.{IfRead, IsBeforeStems};
+ghost use Rattle.buck_engine.specs.Engine.{IfRead, IsAptRefusal, IsBeforeStems, IsWithinLimit};
 ghost use Rattle.buck_engine.specs.inner.Engine.{AnswersJournal, AnswersReplay};
 
 use crate::engine::instruction_in;
@@ -76,14 +76,15 @@ pub fn run_check<R: io::Read, W: io::Write>(
     ensures refused { IfErr result (λ e.
         IfSome (R.remaining apt.old) (λ instruction. IfSome (R.remaining journal.old) (λ postings.
         IsCheckRefusal e instruction postings))) }
+    // The instruction's refusal is that of its bytes, whatever is known of the journal.
+    ensures instruction { IfErr result (IsAptRefusal (R.remaining apt.old)) }
     // The journal can't be read only where the instruction is not refused.
     ensures read { IfErr result (IfRead (λ file.
         (file ≡ 0) ⊎ ((file ≡ 1) × IfSome (R.remaining apt.old) (λ instruction. IsOk (apt_of instruction))))) }
     // Where the instruction is refused, nothing was read of the journal.
     ensures order { IfErr result (λ e. IsBeforeStems e → journal.new ≡ journal.old) }
     // A file that is longer than a file may be is never read as one.
-    ensures limit { OnOk result (IfSome (R.remaining apt.old) (λ bytes. length bytes ≤ 67108864)
-        × IfSome (R.remaining journal.old) (λ bytes. length bytes ≤ 67108864)) }
+    ensures limit { OnOk result (IsWithinLimit (R.remaining apt.old) × IsWithinLimit (R.remaining journal.old)) }
     // Only a failed write touches the writer, and leaves a prefix of the text.
     ensures untouched { IfErr result (λ e. e ≢ Write → writer.new ≡ writer.old) }
     ensures unwritten { IfErr result (λ e. e ≢ Write → Keeps (W.contents writer.old) (W.contents writer.new)) }

@@ -7,7 +7,8 @@ ghost use Rattle.buck_record.specs.Reading.{listed};
 ghost use Rattle.buck_apt.specs.Apt.{apt_of};
 ghost use Rattle.buck_engine.specs.declared.fault.EngineFault.TheVariants.{Write};
 ghost use Rattle.buck_engine.specs.inner.Engine.{AnswersApt, AnswersStm};
-ghost use Rattle.buck_engine.specs.Engine.{is_bar, AppendsAnswer, AppendsPrefix, IsRefusalOf, IfRead, IsBeforeStems};
+ghost use Rattle.buck_engine.specs.Engine.{is_bar, AppendsAnswer, AppendsPrefix, IsAptRefusal, IsRefusalOf, IsWithinLimit, IfRead};
+ghost use Rattle.buck_engine.specs.Engine.{IsBeforeStems};
 
 use crate::fault::EngineFault;
 use crate::input::read_file;
@@ -88,14 +89,15 @@ pub fn run_buck<R: io::Read, W: io::Write>(
     ensures refused { IfErr result (λ e.
         IfSome (R.remaining apt.old) (λ instruction. IfSome (R.remaining stm.old) (λ stems.
         IsRefusalOf e instruction stems))) }
+    // The instruction's refusal is that of its bytes, whatever is known of the stem file.
+    ensures instruction { IfErr result (IsAptRefusal (R.remaining apt.old)) }
     // The stem file can't be read only where the instruction is not refused.
     ensures read { IfErr result (IfRead (λ file.
         (file ≡ 0) ⊎ ((file ≡ 1) × IfSome (R.remaining apt.old) (λ instruction. IsOk (apt_of instruction))))) }
     // Where the instruction is refused, nothing was read of the stems.
     ensures order { IfErr result (λ e. IsBeforeStems e → stm.new ≡ stm.old) }
     // A file that is longer than a file may be is never read as one.
-    ensures limit { OnOk result (IfSome (R.remaining apt.old) (λ bytes. length bytes ≤ 67108864)
-        × IfSome (R.remaining stm.old) (λ bytes. length bytes ≤ 67108864)) }
+    ensures limit { OnOk result (IsWithinLimit (R.remaining apt.old) × IsWithinLimit (R.remaining stm.old)) }
     // Only a failed write touches the writer, and leaves a prefix of the text.
     ensures untouched { IfErr result (λ e. e ≢ Write → writer.new ≡ writer.old) }
     ensures unwritten { IfErr result (λ e. e ≢ Write → Keeps (W.contents writer.old) (W.contents writer.new)) }
@@ -132,7 +134,7 @@ pub fn run_bare<R: io::Read, W: io::Write>(
     // What can't be read is file 0.
     ensures read { IfErr result (IfRead (λ file. file ≡ 0)) }
     // Input that is longer than a file may be is never read as one.
-    ensures limit { OnOk result (IfSome (R.remaining reader.old) (λ bytes. length bytes ≤ 67108864)) }
+    ensures limit { OnOk result (IsWithinLimit (R.remaining reader.old)) }
     // Only a failed write touches the writer, and leaves a prefix of the text.
     ensures untouched { IfErr result (λ e. e ≢ Write → writer.new ≡ writer.old) }
     ensures unwritten { IfErr result (λ e. e ≢ Write → Keeps (W.contents writer.old) (W.contents writer.new)) }

@@ -6,7 +6,7 @@ ghost use Rattle.buck_book.specs.History.{HistoryParts};
 ghost use Rattle.buck_journal.specs.Written.{journal_text};
 ghost use Rattle.buck_engine.specs.declared.fault.EngineFault.TheVariants.{Seats, Write};
 ghost use Rattle.buck_engine.specs.Lent.{no_writer, of_lent, of_writer};
-ghost use Rattle.buck_engine.specs.Fleet.{AreNoSeats, IfStopped, IsFleetRefusal, IsFleetRun, IsHarvest};
+ghost use Rattle.buck_engine.specs.Fleet.{AreNoSeats, AreWithinLimit, IfStopped, IsFleetRefusal, IsFleetRun, IsHarvest};
 ghost use Rattle.buck_engine.specs.Fleet.{WroteAll, WroteSome};
 ghost use Rattle.buck_engine.specs.inner.Fleet.{AreWritten};
 
@@ -99,6 +99,7 @@ pub(crate) fn run_reported<
         (W.contents out.old) (W.contents out.new) result }
     ensures order { IfErr result (IfStopped (λ file. drop file stms.new ≡ drop file stms.old)) }
     ensures unread { IfErr result (λ e. e ≡ Seats → apt.new ≡ apt.old) }
+    ensures limit { OnOk result (AreWithinLimit (R.remaining apt.old) (map R.remaining stms.old)) }
 {
     seated(stms.len())?;
     let closed = harvested(rt, alloc, apt, stms, rule, onlooker)?;
@@ -128,6 +129,7 @@ pub(crate) fn run_journalled<
         (of_writer (J.contents journal.old) (J.contents journal.new)) (W.contents out.old) (W.contents out.new) result }
     ensures order { IfErr result (IfStopped (λ file. drop file stms.new ≡ drop file stms.old)) }
     ensures unread { IfErr result (λ e. e ≡ Seats → apt.new ≡ apt.old) }
+    ensures limit { OnOk result (AreWithinLimit (R.remaining apt.old) (map R.remaining stms.old)) }
 {
     seated(stms.len())?;
     let closed = harvested(rt, alloc, apt, stms, rule, onlooker)?;
@@ -171,6 +173,8 @@ pub fn run_fleet_files<
     ensures order { IfErr result (IfStopped (λ file. drop file stms.new ≡ drop file stms.old)) }
     // Where there are not 1 to 64 stem files, nothing was read of the instruction either.
     ensures unread { IfErr result (λ e. e ≡ Seats → apt.new ≡ apt.old) }
+    // A file that is longer than a file may be is never read as one.
+    ensures limit { OnOk result (AreWithinLimit (R.remaining apt.old) (map R.remaining stms.old)) }
     // Only a failed write leaves anything written: a prefix of the journal, or all of it and one of the report.
     ensures unwritten { IfErr result (λ e. e ≢ Write →
         of_lent J.contents journal.entry journal.exit Keeps × Keeps (W.contents out.old) (W.contents out.new)) }

@@ -1,11 +1,12 @@
 //! From stem files to the closed fleet that cut them.
-ghost use Rattle.std.specs.Prelude.{◌≡◌, ◌<◌, ◌≤◌, ◌+◌, length, map, drop, IfOk, IfErr, IfSome};
+ghost use Rattle.std.specs.Prelude.{◌≡◌, ℕ, ◌<◌, ◌≤◌, ◌+◌, length, map, drop, None, OnOk, IfOk, IfErr, IfSome, slice_index_or};
 ghost use Rattle.buck_rule.specs.Stored.{AllAnswer};
 ghost use Rattle.buck_stem.specs.Stm.{stm_of};
 ghost use Rattle.buck_fleet.specs.Crew.{IsCrew, parts_of};
 ghost use Rattle.buck_fleet.specs.Closed.{IsOneHistory};
 ghost use Rattle.buck_fleet.specs.Run.{stems_of};
-ghost use Rattle.buck_engine.specs.Fleet.{IfStopped, IsHarvest};
+ghost use Rattle.buck_engine.specs.Engine.{IsWithinLimit};
+ghost use Rattle.buck_engine.specs.Fleet.{AreWithinLimit, IfStopped, IsHarvest};
 ghost use Rattle.buck_engine.specs.inner.Fleet.{AreListsOf, HasCutLists, IsCuttingFault};
 ghost use Rattle.buck_engine.specs.inner.Fleet.{IsHarvestFault, IsListRefusal, IsStemRefusal};
 
@@ -47,6 +48,7 @@ fn stems_of_file<R: io::Read>(
 ) -> Result<Vec<Arc<Stem>>, EngineFault>
     ensures ok { IfOk result (λ list.
         IfSome (R.remaining reader.old) (λ bytes. stm_of bytes ≡ Ok (stems_of list.items))) }
+    ensures within { OnOk result (IsWithinLimit (R.remaining reader.old)) }
     ensures refused { IfErr result (IsStemRefusal file (R.remaining reader.old)) }
 {
     let bytes = read_file(alloc, reader, file)?;
@@ -62,6 +64,8 @@ fn read_lists<R: io::Read>(
     requires few { length stms.old ≤ 64 }
     ensures number { IfOk result (λ lists. length lists.items ≡ length stms.old) }
     ensures lists { IfOk result (λ lists. AreListsOf (length stms.old) (map R.remaining stms.old) lists.items) }
+    ensures within { OnOk result ((k : ℕ) → k < length stms.old
+        → IsWithinLimit (slice_index_or (map R.remaining stms.old) k None)) }
     ensures refused { IfErr result (IsListRefusal (map R.remaining stms.old)) }
     ensures order { IfErr result (IfStopped (λ file. drop file stms.new ≡ drop file stms.old)) }
 {
@@ -188,6 +192,7 @@ pub(crate) fn harvested<
     requires answers { AllAnswer F.Fn }
     requires seats { (0 < length stms.old) × (length stms.old ≤ 64) }
     ensures ok { IfOk result (λ closed. IsHarvest (R.remaining apt.old) (map R.remaining stms.old) closed.history) }
+    ensures within { OnOk result (AreWithinLimit (R.remaining apt.old) (map R.remaining stms.old)) }
     ensures refused { IfErr result (IsHarvestFault (R.remaining apt.old) (map R.remaining stms.old)) }
     ensures order { IfErr result (IfStopped (λ file. drop file stms.new ≡ drop file stms.old)) }
 {

@@ -1,6 +1,7 @@
 //! Reading a file to its end.
-ghost use Rattle.std.specs.Prelude.{◌≡◌, ◌≤◌, ◌⊎◌, length, IfOk, IfErr, IfSome};
+ghost use Rattle.std.specs.Prelude.{◌≡◌, ◌≤◌, ◌⊎◌, length, OnOk, IfOk, IfErr, IfSome};
 ghost use Rattle.buck_engine.specs.declared.fault.EngineFault.TheVariants.{Memory, Read};
+ghost use Rattle.buck_engine.specs.Engine.{IsWithinLimit};
 
 use crate::fault::EngineFault;
 use std::alloc::Global;
@@ -18,6 +19,7 @@ pub(crate) fn read_file<R: io::Read>(
 ) -> Result<Vec<u8>, EngineFault>
     ensures whole { IfOk result (λ bytes. IfSome (R.remaining reader.old) (λ input. bytes.items ≡ input)) }
     ensures limit { IfOk result (λ bytes. length bytes.items ≤ 67108864) }
+    ensures within { OnOk result (IsWithinLimit (R.remaining reader.old)) }
     ensures faults { IfErr result (λ e. (e ≡ Read file) ⊎ (e ≡ Memory)) }
 {
     let mut bytes = Vec::new(alloc);

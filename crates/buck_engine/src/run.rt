@@ -16,7 +16,7 @@ use std::alloc::Global;
 use std::io;
 
 /// What the words of the command line ask for.
-#[derive(Debug, Drop)]
+#[derive(Drop)]
 pub enum Task<'a> {
     /// Both files stand on standard input, with a `|` between them.
     Bare,

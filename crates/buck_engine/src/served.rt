@@ -29,7 +29,7 @@ pub enum NamedRule {
 }
 
 /// What the words of the command line ask of a fleet.
-#[derive(Debug, Drop)]
+#[derive(Drop)]
 pub struct FleetTask<'a> {
     /// How prices follow what was cut.
     pub rule: NamedRule,

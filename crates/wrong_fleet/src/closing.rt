@@ -5,6 +5,7 @@ ghost use Rattle.buck_book.specs.Posting.{harvester_of};
 ghost use Rattle.buck_fleet.specs.Crew.{IsCrew, parts_of};
 ghost use Rattle.buck_fleet.specs.Closed.{kept_by, replies_of};
 
+use buck_apt::Instruction;
 use buck_book::Posting;
 use buck_fleet::{CloseFault, Closed, Fleet, Seat};
 use std::sync::ledger::Ledger;
@@ -143,6 +144,29 @@ pub fn close_tells_calls_for_instruction<F: Drop, L: Ledger>(
                     harvester: 1,
                     number: 1,
                 };
+                prove!(right != wrong);
+            }
+            closed
+        }
+    }
+}
+
+/// Calls are told of a history of another instruction.
+pub fn close_tells_calls_of_another_instruction<F: Drop, L: Ledger>(
+    fleet: Fleet<F, L>,
+    seats: Vec<Seat<L>>,
+    instruction: &Instruction,
+) -> Closed
+    requires crew { IsCrew fleet.seats seats.items }
+    requires parts { parts_of seats.items ≡ L.parts }
+    requires instruction { fleet.instruction ≡ instruction.now }
+{
+    match fleet.close(seats) {
+        Ok(closed) => closed,
+        Err((fault, closed)) => {
+            if let CloseFault::Calls { .. } = fault {
+                let right = closed.instruction().same(instruction);
+                let wrong = false;
                 prove!(right != wrong);
             }
             closed

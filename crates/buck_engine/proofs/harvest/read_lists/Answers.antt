@@ -1,7 +1,9 @@
-use Rattle.std.proofs.Common.{rules, ◌≡◌, ◌<◌, ◌∙◌, ℕ, List, Option, IfSome, Ok, length, arith, subst, length-set}
+use Rattle.std.proofs.Common.{rules, ◌≡◌, ◌<◌, ◌∙◌, ℕ, List, Option, IfSome, Ok, None, map, below_more, length, arith, subst, length-set}
 use Rattle.std.proofs.lemmas.List.{length-map}
+use Rattle.std.specs.Prelude.{slice_index_or}
 use Rattle.buck_stem.specs.Stm.{stm_of}
 use Rattle.buck_fleet.specs.Run.{stems_of}
+use Rattle.buck_engine.specs.Engine.{IsWithinLimit}
 use Rattle.buck_engine.proofs.Lists.{lists_more, memory_at, refused_at, same_place, same_rest}
 use Rattle.buck_engine.proofs.harvest.read_lists.Goals as goal
 
@@ -26,5 +28,6 @@ loop-k-preserved g c =
       number = search rules;
       same_number = length-set c.loop-k.stms c.loop-k.k c.stems_of_file.new.reader ∙ inv.same_number;
       rest = same_rest _ _ c.loop-k.k _ inv.rest;
+      within = below_more (λ i. IsWithinLimit (slice_index_or (map g.R.Read.remaining c.args.stms.now) i None)) c.loop-k.k inv.within (subst (λ (o : Option (List ℕ)). IsWithinLimit o) same c.in-Ok.ensures.within);
       made = lists_more c.loop-k.k _ c.loop-k.lists.items c.push.new.self.items c.in-Ok.list inv.number (search rules) inv.made (subst (λ (o : Option (List ℕ)). IfSome o (λ bytes. stm_of bytes ≡ Ok (stems_of c.in-Ok.list.items))) same c.in-Ok.ensures.ok);
     }

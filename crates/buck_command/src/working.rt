@@ -1,0 +1,76 @@
+//! What is to be done, and doing it.
+ghost use Rattle.std.specs.Prelude.{◌≡◌, Result};
+ghost use Rattle.buck_engine.specs.declared.fault.EngineFault.{EngineFault};
+ghost use Rattle.buck_engine.specs.Run.{TellsOutcome, status_after};
+ghost use Rattle.buck_command.specs.Work.{DoesWork};
+
+use buck_engine::{FleetTask, Make, Onlooker, Open, Task, serve, serve_fleet};
+use std::alloc::Global;
+use std::io;
+use std::sync::Wait;
+use std::thread::Threads;
+
+/// What is to be done.
+#[derive(Drop)]
+pub enum Work<'a> {
+    /// A task that waits for nobody.
+    Plain(Task<'a>),
+    /// A fleet, whose harvesters wait for one another.
+    Fleet(FleetTask<'a>),
+}
+
+/// What a run reads and writes beside its files.
+#[derive(Drop)]
+pub struct Streams<R, W, E> {
+    /// Where both files of the bare form stand.
+    pub input: R,
+    /// What is asked for is written here.
+    pub output: W,
+    /// What went wrong is said here.
+    pub errors: E,
+}
+
+/// Does the work, and says how it ended. The answer is the exit status. Each fault and what is written before it are
+/// those of [`serve`] and [`serve_fleet`].
+pub fn serve_work<
+    T: Threads + Wait + Sync,
+    L: Onlooker + Sync,
+    O: Open + Make,
+    R: io::Read,
+    W: io::Write,
+    E: io::Write,
+>(
+    rt: &T,
+    alloc: Global,
+    work: &Work<'_>,
+    onlooker: &L,
+    files: &mut O,
+    streams: &mut Streams<R, W, E>,
+) -> u8
+    ensures { (outcome : Result (Unit {0}) EngineFault)
+        × DoesWork O.opens O.makes O.File.remaining O.Made.contents files.old files.new
+        (R.remaining streams.old.input) work.now
+        (W.contents streams.old.output) (W.contents streams.new.output) outcome
+        × (result ≡ status_after outcome)
+        × TellsOutcome (E.contents streams.old.errors) (E.contents streams.new.errors) outcome }
+{
+    match work {
+        Work::Plain(task) => serve(
+            alloc,
+            task,
+            &mut streams.input,
+            files,
+            &mut streams.output,
+            &mut streams.errors,
+        ),
+        Work::Fleet(task) => serve_fleet(
+            rt,
+            alloc,
+            task,
+            onlooker,
+            files,
+            &mut streams.output,
+            &mut streams.errors,
+        ),
+    }
+}

@@ -1,0 +1,187 @@
+//! Files, streams and a screen in memory.
+ghost use Rattle.std.specs.Prelude.{⊤};
+
+use buck_command::{Streams, run};
+use buck_engine::{Make, Open};
+use std::alloc::Global;
+use std::io;
+use std::io::{Error, ErrorKind};
+use std::sync::{Mutex, Wait};
+use std::thread::Threads;
+
+/// The saw instruction with period 1 and limit 500.
+pub const APT: &str = "1 2 APT~901 1 100~902 1 1~903 1 500~910 1 1~
+911 1 saw~912 1 1~913 1 1~914 1 1~915 1 100 200~915 2 400~
+916 1 3000 4000~917 1 400 500 600 800~918 1 1 1 1 1~
+";
+
+/// A stem of 4,000 mm and 250 mm.
+pub const STM: &str =
+    "1 2 STM~951 1 1~952 1 1~953 1 250 250 250 250 250 250 250 250 250 250 250 250 250 250 250 250
+250 250 250 250 250 250 250 250 250 250 250 250 250 250 250 250 250 250 250 250 250 250 250 250 250~
+";
+
+/// The journal of a harvester that cuts that stem under the step rule.
+const JOURNAL: &str = "1 2 JRN~971 1 400 500 600 800~971 1 600 750 900 400~981 1 1 1 0~981 2 1 1~
+981 3 250 250 250 250 250 250 250 250 250 250 250 250 250 250 250 250 250 250 250 250 250 250 250 250 250 250 250 250 250
+250 250 250 250 250 250 250 250 250 250 250 250~981 4~981 5 0 4000 0~981 6 157080000~
+";
+
+/// Some bytes, and behind them others so many times.
+#[derive(Drop)]
+pub struct Repeated {
+    rest: &'static [u8],
+    again: &'static [u8],
+    times: usize,
+}
+
+impl io::Read for Repeated {
+    fn read(&mut self, buf: &mut [u8]) -> io::Result<usize> {
+        if self.rest.is_empty() && self.times > 0 {
+            self.rest = self.again;
+            self.times -= 1;
+        }
+        let count = buf.len().min(self.rest.len());
+        buf[..count].copy_from_slice(&self.rest[..count]);
+        self.rest = &self.rest[count..];
+        Ok(count)
+    }
+}
+
+/// The files `apt`, `stm` and `jrn`, and `many`, which has 1,000 stems of no length; `short` and `long`, of 999,000 and of
+/// 1,000,000 blanks; the file `out`, which can be made; and the names that were asked for, each with a blank after it.
+#[derive(Drop)]
+pub struct Shelf<'a> {
+    names: &'a Mutex<Vec<u8>>,
+}
+
+impl<'a> Shelf<'a> {
+    /// Keeps a name that was asked for.
+    fn note(&mut self, mark: &[u8], name: &str) {
+        if let Some(mut names) = self.names.try_lock() {
+            let _ = names.extend_from_slice(mark);
+            let _ = names.extend_from_slice(name.as_bytes());
+            let _ = names.extend_from_slice(b" ");
+        }
+    }
+}
+
+/// A file of these bytes, and behind them others so many times.
+fn file(rest: &'static [u8], again: &'static [u8], times: usize) -> Option<Repeated> {
+    Some(Repeated { rest, again, times })
+}
+
+const BLANKS: [u8; 1000] = [b' '; 1000];
+
+impl<'a> Open for Shelf<'a> {
+    type File = Repeated;
+
+    ghost opens = { λ _ _ _ _. ⊤ };
+
+    fn open(&mut self, name: &str) -> Option<Repeated> {
+        self.note(b"", name);
+        match name {
+            "apt" => file(APT.as_bytes(), b"", 0),
+            "stm" => file(STM.as_bytes(), b"", 0),
+            "jrn" => file(JOURNAL.as_bytes(), b"", 0),
+            "many" => file(b"1 2 STM~", b"951 1 1~952 1 1~953 1 250~", 1_000),
+            "short" => file(b"", &BLANKS, 999),
+            "long" => file(b"", &BLANKS, 1_000),
+            _ => None,
+        }
+    }
+}
+
+impl<'a> Make for Shelf<'a> {
+    type Made = Room;
+
+    ghost makes = { λ _ _ _ _. ⊤ };
+
+    fn make(&mut self, name: &str) -> Option<Room> {
+        self.note(b">", name);
+        match name {
+            "out" => Some(Room),
+            _ => None,
+        }
+    }
+}
+
+/// Takes all bytes, and keeps none.
+#[derive(Drop)]
+pub struct Room;
+
+impl io::Write for Room {
+    fn write(&mut self, buf: &[u8]) -> io::Result<usize> {
+        Ok(buf.len())
+    }
+
+    fn flush(&mut self) -> io::Result<()> {
+        Ok(())
+    }
+}
+
+/// A screen whose lines are kept.
+#[derive(Clone, Copy)]
+struct Page<'a> {
+    lines: &'a Mutex<Vec<u8>>,
+}
+
+impl<'a> io::Write for Page<'a> {
+    fn write(&mut self, buf: &[u8]) -> io::Result<usize> {
+        let Some(mut lines) = self.lines.try_lock() else {
+            return Err(Error::from(ErrorKind::Other));
+        };
+        match lines.extend_from_slice(buf) {
+            Ok(()) => Ok(buf.len()),
+            Err(_) => Err(Error::from(ErrorKind::OutOfMemory)),
+        }
+    }
+
+    fn flush(&mut self) -> io::Result<()> {
+        Ok(())
+    }
+}
+
+/// What a run leaves: its status, what stands on its streams and on its screen, and the names that were asked for.
+#[derive(Drop)]
+pub struct Ending {
+    pub status: u8,
+    pub output: Vec<u8>,
+    pub errors: Vec<u8>,
+    pub screen: Vec<u8>,
+    pub names: Vec<u8>,
+}
+
+/// A run of these words, which has the instruction and the stem on its input.
+pub fn run_words<T: Threads + Wait + Sync>(
+    rt: &T,
+    alloc: Global,
+    words: &Result<Vec<String>, ErrorKind>,
+) -> Ending {
+    let names = Mutex::new(Vec::new(alloc));
+    let lines = Mutex::new(Vec::new(alloc));
+    let mut input = Vec::new(alloc);
+    let _ = input.extend_from_slice(APT.as_bytes());
+    let _ = input.extend_from_slice(b"|");
+    let _ = input.extend_from_slice(STM.as_bytes());
+    let mut streams = Streams {
+        input: input.as_slice(),
+        output: Vec::new(alloc),
+        errors: Vec::new(alloc),
+    };
+    let shelf = Shelf { names: &names };
+    let screen = Some(Page { lines: &lines });
+    let status = run(rt, alloc, words, shelf, screen, &mut streams);
+    let Streams {
+        input: _,
+        output,
+        errors,
+    } = streams;
+    Ending {
+        status,
+        output,
+        errors,
+        screen: lines.into_inner(),
+        names: names.into_inner(),
+    }
+}

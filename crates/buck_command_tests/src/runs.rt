@@ -1,0 +1,210 @@
+//! What runs leave on each stream, by their words.
+use crate::place::{Ending, run_words};
+use std::alloc::Global;
+use std::io::ErrorKind;
+use std::str;
+use std::sync::Wait;
+use std::test::Fail;
+use std::thread::Threads;
+
+/// What is cut of the stem under the base prices.
+const TEXT: &str =
+    "STEM 1 4000 1 157080000\nLOG 0 4000 250 1 1 157080000 saw\nTOTAL 1 1 157080000\n";
+
+/// Words; the status; how what stands on the output begins, or on the errors where the status isn't 0, and nothing on the
+/// other; and the names that are asked for.
+const RUNS: [(&str, u8, &str, &str); 32] = [
+    ("", 0, TEXT, ""),
+    ("buck apt stm", 0, TEXT, "apt stm "),
+    ("buck --quiet apt stm", 0, TEXT, "apt stm "),
+    ("buck stm apt", 1, "apt fault 2\n", "stm apt "),
+    ("buck none stm", 5, "read fault 0\n", "none "),
+    ("check apt jrn", 0, "LAWFUL 1\n", "apt jrn "),
+    ("check apt jrn --quiet", 0, "LAWFUL 1\n", "apt jrn "),
+    ("check apt stm", 1, "journal fault 2\n", "apt stm "),
+    (
+        "fleet apt stm",
+        0,
+        "ENTRY 0 1 1 0 1 1 157080000\n",
+        "apt stm ",
+    ),
+    (
+        "fleet --journal out apt stm",
+        0,
+        "ENTRY 0 1 1 0 1 1 157080000\n",
+        "apt stm >out ",
+    ),
+    (
+        "fleet apt stm --journal=no --quiet",
+        5,
+        "write fault\n",
+        "apt stm >no ",
+    ),
+    (
+        "fleet --journal out apt stm none",
+        5,
+        "read fault 2\n",
+        "apt stm none ",
+    ),
+    (
+        "fleet apt stm stm apt --journal out",
+        1,
+        "stm 3 fault 2\n",
+        "apt stm stm apt >out ",
+    ),
+    ("--help", 0, "Cuts each stem", ""),
+    ("buck --help", 0, "Cuts each stem", ""),
+    ("check --help", 0, "Says whether", ""),
+    ("fleet --help", 0, "Cuts stem files", ""),
+    ("--version", 0, "buckfleet 0.1.0\n", ""),
+    ("pine.apt", 2, "error: ", ""),
+    ("buck", 2, "error: ", ""),
+    ("buck apt", 2, "error: ", ""),
+    ("buck apt stm more", 2, "error: ", ""),
+    ("buck --fast apt stm", 2, "error: ", ""),
+    ("buck --quiet --quiet apt stm", 2, "error: ", ""),
+    ("check apt", 2, "error: ", ""),
+    ("fleet", 2, "error: ", ""),
+    ("fleet apt", 2, "error: ", ""),
+    ("fleet --rule fast apt stm", 2, "error: ", ""),
+    ("--quiet", 2, "error: ", ""),
+    ("--quiet buck apt stm", 2, "error: ", ""),
+    ("buck --rule step apt stm", 2, "error: ", ""),
+    ("bucks apt stm", 2, "error: ", ""),
+];
+
+/// Words, and what their reports have: after the stem the last class is over its target, and all others are under theirs.
+const RULES: [(&str, &str); 4] = [
+    ("fleet apt stm", "\nCLASS 0 1 1 1 1 800 800\n"),
+    ("fleet --rule steady apt stm", "\nCLASS 0 1 1 1 1 800 800\n"),
+    ("fleet apt --rule linear stm", "\nCLASS 0 1 1 1 1 800 500\n"),
+    ("fleet apt stm --rule=step", "\nCLASS 0 1 1 1 1 800 400\n"),
+];
+
+/// Words, and what stands on the screen.
+const SCREENS: [(&str, &str); 5] = [
+    ("buck short stm", ""),
+    ("buck long stm", "long: 1000000 bytes read\n"),
+    ("buck --quiet long stm", ""),
+    (
+        "fleet apt many",
+        "1000 stems to cut\n1000 of 1000 stems planned\n",
+    ),
+    ("fleet --quiet apt many", ""),
+];
+
+/// A run of the words of a line.
+fn run_line<T: Threads + Wait + Sync>(rt: &T, alloc: Global, line: &str) -> Result<Ending, Fail> {
+    let mut words = Vec::new(alloc);
+    words.push(String::from_str(alloc, "buckfleet")?)?;
+    for word in line.split_ascii_whitespace() {
+        words.push(String::from_str(alloc, word)?)?;
+    }
+    Ok(run_words(rt, alloc, &Ok(words)))
+}
+
+/// Whether one stream begins so where the other is empty.
+fn says(ending: &Ending, start: &str) -> bool {
+    let (said, other) = if ending.status == 0 {
+        (&ending.output, &ending.errors)
+    } else {
+        (&ending.errors, &ending.output)
+    };
+    said.as_slice().starts_with(start.as_bytes()) && other.is_empty()
+}
+
+/// The first line whose run leaves something else, if there is one.
+fn wrong_run<T: Threads + Wait + Sync>(
+    rt: &T,
+    alloc: Global,
+) -> Result<Option<&'static str>, Fail> {
+    for (line, status, start, names) in RUNS {
+        let ending = run_line(rt, alloc, line)?;
+        let is_right = ending.status == status
+            && says(&ending, start)
+            && ending.names.as_slice() == names.as_bytes();
+        if !is_right {
+            return Ok(Some(line));
+        }
+    }
+    Ok(None)
+}
+
+#[test]
+fn runs_of_words(rt: HostRuntime) -> Result<(), Fail> {
+    let wrong = wrong_run(&rt, rt.alloc())?.unwrap_or("none");
+    assert!(rt; wrong == "none", "{wrong}");
+    Ok(())
+}
+
+/// The first line whose report has another last class, if there is one.
+fn wrong_rule<T: Threads + Wait + Sync>(
+    rt: &T,
+    alloc: Global,
+) -> Result<Option<&'static str>, Fail> {
+    for (line, class) in RULES {
+        let ending = run_line(rt, alloc, line)?;
+        let is_right = match str::from_utf8(ending.output.as_slice()) {
+            Ok(report) => report.contains(class),
+            Err(_) => false,
+        };
+        if !is_right {
+            return Ok(Some(line));
+        }
+    }
+    Ok(None)
+}
+
+#[test]
+fn rules_by_their_words(rt: HostRuntime) -> Result<(), Fail> {
+    let wrong = wrong_rule(&rt, rt.alloc())?.unwrap_or("none");
+    assert!(rt; wrong == "none", "{wrong}");
+    Ok(())
+}
+
+/// The first line whose run leaves something else on the screen, if there is one.
+fn wrong_screen<T: Threads + Wait + Sync>(
+    rt: &T,
+    alloc: Global,
+) -> Result<Option<&'static str>, Fail> {
+    for (line, screen) in SCREENS {
+        let ending = run_line(rt, alloc, line)?;
+        if ending.screen.as_slice() != screen.as_bytes() {
+            return Ok(Some(line));
+        }
+    }
+    Ok(None)
+}
+
+#[test]
+fn what_is_told_on_a_screen(rt: HostRuntime) -> Result<(), Fail> {
+    let wrong = wrong_screen(&rt, rt.alloc())?.unwrap_or("none");
+    assert!(rt; wrong == "none", "{wrong}");
+    Ok(())
+}
+
+/// Whether it is said so that the words can't be had for this reason.
+fn refuses<T: Threads + Wait + Sync>(
+    rt: &T,
+    alloc: Global,
+    kind: ErrorKind,
+    status: u8,
+    start: &str,
+) -> bool {
+    let ending = run_words(rt, alloc, &Err(kind));
+    ending.status == status && says(&ending, start) && ending.names.is_empty()
+}
+
+#[test]
+fn words_that_cannot_be_had(rt: HostRuntime) {
+    assert!(rt;
+        refuses(
+            &rt,
+            rt.alloc(),
+            ErrorKind::InvalidData,
+            2,
+            "error: a word of the command line is not UTF-8"
+        )
+    );
+    assert!(rt; refuses(&rt, rt.alloc(), ErrorKind::OutOfMemory, 3, "memory\n"));
+}
