@@ -14,8 +14,7 @@ use Rattle.buck_book.specs.declared.posting.Posting.{Posting}
 use Rattle.buck_book.specs.declared.posting.Posting.TheVariants.{Cut, Demand}
 use Rattle.buck_book.specs.Posting.{harvester_of}
 use Rattle.buck_book.specs.Counts.{class_logs, assortment_logs, class_logs_in, assortment_logs_in, count_of, assortment_count_of, calls_of}
-use Rattle.buck_book.specs.Book.{tally_of}
-use Rattle.buck_book.specs.inner.Running.{AreCounts, AreAtMost, AreCalls, AreGrown, AreGrownBy}
+use Rattle.buck_book.specs.inner.Running.{AreCounts, AreAtMost, AreCalls, AreGrown, AreGrownBy, tally_of}
 use Rattle.buck_book.specs.Targets.{AreTargets}
 use Rattle.buck_book.specs.inner.Pricing.{CanPrice}
 use Rattle.buck_book.proofs.Cuts.{tallied, class_logs-le}

@@ -1,11 +1,10 @@
 -- The logs of an admissible cutting: each is allowed, and there are at most 80.
-use Rattle.std.proofs.Common.{◌≡◌, ℕ, ◌+◌, ◌*◌, ◌<◌, ◌≤◌, ◌==◌, ◌&&◌, true, cond, List, [], ◌∷◌, All, length, count_by, refl, sym, ◌∙◌, ap, subst, inl, inr, arith, eqb-true, eq-eqb}
+use Rattle.std.proofs.Common.{◌≡◌, ℕ, ◌+◌, ◌*◌, ◌≤◌, ◌==◌, ◌&&◌, true, cond, List, [], ◌∷◌, All, length, count_by, refl, sym, ◌∙◌, ap, subst, inl, inr, arith, eqb-true, eq-eqb}
 use Rattle.std.proofs.lemmas.Bool.{and_parts, and_from, ne_eqb, cases_eq, false_from_ne_true, cases_Bool}
 use Rattle.std.proofs.lemmas.List.Elements.{All-nil, All-cons}
 use Rattle.std.proofs.lemmas.List.Sums.{sum_by-cons}
-use Rattle.std.proofs.lemmas.Option.{slice_get_within}
 use Rattle.buck_apt.specs.declared.class.Class.{Class}
-use Rattle.buck_apt.specs.Instruction.{InstructionParts, IsInstruction, IsClass, classes, index_of}
+use Rattle.buck_apt.specs.Instruction.{InstructionParts, IsInstruction, IsClass, index_of}
 use Rattle.buck_stem.specs.Stem.{StemParts, IsStem, stem_length}
 use Rattle.buck_value.specs.declared.log.Log.{Log}
 use Rattle.buck_value.specs.Allowed.{IsAllowed, class_of, end_of}
@@ -13,8 +12,8 @@ use Rattle.buck_value.proofs.Classes.{class_is_class, allowed_low}
 use Rattle.buck_dp.specs.Cutting.{IsCutFrom}
 use Rattle.buck_dp.proofs.Bounds.{end_within}
 use Rattle.buck_book.specs.Counts.{is_class, class_logs, assortment_logs}
-use Rattle.buck_book.specs.Book.{tally_of}
-use Rattle.buck_book.proofs.Places.{one_place, class_of_assortment, place_lt}
+use Rattle.buck_book.specs.inner.Running.{tally_of}
+use Rattle.buck_book.proofs.Places.{one_place, class_of_assortment}
 
 pub each_allowed : (i : InstructionParts) (stem : StemParts) (from : ℕ) (gs : List Log) → IsCutFrom (IsAllowed i stem) (end_of i) from gs → All (IsAllowed i stem) gs
 each_allowed i stem from [] c = All-nil (IsAllowed i stem)
@@ -94,19 +93,3 @@ class_logs-le i c stem (g ∷ gs) =
       sum_by-cons (λ x. cond (is_class c (class_of i stem x)) 1 0) g gs,
       sum_by-cons (λ x. cond (x.assortment == c.assortment) 1 0) g gs,
     )
-
--- the places of a cutting's logs are places of classes
-pub places_within : (i : InstructionParts) (stem : StemParts) (n from : ℕ) (gs : List Log) → IsInstruction i → n ≡ classes i → IsCutFrom (IsAllowed i stem) (end_of i) from gs → All (λ p. p < n) (tally_of i stem gs)
-places_within i stem n from [] v e c = All-nil (λ p. p < n)
-places_within i stem n from (g ∷ gs) v e c =
-    All-cons (λ p. p < n) (index_of i (class_of i stem g)) (tally_of i stem gs)
-    (rw e (place_lt i (class_of i stem g) (class_is_class i stem g v c.1)))
-    (places_within i stem n (end_of i g) gs v e c.2)
-
--- their assortments are there
-pub assortments_within : (i : InstructionParts) (stem : StemParts) (n from : ℕ) (gs : List Log) → n ≡ length i.assortments → IsCutFrom (IsAllowed i stem) (end_of i) from gs → All (λ g. g.assortment < n) gs
-assortments_within i stem n from [] e c = All-nil (λ g. g.assortment < n)
-assortments_within i stem n from (g ∷ gs) e c =
-    All-cons (λ x. x.assortment < n) g gs
-    (rw e (slice_get_within i.assortments g.assortment c.1.assortment c.1.exists))
-    (assortments_within i stem n (end_of i g) gs e c.2)

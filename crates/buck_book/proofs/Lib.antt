@@ -6,6 +6,7 @@ pub mod Counting
 pub mod Wanted
 pub mod Standings
 pub mod Sheets
+pub mod Told
 pub mod Books
 pub mod Alone
 pub mod Relations

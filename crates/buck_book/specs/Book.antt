@@ -1,9 +1,8 @@
 -- A book as clauses see it, and what a prepared commit has to be.
-use Rattle.std.specs.Prelude.{◌≡◌, ℕ, ◌+◌, ◌<◌, ◌≤◌, List, [], ◌∷◌, ◌++◌, length, map, slice_get, Option, Some, MatchOption}
-use Rattle.buck_apt.specs.Instruction.{InstructionParts, IsInstruction, IsWithin, index_of}
+use Rattle.std.specs.Prelude.{◌≡◌, ℕ, ◌+◌, ◌<◌, ◌≤◌, List, [], ◌∷◌, ◌++◌, length, slice_get, Option, Some, MatchOption}
+use Rattle.buck_apt.specs.Instruction.{InstructionParts, IsInstruction, IsWithin}
 use Rattle.buck_stem.specs.Stem.{StemParts, IsStem}
 use Rattle.buck_value.specs.declared.log.Log.{Log}
-use Rattle.buck_value.specs.Allowed.{class_of}
 use Rattle.buck_value.specs.Sheet.{SheetParts, sheet_of}
 use Rattle.buck_dp.specs.Best.{IsFirstBest}
 use Rattle.buck_book.specs.declared.posting.Posting.{Posting}
@@ -89,15 +88,10 @@ IsSheetWithDemand h targets s = (harvester : ℕ) → IsNextSheet h (Demand (dem
 abbrev pub HasSheetRoom : {F : Type 0} → BookParts F → Option SheetParts → Type 0
 HasSheetRoom b next = MatchOption next (Unit {0}) (λ _. length b.history.sheets < b.sheet_room)
 
--- the place of each log's class
-abbrev pub tally_of : InstructionParts → StemParts → List Log → List ℕ
-tally_of i stem logs = map (λ g. index_of i (class_of i stem g)) logs
-
 -- what a prepared commit holds
 pub record ReadyParts : Type 0 where
   pub stem : StemParts
   pub logs : List Log
-  pub tally : List ℕ  -- the place of each log's class
   pub next : Option SheetParts
 
 -- a prepared commit is right for this plan, at this state of the book, whoever commits it
@@ -106,7 +100,6 @@ pub record IsMadeFor {F : Type 0} (b : BookParts F) (r : ReadyParts) (p : PlanPa
   pub sheet_in_force : p.sheet ≡ in_force b.history
   pub same_stem : r.stem ≡ p.stem
   pub same_logs : r.logs ≡ p.logs
-  pub tallied : r.tally ≡ tally_of b.history.instruction p.stem p.logs
   pub next : (harvester : ℕ) → IsNext b.history (Cut (entry_of b.history harvester p)) r.next
 
 -- it was prepared for this plan by this book, with no commit since: it is right, and there is memory for what it adds

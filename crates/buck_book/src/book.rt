@@ -1,32 +1,32 @@
 //! The book of one thread.
 ghost use Rattle.std.specs.Prelude.{◌≡◌, ℕ, ◌+◌, ◌<◌, ◌≤◌, [], ◌∷◌, ◌++◌, false, All, IfOk, IfErr, IfSome, OnOk, IsTrue, ◌↔◌, length, map, vec_len, vec_capacity};
 ghost use Rattle.std.specs.Option.{option_to_list, option_map};
-ghost use Rattle.buck_apt.specs.Instruction.{IsInstruction, IsClass, index_of};
+ghost use Rattle.buck_apt.specs.Instruction.{IsClass};
 ghost use Rattle.buck_rule.specs.Stored.{Answers};
-ghost use Rattle.buck_value.specs.Allowed.{IsAllowed, class_of};
 ghost use Rattle.buck_value.specs.Sheet.{base_prices, sheet_of};
-ghost use Rattle.buck_book.specs.Posting.{targets_of, opening_targets, cuts_since_end};
+ghost use Rattle.buck_book.specs.Posting.{targets_of, cuts_since_end};
 ghost use Rattle.buck_book.specs.Targets.{AreTargets};
 ghost use Rattle.buck_book.specs.Counts.{AreClassCounts, count_of, calls_of};
-ghost use Rattle.buck_book.specs.History.{IsLawful, version_of, in_force, sheets_with};
-ghost use Rattle.buck_book.specs.Pricing.{AreAnswersWith, AreAnswersWithDemand};
-ghost use Rattle.buck_book.specs.Book.{sheets_from, IsBook, IsSheetWith, IsSheetWithDemand, entry_of, demand_of, postings_with, HasSheetRoom, IsMadeFor, IsReadyFor, IsMadeDemand, IsReadyDemand, SameContent, tally_of};
+ghost use Rattle.buck_book.specs.History.{IsLawful, IsEnd, IsNextSheet, version_of, in_force, sheets_with};
+ghost use Rattle.buck_book.specs.Pricing.{AreAnswers, AreAnswersWith, AreAnswersWithDemand};
+ghost use Rattle.buck_book.specs.Book.{sheets_from, IsBook, IsSheetWith, IsSheetWithDemand, entry_of, demand_of, HasSheetRoom, IsMadeFor, IsReadyFor, IsMadeDemand, IsReadyDemand, SameContent};
 ghost use Rattle.buck_book.specs.Refused.{IsFull, IsBelow, IsRefusal, IsDemandRefusal};
-ghost use Rattle.buck_book.specs.inner.Running.{AreCounts, AreAtMost, cuts_after};
+ghost use Rattle.buck_book.specs.declared.posting.Posting.{Posting};
+ghost use Rattle.buck_book.specs.inner.Running.{IsPassed};
 
-use crate::counts::{Counts, zeros};
+use crate::counts::zeros;
 use crate::demand::{DemandRefusal, ReadyDemand};
 use crate::entry::Entry;
 use crate::plan::Plan;
 use crate::posting::{Demand, Posting};
 use crate::pricing::{Standings, sheet_by};
 use crate::ready::{Ready, Refusal};
+use crate::running::Running;
 use crate::targets::check_targets;
 use buck_apt::{Class, Instruction};
 use buck_record::Memory;
 use buck_rule::{Rule, Standing};
-use buck_stem::Stem;
-use buck_value::{Log, Sheet, class_of};
+use buck_value::Sheet;
 use std::alloc::{AllocError, Global};
 use std::marker::Model;
 use std::sync::Arc;
@@ -40,9 +40,7 @@ pub struct Book<F> {
     instruction: Arc<Instruction>,
     sheets: Vec<Arc<Sheet>>,
     postings: Vec<Posting>,
-    targets: Arc<Vec<u32>>,
-    cuts: u32,
-    counts: Counts,
+    running: Running,
     calls: Vec<u32>,
     capacity: u32,
 }
@@ -76,14 +74,7 @@ impl<F> Model for Book<F> {
       capacity = b.capacity;
       room = vec_capacity b.postings;
       sheet_room = vec_capacity b.sheets;
-    }) (record {
-      sheets = map (λ a. a.value) b.sheets.items;
-      targets = b.targets.value.items;
-      cuts = b.cuts;
-      by_class = b.counts.by_class.items;
-      by_assortment = b.counts.by_assortment.items;
-      calls = b.calls.items;
-    }) };
+    }) (map (λ a. a.value) b.sheets.items) b.running b.calls.items };
 }
 
 /// What a book held: a lawful history, the targets in force at its end, and how many logs were cut in each class.
@@ -115,18 +106,6 @@ fn base_sheets(alloc: Global, instruction: Arc<Instruction>) -> Result<Vec<Arc<S
     Ok(sheets)
 }
 
-/// The instruction's targets, class by class.
-pub fn targets_at_opening(alloc: Global, instruction: &Instruction) -> Result<Vec<u32>, AllocError>
-    ensures targets { IfOk result (λ targets. targets.items ≡ opening_targets instruction.now) }
-    ensures valid { IsInstruction instruction.now }
-{
-    let mut targets = Vec::new(alloc);
-    for assortment in instruction.assortments() {
-        targets.extend_from_slice(assortment.targets())?;
-    }
-    Ok(targets)
-}
-
 /// Adds a posting, where there is memory for it.
 fn add_posting(postings: &mut Vec<Posting>, posting: Posting)
     requires { vec_len postings.old < vec_capacity postings.old }
@@ -144,53 +123,6 @@ fn add_sheet(sheets: &mut Vec<Arc<Sheet>>, next: Option<Arc<Sheet>>)
         Some(sheet) => sheets.push_reserved(sheet),
         None => {}
     }
-}
-
-/// How many cuts came since the last end, after one cut more.
-fn cuts_with(cuts: u32, next: &Option<Arc<Sheet>>) -> u32
-    requires { cuts < 1000 }
-    ensures { result ≡ cuts_after cuts (option_map (λ a. a.value) next.now) }
-{
-    match next {
-        Some(_) => 0,
-        None => cuts + 1,
-    }
-}
-
-/// The place of the class of an allowed log.
-fn place_of(sheet: &Sheet, stem: &Stem, log: &Log) -> u32
-    requires { IsAllowed sheet.now.instruction stem.now log.now }
-    ensures { result ≡ index_of sheet.now.instruction (class_of sheet.now.instruction stem.now log.now) }
-{
-    match class_of(sheet, stem, log.start, log.assortment, log.length) {
-        Some(class) => sheet.instruction().index(class) as u32,
-        None => unreachable!(),
-    }
-}
-
-/// The place of the class of each log of an admissible cutting.
-pub fn places_of(
-    alloc: Global,
-    sheet: &Sheet,
-    stem: &Stem,
-    logs: &[Log],
-) -> Result<Vec<u32>, AllocError>
-    requires { All (IsAllowed sheet.now.instruction stem.now) logs.now }
-    ensures { IfOk result (λ tally. tally.items ≡ tally_of sheet.now.instruction stem.now logs.now) }
-{
-    let mut places = Vec::with_capacity(alloc, logs.len())?;
-    for log in logs {
-        places.push(place_of(sheet, stem, log))?;
-    }
-    Ok(places)
-}
-
-/// The place of the class of each log of a plan.
-fn tally_of(alloc: Global, plan: &Plan) -> Result<Vec<u32>, AllocError>
-    ensures { IfOk result (λ tally. tally.items ≡ tally_of plan.now.sheet.instruction plan.now.stem plan.now.logs) }
-{
-    let cutting = plan.cutting();
-    places_of(alloc, plan.sheet(), plan.stem(), cutting.logs.as_slice())
 }
 
 impl<F: Drop> Book<F> {
@@ -213,7 +145,7 @@ impl<F: Drop> Book<F> {
         ensures version { result ≡ version_of self.now.history }
         ensures small { result ≤ 1000000 }
     {
-        self.sheets.len() as u32 - 1
+        self.running.version()
     }
 
     /// The targets in force, class by class: those of the last demand, else the instruction's.
@@ -221,7 +153,7 @@ impl<F: Drop> Book<F> {
         ensures targets { result.now ≡ targets_of self.now.history.instruction self.now.history.postings }
         ensures valid { AreTargets self.now.history.instruction result.now }
     {
-        self.targets.as_slice()
+        self.running.targets()
     }
 
     /// The number of postings.
@@ -245,7 +177,7 @@ impl<F: Drop> Book<F> {
         requires { IsClass self.now.history.instruction class }
         ensures { result ≡ count_of self.now.history.instruction class self.now.history.postings }
     {
-        self.counts.by_class[self.instruction.index(class)]
+        self.running.counts().by_class[self.instruction.index(class)]
     }
 
     /// How many postings are a harvester's, 1 to 64.
@@ -289,13 +221,11 @@ impl<F: Drop> Book<F> {
             instruction,
             sheets,
             postings,
-            targets,
-            cuts: _,
-            counts,
+            running,
             calls: _,
             capacity: _,
         } = self;
-        let counts = counts.into_classes();
+        let (targets, counts) = running.into_parts();
         Parts {
             instruction,
             sheets,
@@ -319,7 +249,7 @@ impl<F: Drop> Book<F> {
             ↔ (cuts_since_end self.now.history.instruction self.now.history.postings + 1
             ≡ self.now.history.instruction.period) }
     {
-        self.cuts + 1 == self.instruction.period()
+        self.running.cuts() + 1 == self.instruction.period()
     }
 
     /// Makes room for one more posting.
@@ -352,22 +282,6 @@ impl<F: Drop> Book<F> {
         Ok(())
     }
 
-    /// The counts with the logs of a plan, given the place of each one's class.
-    fn counts_with(&self, alloc: Global, plan: &Plan, places: &[u32]) -> Result<Counts, AllocError>
-        requires below { length self.now.history.postings < self.now.capacity }
-        requires in_force { plan.now.sheet ≡ in_force self.now.history }
-        requires places { places.now ≡ tally_of self.now.history.instruction plan.now.stem plan.now.logs }
-        ensures right { IfOk result (λ n. (harvester : ℕ) →
-            AreCounts self.now.history.instruction (postings_with self.now.history harvester plan.now)
-            n.by_class.items n.by_assortment.items) }
-        ensures low { IfOk result (λ n. AreAtMost 80000000 n.by_class.items n.by_assortment.items) }
-        ensures kept { IsBook self.now }
-    {
-        let mut counts = self.counts.clone(alloc)?;
-        counts.add(places, plan.cutting().logs.as_slice());
-        Ok(counts)
-    }
-
     /// Adds a plan's entry at the end of the history, and the next sheet where the period ends; answers the entry. It
     /// takes no memory and can't fail. The commit was prepared for this plan by this book, with no commit since, and
     /// the harvester is from 1 to 64.
@@ -386,14 +300,13 @@ impl<F: Drop> Book<F> {
         let Ready {
             stem: stored_stem,
             cutting: stored_cutting,
-            tally,
             next,
         } = ready;
+        self.running
+            .after_cut(plan.sheet(), plan.stem(), plan.cutting().logs.as_slice());
         let (stem, cutting, worth) = plan.into_parts();
-        self.counts.add(tally.as_slice(), cutting.logs.as_slice());
         let caller = (harvester - 1) as usize;
         self.calls[caller] = number;
-        self.cuts = cuts_with(self.cuts, &next);
         let entry = Entry {
             harvester,
             number,
@@ -430,8 +343,7 @@ impl<F: Drop> Book<F> {
         } = ready;
         let caller = (harvester - 1) as usize;
         self.calls[caller] = number;
-        self.cuts = 0;
-        self.targets = in_force;
+        self.running.after_demand(in_force);
         let demand = Demand {
             harvester,
             number,
@@ -460,60 +372,73 @@ impl<F: Fn(&Standing) -> u64> Book<F> {
         ensures postings { IfOk result (λ b. b.history.postings ≡ []) }
         ensures capacity { IfOk result (λ b. b.capacity ≡ capacity) }
     {
-        let counts = Counts::none(alloc, &instruction)?;
+        let running = Running::opening(alloc, &instruction)?;
         let calls = zeros(alloc, 64)?;
-        let targets = Arc::new(alloc, targets_at_opening(alloc, &instruction)?)?;
         let sheets = base_sheets(alloc, instruction.clone()?)?;
         Ok(Book {
             rule,
             instruction,
             sheets,
             postings: Vec::new(alloc),
-            targets,
-            cuts: 0,
-            counts,
+            running,
             calls,
             capacity,
         })
     }
 
-    /// The sheet that comes after a plan's entry, where that ends a period: the rule's answers to how the classes
-    /// stand with this entry.
-    fn next_sheet(&self, alloc: Global, plan: &Plan, places: &[u32]) -> Result<Arc<Sheet>, Memory>
+    /// The sheet that comes after a posting, an end, with which the postings add up to `after`: the rule's answers to how
+    /// the classes then stand.
+    fn sheet_after(&self, alloc: Global, after: &Running) -> Result<Arc<Sheet>, Memory>
+        requires answers { Answers F.Fn self.now.rule }
+        requires after { (x : Posting) × IsPassed self.now.history x after.now }
+        ensures next { IfOk result (λ s. (x : Posting) → IsPassed self.now.history x after.now
+            → IsEnd self.now.history.instruction self.now.history.postings x
+            → IsNextSheet self.now.history x s.value) }
+        ensures given { IfOk result (λ s. (x : Posting) → IsPassed self.now.history x after.now
+            → AreAnswers F.Fn self.now.rule self.now.history.instruction (self.now.history.postings ++ x ∷ []) s.value.prices) }
+    {
+        let standings = Standings {
+            instruction: &self.instruction,
+            targets: after.targets(),
+            counts: after.counts(),
+        };
+        sheet_by(
+            alloc,
+            &self.rule,
+            &self.instruction,
+            after.version(),
+            &standings,
+        )
+    }
+
+    /// The sheet that comes after a plan's entry, where that ends a period.
+    fn next_sheet(&self, alloc: Global, plan: &Plan) -> Result<Arc<Sheet>, Memory>
         requires answers { Answers F.Fn self.now.rule }
         requires below { length self.now.history.postings < self.now.capacity }
         requires in_force { plan.now.sheet ≡ in_force self.now.history }
-        requires places { places.now ≡ tally_of self.now.history.instruction plan.now.stem plan.now.logs }
+        requires end { cuts_since_end self.now.history.instruction self.now.history.postings + 1
+            ≡ self.now.history.instruction.period }
         ensures next { IfOk result (λ s. IsSheetWith self.now.history plan.now s.value) }
         ensures given { IfOk result (λ s.
             AreAnswersWith F.Fn self.now.rule self.now.history plan.now s.value.prices) }
     {
-        let counts = self.counts_with(alloc, plan, places)?;
-        let version = self.version() + 1;
-        let standings = Standings {
-            instruction: &self.instruction,
-            targets: self.targets(),
-            counts: &counts,
-        };
-        sheet_by(alloc, &self.rule, &self.instruction, version, &standings)
+        let mut after = self.running.clone(alloc)?;
+        after.after_cut(plan.sheet(), plan.stem(), plan.cutting().logs.as_slice());
+        self.sheet_after(alloc, &after)
     }
 
-    /// The sheet that comes after a demand of valid targets: the rule's answers to how the classes stand by these.
-    fn sheet_of_demand(&self, alloc: Global, wanted: &[u32]) -> Result<Arc<Sheet>, Memory>
+    /// The sheet that comes after a demand of valid targets.
+    fn sheet_of_demand(&self, alloc: Global, targets: &Arc<Vec<u32>>) -> Result<Arc<Sheet>, Memory>
         requires answers { Answers F.Fn self.now.rule }
         requires below { length self.now.history.postings < self.now.capacity }
-        requires valid { AreTargets self.now.history.instruction wanted.now }
-        ensures next { IfOk result (λ s. IsSheetWithDemand self.now.history wanted.now s.value) }
+        requires valid { AreTargets self.now.history.instruction targets.now.value.items }
+        ensures next { IfOk result (λ s. IsSheetWithDemand self.now.history targets.now.value.items s.value) }
         ensures given { IfOk result (λ s.
-            AreAnswersWithDemand F.Fn self.now.rule self.now.history wanted.now s.value.prices) }
+            AreAnswersWithDemand F.Fn self.now.rule self.now.history targets.now.value.items s.value.prices) }
     {
-        let version = self.version() + 1;
-        let standings = Standings {
-            instruction: &self.instruction,
-            targets: wanted,
-            counts: &self.counts,
-        };
-        sheet_by(alloc, &self.rule, &self.instruction, version, &standings)
+        let mut after = self.running.clone(alloc)?;
+        after.after_demand(targets.clone()?);
+        self.sheet_after(alloc, &after)
     }
 
     /// All that the commit of a plan stores or hands out.
@@ -527,20 +452,17 @@ impl<F: Fn(&Standing) -> u64> Book<F> {
     {
         let stem = plan.stem().clone()?;
         let cutting = plan.cutting().clone()?;
-        let tally = tally_of(alloc, plan)?;
         if !self.is_period_end() {
             return Ok(Ready {
                 stem,
                 cutting,
-                tally,
                 next: None,
             });
         }
-        let next = self.next_sheet(alloc, plan, tally.as_slice())?;
+        let next = self.next_sheet(alloc, plan)?;
         Ok(Ready {
             stem,
             cutting,
-            tally,
             next: Some(next),
         })
     }
@@ -555,7 +477,7 @@ impl<F: Fn(&Standing) -> u64> Book<F> {
         ensures given { IfOk result (λ r.
             AreAnswersWithDemand F.Fn self.now.rule self.now.history targets.now.value.items r.next.prices) }
     {
-        let next = self.sheet_of_demand(alloc, targets.as_slice())?;
+        let next = self.sheet_of_demand(alloc, targets)?;
         Ok(ReadyDemand {
             stored: targets.clone()?,
             in_force: targets.clone()?,

@@ -1,10 +1,12 @@
 //! Running counts of what was cut.
 ghost use Rattle.std.specs.Prelude.{◌≡◌, ℕ, ◌+◌, ◌<◌, ◌≤◌, ◌^◌, [], All, IfOk, length, slice_index, replicate};
-ghost use Rattle.buck_apt.specs.Instruction.{IsInstruction};
-ghost use Rattle.buck_book.specs.inner.Running.{AreCounts, AreAtMost, AreGrown, AreGrownBy};
+ghost use Rattle.buck_apt.specs.Instruction.{IsInstruction, classes, index_of};
+ghost use Rattle.buck_value.specs.Allowed.{IsAllowed, class_of};
+ghost use Rattle.buck_book.specs.inner.Running.{AreCounts, AreAtMost, AreGrown, AreGrownBy, tally_of};
 
 use buck_apt::Instruction;
-use buck_value::Log;
+use buck_stem::Stem;
+use buck_value::{Log, Sheet, class_of};
 use std::alloc::{AllocError, Global};
 
 /// How many logs were cut in each class, by its place in the instruction, and in each assortment.
@@ -21,14 +23,28 @@ pub fn zeros(alloc: Global, number: usize) -> Result<Vec<u32>, AllocError>
     vec![in alloc; 0; number]
 }
 
-/// Adds one to the count at each of these places.
-fn add_places(counts: &mut Vec<u32>, places: &[u32])
-    requires within { All (λ p. p < length counts.old.items) places.now }
-    requires low { (k : ℕ) → slice_index counts.old.items k + length places.now < 2 ^ 32 }
-    ensures { AreGrown counts.old.items places.now counts.new.items }
+/// The place of the class of an allowed log.
+fn place_of(sheet: &Sheet, stem: &Stem, log: &Log) -> usize
+    requires { IsAllowed sheet.now.instruction stem.now log.now }
+    ensures place { result ≡ index_of sheet.now.instruction (class_of sheet.now.instruction stem.now log.now) }
+    ensures within { result < classes sheet.now.instruction }
 {
-    for place in places {
-        counts[*place as usize] += 1;
+    match class_of(sheet, stem, log.start, log.assortment, log.length) {
+        Some(class) => sheet.instruction().index(class),
+        None => unreachable!(),
+    }
+}
+
+/// Adds one to the count of the class of each log.
+fn add_classes(counts: &mut Vec<u32>, sheet: &Sheet, stem: &Stem, logs: &[Log])
+    requires allowed { All (IsAllowed sheet.now.instruction stem.now) logs.now }
+    requires number { length counts.old.items ≡ classes sheet.now.instruction }
+    requires low { (k : ℕ) → slice_index counts.old.items k + length logs.now < 2 ^ 32 }
+    ensures { AreGrown counts.old.items (tally_of sheet.now.instruction stem.now logs.now) counts.new.items }
+{
+    for log in logs {
+        let place = place_of(sheet, stem, log);
+        counts[place] += 1;
     }
 }
 
@@ -83,16 +99,18 @@ impl Counts {
         by_class
     }
 
-    /// Counts logs, given the place of each one's class.
-    pub fn add(&mut self, places: &[u32], logs: &[Log])
-        requires places { All (λ p. p < length self.old.by_class.items) places.now }
-        requires assortments { All (λ g. g.assortment < length self.old.by_assortment.items) logs.now }
+    /// Counts the logs of a stem's cutting, each allowed under the sheet.
+    pub fn add(&mut self, sheet: &Sheet, stem: &Stem, logs: &[Log])
+        requires allowed { All (IsAllowed sheet.now.instruction stem.now) logs.now }
+        requires classes { length self.old.by_class.items ≡ classes sheet.now.instruction }
+        requires assortments { length self.old.by_assortment.items ≡ length sheet.now.instruction.assortments }
         requires low { AreAtMost 80000000 self.old.by_class.items self.old.by_assortment.items }
-        requires few { (length places.now ≤ 80) × (length logs.now ≤ 80) }
-        ensures classes { AreGrown self.old.by_class.items places.now self.new.by_class.items }
+        requires few { length logs.now ≤ 80 }
+        ensures classes { AreGrown self.old.by_class.items (tally_of sheet.now.instruction stem.now logs.now)
+            self.new.by_class.items }
         ensures assortments { AreGrownBy self.old.by_assortment.items logs.now self.new.by_assortment.items }
     {
-        add_places(&mut self.by_class, places);
+        add_classes(&mut self.by_class, sheet, stem, logs);
         add_assortments(&mut self.by_assortment, logs);
     }
 }

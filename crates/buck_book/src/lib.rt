@@ -11,6 +11,7 @@ mod posting;
 mod pricing;
 mod ready;
 mod relation;
+mod running;
 mod targets;
 mod walk;
 

@@ -1,5 +1,6 @@
 //! Postings of a history: cuts and demands.
 ghost use Rattle.std.specs.Prelude.{◌≡◌, ◌↔◌, IfOk, IsTrue};
+ghost use Rattle.buck_book.specs.Posting.{harvester_of};
 
 use crate::entry::Entry;
 use buck_record::Memory;
@@ -80,6 +81,16 @@ impl Demand {
 }
 
 impl Posting {
+    /// Whose it is.
+    pub fn harvester(&self) -> u32
+        ensures { result ≡ harvester_of self.now }
+    {
+        match self {
+            Posting::Cut(entry) => entry.harvester,
+            Posting::Demand(demand) => demand.harvester,
+        }
+    }
+
     /// A second posting of the same value, which shares what the first holds. Refused as `Memory` alone.
     pub fn clone(&self) -> Result<Posting, Memory>
         ensures { IfOk result (λ x. x ≡ self.now) }

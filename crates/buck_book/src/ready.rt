@@ -17,7 +17,6 @@ use thiserror::Error;
 pub struct Ready {
     pub(crate) stem: Arc<Stem>,
     pub(crate) cutting: Arc<Cutting>,
-    pub(crate) tally: Vec<u32>,
     pub(crate) next: Option<Arc<Sheet>>,
 }
 
@@ -30,7 +29,6 @@ impl Model for Ready {
     ghost view = { λ r. record {
       stem = r.stem.value;
       logs = r.cutting.value.logs.items;
-      tally = r.tally.items;
       next = option_map (λ a. a.value) r.next;
     } };
 }

@@ -36,7 +36,7 @@ fn replay_posting<'w>(
 {
     check_call(&walk, posting)?;
     check_content(alloc, planner, posting, walk.at())?;
-    Ok(walk.pass(alloc, planner.sheet(), posting)?)
+    Ok(walk.pass(planner.sheet(), posting)?)
 }
 
 /// Passes postings that may follow under the sheet in force, a planner's, until a period begins or none is left.

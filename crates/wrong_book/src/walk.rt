@@ -63,7 +63,7 @@ pub fn passed_demand_is_no_end<'a>(
     requires valid { AreTargets sheet.now.instruction demand.now.targets }
 {
     let walk = Walk::opening(alloc, sheet.instruction(), postings)?;
-    let walk = walk.pass(alloc, sheet, posting)?;
+    let walk = walk.pass(sheet, posting)?;
     let right = walk.version();
     let wrong = 0;
     prove!(right != wrong);
@@ -83,7 +83,7 @@ pub fn passed_version_one_off<'a>(
     requires valid { AreTargets sheet.now.instruction demand.now.targets }
 {
     let walk = Walk::opening(alloc, sheet.instruction(), postings)?;
-    let walk = walk.pass(alloc, sheet, posting)?;
+    let walk = walk.pass(sheet, posting)?;
     let right = walk.version();
     let wrong = 2;
     prove!(right != wrong);

@@ -1,12 +1,15 @@
--- Running counts, and what they are of some postings.
-use Rattle.std.specs.Prelude.{◌≡◌, ℕ, ◌+◌, ◌*◌, ◌<◌, ◌≤◌, ◌==◌, List, length, count_by, slice_index, Option, Some, None}
-use Rattle.buck_apt.specs.Instruction.{InstructionParts}
+-- What some postings add up to, and running counts.
+use Rattle.std.specs.Prelude.{◌≡◌, ℕ, ◌+◌, ◌*◌, ◌<◌, ◌≤◌, ◌==◌, List, [], ◌∷◌, ◌++◌, length, map, count_by, slice_index}
+use Rattle.buck_apt.specs.Instruction.{InstructionParts, IsInstruction, index_of}
+use Rattle.buck_stem.specs.Stem.{StemParts}
 use Rattle.buck_value.specs.declared.log.Log.{Log}
+use Rattle.buck_value.specs.Allowed.{class_of}
 use Rattle.buck_value.specs.Sheet.{SheetParts}
 use Rattle.buck_book.specs.declared.posting.Posting.{Posting}
-use Rattle.buck_book.specs.Posting.{targets_of, cuts_since_end}
+use Rattle.buck_book.specs.Posting.{targets_of, ends_of, cuts_since_end}
 use Rattle.buck_book.specs.Targets.{AreTargets}
 use Rattle.buck_book.specs.Counts.{AreClassCounts, assortment_count_of, assortment_logs, calls_of}
+use Rattle.buck_book.specs.History.{HistoryParts}
 use Rattle.buck_book.specs.Book.{BookParts, IsBook, sheets_from}
 
 -- the running counts of classes and assortments are the counts of some postings
@@ -20,10 +23,9 @@ pub record AreAtMost (most : ℕ) (by_class by_assortment : List ℕ) : Type 0 w
   pub class_counts : (k : ℕ) → slice_index by_class k ≤ most
   pub assortment_counts : (a : ℕ) → slice_index by_assortment a ≤ most
 
--- the running numbers of calls, by harvester from 1 to 64, are those of some postings
-pub record AreCalls (ps : List Posting) (calls : List ℕ) : Type 0 where
-  pub number : length calls ≡ 64
-  pub each : (k : ℕ) → k < 64 → slice_index calls k ≡ calls_of (k + 1) ps
+-- the place of each log's class
+abbrev pub tally_of : InstructionParts → StemParts → List Log → List ℕ
+tally_of i stem logs = map (λ g. index_of i (class_of i stem g)) logs
 
 -- each count grew by how often its place stands in a list
 pub record AreGrown (before places after : List ℕ) : Type 0 where
@@ -35,27 +37,46 @@ pub record AreGrownBy (before : List ℕ) (logs : List Log) (after : List ℕ) :
   pub number : length after ≡ length before
   pub each : (a : ℕ) → slice_index after a ≡ slice_index before a + assortment_logs a logs
 
--- what a book holds beside its history
+-- what some postings add up to
 pub record RunningParts : Type 0 where
-  pub sheets : List SheetParts
   pub targets : List ℕ  -- those in force
   pub cuts : ℕ  -- since the last end
+  pub version : ℕ  -- how many ends there were
   pub by_class : List ℕ
   pub by_assortment : List ℕ
-  pub calls : List ℕ
+
+-- it is what the history's definitions say of these postings
+pub record Tells (i : InstructionParts) (ps : List Posting) (n : RunningParts) : Type 0 where
+  pub valid : IsInstruction i
+  pub few : length ps ≤ 1000000
+  pub targets_are : n.targets ≡ targets_of i ps
+  pub targets_valid : AreTargets i n.targets
+  pub cuts_are : n.cuts ≡ cuts_since_end i ps
+  pub version_is : n.version ≡ ends_of i ps
+  pub counts_are : AreCounts i ps n.by_class n.by_assortment
+  pub counts_low : AreAtMost (80 * length ps) n.by_class n.by_assortment
+
+-- some postings to which one may be added add up to it
+abbrev pub GoesOn : InstructionParts → RunningParts → Type 0
+GoesOn i n = (ps : List Posting) × (length ps < 1000000) × Tells i ps n
+
+-- with a posting more, some postings that added up to one thing add up to the other
+abbrev pub IsAfter : InstructionParts → RunningParts → Posting → RunningParts → Type 0
+IsAfter i before x after =
+    (ps : List Posting) → length ps < 1000000 → Tells i ps before → Tells i (ps ++ x ∷ []) after
+
+-- a history's postings with one more add up to it
+abbrev pub IsPassed : HistoryParts → Posting → RunningParts → Type 0
+IsPassed h x n = Tells h.instruction (h.postings ++ x ∷ []) n
+
+-- the running numbers of calls, by harvester from 1 to 64, are those of some postings
+pub record AreCalls (ps : List Posting) (calls : List ℕ) : Type 0 where
+  pub number : length calls ≡ 64
+  pub each : (k : ℕ) → k < 64 → slice_index calls k ≡ calls_of (k + 1) ps
 
 -- what a book keeps: its sheets are those of its prices, and all that runs on is what its history says
-pub record Keeps {F : Type 0} (b : BookParts F) (n : RunningParts) : Type 0 where
+pub record Keeps {F : Type 0} (b : BookParts F) (sheets : List SheetParts) (n : RunningParts) (calls : List ℕ) : Type 0 where
   pub is_book : IsBook b
-  pub sheets_are : n.sheets ≡ sheets_from 0 b.history.instruction b.history.sheets
-  pub targets_are : n.targets ≡ targets_of b.history.instruction b.history.postings
-  pub targets_valid : AreTargets b.history.instruction n.targets
-  pub cuts_are : n.cuts ≡ cuts_since_end b.history.instruction b.history.postings
-  pub counts_are : AreCounts b.history.instruction b.history.postings n.by_class n.by_assortment
-  pub counts_low : AreAtMost (80 * length b.history.postings) n.by_class n.by_assortment
-  pub calls_are : AreCalls b.history.postings n.calls
-
--- how many cuts came since the last end after one cut more, which is an end where there is a next sheet
-abbrev pub cuts_after : ℕ → Option SheetParts → ℕ
-cuts_after cuts None = cuts + 1
-cuts_after cuts (Some s) = 0
+  pub sheets_are : sheets ≡ sheets_from 0 b.history.instruction b.history.sheets
+  pub tells : Tells b.history.instruction b.history.postings n
+  pub calls_are : AreCalls b.history.postings calls

@@ -1,15 +1,13 @@
 -- What runs on along a way through postings.
-use Rattle.std.specs.Prelude.{◌≡◌, ℕ, ◌+◌, ◌*◌, ◌<◌, ◌≤◌, ◌==◌, cond, List, length, slice_index, unwrap_or}
+use Rattle.std.specs.Prelude.{◌≡◌, ℕ, ◌+◌, ◌<◌, ◌≤◌, ◌==◌, cond, List, length, slice_index, unwrap_or}
 use Rattle.std.specs.Ordering.{nat_cmp}
 use Rattle.std.specs.BTreeMap.{get, BTreeMap}
 use Rattle.buck_apt.specs.declared.class.Class.{Class}
-use Rattle.buck_apt.specs.Instruction.{IsInstruction, IsClass, index_of}
+use Rattle.buck_apt.specs.Instruction.{IsClass, index_of}
 use Rattle.buck_rule.specs.Relation.{Meets}
-use Rattle.buck_book.specs.Posting.{ends_of, cuts_since_end, targets_of}
-use Rattle.buck_book.specs.Targets.{AreTargets}
 use Rattle.buck_book.specs.Counts.{calls_of}
 use Rattle.buck_book.specs.Walk.{WalkParts, passed}
-use Rattle.buck_book.specs.inner.Running.{AreCounts, AreAtMost}
+use Rattle.buck_book.specs.inner.Running.{RunningParts, Tells}
 use Rattle.buck_book.specs.inner.Pricing.{StandingsParts, standing_by}
 
 -- how many calls a harvester has
@@ -20,27 +18,12 @@ calls_in calls h = unwrap_or (get nat_cmp calls h) 0
 abbrev pub IsCalled : BTreeMap ℕ ℕ → ℕ → BTreeMap ℕ ℕ → Type 0
 IsCalled before harvester after = (h : ℕ) → calls_in after h ≡ calls_in before h + cond (harvester == h) 1 0
 
--- what is kept beside the place
-pub record PassedParts : Type 0 where
-  pub targets : List ℕ  -- those in force
-  pub cuts : ℕ  -- since the last end
-  pub version : ℕ
-  pub by_class : List ℕ
-  pub by_assortment : List ℕ
-  pub calls : ℕ → ℕ  -- by harvester
-
--- it is what the postings that were passed say
-pub record Tells (w : WalkParts) (n : PassedParts) : Type 0 where
-  pub valid : IsInstruction w.instruction
+-- what is kept beside the place is what the postings that were passed say
+pub record IsWalk (w : WalkParts) (n : RunningParts) (calls : ℕ → ℕ) : Type 0 where
   pub few : length w.postings ≤ 1000000
   pub within : w.at ≤ length w.postings
-  pub targets_are : n.targets ≡ targets_of w.instruction (passed w)
-  pub targets_valid : AreTargets w.instruction n.targets
-  pub cuts_are : n.cuts ≡ cuts_since_end w.instruction (passed w)
-  pub version_is : n.version ≡ ends_of w.instruction (passed w)
-  pub counts_are : AreCounts w.instruction (passed w) n.by_class n.by_assortment
-  pub counts_low : AreAtMost (80 * w.at) n.by_class n.by_assortment
-  pub calls_are : (h : ℕ) → n.calls h ≡ calls_of h (passed w)
+  pub tells : Tells w.instruction (passed w) n
+  pub calls_are : (h : ℕ) → calls h ≡ calls_of h (passed w)
 
 -- the prices of all classes below a place keep the price relation
 abbrev pub AreMetBelow : StandingsParts → List ℕ → ℕ → Type 0

@@ -1,38 +1,42 @@
-use Rattle.std.proofs.Common.{ℕ, sym, ◌∙◌, ap, subst}
-use Rattle.buck_book.specs.Book.{BookParts, postings_with_demand}
-use Rattle.buck_book.specs.Pricing.{AreAnswers}
-use Rattle.buck_book.specs.inner.Running.{AreCounts}
-use Rattle.buck_book.proofs.Counting.{can_price}
+use Rattle.std.proofs.Common.{ℕ, refl, sym, ap, arith}
+use Rattle.buck_book.specs.declared.posting.Posting.TheVariants.{Demand}
+use Rattle.buck_book.specs.Book.{demand_of}
+use Rattle.buck_book.specs.inner.Running.{RunningParts, IsPassed}
 use Rattle.buck_book.proofs.Sheets.{weaken_ok}
-use Rattle.buck_book.proofs.Books.{demand_sheet, demand_answers, low_now}
+use Rattle.buck_book.proofs.Told.{version_low}
+use Rattle.buck_book.proofs.Books.{passed_demand}
 use Rattle.buck_book.proofs.book.Book.sheet_of_demand.Goals as goal
 
-pub invariant_of-standings : goal.invariant_of-standings
-invariant_of-standings g c =
-    let k = c.self.invariant in
+pub after_demand-requires : goal.after_demand-requires
+after_demand-requires g c = omega (arith, version_low _ _ _ c.self.invariant.tells, ap (λ (n : RunningParts). n.version) c.in_ok-after.ensures)
+
+pub sheet_after-requires-clause-after : goal.sheet_after-requires-clause-after
+sheet_after-requires-clause-after g c =
+    let below = rw (sym c.self.view_is) at c.requires.below in
     let valid = rw (sym c.self.view_is) at c.requires.valid in
-    rw c.deref.ensures (can_price _ _ _ _ _ k.is_book.valid valid k.counts_are (low_now _ _ k))
+    let targets = ap (λ x. x.items) c.in_ok-clone.ensures.cases in
+    let passed : (harvester : ℕ) → IsPassed c.args.self.now.history (Demand (demand_of c.args.self.now.history harvester c.args.targets.now.value.items)) c.after_demand.new.self =
+    rw (sym c.self.view_is) (passed_demand _ _ _ _ c.self.invariant below c.args.targets.now.value.items _ _ valid c.in_ok-after.ensures (rw targets at c.after_demand.ensures)) in
+    (Demand (demand_of c.args.self.now.history 0 c.args.targets.now.value.items), passed 0)
 
 pub returns-clause-next : goal.returns-clause-next
 returns-clause-next g c =
-    let n = c.self.inside.counts in
-    let same = c.deref.ensures ∙ ap (λ (b : BookParts g.row.F.Denot). b.history.instruction) c.self.view_is in
-    let counts : AreCounts c.args.self.now.history.instruction c.args.self.now.history.postings n.by_class.items n.by_assortment.items =
-    subst (λ (b : BookParts g.row.F.Denot). AreCounts b.history.instruction b.history.postings n.by_class.items n.by_assortment.items) c.self.view_is c.self.invariant.counts_are in
-    weaken_ok c.sheet_by.result
-    (λ s made. demand_sheet g.F.Fn _ c.args.self.now.history c.deref.result.now c.args.wanted.now n.by_class.items n.by_assortment.items c.version-version.result s.value
-    same counts made c.version-version.ensures.version)
-    c.sheet_by.ensures
+    let below = rw (sym c.self.view_is) at c.requires.below in
+    let valid = rw (sym c.self.view_is) at c.requires.valid in
+    let targets = ap (λ x. x.items) c.in_ok-clone.ensures.cases in
+    let passed : (harvester : ℕ) → IsPassed c.args.self.now.history (Demand (demand_of c.args.self.now.history harvester c.args.targets.now.value.items)) c.after_demand.new.self =
+    rw (sym c.self.view_is) (passed_demand _ _ _ _ c.self.invariant below c.args.targets.now.value.items _ _ valid c.in_ok-after.ensures (rw targets at c.after_demand.ensures)) in
+    weaken_ok c.sheet_after.result
+    (λ s next harvester. next (Demand (demand_of c.args.self.now.history harvester c.args.targets.now.value.items)) (passed harvester) refl)
+    c.sheet_after.ensures.next
 
 pub returns-clause-given : goal.returns-clause-given
 returns-clause-given g c =
-    let n = c.self.inside.counts in
-    let same = c.deref.ensures ∙ ap (λ (b : BookParts g.row.F.Denot). b.history.instruction) c.self.view_is in
-    let counts : AreCounts c.args.self.now.history.instruction c.args.self.now.history.postings n.by_class.items n.by_assortment.items =
-    subst (λ (b : BookParts g.row.F.Denot). AreCounts b.history.instruction b.history.postings n.by_class.items n.by_assortment.items) c.self.view_is c.self.invariant.counts_are in
-    weaken_ok c.sheet_by.result
-    (λ s made. subst (λ f. (h : ℕ) → AreAnswers g.F.Fn f c.args.self.now.history.instruction (postings_with_demand c.args.self.now.history h c.args.wanted.now) s.value.prices)
-    (ap (λ (b : BookParts g.row.F.Denot). b.rule) c.self.view_is)
-    (demand_answers g.F.Fn _ c.args.self.now.history c.deref.result.now c.args.wanted.now n.by_class.items n.by_assortment.items c.version-version.result s.value
-    same counts made))
-    c.sheet_by.ensures
+    let below = rw (sym c.self.view_is) at c.requires.below in
+    let valid = rw (sym c.self.view_is) at c.requires.valid in
+    let targets = ap (λ x. x.items) c.in_ok-clone.ensures.cases in
+    let passed : (harvester : ℕ) → IsPassed c.args.self.now.history (Demand (demand_of c.args.self.now.history harvester c.args.targets.now.value.items)) c.after_demand.new.self =
+    rw (sym c.self.view_is) (passed_demand _ _ _ _ c.self.invariant below c.args.targets.now.value.items _ _ valid c.in_ok-after.ensures (rw targets at c.after_demand.ensures)) in
+    weaken_ok c.sheet_after.result
+    (λ s given harvester. given (Demand (demand_of c.args.self.now.history harvester c.args.targets.now.value.items)) (passed harvester))
+    c.sheet_after.ensures.given

@@ -1,6 +1,6 @@
 use Rattle.std.proofs.Common.{◌≡◌, take}
 use Rattle.std.specs.List.{flat_map}
-use Rattle.buck_book.proofs.book.targets_at_opening.Given as goal
+use Rattle.buck_book.proofs.running.targets_at_opening.Given as goal
 
 abbrev pub invariant-loop-assortment : goal.invariant-loop-assortment
 invariant-loop-assortment l = l.targets.items ≡ flat_map (λ a. a.targets) (take l.assortment-index l.assortment-items)

@@ -1,0 +1,107 @@
+-- What some postings add up to, one posting on.
+use Rattle.std.proofs.Common.{◌≡◌, ℕ, ◌+◌, ◌*◌, ◌<◌, ◌≤◌, ◌==◌, cond, List, [], ◌∷◌, ◌++◌, All, length, refl, sym, ◌∙◌, ap, subst, arith}
+use Rattle.std.proofs.lemmas.List.{length-map, length_push}
+use Rattle.std.proofs.lemmas.List.Elements.{All-weaker}
+use Rattle.std.proofs.lemmas.Option.{slice_get_within}
+use Rattle.buck_apt.specs.Instruction.{InstructionParts, IsInstruction, index_of}
+use Rattle.buck_stem.specs.Stem.{StemParts, IsStem}
+use Rattle.buck_value.specs.declared.log.Log.{Log}
+use Rattle.buck_value.specs.Allowed.{IsAllowed, class_of, end_of}
+use Rattle.buck_dp.specs.Cutting.{IsCutFrom}
+use Rattle.buck_book.specs.declared.posting.Posting.{Posting}
+use Rattle.buck_book.specs.declared.posting.Posting.TheVariants.{Cut, Demand}
+use Rattle.buck_book.specs.Entry.{EntryParts, DemandParts}
+use Rattle.buck_book.specs.Posting.{opening_targets}
+use Rattle.buck_book.specs.Targets.{AreTargets}
+use Rattle.buck_book.specs.inner.Running.{RunningParts, Tells, AreCounts, AreAtMost, AreGrown, AreGrownBy, tally_of}
+use Rattle.buck_book.specs.inner.Pricing.{CanPrice}
+use Rattle.buck_book.proofs.Cuts.{few_logs}
+use Rattle.buck_book.proofs.Counting.{counts_more, counts_stay, low_more, can_price}
+use Rattle.buck_book.proofs.Ends.{ends-append, cuts-append, targets-append, ends-le, cuts_low}
+
+-- a looser bound
+at_most : (most more : ℕ) (by_class by_assortment : List ℕ) → most ≤ more → AreAtMost most by_class by_assortment → AreAtMost more by_class by_assortment
+at_most most more by_class by_assortment le low = record {
+  class_counts = λ j. omega (arith, low.class_counts j);
+  assortment_counts = λ j. omega (arith, low.assortment_counts j);
+}
+
+-- the assortments of allowed logs are there
+pub assortments_there : (i : InstructionParts) (stem : StemParts) (n : ℕ) (logs : List Log) → n ≡ length i.assortments → All (IsAllowed i stem) logs → All (λ g. g.assortment < n) logs
+assortments_there i stem n logs e h =
+    All-weaker (IsAllowed i stem) (λ g. g.assortment < n) (λ g a. rw e (slice_get_within i.assortments g.assortment a.assortment a.exists)) logs h
+
+module _ (i : InstructionParts) (ps : List Posting) (n : RunningParts) (t : Tells i ps n) where
+  pub version_low : n.version ≤ 1000000
+  version_low = omega (arith, t.version_is, ends-le i.period 0 ps, t.few)
+
+  pub cuts_few : n.cuts < 1000
+  cuts_few = omega (arith, t.cuts_are, cuts_low i.period 0 ps t.valid.period_range.0 t.valid.period_range.0, t.valid.period_range.1)
+
+  pub counts_fit : AreAtMost 80000000 n.by_class n.by_assortment
+  counts_fit = at_most (80 * length ps) 80000000 n.by_class n.by_assortment (omega (arith, t.few)) t.counts_low
+
+  pub prices_can : CanPrice (record { instruction = i; targets = n.targets; by_class = n.by_class; by_assortment = n.by_assortment })
+  prices_can = can_price i n.targets ps n.by_class n.by_assortment t.valid t.targets_valid t.counts_are counts_fit
+
+  module _ (x : Posting) (few : length ps < 1000000) where
+    few_then : length (ps ++ x ∷ []) ≤ 1000000
+    few_then = omega (arith, few, length_push ps x)
+
+    low_then : (by_class by_assortment : List ℕ) → AreAtMost (80 * length ps + 80) by_class by_assortment → AreAtMost (80 * length (ps ++ x ∷ [])) by_class by_assortment
+    low_then by_class by_assortment low = at_most (80 * length ps + 80) (80 * length (ps ++ x ∷ [])) by_class by_assortment (omega (arith, length_push ps x)) low
+
+  pub tells_cut : (e : EntryParts) (by_class' by_assortment' : List ℕ) (cuts' version' : ℕ)
+      → length ps < 1000000 → IsStem e.stem → IsCutFrom (IsAllowed i e.stem) (end_of i) 0 e.logs
+      → AreGrown n.by_class (tally_of i e.stem e.logs) by_class' → AreGrownBy n.by_assortment e.logs by_assortment'
+      → cuts' ≡ cond (n.cuts + 1 == i.period) 0 (n.cuts + 1)
+      → version' ≡ n.version + cond (n.cuts + 1 == i.period) 1 0
+      → Tells i (ps ++ Cut e ∷ []) (record { targets = n.targets; cuts = cuts'; version = version'; by_class = by_class'; by_assortment = by_assortment' })
+  tells_cut e by_class' by_assortment' cuts' version' few s cut classes_grown assortments_grown cut_is ended =
+      let x : Posting = Cut e in
+      let logs : length e.logs ≤ 80 = few_logs i e.stem e.logs t.valid s cut in
+      let places : length (tally_of i e.stem e.logs) ≤ 80 = omega (arith, logs, length-map e.logs (λ g. index_of i (class_of i e.stem g))) in
+      record {
+        valid = t.valid;
+        few = few_then x few;
+        targets_are = t.targets_are ∙ sym (targets-append (opening_targets i) ps (x ∷ []));
+        targets_valid = t.targets_valid;
+        cuts_are = cut_is ∙ ap (λ c. cond (c + 1 == i.period) 0 (c + 1)) t.cuts_are ∙ sym (cuts-append i.period 0 ps (x ∷ []));
+        version_is = ended ∙ (λ j. t.version_is j + cond (t.cuts_are j + 1 == i.period) 1 0) ∙ sym (ends-append i.period 0 ps (x ∷ []));
+        counts_are = counts_more i ps e n.by_class n.by_assortment (tally_of i e.stem e.logs) by_class' by_assortment' t.valid cut t.counts_are refl classes_grown assortments_grown;
+        counts_low =
+            low_then x few by_class' by_assortment'
+            (low_more (80 * length ps) 80 n.by_class n.by_assortment (tally_of i e.stem e.logs) by_class' by_assortment' e.logs t.counts_low places logs classes_grown assortments_grown);
+      }
+
+  pub tells_demand : (d : DemandParts) (targets' : List ℕ) (version' : ℕ)
+      → length ps < 1000000 → AreTargets i d.targets → d.targets ≡ targets' → version' ≡ n.version + 1
+      → Tells i (ps ++ Demand d ∷ []) (record { targets = targets'; cuts = 0; version = version'; by_class = n.by_class; by_assortment = n.by_assortment })
+  tells_demand d targets' version' few valid same ended =
+      let x : Posting = Demand d in
+      record {
+        valid = t.valid;
+        few = few_then x few;
+        targets_are = sym same ∙ sym (targets-append (opening_targets i) ps (x ∷ []));
+        targets_valid = subst (λ ts. AreTargets i ts) same valid;
+        cuts_are = sym (cuts-append i.period 0 ps (x ∷ []));
+        version_is = ended ∙ ap (λ v. v + 1) t.version_is ∙ sym (ends-append i.period 0 ps (x ∷ []));
+        counts_are = counts_stay i ps d n.by_class n.by_assortment t.counts_are;
+        counts_low = low_then x few n.by_class n.by_assortment (at_most (80 * length ps) (80 * length ps + 80) n.by_class n.by_assortment (omega arith) t.counts_low);
+      }
+
+-- before the first posting
+pub tells_opening : (i : InstructionParts) (targets by_class by_assortment : List ℕ)
+    → IsInstruction i → targets ≡ opening_targets i → AreTargets i targets
+    → AreCounts i [] by_class by_assortment → AreAtMost 0 by_class by_assortment
+    → Tells i [] (record { targets = targets; cuts = 0; version = 0; by_class = by_class; by_assortment = by_assortment })
+tells_opening i targets by_class by_assortment v wanted valid counts low = record {
+  valid = v;
+  few = omega arith;
+  targets_are = wanted;
+  targets_valid = valid;
+  cuts_are = refl;
+  version_is = refl;
+  counts_are = counts;
+  counts_low = low;
+}

@@ -1,0 +1,192 @@
+//! What runs on along postings: a book and a walk hold one each.
+ghost use Rattle.std.specs.Prelude.{◌≡◌, ◌+◌, ◌<◌, ◌≤◌, ◌==◌, ◌↔◌, [], IsTrue, IfOk, OnOk, cond, length, slice_index};
+ghost use Rattle.buck_apt.specs.Instruction.{InstructionParts, IsInstruction};
+ghost use Rattle.buck_value.specs.Allowed.{IsAllowed, end_of};
+ghost use Rattle.buck_dp.specs.Cutting.{IsCutFrom};
+ghost use Rattle.buck_book.specs.Entry.{EntryParts, DemandParts};
+ghost use Rattle.buck_book.specs.Posting.{opening_targets};
+ghost use Rattle.buck_book.specs.Targets.{AreTargets};
+ghost use Rattle.buck_book.specs.Walk.{IsCountable};
+ghost use Rattle.buck_book.specs.inner.Running.{Tells, GoesOn, IsAfter};
+
+use crate::counts::Counts;
+use crate::posting::Posting;
+use buck_apt::Instruction;
+use buck_record::Memory;
+use buck_stem::Stem;
+use buck_value::{Log, Sheet};
+use std::alloc::{AllocError, Global};
+use std::marker::Model;
+use std::sync::Arc;
+
+/// What some postings add up to, from the opening on.
+#[derive(Drop)]
+pub struct Running {
+    targets: Arc<Vec<u32>>,
+    cuts: u32,
+    version: u32,
+    counts: Counts,
+}
+
+impl Model for Running {
+    ghost use Rattle.buck_book.specs.inner.Running.{RunningParts};
+
+    ghost Value = { RunningParts };
+
+    ghost view = { λ n. record {
+      targets = n.targets.value.items;
+      cuts = n.cuts;
+      version = n.version;
+      by_class = n.counts.by_class.items;
+      by_assortment = n.counts.by_assortment.items;
+    } };
+}
+
+/// The instruction's targets, class by class.
+fn targets_at_opening(alloc: Global, instruction: &Instruction) -> Result<Vec<u32>, AllocError>
+    ensures targets { IfOk result (λ targets. targets.items ≡ opening_targets instruction.now) }
+    ensures valid { IsInstruction instruction.now }
+{
+    let mut targets = Vec::new(alloc);
+    for assortment in instruction.assortments() {
+        targets.extend_from_slice(assortment.targets())?;
+    }
+    Ok(targets)
+}
+
+/// How many cuts came since the last end, after one cut more.
+fn cuts_then(cuts: u32, period: u32) -> u32
+    requires { cuts < 1000 }
+    ensures { result ≡ cond (cuts + 1 == period) 0 (cuts + 1) }
+{
+    if cuts + 1 == period { 0 } else { cuts + 1 }
+}
+
+/// The version in force after one cut more.
+fn version_then(version: u32, cuts: u32, period: u32) -> u32
+    requires version { version ≤ 1000000 }
+    requires cuts { cuts < 1000 }
+    ensures { result ≡ version + cond (cuts + 1 == period) 1 0 }
+{
+    if cuts + 1 == period {
+        version + 1
+    } else {
+        version
+    }
+}
+
+impl Running {
+    /// What no posting adds up to.
+    pub fn opening(alloc: Global, instruction: &Instruction) -> Result<Running, Memory>
+        ensures { IfOk result (λ n. Tells instruction.now [] n) }
+    {
+        let counts = Counts::none(alloc, instruction)?;
+        let targets = Arc::new(alloc, targets_at_opening(alloc, instruction)?)?;
+        Ok(Running {
+            targets,
+            cuts: 0,
+            version: 0,
+            counts,
+        })
+    }
+
+    /// A second one of the same value.
+    pub fn clone(&self, alloc: Global) -> Result<Running, Memory>
+        ensures { IfOk result (λ n. n ≡ self.now) }
+    {
+        let counts = self.counts.clone(alloc)?;
+        Ok(Running {
+            targets: self.targets.clone()?,
+            cuts: self.cuts,
+            version: self.version,
+            counts,
+        })
+    }
+
+    /// The targets in force.
+    pub fn targets(&self) -> &[u32]
+        ensures { result.now ≡ self.now.targets }
+    {
+        self.targets.as_slice()
+    }
+
+    /// How many cuts came since the last end.
+    pub fn cuts(&self) -> u32
+        ensures { result ≡ self.now.cuts }
+    {
+        self.cuts
+    }
+
+    /// How many ends there were: the version in force.
+    pub fn version(&self) -> u32
+        ensures { result ≡ self.now.version }
+    {
+        self.version
+    }
+
+    /// How many logs were cut.
+    pub fn counts(&self) -> &Counts
+        ensures classes { result.now.by_class.items ≡ self.now.by_class }
+        ensures assortments { result.now.by_assortment.items ≡ self.now.by_assortment }
+    {
+        &self.counts
+    }
+
+    /// The targets in force, and how many logs were cut in each class.
+    pub fn into_parts(self) -> (Arc<Vec<u32>>, Vec<u32>)
+        ensures targets { result.0.value.items ≡ self.targets }
+        ensures counts { result.1.items ≡ self.by_class }
+    {
+        let Running {
+            targets,
+            counts,
+            ..
+        } = self;
+        (targets, counts.into_classes())
+    }
+
+    /// Adds a cut: an admissible cutting of a stem. The sheet is any of the instruction.
+    pub fn after_cut(&mut self, sheet: &Sheet, stem: &Stem, logs: &[Log])
+        requires before { GoesOn sheet.now.instruction self.old }
+        requires cutting { IsCutFrom (IsAllowed sheet.now.instruction stem.now) (end_of sheet.now.instruction) 0
+            logs.now }
+        ensures { (e : EntryParts) → e.stem ≡ stem.now → e.logs ≡ logs.now
+            → IsAfter sheet.now.instruction self.old (Posting.Cut e) self.new }
+    {
+        // No stem is longer, so its logs are few, and the counts stay small.
+        prove!(stem.length() <= 40_000);
+        let period = sheet.instruction().period();
+        self.counts.add(sheet, stem, logs);
+        self.version = version_then(self.version, self.cuts, period);
+        self.cuts = cuts_then(self.cuts, period);
+    }
+
+    /// Adds a demand of these targets.
+    pub fn after_demand(&mut self, targets: Arc<Vec<u32>>)
+        requires { self.old.version ≤ 1000000 }
+        ensures { (i : InstructionParts) (d : DemandParts) → d.targets ≡ targets.value.items → AreTargets i d.targets
+            → IsAfter i self.old (Posting.Demand d) self.new }
+    {
+        self.targets = targets;
+        self.cuts = 0;
+        self.version += 1;
+    }
+
+    /// Adds a posting that can be counted. The sheet is any of the instruction. Refused as `Memory` alone.
+    pub fn after(&mut self, sheet: &Sheet, posting: &Posting) -> Result<(), Memory>
+        requires before { GoesOn sheet.now.instruction self.old }
+        requires countable { IsCountable sheet.now.instruction posting.now }
+        ensures { OnOk result (IsAfter sheet.now.instruction self.old posting.now self.new) }
+    {
+        match posting {
+            Posting::Cut(entry) => {
+                self.after_cut(sheet, &entry.stem, entry.cutting.logs.as_slice());
+                Ok(())
+            }
+            Posting::Demand(demand) => {
+                self.after_demand(demand.targets.clone()?);
+                Ok(())
+            }
+        }
+    }
+}
