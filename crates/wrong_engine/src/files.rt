@@ -6,6 +6,7 @@ ghost use Rattle.buck_apt.specs.Apt.{apt_of};
 ghost use Rattle.buck_book.specs.History.{IsLawful};
 ghost use Rattle.buck_journal.specs.Journal.{JournalParts, journal_of};
 ghost use Rattle.buck_journal.specs.Replay.{history_of};
+ghost use Rattle.buck_engine.specs.Check.{lawful_line};
 ghost use Rattle.buck_engine.specs.Engine.{is_bar};
 
 use buck_apt::AptFault;
@@ -133,4 +134,16 @@ pub fn longer_file_accepted<'x>(alloc: Global, apt: &'x [u8], stm: &'x [u8], out
     let right = run_buck(alloc, &mut instruction, &mut stems, out);
     let is_refused = right.is_err();
     prove!(is_refused);
+}
+
+/// Another number stands after `LAWFUL` than that of the postings.
+pub fn lawful_with_another_number<'x>(alloc: Global, apt: &'x [u8], journal: &'x [u8], wrong: &[u8])
+    requires differ { (j : JournalParts) → journal_of journal.now ≡ Ok j → wrong.now ≢ lawful_line (length j.entries) }
+{
+    let mut instruction = apt;
+    let mut postings = journal;
+    let mut right = Vec::new(alloc);
+    if run_check(alloc, &mut instruction, &mut postings, &mut right).is_ok() {
+        prove!(right.as_slice() != wrong);
+    }
 }

@@ -1,4 +1,6 @@
 //! Wrong bodies of a fleet over files.
+ghost use Rattle.std.specs.Prelude.{◌<◌, length};
+
 use buck_engine::{EngineFault, run_fleet_files};
 use buck_rule::{Rule, Standing, steady};
 use std::alloc::Global;
@@ -44,6 +46,32 @@ pub fn seats_told_after_the_instruction_was_read<'x, T: Threads + Wait + Sync>(
     );
     let is_read = instruction.len() != apt.len();
     prove!(!is_read);
+}
+
+/// A stem file that is longer than a file may be is read as one.
+pub fn longer_stem_file_accepted<'x, T: Threads + Wait + Sync>(
+    rt: &T,
+    alloc: Global,
+    apt: &'x [u8],
+    stm: &'x [u8],
+    out: &mut Vec<u8>,
+)
+    requires long { 67108864 < length stm.now }
+{
+    let rule = Rule::new(|s: &Standing| steady(s));
+    let mut instruction = apt;
+    let mut stems = [stm];
+    let right = run_fleet_files(
+        rt,
+        alloc,
+        &mut instruction,
+        &mut stems,
+        rule,
+        None::<&mut Vec<u8>>,
+        out,
+    );
+    let is_refused = right.is_err();
+    prove!(is_refused);
 }
 
 /// The report is written before the journal.

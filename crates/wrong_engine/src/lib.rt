@@ -4,6 +4,7 @@
 //! proves that what it gives, or leaves behind, isn't what the wrong body of the function's name would give or leave.
 #![tactic(auto)]
 
+pub mod commands;
 pub mod faults;
 pub mod files;
 pub mod fleets;

@@ -41,6 +41,20 @@ pub fn run_task_files_swapped(alloc: Global, output: &mut Vec<u8>, errors: &mut 
     prove!(right != wrong);
 }
 
+/// The journal is opened first, in the place of the instruction file.
+pub fn check_files_swapped(alloc: Global, output: &mut Vec<u8>, errors: &mut Vec<u8>) {
+    let task = Task::Check {
+        apt: "pine.apt",
+        journal: "stems.jrn",
+    };
+    let mut input = b"".as_slice();
+    let mut files = Missing { asked: 0 };
+    let _ = serve(alloc, &task, &mut input, &mut files, output, errors);
+    let right = files.asked;
+    let wrong = "stems.jrn".len();
+    prove!(right != wrong);
+}
+
 /// The line of a fault goes to the output.
 pub fn serve_fault_line_on_the_output(alloc: Global, errors: &mut Vec<u8>) {
     let task = Task::Buck {
