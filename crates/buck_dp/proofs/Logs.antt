@@ -212,6 +212,27 @@ log_fits p i j e trim bid b =
     let own : a.assortment.trim ≡ trim = sym (ap trim_in a.exists) ∙ b.own in
     omega (arith, b.top, own, a.allows.within)
 
+-- no log is shorter than so many steps, where no offer is
+pub logs_long : (p : GroundParts) (steps : ℕ) → IsSheet p.sheet → AreCodes p.sheet.instruction p.codes
+    → ((k : ℕ) → k < length p.codes → steps * p.sheet.instruction.«module» ≤ slice_index p.codes k / 16)
+    → (i j e trim bid : ℕ) → IsLogBid p i j e trim bid → i + steps ≤ j
+logs_long p steps v are least i j e trim bid b =
+    let a = b.brings.allowed in
+    let m : ℕ = p.sheet.instruction.«module» in
+    let found = are.whole b.log.assortment a.assortment b.log.length a.exists a.allows.length_offered in
+    let low : b.log.assortment < 16 = assortment_low p.sheet.instruction p.stem b.log v.valid a in
+    let code : slice_index p.codes found.0 ≡ code_of b.log.length b.log.assortment =
+    sym (get_or_default p.codes found.0 (code_of b.log.length b.log.assortment) 0 found.1) ∙ found.2 in
+    let l = least found.0 found.1 in
+    let long : b.log.length + i * m ≡ j * m = omega (arith, b.between.start, b.top) in
+    elim (cases_lt j (i + steps)) [
+      | inr le ↦ le
+      | inl less ↦ absurd (
+          let far : (j + 1) * m ≤ (i + steps) * m = mul-le-mul_right m (omega arith) in
+          omega (arith, add-mul j 1 m, add-mul i steps m, v.valid.module_range)
+          )
+    ]
+
 -- no log is longer than so many steps, where no offer is
 pub logs_short : (p : GroundParts) (steps : ℕ) → IsSheet p.sheet → AreCodes p.sheet.instruction p.codes
     → ((k : ℕ) → k < length p.codes → slice_index p.codes k / 16 ≤ steps * p.sheet.instruction.«module»)

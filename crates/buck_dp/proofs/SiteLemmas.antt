@@ -1,16 +1,17 @@
 -- Who takes the wood of a stem.
-use Rattle.std.proofs.Common.{◌≡◌, ℕ, ◌+◌, ◌*◌, ◌/◌, ◌<◌, ◌≤◌, ◌⊎◌, inl, inr, List, Contains, length, slice_index, refl, sym, subst, ◌∙◌, arith, mul-le-mul_left, mul-le-mul_right, add-mul}
+use Rattle.std.proofs.Common.{◌≡◌, ℕ, ◌+◌, ◌-◌, ◌*◌, ◌/◌, ◌<◌, ◌≤◌, ◌⊎◌, inl, inr, List, Contains, length, slice_get, slice_index, Some, refl, sym, subst, ◌∙◌, arith, mul-le-mul_left, mul-le-mul_right, add-mul}
 use Rattle.std.proofs.Math.Nat.{div-mul-le_self, lt-div-mul-add}
 use Rattle.std.proofs.lemmas.Bool.{cases_lt}
+use Rattle.std.proofs.lemmas.Option.{slice_get_within, get_or_from_slice_get}
 use Rattle.buck_stem.specs.Stem.{StemParts, IsStem, IsGrade, grade_at, HasGrade, HasGradesOf, stem_length, diameter_at}
 use Rattle.buck_stem.specs.Profile as grid
 use Rattle.buck_stem.specs.Profile.{IsMask, IsMaskBetween, ProfileParts, profile_of}
 use Rattle.buck_stem.proofs.Tables.{grade_at_is}
 use Rattle.buck_value.proofs.Grades.{mask_allows}
 use Rattle.buck_value.specs.Sheet.{IsSheet}
-use Rattle.buck_bid.specs.Offers.{AreCodes, codes_in}
+use Rattle.buck_bid.specs.Offers.{AreCodes, codes_in, code_of}
 use Rattle.buck_dp.specs.inner.Points.{GroundParts, points_of}
-use Rattle.buck_dp.proofs.Logs.{logs_short, point_within}
+use Rattle.buck_dp.proofs.Logs.{logs_long, logs_short, point_within}
 use Rattle.buck_value.specs.Allowed.{trim_of}
 use Rattle.buck_dp.specs.declared.takers.Takers.{Takers}
 use Rattle.buck_dp.specs.declared.takers.Kind.{Kind}
@@ -19,7 +20,7 @@ use Rattle.buck_dp.specs.inner.Bid.{BidParts}
 use Rattle.buck_dp.specs.inner.Logs.{IsLogAt}
 use Rattle.buck_dp.specs.inner.Parts.{HasTakers}
 use Rattle.buck_dp.specs.inner.Cells.{AreCells}
-use Rattle.buck_dp.specs.inner.Rows.{IsPart}
+use Rattle.buck_dp.specs.inner.Rows.{IsNear, IsPart}
 use Rattle.buck_dp.specs.inner.Site.{IsSite, ground_of}
 use Rattle.buck_dp.specs.declared.planning.Site.{Site}
 use Rattle.buck_dp.specs.declared.offering.Cell.{Cell}
@@ -60,6 +61,14 @@ module _ (p : GroundParts) where
       → ((n : ℕ) → n < length p.codes → slice_index p.codes n / 16 ≤ most * unit) → k + most < t → IsLogAt p k t e bid → ⊥
   too_long most k t e bid valid codes long far log =
       let short = logs_short p most valid codes long k t e (trim_of p.sheet.instruction log.log) (bid.worth * 1024 + bid.rank)
+      (packed_log p valid k t e bid log) in
+      omega arith
+
+  -- no log is shorter than the shortest
+  pub too_short : (least k t e : ℕ) (bid : BidParts) → IsSheet p.sheet → AreCodes p.sheet.instruction p.codes
+      → ((n : ℕ) → n < length p.codes → least * unit ≤ slice_index p.codes n / 16) → t < least → IsLogAt p k t e bid → ⊥
+  too_short least k t e bid valid codes short near log =
+      let long = logs_long p least valid codes short k t e (trim_of p.sheet.instruction log.log) (bid.worth * 1024 + bid.rank)
       (packed_log p valid k t e bid log) in
       omega arith
 
@@ -160,3 +169,28 @@ module _ (x : Site) (is : IsSite x) where
         | inr left ↦ omega arith
       ])
       are
+
+-- the cells of a row are of logs that are no longer than the longest
+pub steps_few : (x : Site) (takers : Takers) (d t first : ℕ) (reach : Reach) (cells : List Cell) → IsSite x
+    → t + reach.past ≡ t → x.market.menu.now.most_steps + first ≤ t
+    → AreCells x.market.sheet.now (codes_in x.market.menu.now.offers.items) takers d reach cells
+    → (k : ℕ) (c : Cell) → slice_get cells k ≡ Some c → IsNear t first t c
+steps_few x takers d t first reach cells is none whole are k c at =
+    let m : ℕ = x.market.sheet.now.instruction.«module» in
+    let codes : List ℕ = codes_in x.market.menu.now.offers.items in
+    let r = are.real k c at in
+    let b = r.is in
+    let place : ℕ = 1023 - c.bid.rank in
+    let there : slice_get codes place ≡ Some (code_of (c.steps * m) b.a) = b.bids.rank.at in
+    let lt : place < length codes = slice_get_within codes place (code_of (c.steps * m) b.a) there in
+    let code : slice_index codes place ≡ code_of (c.steps * m) b.a = get_or_from_slice_get codes place (code_of (c.steps * m) b.a) 0 there in
+    let long : c.steps * m ≤ x.market.menu.now.most_steps * m =
+    (let h = is.menu.long place lt in
+    let low : b.a < 16 = omega (arith, slice_get_within x.market.sheet.now.instruction.assortments b.a b.assortment b.exists, is.valid.valid.assortments_number) in
+    omega arith) in
+    let few : c.steps ≤ x.market.menu.now.most_steps = elim (cases_lt x.market.menu.now.most_steps c.steps) [
+      | inr le ↦ le
+      | inl more ↦ absurd (let far : (x.market.menu.now.most_steps + 1) * m ≤ c.steps * m = mul-le-mul_right m (omega arith) in
+          omega (arith, add-mul x.market.menu.now.most_steps 1 m, is.valid.valid.module_range))
+    ] in
+    (omega arith, omega (arith, b.some))

@@ -197,7 +197,45 @@ impl Kept {
         Ok(place)
     }
 
+    /// Draws the row of a group at a diameter, to be kept at a slot.
+    #[inline(never)]
+    fn draw_kept(
+        &mut self,
+        alloc: Global,
+        market: Market<'_>,
+        group: Group,
+        diameter: u32,
+        slot: usize,
+    ) -> Result<Place, Memory>
+        requires valid { IsSheet market.sheet.now }
+        requires menu { IsMenu market.sheet.now.instruction market.menu.now }
+        requires diameter { diameter ≤ 1500 }
+        requires slot { slot ≤ 1000000000 }
+        requires kept { AreKept market.sheet.now market.menu.now self.old }
+        ensures kept { AreKept market.entry.sheet.now market.entry.menu.now self.new }
+        ensures row { IfOk result (IsRowAt market.entry.sheet.now market.entry.menu.now self.new.cells.items
+            (record { takers = group.takers; at = diameter })) }
+    {
+        let key = Key {
+            takers: group.takers,
+            at: diameter as usize,
+        };
+        let band = market.menu.band_of(diameter);
+        let list = self.list(alloc, market, group, band)?;
+        make_room_for_row(&mut self.cells, &mut self.rows);
+        let place = make_row(
+            &mut self.cells,
+            &self.quotes[list.from..list.past],
+            market,
+            group,
+            diameter,
+        )?;
+        self.rows.keep(Head { key, place }, slot)?;
+        Ok(place)
+    }
+
     /// Where the row of a group at a diameter stands. It is drawn where it isn't there.
+    #[inline(always)]
     pub fn row(
         &mut self,
         alloc: Global,
@@ -218,21 +256,10 @@ impl Kept {
             at: diameter as usize,
         };
         let slot = usize::from(group.number) * DIAMETERS + diameter as usize;
-        if let Some(place) = self.rows.find(key, slot) {
-            return Ok(place);
+        match self.rows.find(key, slot) {
+            Some(place) => Ok(place),
+            None => self.draw_kept(alloc, market, group, diameter, slot),
         }
-        let band = market.menu.band_of(diameter);
-        let list = self.list(alloc, market, group, band)?;
-        make_room_for_row(&mut self.cells, &mut self.rows);
-        let place = make_row(
-            &mut self.cells,
-            &self.quotes[list.from..list.past],
-            market,
-            group,
-            diameter,
-        )?;
-        self.rows.keep(Head { key, place }, slot)?;
-        Ok(place)
     }
 
     /// Draws a row of a group at a diameter in the place of another, for the logs within reach. It isn't kept.

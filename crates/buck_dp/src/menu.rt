@@ -11,14 +11,31 @@ use buck_apt::Instruction;
 use buck_bid::{Band, Offer, band_of, limits_of, offers_of};
 use std::alloc::{AllocError, Global};
 
-/// What an instruction offers: its logs, the limits of its bands of diameters in mm, the length of its longest logs in
-/// steps of the module, and its greatest trim in mm.
+/// What an instruction offers: its logs, the limits of its bands of diameters in mm, the lengths of its shortest and its
+/// longest logs in steps of the module, and its greatest trim in mm.
 #[derive(Drop)]
 pub struct Menu {
     pub offers: Vec<Offer>,
     pub limits: Vec<u32>,
+    pub least_steps: usize,
     pub most_steps: usize,
     pub most_trim: u32,
+}
+
+/// How many steps the shortest offer is long; 1 where there is none.
+fn least_steps(offers: &[Offer], step: u32) -> usize
+    requires step { (10 ≤ step) × (step ≤ 1000) }
+    requires whole { All (λ c. IsWhole step c) (codes_in offers.now) }
+    requires rise { IsStrictlyIncreasing (codes_in offers.now) }
+    requires low { (k : ℕ) (o : Offer) → slice_get offers.now k ≡ Some o → o.assortment < 16 }
+    ensures some { 0 < result }
+    ensures least { (k : ℕ) → k < length (codes_in offers.now)
+        → result * step ≤ slice_index (codes_in offers.now) k / 16 }
+{
+    if offers.len() == 0 {
+        return 1;
+    }
+    (offers[0].length / step) as usize
 }
 
 /// How many steps the longest offer is long; 0 where there is none.
@@ -55,10 +72,13 @@ impl Menu {
     {
         let offers = offers_of(alloc, instruction)?;
         let limits = limits_of(alloc, instruction)?;
-        let most_steps = most_steps(offers.as_slice(), instruction.module());
+        let module = instruction.module();
+        let least_steps = least_steps(offers.as_slice(), module);
+        let most_steps = most_steps(offers.as_slice(), module);
         Ok(Menu {
             offers,
             limits,
+            least_steps,
             most_steps,
             most_trim: most_trim(instruction),
         })

@@ -1,5 +1,6 @@
 //! What is done at one top: its value is settled, and its logs are offered to the points where they start.
-ghost use Rattle.std.specs.Prelude.{◌≡◌, ◌≢◌, ℕ, ◌+◌, ◌<◌, ◌≤◌, ◌⊎◌, length, get_or};
+ghost use Rattle.std.specs.Prelude.{◌≡◌, ◌≢◌, ℕ, ◌+◌, ◌<◌, ◌≤◌, ◌⊎◌, length, get_or, slice_get, Some};
+ghost use Rattle.buck_dp.specs.declared.offering.Cell.{Cell};
 ghost use Rattle.buck_dp.specs.inner.Bid.{bid_of, plus, IsGreater};
 ghost use Rattle.buck_dp.specs.inner.Logs.{bid_at};
 ghost use Rattle.buck_dp.specs.inner.Rows.{IsNear, AreOffered, AreFit};
@@ -41,7 +42,25 @@ pub(crate) fn settle(values: &mut [Bid], choices: &mut [u32], point: usize)
     values[point] = value.without_rank();
 }
 
+/// Offers a cell at a top to the point where its log starts.
+#[inline(always)]
+fn offer_near(values: &mut [Bid], top: usize, cell: Cell)
+    requires near { (0 < cell.steps) × (cell.steps ≤ top) }
+    requires there { top + cell.rise < length values.old }
+    requires even { (bid_at values.old (top + cell.rise)).rank ≡ 0 }
+    requires low { cell.bid.worth + (bid_at values.old (top + cell.rise)).worth ≤ 4000000000000000 }
+    ensures number { length values.new ≡ length values.old }
+    ensures others { (i : ℕ) → i + cell.steps ≢ top → bid_at values.new i ≡ bid_at values.old i }
+    ensures raised { (i : ℕ) → i + cell.steps ≡ top
+        → IsGreater (bid_at values.old i) (plus cell.bid (bid_at values.old (top + cell.rise))) (bid_at values.new i) }
+{
+    let rest = values[top + cell.rise as usize];
+    let start = top - cell.steps as usize;
+    values[start] = values[start].max(cell.bid.plus(rest));
+}
+
 /// Offers a cell at a top to the point where its log starts, if that is `first` or a later one, before `stop`.
+#[inline(always)]
 fn offer(values: &mut [Bid], top: usize, first: usize, stop: usize, cell: Cell)
     requires order { (first ≤ stop) × (stop ≤ top) }
     requires there { IsNear top first stop cell → top + cell.rise < length values.old }
@@ -61,9 +80,19 @@ fn offer(values: &mut [Bid], top: usize, first: usize, stop: usize, cell: Cell)
     if steps <= top - stop {
         return;
     }
-    let rest = values[top + cell.rise as usize];
-    let start = top - steps;
-    values[start] = values[start].max(cell.bid.plus(rest));
+    offer_near(values, top, cell);
+}
+
+/// Offers the cells of a row at a top to the points where their logs start, which are all from `first` on.
+pub(crate) fn offer_whole(values: &mut [Bid], top: usize, first: usize, row: &[Cell])
+    requires order { first ≤ top }
+    requires fit { AreFit row.now top first top values.old }
+    requires near { (k : ℕ) (c : Cell) → slice_get row.now k ≡ Some c → IsNear top first top c }
+    ensures { AreOffered row.now top first top (length row.now) values.old values.new }
+{
+    for cell in row {
+        offer_near(values, top, *cell);
+    }
 }
 
 /// Offers the cells of a row at a top to the points where their logs start, from `first` on and before `stop`.

@@ -1,6 +1,7 @@
 //! The search of a stem: from the top end down one top at a time, and for each the logs with it, by the parts of their
 //! starts.
-ghost use Rattle.std.specs.Prelude.{◌≡◌, ℕ, ◌+◌, ◌<◌, ◌≤◌, IfOk, OnOk};
+ghost use Rattle.std.specs.Prelude.{◌≡◌, ℕ, ◌+◌, ◌*◌, ◌<◌, ◌≤◌, IfOk, OnOk};
+ghost use Rattle.buck_stem.specs.Stem.{stem_length};
 ghost use Rattle.buck_dp.specs.inner.Points.{points_of, ground_with};
 ghost use Rattle.buck_dp.specs.inner.Parts.{HasTakers};
 ghost use Rattle.buck_dp.specs.inner.Site.{IsSite, IsMemoFor, ground_of};
@@ -8,7 +9,6 @@ ghost use Rattle.buck_dp.specs.inner.Takers.{AreKnown};
 
 use crate::keeping::{Kept, Market, Spot, all_logs};
 use crate::kinds::{Group, Kinds};
-use crate::menu::Menu;
 use crate::offering::{Cell, Reach};
 use crate::search::Search;
 use crate::takers::Kind;
@@ -86,11 +86,47 @@ fn part_before(site: Site<'_>, kinds: &mut Kinds, top: usize, stop: usize) -> Re
     Ok(part)
 }
 
-/// Whether the row of a part is one that other tops ask for too: it has the nearest starts, and as good as all logs.
-fn is_common(menu: &Menu, part: Part, top: usize, stop: usize) -> bool
-    requires { part.first ≤ top }
+/// How many mm of a stem lie behind a top.
+#[inline(always)]
+fn left_behind(site: Site<'_>, top: usize) -> u32
+    requires site { IsSite site }
+    requires top { top < points_of (ground_of site) }
+    ensures { result + top * site.entry.market.sheet.now.instruction.module ≡ stem_length site.entry.stem.now.samples }
 {
-    stop == top && (part.first == 0 || top - part.first >= menu.most_steps)
+    site.stem.length() - top as u32 * site.market.sheet.instruction().module()
+}
+
+/// Offers the logs with the top that was settled last, where all of them start in one part and each trim fits.
+#[inline(always)]
+fn offer_whole(
+    alloc: Global,
+    site: Site<'_>,
+    memo: &mut Memo,
+    search: &mut Search<'_>,
+    part: Part,
+) -> Result<(), Memory>
+    requires site { IsSite site }
+    requires memo { IsMemoFor site memo.old }
+    requires ground { search.old.ground ≡ ground_of site }
+    requires top { search.old.from < points_of (ground_of site) }
+    requires stop { search.old.stop ≡ search.old.from }
+    requires whole { part.first + site.market.menu.now.most_steps ≤ search.old.from }
+    requires room { search.old.from * site.market.sheet.now.instruction.module + site.market.menu.now.most_trim
+        ≤ stem_length site.stem.now.samples }
+    requires takers { (i : ℕ) → part.first ≤ i → i < search.old.stop
+        → HasTakers (ground_of site) part.group.takers i search.old.from }
+    ensures memo { IsMemoFor site.entry memo.new }
+    ensures ground { OnOk result (search.new.ground ≡ search.old.ground) }
+    ensures from { OnOk result (search.new.from ≡ search.old.from) }
+    ensures stop { OnOk result (search.new.stop ≡ part.first) }
+{
+    let top = search.from();
+    let diameters = site.profile.diameters();
+    let place = memo
+        .kept
+        .row(alloc, site.market, part.group, diameters[top])?;
+    search.offer_whole(part.first, memo.kept.cells(place));
+    Ok(())
 }
 
 /// Offers the logs with the top that was settled last, from the starts of a part.
@@ -118,8 +154,8 @@ fn offer_part(
     let menu = site.market.menu;
     let diameters = site.profile.diameters();
     let diameter = diameters[top];
-    let left = site.stem.length() - top as u32 * site.market.sheet.instruction().module();
-    if left >= menu.most_trim && is_common(menu, part, top, stop) {
+    let left = left_behind(site, top);
+    if left >= menu.most_trim && part.first == 0 {
         let place = memo.kept.row(alloc, site.market, part.group, diameter)?;
         search.offer_part(part.first, memo.kept.cells(place));
         return Ok(());
@@ -191,7 +227,18 @@ fn offer_top(
     ensures from { OnOk result (search.new.from ≡ search.old.from) }
     ensures stop { OnOk result (search.new.stop ≡ 0) }
 {
+    let top = search.from();
+    let menu = site.market.menu;
+    if top < menu.least_steps {
+        search.close_top();
+        return Ok(());
+    }
     if near.group.takers.is_empty() {
+        search.close_top();
+        return Ok(());
+    }
+    if top - near.first >= menu.most_steps && left_behind(site, top) >= menu.most_trim {
+        offer_whole(alloc, site, memo, search, near)?;
         search.close_top();
         return Ok(());
     }

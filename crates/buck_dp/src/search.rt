@@ -1,16 +1,17 @@
 //! The search for the best cutting of a stem, from the top end down.
-ghost use Rattle.std.specs.Prelude.{◌≡◌, ℕ, ◌+◌, ◌-◌, ◌*◌, ◌/◌, ◌<◌, ◌≤◌, IfOk, OnOk, List, [], length, get_or};
+ghost use Rattle.std.specs.Prelude.{◌≡◌, ℕ, ◌+◌, ◌-◌, ◌*◌, ◌/◌, ◌<◌, ◌≤◌, IfOk, OnOk, List, [], length, get_or, slice_get, Some};
 ghost use Rattle.buck_stem.specs.Stem.{IsStem};
 ghost use Rattle.buck_value.specs.Sheet.{IsSheet};
 ghost use Rattle.buck_bid.specs.Offers.{codes_in};
+ghost use Rattle.buck_dp.specs.declared.offering.Cell.{Cell};
 ghost use Rattle.buck_dp.specs.inner.Points.{GroundParts, points_of, ground_with};
 ghost use Rattle.buck_dp.specs.inner.Bid.{BidParts, none};
 ghost use Rattle.buck_dp.specs.inner.Logs.{IsLogAt, bid_at};
-ghost use Rattle.buck_dp.specs.inner.Rows.{IsPart};
+ghost use Rattle.buck_dp.specs.inner.Rows.{IsNear, IsPart};
 ghost use Rattle.buck_dp.specs.inner.Searched.{AreSearched, IsSearch};
 
 use crate::bid::Bid;
-use crate::offering::{Cell, offer_row, settle};
+use crate::offering::{Cell, offer_row, offer_whole, settle};
 use buck_bid::Offer;
 use buck_record::Memory;
 use buck_stem::Stem;
@@ -109,6 +110,20 @@ fn offer_once(values: &mut [Bid], top: usize, first: usize, stop: usize, row: &[
     offer_row(values, top, first, stop, row);
 }
 
+/// Offers the logs with a top that all start from one point on.
+fn offer_whole_once(values: &mut [Bid], top: usize, first: usize, row: &[Cell])
+    requires order { first ≤ top }
+    requires near { (k : ℕ) (c : Cell) → slice_get row.now k ≡ Some c → IsNear top first top c }
+    requires ready { (p : GroundParts) × (choices : List ℕ) × IsSheet p.sheet × IsStem p.stem
+        × AreSearched p values.old choices top top × IsPart p top first top row.now }
+    ensures number { length values.new ≡ length values.old }
+    ensures searched { (p : GroundParts) (choices : List ℕ) → IsSheet p.sheet → IsStem p.stem
+        → AreSearched p values.old choices top top → IsPart p top first top row.now
+        → AreSearched p values.new choices top first }
+{
+    offer_whole(values, top, first, row);
+}
+
 impl<'a> Search<'a> {
     /// A search at the top end of a stem, behind its last point.
     pub fn start(
@@ -188,6 +203,20 @@ impl<'a> Search<'a> {
         ensures stop { self.new.stop ≡ first }
     {
         offer_once(self.values.as_mut_slice(), self.from, first, self.stop, row);
+        self.stop = first;
+    }
+
+    /// Offers the logs with the top that was settled last that start from `first` on, where these are all.
+    pub fn offer_whole(&mut self, first: usize, row: &[Cell])
+        requires order { first ≤ self.old.stop }
+        requires settled { self.old.stop ≡ self.old.from }
+        requires near { (k : ℕ) (c : Cell) → slice_get row.now k ≡ Some c → IsNear self.old.from first self.old.from c }
+        requires part { IsPart self.old.ground self.old.from first self.old.stop row.now }
+        ensures ground { self.new.ground ≡ self.old.ground }
+        ensures from { self.new.from ≡ self.old.from }
+        ensures stop { self.new.stop ≡ first }
+    {
+        offer_whole_once(self.values.as_mut_slice(), self.from, first, row);
         self.stop = first;
     }
 

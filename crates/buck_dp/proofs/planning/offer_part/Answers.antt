@@ -1,4 +1,4 @@
-use Rattle.std.proofs.Common.{◌≡◌, ◌+◌, ◌-◌, ◌*◌, ◌≤◌, ◌⊎◌, inl, inr, ℕ, List, refl, slice_index, sym, subst, ap, ◌∙◌, arith}
+use Rattle.std.proofs.Common.{◌≡◌, ◌+◌, ◌-◌, ◌*◌, ◌≤◌, ◌⊎◌, inl, inr, ℕ, List, refl, slice_index, sym, subst, ap, arith}
 use Rattle.std.proofs.lemmas.Bool.{cases_lt}
 use Rattle.buck_stem.specs.Stem.{stem_length}
 use Rattle.buck_bid.specs.Offers.{codes_in}
@@ -22,9 +22,8 @@ offer_part-requires-clause-part c =
     let stop : ℕ = c.args.search.now.stop in
     let takers = c.args.part.group.takers in
     let ds : List ℕ = c.diameters-diameters.result.now in
-    let unit : c.module.result ≡ s.instruction.«module» = cc in
-    let at : c.from-top.result * c.module.result ≡ t * s.instruction.«module» =
-    ap (λ n. n * c.module.result) c.from-top.ensures.value ∙ ap (λ n. t * n) unit in
+    let at : c.from-top.result * s.instruction.«module» ≡ t * s.instruction.«module» =
+    ap (λ n. n * s.instruction.«module») c.from-top.ensures.value in
     let reached = point_reached x c.requires.site t c.requires.top in
     let below = c.from-top.ensures.right.below in
     let cells : AreCells s (codes_in m.offers.items) takers (slice_index ds t) (all_of m) c.cells.result.now =
@@ -35,7 +34,7 @@ offer_part-requires-clause-part c =
     (part_offered x c.requires.site ds t first stop takers (all_of m) c.cells.result.now
     (known_of x.profile.now x.stem.now s.instruction.«module» ds c.requires.site.profile c.diameters-diameters.ensures.right)
     (omega (arith, below)) (omega (arith, reached.1)) c.requires.takers
-    (omega (arith, c.if-left-menu.true, c.length.ensures.length, at, reached.0)) (inl refl) cells)
+    (omega (arith, c.if-left-menu.true, c.left_behind-left.ensures, at, reached.0)) (inl refl) cells)
 
 pub offer_part-requires-2-clause-part : goal.offer_part-requires-2-clause-part
 offer_part-requires-2-clause-part c =
@@ -47,12 +46,11 @@ offer_part-requires-2-clause-part c =
     let stop : ℕ = c.args.search.now.stop in
     let takers = c.args.part.group.takers in
     let ds : List ℕ = c.diameters-diameters.result.now in
-    let unit : c.module.result ≡ s.instruction.«module» = cc in
-    let at : c.from-top.result * c.module.result ≡ t * s.instruction.«module» =
-    ap (λ n. n * c.module.result) c.from-top.ensures.value ∙ ap (λ n. t * n) unit in
+    let at : c.from-top.result * s.instruction.«module» ≡ t * s.instruction.«module» =
+    ap (λ n. n * s.instruction.«module») c.from-top.ensures.value in
     let reached = point_reached x c.requires.site t c.requires.top in
     let below = c.from-top.ensures.right.below in
-    let left : ℕ = c.length.result - c.from-top.result * c.module.result in
+    let left : ℕ = c.left_behind-left.result in
     let reach : Reach = record { past = c.from-top.result - c.stop-stop.result; far = c.from-top.result - first; room = c.min.result } in
     let cells : AreCells s (codes_in m.offers.items) takers (slice_index ds t) reach c.as_slice.result.now =
     subst (λ (cs : List Cell). AreCells s (codes_in m.offers.items) takers (slice_index ds t) reach cs) (sym c.as_slice.ensures.value)
@@ -60,7 +58,7 @@ offer_part-requires-2-clause-part c =
     c.from-top.ensures.value c.in_ok-draw.ensures.row) in
     let room : (c.min.result ≡ m.most_trim) ⊎ (stem_length x.stem.now.samples ≤ t * s.instruction.«module» + c.min.result) =
     elim (cases_lt left m.most_trim) [
-      | inl less ↦ inr (omega (arith, c.min.ensures, less, c.length.ensures.length, at))
+      | inl less ↦ inr (omega (arith, c.min.ensures, less, c.left_behind-left.ensures, at))
       | inr more ↦ inl (omega (arith, c.min.ensures, more))
     ] in
     subst (λ (g : GroundParts). IsPart g t first stop c.as_slice.result.now) (sym c.requires.ground)
@@ -68,4 +66,4 @@ offer_part-requires-2-clause-part c =
     (known_of x.profile.now x.stem.now s.instruction.«module» ds c.requires.site.profile c.diameters-diameters.ensures.right)
     (omega (arith, below, c.from-top.ensures.value, c.stop-stop.ensures.value))
     (omega (arith, below, c.from-top.ensures.value, c.requires.order)) c.requires.takers
-    (omega (arith, c.min.ensures, c.length.ensures.length, at, reached.0)) room cells)
+    (omega (arith, c.min.ensures, c.left_behind-left.ensures, at, reached.0)) room cells)
