@@ -1,9 +1,9 @@
 //! Long work, made by formulas and done from memory to memory. The last line of each is printed: an ordinary harvest of
-//! 5,000 stems; a check of a journal of 30,000 cuts that a fleet of one harvester wrote; and as many stems as a history
-//! has room for, and one more, by such a fleet.
+//! 5,000 stems; a check of a journal of 30,000 cuts that a fleet of one harvester wrote; as many stems as a history has
+//! room for, and one more, by such a fleet; and as many bytes as a file may have, and one more, each by a read of its own.
 #![tactic(auto)]
 
-use buck_engine::{EngineFault, run_buck, run_check, run_fleet_files, write_fault};
+use buck_engine::{EngineFault, run_bare, run_buck, run_check, run_fleet_files, write_fault};
 use buck_record::{Memory, put_number};
 use buck_rule::{Rule, Standing, step};
 use std::alloc::Global;
@@ -180,6 +180,33 @@ fn filled<T: Threads + Wait + Sync>(rt: &T, alloc: Global, stems: u32) -> Result
     Ok(written)
 }
 
+/// Gives this many blanks, one at each read.
+#[derive(Drop)]
+struct Blanks {
+    left: u32,
+}
+
+impl io::Read for Blanks {
+    fn read(&mut self, buf: &mut [u8]) -> io::Result<usize> {
+        if self.left == 0 {
+            return Ok(0);
+        }
+        let Some(byte) = buf.first_mut() else {
+            return Ok(0);
+        };
+        *byte = b' ';
+        self.left -= 1;
+        Ok(1)
+    }
+}
+
+/// What is said of an input of this many blanks.
+fn blank(alloc: Global, left: u32) -> Result<Vec<u8>, Memory> {
+    let mut written = Vec::new(alloc);
+    let outcome = run_bare(alloc, &mut Blanks { left }, &mut written);
+    written_or_fault(alloc, outcome, written)
+}
+
 /// The last line of a text, or that memory ran out.
 fn last_line(text: &Result<Vec<u8>, Memory>) -> &str {
     match text {
@@ -204,6 +231,14 @@ fn run<T: Threads + Wait + Sync, P: Print>(threads: &T, rt: &P, alloc: Global) -
     println!(rt;
         "1,000,001 stems: {}",
         last_line(&filled(threads, alloc, 1_000_001))
+    )?;
+    println!(rt;
+        "67,108,864 bytes: {}",
+        last_line(&blank(alloc, 67_108_864))
+    )?;
+    println!(rt;
+        "67,108,865 bytes: {}",
+        last_line(&blank(alloc, 67_108_865))
     )
 }
 
