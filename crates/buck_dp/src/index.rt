@@ -7,6 +7,9 @@ use crate::takers::Takers;
 use std::alloc::{AllocError, Global};
 use std::marker::Model;
 
+/// So many heads are kept at most.
+const HEADS: usize = 16_384;
+
 /// Whose something is: of some takers, at a diameter or in a band.
 #[derive(Clone, Copy, Debug, PartialEq, Eq)]
 pub struct Key {
@@ -73,6 +76,11 @@ impl Index {
             return None;
         }
         Some(head.place)
+    }
+
+    /// Whether so many are kept that all should be dropped.
+    pub fn is_full(&self) -> bool {
+        self.heads.len() >= HEADS
     }
 
     /// Keeps one more, noted at a slot.

@@ -75,7 +75,8 @@ pub struct Kept {
 fn make_room_for_list(quotes: &mut Vec<Quote>, lists: &mut Index)
     ensures { ((quotes.new.items ≡ quotes.old.items) × (lists.new ≡ lists.old)) ⊎ (lists.new ≡ []) }
 {
-    if quotes.len() + 512 > QUOTES {
+    let full = quotes.len() + 512 > QUOTES || lists.is_full();
+    if full {
         quotes.clear();
         lists.clear();
     }
@@ -85,7 +86,8 @@ fn make_room_for_list(quotes: &mut Vec<Quote>, lists: &mut Index)
 fn make_room_for_row(cells: &mut Vec<Cell>, rows: &mut Index)
     ensures { ((cells.new.items ≡ cells.old.items) × (rows.new ≡ rows.old)) ⊎ (rows.new ≡ []) }
 {
-    if cells.len() + 512 > CELLS {
+    let full = cells.len() + 512 > CELLS || rows.is_full();
+    if full {
         cells.clear();
         rows.clear();
     }

@@ -1,4 +1,4 @@
-use Rattle.std.proofs.Common.{◌≡◌, ◌+◌, ◌-◌, ◌*◌, ◌≤◌, ◌⊎◌, inl, inr, ℕ, List, refl, slice_index, sym, subst, ap, ◌∙◌, arith}
+use Rattle.std.proofs.Common.{inl, ℕ, List, refl, slice_index, sym, subst, arith}
 use Rattle.buck_bid.specs.Offers.{codes_in}
 use Rattle.buck_dp.specs.inner.Points.{GroundParts}
 use Rattle.buck_dp.specs.declared.offering.Cell.{Cell}
