@@ -87,7 +87,7 @@ PROMISES = [
             "buck_fleet.specs.Run:IsFirstStop",
         ],
     ),
-    ("the report", ["buck_engine.specs.Report:IsReport", "buck_engine.specs.Degree:IsDegree"]),
+    ("the report", ["buck_engine.specs.Report:IsReport", "buck_book.specs.Degree:IsDegree"]),
     (
         "a fleet over files",
         [

@@ -10,3 +10,4 @@ pub mod Books
 pub mod Alone
 pub mod Relations
 pub mod Walks
+pub mod Degrees

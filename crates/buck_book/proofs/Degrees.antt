@@ -6,7 +6,7 @@ use Rattle.std.proofs.Math.Nat.{min-le_left, add-mul, mul-le-mul, div-le_of_le-m
 use Rattle.std.specs.Prelude.{slice_get, Some, Option}
 use Rattle.std.proofs.lemmas.Option.{slice_get_read}
 use Rattle.buck_apt.specs.Instruction.{InstructionParts, AssortmentParts, classes_before, place_in, index_of}
-use Rattle.buck_engine.specs.Degree.{shared_of}
+use Rattle.buck_book.specs.Degree.{shared_of}
 
 step : (wanted cut : ℕ) (targets counts : List ℕ) (i : ℕ) → i < length targets → i < length counts
     → shared_of wanted cut (take (suc i) targets) (take (suc i) counts) ≡ shared_of wanted cut (take i targets) (take i counts) + min (get_or targets i 0 * cut) (get_or counts i 0 * wanted)

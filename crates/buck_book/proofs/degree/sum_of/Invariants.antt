@@ -1,5 +1,5 @@
 use Rattle.std.proofs.Common.{◌≡◌, ◌*◌, ◌≤◌, take, sum}
-use Rattle.buck_engine.proofs.apportionment.sum_of.Given as goal
+use Rattle.buck_book.proofs.degree.sum_of.Given as goal
 
 abbrev pub invariant-loop-number : goal.invariant-loop-number
 invariant-loop-number l = record {

@@ -1,10 +1,9 @@
 //! The degree of apportionment.
 ghost use Rattle.std.specs.Prelude.{◌≡◌, ◌*◌, ◌<◌, ◌≤◌, ◌^◌, length, sum};
 ghost use Rattle.buck_apt.specs.Instruction.{classes};
-ghost use Rattle.buck_engine.specs.Degree.{IsDegree, IsDegreeBy, degree_of, shared_of};
+ghost use Rattle.buck_book.specs.Degree.{IsDegreeBy, degree_of, shared_of};
 
 use buck_apt::{Class, Instruction};
-use buck_fleet::Closed;
 
 /// All of some numbers together.
 fn sum_of(numbers: &[u32]) -> u128
@@ -49,8 +48,10 @@ fn degree_by(targets: &[u32], counts: &[u32]) -> Option<u32>
     Some((shared(targets, counts, wanted, cut) * 10_000 / (wanted * cut)) as u32)
 }
 
-/// The degree of the assortment at a place, given what is wanted of each class of the instruction and what was cut.
-pub(crate) fn degree_at(
+/// The degree of apportionment of the assortment at a place, in ten-thousandths, rounded down once, given what is
+/// wanted of each class of the instruction and how many logs were cut in each: how far these logs have the proportions
+/// of those wanted. None where nothing is wanted of the assortment or nothing was cut.
+pub fn degree_at(
     instruction: &Instruction,
     targets: &[u32],
     counts: &[u32],
@@ -70,19 +71,4 @@ pub(crate) fn degree_at(
     });
     let after = first + number;
     degree_by(&targets[first..after], &counts[first..after])
-}
-
-/// The degree of apportionment of the assortment at a place, in ten-thousandths, rounded down once: how far the logs
-/// that were cut have the proportions of those wanted by the targets in force at the end. None where nothing is wanted
-/// of it or nothing was cut.
-pub fn degree(closed: &Closed, assortment: usize) -> Option<u32>
-    requires exists { assortment < length closed.now.history.instruction.assortments }
-    ensures { IsDegree closed.now.history assortment result }
-{
-    degree_at(
-        closed.instruction(),
-        closed.targets(),
-        closed.counts(),
-        assortment,
-    )
 }

@@ -1,7 +1,7 @@
 use Rattle.std.proofs.Common.{◌≡◌, ◌*◌, ◌≤◌, min, get_or, arith}
 use Rattle.std.proofs.Math.Nat.{min-le_left, mul-le-mul}
-use Rattle.buck_engine.proofs.Degrees.{shared_more}
-use Rattle.buck_engine.proofs.apportionment.shared.Goals as goal
+use Rattle.buck_book.proofs.Degrees.{shared_more}
+use Rattle.buck_book.proofs.degree.shared.Goals as goal
 
 pub loop-i-preserved : goal.loop-i-preserved
 loop-i-preserved c =

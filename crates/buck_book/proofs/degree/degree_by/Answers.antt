@@ -1,8 +1,8 @@
 use Rattle.std.proofs.Common.{◌≡◌, ◌*◌, ◌/◌, ◌≤◌, sum, ◌∙◌, arith}
 use Rattle.std.proofs.Math.Nat.{mul-le-mul}
-use Rattle.buck_engine.specs.Degree.{shared_of}
-use Rattle.buck_engine.proofs.Degrees.{shared_low, degree_low}
-use Rattle.buck_engine.proofs.apportionment.degree_by.Goals as goal
+use Rattle.buck_book.specs.Degree.{shared_of}
+use Rattle.buck_book.proofs.Degrees.{shared_low, degree_low}
+use Rattle.buck_book.proofs.degree.degree_by.Goals as goal
 
 same : (c : goal.After-shared) → c.shared.result ≡ shared_of (sum c.args.targets.now) (sum c.args.counts.now) c.args.targets.now c.args.counts.now
 same c = c.shared.ensures ∙ (λ t. shared_of (c.sum_of-wanted.ensures.sum t) (c.sum_of-cut.ensures.sum t) c.args.targets.now c.args.counts.now)

@@ -1,6 +1,6 @@
 use Rattle.std.proofs.Common.{◌≡◌, ◌*◌, ◌≤◌, take}
-use Rattle.buck_engine.specs.Degree.{shared_of}
-use Rattle.buck_engine.proofs.apportionment.shared.Given as goal
+use Rattle.buck_book.specs.Degree.{shared_of}
+use Rattle.buck_book.proofs.degree.shared.Given as goal
 
 abbrev pub invariant-loop-i : goal.invariant-loop-i
 invariant-loop-i l = record {

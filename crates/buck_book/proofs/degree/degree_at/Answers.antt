@@ -1,8 +1,8 @@
 use Rattle.std.proofs.Common.{◌≡◌, ◌+◌, ◌-◌, take, drop, arith, ◌∙◌}
 use Rattle.buck_apt.specs.Instruction.{classes_of}
-use Rattle.buck_engine.specs.Degree.{degree_of}
-use Rattle.buck_engine.proofs.Degrees.{stands, first_class}
-use Rattle.buck_engine.proofs.apportionment.degree_at.Goals as goal
+use Rattle.buck_book.specs.Degree.{degree_of}
+use Rattle.buck_book.proofs.Degrees.{stands, first_class}
+use Rattle.buck_book.proofs.degree.degree_at.Goals as goal
 
 pub index-first-requires : goal.index-first-requires
 index-first-requires c = record {

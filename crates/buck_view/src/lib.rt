@@ -1,0 +1,8 @@
+//! What a journal shows: its figures, the page that a mill opens, and tables for a spreadsheet.
+#![tactic(auto)]
+
+mod figures;
+mod words;
+
+pub use figures::{Cut, Figures, Own, Part, Piece, Point, Sums};
+pub use words::{Fixed, Grouped, Name, half_up, permille};
