@@ -39,7 +39,7 @@ pub(crate) fn tick_step(whole: u64) -> u64
 /// A place of a curve.
 #[derive(Clone, Copy)]
 struct Place {
-    x: u64,
+    x: u128,
     y: u32,
 }
 
@@ -62,15 +62,17 @@ struct Frame<'a> {
 }
 
 /// How many postings there are.
-fn postings_of(figures: &Figures<'_>) -> u64 {
+fn postings_of(figures: &Figures<'_>) -> u64
+    ensures { result ≡ length figures.now.postings.now }
+{
     figures.postings.len() as u64
 }
 
 /// How far along the curves a point stands that has so many postings before it.
-fn along(after: usize, last: u64) -> u64
+fn along(after: usize, last: u64) -> u128
     requires { 0 < last }
 {
-    (after as u128 * u128::from(FULL) / u128::from(last)) as u64
+    after as u128 * u128::from(FULL) / u128::from(last)
 }
 
 /// A line in the style of a curve, as its key shows it.
@@ -220,8 +222,7 @@ fn close_chart(out: &mut String, figures: &Figures<'_>) -> Result<(), Memory>
     }
     write!(out, "</div><div class=\"xs\">")?;
     write_low(out, last)?;
-    write!(out, "</div><div class=\"xtitle\">postings</div></div>")?;
-    Ok(())
+    Ok(write!(out, "</div><div class=\"xtitle\">postings</div></div>")?)
 }
 
 /// The degree of the assortment at a place, if there is one.
@@ -276,10 +277,7 @@ fn degree_tick(percent: u32) -> Tick
     Tick {
         y: FULL - 100 * percent,
         sign: "",
-        size: Fixed {
-            n: u128::from(percent),
-            places: 0,
-        },
+        size: Fixed::of(u128::from(percent), 0),
     }
 }
 
@@ -315,15 +313,14 @@ pub(crate) fn write_degree_chart(
     close_chart(out, figures)?;
     let counts = figures.counts.as_slice();
     let unsteered = figures.unsteered.as_slice();
-    write!(
+    Ok(write!(
         out,
         "<p class=\"keys\"><span class=\"key\">{}as cut {}</span><span class=\"key\">{}unsteered {}</span></p></figure>",
         Stroke("degree"),
         degree_text(degree_at(figures.instruction, figures.targets, counts, at)),
         Stroke("without"),
         degree_text(degree_at(figures.instruction, figures.targets, unsteered, at))
-    )?;
-    Ok(())
+    )?)
 }
 
 /// A class whose last price isn't its base price.
@@ -498,25 +495,20 @@ fn write_stairs(
             }
         }
     }
-    write!(out, "H{x}\"/>")?;
-    Ok(())
+    Ok(write!(out, "H{x}\"/>")?)
 }
 
 /// Writes the key of a price curve.
 fn write_price_key(out: &mut String, style: &'static str, moved: &Moved) -> Result<(), Memory> {
-    write!(
+    Ok(write!(
         out,
         "<span class=\"key\">{}{}: {} &#8594; {} ({})</span>",
         Stroke(style),
         moved.class,
         Grouped(u128::from(moved.base)),
         Grouped(u128::from(moved.price)),
-        Signed {
-            difference: moved.change,
-            places: 1
-        }
-    )?;
-    Ok(())
+        Signed::of(moved.change, 1)
+    )?)
 }
 
 /// Writes the price curves of the assortment at a place, and their keys.
@@ -567,8 +559,7 @@ fn write_price_curves(
             write_price_key(out, style, &moved)?;
         }
     }
-    write!(out, "</p>")?;
-    Ok(())
+    Ok(write!(out, "</p>")?)
 }
 
 /// Writes how the prices of the assortment at a place moved that moved most.
@@ -595,6 +586,5 @@ pub(crate) fn write_price_chart(
     } else {
         write_price_curves(out, figures, at, &moves)?;
     }
-    write!(out, "</figure>")?;
-    Ok(())
+    Ok(write!(out, "</figure>")?)
 }

@@ -1,8 +1,9 @@
 //! The page of a journal that isn't lawful.
 ghost use Rattle.std.specs.Prelude.{◌≡◌, ◌<◌, ◌≤◌, length};
 
-use crate::page::{Files, close_head, open_head};
-use crate::words::{Apart, ClassText, Grouped, class_text};
+use crate::names::Apart;
+use crate::sections::{Files, close_head, open_head};
+use crate::words::{ClassText, Grouped, class_text};
 use buck_apt::{Assortment, Instruction};
 use buck_book::Posting;
 use buck_journal::ReplayFault;

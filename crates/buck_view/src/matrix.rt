@@ -4,8 +4,8 @@ ghost use Rattle.std.specs.Prelude.{◌≡◌, ◌<◌, ◌≤◌, ◌+◌, ◌*
 use crate::figures::Figures;
 use crate::parts::{part, sum_of};
 use crate::words::{
-    Difference, Fixed, Grouped, Known, Signed, change_of, difference_of, half_up, length_text,
-    permille, row_of,
+    Difference, Fixed, Grouped, Known, Signed, change_of, difference_of, length_text, permille,
+    row_of, tens,
 };
 use buck_apt::Assortment;
 use buck_record::Memory;
@@ -89,15 +89,11 @@ fn write_swatch(
     sign: &'static str,
     difference: Difference,
 ) -> Result<(), Memory> {
-    write!(
+    Ok(write!(
         out,
         "<span class=\"swatch\"><i class=\"{shade}\"></i>{sign}&nbsp;{}</span>",
-        Signed {
-            difference,
-            places: 1
-        }
-    )?;
-    Ok(())
+        Signed::of(difference, 1)
+    )?)
 }
 
 /// Writes the shades of the differences that lie below, from the furthest to the nearest.
@@ -133,8 +129,7 @@ fn write_share_legend(out: &mut String, steps: &Steps) -> Result<(), Memory> {
     write!(out, "<p class=\"keys\">too few ")?;
     write_below(out, steps, false)?;
     write_above(out, steps, false)?;
-    write!(out, " too many, in points</p>")?;
-    Ok(())
+    Ok(write!(out, " too many, in points</p>")?)
 }
 
 /// Writes the legend of prices: where too few were cut they are raised.
@@ -142,8 +137,7 @@ fn write_price_legend(out: &mut String, steps: &Steps) -> Result<(), Memory> {
     write!(out, "<p class=\"keys\">lowered ")?;
     write_below(out, steps, true)?;
     write_above(out, steps, true)?;
-    write!(out, " raised, in %</p>")?;
-    Ok(())
+    Ok(write!(out, " raised, in %</p>")?)
 }
 
 /// A number of logs out of some.
@@ -167,7 +161,7 @@ impl Share {
 /// A share in percent, from per mille.
 fn share_text(share: Option<u128>) -> Known {
     match share {
-        Some(n) => Known(Some(Fixed { n, places: 1 })),
+        Some(n) => Known(Some(Fixed::of(n, 1))),
         None => Known(None),
     }
 }
@@ -228,10 +222,7 @@ fn write_share(
         Some(steps) => steps.shade(difference),
         None => unshaded,
     };
-    let figure = Signed {
-        difference,
-        places: 1,
-    };
+    let figure = Signed::of(difference, 1);
     write_cell(out, shares, shade, wide, figure)
 }
 
@@ -239,15 +230,14 @@ fn write_share(
 fn digits(n: u64) -> u64
     ensures { result ≤ 20 }
 {
-    let mut digits = 1;
-    let mut rest = n / 10;
-    for _ in 0..19 {
-        if rest > 0 {
-            digits += 1;
-            rest /= 10;
+    let mut rest = n;
+    for digits in 1..20u64 {
+        if rest < 10 {
+            return digits;
         }
+        rest /= 10;
     }
-    digits
+    20
 }
 
 /// The least width of a matrix in pixels, given how many digits the widest figure of a cell has.
@@ -356,8 +346,7 @@ impl Matrix<'_> {
 
 /// Writes a cell of a class that the mill doesn't buy.
 fn write_shut(out: &mut String) -> Result<(), Memory> {
-    write!(out, "<td class=\"shut\" title=\"not bought\">&#183;</td>")?;
-    Ok(())
+    Ok(write!(out, "<td class=\"shut\" title=\"not bought\">&#183;</td>")?)
 }
 
 /// Writes a row of shares, with that of all its classes at the end.
@@ -389,8 +378,7 @@ fn write_share_row(
     }
     let shares = matrix.shares(sum_of(counts), sum_of(targets));
     write_share(out, &shares, None, wide)?;
-    write!(out, "</tr>")?;
-    Ok(())
+    Ok(write!(out, "</tr>")?)
 }
 
 /// Writes the row of all rows together.
@@ -441,8 +429,7 @@ fn write_shares(out: &mut String, matrix: &Matrix<'_>) -> Result<(), Memory> {
     } else {
         write_share_legend(out, &steps)?;
     }
-    write!(out, "</figure>")?;
-    Ok(())
+    Ok(write!(out, "</figure>")?)
 }
 
 /// Writes a cell of prices: the price now, its change and the base price.
@@ -465,24 +452,18 @@ fn write_price(
     if wide {
         let whole = Difference {
             below: change.below,
-            size: half_up(change.size, 10),
+            size: tens(change.size),
         };
         write!(
             out,
             "<td class=\"{shade}\" title=\"{now}, base {before}\">{}</td>",
-            Signed {
-                difference: whole,
-                places: 0
-            }
+            Signed::of(whole, 0)
         )?;
     } else {
         write!(
             out,
             "<td class=\"{shade}\"><b>{now}</b><s>{}&nbsp;%</s><s>{before}</s></td>",
-            Signed {
-                difference: change,
-                places: 1
-            }
+            Signed::of(change, 1)
         )?;
     }
     Ok(())
@@ -513,8 +494,7 @@ fn write_price_row(
             write_price(out, steps, wide, *price, *base)?;
         }
     }
-    write!(out, "<td class=\"sum\"></td></tr>")?;
-    Ok(())
+    Ok(write!(out, "<td class=\"sum\"></td></tr>")?)
 }
 
 /// How to read a matrix of prices.
@@ -545,8 +525,7 @@ fn write_prices(out: &mut String, matrix: &Matrix<'_>) -> Result<(), Memory> {
     if matrix.limit > 0 {
         write_price_legend(out, &steps)?;
     }
-    write!(out, "</figure>")?;
-    Ok(())
+    Ok(write!(out, "</figure>")?)
 }
 
 /// Writes the matrices of the assortment at a place: side by side where there are few columns, else one under the
@@ -578,6 +557,5 @@ pub(crate) fn write_matrices(
     write!(out, "<div class=\"matrices{one}\">")?;
     write_shares(out, &matrix)?;
     write_prices(out, &matrix)?;
-    write!(out, "</div>")?;
-    Ok(())
+    Ok(write!(out, "</div>")?)
 }

@@ -18,17 +18,16 @@ pub(crate) fn sum_of(numbers: &[u32]) -> u64 {
 pub(crate) fn part<'a, T>(instruction: &Instruction, numbers: &'a [T], at: usize) -> &'a [T]
     requires { at < length instruction.now.assortments }
 {
-    let assortment = &instruction.assortments()[at];
+    if numbers.len() < instruction.classes() {
+        return &[];
+    }
+    let number = instruction.assortments()[at].classes();
     let first = instruction.index(Class {
         assortment: at as u8,
         row: 0,
         column: 0,
     });
-    let after = first + assortment.classes();
-    if numbers.len() < after {
-        return &[];
-    }
-    &numbers[first..after]
+    &numbers[first..first + number]
 }
 
 /// The number at a place of some, 0 past their end.

@@ -1,12 +1,13 @@
 //! Stems from the side, with the logs that were cut of them.
-ghost use Rattle.std.specs.Prelude.{◌≡◌, ◌<◌, ◌≤◌, length};
+ghost use Rattle.std.specs.Prelude.{◌≡◌, ◌<◌, ◌≤◌, ◌^◌, length};
 ghost use Rattle.buck_stem.specs.Stem.{stem_length};
 
 use crate::charts::tick_step;
 use crate::cuts::cut_of;
 use crate::figures::{Cut, Figures, Piece};
+use crate::names::Apart;
 use crate::words::{
-    Apart, Chip, Grouped, Metres, Millionths, Percent, Several, length_text, letter, percent_at,
+    Chip, DOT, Grouped, Metres, Millionths, Percent, Several, length_text, letter, percent_at,
 };
 use buck_apt::{Assortment, Instruction};
 use buck_book::{Entry, Posting};
@@ -19,9 +20,6 @@ use std::fmt;
 
 /// At most so many stems are drawn.
 const MOST_STEMS: usize = 12;
-
-/// What stands between facts.
-const DOT: &str = "&nbsp;&#183; ";
 
 /// Why a stem is drawn.
 #[derive(Clone, Copy)]
@@ -59,26 +57,22 @@ impl Pick<'_> {
 /// The reasons, one behind the other.
 impl fmt::Display for Pick<'_> {
     fn fmt<W: fmt::Write>(&self, f: &mut fmt::Formatter<W>) -> fmt::Result {
-        let mut the = "The";
-        if self.first {
-            write!(f, "{the} first stem")?;
-            the = "; the";
-        }
-        if self.longest {
-            write!(f, "{the} longest")?;
-            the = "; the";
-        }
-        if self.dearest {
-            write!(f, "{the} one where steering cost most")?;
-            the = "; the";
+        let harvester = self.entry.harvester;
+        let mut begun = false;
+        for (is_so, why) in [
+            (self.first, "first stem"),
+            (self.longest, "longest"),
+            (self.dearest, "one where steering cost most"),
+        ] {
+            if is_so {
+                let the = if begun { "; the" } else { "The" };
+                write!(f, "{the} {why}")?;
+                begun = true;
+            }
         }
         if self.own {
-            let own = if the == "The" {
-                "Harvester"
-            } else {
-                "; harvester"
-            };
-            write!(f, "{own} {}&#8217;s first", self.entry.harvester)?;
+            let its = if begun { "; harvester" } else { "Harvester" };
+            write!(f, "{its} {harvester}&#8217;s first")?;
         }
         Ok(())
     }
@@ -148,22 +142,22 @@ fn picked<'a>(alloc: Global, figures: &Figures<'a>) -> Result<Vec<Pick<'a>>, Mem
 /// The scale of all drawn stems: how long a drawing is, in mm, and the greatest diameter, in mm.
 #[derive(Clone, Copy)]
 struct Scale {
-    whole: u32,
+    whole: u64,
     most: u32,
-    ghost some: { 0 < whole },
+    ghost some: { (0 < whole) × (whole < 2 ^ 33) },
 }
 
-/// The scale in which these stems fit: up to a whole metre, 1 at least.
+/// The scale in which these stems fit: up to a whole metre, and 1 metre at least.
 fn scale_of(picks: &[Pick<'_>]) -> Scale {
-    let mut metres: u32 = 1;
+    let mut longest: u32 = 0;
     let mut most: u32 = 1;
     for pick in picks {
         let stem = &pick.entry.stem;
-        metres = metres.max(stem.length().div_ceil(1000));
+        longest = longest.max(stem.length());
         most = most.max(stem.diameter_at(0));
     }
     Scale {
-        whole: 1000 * metres,
+        whole: 1000 * ((u64::from(longest) + 999) / 1000).max(1),
         most,
     }
 }
@@ -183,7 +177,7 @@ fn is_level(stem: &Stem, from: u32, to: u32, x: u32) -> bool
 {
     let diameter = stem.diameter_at(x);
     let before = stem.diameter_at(from.max(x.saturating_sub(100)));
-    let after = stem.diameter_at(to.min(x + 100));
+    let after = stem.diameter_at(to.min(x.saturating_add(100)));
     before == diameter && after == diameter
 }
 
@@ -223,12 +217,7 @@ fn write_outline(out: &mut String, side: &[Side], most: u32) -> Result<(), Memor
     }
     for i in (0..side.len()).rev() {
         let place = side[i];
-        write!(
-            out,
-            "{},{}",
-            place.x,
-            u64::from(most) + u64::from(place.diameter)
-        )?;
+        write!(out, "{},{}", place.x, most.saturating_add(place.diameter))?;
         if i > 0 {
             write!(out, " ")?;
         }
@@ -261,10 +250,9 @@ struct Block {
 
 /// Where a stretch of this length from a place on stands in a drawing.
 fn block_at(from: u32, length: u32, scale: &Scale) -> Block {
-    let whole = u64::from(scale.whole);
     Block {
-        left: percent_at(u64::from(from), whole),
-        width: percent_at(u64::from(length), whole),
+        left: percent_at(u64::from(from), scale.whole),
+        width: percent_at(u64::from(length), scale.whole),
     }
 }
 
@@ -276,7 +264,7 @@ impl fmt::Display for Block {
 
 /// Whether a log is long enough for labels.
 fn is_labelled(length: u32, scale: &Scale) -> bool {
-    16 * u64::from(length) >= u64::from(scale.whole)
+    16 * u64::from(length) >= scale.whole
 }
 
 /// The lengths of the assortment of a log.
@@ -300,17 +288,16 @@ fn write_log(
     let from = log.start.min(to);
     write!(out, "<polygon class=\"log a{}\" points=\"", log.assortment)?;
     write_stretch(alloc, out, stem, from, to, scale.most)?;
-    write!(
+    Ok(write!(
         out,
         "\"><title>{}: {} mm from {} mm, top {} mm, price {}, worth {}</title></polygon>",
-        letter(log.assortment as usize),
+        letter(usize::from(log.assortment)),
         log.length,
         log.start,
         piece.top,
         piece.price,
         Millionths(u128::from(piece.worth))
-    )?;
-    Ok(())
+    )?)
 }
 
 /// Writes the labels under the logs that are long enough.
@@ -327,7 +314,7 @@ fn write_labels(
                 out,
                 "<span class=\"\" {}><b>{}</b> {}<br>{}</span>",
                 block_at(log.start, log.length, scale),
-                letter(log.assortment as usize),
+                letter(usize::from(log.assortment)),
                 length_text(log.length, lengths_of(instruction, log)),
                 piece.top
             )?;
@@ -358,14 +345,13 @@ fn write_strip(
             write!(
                 out,
                 "<b>{}</b> {}",
-                letter(log.assortment as usize),
+                letter(usize::from(log.assortment)),
                 length_text(log.length, lengths_of(instruction, *log))
             )?;
         }
         write!(out, "</span>")?;
     }
-    write!(out, "</div>")?;
-    Ok(())
+    Ok(write!(out, "</div>")?)
 }
 
 /// Writes a stretch of one grade, unless it is empty.
@@ -403,10 +389,7 @@ fn write_grades(out: &mut String, stem: &Stem, scale: &Scale) -> Result<(), Memo
 fn write_caption(out: &mut String, pick: &Pick<'_>, cut: &Cut<'_>) -> Result<(), Memory> {
     let entry = cut.entry;
     let stem = &entry.stem;
-    let logs = Several {
-        n: cut.pieces.len() as u128,
-        word: "log",
-    };
+    let logs = Several::of(cut.pieces.len() as u64, "log");
     write!(
         out,
         "<figcaption><b>{pick}</b> <small>stem&nbsp;{}{DOT}{}&nbsp;m{DOT}harvester&nbsp;{}{DOT}posting&nbsp;{}{DOT}{logs}{DOT}",
@@ -440,7 +423,7 @@ fn write_drawing(
     scale: &Scale,
 ) -> Result<(), Memory> {
     let stem = &cut.entry.stem;
-    let whole = u64::from(scale.whole);
+    let whole = scale.whole;
     let height = 2 * u64::from(scale.most);
     write!(
         out,
@@ -461,13 +444,12 @@ fn write_drawing(
     for piece in cut.pieces.as_slice() {
         write_log(alloc, out, stem, piece, scale)?;
     }
-    write!(out, "</svg>")?;
-    Ok(())
+    Ok(write!(out, "</svg>")?)
 }
 
 /// Writes the metres under a stem.
 fn write_metres(out: &mut String, scale: &Scale) -> Result<(), Memory> {
-    let whole = u64::from(scale.whole);
+    let whole = scale.whole;
     let step = tick_step(whole / 1000);
     for k in 0..6u64 {
         let x = k * step;
@@ -509,28 +491,21 @@ fn write_stem(
     write_grades(out, &cut.entry.stem, scale)?;
     write!(out, "</div><div></div><div class=\"xs\">")?;
     write_metres(out, scale)?;
-    write!(out, "</div></div></figure>")?;
-    Ok(())
+    Ok(write!(out, "</div></div></figure>")?)
 }
 
 /// Writes what stands above the stems: how many are drawn, how to read them, and the key of the assortments.
 fn write_lead(out: &mut String, figures: &Figures<'_>, drawn: usize) -> Result<(), Memory> {
-    let stems = Several {
-        n: drawn as u128,
-        word: "stem",
-    };
+    let stems = Several::of(drawn as u64, "stem");
     write!(
         out,
         "\n<section id=\"stems\"><h2>Stems</h2><p class=\"lead\">{stems} from the side, butt to the left, all to one \
          scale in metres; thickness is drawn larger. Under each log stand its assortment, length and top diameter. \
          Grey is wood that no log took."
     )?;
-    let left = u128::from(figures.total.stems).saturating_sub(drawn as u128);
+    let left = figures.total.stems.saturating_sub(drawn as u64);
     if left > 0 {
-        let more = Several {
-            n: left,
-            word: "stem",
-        };
+        let more = Several::of(left, "stem");
         let are = if left == 1 { "is" } else { "are" };
         write!(out, " {more} more {are} not drawn.")?;
     }
@@ -538,8 +513,7 @@ fn write_lead(out: &mut String, figures: &Figures<'_>, drawn: usize) -> Result<(
     for (at, assortment) in figures.instruction.assortments().iter().enumerate() {
         write!(out, "{} {}&ensp;", Chip(at), Apart(assortment.name()))?;
     }
-    write!(out, "</p>")?;
-    Ok(())
+    Ok(write!(out, "</p>")?)
 }
 
 /// Writes the section of the stems, where one was cut.
@@ -559,6 +533,5 @@ pub(crate) fn write_stems(
         let cut = cut_of(alloc, planner, figures.sheets, pick.position, pick.entry)?;
         write_stem(alloc, out, figures.instruction, pick, &cut, &scale)?;
     }
-    write!(out, "</section>")?;
-    Ok(())
+    Ok(write!(out, "</section>")?)
 }

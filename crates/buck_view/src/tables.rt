@@ -8,6 +8,7 @@ ghost use Rattle.buck_apt.specs.Instruction.{classes_of};
 use crate::charts::degree_in;
 use crate::cuts::cut_of;
 use crate::figures::{Cut, Figures, Piece, Point};
+use crate::names::put_quoted;
 use crate::parts::{number_at, part};
 use crate::words::row_of;
 use buck_apt::Assortment;
@@ -24,19 +25,6 @@ pub enum Table {
     Postings,
     Logs,
     Degrees,
-}
-
-/// Puts a name as a field: in quotes, each quote in it twice.
-pub(crate) fn put_quoted(out: &mut Vec<u8>, name: &[u8]) -> Result<(), Memory> {
-    out.push(b'"')?;
-    for byte in name {
-        if *byte == b'"' {
-            out.push(b'"')?;
-        }
-        out.push(*byte)?;
-    }
-    out.push(b'"')?;
-    Ok(())
 }
 
 /// Puts a text.

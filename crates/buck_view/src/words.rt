@@ -1,7 +1,7 @@
 //! Numbers and names as the words of a page.
 //!
 //! All arithmetic is in integers: a number is rounded once, where it is printed, a half upwards.
-ghost use Rattle.std.specs.Prelude.{◌≡◌, ◌+◌, ◌*◌, ◌/◌, ◌<◌, ◌≤◌, ◌^◌, length};
+ghost use Rattle.std.specs.Prelude.{◌≡◌, ◌+◌, ◌-◌, ◌*◌, ◌/◌, ◌%◌, ◌<◌, ◌≤◌, ◌^◌, true, false, length};
 ghost use Rattle.buck_apt.specs.Instruction.{classes_of};
 ghost use Rattle.buck_view.specs.Words.{half_up, permille};
 
@@ -71,6 +71,13 @@ pub struct Fixed {
     pub places: u8,
 }
 
+impl Fixed {
+    /// A number of as many places.
+    pub fn of(n: u128, places: u8) -> Fixed {
+        Fixed { n, places }
+    }
+}
+
 impl fmt::Display for Fixed {
     fn fmt<W: fmt::Write>(&self, f: &mut fmt::Formatter<W>) -> fmt::Result {
         let n = self.n;
@@ -99,10 +106,7 @@ impl fmt::Display for Known {
 /// A degree of apportionment in percent, from ten-thousandths.
 pub fn degree_text(degree: Option<u32>) -> Known {
     match degree {
-        Some(n) => Known(Some(Fixed {
-            n: u128::from(n),
-            places: 2,
-        })),
+        Some(n) => Known(Some(Fixed::of(u128::from(n), 2))),
         None => Known(None),
     }
 }
@@ -111,13 +115,20 @@ pub fn degree_text(degree: Option<u32>) -> Known {
 pub fn limit_text(limit: u32) -> Fixed {
     let n = u128::from(limit);
     if n % 10 == 0 {
-        Fixed {
-            n: n / 10,
-            places: 0,
-        }
+        Fixed::of(n / 10, 0)
     } else {
-        Fixed { n, places: 1 }
+        Fixed::of(n, 1)
     }
+}
+
+/// What stands between facts.
+pub const DOT: &str = "&nbsp;&#183; ";
+
+/// Tens of a number, to the nearest, a half upwards.
+pub fn tens(n: u128) -> u128
+    ensures { result ≡ half_up n 10 }
+{
+    n / 10 + n % 10 / 5
 }
 
 /// Ten-thousands of a number, to the nearest, a half upwards.
@@ -133,8 +144,7 @@ pub struct Millionths(pub u128);
 
 impl fmt::Display for Millionths {
     fn fmt<W: fmt::Write>(&self, f: &mut fmt::Formatter<W>) -> fmt::Result {
-        let n = ten_thousands(self.0);
-        write!(f, "{}", Fixed { n, places: 2 })
+        write!(f, "{}", Fixed::of(ten_thousands(self.0), 2))
     }
 }
 
@@ -151,8 +161,7 @@ pub struct Metres(pub u128);
 
 impl fmt::Display for Metres {
     fn fmt<W: fmt::Write>(&self, f: &mut fmt::Formatter<W>) -> fmt::Result {
-        let n = hundreds(self.0);
-        write!(f, "{}", Fixed { n, places: 1 })
+        write!(f, "{}", Fixed::of(hundreds(self.0), 1))
     }
 }
 
@@ -164,7 +173,10 @@ pub struct Difference {
 }
 
 /// How far `to` lies above `from`, or below it.
-pub fn difference_of(from: u128, to: u128) -> Difference {
+pub fn difference_of(from: u128, to: u128) -> Difference
+    ensures above { from ≤ to → (result.below ≡ false) × (result.size ≡ to - from) }
+    ensures below { to < from → (result.below ≡ true) × (result.size ≡ from - to) }
+{
     if to < from {
         Difference {
             below: true,
@@ -181,6 +193,8 @@ pub fn difference_of(from: u128, to: u128) -> Difference {
 /// A price's change per mille of its base price, to the nearest, a half away from 0.
 pub fn change_of(price: u32, base: u32) -> Difference
     requires { 0 < base }
+    ensures above { base ≤ price → (result.below ≡ false) × (result.size ≡ permille (price - base) base) }
+    ensures below { price < base → result.size ≡ permille (base - price) base }
 {
     let size = permille(u128::from(price.abs_diff(base)), u128::from(base));
     Difference {
@@ -196,13 +210,17 @@ pub struct Signed {
     pub places: u8,
 }
 
+impl Signed {
+    /// A difference with as many digits behind the point.
+    pub fn of(difference: Difference, places: u8) -> Signed {
+        Signed { difference, places }
+    }
+}
+
 impl fmt::Display for Signed {
     fn fmt<W: fmt::Write>(&self, f: &mut fmt::Formatter<W>) -> fmt::Result {
         let n = self.difference.size;
-        let size = Fixed {
-            n,
-            places: self.places,
-        };
+        let size = Fixed::of(n, self.places);
         if n == 0 {
             write!(f, "{size}")
         } else if self.difference.below {
@@ -216,14 +234,21 @@ impl fmt::Display for Signed {
 /// How many there are of what a word says.
 #[derive(Clone, Copy)]
 pub struct Several {
-    pub n: u128,
+    pub n: u64,
     pub word: &'static str,
+}
+
+impl Several {
+    /// So many of what a word says.
+    pub fn of(n: u64, word: &'static str) -> Several {
+        Several { n, word }
+    }
 }
 
 impl fmt::Display for Several {
     fn fmt<W: fmt::Write>(&self, f: &mut fmt::Formatter<W>) -> fmt::Result {
         let word = self.word;
-        write!(f, "{}&nbsp;{word}", Grouped(self.n))?;
+        write!(f, "{}&nbsp;{word}", Grouped(u128::from(self.n)))?;
         if self.n != 1 {
             write!(f, "s")?;
         }
@@ -238,6 +263,7 @@ pub struct Percent(u128);
 /// The place of `n` in a drawing of this whole.
 pub fn percent_at(n: u64, whole: u64) -> Percent
     requires { 0 < whole }
+    ensures { result.0 ≡ n * 10000 / whole }
 {
     Percent(u128::from(n) * 10_000 / u128::from(whole))
 }
@@ -249,59 +275,10 @@ impl fmt::Display for Percent {
     }
 }
 
-/// What a name says where a page has it: its text as it stands, or, of a name that is no text, each byte by its number
-/// as a page would read it; and nothing of it can be read as mark-up.
-///
-/// `& < > " '` become references. Of bytes that are no UTF-8 each one past 127 becomes the reference of its number.
-#[derive(Clone, Copy)]
-pub struct Name<'a>(pub &'a [u8]);
-
-/// Writes a character as a page has it.
-fn write_char<W: fmt::Write>(f: &mut fmt::Formatter<W>, c: char) -> fmt::Result {
-    match c {
-        '&' => write!(f, "&amp;"),
-        '<' => write!(f, "&lt;"),
-        '>' => write!(f, "&gt;"),
-        '"' => write!(f, "&quot;"),
-        '\'' => write!(f, "&#39;"),
-        _ => write!(f, "{c}"),
-    }
-}
-
-impl fmt::Display for Name<'_> {
-    fn fmt<W: fmt::Write>(&self, f: &mut fmt::Formatter<W>) -> fmt::Result {
-        match str::from_utf8(self.0) {
-            Ok(text) => {
-                for c in text.chars() {
-                    write_char(f, c)?;
-                }
-            }
-            Err(_) => {
-                for byte in self.0 {
-                    if *byte > 127 {
-                        write!(f, "&#{byte};")?;
-                    } else {
-                        write_char(f, char::from(*byte))?;
-                    }
-                }
-            }
-        }
-        Ok(())
-    }
-}
-
-/// A name within its surroundings, whose direction of writing it can't disturb.
-#[derive(Clone, Copy)]
-pub struct Apart<'a>(pub &'a [u8]);
-
-impl fmt::Display for Apart<'_> {
-    fn fmt<W: fmt::Write>(&self, f: &mut fmt::Formatter<W>) -> fmt::Result {
-        write!(f, "<bdi>{}</bdi>", Name(self.0))
-    }
-}
-
 /// The letter of the assortment at a place: there are at most 16.
-pub fn letter(at: usize) -> char {
+pub fn letter(at: usize) -> char
+    ensures { result ≡ 65 + at % 16 }
+{
     char::from(b'A' + (at % 16) as u8)
 }
 

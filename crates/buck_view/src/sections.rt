@@ -4,11 +4,12 @@ ghost use Rattle.std.specs.Prelude.{◌≡◌, ◌<◌, ◌≤◌, length};
 use crate::charts::{write_degree_chart, write_price_chart};
 use crate::figures::{Figures, Own, Sums};
 use crate::matrix::write_matrices;
+use crate::names::Apart;
 use crate::parts::{part, sum_of};
 use crate::stems::write_stems;
 use crate::style::STYLE;
 use crate::words::{
-    Apart, Chip, Fixed, Grouped, Known, Metres, Millionths, Several, Signed, degree_text,
+    Chip, DOT, Fixed, Grouped, Known, Metres, Millionths, Several, Signed, degree_text,
     difference_of, half_up, limit_text, permille,
 };
 use buck_apt::{Assortment, Instruction};
@@ -23,9 +24,6 @@ const MOST_DEMANDS: u64 = 12;
 
 /// The curves have at most so many points.
 const MOST_POINTS: usize = 200;
-
-/// What stands between facts.
-const DOT: &str = "&nbsp;&#183; ";
 
 /// The names of the two files, as they were given.
 #[derive(Clone, Copy)]
@@ -47,24 +45,22 @@ impl fmt::Display for Files<'_> {
 
 /// Writes the head of a page up to its title. Its policy lets nothing be loaded, whatever a name says.
 pub(crate) fn open_head(out: &mut String) -> Result<(), Memory> {
-    write!(
+    Ok(write!(
         out,
         "<!DOCTYPE html>\n<html lang=\"en\">\n<head>\n<meta charset=\"utf-8\">\n\
          <meta http-equiv=\"Content-Security-Policy\" content=\"default-src 'none'; style-src 'unsafe-inline'\">\n\
          <meta name=\"viewport\" content=\"width=device-width,initial-scale=1\">\n\
          <meta name=\"color-scheme\" content=\"light dark\">\n<title>"
-    )?;
-    Ok(())
+    )?)
 }
 
 /// Writes the head of a page from its title on.
 pub(crate) fn close_head(out: &mut String) -> Result<(), Memory> {
-    write!(
+    Ok(write!(
         out,
         " &#8211; Gielbrok</title>\n<style>\n{STYLE}</style>\n</head>\n<body>\n\
          <header><p class=\"over\">Bucking report</p><h1>"
-    )?;
-    Ok(())
+    )?)
 }
 
 /// Writes a tile's figure in its unit; what it is comes behind.
@@ -73,11 +69,10 @@ fn open_tile<V: fmt::Display + Drop>(
     value: V,
     unit: &'static str,
 ) -> Result<(), Memory> {
-    write!(
+    Ok(write!(
         out,
         "<div class=\"tile\"><b>{value}<small>{unit}</small></b><span>"
-    )?;
-    Ok(())
+    )?)
 }
 
 /// What ends a tile.
@@ -93,20 +88,14 @@ fn write_number_tiles(out: &mut String, figures: &Figures<'_>) -> Result<(), Mem
     let total = &figures.total;
     let stems = u128::from(total.stems);
     let logs = u128::from(total.logs);
-    let by = Several {
-        n: cutting(figures.harvesters.as_slice()) as u128,
-        word: "harvester",
-    };
+    let by = Several::of(cutting(figures.harvesters.as_slice()) as u64, "harvester");
     open_tile(out, Grouped(stems), "")?;
     write!(out, "stems, by {by}{TILE_END}")?;
     open_tile(out, Grouped(logs), "")?;
     if stems == 0 {
         write!(out, "logs{TILE_END}")?;
     } else {
-        let each = Fixed {
-            n: half_up(10 * logs, stems),
-            places: 1,
-        };
+        let each = Fixed::of(half_up(10 * logs, stems), 1);
         write!(out, "logs, {each} a stem{TILE_END}")?;
     }
     Ok(())
@@ -129,26 +118,22 @@ fn length_left(sums: &Sums) -> Option<Fixed> {
     if sums.length == 0 {
         return None;
     }
-    Some(Fixed {
-        n: permille(sums.left(), sums.length),
-        places: 1,
-    })
+    Some(Fixed::of(permille(sums.left(), sums.length), 1))
 }
 
 /// Writes how much length is left.
 fn write_length_tile(out: &mut String, total: &Sums) -> Result<(), Memory> {
     let left = match length_left(total) {
         Some(left) => left,
-        None => Fixed { n: 0, places: 1 },
+        None => Fixed::of(0, 1),
     };
     open_tile(out, left, "%")?;
-    write!(
+    Ok(write!(
         out,
         "of stem length left, {} of {}&nbsp;m{TILE_END}",
         Metres(total.left()),
         Metres(total.length)
-    )?;
-    Ok(())
+    )?)
 }
 
 /// What steering cost of what the best cuttings at base prices are worth, in ten-thousandths, if they are worth
@@ -157,19 +142,16 @@ fn rate_of(sums: &Sums) -> Option<Fixed> {
     if sums.best == 0 {
         return None;
     }
-    Some(Fixed {
-        n: half_up(10_000 * sums.cost(), sums.best),
-        places: 2,
-    })
+    Some(Fixed::of(half_up(10_000 * sums.cost(), sums.best), 2))
 }
 
 /// Writes what steering cost.
 fn write_account(out: &mut String, total: &Sums) -> Result<(), Memory> {
     let rate = match rate_of(total) {
         Some(rate) => rate,
-        None => Fixed { n: 0, places: 2 },
+        None => Fixed::of(0, 2),
     };
-    write!(
+    Ok(write!(
         out,
         "<table class=\"account\"><caption>What steering cost <small>price units</small></caption><tbody>\
          <tr><th scope=\"row\">Unsteered: the best cuttings at base prices</th><td>{}</td></tr>\
@@ -181,25 +163,15 @@ fn write_account(out: &mut String, total: &Sums) -> Result<(), Memory> {
         Millionths(total.at_base),
         Millionths(total.cost()),
         Millionths(total.worth)
-    )?;
-    Ok(())
+    )?)
 }
 
 /// Writes the head of the page: what was cut, what was checked, and the sums.
 fn write_opening(out: &mut String, figures: &Figures<'_>, files: &Files<'_>) -> Result<(), Memory> {
     let total = &figures.total;
-    let stems = Several {
-        n: u128::from(total.stems),
-        word: "stem",
-    };
-    let logs = Several {
-        n: u128::from(total.logs),
-        word: "log",
-    };
-    let changes = Several {
-        n: u128::from(total.demands),
-        word: "change",
-    };
+    let stems = Several::of(total.stems, "stem");
+    let logs = Several::of(total.logs, "log");
+    let changes = Several::of(total.demands, "change");
     write!(out, "{stems}, {logs}")?;
     if total.demands > 0 {
         write!(out, " and {changes} of targets")?;
@@ -216,8 +188,7 @@ fn write_opening(out: &mut String, figures: &Figures<'_>, files: &Files<'_>) -> 
     write_length_tile(out, total)?;
     write!(out, "</div>")?;
     write_account(out, total)?;
-    write!(out, "</div></header>")?;
-    Ok(())
+    Ok(write!(out, "</div></header>")?)
 }
 
 /// Writes a bar of the degree as cut, with a stroke at the degree of the best cuttings at base prices.
@@ -239,8 +210,7 @@ fn write_bar(out: &mut String, degree: Option<u32>, unsteered: Option<u32>) -> R
             "<path class=\"halo\" d=\"M{n},0V14\"/><path class=\"tick\" d=\"M{n},0V14\"/>"
         )?;
     }
-    write!(out, "</svg>")?;
-    Ok(())
+    Ok(write!(out, "</svg>")?)
 }
 
 /// Writes how far a degree lies above another one.
@@ -249,15 +219,11 @@ fn write_gain(out: &mut String, degree: Option<u32>, unsteered: Option<u32>) -> 
         write!(out, "&#8211;")?;
         return Ok(());
     };
-    write!(
+    Ok(write!(
         out,
         "{}",
-        Signed {
-            difference: difference_of(u128::from(unsteered), u128::from(degree)),
-            places: 2
-        }
-    )?;
-    Ok(())
+        Signed::of(difference_of(u128::from(unsteered), u128::from(degree)), 2)
+    )?)
 }
 
 /// Writes the row of the assortment at a place.
@@ -289,15 +255,14 @@ fn write_overview_row(out: &mut String, figures: &Figures<'_>, at: usize) -> Res
     )?;
     write_gain(out, degree, unsteered)?;
     let wanted = sum_of(part(instruction, figures.targets, at));
-    write!(
+    Ok(write!(
         out,
         "</td><td>{}</td><td>{}</td><td>{}</td><td>{}</td></tr>",
         Grouped(u128::from(sums.logs)),
         Grouped(u128::from(wanted)),
         Millionths(sums.volume),
         Millionths(sums.at_base)
-    )?;
-    Ok(())
+    )?)
 }
 
 /// Writes the section that shows all assortments in a row each.
@@ -316,7 +281,7 @@ fn write_overview(out: &mut String, figures: &Figures<'_>) -> Result<(), Memory>
         write_overview_row(out, figures, at)?;
     }
     let total = &figures.total;
-    write!(
+    Ok(write!(
         out,
         "<tr class=\"total\"><th scope=\"row\">All</th><td class=\"wide\"></td><td></td><td></td><td></td>\
          <td>{}</td><td>{}</td><td>{}</td><td>{}</td></tr></tbody></table></div></section>",
@@ -324,8 +289,7 @@ fn write_overview(out: &mut String, figures: &Figures<'_>) -> Result<(), Memory>
         Grouped(u128::from(sum_of(figures.targets))),
         Millionths(total.volume),
         Millionths(total.at_base)
-    )?;
-    Ok(())
+    )?)
 }
 
 /// What a cubic metre of the logs is worth at base prices, if there is any wood.
@@ -350,15 +314,14 @@ fn write_sums(out: &mut String, sums: &Sums) -> Result<(), Memory> {
         Millionths(sums.at_base)
     )?;
     write_each(out, sums)?;
-    write!(
+    Ok(write!(
         out,
         "<td>{}</td><td>{}</td><td>{}</td><td>{}</td></tr>",
         Millionths(sums.cost()),
         Known(rate_of(sums)),
         Known(length_left(sums)),
         Grouped(u128::from(sums.stems + sums.demands))
-    )?;
-    Ok(())
+    )?)
 }
 
 /// Writes the section of the harvesters.
@@ -377,8 +340,7 @@ fn write_harvesters(out: &mut String, figures: &Figures<'_>) -> Result<(), Memor
     }
     write!(out, "<tr class=\"total\"><th scope=\"row\">All</th>")?;
     write_sums(out, &figures.total)?;
-    write!(out, "</tbody></table></div></section>")?;
-    Ok(())
+    Ok(write!(out, "</tbody></table></div></section>")?)
 }
 
 /// How many of some targets are others than before.
@@ -417,16 +379,12 @@ fn write_targets_row(
         }
         write!(out, "</td>")?;
     }
-    write!(out, "</tr>")?;
-    Ok(())
+    Ok(write!(out, "</tr>")?)
 }
 
 /// Writes that there are demands without a row.
 fn write_hidden(out: &mut String, figures: &Figures<'_>, hidden: u64) -> Result<(), Memory> {
-    let changes = Several {
-        n: u128::from(hidden),
-        word: "change",
-    };
+    let changes = Several::of(hidden, "change");
     write!(
         out,
         "<tr><th scope=\"row\">{changes} not shown</th><td></td><td></td>"
@@ -434,8 +392,7 @@ fn write_hidden(out: &mut String, figures: &Figures<'_>, hidden: u64) -> Result<
     for _ in figures.instruction.assortments() {
         write!(out, "<td></td>")?;
     }
-    write!(out, "</tr>")?;
-    Ok(())
+    Ok(write!(out, "</tr>")?)
 }
 
 /// Writes a row for each of the last demands, after those hidden.
@@ -487,8 +444,7 @@ fn write_targets(out: &mut String, figures: &Figures<'_>) -> Result<(), Memory> 
         write_hidden(out, figures, hidden)?;
     }
     write_demands(out, figures, hidden)?;
-    write!(out, "</tbody></table></div></section>")?;
-    Ok(())
+    Ok(write!(out, "</tbody></table></div></section>")?)
 }
 
 /// Writes an assortment's species, grades, kind of price and trim.
@@ -527,10 +483,7 @@ fn write_assortment(
         Apart(assortment.name())
     )?;
     write_kind(out, assortment)?;
-    let logs = Several {
-        n: u128::from(figures.assortments[at].logs),
-        word: "log",
-    };
+    let logs = Several::of(figures.assortments[at].logs, "log");
     let wanted = sum_of(part(figures.instruction, figures.targets, at));
     write!(
         out,
@@ -544,16 +497,12 @@ fn write_assortment(
         write!(out, "</div>")?;
     }
     write_matrices(out, figures, at)?;
-    write!(out, "</section>")?;
-    Ok(())
+    Ok(write!(out, "</section>")?)
 }
 
 /// Writes what the page's words mean.
 fn write_notes(out: &mut String, figures: &Figures<'_>) -> Result<(), Memory> {
-    let period = Several {
-        n: u128::from(figures.instruction.period()),
-        word: "stem",
-    };
+    let period = Several::of(u64::from(figures.instruction.period()), "stem");
     let limit = limit_text(figures.instruction.limit());
     write!(
         out,
@@ -580,11 +529,10 @@ fn write_notes(out: &mut String, figures: &Figures<'_>) -> Result<(), Memory> {
             postings / MOST_POINTS
         )?;
     }
-    write!(
+    Ok(write!(
         out,
         "Every posting, log and class stands in <code>buckfleet table</code>.</dd></dl></section>"
-    )?;
-    Ok(())
+    )?)
 }
 
 /// The page of a lawful journal, given its figures, a planner under the base sheet and the names of both files. It
