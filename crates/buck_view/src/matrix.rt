@@ -1,5 +1,6 @@
 //! Matrices of the classes of an assortment: a row for each lower limit of the top diameter, a column for each length.
-ghost use Rattle.std.specs.Prelude.{◌≡◌, ◌<◌, ◌≤◌, ◌+◌, ◌*◌, length};
+ghost use Rattle.std.specs.Prelude.{◌≡◌, ◌<◌, ◌≤◌, ◌*◌, length, max};
+ghost use Rattle.std.specs.Int.{div_ceil};
 
 use crate::figures::Figures;
 use crate::parts::{part, sum_of};
@@ -16,29 +17,40 @@ const WIDE: usize = 12;
 
 /// Which differences, in per mille, have which of the three shades: each from its step on.
 #[derive(Clone, Copy)]
-struct Steps([u128; 3]);
+struct Steps {
+    light: u128,
+    middle: u128,
+    dark: u128,
+}
 
 /// The steps of shares, given how many classes there are: a quarter, a half and the whole of the mean share, rounded
 /// up.
 fn share_steps(filled: u64) -> Steps
     requires { 0 < filled }
+    ensures light { result.light ≡ max (div_ceil 250 filled) 1 }
+    ensures middle { result.middle ≡ max (div_ceil 500 filled) 2 }
+    ensures dark { result.dark ≡ max (div_ceil 1000 filled) 3 }
 {
     let filled = u128::from(filled);
-    Steps([
-        250u128.div_ceil(filled).max(1),
-        500u128.div_ceil(filled).max(2),
-        1000u128.div_ceil(filled).max(3),
-    ])
+    Steps {
+        light: 250u128.div_ceil(filled).max(1),
+        middle: 500u128.div_ceil(filled).max(2),
+        dark: 1000u128.div_ceil(filled).max(3),
+    }
 }
 
 /// The steps of prices: a sixth, a third and two thirds of the limit, rounded up.
-fn price_steps(limit: u32) -> Steps {
+fn price_steps(limit: u32) -> Steps
+    ensures light { result.light ≡ max (div_ceil limit 6) 1 }
+    ensures middle { result.middle ≡ max (div_ceil limit 3) 2 }
+    ensures dark { result.dark ≡ max (div_ceil (2 * limit) 3) 3 }
+{
     let limit = u128::from(limit);
-    Steps([
-        limit.div_ceil(6).max(1),
-        limit.div_ceil(3).max(2),
-        (2 * limit).div_ceil(3).max(3),
-    ])
+    Steps {
+        light: limit.div_ceil(6).max(1),
+        middle: limit.div_ceil(3).max(2),
+        dark: (2 * limit).div_ceil(3).max(3),
+    }
 }
 
 /// How a cell looks: that of a sum is set apart, and too few and too many have three shades each.
@@ -64,12 +76,11 @@ impl fmt::Display for Shade {
 impl Steps {
     /// The shade of a difference by which too much is there, or too little.
     fn shade(&self, difference: Difference) -> Shade {
-        let [light, middle, dark] = self.0;
-        let level = if difference.size < light {
+        let level = if difference.size < self.light {
             return Shade::Plain;
-        } else if difference.size < middle {
+        } else if difference.size < self.middle {
             1
-        } else if difference.size < dark {
+        } else if difference.size < self.dark {
             2
         } else {
             3
@@ -98,8 +109,7 @@ fn write_swatch(
 
 /// Writes the shades of the differences that lie below, from the furthest to the nearest.
 fn write_below(out: &mut String, steps: &Steps, turned: bool) -> Result<(), Memory> {
-    let [light, middle, dark] = steps.0;
-    for (level, size) in [(3, dark), (2, middle), (1, light)] {
+    for (level, size) in [(3, steps.dark), (2, steps.middle), (1, steps.light)] {
         let shade = if turned {
             Shade::TooMany(level)
         } else {
@@ -112,8 +122,7 @@ fn write_below(out: &mut String, steps: &Steps, turned: bool) -> Result<(), Memo
 
 /// Writes the shades of the differences that lie above, from the nearest to the furthest.
 fn write_above(out: &mut String, steps: &Steps, turned: bool) -> Result<(), Memory> {
-    let [light, middle, dark] = steps.0;
-    for (level, size) in [(1, light), (2, middle), (3, dark)] {
+    for (level, size) in [(1, steps.light), (2, steps.middle), (3, steps.dark)] {
         let shade = if turned {
             Shade::TooFew(level)
         } else {
