@@ -1,1 +1,4 @@
 pub mod Words
+pub mod Figures
+pub mod Sums
+pub mod Pieces

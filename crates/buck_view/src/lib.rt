@@ -2,7 +2,9 @@
 #![tactic(auto)]
 
 mod figures;
+mod sums;
 mod words;
 
-pub use figures::{Cut, Figures, Own, Part, Piece, Point, Sums};
+pub use figures::{Cut, Figures, Own, Part, Piece, Point};
+pub use sums::Sums;
 pub use words::{Fixed, Grouped, Name, half_up, permille};
