@@ -1,5 +1,5 @@
 -- What postings come to, added up.
-use Rattle.std.specs.Prelude.{◌≡◌, ℕ, ◌+◌, List, [], ◌∷◌, length, sum_by, Option, Some, None}
+use Rattle.std.specs.Prelude.{◌≡◌, ℕ, ◌+◌, ◌<◌, ◌^◌, List, [], ◌∷◌, length, sum_by, Option, Some, None}
 use Rattle.buck_apt.specs.Instruction.{InstructionParts}
 use Rattle.buck_stem.specs.Stem.{StemParts}
 use Rattle.buck_value.specs.declared.log.Log.{Log}
@@ -11,7 +11,7 @@ use Rattle.buck_book.specs.declared.posting.Posting.{Posting}
 use Rattle.buck_book.specs.declared.posting.Posting.TheVariants.{Cut, Demand}
 use Rattle.buck_view.specs.Figures.{base_sheet, IsUnsteered, log_volume, cuts_in, demands_in, logs_in, volume_in, length_in, logged_in, trim_in, worth_in, at_base_in}
 use Rattle.buck_view.specs.declared.sums.Sums.{Sums}
-use Rattle.buck_view.specs.declared.sums.Wood.{Wood}
+use Rattle.buck_view.specs.declared.adding.Wood.{Wood}
 
 -- the sums over some postings, and over the same unsteered
 pub record AreSums (i : InstructionParts) (ps us : List Posting) (s : Sums) : Type 0 where
@@ -45,6 +45,13 @@ pub record IsWoodOf (sheet : SheetParts) (stem : StemParts) (logs : List Log) (w
   pub logged : w.logged ≡ sum_by (λ g. g.length) logs
   pub trim : w.trim ≡ sum_by (trim_of sheet.instruction) logs
   pub at_base : w.at_base ≡ cutting_worth sheet stem logs
+
+-- each part fits 64 bits
+pub record IsLow (w : Wood) : Type 0 where
+  pub volume : w.volume < 2 ^ 64
+  pub logged : w.logged < 2 ^ 64
+  pub trim : w.trim < 2 ^ 64
+  pub at_base : w.at_base < 2 ^ 64
 
 -- the logs of a posting
 abbrev pub logs_of : Posting → List Log

@@ -1,6 +1,5 @@
 //! A cut log by log, beside the best cutting of its stem at base prices.
-ghost use Rattle.std.specs.Prelude.{◌≡◌, ◌<◌, ◌≤◌, ◌^◌, IfOk, length};
-ghost use Rattle.std.specs.List.{All};
+ghost use Rattle.std.specs.Prelude.{◌≡◌, ◌<◌, ◌≤◌, ◌^◌, All, IfOk, length};
 ghost use Rattle.buck_apt.specs.Instruction.{classes};
 ghost use Rattle.buck_value.specs.Allowed.{IsAllowed};
 ghost use Rattle.buck_value.specs.Volume.{worth_at};
@@ -56,7 +55,7 @@ fn piece_of(base: &Sheet, prices: &[u32], stem: &Stem, log: &Log) -> Piece
     }
 }
 
-/// The logs of an admissible cutting as they were cut.
+/// Allowed logs as they were cut.
 fn pieces_of(
     alloc: Global,
     base: &Sheet,
@@ -64,7 +63,7 @@ fn pieces_of(
     stem: &Stem,
     logs: &[Log],
 ) -> Result<Vec<Piece>, Memory>
-    requires admissible { IsAdmissible base.now stem.now logs.now }
+    requires allowed { All (λ g. IsAllowed base.now.instruction stem.now g) logs.now }
     requires prices { length prices.now ≡ classes base.now.instruction }
     ensures { IfOk result (λ pieces. ArePieces base.now prices.now stem.now logs.now pieces.items) }
 {
@@ -73,4 +72,36 @@ fn pieces_of(
         pieces.push(piece_of(base, prices, stem, log))?;
     }
     Ok(pieces)
+}
+
+/// A cut log by log, beside the best cutting of its stem at base prices. The planner plans at base prices, and `sheets`
+/// are the prices of each version. Refused as `Memory` alone.
+pub fn cut_of<'a>(
+    alloc: Global,
+    planner: &mut Planner,
+    sheets: &[Vec<u32>],
+    position: usize,
+    entry: &'a Entry,
+) -> Result<Cut<'a>, Memory>
+    requires base { planner.old ≡ base_sheet planner.old.instruction }
+    requires admissible { IsAdmissible planner.old entry.now.stem entry.now.logs }
+    requires version { entry.now.version < length sheets.now }
+    requires prices { (pss : List (List ℕ)) → pss ≡ map (λ v. v.items) sheets.now
+        → length (prices_at pss entry.now.version) ≡ classes planner.old.instruction }
+    ensures same { planner.new ≡ planner.old }
+    ensures cut { IfOk result (λ c. IsCut planner.old (map (λ v. v.items) sheets.now) position entry.now c) }
+{
+    let (unsteered, best) = planner.best(alloc, &entry.stem)?;
+    let base = planner.sheet();
+    let prices = sheets[entry.version as usize].as_slice();
+    let pieces = pieces_of(alloc, base, prices, &entry.stem, entry.cutting.logs.as_slice())?;
+    let at_base = base_worth_of(pieces.as_slice());
+    Ok(Cut {
+        position,
+        entry,
+        pieces,
+        at_base,
+        unsteered,
+        best,
+    })
 }

@@ -1,6 +1,8 @@
 //! What a journal shows: its figures, the page that a mill opens, and tables for a spreadsheet.
 #![tactic(auto)]
 
+mod adding;
+mod cuts;
 mod figures;
 mod sums;
 mod words;
