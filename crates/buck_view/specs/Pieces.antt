@@ -7,7 +7,10 @@ use Rattle.buck_value.specs.Sheet.{SheetParts, price_of}
 use Rattle.buck_value.specs.Allowed.{class_of, kind_in, top_diameter, worth_of}
 use Rattle.buck_value.specs.Volume.{worth_at}
 use Rattle.buck_view.specs.Figures.{log_volume}
+use Rattle.buck_dp.specs.Best.{IsFirstBest, cutting_worth}
+use Rattle.buck_book.specs.Entry.{EntryParts}
 use Rattle.buck_view.specs.declared.figures.Piece.{Piece}
+use Rattle.buck_view.specs.declared.figures.Cut.{Cut}
 
 -- a log of a stem, cut under some prices, one for each class, beside a sheet of base prices
 pub record IsPiece (base : SheetParts) (prices : List ℕ) (stem : StemParts) (g : Log) (p : Piece) : Type 0 where
@@ -30,3 +33,11 @@ pub record ArePieces (base : SheetParts) (prices : List ℕ) (stem : StemParts) 
       → slice_get logs k ≡ Some g
       → slice_get pieces k ≡ Some p
       → IsPiece base prices stem g p
+
+-- a cut log by log, beside the first best cutting of its stem at base prices
+pub record IsCut (base : SheetParts) (prices : List ℕ) (e : EntryParts) (c : Cut) : Type 0 where
+  pub entry : c.entry.now ≡ e
+  pub pieces : ArePieces base prices e.stem e.logs c.pieces.items
+  pub at_base : c.at_base ≡ cutting_worth base e.stem e.logs
+  pub unsteered : IsFirstBest base e.stem c.unsteered.logs.items
+  pub best : c.best ≡ cutting_worth base e.stem c.unsteered.logs.items

@@ -1,16 +1,15 @@
 //! A cut log by log, beside the best cutting of its stem at base prices.
-ghost use Rattle.std.specs.Prelude.{◌≡◌, ◌<◌, ◌≤◌, ◌^◌, All, IfOk, length};
+ghost use Rattle.std.specs.Prelude.{◌≡◌, ◌<◌, ◌≤◌, All, IfOk, length, map};
 ghost use Rattle.buck_apt.specs.Instruction.{classes};
 ghost use Rattle.buck_value.specs.Allowed.{IsAllowed};
 ghost use Rattle.buck_value.specs.Volume.{worth_at};
-ghost use Rattle.buck_dp.specs.Best.{IsAdmissible, IsFirstBest, cutting_worth};
+ghost use Rattle.buck_dp.specs.Best.{IsAdmissible};
 ghost use Rattle.buck_book.specs.History.{prices_at};
-ghost use Rattle.buck_view.specs.Figures.{base_sheet};
-ghost use Rattle.buck_view.specs.Pieces.{IsPiece, ArePieces};
+ghost use Rattle.buck_view.specs.Pieces.{IsPiece, ArePieces, IsCut};
 
 use crate::figures::{Cut, Piece};
 use buck_book::Entry;
-use buck_dp::Planner;
+use buck_dp::{Planner, worth};
 use buck_record::Memory;
 use buck_stem::Stem;
 use buck_value::{Log, Sheet, log_valuation, volume_of};
@@ -74,6 +73,34 @@ fn pieces_of(
     Ok(pieces)
 }
 
+/// A cut log by log, planned under these prices, beside the best cutting of its stem at base prices.
+fn cut_under<'a>(
+    alloc: Global,
+    planner: &mut Planner,
+    prices: &[u32],
+    position: usize,
+    entry: &'a Entry,
+) -> Result<Cut<'a>, Memory>
+    requires admissible { IsAdmissible planner.old entry.now.stem entry.now.logs }
+    requires prices { length prices.now ≡ classes planner.old.instruction }
+    ensures same { planner.new ≡ planner.old }
+    ensures cut { IfOk result (IsCut planner.old prices.now entry.now) }
+    ensures position { IfOk result (λ c. c.position ≡ position) }
+{
+    let (unsteered, best) = planner.best(alloc, &entry.stem)?;
+    let base = planner.sheet();
+    let pieces = pieces_of(alloc, base, prices, &entry.stem, entry.cutting.logs.as_slice())?;
+    let at_base = worth(base, &entry.stem, &entry.cutting);
+    Ok(Cut {
+        position,
+        entry,
+        pieces,
+        at_base,
+        unsteered,
+        best,
+    })
+}
+
 /// A cut log by log, beside the best cutting of its stem at base prices. The planner plans at base prices, and `sheets`
 /// are the prices of each version. Refused as `Memory` alone.
 pub fn cut_of<'a>(
@@ -83,25 +110,13 @@ pub fn cut_of<'a>(
     position: usize,
     entry: &'a Entry,
 ) -> Result<Cut<'a>, Memory>
-    requires base { planner.old ≡ base_sheet planner.old.instruction }
     requires admissible { IsAdmissible planner.old entry.now.stem entry.now.logs }
     requires version { entry.now.version < length sheets.now }
-    requires prices { (pss : List (List ℕ)) → pss ≡ map (λ v. v.items) sheets.now
-        → length (prices_at pss entry.now.version) ≡ classes planner.old.instruction }
+    requires prices { length (prices_at (map (λ w. w.items) sheets.now) entry.now.version) ≡ classes planner.old.instruction }
     ensures same { planner.new ≡ planner.old }
-    ensures cut { IfOk result (λ c. IsCut planner.old (map (λ v. v.items) sheets.now) position entry.now c) }
+    ensures cut { IfOk result (IsCut planner.old (prices_at (map (λ w. w.items) sheets.now) entry.now.version) entry.now) }
+    ensures position { IfOk result (λ c. c.position ≡ position) }
 {
-    let (unsteered, best) = planner.best(alloc, &entry.stem)?;
-    let base = planner.sheet();
     let prices = sheets[entry.version as usize].as_slice();
-    let pieces = pieces_of(alloc, base, prices, &entry.stem, entry.cutting.logs.as_slice())?;
-    let at_base = base_worth_of(pieces.as_slice());
-    Ok(Cut {
-        position,
-        entry,
-        pieces,
-        at_base,
-        unsteered,
-        best,
-    })
+    cut_under(alloc, planner, prices, position, entry)
 }
