@@ -2,3 +2,5 @@ pub mod Words
 pub mod Figures
 pub mod Sums
 pub mod Pieces
+pub mod Owns
+pub mod Tally

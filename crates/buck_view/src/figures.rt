@@ -2,11 +2,13 @@
 ghost use Rattle.std.specs.Prelude.{◌≡◌, ◌*◌, ◌<◌, ◌≤◌, ◌^◌, vec_len, length};
 ghost use Rattle.buck_apt.specs.Instruction.{classes};
 
+use crate::owns::Own;
 use crate::sums::Sums;
 use buck_apt::{Class, Instruction};
 use buck_book::{Entry, Posting};
 use buck_dp::Cutting;
 use buck_value::Log;
+use std::collections::BTreeMap;
 
 /// A log as it was cut.
 #[derive(Clone, Copy)]
@@ -68,15 +70,6 @@ pub struct Part {
     ghost small: { (logs < 2 ^ 32) × (volume ≤ logs * 2 ^ 64) × (at_base ≤ logs * 2 ^ 64) },
 }
 
-/// What a harvester's postings come to.
-#[derive(Clone, Copy)]
-pub struct Own {
-    pub harvester: u32,
-    pub sums: Sums,
-    /// The place of its first cut, if there is one.
-    pub first: Option<usize>,
-}
-
 /// The figures of a lawful journal.
 #[derive(Drop)]
 pub struct Figures<'a> {
@@ -92,7 +85,7 @@ pub struct Figures<'a> {
     pub prices: &'a [u32],
     pub total: Sums,
     /// By number, those that have a posting.
-    pub harvesters: Vec<Own>,
+    pub harvesters: BTreeMap<u32, Own>,
     /// One for each assortment.
     pub assortments: Vec<Part>,
     pub points: Vec<Point>,
