@@ -3,4 +3,5 @@ pub mod Figures
 pub mod Sums
 pub mod Pieces
 pub mod Owns
+pub mod Counted
 pub mod Tally

@@ -2,6 +2,7 @@
 #![tactic(auto)]
 
 mod adding;
+mod counting;
 mod cuts;
 mod figures;
 mod owns;
