@@ -7,16 +7,19 @@ use Rattle.buck_book.specs.declared.posting.Posting.{Posting}
 use Rattle.buck_book.proofs.Extend.{slice_get-push}
 use Rattle.buck_view.specs.declared.sums.Sums.{Sums}
 use Rattle.buck_view.specs.Figures.{cuts_in, demands_in, logs_in, volume_in, length_in, logged_in, trim_in, worth_in, at_base_in, IsUnsteered, AreUnsteered}
-use Rattle.buck_stem.specs.Stem.{StemParts, stem_length}
+use Rattle.buck_stem.specs.Stem.{StemParts, IsStem, stem_length}
 use Rattle.buck_value.specs.declared.log.Log.{Log}
-use Rattle.buck_value.specs.Sheet.{SheetParts}
+use Rattle.buck_value.specs.Sheet.{SheetParts, IsSheet}
 use Rattle.buck_value.specs.Allowed.{IsAllowed, end_of, trim_of, worth_of}
 use Rattle.buck_dp.specs.Cutting.{IsCutFrom}
 use Rattle.buck_dp.proofs.Bounds.{end_within}
 use Rattle.buck_view.specs.Figures.{base_sheet, log_volume}
 use Rattle.buck_book.specs.Entry.{EntryParts}
 use Rattle.buck_book.specs.declared.posting.Posting.TheVariants.{Cut, Demand}
-use Rattle.buck_dp.specs.Best.{IsFirstBest, cutting_worth}
+use Rattle.buck_dp.specs.Best.{IsAdmissible, IsFirstBest, cutting_worth}
+use Rattle.buck_dp.proofs.Lists.{each_allowed}
+use Rattle.buck_book.proofs.Cuts.{few_logs}
+use Rattle.buck_view.specs.Counted.{AreOfPosting}
 use Rattle.buck_view.specs.declared.adding.Wood.{Wood}
 use Rattle.buck_view.specs.declared.figures.Piece.{Piece}
 use Rattle.buck_view.specs.Pieces.{IsPiece, ArePieces}
@@ -102,3 +105,8 @@ pieces_more base prices stem gs ps g p all one = record {
         inl w ↦ absurd (omega (arith, h.0, w.0, all.same_number))
       | inr w ↦ subst (λ x. IsPiece base prices stem x b) (sym h.1) (subst (λ y. IsPiece base prices stem g y) (sym w.1) one) ] ];
 }
+
+-- the logs of an admissible cutting of a posting's stem
+pub of_posting : (s : SheetParts) (e : EntryParts) (logs : List Log) → IsSheet s → IsStem e.stem → IsAdmissible s e.stem logs
+    → AreOfPosting s.instruction (Cut e) logs
+of_posting s e logs valid stem cut = (each_allowed s e.stem logs cut, few_logs s.instruction e.stem logs valid.valid stem cut)

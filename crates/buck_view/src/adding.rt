@@ -1,12 +1,14 @@
 //! What cuts and demands come to, added up.
-ghost use Rattle.std.specs.Prelude.{◌≡◌, ◌+◌, ◌*◌, ◌≤◌, [], ◌∷◌, All, IfOk};
+ghost use Rattle.std.specs.Prelude.{◌≡◌, ◌+◌, ◌*◌, ◌≤◌, [], ◌∷◌, All, IfOk, OnOk};
 ghost use Rattle.buck_apt.specs.Instruction.{InstructionParts};
+ghost use Rattle.buck_stem.specs.Stem.{IsStem};
 ghost use Rattle.buck_value.specs.Allowed.{IsAllowed};
 ghost use Rattle.buck_dp.specs.Best.{IsAdmissible, cutting_worth};
 ghost use Rattle.buck_book.specs.Entry.{EntryParts, DemandParts};
 ghost use Rattle.buck_book.specs.declared.posting.Posting.TheVariants.{Cut, Demand};
+ghost use Rattle.buck_view.specs.Counted.{AreOfPosting};
 ghost use Rattle.buck_view.specs.Figures.{base_sheet};
-ghost use Rattle.buck_view.specs.Sums.{AreSums, AreSumsTogether, IsCuttable, IsLow, IsPassed, IsWoodOf, logs_in_some};
+ghost use Rattle.buck_view.specs.Sums.{AreSums, AreSumsTogether, IsCuttable, IsLow, IsPassed, IsWoodOf, logs_in_some, logs_of};
 
 use crate::sums::Sums;
 use buck_book::{Entry, Posting};
@@ -113,8 +115,9 @@ fn wood_of(base: &Sheet, stem: &Stem, logs: &[Log]) -> Wood
 pub fn sums_of_cut(base: &Sheet, entry: &Entry, best: u64) -> Sums
     requires admissible { IsAdmissible base.now entry.now.stem entry.now.logs }
     requires best { cutting_worth base.now entry.now.stem entry.now.logs ≤ best }
-    ensures { (u : EntryParts) → base.now ≡ base_sheet base.now.instruction → u.worth ≡ best
+    ensures sums { (u : EntryParts) → base.now ≡ base_sheet base.now.instruction → u.worth ≡ best
         → AreSums base.now.instruction (Cut entry.now ∷ []) (Cut u ∷ []) result }
+    ensures stem { IsStem entry.now.stem }
 {
     let logs = entry.cutting.logs.as_slice();
     let wood = wood_of(base, &entry.stem, logs);
@@ -160,6 +163,8 @@ pub fn sums_of(
     requires cuttable { IsCuttable planner.old.instruction posting.now }
     ensures same { planner.new ≡ planner.old }
     ensures passed { IfOk result (λ r. IsPassed planner.old.instruction posting.now r.0 (logs_in_some r.1)) }
+    ensures own { OnOk result (AreOfPosting planner.old.instruction posting.now (logs_of posting.now)) }
+    ensures unsteered { IfOk result (λ r. AreOfPosting planner.old.instruction posting.now (logs_in_some r.1)) }
 {
     let Posting::Cut(entry) = posting else {
         return Ok((sums_of_demand(), None));

@@ -2,8 +2,9 @@
 ghost use Rattle.std.specs.Prelude.{◌≡◌, ℕ, ◌+◌, ◌<◌, ◌^◌, All, length, slice_index};
 ghost use Rattle.buck_apt.specs.Instruction.{IsClass, classes, index_of};
 ghost use Rattle.buck_value.specs.Allowed.{IsAllowed, class_of};
-ghost use Rattle.buck_view.specs.Counted.{AreCountsWith};
+ghost use Rattle.buck_view.specs.Counted.{AreCountsOn, AreCountsWith, AreOfPosting};
 
+use buck_book::Posting;
 use buck_stem::Stem;
 use buck_value::{Log, Sheet, class_of};
 
@@ -30,5 +31,18 @@ pub fn count_logs(counts: &mut Vec<u32>, base: &Sheet, stem: &Stem, logs: &[Log]
     for log in logs {
         let place = place_of(base, stem, log);
         counts[place] += 1;
+    }
+}
+
+/// Counts the logs into which a posting's stem is cut, if it is a cut.
+pub fn count_posting(counts: &mut Vec<u32>, base: &Sheet, posting: &Posting, logs: &[Log])
+    requires number { length counts.old.items ≡ classes base.now.instruction }
+    requires logs { AreOfPosting base.now.instruction posting.now logs.now }
+    requires low { (p : ℕ) → slice_index counts.old.items p + 80 < 2 ^ 32 }
+    ensures { AreCountsOn base.now.instruction posting.now logs.now counts.old.items counts.new.items }
+{
+    match posting {
+        Posting::Cut(entry) => count_logs(counts, base, &entry.stem, logs),
+        Posting::Demand(_) => {}
     }
 }
