@@ -1,55 +1,14 @@
 //! The figures of a lawful journal.
-ghost use Rattle.std.specs.Prelude.{◌≡◌, ◌+◌, ◌-◌, ◌*◌, ◌<◌, ◌≤◌, ◌^◌, vec_len, length, slice_get, Some};
-ghost use Rattle.buck_apt.specs.Instruction.{IsClass, classes, classes_of};
-ghost use Rattle.buck_book.specs.Degree.{part_of};
+ghost use Rattle.std.specs.Prelude.{◌≡◌, ◌*◌, ◌<◌, ◌≤◌, ◌^◌, vec_len, length};
+ghost use Rattle.buck_apt.specs.Instruction.{classes};
 
+use crate::owns::Own;
+use crate::sums::Sums;
 use buck_apt::{Class, Instruction};
 use buck_book::{Entry, Posting};
 use buck_dp::Cutting;
 use buck_value::Log;
-
-/// What some postings come to. Worths are in millionths of the price unit.
-#[derive(Clone, Copy)]
-pub struct Sums {
-    pub stems: u64,
-    pub demands: u64,
-    pub logs: u64,
-    /// Of the logs, in cm³.
-    pub volume: u128,
-    /// Of the stems, in mm.
-    pub length: u128,
-    /// Of the logs, in mm.
-    pub logged: u128,
-    /// Of what was cut with the logs, in mm.
-    pub trim: u128,
-    /// Of the cuttings, under the prices in force when each was planned.
-    pub worth: u128,
-    /// Of the same cuttings, at base prices.
-    pub at_base: u128,
-    /// Of the best cuttings at base prices.
-    pub best: u128,
-    ghost few: { (stems ≤ 1000000) × (demands ≤ 1000000) × (logs ≤ 80 * stems) },
-    ghost small_wood: { (volume ≤ stems * 2 ^ 64) × (length ≤ stems * 2 ^ 64) },
-    ghost small_worth: { (worth ≤ stems * 2 ^ 64) × (best ≤ stems * 2 ^ 64) },
-    ghost no_more_than_the_stem: { logged + trim ≤ length },
-    ghost no_better_than_best: { at_base ≤ best },
-}
-
-impl Sums {
-    /// What steering cost: what the best cuttings at base prices are worth above those made, both at base prices.
-    pub fn cost(&self) -> u128
-        ensures { result + self.now.at_base ≡ self.now.best }
-    {
-        self.best - self.at_base
-    }
-
-    /// The length of the stems, in mm, that neither a log nor its trim took.
-    pub fn left(&self) -> u128
-        ensures { result + self.now.logged + self.now.trim ≡ self.now.length }
-    {
-        self.length - self.logged - self.trim
-    }
-}
+use std::collections::BTreeMap;
 
 /// A log as it was cut.
 #[derive(Clone, Copy)]
@@ -111,15 +70,6 @@ pub struct Part {
     ghost small: { (logs < 2 ^ 32) × (volume ≤ logs * 2 ^ 64) × (at_base ≤ logs * 2 ^ 64) },
 }
 
-/// What a harvester's postings come to.
-#[derive(Clone, Copy)]
-pub struct Own {
-    pub harvester: u32,
-    pub sums: Sums,
-    /// The place of its first cut, if there is one.
-    pub first: Option<usize>,
-}
-
 /// The figures of a lawful journal.
 #[derive(Drop)]
 pub struct Figures<'a> {
@@ -135,11 +85,12 @@ pub struct Figures<'a> {
     pub prices: &'a [u32],
     pub total: Sums,
     /// By number, those that have a posting.
-    pub harvesters: Vec<Own>,
+    pub harvesters: BTreeMap<u32, Own>,
     /// One for each assortment.
     pub assortments: Vec<Part>,
     pub points: Vec<Point>,
-    /// The places of the longest stem, and of the stem where steering cost most: of equals the first.
+    /// The places of the longest stem, and of the stem where steering cost most: of equals the first. There is none of
+    /// these where steering cost nothing.
     pub longest: Option<usize>,
     pub dearest: Option<usize>,
     ghost counts_number: { vec_len counts ≡ classes instruction.now },

@@ -1,13 +1,16 @@
 //! The page that a mill opens.
-ghost use Rattle.std.specs.Prelude.{◌≡◌, ◌<◌, ◌≤◌, length};
+ghost use Rattle.std.specs.Prelude.{◌<◌, length};
+ghost use Rattle.buck_view.specs.Shown.{IsShown};
 
 use crate::charts::{write_degree_chart, write_price_chart};
-use crate::figures::{Figures, Own, Sums};
+use crate::figures::Figures;
 use crate::matrix::write_matrices;
 use crate::names::Apart;
+use crate::owns::Own;
 use crate::parts::{part, sum_of};
 use crate::stems::write_stems;
 use crate::style::STYLE;
+use crate::sums::Sums;
 use crate::words::{
     Chip, DOT, Fixed, Grouped, Known, Metres, Millionths, Several, Signed, degree_text,
     difference_of, half_up, limit_text, permille,
@@ -17,6 +20,7 @@ use buck_book::{Demand, Posting, degree_at};
 use buck_dp::Planner;
 use buck_record::Memory;
 use std::alloc::Global;
+use std::collections::BTreeMap;
 use std::fmt;
 
 /// At most so many demands have a row.
@@ -79,16 +83,16 @@ fn open_tile<V: fmt::Display + Drop>(
 const TILE_END: &str = "</span></div>";
 
 /// How many harvesters cut a stem.
-fn cutting(harvesters: &[Own]) -> usize {
-    harvesters.iter().filter(|own| own.sums.stems > 0).count()
+fn cutting(harvesters: &BTreeMap<u32, Own>) -> usize {
+    harvesters.values().filter(|own| own.sums.stems > 0).count()
 }
 
 /// Writes how many stems and logs there are.
 fn write_number_tiles(out: &mut String, figures: &Figures<'_>) -> Result<(), Memory> {
     let total = &figures.total;
     let stems = u128::from(total.stems);
-    let logs = u128::from(total.logs);
-    let by = Several::of(cutting(figures.harvesters.as_slice()) as u64, "harvester");
+    let logs = total.logs;
+    let by = Several::of(cutting(&figures.harvesters) as u128, "harvester");
     open_tile(out, Grouped(stems), "")?;
     write!(out, "stems, by {by}{TILE_END}")?;
     open_tile(out, Grouped(logs), "")?;
@@ -107,7 +111,7 @@ fn write_volume_tile(out: &mut String, total: &Sums) -> Result<(), Memory> {
     if total.logs == 0 {
         write!(out, "volume{TILE_END}")?;
     } else {
-        let each = Millionths(half_up(total.volume, u128::from(total.logs)));
+        let each = Millionths(half_up(total.volume, total.logs));
         write!(out, "{each} m&#179; a log{TILE_END}")?;
     }
     Ok(())
@@ -169,9 +173,9 @@ fn write_account(out: &mut String, total: &Sums) -> Result<(), Memory> {
 /// Writes the head of the page: what was cut, what was checked, and the sums.
 fn write_opening(out: &mut String, figures: &Figures<'_>, files: &Files<'_>) -> Result<(), Memory> {
     let total = &figures.total;
-    let stems = Several::of(total.stems, "stem");
+    let stems = Several::of(u128::from(total.stems), "stem");
     let logs = Several::of(total.logs, "log");
-    let changes = Several::of(total.demands, "change");
+    let changes = Several::of(u128::from(total.demands), "change");
     write!(out, "{stems}, {logs}")?;
     if total.demands > 0 {
         write!(out, " and {changes} of targets")?;
@@ -285,7 +289,7 @@ fn write_overview(out: &mut String, figures: &Figures<'_>) -> Result<(), Memory>
         out,
         "<tr class=\"total\"><th scope=\"row\">All</th><td class=\"wide\"></td><td></td><td></td><td></td>\
          <td>{}</td><td>{}</td><td>{}</td><td>{}</td></tr></tbody></table></div></section>",
-        Grouped(u128::from(total.logs)),
+        Grouped(total.logs),
         Grouped(u128::from(sum_of(figures.targets))),
         Millionths(total.volume),
         Millionths(total.at_base)
@@ -309,7 +313,7 @@ fn write_sums(out: &mut String, sums: &Sums) -> Result<(), Memory> {
         out,
         "<td>{}</td><td>{}</td><td>{}</td><td>{}</td>",
         Grouped(u128::from(sums.stems)),
-        Grouped(u128::from(sums.logs)),
+        Grouped(sums.logs),
         Millionths(sums.volume),
         Millionths(sums.at_base)
     )?;
@@ -334,7 +338,7 @@ fn write_harvesters(out: &mut String, figures: &Figures<'_>) -> Result<(), Memor
          <th scope=\"col\">Cost of steering</th><th scope=\"col\">in %</th><th scope=\"col\">Length left, %</th>\
          <th scope=\"col\">Postings</th></tr></thead><tbody>"
     )?;
-    for own in figures.harvesters.as_slice() {
+    for own in figures.harvesters.values() {
         write!(out, "<tr><th scope=\"row\">{}</th>", own.harvester)?;
         write_sums(out, &own.sums)?;
     }
@@ -384,7 +388,7 @@ fn write_targets_row(
 
 /// Writes that there are demands without a row.
 fn write_hidden(out: &mut String, figures: &Figures<'_>, hidden: u64) -> Result<(), Memory> {
-    let changes = Several::of(hidden, "change");
+    let changes = Several::of(u128::from(hidden), "change");
     write!(
         out,
         "<tr><th scope=\"row\">{changes} not shown</th><td></td><td></td>"
@@ -483,7 +487,7 @@ fn write_assortment(
         Apart(assortment.name())
     )?;
     write_kind(out, assortment)?;
-    let logs = Several::of(figures.assortments[at].logs, "log");
+    let logs = Several::of(u128::from(figures.assortments[at].logs), "log");
     let wanted = sum_of(part(figures.instruction, figures.targets, at));
     write!(
         out,
@@ -502,7 +506,7 @@ fn write_assortment(
 
 /// Writes what the page's words mean.
 fn write_notes(out: &mut String, figures: &Figures<'_>) -> Result<(), Memory> {
-    let period = Several::of(u64::from(figures.instruction.period()), "stem");
+    let period = Several::of(u128::from(figures.instruction.period()), "stem");
     let limit = limit_text(figures.instruction.limit());
     write!(
         out,
@@ -535,14 +539,16 @@ fn write_notes(out: &mut String, figures: &Figures<'_>) -> Result<(), Memory> {
     )?)
 }
 
-/// The page of a lawful journal, given its figures, a planner under the base sheet and the names of both files. It
+/// The page of a lawful journal, given its figures, a planner at base prices and the names of both files. It
 /// holds no date and loads nothing: what is the same gives the same page. Refused as `Memory` alone.
 pub fn page(
     alloc: Global,
     figures: &Figures<'_>,
     planner: &mut Planner,
     files: &Files<'_>,
-) -> Result<String, Memory> {
+) -> Result<String, Memory>
+    requires { IsShown figures.now planner.old }
+{
     let mut out = String::new(alloc);
     open_head(&mut out)?;
     write!(

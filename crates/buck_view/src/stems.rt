@@ -1,11 +1,12 @@
 //! Stems from the side, with the logs that were cut of them.
 ghost use Rattle.std.specs.Prelude.{◌≡◌, ◌<◌, ◌≤◌, ◌^◌, length};
 ghost use Rattle.buck_stem.specs.Stem.{stem_length};
+ghost use Rattle.buck_view.specs.Shown.{IsShown};
 
 use crate::charts::tick_step;
-use crate::cuts::cut_of;
 use crate::figures::{Cut, Figures, Piece};
 use crate::names::Apart;
+use crate::shown::cut_at;
 use crate::words::{
     Chip, DOT, Grouped, Metres, Millionths, Percent, Several, length_text, letter, percent_at,
 };
@@ -79,7 +80,7 @@ impl fmt::Display for Pick<'_> {
 }
 
 /// The cut at a place among the postings, if there is one.
-fn cut_at<'a>(figures: &Figures<'a>, position: Option<usize>) -> Option<(usize, &'a Entry)> {
+fn entry_at<'a>(figures: &Figures<'a>, position: Option<usize>) -> Option<(usize, &'a Entry)> {
     let position = position?;
     match figures.postings.get(position) {
         Some(Posting::Cut(entry)) => Some((position, entry)),
@@ -94,7 +95,7 @@ fn add_pick<'a>(
     position: Option<usize>,
     reason: Reason,
 ) -> Result<(), Memory> {
-    let Some((position, entry)) = cut_at(figures, position) else {
+    let Some((position, entry)) = entry_at(figures, position) else {
         return Ok(());
     };
     for other in picks.as_mut_slice() {
@@ -133,7 +134,7 @@ fn picked<'a>(alloc: Global, figures: &Figures<'a>) -> Result<Vec<Pick<'a>>, Mem
     add_pick(&mut picks, figures, first, Reason::First)?;
     add_pick(&mut picks, figures, figures.longest, Reason::Longest)?;
     add_pick(&mut picks, figures, figures.dearest, Reason::Dearest)?;
-    for own in figures.harvesters.as_slice() {
+    for own in figures.harvesters.values() {
         add_pick(&mut picks, figures, own.first, Reason::Own)?;
     }
     Ok(picks)
@@ -389,7 +390,7 @@ fn write_grades(out: &mut String, stem: &Stem, scale: &Scale) -> Result<(), Memo
 fn write_caption(out: &mut String, pick: &Pick<'_>, cut: &Cut<'_>) -> Result<(), Memory> {
     let entry = cut.entry;
     let stem = &entry.stem;
-    let logs = Several::of(cut.pieces.len() as u64, "log");
+    let logs = Several::of(cut.pieces.len() as u128, "log");
     write!(
         out,
         "<figcaption><b>{pick}</b> <small>stem&nbsp;{}{DOT}{}&nbsp;m{DOT}harvester&nbsp;{}{DOT}posting&nbsp;{}{DOT}{logs}{DOT}",
@@ -496,7 +497,7 @@ fn write_stem(
 
 /// Writes what stands above the stems: how many are drawn, how to read them, and the key of the assortments.
 fn write_lead(out: &mut String, figures: &Figures<'_>, drawn: usize) -> Result<(), Memory> {
-    let stems = Several::of(drawn as u64, "stem");
+    let stems = Several::of(drawn as u128, "stem");
     write!(
         out,
         "\n<section id=\"stems\"><h2>Stems</h2><p class=\"lead\">{stems} from the side, butt to the left, all to one \
@@ -505,7 +506,7 @@ fn write_lead(out: &mut String, figures: &Figures<'_>, drawn: usize) -> Result<(
     )?;
     let left = figures.total.stems.saturating_sub(drawn as u64);
     if left > 0 {
-        let more = Several::of(left, "stem");
+        let more = Several::of(u128::from(left), "stem");
         let are = if left == 1 { "is" } else { "are" };
         write!(out, " {more} more {are} not drawn.")?;
     }
@@ -522,7 +523,9 @@ pub(crate) fn write_stems(
     out: &mut String,
     figures: &Figures<'_>,
     planner: &mut Planner,
-) -> Result<(), Memory> {
+) -> Result<(), Memory>
+    requires { IsShown figures.now planner.old }
+{
     let picks = picked(alloc, figures)?;
     if picks.is_empty() {
         return Ok(());
@@ -530,8 +533,9 @@ pub(crate) fn write_stems(
     write_lead(out, figures, picks.len())?;
     let scale = scale_of(picks.as_slice());
     for pick in picks.as_slice() {
-        let cut = cut_of(alloc, planner, figures.sheets, pick.position, pick.entry)?;
-        write_stem(alloc, out, figures.instruction, pick, &cut, &scale)?;
+        if let Some(cut) = cut_at(alloc, figures, planner, pick.position)? {
+            write_stem(alloc, out, figures.instruction, pick, &cut, &scale)?;
+        }
     }
     Ok(write!(out, "</section>")?)
 }

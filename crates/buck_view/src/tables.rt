@@ -2,14 +2,15 @@
 //!
 //! Their first line names the columns. Fields are set apart by a comma, numbers are plain, a field is empty where there
 //! is nothing, and a name stands last, in quotes.
-ghost use Rattle.std.specs.Prelude.{◌≡◌, ◌++◌, ◌<◌, ◌≤◌, length, OnOk};
+ghost use Rattle.std.specs.Prelude.{◌<◌};
 ghost use Rattle.buck_apt.specs.Instruction.{classes_of};
+ghost use Rattle.buck_view.specs.Shown.{IsShown};
 
 use crate::charts::degree_in;
-use crate::cuts::cut_of;
 use crate::figures::{Cut, Figures, Piece, Point};
 use crate::names::put_quoted;
 use crate::parts::{number_at, part};
+use crate::shown::cut_at;
 use crate::words::row_of;
 use buck_apt::Assortment;
 use buck_book::{Demand, Posting};
@@ -80,11 +81,12 @@ fn class_sums(
     alloc: Global,
     figures: &Figures<'_>,
     planner: &mut Planner,
-) -> Result<Vec<ClassSums>, Memory> {
+) -> Result<Vec<ClassSums>, Memory>
+    requires { IsShown figures.now planner.old }
+{
     let mut sums = vec![in alloc; ClassSums::NONE; figures.instruction.classes()]?;
-    for (position, posting) in figures.postings.iter().enumerate() {
-        if let Posting::Cut(entry) = posting {
-            let cut = cut_of(alloc, planner, figures.sheets, position, entry)?;
+    for position in 0..figures.postings.len() {
+        if let Some(cut) = cut_at(alloc, figures, planner, position)? {
             add_pieces(&mut sums, cut.pieces.as_slice());
         }
     }
@@ -146,7 +148,9 @@ fn put_classes(
     out: &mut Vec<u8>,
     figures: &Figures<'_>,
     planner: &mut Planner,
-) -> Result<(), Memory> {
+) -> Result<(), Memory>
+    requires { IsShown figures.now planner.old }
+{
     put(
         out,
         "assortment,row,column,from_mm,below_mm,length_mm,target,count,base_count,base_price,price,volume_cm3,\
@@ -258,19 +262,20 @@ fn put_postings(
     out: &mut Vec<u8>,
     figures: &Figures<'_>,
     planner: &mut Planner,
-) -> Result<(), Memory> {
+) -> Result<(), Memory>
+    requires { IsShown figures.now planner.old }
+{
     put(
         out,
         "position,kind,harvester,number,version,stem,species,length_mm,logs,logged_mm,trim_mm,volume_cm3,\
          worth_millionths,base_worth_millionths,best_base_worth_millionths\n",
     )?;
-    for (position, posting) in figures.postings.iter().enumerate() {
-        match posting {
-            Posting::Cut(entry) => {
-                let cut = cut_of(alloc, planner, figures.sheets, position, entry)?;
-                put_cut(alloc, out, figures, &cut)?;
-            }
-            Posting::Demand(demand) => put_demand(alloc, out, position, demand)?,
+    for position in 0..figures.postings.len() {
+        if let Some(cut) = cut_at(alloc, figures, planner, position)? {
+            put_cut(alloc, out, figures, &cut)?;
+        }
+        if let Posting::Demand(demand) = &figures.postings[position] {
+            put_demand(alloc, out, position, demand)?;
         }
     }
     Ok(())
@@ -335,15 +340,16 @@ fn put_logs(
     out: &mut Vec<u8>,
     figures: &Figures<'_>,
     planner: &mut Planner,
-) -> Result<(), Memory> {
+) -> Result<(), Memory>
+    requires { IsShown figures.now planner.old }
+{
     put(
         out,
         "position,log,harvester,stem,start_mm,length_mm,top_mm,assortment,row,column,volume_cm3,price,\
          worth_millionths,base_price,base_worth_millionths,name\n",
     )?;
-    for (position, posting) in figures.postings.iter().enumerate() {
-        if let Posting::Cut(entry) = posting {
-            let cut = cut_of(alloc, planner, figures.sheets, position, entry)?;
+    for position in 0..figures.postings.len() {
+        if let Some(cut) = cut_at(alloc, figures, planner, position)? {
             put_logs_of(alloc, out, figures, &cut)?;
         }
     }
@@ -392,15 +398,17 @@ fn put_degrees(alloc: Global, out: &mut Vec<u8>, figures: &Figures<'_>) -> Resul
     Ok(())
 }
 
-/// A table of a lawful journal, whose planner plans under the base sheet. Refused as `Memory` alone.
+/// A table of a lawful journal, given its figures and a planner at base prices. Refused as `Memory` alone.
 pub fn table_of(
     alloc: Global,
     figures: &Figures<'_>,
     planner: &mut Planner,
-    which: Table,
-) -> Result<Vec<u8>, Memory> {
+    table: Table,
+) -> Result<Vec<u8>, Memory>
+    requires { IsShown figures.now planner.old }
+{
     let mut out = Vec::new(alloc);
-    match which {
+    match table {
         Table::Classes => put_classes(alloc, &mut out, figures, planner)?,
         Table::Postings => put_postings(alloc, &mut out, figures, planner)?,
         Table::Logs => put_logs(alloc, &mut out, figures, planner)?,

@@ -234,13 +234,13 @@ impl fmt::Display for Signed {
 /// How many there are of what a word says.
 #[derive(Clone, Copy)]
 pub struct Several {
-    pub n: u64,
+    pub n: u128,
     pub word: &'static str,
 }
 
 impl Several {
     /// So many of what a word says.
-    pub fn of(n: u64, word: &'static str) -> Several {
+    pub fn of(n: u128, word: &'static str) -> Several {
         Several { n, word }
     }
 }
@@ -248,7 +248,7 @@ impl Several {
 impl fmt::Display for Several {
     fn fmt<W: fmt::Write>(&self, f: &mut fmt::Formatter<W>) -> fmt::Result {
         let word = self.word;
-        write!(f, "{}&nbsp;{word}", Grouped(u128::from(self.n)))?;
+        write!(f, "{}&nbsp;{word}", Grouped(self.n))?;
         if self.n != 1 {
             write!(f, "s")?;
         }
