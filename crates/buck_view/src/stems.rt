@@ -58,7 +58,8 @@ impl Pick<'_> {
 /// The reasons, one behind the other.
 impl fmt::Display for Pick<'_> {
     fn fmt<W: fmt::Write>(&self, f: &mut fmt::Formatter<W>) -> fmt::Result {
-        let harvester = self.entry.harvester;
+        let entry = self.entry;
+        let harvester = entry.harvester;
         let mut begun = false;
         for (is_so, why) in [
             (self.first, "first stem"),
@@ -153,7 +154,8 @@ fn scale_of(picks: &[Pick<'_>]) -> Scale {
     let mut longest: u32 = 0;
     let mut most: u32 = 1;
     for pick in picks {
-        let stem = &pick.entry.stem;
+        let entry = pick.entry;
+        let stem = &entry.stem;
         longest = longest.max(stem.length());
         most = most.max(stem.diameter_at(0));
     }
@@ -423,7 +425,8 @@ fn write_drawing(
     cut: &Cut<'_>,
     scale: &Scale,
 ) -> Result<(), Memory> {
-    let stem = &cut.entry.stem;
+    let entry = cut.entry;
+    let stem = &entry.stem;
     let whole = scale.whole;
     let height = 2 * u64::from(scale.most);
     write!(
@@ -481,15 +484,16 @@ fn write_stem(
     write!(out, "<div class=\"labels\">")?;
     write_labels(out, instruction, cut.pieces.as_slice(), scale)?;
     write!(out, "</div></div>")?;
+    let entry = cut.entry;
     let best = cut.unsteered.logs.as_slice();
-    if cut.entry.cutting.logs.as_slice() != best {
+    if entry.cutting.logs.as_slice() != best {
         write_strip(out, instruction, best, scale)?;
     }
     write!(
         out,
         "<div class=\"rowname\">grade</div><div class=\"grades\">"
     )?;
-    write_grades(out, &cut.entry.stem, scale)?;
+    write_grades(out, &entry.stem, scale)?;
     write!(out, "</div><div></div><div class=\"xs\">")?;
     write_metres(out, scale)?;
     Ok(write!(out, "</div></div></figure>")?)
