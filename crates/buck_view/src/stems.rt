@@ -159,8 +159,10 @@ fn scale_of(picks: &[Pick<'_>]) -> Scale {
         longest = longest.max(stem.length());
         most = most.max(stem.diameter_at(0));
     }
+    // No stem is longer than 40 m.
+    let metres = u64::from(longest.div_ceil(1000)).max(1).min(40);
     Scale {
-        whole: 1000 * ((u64::from(longest) + 999) / 1000).max(1),
+        whole: 1000 * metres,
         most,
     }
 }
