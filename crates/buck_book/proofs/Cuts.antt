@@ -51,7 +51,7 @@ is_class_itself c =
     (eq-eqb c.column c.column refl)
 
 -- classes are compared by their places
-place_tells : (i : InstructionParts) (c d : Class) → IsClass i c → IsClass i d → (index_of i d == index_of i c) ≡ is_class c d
+pub place_tells : (i : InstructionParts) (c d : Class) → IsClass i c → IsClass i d → (index_of i d == index_of i c) ≡ is_class c d
 place_tells i c d k l = elim (cases_eq (index_of i d) (index_of i c)) [
   | inl same ↦
       let one : d ≡ c = one_place i d c l k same in

@@ -11,3 +11,4 @@ pub mod Books
 pub mod Alone
 pub mod Relations
 pub mod Walks
+pub mod Degrees

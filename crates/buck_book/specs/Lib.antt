@@ -10,3 +10,4 @@ pub mod Book
 pub mod Refused
 pub mod Walk
 pub mod inner
+pub mod Degree

@@ -3,6 +3,7 @@
 
 mod book;
 mod counts;
+mod degree;
 mod demand;
 mod entry;
 pub mod laws;
@@ -17,6 +18,7 @@ mod walk;
 
 pub use book::{Book, Parts};
 pub use buck_record::Memory;
+pub use degree::degree_at;
 pub use demand::{DemandRefusal, ReadyDemand};
 pub use entry::Entry;
 pub use plan::Plan;

@@ -2,7 +2,6 @@ pub mod WrittenLemmas
 pub mod TextLemmas
 pub mod BarLemmas
 pub mod Determined
-pub mod Degrees
 pub mod Reports
 pub mod Owned
 pub mod Harvested

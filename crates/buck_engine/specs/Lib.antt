@@ -1,7 +1,6 @@
 pub mod Faults
 pub mod Output
 pub mod Text
-pub mod Degree
 pub mod Report
 pub mod Engine
 pub mod Files

@@ -10,7 +10,7 @@ use Rattle.buck_book.specs.declared.posting.Posting.TheVariants.{Cut, Demand}
 use Rattle.buck_book.specs.Posting.{targets_of}
 use Rattle.buck_book.specs.Counts.{AreClassCounts}
 use Rattle.buck_book.specs.History.{HistoryParts, in_force}
-use Rattle.buck_engine.specs.Degree.{part_of, degree_of}
+use Rattle.buck_book.specs.Degree.{part_of, degree_of}
 use Rattle.buck_engine.specs.Text.{named_line_of, total_line}
 
 -- ENTRY <position> <harvester> <number> <version> <stem number> <number of logs> <worth>

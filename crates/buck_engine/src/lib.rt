@@ -8,7 +8,6 @@
 //! [`laws`] says that there is one text.
 #![tactic(auto)]
 
-mod apportionment;
 mod check;
 mod engine;
 mod fault;
@@ -24,7 +23,6 @@ mod run;
 mod served;
 mod text;
 
-pub use apportionment::degree;
 pub use check::run_check;
 pub use engine::{run_bare, run_buck};
 pub use fault::{EngineFault, TextFault, status};
@@ -32,7 +30,7 @@ pub use files::{Disk, Make, Open};
 pub use fleet::run_fleet_files;
 pub use onlooker::{Nobody, Onlooker};
 pub use output::write_fault;
-pub use report::report_text;
+pub use report::{degree, report_text};
 pub use run::{Task, conclude, explain, serve};
 pub use served::{FleetTask, NamedRule, serve_fleet};
 pub use text::buck_text;

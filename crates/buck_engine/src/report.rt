@@ -1,13 +1,13 @@
 //! The report of a closed fleet.
 ghost use Rattle.std.specs.Prelude.{◌≡◌, ◌++◌, ◌<◌, ◌≤◌, IfOk, OnOk, length, sum_by, slice_get, Some};
+ghost use Rattle.buck_book.specs.Degree.{IsDegree};
 ghost use Rattle.buck_engine.specs.Report.{IsReport, posting_line, posting_lines, class_line, row_lines, class_lines, degree_line, assortment_lines, all_lines, cuts_in, logs_in, worth_in, totals_line};
 ghost use Rattle.buck_engine.specs.inner.Report.{IsClassIn};
 
-use crate::apportionment::degree_at;
 use crate::fault::TextFault;
 use crate::text::{put_named_line, put_total};
 use buck_apt::{Assortment, Class, Instruction};
-use buck_book::Posting;
+use buck_book::{Posting, degree_at};
 use buck_fleet::Closed;
 use buck_record::{Memory, put_line, put_numbers};
 use std::alloc::Global;
@@ -234,6 +234,21 @@ fn put_totals(out: &mut Vec<u8>, postings: &[Posting]) -> Result<(), Memory>
         worth += u128::from(value);
     }
     put_total(out, cuts_of(postings), logs, worth)
+}
+
+/// The degree of apportionment of the assortment at a place, in ten-thousandths, rounded down once: how far the logs
+/// that were cut have the proportions of those wanted by the targets in force at the end. None where nothing is wanted
+/// of it or nothing was cut.
+pub fn degree(closed: &Closed, assortment: usize) -> Option<u32>
+    requires exists { assortment < length closed.now.history.instruction.assortments }
+    ensures { IsDegree closed.now.history assortment result }
+{
+    degree_at(
+        closed.instruction(),
+        closed.targets(),
+        closed.counts(),
+        assortment,
+    )
 }
 
 /// The report of a closed fleet: what was cut and demanded, how each class stands at the end, and the totals.

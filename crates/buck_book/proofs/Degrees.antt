@@ -1,0 +1,47 @@
+-- Sums over the classes of an assortment.
+use Rattle.std.proofs.Common.{◌≡◌, ℕ, zero, suc, ◌+◌, ◌*◌, ◌/◌, ◌<◌, ◌≤◌, min, List, [], ◌∷◌, length, take, sum, get_or, refl, ap, ◌∙◌, arith, add-one}
+use Rattle.std.specs.List.{zip}
+use Rattle.std.proofs.lemmas.List.Sums.{sum_by-cons}
+use Rattle.std.proofs.Math.Nat.{min-le_left, add-mul, mul-le-mul, div-le_of_le-mul}
+use Rattle.std.specs.Prelude.{slice_get, Some, Option}
+use Rattle.std.proofs.lemmas.Option.{slice_get_read}
+use Rattle.buck_apt.specs.Instruction.{InstructionParts, AssortmentParts, classes_before, place_in, index_of}
+use Rattle.buck_book.specs.Degree.{shared_of}
+
+step : (wanted cut : ℕ) (targets counts : List ℕ) (i : ℕ) → i < length targets → i < length counts
+    → shared_of wanted cut (take (suc i) targets) (take (suc i) counts) ≡ shared_of wanted cut (take i targets) (take i counts) + min (get_or targets i 0 * cut) (get_or counts i 0 * wanted)
+step wanted cut [] counts i lt lu = absurd (omega (arith, lt))
+step wanted cut (t ∷ ts) [] i lt lu = absurd (omega (arith, lu))
+step wanted cut (t ∷ ts) (n ∷ ns) zero lt lu = omega (arith, sum_by-cons (λ (p : ℕ × ℕ). min (p.0 * cut) (p.1 * wanted)) (t, n) [])
+step wanted cut (t ∷ ts) (n ∷ ns) (suc i) lt lu =
+    let f = λ (p : ℕ × ℕ). min (p.0 * cut) (p.1 * wanted) in
+    omega (arith, sum_by-cons f (t, n) (zip (take (suc i) ts) (take (suc i) ns)), sum_by-cons f (t, n) (zip (take i ts) (take i ns)), step wanted cut ts ns i (omega (arith, lt)) (omega (arith, lu)))
+
+-- one class more
+pub shared_more : (wanted cut : ℕ) (targets counts : List ℕ) (i : ℕ) → i < length targets → i < length counts
+    → shared_of wanted cut (take (i + 1) targets) (take (i + 1) counts) ≡ shared_of wanted cut (take i targets) (take i counts) + min (get_or targets i 0 * cut) (get_or counts i 0 * wanted)
+shared_more wanted cut targets counts i lt lu = rw add-one (step wanted cut targets counts i lt lu)
+
+-- all classes together have at most the whole
+pub shared_low : (wanted cut : ℕ) (targets counts : List ℕ) → shared_of wanted cut targets counts ≤ sum targets * cut
+shared_low wanted cut [] counts = omega arith
+shared_low wanted cut (t ∷ ts) [] = omega arith
+shared_low wanted cut (t ∷ ts) (n ∷ ns) =
+    let whole : sum (t ∷ ts) * cut ≡ t * cut + sum ts * cut = ap (λ k. k * cut) (sum_by-cons (λ x. x) t ts) ∙ add-mul t (sum ts) cut in
+    let first : min (t * cut) (n * wanted) ≤ t * cut = min-le_left (t * cut) (n * wanted) in
+    omega (arith, sum_by-cons (λ (p : ℕ × ℕ). min (p.0 * cut) (p.1 * wanted)) (t, n) (zip ts ns), first, shared_low wanted cut ts ns, whole)
+
+-- so the degree is at most 10,000
+pub degree_low : (targets counts : List ℕ) → shared_of (sum targets) (sum counts) targets counts * 10000 / (sum targets * sum counts) ≤ 10000
+degree_low targets counts = div-le_of_le-mul (sum targets * sum counts) (mul-le-mul (shared_low (sum targets) (sum counts) targets counts) (omega arith))
+
+-- what was read of a list of assortments
+pub stands : (xs ys : List AssortmentParts) (at : ℕ) (a : AssortmentParts) → xs ≡ ys → at < length ys → a ≡ get_or xs at a → slice_get ys at ≡ Some a
+stands xs ys at a same lt is = rw same at (slice_get_read xs (length xs) at a refl (omega (arith, lt, ap (λ (l : List AssortmentParts). length l) same)) is)
+
+-- the place of an assortment's first class
+pub first_class : (i : InstructionParts) (at : ℕ) (a : AssortmentParts) → slice_get i.assortments at ≡ Some a → index_of i (record { assortment = at; row = 0; column = 0 }) ≡ classes_before i at
+first_class i at a there =
+    let before = classes_before i at in
+    let none : before + (0 * length a.lengths + 0) ≡ before = omega arith in
+    ap (λ (o : Option AssortmentParts). before + place_in o 0 0) there ∙ none

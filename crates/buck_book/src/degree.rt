@@ -1,0 +1,74 @@
+//! The degree of apportionment.
+ghost use Rattle.std.specs.Prelude.{◌≡◌, ◌*◌, ◌<◌, ◌≤◌, ◌^◌, length, sum};
+ghost use Rattle.buck_apt.specs.Instruction.{classes};
+ghost use Rattle.buck_book.specs.Degree.{IsDegreeBy, degree_of, shared_of};
+
+use buck_apt::{Class, Instruction};
+
+/// All of some numbers together.
+fn sum_of(numbers: &[u32]) -> u128
+    requires few { length numbers.now ≤ 1024 }
+    ensures sum { result ≡ sum numbers.now }
+    ensures low { result ≤ 1024 * 2 ^ 32 }
+{
+    let mut all = 0;
+    for number in numbers {
+        all += u128::from(*number);
+    }
+    all
+}
+
+/// Over all classes, the lesser of what is wanted as a share of all wanted and what was cut as a share of all cut.
+fn shared(targets: &[u32], counts: &[u32], wanted: u128, cut: u128) -> u128
+    requires few { length targets.now ≤ 1024 }
+    requires one_each { length counts.now ≡ length targets.now }
+    requires low { (wanted ≤ 1024 * 2 ^ 32) × (cut ≤ 1024 * 2 ^ 32) }
+    ensures { result ≡ shared_of wanted cut targets.now counts.now }
+{
+    let mut all = 0;
+    for i in 0..targets.len() {
+        let by_target = u128::from(targets[i]) * cut;
+        let by_count = u128::from(counts[i]) * wanted;
+        all += by_target.min(by_count);
+    }
+    all
+}
+
+/// The degree of an assortment's classes, given what is wanted of each and what was cut of each.
+fn degree_by(targets: &[u32], counts: &[u32]) -> Option<u32>
+    requires few { length targets.now ≤ 1024 }
+    requires one_each { length counts.now ≡ length targets.now }
+    ensures { result ≡ degree_of targets.now counts.now }
+{
+    let wanted = sum_of(targets);
+    let cut = sum_of(counts);
+    if wanted * cut == 0 {
+        return None;
+    }
+    Some((shared(targets, counts, wanted, cut) * 10_000 / (wanted * cut)) as u32)
+}
+
+/// The degree of apportionment of the assortment at a place, in ten-thousandths, rounded down once, given what is
+/// wanted of each class of the instruction and how many logs were cut in each: how far these logs have the proportions
+/// of those wanted. None where nothing is wanted of the assortment or nothing was cut.
+pub fn degree_at(
+    instruction: &Instruction,
+    targets: &[u32],
+    counts: &[u32],
+    at: usize,
+) -> Option<u32>
+    requires exists { at < length instruction.now.assortments }
+    requires targets { length targets.now ≡ classes instruction.now }
+    requires counts { length counts.now ≡ classes instruction.now }
+    ensures { IsDegreeBy instruction.now targets.now counts.now at result }
+{
+    let assortment = &instruction.assortments()[at];
+    let number = assortment.classes();
+    let first = instruction.index(Class {
+        assortment: at as u8,
+        row: 0,
+        column: 0,
+    });
+    let after = first + number;
+    degree_by(&targets[first..after], &counts[first..after])
+}

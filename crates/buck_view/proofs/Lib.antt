@@ -1,0 +1,5 @@
+pub mod SumLemmas
+pub mod TallyLemmas
+pub mod CountLemmas
+pub mod Fields
+pub mod Texts

@@ -1,0 +1,31 @@
+-- What all postings come to.
+use Rattle.std.specs.Prelude.{◌≡◌, ℕ, ◌+◌, ◌<◌, List, [], ◌∷◌, ◌++◌}
+use Rattle.buck_apt.specs.Instruction.{InstructionParts}
+use Rattle.buck_book.specs.declared.posting.Posting.{Posting}
+use Rattle.buck_view.specs.Figures.{IsUnsteered, AreUnsteered}
+use Rattle.buck_view.specs.Sums.{AreSums}
+use Rattle.buck_view.specs.Owns.{AreOwns}
+use Rattle.buck_view.specs.declared.sums.Sums.{Sums}
+use Rattle.buck_view.specs.declared.tally.Tally.{Tally}
+
+-- the sums over some postings, and over the same unsteered: of all, and of each harvester's
+pub record IsTally (i : InstructionParts) (ps us : List Posting) (t : Tally) : Type 0 where
+  pub total : AreSums i ps us t.total
+  pub owns : AreOwns i ps us t.owns
+
+-- with one posting more
+pub record IsTallyWith (i : InstructionParts) (ps us : List Posting) (x : Posting) (t : Tally) : Type 0 where
+  pub unsteered : Posting
+  pub is_unsteered : IsUnsteered i x unsteered
+  pub tally : IsTally i (ps ++ x ∷ []) (us ++ unsteered ∷ []) t
+
+-- of postings, whatever the unsteered ones are
+pub record IsTallyOf (i : InstructionParts) (ps : List Posting) (t : Tally) : Type 0 where
+  pub unsteered : List Posting
+  pub are_unsteered : AreUnsteered i ps unsteered
+  pub tally : IsTally i ps unsteered t
+
+-- there is room for one more
+pub record IsBelow (s : Sums) : Type 0 where
+  pub stems : s.stems < 1000000
+  pub demands : s.demands < 1000000

@@ -1,0 +1,159 @@
+//! The page of a journal that isn't lawful.
+ghost use Rattle.std.specs.Prelude.{◌≡◌, ◌<◌, ◌≤◌, length};
+
+use crate::names::Apart;
+use crate::sections::{Files, close_head, open_head};
+use crate::words::{ClassText, Grouped, class_text};
+use buck_apt::{Assortment, Instruction};
+use buck_book::Posting;
+use buck_journal::ReplayFault;
+use buck_record::Memory;
+use std::alloc::Global;
+use std::fmt;
+
+/// What is wrong with a posting.
+#[derive(Drop)]
+struct Wrong {
+    /// The fault's number in the line that `replay` writes.
+    number: u8,
+    at: usize,
+    why: &'static str,
+}
+
+/// What is wrong with a posting, where the fault is one of a posting.
+fn wrong_posting(fault: &ReplayFault) -> Option<Wrong> {
+    let (number, at, why) = match fault {
+        ReplayFault::Numbering { at } => (3, *at, "its number is not the harvester&#8217;s next"),
+        ReplayFault::Version { at } => (4, *at, "it was not planned under the prices in force"),
+        ReplayFault::Cutting { at } => (5, *at, "its logs may not be cut from the stem"),
+        ReplayFault::Worth { at } => (6, *at, "its worth is not what its logs are worth"),
+        ReplayFault::Outvalued { at } => (7, *at, "another cutting of the stem is worth more"),
+        ReplayFault::Targets { at } => (9, *at, "its targets are not valid"),
+        ReplayFault::Sheet { .. } | ReplayFault::Price { .. } | ReplayFault::Memory => return None,
+    };
+    Some(Wrong { number, at, why })
+}
+
+/// An assortment, and a class of it.
+#[derive(Drop)]
+struct Found<'a> {
+    assortment: &'a Assortment,
+    class: ClassText,
+}
+
+/// The class at a place among all, if there is one.
+fn class_at(instruction: &Instruction, place: usize) -> Option<Found<'_>> {
+    let mut rest = place;
+    for assortment in instruction.assortments() {
+        let classes = assortment.classes();
+        if rest < classes {
+            return Some(Found {
+                assortment,
+                class: class_text(assortment, rest),
+            });
+        }
+        rest -= classes;
+    }
+    None
+}
+
+/// Writes whose posting it is, and of what.
+fn write_who(out: &mut String, posting: Option<&Posting>) -> Result<(), Memory> {
+    match posting {
+        Some(Posting::Cut(entry)) => write!(
+            out,
+            " (harvester {}, stem {})",
+            entry.harvester,
+            entry.stem.number()
+        )?,
+        Some(Posting::Demand(demand)) => write!(
+            out,
+            " (harvester {}, a change of targets)",
+            demand.harvester
+        )?,
+        None => {}
+    }
+    Ok(())
+}
+
+/// Writes the fault as a sentence.
+fn write_sentence(
+    out: &mut String,
+    instruction: &Instruction,
+    postings: &[Posting],
+    fault: &ReplayFault,
+) -> Result<(), Memory> {
+    match fault {
+        ReplayFault::Sheet { version } => write!(
+            out,
+            "The prices of version {} are missing, are not one for each class, or are one list too many.",
+            Grouped(u128::from(*version))
+        )?,
+        ReplayFault::Price { version, class } => {
+            write!(
+                out,
+                "In the prices of version {}, that of ",
+                Grouped(u128::from(*version))
+            )?;
+            if let Some(found) = class_at(instruction, *class) {
+                write!(out, "{}, {}", Apart(found.assortment.name()), found.class)?;
+            }
+            write!(
+                out,
+                ", may not be what it is, given the targets and what was cut before."
+            )?;
+        }
+        _ => {
+            if let Some(wrong) = wrong_posting(fault) {
+                write!(out, "Posting {}", Grouped(wrong.at as u128))?;
+                write_who(out, postings.get(wrong.at))?;
+                write!(out, ": {}.", wrong.why)?;
+            }
+        }
+    }
+    Ok(())
+}
+
+/// Writes the fault as the line that `replay` writes.
+fn write_line(out: &mut String, fault: &ReplayFault) -> Result<(), Memory> {
+    match fault {
+        ReplayFault::Sheet { version } => write!(out, "replay fault 1 {version}")?,
+        ReplayFault::Price { version, class } => write!(out, "replay fault 2 {version} {class}")?,
+        _ => {
+            if let Some(wrong) = wrong_posting(fault) {
+                write!(out, "replay fault {} {}", wrong.number, wrong.at)?;
+            }
+        }
+    }
+    Ok(())
+}
+
+/// The page of a journal that isn't lawful, given its fault, which is none of memory, and the names of both files. It
+/// shows no figure. Refused as `Memory` alone.
+pub fn fault_page(
+    alloc: Global,
+    instruction: &Instruction,
+    postings: &[Posting],
+    fault: &ReplayFault,
+    files: &Files<'_>,
+) -> Result<String, Memory> {
+    let mut out = String::new(alloc);
+    open_head(&mut out)?;
+    write!(&mut out, "Not lawful")?;
+    close_head(&mut out)?;
+    write!(
+        &mut out,
+        "This journal is not lawful</h1>{files}\
+         <p class=\"verdict bad\"><svg viewBox=\"0 0 20 20\" width=\"20\" height=\"20\" aria-hidden=\"true\">\
+         <circle cx=\"10\" cy=\"10\" r=\"10\"/><path d=\"M6,6L14,14M14,6L6,14\"/></svg><span><b>"
+    )?;
+    write_sentence(&mut out, instruction, postings, fault)?;
+    write!(
+        &mut out,
+        "</b> It is the first fault in the order of the postings; nothing after it was looked at, and no figure of \
+         this journal is shown. <code>"
+    )?;
+    write_line(&mut out, fault)?;
+    write!(&mut out, "</code></span></p></header>\n</body>\n</html>\n")?;
+    Ok(out)
+}
