@@ -1,13 +1,14 @@
 -- What postings come to, of all and of each harvester, with one more.
-use Rattle.std.proofs.Common.{◌≡◌, ◌≢◌, ℕ, ◌+◌, ◌<◌, ◌≤◌, ◌==◌, List, [], ◌∷◌, ◌++◌, true, false, cond, length, refl, sym, subst, ap, ◌∙◌, inl, inr, arith}
-use Rattle.std.specs.Prelude.{Option, Some, None, sum_by, IfSome}
+use Rattle.std.proofs.Common.{◌≡◌, ◌≢◌, ℕ, zero, suc, get_or, ◌+◌, ◌<◌, ◌≤◌, ◌==◌, List, [], ◌∷◌, ◌++◌, true, false, cond, length, refl, sym, subst, ap, ◌∙◌, inl, inr, arith}
+use Rattle.std.specs.Prelude.{Option, Some, None, sum_by, IfSome, slice_index, replicate}
 use Rattle.std.specs.List.{filter}
 use Rattle.std.specs.Ordering.{nat_cmp}
 use Rattle.std.specs.BTreeMap.{get, BTreeMap}
 use Rattle.std.proofs.lemmas.List.Elements.{filter-append}
-use Rattle.std.proofs.lemmas.List.Sums.{sum_by-cons, length-filter, count_by-le-length}
+use Rattle.std.proofs.lemmas.List.Sums.{sum_by-cons, sum_by_push, length-filter, count_by-le-length}
 use Rattle.std.specs.Prelude.{slice_get}
 use Rattle.std.proofs.lemmas.Option.{slice_get_within}
+use Rattle.std.proofs.lemmas.List.{length-replicate, get_or-replicate}
 use Rattle.std.proofs.lemmas.Bool.Decides.{eqb_tells}
 use Rattle.buck_apt.specs.Instruction.{InstructionParts}
 use Rattle.buck_value.specs.declared.log.Log.{Log}
@@ -15,12 +16,17 @@ use Rattle.buck_book.specs.declared.posting.Posting.{Posting}
 use Rattle.buck_book.specs.declared.posting.Posting.TheVariants.{Cut, Demand}
 use Rattle.buck_book.specs.Posting.{harvester_of}
 use Rattle.buck_view.specs.Figures.{IsUnsteered, cuts_in, demands_in}
-use Rattle.buck_view.specs.Sums.{AreSums, AreSumsTogether, IsPassed}
+use Rattle.buck_view.specs.Sums.{AreSums, AreSumsTogether, IsPassed, logs_of}
+use Rattle.buck_apt.specs.Instruction.{classes, index_of}
+use Rattle.buck_stem.specs.Stem.{StemParts}
+use Rattle.buck_book.specs.Counts.{AreClassCounts, class_logs_in}
+use Rattle.buck_view.specs.Counted.{AreCountsOn, AreCountsWith}
 use Rattle.buck_view.specs.Owns.{IsAdded, IsOwn, AreOwns, own_of}
-use Rattle.buck_view.specs.Tally.{IsTally, IsTallyWith, IsTallyOf, IsBelow}
+use Rattle.buck_view.specs.Tally.{IsTally, IsTallyWith, IsTallyOf, AreAtMost, IsBelow}
 use Rattle.buck_view.specs.declared.sums.Sums.{Sums}
 use Rattle.buck_view.specs.declared.owns.Own.{Own}
 use Rattle.buck_view.specs.declared.tally.Tally.{Tally}
+use Rattle.buck_book.proofs.Places.{place_lt}
 use Rattle.buck_view.proofs.SumLemmas.{sums_join, unsteered_more}
 
 -- the unsteered posting is the same harvester's
@@ -37,13 +43,15 @@ append_empty (p ∷ ps) = ap (λ l. p ∷ l) (append_empty ps)
 -- a harvester's postings with one more of it, or of another
 own_more : (h : ℕ) (ps : List Posting) (x : Posting) → h ≡ harvester_of x → own_of h (ps ++ x ∷ []) ≡ own_of h ps ++ x ∷ []
 own_more h ps x is = elim (eqb_tells (harvester_of x) h) [
-    inl e ↦ filter-append (λ y. harvester_of y == h) ps (x ∷ []) ∙ ap (λ b. own_of h ps ++ cond b (x ∷ []) []) e.0
-  | inr e ↦ absurd (e.1 (sym is)) ]
+  | inl e ↦ filter-append (λ y. harvester_of y == h) ps (x ∷ []) ∙ ap (λ b. own_of h ps ++ cond b (x ∷ []) []) e.0
+  | inr e ↦ absurd (e.1 (sym is))
+]
 
 own_same : (h : ℕ) (ps : List Posting) (x : Posting) → h ≢ harvester_of x → own_of h (ps ++ x ∷ []) ≡ own_of h ps
 own_same h ps x ne = elim (eqb_tells (harvester_of x) h) [
-    inl e ↦ absurd (ne (sym e.1))
-  | inr e ↦ filter-append (λ y. harvester_of y == h) ps (x ∷ []) ∙ ap (λ b. own_of h ps ++ cond b (x ∷ []) []) e.0 ∙ append_empty (own_of h ps) ]
+  | inl e ↦ absurd (ne (sym e.1))
+  | inr e ↦ filter-append (λ y. harvester_of y == h) ps (x ∷ []) ∙ ap (λ b. own_of h ps ++ cond b (x ∷ []) []) e.0 ∙ append_empty (own_of h ps)
+]
 
 -- what is kept of the harvester of one posting more
 own_added : (i : InstructionParts) (h : ℕ) (ps us : List Posting) (x u : Posting) (one : Sums) (cut : Option ℕ) (before after : Option Own)
@@ -63,13 +71,37 @@ own_kept : (i : InstructionParts) (h : ℕ) (ps us : List Posting) (x u : Postin
 own_kept i h ps us x u None ne ne' own = (own_same h ps x ne ∙ own.0, own_same h us u ne' ∙ own.1)
 own_kept i h ps us x u (Some o) ne ne' own = (own.0, rw (own_same h ps x ne, own_same h us u ne') own.1)
 
+-- the class counts with one posting more
+counted : (i : InstructionParts) (ps : List Posting) (x : Posting) (before after : List ℕ)
+    → AreClassCounts i ps before → AreCountsOn i x (logs_of x) before after → AreClassCounts i (ps ++ x ∷ []) after
+counted i ps (Cut e) before after counts more = record {
+  one_each = more.same_number ∙ counts.one_each;
+  each = λ c k. omega (arith, more.each c k, counts.each c k, sum_by_push (λ x. class_logs_in i c x) ps (Cut e));
+}
+counted i ps (Demand d) before after counts more = record {
+  one_each = ap length more ∙ counts.one_each;
+  each = λ c k. (let same : slice_index after (index_of i c) ≡ slice_index before (index_of i c) = ap (λ l. slice_index l (index_of i c)) more in
+      omega (arith, same, counts.each c k, sum_by_push (λ x. class_logs_in i c x) ps (Demand d)));
+}
+
+-- what is counted unsteered is the unsteered posting's
+unsteered_counts : (i : InstructionParts) (x u : Posting) (logs : List Log) (before after : List ℕ) → IsUnsteered i x u → logs ≡ logs_of u
+    → AreCountsOn i x logs before after → AreCountsOn i u (logs_of u) before after
+unsteered_counts i (Cut e) (Cut u) logs before after is same counts =
+    subst (λ (t : StemParts). AreCountsWith i t u.logs before after) (sym is.1) (subst (λ l. AreCountsWith i e.stem l before after) same counts)
+unsteered_counts i (Demand d) (Demand u) logs before after is same counts = counts
+unsteered_counts i (Cut e) (Demand u) logs before after is same counts = absurd is
+unsteered_counts i (Demand d) (Cut u) logs before after is same counts = absurd is
+
 -- one posting more
 pub tally_more : (i : InstructionParts) (ps us : List Posting) (x : Posting) (h : ℕ) (one : Sums) (logs : List Log) (cut : Option ℕ) (before after : Tally)
     → h ≡ harvester_of x → IsTally i ps us before → IsPassed i x one logs → AreSumsTogether before.total one after.total
     → IsAdded (get nat_cmp before.owns h) h one cut (get nat_cmp after.owns h)
     → ((k : ℕ) → k ≢ h → get nat_cmp after.owns k ≡ get nat_cmp before.owns k)
+    → AreCountsOn i x (logs_of x) before.counts.items after.counts.items
+    → AreCountsOn i x logs before.unsteered.items after.unsteered.items
     → IsTallyWith i ps us x after
-tally_more i ps us x h one logs cut before after is tally passed together added others =
+tally_more i ps us x h one logs cut before after is tally passed together added others counts unsteered =
     let u = passed.unsteered in
     let is' : h ≡ harvester_of u = is ∙ sym (same_harvester i x u passed.is_unsteered) in
     record {
@@ -78,10 +110,14 @@ tally_more i ps us x h one logs cut before after is tally passed together added 
       tally = record {
         total = sums_join i ps (x ∷ []) us (u ∷ []) before.total one after.total tally.total passed.sums together;
         owns = λ k. elim (eqb_tells k h) [
-          inl e ↦ subst (λ n. IsOwn i n (ps ++ x ∷ []) (us ++ u ∷ []) (get nat_cmp after.owns n)) (sym e.1)
-            (own_added i h ps us x u one cut (get nat_cmp before.owns h) (get nat_cmp after.owns h) is is' (tally.owns h) passed.sums added)
-        | inr e ↦ subst (λ o. IsOwn i k (ps ++ x ∷ []) (us ++ u ∷ []) o) (sym (others k e.1))
-            (own_kept i k ps us x u (get nat_cmp before.owns k) (λ q. e.1 (q ∙ sym is)) (λ q. e.1 (q ∙ sym is')) (tally.owns k)) ];
+          | inl e ↦ subst (λ n. IsOwn i n (ps ++ x ∷ []) (us ++ u ∷ []) (get nat_cmp after.owns n)) (sym e.1)
+              (own_added i h ps us x u one cut (get nat_cmp before.owns h) (get nat_cmp after.owns h) is is' (tally.owns h) passed.sums added)
+          | inr e ↦ subst (λ o. IsOwn i k (ps ++ x ∷ []) (us ++ u ∷ []) o) (sym (others k e.1))
+              (own_kept i k ps us x u (get nat_cmp before.owns k) (λ q. e.1 (q ∙ sym is)) (λ q. e.1 (q ∙ sym is')) (tally.owns k))
+        ];
+        counts = counted i ps x before.counts.items after.counts.items tally.counts counts;
+        unsteered = counted i us u before.unsteered.items after.unsteered.items tally.unsteered
+            (unsteered_counts i x u logs before.unsteered.items after.unsteered.items passed.is_unsteered passed.logs_are unsteered);
       };
     }
 
@@ -112,13 +148,20 @@ pub below_owns : (i : InstructionParts) (ps us : List Posting) (t : Tally) → l
 below_owns i ps us t few tally h = below_own i h ps us (get nat_cmp t.owns h) few (tally.owns h)
 
 -- nothing was passed
-pub tally_none : (i : InstructionParts) (t : Tally) → AreSums i [] [] t.total → ((h : ℕ) → get nat_cmp t.owns h ≡ None) → IsTallyOf i [] t
-tally_none i t sums none = record {
+pub tally_none : (i : InstructionParts) (t : Tally) → AreSums i [] [] t.total → ((h : ℕ) → get nat_cmp t.owns h ≡ None)
+    → t.counts.items ≡ replicate (classes i) 0 → t.unsteered.items ≡ replicate (classes i) 0 → IsTallyOf i [] t
+tally_none i t sums none counts unsteered = record {
   unsteered = [];
   are_unsteered = record { same_number = refl; each = λ k x u e w. absurd (nowhere k x e) };
-  tally = record { total = sums; owns = λ h. subst (λ o. IsOwn i h [] [] o) (sym (none h)) (refl, refl) };
+  tally = record { total = sums; owns = λ h. subst (λ o. IsOwn i h [] [] o) (sym (none h)) (refl, refl); counts = zeros t.counts.items counts; unsteered = zeros t.unsteered.items unsteered };
 }
   where
+    zeros : (l : List ℕ) → l ≡ replicate (classes i) 0 → AreClassCounts i [] l
+    zeros l e = record {
+      one_each = ap length e ∙ length-replicate (classes i) 0;
+      each = λ c k. ap (λ m. slice_index m (index_of i c)) e ∙ get_or-replicate (classes i) (index_of i c) 0 0 (place_lt i c k);
+    }
+
     nowhere : (k : ℕ) (x : Posting) → slice_get [] k ≡ Some x → ⊥
     nowhere k x e = let lt : k < 0 = slice_get_within [] k x e in omega (arith, lt)
 
@@ -132,3 +175,12 @@ tally_on i ps x before after t more =
       are_unsteered = unsteered_more i ps t.unsteered x w.unsteered t.are_unsteered w.is_unsteered;
       tally = w.tally;
     }
+
+-- no class has a log
+pub none_high : (n : ℕ) (l : List ℕ) → l ≡ replicate n 0 → AreAtMost 0 l
+none_high n l e = λ p. rw e (zero_at n p)
+  where
+    zero_at : (n p : ℕ) → get_or (replicate {A = ℕ} n 0) p 0 ≤ 0
+    zero_at zero p = omega arith
+    zero_at (suc n) zero = omega arith
+    zero_at (suc n) (suc p) = zero_at n p

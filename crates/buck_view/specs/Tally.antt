@@ -1,7 +1,8 @@
 -- What all postings come to.
-use Rattle.std.specs.Prelude.{◌≡◌, ℕ, ◌+◌, ◌<◌, List, [], ◌∷◌, ◌++◌}
+use Rattle.std.specs.Prelude.{◌≡◌, ℕ, ◌+◌, ◌<◌, ◌≤◌, List, [], ◌∷◌, ◌++◌, slice_index}
 use Rattle.buck_apt.specs.Instruction.{InstructionParts}
 use Rattle.buck_book.specs.declared.posting.Posting.{Posting}
+use Rattle.buck_book.specs.Counts.{AreClassCounts}
 use Rattle.buck_view.specs.Figures.{IsUnsteered, AreUnsteered}
 use Rattle.buck_view.specs.Sums.{AreSums}
 use Rattle.buck_view.specs.Owns.{AreOwns}
@@ -12,6 +13,8 @@ use Rattle.buck_view.specs.declared.tally.Tally.{Tally}
 pub record IsTally (i : InstructionParts) (ps us : List Posting) (t : Tally) : Type 0 where
   pub total : AreSums i ps us t.total
   pub owns : AreOwns i ps us t.owns
+  pub counts : AreClassCounts i ps t.counts.items
+  pub unsteered : AreClassCounts i us t.unsteered.items
 
 -- with one posting more
 pub record IsTallyWith (i : InstructionParts) (ps us : List Posting) (x : Posting) (t : Tally) : Type 0 where
@@ -24,6 +27,10 @@ pub record IsTallyOf (i : InstructionParts) (ps : List Posting) (t : Tally) : Ty
   pub unsteered : List Posting
   pub are_unsteered : AreUnsteered i ps unsteered
   pub tally : IsTally i ps unsteered t
+
+-- no class has more logs than this
+abbrev pub AreAtMost : ℕ → List ℕ → Type 0
+AreAtMost most counts = (p : ℕ) → slice_index counts p ≤ most
 
 -- there is room for one more
 pub record IsBelow (s : Sums) : Type 0 where

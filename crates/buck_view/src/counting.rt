@@ -1,12 +1,14 @@
 //! How many logs there are of each class.
-ghost use Rattle.std.specs.Prelude.{◌≡◌, ℕ, ◌+◌, ◌<◌, ◌^◌, All, length, slice_index};
+ghost use Rattle.std.specs.Prelude.{◌≡◌, ℕ, ◌+◌, ◌<◌, ◌^◌, All, IfOk, length, replicate, slice_index};
 ghost use Rattle.buck_apt.specs.Instruction.{IsClass, classes, index_of};
 ghost use Rattle.buck_value.specs.Allowed.{IsAllowed, class_of};
 ghost use Rattle.buck_view.specs.Counted.{AreCountsOn, AreCountsWith, AreOfPosting};
 
 use buck_book::Posting;
+use buck_record::Memory;
 use buck_stem::Stem;
 use buck_value::{Log, Sheet, class_of};
+use std::alloc::Global;
 
 /// The place of an allowed log's class among all.
 fn place_of(base: &Sheet, stem: &Stem, log: &Log) -> usize
@@ -19,6 +21,14 @@ fn place_of(base: &Sheet, stem: &Stem, log: &Log) -> usize
         unreachable!()
     };
     base.instruction().index(class)
+}
+
+/// A count of 0 for each class.
+pub fn no_counts(alloc: Global, base: &Sheet) -> Result<Vec<u32>, Memory>
+    ensures { IfOk result (λ counts. counts.items ≡ replicate (classes base.now.instruction) 0) }
+{
+    let classes = base.instruction().classes();
+    Ok(vec![in alloc; 0; classes]?)
 }
 
 /// Counts the class of each of some allowed logs.

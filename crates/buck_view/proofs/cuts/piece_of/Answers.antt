@@ -51,7 +51,7 @@ returns c =
       log = refl;
       class = c.in-Some.ensures.class;
       exists = subst (λ k. IsClass i k) (sym c.in-Some.ensures.class)
-        (class_is_class i c.args.stem.now c.args.log.now c.log_valuation.ensures.valid.valid c.requires.allowed);
+          (class_is_class i c.args.stem.now c.args.log.now c.log_valuation.ensures.valid.valid c.requires.allowed);
       index = c.index-index.ensures.place ∙ ap (λ (x : InstructionParts). index_of x c.in-Some.found.class) same;
       top = c.in-Some.ensures.top;
       volume = c.volume_of-volume.ensures.value ∙ ap (λ d. volume d c.args.log.now.length) c.in-Some.ensures.top;

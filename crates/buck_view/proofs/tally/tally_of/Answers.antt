@@ -1,18 +1,30 @@
-use Rattle.std.proofs.Common.{◌≡◌, ◌+◌, ◌<◌, ◌++◌, [], ◌∷◌, List, take, length, arith, subst, sym, ap, ◌∙◌, refl, length-take-le}
-use Rattle.std.specs.Prelude.{slice_get, Some}
+use Rattle.std.proofs.Common.{◌≡◌, ◌*◌, ◌+◌, ◌<◌, ◌++◌, [], ◌∷◌, List, take, length, arith, subst, sym, ap, ◌∙◌, refl, length-take-le, rules}
+use Rattle.std.specs.Prelude.{slice_get, Some, replicate}
+use Rattle.buck_apt.specs.Instruction.{classes}
 use Rattle.std.proofs.lemmas.Option.{slice_get_read}
 use Rattle.buck_value.specs.Sheet.{SheetParts}
 use Rattle.buck_book.specs.declared.posting.Posting.{Posting}
 use Rattle.buck_book.proofs.Ends.{take_one_more}
 use Rattle.buck_view.specs.Tally.{IsTally, IsTallyWith}
-use Rattle.buck_view.proofs.TallyLemmas.{below_total, below_owns, tally_none, tally_on}
+use Rattle.buck_view.proofs.TallyLemmas.{below_total, below_owns, none_high, tally_none, tally_on}
 use Rattle.buck_view.proofs.tally.tally_of.Goals as goal
 
 pub loop-at-init : goal.loop-at-init
-loop-at-init c = record {
-  same = refl;
-  tally = tally_none c.args.planner.now.instruction (record { total = c.none.result; owns = c.no_owns.result }) (c.none.ensures c.args.planner.now.instruction) c.no_owns.ensures;
-}
+loop-at-init c =
+    let i = c.args.planner.now.instruction in
+    let shown : c.deref.result.now ≡ c.args.planner.now = search rules in
+    let shown' : c.deref-2.result.now ≡ c.args.planner.now = search rules in
+    let counts : c.in_ok-no_counts.field-0.items ≡ replicate (classes i) 0 =
+    c.in_ok-no_counts.ensures ∙ ap (λ (s : SheetParts). replicate (classes s.instruction) 0) shown in
+    let unsteered : c.in_ok-no_counts-2.field-0.items ≡ replicate (classes i) 0 =
+    c.in_ok-no_counts-2.ensures ∙ ap (λ (s : SheetParts). replicate (classes s.instruction) 0) shown' in
+    record {
+      same = refl;
+      tally = tally_none i (record { total = c.none.result; owns = c.no_owns.result; counts = c.in_ok-no_counts.field-0; unsteered = c.in_ok-no_counts-2.field-0 })
+          (c.none.ensures i) c.no_owns.ensures counts unsteered;
+      counts = none_high (classes i) c.in_ok-no_counts.field-0.items counts;
+      unsteered = none_high (classes i) c.in_ok-no_counts-2.field-0.items unsteered;
+    }
 
 pub add_posting-requires-clause-total : goal.add_posting-requires-clause-total
 add_posting-requires-clause-total c =
@@ -39,5 +51,7 @@ loop-at-preserved c =
     record {
       same = c.in_ok-add_posting.ensures.same ∙ c.loop-at.invariant.same;
       tally = rw (take_one_more c.args.postings.now k x there)
-        (tally_on i (take k c.args.postings.now) x c.loop-at.tally c.add_posting.new.tally c.loop-at.invariant.tally added);
+          (tally_on i (take k c.args.postings.now) x c.loop-at.tally c.add_posting.new.tally c.loop-at.invariant.tally added);
+      counts = λ p. omega (arith, (c.in_ok-add_posting.ensures.low (80 * k) c.loop-at.invariant.counts c.loop-at.invariant.unsteered).0 p);
+      unsteered = λ p. omega (arith, (c.in_ok-add_posting.ensures.low (80 * k) c.loop-at.invariant.counts c.loop-at.invariant.unsteered).1 p);
     }
