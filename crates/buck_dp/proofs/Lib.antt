@@ -18,4 +18,3 @@ pub mod QuoteLemmas
 pub mod KeptLemmas
 pub mod SiteLemmas
 pub mod PricingLemmas
-pub mod PruneLemmas
