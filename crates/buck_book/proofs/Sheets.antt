@@ -1,16 +1,11 @@
--- The sheets of a book, and the plans that are made under the one in force.
-use Rattle.std.proofs.Common.{◌≡◌, ℕ, zero, suc, ◌+◌, ◌*◌, ◌<◌, ◌≤◌, List, [], ◌∷◌, ◌++◌, All, length, get_or, refl, ◌∙◌, ap, subst, arith, mul-le-mul_right}
+-- The sheets of a book.
+use Rattle.std.proofs.Common.{◌≡◌, ℕ, zero, suc, ◌+◌, ◌*◌, ◌<◌, ◌≤◌, List, [], ◌∷◌, ◌++◌, All, length, get_or, refl, ◌∙◌, ap, arith, mul-le-mul_right}
 use Rattle.std.specs.Prelude.{Result, Ok, Err, IfOk}
 use Rattle.std.proofs.lemmas.List.Sums.{sum_by-le}
 use Rattle.std.proofs.lemmas.List.Elements.{All-weaker}
 use Rattle.buck_apt.specs.Instruction.{InstructionParts, AssortmentParts, IsInstruction, IsAssortment, classes, classes_of}
-use Rattle.buck_value.specs.Allowed.{IsAllowed, end_of}
 use Rattle.buck_value.specs.Sheet.{SheetParts, sheet_of}
-use Rattle.buck_dp.specs.Cutting.{IsCutFrom}
-use Rattle.buck_book.specs.Plan.{PlanParts, IsPlan}
-use Rattle.buck_book.specs.History.{HistoryParts, in_force}
 use Rattle.buck_book.specs.Book.{sheets_from}
-use Rattle.buck_book.proofs.Cuts.{few_logs}
 
 -- what a fact about each result gives
 pub weaken_ok : {T E : Type 0} {P Q : T → Type 0} (r : Result T E) → ((x : T) → P x → Q x) → IfOk r P → IfOk r Q
@@ -43,10 +38,3 @@ classes-le i v =
   where
     small : (a : AssortmentParts) → IsAssortment a → classes_of a ≤ 1024
     small a w = let h : length a.diameters * length a.lengths ≤ 32 * length a.lengths = mul-le-mul_right (length a.lengths) w.rows.1 in omega (arith, w.columns)
-
--- a plan under the sheet in force cuts by the history's instruction
-pub cut_of : (h : HistoryParts) (p : PlanParts) → IsPlan p → p.sheet ≡ in_force h → IsCutFrom (IsAllowed h.instruction p.stem) (end_of h.instruction) 0 p.logs
-cut_of h p plan same = subst (λ i. IsCutFrom (IsAllowed i p.stem) (end_of i) 0 p.logs) (ap (λ s. s.instruction) same) plan.first_best.best.admissible
-
-pub few_of : (p : PlanParts) → IsPlan p → length p.logs ≤ 80
-few_of p plan = few_logs p.sheet.instruction p.stem p.logs plan.sheet_valid.valid plan.stem_valid plan.first_best.best.admissible

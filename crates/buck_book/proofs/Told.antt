@@ -1,11 +1,8 @@
 -- What some postings add up to, one posting on.
-use Rattle.std.proofs.Common.{◌≡◌, ℕ, ◌+◌, ◌*◌, ◌<◌, ◌≤◌, ◌==◌, cond, List, [], ◌∷◌, ◌++◌, All, length, refl, sym, ◌∙◌, ap, subst, arith}
+use Rattle.std.proofs.Common.{◌≡◌, ℕ, ◌+◌, ◌*◌, ◌<◌, ◌≤◌, ◌==◌, cond, List, [], ◌∷◌, ◌++◌, length, refl, sym, ◌∙◌, ap, subst, arith}
 use Rattle.std.proofs.lemmas.List.{length-map, length_push}
-use Rattle.std.proofs.lemmas.List.Elements.{All-weaker}
-use Rattle.std.proofs.lemmas.Option.{slice_get_within}
 use Rattle.buck_apt.specs.Instruction.{InstructionParts, IsInstruction, index_of}
-use Rattle.buck_stem.specs.Stem.{StemParts, IsStem}
-use Rattle.buck_value.specs.declared.log.Log.{Log}
+use Rattle.buck_stem.specs.Stem.{IsStem}
 use Rattle.buck_value.specs.Allowed.{IsAllowed, class_of, end_of}
 use Rattle.buck_dp.specs.Cutting.{IsCutFrom}
 use Rattle.buck_book.specs.declared.posting.Posting.{Posting}
@@ -25,11 +22,6 @@ at_most most more by_class by_assortment le low = record {
   class_counts = λ j. omega (arith, low.class_counts j);
   assortment_counts = λ j. omega (arith, low.assortment_counts j);
 }
-
--- the assortments of allowed logs are there
-pub assortments_there : (i : InstructionParts) (stem : StemParts) (n : ℕ) (logs : List Log) → n ≡ length i.assortments → All (IsAllowed i stem) logs → All (λ g. g.assortment < n) logs
-assortments_there i stem n logs e h =
-    All-weaker (IsAllowed i stem) (λ g. g.assortment < n) (λ g a. rw e (slice_get_within i.assortments g.assortment a.assortment a.exists)) logs h
 
 module _ (i : InstructionParts) (ps : List Posting) (n : RunningParts) (t : Tells i ps n) where
   pub version_low : n.version ≤ 1000000
