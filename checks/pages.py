@@ -32,12 +32,14 @@ PROMISES = [
         ],
     ),
     ("the history of a book", ["buck_book::Book::*", "buck_rule::Rule::*"]),
-    ("a checked journal", ["buck_engine::run_check", "buck_journal::read_journal", "buck_journal::replay"]),
+    ("a checked journal", ["buck_engine::run_check", "buck_journal::read_journal", "buck_journal::replay*"]),
+    ("a journal shown", ["buck_engine::run_view", "buck_engine::run_table", "buck_engine::serve_view", "buck_figures::figures_of"]),
+    ("the report", ["buck_engine::report_text", "buck_engine::degree", "buck_engine::run_report"]),
     ("a whole run of the program", ["buck_engine::serve", "buck_engine::conclude", "buck_engine::explain"]),
     ("the closed fleet", ["buck_fleet::Fleet::*", "buck_fleet::Closed::*", "buck_fleet::run_fleet"]),
-    ("the report", ["buck_engine::report_text", "buck_engine::degree"]),
     ("a fleet over files", ["buck_engine::run_fleet_files", "buck_engine::serve_fleet", "buck_command::serve_work"]),
     ("the world and its runs", ["buck_world::*"]),
+    ("the library that C calls", ["buck_c::*"]),
     ("all other public calls", ["*"]),
 ]
 
@@ -97,7 +99,7 @@ def exported(lines):
     text = "\n".join(lines)
     modules = set(re.findall(r"^pub mod (\w+);", text, re.M))
     names = {}
-    for module, several, one in re.findall(r"^pub use (\w+)::(?:\{([^}]*)\}|(\w+));", text, re.M):
+    for module, several, one in re.findall(r"^pub use (?:\w+::)*(\w+)::(?:\{([^}]*)\}|(\w+));", text, re.M):
         for name in re.findall(r"\w+", several or one):
             names[name] = module
     return modules, names
@@ -127,11 +129,11 @@ def public_calls(crate):
                 holder, is_trait = block[2], block[1] == "pub trait"
             elif line == "}":
                 holder = None
-            call = re.match(r"\s*(pub )?fn (\w+)", line)
+            call = re.match(r"\s*(pub (?:extern \"C\" )?)?fn (\w+)", line)
             if not call or not (call[1] or is_trait):
                 continue
             outer = holder or call[2]
-            if words[0] in modules or outer in names:
+            if words[0] in modules or outer in names or "extern" in (call[1] or ""):
                 where = [words[0]] if words[0] in modules else []
                 name = "::".join([crate] + where + ([holder] if holder else []) + [call[2]])
                 yield name, clauses(lines, at), taken
@@ -142,7 +144,7 @@ def reached(found, roots):
     seen, types, left = [], set(), list(roots)
     while left:
         at = left.pop(0)
-        declared = re.match(r"(buck_\w+)\.specs\.declared\.\w+\.(\w+)", at[0])
+        declared = re.match(r"(buck_\w+)\.specs\.declared(?:\.\w+)*?\.([A-Z]\w*)", at[0])
         if declared:
             types.add((declared[1], declared[2]))
         if at in seen or at[0] not in found:

@@ -1,5 +1,5 @@
 -- What a book keeps, one posting on.
-use Rattle.std.proofs.Common.{◌≡◌, ℕ, ◌+◌, ◌-◌, ◌<◌, ◌≤◌, inl, inr, List, [], ◌∷◌, ◌++◌, Option, Some, None, length, map, set, replicate, get_or, append-nil, refl, sym, ◌∙◌, ap, subst, arith}
+use Rattle.std.proofs.Common.{◌≡◌, ℕ, ◌+◌, ◌-◌, ◌<◌, ◌≤◌, inl, inr, List, [], ◌∷◌, ◌++◌, Option, Some, None, MatchOption, length, map, set, replicate, get_or, append-nil, refl, sym, ◌∙◌, ap, subst, arith}
 use Rattle.std.proofs.lemmas.List.{map-append, length_push}
 use Rattle.std.proofs.lemmas.Option.{none-some}
 use Rattle.std.specs.Option.{option_to_list, option_map}
@@ -9,13 +9,12 @@ use Rattle.buck_dp.specs.Best.{IsBest, IsFirstBest, cutting_worth}
 use Rattle.buck_book.specs.declared.posting.Posting.{Posting}
 use Rattle.buck_book.specs.declared.posting.Posting.TheVariants.{Cut, Demand}
 use Rattle.buck_book.specs.Entry.{EntryParts, DemandParts}
-use Rattle.buck_book.specs.Posting.{harvester_of, planned_version}
+use Rattle.buck_book.specs.Posting.{harvester_of, number_of, planned_version}
 use Rattle.buck_book.specs.Targets.{AreTargets}
-use Rattle.buck_book.specs.Counts.{calls_of}
 use Rattle.buck_book.specs.History.{HistoryParts, IsLawful, Follows, IsEnd, IsNextSheet, sheets_with, history_with, version_of, in_force}
 use Rattle.buck_book.specs.Plan.{PlanParts, IsPlan}
 use Rattle.buck_book.specs.Pricing.{AreAnswers}
-use Rattle.buck_book.specs.Book.{BookParts, ReadyParts, ReadyDemandParts, IsBook, IsFirst, IsMadeFor, IsMadeDemand, IsNext, SameContent, sheets_from, entry_of, demand_of}
+use Rattle.buck_book.specs.Book.{BookParts, IsBook, IsFirst, IsNext, IsReadyToAdd, SameContent, sheets_from, entry_of, demand_of}
 use Rattle.buck_book.specs.inner.Running.{RunningParts, Keeps, Tells, GoesOn, IsAfter, IsPassed}
 use Rattle.buck_book.specs.inner.Pricing.{ArePriced, IsPricedSheet}
 use Rattle.buck_rule.specs.declared.standing.Standing.{Standing}
@@ -107,53 +106,42 @@ sheets_after h x ts (Some s) l are n =
     (λ j. are j ++ is j ∷ []) ∙ sym (sheets_from-append 0 h.instruction h.sheets (s.prices ∷ []))
 
 -- what is kept after a posting more, of what then stands in the book's lists
-module _ {F : Type 0} (b : BookParts F) (sheets : List SheetParts) (n : RunningParts) (calls : List ℕ) (h : ℕ)
-    (k : Keeps b sheets n calls) (pos : 0 < h) (most : h ≤ 64) (below : length b.history.postings < b.capacity)
-    (sheets' : List SheetParts) (pss' : List (List ℕ)) (ps' : List Posting) (n' : RunningParts) (calls' : List ℕ) (number room sheet_room : ℕ)
-    (number_is : number ≡ calls_of h b.history.postings + 1) (calls_are : calls' ≡ set calls (h - 1) number) where
-  abbrev KeepsThen : Type 0
-  KeepsThen = Keeps (record { rule = b.rule; history = record { instruction = b.history.instruction; sheets = pss'; postings = ps' }; capacity = b.capacity; room = room; sheet_room = sheet_room }) sheets' n' calls'
+pub keeps_more : {F : Type 0} (b : BookParts F) (sheets sheets' : List SheetParts) (n n' : RunningParts) (calls calls' : List ℕ) (x : HistoryParts → Posting) (y : Posting) (next added : Option SheetParts)
+    (pss' : List (List ℕ)) (ps' : List Posting) (room sheet_room : ℕ)
+    → Keeps b sheets n calls → length b.history.postings < b.capacity → IsWithin 1 64 (harvester_of (x b.history))
+    → Follows b.history.instruction b.history.sheets b.history.postings (x b.history) → IsFirst b.history (x b.history)
+    → IsNext b.history (x b.history) next → IsAfter b.history.instruction n (x b.history) n'
+    → y ≡ x b.history → added ≡ next → calls' ≡ set calls (harvester_of y - 1) (number_of y) → ps' ≡ b.history.postings ++ y ∷ []
+    → sheets' ≡ sheets ++ option_to_list added → pss' ≡ sheets_with b.history.sheets added
+    → Keeps (record { rule = b.rule; history = record { instruction = b.history.instruction; sheets = pss'; postings = ps' }; capacity = b.capacity; room = room; sheet_room = sheet_room }) sheets' n' calls'
+keeps_more b sheets sheets' n n' calls calls' x y next added pss' ps' room sheet_room k below own follows first is_next told y_is added_is calls_are ps_are sheets_are pss_are =
+    let z : Posting = x b.history in
+    let all : ps' ≡ b.history.postings ++ z ∷ [] = ps_are ∙ ap (λ w. b.history.postings ++ w ∷ []) y_is in
+    let called : calls' ≡ set calls (harvester_of z - 1) (number_of z) = calls_are ∙ ap (λ w. set calls (harvester_of w - 1) (number_of w)) y_is in
+    rw (pss_are, all, added_is) (record {
+      is_book = book_more b z next room sheet_room k.is_book follows is_next first own below;
+      sheets_are = sheets_are ∙ ap (λ o. sheets ++ option_to_list o) added_is ∙ sheets_after b.history z sheets next k.is_book.lawful k.sheets_are is_next;
+      tells = told b.history.postings (omega (arith, below, k.is_book.capacity_range)) k.tells;
+      calls_are = rw called (calls_more b.history.postings z calls (harvester_of z) (number_of z) k.calls_are refl own.0 own.1 follows.number_is_next);
+    })
 
-  keeps_more : (x y : Posting) (next : Option SheetParts)
-      → harvester_of x ≡ h → Follows b.history.instruction b.history.sheets b.history.postings x → IsNext b.history x next → IsFirst b.history x
-      → sheets' ≡ sheets ++ option_to_list next → pss' ≡ sheets_with b.history.sheets next → ps' ≡ b.history.postings ++ y ∷ [] → y ≡ x
-      → IsAfter b.history.instruction n x n'
-      → KeepsThen
-  keeps_more x y next own follows is_next first sheets_are pss_are ps_are y_is told =
-      let all : ps' ≡ b.history.postings ++ x ∷ [] = ps_are ∙ ap (λ z. b.history.postings ++ z ∷ []) y_is in
-      rw (pss_are, all) (record {
-        is_book = book_more b x next room sheet_room k.is_book follows is_next first (subst (IsWithin 1 64) (sym own) (pos, most)) below;
-        sheets_are = sheets_are ∙ sheets_after b.history x sheets next k.is_book.lawful k.sheets_are is_next;
-        tells = told b.history.postings (omega (arith, below, k.is_book.capacity_range)) k.tells;
-        calls_are = rw calls_are (calls_more b.history.postings x calls h number k.calls_are own pos most number_is);
-      })
+-- a plan's entry may follow
+pub entry_follows : (h : HistoryParts) (harvester : ℕ) (p : PlanParts) → IsPlan p → p.sheet ≡ in_force h
+    → Follows h.instruction h.sheets h.postings (Cut (entry_of h harvester p)) × IsFirst h (Cut (entry_of h harvester p))
+entry_follows h harvester p plan same = (
+  record {
+    number_is_next = refl;
+    version_in_force = refl;
+    holds = (subst (λ s. IsBest s p.stem p.logs) same plan.first_best.best, plan.worth_is ∙ ap (λ s. cutting_worth s p.stem p.logs) same);
+  },
+  (plan.stem_valid, subst (λ s. IsFirstBest s p.stem p.logs) same plan.first_best),
+)
 
-  pub keeps_cut : (p : PlanParts) (e : EntryParts) (next : Option SheetParts)
-      → IsPlan p → p.sheet ≡ in_force b.history → IsNext b.history (Cut (entry_of b.history h p)) next
-      → sheets' ≡ sheets ++ option_to_list next → pss' ≡ sheets_with b.history.sheets next → ps' ≡ b.history.postings ++ Cut e ∷ [] → e ≡ entry_of b.history h p
-      → ((e : EntryParts) → e.stem ≡ p.stem → e.logs ≡ p.logs → IsAfter p.sheet.instruction n (Cut e) n')
-      → KeepsThen
-  keeps_cut p e next plan same is_next sheets_are pss_are ps_are e_is told =
-      keeps_more (Cut (entry_of b.history h p)) (Cut e) next refl
-      (record {
-        number_is_next = refl;
-        version_in_force = refl;
-        holds = (subst (λ s. IsBest s p.stem p.logs) same plan.first_best.best, plan.worth_is ∙ ap (λ s. cutting_worth s p.stem p.logs) same);
-      })
-      is_next
-      (plan.stem_valid, subst (λ s. IsFirstBest s p.stem p.logs) same plan.first_best)
-      sheets_are pss_are ps_are (ap Cut e_is)
-      (subst (λ i. IsAfter i n (Cut (entry_of b.history h p)) n') (ap (λ s. s.instruction) same) (told (entry_of b.history h p) refl refl))
-
-  pub keeps_demand : (d : DemandParts) (targets : List ℕ) (next : SheetParts)
-      → AreTargets b.history.instruction targets → IsNextSheet b.history (Demand (demand_of b.history h targets)) next
-      → sheets' ≡ sheets ++ next ∷ [] → pss' ≡ b.history.sheets ++ next.prices ∷ [] → ps' ≡ b.history.postings ++ Demand d ∷ [] → d ≡ demand_of b.history h targets
-      → IsAfter b.history.instruction n (Demand (demand_of b.history h targets)) n'
-      → KeepsThen
-  keeps_demand d targets next valid is_next sheets_are pss_are ps_are d_is told =
-      keeps_more (Demand (demand_of b.history h targets)) (Demand d) (Some next) refl
-      (record { number_is_next = refl; version_in_force = refl; holds = valid })
-      (refl, is_next) tt sheets_are pss_are ps_are (ap Demand d_is) told
+-- what runs on after it
+pub entry_after : (h : HistoryParts) (harvester : ℕ) (p : PlanParts) (n n' : RunningParts) → p.sheet ≡ in_force h
+    → ((e : EntryParts) → e.stem ≡ p.stem → e.logs ≡ p.logs → IsAfter p.sheet.instruction n (Cut e) n')
+    → IsAfter h.instruction n (Cut (entry_of h harvester p)) n'
+entry_after h harvester p n n' same told = subst (λ s. IsAfter s.instruction n (Cut (entry_of h harvester p)) n') same (told (entry_of h harvester p) refl refl)
 
 -- what runs on in a book below its capacity, with a posting more
 module _ {F : Type 0} (b : BookParts F) (sheets : List SheetParts) (n : RunningParts) (calls : List ℕ) (k : Keeps b sheets n calls) (below : length b.history.postings < b.capacity) where
@@ -164,8 +152,7 @@ module _ {F : Type 0} (b : BookParts F) (sheets : List SheetParts) (n : RunningP
       → ((e : EntryParts) → e.stem ≡ p.stem → e.logs ≡ p.logs → IsAfter p.sheet.instruction n₁ (Cut e) n')
       → (harvester : ℕ) → IsPassed b.history (Cut (entry_of b.history harvester p)) n'
   passed_cut p n₁ n' same is told harvester =
-      subst (λ s. IsAfter s.instruction n₁ (Cut (entry_of b.history harvester p)) n') same (told (entry_of b.history harvester p) refl refl)
-      b.history.postings (omega (arith, below, k.is_book.capacity_range)) (subst (λ m. Tells b.history.instruction b.history.postings m) (sym is) k.tells)
+      entry_after b.history harvester p n₁ n' same told b.history.postings (omega (arith, below, k.is_book.capacity_range)) (subst (λ m. Tells b.history.instruction b.history.postings m) (sym is) k.tells)
 
   pub passed_demand : (targets : List ℕ) (n₁ n' : RunningParts) → AreTargets b.history.instruction targets → n₁ ≡ n
       → ((i : InstructionParts) (d : DemandParts) → d.targets ≡ targets → AreTargets i d.targets → IsAfter i n₁ (Demand d) n')
@@ -196,16 +183,14 @@ module _ {F : Type 0} (g : Shared F (Bor Standing × Unit {0}) ℕ) (f : F) (h :
   next_answers = are_answers g f h.instruction n.targets n.by_class n.by_assortment (h.postings ++ x ∷ []) s.prices told.targets_are told.counts_are all_here priced_here
 
 -- a sheet added to a list, as a list of values and of prices
-pub values_added : {X : Type 0} (val : X → SheetParts) (xs ys : List X) (o : Option X) (next : Option SheetParts) → ys ≡ xs ++ option_to_list o → next ≡ option_map val o → map val ys ≡ map val xs ++ option_to_list next
-values_added val xs ys None next is n = ap (λ zs. map val zs) is ∙ map-append val xs [] ∙ ap (λ m. map val xs ++ option_to_list m) (sym n)
-values_added val xs ys (Some x) next is n = ap (λ zs. map val zs) is ∙ map-append val xs (x ∷ []) ∙ ap (λ m. map val xs ++ option_to_list m) (sym n)
+pub values_added : {X : Type 0} (val : X → SheetParts) (xs ys : List X) (next : Option X) → ys ≡ xs ++ option_to_list next → map val ys ≡ map val xs ++ option_to_list (option_map val next)
+values_added val xs ys None is = ap (map val) is ∙ map-append val xs []
+values_added val xs ys (Some x) is = ap (map val) is ∙ map-append val xs (x ∷ [])
 
-pub prices_added : {X : Type 0} (val : X → SheetParts) (xs ys : List X) (o : Option X) (next : Option SheetParts) → ys ≡ xs ++ option_to_list o → next ≡ option_map val o
-    → map (λ a. (val a).prices) ys ≡ sheets_with (map (λ a. (val a).prices) xs) next
-prices_added val xs ys None next is n =
-    ap (λ zs. map (λ a. (val a).prices) zs) (is ∙ append-nil xs) ∙ ap (λ m. sheets_with (map (λ a. (val a).prices) xs) m) (sym n)
-prices_added val xs ys (Some x) next is n =
-    ap (λ zs. map (λ a. (val a).prices) zs) is ∙ map-append (λ a. (val a).prices) xs (x ∷ []) ∙ ap (λ m. sheets_with (map (λ a. (val a).prices) xs) m) (sym n)
+pub prices_added : {X : Type 0} (val : X → SheetParts) (xs ys : List X) (next : Option X) → ys ≡ xs ++ option_to_list next
+    → map (λ a. (val a).prices) ys ≡ sheets_with (map (λ a. (val a).prices) xs) (option_map val next)
+prices_added val xs ys None is = ap (map (λ a. (val a).prices)) (is ∙ append-nil xs)
+prices_added val xs ys (Some x) is = ap (map (λ a. (val a).prices)) is ∙ map-append (λ a. (val a).prices) xs (x ∷ [])
 
 pub entry_same : (a b : EntryParts) → a.harvester ≡ b.harvester → a.number ≡ b.number → a.stem ≡ b.stem → a.version ≡ b.version → a.logs ≡ b.logs → a.worth ≡ b.worth → a ≡ b
 entry_same a b h n s v l w = λ j. record { harvester = h j; number = n j; stem = s j; version = v j; logs = l j; worth = w j }
@@ -213,36 +198,15 @@ entry_same a b h n s v l w = λ j. record { harvester = h j; number = n j; stem 
 pub demand_same : (a b : DemandParts) → a.harvester ≡ b.harvester → a.number ≡ b.number → a.version ≡ b.version → a.targets ≡ b.targets → a ≡ b
 demand_same a b h n v t = λ j. record { harvester = h j; number = n j; version = v j; targets = t j }
 
--- what is kept has nothing to do with the memory that is held ready
-pub keeps_room : {F : Type 0} (b : BookParts F) (sheets : List SheetParts) (n : RunningParts) (calls : List ℕ) (room sheet_room : ℕ) → Keeps b sheets n calls
-    → Keeps (record { rule = b.rule; history = b.history; capacity = b.capacity; room = room; sheet_room = sheet_room }) sheets n calls
-keeps_room b sheets n calls room sheet_room k = record {
-  is_book = record {
-    valid = k.is_book.valid;
-    lawful = k.is_book.lawful;
-    firsts = k.is_book.firsts;
-    harvesters = k.is_book.harvesters;
-    within = k.is_book.within;
-    capacity_range = k.is_book.capacity_range;
-  };
-  sheets_are = k.sheets_are;
-  tells = k.tells;
-  calls_are = k.calls_are;
-}
-
--- what was made for a book is right for it when more memory is held ready
-pub made_with_room : {F : Type 0} (a b : BookParts F) (r : ReadyParts) (p : PlanParts) → SameContent a b → IsMadeFor a r p → IsMadeFor b r p
-made_with_room a b r p same made = record {
-  below = rw (same.history, same.capacity) made.below;
-  sheet_in_force = rw same.history made.sheet_in_force;
-  same_stem = made.same_stem;
-  same_logs = made.same_logs;
-  next = λ h. rw same.history (made.next h);
-}
-
-pub demand_with_room : {F : Type 0} (a b : BookParts F) (r : ReadyDemandParts) → SameContent a b → IsMadeDemand a r → IsMadeDemand b r
-demand_with_room a b r same made = record {
-  below = rw (same.history, same.capacity) made.below;
-  valid = rw same.history made.valid;
-  next = λ h. rw same.history (made.next h);
-}
+-- what was made for a book can be added to it when more memory is held ready
+pub ready_to_add : {F : Type 0} (a b : BookParts F) (x : HistoryParts → ℕ → Posting) (next : Option SheetParts) → SameContent a b → length a.history.postings < a.capacity
+    → ((h : ℕ) → IsNext a.history (x a.history h) next) → length b.history.postings < b.room → length b.history.sheets < b.sheet_room → IsReadyToAdd b (x b.history) next
+ready_to_add a b x next same below is_next posting sheet = record {
+  below = rw (same.history, same.capacity) below;
+  next_is = λ h. rw same.history (is_next h);
+  posting_room = posting;
+  sheet_room = if_needed next sheet;
+} where
+  if_needed : {A : Type 0} (next : Option SheetParts) → A → MatchOption next (Unit {0}) (λ _. A)
+  if_needed None room = tt
+  if_needed (Some s) room = room

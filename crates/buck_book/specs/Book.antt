@@ -77,16 +77,13 @@ IsNext h x next =
     (IsEnd h.instruction h.postings x → ⊥)
     (λ s. IsEnd h.instruction h.postings x × IsNextSheet h x s)
 
--- the sheet is the next one after a plan's entry, or after a demand, whoever commits it
-abbrev pub IsSheetWith : HistoryParts → PlanParts → SheetParts → Type 0
-IsSheetWith h p s = (harvester : ℕ) → IsNextSheet h (Cut (entry_of h harvester p)) s
-
-abbrev pub IsSheetWithDemand : HistoryParts → List ℕ → SheetParts → Type 0
-IsSheetWithDemand h targets s = (harvester : ℕ) → IsNextSheet h (Demand (demand_of h harvester targets)) s
-
--- there is memory for the next sheet
-abbrev pub HasSheetRoom : {F : Type 0} → BookParts F → Option SheetParts → Type 0
-HasSheetRoom b next = MatchOption next (Unit {0}) (λ _. length b.history.sheets < b.sheet_room)
+-- a posting can be added, whoever commits it: the book is below its capacity, has memory for the posting and for a next
+-- sheet, and that is there where the posting is an end, and is right
+pub record IsReadyToAdd {F : Type 0} (b : BookParts F) (x : ℕ → Posting) (next : Option SheetParts) : Type 0 where
+  pub below : length b.history.postings < b.capacity
+  pub next_is : (harvester : ℕ) → IsNext b.history (x harvester) next
+  pub posting_room : length b.history.postings < b.room
+  pub sheet_room : MatchOption next (Unit {0}) (λ _. length b.history.sheets < b.sheet_room)
 
 -- what a prepared commit holds
 pub record ReadyParts : Type 0 where
@@ -94,36 +91,23 @@ pub record ReadyParts : Type 0 where
   pub logs : List Log
   pub next : Option SheetParts
 
--- a prepared commit is right for this plan, at this state of the book, whoever commits it
-pub record IsMadeFor {F : Type 0} (b : BookParts F) (r : ReadyParts) (p : PlanParts) : Type 0 where
-  pub below : length b.history.postings < b.capacity
+-- it was prepared for this plan by this book, with no commit since: the plan's sheet is the one in force, and what is
+-- stored is the plan's
+pub record IsReadyFor {F : Type 0} (b : BookParts F) (r : ReadyParts) (p : PlanParts) : Type 0 where
+  pub to_add : IsReadyToAdd b (λ harvester. Cut (entry_of b.history harvester p)) r.next
   pub sheet_in_force : p.sheet ≡ in_force b.history
   pub same_stem : r.stem ≡ p.stem
   pub same_logs : r.logs ≡ p.logs
-  pub next : (harvester : ℕ) → IsNext b.history (Cut (entry_of b.history harvester p)) r.next
-
--- it was prepared for this plan by this book, with no commit since: it is right, and there is memory for what it adds
-pub record IsReadyFor {F : Type 0} (b : BookParts F) (r : ReadyParts) (p : PlanParts) : Type 0 where
-  pub made : IsMadeFor b r p
-  pub posting_room : length b.history.postings < b.room
-  pub sheet_room : HasSheetRoom b r.next
 
 -- what a prepared demand holds
 pub record ReadyDemandParts : Type 0 where
   pub targets : List ℕ
   pub next : SheetParts
 
--- a prepared demand is right at this state of the book, whoever commits it
-pub record IsMadeDemand {F : Type 0} (b : BookParts F) (r : ReadyDemandParts) : Type 0 where
-  pub below : length b.history.postings < b.capacity
-  pub valid : AreTargets b.history.instruction r.targets
-  pub next : IsSheetWithDemand b.history r.targets r.next
-
--- it was prepared by this book, with no commit since
+-- it was prepared by this book, with no commit since, and its targets are valid
 pub record IsReadyDemand {F : Type 0} (b : BookParts F) (r : ReadyDemandParts) : Type 0 where
-  pub made : IsMadeDemand b r
-  pub posting_room : length b.history.postings < b.room
-  pub sheet_room : length b.history.sheets < b.sheet_room
+  pub to_add : IsReadyToAdd b (λ harvester. Demand (demand_of b.history harvester r.targets)) (Some r.next)
+  pub valid : AreTargets b.history.instruction r.targets
 
 -- all is the same but the memory that is held ready, and none of that is given back
 pub record SameContent {F : Type 0} (before after : BookParts F) : Type 0 where

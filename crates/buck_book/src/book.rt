@@ -1,15 +1,15 @@
 //! The book of one thread.
-ghost use Rattle.std.specs.Prelude.{◌≡◌, ℕ, ◌+◌, ◌<◌, ◌≤◌, [], ◌∷◌, ◌++◌, false, All, IfOk, IfErr, IfSome, OnOk, IsTrue, ◌↔◌, length, map, vec_len, vec_capacity};
+ghost use Rattle.std.specs.Prelude.{◌≡◌, ℕ, ◌+◌, ◌-◌, ◌<◌, ◌≤◌, [], ◌∷◌, ◌++◌, false, All, IfOk, IfErr, IfSome, OnOk, IsTrue, ◌↔◌, length, map, slice_set, vec_len, vec_capacity};
 ghost use Rattle.std.specs.Option.{option_to_list, option_map};
 ghost use Rattle.buck_apt.specs.Instruction.{IsClass};
 ghost use Rattle.buck_rule.specs.Stored.{Answers};
 ghost use Rattle.buck_value.specs.Sheet.{base_prices, sheet_of};
-ghost use Rattle.buck_book.specs.Posting.{targets_of, cuts_since_end};
+ghost use Rattle.buck_book.specs.Posting.{harvester_of, number_of, targets_of, cuts_since_end};
 ghost use Rattle.buck_book.specs.Targets.{AreTargets};
 ghost use Rattle.buck_book.specs.Counts.{AreClassCounts, count_of, calls_of};
 ghost use Rattle.buck_book.specs.History.{IsLawful, IsEnd, IsNextSheet, version_of, in_force, sheets_with};
 ghost use Rattle.buck_book.specs.Pricing.{AreAnswers, AreAnswersWith, AreAnswersWithDemand};
-ghost use Rattle.buck_book.specs.Book.{sheets_from, IsBook, IsSheetWith, IsSheetWithDemand, entry_of, demand_of, HasSheetRoom, IsMadeFor, IsReadyFor, IsMadeDemand, IsReadyDemand, SameContent};
+ghost use Rattle.buck_book.specs.Book.{sheets_from, IsBook, entry_of, demand_of, IsNext, IsReadyFor, IsReadyDemand, SameContent};
 ghost use Rattle.buck_book.specs.Refused.{IsFull, IsBelow, IsRefusal, IsDemandRefusal};
 ghost use Rattle.buck_book.specs.declared.posting.Posting.{Posting};
 ghost use Rattle.buck_book.specs.inner.Running.{IsPassed};
@@ -106,14 +106,6 @@ fn base_sheets(alloc: Global, instruction: Arc<Instruction>) -> Result<Vec<Arc<S
     Ok(sheets)
 }
 
-/// Adds a posting, where there is memory for it.
-fn add_posting(postings: &mut Vec<Posting>, posting: Posting)
-    requires { vec_len postings.old < vec_capacity postings.old }
-    ensures { postings.new.items ≡ postings.old.items ++ posting ∷ [] }
-{
-    postings.push_reserved(posting);
-}
-
 /// Adds a sheet, if there is one, where there is memory for it.
 fn add_sheet(sheets: &mut Vec<Arc<Sheet>>, next: Option<Arc<Sheet>>)
     requires { IfSome next (λ _. vec_len sheets.old < vec_capacity sheets.old) }
@@ -123,6 +115,31 @@ fn add_sheet(sheets: &mut Vec<Arc<Sheet>>, next: Option<Arc<Sheet>>)
         Some(sheet) => sheets.push_reserved(sheet),
         None => {}
     }
+}
+
+/// Adds a posting to a book's lists, its number to the calls, and the next sheet, if there is one, where there is memory
+/// for both.
+fn add(
+    calls: &mut Vec<u32>,
+    postings: &mut Vec<Posting>,
+    sheets: &mut Vec<Arc<Sheet>>,
+    posting: Posting,
+    next: Option<Arc<Sheet>>,
+)
+    requires harvester { (0 < harvester_of posting) × (harvester_of posting ≤ vec_len calls.old) }
+    requires room { vec_len postings.old < vec_capacity postings.old }
+    requires sheet_room { IfSome next (λ _. vec_len sheets.old < vec_capacity sheets.old) }
+    ensures calls { calls.new.items ≡ slice_set calls.old.items (harvester_of posting - 1) (number_of posting) }
+    ensures postings { postings.new.items ≡ postings.old.items ++ posting ∷ [] }
+    ensures sheets { map (λ a. a.value) sheets.new.items
+        ≡ map (λ a. a.value) sheets.old.items ++ option_to_list (option_map (λ a. a.value) next) }
+    ensures prices { map (λ a. a.value.prices) sheets.new.items
+        ≡ sheets_with (map (λ a. a.value.prices) sheets.old.items) (option_map (λ a. a.value) next) }
+{
+    let caller = posting.harvester() as usize - 1;
+    calls[caller] = posting.number();
+    postings.push_reserved(posting);
+    add_sheet(sheets, next);
 }
 
 impl<F: Drop> Book<F> {
@@ -252,34 +269,14 @@ impl<F: Drop> Book<F> {
         self.running.cuts() + 1 == self.instruction.period()
     }
 
-    /// Makes room for one more posting.
-    fn reserve_posting(&mut self) -> Result<(), AllocError>
-        ensures content { SameContent self.old self.new }
-        ensures room { OnOk result (length self.new.history.postings < self.new.room) }
-    {
-        self.postings.reserve(1)
-    }
-
-    /// Makes room for one more sheet.
-    fn reserve_sheet(&mut self) -> Result<(), AllocError>
-        ensures content { SameContent self.old self.new }
-        ensures room { OnOk result (length self.new.history.sheets < self.new.sheet_room) }
-        ensures posting_room { self.new.room ≡ self.old.room }
-    {
-        self.sheets.reserve(1)
-    }
-
-    /// Makes room for what a commit adds to the lists.
-    fn reserve(&mut self, ready: &Ready) -> Result<(), AllocError>
+    /// Makes room for one more posting and one more sheet.
+    fn reserve(&mut self) -> Result<(), AllocError>
         ensures content { SameContent self.old self.new }
         ensures posting { OnOk result (length self.new.history.postings < self.new.room) }
-        ensures sheet { OnOk result (HasSheetRoom self.new ready.now.next) }
+        ensures sheet { OnOk result (length self.new.history.sheets < self.new.sheet_room) }
     {
-        self.reserve_posting()?;
-        if ready.next_sheet().is_some() {
-            self.reserve_sheet()?;
-        }
-        Ok(())
+        self.postings.reserve(1)?;
+        self.sheets.reserve(1)
     }
 
     /// Adds a plan's entry at the end of the history, and the next sheet where the period ends; answers the entry. It
@@ -305,8 +302,6 @@ impl<F: Drop> Book<F> {
         self.running
             .after_cut(plan.sheet(), plan.stem(), plan.cutting().logs.as_slice());
         let (stem, cutting, worth) = plan.into_parts();
-        let caller = (harvester - 1) as usize;
-        self.calls[caller] = number;
         let entry = Entry {
             harvester,
             number,
@@ -315,9 +310,14 @@ impl<F: Drop> Book<F> {
             cutting,
             worth,
         };
-        let stored = entry.sharing(stored_stem, stored_cutting);
-        add_posting(&mut self.postings, Posting::Cut(stored));
-        add_sheet(&mut self.sheets, next);
+        let stored = Posting::Cut(entry.sharing(stored_stem, stored_cutting));
+        add(
+            &mut self.calls,
+            &mut self.postings,
+            &mut self.sheets,
+            stored,
+            next,
+        );
         entry
     }
 
@@ -341,8 +341,6 @@ impl<F: Drop> Book<F> {
             answered,
             next,
         } = ready;
-        let caller = (harvester - 1) as usize;
-        self.calls[caller] = number;
         self.running.after_demand(in_force);
         let demand = Demand {
             harvester,
@@ -350,8 +348,15 @@ impl<F: Drop> Book<F> {
             version,
             targets: answered,
         };
-        add_posting(&mut self.postings, Posting::Demand(demand.sharing(stored)));
-        add_sheet(&mut self.sheets, Some(next));
+        let stored = Posting::Demand(demand.sharing(stored));
+        let next = Some(next);
+        add(
+            &mut self.calls,
+            &mut self.postings,
+            &mut self.sheets,
+            stored,
+            next,
+        );
         demand
     }
 }
@@ -411,34 +416,45 @@ impl<F: Fn(&Standing) -> u64> Book<F> {
         )
     }
 
-    /// The sheet that comes after a plan's entry, where that ends a period.
-    fn next_sheet(&self, alloc: Global, plan: &Plan) -> Result<Arc<Sheet>, Memory>
-        requires answers { Answers F.Fn self.now.rule }
+    /// What runs on after a plan's entry, whoever commits it.
+    fn after_plan(&self, alloc: Global, plan: &Plan) -> Result<Running, Memory>
         requires below { length self.now.history.postings < self.now.capacity }
         requires in_force { plan.now.sheet ≡ in_force self.now.history }
-        requires end { cuts_since_end self.now.history.instruction self.now.history.postings + 1
-            ≡ self.now.history.instruction.period }
-        ensures next { IfOk result (λ s. IsSheetWith self.now.history plan.now s.value) }
-        ensures given { IfOk result (λ s.
-            AreAnswersWith F.Fn self.now.rule self.now.history plan.now s.value.prices) }
+        ensures { IfOk result (λ n. (harvester : ℕ) →
+            IsPassed self.now.history (Posting.Cut (entry_of self.now.history harvester plan.now)) n) }
     {
         let mut after = self.running.clone(alloc)?;
         after.after_cut(plan.sheet(), plan.stem(), plan.cutting().logs.as_slice());
-        self.sheet_after(alloc, &after)
+        Ok(after)
     }
 
-    /// The sheet that comes after a demand of valid targets.
-    fn sheet_of_demand(&self, alloc: Global, targets: &Arc<Vec<u32>>) -> Result<Arc<Sheet>, Memory>
-        requires answers { Answers F.Fn self.now.rule }
+    /// What runs on after a demand of valid targets, whoever commits it.
+    fn after_targets(&self, alloc: Global, targets: &Arc<Vec<u32>>) -> Result<Running, Memory>
         requires below { length self.now.history.postings < self.now.capacity }
         requires valid { AreTargets self.now.history.instruction targets.now.value.items }
-        ensures next { IfOk result (λ s. IsSheetWithDemand self.now.history targets.now.value.items s.value) }
-        ensures given { IfOk result (λ s.
-            AreAnswersWithDemand F.Fn self.now.rule self.now.history targets.now.value.items s.value.prices) }
+        ensures { IfOk result (λ n. (harvester : ℕ) → IsPassed self.now.history
+            (Posting.Demand (demand_of self.now.history harvester targets.now.value.items)) n) }
     {
         let mut after = self.running.clone(alloc)?;
         after.after_demand(targets.clone()?);
-        self.sheet_after(alloc, &after)
+        Ok(after)
+    }
+
+    /// The next sheet after a plan's entry, where that ends a period.
+    fn next_sheet(&self, alloc: Global, plan: &Plan) -> Result<Option<Arc<Sheet>>, Memory>
+        requires answers { Answers F.Fn self.now.rule }
+        requires below { length self.now.history.postings < self.now.capacity }
+        requires in_force { plan.now.sheet ≡ in_force self.now.history }
+        ensures next { IfOk result (λ next. (harvester : ℕ) → IsNext self.now.history
+            (Posting.Cut (entry_of self.now.history harvester plan.now)) (option_map (λ a. a.value) next)) }
+        ensures given { IfOk result (λ next. IfSome next (λ s.
+            AreAnswersWith F.Fn self.now.rule self.now.history plan.now s.value.prices)) }
+    {
+        if !self.is_period_end() {
+            return Ok(None);
+        }
+        let after = self.after_plan(alloc, plan)?;
+        Ok(Some(self.sheet_after(alloc, &after)?))
     }
 
     /// All that the commit of a plan stores or hands out.
@@ -446,24 +462,17 @@ impl<F: Fn(&Standing) -> u64> Book<F> {
         requires answers { Answers F.Fn self.now.rule }
         requires below { length self.now.history.postings < self.now.capacity }
         requires in_force { plan.now.sheet ≡ in_force self.now.history }
-        ensures made { IfOk result (λ r. IsMadeFor self.now r plan.now) }
+        ensures stem { IfOk result (λ r. r.stem ≡ plan.now.stem) }
+        ensures logs { IfOk result (λ r. r.logs ≡ plan.now.logs) }
+        ensures next { IfOk result (λ r. (harvester : ℕ) → IsNext self.now.history
+            (Posting.Cut (entry_of self.now.history harvester plan.now)) r.next) }
         ensures given { IfOk result (λ r. IfSome r.next (λ s.
             AreAnswersWith F.Fn self.now.rule self.now.history plan.now s.prices)) }
     {
-        let stem = plan.stem().clone()?;
-        let cutting = plan.cutting().clone()?;
-        if !self.is_period_end() {
-            return Ok(Ready {
-                stem,
-                cutting,
-                next: None,
-            });
-        }
-        let next = self.next_sheet(alloc, plan)?;
         Ok(Ready {
-            stem,
-            cutting,
-            next: Some(next),
+            stem: plan.stem().clone()?,
+            cutting: plan.cutting().clone()?,
+            next: self.next_sheet(alloc, plan)?,
         })
     }
 
@@ -472,12 +481,14 @@ impl<F: Fn(&Standing) -> u64> Book<F> {
         requires answers { Answers F.Fn self.now.rule }
         requires below { length self.now.history.postings < self.now.capacity }
         requires valid { AreTargets self.now.history.instruction targets.now.value.items }
-        ensures made { IfOk result (λ r. IsMadeDemand self.now r) }
         ensures targets { IfOk result (λ r. r.targets ≡ targets.now.value.items) }
+        ensures next { IfOk result (λ r. (harvester : ℕ) → IsNextSheet self.now.history
+            (Posting.Demand (demand_of self.now.history harvester targets.now.value.items)) r.next) }
         ensures given { IfOk result (λ r.
             AreAnswersWithDemand F.Fn self.now.rule self.now.history targets.now.value.items r.next.prices) }
     {
-        let next = self.sheet_of_demand(alloc, targets)?;
+        let after = self.after_targets(alloc, targets)?;
+        let next = self.sheet_after(alloc, &after)?;
         Ok(ReadyDemand {
             stored: targets.clone()?,
             in_force: targets.clone()?,
@@ -506,7 +517,7 @@ impl<F: Fn(&Standing) -> u64> Book<F> {
             return Err(Refusal::Stale { in_force });
         }
         let ready = self.made_for(alloc, plan)?;
-        self.reserve(&ready)?;
+        self.reserve()?;
         Ok(ready)
     }
 
@@ -535,8 +546,7 @@ impl<F: Fn(&Standing) -> u64> Book<F> {
             Ok(()) => {}
         }
         let ready = self.made_demand(alloc, targets)?;
-        self.reserve_posting()?;
-        self.reserve_sheet()?;
+        self.reserve()?;
         Ok(ready)
     }
 }

@@ -2,8 +2,9 @@
 ghost use Rattle.std.specs.Prelude.{◌≡◌, ℕ, ◌+◌, ◌<◌, ◌≤◌, ◌^◌, ◌==◌, ◌↔◌, IsTrue, IfOk, IfSome, IfNone, OnOk, cond, length, slice_get, Some};
 ghost use Rattle.std.specs.Option.{option_map};
 ghost use Rattle.buck_apt.specs.Instruction.{IsInstruction, classes};
-ghost use Rattle.buck_book.specs.Posting.{ends_of, cuts_since_end};
-ghost use Rattle.buck_book.specs.Counts.{calls_of};
+ghost use Rattle.buck_book.specs.Posting.{ends_of, cuts_since_end, targets_of};
+ghost use Rattle.buck_book.specs.Targets.{AreTargets};
+ghost use Rattle.buck_book.specs.Counts.{AreClassCounts, calls_of};
 ghost use Rattle.buck_book.specs.History.{PricesMeet};
 ghost use Rattle.buck_book.specs.Walk.{walk_of, passed, IsWrongPrice, IsCountable};
 ghost use Rattle.buck_book.specs.inner.Walk.{calls_in, IsCalled};
@@ -115,6 +116,21 @@ impl<'a> Walk<'a> {
         ensures { IsTrue result ↔ (cuts_since_end self.now.instruction (passed self.now) ≡ 0) }
     {
         self.running.cuts() == 0
+    }
+
+    /// The targets in force, class by class: those of the last demand that was passed, else the instruction's.
+    pub fn targets(&self) -> &[u32]
+        ensures targets { result.now ≡ targets_of self.now.instruction (passed self.now) }
+        ensures valid { AreTargets self.now.instruction result.now }
+    {
+        self.running.targets()
+    }
+
+    /// How many logs of each class were passed, class by class.
+    pub fn counts(&self) -> &[u32]
+        ensures { AreClassCounts self.now.instruction (passed self.now) result.now }
+    {
+        self.running.counts().by_class.as_slice()
     }
 
     /// The number that the next call of a harvester has.

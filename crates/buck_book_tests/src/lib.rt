@@ -1,5 +1,5 @@
-//! Tests of books and journals: histories and targets worked out by hand, what callers write, both ways of the reader of
-//! journals, texts of faults, and refused memory.
+//! Tests of books and journals: histories and targets worked out by hand, what callers write, texts of faults, and refused
+//! memory.
 #![tactic(auto)]
 
 pub mod callers;
@@ -13,5 +13,3 @@ mod memory;
 mod targets;
 #[cfg(test)]
 mod texts;
-#[cfg(test)]
-mod ways;

@@ -4,10 +4,11 @@
 //! disk. [`serve_work`] is what it does once it knows the [`Work`].
 #![tactic(auto)]
 
+mod help;
 mod progress;
 mod running;
 mod words;
 mod working;
 
-pub use running::run;
+pub use running::{run, say_help};
 pub use working::{Streams, Work, serve_work};

@@ -1,11 +1,12 @@
 //! Whole runs, from the words to the exit status.
 use crate::progress::{Progress, Watched};
-use crate::words::{Unasked, parse};
+use crate::words::{Asked, Unasked, help_text, parse};
 use crate::working::{Streams, serve_work};
 use buck_engine::{EngineFault, Make, Open, conclude, explain};
+use buck_told::sentence;
 use clap::Error;
 use clap::error::ErrorKind;
-use std::alloc::Global;
+use std::alloc::{AllocError, Global};
 use std::io;
 use std::sync::Wait;
 use std::thread::Threads;
@@ -16,6 +17,22 @@ const NO_TEXT: &[u8] =
 
 /// What is said where a word that was accepted can't be had.
 const LOST: &[u8] = b"error: a word of the command line was lost\n\nUsage: buckfleet [COMMAND]\n";
+
+/// What is said where the journal's name is that of an input file.
+const EATEN: &[u8] = b"error: OUT is the name of an input file, which would be lost
+
+Usage: buckfleet fleet [OPTIONS] <APT> <STM>...
+
+For more information, try '--help'.
+";
+
+/// What is said where there is no such fault line.
+const NO_LINE: &[u8] = b"error: there is no such fault line
+
+Usage: buckfleet explain <LINE>...
+
+For more information, try '--help'.
+";
 
 /// Says help or the version on the output, and what is wrong with the words on the errors. The answer is the exit status.
 fn explain_words<R, W: io::Write, E: io::Write>(
@@ -48,6 +65,66 @@ fn refuse_words<R, W: io::Write, E: io::Write>(
     explain(&mut streams.output, &mut streams.errors, NO_TEXT, true)
 }
 
+/// Says on the errors what the program can be asked for: where there are no words, and a person sits at the input, who
+/// can't mean the bare form. The answer is the exit status, that of a mistake in the words.
+pub fn say_help<R, W: io::Write, E: io::Write>(
+    alloc: Global,
+    streams: &mut Streams<R, W, E>,
+) -> u8 {
+    match help_text(alloc) {
+        Ok(text) => explain(
+            &mut streams.output,
+            &mut streams.errors,
+            text.as_bytes(),
+            true,
+        ),
+        Err(_) => conclude(&mut streams.errors, &Err(EngineFault::Memory)),
+    }
+}
+
+/// Says why the words ask for no work. The answer is the exit status.
+fn refuse<R, W: io::Write, E: io::Write>(
+    alloc: Global,
+    streams: &mut Streams<R, W, E>,
+    why: &Unasked,
+) -> u8 {
+    let text = match why {
+        Unasked::Said(error) => return explain_words(alloc, streams, error),
+        Unasked::Lost => LOST,
+        Unasked::Eaten => EATEN,
+    };
+    explain(&mut streams.output, &mut streams.errors, text, true)
+}
+
+/// Says the sentence of a fault line and ends the line. The answer is the exit status.
+fn say_sentence<R, W: io::Write, E: io::Write>(
+    alloc: Global,
+    streams: &mut Streams<R, W, E>,
+    line: &str,
+) -> u8 {
+    match sentence_line(alloc, line) {
+        Ok(Some(text)) => explain(
+            &mut streams.output,
+            &mut streams.errors,
+            text.as_slice(),
+            false,
+        ),
+        Ok(None) => explain(&mut streams.output, &mut streams.errors, NO_LINE, true),
+        Err(_) => conclude(&mut streams.errors, &Err(EngineFault::Memory)),
+    }
+}
+
+/// The sentence of a fault line, as a line of text.
+fn sentence_line(alloc: Global, line: &str) -> Result<Option<Vec<u8>>, AllocError> {
+    match sentence(alloc, line)? {
+        Some(mut text) => {
+            text.push(b'\n')?;
+            Ok(Some(text))
+        }
+        None => Ok(None),
+    }
+}
+
 /// Does what the words ask for; the first is the program's name. Where they can't be had, it is said why. The answer is
 /// the exit status.
 ///
@@ -72,11 +149,9 @@ pub fn run<
         Err(kind) => return refuse_words(streams, *kind),
     };
     let request = match parse(alloc, words.as_slice()) {
-        Ok(request) => request,
-        Err(Unasked::Said(error)) => return explain_words(alloc, streams, &error),
-        Err(Unasked::Lost) => {
-            return explain(&mut streams.output, &mut streams.errors, LOST, true);
-        }
+        Ok(Asked::Work(request)) => request,
+        Ok(Asked::Sentence(line)) => return say_sentence(alloc, streams, line.as_str()),
+        Err(why) => return refuse(alloc, streams, &why),
     };
     let screen = if request.quiet { None } else { screen };
     let progress = Progress::on(alloc, screen);

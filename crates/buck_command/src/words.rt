@@ -1,55 +1,12 @@
 //! The words of the command line, and what they ask for.
 ghost use Rattle.std.specs.Prelude.{◌≡◌, IfSome};
-ghost use Rattle.buck_command.specs.Words.{rule_name};
+ghost use Rattle.buck_command.specs.Words.{rule_name, table_name};
 
+use crate::help;
 use crate::working::Work;
-use buck_engine::{FleetTask, NamedRule, Task};
+use buck_engine::{FleetTask, NamedRule, Shown, Table, Task, ViewTask};
 use clap::{Arg, ArgAction, ArgMatches, Command, Error};
 use std::alloc::Global;
-
-/// What the commands come to, and how any run ends.
-const COMMANDS: &str = "Without a command what is printed is what buck prints of the two files.
-
-Exit statuses: 0 all was printed, 1 a file is refused, 2 the words of the command line are wrong or there are not 1 to
-64 stem files, 3 memory ran out or a fleet has more than 1000000 stems, 4 a journal is not lawful or a fleet did not
-close well, 5 a file can't be read or the output or a journal can't be written. After 1, 3, 4 and 5 one line on standard
-error says what went wrong: see \"Fault lines and exit statuses\" in docs/FORMATS.md.";
-
-/// What comes out of a bucking, and how it ends.
-const ENDINGS: &str =
-    "Prints for each stem a STEM line and a LOG line for each of its logs, and last a TOTAL line.
-
-Exit statuses: 0 all was printed, 1 a file is refused, 2 the words of the command line are wrong, 3 memory ran out,
-5 a file can't be read or the output can't be written. After 1, 3 and 5 one line on standard error says what went
-wrong: see \"Fault lines and exit statuses\" in docs/FORMATS.md.";
-
-/// The same of a check.
-const VERDICTS: &str =
-    "Prints LAWFUL and the number of postings where each cutting is one that none outvalues under the prices in force,
-and the prices move only by the rule. A journal may have at most 67108864 bytes, as each file.
-
-Exit statuses: 0 the journal is lawful, 1 a file is refused, 2 the words of the command line are wrong, 3 memory ran
-out, 4 the journal is not lawful, 5 a file can't be read or the output can't be written. After 1, 3, 4 and 5 one line on
-standard error says what went wrong: see \"Fault lines and exit statuses\" in docs/FORMATS.md.";
-
-/// The same of a fleet.
-const HARVEST: &str =
-    "Harvester k cuts the stems of the k-th stem file, in file order; 1 to 64 stem files. Which harvester commits first
-is open, so that two runs of several harvesters may print two histories. Prints an ENTRY line for each cut, for each
-assortment a CLASS line for each of its classes and its DEGREE, and last a TOTAL line. The journal, which check reads,
-is written first. Each file may have at most 67108864 bytes, and check reads no longer journal.
-
-The input files are opened in the order of the words, and then OUT is made: a file of that name is emptied first, even
-where the run is refused, and even where OUT names one of the input files.
-
-Exit statuses: 0 all was printed, 1 a file is refused, 2 the words of the command line are wrong or there are not 1 to
-64 stem files, 3 memory ran out or there are more than 1000000 stems, 4 the fleet did not close well, 5 a file can't be
-read or the output or OUT can't be written. After 1, 3, 4 and 5 one line on standard error says what went wrong: see
-\"Fault lines and exit statuses\" in docs/FORMATS.md.";
-
-/// What a rule does.
-const RULES: &str =
-    "How prices follow what was cut: steady not at all, linear by how far a class is off its target, step by the whole span";
 
 fn file<'a>(alloc: Global, name: &'a str, help: &'a str) -> Arg<'a> {
     Arg::new(alloc, name)
@@ -60,20 +17,17 @@ fn file<'a>(alloc: Global, name: &'a str, help: &'a str) -> Arg<'a> {
 
 fn quiet<'a>(alloc: Global) -> Arg<'a> {
     Arg::new(alloc, "quiet")
+        .short('q')
         .long("quiet")
         .action(ArgAction::SetTrue)
-        .help(
-            "Don't tell how far long work is, as is done on standard error where that is a terminal",
-        )
+        .help(help::QUIET)
 }
 
 fn buck<'a>(alloc: Global) -> Result<Command<'a>, Error> {
     Ok(
         Command::new(alloc, "buck")
-            .about(
-                "Cuts each stem of a stem file into logs of the greatest worth under the base prices",
-            )
-            .after_help(ENDINGS)
+            .about("Cuts each stem of a stem file into logs of the greatest worth")
+            .after_long_help(help::BUCK)
             .arg(quiet(alloc))?
             .arg(file(alloc, "APT", "The instruction file"))?
             .arg(file(alloc, "STM", "The stem file"))?,
@@ -84,10 +38,35 @@ fn check<'a>(alloc: Global) -> Result<Command<'a>, Error> {
     Ok(
         Command::new(alloc, "check")
             .about("Says whether a journal is lawful for an instruction")
-            .after_help(VERDICTS)
+            .after_long_help(help::CHECK)
             .arg(quiet(alloc))?
             .arg(file(alloc, "APT", "The instruction file"))?
             .arg(file(alloc, "JOURNAL", "The journal"))?,
+    )
+}
+
+fn view<'a>(alloc: Global) -> Result<Command<'a>, Error> {
+    Ok(
+        Command::new(alloc, "view")
+            .about("Shows a journal as a page for a browser")
+            .after_long_help(help::VIEW)
+            .arg(quiet(alloc))?
+            .arg(file(alloc, "APT", "The instruction file"))?
+            .arg(file(alloc, "JOURNAL", "The journal"))?,
+    )
+}
+
+fn table<'a>(alloc: Global) -> Result<Command<'a>, Error> {
+    Ok(
+        Command::new(alloc, "table")
+            .about("Shows a journal as a table for a spreadsheet")
+            .after_long_help(help::TABLE)
+            .arg(quiet(alloc))?
+            .arg(file(alloc, "APT", "The instruction file"))?
+            .arg(file(alloc, "JOURNAL", "The journal"))?
+            .arg(file(alloc, "TABLE", "Which table").value_parser([
+                "classes", "postings", "logs", "degrees",
+            ].as_slice()))?,
     )
 }
 
@@ -96,8 +75,10 @@ fn rule<'a>(alloc: Global) -> Arg<'a> {
         .long("rule")
         .value_name("RULE")
         .value_parser(["steady", "linear", "step"].as_slice())
+        .hide_possible_values(true)
         .default_value("steady")
-        .help(RULES)
+        .help(help::RULE)
+        .long_help(help::RULES)
 }
 
 fn journal<'a>(alloc: Global) -> Arg<'a> {
@@ -110,10 +91,8 @@ fn journal<'a>(alloc: Global) -> Arg<'a> {
 fn fleet<'a>(alloc: Global) -> Result<Command<'a>, Error> {
     Ok(
         Command::new(alloc, "fleet")
-            .about(
-                "Cuts stem files by a fleet of harvesters, one for each file, towards the targets of an instruction",
-            )
-            .after_help(HARVEST)
+            .about("Cuts stem files by a fleet of harvesters, one for each file")
+            .after_long_help(help::FLEET)
             .arg(rule(alloc))?
             .arg(journal(alloc))?
             .arg(quiet(alloc))?
@@ -122,18 +101,45 @@ fn fleet<'a>(alloc: Global) -> Result<Command<'a>, Error> {
     )
 }
 
+fn report<'a>(alloc: Global) -> Result<Command<'a>, Error> {
+    Ok(
+        Command::new(alloc, "report")
+            .about("Prints the report of a journal, as fleet printed it")
+            .after_long_help(help::REPORT)
+            .arg(quiet(alloc))?
+            .arg(file(alloc, "APT", "The instruction file"))?
+            .arg(file(alloc, "JOURNAL", "The journal"))?,
+    )
+}
+
+fn line<'a>(alloc: Global) -> Result<Command<'a>, Error> {
+    Ok(
+        Command::new(alloc, "explain")
+            .about("Says what a fault line means, and what to do next")
+            .after_long_help(help::EXPLAIN)
+            .arg(file(alloc, "LINE", "The words of the fault line").num_args(1..))?,
+    )
+}
+
 fn command<'a>(alloc: Global) -> Result<Command<'a>, Error> {
     Ok(
         Command::new(alloc, "buckfleet")
             .version("0.1.0")
-            .about(
-                "Cuts each stem of a stem file into logs of the greatest worth by an instruction file. Without a command, an instruction file, a | and a stem file are read from standard input.",
-            )
-            .after_help(COMMANDS)
+            .about(help::PROGRAM)
+            .after_long_help(help::COMMANDS)
             .subcommand(buck(alloc)?)?
             .subcommand(fleet(alloc)?)?
-            .subcommand(check(alloc)?)?,
+            .subcommand(check(alloc)?)?
+            .subcommand(report(alloc)?)?
+            .subcommand(view(alloc)?)?
+            .subcommand(table(alloc)?)?
+            .subcommand(line(alloc)?)?,
     )
+}
+
+/// What the program can be asked for, as help.
+pub fn help_text(alloc: Global) -> Result<String, Error> {
+    Ok(command(alloc)?.render_help()?)
 }
 
 /// Why words ask for no work.
@@ -143,6 +149,8 @@ pub enum Unasked {
     Said(Error),
     /// A word that must be there isn't, though the command line was accepted.
     Lost,
+    /// The journal's name is that of an input file.
+    Eaten,
 }
 
 impl From<Error> for Unasked {
@@ -171,6 +179,19 @@ fn named_rule(name: &str) -> Option<NamedRule>
     }
 }
 
+/// The table of this name.
+fn named_table(name: &str) -> Option<Table>
+    ensures { IfSome result (λ table. name.now ≡ table_name table) }
+{
+    match name {
+        "classes" => Some(Table::Classes),
+        "postings" => Some(Table::Postings),
+        "logs" => Some(Table::Logs),
+        "degrees" => Some(Table::Degrees),
+        _ => None,
+    }
+}
+
 /// The names of the stem files.
 fn stem_files<'a>(alloc: Global, words: &[&'a str]) -> Result<Vec<&'a str>, Error> {
     let mut names = Vec::new(alloc);
@@ -178,6 +199,14 @@ fn stem_files<'a>(alloc: Global, words: &[&'a str]) -> Result<Vec<&'a str>, Erro
         names.push(*word)?;
     }
     Ok(names)
+}
+
+/// Whether the journal's name, where there is one, is that of an input file.
+fn is_input(journal: Option<&str>, apt: &str, stms: &[&str]) -> bool {
+    match journal {
+        Some(name) => name == apt || stms.iter().any(|stm| *stm == name),
+        None => false,
+    }
 }
 
 /// What the words after `fleet` ask for.
@@ -188,15 +217,37 @@ fn fleet_task<'a>(alloc: Global, words: &ArgMatches<'a>) -> Result<FleetTask<'a>
     let Some(stms) = words.get_strs("STM") else {
         return Err(Unasked::Lost);
     };
+    let apt = word(words, "APT")?;
+    let journal = words.get_str("journal");
+    if is_input(journal, apt, stms) {
+        return Err(Unasked::Eaten);
+    }
     Ok(FleetTask {
         rule,
-        journal: words.get_str("journal"),
-        apt: word(words, "APT")?,
+        journal,
+        apt,
         stms: stem_files(alloc, stms)?,
     })
 }
 
-/// What the words after a command's name ask for.
+/// What the words after `view` and `table` ask for.
+fn view_task<'a>(words: &ArgMatches<'a>, shown: Shown) -> Result<ViewTask<'a>, Unasked> {
+    Ok(ViewTask {
+        apt: word(words, "APT")?,
+        journal: word(words, "JOURNAL")?,
+        shown,
+    })
+}
+
+/// The table that the words after `table` ask for.
+fn table_word(words: &ArgMatches<'_>) -> Result<Table, Unasked> {
+    match named_table(word(words, "TABLE")?) {
+        Some(table) => Ok(table),
+        None => Err(Unasked::Lost),
+    }
+}
+
+/// The work that the words after a command's name ask for.
 fn work_of<'a>(alloc: Global, name: &str, words: &ArgMatches<'a>) -> Result<Work<'a>, Unasked> {
     match name {
         "buck" => Ok(Work::Plain(Task::Buck {
@@ -207,7 +258,13 @@ fn work_of<'a>(alloc: Global, name: &str, words: &ArgMatches<'a>) -> Result<Work
             apt: word(words, "APT")?,
             journal: word(words, "JOURNAL")?,
         })),
+        "report" => Ok(Work::Plain(Task::Report {
+            apt: word(words, "APT")?,
+            journal: word(words, "JOURNAL")?,
+        })),
         "fleet" => Ok(Work::Fleet(fleet_task(alloc, words)?)),
+        "view" => Ok(Work::View(view_task(words, Shown::Page)?)),
+        "table" => Ok(Work::View(view_task(words, Shown::Table(table_word(words)?))?)),
         _ => Err(Unasked::Lost),
     }
 }
@@ -220,15 +277,47 @@ pub struct Request<'a> {
     pub quiet: bool,
 }
 
-/// What the program's words ask for, the first of which is the program's name.
-pub fn parse<'a>(alloc: Global, words: &'a [String]) -> Result<Request<'a>, Unasked> {
-    let matches = command(alloc)?.try_get_matches_from(words)?;
-    let Some((name, words)) = matches.subcommand() else {
-        let work = Work::Plain(Task::Bare);
-        return Ok(Request { work, quiet: false });
-    };
-    Ok(Request {
+/// The words of a fault line, with a blank before each.
+fn line_of(alloc: Global, words: &[&str]) -> Result<String, Error> {
+    let mut line = String::new(alloc);
+    for word in words {
+        line.push(' ')?;
+        line.push_str(word)?;
+    }
+    Ok(line)
+}
+
+/// What the program's words ask for.
+#[derive(Drop)]
+pub enum Asked<'a> {
+    /// Work over files.
+    Work(Request<'a>),
+    /// The sentence of a fault line.
+    Sentence(String),
+}
+
+/// What the words after a command's name ask for.
+fn request_of<'a>(alloc: Global, name: &str, words: &ArgMatches<'a>) -> Result<Asked<'a>, Unasked> {
+    if name == "explain" {
+        return match words.get_strs("LINE") {
+            Some(line) => Ok(Asked::Sentence(line_of(alloc, line)?)),
+            None => Err(Unasked::Lost),
+        };
+    }
+    Ok(Asked::Work(Request {
         work: work_of(alloc, name, words)?,
         quiet: words.get_flag("quiet"),
-    })
+    }))
+}
+
+/// What the program's words ask for, the first of which is the program's name.
+pub fn parse<'a>(alloc: Global, words: &'a [String]) -> Result<Asked<'a>, Unasked> {
+    let matches = command(alloc)?.try_get_matches_from(words)?;
+    match matches.subcommand() {
+        Some((name, words)) => request_of(alloc, name, words),
+        None => {
+            let work = Work::Plain(Task::Bare);
+            Ok(Asked::Work(Request { work, quiet: false }))
+        }
+    }
 }

@@ -1,10 +1,12 @@
 //! What is to be done, and doing it.
 ghost use Rattle.std.specs.Prelude.{◌≡◌, Result};
 ghost use Rattle.buck_engine.specs.declared.fault.EngineFault.{EngineFault};
-ghost use Rattle.buck_engine.specs.Run.{TellsOutcome, status_after};
+ghost use Rattle.buck_engine.specs.run.Serving.{TellsOutcome, status_after};
 ghost use Rattle.buck_command.specs.Work.{DoesWork};
 
-use buck_engine::{FleetTask, Make, Onlooker, Open, Task, serve, serve_fleet};
+use buck_engine::{
+    FleetTask, Make, Onlooker, Open, Task, ViewTask, serve, serve_fleet, serve_view,
+};
 use std::alloc::Global;
 use std::io;
 use std::sync::Wait;
@@ -17,6 +19,8 @@ pub enum Work<'a> {
     Plain(Task<'a>),
     /// A fleet, whose harvesters wait for one another.
     Fleet(FleetTask<'a>),
+    /// A journal is to be shown.
+    View(ViewTask<'a>),
 }
 
 /// What a run reads and writes beside its files.
@@ -31,7 +35,7 @@ pub struct Streams<R, W, E> {
 }
 
 /// Does the work, and says how it ended. The answer is the exit status. Each fault and what is written before it are
-/// those of [`serve`] and [`serve_fleet`].
+/// those of [`serve`], [`serve_fleet`] and [`serve_view`].
 pub fn serve_work<
     T: Threads + Wait + Sync,
     L: Onlooker + Sync,
@@ -68,6 +72,13 @@ pub fn serve_work<
             alloc,
             task,
             onlooker,
+            files,
+            &mut streams.output,
+            &mut streams.errors,
+        ),
+        Work::View(task) => serve_view(
+            alloc,
+            task,
             files,
             &mut streams.output,
             &mut streams.errors,

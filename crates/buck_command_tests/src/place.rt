@@ -27,6 +27,9 @@ const JOURNAL: &str = "1 2 JRN~971 1 400 500 600 800~971 1 600 750 900 400~981 1
 250 250 250 250 250 250 250 250 250 250 250 250~981 4~981 5 0 4000 0~981 6 157080000~
 ";
 
+/// A journal of one change of targets, whose second list of prices is missing.
+const UNLAWFUL: &str = "1 2 JRN~971 1 400 500 600 800~982 1 1 1 0~982 2 0 0 0 4~";
+
 /// Some bytes, and behind them others so many times.
 #[derive(Drop)]
 pub struct Repeated {
@@ -48,8 +51,9 @@ impl io::Read for Repeated {
     }
 }
 
-/// The files `apt`, `stm` and `jrn`, and `many`, which has 1,000 stems of no length; `short` and `long`, of 999,000 and of
-/// 1,000,000 blanks; the file `out`, which can be made; and the names that were asked for, each with a blank after it.
+/// The files `apt`, `stm`, `jrn`, `unlawful` (a journal) and `bad` (none of these), and `many`, which has 1,000 stems of no
+/// length; `short` and `long`, of 999,000 and of 1,000,000 blanks; the files `out` and `full`, which can be made, the second
+/// with room for 99 bytes; and the names that were asked for, each with a blank after it.
 #[derive(Drop)]
 pub struct Shelf<'a> {
     names: &'a Mutex<Vec<u8>>,
@@ -84,6 +88,8 @@ impl<'a> Open for Shelf<'a> {
             "apt" => file(APT.as_bytes(), b"", 0),
             "stm" => file(STM.as_bytes(), b"", 0),
             "jrn" => file(JOURNAL.as_bytes(), b"", 0),
+            "bad" => file(b"1 2 BAD~", b"", 0),
+            "unlawful" => file(UNLAWFUL.as_bytes(), b"", 0),
             "many" => file(b"1 2 STM~", b"951 1 1~952 1 1~953 1 250~", 1_000),
             "short" => file(b"", &BLANKS, 999),
             "long" => file(b"", &BLANKS, 1_000),
@@ -100,19 +106,24 @@ impl<'a> Make for Shelf<'a> {
     fn make(&mut self, name: &str) -> Option<Room> {
         self.note(b">", name);
         match name {
-            "out" => Some(Room),
+            "out" => Some(Room { left: 10_000 }),
+            "full" => Some(Room { left: 99 }),
             _ => None,
         }
     }
 }
 
-/// Takes all bytes, and keeps none.
+/// A file that takes so many bytes and then nothing.
 #[derive(Drop)]
-pub struct Room;
+pub struct Room {
+    left: usize,
+}
 
 impl io::Write for Room {
     fn write(&mut self, buf: &[u8]) -> io::Result<usize> {
-        Ok(buf.len())
+        let count = buf.len().min(self.left);
+        self.left -= count;
+        Ok(count)
     }
 
     fn flush(&mut self) -> io::Result<()> {

@@ -11,17 +11,35 @@ use std::thread::Threads;
 const TEXT: &str =
     "STEM 1 4000 1 157080000\nLOG 0 4000 250 1 1 157080000 saw\nTOTAL 1 1 157080000\n";
 
+/// The report of the journal `jrn`.
+const REPORT: &str = "ENTRY 0 1 1 0 1 1 157080000
+CLASS 0 0 0 1 0 400 600
+CLASS 0 0 1 1 0 500 750
+CLASS 0 1 0 1 0 600 900
+CLASS 0 1 1 1 1 800 400
+DEGREE 0 2500 saw
+TOTAL 1 1 157080000
+";
+
 /// Words; the status; how what stands on the output begins, or on the errors where the status isn't 0, and nothing on the
-/// other; and the names that are asked for.
-const RUNS: [(&str, u8, &str, &str); 32] = [
+/// other; and the names that are asked for. All files are opened before one is read, in the order of the words, so that a
+/// file that is missing comes before one that is refused; the file of a journal is made after that, and before one is
+/// read.
+const RUNS: [(&str, u8, &str, &str); 78] = [
     ("", 0, TEXT, ""),
     ("buck apt stm", 0, TEXT, "apt stm "),
     ("buck --quiet apt stm", 0, TEXT, "apt stm "),
     ("buck stm apt", 1, "apt fault 2\n", "stm apt "),
+    ("buck apt bad", 1, "stm 1 fault 2\n", "apt bad "),
     ("buck none stm", 5, "read fault 0\n", "none "),
+    ("buck apt none", 5, "read fault 1\n", "apt none "),
+    ("buck bad none", 5, "read fault 1\n", "bad none "),
+    ("buck none none", 5, "read fault 0\n", "none "),
     ("check apt jrn", 0, "LAWFUL 1\n", "apt jrn "),
     ("check apt jrn --quiet", 0, "LAWFUL 1\n", "apt jrn "),
     ("check apt stm", 1, "journal fault 2\n", "apt stm "),
+    ("check apt none", 5, "read fault 1\n", "apt none "),
+    ("check bad none", 5, "read fault 1\n", "bad none "),
     (
         "fleet apt stm",
         0,
@@ -41,10 +59,34 @@ const RUNS: [(&str, u8, &str, &str); 32] = [
         "apt stm >no ",
     ),
     (
+        "fleet apt stm --journal full",
+        5,
+        "write fault\n",
+        "apt stm >full ",
+    ),
+    (
+        "fleet apt bad --journal no",
+        5,
+        "write fault\n",
+        "apt bad >no ",
+    ),
+    (
         "fleet --journal out apt stm none",
         5,
         "read fault 2\n",
         "apt stm none ",
+    ),
+    (
+        "fleet apt none stm --journal out",
+        5,
+        "read fault 1\n",
+        "apt none ",
+    ),
+    (
+        "fleet apt stm bad --journal out",
+        1,
+        "stm 2 fault 2\n",
+        "apt stm bad >out ",
     ),
     (
         "fleet apt stm stm apt --journal out",
@@ -71,6 +113,77 @@ const RUNS: [(&str, u8, &str, &str); 32] = [
     ("--quiet buck apt stm", 2, "error: ", ""),
     ("buck --rule step apt stm", 2, "error: ", ""),
     ("bucks apt stm", 2, "error: ", ""),
+    ("view apt jrn", 0, "<!DOCTYPE html>\n", "apt jrn "),
+    ("view --quiet apt jrn", 0, "<!DOCTYPE html>\n", "apt jrn "),
+    ("view apt stm", 1, "journal fault 2\n", "apt stm "),
+    ("view jrn apt", 1, "apt fault 2\n", "jrn apt "),
+    ("view apt none", 5, "read fault 1\n", "apt none "),
+    (
+        "table apt jrn classes",
+        0,
+        "assortment,row,column,",
+        "apt jrn ",
+    ),
+    ("table apt jrn postings", 0, "position,kind,", "apt jrn "),
+    ("table --quiet apt jrn logs", 0, "position,log,", "apt jrn "),
+    ("table apt jrn degrees", 0, "postings,version,", "apt jrn "),
+    (
+        "table apt unlawful classes",
+        4,
+        "replay fault 1 1\n",
+        "apt unlawful ",
+    ),
+    ("view --help", 0, "Shows a journal as a page", ""),
+    ("table --help", 0, "Shows a journal as a table", ""),
+    ("view apt", 2, "error: ", ""),
+    ("view apt jrn classes", 2, "error: ", ""),
+    ("table apt jrn", 2, "error: ", ""),
+    ("table apt jrn stems", 2, "error: ", ""),
+    ("report apt jrn", 0, REPORT, "apt jrn "),
+    ("report --quiet apt jrn", 0, REPORT, "apt jrn "),
+    ("report jrn apt", 1, "apt fault 2\n", "jrn apt "),
+    ("report apt stm", 1, "journal fault 2\n", "apt stm "),
+    ("report apt none", 5, "read fault 1\n", "apt none "),
+    ("report apt jrn stm", 2, "error: ", ""),
+    ("report apt", 2, "error: ", ""),
+    ("report --help", 0, "Prints the report", ""),
+    (
+        "explain replay fault 4 12",
+        0,
+        "Posting 12, counted from 0, was not planned",
+        "",
+    ),
+    (
+        "explain seats",
+        0,
+        "There are more than 64 stem files: ",
+        "",
+    ),
+    ("explain nothing", 2, "error: there is no such", ""),
+    ("explain replay fault 4", 2, "error: there is no such", ""),
+    (
+        "explain apt fault 3 953 1",
+        2,
+        "error: there is no such",
+        "",
+    ),
+    ("explain", 2, "error: ", ""),
+    ("explain --quiet seats", 2, "error: ", ""),
+    ("explain --help", 0, "Says what", ""),
+    ("fleet --journal apt apt stm", 2, "error: OUT is", ""),
+    ("fleet apt stm --journal=stm", 2, "error: OUT is", ""),
+    (
+        "fleet --journal many apt stm many stm",
+        2,
+        "error: OUT is",
+        "",
+    ),
+    (
+        "fleet --journal ./stm apt stm",
+        5,
+        "write fault\n",
+        "apt stm >./stm ",
+    ),
 ];
 
 /// Words, and what their reports have: after the stem the last class is over its target, and all others are under theirs.
@@ -82,13 +195,17 @@ const RULES: [(&str, &str); 4] = [
 ];
 
 /// Words, and what stands on the screen.
-const SCREENS: [(&str, &str); 5] = [
+const SCREENS: [(&str, &str); 6] = [
     ("buck short stm", ""),
     ("buck long stm", "long: 1000000 bytes read\n"),
     ("buck --quiet long stm", ""),
     (
         "fleet apt many",
         "1000 stems to cut\n1000 of 1000 stems planned\n",
+    ),
+    (
+        "fleet apt many many",
+        "2000 stems to cut\n1000 of 2000 stems planned\n2000 of 2000 stems planned\n",
     ),
     ("fleet --quiet apt many", ""),
 ];
@@ -134,6 +251,17 @@ fn wrong_run<T: Threads + Wait + Sync>(
 fn runs_of_words(rt: HostRuntime) -> Result<(), Fail> {
     let wrong = wrong_run(&rt, rt.alloc())?.unwrap_or("none");
     assert!(rt; wrong == "none", "{wrong}");
+    Ok(())
+}
+
+/// More than 64 stem files are refused after all of them were opened.
+#[test]
+fn too_many_stem_files(rt: HostRuntime) -> Result<(), Fail> {
+    let files = " stm".repeat(rt.alloc(), 65)?;
+    let line = format!(in rt.alloc(); "fleet apt{files}")?;
+    let ending = run_line(&rt, rt.alloc(), line.as_str())?;
+    assert!(rt; ending.status == 2 && says(&ending, "seats\n"));
+    assert!(rt; ending.names.len() == 4 * 66);
     Ok(())
 }
 

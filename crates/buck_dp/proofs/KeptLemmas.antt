@@ -1,27 +1,24 @@
 -- Lists and rows that are kept.
-use Rattle.std.proofs.Common.{◌≡◌, ℕ, ◌+◌, ◌-◌, ◌⊎◌, inl, inr, List, [], ◌∷◌, ◌++◌, length, length-append, take, drop, slice_get, slice_index, Some, sym, subst, ap, ◌∙◌, arith}
+use Rattle.std.proofs.Common.{◌≡◌, ℕ, ◌-◌, ◌⊎◌, inl, inr, List, [], ◌∷◌, ◌++◌, Option, length, length-append, take, drop, slice_get, Some, sym, subst, ap, ◌∙◌, arith}
 use Rattle.std.proofs.lemmas.Option.{none-some}
 use Rattle.std.proofs.lemmas.List.{length-drop, drop_at, drop-append-le, take-append-le, take_all}
+use Rattle.buck_apt.specs.Instruction.{InstructionParts}
 use Rattle.buck_value.specs.Sheet.{SheetParts}
 use Rattle.buck_bid.specs.Offers.{codes_in}
 use Rattle.buck_bid.proofs.ListLemmas.{push_each}
 use Rattle.buck_dp.specs.declared.index.Key.{Key}
 use Rattle.buck_dp.specs.declared.index.Place.{Place}
 use Rattle.buck_dp.specs.declared.index.Head.{Head}
-use Rattle.buck_bid.specs.declared.prices.Band.{Band}
 use Rattle.buck_dp.specs.declared.menu.Menu.{Menu}
 use Rattle.buck_dp.specs.declared.offering.Reach.{Reach}
-use Rattle.buck_dp.specs.declared.pricing.Ask.{Ask}
-use Rattle.buck_dp.specs.declared.takers.Takers.{Takers}
 use Rattle.buck_dp.specs.declared.offering.Cell.{Cell}
 use Rattle.buck_dp.specs.declared.pricing.Quote.{Quote}
+use Rattle.buck_dp.specs.declared.pricing.Term.{Term}
+use Rattle.buck_dp.specs.declared.keeping.Kept.{Kept}
 use Rattle.buck_dp.specs.inner.Cells.{AreCells}
-use Rattle.buck_dp.specs.inner.Quotes.{AreQuotes}
+use Rattle.buck_dp.specs.inner.Quotes.{AreTerms, AreQuotes}
 use Rattle.buck_dp.specs.inner.Index.{IsKeptAt, IsPlaceIn, part_of}
-use Rattle.buck_dp.specs.inner.Kept.{ask_of, all_of, IsListAt, IsRowAt}
-
-abbrev make_ask : Takers → ℕ → ℕ → Ask
-make_ask takers thinnest past = record { takers = takers; band = record { thinnest = thinnest; past = past } }
+use Rattle.buck_dp.specs.inner.Kept.{ask_of, all_of, AreTermsAt, IsListAt, IsRowAt, AreKept}
 
 abbrev make_reach : ℕ → ℕ → ℕ → Reach
 make_reach past far room = record { past = past; far = far; room = room }
@@ -42,6 +39,22 @@ part_new xs ys from past at end =
 pub new_within : {X : Type 0} (xs ys : List X) (from past : ℕ) → from ≡ length xs → past ≡ length (xs ++ ys)
     → IsPlaceIn (xs ++ ys) (record { from = from; past = past })
 new_within xs ys from past at end = (omega (arith, length-append xs ys), omega arith)
+
+module _ (i : InstructionParts) (m : Menu) where
+  pub terms_more : (xs ys : List (Option Term)) (key : Key) (place : Place) → AreTermsAt i m xs key place → AreTermsAt i m (xs ++ ys) key place
+  terms_more xs ys key place is = record {
+    within = (is.within.0, omega (arith, is.within.1, length-append xs ys));
+    right = subst (λ zs. AreTerms i (codes_in m.offers.items) (ask_of m key) (length m.offers.items) zs) (sym (part_more xs ys place is.within)) is.right;
+  }
+
+  -- terms are put behind others
+  pub terms_new : (xs ys : List (Option Term)) (key : Key) (from past : ℕ) → from ≡ length xs → past ≡ length (xs ++ ys)
+      → AreTerms i (codes_in m.offers.items) (ask_of m key) (length m.offers.items) ys
+      → AreTermsAt i m (xs ++ ys) key (record { from = from; past = past })
+  terms_new xs ys key from past at end are = record {
+    within = new_within xs ys from past at end;
+    right = subst (λ zs. AreTerms i (codes_in m.offers.items) (ask_of m key) (length m.offers.items) zs) (sym (part_new xs ys from past at end)) are;
+  }
 
 module _ (s : SheetParts) (m : Menu) where
   pub list_more : (xs ys : List Quote) (key : Key) (place : Place) → IsListAt s m xs key place → IsListAt s m (xs ++ ys) key place
@@ -102,13 +115,19 @@ module _ {X : Type 0} (P : List X → Key → Place → Type 0) (more : (xs ys :
   kept_push heads new xs h is right each =
       subst (λ (hs : List Head). Each P hs xs) (sym is) (push_each (λ n x. P xs x.key x.place) heads h each right)
 
--- what is asked for in the band at a place
-pub ask_same : (m : Menu) (takers : Takers) (k : ℕ) (b : Band) → b.thinnest ≡ slice_index m.limits.items k
-    → b.past ≡ slice_index m.limits.items (k + 1) → make_ask takers b.thinnest b.past ≡ ask_of m (record { takers = takers; at = k })
-ask_same m takers k b e f =
-    ap (λ n. make_ask takers n b.past) e ∙ ap (λ n. make_ask takers (slice_index m.limits.items k) n) f
-
 -- logs of each length and trim
 pub all_same : (m : Menu) (r : Reach) → r.past ≡ 0 → r.far ≡ 5000 → r.room ≡ m.most_trim → r ≡ all_of m
 all_same m r e f g =
     ap (λ n. make_reach n r.far r.room) e ∙ ap (λ n. make_reach 0 n r.room) f ∙ ap (λ n. make_reach 0 5000 n) g
+
+-- what is kept is right under another sheet of the instruction, once what hangs on prices is dropped
+pub prices_dropped : (s t : SheetParts) (m : Menu) (old new : Kept) → s.instruction ≡ t.instruction
+    → (new.terms.items ≡ old.terms.items) × (new.asked ≡ old.asked) → (new.lists ≡ []) × (new.rows ≡ []) → AreKept s m old
+    → AreKept t m new
+prices_dropped s t m old new same terms none are = record {
+  terms = subst (λ (i : InstructionParts). Each (λ ts key place. AreTermsAt i m ts key place) new.asked new.terms.items) same
+      (subst (λ (ts : List (Option Term)). Each (λ ts key place. AreTermsAt s.instruction m ts key place) new.asked ts) (sym terms.0)
+      (subst (λ (hs : List Head). Each (λ ts key place. AreTermsAt s.instruction m ts key place) hs old.terms.items) (sym terms.1) are.terms));
+  lists = subst (λ (hs : List Head). Each (λ qs key place. IsListAt t m qs key place) hs new.quotes.items) (sym none.0) (λ n h at. absurd (none-some h at));
+  rows = subst (λ (hs : List Head). Each (λ cs key place. IsRowAt t m cs key place) hs new.cells.items) (sym none.1) (λ n h at. absurd (none-some h at));
+}

@@ -14,6 +14,7 @@ pub mod CellLemmas
 pub mod TopLemmas
 pub mod FoundLemmas
 pub mod PartLemmas
+pub mod PruneLemmas
 pub mod QuoteLemmas
 pub mod KeptLemmas
 pub mod SiteLemmas

@@ -2,9 +2,10 @@
 use Rattle.std.proofs.Common.{◌≡◌, ℕ, ◌+◌, ◌-◌, ◌*◌, ◌/◌, ◌<◌, ◌≤◌, IfSome, List, length, slice_get, slice_index, Some, refl, sym, subst, ap, ◌∙◌, arith}
 use Rattle.std.proofs.Math.Nat.{mul-div_left}
 use Rattle.std.proofs.lemmas.Option.{same_Some, slice_get_within}
-use Rattle.buck_apt.specs.Instruction.{AssortmentParts}
+use Rattle.buck_apt.specs.Instruction.{AssortmentParts, InstructionParts, classes}
 use Rattle.buck_value.specs.Sheet.{SheetParts, IsSheet}
 use Rattle.buck_value.specs.Volume.{volume, worth_at}
+use Rattle.buck_value.proofs.Prices.{price-le}
 use Rattle.buck_bid.specs.declared.prices.Pricing.{Pricing}
 use Rattle.buck_bid.specs.declared.offers.Offer.{Offer}
 use Rattle.buck_bid.specs.Prices.{IsPricing, HasNoPrice}
@@ -14,10 +15,11 @@ use Rattle.buck_bid.proofs.OfferLemmas.{code_at, code_index, codes_number, whole
 use Rattle.buck_dp.specs.inner.Points.{point_after}
 use Rattle.buck_dp.specs.declared.pricing.Quote.{Quote}
 use Rattle.buck_dp.specs.declared.pricing.Ask.{Ask}
+use Rattle.buck_dp.specs.declared.pricing.Term.{Term}
 use Rattle.buck_dp.specs.inner.Bid.{BidParts}
 use Rattle.buck_dp.specs.inner.Takers.{IsTaker}
 use Rattle.buck_dp.specs.inner.Cells.{IsTakersBid}
-use Rattle.buck_dp.specs.inner.Quotes.{quote_bid, IsAsked, IsQuoteOf, HasNoBid}
+use Rattle.buck_dp.specs.inner.Quotes.{quote_bid, priced_at, IsAsked, IsQuoteOf, IsTermOf, HasNoBid}
 use Rattle.buck_dp.proofs.BidLemmas.{same_bid}
 
 module _ (s : SheetParts) (offers : List Offer) (ask : Ask) (place : ℕ) (o : Offer) (valid : IsSheet s) (are : AreOffers s.instruction offers)
@@ -114,3 +116,23 @@ module _ (s : SheetParts) (offers : List Offer) (ask : Ask) (place : ℕ) (o : O
             same_bid bid (quote_bid q d) worth (omega arith),
           );
     }
+
+-- the term of an offer is its quote under each sheet of the instruction
+pub term_right : (i : InstructionParts) (offers : List Offer) (ask : Ask) (place : ℕ) (o : Offer) (p : Pricing) (t : Term) → AreOffers i offers
+    → slice_get offers place ≡ Some o → IsTaker ask.takers o.assortment
+    → IsPricing i o.assortment o.length ask.band.thinnest ask.band.past p → o.length ≤ 30000
+    → t.class ≡ p.class → t.quote.kind ≡ p.kind → t.quote.rank + place ≡ 1023 → t.quote.length ≡ o.length
+    → t.quote.steps ≡ o.length / i.«module»
+    → IfSome (slice_get i.assortments o.assortment) (λ (x : AssortmentParts). x.trim ≡ t.quote.trim)
+    → t.quote.rise ≡ point_after i.«module» t.quote.trim → IsTermOf i (codes_in offers) ask place t
+term_right i offers ask place o p t are at taker pricing short class kind rank long steps trim rise = record {
+  class = subst (λ (n : ℕ). n < classes i) (sym class) pricing.within;
+  quotes = λ s valid is.
+      quote_right s offers ask place o valid (subst (λ (j : InstructionParts). AreOffers j offers) (sym is) are) at p
+      (priced_at t.quote (slice_index s.prices t.class)) taker
+      (subst (λ (j : InstructionParts). IsPricing j o.assortment o.length ask.band.thinnest ask.band.past p) (sym is) pricing) short kind
+      (ap (λ n. slice_index s.prices n) class) (price-le s t.class valid) rank long
+      (subst (λ (j : InstructionParts). t.quote.steps ≡ o.length / j.«module») (sym is) steps)
+      (subst (λ (j : InstructionParts). IfSome (slice_get j.assortments o.assortment) (λ (x : AssortmentParts). x.trim ≡ t.quote.trim)) (sym is) trim)
+      (subst (λ (j : InstructionParts). t.quote.rise ≡ point_after j.«module» t.quote.trim) (sym is) rise);
+}

@@ -1,7 +1,8 @@
 -- Price lists that grow, and rows drawn from them.
-use Rattle.std.proofs.Common.{◌≡◌, ℕ, ◌+◌, ◌-◌, ◌*◌, ◌<◌, ◌≤◌, ◌⊎◌, inl, inr, List, [], ◌∷◌, ◌++◌, length, slice_get, Some, refl, sym, subst, ap, ◌∙◌, append_assoc, arith}
+use Rattle.std.proofs.Common.{◌≡◌, ℕ, ◌+◌, ◌-◌, ◌*◌, ◌<◌, ◌≤◌, ◌⊎◌, inl, inr, List, [], ◌∷◌, ◌++◌, Option, IfSome, IfNone, length, length-append, slice_get, Some, None, refl, sym, subst, ap, ◌∙◌, append_assoc, arith}
 use Rattle.std.proofs.lemmas.Bool.{cases_lt}
 use Rattle.std.proofs.lemmas.Option.{none-some, same_Some, slice_get_within}
+use Rattle.buck_apt.specs.Instruction.{InstructionParts}
 use Rattle.buck_value.specs.Sheet.{SheetParts, IsSheet}
 use Rattle.buck_bid.specs.declared.offers.Offer.{Offer}
 use Rattle.buck_bid.specs.Offers.{codes_in, code_of}
@@ -11,10 +12,11 @@ use Rattle.buck_dp.specs.declared.offering.Cell.{Cell}
 use Rattle.buck_dp.specs.declared.offering.Reach.{Reach}
 use Rattle.buck_dp.specs.declared.pricing.Quote.{Quote}
 use Rattle.buck_dp.specs.declared.pricing.Ask.{Ask}
+use Rattle.buck_dp.specs.declared.pricing.Term.{Term}
 use Rattle.buck_dp.specs.declared.takers.Takers.{Takers}
 use Rattle.buck_dp.specs.inner.Bid.{BidParts, IsAtMost}
 use Rattle.buck_dp.specs.inner.Cells.{IsMet, IsTakersBid, IsReal, AreCells}
-use Rattle.buck_dp.specs.inner.Quotes.{quote_bid, IsAsked, IsQuote, IsQuoteOf, HasNoBid, IsQuoted, AreQuotes}
+use Rattle.buck_dp.specs.inner.Quotes.{quote_bid, IsSmall, IsAsked, IsQuote, IsQuoteOf, HasNoBid, IsOver, IsQuoted, IsTermOf, IsNoTerm, AreTerms, AreQuotes}
 use Rattle.buck_dp.specs.inner.Drawn.{IsWithin, IsCutOff, cell_of, IsCellOf, IsDrawn}
 use Rattle.buck_dp.proofs.BidLemmas.{IsAtMost-refl, IsAtMost-trans, worth_at_most}
 use Rattle.buck_dp.proofs.Places.{after_in_order}
@@ -49,6 +51,14 @@ quoted_more list q d steps trim bid i = record {
   trims = i.trims;
 }
 
+-- who leads a list: nobody, or one of its quotes
+abbrev pub IsLeader : List Quote → Quote → Type 0
+IsLeader list p = ((d : ℕ) → (quote_bid p d).worth ≡ 0) ⊎ ((k : ℕ) × (slice_get list k ≡ Some p))
+
+leader_more : (list : List Quote) (q p : Quote) → IsLeader list p → IsLeader (list ++ q ∷ []) p
+leader_more list q p (inl nobody) = inl nobody
+leader_more list q p (inr there) = inr (there.0, kept_at list q p there.0 there.1)
+
 -- the quote of an offer is put behind others
 pub quotes_push : (s : SheetParts) (codes : List ℕ) (ask : Ask) (n : ℕ) (list : List Quote) (q : Quote) → IsQuoteOf s codes ask n q
     → AreQuotes s codes ask n list → AreQuotes s codes ask (n + 1) (list ++ q ∷ [])
@@ -67,6 +77,84 @@ quotes_push s codes ask n list q is was = record {
         }
   ];
 }
+
+-- the quote of an offer is left out, where one of the list is over it
+pub quotes_cut : (s : SheetParts) (codes : List ℕ) (ask : Ask) (n : ℕ) (list : List Quote) (p q : Quote) → IsQuoteOf s codes ask n q
+    → IsLeader list p → IsOver ask.band.thinnest p q → AreQuotes s codes ask n list → AreQuotes s codes ask (n + 1) list
+quotes_cut s codes ask n list p q is leads over was = record {
+  real = was.real;
+  met = λ steps trim d bid asked past b. elim (cases_lt 1023 (bid.rank + n)) [
+    | inl before ↦ was.met steps trim d bid asked before b
+    | inr at ↦
+        let o = is.only steps trim d bid asked (omega arith) b in
+        let worth : bid.worth ≡ (quote_bid q d).worth = ap (λ x. x.worth) o.2 in
+        let more = over.more d asked.0 in
+        elim leads [
+          | inl nobody ↦ absurd (let none = nobody d in omega arith)
+          | inr there ↦ record {
+            place = there.0;
+            quote = p;
+            there = there.1;
+            meets = elim (cases_lt p.steps steps) [
+              | inl less ↦ inr (less, omega (arith, worth, more))
+              | inr same ↦ inl (omega (arith, same, over.steps, o.0), inl (omega (arith, worth, more)))
+            ];
+            trims = omega (arith, over.trim, o.1);
+          }
+        ]
+  ];
+}
+
+-- a list is right so far, and who leads it stands there
+pub record IsListSoFar (s : SheetParts) (codes : List ℕ) (ask : Ask) (n : ℕ) (list : List Quote) (leader : Quote) : Type 0 where
+  pub quotes : AreQuotes s codes ask n list
+  pub leads : IsLeader list leader
+  pub small : IsSmall leader
+
+-- so with one more, unless the leader is over it
+pub list_put : (s : SheetParts) (codes : List ℕ) (ask : Ask) (n : ℕ) (list new : List Quote) (p l q : Quote) → IsQuoteOf s codes ask n q
+    → ((new ≡ list) × (l ≡ p) × IsOver ask.band.thinnest p q) ⊎ ((new ≡ list ++ q ∷ []) × ((l ≡ p) ⊎ (l ≡ q)))
+    → IsListSoFar s codes ask n list p → IsListSoFar s codes ask (n + 1) new l
+list_put s codes ask n list new p l q is put was = elim put [
+  | inl cut ↦
+      subst (λ (x : Quote). IsListSoFar s codes ask (n + 1) new x) (sym cut.1)
+      (subst (λ (xs : List Quote). IsListSoFar s codes ask (n + 1) xs p) (sym cut.0)
+      (record { quotes = quotes_cut s codes ask n list p q is was.leads cut.2 was.quotes; leads = was.leads; small = was.small }))
+  | inr more ↦
+      subst (λ (xs : List Quote). IsListSoFar s codes ask (n + 1) xs l) (sym more.0)
+      (elim more.1 [
+        | inl same ↦ subst (λ (x : Quote). IsListSoFar s codes ask (n + 1) (list ++ q ∷ []) x) (sym same) (record {
+          quotes = quotes_push s codes ask n list q is was.quotes;
+          leads = leader_more list q p was.leads;
+          small = was.small;
+        })
+        | inr lead ↦ subst (λ (x : Quote). IsListSoFar s codes ask (n + 1) (list ++ q ∷ []) x) (sym lead) (record {
+          quotes = quotes_push s codes ask n list q is was.quotes;
+          leads = inr (length list, pushed_at list q (length list) refl);
+          small = is.is.small;
+        })
+      ])
+]
+
+-- a term is put behind others
+pub terms_put : (i : InstructionParts) (codes : List ℕ) (ask : Ask) (n : ℕ) (terms : List (Option Term)) (term : Option Term)
+    → IfSome term (IsTermOf i codes ask n) → IfNone term (IsNoTerm i codes ask n) → AreTerms i codes ask n terms
+    → AreTerms i codes ask (n + 1) (terms ++ term ∷ [])
+terms_put i codes ask n terms term some none was =
+    let each : (k : ℕ) (x : Option Term) → slice_get (terms ++ term ∷ []) k ≡ Some x
+    → IfSome x (IsTermOf i codes ask k) × IfNone x (IsNoTerm i codes ask k) =
+    push_each (λ k x. IfSome x (IsTermOf i codes ask k) × IfNone x (IsNoTerm i codes ask k)) terms term
+    (λ k x at. at_place k x at)
+    (subst (λ (k : ℕ). IfSome term (IsTermOf i codes ask k) × IfNone term (IsNoTerm i codes ask k)) (sym was.number) (some, none)) in
+    record {
+      number = length-append terms (term ∷ []) ∙ ap (λ m. m + 1) was.number;
+      some = λ k t at. (each k (Some t) at).0;
+      none = λ k at. (each k None at).1;
+    }
+  where
+    at_place : (k : ℕ) (x : Option Term) → slice_get terms k ≡ Some x → IfSome x (IsTermOf i codes ask k) × IfNone x (IsNoTerm i codes ask k)
+    at_place k (Some t) at = (was.some k t at, tt)
+    at_place k None at = (tt, was.none k at)
 
 -- the best of a row: nothing, or one of its cells
 abbrev pub IsBest : List Cell → Cell → Type 0

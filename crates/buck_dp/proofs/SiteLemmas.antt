@@ -46,13 +46,14 @@ module _ (p : GroundParts) where
         λ takes. both.1 (takes.0 ∙ sym species, grades.1 takes.1),
       )
 
-  -- where nobody takes the wood from a start, no log starts there or before
-  pub none_before : (i k t e : ℕ) (takers : Takers) (bid : BidParts) → HasTakers p takers i t → ((a : ℕ) → IsTaker takers a → ⊥) → k ≤ i
-      → IsLogAt p k t e bid → ⊥
-  none_before i k t e takers bid has none le log =
+  -- where nobody takes the wood from a start to a top, no log with that top or a later one starts there or before
+  pub none_before : (i k u t e : ℕ) (takers : Takers) (bid : BidParts) → HasTakers p takers i u → ((a : ℕ) → IsTaker takers a → ⊥) → k ≤ i
+      → u ≤ t → IsLogAt p k t e bid → ⊥
+  none_before i k u t e takers bid has none le up log =
       let a = log.allowed in
       let low : k * unit ≤ i * unit = mul-le-mul_right unit le in
-      let grades : HasGradesOf p.stem.zones (i * unit) (t * unit) a.assortment.grades =
+      let high : u * unit ≤ t * unit = mul-le-mul_right unit up in
+      let grades : HasGradesOf p.stem.zones (i * unit) (u * unit) a.assortment.grades =
       (λ x from to. a.allows.grades x (omega (arith, log.start)) (omega (arith, log.top))) in
       none log.log.assortment ((has log.log.assortment a.assortment a.exists).1 (a.allows.species, grades))
 

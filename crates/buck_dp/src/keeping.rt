@@ -1,29 +1,34 @@
-//! What is kept of a sheet from stem to stem: price lists, and rows drawn from them.
-ghost use Rattle.std.specs.Prelude.{◌≡◌, ℕ, ◌+◌, ◌<◌, ◌≤◌, ◌⊎◌, ◌++◌, [], List, IfOk, OnOk, length, slice_index};
+//! What is kept from stem to stem: of an instruction how its logs are priced, and of a sheet price lists, and rows drawn
+//! from them.
+ghost use Rattle.std.specs.Prelude.{◌≡◌, ℕ, ◌+◌, ◌<◌, ◌≤◌, ◌⊎◌, ◌++◌, [], List, Option, IfOk, OnOk, length, slice_index};
 ghost use Rattle.buck_value.specs.Sheet.{SheetParts, IsSheet};
 ghost use Rattle.buck_bid.specs.Offers.{codes_in};
 ghost use Rattle.buck_dp.specs.inner.Menu.{IsMenu};
 ghost use Rattle.buck_dp.specs.inner.Cells.{AreCells};
 ghost use Rattle.buck_dp.specs.inner.Index.{IsPlaceIn, part_of};
-ghost use Rattle.buck_dp.specs.inner.Kept.{AreKept, IsListAt, IsRowAt};
-ghost use Rattle.buck_dp.specs.inner.Quotes.{AreQuotes, IsAsked};
+ghost use Rattle.buck_dp.specs.inner.Kept.{ask_of, AreKept, AreTermsAt, IsListAt, IsRowAt};
+ghost use Rattle.buck_dp.specs.inner.Quotes.{AreTerms, AreQuotes, IsAsked};
 ghost use Rattle.buck_dp.specs.declared.menu.Menu.{Menu};
 ghost use Rattle.buck_dp.specs.declared.pricing.Ask.{Ask};
 ghost use Rattle.buck_dp.specs.declared.pricing.Quote.{Quote};
+ghost use Rattle.buck_dp.specs.declared.pricing.Term.{Term};
 ghost use Rattle.buck_dp.specs.declared.offering.Cell.{Cell};
 
 use crate::index::{Head, Index, Key, Place};
 use crate::kinds::Group;
 use crate::menu::Menu;
 use crate::offering::{Cell, Reach};
-use crate::pricing::{Ask, Quote, price_list};
+use crate::pricing::{Ask, Quote, Term, price_list, put_terms};
 use crate::rowing::put_row;
 use buck_record::Memory;
 use buck_value::Sheet;
 use std::alloc::Global;
 
-/// So many quotes are kept at most, and then all are dropped: 1 MB.
-const QUOTES: usize = 32_768;
+/// So many terms are kept at most, and then all are dropped: 786 kB.
+const TERMS: usize = 16_384;
+
+/// So many quotes are kept at most, and then all are dropped: 459 kB.
+const QUOTES: usize = 16_384;
 
 /// So many cells are kept at most, and then all are dropped: 1 MB.
 const CELLS: usize = 65_536;
@@ -62,41 +67,42 @@ pub struct Market<'a> {
     pub menu: &'a Menu,
 }
 
-/// The price lists and the rows of a sheet, as far as they were asked for.
+/// The terms of an instruction, and the price lists and the rows of a sheet, as far as they were asked for.
 #[derive(Drop)]
 pub struct Kept {
+    terms: Vec<Option<Term>>,
+    asked: Index,
     quotes: Vec<Quote>,
     lists: Index,
     cells: Vec<Cell>,
     rows: Index,
 }
 
-/// Drops all lists where there is no room for one more.
-fn make_room_for_list(quotes: &mut Vec<Quote>, lists: &mut Index)
-    ensures { ((quotes.new.items ≡ quotes.old.items) × (lists.new ≡ lists.old)) ⊎ (lists.new ≡ []) }
+/// Drops all that is kept of a sort where there is no room for one more: at most so many are to be kept.
+fn make_room<T: Copy>(items: &mut Vec<T>, heads: &mut Index, most: usize)
+    ensures { ((items.new.items ≡ items.old.items) × (heads.new ≡ heads.old)) ⊎ (heads.new ≡ []) }
 {
-    let full = quotes.len() + 512 > QUOTES || lists.is_full();
+    let full = items.len() > most.saturating_sub(512) || heads.is_full();
     if full {
-        quotes.clear();
-        lists.clear();
+        items.clear();
+        heads.clear();
     }
 }
 
-/// Drops all rows where there is no room for one more.
-fn make_room_for_row(cells: &mut Vec<Cell>, rows: &mut Index)
-    ensures { ((cells.new.items ≡ cells.old.items) × (rows.new ≡ rows.old)) ⊎ (rows.new ≡ []) }
+/// What is asked for of a group in a band.
+fn ask_for(menu: &Menu, group: Group, band: usize) -> Ask
+    requires band { band + 1 < length menu.now.limits.items }
+    ensures { result ≡ ask_of menu.now (record { takers = group.takers; at = band }) }
 {
-    let full = cells.len() + 512 > CELLS || rows.is_full();
-    if full {
-        cells.clear();
-        rows.clear();
+    Ask {
+        takers: group.takers,
+        band: menu.band_at(band),
     }
 }
 
-/// Makes the price list of a group in a band.
-fn make_list(
-    alloc: Global,
-    quotes: &mut Vec<Quote>,
+/// Makes the terms of a group in a band.
+fn make_terms(
+    terms: &mut Vec<Option<Term>>,
     market: Market<'_>,
     group: Group,
     band: usize,
@@ -104,15 +110,45 @@ fn make_list(
     requires menu { IsMenu market.sheet.now.instruction market.menu.now }
     requires band { band + 1 < length market.menu.now.limits.items }
     requires high { slice_index market.menu.now.limits.items (band + 1) ≤ 1504 }
+    ensures kept { (more : List (Option Term)) × (terms.new.items ≡ terms.old.items ++ more) }
+    ensures terms { IfOk result (AreTermsAt market.entry.sheet.now.instruction market.entry.menu.now terms.new.items
+        (record { takers = group.takers; at = band })) }
+{
+    let from = terms.as_slice().len();
+    let ask = ask_for(market.menu, group, band);
+    put_terms(
+        terms,
+        market.sheet.instruction(),
+        market.menu.offers.as_slice(),
+        ask,
+    )?;
+    Ok(Place {
+        from,
+        past: terms.as_slice().len(),
+    })
+}
+
+/// Makes the price list of a group in a band from its terms.
+fn make_list(
+    alloc: Global,
+    quotes: &mut Vec<Quote>,
+    terms: &[Option<Term>],
+    market: Market<'_>,
+    group: Group,
+    band: usize,
+) -> Result<Place, Memory>
+    requires valid { IsSheet market.sheet.now }
+    requires menu { IsMenu market.sheet.now.instruction market.menu.now }
+    requires band { band + 1 < length market.menu.now.limits.items }
+    requires high { slice_index market.menu.now.limits.items (band + 1) ≤ 1504 }
+    requires terms { AreTerms market.sheet.now.instruction (codes_in market.menu.now.offers.items)
+        (ask_of market.menu.now (record { takers = group.takers; at = band })) (length market.menu.now.offers.items) terms.now }
     ensures kept { (more : List Quote) × (quotes.new.items ≡ quotes.old.items ++ more) }
     ensures list { IfOk result (IsListAt market.entry.sheet.now market.entry.menu.now quotes.new.items
         (record { takers = group.takers; at = band })) }
 {
-    let ask = Ask {
-        takers: group.takers,
-        band: market.menu.band_at(band),
-    };
-    let list = price_list(alloc, market.sheet, market.menu.offers.as_slice(), ask)?;
+    let ask = ask_for(market.menu, group, band);
+    let list = price_list(alloc, market.sheet, terms, ask)?;
     let from = quotes.as_slice().len();
     quotes.extend_from_slice(list.as_slice())?;
     Ok(Place {
@@ -152,6 +188,8 @@ impl Kept {
         ensures { (s : SheetParts) (m : Menu) → AreKept s m result }
     {
         Kept {
+            terms: Vec::new(alloc),
+            asked: Index::new(alloc),
             quotes: Vec::new(alloc),
             lists: Index::new(alloc),
             cells: Vec::new(alloc),
@@ -163,10 +201,44 @@ impl Kept {
     pub fn clear(&mut self)
         ensures { (s : SheetParts) (m : Menu) → AreKept s m self.new }
     {
+        self.terms.clear();
+        self.asked.clear();
+        self.clear_prices();
+    }
+
+    /// Drops what hangs on prices.
+    pub fn clear_prices(&mut self)
+        ensures terms { (self.new.terms.items ≡ self.old.terms.items) × (self.new.asked ≡ self.old.asked) }
+        ensures prices { (self.new.lists ≡ []) × (self.new.rows ≡ []) }
+    {
         self.quotes.clear();
         self.lists.clear();
         self.cells.clear();
         self.rows.clear();
+    }
+
+    /// Where the terms of a group in a band stand. They are made where they aren't there.
+    fn terms(&mut self, market: Market<'_>, group: Group, band: usize) -> Result<Place, Memory>
+        requires menu { IsMenu market.sheet.now.instruction market.menu.now }
+        requires band { band + 1 < length market.menu.now.limits.items }
+        requires high { slice_index market.menu.now.limits.items (band + 1) ≤ 1504 }
+        requires kept { AreKept market.sheet.now market.menu.now self.old }
+        ensures kept { AreKept market.entry.sheet.now market.entry.menu.now self.new }
+        ensures terms { IfOk result (AreTermsAt market.entry.sheet.now.instruction market.entry.menu.now self.new.terms.items
+            (record { takers = group.takers; at = band })) }
+    {
+        let key = Key {
+            takers: group.takers,
+            at: band,
+        };
+        let slot = usize::from(group.number) * BANDS + band % BANDS;
+        if let Some(place) = self.asked.find(key, slot) {
+            return Ok(place);
+        }
+        make_room(&mut self.terms, &mut self.asked, TERMS);
+        let place = make_terms(&mut self.terms, market, group, band)?;
+        self.asked.keep(Head { key, place }, slot)?;
+        Ok(place)
     }
 
     /// Where the price list of a group in a band stands. It is made where it isn't there.
@@ -177,6 +249,7 @@ impl Kept {
         group: Group,
         band: usize,
     ) -> Result<Place, Memory>
+        requires valid { IsSheet market.sheet.now }
         requires menu { IsMenu market.sheet.now.instruction market.menu.now }
         requires band { band + 1 < length market.menu.now.limits.items }
         requires high { slice_index market.menu.now.limits.items (band + 1) ≤ 1504 }
@@ -193,8 +266,16 @@ impl Kept {
         if let Some(place) = self.lists.find(key, slot) {
             return Ok(place);
         }
-        make_room_for_list(&mut self.quotes, &mut self.lists);
-        let place = make_list(alloc, &mut self.quotes, market, group, band)?;
+        let terms = self.terms(market, group, band)?;
+        make_room(&mut self.quotes, &mut self.lists, QUOTES);
+        let place = make_list(
+            alloc,
+            &mut self.quotes,
+            &self.terms[terms.from..terms.past],
+            market,
+            group,
+            band,
+        )?;
         self.lists.keep(Head { key, place }, slot)?;
         Ok(place)
     }
@@ -224,7 +305,7 @@ impl Kept {
         };
         let band = market.menu.band_of(diameter);
         let list = self.list(alloc, market, group, band)?;
-        make_room_for_row(&mut self.cells, &mut self.rows);
+        make_room(&mut self.cells, &mut self.rows, CELLS);
         let place = make_row(
             &mut self.cells,
             &self.quotes[list.from..list.past],
@@ -260,7 +341,10 @@ impl Kept {
         let slot = usize::from(group.number) * DIAMETERS + diameter as usize;
         match self.rows.find(key, slot) {
             Some(place) => Ok(place),
-            None => self.draw_kept(alloc, market, group, diameter, slot),
+            None => {
+                let place = self.draw_kept(alloc, market, group, diameter, slot)?;
+                Ok(place)
+            }
         }
     }
 

@@ -29,6 +29,7 @@ pub struct Reach {
 pub(crate) fn settle(values: &mut [Bid], choices: &mut [u32], point: usize)
     requires next { point + 1 < length values.old }
     requires room { point < length choices.old }
+    requires even { (bid_at values.old (point + 1)).rank ≡ 0 }
     ensures number { length values.new ≡ length values.old }
     ensures room { length choices.new ≡ length choices.old }
     ensures others { (k : ℕ) → k ≢ point → bid_at values.new k ≡ bid_at values.old k }

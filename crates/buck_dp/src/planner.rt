@@ -13,7 +13,7 @@ use crate::following::follow;
 use crate::keeping::{Kept, Market};
 use crate::kinds::Kinds;
 use crate::menu::Menu;
-use crate::planning::{Memo, Site, search_stem};
+use crate::planning::{Memo, Site, fit_of, search_stem};
 use buck_record::Memory;
 use buck_stem::{Profile, Stem};
 use buck_value::Sheet;
@@ -103,6 +103,7 @@ fn cut_wanted<'a>(
         market: Market { sheet, menu },
         stem,
         profile: &profile,
+        fit: fit_of(sheet, stem, menu.most_trim),
     };
     make_room(memo);
     let search = search_stem(alloc, site, memo)?;
@@ -142,7 +143,7 @@ fn turn_to(alloc: Global, own: &mut Own, from: &Sheet, to: &Sheet) -> Result<(),
     ensures left { IfErr result (λ _. IsReady from.now own.new.menu own.new.memo) }
 {
     if to.instruction().same(from.instruction()) {
-        own.memo.kept.clear();
+        own.memo.kept.clear_prices();
         return Ok(());
     }
     *own = own_of(alloc, to)?;

@@ -1,9 +1,9 @@
 //! The search of a stem: from the top end down one top at a time, and for each the logs with it, by the parts of their
 //! starts.
-ghost use Rattle.std.specs.Prelude.{◌≡◌, ℕ, ◌+◌, ◌*◌, ◌<◌, ◌≤◌, IfOk, OnOk};
+ghost use Rattle.std.specs.Prelude.{◌≡◌, ℕ, ◌+◌, ◌*◌, ◌<◌, ◌≤◌, IfOk, OnOk, IsTrue};
 ghost use Rattle.buck_stem.specs.Stem.{stem_length};
 ghost use Rattle.buck_dp.specs.inner.Points.{points_of, ground_with};
-ghost use Rattle.buck_dp.specs.inner.Parts.{HasTakers};
+ghost use Rattle.buck_dp.specs.inner.Parts.{HasTakers, HasNoneBefore};
 ghost use Rattle.buck_dp.specs.inner.Site.{IsSite, IsMemoFor, ground_of};
 ghost use Rattle.buck_dp.specs.inner.Takers.{AreKnown};
 
@@ -14,14 +14,16 @@ use crate::search::Search;
 use crate::takers::Kind;
 use buck_record::Memory;
 use buck_stem::{Profile, Stem};
+use buck_value::Sheet;
 use std::alloc::Global;
 
-/// A stem at its points, and the sheet under which it is cut.
+/// A stem at its points, and the sheet under which it is cut. Each trim fits behind the tops before point `fit`.
 #[derive(Clone, Copy)]
 pub struct Site<'a> {
     pub market: Market<'a>,
     pub stem: &'a Stem,
     pub profile: &'a Profile<'a>,
+    pub fit: usize,
 }
 
 /// What is kept from stem to stem.
@@ -38,6 +40,24 @@ pub struct Memo {
 pub struct Part {
     pub first: usize,
     pub group: Group,
+}
+
+/// The starts nearest to the tops of a run, and whether all logs with these tops start there.
+#[derive(Clone, Copy)]
+pub struct Near {
+    pub part: Part,
+    pub alone: bool,
+}
+
+/// The point before which each trim fits behind a top.
+pub fn fit_of(sheet: &Sheet, stem: &Stem, most_trim: u32) -> usize
+    ensures { (t : ℕ) → t < result → t * sheet.now.instruction.module + most_trim ≤ stem_length stem.now.samples }
+{
+    let length = stem.length();
+    if length < most_trim {
+        return 0;
+    }
+    ((length - most_trim) / sheet.instruction().module()) as usize + 1
 }
 
 /// The starts before a point that have the grades of the last of them, and who takes their wood up to a top.
@@ -86,6 +106,39 @@ fn part_before(site: Site<'_>, kinds: &mut Kinds, top: usize, stop: usize) -> Re
     Ok(part)
 }
 
+/// Whether no log with a top or a later one starts before a point.
+fn is_first(site: Site<'_>, kinds: &mut Kinds, top: usize, point: usize) -> Result<bool, Memory>
+    requires site { IsSite site }
+    requires order { point ≤ top }
+    requires top { top < points_of (ground_of site) }
+    requires known { AreKnown site.market.sheet.now.instruction kinds.old }
+    ensures known { AreKnown site.entry.market.sheet.now.instruction kinds.new }
+    ensures first { IfOk result (λ is. IsTrue is → HasNoneBefore (ground_of site.entry) point top) }
+{
+    if point == 0 {
+        return Ok(true);
+    }
+    let behind = run_before(site, kinds, top, point)?;
+    Ok(behind.group.takers.is_empty())
+}
+
+/// The starts nearest to the tops of the run whose first top is given.
+fn near_part(site: Site<'_>, kinds: &mut Kinds, top: usize) -> Result<Near, Memory>
+    requires site { IsSite site }
+    requires order { 0 < top }
+    requires top { top < points_of (ground_of site) }
+    requires known { AreKnown site.market.sheet.now.instruction kinds.old }
+    ensures known { AreKnown site.entry.market.sheet.now.instruction kinds.new }
+    ensures first { IfOk result (λ n. n.part.first < top) }
+    ensures takers { IfOk result (λ n. (i : ℕ) → n.part.first ≤ i → i < top
+        → HasTakers (ground_of site.entry) n.part.group.takers i top) }
+    ensures alone { IfOk result (λ n. IsTrue n.alone → HasNoneBefore (ground_of site.entry) n.part.first top) }
+{
+    let part = part_before(site, kinds, top, top)?;
+    let alone = is_first(site, kinds, top, part.first)?;
+    Ok(Near { part, alone })
+}
+
 /// How many mm of a stem lie behind a top.
 #[inline(always)]
 fn left_behind(site: Site<'_>, top: usize) -> u32
@@ -129,7 +182,39 @@ fn offer_whole(
     Ok(())
 }
 
-/// Offers the logs with the top that was settled last, from the starts of a part.
+/// Offers the logs with the top that was settled last that start in a part, where each trim fits, from the row that is
+/// kept.
+fn offer_kept(
+    alloc: Global,
+    site: Site<'_>,
+    memo: &mut Memo,
+    search: &mut Search<'_>,
+    part: Part,
+) -> Result<(), Memory>
+    requires site { IsSite site }
+    requires memo { IsMemoFor site memo.old }
+    requires ground { search.old.ground ≡ ground_of site }
+    requires top { search.old.from < points_of (ground_of site) }
+    requires order { part.first < search.old.stop }
+    requires room { search.old.from * site.market.sheet.now.instruction.module + site.market.menu.now.most_trim
+        ≤ stem_length site.stem.now.samples }
+    requires takers { (i : ℕ) → part.first ≤ i → i < search.old.stop
+        → HasTakers (ground_of site) part.group.takers i search.old.from }
+    ensures memo { IsMemoFor site.entry memo.new }
+    ensures ground { OnOk result (search.new.ground ≡ search.old.ground) }
+    ensures from { OnOk result (search.new.from ≡ search.old.from) }
+    ensures stop { OnOk result (search.new.stop ≡ part.first) }
+{
+    let top = search.from();
+    let diameters = site.profile.diameters();
+    let place = memo
+        .kept
+        .row(alloc, site.market, part.group, diameters[top])?;
+    search.offer_part(part.first, memo.kept.cells(place));
+    Ok(())
+}
+
+/// Offers the logs with the top that was settled last that start in a part, from a row that is drawn for it alone.
 fn offer_part(
     alloc: Global,
     site: Site<'_>,
@@ -151,19 +236,13 @@ fn offer_part(
 {
     let top = search.from();
     let stop = search.stop();
-    let menu = site.market.menu;
     let diameters = site.profile.diameters();
     let diameter = diameters[top];
     let left = left_behind(site, top);
-    if left >= menu.most_trim && part.first == 0 {
-        let place = memo.kept.row(alloc, site.market, part.group, diameter)?;
-        search.offer_part(part.first, memo.kept.cells(place));
-        return Ok(());
-    }
     let reach = Reach {
         past: top - stop,
         far: top - part.first,
-        room: left.min(menu.most_trim),
+        room: left.min(site.market.menu.most_trim),
     };
     memo.kept.draw(
         alloc,
@@ -206,22 +285,23 @@ fn offer_rest(
     Ok(())
 }
 
-/// Offers the logs with the top that was settled last, of which the nearest starts are a part.
+/// Offers the logs with the top that was settled last, of which the nearest starts are known.
 fn offer_top(
     alloc: Global,
     site: Site<'_>,
     memo: &mut Memo,
     search: &mut Search<'_>,
-    near: Part,
+    near: Near,
 ) -> Result<(), Memory>
     requires site { IsSite site }
     requires memo { IsMemoFor site memo.old }
     requires ground { search.old.ground ≡ ground_of site }
     requires top { search.old.from < points_of (ground_of site) }
     requires stop { search.old.stop ≡ search.old.from }
-    requires order { near.first < search.old.from }
-    requires takers { (i : ℕ) → near.first ≤ i → i < search.old.from
-        → HasTakers (ground_of site) near.group.takers i search.old.from }
+    requires order { near.part.first < search.old.from }
+    requires takers { (i : ℕ) → near.part.first ≤ i → i < search.old.from
+        → HasTakers (ground_of site) near.part.group.takers i search.old.from }
+    requires alone { IsTrue near.alone → HasNoneBefore (ground_of site) near.part.first search.old.from }
     ensures memo { IsMemoFor site.entry memo.new }
     ensures ground { OnOk result (search.new.ground ≡ search.old.ground) }
     ensures from { OnOk result (search.new.from ≡ search.old.from) }
@@ -229,20 +309,28 @@ fn offer_top(
 {
     let top = search.from();
     let menu = site.market.menu;
+    let part = near.part;
     if top < menu.least_steps {
         search.close_top();
         return Ok(());
     }
-    if near.group.takers.is_empty() {
+    if part.group.takers.is_empty() {
         search.close_top();
         return Ok(());
     }
-    if top - near.first >= menu.most_steps && left_behind(site, top) >= menu.most_trim {
-        offer_whole(alloc, site, memo, search, near)?;
-        search.close_top();
-        return Ok(());
+    if top < site.fit {
+        if top - part.first >= menu.most_steps {
+            offer_whole(alloc, site, memo, search, part)?;
+            search.close_top();
+            return Ok(());
+        }
+        if near.alone {
+            offer_kept(alloc, site, memo, search, part)?;
+            search.close_top();
+            return Ok(());
+        }
     }
-    offer_part(alloc, site, memo, search, near)?;
+    offer_part(alloc, site, memo, search, part)?;
     offer_rest(alloc, site, memo, search)
 }
 
@@ -264,7 +352,7 @@ fn search_run(
     ensures stop { OnOk result (search.new.stop ≡ 0) }
 {
     let run = site.profile.run_start(search.from() - 2);
-    let near = part_before(site, &mut memo.kinds, run + 1, run + 1)?;
+    let near = near_part(site, &mut memo.kinds, run + 1)?;
     while search.from() > run + 1 {
         search.settle_top();
         offer_top(alloc, site, memo, search, near)?;

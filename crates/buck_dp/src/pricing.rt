@@ -1,5 +1,5 @@
 //! Price lists: what the logs of some takers are bid by length and trim, at each diameter of a band.
-ghost use Rattle.std.specs.Prelude.{◌≡◌, ℕ, ◌+◌, ◌-◌, ◌*◌, ◌/◌, ◌<◌, ◌≤◌, IfOk, IfSome, IfNone, List, length, slice_get, slice_index};
+ghost use Rattle.std.specs.Prelude.{◌≡◌, ℕ, ◌+◌, ◌-◌, ◌*◌, ◌/◌, ◌<◌, ◌≤◌, ◌⊎◌, ◌++◌, ◌∷◌, [], IfOk, OnOk, IfSome, IfNone, IsTrue, List, Option, length, slice_get, slice_index};
 ghost use Rattle.buck_apt.specs.Instruction.{classes};
 ghost use Rattle.buck_value.specs.Sheet.{IsSheet};
 ghost use Rattle.buck_bid.specs.Offers.{codes_in, AreOffers};
@@ -7,7 +7,7 @@ ghost use Rattle.buck_bid.specs.Limits.{IsBandOf};
 ghost use Rattle.buck_bid.specs.Prices.{IsPricing, HasNoPrice};
 ghost use Rattle.buck_dp.specs.inner.Points.{point_after};
 ghost use Rattle.buck_dp.specs.inner.Takers.{IsTaker};
-ghost use Rattle.buck_dp.specs.inner.Quotes.{quote_bid, IsSmall, IsQuoteOf, HasNoBid, AreQuotes};
+ghost use Rattle.buck_dp.specs.inner.Quotes.{quote_bid, priced_at, IsSmall, IsOver, IsTermOf, IsNoTerm, AreTerms, AreQuotes};
 
 use crate::bid::Bid;
 use crate::takers::Takers;
@@ -38,6 +38,14 @@ pub struct Ask {
     pub band: Band,
 }
 
+/// What an assortment bids under each sheet of an instruction for its logs of one length in a band: its quote, but for
+/// the price, which is that of a class.
+#[derive(Clone, Copy, Debug)]
+pub struct Term {
+    pub class: usize,
+    pub quote: Quote,
+}
+
 impl Quote {
     /// The bid for a log of a top diameter.
     #[inline(always)]
@@ -60,66 +68,178 @@ fn steps_after(step: u32, trim: u32) -> u32
     (trim + (step - 1)) / step
 }
 
-/// The quote of an offer that is priced so.
-fn quote_with(sheet: &Sheet, offer: Offer, rank: u32, pricing: Pricing) -> Quote
-    requires class { pricing.class < classes sheet.now.instruction }
-    requires assortment { offer.assortment < length sheet.now.instruction.assortments }
-    ensures kind { result.kind ≡ pricing.kind }
-    ensures price { result.price ≡ slice_index sheet.now.prices pricing.class }
-    ensures low { result.price ≤ 20000000 }
-    ensures rank { result.rank ≡ rank }
-    ensures length { result.length ≡ offer.length }
-    ensures steps { result.steps ≡ offer.length / sheet.now.instruction.module }
-    ensures trim { IfSome (slice_get sheet.now.instruction.assortments offer.assortment) (λ x. x.trim ≡ result.trim) }
-    ensures rise { result.rise ≡ point_after sheet.now.instruction.module result.trim }
-{
-    let module = sheet.instruction().module();
-    let trim = sheet.instruction().assortments()[offer.assortment].trim();
-    Quote {
-        kind: pricing.kind,
-        price: sheet.prices()[pricing.class],
-        rank,
-        length: offer.length,
-        steps: offer.length / module,
-        trim,
-        rise: steps_after(module, trim),
+impl Term {
+    /// The quote under a sheet of the instruction.
+    pub fn quote_under(self, sheet: &Sheet) -> Quote
+        requires { self.class < classes sheet.now.instruction }
+        ensures { result ≡ priced_at self.quote (slice_index sheet.now.prices self.class) }
+    {
+        let quote = self.quote;
+        Quote {
+            kind: quote.kind,
+            price: sheet.prices()[self.class],
+            rank: quote.rank,
+            length: quote.length,
+            steps: quote.steps,
+            trim: quote.trim,
+            rise: quote.rise,
+        }
     }
 }
 
-/// The quote of the offer at a place, if its assortment is among the takers and has a price.
-fn quote_at(sheet: &Sheet, offers: &[Offer], place: usize, ask: Ask) -> Option<Quote>
-    requires offers { AreOffers sheet.now.instruction offers.now }
-    requires band { IsBandOf sheet.now.instruction ask.band.thinnest ask.band.past }
-    requires place { place < length offers.now }
-    ensures some { IfSome result (λ q. IsQuoteOf sheet.now (codes_in offers.now) ask place q) }
-    ensures none { IfNone result (HasNoBid sheet.now (codes_in offers.now) ask place) }
+/// The term of an offer that is priced so.
+fn term_of(instruction: &Instruction, offer: Offer, rank: u32, pricing: Pricing) -> Term
+    requires assortment { offer.assortment < length instruction.now.assortments }
+    ensures class { result.class ≡ pricing.class }
+    ensures kind { result.quote.kind ≡ pricing.kind }
+    ensures rank { result.quote.rank ≡ rank }
+    ensures length { result.quote.length ≡ offer.length }
+    ensures steps { result.quote.steps ≡ offer.length / instruction.now.module }
+    ensures trim { IfSome (slice_get instruction.now.assortments offer.assortment) (λ x. x.trim ≡ result.quote.trim) }
+    ensures rise { result.quote.rise ≡ point_after instruction.now.module result.quote.trim }
 {
-    let instruction = sheet.instruction();
+    let module = instruction.module();
+    let trim = instruction.assortments()[offer.assortment].trim();
+    Term {
+        class: pricing.class,
+        quote: Quote {
+            kind: pricing.kind,
+            price: 0,
+            rank,
+            length: offer.length,
+            steps: offer.length / module,
+            trim,
+            rise: steps_after(module, trim),
+        },
+    }
+}
+
+/// The term of the offer at a place, if its assortment is among the takers and has a price.
+fn term_at(instruction: &Instruction, offers: &[Offer], place: usize, ask: Ask) -> Option<Term>
+    requires offers { AreOffers instruction.now offers.now }
+    requires band { IsBandOf instruction.now ask.band.thinnest ask.band.past }
+    requires place { place < length offers.now }
+    ensures some { IfSome result (IsTermOf instruction.now (codes_in offers.now) ask place) }
+    ensures none { IfNone result (IsNoTerm instruction.now (codes_in offers.now) ask place) }
+{
     let offer = offers[place];
     if !ask.takers.contains(offer.assortment) {
         return None;
     }
     match pricing_of(instruction, offer, ask.band) {
         None => None,
-        Some(pricing) => Some(quote_with(sheet, offer, (1023 - place) as u32, pricing)),
+        Some(pricing) => Some(term_of(instruction, offer, (1023 - place) as u32, pricing)),
     }
 }
 
-/// A price list: the quotes of some takers in a band, by their length.
+/// Puts the terms of some takers in a band behind others, offer by offer.
+pub fn put_terms(
+    terms: &mut Vec<Option<Term>>,
+    instruction: &Instruction,
+    offers: &[Offer],
+    ask: Ask,
+) -> Result<(), AllocError>
+    requires offers { AreOffers instruction.now offers.now }
+    requires band { IsBandOf instruction.now ask.band.thinnest ask.band.past }
+    ensures { (more : List (Option Term)) × (terms.new.items ≡ terms.old.items ++ more)
+        × OnOk result (AreTerms instruction.now (codes_in offers.now) ask (length offers.now) more) }
+{
+    for place in 0..offers.len() {
+        let term = term_at(instruction, offers, place, ask);
+        terms.push(term)?;
+    }
+    Ok(())
+}
+
+/// A price for each millimetre of a log and each unit of its top's area.
+fn price_per_area(quote: Quote) -> u64
+    requires small { IsSmall quote }
+    ensures value { result ≡ quote.price * quote.length }
+    ensures low { result ≤ 600000000000 }
+{
+    u64::from(quote.price) * u64::from(quote.length)
+}
+
+/// Whether another quote bids more worth at each diameter from the thinnest on, for logs that are no longer and with no
+/// more trim; both are priced per cubic metre. A whole volume may be less than the true one by one cubic centimetre,
+/// hence the price beside the product.
+fn is_outbid(quote: Quote, other: Quote, thinnest: u32) -> bool
+    requires small { IsSmall quote }
+    requires other { IsSmall other }
+    requires thinnest { thinnest ≤ 2000 }
+    ensures { IsTrue result → IsOver thinnest other quote }
+{
+    if quote.kind != 1 {
+        return false;
+    }
+    if other.kind != 1 {
+        return false;
+    }
+    if other.steps > quote.steps {
+        return false;
+    }
+    if other.trim > quote.trim {
+        return false;
+    }
+    let area = volume_of(thinnest, 1);
+    area * price_per_area(quote) + u64::from(other.price) < area * price_per_area(other)
+}
+
+/// Puts a quote behind others, unless the one that leads these outbids it in its whole band. It leads then, where it can
+/// outbid others.
+fn put_quote(
+    list: &mut Vec<Quote>,
+    leader: &mut Quote,
+    quote: Quote,
+    thinnest: u32,
+) -> Result<(), AllocError>
+    requires small { IsSmall quote }
+    requires leader { IsSmall leader.old }
+    requires thinnest { thinnest ≤ 2000 }
+    ensures { OnOk result (((list.new.items ≡ list.old.items) × (leader.new ≡ leader.old) × IsOver thinnest leader.old quote)
+        ⊎ ((list.new.items ≡ list.old.items ++ quote ∷ []) × ((leader.new ≡ leader.old) ⊎ (leader.new ≡ quote)))) }
+{
+    if is_outbid(quote, *leader, thinnest) {
+        return Ok(());
+    }
+    if quote.kind == 1 && quote.trim <= leader.trim {
+        *leader = quote;
+    }
+    list.push(quote)?;
+    Ok(())
+}
+
+/// A price list: the quotes of some takers in a band, by their length, from their terms, without those that a shorter log
+/// outbids in the whole band.
 pub fn price_list(
     alloc: Global,
     sheet: &Sheet,
-    offers: &[Offer],
+    terms: &[Option<Term>],
     ask: Ask,
 ) -> Result<Vec<Quote>, AllocError>
-    requires offers { AreOffers sheet.now.instruction offers.now }
-    requires band { IsBandOf sheet.now.instruction ask.band.thinnest ask.band.past }
-    ensures { IfOk result (λ list. AreQuotes sheet.now (codes_in offers.now) ask (length offers.now) list.items) }
+    requires valid { IsSheet sheet.now }
+    requires thinnest { ask.band.thinnest ≤ 2000 }
+    requires terms { (codes : List ℕ) × AreTerms sheet.now.instruction codes ask (length terms.now) terms.now }
+    ensures { IfOk result (λ list. (codes : List ℕ) → AreTerms sheet.now.instruction codes ask (length terms.now) terms.now
+        → AreQuotes sheet.now codes ask (length terms.now) list.items) }
 {
-    let mut list = Vec::new(alloc);
-    for place in 0..offers.len() {
-        if let Some(quote) = quote_at(sheet, offers, place, ask) {
-            list.push(quote)?;
+    let mut list = Vec::with_capacity(alloc, terms.len())?;
+    let mut leader = Quote {
+        kind: 0,
+        price: 0,
+        rank: 0,
+        length: 0,
+        steps: 0,
+        trim: u32::MAX,
+        rise: 0,
+    };
+    for term in terms {
+        match *term {
+            None => {}
+            Some(term) => {
+                let quote = term.quote_under(sheet);
+                put_quote(&mut list, &mut leader, quote, ask.band.thinnest)?;
+            }
         }
     }
     Ok(list)

@@ -89,6 +89,7 @@ fn points_of(sheet: &Sheet, stem: &Stem) -> usize
 fn settle_once(values: &mut [Bid], choices: &mut [u32], top: usize)
     requires next { top + 1 < length values.old }
     requires room { top < length choices.old }
+    requires ready { (p : GroundParts) × AreSearched p values.old choices.old (top + 1) 0 }
     ensures number { length values.new ≡ length values.old }
     ensures room { length choices.new ≡ length choices.old }
     ensures searched { (p : GroundParts) → IsSheet p.sheet

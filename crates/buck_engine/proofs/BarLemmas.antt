@@ -4,7 +4,7 @@ use Rattle.std.specs.List.{position_or_len, before_first, after_first}
 use Rattle.std.proofs.lemmas.List.{drop_all}
 use Rattle.std.proofs.lemmas.List.Sums.{position_or_len_is}
 use Rattle.bstr.specs.Find.{IsFirstByte, is_byte}
-use Rattle.buck_engine.specs.Engine.{is_bar}
+use Rattle.buck_engine.specs.run.Bucking.{is_bar}
 
 no_true : (b : Bool) → (b ≡ true → ⊥) → b ≡ false
 no_true true h = absurd (h refl)

@@ -8,7 +8,7 @@ use Rattle.buck_value.specs.declared.log.Log.{Log}
 use Rattle.buck_value.specs.Sheet.{SheetParts}
 use Rattle.buck_dp.specs.Order.{IsLogBefore, IsBefore}
 use Rattle.buck_dp.specs.Best.{IsFirstBest}
-use Rattle.buck_engine.specs.Text.{CutStem, IsTextUnder, text_of}
+use Rattle.buck_engine.specs.text.Bucking.{CutStem, IsTextUnder, text_of}
 
 log_asym : (a b : Log) → IsLogBefore a b → IsLogBefore b a → ⊥
 log_asym a b (inl p) (inl q) = omega (arith, p, q)

@@ -5,9 +5,9 @@ use Rattle.std.proofs.KnownBytes.{Keeps-refl}
 use Rattle.buck_book.specs.History.{HistoryParts}
 use Rattle.buck_journal.specs.Written.{journal_text}
 use Rattle.buck_engine.specs.declared.fault.EngineFault.{EngineFault}
-use Rattle.buck_engine.specs.Lent.{of_writer}
-use Rattle.buck_engine.specs.Output.{AppendsSome, IsWritten}
-use Rattle.buck_engine.specs.Report.{IsReport}
+use Rattle.buck_engine.specs.fleet.Lent.{of_writer}
+use Rattle.buck_engine.specs.text.Written.{AppendsSome, IsWritten}
+use Rattle.buck_engine.specs.text.Report.{IsReport}
 use Rattle.buck_engine.specs.inner.Fleet.{AreWritten}
 
 -- the journal stopped, and nothing was written of the report

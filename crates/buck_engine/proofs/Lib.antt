@@ -8,3 +8,8 @@ pub mod Harvested
 pub mod Harvests
 pub mod Lists
 pub mod Opening
+pub mod Runs
+pub mod Parts
+pub mod Served
+pub mod LastSheet
+pub mod Pages

@@ -1,5 +1,5 @@
 -- Stem files that are read one after the other.
-use Rattle.std.proofs.Common.{◌≡◌, ℕ, zero, suc, ◌+◌, ◌<◌, ◌⊎◌, inl, inr, List, [], ◌∷◌, ◌++◌, length, map, drop, get_or, set, Option, Some, None, Result, Ok, Err, IfSome, IsOk, refl, sym, ap, subst, ◌∙◌, arith}
+use Rattle.std.proofs.Common.{◌≡◌, ℕ, zero, suc, ◌+◌, ◌<◌, ◌⊎◌, inl, inr, List, [], ◌∷◌, ◌++◌, length, map, drop, get_or, set, Option, None, Result, Ok, Err, refl, sym, ap, subst, ◌∙◌, arith}
 use Rattle.std.specs.Result.{IfErr, IsErrAnd}
 use Rattle.std.specs.declared.sync.Arc.{Arc}
 use Rattle.std.specs.declared.vec.Vec.{Vec}
@@ -7,13 +7,17 @@ use Rattle.std.specs.declared.alloc.Global.{Global}
 use Rattle.std.specs.Prelude.{slice_index_or}
 use Rattle.std.proofs.lemmas.List.{drop-set-lt, get_or-drop, get_or-map}
 use Rattle.std.proofs.lemmas.Grind.{drop_more_same}
+use Rattle.buck_apt.specs.Apt.{apt_of}
+use Rattle.buck_apt.specs.Instruction.{InstructionParts}
 use Rattle.buck_stem.specs.Stem.{StemParts}
 use Rattle.buck_stem.specs.declared.stem.Stem.{Stem}
 use Rattle.buck_stem.specs.Stm.{stm_of}
 use Rattle.buck_fleet.specs.Run.{stems_of, stems_at}
 use Rattle.buck_engine.specs.declared.fault.EngineFault.{EngineFault}
 use Rattle.buck_engine.specs.declared.fault.EngineFault.TheVariants.{Memory}
-use Rattle.buck_engine.specs.inner.Fleet.{AreListsOf, IsListRefusal, IsStemRefusal}
+use Rattle.buck_engine.specs.run.Reading.{IsStmFault, Says}
+use Rattle.buck_engine.specs.fleet.Running.{AreAccepted, IsCuttingFault, IsHarvestFault, IsListFault}
+use Rattle.buck_engine.specs.inner.Fleet.{AreListsOf}
 
 -- what stands at a place of what is left as it was
 pub same_place : {A : Type 0} (f : A → Option (List ℕ)) (now old : List A) (k : ℕ) (x : A) → k < length old → drop k now ≡ drop k old → f (get_or now k x) ≡ get_or (map f old) k None
@@ -43,37 +47,40 @@ before_or_last j k lt = grind (arith, lt)
 
 -- one list more
 pub lists_more : (k : ℕ) (stms : List (Option (List ℕ))) (lists new : List (Vec (Arc Stem Global) Global)) (list : Vec (Arc Stem Global) Global)
-    → length lists ≡ k → new ≡ lists ++ list ∷ [] → AreListsOf k stms lists → IfSome (slice_index_or stms k None) (λ bytes. stm_of bytes ≡ Ok (stems_of list.items)) → AreListsOf (k + 1) stms new
+    → length lists ≡ k → new ≡ lists ++ list ∷ [] → AreListsOf k stms lists → Says stm_of (slice_index_or stms k None) (Ok (stems_of list.items)) → AreListsOf (k + 1) stms new
 lists_more k stms lists new list long is made one j lt = elim (before_or_last j k lt) [
   | inl less ↦ (
       let same : stems_at new j ≡ stems_at lists j = ap (λ (l : List (Vec (Arc Stem Global) Global)). stems_at l j) is ∙ stems_before lists list j (omega (arith, less, long)) in
-      subst (λ (stems : List StemParts). IfSome (slice_index_or stms j None) (λ bytes. stm_of bytes ≡ Ok stems)) (sym same) (made j less))
+      subst (λ (stems : List StemParts). Says stm_of (slice_index_or stms j None) (Ok stems)) (sym same) (made j less))
   | inr last ↦ (
       let same : stems_at new k ≡ stems_of list.items = ap (λ (l : List (Vec (Arc Stem Global) Global)). stems_at l k) is ∙ ap (λ (n : ℕ). stems_at (lists ++ list ∷ []) n) (sym long) ∙ stems_last lists list in
-      subst (λ (n : ℕ). IfSome (slice_index_or stms n None) (λ bytes. stm_of bytes ≡ Ok (stems_at new n))) (sym last)
-      (subst (λ (stems : List StemParts). IfSome (slice_index_or stms k None) (λ bytes. stm_of bytes ≡ Ok stems)) (sym same) one))
+      subst (λ (n : ℕ). Says stm_of (slice_index_or stms n None) (Ok (stems_at new n))) (sym last)
+      (subst (λ (stems : List StemParts). Says stm_of (slice_index_or stms k None) (Ok stems)) (sym same) one))
 ]
 
-is_accepted : (known : Option (List ℕ)) (stems : List StemParts) → IfSome known (λ bytes. stm_of bytes ≡ Ok stems) → IfSome known (λ bytes. IsOk (stm_of bytes))
-is_accepted None stems are = tt
-is_accepted (Some bytes) stems are = rw are refl
-
 -- the files whose stems are there were accepted
-pub accepted : (k : ℕ) (stms : List (Option (List ℕ))) (lists : List (Vec (Arc Stem Global) Global)) → AreListsOf k stms lists → (j : ℕ) → j < k → IfSome (slice_index_or stms j None) (λ bytes. IsOk (stm_of bytes))
-accepted k stms lists made j lt = is_accepted (slice_index_or stms j None) (stems_at lists j) (made j lt)
+pub accepted : (k : ℕ) (stms : List (Option (List ℕ))) (lists : List (Vec (Arc Stem Global) Global)) → AreListsOf k stms lists → AreAccepted k stms
+accepted k stms lists made j lt = (stems_at lists j, made j lt)
 
--- the file at a place is the first that is refused
+-- the file at a place is the first that has a fault
 pub refused_at : (k : ℕ) (stms : List (Option (List ℕ))) (lists : List (Vec (Arc Stem Global) Global)) (known : Option (List ℕ)) (e : EngineFault) (number : ℕ)
-    → k < length stms → AreListsOf k stms lists → known ≡ slice_index_or stms k None → IsStemRefusal number known e → number ≡ k + 1 → IsListRefusal stms e
-refused_at k stms lists known e number lt made is refusal from_1 = record {
+    → k < length stms → AreListsOf k stms lists → known ≡ slice_index_or stms k None → IsStmFault number known e → number ≡ k + 1 → IsListFault stms e
+refused_at k stms lists known e number lt made is fault from_1 = record {
   place = k;
   exists = lt;
   accepted = accepted k stms lists made;
-  refusal = subst (λ (n : ℕ). IsStemRefusal n (slice_index_or stms k None) e) from_1 (subst (λ (o : Option (List ℕ)). IsStemRefusal number o e) is refusal);
+  is_fault = subst (λ (n : ℕ). IsStmFault n (slice_index_or stms k None) e) from_1 (subst (λ (o : Option (List ℕ)). IsStmFault number o e) is fault);
 }
 
 -- memory ran out at a place
 pub memory_at : {X : Type 0} (k : ℕ) (stms : List (Option (List ℕ))) (lists : List (Vec (Arc Stem Global) Global)) (r : Result X EngineFault)
-    → k < length stms → AreListsOf k stms lists → IsErrAnd r (λ e. e ≡ Memory) → IfErr r (IsListRefusal stms)
+    → k < length stms → AreListsOf k stms lists → IsErrAnd r (λ e. e ≡ Memory) → IfErr r (IsListFault stms)
 memory_at k stms lists (Ok x) lt made is = tt
-memory_at k stms lists (Err e) lt made is = subst (IsListRefusal stms) (sym is) (record { place = k; exists = lt; accepted = accepted k stms lists made; refusal = tt })
+memory_at k stms lists (Err e) lt made is = record { place = k; exists = lt; accepted = accepted k stms lists made; is_fault = inr (inl is) }
+
+-- what goes wrong in a fleet comes after all files were accepted
+pub cut_fault : {X : Type 0} (apt : Option (List ℕ)) (stms : List (Option (List ℕ))) (lists : List (Vec (Arc Stem Global) Global)) (n : ℕ) (i : InstructionParts) (r : Result X EngineFault)
+    → Says apt_of apt (Ok i) → n ≡ length stms → AreListsOf n stms lists → IfErr r IsCuttingFault → IfErr r (IsHarvestFault apt stms)
+cut_fault apt stms lists n i (Ok x) says all made fault = tt
+cut_fault apt stms lists n i (Err e) says all made fault =
+    inr ((i, says), inr (subst (λ (k : ℕ). AreAccepted k stms) all (accepted n stms lists made), fault))

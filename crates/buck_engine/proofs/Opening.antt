@@ -1,7 +1,7 @@
 -- Files that are opened one after the other.
 use Rattle.std.proofs.Common.{◌≡◌, ℕ, ◌+◌, ◌<◌, List, [], ◌∷◌, ◌++◌, length, take, get_or, Option, Some, map, arith, ap, ◌∙◌, refl, sym, subst}
 use Rattle.std.proofs.lemmas.List.{get_or-map, length-map, take_more}
-use Rattle.buck_engine.specs.Files.{OpensEach}
+use Rattle.buck_engine.specs.run.Opening.{OpensEach}
 
 -- one file more
 opens_more : {O F : Type 0} (opens : O → List ℕ → Option F → O → Type 0) (old mid new : O) (names : List (List ℕ)) (name : List ℕ) (files : List F) (file : F)

@@ -5,7 +5,7 @@ use Rattle.std.specs.List.{flat_map, range_with_len}
 use Rattle.std.proofs.lemmas.List.{flat_map_more}
 use Rattle.buck_apt.specs.Instruction.{AssortmentParts}
 use Rattle.buck_book.specs.declared.posting.Posting.{Posting}
-use Rattle.buck_engine.specs.Report.{EndingParts, posting_line, posting_lines, assortment_lines, all_lines}
+use Rattle.buck_engine.specs.text.Report.{EndingParts, posting_line, posting_lines, assortment_lines, all_lines}
 
 range_more : (a n : ℕ) → range_with_len a (suc n) ≡ range_with_len a n ++ (a + n) ∷ []
 range_more a zero = let e : a ≡ a + 0 = omega arith in ap (λ x. x ∷ []) e

@@ -7,7 +7,7 @@ use Rattle.buck_value.specs.declared.log.Log.{Log}
 use Rattle.buck_value.specs.Sheet.{SheetParts}
 use Rattle.buck_dp.specs.Cutting.{IsCutFrom}
 use Rattle.buck_engine.specs.inner.Text.{IsPut}
-use Rattle.buck_engine.specs.Text.{CutStem, IsBucking, stem_line, stem_lines, log_line, logs_of, worth_of_all}
+use Rattle.buck_engine.specs.text.Bucking.{CutStem, IsBucking, stem_line, stem_lines, log_line, logs_of, worth_of_all}
 use Rattle.buck_dp.specs.Best.{IsFirstBest, cutting_worth}
 use Rattle.std.proofs.lemmas.List.{map-append, flat_map_more}
 use Rattle.std.proofs.lemmas.List.Elements.{All-append}

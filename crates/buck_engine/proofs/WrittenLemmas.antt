@@ -12,8 +12,8 @@ use Rattle.std.proofs.KnownBytes.{Appends-trans}
 use Rattle.std.specs.Io.KnownBytes.{Appends}
 use Rattle.std.specs.Result.{IsErrAnd}
 use Rattle.buck_engine.specs.declared.fault.EngineFault.{EngineFault}
-use Rattle.buck_engine.specs.Output.{IsWritten, TellsWritten}
-use Rattle.buck_engine.specs.Run.{AppendsFirst}
+use Rattle.buck_engine.specs.text.Written.{IsWritten, TellsWritten}
+use Rattle.buck_engine.specs.run.Serving.{AppendsFirst}
 
 -- a text, and then another
 pub then_written : (a b c : Option (List ℕ)) (s t : List ℕ) (r : Result (Unit {0}) EngineFault) → Appends a b s → IsWritten b c t r → IsWritten a c (s ++ t) r

@@ -2,7 +2,7 @@
 use Rattle.std.specs.Prelude.{◌≡◌, ℕ, List}
 use Rattle.buck_apt.specs.Instruction.{InstructionParts}
 use Rattle.buck_stem.specs.Stem.{StemParts}
-use Rattle.buck_engine.specs.Text.{IsBuckText}
+use Rattle.buck_engine.specs.text.Bucking.{IsBuckText}
 
 -- an instruction and stems have no more than one text
 abbrev pub OneText : Type 0

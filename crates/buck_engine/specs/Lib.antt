@@ -1,13 +1,6 @@
 pub mod Faults
-pub mod Output
-pub mod Text
-pub mod Report
-pub mod Engine
-pub mod Files
-pub mod Run
-pub mod Check
-pub mod Lent
-pub mod Fleet
-pub mod Served
+pub mod text
+pub mod run
+pub mod fleet
 pub mod Laws
 pub mod inner

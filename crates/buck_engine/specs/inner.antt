@@ -1,4 +1,6 @@
-pub mod Engine
+pub mod Reading
 pub mod Text
 pub mod Report
 pub mod Fleet
+pub mod Served
+pub mod View

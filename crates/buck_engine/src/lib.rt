@@ -2,35 +2,33 @@
 //!
 //! [`run_buck`] and [`run_bare`] are generic over readers and writers, and [`buck_text`] makes their text. So is
 //! [`run_fleet_files`], which cuts stem files by a fleet, one harvester for each, and writes the fleet's journal and
-//! its report, [`report_text`]; [`run_check`] checks such a journal. [`write_fault`] and [`status`] are the line and
-//! the exit status of a fault. [`serve`] is a whole run of the program, from its [`Task`] to its exit status, over
-//! files that an [`Open`] opens, as [`Disk`], and [`serve_fleet`] one of a fleet, at which an [`Onlooker`] may look on.
+//! its report, [`report_text`]; [`run_check`] checks such a journal, [`run_report`] writes its report, and [`run_view`] and
+//! [`run_table`] show it. [`write_fault`] and [`status`] are the line and the exit status of a fault. [`serve`] is a whole
+//! run of the program, from its [`Task`] to its exit status, over files that an [`Open`] opens, as [`Disk`],
+//! [`serve_view`] one that shows a journal, and [`serve_fleet`] one of a fleet, at which an [`Onlooker`] may look on.
 //! [`laws`] says that there is one text.
 #![tactic(auto)]
 
-mod check;
-mod engine;
 mod fault;
-mod files;
 mod fleet;
-mod harvest;
-mod input;
 pub mod laws;
-mod onlooker;
-mod output;
-mod report;
 mod run;
-mod served;
 mod text;
 
-pub use check::run_check;
-pub use engine::{run_bare, run_buck};
+pub use buck_tables::Table;
+pub use buck_view::Files;
 pub use fault::{EngineFault, TextFault, status};
-pub use files::{Disk, Make, Open};
-pub use fleet::run_fleet_files;
-pub use onlooker::{Nobody, Onlooker};
-pub use output::write_fault;
-pub use report::{degree, report_text};
-pub use run::{Task, conclude, explain, serve};
-pub use served::{FleetTask, NamedRule, serve_fleet};
-pub use text::buck_text;
+pub use fleet::onlooker::{Nobody, Onlooker};
+pub use fleet::running::run_fleet_files;
+pub use fleet::serving::{FleetTask, NamedRule, serve_fleet};
+pub use run::bucking::{run_bare, run_buck};
+pub use run::checking::run_check;
+pub use run::disk::{Disk, Renewed};
+pub use run::opening::{Make, Open};
+pub use run::reporting::run_report;
+pub use run::serving::{Task, conclude, explain, serve};
+pub use run::showing::{Shown, ViewTask, serve_view};
+pub use run::viewing::{run_table, run_view};
+pub use text::bucking::buck_text;
+pub use text::report::{degree, report_text};
+pub use text::writing::write_fault;

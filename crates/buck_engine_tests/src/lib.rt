@@ -1,5 +1,5 @@
 //! Tests of the engines: readers, writers and openers that fail, memory that is refused, files at the limit of length,
-//! what is said of faults, and whole runs.
+//! and what is said of faults.
 #![tactic(auto)]
 
 #[cfg(test)]
@@ -10,8 +10,6 @@ mod faults;
 mod lengths;
 #[cfg(test)]
 mod memory;
-#[cfg(test)]
-mod serving;
 #[cfg(test)]
 mod streams;
 #[cfg(test)]

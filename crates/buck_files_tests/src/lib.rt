@@ -25,5 +25,3 @@ mod stem_files;
 mod stems;
 #[cfg(test)]
 mod texts;
-#[cfg(test)]
-mod ways;

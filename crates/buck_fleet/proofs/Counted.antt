@@ -9,7 +9,7 @@ use Rattle.buck_book.specs.Posting.{targets_of}
 use Rattle.buck_book.specs.Targets.{AreTargets}
 use Rattle.buck_book.specs.Counts.{AreClassCounts}
 use Rattle.buck_book.specs.History.{HistoryParts, IsLawful, version_of, in_force}
-use Rattle.buck_book.specs.Book.{IsFirst, BookParts, IsBook, sheets_from}
+use Rattle.buck_book.specs.Book.{IsFirst, sheets_from}
 use Rattle.buck_book.proofs.Sheets.{length-sheets_from, get_or-sheets_from}
 use Rattle.buck_fleet.specs.declared.close.CloseFault.{CloseFault}
 use Rattle.buck_fleet.specs.declared.seat.Kept.{Kept}
@@ -34,28 +34,13 @@ prices_are f xs v i prices e = fused f xs ∙ ap (λ (l : List SheetParts). map 
 pub history_same : (h : HistoryParts) (i : InstructionParts) (prices : List (List ℕ)) (ps : List Posting) → i ≡ h.instruction → prices ≡ h.sheets → ps ≡ h.postings → history_of i prices ps ≡ h
 history_same h i prices ps a b c = λ t. record { instruction = a t; sheets = b t; postings = c t }
 
-pub lawful_out : {F : Type 0} (b : BookParts F) (i : InstructionParts) (prices : List (List ℕ)) (ps : List Posting) → IsBook b → i ≡ b.history.instruction → prices ≡ b.history.sheets → ps ≡ b.history.postings
-    → IsLawful (history_of i prices ps)
-lawful_out b i prices ps kept ei es ep = subst IsLawful (sym (history_same b.history i prices ps ei es ep)) kept.lawful
-
-pub firsts_out : {F : Type 0} (b : BookParts F) (i : InstructionParts) (prices : List (List ℕ)) (ps : List Posting) → IsBook b → i ≡ b.history.instruction → prices ≡ b.history.sheets → ps ≡ b.history.postings
-    → (k : ℕ) (x : Posting) → slice_get ps k ≡ Some x → IsFirst (history_of i prices ps) x
-firsts_out b i prices ps kept ei es ep =
-    subst (λ (h : HistoryParts). (k : ℕ) (x : Posting) → slice_get h.postings k ≡ Some x → IsFirst h x) (sym (history_same b.history i prices ps ei es ep)) kept.firsts
-
-pub sheets_out : {F : Type 0} (b : BookParts F) (i : InstructionParts) (prices : List (List ℕ)) (sheets : List SheetParts) → i ≡ b.history.instruction → prices ≡ b.history.sheets
-    → sheets ≡ sheets_from 0 b.history.instruction b.history.sheets → sheets ≡ sheets_from 0 i prices
-sheets_out b i prices sheets ei es e = e ∙ (λ t. sheets_from 0 (sym ei t) (sym es t))
-
-pub targets_out : (i j : InstructionParts) (ps qs : List Posting) (targets : List ℕ) → j ≡ i → qs ≡ ps → targets ≡ targets_of i ps → targets ≡ targets_of j qs
-targets_out i j ps qs targets ei ep e = e ∙ (λ t. targets_of (sym ei t) (sym ep t))
-
-pub valid_out : (i j : InstructionParts) (targets : List ℕ) → j ≡ i → AreTargets i targets → AreTargets j targets
-valid_out i j targets ei v = subst (λ (x : InstructionParts). AreTargets x targets) (sym ei) v
-
-pub counts_out : (i j : InstructionParts) (ps qs : List Posting) (counts : List ℕ) → j ≡ i → qs ≡ ps → AreClassCounts i ps counts → AreClassCounts j qs counts
-counts_out i j ps qs counts ei ep c =
-    subst (λ (x : InstructionParts). AreClassCounts x qs counts) (sym ei) (subst (λ (l : List Posting). AreClassCounts i l counts) (sym ep) c)
+-- what a book says of its history is true of the parts that it gives
+pub parts_out : (h : HistoryParts) (i : InstructionParts) (prices : List (List ℕ)) (ps : List Posting) (sheets : List SheetParts) (targets counts : List ℕ) → history_of i prices ps ≡ h
+    → IsLawful h × (sheets ≡ sheets_from 0 h.instruction h.sheets) × (targets ≡ targets_of h.instruction h.postings) × AreTargets h.instruction targets × AreClassCounts h.instruction h.postings counts
+    → IsLawful (history_of i prices ps) × (sheets ≡ sheets_from 0 i prices) × (targets ≡ targets_of i ps) × AreTargets i targets × AreClassCounts i ps counts
+parts_out h i prices ps sheets targets counts same =
+    subst (λ (x : HistoryParts). IsLawful x × (sheets ≡ sheets_from 0 x.instruction x.sheets) × (targets ≡ targets_of x.instruction x.postings) × AreTargets x.instruction targets × AreClassCounts x.instruction x.postings counts)
+    (sym same)
 
 -- what `close` hands out, by what it takes in: the kept lists, and the history with the first of the best cuttings
 pub handed_out : (n : ℕ) (seats : List SeatParts) (c : ClosedParts) (h : HistoryParts) (lists : List (List Kept)) → c.history ≡ h → c.kept ≡ lists → length lists ≡ n

@@ -172,10 +172,7 @@ fn hand_out<F: Drop>(book: Book<F>, kept: Vec<Vec<Kept>>) -> Closed
 fn is_of(posting: &Posting, harvester: u32) -> bool
     ensures { result ≡ (harvester_of posting.now == harvester) }
 {
-    match posting {
-        Posting::Cut(entry) => entry.harvester == harvester,
-        Posting::Demand(demand) => demand.harvester == harvester,
-    }
+    posting.harvester() == harvester
 }
 
 /// Whether a posting was kept at this position.

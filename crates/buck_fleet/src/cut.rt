@@ -77,6 +77,7 @@ impl<F: Fn(&Standing) -> u64 + Drop, L: Ledger> Fleet<F, L> {
         ensures left { IfErr result (λ e. seat.new ≡ seat.old) }
     {
         let mut desk = self.lock(rt);
+        // Leave, where there is no memory for a plan: the call ends refused.
         let plan = seat.plan(alloc, desk.book.sheet(), stem)?;
         match desk.commit(rt, alloc, &self.board, seat, plan, attempts, Path::Locked) {
             Ok(reply) => Ok(reply),

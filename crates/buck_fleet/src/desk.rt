@@ -1,5 +1,5 @@
 //! The desk: what lies under the lock, and all that is done there.
-ghost use Rattle.std.specs.Prelude.{◌≡◌, ◌<◌, ◌≤◌, ◌++◌, ◌∷◌, [], length, IfOk, IfErr};
+ghost use Rattle.std.specs.Prelude.{◌≡◌, ◌+◌, ◌<◌, ◌≤◌, ◌++◌, ◌∷◌, [], length, IfOk, IfErr, OnOk, vec_len, vec_capacity};
 ghost use Rattle.buck_rule.specs.Stored.{AllAnswer};
 ghost use Rattle.buck_board.specs.Board.{IsSeatOf};
 ghost use Rattle.buck_book.specs.Plan.{IsPlan};
@@ -11,7 +11,6 @@ use crate::seat::{DemandReply, Kept, Path, Reply, Seat};
 use buck_board::Board;
 use buck_book::{Book, Demand, DemandRefusal, Entry, Plan, Posting, Ready, ReadyDemand, Refusal};
 use buck_dp::Cutting;
-use buck_record::Memory;
 use buck_rule::Standing;
 use buck_stem::Stem;
 use std::alloc::Global;
@@ -29,15 +28,12 @@ pub struct Desk<F, L: Ledger> {
     ghost no_amount: { rest.amount ≡ 0 },
 }
 
-/// The stem and the cutting of a plan, for the seat's kept list.
-fn shared(plan: &Plan) -> Result<(Arc<Stem>, Arc<Cutting>), Memory>
-    ensures stem { IfOk result (λ s. s.0.value ≡ plan.now.stem) }
-    ensures logs { IfOk result (λ s. s.1.value.logs.items ≡ plan.now.logs) }
-    ensures best { IsPlan plan.now }
-{
-    let cutting = plan.cutting().clone()?;
-    let stem = plan.stem().clone()?;
-    Ok((stem, cutting))
+/// All that the commit of a plan stores or hands out, and what a seat keeps of it, made before the commit.
+#[derive(Drop)]
+struct ReadyCut {
+    ready: Ready,
+    stem: Arc<Stem>,
+    cutting: Arc<Cutting>,
 }
 
 /// Prepares the commit of a plan, and puts the next sheet up, where it ends a period.
@@ -61,52 +57,133 @@ fn prepare_plan<R: Wait, F: Fn(&Standing) -> u64 + Drop>(
     Ok(ready)
 }
 
-/// Prepares the commit of new targets, and puts the next sheet up.
+/// Makes all that the commit of a plan needs, the room in the seat's kept list first.
+fn prepare_cut<R: Wait, F: Fn(&Standing) -> u64 + Drop>(
+    rt: &R,
+    alloc: Global,
+    book: &mut Book<F>,
+    board: &Board,
+    kept: &mut Vec<Kept>,
+    plan: &Plan,
+) -> Result<ReadyCut, Refusal>
+    requires { AllAnswer F.Fn }
+    ensures history { book.new.history ≡ book.old.history }
+    ensures kept { kept.new.items ≡ kept.old.items }
+    ensures room { OnOk result (vec_len kept.new < vec_capacity kept.new) }
+    ensures ready { IfOk result (λ r. IsReadyFor book.new r.ready plan.now) }
+    ensures stem { IfOk result (λ r. r.stem.value ≡ plan.now.stem) }
+    ensures logs { IfOk result (λ r. r.cutting.value.logs.items ≡ plan.now.logs) }
+    ensures best { OnOk result (IsPlan plan.now) }
+    ensures refused { IfErr result (IsPlanRefused book.old book.new plan.now) }
+{
+    kept.reserve(1)?;
+    let stem = plan.stem().clone()?;
+    let cutting = plan.cutting().clone()?;
+    let ready = prepare_plan(rt, alloc, book, board, plan)?;
+    Ok(ReadyCut {
+        ready,
+        stem,
+        cutting,
+    })
+}
+
+/// Makes all that the commit of new targets needs, the room in the seat's kept list first, and puts the next sheet up.
+/// The second targets are what the seat keeps.
 fn prepare_targets<R: Wait, F: Fn(&Standing) -> u64 + Drop>(
     rt: &R,
     alloc: Global,
     book: &mut Book<F>,
     board: &Board,
+    kept: &mut Vec<Kept>,
     targets: &Arc<Vec<u32>>,
-) -> Result<ReadyDemand, DemandRefusal>
+) -> Result<(ReadyDemand, Arc<Vec<u32>>), DemandRefusal>
     requires { AllAnswer F.Fn }
     ensures history { book.new.history ≡ book.old.history }
-    ensures ready { IfOk result (λ r. IsReadyDemand book.new r) }
-    ensures targets { IfOk result (λ r. r.targets ≡ targets.now.value.items) }
+    ensures kept { kept.new.items ≡ kept.old.items }
+    ensures room { OnOk result (vec_len kept.new < vec_capacity kept.new) }
+    ensures ready { IfOk result (λ r. IsReadyDemand book.new r.0) }
+    ensures targets { IfOk result (λ r. r.0.targets ≡ targets.now.value.items) }
+    ensures copy { IfOk result (λ r. r.1.value.items ≡ targets.now.value.items) }
 {
+    kept.reserve(1)?;
+    let copy = targets.clone()?;
     let ready = book.prepare_demand(alloc, targets)?;
     board.put_up(rt, alloc, ready.next_sheet().clone()?)?;
-    Ok(ready)
+    Ok((ready, copy))
 }
 
-/// Adds the entry of a prepared plan to the history: the entry, and its position.
-fn add_entry<F: Drop>(book: &mut Book<F>, ready: Ready, harvester: u32, plan: Plan) -> (Entry, u32)
-    requires ready { IsReadyFor book.old ready plan }
+/// Adds the entry of a prepared plan to the history: the entry, and what the seat keeps of it.
+fn add_entry<F: Drop>(
+    book: &mut Book<F>,
+    made: ReadyCut,
+    harvester: u32,
+    plan: Plan,
+) -> (Entry, Kept)
+    requires ready { IsReadyFor book.old made.ready plan }
+    requires stem { made.stem.value ≡ plan.stem }
+    requires logs { made.cutting.value.logs.items ≡ plan.logs }
     requires harvester { (0 < harvester) × (harvester ≤ 64) }
     ensures entry { result.0 ≡ entry_of book.old.history harvester plan }
-    ensures position { result.1 ≡ length book.old.history.postings }
+    ensures kept { result.1 ≡ record { position = length book.old.history.postings; entry = Posting.Cut result.0 } }
     ensures postings { book.new.history.postings ≡ book.old.history.postings ++ Posting.Cut result.0 ∷ [] }
     ensures instruction { book.new.history.instruction ≡ book.old.history.instruction }
 {
+    let ReadyCut {
+        ready,
+        stem,
+        cutting,
+    } = made;
     let position = book.len() as u32;
     // Try, or Locked: the entry is added.
     let entry = book.commit(ready, harvester, plan);
-    (entry, position)
+    let one = Kept {
+        position,
+        entry: Posting::Cut(entry.sharing(stem, cutting)),
+    };
+    (entry, one)
 }
 
-/// Adds a prepared demand to the history: the demand, and its position.
-fn add_demand<F: Drop>(book: &mut Book<F>, ready: ReadyDemand, harvester: u32) -> (Demand, u32)
+/// Adds a prepared demand to the history: the demand, and what the seat keeps of it.
+fn add_demand<F: Drop>(
+    book: &mut Book<F>,
+    ready: ReadyDemand,
+    copy: Arc<Vec<u32>>,
+    harvester: u32,
+) -> (Demand, Kept)
     requires ready { IsReadyDemand book.old ready }
+    requires copy { copy.value.items ≡ ready.targets }
     requires harvester { (0 < harvester) × (harvester ≤ 64) }
     ensures demand { result.0 ≡ demand_of book.old.history harvester ready.targets }
-    ensures position { result.1 ≡ length book.old.history.postings }
+    ensures kept { result.1 ≡ record { position = length book.old.history.postings; entry = Posting.Demand result.0 } }
     ensures postings { book.new.history.postings ≡ book.old.history.postings ++ Posting.Demand result.0 ∷ [] }
     ensures instruction { book.new.history.instruction ≡ book.old.history.instruction }
 {
     let position = book.len() as u32;
     // Retarget: the demand is added.
     let demand = book.commit_demand(ready, harvester);
-    (demand, position)
+    let one = Kept {
+        position,
+        entry: Posting::Demand(demand.sharing(copy)),
+    };
+    (demand, one)
+}
+
+/// Keeps what was added to the book: in the seat's list, and in the ledger.
+fn keep<L: Ledger>(
+    calls: &mut ledger::Book<L>,
+    share: &mut Share<L>,
+    kept: &mut Vec<Kept>,
+    one: Kept,
+)
+    requires parts { 0 < share.old.parts }
+    requires room { vec_len kept.old < vec_capacity kept.old }
+    ensures kept { kept.new.items ≡ kept.old.items ++ one ∷ [] }
+    ensures total { calls.new.total ≡ calls.old.total + 1 }
+    ensures amount { share.new.amount ≡ share.old.amount + 1 }
+    ensures parts { share.new.parts ≡ share.old.parts }
+{
+    calls.add(share, 1);
+    kept.push_reserved(one);
 }
 
 impl<F: Fn(&Standing) -> u64 + Drop, L: Ledger> Desk<F, L> {
@@ -131,30 +208,20 @@ impl<F: Fn(&Standing) -> u64 + Drop, L: Ledger> Desk<F, L> {
         ensures plan { IfErr result (λ e. (e.1 ≡ plan) × (seat.new ≡ seat.old)) }
     {
         let Desk { book, calls, .. } = self;
-        if seat.kept.reserve(1).is_err() {
-            return Err((Refusal::Memory, plan));
-        }
-        let (stem, cutting) = match shared(&plan) {
-            Ok(both) => both,
-            Err(_) => return Err((Refusal::Memory, plan)),
-        };
-        let ready = match prepare_plan(rt, alloc, book, board, &plan) {
-            Ok(ready) => ready,
-            Err(refusal) => return Err((refusal, plan)),
-        };
-        let (entry, position) = add_entry(book, ready, seat.harvester, plan);
-        let kept_entry = entry.sharing(stem, cutting);
         let Seat {
+            harvester,
             place,
             kept,
             share,
             ..
         } = seat;
-        calls.add(share, 1);
-        kept.push_reserved(Kept {
-            position,
-            entry: Posting::Cut(kept_entry),
-        });
+        let made = match prepare_cut(rt, alloc, book, board, kept, &plan) {
+            Ok(made) => made,
+            Err(refusal) => return Err((refusal, plan)),
+        };
+        let (entry, one) = add_entry(book, made, *harvester, plan);
+        let position = one.position;
+        keep(calls, share, kept, one);
         // Raise: before the lock is given back.
         board.raise(place, book.version());
         Ok(Reply {
@@ -183,22 +250,17 @@ impl<F: Fn(&Standing) -> u64 + Drop, L: Ledger> Desk<F, L> {
         ensures refused { IfErr result (λ e. (self.new.book.history ≡ self.old.book.history) × (seat.new ≡ seat.old)) }
     {
         let Desk { book, calls, .. } = self;
-        seat.kept.reserve(1)?;
-        let copy = targets.clone()?;
-        let ready = prepare_targets(rt, alloc, book, board, targets)?;
-        let (demand, position) = add_demand(book, ready, seat.harvester);
-        let kept_demand = demand.sharing(copy);
         let Seat {
+            harvester,
             place,
             kept,
             share,
             ..
         } = seat;
-        calls.add(share, 1);
-        kept.push_reserved(Kept {
-            position,
-            entry: Posting::Demand(kept_demand),
-        });
+        let (ready, copy) = prepare_targets(rt, alloc, book, board, kept, targets)?;
+        let (demand, one) = add_demand(book, ready, copy, *harvester);
+        let position = one.position;
+        keep(calls, share, kept, one);
         // Raise: before the lock is given back.
         let begun = book.version();
         board.raise(place, begun);

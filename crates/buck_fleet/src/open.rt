@@ -130,6 +130,36 @@ fn seat_all<L: Ledger>(
     Ok(seats)
 }
 
+/// A fleet of a new book, and its seats.
+fn found<R: Wait, F: Drop, L: Ledger>(
+    rt: &R,
+    alloc: Global,
+    blank: Blank,
+    instruction: Arc<Instruction>,
+    book: Book<F>,
+    seats: u32,
+) -> Result<(Fleet<F, L>, Vec<Seat<L>>), Memory>
+    requires blank { (blank.name ≡ L.name) × (blank.parts ≡ L.parts) × (blank.parts ≡ 64) }
+    requires seats { (0 < seats) × (seats ≤ 64) }
+    requires new { book.history.postings ≡ [] }
+    ensures instruction { IfOk result (λ r. r.0.instruction ≡ instruction.value) }
+    ensures number { IfOk result (λ r. r.0.seats ≡ seats) }
+    ensures seats { IfOk result (λ r. AreOpened r.0.board seats r.1.items) }
+{
+    let kept = empty_lists(alloc, seats)?;
+    let (board, places) = show_base(rt, alloc, &book, seats)?;
+    let (calls, mut share) = blank.open::<L>();
+    let rest = share.empty();
+    let made = seat_all(alloc, &board, places, share, seats)?;
+    let fleet = Fleet {
+        instruction,
+        board,
+        desk: Mutex::new(Desk { book, calls, rest }),
+        kept,
+    };
+    Ok((fleet, made))
+}
+
 impl<F: Fn(&Standing) -> u64 + Drop, L: Ledger> Fleet<F, L> {
     /// A fleet with this many seats, 1 to 64, and an empty history that may have this many postings, 1 to 1,000,000.
     /// The blank is the one that the fleet's ledger is named by, of 64 parts. Refused as `Seats`, else as `Capacity`,
@@ -151,19 +181,8 @@ impl<F: Fn(&Standing) -> u64 + Drop, L: Ledger> Fleet<F, L> {
         ensures fault { IfErr result (IsOpenFault seats capacity) }
     {
         check_room(seats, capacity)?;
-        let kept = empty_lists(alloc, seats)?;
         let shown = instruction.clone()?;
         let book = Book::open(alloc, instruction, rule, capacity)?;
-        let (board, places) = show_base(rt, alloc, &book, seats)?;
-        let (calls, mut share) = blank.open::<L>();
-        let rest = share.empty();
-        let made = seat_all(alloc, &board, places, share, seats)?;
-        let fleet = Fleet {
-            instruction: shown,
-            board,
-            desk: Mutex::new(Desk { book, calls, rest }),
-            kept,
-        };
-        Ok((fleet, made))
+        Ok(found(rt, alloc, blank, shown, book, seats)?)
     }
 }

@@ -1,5 +1,5 @@
 //! Tests of fleets: gates that hold a harvester, meetings of threads, refusals, demands, closures at the ends of the price
-//! relation, refused memory, many harvesters under a plain slow judge, and the texts of faults.
+//! relation, refused memory, many harvesters under a plain slow judge, harvesters that take turns, and the texts of faults.
 #![tactic(auto)]
 
 #[cfg(test)]
@@ -20,3 +20,5 @@ mod refusals;
 mod stress;
 #[cfg(test)]
 mod texts;
+#[cfg(test)]
+mod turns;

@@ -1,11 +1,10 @@
 -- What a replay shows of a history: where each posting may follow and each sheet is right it is lawful, and where a
 -- fault stands in it it isn't.
-use Rattle.std.proofs.Common.{◌≡◌, ◌≢◌, ℕ, ◌+◌, ◌<◌, ◌≤◌, inl, inr, false, List, [], ◌∷◌, ◌++◌, length, take, slice_get, Option, Some, None, refl, sym, ◌∙◌, ap, subst, arith}
-use Rattle.std.specs.Prelude.{Result, Ok, Err, IfErr, is_some}
-use Rattle.std.specs.Option.{option_map}
+use Rattle.std.proofs.Common.{◌≡◌, ◌≢◌, ℕ, ◌+◌, ◌<◌, ◌≤◌, inl, inr, List, [], ◌∷◌, ◌++◌, length, take, slice_get, Some, refl, sym, ◌∙◌, ap, subst, arith}
+use Rattle.std.specs.Prelude.{Result, Ok, Err, IfErr}
 use Rattle.std.proofs.lemmas.Bool.{cases_lt, cases_eq}
 use Rattle.std.proofs.lemmas.List.{take_all}
-use Rattle.std.proofs.lemmas.Option.{slice_get_within, slice_get_cases, same_Some, none-some}
+use Rattle.std.proofs.lemmas.Option.{slice_get_within, slice_get_cases, same_Some}
 use Rattle.buck_apt.specs.Instruction.{InstructionParts, IsInstruction}
 use Rattle.buck_value.specs.Sheet.{SheetParts, IsPriceAt}
 use Rattle.buck_value.specs.Sheet as sheet
@@ -16,12 +15,12 @@ use Rattle.buck_book.specs.declared.posting.Posting.TheVariants.{Cut, Demand}
 use Rattle.buck_book.specs.Posting.{planned_version, ends_of, cuts_since_end}
 use Rattle.buck_book.specs.History.{HistoryParts, IsLawful, Follows, Holds, IsEnd, PricesMeet, standing_of, prices_at, sheet_at}
 use Rattle.buck_book.specs.Walk.{WalkParts, walk_of}
-use Rattle.buck_book.proofs.Ends.{true_false, take_one_more, ends_with_end, cuts_with_end, ends_without}
+use Rattle.buck_book.proofs.Ends.{take_one_more, ends_with_end, cuts_with_end, ends_without}
 use Rattle.buck_book.proofs.Standings.{meets_within, no_fault}
 use Rattle.buck_book.proofs.Alone.{ClassAt, class_at, base_alone, meets_to_alone}
 use Rattle.buck_journal.specs.declared.replay_fault.ReplayFault.{ReplayFault}
 use Rattle.buck_journal.specs.Journal.{JournalParts}
-use Rattle.buck_journal.specs.Replay.{history_of, version_at, Begins, IsSheetRight, IsSheetFault, IsRightBefore, IsPostingFault, IsFaultAtEnd, IsMet, IsFirstFault}
+use Rattle.buck_journal.specs.Replay.{history_of, version_at, Begins, IsSheetRight, IsSheetFault, IsRightBefore, IsPostingFault, IsMet}
 use Rattle.buck_journal.specs.inner.Replay.{sheet_then, HoldsUnder, IsRightUnder, AreRightUnder, IsMetUnder, IsEndRight}
 
 -- prices that keep the price relation somewhere make a sheet

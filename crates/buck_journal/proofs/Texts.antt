@@ -20,68 +20,41 @@ use Rattle.buck_journal.proofs.Again.{in_small, call_small, zones_small, logs_sm
 use Rattle.buck_journal.proofs.Stages.{journal_of_items}
 
 -- the numbers and kinds of heads
-number_971 : number_at_most 65535 (57 ∷ 55 ∷ 49 ∷ []) ≡ Some 971
+numbers_are : (number_at_most 65535 (57 ∷ 55 ∷ 49 ∷ []) ≡ Some 971) × (number_at_most 65535 (57 ∷ 56 ∷ 49 ∷ []) ≡ Some 981) × (number_at_most 65535 (57 ∷ 56 ∷ 50 ∷ []) ≡ Some 982)
 unfolding number_at_most
-number_971 = refl
+numbers_are = (refl, refl, refl)
 
-number_981 : number_at_most 65535 (57 ∷ 56 ∷ 49 ∷ []) ≡ Some 981
+kinds_are : (number_at_most 65535 (49 ∷ []) ≡ Some 1) × (number_at_most 65535 (50 ∷ []) ≡ Some 2) × (number_at_most 65535 (51 ∷ []) ≡ Some 3)
+    × (number_at_most 65535 (52 ∷ []) ≡ Some 4) × (number_at_most 65535 (53 ∷ []) ≡ Some 5) × (number_at_most 65535 (54 ∷ []) ≡ Some 6)
 unfolding number_at_most
-number_981 = refl
-
-number_982 : number_at_most 65535 (57 ∷ 56 ∷ 50 ∷ []) ≡ Some 982
-unfolding number_at_most
-number_982 = refl
-
-kind_1 : number_at_most 65535 (49 ∷ []) ≡ Some 1
-unfolding number_at_most
-kind_1 = refl
-
-kind_2 : number_at_most 65535 (50 ∷ []) ≡ Some 2
-unfolding number_at_most
-kind_2 = refl
-
-kind_3 : number_at_most 65535 (51 ∷ []) ≡ Some 3
-unfolding number_at_most
-kind_3 = refl
-
-kind_4 : number_at_most 65535 (52 ∷ []) ≡ Some 4
-unfolding number_at_most
-kind_4 = refl
-
-kind_5 : number_at_most 65535 (53 ∷ []) ≡ Some 5
-unfolding number_at_most
-kind_5 = refl
-
-kind_6 : number_at_most 65535 (54 ∷ []) ≡ Some 6
-unfolding number_at_most
-kind_6 = refl
+kinds_are = (refl, refl, refl, refl, refl, refl)
 
 abbrev head_971_1 : Head
-head_971_1 = record { a = 57; b = 55; c = 49; k = 49; number = 971; kind = 1; dark = (refl, refl, refl, refl); plain = (refl, refl, refl, refl); number_is = number_971; kind_is = kind_1 }
+head_971_1 = record { a = 57; b = 55; c = 49; k = 49; number = 971; kind = 1; dark = (refl, refl, refl, refl); plain = (refl, refl, refl, refl); number_is = numbers_are.0; kind_is = kinds_are.0 }
 
 abbrev head_981_1 : Head
-head_981_1 = record { a = 57; b = 56; c = 49; k = 49; number = 981; kind = 1; dark = (refl, refl, refl, refl); plain = (refl, refl, refl, refl); number_is = number_981; kind_is = kind_1 }
+head_981_1 = record { a = 57; b = 56; c = 49; k = 49; number = 981; kind = 1; dark = (refl, refl, refl, refl); plain = (refl, refl, refl, refl); number_is = numbers_are.1; kind_is = kinds_are.0 }
 
 abbrev head_981_2 : Head
-head_981_2 = record { a = 57; b = 56; c = 49; k = 50; number = 981; kind = 2; dark = (refl, refl, refl, refl); plain = (refl, refl, refl, refl); number_is = number_981; kind_is = kind_2 }
+head_981_2 = record { a = 57; b = 56; c = 49; k = 50; number = 981; kind = 2; dark = (refl, refl, refl, refl); plain = (refl, refl, refl, refl); number_is = numbers_are.1; kind_is = kinds_are.1 }
 
 abbrev head_981_3 : Head
-head_981_3 = record { a = 57; b = 56; c = 49; k = 51; number = 981; kind = 3; dark = (refl, refl, refl, refl); plain = (refl, refl, refl, refl); number_is = number_981; kind_is = kind_3 }
+head_981_3 = record { a = 57; b = 56; c = 49; k = 51; number = 981; kind = 3; dark = (refl, refl, refl, refl); plain = (refl, refl, refl, refl); number_is = numbers_are.1; kind_is = kinds_are.2 }
 
 abbrev head_981_4 : Head
-head_981_4 = record { a = 57; b = 56; c = 49; k = 52; number = 981; kind = 4; dark = (refl, refl, refl, refl); plain = (refl, refl, refl, refl); number_is = number_981; kind_is = kind_4 }
+head_981_4 = record { a = 57; b = 56; c = 49; k = 52; number = 981; kind = 4; dark = (refl, refl, refl, refl); plain = (refl, refl, refl, refl); number_is = numbers_are.1; kind_is = kinds_are.3 }
 
 abbrev head_981_5 : Head
-head_981_5 = record { a = 57; b = 56; c = 49; k = 53; number = 981; kind = 5; dark = (refl, refl, refl, refl); plain = (refl, refl, refl, refl); number_is = number_981; kind_is = kind_5 }
+head_981_5 = record { a = 57; b = 56; c = 49; k = 53; number = 981; kind = 5; dark = (refl, refl, refl, refl); plain = (refl, refl, refl, refl); number_is = numbers_are.1; kind_is = kinds_are.4 }
 
 abbrev head_981_6 : Head
-head_981_6 = record { a = 57; b = 56; c = 49; k = 54; number = 981; kind = 6; dark = (refl, refl, refl, refl); plain = (refl, refl, refl, refl); number_is = number_981; kind_is = kind_6 }
+head_981_6 = record { a = 57; b = 56; c = 49; k = 54; number = 981; kind = 6; dark = (refl, refl, refl, refl); plain = (refl, refl, refl, refl); number_is = numbers_are.1; kind_is = kinds_are.5 }
 
 abbrev head_982_1 : Head
-head_982_1 = record { a = 57; b = 56; c = 50; k = 49; number = 982; kind = 1; dark = (refl, refl, refl, refl); plain = (refl, refl, refl, refl); number_is = number_982; kind_is = kind_1 }
+head_982_1 = record { a = 57; b = 56; c = 50; k = 49; number = 982; kind = 1; dark = (refl, refl, refl, refl); plain = (refl, refl, refl, refl); number_is = numbers_are.2; kind_is = kinds_are.0 }
 
 abbrev head_982_2 : Head
-head_982_2 = record { a = 57; b = 56; c = 50; k = 50; number = 982; kind = 2; dark = (refl, refl, refl, refl); plain = (refl, refl, refl, refl); number_is = number_982; kind_is = kind_2 }
+head_982_2 = record { a = 57; b = 56; c = 50; k = 50; number = 982; kind = 2; dark = (refl, refl, refl, refl); plain = (refl, refl, refl, refl); number_is = numbers_are.2; kind_is = kinds_are.1 }
 
 abbrev line_of : (h : Head) (ns : List ℕ) → AllByRecursion (λ n. n < 2 ^ 64) ns → Line
 line_of h ns small = record { head = h; numbers = ns; small = small }

@@ -2,15 +2,13 @@
 -- Only the law that both read the same leads here.
 use Rattle.std.specs.Prelude.{◌≡◌, ℕ, ◌+◌, false, List, [], ◌∷◌, drop, map, slice_get, Option, Some, None, Result, Ok, if◌then◌else◌}
 use Rattle.buck_record.specs.Item.{ItemParts}
-use Rattle.buck_record.specs.Reading.{with_fault}
-use Rattle.buck_record.specs.Record.{items_of}
 use Rattle.buck_record.specs.Table.{is_at}
 use Rattle.buck_record.specs.Check.{◌>>=◌, check}
 use Rattle.buck_record.specs.Rules.{slot}
 use Rattle.buck_book.specs.declared.posting.Posting.TheVariants.{Cut}
 use Rattle.buck_book.specs.Entry.{EntryParts}
 use Rattle.buck_journal.specs.declared.fault.JournalFault.{JournalFault}
-use Rattle.buck_journal.specs.declared.fault.JournalFault.TheVariants.{Head, NotJournal, Shape}
+use Rattle.buck_journal.specs.declared.fault.JournalFault.TheVariants.{NotJournal, Shape}
 use Rattle.buck_journal.specs.Journal.{JournalParts, sheet_at, call_at, stem_at, logs_at, worth_at, entry_of, says_journal}
 
 -- no item begins a demand

@@ -19,5 +19,5 @@ pub use buck_record::Memory;
 pub use fault::JournalFault;
 pub use journal::{Journal, read_journal};
 pub use replay_fault::ReplayFault;
-pub use replaying::replay;
+pub use replaying::{replay, replay_to_end};
 pub use writing::journal_text;

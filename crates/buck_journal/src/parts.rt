@@ -1,7 +1,7 @@
 //! The stem, the logs and the postings of a journal's items.
 ghost use Rattle.std.specs.Prelude.{◌≡◌, ◌≤◌, ◌<◌, ◌+◌, IfOk, IfSome, length, true, Ok};
 ghost use Rattle.buck_record.specs.Reading.{Gives, listed};
-ghost use Rattle.buck_record.specs.Rules.{slot, all_within};
+ghost use Rattle.buck_record.specs.Rules.{slot};
 ghost use Rattle.buck_stem.specs.Stm.{zones_of};
 ghost use Rattle.buck_journal.specs.declared.fault.JournalFault.TheVariants.{Memory};
 ghost use Rattle.buck_journal.specs.inner.Limits.{AreSamples, AreZones};
@@ -19,7 +19,7 @@ use std::alloc::{AllocError, Global};
 
 /// The samples as they are kept.
 fn samples_of(alloc: Global, numbers: &[u32]) -> Result<Vec<u16>, AllocError>
-    requires { all_within 0 1500 numbers.now ≡ true }
+    requires { AreSamples numbers.now }
     ensures { IfOk result (λ samples. samples.items ≡ numbers.now) }
 {
     let mut samples = Vec::with_capacity(alloc, numbers.len())?;

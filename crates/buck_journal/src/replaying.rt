@@ -154,6 +154,26 @@ fn replay_all<'w>(
     replay_periods(alloc, instruction, &mut planner, sheets, walk)
 }
 
+/// The place after the last posting of a journal of at most 1,000,000, where it is lawful for an instruction: what all
+/// of it adds up to. Refused as [`replay`] refuses.
+pub fn replay_to_end<'w>(
+    alloc: Global,
+    instruction: &'w Arc<Instruction>,
+    journal: &'w Journal,
+) -> Result<Walk<'w>, ReplayFault>
+    requires { length journal.now.entries ≤ 1000000 }
+    ensures end { IfOk result (λ w. w
+        ≡ walk_of instruction.now.value journal.now.entries (length journal.now.entries)) }
+    ensures lawful { OnOk result (IsLawful (history_of instruction.now.value journal.now)) }
+    ensures refused { IfErr result (λ e.
+        e ≢ Memory → IsFirstFault (history_of instruction.now.value journal.now) e) }
+{
+    let sheets = journal.sheets.as_slice();
+    let walk = replay_all(alloc, instruction, sheets, journal.entries.as_slice())?;
+    check_end(instruction, sheets, &walk)?;
+    Ok(walk)
+}
+
 /// Whether a journal of at most 1,000,000 postings is lawful for an instruction: each cutting is one that none
 /// outvalues under the sheet in force there, and the prices move only by the price relation, with the targets in force
 /// and with what was cut before. Any journal may be asked of. Refused by the first fault that stands in it, as
@@ -168,7 +188,6 @@ pub fn replay(
     ensures refused { IfErr result (λ e.
         e ≢ Memory → IsFirstFault (history_of instruction.now.value journal.now) e) }
 {
-    let sheets = journal.sheets.as_slice();
-    let walk = replay_all(alloc, instruction, sheets, journal.entries.as_slice())?;
-    check_end(instruction, sheets, &walk)
+    let _ = replay_to_end(alloc, instruction, journal)?;
+    Ok(())
 }

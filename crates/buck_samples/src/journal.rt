@@ -39,30 +39,3 @@ pub fn two_stem_journal(alloc: Global) -> Result<String, SampleFault> {
 "
     )?)
 }
-
-/// The same with a demand between the stems, for the last of the four classes alone.
-pub fn demand_journal(alloc: Global) -> Result<String, SampleFault> {
-    let samples = " 250".repeat(alloc, 41)?;
-    Ok(format!(in alloc;
-        "1 2 JRN~
-971 1 400 500 600 800~
-971 1 600 750 900 400~
-971 1 400 500 600 800~
-971 1 400 500 600 800~
-981 1 1 1 0~
-981 2 1 1~
-981 3{samples}~
-981 4~
-981 5 0 4000 0~
-981 6 157080000~
-982 1 1 2 1~
-982 2 0 0 0 4~
-981 1 1 3 2~
-981 2 2 1~
-981 3{samples}~
-981 4~
-981 5 0 4000 0~
-981 6 157080000~
-"
-    )?)
-}

@@ -10,5 +10,5 @@ pub use fault::SampleFault;
 pub use instruction::{
     MAX, SAW, SAW_AND_POLE, edited, instruction_of, largest_instruction, saw_instruction, saw_text,
 };
-pub use journal::{SHORT_JOURNAL, demand_journal, two_stem_journal};
+pub use journal::{SHORT_JOURNAL, two_stem_journal};
 pub use stem::{stem_of, uniform_stem};

@@ -1,13 +1,12 @@
 //! The page of a journal that isn't lawful.
 ghost use Rattle.std.specs.Prelude.{◌≡◌, ◌<◌, ◌≤◌, length};
 
-use crate::names::Apart;
-use crate::sections::{Files, close_head, open_head};
-use crate::words::{ClassText, Grouped, class_text};
+use crate::head::{Files, close_head, open_head};
 use buck_apt::{Assortment, Instruction};
 use buck_book::Posting;
 use buck_journal::ReplayFault;
 use buck_record::Memory;
+use buck_words::{Apart, ClassText, Grouped, class_text};
 use std::alloc::Global;
 use std::fmt;
 

@@ -1,24 +1,19 @@
 //! The page that a mill opens.
 ghost use Rattle.std.specs.Prelude.{◌<◌, length};
-ghost use Rattle.buck_view.specs.Shown.{IsShown};
+ghost use Rattle.buck_figures.specs.Shown.{IsShown};
 
-use crate::charts::{write_degree_chart, write_price_chart};
-use crate::figures::Figures;
-use crate::matrix::write_matrices;
-use crate::names::Apart;
-use crate::owns::Own;
-use crate::parts::{part, sum_of};
+use crate::head::{Files, close_head, open_head};
 use crate::stems::write_stems;
-use crate::style::STYLE;
-use crate::sums::Sums;
-use crate::words::{
-    Chip, DOT, Fixed, Grouped, Known, Metres, Millionths, Several, Signed, degree_text,
-    difference_of, half_up, limit_text, permille,
-};
 use buck_apt::{Assortment, Instruction};
 use buck_book::{Demand, Posting, degree_at};
+use buck_charts::{write_degree_chart, write_matrices, write_price_chart};
 use buck_dp::Planner;
+use buck_figures::{Figures, Own, Sums, part, sum_of};
 use buck_record::Memory;
+use buck_words::{
+    Apart, Chip, DOT, Fixed, Grouped, Known, Metres, Millionths, Several, Signed, degree_text,
+    difference_of, half_up, limit_text, permille,
+};
 use std::alloc::Global;
 use std::collections::BTreeMap;
 use std::fmt;
@@ -28,44 +23,6 @@ const MOST_DEMANDS: u64 = 12;
 
 /// The curves have at most so many points.
 const MOST_POINTS: usize = 200;
-
-/// The names of the two files, as they were given.
-#[derive(Clone, Copy)]
-pub struct Files<'a> {
-    pub instruction: &'a [u8],
-    pub journal: &'a [u8],
-}
-
-impl fmt::Display for Files<'_> {
-    fn fmt<W: fmt::Write>(&self, f: &mut fmt::Formatter<W>) -> fmt::Result {
-        write!(
-            f,
-            "<p class=\"files\">Instruction {}, journal {}</p>",
-            Apart(self.instruction),
-            Apart(self.journal)
-        )
-    }
-}
-
-/// Writes the head of a page up to its title. Its policy lets nothing be loaded, whatever a name says.
-pub(crate) fn open_head(out: &mut String) -> Result<(), Memory> {
-    Ok(write!(
-        out,
-        "<!DOCTYPE html>\n<html lang=\"en\">\n<head>\n<meta charset=\"utf-8\">\n\
-         <meta http-equiv=\"Content-Security-Policy\" content=\"default-src 'none'; style-src 'unsafe-inline'\">\n\
-         <meta name=\"viewport\" content=\"width=device-width,initial-scale=1\">\n\
-         <meta name=\"color-scheme\" content=\"light dark\">\n<title>"
-    )?)
-}
-
-/// Writes the head of a page from its title on.
-pub(crate) fn close_head(out: &mut String) -> Result<(), Memory> {
-    Ok(write!(
-        out,
-        " &#8211; Gielbrok</title>\n<style>\n{STYLE}</style>\n</head>\n<body>\n\
-         <header><p class=\"over\">Bucking report</p><h1>"
-    )?)
-}
 
 /// Writes a tile's figure in its unit; what it is comes behind.
 fn open_tile<V: fmt::Display + Drop>(
@@ -237,10 +194,15 @@ fn write_overview_row(out: &mut String, figures: &Figures<'_>, at: usize) -> Res
     let instruction = figures.instruction;
     let name = instruction.assortments()[at].name();
     let sums = figures.assortments[at];
-    let degree = degree_at(instruction, figures.targets, figures.counts.as_slice(), at);
+    let degree = degree_at(
+        instruction,
+        figures.targets.as_slice(),
+        figures.counts.as_slice(),
+        at,
+    );
     let unsteered = degree_at(
         instruction,
-        figures.targets,
+        figures.targets.as_slice(),
         figures.unsteered.as_slice(),
         at,
     );
@@ -258,7 +220,7 @@ fn write_overview_row(out: &mut String, figures: &Figures<'_>, at: usize) -> Res
         degree_text(unsteered)
     )?;
     write_gain(out, degree, unsteered)?;
-    let wanted = sum_of(part(instruction, figures.targets, at));
+    let wanted = sum_of(part(instruction, figures.targets.as_slice(), at));
     Ok(write!(
         out,
         "</td><td>{}</td><td>{}</td><td>{}</td><td>{}</td></tr>",
@@ -290,7 +252,7 @@ fn write_overview(out: &mut String, figures: &Figures<'_>) -> Result<(), Memory>
         "<tr class=\"total\"><th scope=\"row\">All</th><td class=\"wide\"></td><td></td><td></td><td></td>\
          <td>{}</td><td>{}</td><td>{}</td><td>{}</td></tr></tbody></table></div></section>",
         Grouped(total.logs),
-        Grouped(u128::from(sum_of(figures.targets))),
+        Grouped(u128::from(sum_of(figures.targets.as_slice()))),
         Millionths(total.volume),
         Millionths(total.at_base)
     )?)
@@ -488,7 +450,7 @@ fn write_assortment(
     )?;
     write_kind(out, assortment)?;
     let logs = Several::of(u128::from(figures.assortments[at].logs), "log");
-    let wanted = sum_of(part(figures.instruction, figures.targets, at));
+    let wanted = sum_of(part(figures.instruction, figures.targets.as_slice(), at));
     write!(
         out,
         "{DOT}{logs} cut of {} wanted</small></h2>",

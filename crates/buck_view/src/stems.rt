@@ -1,21 +1,19 @@
 //! Stems from the side, with the logs that were cut of them.
 ghost use Rattle.std.specs.Prelude.{◌≡◌, ◌<◌, ◌≤◌, ◌^◌, length};
 ghost use Rattle.buck_stem.specs.Stem.{stem_length};
-ghost use Rattle.buck_view.specs.Shown.{IsShown};
+ghost use Rattle.buck_figures.specs.Shown.{IsShown};
 
-use crate::charts::tick_step;
-use crate::figures::{Cut, Figures, Piece};
-use crate::names::Apart;
-use crate::shown::cut_at;
-use crate::words::{
-    Chip, DOT, Grouped, Metres, Millionths, Percent, Several, length_text, letter, percent_at,
-};
-use buck_apt::{Assortment, Instruction};
+use buck_apt::Instruction;
 use buck_book::{Entry, Posting};
 use buck_dp::Planner;
+use buck_figures::{Cut, Figures, Piece, cut_at};
 use buck_record::Memory;
 use buck_stem::Stem;
 use buck_value::Log;
+use buck_words::{
+    Apart, Chip, DOT, Grouped, Metres, Millionths, Percent, Several, length_text, letter,
+    percent_at, tick_step,
+};
 use std::alloc::Global;
 use std::fmt;
 
@@ -186,11 +184,19 @@ fn is_level(stem: &Stem, from: u32, to: u32, x: u32) -> bool
     before == diameter && after == diameter
 }
 
+/// A stretch of a stem, in mm from the butt.
+#[derive(Clone, Copy)]
+struct Stretch {
+    from: u32,
+    to: u32,
+    ghost order: { from ≤ to },
+}
+
 /// The side of a stretch of a stem: its ends, and the places each 100 mm between that say something.
-fn side_of(alloc: Global, stem: &Stem, from: u32, to: u32) -> Result<Vec<Side>, Memory>
-    requires within { to ≤ stem_length stem.now.samples }
-    requires order { from ≤ to }
+fn side_of(alloc: Global, stem: &Stem, stretch: Stretch) -> Result<Vec<Side>, Memory>
+    requires { stretch.to ≤ stem_length stem.now.samples }
 {
+    let Stretch { from, to } = stretch;
     let mut side = Vec::new(alloc);
     side.push(Side {
         x: from,
@@ -235,14 +241,12 @@ fn write_stretch(
     alloc: Global,
     out: &mut String,
     stem: &Stem,
-    from: u32,
-    to: u32,
+    stretch: Stretch,
     most: u32,
 ) -> Result<(), Memory>
-    requires within { to ≤ stem_length stem.now.samples }
-    requires order { from ≤ to }
+    requires { stretch.to ≤ stem_length stem.now.samples }
 {
-    let side = side_of(alloc, stem, from, to)?;
+    let side = side_of(alloc, stem, stretch)?;
     write_outline(out, side.as_slice(), most)
 }
 
@@ -292,7 +296,7 @@ fn write_log(
     let to = log.start.saturating_add(log.length).min(stem.length());
     let from = log.start.min(to);
     write!(out, "<polygon class=\"log a{}\" points=\"", log.assortment)?;
-    write_stretch(alloc, out, stem, from, to, scale.most)?;
+    write_stretch(alloc, out, stem, Stretch { from, to }, scale.most)?;
     Ok(write!(
         out,
         "\"><title>{}: {} mm from {} mm, top {} mm, price {}, worth {}</title></polygon>",
@@ -445,7 +449,11 @@ fn write_drawing(
         }
     }
     write!(out, "<polygon class=\"waste\" points=\"")?;
-    write_stretch(alloc, out, stem, 0, stem.length(), scale.most)?;
+    let all = Stretch {
+        from: 0,
+        to: stem.length(),
+    };
+    write_stretch(alloc, out, stem, all, scale.most)?;
     write!(out, "\"/>")?;
     for piece in cut.pieces.as_slice() {
         write_log(alloc, out, stem, piece, scale)?;
@@ -467,38 +475,59 @@ fn write_metres(out: &mut String, scale: &Scale) -> Result<(), Memory> {
     Ok(())
 }
 
-/// Writes all that is shown of a stem.
-fn write_stem(
-    alloc: Global,
-    out: &mut String,
-    instruction: &Instruction,
-    pick: &Pick<'_>,
-    cut: &Cut<'_>,
-    scale: &Scale,
-) -> Result<(), Memory> {
-    write!(out, "<figure class=\"stem\">")?;
-    write_caption(out, pick, cut)?;
-    write!(
-        out,
-        "<div class=\"rows\"><div class=\"rowname\">as cut<br><small>m, top&nbsp;mm</small></div><div>"
-    )?;
-    write_drawing(alloc, out, cut, scale)?;
-    write!(out, "<div class=\"labels\">")?;
-    write_labels(out, instruction, cut.pieces.as_slice(), scale)?;
-    write!(out, "</div></div>")?;
+/// A stem that is drawn, with all that is shown of it.
+#[derive(Drop)]
+struct Drawing<'a> {
+    instruction: &'a Instruction,
+    pick: &'a Pick<'a>,
+    cut: &'a Cut<'a>,
+    scale: Scale,
+}
+
+/// Writes what stands beside a stem: labels under its logs, and the cutting unsteered, where that is another one.
+fn write_beside(out: &mut String, drawing: &Drawing<'_>) -> Result<(), Memory> {
+    let cut = drawing.cut;
     let entry = cut.entry;
     let best = cut.unsteered.logs.as_slice();
+    write!(out, "<div class=\"labels\">")?;
+    write_labels(
+        out,
+        drawing.instruction,
+        cut.pieces.as_slice(),
+        &drawing.scale,
+    )?;
+    write!(out, "</div></div>")?;
     if entry.cutting.logs.as_slice() != best {
-        write_strip(out, instruction, best, scale)?;
+        write_strip(out, drawing.instruction, best, &drawing.scale)?;
     }
+    Ok(())
+}
+
+/// Writes the grades and the metres under a stem.
+fn write_below(out: &mut String, stem: &Stem, scale: &Scale) -> Result<(), Memory> {
     write!(
         out,
         "<div class=\"rowname\">grade</div><div class=\"grades\">"
     )?;
-    write_grades(out, &entry.stem, scale)?;
+    write_grades(out, stem, scale)?;
     write!(out, "</div><div></div><div class=\"xs\">")?;
     write_metres(out, scale)?;
     Ok(write!(out, "</div></div></figure>")?)
+}
+
+/// Writes all that is shown of a stem.
+fn write_stem(alloc: Global, out: &mut String, drawing: &Drawing<'_>) -> Result<(), Memory> {
+    let cut = drawing.cut;
+    let entry = cut.entry;
+    write!(out, "<figure class=\"stem\">")?;
+    write_caption(out, drawing.pick, cut)?;
+    write!(
+        out,
+        "<div class=\"rows\"><div class=\"rowname\">as cut<br><small>m, top&nbsp;mm</small></div><div>"
+    )?;
+    write_drawing(alloc, out, cut, &drawing.scale)?;
+    write_beside(out, drawing)?;
+    write_below(out, &entry.stem, &drawing.scale)
 }
 
 /// Writes what stands above the stems: how many are drawn, how to read them, and the key of the assortments.
@@ -540,7 +569,13 @@ pub(crate) fn write_stems(
     let scale = scale_of(picks.as_slice());
     for pick in picks.as_slice() {
         if let Some(cut) = cut_at(alloc, figures, planner, pick.position)? {
-            write_stem(alloc, out, figures.instruction, pick, &cut, &scale)?;
+            let drawing = Drawing {
+                instruction: figures.instruction,
+                pick,
+                cut: &cut,
+                scale,
+            };
+            write_stem(alloc, out, &drawing)?;
         }
     }
     Ok(write!(out, "</section>")?)

@@ -136,7 +136,7 @@ figure{min-width:0}
 .grades{height:18px}
 .grades span{height:14px;line-height:14px;font-size:11px;border-left:1px solid var(--ground);background:var(--hair)}
 .grades .g2{background:var(--waste)}
-.grades .g3,.grades .g4,.grades .g5,.grades .g6,.grades .g7,.grades .g8{background:var(--rule);color:var(--ground)}
+.grades .g3,.grades .g4,.grades .g5,.grades .g6,.grades .g7,.grades .g8{background:var(--soft);color:var(--ground)}
 .notes dl{display:grid;grid-template-columns:9em 1fr;gap:6px 16px;font-size:13px}
 .notes dd{color:var(--soft);max-width:80ch}
 code{font-family:ui-monospace,"Liberation Mono",monospace;font-size:.92em}

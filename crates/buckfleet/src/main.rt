@@ -1,13 +1,15 @@
 //! `buckfleet`: the best cutting of felled stems into logs, by a bucking instruction.
 //!
 //! `buckfleet buck APT STM` reads an instruction file and a stem file and prints how each stem is to be cut; without
-//! words it reads both from standard input, with a `|` between them. `buckfleet fleet APT STM..` cuts stem files by a
-//! fleet, one harvester for each, and prints its report; `--journal OUT` writes its journal. `buckfleet check APT JOURNAL`
-//! says whether a journal is lawful for an instruction. See docs/FORMATS.md for the files, the texts, the fault lines and
-//! the exit statuses.
+//! words it reads both from standard input, with a `|` between them, or says its help where that is a terminal.
+//! `buckfleet fleet APT STM..` cuts stem files by a fleet, one harvester for each, and prints its report; `--journal OUT`
+//! writes its journal. `buckfleet check APT JOURNAL` says whether a journal is lawful for an instruction, and `buckfleet
+//! report APT JOURNAL` prints its report; `buckfleet view APT JOURNAL` shows it as a page, and `buckfleet table APT JOURNAL
+//! TABLE` as a table. `buckfleet explain LINE..` says a fault line in words. See docs/FORMATS.md for the files, the texts,
+//! the fault lines and the exit statuses.
 #![tactic(auto)]
 
-use buck_command::{Streams, run};
+use buck_command::{Streams, run, say_help};
 use buck_engine::Disk;
 use std::io::{ErrorKind, IsTerminal};
 use std::process::ExitCode;
@@ -34,18 +36,30 @@ fn screen(errors: Stderr) -> Option<Stderr> {
     }
 }
 
+/// Whether there are no words beside the program's name.
+fn is_bare(words: &Result<Vec<String>, ErrorKind>) -> bool {
+    match words {
+        Ok(words) => words.len() <= 1,
+        Err(_) => false,
+    }
+}
+
 fn main(rt: HostRuntime) -> ExitCode {
     let mut streams = Streams {
         input: rt.reader(),
         output: io::writer(&rt),
         errors: rt.stderr(),
     };
+    let words = words(&rt);
+    if is_bare(&words) && rt.stdin().is_terminal() {
+        return ExitCode::from(say_help(rt.alloc(), &mut streams));
+    }
     let screen = screen(rt.stderr());
     let status = run(
         &rt,
         rt.alloc(),
-        &words(&rt),
-        Disk::of(&rt),
+        &words,
+        Disk::of(&rt, rt.alloc()),
         screen,
         &mut streams,
     );

@@ -34,7 +34,7 @@ fn harvested<T: Threads + Wait + Sync>(threads: &T, rt: &HostRuntime) -> u8 {
         rt.alloc(),
         &task,
         &Nobody,
-        &mut Disk::of(rt),
+        &mut Disk::of(rt, rt.alloc()),
         &mut io::writer(rt),
         &mut rt.stderr(),
     )
@@ -46,7 +46,7 @@ fn served(rt: &HostRuntime, task: &Task<'_>) -> u8 {
         rt.alloc(),
         task,
         &mut rt.reader(),
-        &mut Disk::of(rt),
+        &mut Disk::of(rt, rt.alloc()),
         &mut io::writer(rt),
         &mut rt.stderr(),
     )

@@ -3,7 +3,7 @@ use Rattle.std.proofs.Common.{◌≡◌, ℕ, List, [], ◌∷◌, length, slice
 use Rattle.std.specs.Fmt.{decimal, digits}
 use Rattle.buck_engine.specs.declared.fault.EngineFault.TheVariants.{Read}
 use Rattle.buck_engine.specs.Faults.{fault_line}
-use Rattle.buck_engine.specs.Run.{AppendsFirst}
+use Rattle.buck_engine.specs.run.Serving.{AppendsFirst}
 use Rattle.wrong_engine.proofs.Unlike.{taken_whole}
 
 pub one : decimal 1 ≡ 49 ∷ []

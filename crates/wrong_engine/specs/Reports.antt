@@ -6,8 +6,8 @@ use Rattle.buck_apt.specs.Instruction.{AssortmentParts, index_of}
 use Rattle.buck_record.specs.Line.{line_of}
 use Rattle.buck_book.specs.declared.posting.Posting.{Posting}
 use Rattle.buck_book.specs.Degree.{part_of, degree_of}
-use Rattle.buck_engine.specs.Text.{total_line}
-use Rattle.buck_engine.specs.Report.{EndingParts, degree_line, logs_in, posting_lines, worth_in}
+use Rattle.buck_engine.specs.text.Bucking.{total_line}
+use Rattle.buck_engine.specs.text.Report.{EndingParts, degree_line, logs_in, posting_lines, worth_in}
 
 -- all postings but the first, in the places that they have
 abbrev pub lines_after_first : List Posting → List ℕ

@@ -6,8 +6,8 @@ ghost use Rattle.buck_apt.specs.Apt.{apt_of};
 ghost use Rattle.buck_book.specs.History.{IsLawful};
 ghost use Rattle.buck_journal.specs.Journal.{JournalParts, journal_of};
 ghost use Rattle.buck_journal.specs.Replay.{history_of};
-ghost use Rattle.buck_engine.specs.Check.{lawful_line};
-ghost use Rattle.buck_engine.specs.Engine.{is_bar};
+ghost use Rattle.buck_engine.specs.run.Checking.{lawful_line};
+ghost use Rattle.buck_engine.specs.run.Bucking.{is_bar};
 
 use buck_apt::AptFault;
 use buck_engine::{EngineFault, run_bare, run_buck, run_check};

@@ -8,6 +8,7 @@ pub mod commands;
 pub mod faults;
 pub mod files;
 pub mod fleets;
+pub mod journal_reports;
 pub mod opened;
 pub mod reports;
 pub mod texts;

@@ -3,7 +3,7 @@ ghost use Rattle.std.specs.Prelude.{◌≡◌, ◌≢◌, length, true, false, I
 ghost use Rattle.std.specs.List.{before_first, after_first};
 ghost use Rattle.buck_apt.specs.Apt.{apt_of};
 ghost use Rattle.buck_stem.specs.Stm.{stm_of};
-ghost use Rattle.buck_engine.specs.Engine.{is_bar};
+ghost use Rattle.buck_engine.specs.run.Bucking.{is_bar};
 
 use buck_engine::{FleetTask, Make, NamedRule, Nobody, Open, Task, serve, serve_fleet};
 use std::alloc::Global;
@@ -12,8 +12,8 @@ use std::thread::Threads;
 
 /// Opens nothing, and keeps how long the last name was that was asked for.
 #[derive(Drop)]
-struct Missing {
-    asked: usize,
+pub(crate) struct Missing {
+    pub(crate) asked: usize,
 }
 
 impl Open for Missing {

@@ -4,7 +4,7 @@ ghost use Rattle.buck_apt.specs.Instruction.{AssortmentParts};
 ghost use Rattle.buck_book.specs.Counts.{AreClassCounts};
 ghost use Rattle.buck_book.specs.Posting.{targets_of};
 ghost use Rattle.buck_book.specs.Degree.{part_of};
-ghost use Rattle.buck_engine.specs.Report.{all_lines, ending_of, posting_lines, totals_line};
+ghost use Rattle.buck_engine.specs.text.Report.{all_lines, ending_of, posting_lines, totals_line};
 ghost use Rattle.wrong_engine.specs.Reports.{lines_after_first, opening_lines, postings_total};
 
 use buck_engine::{degree, report_text};

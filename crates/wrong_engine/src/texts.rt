@@ -2,7 +2,7 @@
 //! best cuttings of each.
 ghost use Rattle.std.specs.Prelude.{◌≡◌, ◌≢◌, ◌++◌, List, length};
 ghost use Rattle.std.specs.List.{flat_map};
-ghost use Rattle.buck_engine.specs.Text.{CutStem, IsBucking, base_sheet, logs_of, stem_lines, total_line, worth_of_all};
+ghost use Rattle.buck_engine.specs.text.Bucking.{CutStem, IsBucking, base_sheet, logs_of, stem_lines, total_line, worth_of_all};
 ghost use Rattle.wrong_engine.specs.Texts.{butt_lines, half_lines, last_total, text_with};
 
 use buck_apt::Instruction;

@@ -9,3 +9,4 @@ pub mod closing;
 pub mod opening;
 pub mod runs;
 pub mod seats;
+pub mod turns;

@@ -1,5 +1,6 @@
--- The price lists and the rows of a sheet that are kept.
-use Rattle.std.specs.Prelude.{◌≡◌, ℕ, ◌+◌, List, length, slice_get, slice_index, Some}
+-- The terms of an instruction, and the price lists and the rows of a sheet, that are kept.
+use Rattle.std.specs.Prelude.{◌≡◌, ℕ, ◌+◌, List, Option, length, slice_get, slice_index, Some}
+use Rattle.buck_apt.specs.Instruction.{InstructionParts}
 use Rattle.buck_value.specs.Sheet.{SheetParts}
 use Rattle.buck_bid.specs.Offers.{codes_in}
 use Rattle.buck_dp.specs.declared.index.Key.{Key}
@@ -11,9 +12,10 @@ use Rattle.buck_dp.specs.declared.offering.Cell.{Cell}
 use Rattle.buck_dp.specs.declared.offering.Reach.{Reach}
 use Rattle.buck_dp.specs.declared.pricing.Ask.{Ask}
 use Rattle.buck_dp.specs.declared.pricing.Quote.{Quote}
+use Rattle.buck_dp.specs.declared.pricing.Term.{Term}
 use Rattle.buck_dp.specs.inner.Cells.{AreCells}
 use Rattle.buck_dp.specs.inner.Index.{IsPlaceIn, part_of}
-use Rattle.buck_dp.specs.inner.Quotes.{AreQuotes}
+use Rattle.buck_dp.specs.inner.Quotes.{AreTerms, AreQuotes}
 
 -- what is asked for by a key: the band at its place
 abbrev pub ask_of : Menu → Key → Ask
@@ -26,6 +28,11 @@ ask_of m key = record {
 abbrev pub all_of : Menu → Reach
 all_of m = record { past = 0; far = 5000; room = m.most_trim }
 
+-- the terms of a key stand at a place
+pub record AreTermsAt (i : InstructionParts) (m : Menu) (terms : List (Option Term)) (key : Key) (place : Place) : Type 0 where
+  pub within : IsPlaceIn terms place
+  pub right : AreTerms i (codes_in m.offers.items) (ask_of m key) (length m.offers.items) (part_of terms place)
+
 -- the price list of a key stands at a place
 pub record IsListAt (s : SheetParts) (m : Menu) (quotes : List Quote) (key : Key) (place : Place) : Type 0 where
   pub within : IsPlaceIn quotes place
@@ -36,7 +43,8 @@ pub record IsRowAt (s : SheetParts) (m : Menu) (cells : List Cell) (key : Key) (
   pub within : IsPlaceIn cells place
   pub right : AreCells s (codes_in m.offers.items) key.takers key.at (all_of m) (part_of cells place)
 
--- each list and each row that is kept is right
+-- all terms, lists and rows that are kept are right
 pub record AreKept (s : SheetParts) (m : Menu) (k : Kept) : Type 0 where
+  pub terms : (n : ℕ) (h : Head) → slice_get k.asked n ≡ Some h → AreTermsAt s.instruction m k.terms.items h.key h.place
   pub lists : (n : ℕ) (h : Head) → slice_get k.lists n ≡ Some h → IsListAt s m k.quotes.items h.key h.place
   pub rows : (n : ℕ) (h : Head) → slice_get k.rows n ≡ Some h → IsRowAt s m k.cells.items h.key h.place

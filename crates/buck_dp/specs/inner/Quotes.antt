@@ -1,9 +1,11 @@
 -- Price lists: what takers bid at each diameter of a band.
-use Rattle.std.specs.Prelude.{◌≡◌, ℕ, ◌+◌, ◌<◌, ◌≤◌, ◌⊎◌, List, slice_get, Some}
-use Rattle.buck_value.specs.Sheet.{SheetParts}
+use Rattle.std.specs.Prelude.{◌≡◌, ℕ, ◌+◌, ◌<◌, ◌≤◌, ◌⊎◌, List, Option, length, slice_get, slice_index, Some, None}
+use Rattle.buck_apt.specs.Instruction.{InstructionParts, classes}
+use Rattle.buck_value.specs.Sheet.{SheetParts, IsSheet}
 use Rattle.buck_value.specs.Volume.{volume, worth_at}
 use Rattle.buck_dp.specs.inner.Points.{point_after}
 use Rattle.buck_dp.specs.declared.pricing.Quote.{Quote}
+use Rattle.buck_dp.specs.declared.pricing.Term.{Term}
 use Rattle.buck_dp.specs.declared.pricing.Ask.{Ask}
 use Rattle.buck_dp.specs.inner.Bid.{BidParts, bid_of, IsAtMost}
 use Rattle.buck_dp.specs.inner.Cells.{IsTakersBid}
@@ -39,6 +41,40 @@ pub record IsQuoteOf (s : SheetParts) (codes : List ℕ) (ask : Ask) (place : �
 abbrev pub HasNoBid : SheetParts → List ℕ → Ask → ℕ → Type 0
 HasNoBid s codes ask place = (steps trim d : ℕ) (bid : BidParts) → IsAsked ask d → bid.rank + place ≡ 1023
     → IsTakersBid s codes ask.takers d steps trim bid → ⊥
+
+-- a quote at another price
+abbrev pub priced_at : Quote → ℕ → Quote
+priced_at q price = record {
+  kind = q.kind;
+  price = price;
+  rank = q.rank;
+  length = q.length;
+  steps = q.steps;
+  trim = q.trim;
+  rise = q.rise;
+}
+
+-- a term is the quote of the rank of an offer under each sheet of an instruction
+pub record IsTermOf (i : InstructionParts) (codes : List ℕ) (ask : Ask) (place : ℕ) (t : Term) : Type 0 where
+  pub class : t.class < classes i
+  pub quotes : (s : SheetParts) → IsSheet s → s.instruction ≡ i
+      → IsQuoteOf s codes ask place (priced_at t.quote (slice_index s.prices t.class))
+
+-- under none a taker's bid has the rank of an offer
+abbrev pub IsNoTerm : InstructionParts → List ℕ → Ask → ℕ → Type 0
+IsNoTerm i codes ask place = (s : SheetParts) → IsSheet s → s.instruction ≡ i → HasNoBid s codes ask place
+
+-- the first n offers have their terms, each at its place
+pub record AreTerms (i : InstructionParts) (codes : List ℕ) (ask : Ask) (n : ℕ) (terms : List (Option Term)) : Type 0 where
+  pub number : length terms ≡ n
+  pub some : (k : ℕ) (t : Term) → slice_get terms k ≡ Some (Some t) → IsTermOf i codes ask k t
+  pub none : (k : ℕ) → slice_get terms k ≡ Some None → IsNoTerm i codes ask k
+
+-- a quote bids more worth than another at each diameter from one on, for logs that are no longer and with no more trim
+pub record IsOver (thinnest : ℕ) (p q : Quote) : Type 0 where
+  pub steps : p.steps ≤ q.steps
+  pub trim : p.trim ≤ q.trim
+  pub more : (d : ℕ) → thinnest ≤ d → (quote_bid q d).worth < (quote_bid p d).worth
 
 -- a quote bids no less for logs as long, or more worth for shorter ones, and takes no more trim
 pub record IsQuoted (quotes : List Quote) (d steps trim : ℕ) (bid : BidParts) : Type 0 where

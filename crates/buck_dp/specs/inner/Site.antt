@@ -1,6 +1,6 @@
 -- A stem at its points, under a sheet, and what is kept of that.
-use Rattle.std.specs.Prelude.{◌≡◌}
-use Rattle.buck_stem.specs.Stem.{IsStem}
+use Rattle.std.specs.Prelude.{◌≡◌, ℕ, ◌+◌, ◌*◌, ◌<◌, ◌≤◌}
+use Rattle.buck_stem.specs.Stem.{IsStem, stem_length}
 use Rattle.buck_stem.specs.Profile.{profile_of}
 use Rattle.buck_value.specs.Sheet.{SheetParts, IsSheet}
 use Rattle.buck_bid.specs.Offers.{codes_in}
@@ -16,12 +16,13 @@ use Rattle.buck_dp.specs.inner.Kept.{AreKept}
 abbrev pub ground_of : Site → GroundParts
 ground_of x = ground_with x.market.sheet.now x.stem.now (codes_in x.market.menu.now.offers.items)
 
--- the profile is the stem's, and the menu the instruction's
+-- the profile is the stem's, the menu the instruction's, and each trim fits behind the first tops
 pub record IsSite (x : Site) : Type 0 where
   pub valid : IsSheet x.market.sheet.now
   pub sound : IsStem x.stem.now
   pub menu : IsMenu x.market.sheet.now.instruction x.market.menu.now
   pub profile : x.profile.now ≡ profile_of x.stem.now x.market.sheet.now.instruction.«module»
+  pub fit : (t : ℕ) → t < x.fit → t * x.market.sheet.now.instruction.«module» + x.market.menu.now.most_trim ≤ stem_length x.stem.now.samples
 
 -- what is kept is right under a sheet
 pub record IsMemo (s : SheetParts) (menu : Menu) (m : Memo) : Type 0 where

@@ -2,7 +2,7 @@
 use Rattle.std.specs.Prelude.{◌≡◌, ◌<◌, length, slice_get, Some}
 use Rattle.buck_apt.specs.declared.class.Class.{Class}
 use Rattle.buck_apt.specs.Instruction.{InstructionParts, AssortmentParts, classes}
-use Rattle.buck_engine.specs.Report.{EndingParts}
+use Rattle.buck_engine.specs.text.Report.{EndingParts}
 
 -- a number of each kind for each class
 pub record IsEnding (e : EndingParts) : Type 0 where

@@ -6,6 +6,7 @@ use Rattle.buck_book.specs.declared.ready.Refusal.TheVariants.{Full, Stale, Memo
 use Rattle.buck_book.specs.Plan.{PlanParts, IsPlan}
 use Rattle.buck_book.specs.History.{HistoryParts, in_force, version_of}
 use Rattle.buck_book.specs.Book.{BookParts, entry_of, demand_of}
+use Rattle.buck_fleet.specs.declared.seat.Kept.{Kept}
 use Rattle.buck_fleet.specs.declared.seat.Reply.{Reply}
 use Rattle.buck_fleet.specs.declared.seat.DemandReply.{DemandReply}
 use Rattle.buck_fleet.specs.Seat.{SeatParts, KeepsOne, seen_of}
@@ -14,18 +15,21 @@ use Rattle.buck_fleet.specs.declared.cut.Attempt.TheVariants.{Done, Outdated, Re
 use Rattle.buck_fleet.specs.declared.seat.Path.TheVariants.{Optimistic}
 use Rattle.buck_fleet.specs.Reply.{kept_of, kept_demand_of, IsReplyFor, IsOfPlan}
 
--- the plan of the sheet in force was committed: its entry is the next of the history and is kept, and the version in
--- force has been seen
+-- the posting that was added is kept, with its position, and the version in force has been seen
+pub record IsKeptAt {F : Type 0} (before after : BookParts F) (seat_before seat_after : SeatParts) (k : Kept) : Type 0 where
+  pub position_is : k.position ≡ length before.history.postings
+  pub same_instruction : after.history.instruction ≡ before.history.instruction
+  pub kept : KeepsOne seat_before k seat_after
+  pub seen : version_of after.history ≤ seen_of seat_after
+
+-- the plan of the sheet in force was committed: its entry is the next of the history
 pub record IsReplyAt {F : Type 0} (before after : BookParts F) (seat_before seat_after : SeatParts)
     (p : PlanParts) (r : Reply) : Type 0 where
   pub under : p.sheet ≡ in_force before.history
   pub planned : IsPlan p
   pub entry_is : r.entry ≡ entry_of before.history seat_before.harvester p
-  pub position_is : r.position ≡ length before.history.postings
   pub postings_are : after.history.postings ≡ before.history.postings ++ Cut r.entry ∷ []
-  pub kept : KeepsOne seat_before (kept_of r) seat_after
-  pub same_instruction : after.history.instruction ≡ before.history.instruction
-  pub seen : version_of after.history ≤ seen_of seat_after
+  pub kept : IsKeptAt before after seat_before seat_after (kept_of r)
 
 -- a plan is stale where another sheet is in force
 abbrev pub HasOtherSheet : PlanParts → Refusal → Type 0
@@ -45,16 +49,12 @@ pub record IsPlanRefused {F : Type 0} (before after : BookParts F) (p : PlanPart
   pub other_sheet : HasOtherSheet p e
   pub stale : WasStale before.history p e
 
--- the demand was committed: it is the next posting of the history and is kept, and the version that it begins has been
--- seen
+-- the demand was committed: it is the next posting of the history
 pub record IsDemandReplyAt {F : Type 0} (before after : BookParts F) (seat_before seat_after : SeatParts)
     (targets : List ℕ) (r : DemandReply) : Type 0 where
   pub demand_is : r.demand ≡ demand_of before.history seat_before.harvester targets
-  pub position_is : r.position ≡ length before.history.postings
   pub postings_are : after.history.postings ≡ before.history.postings ++ Demand r.demand ∷ []
-  pub kept : KeepsOne seat_before (kept_demand_of r) seat_after
-  pub same_instruction : after.history.instruction ≡ before.history.instruction
-  pub seen : version_of after.history ≤ seen_of seat_after
+  pub kept : IsKeptAt before after seat_before seat_after (kept_demand_of r)
 
 -- what became of a plan that was brought to the book
 abbrev pub IsAttempt : SeatParts → SeatParts → PlanParts → ℕ → Attempt → Type 0

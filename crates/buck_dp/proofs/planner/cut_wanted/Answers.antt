@@ -23,6 +23,7 @@ search_stem-requires-clause-site c =
       sound = sound c.in_ok-profile.profile _ c.args.stem.now _ c.in_ok-profile.ensures c.profile.view_is c.profile.invariant.valid;
       menu = c.requires.ready.offers;
       profile = c.in_ok-profile.ensures ∙ ap (λ n. profile_of c.args.stem.now n) unit;
+      fit = c.fit_of.ensures;
     }
 
 pub returns-clause-first : goal.returns-clause-first

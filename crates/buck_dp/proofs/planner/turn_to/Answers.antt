@@ -2,6 +2,7 @@ use Rattle.std.proofs.Common.{◌≡◌, sym, subst, ◌∙◌}
 use Rattle.buck_apt.specs.Instruction.{InstructionParts}
 use Rattle.buck_dp.specs.inner.Menu.{IsMenu}
 use Rattle.buck_dp.specs.inner.Takers.{AreKnown}
+use Rattle.buck_dp.proofs.KeptLemmas.{prices_dropped}
 use Rattle.buck_dp.proofs.planner.turn_to.Goals as goal
 
 pub returns-then-same-clause-turned : goal.returns-then-same-clause-turned
@@ -14,6 +15,7 @@ returns-then-same-clause-turned c =
       offers = subst (λ (i : InstructionParts). IsMenu i own.menu) same c.requires.offers;
       right = record {
         kinds = subst (λ (i : InstructionParts). AreKnown i own.memo.kinds) same c.requires.right.kinds;
-        kept = c.clear.ensures c.args.to.now own.menu;
+        kept = prices_dropped c.args.from.now c.args.to.now own.menu own.memo.kept c.clear_prices.new.self same
+            c.clear_prices.ensures.terms c.clear_prices.ensures.prices c.requires.right.kept;
       };
     }

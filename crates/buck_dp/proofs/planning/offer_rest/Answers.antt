@@ -18,7 +18,8 @@ close_top-requires c =
     subst (λ (n : ℕ). HasTakers p takers last n) (sym now.from) (part.takers last (omega (arith, part.first)) (omega (arith, part.first))) in
     record {
       none = λ i e bid lt log.
-          none_before p last i t e takers bid has (c.is_empty.ensures c.if-is_empty.true) (omega (arith, lt, c.stop-in-loop-alloc.ensures.value))
+          none_before p last i t t e takers bid has (c.is_empty.ensures c.if-is_empty.true) (omega (arith, lt, c.stop-in-loop-alloc.ensures.value))
+          (omega arith)
           (subst (λ (g : GroundParts). IsLogAt g i t e bid) now.ground log);
     }
 

@@ -17,6 +17,11 @@ offer_top-requires-clause-takers c i low high =
     (λ k from to. mask_of x.profile.now x.stem.now unit k (k + 1) even.0 c.requires.site.profile
     (even.1 k from (omega (arith, to, order, c.from.ensures.value))))
     (omega (arith, c.requires.site.valid.valid.module_range))
-    c.in_ok-near.near.first i t c.in_ok-near.near.group.takers
+    c.in_ok-near.near.part.first i t c.in_ok-near.near.part.group.takers
     (omega (arith, c.settle_top.ensures.from, c.loop-alloc-test.true, c.from-in-loop-alloc.ensures.value))
     (omega (arith, c.settle_top.ensures.from, now.high)) (omega (arith, near.first)) low high near.takers
+
+pub offer_top-requires-clause-alone : goal.offer_top-requires-clause-alone
+offer_top-requires-clause-alone c is i t e bid lt le log =
+    c.in_ok-near.ensures.alone is i t e bid lt
+    (let now = c.loop-alloc.invariant in omega (arith, le, c.settle_top.ensures.from, c.loop-alloc-test.true, c.from-in-loop-alloc.ensures.value)) log

@@ -1,4 +1,4 @@
-use Rattle.buck_engine.specs.Text.{base_sheet}
+use Rattle.buck_engine.specs.text.Bucking.{base_sheet}
 use Rattle.buck_engine.proofs.Determined.{one_text_under}
 use Rattle.buck_engine.proofs.laws.one_text.Goals as goal
 

@@ -1,19 +1,24 @@
-use Rattle.std.proofs.Common.{Some, List, ℕ, refl, subst}
+use Rattle.std.proofs.Common.{Some, List, ℕ, ap, ◌∙◌, subst}
+use Rattle.buck_book.specs.declared.posting.Posting.TheVariants.{Demand}
 use Rattle.buck_book.specs.Targets.{AreTargets}
 use Rattle.buck_book.specs.History.{HistoryParts}
-use Rattle.buck_world.proofs.Committed.{demand_added}
+use Rattle.buck_book.specs.Book.{demand_of, IsNext}
+use Rattle.buck_world.proofs.Committed.{posting_added}
 use Rattle.buck_world.proofs.acts.retarget.Goals as goal
 
 pub returns-clause-ok : goal.returns-clause-ok
 returns-clause-ok g c front =
-    let same = c.in-Ok.ensures.content.history in
-    let made = c.in-Ok.ensures.ready.made in (
+    let m = c.prepare_demand.new.self.history in
+    let made = c.in-Ok.ensures in
+    let same = made.content.history in
+    let added = c.commit_demand-demand.ensures in (
       subst (λ (s : HistoryParts). AreTargets s.instruction c.args.targets.now.value.items) same
-          (subst (λ (ts : List ℕ). AreTargets c.prepare_demand.new.self.history.instruction ts) c.in-Ok.ensures.targets made.valid),
-      demand_added c.args.book.now.history c.prepare_demand.new.self.history c.commit_demand-demand.new.self.history
-          c.args.harvesters.now.items c.answer-stage.new.harvesters.items front c.args.h c.in-Ok.ready.targets c.args.targets.now.value.items
-          c.commit_demand-demand.result (Some c.in-Ok.ready.next)
-          same c.in-Ok.ensures.targets (refl, made.next c.args.h) c.commit_demand-demand.ensures.demand
-          record { postings = c.commit_demand-demand.ensures.postings; sheets = c.commit_demand-demand.ensures.sheets; instruction = c.commit_demand-demand.ensures.instruction }
+          (subst (λ (ts : List ℕ). AreTargets m.instruction ts) made.targets made.ready.valid),
+      posting_added c.args.book.now.history m _ c.args.harvesters.now.items _ front c.args.h
+          (λ t. Demand (demand_of t c.args.h c.args.targets.now.value.items)) (Demand c.commit_demand-demand.result) (Some c.in-Ok.ready.next)
+          same
+          (subst (λ (ts : List ℕ). IsNext m (Demand (demand_of m c.args.h ts)) (Some c.in-Ok.ready.next)) made.targets (made.ready.to_add.next_is c.args.h))
+          (ap Demand added.demand ∙ ap (λ (ts : List ℕ). Demand (demand_of m c.args.h ts)) made.targets)
+          record { postings = added.postings; sheets = added.sheets; instruction = added.instruction }
           c.answer-stage.ensures.now,
     )

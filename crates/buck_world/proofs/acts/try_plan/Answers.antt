@@ -1,9 +1,10 @@
-use Rattle.std.proofs.Common.{rules, ◌≡◌, inl, sym, subst, ◌∙◌}
+use Rattle.std.proofs.Common.{rules, ◌≡◌, inl, sym, ap, subst, ◌∙◌}
 use Rattle.buck_book.specs.Plan.{PlanParts}
-use Rattle.buck_book.specs.Book.{IsMadeFor}
+use Rattle.buck_book.specs.declared.posting.Posting.TheVariants.{Cut}
+use Rattle.buck_book.specs.Book.{IsReadyFor, entry_of}
 use Rattle.buck_world.specs.declared.stage.Stage.TheVariants.{Planned}
 use Rattle.buck_world.specs.inner.Acts.{is_at}
-use Rattle.buck_world.proofs.Committed.{cut_added, found_planned, version_is, tried_stale}
+use Rattle.buck_world.proofs.Committed.{posting_added, found_planned, version_is, tried_stale}
 use Rattle.buck_world.proofs.acts.try_plan.Goals as goal
 
 pub returns-in-Err-Stale-clause-ok : goal.returns-in-Err-Stale-clause-ok
@@ -25,16 +26,17 @@ returns-clause-ok g c front =
     let is : (is_at c.args.harvesters.now.items c.args.h).stage ≡ Planned c.in-Planned-answer.plan = sym c.in-Planned-answer.ensures.was in
     let both : Planned c.in-Planned.plan ≡ Planned c.in-Planned-answer.plan = sym was ∙ is in
     let one_plan : c.in-Planned.plan ≡ c.in-Planned-answer.plan = cc both in
-    let made = subst (λ (p : PlanParts). IsMadeFor c.prepare.new.self c.in-Ok.ready p) one_plan c.in-Ok.ensures.ready.made in (
+    let made = subst (λ (p : PlanParts). IsReadyFor c.prepare.new.self c.in-Ok.ready p) one_plan c.in-Ok.ensures.ready in
+    let added = c.commit-entry.ensures in (
       c.in-Planned-answer.plan,
       is,
       inl (
         version_is c.args.book.now.history c.prepare.new.self.history (is_at xs c.args.h).seen c.in-Planned-answer.plan
             (c.requires.holds c.in-Planned-answer.plan is) same made.sheet_in_force,
-        cut_added c.args.book.now.history c.prepare.new.self.history c.commit-entry.new.self.history
-            xs c.answer.new.harvesters.items front c.args.h c.in-Planned-answer.plan c.commit-entry.result c.in-Ok.ready.next
-            same (made.next c.args.h) c.commit-entry.ensures.entry
-            record { postings = c.commit-entry.ensures.postings; sheets = c.commit-entry.ensures.sheets; instruction = c.commit-entry.ensures.instruction }
+        posting_added c.args.book.now.history c.prepare.new.self.history _ xs _ front c.args.h
+            (λ t. Cut (entry_of t c.args.h c.in-Planned-answer.plan)) (Cut c.commit-entry.result) c.in-Ok.ready.next
+            same (made.to_add.next_is c.args.h) (ap Cut added.entry)
+            record { postings = added.postings; sheets = added.sheets; instruction = added.instruction }
             c.in-Planned-answer.ensures.now,
       ),
     )

@@ -11,4 +11,4 @@ prove-unreachable-requires g c =
     let x = Cut (entry_of h 1 c.args.plan.now) in
     let end : IsEnd h.instruction h.postings x = grind arith in
     let none : c.in_ok-ready.ready.next ≡ None = search rules in
-    a_sheet h x c.in_ok-ready.ready.next (c.in_ok-ready.ensures.ready.made.next 1) end none
+    a_sheet h x c.in_ok-ready.ready.next (c.in_ok-ready.ensures.ready.to_add.next_is 1) end none

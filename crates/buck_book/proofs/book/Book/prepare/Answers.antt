@@ -1,9 +1,16 @@
-use Rattle.buck_book.proofs.Books.{made_with_room}
+use Rattle.std.proofs.Common.{rules}
+use Rattle.buck_book.specs.declared.posting.Posting.TheVariants.{Cut}
+use Rattle.buck_book.specs.Book.{entry_of}
+use Rattle.buck_book.proofs.Books.{ready_to_add}
 use Rattle.buck_book.proofs.book.Book.prepare.Goals as goal
 
 pub returns-clause-ready : goal.returns-clause-ready
-returns-clause-ready g c = record {
-  made = made_with_room _ _ _ _ c.reserve.ensures.content c.in_ok-ready.ensures.made;
-  posting_room = c.in_ok-reserve.ensures.posting;
-  sheet_room = c.in_ok-reserve.ensures.sheet;
-}
+returns-clause-ready g c =
+    let made = c.in_ok-ready.ensures in
+    let room = c.in_ok-reserve.ensures in
+    record {
+      to_add = ready_to_add _ _ (λ h harvester. Cut (entry_of h harvester c.args.plan.now)) _ c.reserve.ensures.content (search rules) made.next room.posting room.sheet;
+      sheet_in_force = search rules;
+      same_stem = made.stem;
+      same_logs = made.logs;
+    }

@@ -17,13 +17,14 @@ returns-in_err-place-clause-kept c =
     let s = c.args.market.sheet.now in
     let m = c.args.market.menu.now in
     let old = c.list.new.self in
-    let new = c.make_room_for_row.new in
+    let new = c.make_room.new in
     let k = c.make_row.ensures.kept in
     record {
+      terms = c.list.ensures.kept.terms;
       lists = c.list.ensures.kept.lists;
-      rows = kept_more (Rows s m) (row_more s m) new.rows new.cells.items k.0 c.make_row.new.cells.items k.1
-          (kept_room (Rows s m) (row_more s m) old.rows new.rows old.cells.items new.cells.items
-          c.make_room_for_row.ensures c.list.ensures.kept.rows);
+      rows = kept_more (Rows s m) (row_more s m) new.heads new.items.items k.0 c.make_row.new.cells.items k.1
+          (kept_room (Rows s m) (row_more s m) old.rows new.heads old.cells.items new.items.items
+          c.make_room.ensures c.list.ensures.kept.rows);
     }
 
 pub returns-in_err-keep-clause-kept : goal.returns-in_err-keep-clause-kept
@@ -31,14 +32,15 @@ returns-in_err-keep-clause-kept c =
     let s = c.args.market.sheet.now in
     let m = c.args.market.menu.now in
     let old = c.list.new.self in
-    let new = c.make_room_for_row.new in
+    let new = c.make_room.new in
     let k = c.make_row.ensures.kept in
     record {
+      terms = c.list.ensures.kept.terms;
       lists = c.list.ensures.kept.lists;
       rows = subst (λ (hs : List Head). Each (Rows s m) hs c.make_row.new.cells.items) (sym c.in_err-keep.ensures.left)
-          (kept_more (Rows s m) (row_more s m) new.rows new.cells.items k.0 c.make_row.new.cells.items k.1
-          (kept_room (Rows s m) (row_more s m) old.rows new.rows old.cells.items new.cells.items
-          c.make_room_for_row.ensures c.list.ensures.kept.rows));
+          (kept_more (Rows s m) (row_more s m) new.heads new.items.items k.0 c.make_row.new.cells.items k.1
+          (kept_room (Rows s m) (row_more s m) old.rows new.heads old.cells.items new.items.items
+          c.make_room.ensures c.list.ensures.kept.rows));
     }
 
 pub returns-clause-kept : goal.returns-clause-kept
@@ -46,14 +48,15 @@ returns-clause-kept c =
     let s = c.args.market.sheet.now in
     let m = c.args.market.menu.now in
     let old = c.list.new.self in
-    let new = c.make_room_for_row.new in
+    let new = c.make_room.new in
     let k = c.make_row.ensures.kept in
     let head : Head = record { key = record { takers = c.args.group.takers; at = c.args.diameter }; place = c.in_ok-place.place } in
     record {
+      terms = c.list.ensures.kept.terms;
       lists = c.list.ensures.kept.lists;
-      rows = kept_push (Rows s m) (row_more s m) new.rows c.keep.new.self c.make_row.new.cells.items head c.in_ok-keep.ensures.kept
+      rows = kept_push (Rows s m) (row_more s m) new.heads c.keep.new.self c.make_row.new.cells.items head c.in_ok-keep.ensures.kept
           c.in_ok-place.ensures.row
-          (kept_more (Rows s m) (row_more s m) new.rows new.cells.items k.0 c.make_row.new.cells.items k.1
-          (kept_room (Rows s m) (row_more s m) old.rows new.rows old.cells.items new.cells.items
-          c.make_room_for_row.ensures c.list.ensures.kept.rows));
+          (kept_more (Rows s m) (row_more s m) new.heads new.items.items k.0 c.make_row.new.cells.items k.1
+          (kept_room (Rows s m) (row_more s m) old.rows new.heads old.cells.items new.items.items
+          c.make_room.ensures c.list.ensures.kept.rows));
     }

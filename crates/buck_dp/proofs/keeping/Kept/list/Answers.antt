@@ -23,41 +23,44 @@ pub returns-in_err-place-clause-kept : goal.returns-in_err-place-clause-kept
 returns-in_err-place-clause-kept c =
     let s = c.args.market.sheet.now in
     let m = c.args.market.menu.now in
-    let new = c.make_room_for_list.new in
+    let new = c.make_room.new in
     let k = c.make_list.ensures.kept in
     record {
-      lists = kept_more (Lists s m) (list_more s m) new.lists new.quotes.items k.0 c.make_list.new.quotes.items k.1
-          (kept_room (Lists s m) (list_more s m) c.args.self.now.lists new.lists c.args.self.now.quotes.items new.quotes.items
-          c.make_room_for_list.ensures c.requires.kept.lists);
-      rows = c.requires.kept.rows;
+      terms = c.terms.ensures.kept.terms;
+      lists = kept_more (Lists s m) (list_more s m) new.heads new.items.items k.0 c.make_list.new.quotes.items k.1
+          (kept_room (Lists s m) (list_more s m) c.terms.new.self.lists new.heads c.terms.new.self.quotes.items new.items.items
+          c.make_room.ensures c.terms.ensures.kept.lists);
+      rows = c.terms.ensures.kept.rows;
     }
 
 pub returns-in_err-keep-clause-kept : goal.returns-in_err-keep-clause-kept
 returns-in_err-keep-clause-kept c =
     let s = c.args.market.sheet.now in
     let m = c.args.market.menu.now in
-    let new = c.make_room_for_list.new in
+    let new = c.make_room.new in
     let k = c.make_list.ensures.kept in
     record {
+      terms = c.terms.ensures.kept.terms;
       lists = subst (λ (hs : List Head). Each (Lists s m) hs c.make_list.new.quotes.items) (sym c.in_err-keep.ensures.left)
-          (kept_more (Lists s m) (list_more s m) new.lists new.quotes.items k.0 c.make_list.new.quotes.items k.1
-          (kept_room (Lists s m) (list_more s m) c.args.self.now.lists new.lists c.args.self.now.quotes.items new.quotes.items
-          c.make_room_for_list.ensures c.requires.kept.lists));
-      rows = c.requires.kept.rows;
+          (kept_more (Lists s m) (list_more s m) new.heads new.items.items k.0 c.make_list.new.quotes.items k.1
+          (kept_room (Lists s m) (list_more s m) c.terms.new.self.lists new.heads c.terms.new.self.quotes.items new.items.items
+          c.make_room.ensures c.terms.ensures.kept.lists));
+      rows = c.terms.ensures.kept.rows;
     }
 
 pub returns-clause-kept : goal.returns-clause-kept
 returns-clause-kept c =
     let s = c.args.market.sheet.now in
     let m = c.args.market.menu.now in
-    let new = c.make_room_for_list.new in
+    let new = c.make_room.new in
     let k = c.make_list.ensures.kept in
     let head : Head = record { key = record { takers = c.args.group.takers; at = c.args.band }; place = c.in_ok-place.place } in
     record {
-      lists = kept_push (Lists s m) (list_more s m) new.lists c.keep.new.self c.make_list.new.quotes.items head c.in_ok-keep.ensures.kept
+      terms = c.terms.ensures.kept.terms;
+      lists = kept_push (Lists s m) (list_more s m) new.heads c.keep.new.self c.make_list.new.quotes.items head c.in_ok-keep.ensures.kept
           c.in_ok-place.ensures.list
-          (kept_more (Lists s m) (list_more s m) new.lists new.quotes.items k.0 c.make_list.new.quotes.items k.1
-          (kept_room (Lists s m) (list_more s m) c.args.self.now.lists new.lists c.args.self.now.quotes.items new.quotes.items
-          c.make_room_for_list.ensures c.requires.kept.lists));
-      rows = c.requires.kept.rows;
+          (kept_more (Lists s m) (list_more s m) new.heads new.items.items k.0 c.make_list.new.quotes.items k.1
+          (kept_room (Lists s m) (list_more s m) c.terms.new.self.lists new.heads c.terms.new.self.quotes.items new.items.items
+          c.make_room.ensures c.terms.ensures.kept.lists));
+      rows = c.terms.ensures.kept.rows;
     }

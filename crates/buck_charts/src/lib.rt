@@ -1,0 +1,8 @@
+//! What a page draws of each assortment: its curves over the postings, and the matrices of its classes.
+#![tactic(auto)]
+
+mod charts;
+mod matrix;
+
+pub use charts::{write_degree_chart, write_price_chart};
+pub use matrix::write_matrices;

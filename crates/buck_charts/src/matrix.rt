@@ -1,0 +1,565 @@
+//! Matrices of the classes of an assortment: a row for each lower limit of the top diameter, a column for each length.
+ghost use Rattle.std.specs.Prelude.{◌≡◌, ◌<◌, ◌≤◌, ◌*◌, length, max};
+ghost use Rattle.std.specs.Int.{div_ceil};
+
+use buck_apt::Assortment;
+use buck_figures::{Figures, part, sum_of};
+use buck_record::Memory;
+use buck_words::{
+    Difference, Fixed, Grouped, Known, Signed, change_of, difference_of, length_text, permille,
+    row_of, tens,
+};
+use std::fmt;
+
+/// A matrix of more columns says one figure in a cell, and the rest in its title.
+const WIDE: usize = 12;
+
+/// Which differences, in per mille, have which of the three shades: each from its step on.
+#[derive(Clone, Copy)]
+struct Steps {
+    light: u128,
+    middle: u128,
+    dark: u128,
+}
+
+/// The steps of shares, given how many classes there are: a quarter, a half and the whole of the mean share, rounded
+/// up.
+fn share_steps(filled: u64) -> Steps
+    requires { 0 < filled }
+    ensures light { result.light ≡ max (div_ceil 250 filled) 1 }
+    ensures middle { result.middle ≡ max (div_ceil 500 filled) 2 }
+    ensures dark { result.dark ≡ max (div_ceil 1000 filled) 3 }
+{
+    let filled = u128::from(filled);
+    Steps {
+        light: 250u128.div_ceil(filled).max(1),
+        middle: 500u128.div_ceil(filled).max(2),
+        dark: 1000u128.div_ceil(filled).max(3),
+    }
+}
+
+/// The steps of prices: a sixth, a third and two thirds of the limit, rounded up.
+fn price_steps(limit: u32) -> Steps
+    ensures light { result.light ≡ max (div_ceil limit 6) 1 }
+    ensures middle { result.middle ≡ max (div_ceil limit 3) 2 }
+    ensures dark { result.dark ≡ max (div_ceil (2 * limit) 3) 3 }
+{
+    let limit = u128::from(limit);
+    Steps {
+        light: limit.div_ceil(6).max(1),
+        middle: limit.div_ceil(3).max(2),
+        dark: (2 * limit).div_ceil(3).max(3),
+    }
+}
+
+/// How a cell looks: that of a sum is set apart, and too few and too many have three shades each.
+#[derive(Clone, Copy)]
+enum Shade {
+    Plain,
+    Sum,
+    TooFew(u8),
+    TooMany(u8),
+}
+
+impl fmt::Display for Shade {
+    fn fmt<W: fmt::Write>(&self, f: &mut fmt::Formatter<W>) -> fmt::Result {
+        match self {
+            Shade::Plain => Ok(()),
+            Shade::Sum => write!(f, "sum"),
+            Shade::TooFew(level) => write!(f, "u{level}"),
+            Shade::TooMany(level) => write!(f, "o{level}"),
+        }
+    }
+}
+
+impl Steps {
+    /// The shade of a difference by which too much is there, or too little.
+    fn shade(&self, difference: Difference) -> Shade {
+        let level = if difference.size < self.light {
+            return Shade::Plain;
+        } else if difference.size < self.middle {
+            1
+        } else if difference.size < self.dark {
+            2
+        } else {
+            3
+        };
+        if difference.below {
+            Shade::TooFew(level)
+        } else {
+            Shade::TooMany(level)
+        }
+    }
+}
+
+/// Writes one shade of a legend, and from which difference on it is used.
+fn write_swatch(
+    out: &mut String,
+    shade: Shade,
+    sign: &'static str,
+    difference: Difference,
+) -> Result<(), Memory> {
+    Ok(write!(
+        out,
+        "<span class=\"swatch\"><i class=\"{shade}\"></i>{sign}&nbsp;{}</span>",
+        Signed::of(difference, 1)
+    )?)
+}
+
+/// Writes the shades of the differences that lie below, from the furthest to the nearest.
+fn write_below(out: &mut String, steps: &Steps, turned: bool) -> Result<(), Memory> {
+    for (level, size) in [(3, steps.dark), (2, steps.middle), (1, steps.light)] {
+        let shade = if turned {
+            Shade::TooMany(level)
+        } else {
+            Shade::TooFew(level)
+        };
+        write_swatch(out, shade, "&#8804;", Difference { below: true, size })?;
+    }
+    Ok(())
+}
+
+/// Writes the shades of the differences that lie above, from the nearest to the furthest.
+fn write_above(out: &mut String, steps: &Steps, turned: bool) -> Result<(), Memory> {
+    for (level, size) in [(1, steps.light), (2, steps.middle), (3, steps.dark)] {
+        let shade = if turned {
+            Shade::TooFew(level)
+        } else {
+            Shade::TooMany(level)
+        };
+        write_swatch(out, shade, "&#8805;", Difference { below: false, size })?;
+    }
+    Ok(())
+}
+
+/// Writes the legend of shares.
+fn write_share_legend(out: &mut String, steps: &Steps) -> Result<(), Memory> {
+    write!(out, "<p class=\"keys\">too few ")?;
+    write_below(out, steps, false)?;
+    write_above(out, steps, false)?;
+    Ok(write!(out, " too many, in points</p>")?)
+}
+
+/// Writes the legend of prices: where too few were cut they are raised.
+fn write_price_legend(out: &mut String, steps: &Steps) -> Result<(), Memory> {
+    write!(out, "<p class=\"keys\">lowered ")?;
+    write_below(out, steps, true)?;
+    write_above(out, steps, true)?;
+    Ok(write!(out, " raised, in %</p>")?)
+}
+
+/// A number of logs out of some.
+#[derive(Clone, Copy)]
+struct Share {
+    logs: u64,
+    of: u64,
+}
+
+impl Share {
+    /// In per mille, if there are any to be out of.
+    fn permille(&self) -> Option<u128> {
+        if self.of == 0 {
+            None
+        } else {
+            Some(permille(u128::from(self.logs), u128::from(self.of)))
+        }
+    }
+}
+
+/// A share in percent, from per mille.
+fn share_text(share: Option<u128>) -> Known {
+    match share {
+        Some(n) => Known(Some(Fixed::of(n, 1))),
+        None => Known(None),
+    }
+}
+
+/// What a cell of shares says: what was cut and what is wanted.
+#[derive(Clone, Copy)]
+struct Shares {
+    cut: Share,
+    wanted: Share,
+}
+
+/// Writes a cell of shares, given its main figure.
+fn write_cell<T: fmt::Display + Drop>(
+    out: &mut String,
+    shares: &Shares,
+    shade: Shade,
+    wide: bool,
+    figure: T,
+) -> Result<(), Memory> {
+    let cut = share_text(shares.cut.permille());
+    let wanted = share_text(shares.wanted.permille());
+    let count = Grouped(u128::from(shares.cut.logs));
+    let target = Grouped(u128::from(shares.wanted.logs));
+    if wide {
+        write!(
+            out,
+            "<td class=\"{shade}\" title=\"{cut} / {wanted} %; {count} / {target} logs\">{figure}</td>"
+        )?;
+    } else {
+        write!(
+            out,
+            "<td class=\"{shade}\"><b>{figure}</b><s>{cut} / {wanted}</s><s>{count} / {target}</s></td>"
+        )?;
+    }
+    Ok(())
+}
+
+/// Writes a cell of shares: how far that of what was cut lies from that of what is wanted, shaded by these steps; a
+/// sum has none.
+fn write_share(
+    out: &mut String,
+    shares: &Shares,
+    steps: Option<Steps>,
+    wide: bool,
+) -> Result<(), Memory> {
+    let unshaded = if steps.is_some() {
+        Shade::Plain
+    } else {
+        Shade::Sum
+    };
+    let cut = shares.cut.permille();
+    let (Some(n), Some(wanted)) = (cut, shares.wanted.permille()) else {
+        let figure = if wide { share_text(cut) } else { Known(None) };
+        return write_cell(out, shares, unshaded, wide, figure);
+    };
+    let difference = difference_of(wanted, n);
+    let shade = match steps {
+        Some(steps) => steps.shade(difference),
+        None => unshaded,
+    };
+    let figure = Signed::of(difference, 1);
+    write_cell(out, shares, shade, wide, figure)
+}
+
+/// How many digits a number has.
+fn digits(n: u64) -> u64
+    ensures { result ≤ 20 }
+{
+    let mut rest = n;
+    for digits in 1..20u64 {
+        if rest < 10 {
+            return digits;
+        }
+        rest /= 10;
+    }
+    20
+}
+
+/// The least width of a matrix in pixels, given how many digits the widest figure of a cell has.
+fn least_width(columns: usize, digits: u64) -> u64
+    requires { (columns ≤ 32) × (digits ≤ 40) }
+{
+    let cells = columns as u64 + 1;
+    if columns > WIDE {
+        84 + 28 * cells
+    } else {
+        84 + (26 + 7 * digits).max(68) * cells
+    }
+}
+
+/// A matrix of the classes of an assortment.
+#[derive(Drop)]
+struct Matrix<'a> {
+    assortment: &'a Assortment,
+    targets: &'a [u32],
+    counts: &'a [u32],
+    prices: &'a [u32],
+    wanted: u64,
+    cut: u64,
+    limit: u32,
+}
+
+/// Writes the head of a matrix, down to its lengths, given what it shows and how to read it.
+fn open_matrix(
+    out: &mut String,
+    matrix: &Matrix<'_>,
+    what: &'static str,
+    read: &'static str,
+) -> Result<(), Memory> {
+    let lengths = matrix.assortment.lengths();
+    let tight = if lengths.len() > WIDE { " tight" } else { "" };
+    let width = least_width(lengths.len(), digits(matrix.cut) + digits(matrix.wanted));
+    write!(
+        out,
+        "<figure><figcaption>{what} <small>{read}</small></figcaption><div class=\"scroll\">\
+         <table class=\"matrix{tight}\" style=\"min-width:{width}px\"><thead><tr>\
+         <th class=\"corner\" scope=\"col\">top&nbsp;mm&nbsp;/ m</th>"
+    )?;
+    for length in lengths {
+        write!(
+            out,
+            "<th scope=\"col\">{}</th>",
+            length_text(*length, lengths)
+        )?;
+    }
+    Ok(())
+}
+
+/// The numbers of a row, of some that stand row by row; none where there are fewer.
+fn row_in(numbers: &[u32], columns: usize, row: usize) -> &[u32]
+    requires { 0 < columns }
+{
+    match numbers.chunks(columns).nth(row) {
+        Some(part) => part,
+        None => &[],
+    }
+}
+
+/// All numbers of a column together, of some that stand row by row.
+fn column_sum(numbers: &[u32], columns: usize, column: usize) -> u64
+    requires { 0 < columns }
+{
+    let mut all: u64 = 0;
+    for number in numbers.iter().skip(column).step_by(columns) {
+        all = all.saturating_add(u64::from(*number));
+    }
+    all
+}
+
+/// How many classes have a target or a log, and 1 where none has.
+fn filled(targets: &[u32], counts: &[u32]) -> u64
+    ensures { 0 < result }
+{
+    let some = targets
+        .iter()
+        .zip(counts.iter())
+        .filter(|pair| *pair.0 > 0 || *pair.1 > 0)
+        .count();
+    (some as u64).max(1)
+}
+
+impl Matrix<'_> {
+    /// Whether it is a wide one.
+    fn is_wide(&self) -> bool {
+        self.assortment.lengths().len() > WIDE
+    }
+
+    /// What a cell of shares says of these logs.
+    fn shares(&self, count: u64, target: u64) -> Shares {
+        Shares {
+            cut: Share {
+                logs: count,
+                of: self.cut,
+            },
+            wanted: Share {
+                logs: target,
+                of: self.wanted,
+            },
+        }
+    }
+}
+
+/// Writes a cell of a class that the mill doesn't buy.
+fn write_shut(out: &mut String) -> Result<(), Memory> {
+    Ok(write!(out, "<td class=\"shut\" title=\"not bought\">&#183;</td>")?)
+}
+
+/// Writes a row of shares, with that of all its classes at the end.
+fn write_share_row(
+    out: &mut String,
+    matrix: &Matrix<'_>,
+    steps: Steps,
+    row: usize,
+) -> Result<(), Memory>
+    requires { row < length matrix.now.assortment.now.diameters }
+{
+    let columns = matrix.assortment.lengths().len();
+    let wide = matrix.is_wide();
+    let targets = row_in(matrix.targets, columns, row);
+    let counts = row_in(matrix.counts, columns, row);
+    let bases = row_in(matrix.assortment.prices(), columns, row);
+    write!(
+        out,
+        "<tr><th scope=\"row\">{}</th>",
+        row_of(matrix.assortment, row)
+    )?;
+    for ((target, count), base) in targets.iter().zip(counts.iter()).zip(bases.iter()) {
+        if *base == 0 {
+            write_shut(out)?;
+        } else {
+            let shares = matrix.shares(u64::from(*count), u64::from(*target));
+            write_share(out, &shares, Some(steps), wide)?;
+        }
+    }
+    let shares = matrix.shares(sum_of(counts), sum_of(targets));
+    write_share(out, &shares, None, wide)?;
+    Ok(write!(out, "</tr>")?)
+}
+
+/// Writes the row of all rows together.
+fn write_share_foot(out: &mut String, matrix: &Matrix<'_>) -> Result<(), Memory> {
+    let columns = matrix.assortment.lengths().len();
+    let wide = matrix.is_wide();
+    write!(out, "<tr><th scope=\"row\" class=\"sum\">all</th>")?;
+    for column in 0..columns {
+        let count = column_sum(matrix.counts, columns, column);
+        let target = column_sum(matrix.targets, columns, column);
+        write_share(out, &matrix.shares(count, target), None, wide)?;
+    }
+    if wide {
+        write!(out, "<td class=\"sum\"></td></tr>")?;
+    } else {
+        write!(
+            out,
+            "<td class=\"sum whole\"><s>{} / {}</s></td></tr>",
+            Grouped(u128::from(matrix.cut)),
+            Grouped(u128::from(matrix.wanted))
+        )?;
+    }
+    Ok(())
+}
+
+/// Writes the matrix of shares: what was cut against what is wanted.
+fn write_shares(out: &mut String, matrix: &Matrix<'_>) -> Result<(), Memory> {
+    let read = if matrix.is_wide() {
+        "difference in points"
+    } else {
+        "difference in points; cut / wanted, % and logs"
+    };
+    let steps = share_steps(filled(matrix.targets, matrix.counts));
+    open_matrix(out, matrix, "Shares: cut against wanted", read)?;
+    write!(
+        out,
+        "<th scope=\"col\" class=\"sum\">all</th></tr></thead><tbody>"
+    )?;
+    for row in 0..matrix.assortment.diameters().len() {
+        write_share_row(out, matrix, steps, row)?;
+    }
+    write_share_foot(out, matrix)?;
+    write!(out, "</tbody></table></div>")?;
+    if matrix.wanted == 0 {
+        write!(out, "<p class=\"keys\">Nothing is wanted of it.</p>")?;
+    } else if matrix.cut == 0 {
+        write!(out, "<p class=\"keys\">Nothing was cut of it.</p>")?;
+    } else {
+        write_share_legend(out, &steps)?;
+    }
+    Ok(write!(out, "</figure>")?)
+}
+
+/// Writes a cell of prices: the price now, its change and the base price.
+fn write_price(
+    out: &mut String,
+    steps: &Steps,
+    wide: bool,
+    price: u32,
+    base: u32,
+) -> Result<(), Memory>
+    requires { 0 < base }
+{
+    let change = change_of(price, base);
+    let shade = steps.shade(Difference {
+        below: !change.below,
+        size: change.size,
+    });
+    let now = Grouped(u128::from(price));
+    let before = Grouped(u128::from(base));
+    if wide {
+        let whole = Difference {
+            below: change.below,
+            size: tens(change.size),
+        };
+        write!(
+            out,
+            "<td class=\"{shade}\" title=\"{now}, base {before}\">{}</td>",
+            Signed::of(whole, 0)
+        )?;
+    } else {
+        write!(
+            out,
+            "<td class=\"{shade}\"><b>{now}</b><s>{}&nbsp;%</s><s>{before}</s></td>",
+            Signed::of(change, 1)
+        )?;
+    }
+    Ok(())
+}
+
+/// Writes a row of prices.
+fn write_price_row(
+    out: &mut String,
+    matrix: &Matrix<'_>,
+    steps: &Steps,
+    row: usize,
+) -> Result<(), Memory>
+    requires { row < length matrix.now.assortment.now.diameters }
+{
+    let columns = matrix.assortment.lengths().len();
+    let wide = matrix.is_wide();
+    let prices = row_in(matrix.prices, columns, row);
+    let bases = row_in(matrix.assortment.prices(), columns, row);
+    write!(
+        out,
+        "<tr><th scope=\"row\">{}</th>",
+        row_of(matrix.assortment, row)
+    )?;
+    for (price, base) in prices.iter().zip(bases.iter()) {
+        if *base == 0 {
+            write_shut(out)?;
+        } else {
+            write_price(out, steps, wide, *price, *base)?;
+        }
+    }
+    Ok(write!(out, "<td class=\"sum\"></td></tr>")?)
+}
+
+/// How to read a matrix of prices.
+fn price_reading(matrix: &Matrix<'_>) -> &'static str {
+    if matrix.is_wide() {
+        "change in %"
+    } else if matrix.assortment.price_kind() == 1 {
+        "per m&#179;: now, change, base"
+    } else {
+        "per piece: now, change, base"
+    }
+}
+
+/// Writes the matrix of prices: those now against the base prices.
+fn write_prices(out: &mut String, matrix: &Matrix<'_>) -> Result<(), Memory> {
+    let steps = price_steps(matrix.limit);
+    open_matrix(
+        out,
+        matrix,
+        "Prices now against base",
+        price_reading(matrix),
+    )?;
+    write!(out, "<td class=\"sum\"></td></tr></thead><tbody>")?;
+    for row in 0..matrix.assortment.diameters().len() {
+        write_price_row(out, matrix, &steps, row)?;
+    }
+    write!(out, "</tbody></table></div>")?;
+    if matrix.limit > 0 {
+        write_price_legend(out, &steps)?;
+    }
+    Ok(write!(out, "</figure>")?)
+}
+
+/// Writes the matrices of the assortment at a place: side by side where there are few columns, else one under the
+/// other.
+pub fn write_matrices(out: &mut String, figures: &Figures<'_>, at: usize) -> Result<(), Memory>
+    requires { at < length figures.now.instruction.now.assortments }
+{
+    let assortment = &figures.instruction.assortments()[at];
+    let targets = part(figures.instruction, figures.targets.as_slice(), at);
+    let counts = part(figures.instruction, figures.counts.as_slice(), at);
+    let matrix = Matrix {
+        assortment,
+        targets,
+        counts,
+        prices: part(figures.instruction, figures.prices, at),
+        wanted: sum_of(targets),
+        cut: sum_of(counts),
+        limit: figures.instruction.limit(),
+    };
+    let one = if assortment.lengths().len() > 5 {
+        " one"
+    } else {
+        ""
+    };
+    write!(out, "<div class=\"matrices{one}\">")?;
+    write_shares(out, &matrix)?;
+    write_prices(out, &matrix)?;
+    Ok(write!(out, "</div>")?)
+}

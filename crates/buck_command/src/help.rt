@@ -1,0 +1,180 @@
+//! What the help says of the program and of its commands, in lines of at most 80 columns.
+
+/// What the program does.
+pub(crate) const PROGRAM: &str =
+    "Cuts each stem of a stem file into logs of the greatest worth by an instruction
+file. Without a command, an instruction file, a | and a stem file are read from
+standard input.";
+
+/// What the commands come to, and how any run ends.
+pub(crate) const COMMANDS: &str =
+    "Without a command what is printed is what buck prints of the two files.
+
+Examples:
+  buckfleet buck pine.apt pine.stm
+  (cat pine.apt; printf '|'; cat pine.stm) | buckfleet
+
+Exit statuses:
+  0  all was printed, also help and the version
+  1  a file is refused
+  2  the words of the command line are wrong, or not 1 to 64 stem files
+  3  memory ran out, or a fleet has more than 1000000 stems
+  4  a journal is not lawful, or a fleet did not close well
+  5  a file can't be read, or the output or a journal can't be written
+After 1, 3, 4 and 5, and after too many stem files, one line on standard error
+says what went wrong; explain says it in words. See docs/FORMATS.md.";
+
+/// What comes out of a bucking, and how it ends.
+pub(crate) const BUCK: &str =
+    "Prints for each stem a STEM line and a LOG line for each of its logs, and last a
+TOTAL line.
+
+Examples:
+  buckfleet buck pine.apt pine.stm
+  buckfleet buck -q pine.apt pine.stm > pine.out
+
+Exit statuses:
+  0  all was printed
+  1  a file is refused
+  2  the words of the command line are wrong
+  3  memory ran out
+  5  a file can't be read, or the output can't be written
+After 1, 3 and 5 one line on standard error says what went wrong; explain says
+it in words.";
+
+/// The same of a check.
+pub(crate) const CHECK: &str =
+    "Prints LAWFUL and the number of postings where each cutting is one that none
+outvalues under the prices in force, and the prices move only within the price
+relation. That they follow a rule it doesn't say, nor that these stems were
+felled. A journal may have at most 67108864 bytes, as each file.
+
+Examples:
+  buckfleet check morning.apt morning.jrn
+  buckfleet check morning.apt morning.jrn || echo not lawful
+
+Exit statuses:
+  0  the journal is lawful
+  1  a file is refused
+  2  the words of the command line are wrong
+  3  memory ran out
+  4  the journal is not lawful
+  5  a file can't be read, or the output can't be written
+After 1, 3, 4 and 5 one line on standard error says what went wrong; explain
+says it in words.";
+
+/// What comes out of a fleet, and how it ends.
+pub(crate) const FLEET: &str =
+    "Harvester k cuts the stems of the k-th stem file, in file order; 1 to 64 stem
+files. Which harvester commits first is open, so that two runs of several
+harvesters may print two histories. Prints an ENTRY line for each cut, for each
+assortment a CLASS line for each of its classes and its DEGREE, and last a TOTAL
+line. The journal, which check reads, is written first. Each file may have at
+most 67108864 bytes, and check reads no longer journal.
+
+The input files are opened in the order of the words, and then OUT, which is
+made where it isn't there. OUT is never one of the input files. An old OUT stays
+as it was until the whole journal is there, which then takes its place at once.
+
+Examples:
+  buckfleet fleet --rule linear morning.apt morning_1.stm
+  buckfleet fleet --journal morning.jrn morning.apt morning_1.stm morning_2.stm
+
+Exit statuses:
+  0  all was printed
+  1  a file is refused
+  2  the words of the command line are wrong, or not 1 to 64 stem files
+  3  memory ran out, or there are more than 1000000 stems
+  4  the fleet did not close well
+  5  a file can't be read, or the output or OUT can't be written
+After 1, 3, 4 and 5, and after too many stem files, one line on standard error
+says what went wrong; explain says it in words.";
+
+/// The same of a report.
+pub(crate) const REPORT: &str =
+    "Reads and checks the journal as check does. Where it is lawful, prints the
+report that the fleet printed which wrote it, byte for byte: an ENTRY or a
+DEMAND line for each posting, for each assortment a CLASS line for each of its
+classes and its DEGREE, and last a TOTAL line.
+
+Examples:
+  buckfleet report morning.apt morning.jrn
+  buckfleet report morning.apt morning.jrn | diff - morning.out
+
+Exit statuses:
+  0  all was printed
+  1  a file is refused
+  2  the words of the command line are wrong
+  3  memory ran out
+  4  the journal is not lawful
+  5  a file can't be read, or the output can't be written
+After 1, 3, 4 and 5 one line on standard error says what went wrong; explain
+says it in words.";
+
+/// What comes of a page, and how it ends.
+pub(crate) const VIEW: &str =
+    "Prints one HTML page: what was cut, how near the proportions wanted it came and
+how that developed, what steering by prices cost beside the best cuttings at
+base prices, which prices moved, and how single stems were cut. It loads
+nothing, and holds no date. Of a journal that is not lawful the page of its
+first fault is printed, and the status is 4.
+
+Examples:
+  buckfleet view morning.apt morning.jrn > morning.html
+  buckfleet view -q morning.apt morning.jrn > morning.html
+
+Exit statuses:
+  0  the page was printed
+  1  a file is refused
+  2  the words of the command line are wrong
+  3  memory ran out
+  4  the journal is not lawful
+  5  a file can't be read, or the output can't be written
+After 1, 3, 4 and 5 one line on standard error says what went wrong; explain
+says it in words.";
+
+/// The same of a table.
+pub(crate) const TABLE: &str =
+    "Prints CSV: a first line of the columns, and then a line for each class, posting
+or log, or for each assortment at each point of its degree. Of a journal that is
+not lawful nothing is printed. See \"Tables of a journal\" in docs/FORMATS.md.
+
+Examples:
+  buckfleet table morning.apt morning.jrn classes > classes.csv
+  buckfleet table morning.apt morning.jrn degrees > degrees.csv
+
+Exit statuses:
+  0  the table was printed
+  1  a file is refused
+  2  the words of the command line are wrong
+  3  memory ran out
+  4  the journal is not lawful
+  5  a file can't be read, or the output can't be written
+After 1, 3, 4 and 5 one line on standard error says what went wrong; explain
+says it in words.";
+
+/// What comes of a fault line.
+pub(crate) const EXPLAIN: &str =
+    "Prints one sentence: what is wrong, with the numbers of the line put in, and
+what to do next. The line may be one word or several.
+
+Examples:
+  buckfleet explain replay fault 7 12
+  buckfleet explain 'apt fault 8 917 1'
+
+Exit statuses:
+  0  the sentence was printed
+  2  there is no such fault line, or the words are wrong
+  3  memory ran out
+  5  the output can't be written";
+
+/// What a rule does.
+pub(crate) const RULE: &str = "The price rule: steady, linear or step";
+
+/// The same at length.
+pub(crate) const RULES: &str =
+    "How prices follow what was cut: steady not at all, linear by how far a
+class is off its target, step by the whole span";
+
+/// What is told on a terminal, and how it is kept off.
+pub(crate) const QUIET: &str = "Don't tell on a terminal how far long work is";

@@ -1,0 +1,41 @@
+use Rattle.std.proofs.Common.{ℕ, List, Option, length, sym, subst, ap, ◌∙◌}
+use Rattle.buck_apt.specs.Instruction.{InstructionParts}
+use Rattle.buck_bid.specs.declared.offers.Offer.{Offer}
+use Rattle.buck_bid.specs.Limits.{IsBandOf}
+use Rattle.buck_bid.specs.Offers.{codes_in}
+use Rattle.buck_bid.proofs.LimitLemmas.{band_is}
+use Rattle.buck_dp.specs.declared.index.Key.{Key}
+use Rattle.buck_dp.specs.declared.pricing.Ask.{Ask}
+use Rattle.buck_dp.specs.declared.pricing.Term.{Term}
+use Rattle.buck_dp.specs.inner.Kept.{ask_of, AreTermsAt}
+use Rattle.buck_dp.specs.inner.Quotes.{AreTerms}
+use Rattle.buck_dp.proofs.KeptLemmas.{terms_new}
+use Rattle.buck_dp.proofs.keeping.make_terms.Goals as goal
+
+pub put_terms-requires-clause-band : goal.put_terms-requires-clause-band
+put_terms-requires-clause-band c =
+    let i = c.args.market.sheet.now.instruction in
+    let limits : List ℕ = c.args.market.menu.now.limits.items in
+    let k : ℕ = c.args.band in
+    subst (λ (j : InstructionParts). IsBandOf j c.ask_for-ask.result.band.thinnest c.ask_for-ask.result.band.past)
+    (sym (c.deref.ensures ∙ c.instruction.ensures.instruction))
+    (subst (λ (a : Ask). IsBandOf i a.band.thinnest a.band.past) (sym c.ask_for-ask.ensures)
+    (band_is i limits k c.requires.menu.limits c.requires.band c.requires.high))
+
+pub returns-clause-terms : goal.returns-clause-terms
+returns-clause-terms c =
+    let i = c.args.market.sheet.now.instruction in
+    let m = c.args.market.menu.now in
+    let key : Key = record { takers = c.args.group.takers; at = c.args.band } in
+    let old : List (Option Term) = c.args.terms.now.items in
+    let new = c.in_ok-put_terms.ensures in
+    let are : AreTerms i (codes_in m.offers.items) (ask_of m key) (length m.offers.items) new.0 =
+    subst (λ (a : Ask). AreTerms i (codes_in m.offers.items) a (length m.offers.items) new.0) c.ask_for-ask.ensures
+    (subst (λ (os : List Offer). AreTerms i (codes_in os) c.ask_for-ask.result (length os) new.0) c.as_slice.ensures.value
+    (subst (λ (j : InstructionParts). AreTerms j (codes_in c.as_slice.result.now) c.ask_for-ask.result (length c.as_slice.result.now) new.0)
+    (c.deref.ensures ∙ c.instruction.ensures.instruction) new.2)) in
+    let from : ℕ = length c.as_slice-from.result.now in
+    let past : ℕ = length c.as_slice-2.result.now in
+    subst (λ (xs : List (Option Term)). AreTermsAt i m xs key (record { from = from; past = past })) (sym new.1)
+    (terms_new i m old new.0 key from past (ap (λ (xs : List (Option Term)). length xs) c.as_slice-from.ensures.value)
+    (ap (λ (xs : List (Option Term)). length xs) (c.as_slice-2.ensures.value ∙ new.1)) are)

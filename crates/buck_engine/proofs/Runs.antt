@@ -1,0 +1,73 @@
+-- What a run of a fleet writes.
+use Rattle.std.proofs.Common.{◌≡◌, ℕ, inl, inr, List, Option, Result, Ok, Err, length, refl, sym, ap, subst}
+use Rattle.std.specs.Result.{IsErrAnd}
+use Rattle.std.specs.Io.KnownBytes.{Keeps}
+use Rattle.std.proofs.KnownBytes.{Keeps-refl}
+use Rattle.buck_book.specs.History.{HistoryParts}
+use Rattle.buck_engine.specs.declared.fault.EngineFault.{EngineFault}
+use Rattle.buck_engine.specs.declared.fault.EngineFault.TheVariants.{Read, Write, Apt, Stm, Journal, Replay, Seats, Full, Memory, Close}
+use Rattle.buck_engine.specs.run.Reading.{IsFileFault}
+use Rattle.buck_engine.specs.text.Written.{IsRun}
+use Rattle.buck_engine.specs.fleet.Running.{AnswersFleet, AreNoSeats, IsFleetRun, IsHarvest, WroteAll, WroteSome}
+use Rattle.buck_engine.specs.fleet.Lent.{OfWriter}
+use Rattle.buck_engine.specs.inner.Fleet.{AreWritten}
+
+-- a fault other than that of a writer
+abbrev pub IsNoWrite : EngineFault → Type 0
+IsNoWrite Write = ⊥
+IsNoWrite _ = Unit {0}
+
+pub file_fault : {V F : Type 0} (number : ℕ) (named : F → EngineFault) (reading : List ℕ → Result V F) (file : Option (List ℕ)) (fault : EngineFault)
+    → ((why : F) → IsNoWrite (named why)) → IsFileFault number named reading file fault → IsNoWrite fault
+file_fault number named reading file fault none (inl read) = subst IsNoWrite (sym read) tt
+file_fault number named reading file fault none (inr (inl memory)) = subst IsNoWrite (sym memory) tt
+file_fault number named reading file fault none (inr (inr (why, is, e))) = subst IsNoWrite (sym is) (none why)
+
+-- a run that has a fault for an answer
+pub no_answer : {T : Type 0} (Answers : Result T EngineFault → Type 0) (Whole Part : T → Type 0) (Nothing : Type 0) (fault : EngineFault)
+    → IsNoWrite fault → Answers (Err fault) → Nothing → IsRun Answers Whole Part Nothing (Err fault)
+no_answer Answers Whole Part Nothing (Read file) other a kept = (a, kept)
+no_answer Answers Whole Part Nothing Write other a kept = absurd other
+no_answer Answers Whole Part Nothing (Apt why) other a kept = (a, kept)
+no_answer Answers Whole Part Nothing (Stm file why) other a kept = (a, kept)
+no_answer Answers Whole Part Nothing (Journal why) other a kept = (a, kept)
+no_answer Answers Whole Part Nothing (Replay why) other a kept = (a, kept)
+no_answer Answers Whole Part Nothing Seats other a kept = (a, kept)
+no_answer Answers Whole Part Nothing Full other a kept = (a, kept)
+no_answer Answers Whole Part Nothing Memory other a kept = (a, kept)
+no_answer Answers Whole Part Nothing (Close why) other a kept = (a, kept)
+
+-- the same of a fleet
+pub fleet_fault : (apt : Option (List ℕ)) (stms : List (Option (List ℕ))) (fault : EngineFault) → AnswersFleet apt stms (Err fault) → IsNoWrite fault
+fleet_fault apt stms fault (inl seats) = subst IsNoWrite (sym seats.1) tt
+fleet_fault apt stms fault (inr (inl a)) = file_fault _ _ _ _ fault (λ why. tt) a
+fleet_fault apt stms fault (inr (inr (accepted, inl list))) = file_fault _ _ _ _ fault (λ why. tt) list.is_fault
+fleet_fault apt stms fault (inr (inr (accepted, inr (all, inl full)))) = subst IsNoWrite (sym full) tt
+fleet_fault apt stms fault (inr (inr (accepted, inr (all, inr (inl memory))))) = subst IsNoWrite (sym memory) tt
+fleet_fault apt stms fault (inr (inr (accepted, inr (all, inr (inr close))))) = subst IsNoWrite (sym close.1) tt
+
+-- nothing is written where there is no closed fleet
+pub no_texts : (apt : Option (List ℕ)) (stms : List (Option (List ℕ))) (OfJournal : OfWriter) (old : Option (List ℕ)) (fault : EngineFault) (r : Result (Unit {0}) EngineFault)
+    → (AreNoSeats (length stms) → fault ≡ Seats) → IsErrAnd r (λ x. x ≡ fault) → AnswersFleet apt stms (Err fault) → OfJournal Keeps → IsFleetRun apt stms OfJournal old old r
+no_texts apt stms OfJournal old fault (Ok u) seats h a kept = absurd h
+no_texts apt stms OfJournal old fault (Err x) seats h a kept =
+    subst (λ (f : EngineFault). IsFleetRun apt stms OfJournal old old (Err f)) (sym h)
+    (record {
+      seats = λ none. ap (λ (f : EngineFault). Err f) (seats none);
+      run = no_answer (AnswersFleet apt stms) (λ h. WroteAll h OfJournal old old) (λ h. WroteSome h OfJournal old old) (OfJournal Keeps × Keeps old old) fault (fleet_fault apt stms fault a) a (kept, Keeps-refl old);
+    })
+
+-- the texts of a closed fleet are written, or some first bytes of them
+pub texts_written : (apt : Option (List ℕ)) (stms : List (Option (List ℕ))) (OfJournal : OfWriter) (old new : Option (List ℕ)) (h : HistoryParts) (r : Result (Unit {0}) EngineFault)
+    → (AreNoSeats (length stms) → ⊥) → IsHarvest apt stms h → AreWritten h OfJournal old new r → IsFleetRun apt stms OfJournal old new r
+texts_written apt stms OfJournal old new h (Ok u) seats is all = record { seats = λ none. absurd (seats none); run = (h, is, all) }
+texts_written apt stms OfJournal old new h (Err Write) seats is some = record { seats = λ none. absurd (seats none); run = (h, is, some) }
+texts_written apt stms OfJournal old new h (Err Memory) seats is kept = record { seats = λ none. absurd (seats none); run = (inr (inl (inr (inl refl))), kept) }
+texts_written apt stms OfJournal old new h (Err (Read file)) seats is never = absurd never
+texts_written apt stms OfJournal old new h (Err (Apt why)) seats is never = absurd never
+texts_written apt stms OfJournal old new h (Err (Stm file why)) seats is never = absurd never
+texts_written apt stms OfJournal old new h (Err (Journal why)) seats is never = absurd never
+texts_written apt stms OfJournal old new h (Err (Replay why)) seats is never = absurd never
+texts_written apt stms OfJournal old new h (Err Seats) seats is never = absurd never
+texts_written apt stms OfJournal old new h (Err Full) seats is never = absurd never
+texts_written apt stms OfJournal old new h (Err (Close why)) seats is never = absurd never

@@ -1,0 +1,12 @@
+use Rattle.buck_engine.specs.fleet.Lent.{no_writer}
+use Rattle.buck_engine.proofs.Runs.{no_texts, texts_written}
+use Rattle.buck_engine.proofs.Served.{of_files}
+use Rattle.buck_engine.proofs.fleet.running.run_reported.Goals as goal
+
+pub returns-in_err-closed-clause-run : goal.returns-in_err-closed-clause-run
+returns-in_err-closed-clause-run g c =
+    no_texts _ _ no_writer _ _ _ (λ none. c.in_err-closed.ensures.seats (of_files g.R.Read.remaining c.args.stms.now none)) c.from_residual.ensures.1 c.in_err-closed.ensures.refused tt
+
+pub returns-clause-run : goal.returns-clause-run
+returns-clause-run g c =
+    texts_written _ _ no_writer _ _ _ _ (λ none. c.in_ok-closed.ensures.seats (of_files g.R.Read.remaining c.args.stms.now none)) c.in_ok-closed.ensures.ok c.write_report.ensures

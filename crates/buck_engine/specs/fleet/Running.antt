@@ -1,0 +1,87 @@
+-- What a run of a fleet over an instruction file and stem files answers: a journal and a report of one history.
+use Rattle.std.specs.Prelude.{◌≡◌, ◌⊎◌, ◌<◌, ◌≤◌, ◌+◌, ℕ, List, length, map, All, Option, Some, None, Result, Ok, Err, slice_index_or}
+use Rattle.std.specs.Io.KnownBytes.{Appends, Keeps}
+use Rattle.buck_apt.specs.Apt.{apt_of}
+use Rattle.buck_stem.specs.Stem.{StemParts}
+use Rattle.buck_stem.specs.Stm.{stm_of}
+use Rattle.buck_book.specs.Posting.{harvester_of}
+use Rattle.buck_book.specs.History.{HistoryParts, IsLawful}
+use Rattle.buck_journal.specs.Written.{journal_text}
+use Rattle.buck_fleet.specs.Run.{stem_cut}
+use Rattle.buck_fleet.specs.Closed.{replies_of}
+use Rattle.buck_engine.specs.declared.fault.EngineFault.{EngineFault}
+use Rattle.buck_engine.specs.declared.fault.EngineFault.TheVariants.{Seats, Full, Memory, Close}
+use Rattle.buck_engine.specs.run.Reading.{IsAccepted, IsAptFault, IsStmFault, Says}
+use Rattle.buck_engine.specs.fleet.Lent.{OfWriter}
+use Rattle.buck_engine.specs.text.Written.{AppendsSome, IsRun}
+use Rattle.buck_engine.specs.text.Report.{IsReport}
+
+-- the stem that each posting of a harvester cut, in their order; none in the place of a demand
+abbrev pub stems_cut_by : ℕ → HistoryParts → List (Option StemParts)
+stems_cut_by harvester h = map (λ k. stem_cut k.entry) (replies_of harvester h)
+
+-- a harvester cut exactly the stems that a file has, in their order
+pub record CutsFile (harvester : ℕ) (h : HistoryParts) (stm : Option (List ℕ)) : Type 0 where
+  pub stems : List StemParts
+  pub stm_says : Says stm_of stm (Ok stems)
+  pub are_cut : stems_cut_by harvester h ≡ map Some stems
+
+-- a lawful history of the instruction that a file has, in which harvester k cut exactly the stems that the k-th stem
+-- file has, in their order, and nobody else has a posting
+pub record IsHarvest (apt : Option (List ℕ)) (stms : List (Option (List ℕ))) (h : HistoryParts) : Type 0 where
+  pub instruction : Says apt_of apt (Ok h.instruction)
+  pub lawful : IsLawful h
+  pub stems : (k : ℕ) → k < length stms → CutsFile (k + 1) h (slice_index_or stms k None)
+  pub nobody_else : All (λ x. (0 < harvester_of x) × (harvester_of x ≤ length stms)) h.postings
+
+-- the first so many stem files are accepted
+abbrev pub AreAccepted : ℕ → List (Option (List ℕ)) → Type 0
+AreAccepted n stms = (k : ℕ) → k < n → IsAccepted stm_of (slice_index_or stms k None)
+
+-- the stem file at a place has a fault, and those before it are accepted
+pub record IsListFault (stms : List (Option (List ℕ))) (fault : EngineFault) : Type 0 where
+  pub place : ℕ
+  pub exists : place < length stms
+  pub accepted : AreAccepted place stms
+  pub is_fault : IsStmFault (place + 1) (slice_index_or stms place None) fault
+
+-- what may go wrong in a fleet
+abbrev pub IsCuttingFault : EngineFault → Type 0
+IsCuttingFault fault = (fault ≡ Full) ⊎ ((fault ≡ Memory) ⊎ ((why : _) × (fault ≡ Close why)))
+
+-- the first file that has a fault, or, where all are accepted, what went wrong in the fleet
+abbrev pub IsHarvestFault : Option (List ℕ) → List (Option (List ℕ)) → EngineFault → Type 0
+IsHarvestFault apt stms fault =
+    IsAptFault apt fault
+    ⊎ (IsAccepted apt_of apt × (IsListFault stms fault ⊎ (AreAccepted (length stms) stms × IsCuttingFault fault)))
+
+-- a fleet has 1 to 64 seats
+abbrev pub AreNoSeats : ℕ → Type 0
+AreNoSeats number = (number ≡ 0) ⊎ (64 < number)
+
+-- a history of all files, or the first fault
+abbrev pub AnswersFleet : Option (List ℕ) → List (Option (List ℕ)) → Result HistoryParts EngineFault → Type 0
+AnswersFleet apt stms (Ok h) = IsHarvest apt stms h
+AnswersFleet apt stms (Err fault) = (AreNoSeats (length stms) × (fault ≡ Seats)) ⊎ IsHarvestFault apt stms fault
+
+-- the texts of a history were written: the journal, where one is asked for, and the report
+pub record WroteAll (h : HistoryParts) (OfJournal : OfWriter) (old new : Option (List ℕ)) : Type 0 where
+  pub report : List ℕ
+  pub is_report : IsReport h report
+  pub journal_whole : OfJournal (λ a b. Appends a b (journal_text h.sheets h.postings))
+  pub report_whole : Appends old new report
+
+-- some first bytes of them were written, and not all: of the journal and no report, or all of the journal and some
+-- first bytes of the report
+pub record WroteSome (h : HistoryParts) (OfJournal : OfWriter) (old new : Option (List ℕ)) : Type 0 where
+  pub report : List ℕ
+  pub is_report : IsReport h report
+  pub stopped : (OfJournal (λ a b. AppendsSome a b (journal_text h.sheets h.postings)) × Keeps old new)
+      ⊎ (OfJournal (λ a b. Appends a b (journal_text h.sheets h.postings)) × AppendsSome old new report)
+
+-- how a run of a fleet ended, and what it wrote
+pub record IsFleetRun (apt : Option (List ℕ)) (stms : List (Option (List ℕ))) (OfJournal : OfWriter)
+    (old new : Option (List ℕ)) (outcome : Result (Unit {0}) EngineFault) : Type 0 where
+  pub seats : AreNoSeats (length stms) → outcome ≡ Err Seats
+  pub run : IsRun (AnswersFleet apt stms) (λ h. WroteAll h OfJournal old new) (λ h. WroteSome h OfJournal old new)
+      (OfJournal Keeps × Keeps old new) outcome

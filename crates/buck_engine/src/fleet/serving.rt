@@ -1,0 +1,168 @@
+//! Whole runs of a fleet, from its task to its exit status.
+ghost use Rattle.std.specs.Prelude.{◌≡◌, map, Result};
+ghost use Rattle.std.specs.Option.{option_map};
+ghost use Rattle.buck_rule.specs.Stored.{AllAnswer};
+ghost use Rattle.buck_engine.specs.declared.fault.EngineFault.{EngineFault};
+ghost use Rattle.buck_engine.specs.fleet.Serving.{RunsFleet};
+ghost use Rattle.buck_engine.specs.inner.Served.{MakesJournal, WritesMade};
+ghost use Rattle.buck_engine.specs.run.Serving.{TellsOutcome, status_after};
+
+use crate::fault::EngineFault;
+use crate::fleet::onlooker::Onlooker;
+use crate::fleet::running::{cut_files, write_journal_and_report, write_report};
+use crate::run::opening::{Make, Open, open_inputs};
+use crate::run::serving::conclude;
+use buck_fleet::Closed;
+use buck_rule::{Rule, Standing, linear, steady, step};
+use std::alloc::Global;
+use std::io;
+use std::sync::Wait;
+use std::thread::Threads;
+
+/// A price rule that has a name.
+#[derive(Clone, Copy, Debug, PartialEq, Eq, Drop)]
+pub enum NamedRule {
+    /// Base prices, always.
+    Steady,
+    /// Base prices, moved by as much of the span as a class is off its target.
+    Linear,
+    /// Base prices, moved by the whole span where a class is off its target.
+    Step,
+}
+
+/// What the words of the command line ask of a fleet.
+#[derive(Drop)]
+pub struct FleetTask<'a> {
+    /// How prices follow what was cut.
+    pub rule: NamedRule,
+    /// The name of the file that the journal goes into, where one is wanted.
+    pub journal: Option<&'a str>,
+    /// The name of the instruction file.
+    pub apt: &'a str,
+    /// The names of the stem files, one for each harvester.
+    pub stms: Vec<&'a str>,
+}
+
+/// Makes the file of the journal, where one is wanted. One that can't be made is `Write`.
+fn make_journal<M: Make>(maker: &mut M, name: Option<&str>) -> Result<Option<M::Made>, EngineFault>
+    ensures { MakesJournal M.makes maker.old maker.new (option_map (λ s. s.now) name.entry) result }
+{
+    match name {
+        None => Ok(None),
+        Some(name) => match maker.make(name) {
+            None => Err(EngineFault::Write),
+            Some(made) => Ok(Some(made)),
+        },
+    }
+}
+
+/// Writes the journal of a closed fleet into the file that was made for it, where there is one, and then its report.
+fn write_made<J: io::Write + Drop, W: io::Write>(
+    alloc: Global,
+    closed: &Closed,
+    journal: Option<J>,
+    out: &mut W,
+) -> Result<(), EngineFault>
+    ensures { WritesMade J.contents closed.now.history journal (W.contents out.old) (W.contents out.new) result }
+{
+    match journal {
+        None => write_report(alloc, closed, out),
+        Some(mut journal) => write_journal_and_report(alloc, closed, &mut journal, out),
+    }
+}
+
+/// Opens all input files by their names, in order, then makes the file of the journal, where one is wanted, and then
+/// runs the fleet.
+fn fleet_files<
+    F: Fn(&Standing) -> u64 + Drop + Send,
+    T: Threads + Wait + Sync,
+    L: Onlooker + Sync,
+    O: Open + Make,
+    W: io::Write,
+>(
+    rt: &T,
+    alloc: Global,
+    task: &FleetTask<'_>,
+    rule: Rule<F>,
+    onlooker: &L,
+    opener: &mut O,
+    writer: &mut W,
+) -> Result<(), EngineFault>
+    requires answers { AllAnswer F.Fn }
+    ensures { RunsFleet O.opens O.makes O.File.remaining O.Made.contents opener.old opener.new task.now.apt.now
+        (map (λ s. s.now) task.now.stms.items) (option_map (λ s. s.now) task.now.journal)
+        (W.contents writer.old) (W.contents writer.new) result }
+{
+    let (mut instruction, mut stems) = open_inputs(alloc, opener, task.apt, task.stms.as_slice())?;
+    let journal = make_journal(opener, task.journal)?;
+    let closed = cut_files(
+        rt,
+        alloc,
+        &mut instruction,
+        stems.as_mut_slice(),
+        rule,
+        onlooker,
+    )?;
+    write_made(alloc, &closed, journal, writer)
+}
+
+/// Does what the task asks for, by its rule.
+fn run_fleet_task<T: Threads + Wait + Sync, L: Onlooker + Sync, O: Open + Make, W: io::Write>(
+    rt: &T,
+    alloc: Global,
+    task: &FleetTask<'_>,
+    onlooker: &L,
+    opener: &mut O,
+    writer: &mut W,
+) -> Result<(), EngineFault>
+    ensures { RunsFleet O.opens O.makes O.File.remaining O.Made.contents opener.old opener.new task.now.apt.now
+        (map (λ s. s.now) task.now.stms.items) (option_map (λ s. s.now) task.now.journal)
+        (W.contents writer.old) (W.contents writer.new) result }
+{
+    match task.rule {
+        NamedRule::Steady => {
+            let rule = Rule::new(|s: &Standing| steady(s));
+            fleet_files(rt, alloc, task, rule, onlooker, opener, writer)
+        }
+        NamedRule::Linear => {
+            let rule = Rule::new(|s: &Standing| linear(s));
+            fleet_files(rt, alloc, task, rule, onlooker, opener, writer)
+        }
+        NamedRule::Step => {
+            let rule = Rule::new(|s: &Standing| step(s));
+            fleet_files(rt, alloc, task, rule, onlooker, opener, writer)
+        }
+    }
+}
+
+/// Runs a fleet over the files of a task, and says on `errors` how it ended. The answer is the exit status. While it
+/// works, the onlooker is told how far it is; [`Nobody`](crate::Nobody) is one that doesn't ask.
+///
+/// The input files are opened in the order of the words before one of them is read; one that can't be opened is `Read`
+/// with its number. Then the file of the journal is made, where one is wanted; where it can't be made, that is `Write`.
+/// Each fault and what is written before it are those of [`run_fleet_files`](crate::run_fleet_files).
+pub fn serve_fleet<
+    T: Threads + Wait + Sync,
+    L: Onlooker + Sync,
+    O: Open + Make,
+    W: io::Write,
+    E: io::Write,
+>(
+    rt: &T,
+    alloc: Global,
+    task: &FleetTask<'_>,
+    onlooker: &L,
+    opener: &mut O,
+    output: &mut W,
+    errors: &mut E,
+) -> u8
+    ensures { (outcome : Result (Unit {0}) EngineFault)
+        × RunsFleet O.opens O.makes O.File.remaining O.Made.contents opener.old opener.new task.now.apt.now
+        (map (λ s. s.now) task.now.stms.items) (option_map (λ s. s.now) task.now.journal)
+        (W.contents output.old) (W.contents output.new) outcome
+        × (result ≡ status_after outcome)
+        × TellsOutcome (E.contents errors.old) (E.contents errors.new) outcome }
+{
+    let outcome = run_fleet_task(rt, alloc, task, onlooker, opener, output);
+    conclude(errors, &outcome)
+}

@@ -1,0 +1,180 @@
+//! Whole runs of the program, from its task to its exit status.
+ghost use Rattle.std.specs.Prelude.{◌≡◌, true, false, Result};
+ghost use Rattle.std.specs.Io.KnownBytes.{Keeps};
+ghost use Rattle.buck_engine.specs.declared.fault.EngineFault.{EngineFault};
+ghost use Rattle.buck_engine.specs.text.Written.{IsWritten};
+ghost use Rattle.buck_engine.specs.Faults.{fault_line};
+ghost use Rattle.buck_engine.specs.run.Checking.{AnswersCheck, AnswersReport};
+ghost use Rattle.buck_engine.specs.run.Bucking.{AnswersBuck};
+ghost use Rattle.buck_engine.specs.run.Serving.{AppendsFirst, RunsFiles, RunsTask, TellsOutcome, status_after};
+
+use crate::fault::{EngineFault, status};
+use crate::run::bucking::{run_bare, run_buck};
+use crate::run::checking::run_check;
+use crate::run::opening::{Open, open_both};
+use crate::run::reporting::run_report;
+use crate::text::writing::{write_fault, write_text};
+use std::alloc::Global;
+use std::io;
+
+/// What the words of the command line ask for.
+#[derive(Drop)]
+pub enum Task<'a> {
+    /// Both files stand on standard input, with a `|` between them.
+    Bare,
+    /// The files of these names.
+    Buck { apt: &'a str, stm: &'a str },
+    /// A check of a journal by its instruction, in the files of these names.
+    Check { apt: &'a str, journal: &'a str },
+    /// The report of a journal by its instruction, in the files of these names.
+    Report { apt: &'a str, journal: &'a str },
+}
+
+/// Opens both files by their names, the instruction file first, and then runs over them.
+fn run_files<O: Open, W: io::Write>(
+    alloc: Global,
+    opener: &mut O,
+    apt: &str,
+    stm: &str,
+    writer: &mut W,
+) -> Result<(), EngineFault>
+    ensures { RunsFiles AnswersBuck O.opens O.File.remaining opener.old opener.new apt.now stm.now
+        (W.contents writer.old) (W.contents writer.new) result }
+{
+    let (mut instruction, mut stems) = open_both(opener, apt, stm)?;
+    run_buck(alloc, &mut instruction, &mut stems, writer)
+}
+
+/// Opens both files by their names, the instruction file first, and then checks the journal.
+fn check_files<O: Open, W: io::Write>(
+    alloc: Global,
+    opener: &mut O,
+    apt: &str,
+    journal: &str,
+    writer: &mut W,
+) -> Result<(), EngineFault>
+    ensures { RunsFiles AnswersCheck O.opens O.File.remaining opener.old opener.new apt.now journal.now
+        (W.contents writer.old) (W.contents writer.new) result }
+{
+    let (mut instruction, mut journal_file) = open_both(opener, apt, journal)?;
+    run_check(alloc, &mut instruction, &mut journal_file, writer)
+}
+
+/// Opens both files by their names, the instruction file first, and then writes the journal's report.
+fn report_files<O: Open, W: io::Write>(
+    alloc: Global,
+    opener: &mut O,
+    apt: &str,
+    journal: &str,
+    writer: &mut W,
+) -> Result<(), EngineFault>
+    ensures { RunsFiles AnswersReport O.opens O.File.remaining opener.old opener.new apt.now journal.now
+        (W.contents writer.old) (W.contents writer.new) result }
+{
+    let (mut instruction, mut postings) = open_both(opener, apt, journal)?;
+    run_report(alloc, &mut instruction, &mut postings, writer)
+}
+
+/// Does what the task asks for.
+fn run_task<R: io::Read, O: Open, W: io::Write>(
+    alloc: Global,
+    task: &Task<'_>,
+    input: &mut R,
+    opener: &mut O,
+    writer: &mut W,
+) -> Result<(), EngineFault>
+    ensures { RunsTask O.opens O.File.remaining opener.old opener.new (R.remaining input.old) task.now
+        (W.contents writer.old) (W.contents writer.new) result }
+{
+    match task {
+        Task::Bare => run_bare(alloc, input, writer),
+        Task::Buck { apt, stm } => run_files(alloc, opener, *apt, *stm, writer),
+        Task::Check { apt, journal } => check_files(alloc, opener, *apt, *journal, writer),
+        Task::Report { apt, journal } => report_files(alloc, opener, *apt, *journal, writer),
+    }
+}
+
+/// Writes first bytes of the line of a fault: all of it, where the writer takes them.
+#[tactic(auto, using(crate::proofs::WrittenLemmas::first_told))]
+fn tell_fault<E: io::Write>(errors: &mut E, fault: &EngineFault)
+    ensures { AppendsFirst (E.contents errors.old) (E.contents errors.new) (fault_line fault.now) }
+{
+    let _ = write_fault(errors, fault);
+}
+
+/// Says nothing of a run that went well, and else the line of its fault.
+fn tell<E: io::Write>(errors: &mut E, outcome: &Result<(), EngineFault>)
+    ensures { TellsOutcome (E.contents errors.old) (E.contents errors.new) outcome.now }
+{
+    match outcome {
+        Ok(()) => {}
+        Err(fault) => tell_fault(errors, fault),
+    }
+}
+
+/// The exit status after a run.
+fn status_after(outcome: &Result<(), EngineFault>) -> u8
+    ensures { result ≡ status_after outcome.now }
+{
+    match outcome {
+        Ok(()) => 0,
+        Err(fault) => status(fault),
+    }
+}
+
+/// Says how a run ended: nothing where it went well, and else the line of the fault. The answer is the exit status.
+pub fn conclude<E: io::Write>(errors: &mut E, outcome: &Result<(), EngineFault>) -> u8
+    ensures status { result ≡ status_after outcome.now }
+    ensures told { TellsOutcome (E.contents errors.old) (E.contents errors.new) outcome.now }
+{
+    tell(errors, outcome);
+    status_after(outcome)
+}
+
+/// Does what the task asks for, and says on `errors` how it ended. The answer is the exit status.
+///
+/// The files of a task are opened in the order of its words before one of them is read; one that can't be opened is
+/// `Read` with its number. Each fault and what is written before it are those of [`run_buck`], [`run_bare`],
+/// [`run_check`] and [`run_report`].
+pub fn serve<R: io::Read, O: Open, W: io::Write, E: io::Write>(
+    alloc: Global,
+    task: &Task<'_>,
+    input: &mut R,
+    opener: &mut O,
+    output: &mut W,
+    errors: &mut E,
+) -> u8
+    ensures { (outcome : Result (Unit {0}) EngineFault)
+        × RunsTask O.opens O.File.remaining opener.old opener.new (R.remaining input.old) task.now
+        (W.contents output.old) (W.contents output.new) outcome
+        × (result ≡ status_after outcome)
+        × TellsOutcome (E.contents errors.old) (E.contents errors.new) outcome }
+{
+    let outcome = run_task(alloc, task, input, opener, output);
+    conclude(errors, &outcome)
+}
+
+/// Says a text about the command line: what is wrong with the words on `errors`, with status 2, and what was asked
+/// for, as help, on `output`, which ends as a run does.
+#[tactic(auto, using(crate::proofs::WrittenLemmas::first_written))]
+pub fn explain<W: io::Write, E: io::Write>(
+    output: &mut W,
+    errors: &mut E,
+    text: &[u8],
+    mistake: bool,
+) -> u8
+    ensures status { mistake ≡ true → result ≡ 2 }
+    ensures kept { mistake ≡ true → Keeps (W.contents output.old) (W.contents output.new) }
+    ensures told { mistake ≡ true → AppendsFirst (E.contents errors.old) (E.contents errors.new) text.now }
+    ensures asked { mistake ≡ false → (outcome : Result (Unit {0}) EngineFault)
+        × IsWritten (W.contents output.old) (W.contents output.new) text.now outcome
+        × (result ≡ status_after outcome)
+        × TellsOutcome (E.contents errors.old) (E.contents errors.new) outcome }
+{
+    if mistake {
+        let _ = write_text(errors, text);
+        return 2;
+    }
+    let written = write_text(output, text);
+    conclude(errors, &written)
+}

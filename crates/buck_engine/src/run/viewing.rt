@@ -1,0 +1,200 @@
+//! A journal shown: as the page that a mill opens, or as a table for a spreadsheet.
+ghost use Rattle.std.specs.Prelude.{◌≡◌, ◌≤◌, length, Ok, IfOk, IfErr};
+ghost use Rattle.std.specs.Io.KnownBytes.{Keeps};
+ghost use Rattle.buck_apt.specs.Apt.{apt_of};
+ghost use Rattle.buck_book.specs.History.{IsLawful};
+ghost use Rattle.buck_figures.specs.Figures.{base_sheet};
+ghost use Rattle.buck_journal.specs.Journal.{journal_of};
+ghost use Rattle.buck_journal.specs.Replay.{history_of};
+ghost use Rattle.buck_engine.specs.run.Reading.{IfStopped, Says};
+ghost use Rattle.buck_engine.specs.run.Viewing.{AppendsPage, AppendsTable, IsReadFault, ShowsPage, ShowsTable};
+ghost use Rattle.buck_engine.specs.inner.View.{ShowsFault, ShowsHistory, WritesAs};
+
+use crate::fault::EngineFault;
+use crate::run::checking::{check_journal, read_postings};
+use crate::run::reading::read_instruction;
+use crate::text::writing::write_text;
+use buck_apt::Instruction;
+use buck_dp::Planner;
+use buck_figures::figures_of;
+use buck_journal::{Journal, ReplayFault, replay};
+use buck_record::Memory;
+use buck_tables::{Table, table_of};
+use buck_value::Sheet;
+use buck_view::{Files, fault_page, page};
+use std::alloc::Global;
+use std::io;
+use std::sync::Arc;
+
+/// An instruction and a journal, as both were read.
+#[derive(Drop)]
+struct Both {
+    instruction: Arc<Instruction>,
+    journal: Journal,
+}
+
+/// The instruction and the journal that two files have, as [`run_check`](crate::run_check) reads them.
+fn read_both<R: io::Read>(alloc: Global, apt: &mut R, journal: &mut R) -> Result<Both, EngineFault>
+    ensures instruction { IfOk result (λ both. Says apt_of (R.remaining apt.old) (Ok both.instruction.value)) }
+    ensures journal { IfOk result (λ both. Says journal_of (R.remaining journal.old) (Ok both.journal)) }
+    ensures few { IfOk result (λ both. length both.journal.entries ≤ 1000000) }
+    ensures refused { IfErr result (IsReadFault (R.remaining apt.old) (R.remaining journal.old)) }
+    ensures order { IfErr result (IfStopped (λ last. last ≡ 0 → journal.new ≡ journal.old)) }
+{
+    let instruction = Arc::new(alloc, read_instruction(alloc, apt)?)?;
+    let journal = read_postings(alloc, journal)?;
+    Ok(Both {
+        instruction,
+        journal,
+    })
+}
+
+/// A planner at base prices.
+fn base_planner(alloc: Global, instruction: &Arc<Instruction>) -> Result<Planner, Memory>
+    ensures { IfOk result (λ planner. planner ≡ base_sheet instruction.now.value) }
+{
+    let base = Sheet::base(alloc, instruction.clone()?)?;
+    Ok(Planner::make(alloc, Arc::new(alloc, base)?)?)
+}
+
+/// The page of a lawful journal.
+fn page_of(alloc: Global, both: &Both, files: &Files<'_>) -> Result<String, Memory>
+    requires few { length both.now.journal.entries ≤ 1000000 }
+    requires lawful { IsLawful (history_of both.now.instruction.value both.now.journal) }
+{
+    let mut planner = base_planner(alloc, &both.instruction)?;
+    let figures = figures_of(alloc, &mut planner, &both.instruction, &both.journal)?;
+    page(alloc, &figures, &mut planner, files)
+}
+
+/// A table of a lawful journal.
+fn table_in(alloc: Global, both: &Both, table: Table) -> Result<Vec<u8>, Memory>
+    requires few { length both.now.journal.entries ≤ 1000000 }
+    requires lawful { IsLawful (history_of both.now.instruction.value both.now.journal) }
+{
+    let mut planner = base_planner(alloc, &both.instruction)?;
+    let figures = figures_of(alloc, &mut planner, &both.instruction, &both.journal)?;
+    table_of(alloc, &figures, &mut planner, table)
+}
+
+/// Writes a page, once all of it is there.
+#[tactic(auto, using(crate::proofs::Pages::page_written))]
+fn write_page<W: io::Write>(writer: &mut W, page: Result<String, Memory>) -> Result<(), EngineFault>
+    ensures { WritesAs (AppendsPage (W.contents writer.old) (W.contents writer.new)) (W.contents writer.old) (W.contents writer.new) result }
+{
+    let text = page?;
+    write_text(writer, text.as_str().as_bytes())
+}
+
+/// Writes the page of the first fault of a journal that isn't lawful; the answer is that fault, or why it isn't written.
+fn write_fault_page<W: io::Write>(
+    alloc: Global,
+    both: &Both,
+    fault: ReplayFault,
+    files: &Files<'_>,
+    writer: &mut W,
+) -> EngineFault
+    ensures { ShowsFault (AppendsPage (W.contents writer.old) (W.contents writer.new)) fault (W.contents writer.old) (W.contents writer.new) result }
+{
+    let postings = both.journal.entries.as_slice();
+    let text = fault_page(alloc, &both.instruction, postings, &fault, files);
+    match write_page(writer, text) {
+        Ok(()) => EngineFault::Replay(fault),
+        Err(fault) => fault,
+    }
+}
+
+/// Writes the page of a journal: where it isn't lawful, that of its first fault.
+#[tactic(auto, using(crate::proofs::Pages::histories))]
+fn show_both<W: io::Write>(
+    alloc: Global,
+    both: &Both,
+    files: &Files<'_>,
+    writer: &mut W,
+) -> Result<(), EngineFault>
+    requires { length both.now.journal.entries ≤ 1000000 }
+    ensures { ShowsHistory (AppendsPage (W.contents writer.old) (W.contents writer.new)) (AppendsPage (W.contents writer.old) (W.contents writer.new))
+        (history_of both.now.instruction.value both.now.journal) (W.contents writer.old) (W.contents writer.new) result }
+{
+    match replay(alloc, &both.instruction, &both.journal) {
+        Ok(()) => write_page(writer, page_of(alloc, both, files)),
+        Err(ReplayFault::Memory) => Err(EngineFault::Memory),
+        Err(fault) => Err(write_fault_page(alloc, both, fault, files, writer)),
+    }
+}
+
+/// Reads an instruction file and then a journal, and writes the page of the journal, in which the files are named so.
+/// Where the journal isn't lawful for the instruction, it writes the page of its first fault, and the answer is
+/// `Replay` with that fault. Nothing is written before the whole page is there.
+///
+/// The files are read, and refused, as by [`run_check`](crate::run_check).
+#[tactic(auto, using(crate::proofs::Pages::shown))]
+pub fn run_view<R: io::Read, W: io::Write>(
+    alloc: Global,
+    apt: &mut R,
+    journal: &mut R,
+    files: &Files<'_>,
+    writer: &mut W,
+) -> Result<(), EngineFault>
+    // A page is written of a lawful journal, or the page of its first fault; where a file has a fault nothing is written.
+    ensures run { ShowsPage (R.remaining apt.old) (R.remaining journal.old)
+        (W.contents writer.old) (W.contents writer.new) result }
+    // Where the instruction file has a fault, nothing was read of the journal.
+    ensures order { IfErr result (IfStopped (λ last. last ≡ 0 → journal.new ≡ journal.old)) }
+{
+    let both = read_both(alloc, apt, journal)?;
+    show_both(alloc, &both, files, writer)
+}
+
+/// Writes a table, once all of it is there.
+#[tactic(auto, using(crate::proofs::Pages::table_written))]
+fn write_table<W: io::Write>(
+    writer: &mut W,
+    table: Result<Vec<u8>, Memory>,
+) -> Result<(), EngineFault>
+    ensures { WritesAs (AppendsTable (W.contents writer.old) (W.contents writer.new)) (W.contents writer.old) (W.contents writer.new) result }
+{
+    let text = table?;
+    write_text(writer, text.as_slice())
+}
+
+/// Writes a table of a journal, where it is lawful.
+#[tactic(auto, using(crate::proofs::Pages::lists))]
+fn list_both<W: io::Write>(
+    alloc: Global,
+    both: &Both,
+    table: Table,
+    writer: &mut W,
+) -> Result<(), EngineFault>
+    requires { length both.now.journal.entries ≤ 1000000 }
+    ensures { ShowsHistory (AppendsTable (W.contents writer.old) (W.contents writer.new)) (Keeps (W.contents writer.old) (W.contents writer.new))
+        (history_of both.now.instruction.value both.now.journal) (W.contents writer.old) (W.contents writer.new) result }
+{
+    match check_journal(alloc, &both.instruction, &both.journal) {
+        Ok(()) => write_table(writer, table_in(alloc, both, table)),
+        Err(fault) => Err(fault),
+    }
+}
+
+/// Reads an instruction file and then a journal, and writes a table of the journal, where it is lawful for the
+/// instruction. Nothing is written before the whole table is there.
+///
+/// The files are read, and refused, as by [`run_check`](crate::run_check).
+#[tactic(auto, using(crate::proofs::Pages::shown))]
+pub fn run_table<R: io::Read, W: io::Write>(
+    alloc: Global,
+    apt: &mut R,
+    journal: &mut R,
+    table: Table,
+    writer: &mut W,
+) -> Result<(), EngineFault>
+    // A table is written of a lawful journal; a fault is that of the first file that has one, or the first of the
+    // journal, and nothing is written; where the output can't be written, some first bytes of it may be.
+    ensures run { ShowsTable (R.remaining apt.old) (R.remaining journal.old)
+        (W.contents writer.old) (W.contents writer.new) result }
+    // Where the instruction file has a fault, nothing was read of the journal.
+    ensures order { IfErr result (IfStopped (λ last. last ≡ 0 → journal.new ≡ journal.old)) }
+{
+    let both = read_both(alloc, apt, journal)?;
+    list_both(alloc, &both, table, writer)
+}

@@ -1,0 +1,157 @@
+//! The text of a bucking.
+ghost use Rattle.std.specs.Prelude.{◌≡◌, ◌++◌, ◌<◌, ◌^◌, IfOk, OnOk, All};
+ghost use Rattle.std.specs.List.{flat_map};
+ghost use Rattle.buck_value.specs.Allowed.{IsAllowed};
+ghost use Rattle.buck_engine.specs.inner.Text.{IsPut};
+ghost use Rattle.buck_engine.specs.text.Bucking.{IsBuckText, IsTextUnder, base_sheet, log_line, named_line_of, stem_line, total_line};
+
+use crate::fault::TextFault;
+use buck_apt::Instruction;
+use buck_dp::Planner;
+use buck_record::{Memory, put_line, put_numbers};
+use buck_stem::Stem;
+use buck_value::{Log, Sheet, log_valuation};
+use std::alloc::Global;
+use std::sync::Arc;
+
+/// Puts a line that ends with a name.
+pub(crate) fn put_named_line(
+    out: &mut Vec<u8>,
+    words: &[u8],
+    numbers: &[u128],
+    name: &[u8],
+) -> Result<(), Memory>
+    ensures { OnOk result (out.new.items ≡ out.old.items ++ named_line_of words.now numbers.now name.now) }
+{
+    out.extend_from_slice(words)?;
+    put_numbers(out, numbers)?;
+    out.extend_from_slice(b" ")?;
+    out.extend_from_slice(name)?;
+    out.extend_from_slice(b"\n")?;
+    Ok(())
+}
+
+/// Puts the line of a log.
+#[tactic(auto, unfolding(crate::specs::text::Bucking::log_line))]
+fn put_log(out: &mut Vec<u8>, sheet: &Sheet, stem: &Stem, log: &Log) -> Result<(), Memory>
+    requires { IsAllowed sheet.now.instruction stem.now log.now }
+    ensures { OnOk result (out.new.items ≡ out.old.items ++ log_line sheet.now stem.now log.now) }
+{
+    let Some(found) = log_valuation(sheet, stem, log) else {
+        unreachable!()
+    };
+    let assortment = &sheet.instruction().assortments()[log.assortment as usize];
+    let numbers = [
+        u128::from(log.start),
+        u128::from(log.length),
+        u128::from(found.top),
+        u128::from(found.class.row),
+        u128::from(found.class.column),
+        u128::from(found.worth),
+    ];
+    put_named_line(out, b"LOG", &numbers, assortment.name())
+}
+
+/// Puts a line for each log.
+fn put_logs(out: &mut Vec<u8>, sheet: &Sheet, stem: &Stem, logs: &[Log]) -> Result<(), Memory>
+    requires { All (λ g. IsAllowed sheet.now.instruction stem.now g) logs.now }
+    ensures { OnOk result (out.new.items ≡ out.old.items ++ flat_map (log_line sheet.now stem.now) logs.now) }
+{
+    for log in logs {
+        put_log(out, sheet, stem, log)?;
+    }
+    Ok(())
+}
+
+/// Puts the line of a stem.
+#[tactic(auto, unfolding(crate::specs::text::Bucking::stem_line))]
+fn put_stem(out: &mut Vec<u8>, stem: &Stem, logs: usize, worth: u64) -> Result<(), Memory>
+    ensures { OnOk result (out.new.items ≡ out.old.items ++ stem_line stem.now logs worth) }
+{
+    let number = u128::from(stem.number());
+    let length = u128::from(stem.length());
+    put_line(
+        out,
+        b"STEM",
+        &[number, length, logs as u128, u128::from(worth)],
+    )
+}
+
+/// Puts the line of the total.
+#[tactic(auto, unfolding(crate::specs::text::Bucking::total_line))]
+pub(crate) fn put_total(
+    out: &mut Vec<u8>,
+    stems: usize,
+    logs: u128,
+    worth: u128,
+) -> Result<(), Memory>
+    ensures { OnOk result (out.new.items ≡ out.old.items ++ total_line stems logs worth) }
+{
+    put_line(out, b"TOTAL", &[stems as u128, logs, worth])
+}
+
+/// Cuts a stem, and puts its lines. The answer is how many logs there are, and their worth.
+fn put_cut(
+    alloc: Global,
+    out: &mut Vec<u8>,
+    planner: &mut Planner,
+    stem: &Stem,
+) -> Result<(usize, u64), Memory>
+    ensures same { planner.new ≡ planner.old }
+    ensures put { IfOk result (λ cut. IsPut planner.old stem.now out.old.items out.new.items cut.0 cut.1) }
+    ensures logs_fit { IfOk result (λ cut. cut.0 < 2 ^ 64) }
+    ensures worth_fits { IfOk result (λ cut. cut.1 < 2 ^ 64) }
+{
+    let (cutting, worth) = planner.best(alloc, stem)?;
+    let logs = cutting.logs.as_slice();
+    put_stem(out, stem, logs.len(), worth)?;
+    put_logs(out, planner.sheet(), stem, logs)?;
+    Ok((logs.len(), worth))
+}
+
+/// The sheet of the base prices.
+fn base_sheet(alloc: Global, instruction: &Instruction) -> Result<Arc<Sheet>, Memory>
+    ensures { IfOk result (λ sheet. sheet.value ≡ base_sheet instruction.now) }
+{
+    let shared = Arc::new(alloc, instruction.copy(alloc)?)?;
+    let sheet = Sheet::base(alloc, shared)?;
+    Ok(Arc::new(alloc, sheet)?)
+}
+
+/// The text of the stems, bucked under a sheet.
+fn text_under(alloc: Global, sheet: Arc<Sheet>, stems: &[Stem]) -> Result<Vec<u8>, Memory>
+    ensures { IfOk result (λ text. IsTextUnder sheet.value stems.now text.items) }
+{
+    let mut out = Vec::new(alloc);
+    let mut logs = 0;
+    let mut worth = 0;
+    let mut planner = Planner::make(alloc, sheet)?;
+    for stem in stems {
+        let (count, value) = put_cut(alloc, &mut out, &mut planner, stem)?;
+        logs += count as u128;
+        worth += u128::from(value);
+    }
+    put_total(&mut out, stems.len(), logs, worth)?;
+    Ok(out)
+}
+
+/// The text of the stems in file order, each bucked under the base prices by the first of its best cuttings:
+///
+/// ```text
+/// STEM <stem number> <stem length> <number of logs> <worth>
+/// LOG <start> <length> <top diameter> <row> <column> <worth> <assortment name>
+/// TOTAL <stems> <logs> <worth>
+/// ```
+///
+/// a `STEM` line for each stem with a `LOG` line for each of its logs, from the butt on, and the `TOTAL` once. Places,
+/// lengths and diameters are in mm, worths in millionths of the price unit. `Memory` where a growth was refused.
+pub fn buck_text(
+    alloc: Global,
+    instruction: &Instruction,
+    stems: &[Stem],
+) -> Result<Vec<u8>, TextFault>
+    ensures { IfOk result (λ text. IsBuckText instruction.now stems.now text.items) }
+{
+    let sheet = base_sheet(alloc, instruction)?;
+    Ok(text_under(alloc, sheet, stems)?)
+}

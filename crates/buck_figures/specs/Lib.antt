@@ -1,0 +1,9 @@
+pub mod Figures
+pub mod Sums
+pub mod Owns
+pub mod Assorted
+pub mod Greatest
+pub mod Points
+pub mod Pieces
+pub mod Shown
+pub mod inner

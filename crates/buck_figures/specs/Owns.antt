@@ -1,0 +1,23 @@
+-- What each harvester's postings come to.
+use Rattle.std.specs.Prelude.{◌≡◌, ℕ, ◌==◌, Option, Some, None, List, []}
+use Rattle.std.specs.List.{filter}
+use Rattle.std.specs.Ordering.{nat_cmp}
+use Rattle.std.specs.BTreeMap.{get, BTreeMap}
+use Rattle.buck_apt.specs.Instruction.{InstructionParts}
+use Rattle.buck_book.specs.declared.posting.Posting.{Posting}
+use Rattle.buck_book.specs.Posting.{harvester_of}
+use Rattle.buck_figures.specs.declared.owns.Own.{Own}
+use Rattle.buck_figures.specs.Sums.{AreSums}
+
+-- the postings of a harvester
+abbrev pub own_of : ℕ → List Posting → List Posting
+own_of h ps = filter (λ x. harvester_of x == h) ps
+
+-- what is kept of a harvester is what its postings come to
+abbrev pub IsOwn : InstructionParts → ℕ → List Posting → List Posting → Option Own → Type 0
+IsOwn i h ps us None = (own_of h ps ≡ []) × (own_of h us ≡ [])
+IsOwn i h ps us (Some own) = (own.harvester ≡ h) × AreSums i (own_of h ps) (own_of h us) own.sums
+
+-- of each harvester
+abbrev pub AreOwns : InstructionParts → List Posting → List Posting → BTreeMap ℕ Own → Type 0
+AreOwns i ps us owns = (h : ℕ) → IsOwn i h ps us (get nat_cmp owns h)

@@ -1,0 +1,9 @@
+pub mod Counted
+pub mod Adding
+pub mod Owned
+pub mod Tally
+pub mod Assorted
+pub mod Greatest
+pub mod Account
+pub mod Course
+pub mod Making

@@ -1,0 +1,33 @@
+-- What all postings come to.
+use Rattle.std.specs.Prelude.{◌≡◌, ℕ, ◌+◌, ◌<◌, ◌≤◌, List, [], ◌∷◌, ◌++◌, slice_index}
+use Rattle.buck_apt.specs.Instruction.{InstructionParts}
+use Rattle.buck_book.specs.declared.posting.Posting.{Posting}
+use Rattle.buck_book.specs.Counts.{AreClassCounts}
+use Rattle.buck_figures.specs.Figures.{IsUnsteered}
+use Rattle.buck_figures.specs.Sums.{AreSums}
+use Rattle.buck_figures.specs.Owns.{AreOwns}
+use Rattle.buck_figures.specs.declared.sums.Sums.{Sums}
+use Rattle.buck_figures.specs.declared.tally.Tally.{Tally}
+
+-- the sums over some postings, and over the same unsteered: of all, and of each harvester's
+pub record IsTally (i : InstructionParts) (ps us : List Posting) (t : Tally) : Type 0 where
+  pub total : AreSums i ps us t.total
+  pub owns : AreOwns i ps us t.owns
+  pub counts : AreClassCounts i ps t.counts.items
+  pub unsteered : AreClassCounts i us t.unsteered.items
+
+-- with one posting more, and what that one comes to
+pub record IsTallyWith (i : InstructionParts) (ps us : List Posting) (x : Posting) (s : Sums) (t : Tally) : Type 0 where
+  pub unsteered : Posting
+  pub is_unsteered : IsUnsteered i x unsteered
+  pub sums : AreSums i (x ∷ []) (unsteered ∷ []) s
+  pub tally : IsTally i (ps ++ x ∷ []) (us ++ unsteered ∷ []) t
+
+-- no class has more logs than this
+abbrev pub AreAtMost : ℕ → List ℕ → Type 0
+AreAtMost most counts = (p : ℕ) → slice_index counts p ≤ most
+
+-- there is room for one more
+pub record IsBelow (s : Sums) : Type 0 where
+  pub stems : s.stems < 1000000
+  pub demands : s.demands < 1000000

@@ -1,0 +1,29 @@
+//! The cuts of a journal, log by log.
+ghost use Rattle.std.specs.Prelude.{◌≡◌};
+ghost use Rattle.buck_figures.specs.Shown.{IsShown};
+
+use crate::cuts::cut_of;
+use crate::figures::{Cut, Figures};
+use buck_book::Posting;
+use buck_dp::Planner;
+use buck_record::Memory;
+use std::alloc::Global;
+
+/// The cut at a place among the postings log by log, if there is one. The planner plans at base prices.
+pub fn cut_at<'a>(
+    alloc: Global,
+    figures: &Figures<'a>,
+    planner: &mut Planner,
+    position: usize,
+) -> Result<Option<Cut<'a>>, Memory>
+    requires { IsShown figures.now planner.old }
+    ensures same { planner.new ≡ planner.old }
+{
+    match figures.postings.get(position) {
+        Some(Posting::Cut(entry)) => {
+            let cut = cut_of(alloc, planner, figures.sheets, position, entry)?;
+            Ok(Some(cut))
+        }
+        _ => Ok(None),
+    }
+}

@@ -1,0 +1,8 @@
+use Rattle.std.proofs.Common.{◌<◌, ◌≤◌, ℕ, length}
+use Rattle.buck_fleet.specs.Run.{stems_at}
+use Rattle.buck_turn.proofs.turns.longest.Given as goal
+
+abbrev pub invariant-loop-k : goal.invariant-loop-k
+invariant-loop-k l = record {
+  most : (j : ℕ) → j < l.k → length (stems_at l.lists j) ≤ l.most;
+}

@@ -1,0 +1,32 @@
+-- Who cuts when, where harvesters take turns: one stem each, round by round.
+use Rattle.std.specs.Prelude.{◌≡◌, ℕ, ◌+◌, ◌<◌, ◌≤◌, ◌⊎◌, List, [], ◌∷◌, length, map, All, Some}
+use Rattle.std.specs.List.{AllByRecursion}
+use Rattle.std.specs.declared.sync.Arc.{Arc}
+use Rattle.std.specs.declared.vec.Vec.{Vec}
+use Rattle.std.specs.declared.alloc.Global.{Global}
+use Rattle.buck_stem.specs.declared.stem.Stem.{Stem}
+use Rattle.buck_book.specs.declared.posting.Posting.{Posting}
+use Rattle.buck_book.specs.Posting.{harvester_of, number_of}
+use Rattle.buck_book.specs.History.{HistoryParts}
+use Rattle.buck_fleet.specs.Closed.{replies_of}
+use Rattle.buck_fleet.specs.Run.{stem_cut, stems_at}
+
+-- one posting comes before another: in an earlier round, or in the same round for a harvester of a lower number. A
+-- harvester's calls are numbered from 1, so that the number of its call is the round.
+abbrev pub ComesBefore : Posting → Posting → Type 0
+ComesBefore x y =
+    (number_of x < number_of y)
+    ⊎ ((number_of x ≡ number_of y) × (harvester_of x < harvester_of y))
+
+-- each posting comes before all that follow it
+abbrev pub AreInTurn : List Posting → Type 0
+AreInTurn [] = Unit {0}
+AreInTurn (x ∷ more) = AllByRecursion (ComesBefore x) more × AreInTurn more
+
+-- harvester k + 1 cut exactly the stems of the list at place k, in their order; nobody else has a posting; and the
+-- postings are in turn
+pub record HasCutInTurn (lists : List (Vec (Arc Stem Global) Global)) (h : HistoryParts) : Type 0 where
+  pub stems : (k : ℕ) → k < length lists
+      → map (λ x. stem_cut x.entry) (replies_of (k + 1) h) ≡ map Some (stems_at lists k)
+  pub nobody_else : All (λ x. (0 < harvester_of x) × (harvester_of x ≤ length lists)) h.postings
+  pub in_turn : AreInTurn h.postings

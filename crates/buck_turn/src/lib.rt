@@ -1,0 +1,9 @@
+//! Harvesters that take turns: one stem each, in the order of their numbers, round by round, in a book of one thread.
+//!
+//! What a fleet of threads cuts hangs on which harvester commits first. Where it is to be repeated, [`cut_in_turn`] cuts
+//! the same lists so that the same history comes out each time.
+#![tactic(auto)]
+
+mod turns;
+
+pub use turns::cut_in_turn;

@@ -1,5 +1,0 @@
-pub mod SumLemmas
-pub mod TallyLemmas
-pub mod CountLemmas
-pub mod Fields
-pub mod Texts

@@ -1,9 +1,0 @@
-pub mod Names
-pub mod Words
-pub mod Figures
-pub mod Sums
-pub mod Pieces
-pub mod Owns
-pub mod Counted
-pub mod Tally
-pub mod Shown

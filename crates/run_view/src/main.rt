@@ -1,0 +1,115 @@
+//! Shows journals that lie beside it, as `buckfleet view` and `buckfleet table` do, and prints of each page and of each
+//! table whether it is, byte for byte, the one that is stored there. The stored ones were made by another program, in
+//! another language, and looked at by a person.
+#![tactic(auto)]
+
+use buck_engine::{Disk, Shown, Table, ViewTask, serve_view};
+use std::io::Write;
+use std::process::ExitCode;
+use std::{fs, io};
+
+/// What is shown, how that is to end, and where the bytes stand that are to be printed.
+#[derive(Drop)]
+struct Case {
+    apt: &'static str,
+    journal: &'static str,
+    shown: Shown,
+    status: u8,
+    /// What is to stand on the errors.
+    told: &'static str,
+    stored: &'static str,
+}
+
+/// A page that is to be shown well.
+fn page(apt: &'static str, journal: &'static str, stored: &'static str) -> Case {
+    Case {
+        apt,
+        journal,
+        shown: Shown::Page,
+        status: 0,
+        told: "",
+        stored,
+    }
+}
+
+/// A table of the morning.
+fn table(table: Table, stored: &'static str) -> Case {
+    Case {
+        apt: "morning.apt",
+        journal: "morning.jrn",
+        shown: Shown::Table(table),
+        status: 0,
+        told: "",
+        stored,
+    }
+}
+
+/// A morning of three harvesters; one whose targets were changed twice, with trims, and with names that are hostile or no
+/// UTF-8; a journal without a posting, and one with a demand alone; one that isn't lawful; and the tables of the morning.
+fn cases() -> [Case; 9] {
+    [
+        page("morning.apt", "morning.jrn", "morning.html"),
+        page("targets.apt", "targets.jrn", "targets.html"),
+        page("saw.apt", "none.jrn", "none.html"),
+        page("saw.apt", "demand.jrn", "demand.html"),
+        Case {
+            apt: "morning.apt",
+            journal: "bad.jrn",
+            shown: Shown::Page,
+            status: 4,
+            told: "replay fault 6 0\n",
+            stored: "bad.html",
+        },
+        table(Table::Classes, "classes.csv"),
+        table(Table::Postings, "postings.csv"),
+        table(Table::Logs, "logs.csv"),
+        table(Table::Degrees, "degrees.csv"),
+    ]
+}
+
+/// Whether a case ends as it is to end, with the stored bytes.
+fn is_right(rt: &HostRuntime, case: &Case) -> io::Result<bool> {
+    let alloc = rt.alloc();
+    let stored = fs::read(rt, case.stored)?;
+    let task = ViewTask {
+        apt: case.apt,
+        journal: case.journal,
+        shown: case.shown,
+    };
+    let mut output = Vec::new(alloc);
+    let mut errors = Vec::new(alloc);
+    let status = serve_view(
+        alloc,
+        &task,
+        &mut Disk::of(rt, alloc),
+        &mut output,
+        &mut errors,
+    );
+    Ok(
+        status == case.status
+            && errors.as_slice() == case.told.as_bytes()
+            && output.as_slice() == stored.as_slice(),
+    )
+}
+
+/// Prints a line for each case.
+fn run(rt: &HostRuntime) -> io::Result<()> {
+    let mut output = io::writer(rt);
+    for case in cases() {
+        let word = if is_right(rt, &case)? {
+            ": same\n"
+        } else {
+            ": differs\n"
+        };
+        output.write_all(case.stored.as_bytes())?;
+        output.write_all(word.as_bytes())?;
+    }
+    Ok(())
+}
+
+fn main(rt: HostRuntime) -> ExitCode {
+    match run(&rt) {
+        Ok(()) => ExitCode::from(0),
+        Err(_) => ExitCode::from(1),
+    }
+}

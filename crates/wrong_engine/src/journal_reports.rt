@@ -1,0 +1,52 @@
+//! Wrong bodies of the report of a journal.
+ghost use Rattle.std.specs.Prelude.{◌≡◌, Ok};
+ghost use Rattle.buck_apt.specs.Instruction.{InstructionParts};
+ghost use Rattle.buck_apt.specs.Apt.{apt_of};
+ghost use Rattle.buck_book.specs.History.{IsLawful};
+ghost use Rattle.buck_journal.specs.Journal.{JournalParts, journal_of};
+ghost use Rattle.buck_journal.specs.Replay.{history_of};
+
+use crate::opened::Missing;
+use buck_engine::{EngineFault, Task, run_report, serve};
+use std::alloc::Global;
+
+/// The report of a journal is written that isn't lawful.
+pub fn report_of_an_unlawful_journal<'x>(
+    alloc: Global,
+    apt: &'x [u8],
+    journal: &'x [u8],
+    out: &mut Vec<u8>,
+)
+    requires unlawful { (i : InstructionParts) (j : JournalParts) → apt_of apt.now ≡ Ok i → journal_of journal.now ≡ Ok j
+        → ¬ IsLawful (history_of i j) }
+{
+    let mut instruction = apt;
+    let mut postings = journal;
+    let right = run_report(alloc, &mut instruction, &mut postings, out);
+    let is_refused = right.is_err();
+    prove!(is_refused);
+}
+
+/// Something is written of a journal that isn't lawful, before its first fault is found.
+pub fn report_written_before_the_fault<'x>(alloc: Global, apt: &'x [u8], journal: &'x [u8]) {
+    let mut instruction = apt;
+    let mut postings = journal;
+    let mut out = Vec::new(alloc);
+    let outcome = run_report(alloc, &mut instruction, &mut postings, &mut out);
+    let is_wrong = !out.is_empty() && matches!(outcome, Err(EngineFault::Replay(_)));
+    prove!(!is_wrong);
+}
+
+/// The journal is opened first, in the place of the instruction file.
+pub fn report_files_swapped(alloc: Global, output: &mut Vec<u8>, errors: &mut Vec<u8>) {
+    let task = Task::Report {
+        apt: "pine.apt",
+        journal: "stems.jrn",
+    };
+    let mut input = b"".as_slice();
+    let mut files = Missing { asked: 0 };
+    let _ = serve(alloc, &task, &mut input, &mut files, output, errors);
+    let right = files.asked;
+    let wrong = "stems.jrn".len();
+    prove!(right != wrong);
+}
