@@ -25,7 +25,10 @@ TOTAL 1 1 157080000
 /// other; and the names that are asked for. All files are opened before one is read, in the order of the words, so that a
 /// file that is missing comes before one that is refused; the file of a journal is made after that, and before one is
 /// read.
-const RUNS: [(&str, u8, &str, &str); 78] = [
+type Row = (&'static str, u8, &'static str, &'static str);
+
+/// What needs no journal: the bare form, `buck`, and words of no command.
+const WORDS: [Row; 22] = [
     ("", 0, TEXT, ""),
     ("buck apt stm", 0, TEXT, "apt stm "),
     ("buck --quiet apt stm", 0, TEXT, "apt stm "),
@@ -35,11 +38,23 @@ const RUNS: [(&str, u8, &str, &str); 78] = [
     ("buck apt none", 5, "read fault 1\n", "apt none "),
     ("buck bad none", 5, "read fault 1\n", "bad none "),
     ("buck none none", 5, "read fault 0\n", "none "),
-    ("check apt jrn", 0, "LAWFUL 1\n", "apt jrn "),
-    ("check apt jrn --quiet", 0, "LAWFUL 1\n", "apt jrn "),
-    ("check apt stm", 1, "journal fault 2\n", "apt stm "),
-    ("check apt none", 5, "read fault 1\n", "apt none "),
-    ("check bad none", 5, "read fault 1\n", "bad none "),
+    ("--help", 0, "Cuts each stem", ""),
+    ("buck --help", 0, "Cuts each stem", ""),
+    ("--version", 0, "buckfleet 0.1.0\n", ""),
+    ("pine.apt", 2, "error: ", ""),
+    ("buck", 2, "error: ", ""),
+    ("buck apt", 2, "error: ", ""),
+    ("buck apt stm more", 2, "error: ", ""),
+    ("buck --fast apt stm", 2, "error: ", ""),
+    ("buck --quiet --quiet apt stm", 2, "error: ", ""),
+    ("--quiet", 2, "error: ", ""),
+    ("--quiet buck apt stm", 2, "error: ", ""),
+    ("buck --rule step apt stm", 2, "error: ", ""),
+    ("bucks apt stm", 2, "error: ", ""),
+];
+
+/// The words of `fleet`.
+const FLEETS: [Row; 17] = [
     (
         "fleet apt stm",
         0,
@@ -94,25 +109,47 @@ const RUNS: [(&str, u8, &str, &str); 78] = [
         "stm 3 fault 2\n",
         "apt stm stm apt >out ",
     ),
-    ("--help", 0, "Cuts each stem", ""),
-    ("buck --help", 0, "Cuts each stem", ""),
-    ("check --help", 0, "Says whether", ""),
     ("fleet --help", 0, "Cuts stem files", ""),
-    ("--version", 0, "buckfleet 0.1.0\n", ""),
-    ("pine.apt", 2, "error: ", ""),
-    ("buck", 2, "error: ", ""),
-    ("buck apt", 2, "error: ", ""),
-    ("buck apt stm more", 2, "error: ", ""),
-    ("buck --fast apt stm", 2, "error: ", ""),
-    ("buck --quiet --quiet apt stm", 2, "error: ", ""),
-    ("check apt", 2, "error: ", ""),
     ("fleet", 2, "error: ", ""),
     ("fleet apt", 2, "error: ", ""),
     ("fleet --rule fast apt stm", 2, "error: ", ""),
-    ("--quiet", 2, "error: ", ""),
-    ("--quiet buck apt stm", 2, "error: ", ""),
-    ("buck --rule step apt stm", 2, "error: ", ""),
-    ("bucks apt stm", 2, "error: ", ""),
+    ("fleet --journal apt apt stm", 2, "error: OUT is", ""),
+    ("fleet apt stm --journal=stm", 2, "error: OUT is", ""),
+    (
+        "fleet --journal many apt stm many stm",
+        2,
+        "error: OUT is",
+        "",
+    ),
+    (
+        "fleet --journal ./stm apt stm",
+        5,
+        "write fault\n",
+        "apt stm >./stm ",
+    ),
+];
+
+/// The words of `check` and `report`.
+const JOURNALS: [Row; 15] = [
+    ("check apt jrn", 0, "LAWFUL 1\n", "apt jrn "),
+    ("check apt jrn --quiet", 0, "LAWFUL 1\n", "apt jrn "),
+    ("check apt stm", 1, "journal fault 2\n", "apt stm "),
+    ("check apt none", 5, "read fault 1\n", "apt none "),
+    ("check bad none", 5, "read fault 1\n", "bad none "),
+    ("check --help", 0, "Says whether", ""),
+    ("check apt", 2, "error: ", ""),
+    ("report apt jrn", 0, REPORT, "apt jrn "),
+    ("report --quiet apt jrn", 0, REPORT, "apt jrn "),
+    ("report jrn apt", 1, "apt fault 2\n", "jrn apt "),
+    ("report apt stm", 1, "journal fault 2\n", "apt stm "),
+    ("report apt none", 5, "read fault 1\n", "apt none "),
+    ("report apt jrn stm", 2, "error: ", ""),
+    ("report apt", 2, "error: ", ""),
+    ("report --help", 0, "Prints the report", ""),
+];
+
+/// The words of `view` and `table`.
+const PAGES: [Row; 16] = [
     ("view apt jrn", 0, "<!DOCTYPE html>\n", "apt jrn "),
     ("view --quiet apt jrn", 0, "<!DOCTYPE html>\n", "apt jrn "),
     ("view apt stm", 1, "journal fault 2\n", "apt stm "),
@@ -139,14 +176,10 @@ const RUNS: [(&str, u8, &str, &str); 78] = [
     ("view apt jrn classes", 2, "error: ", ""),
     ("table apt jrn", 2, "error: ", ""),
     ("table apt jrn stems", 2, "error: ", ""),
-    ("report apt jrn", 0, REPORT, "apt jrn "),
-    ("report --quiet apt jrn", 0, REPORT, "apt jrn "),
-    ("report jrn apt", 1, "apt fault 2\n", "jrn apt "),
-    ("report apt stm", 1, "journal fault 2\n", "apt stm "),
-    ("report apt none", 5, "read fault 1\n", "apt none "),
-    ("report apt jrn stm", 2, "error: ", ""),
-    ("report apt", 2, "error: ", ""),
-    ("report --help", 0, "Prints the report", ""),
+];
+
+/// The words of `explain`.
+const SENTENCES: [Row; 8] = [
     (
         "explain replay fault 4 12",
         0,
@@ -170,20 +203,6 @@ const RUNS: [(&str, u8, &str, &str); 78] = [
     ("explain", 2, "error: ", ""),
     ("explain --quiet seats", 2, "error: ", ""),
     ("explain --help", 0, "Says what", ""),
-    ("fleet --journal apt apt stm", 2, "error: OUT is", ""),
-    ("fleet apt stm --journal=stm", 2, "error: OUT is", ""),
-    (
-        "fleet --journal many apt stm many stm",
-        2,
-        "error: OUT is",
-        "",
-    ),
-    (
-        "fleet --journal ./stm apt stm",
-        5,
-        "write fault\n",
-        "apt stm >./stm ",
-    ),
 ];
 
 /// Words, and what their reports have: after the stem the last class is over its target, and all others are under theirs.
@@ -230,18 +249,19 @@ fn says(ending: &Ending, start: &str) -> bool {
     said.as_slice().starts_with(start.as_bytes()) && other.is_empty()
 }
 
-/// The first line whose run leaves something else, if there is one.
+/// The first line of a table whose run leaves something else, if there is one.
 fn wrong_run<T: Threads + Wait + Sync>(
     rt: &T,
     alloc: Global,
+    rows: &[Row],
 ) -> Result<Option<&'static str>, Fail> {
-    for (line, status, start, names) in RUNS {
+    for (line, status, start, names) in rows {
         let ending = run_line(rt, alloc, line)?;
-        let is_right = ending.status == status
+        let is_right = ending.status == *status
             && says(&ending, start)
             && ending.names.as_slice() == names.as_bytes();
         if !is_right {
-            return Ok(Some(line));
+            return Ok(Some(*line));
         }
     }
     Ok(None)
@@ -249,7 +269,35 @@ fn wrong_run<T: Threads + Wait + Sync>(
 
 #[test]
 fn runs_of_words(rt: HostRuntime) -> Result<(), Fail> {
-    let wrong = wrong_run(&rt, rt.alloc())?.unwrap_or("none");
+    let wrong = wrong_run(&rt, rt.alloc(), &WORDS)?.unwrap_or("none");
+    assert!(rt; wrong == "none", "{wrong}");
+    Ok(())
+}
+
+#[test]
+fn runs_of_fleets(rt: HostRuntime) -> Result<(), Fail> {
+    let wrong = wrong_run(&rt, rt.alloc(), &FLEETS)?.unwrap_or("none");
+    assert!(rt; wrong == "none", "{wrong}");
+    Ok(())
+}
+
+#[test]
+fn runs_over_journals(rt: HostRuntime) -> Result<(), Fail> {
+    let wrong = wrong_run(&rt, rt.alloc(), &JOURNALS)?.unwrap_or("none");
+    assert!(rt; wrong == "none", "{wrong}");
+    Ok(())
+}
+
+#[test]
+fn pages_and_tables(rt: HostRuntime) -> Result<(), Fail> {
+    let wrong = wrong_run(&rt, rt.alloc(), &PAGES)?.unwrap_or("none");
+    assert!(rt; wrong == "none", "{wrong}");
+    Ok(())
+}
+
+#[test]
+fn sentences_of_lines(rt: HostRuntime) -> Result<(), Fail> {
+    let wrong = wrong_run(&rt, rt.alloc(), &SENTENCES)?.unwrap_or("none");
     assert!(rt; wrong == "none", "{wrong}");
     Ok(())
 }
