@@ -1,5 +1,5 @@
 //! `run_buck_in_parts`: a bucking whose stems are cut in several threads at once.
-ghost use Rattle.std.specs.Prelude.{◌≡◌, ◌≢◌, IfErr, Result};
+ghost use Rattle.std.specs.Prelude.{◌≡◌, ◌≢◌, ◌<◌, IfErr, Result};
 ghost use Rattle.buck_record.specs.Reading.{listed};
 ghost use Rattle.buck_engine.specs.declared.fault.EngineFault.{EngineFault};
 ghost use Rattle.buck_engine.specs.declared.fault.EngineFault.TheVariants.{Write};
@@ -36,7 +36,9 @@ pub struct BuckTask<'a> {
 }
 
 /// How many threads a run starts: as many as it is told, or as many as the machine has, and at most 64.
-fn number_of_threads<T: Threads>(rt: &T, told: Option<u8>) -> usize {
+fn number_of_threads<T: Threads>(rt: &T, told: Option<u8>) -> usize
+    ensures { 0 < result }
+{
     let wanted = match told {
         Some(number) => usize::from(number),
         None => match available_parallelism(rt) {
