@@ -2,11 +2,12 @@
 use Rattle.std.specs.Prelude.{ℕ, List, map, Option, Result}
 use Rattle.std.specs.Option.{option_map}
 use Rattle.buck_engine.specs.declared.fault.EngineFault.{EngineFault}
-use Rattle.buck_engine.specs.run.Serving.{RunsTask}
+use Rattle.buck_engine.specs.run.Bucking.{AnswersBuck}
+use Rattle.buck_engine.specs.run.Serving.{RunsFiles, RunsTask}
 use Rattle.buck_engine.specs.fleet.Serving.{RunsFleet}
 use Rattle.buck_engine.specs.run.Showing.{RunsView}
 use Rattle.buck_command.specs.declared.working.Work.{Work}
-use Rattle.buck_command.specs.declared.working.Work.TheVariants.{Plain, Fleet, View}
+use Rattle.buck_command.specs.declared.working.Work.TheVariants.{Plain, Buck, Fleet, View}
 
 -- work is its task's run, over the input and the files, and what it writes is the output
 abbrev pub DoesWork : {O F M : Type 0} → (O → List ℕ → Option F → O → Type 0) → (O → List ℕ → Option M → O → Type 0)
@@ -14,6 +15,8 @@ abbrev pub DoesWork : {O F M : Type 0} → (O → List ℕ → Option F → O �
     → Option (List ℕ) → Option (List ℕ) → Result (Unit {0}) EngineFault → Type 0
 DoesWork opens makes held contents start end input (Plain task) old new outcome =
     RunsTask opens held start end input task old new outcome
+DoesWork opens makes held contents start end input (Buck task) old new outcome =
+    RunsFiles AnswersBuck opens held start end task.apt.now task.stm.now old new outcome
 DoesWork opens makes held contents start end input (Fleet task) old new outcome =
     RunsFleet opens makes held contents start end task.apt.now (map (λ s. s.now) task.stms.items)
     (option_map (λ s. s.now) task.journal) old new outcome

@@ -178,3 +178,7 @@ class is off its target, step by the whole span";
 
 /// What is told on a terminal, and how it is kept off.
 pub(crate) const QUIET: &str = "Don't tell on a terminal how far long work is";
+
+/// How many threads there are.
+pub(crate) const THREADS: &str = "Cut stems in at most N threads at once, 1 to 64; else in as
+many as the machine has, or 4 where it doesn't say";

@@ -4,8 +4,8 @@ ghost use Rattle.buck_command.specs.Words.{rule_name, table_name};
 
 use crate::help;
 use crate::working::Work;
-use buck_engine::{FleetTask, NamedRule, Shown, Table, Task, ViewTask};
-use clap::{Arg, ArgAction, ArgMatches, Command, Error};
+use buck_engine::{BuckTask, FleetTask, NamedRule, Shown, Table, Task, ViewTask};
+use clap::{Arg, ArgAction, ArgMatches, Command, Error, value_parser};
 use std::alloc::Global;
 
 fn file<'a>(alloc: Global, name: &'a str, help: &'a str) -> Arg<'a> {
@@ -23,11 +23,20 @@ fn quiet<'a>(alloc: Global) -> Arg<'a> {
         .help(help::QUIET)
 }
 
+fn threads<'a>(alloc: Global) -> Arg<'a> {
+    Arg::new(alloc, "threads")
+        .long("threads")
+        .value_name("N")
+        .value_parser(value_parser!(u8).range(1..65))
+        .help(help::THREADS)
+}
+
 fn buck<'a>(alloc: Global) -> Result<Command<'a>, Error> {
     Ok(
         Command::new(alloc, "buck")
             .about("Cuts each stem of a stem file into logs of the greatest worth")
             .after_long_help(help::BUCK)
+            .arg(threads(alloc))?
             .arg(quiet(alloc))?
             .arg(file(alloc, "APT", "The instruction file"))?
             .arg(file(alloc, "STM", "The stem file"))?,
@@ -250,9 +259,10 @@ fn table_word(words: &ArgMatches<'_>) -> Result<Table, Unasked> {
 /// The work that the words after a command's name ask for.
 fn work_of<'a>(alloc: Global, name: &str, words: &ArgMatches<'a>) -> Result<Work<'a>, Unasked> {
     match name {
-        "buck" => Ok(Work::Plain(Task::Buck {
+        "buck" => Ok(Work::Buck(BuckTask {
             apt: word(words, "APT")?,
             stm: word(words, "STM")?,
+            threads: words.get_one::<u8>("threads"),
         })),
         "check" => Ok(Work::Plain(Task::Check {
             apt: word(words, "APT")?,

@@ -5,7 +5,8 @@ ghost use Rattle.buck_engine.specs.run.Serving.{TellsOutcome, status_after};
 ghost use Rattle.buck_command.specs.Work.{DoesWork};
 
 use buck_engine::{
-    FleetTask, Make, Onlooker, Open, Task, ViewTask, serve, serve_fleet, serve_view,
+    BuckTask, FleetTask, Make, Onlooker, Open, Task, ViewTask, serve, serve_buck, serve_fleet,
+    serve_view,
 };
 use std::alloc::Global;
 use std::io;
@@ -17,6 +18,8 @@ use std::thread::Threads;
 pub enum Work<'a> {
     /// A task that waits for nobody.
     Plain(Task<'a>),
+    /// Stems are to be bucked, in several threads at once.
+    Buck(BuckTask<'a>),
     /// A fleet, whose harvesters wait for one another.
     Fleet(FleetTask<'a>),
     /// A journal is to be shown.
@@ -35,7 +38,7 @@ pub struct Streams<R, W, E> {
 }
 
 /// Does the work, and says how it ended. The answer is the exit status. Each fault and what is written before it are
-/// those of [`serve`], [`serve_fleet`] and [`serve_view`].
+/// those of [`serve`], [`serve_buck`], [`serve_fleet`] and [`serve_view`].
 pub fn serve_work<
     T: Threads + Wait + Sync,
     L: Onlooker + Sync,
@@ -63,6 +66,14 @@ pub fn serve_work<
             alloc,
             task,
             &mut streams.input,
+            files,
+            &mut streams.output,
+            &mut streams.errors,
+        ),
+        Work::Buck(task) => serve_buck(
+            rt,
+            alloc,
+            task,
             files,
             &mut streams.output,
             &mut streams.errors,

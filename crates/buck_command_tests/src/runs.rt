@@ -28,10 +28,15 @@ TOTAL 1 1 157080000
 type Row = (&'static str, u8, &'static str, &'static str);
 
 /// What needs no journal: the bare form, `buck`, and words of no command.
-const WORDS: [Row; 22] = [
+const WORDS: [Row; 27] = [
     ("", 0, TEXT, ""),
     ("buck apt stm", 0, TEXT, "apt stm "),
     ("buck --quiet apt stm", 0, TEXT, "apt stm "),
+    ("buck --threads 1 apt stm", 0, TEXT, "apt stm "),
+    ("buck apt stm --threads=64", 0, TEXT, "apt stm "),
+    ("buck --threads 0 apt stm", 2, "error: ", ""),
+    ("buck --threads 65 apt stm", 2, "error: ", ""),
+    ("buck --threads two apt stm", 2, "error: ", ""),
     ("buck stm apt", 1, "apt fault 2\n", "stm apt "),
     ("buck apt bad", 1, "stm 1 fault 2\n", "apt bad "),
     ("buck none stm", 5, "read fault 0\n", "none "),

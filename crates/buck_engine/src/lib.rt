@@ -25,6 +25,7 @@ pub use run::bucking::{run_bare, run_buck};
 pub use run::checking::run_check;
 pub use run::disk::{Disk, Renewed};
 pub use run::opening::{Make, Open};
+pub use run::parallel::{BuckTask, run_buck_in_parts, serve_buck};
 pub use run::reporting::run_report;
 pub use run::serving::{Task, conclude, explain, serve};
 pub use run::showing::{Shown, ViewTask, serve_view};

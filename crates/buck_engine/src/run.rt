@@ -1,8 +1,10 @@
-//! Runs of one thread: files that are opened and read, the engines over them, and whole runs of the program.
+//! Files that are opened and read, the engines over them, and whole runs of the program: all of one thread, but for a
+//! bucking in parts.
 pub(crate) mod bucking;
 pub(crate) mod checking;
 pub(crate) mod disk;
 pub(crate) mod opening;
+pub(crate) mod parallel;
 pub(crate) mod reading;
 pub(crate) mod reporting;
 pub(crate) mod serving;

@@ -11,6 +11,8 @@ mod lengths;
 #[cfg(test)]
 mod memory;
 #[cfg(test)]
+mod parts;
+#[cfg(test)]
 mod streams;
 #[cfg(test)]
 mod work;

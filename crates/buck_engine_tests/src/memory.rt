@@ -42,6 +42,11 @@ fn refused_memory_of_two_files(rt: HostRuntime) -> Result<(), Fail> {
 }
 
 #[test]
+fn refused_memory_of_a_bucking_in_parts(rt: HostRuntime) -> Result<(), Fail> {
+    goes_on(&rt, rt.alloc(), Engine::Parts)
+}
+
+#[test]
 fn refused_memory_of_a_check(rt: HostRuntime) -> Result<(), Fail> {
     goes_on(&rt, rt.alloc(), Engine::Check)
 }

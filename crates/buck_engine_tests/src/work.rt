@@ -2,7 +2,7 @@
 ghost use Rattle.std.specs.Prelude.{◌≤◌};
 
 use crate::streams::{Sink, Source};
-use buck_engine::{EngineFault, run_bare, run_buck, run_check, run_fleet_files};
+use buck_engine::{EngineFault, run_bare, run_buck, run_buck_in_parts, run_check, run_fleet_files};
 use buck_rule::{Rule, Standing, step};
 use std::alloc::Global;
 use std::sync::Wait;
@@ -71,13 +71,21 @@ pub enum Engine {
     Bare,
     /// Over an instruction file and a stem file.
     Buck,
+    /// The same in two threads.
+    Parts,
     /// Over an instruction file and a journal.
     Check,
     /// Over an instruction file and two stem files, the second of which has no stems.
     Fleet,
 }
 
-pub const ENGINES: [Engine; 4] = [Engine::Bare, Engine::Buck, Engine::Check, Engine::Fleet];
+pub const ENGINES: [Engine; 5] = [
+    Engine::Bare,
+    Engine::Buck,
+    Engine::Parts,
+    Engine::Check,
+    Engine::Fleet,
+];
 
 impl Engine {
     /// The files that it reads; the places of those that it doesn't are empty.
@@ -85,7 +93,7 @@ impl Engine {
         let (apt, stm) = apt_and_stm();
         match self {
             Engine::Bare => [INPUT.as_bytes(), b"", b""],
-            Engine::Buck => [apt.as_bytes(), stm.as_bytes(), b""],
+            Engine::Buck | Engine::Parts => [apt.as_bytes(), stm.as_bytes(), b""],
             Engine::Check => [apt.as_bytes(), JOURNAL.as_bytes(), b""],
             Engine::Fleet => [apt.as_bytes(), stm.as_bytes(), NO_STEMS.as_bytes()],
         }
@@ -97,7 +105,7 @@ impl Engine {
     {
         match self {
             Engine::Bare => 1,
-            Engine::Buck | Engine::Check => 2,
+            Engine::Buck | Engine::Parts | Engine::Check => 2,
             Engine::Fleet => 3,
         }
     }
@@ -105,7 +113,7 @@ impl Engine {
     /// The journal and the text that it writes.
     pub fn texts(self) -> [&'static [u8]; 2] {
         match self {
-            Engine::Bare | Engine::Buck => [b"", TEXT.as_bytes()],
+            Engine::Bare | Engine::Buck | Engine::Parts => [b"", TEXT.as_bytes()],
             Engine::Check => [b"", b"LAWFUL 2\n"],
             Engine::Fleet => [JOURNAL.as_bytes(), REPORT.as_bytes()],
         }
@@ -126,6 +134,14 @@ impl Engine {
         let outcome = match self {
             Engine::Bare => run_bare(alloc, &mut first, &mut text),
             Engine::Buck => run_buck(alloc, &mut first, &mut others[0], &mut text),
+            Engine::Parts => run_buck_in_parts(
+                rt,
+                alloc,
+                Some(2),
+                &mut first,
+                &mut others[0],
+                &mut text,
+            ),
             Engine::Check => run_check(alloc, &mut first, &mut others[0], &mut text),
             Engine::Fleet => run_fleet_files(
                 rt,

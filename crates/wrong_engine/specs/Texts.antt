@@ -1,5 +1,5 @@
 -- The texts that wrong bodies would print of a bucking.
-use Rattle.std.specs.Prelude.{ℕ, ◌/◌, List, [], ◌∷◌, ◌++◌, length, take, codes}
+use Rattle.std.specs.Prelude.{ℕ, ◌/◌, List, [], ◌∷◌, ◌++◌, length, take, drop, codes}
 use Rattle.std.specs.List.{flat_map}
 use Rattle.buck_stem.specs.Stem.{StemParts, diameter_at}
 use Rattle.buck_value.specs.declared.log.Log.{Log}
@@ -44,3 +44,11 @@ last_worth sheet (cut ∷ next ∷ more) = last_worth sheet (next ∷ more)
 -- the total with it alone
 abbrev pub last_total : SheetParts → List CutStem → List ℕ
 last_total sheet cuts = total_line (length cuts) (logs_of cuts) (last_worth sheet cuts)
+
+-- the first half of the stems
+abbrev pub first_half : List CutStem → List CutStem
+first_half cuts = take (length cuts / 2) cuts
+
+-- the second half before the first
+abbrev pub halves_swapped : List CutStem → List CutStem
+halves_swapped cuts = drop (length cuts / 2) cuts ++ first_half cuts

@@ -10,5 +10,6 @@ pub mod files;
 pub mod fleets;
 pub mod journal_reports;
 pub mod opened;
+pub mod parts;
 pub mod reports;
 pub mod texts;

@@ -1,8 +1,8 @@
 //! The text of a bucking.
-ghost use Rattle.std.specs.Prelude.{◌≡◌, ◌++◌, ◌<◌, ◌^◌, IfOk, OnOk, All};
+ghost use Rattle.std.specs.Prelude.{◌≡◌, ◌++◌, ◌+◌, ◌<◌, ◌^◌, IfOk, OnOk, All};
 ghost use Rattle.std.specs.List.{flat_map};
 ghost use Rattle.buck_value.specs.Allowed.{IsAllowed};
-ghost use Rattle.buck_engine.specs.inner.Text.{IsPut};
+ghost use Rattle.buck_engine.specs.inner.Text.{AreLinesOf, IsPut};
 ghost use Rattle.buck_engine.specs.text.Bucking.{IsBuckText, IsTextUnder, base_sheet, log_line, named_line_of, stem_line, total_line};
 
 use crate::fault::TextFault;
@@ -13,6 +13,16 @@ use buck_stem::Stem;
 use buck_value::{Log, Sheet, log_valuation};
 use std::alloc::Global;
 use std::sync::Arc;
+use std::thread;
+use std::thread::Threads;
+
+/// The lines of stems that were cut one after the other, how many logs there are, and their worth.
+#[derive(Drop)]
+struct Lines {
+    text: Vec<u8>,
+    logs: u128,
+    worth: u128,
+}
 
 /// Puts a line that ends with a name.
 pub(crate) fn put_named_line(
@@ -118,21 +128,91 @@ fn base_sheet(alloc: Global, instruction: &Instruction) -> Result<Arc<Sheet>, Me
     Ok(Arc::new(alloc, sheet)?)
 }
 
-/// The text of the stems, bucked under a sheet.
-fn text_under(alloc: Global, sheet: Arc<Sheet>, stems: &[Stem]) -> Result<Vec<u8>, Memory>
-    ensures { IfOk result (λ text. IsTextUnder sheet.value stems.now text.items) }
+/// Cuts stems one after the other under a sheet, and puts their lines.
+fn lines_under(alloc: Global, sheet: Arc<Sheet>, stems: &[Stem]) -> Result<Lines, Memory>
+    ensures { IfOk result (λ lines. AreLinesOf sheet.value stems.now lines) }
 {
-    let mut out = Vec::new(alloc);
+    let mut text = Vec::new(alloc);
     let mut logs = 0;
     let mut worth = 0;
     let mut planner = Planner::make(alloc, sheet)?;
     for stem in stems {
-        let (count, value) = put_cut(alloc, &mut out, &mut planner, stem)?;
+        let (count, value) = put_cut(alloc, &mut text, &mut planner, stem)?;
         logs += count as u128;
         worth += u128::from(value);
     }
-    put_total(&mut out, stems.len(), logs, worth)?;
-    Ok(out)
+    Ok(Lines { text, logs, worth })
+}
+
+/// The text of stems whose lines are these: the lines, and then the total.
+fn text_of(lines: Lines, stems: usize) -> Result<Vec<u8>, Memory>
+    ensures { IfOk result (λ text. text.items ≡ lines.text.items ++ total_line stems lines.logs lines.worth) }
+{
+    let Lines {
+        mut text,
+        logs,
+        worth,
+    } = lines;
+    put_total(&mut text, stems, logs, worth)?;
+    Ok(text)
+}
+
+/// The text of the stems, bucked under a sheet.
+fn text_under(alloc: Global, sheet: Arc<Sheet>, stems: &[Stem]) -> Result<Vec<u8>, Memory>
+    ensures { IfOk result (λ text. IsTextUnder sheet.value stems.now text.items) }
+{
+    let lines = lines_under(alloc, sheet, stems)?;
+    text_of(lines, stems.len())
+}
+
+/// Cuts stems one after the other under a sheet that others share, and puts their lines.
+fn shared_lines(alloc: Global, sheet: &Arc<Sheet>, stems: &[Stem]) -> Result<Lines, Memory>
+    ensures { IfOk result (λ lines. AreLinesOf sheet.now.value stems.now lines) }
+{
+    lines_under(alloc, sheet.clone()?, stems)
+}
+
+/// Puts the lines of further stems behind these.
+fn put_lines(lines: &mut Lines, more: &Lines) -> Result<(), Memory>
+    requires logs { lines.old.logs + more.now.logs < 2 ^ 128 }
+    requires worth { lines.old.worth + more.now.worth < 2 ^ 128 }
+    ensures text { OnOk result (lines.new.text.items ≡ lines.old.text.items ++ more.now.text.items) }
+    ensures logs { OnOk result (lines.new.logs ≡ lines.old.logs + more.now.logs) }
+    ensures worth { OnOk result (lines.new.worth ≡ lines.old.worth + more.now.worth) }
+{
+    lines.text.extend_from_slice(more.text.as_slice())?;
+    lines.logs += more.logs;
+    lines.worth += more.worth;
+    Ok(())
+}
+
+/// Cuts stems under a sheet, each run of so many neighbours in a thread of its own, and puts their lines in order.
+fn lines_in_parts<T: Threads + Sync>(
+    rt: &T,
+    alloc: Global,
+    sheet: &Arc<Sheet>,
+    stems: &[Stem],
+    size: usize,
+) -> Result<Lines, Memory>
+    requires size { 0 < size }
+    ensures { IfOk result (λ lines. AreLinesOf sheet.now.value stems.now lines) }
+{
+    let cut = |_: usize, part: &[Stem]| -> Result<Lines, Memory>
+        ensures { IfOk result (λ lines. AreLinesOf sheet.entry.now.value part.now lines) }
+    { shared_lines(alloc, sheet, part) };
+    let parts = thread::map_chunks(rt, alloc, stems, size, &cut)?;
+    let mut lines = Lines {
+        text: Vec::new(alloc),
+        logs: 0,
+        worth: 0,
+    };
+    for k in 0..parts.len() {
+        match &parts[k] {
+            Ok(part) => put_lines(&mut lines, part)?,
+            Err(_) => return Err(Memory),
+        }
+    }
+    Ok(lines)
 }
 
 /// The text of the stems in file order, each bucked under the base prices by the first of its best cuttings:
@@ -154,4 +234,24 @@ pub fn buck_text(
 {
     let sheet = base_sheet(alloc, instruction)?;
     Ok(text_under(alloc, sheet, stems)?)
+}
+
+/// The fewest stems that are worth a thread of their own.
+const FEWEST: usize = 64;
+
+/// The text of [`buck_text`], for which stems are cut in at most so many threads at once.
+pub(crate) fn buck_text_in_parts<T: Threads + Sync>(
+    rt: &T,
+    alloc: Global,
+    instruction: &Instruction,
+    stems: &[Stem],
+    threads: usize,
+) -> Result<Vec<u8>, TextFault>
+    requires threads { 0 < threads }
+    ensures { IfOk result (λ text. IsBuckText instruction.now stems.now text.items) }
+{
+    let sheet = base_sheet(alloc, instruction)?;
+    let size = (stems.len() / threads).saturating_add(FEWEST);
+    let lines = lines_in_parts(rt, alloc, &sheet, stems, size)?;
+    Ok(text_of(lines, stems.len())?)
 }

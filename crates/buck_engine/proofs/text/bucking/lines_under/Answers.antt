@@ -2,18 +2,18 @@ use Rattle.std.proofs.Common.{◌∙◌, subst, arith}
 use Rattle.buck_value.specs.Sheet.{SheetParts}
 use Rattle.buck_engine.specs.inner.Text.{IsPut}
 use Rattle.buck_engine.proofs.TextLemmas.{nothing_put, one_put, one_taken}
-use Rattle.buck_engine.proofs.text.bucking.text_under.Goals as goal
+use Rattle.buck_engine.proofs.text.bucking.lines_under.Goals as goal
 
 pub loop-stem-init : goal.loop-stem-init
 loop-stem-init c = record {
-  text = rw c.new-out.ensures.items (nothing_put c.args.sheet.value);
+  text = rw c.new-text.ensures.items (nothing_put c.args.sheet.value);
   planner = c.in_ok-planner.ensures;
 }
 
 pub loop-stem-preserved : goal.loop-stem-preserved
 loop-stem-preserved c =
     let put =
-    subst (λ (s : SheetParts). IsPut s c.stem-item.result c.loop-stem.out.items c.put_cut.new.out.items c.in_ok-count.count c.in_ok-count.value)
+    subst (λ (s : SheetParts). IsPut s c.stem-item.result c.loop-stem.text.items c.put_cut.new.out.items c.in_ok-count.count c.in_ok-count.value)
     c.loop-stem.invariant.planner c.in_ok-count.ensures.put in
     record {
       text = rw (one_taken c.args.stems.now c.loop-stem.stem-index c.stem-item.result c.loop-stem-test.true c.stem-item.is, c.from-worth.ensures)

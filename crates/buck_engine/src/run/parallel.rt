@@ -1,0 +1,134 @@
+//! `run_buck_in_parts`: a bucking whose stems are cut in several threads at once.
+ghost use Rattle.std.specs.Prelude.{◌≡◌, ◌≢◌, ◌<◌, IfErr, Result};
+ghost use Rattle.buck_record.specs.Reading.{listed};
+ghost use Rattle.buck_engine.specs.declared.fault.EngineFault.{EngineFault};
+ghost use Rattle.buck_engine.specs.declared.fault.EngineFault.TheVariants.{Write};
+ghost use Rattle.buck_engine.specs.text.Written.{WritesText};
+ghost use Rattle.buck_engine.specs.run.Reading.{IfStopped};
+ghost use Rattle.buck_engine.specs.run.Bucking.{AnswersBuck};
+ghost use Rattle.buck_engine.specs.run.Serving.{RunsFiles, TellsOutcome, status_after};
+
+use crate::fault::EngineFault;
+use crate::run::opening::{Open, open_both};
+use crate::run::reading::{read_instruction, read_stems};
+use crate::run::serving::conclude;
+use crate::text::bucking::buck_text_in_parts;
+use crate::text::writing::write_text;
+use std::alloc::Global;
+use std::io;
+use std::thread::{Threads, available_parallelism};
+
+/// How many threads there are where the machine doesn't say how many it has.
+const USUAL: usize = 4;
+
+/// The most threads that a run starts.
+const MOST: usize = 64;
+
+/// What the words of the command line ask of a bucking.
+#[derive(Drop)]
+pub struct BuckTask<'a> {
+    /// The name of the instruction file.
+    pub apt: &'a str,
+    /// The name of the stem file.
+    pub stm: &'a str,
+    /// How many threads may cut stems at once; where nothing is said, as many as the machine has.
+    pub threads: Option<u8>,
+}
+
+/// How many threads a run starts: as many as it is told, or as many as the machine has, and at most 64.
+fn number_of_threads<T: Threads>(rt: &T, told: Option<u8>) -> usize
+    ensures { 0 < result }
+{
+    let wanted = match told {
+        Some(number) => usize::from(number),
+        None => match available_parallelism(rt) {
+            Ok(number) => number.get(),
+            Err(_) => USUAL,
+        },
+    };
+    wanted.max(1).min(MOST)
+}
+
+/// The text of an instruction file and a stem file, whose stems are cut in at most so many threads at once.
+fn text_in_parts<T: Threads + Sync, R: io::Read>(
+    rt: &T,
+    alloc: Global,
+    threads: usize,
+    apt: &mut R,
+    stm: &mut R,
+) -> Result<Vec<u8>, EngineFault>
+    requires threads { 0 < threads }
+    ensures answer { AnswersBuck (R.remaining apt.old) (R.remaining stm.old) (listed result) }
+    ensures order { IfErr result (IfStopped (λ last. last ≡ 0 → stm.new ≡ stm.old)) }
+{
+    let instruction = read_instruction(alloc, apt)?;
+    let stems = read_stems(alloc, stm, 1)?;
+    Ok(buck_text_in_parts(rt, alloc, &instruction, stems.as_slice(), threads)?)
+}
+
+/// [`run_buck`](crate::run_buck), for which the stems are cut in several threads at once: in as many as are told, from
+/// 1 to 64, or, where nothing is said, in as many as the machine has. What is written, and each fault, are those of
+/// [`run_buck`](crate::run_buck), whatever the number.
+pub fn run_buck_in_parts<T: Threads + Sync, R: io::Read, W: io::Write>(
+    rt: &T,
+    alloc: Global,
+    threads: Option<u8>,
+    apt: &mut R,
+    stm: &mut R,
+    writer: &mut W,
+) -> Result<(), EngineFault>
+    // What is written is the text of the instruction and the stems that the files have; a fault is that of the first
+    // file that has one, and nothing is written; a write fault leaves a prefix of the text.
+    ensures run { WritesText (AnswersBuck (R.remaining apt.old) (R.remaining stm.old))
+        (W.contents writer.old) (W.contents writer.new) result }
+    // Where the instruction file has a fault, nothing was read of the stem file.
+    ensures order { IfErr result (IfStopped (λ last. last ≡ 0 → stm.new ≡ stm.old)) }
+    // Only a failed write touches the writer.
+    ensures untouched { IfErr result (λ fault. fault ≢ Write → writer.new ≡ writer.old) }
+{
+    let text = text_in_parts(rt, alloc, number_of_threads(rt, threads), apt, stm)?;
+    write_text(writer, text.as_slice())
+}
+
+/// Opens both files by their names, the instruction file first, and then runs over them.
+fn buck_files<T: Threads + Sync, O: Open, W: io::Write>(
+    rt: &T,
+    alloc: Global,
+    task: &BuckTask<'_>,
+    opener: &mut O,
+    writer: &mut W,
+) -> Result<(), EngineFault>
+    ensures { RunsFiles AnswersBuck O.opens O.File.remaining opener.old opener.new task.now.apt.now task.now.stm.now
+        (W.contents writer.old) (W.contents writer.new) result }
+{
+    let (mut instruction, mut stems) = open_both(opener, task.apt, task.stm)?;
+    run_buck_in_parts(
+        rt,
+        alloc,
+        task.threads,
+        &mut instruction,
+        &mut stems,
+        writer,
+    )
+}
+
+/// Bucks the stems of a task's files in several threads at once, and says on `errors` how it ended. The answer is the
+/// exit status. The files are opened, the instruction file first, before one of them is read; one that can't be opened
+/// is `Read` with its number. Each fault and what is written before it are those of [`run_buck`](crate::run_buck).
+pub fn serve_buck<T: Threads + Sync, O: Open, W: io::Write, E: io::Write>(
+    rt: &T,
+    alloc: Global,
+    task: &BuckTask<'_>,
+    opener: &mut O,
+    output: &mut W,
+    errors: &mut E,
+) -> u8
+    ensures { (outcome : Result (Unit {0}) EngineFault)
+        × RunsFiles AnswersBuck O.opens O.File.remaining opener.old opener.new task.now.apt.now task.now.stm.now
+        (W.contents output.old) (W.contents output.new) outcome
+        × (result ≡ status_after outcome)
+        × TellsOutcome (E.contents errors.old) (E.contents errors.new) outcome }
+{
+    let outcome = buck_files(rt, alloc, task, opener, output);
+    conclude(errors, &outcome)
+}

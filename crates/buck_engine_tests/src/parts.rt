@@ -1,0 +1,60 @@
+//! Bucking in parts: in whatever number of threads stems are cut, what is written is what one thread writes.
+use crate::work::apt_and_stm;
+use buck_engine::{EngineFault, run_buck, run_buck_in_parts};
+use std::alloc::Global;
+use std::test::Fail;
+use std::thread::Threads;
+
+/// Numbers of stems: of no part, of one, and of many.
+const STEMS: [u32; 4] = [0, 1, 7, 1_000];
+
+/// A stem file of so many stems, each with a number of its own.
+fn stem_file(alloc: Global, number: u32) -> Result<String, Fail> {
+    let mut text = String::from_str(alloc, "1 2 STM~\n")?;
+    for k in 0..number {
+        let samples = " 250".repeat(alloc, 31 + k as usize % 40)?;
+        let stem = format!(in alloc; "951 1 {k}~952 1 1~953 1{samples}~\n")?;
+        text.push_str(stem.as_str())?;
+    }
+    Ok(text)
+}
+
+/// What so many threads write of a stem file; one, where no number is told.
+fn text_by<T: Threads + Sync>(
+    rt: &T,
+    alloc: Global,
+    stm: &[u8],
+    threads: Option<u8>,
+) -> Result<Vec<u8>, EngineFault> {
+    let (apt, _) = apt_and_stm();
+    let mut instruction = apt.as_bytes();
+    let mut stems = stm;
+    let mut text = Vec::new(alloc);
+    match threads {
+        None => run_buck(alloc, &mut instruction, &mut stems, &mut text)?,
+        Some(_) => run_buck_in_parts(rt, alloc, threads, &mut instruction, &mut stems, &mut text)?,
+    }
+    Ok(text)
+}
+
+/// Whether 1 to 9 threads write of so many stems what one writes.
+fn is_same<T: Threads + Sync>(rt: &T, alloc: Global, number: u32) -> Result<bool, Fail> {
+    let stm = stem_file(alloc, number)?;
+    let one = text_by(rt, alloc, stm.as_bytes(), None)?;
+    for threads in 1..10 {
+        let many = text_by(rt, alloc, stm.as_bytes(), Some(threads))?;
+        if one.as_slice() != many.as_slice() {
+            return Ok(false);
+        }
+    }
+    Ok(true)
+}
+
+#[test]
+fn numbers_of_threads(rt: HostRuntime) -> Result<(), Fail> {
+    for number in STEMS {
+        let same = is_same(&rt, rt.alloc(), number)?;
+        assert!(rt; same, "{number}");
+    }
+    Ok(())
+}

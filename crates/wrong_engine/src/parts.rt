@@ -1,0 +1,60 @@
+//! Wrong bodies of a bucking whose stems are cut in several threads at once.
+ghost use Rattle.std.specs.Prelude.{◌≡◌, ◌≢◌, ◌×◌, List, Ok};
+ghost use Rattle.buck_apt.specs.Instruction.{InstructionParts};
+ghost use Rattle.buck_apt.specs.Apt.{apt_of};
+ghost use Rattle.buck_stem.specs.Stem.{StemParts};
+ghost use Rattle.buck_stem.specs.Stm.{stm_of};
+ghost use Rattle.buck_engine.specs.text.Bucking.{CutStem, IsBucking, base_sheet, text_of};
+ghost use Rattle.wrong_engine.specs.Texts.{first_half, halves_swapped};
+
+use buck_engine::run_buck_in_parts;
+use std::alloc::Global;
+use std::thread::Threads;
+
+/// The lines that the second thread put stand before those of the first.
+pub fn parts_swapped<'x, T: Threads + Sync>(
+    rt: &T,
+    alloc: Global,
+    apt: &'x [u8],
+    stm: &'x [u8],
+    wrong: &[u8],
+)
+    requires wrong { (i : InstructionParts) (stems : List StemParts) (cuts : List CutStem)
+        → apt_of apt.now ≡ Ok i → stm_of stm.now ≡ Ok stems → IsBucking (base_sheet i) stems cuts
+        → wrong.now ≡ text_of (base_sheet i) (halves_swapped cuts) }
+    requires differ { (i : InstructionParts) (stems : List StemParts) (cuts : List CutStem)
+        → apt_of apt.now ≡ Ok i → stm_of stm.now ≡ Ok stems → IsBucking (base_sheet i) stems cuts
+        → text_of (base_sheet i) (halves_swapped cuts) ≢ text_of (base_sheet i) cuts }
+{
+    let mut instruction = apt;
+    let mut stems = stm;
+    let mut right = Vec::new(alloc);
+    let outcome = run_buck_in_parts(rt, alloc, Some(2), &mut instruction, &mut stems, &mut right);
+    if outcome.is_ok() {
+        prove!(right.as_slice() != wrong);
+    }
+}
+
+/// The lines that the last thread put are left out, and the total counts the others alone.
+pub fn last_part_dropped<'x, T: Threads + Sync>(
+    rt: &T,
+    alloc: Global,
+    apt: &'x [u8],
+    stm: &'x [u8],
+    wrong: &[u8],
+)
+    requires wrong { (i : InstructionParts) (stems : List StemParts) (cuts : List CutStem)
+        → apt_of apt.now ≡ Ok i → stm_of stm.now ≡ Ok stems → IsBucking (base_sheet i) stems cuts
+        → wrong.now ≡ text_of (base_sheet i) (first_half cuts) }
+    requires differ { (i : InstructionParts) (stems : List StemParts) (cuts : List CutStem)
+        → apt_of apt.now ≡ Ok i → stm_of stm.now ≡ Ok stems → IsBucking (base_sheet i) stems cuts
+        → text_of (base_sheet i) (first_half cuts) ≢ text_of (base_sheet i) cuts }
+{
+    let mut instruction = apt;
+    let mut stems = stm;
+    let mut right = Vec::new(alloc);
+    let outcome = run_buck_in_parts(rt, alloc, Some(2), &mut instruction, &mut stems, &mut right);
+    if outcome.is_ok() {
+        prove!(right.as_slice() != wrong);
+    }
+}
