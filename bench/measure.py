@@ -3,6 +3,7 @@
 
     python3 bench/measure.py                          # builds buckfleet, makes workloads, prints a table
     python3 bench/measure.py --bin NAME=PROGRAM ..    # beside it, other programs
+    python3 bench/measure.py --threads 1 2 4          # buckfleet in so many threads, one after the other
 
 For each workload it prints, of the least of several runs: seconds, stems a second, nanoseconds for each pair of a
 position and a candidate log, and the peak memory. A second file of the same stems, but of a species that no assortment
@@ -30,7 +31,7 @@ def build():
     return program
 
 
-def run(program, words):
+def run(words):
     """Seconds and peak KiB of one run; its output goes to nowhere."""
     script = (
         "import resource,subprocess,sys,time\n"
@@ -38,14 +39,14 @@ def run(program, words):
         "status=subprocess.call(sys.argv[1:],stdout=subprocess.DEVNULL)\n"
         "print(time.perf_counter()-start,resource.getrusage(resource.RUSAGE_CHILDREN).ru_maxrss,status)\n"
     )
-    out = subprocess.run([sys.executable, "-c", script, program] + words, capture_output=True, text=True).stdout.split()
+    out = subprocess.run([sys.executable, "-c", script] + words, capture_output=True, text=True).stdout.split()
     if out[2] != "0":
-        sys.exit(f"{program} {' '.join(words)} ended with status {out[2]}")
+        sys.exit(f"{' '.join(words)} ended with status {out[2]}")
     return float(out[0]), int(out[1])
 
 
-def least(program, words, times):
-    runs = [run(program, words) for _ in range(times)]
+def least(words, times):
+    runs = [run(words) for _ in range(times)]
     return min(r[0] for r in runs), max(r[1] for r in runs)
 
 
@@ -56,8 +57,11 @@ def main():
     parser.add_argument("--seed", type=int, default=1)
     parser.add_argument("--times", type=int, default=5)
     parser.add_argument("--modules", type=int, nargs="*", default=[100, 10])
+    parser.add_argument("--threads", type=int, nargs="*", default=[1])
     args = parser.parse_args()
-    programs = [("buckfleet", build())] + [tuple(b.split("=", 1)) for b in args.bin]
+    own = build()
+    programs = [(f"{n} threads" if n > 1 else "buckfleet", [own, "buck", "--threads", str(n)]) for n in args.threads]
+    programs += [(name, [program, "buck"]) for name, program in (b.split("=", 1) for b in args.bin)]
     with tempfile.TemporaryDirectory() as folder:
         for module in args.modules:
             out = os.path.join(folder, str(module))
@@ -69,9 +73,9 @@ def main():
             other = os.path.join(out, "other")
             with open(other, "w") as file:
                 file.write(re.sub(r"952 1 1~", "952 1 2~", open(os.path.join(out, "stm")).read()))
-            for name, program in programs:
-                seconds, memory = least(program, ["buck", os.path.join(out, "apt"), os.path.join(out, "stm")], args.times)
-                idle, _ = least(program, ["buck", os.path.join(out, "apt"), other], args.times)
+            for name, words in programs:
+                seconds, memory = least(words + [os.path.join(out, "apt"), os.path.join(out, "stm")], args.times)
+                idle, _ = least(words + [os.path.join(out, "apt"), other], args.times)
                 print(
                     f"module {module:4}  {name:10}  {seconds:7.3f} s  {args.stems / seconds:9.0f} stems/s  "
                     f"{seconds * 1e9 / pairs:6.2f} ns a pair, {(seconds - idle) * 1e9 / pairs:6.2f} of it for the cutting  "
