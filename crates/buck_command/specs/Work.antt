@@ -1,6 +1,5 @@
 -- What comes of the work that words ask for.
-use Rattle.std.specs.Prelude.{ℕ, List, map, Option, Result}
-use Rattle.std.specs.Option.{option_map}
+use Rattle.std.specs.Prelude.{ℕ, List, Option, Result}
 use Rattle.buck_engine.specs.declared.fault.EngineFault.{EngineFault}
 use Rattle.buck_engine.specs.run.Serving.{RunsTask}
 use Rattle.buck_engine.specs.fleet.Serving.{RunsFleet}
@@ -15,7 +14,6 @@ abbrev pub DoesWork : {O F M : Type 0} → (O → List ℕ → Option F → O �
 DoesWork opens makes held contents start end input (Plain task) old new outcome =
     RunsTask opens held start end input task old new outcome
 DoesWork opens makes held contents start end input (Fleet task) old new outcome =
-    RunsFleet opens makes held contents start end task.apt.now (map (λ s. s.now) task.stms.items)
-    (option_map (λ s. s.now) task.journal) old new outcome
+    RunsFleet opens makes held contents start end task old new outcome
 DoesWork opens makes held contents start end input (View task) old new outcome =
     RunsView opens held start end task old new outcome

@@ -21,11 +21,25 @@ DEGREE 0 2500 saw
 TOTAL 1 1 157080000
 ";
 
+/// The report of three harvesters in turn, with two stems, one and two, under the step rule.
+const IN_TURN: &str = "ENTRY 0 1 1 0 1 1 157080000
+ENTRY 1 2 1 1 1 1 132535800
+ENTRY 2 3 1 2 1 1 78540000
+ENTRY 3 1 2 3 2 1 78540000
+ENTRY 4 3 2 4 2 1 88357200
+CLASS 0 0 0 1 0 400 600
+CLASS 0 0 1 1 0 500 750
+CLASS 0 1 0 1 2 600 300
+CLASS 0 1 1 1 3 800 400
+DEGREE 0 5000 saw
+TOTAL 5 5 535053000
+";
+
 /// Words; the status; how what stands on the output begins, or on the errors where the status isn't 0, and nothing on the
 /// other; and the names that are asked for. All files are opened before one is read, in the order of the words, so that a
 /// file that is missing comes before one that is refused; the file of a journal is made after that, and before one is
 /// read.
-const RUNS: [(&str, u8, &str, &str); 78] = [
+const RUNS: [(&str, u8, &str, &str); 89] = [
     ("", 0, TEXT, ""),
     ("buck apt stm", 0, TEXT, "apt stm "),
     ("buck --quiet apt stm", 0, TEXT, "apt stm "),
@@ -94,6 +108,52 @@ const RUNS: [(&str, u8, &str, &str); 78] = [
         "stm 3 fault 2\n",
         "apt stm stm apt >out ",
     ),
+    (
+        "fleet --in-turn --rule step apt two stm two",
+        0,
+        IN_TURN,
+        "apt two stm two ",
+    ),
+    (
+        "fleet apt empty stm --in-turn --journal=out",
+        0,
+        "ENTRY 0 2 1 0 1 1 157080000\n",
+        "apt empty stm >out ",
+    ),
+    (
+        "fleet --in-turn apt empty",
+        0,
+        "CLASS 0 0 0 1 0 400 400\n",
+        "apt empty ",
+    ),
+    (
+        "fleet --in-turn --journal out apt stm bad",
+        1,
+        "stm 2 fault 2\n",
+        "apt stm bad >out ",
+    ),
+    (
+        "fleet --in-turn apt stm --journal no",
+        5,
+        "write fault\n",
+        "apt stm >no ",
+    ),
+    (
+        "fleet --in-turn apt stm none",
+        5,
+        "read fault 2\n",
+        "apt stm none ",
+    ),
+    ("fleet --in-turn=yes apt stm", 2, "error: ", ""),
+    ("fleet --in-turn --in-turn apt stm", 2, "error: ", ""),
+    ("fleet --in-turn apt", 2, "error: ", ""),
+    (
+        "fleet --journal=stm --in-turn apt stm",
+        2,
+        "error: OUT is",
+        "",
+    ),
+    ("buck --in-turn apt stm", 2, "error: ", ""),
     ("--help", 0, "Cuts each stem", ""),
     ("buck --help", 0, "Cuts each stem", ""),
     ("check --help", 0, "Says whether", ""),
@@ -195,7 +255,7 @@ const RULES: [(&str, &str); 4] = [
 ];
 
 /// Words, and what stands on the screen.
-const SCREENS: [(&str, &str); 6] = [
+const SCREENS: [(&str, &str); 7] = [
     ("buck short stm", ""),
     ("buck long stm", "long: 1000000 bytes read\n"),
     ("buck --quiet long stm", ""),
@@ -208,6 +268,7 @@ const SCREENS: [(&str, &str); 6] = [
         "2000 stems to cut\n1000 of 2000 stems planned\n2000 of 2000 stems planned\n",
     ),
     ("fleet --quiet apt many", ""),
+    ("fleet --in-turn apt many", "1000 stems to cut\n"),
 ];
 
 /// A run of the words of a line.
@@ -254,14 +315,31 @@ fn runs_of_words(rt: HostRuntime) -> Result<(), Fail> {
     Ok(())
 }
 
+/// Words before so many stem files; the status, and how what stands on the stream begins.
+const SEATS: [(&str, usize, u8, &str); 4] = [
+    ("fleet apt", 64, 0, "ENTRY 0 "),
+    ("fleet apt", 65, 2, "seats\n"),
+    (
+        "fleet --in-turn apt",
+        64,
+        0,
+        "ENTRY 0 1 1 0 1 1 157080000\nENTRY 1 2 1 ",
+    ),
+    ("fleet --in-turn apt", 65, 2, "seats\n"),
+];
+
 /// More than 64 stem files are refused after all of them were opened.
 #[test]
 fn too_many_stem_files(rt: HostRuntime) -> Result<(), Fail> {
-    let files = " stm".repeat(rt.alloc(), 65)?;
-    let line = format!(in rt.alloc(); "fleet apt{files}")?;
-    let ending = run_line(&rt, rt.alloc(), line.as_str())?;
-    assert!(rt; ending.status == 2 && says(&ending, "seats\n"));
-    assert!(rt; ending.names.len() == 4 * 66);
+    for (words, number, status, start) in SEATS {
+        let files = " stm".repeat(rt.alloc(), number)?;
+        let line = format!(in rt.alloc(); "{words}{files}")?;
+        let ending = run_line(&rt, rt.alloc(), line.as_str())?;
+        let is_right = ending.status == status && says(&ending, start);
+        assert!(rt; is_right, "{words} {number}");
+        let names = "stm ".len().saturating_mul(number.saturating_add(1));
+        assert!(rt; ending.names.len() == names, "{words} {number}");
+    }
     Ok(())
 }
 

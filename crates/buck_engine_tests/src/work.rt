@@ -2,7 +2,7 @@
 ghost use Rattle.std.specs.Prelude.{◌≤◌};
 
 use crate::streams::{Sink, Source};
-use buck_engine::{EngineFault, run_bare, run_buck, run_check, run_fleet_files};
+use buck_engine::{EngineFault, run_bare, run_buck, run_check, run_fleet_files, run_in_turn};
 use buck_rule::{Rule, Standing, step};
 use std::alloc::Global;
 use std::sync::Wait;
@@ -75,9 +75,17 @@ pub enum Engine {
     Check,
     /// Over an instruction file and two stem files, the second of which has no stems.
     Fleet,
+    /// Over the same files, in turn.
+    Turns,
 }
 
-pub const ENGINES: [Engine; 4] = [Engine::Bare, Engine::Buck, Engine::Check, Engine::Fleet];
+pub const ENGINES: [Engine; 5] = [
+    Engine::Bare,
+    Engine::Buck,
+    Engine::Check,
+    Engine::Fleet,
+    Engine::Turns,
+];
 
 impl Engine {
     /// The files that it reads; the places of those that it doesn't are empty.
@@ -87,7 +95,9 @@ impl Engine {
             Engine::Bare => [INPUT.as_bytes(), b"", b""],
             Engine::Buck => [apt.as_bytes(), stm.as_bytes(), b""],
             Engine::Check => [apt.as_bytes(), JOURNAL.as_bytes(), b""],
-            Engine::Fleet => [apt.as_bytes(), stm.as_bytes(), NO_STEMS.as_bytes()],
+            Engine::Fleet | Engine::Turns => {
+                [apt.as_bytes(), stm.as_bytes(), NO_STEMS.as_bytes()]
+            }
         }
     }
 
@@ -98,7 +108,7 @@ impl Engine {
         match self {
             Engine::Bare => 1,
             Engine::Buck | Engine::Check => 2,
-            Engine::Fleet => 3,
+            Engine::Fleet | Engine::Turns => 3,
         }
     }
 
@@ -107,7 +117,7 @@ impl Engine {
         match self {
             Engine::Bare | Engine::Buck => [b"", TEXT.as_bytes()],
             Engine::Check => [b"", b"LAWFUL 2\n"],
-            Engine::Fleet => [JOURNAL.as_bytes(), REPORT.as_bytes()],
+            Engine::Fleet | Engine::Turns => [JOURNAL.as_bytes(), REPORT.as_bytes()],
         }
     }
 
@@ -129,6 +139,14 @@ impl Engine {
             Engine::Check => run_check(alloc, &mut first, &mut others[0], &mut text),
             Engine::Fleet => run_fleet_files(
                 rt,
+                alloc,
+                &mut first,
+                &mut others,
+                rule,
+                Some(&mut journal),
+                &mut text,
+            ),
+            Engine::Turns => run_in_turn(
                 alloc,
                 &mut first,
                 &mut others,
