@@ -1,6 +1,5 @@
 -- What comes of the work that words ask for.
-use Rattle.std.specs.Prelude.{ℕ, List, map, Option, Result}
-use Rattle.std.specs.Option.{option_map}
+use Rattle.std.specs.Prelude.{ℕ, List, Option, Result}
 use Rattle.buck_engine.specs.declared.fault.EngineFault.{EngineFault}
 use Rattle.buck_engine.specs.run.Bucking.{AnswersBuck}
 use Rattle.buck_engine.specs.run.Serving.{RunsFiles, RunsTask}
@@ -18,7 +17,6 @@ DoesWork opens makes held contents start end input (Plain task) old new outcome 
 DoesWork opens makes held contents start end input (Buck task) old new outcome =
     RunsFiles AnswersBuck opens held start end task.apt.now task.stm.now old new outcome
 DoesWork opens makes held contents start end input (Fleet task) old new outcome =
-    RunsFleet opens makes held contents start end task.apt.now (map (λ s. s.now) task.stms.items)
-    (option_map (λ s. s.now) task.journal) old new outcome
+    RunsFleet opens makes held contents start end task old new outcome
 DoesWork opens makes held contents start end input (View task) old new outcome =
     RunsView opens held start end task old new outcome

@@ -67,10 +67,13 @@ says it in words.";
 pub(crate) const FLEET: &str =
     "Harvester k cuts the stems of the k-th stem file, in file order; 1 to 64 stem
 files. Which harvester commits first is open, so that two runs of several
-harvesters may print two histories. Prints an ENTRY line for each cut, for each
-assortment a CLASS line for each of its classes and its DEGREE, and last a TOTAL
-line. The journal, which check reads, is written first. Each file may have at
-most 67108864 bytes, and check reads no longer journal.
+harvesters may print two histories; with --in-turn the same files always give
+the same one. Prints an ENTRY line for each cut, for each assortment a CLASS
+line for each of its classes and its DEGREE, and last a TOTAL line. Each worth
+is under the prices in force when the stem was cut; view shows the worth at base
+prices, and what steering cost. The journal, which check reads, is written
+first. Each file may have at most 67108864 bytes, and check reads no longer
+journal.
 
 The input files are opened in the order of the words, and then OUT, which is
 made where it isn't there. OUT is never one of the input files. An old OUT stays
@@ -79,6 +82,7 @@ as it was until the whole journal is there, which then takes its place at once.
 Examples:
   buckfleet fleet --rule linear morning.apt morning_1.stm
   buckfleet fleet --journal morning.jrn morning.apt morning_1.stm morning_2.stm
+  buckfleet fleet --in-turn morning.apt morning_1.stm morning_2.stm
 
 Exit statuses:
   0  all was printed
@@ -182,3 +186,10 @@ pub(crate) const QUIET: &str = "Don't tell on a terminal how far long work is";
 /// How many threads there are.
 pub(crate) const THREADS: &str = "Cut stems in at most N threads at once, 1 to 64; else in as
 many as the machine has, or 4 where it doesn't say";
+
+/// What turns are.
+pub(crate) const IN_TURN: &str = "One stem each, round by round, in one thread";
+
+/// The same at length.
+pub(crate) const IN_TURNS: &str = "One stem each, round by round, in the order of the files; who has
+none left is passed over. One thread, and the same history each time";

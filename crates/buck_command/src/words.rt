@@ -4,7 +4,7 @@ ghost use Rattle.buck_command.specs.Words.{rule_name, table_name};
 
 use crate::help;
 use crate::working::Work;
-use buck_engine::{BuckTask, FleetTask, NamedRule, Shown, Table, Task, ViewTask};
+use buck_engine::{BuckTask, FleetTask, NamedRule, Order, Shown, Table, Task, ViewTask};
 use clap::{Arg, ArgAction, ArgMatches, Command, Error, value_parser};
 use std::alloc::Global;
 
@@ -97,11 +97,20 @@ fn journal<'a>(alloc: Global) -> Arg<'a> {
         .help("The file that the journal is written into")
 }
 
+fn in_turn<'a>(alloc: Global) -> Arg<'a> {
+    Arg::new(alloc, "in-turn")
+        .long("in-turn")
+        .action(ArgAction::SetTrue)
+        .help(help::IN_TURN)
+        .long_help(help::IN_TURNS)
+}
+
 fn fleet<'a>(alloc: Global) -> Result<Command<'a>, Error> {
     Ok(
         Command::new(alloc, "fleet")
             .about("Cuts stem files by a fleet of harvesters, one for each file")
             .after_long_help(help::FLEET)
+            .arg(in_turn(alloc))?
             .arg(rule(alloc))?
             .arg(journal(alloc))?
             .arg(quiet(alloc))?
@@ -232,6 +241,11 @@ fn fleet_task<'a>(alloc: Global, words: &ArgMatches<'a>) -> Result<FleetTask<'a>
         return Err(Unasked::Eaten);
     }
     Ok(FleetTask {
+        order: if words.get_flag("in-turn") {
+            Order::InTurn
+        } else {
+            Order::AtOnce
+        },
         rule,
         journal,
         apt,

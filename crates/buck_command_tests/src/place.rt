@@ -21,6 +21,14 @@ pub const STM: &str =
 250 250 250 250 250 250 250 250 250 250 250 250 250 250 250 250 250 250 250 250 250 250 250 250 250~
 ";
 
+/// Stem 1 and stem 2, alike.
+const TWO: &str = "1 2 STM~
+951 1 1~952 1 1~953 1 250 250 250 250 250 250 250 250 250 250 250 250 250 250 250 250
+250 250 250 250 250 250 250 250 250 250 250 250 250 250 250 250 250 250 250 250 250 250 250 250 250~
+951 1 2~952 1 1~953 1 250 250 250 250 250 250 250 250 250 250 250 250 250 250 250 250
+250 250 250 250 250 250 250 250 250 250 250 250 250 250 250 250 250 250 250 250 250 250 250 250 250~
+";
+
 /// The journal of a harvester that cuts that stem under the step rule.
 const JOURNAL: &str = "1 2 JRN~971 1 400 500 600 800~971 1 600 750 900 400~981 1 1 1 0~981 2 1 1~
 981 3 250 250 250 250 250 250 250 250 250 250 250 250 250 250 250 250 250 250 250 250 250 250 250 250 250 250 250 250 250
@@ -51,9 +59,10 @@ impl io::Read for Repeated {
     }
 }
 
-/// The files `apt`, `stm`, `jrn`, `unlawful` (a journal) and `bad` (none of these), and `many`, which has 1,000 stems of no
-/// length; `short` and `long`, of 999,000 and of 1,000,000 blanks; the files `out` and `full`, which can be made, the second
-/// with room for 99 bytes; and the names that were asked for, each with a blank after it.
+/// The files `apt`, `stm`, `jrn`, `unlawful` (a journal) and `bad` (none of these); `two`, which has two stems, `empty`,
+/// which has none, and `many`, which has 1,000 of no length; `short` and `long`, of 999,000 and of 1,000,000 blanks; the
+/// files `out` and `full`, which can be made, the second with room for 99 bytes; and the names that were asked for, each
+/// with a blank after it.
 #[derive(Drop)]
 pub struct Shelf<'a> {
     names: &'a Mutex<Vec<u8>>,
@@ -87,6 +96,8 @@ impl<'a> Open for Shelf<'a> {
         match name {
             "apt" => file(APT.as_bytes(), b"", 0),
             "stm" => file(STM.as_bytes(), b"", 0),
+            "two" => file(TWO.as_bytes(), b"", 0),
+            "empty" => file(b"1 2 STM~", b"", 0),
             "jrn" => file(JOURNAL.as_bytes(), b"", 0),
             "bad" => file(b"1 2 BAD~", b"", 0),
             "unlawful" => file(UNLAWFUL.as_bytes(), b"", 0),

@@ -21,6 +21,45 @@ DEGREE 0 2500 saw
 TOTAL 1 1 157080000
 ";
 
+/// The report of three harvesters in turn, with two stems, one and two, under the step rule.
+const IN_TURN: &str = "ENTRY 0 1 1 0 1 1 157080000
+ENTRY 1 2 1 1 1 1 132535800
+ENTRY 2 3 1 2 1 1 78540000
+ENTRY 3 1 2 3 2 1 78540000
+ENTRY 4 3 2 4 2 1 88357200
+CLASS 0 0 0 1 0 400 600
+CLASS 0 0 1 1 0 500 750
+CLASS 0 1 0 1 2 600 300
+CLASS 0 1 1 1 3 800 400
+DEGREE 0 5000 saw
+TOTAL 5 5 535053000
+";
+
+/// The line of what is cut under the base prices, in a report.
+const ENTRY: &str = "ENTRY 0 1 1 0 1 1 157080000\n";
+
+/// The line of a write fault.
+const WRITE: &str = "write fault\n";
+
+/// What is said where OUT is an input.
+const EATEN: &str = "error: OUT is";
+
+/// The fault of the journal `unlawful`.
+const UNLAWFUL: &str = "replay fault 1 1\n";
+
+/// What is said where there is no such fault line.
+const NO_LINE: &str = "error: there is no such";
+
+/// The lines of files that can't be read, and of a stem file that is none.
+const READ_1: &str = "read fault 1\n";
+
+const READ_2: &str = "read fault 2\n";
+
+const STM_1: &str = "stm 1 fault 2\n";
+
+/// How the report of no stem begins.
+const NOTHING: &str = "CLASS 0 0 0 1 0 400 400\n";
+
 /// Words; the status; how what stands on the output begins, or on the errors where the status isn't 0, and nothing on the
 /// other; and the names that are asked for. All files are opened before one is read, in the order of the words, so that a
 /// file that is missing comes before one that is refused; the file of a journal is made after that, and before one is
@@ -28,7 +67,7 @@ TOTAL 1 1 157080000
 type Row = (&'static str, u8, &'static str, &'static str);
 
 /// What needs no journal: the bare form, `buck`, and words of no command.
-const WORDS: [Row; 27] = [
+const WORDS: [Row; 28] = [
     ("", 0, TEXT, ""),
     ("buck apt stm", 0, TEXT, "apt stm "),
     ("buck --quiet apt stm", 0, TEXT, "apt stm "),
@@ -56,63 +95,24 @@ const WORDS: [Row; 27] = [
     ("--quiet buck apt stm", 2, "error: ", ""),
     ("buck --rule step apt stm", 2, "error: ", ""),
     ("bucks apt stm", 2, "error: ", ""),
+    ("buck --in-turn apt stm", 2, "error: ", ""),
 ];
 
 /// The words of `fleet`.
-const FLEETS: [Row; 17] = [
+const FLEETS: [Row; 27] = [
+    ("fleet apt stm", 0, ENTRY, "apt stm "),
+    ("fleet --journal out apt stm", 0, ENTRY, "apt stm >out "),
+    ("fleet apt stm --journal=no -q", 5, WRITE, "apt stm >no "),
+    ("fleet apt stm --journal full", 5, WRITE, "apt stm >full "),
+    ("fleet apt bad --journal no", 5, WRITE, "apt bad >no "),
+    ("fleet --journal o apt stm none", 5, READ_2, "apt stm none "),
+    ("fleet apt none stm --journal out", 5, READ_1, "apt none "),
+    ("fleet apt bad --journal out", 1, STM_1, "apt bad >out "),
     (
-        "fleet apt stm",
-        0,
-        "ENTRY 0 1 1 0 1 1 157080000\n",
-        "apt stm ",
-    ),
-    (
-        "fleet --journal out apt stm",
-        0,
-        "ENTRY 0 1 1 0 1 1 157080000\n",
-        "apt stm >out ",
-    ),
-    (
-        "fleet apt stm --journal=no --quiet",
-        5,
-        "write fault\n",
-        "apt stm >no ",
-    ),
-    (
-        "fleet apt stm --journal full",
-        5,
-        "write fault\n",
-        "apt stm >full ",
-    ),
-    (
-        "fleet apt bad --journal no",
-        5,
-        "write fault\n",
-        "apt bad >no ",
-    ),
-    (
-        "fleet --journal out apt stm none",
-        5,
-        "read fault 2\n",
-        "apt stm none ",
-    ),
-    (
-        "fleet apt none stm --journal out",
-        5,
-        "read fault 1\n",
-        "apt none ",
-    ),
-    (
-        "fleet apt stm bad --journal out",
-        1,
-        "stm 2 fault 2\n",
-        "apt stm bad >out ",
-    ),
-    (
-        "fleet apt stm stm apt --journal out",
+        "fleet apt stm stm apt",
         1,
         "stm 3 fault 2\n",
-        "apt stm stm apt >out ",
+        "apt stm stm apt ",
     ),
     ("fleet --help", 0, "Cuts stem files", ""),
     ("fleet", 2, "error: ", ""),
@@ -120,18 +120,33 @@ const FLEETS: [Row; 17] = [
     ("fleet --rule fast apt stm", 2, "error: ", ""),
     ("fleet --journal apt apt stm", 2, "error: OUT is", ""),
     ("fleet apt stm --journal=stm", 2, "error: OUT is", ""),
+    ("fleet --journal many apt stm many stm", 2, EATEN, ""),
+    ("fleet --journal ./stm apt stm", 5, WRITE, "apt stm >./stm "),
     (
-        "fleet --journal many apt stm many stm",
-        2,
-        "error: OUT is",
-        "",
+        "fleet --in-turn --rule step apt two stm two",
+        0,
+        IN_TURN,
+        "apt two stm two ",
     ),
     (
-        "fleet --journal ./stm apt stm",
+        "fleet apt empty stm --in-turn --journal=out",
+        0,
+        "ENTRY 0 2 1 0 1 1 157080000\n",
+        "apt empty stm >out ",
+    ),
+    ("fleet --in-turn apt empty", 0, NOTHING, "apt empty "),
+    ("fleet --in-turn apt bad", 1, STM_1, "apt bad "),
+    (
+        "fleet --in-turn apt stm --journal no",
         5,
-        "write fault\n",
-        "apt stm >./stm ",
+        WRITE,
+        "apt stm >no ",
     ),
+    ("fleet --in-turn apt stm none", 5, READ_2, "apt stm none "),
+    ("fleet --in-turn=yes apt stm", 2, "error: ", ""),
+    ("fleet --in-turn --in-turn apt stm", 2, "error: ", ""),
+    ("fleet --in-turn apt", 2, "error: ", ""),
+    ("fleet --journal=stm --in-turn apt stm", 2, EATEN, ""),
 ];
 
 /// The words of `check` and `report`.
@@ -160,21 +175,11 @@ const PAGES: [Row; 16] = [
     ("view apt stm", 1, "journal fault 2\n", "apt stm "),
     ("view jrn apt", 1, "apt fault 2\n", "jrn apt "),
     ("view apt none", 5, "read fault 1\n", "apt none "),
-    (
-        "table apt jrn classes",
-        0,
-        "assortment,row,column,",
-        "apt jrn ",
-    ),
+    ("table apt jrn classes", 0, "assortment,row,", "apt jrn "),
     ("table apt jrn postings", 0, "position,kind,", "apt jrn "),
     ("table --quiet apt jrn logs", 0, "position,log,", "apt jrn "),
     ("table apt jrn degrees", 0, "postings,version,", "apt jrn "),
-    (
-        "table apt unlawful classes",
-        4,
-        "replay fault 1 1\n",
-        "apt unlawful ",
-    ),
+    ("table apt unlawful classes", 4, UNLAWFUL, "apt unlawful "),
     ("view --help", 0, "Shows a journal as a page", ""),
     ("table --help", 0, "Shows a journal as a table", ""),
     ("view apt", 2, "error: ", ""),
@@ -185,26 +190,11 @@ const PAGES: [Row; 16] = [
 
 /// The words of `explain`.
 const SENTENCES: [Row; 8] = [
-    (
-        "explain replay fault 4 12",
-        0,
-        "Posting 12, counted from 0, was not planned",
-        "",
-    ),
-    (
-        "explain seats",
-        0,
-        "There are more than 64 stem files: ",
-        "",
-    ),
+    ("explain replay fault 4 12", 0, "Posting 12, counted", ""),
+    ("explain seats", 0, "There are more than 64 ", ""),
     ("explain nothing", 2, "error: there is no such", ""),
     ("explain replay fault 4", 2, "error: there is no such", ""),
-    (
-        "explain apt fault 3 953 1",
-        2,
-        "error: there is no such",
-        "",
-    ),
+    ("explain apt fault 3 953 1", 2, NO_LINE, ""),
     ("explain", 2, "error: ", ""),
     ("explain --quiet seats", 2, "error: ", ""),
     ("explain --help", 0, "Says what", ""),
@@ -219,7 +209,7 @@ const RULES: [(&str, &str); 4] = [
 ];
 
 /// Words, and what stands on the screen.
-const SCREENS: [(&str, &str); 6] = [
+const SCREENS: [(&str, &str); 7] = [
     ("buck short stm", ""),
     ("buck long stm", "long: 1000000 bytes read\n"),
     ("buck --quiet long stm", ""),
@@ -232,6 +222,7 @@ const SCREENS: [(&str, &str); 6] = [
         "2000 stems to cut\n1000 of 2000 stems planned\n2000 of 2000 stems planned\n",
     ),
     ("fleet --quiet apt many", ""),
+    ("fleet --in-turn apt many", "1000 stems to cut\n"),
 ];
 
 /// A run of the words of a line.
@@ -310,11 +301,15 @@ fn sentences_of_lines(rt: HostRuntime) -> Result<(), Fail> {
 /// More than 64 stem files are refused after all of them were opened.
 #[test]
 fn too_many_stem_files(rt: HostRuntime) -> Result<(), Fail> {
-    let files = " stm".repeat(rt.alloc(), 65)?;
-    let line = format!(in rt.alloc(); "fleet apt{files}")?;
-    let ending = run_line(&rt, rt.alloc(), line.as_str())?;
-    assert!(rt; ending.status == 2 && says(&ending, "seats\n"));
-    assert!(rt; ending.names.len() == 4 * 66);
+    for (words, number, status, start) in SEATS {
+        let files = " stm".repeat(rt.alloc(), number)?;
+        let line = format!(in rt.alloc(); "{words}{files}")?;
+        let ending = run_line(&rt, rt.alloc(), line.as_str())?;
+        let is_right = ending.status == status && says(&ending, start);
+        assert!(rt; is_right, "{words} {number}");
+        let names = "stm ".len().saturating_mul(number.saturating_add(1));
+        assert!(rt; ending.names.len() == names, "{words} {number}");
+    }
     Ok(())
 }
 

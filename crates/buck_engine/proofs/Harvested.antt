@@ -53,9 +53,9 @@ pub has_cut_lists : (i : InstructionParts) (f : FleetParts) (b : Board) (lists :
     → AreOpened b (length lists) before
     → HaveRun f lists before after
     → All (λ x. x.stopped ≡ None) after
-    → IsOneHistory f.instruction f.seats after c
+    → IsOneHistory f.instruction f.seats after c × (length c.history.postings ≤ 1000000)
     → HasCutLists i lists c.history
-has_cut_lists i f b lists before after c same seats some opened run stopped one =
+has_cut_lists i f b lists before after c same seats some opened run stopped (one, few) =
     let long : length before ≡ length lists = opened.number in
     let longer : length after ≡ length lists = run.number ∙ long in
     let number : length c.kept ≡ length lists = one.handed_out.number ∙ seats in
@@ -64,6 +64,7 @@ has_cut_lists i f b lists before after c same seats some opened run stopped one 
     record {
       same_instruction = one.same_instruction ∙ same;
       lawful = one.lawful;
+      few = few;
       stems = λ k lt. (
           let new = opened.each k d lt in
           let has_run = run.runs k d (omega (arith, lt, long)) in

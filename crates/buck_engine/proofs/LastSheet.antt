@@ -1,5 +1,5 @@
 -- The prices in force after some postings of a lawful history: there is one for each class.
-use Rattle.std.proofs.Common.{◌≡◌, ℕ, zero, suc, ◌+◌, ◌≤◌, inl, inr, ◌∷◌, [], ◌++◌, List, length, take, take_all, refl, sym, ap, subst, ◌∙◌, arith}
+use Rattle.std.proofs.Common.{◌≡◌, ℕ, zero, suc, ◌+◌, ◌≤◌, inl, inr, ◌∷◌, [], ◌++◌, List, length, take, take_all, sym, ap, subst, ◌∙◌, arith}
 use Rattle.std.proofs.lemmas.Bool.{cases_Bool}
 use Rattle.std.proofs.lemmas.Option.{slice_get_cases}
 use Rattle.buck_apt.specs.Instruction.{IsInstruction, classes}

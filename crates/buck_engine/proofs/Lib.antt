@@ -6,6 +6,7 @@ pub mod Reports
 pub mod Owned
 pub mod Harvested
 pub mod Harvests
+pub mod Endings
 pub mod Lists
 pub mod Opening
 pub mod Runs

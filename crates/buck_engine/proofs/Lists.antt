@@ -16,7 +16,7 @@ use Rattle.buck_fleet.specs.Run.{stems_of, stems_at}
 use Rattle.buck_engine.specs.declared.fault.EngineFault.{EngineFault}
 use Rattle.buck_engine.specs.declared.fault.EngineFault.TheVariants.{Memory}
 use Rattle.buck_engine.specs.run.Reading.{IsStmFault, Says}
-use Rattle.buck_engine.specs.fleet.Running.{AreAccepted, IsCuttingFault, IsHarvestFault, IsListFault}
+use Rattle.buck_engine.specs.fleet.Running.{AreAccepted, IsCuttingFault, IsFleetFault, IsListFault}
 use Rattle.buck_engine.specs.inner.Fleet.{AreListsOf}
 
 -- what stands at a place of what is left as it was
@@ -80,7 +80,7 @@ memory_at k stms lists (Err e) lt made is = record { place = k; exists = lt; acc
 
 -- what goes wrong in a fleet comes after all files were accepted
 pub cut_fault : {X : Type 0} (apt : Option (List ℕ)) (stms : List (Option (List ℕ))) (lists : List (Vec (Arc Stem Global) Global)) (n : ℕ) (i : InstructionParts) (r : Result X EngineFault)
-    → Says apt_of apt (Ok i) → n ≡ length stms → AreListsOf n stms lists → IfErr r IsCuttingFault → IfErr r (IsHarvestFault apt stms)
+    → Says apt_of apt (Ok i) → n ≡ length stms → AreListsOf n stms lists → IfErr r IsCuttingFault → IfErr r (IsFleetFault apt stms)
 cut_fault apt stms lists n i (Ok x) says all made fault = tt
 cut_fault apt stms lists n i (Err e) says all made fault =
-    inr ((i, says), inr (subst (λ (k : ℕ). AreAccepted k stms) all (accepted n stms lists made), fault))
+    inr (inr ((i, says), inr (subst (λ (k : ℕ). AreAccepted k stms) all (accepted n stms lists made), fault)))

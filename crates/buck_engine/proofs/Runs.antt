@@ -6,9 +6,10 @@ use Rattle.std.proofs.KnownBytes.{Keeps-refl}
 use Rattle.buck_book.specs.History.{HistoryParts}
 use Rattle.buck_engine.specs.declared.fault.EngineFault.{EngineFault}
 use Rattle.buck_engine.specs.declared.fault.EngineFault.TheVariants.{Read, Write, Apt, Stm, Journal, Replay, Seats, Full, Memory, Close}
+use Rattle.buck_engine.specs.declared.fleet.serving.Order.{Order}
 use Rattle.buck_engine.specs.run.Reading.{IsFileFault}
 use Rattle.buck_engine.specs.text.Written.{IsRun}
-use Rattle.buck_engine.specs.fleet.Running.{AnswersFleet, AreNoSeats, IsFleetRun, IsHarvest, WroteAll, WroteSome}
+use Rattle.buck_engine.specs.fleet.Running.{AnswersFleet, AreInOrder, AreNoSeats, IsFleetFault, IsFleetRun, IsHarvest, WroteAll, WroteSome}
 use Rattle.buck_engine.specs.fleet.Lent.{OfWriter}
 use Rattle.buck_engine.specs.inner.Fleet.{AreWritten}
 
@@ -38,7 +39,7 @@ no_answer Answers Whole Part Nothing Memory other a kept = (a, kept)
 no_answer Answers Whole Part Nothing (Close why) other a kept = (a, kept)
 
 -- the same of a fleet
-pub fleet_fault : (apt : Option (List ℕ)) (stms : List (Option (List ℕ))) (fault : EngineFault) → AnswersFleet apt stms (Err fault) → IsNoWrite fault
+pub fleet_fault : (apt : Option (List ℕ)) (stms : List (Option (List ℕ))) (fault : EngineFault) → IsFleetFault apt stms fault → IsNoWrite fault
 fleet_fault apt stms fault (inl seats) = subst IsNoWrite (sym seats.1) tt
 fleet_fault apt stms fault (inr (inl a)) = file_fault _ _ _ _ fault (λ why. tt) a
 fleet_fault apt stms fault (inr (inr (accepted, inl list))) = file_fault _ _ _ _ fault (λ why. tt) list.is_fault
@@ -46,28 +47,34 @@ fleet_fault apt stms fault (inr (inr (accepted, inr (all, inl full)))) = subst I
 fleet_fault apt stms fault (inr (inr (accepted, inr (all, inr (inl memory))))) = subst IsNoWrite (sym memory) tt
 fleet_fault apt stms fault (inr (inr (accepted, inr (all, inr (inr close))))) = subst IsNoWrite (sym close.1) tt
 
--- nothing is written where there is no closed fleet
-pub no_texts : (apt : Option (List ℕ)) (stms : List (Option (List ℕ))) (OfJournal : OfWriter) (old : Option (List ℕ)) (fault : EngineFault) (r : Result (Unit {0}) EngineFault)
-    → (AreNoSeats (length stms) → fault ≡ Seats) → IsErrAnd r (λ x. x ≡ fault) → AnswersFleet apt stms (Err fault) → OfJournal Keeps → IsFleetRun apt stms OfJournal old old r
-no_texts apt stms OfJournal old fault (Ok u) seats h a kept = absurd h
-no_texts apt stms OfJournal old fault (Err x) seats h a kept =
-    subst (λ (f : EngineFault). IsFleetRun apt stms OfJournal old old (Err f)) (sym h)
+-- nothing is written where there is no history
+pub no_texts : (order : Order) (apt : Option (List ℕ)) (stms : List (Option (List ℕ))) (OfJournal : OfWriter) (old : Option (List ℕ)) (fault : EngineFault) (r : Result (Unit {0}) EngineFault)
+    → (AreNoSeats (length stms) → fault ≡ Seats) → IsErrAnd r (λ x. x ≡ fault) → IsFleetFault apt stms fault → OfJournal Keeps → IsFleetRun order apt stms OfJournal old old r
+no_texts order apt stms OfJournal old fault (Ok u) seats h a kept = absurd h
+no_texts order apt stms OfJournal old fault (Err x) seats h a kept =
+    subst (λ (f : EngineFault). IsFleetRun order apt stms OfJournal old old (Err f)) (sym h)
     (record {
       seats = λ none. ap (λ (f : EngineFault). Err f) (seats none);
-      run = no_answer (AnswersFleet apt stms) (λ h. WroteAll h OfJournal old old) (λ h. WroteSome h OfJournal old old) (OfJournal Keeps × Keeps old old) fault (fleet_fault apt stms fault a) a (kept, Keeps-refl old);
+      run = no_answer (AnswersFleet order apt stms) (λ h. WroteAll h OfJournal old old) (λ h. WroteSome h OfJournal old old) (OfJournal Keeps × Keeps old old) fault (fleet_fault apt stms fault a) a (kept, Keeps-refl old);
     })
 
--- the texts of a closed fleet are written, or some first bytes of them
-pub texts_written : (apt : Option (List ℕ)) (stms : List (Option (List ℕ))) (OfJournal : OfWriter) (old new : Option (List ℕ)) (h : HistoryParts) (r : Result (Unit {0}) EngineFault)
-    → (AreNoSeats (length stms) → ⊥) → IsHarvest apt stms h → AreWritten h OfJournal old new r → IsFleetRun apt stms OfJournal old new r
-texts_written apt stms OfJournal old new h (Ok u) seats is all = record { seats = λ none. absurd (seats none); run = (h, is, all) }
-texts_written apt stms OfJournal old new h (Err Write) seats is some = record { seats = λ none. absurd (seats none); run = (h, is, some) }
-texts_written apt stms OfJournal old new h (Err Memory) seats is kept = record { seats = λ none. absurd (seats none); run = (inr (inl (inr (inl refl))), kept) }
-texts_written apt stms OfJournal old new h (Err (Read file)) seats is never = absurd never
-texts_written apt stms OfJournal old new h (Err (Apt why)) seats is never = absurd never
-texts_written apt stms OfJournal old new h (Err (Stm file why)) seats is never = absurd never
-texts_written apt stms OfJournal old new h (Err (Journal why)) seats is never = absurd never
-texts_written apt stms OfJournal old new h (Err (Replay why)) seats is never = absurd never
-texts_written apt stms OfJournal old new h (Err Seats) seats is never = absurd never
-texts_written apt stms OfJournal old new h (Err Full) seats is never = absurd never
-texts_written apt stms OfJournal old new h (Err (Close why)) seats is never = absurd never
+-- the texts of a history are written, or some first bytes of them
+of_history : (order : Order) (apt : Option (List ℕ)) (stms : List (Option (List ℕ))) (OfJournal : OfWriter) (old new : Option (List ℕ)) (h : HistoryParts) (r : Result (Unit {0}) EngineFault)
+    → (AreNoSeats (length stms) → ⊥) → IsHarvest apt stms h → AreInOrder order h.postings → AreWritten h OfJournal old new r → IsFleetRun order apt stms OfJournal old new r
+of_history order apt stms OfJournal old new h (Ok u) seats is turns all = record { seats = λ none. absurd (seats none); run = (h, (is, turns), all) }
+of_history order apt stms OfJournal old new h (Err Write) seats is turns some = record { seats = λ none. absurd (seats none); run = (h, (is, turns), some) }
+of_history order apt stms OfJournal old new h (Err Memory) seats is turns kept = record { seats = λ none. absurd (seats none); run = (inr (inl (inr (inl refl))), kept) }
+of_history order apt stms OfJournal old new h (Err (Read file)) seats is turns never = absurd never
+of_history order apt stms OfJournal old new h (Err (Apt why)) seats is turns never = absurd never
+of_history order apt stms OfJournal old new h (Err (Stm file why)) seats is turns never = absurd never
+of_history order apt stms OfJournal old new h (Err (Journal why)) seats is turns never = absurd never
+of_history order apt stms OfJournal old new h (Err (Replay why)) seats is turns never = absurd never
+of_history order apt stms OfJournal old new h (Err Seats) seats is turns never = absurd never
+of_history order apt stms OfJournal old new h (Err Full) seats is turns never = absurd never
+of_history order apt stms OfJournal old new h (Err (Close why)) seats is turns never = absurd never
+
+-- the same, where they are those of the same history by another name
+pub texts_written : (order : Order) (apt : Option (List ℕ)) (stms : List (Option (List ℕ))) (OfJournal : OfWriter) (old new : Option (List ℕ)) (h shown : HistoryParts) (r : Result (Unit {0}) EngineFault)
+    → (AreNoSeats (length stms) → ⊥) → IsHarvest apt stms h → AreInOrder order h.postings → shown ≡ h → AreWritten shown OfJournal old new r → IsFleetRun order apt stms OfJournal old new r
+texts_written order apt stms OfJournal old new h shown r seats is turns same written =
+    of_history order apt stms OfJournal old new h r seats is turns (subst (λ (x : HistoryParts). AreWritten x OfJournal old new r) same written)

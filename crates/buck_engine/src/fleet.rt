@@ -4,3 +4,5 @@ pub(crate) mod lists;
 pub(crate) mod onlooker;
 pub(crate) mod running;
 pub(crate) mod serving;
+pub(crate) mod turning;
+pub(crate) mod writing;

@@ -1,12 +1,12 @@
 //! From the bytes of an instruction file and a stem file to the text of the stems, bucked; and what is said of faults.
 //!
-//! [`run_buck`] and [`run_bare`] are generic over readers and writers, and [`buck_text`] makes their text. So is
+//! [`run_buck`] and [`run_bare`] are generic over readers and writers, and [`buck_text`] makes their text. So are
 //! [`run_fleet_files`], which cuts stem files by a fleet, one harvester for each, and writes the fleet's journal and
-//! its report, [`report_text`]; [`run_check`] checks such a journal, [`run_report`] writes its report, and [`run_view`] and
-//! [`run_table`] show it. [`write_fault`] and [`status`] are the line and the exit status of a fault. [`serve`] is a whole
-//! run of the program, from its [`Task`] to its exit status, over files that an [`Open`] opens, as [`Disk`],
-//! [`serve_view`] one that shows a journal, and [`serve_fleet`] one of a fleet, at which an [`Onlooker`] may look on.
-//! [`laws`] says that there is one text.
+//! its report, [`report_text`], and [`run_in_turn`], whose harvesters take turns; [`run_check`] checks such a journal,
+//! [`run_report`] writes its report, and [`run_view`] and [`run_table`] show it. [`write_fault`] and [`status`] are the
+//! line and the exit status of a fault. [`serve`] is a whole run of the program, from its [`Task`] to its exit status,
+//! over files that an [`Open`] opens, as [`Disk`], [`serve_view`] one that shows a journal, and [`serve_fleet`] one of
+//! a fleet, at which an [`Onlooker`] may look on. [`laws`] says that there is one text.
 #![tactic(auto)]
 
 mod fault;
@@ -20,7 +20,8 @@ pub use buck_view::Files;
 pub use fault::{EngineFault, TextFault, status};
 pub use fleet::onlooker::{Nobody, Onlooker};
 pub use fleet::running::run_fleet_files;
-pub use fleet::serving::{FleetTask, NamedRule, serve_fleet};
+pub use fleet::serving::{FleetTask, NamedRule, Order, serve_fleet};
+pub use fleet::turning::run_in_turn;
 pub use run::bucking::{run_bare, run_buck};
 pub use run::checking::run_check;
 pub use run::disk::{Disk, Renewed};

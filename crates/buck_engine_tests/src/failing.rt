@@ -3,7 +3,7 @@ ghost use Rattle.std.specs.Prelude.{◌<◌};
 
 use crate::streams::{Sink, Source, Trouble};
 use crate::work::{ENGINES, Ending, Engine};
-use buck_engine::{EngineFault, run_fleet_files};
+use buck_engine::{EngineFault, run_fleet_files, run_in_turn};
 use buck_rule::{Rule, Standing, step};
 use std::alloc::Global;
 use std::sync::Wait;
@@ -186,13 +186,20 @@ fn are_no_seats<T: Threads + Wait + Sync>(
     }
     let mut apt = Source::of(b"1 2 STM~", STEP);
     let mut report = Sink::of(STEP);
-    let rule = Rule::new(|s: &Standing| step(s));
-    let outcome = run_fleet_files(
+    let turns = run_in_turn(
+        alloc,
+        &mut apt,
+        stms.as_mut_slice(),
+        Rule::new(|s: &Standing| step(s)),
+        None::<&mut Sink>,
+        &mut report,
+    );
+    let fleet = run_fleet_files(
         rt,
         alloc,
         &mut apt,
         stms.as_mut_slice(),
-        rule,
+        Rule::new(|s: &Standing| step(s)),
         None::<&mut Sink>,
         &mut report,
     );
@@ -200,7 +207,8 @@ fn are_no_seats<T: Threads + Wait + Sync>(
     for stm in &stms {
         reads = reads.saturating_add(stm.reads);
     }
-    Ok(reads == 0 && outcome == Err(EngineFault::Seats) && report.writes == 0)
+    let are_refused = turns == Err(EngineFault::Seats) && fleet == Err(EngineFault::Seats);
+    Ok(reads == 0 && are_refused && report.writes == 0)
 }
 
 #[test]

@@ -55,3 +55,8 @@ fn refused_memory_of_a_check(rt: HostRuntime) -> Result<(), Fail> {
 fn refused_memory_of_a_fleet(rt: HostRuntime) -> Result<(), Fail> {
     goes_on(&rt, rt.alloc(), Engine::Fleet)
 }
+
+#[test]
+fn refused_memory_of_turns(rt: HostRuntime) -> Result<(), Fail> {
+    goes_on(&rt, rt.alloc(), Engine::Turns)
+}

@@ -2,7 +2,9 @@
 ghost use Rattle.std.specs.Prelude.{◌≤◌};
 
 use crate::streams::{Sink, Source};
-use buck_engine::{EngineFault, run_bare, run_buck, run_buck_in_parts, run_check, run_fleet_files};
+use buck_engine::{
+    EngineFault, run_bare, run_buck, run_buck_in_parts, run_check, run_fleet_files, run_in_turn,
+};
 use buck_rule::{Rule, Standing, step};
 use std::alloc::Global;
 use std::sync::Wait;
@@ -77,14 +79,17 @@ pub enum Engine {
     Check,
     /// Over an instruction file and two stem files, the second of which has no stems.
     Fleet,
+    /// Over the same files, in turn.
+    Turns,
 }
 
-pub const ENGINES: [Engine; 5] = [
+pub const ENGINES: [Engine; 6] = [
     Engine::Bare,
     Engine::Buck,
     Engine::Parts,
     Engine::Check,
     Engine::Fleet,
+    Engine::Turns,
 ];
 
 impl Engine {
@@ -95,7 +100,9 @@ impl Engine {
             Engine::Bare => [INPUT.as_bytes(), b"", b""],
             Engine::Buck | Engine::Parts => [apt.as_bytes(), stm.as_bytes(), b""],
             Engine::Check => [apt.as_bytes(), JOURNAL.as_bytes(), b""],
-            Engine::Fleet => [apt.as_bytes(), stm.as_bytes(), NO_STEMS.as_bytes()],
+            Engine::Fleet | Engine::Turns => {
+                [apt.as_bytes(), stm.as_bytes(), NO_STEMS.as_bytes()]
+            }
         }
     }
 
@@ -106,7 +113,7 @@ impl Engine {
         match self {
             Engine::Bare => 1,
             Engine::Buck | Engine::Parts | Engine::Check => 2,
-            Engine::Fleet => 3,
+            Engine::Fleet | Engine::Turns => 3,
         }
     }
 
@@ -115,7 +122,7 @@ impl Engine {
         match self {
             Engine::Bare | Engine::Buck | Engine::Parts => [b"", TEXT.as_bytes()],
             Engine::Check => [b"", b"LAWFUL 2\n"],
-            Engine::Fleet => [JOURNAL.as_bytes(), REPORT.as_bytes()],
+            Engine::Fleet | Engine::Turns => [JOURNAL.as_bytes(), REPORT.as_bytes()],
         }
     }
 
@@ -145,6 +152,14 @@ impl Engine {
             Engine::Check => run_check(alloc, &mut first, &mut others[0], &mut text),
             Engine::Fleet => run_fleet_files(
                 rt,
+                alloc,
+                &mut first,
+                &mut others,
+                rule,
+                Some(&mut journal),
+                &mut text,
+            ),
+            Engine::Turns => run_in_turn(
                 alloc,
                 &mut first,
                 &mut others,

@@ -1,5 +1,5 @@
 -- what a closed fleet hands out of its book
-use Rattle.std.proofs.Common.{◌≡◌, ℕ, ◌+◌, ◌-◌, ◌<◌, List, [], ◌∷◌, length, get_or, refl, sym, ap, subst, ◌∙◌, map, arith}
+use Rattle.std.proofs.Common.{◌≡◌, ℕ, ◌+◌, ◌-◌, ◌<◌, ◌≤◌, List, [], ◌∷◌, length, get_or, refl, sym, ap, subst, ◌∙◌, map, arith}
 use Rattle.std.specs.Prelude.{All, slice_index_or, slice_get, Some}
 use Rattle.std.specs.List.{sum_by}
 use Rattle.buck_apt.specs.Instruction.{InstructionParts}
@@ -36,10 +36,10 @@ history_same h i prices ps a b c = λ t. record { instruction = a t; sheets = b 
 
 -- what a book says of its history is true of the parts that it gives
 pub parts_out : (h : HistoryParts) (i : InstructionParts) (prices : List (List ℕ)) (ps : List Posting) (sheets : List SheetParts) (targets counts : List ℕ) → history_of i prices ps ≡ h
-    → IsLawful h × (sheets ≡ sheets_from 0 h.instruction h.sheets) × (targets ≡ targets_of h.instruction h.postings) × AreTargets h.instruction targets × AreClassCounts h.instruction h.postings counts
-    → IsLawful (history_of i prices ps) × (sheets ≡ sheets_from 0 i prices) × (targets ≡ targets_of i ps) × AreTargets i targets × AreClassCounts i ps counts
+    → IsLawful h × (sheets ≡ sheets_from 0 h.instruction h.sheets) × (targets ≡ targets_of h.instruction h.postings) × AreTargets h.instruction targets × AreClassCounts h.instruction h.postings counts × (length h.postings ≤ 1000000)
+    → IsLawful (history_of i prices ps) × (sheets ≡ sheets_from 0 i prices) × (targets ≡ targets_of i ps) × AreTargets i targets × AreClassCounts i ps counts × (length ps ≤ 1000000)
 parts_out h i prices ps sheets targets counts same =
-    subst (λ (x : HistoryParts). IsLawful x × (sheets ≡ sheets_from 0 x.instruction x.sheets) × (targets ≡ targets_of x.instruction x.postings) × AreTargets x.instruction targets × AreClassCounts x.instruction x.postings counts)
+    subst (λ (x : HistoryParts). IsLawful x × (sheets ≡ sheets_from 0 x.instruction x.sheets) × (targets ≡ targets_of x.instruction x.postings) × AreTargets x.instruction targets × AreClassCounts x.instruction x.postings counts × (length x.postings ≤ 1000000))
     (sym same)
 
 -- what `close` hands out, by what it takes in: the kept lists, and the history with the first of the best cuttings

@@ -62,7 +62,7 @@ pub struct Closed {
 }
 
 impl Model for Closed {
-    ghost use Rattle.std.specs.Prelude.{◌≡◌, map};
+    ghost use Rattle.std.specs.Prelude.{◌≡◌, ◌≤◌, length, map};
     ghost use Rattle.buck_book.specs.Posting.{targets_of};
     ghost use Rattle.buck_book.specs.Targets.{AreTargets};
     ghost use Rattle.buck_book.specs.Counts.{AreClassCounts};
@@ -91,7 +91,8 @@ impl Model for Closed {
         ≡ sheets_from 0 c.instruction.value (map (λ a. a.value.prices) c.sheets.items))
         × (c.targets.value.items ≡ targets_of c.instruction.value c.entries.items)
         × AreTargets c.instruction.value c.targets.value.items
-        × AreClassCounts c.instruction.value c.entries.items c.counts.items };
+        × AreClassCounts c.instruction.value c.entries.items c.counts.items
+        × (length c.entries.items ≤ 1000000) };
 }
 
 /// Puts each seat's kept list in its harvester's place, and takes its share in.
@@ -149,7 +150,6 @@ fn hand_out<F: Drop>(book: Book<F>, kept: Vec<Vec<Kept>>) -> Closed
     ensures history { result.history ≡ book.history }
     ensures kept { result.kept ≡ lists_of kept.items }
     ensures first_best { (k : ℕ) (x : Posting) → slice_get book.history.postings k ≡ Some x → IsFirst book.history x }
-    ensures few { length book.history.postings ≤ 1000000 }
 {
     let Parts {
         instruction,
@@ -233,10 +233,11 @@ impl Closed {
         &self.sheets[self.sheets.len() - 1]
     }
 
-    /// The postings, in the order of their commits.
+    /// The postings, in the order of their commits, at most 1,000,000.
     pub fn entries(&self) -> &[Posting]
         ensures postings { result.now ≡ self.now.history.postings }
         ensures lawful { IsLawful self.now.history }
+        ensures few { length self.now.history.postings ≤ 1000000 }
     {
         self.entries.as_slice()
     }
@@ -265,7 +266,6 @@ impl Closed {
 
     /// The first difference of the lowest harvester that has one.
     fn difference(&self) -> Option<CloseFault>
-        requires few { length self.now.history.postings ≤ 1000000 }
         requires seats { length self.now.kept ≤ 64 }
         ensures none { IfNone result ((h : ℕ) → 0 < h → h ≤ length self.now.kept
             → kept_by h self.now ≡ replies_of h self.now.history) }
@@ -283,7 +283,6 @@ impl Closed {
 
     /// Why a fleet of this instruction doesn't close well.
     fn fault(&self, instruction: &Instruction) -> Option<CloseFault>
-        requires few { length self.now.history.postings ≤ 1000000 }
         requires seats { length self.now.kept ≤ 64 }
         ensures same { IfNone result (self.now.history.instruction ≡ instruction.now) }
         ensures none { IfNone result ((h : ℕ) → 0 < h → h ≤ length self.now.kept

@@ -1,9 +1,12 @@
 //! Long work, made by formulas and done from memory to memory. The last line of each is printed: an ordinary harvest of
 //! 5,000 stems; a check of a journal of 30,000 cuts that a fleet of one harvester wrote; as many stems as a history has
-//! room for, and one more, by such a fleet; and as many bytes as a file may have, and one more, each by a read of its own.
+//! room for, and more, by such a fleet and by two harvesters in turn; and as many bytes as a file may have, and one more,
+//! each by a read of its own.
 #![tactic(auto)]
 
-use buck_engine::{EngineFault, run_bare, run_buck, run_check, run_fleet_files, write_fault};
+use buck_engine::{
+    EngineFault, run_bare, run_buck, run_check, run_fleet_files, run_in_turn, write_fault,
+};
 use buck_record::{Memory, put_number};
 use buck_rule::{Rule, Standing, step};
 use std::alloc::Global;
@@ -180,6 +183,21 @@ fn filled<T: Threads + Wait + Sync>(rt: &T, alloc: Global, stems: u32) -> Result
     Ok(written)
 }
 
+/// What is said of twice this many stems of no length, which two harvesters cut in turn.
+fn filled_in_turn(alloc: Global, stems: u32) -> Result<Vec<u8>, Memory> {
+    let file = like_stems(alloc, stems, 1)?;
+    let mut written = Vec::new(alloc);
+    let outcome = run_in_turn(
+        alloc,
+        &mut SAW.as_bytes(),
+        &mut [file.as_slice(), file.as_slice()],
+        Rule::new(|s: &Standing| step(s)),
+        None::<&mut Vec<u8>>,
+        &mut written,
+    );
+    written_or_fault(alloc, outcome, written)
+}
+
 /// Gives this many blanks, one at each read.
 #[derive(Drop)]
 struct Blanks {
@@ -231,6 +249,14 @@ fn run<T: Threads + Wait + Sync, P: Print>(threads: &T, rt: &P, alloc: Global) -
     println!(rt;
         "1,000,001 stems: {}",
         last_line(&filled(threads, alloc, 1_000_001))
+    )?;
+    println!(rt;
+        "1,000,000 stems in turn: {}",
+        last_line(&filled_in_turn(alloc, 500_000))
+    )?;
+    println!(rt;
+        "1,000,002 stems in turn: {}",
+        last_line(&filled_in_turn(alloc, 500_001))
     )?;
     println!(rt;
         "67,108,864 bytes: {}",

@@ -1,9 +1,9 @@
-//! A morning, as the program's commands make it: a fleet of one harvester, a check of the journal that it wrote, two
-//! files that are bucked, and last an instruction that is refused. So the status is 1, and the line of that fault stands
-//! on standard error: `apt fault 9 3050`.
+//! A morning, as the program's commands make it: a fleet of one harvester, three harvesters in turn, a check of the
+//! journal that each wrote, two files that are bucked, and last an instruction that is refused. So the status is 1, and
+//! the line of that fault stands on standard error: `apt fault 9 3050`.
 #![tactic(auto)]
 
-use buck_engine::{Disk, FleetTask, NamedRule, Nobody, Task, serve, serve_fleet};
+use buck_engine::{Disk, FleetTask, NamedRule, Nobody, Order, Task, serve, serve_fleet};
 use std::alloc::{AllocError, Global};
 use std::io;
 use std::process::ExitCode;
@@ -14,19 +14,27 @@ const APT: &str = "morning.apt";
 
 const JOURNAL: &str = "morning.jrn";
 
-/// The task of the harvester whose stems stand in this file.
-fn harvest<'a>(alloc: Global, stm: &'a str) -> Result<FleetTask<'a>, AllocError> {
+/// The task of the harvesters whose stems stand in these files.
+fn harvest<'a>(alloc: Global, order: Order, stms: &[&'a str]) -> Result<FleetTask<'a>, AllocError> {
+    let mut names = Vec::new(alloc);
+    names.extend_from_slice(stms)?;
     Ok(FleetTask {
+        order,
         rule: NamedRule::Linear,
         journal: Some(JOURNAL),
         apt: APT,
-        stms: vec![in alloc; stm]?,
+        stms: names,
     })
 }
 
 /// The status of the harvest; `threads` is the same runtime, as the leave to start threads and to wait for them.
-fn harvested<T: Threads + Wait + Sync>(threads: &T, rt: &HostRuntime) -> u8 {
-    let Ok(task) = harvest(rt.alloc(), "morning_1.stm") else {
+fn harvested<T: Threads + Wait + Sync>(
+    threads: &T,
+    rt: &HostRuntime,
+    order: Order,
+    stms: &[&'static str],
+) -> u8 {
+    let Ok(task) = harvest(rt.alloc(), order, stms) else {
         return 3;
     };
     serve_fleet(
@@ -53,16 +61,23 @@ fn served(rt: &HostRuntime, task: &Task<'_>) -> u8 {
 }
 
 fn main(rt: HostRuntime) -> ExitCode {
-    if harvested(&rt, &rt) != 0 {
+    let (apt, journal, stm) = (APT, JOURNAL, "pine.stm");
+    let stms = ["morning_1.stm", "morning_2.stm", "morning_3.stm"];
+    if harvested(&rt, &rt, Order::AtOnce, &stms[..1]) != 0 {
         return ExitCode::from(10);
     }
-    let (apt, journal, stm) = (APT, JOURNAL, "pine.stm");
     if served(&rt, &Task::Check { apt, journal }) != 0 {
         return ExitCode::from(11);
     }
+    if harvested(&rt, &rt, Order::InTurn, &stms) != 0 {
+        return ExitCode::from(12);
+    }
+    if served(&rt, &Task::Check { apt, journal }) != 0 {
+        return ExitCode::from(13);
+    }
     let apt = "pine.apt";
     if served(&rt, &Task::Buck { apt, stm }) != 0 {
-        return ExitCode::from(12);
+        return ExitCode::from(14);
     }
     let apt = "refused.apt";
     ExitCode::from(served(&rt, &Task::Buck { apt, stm }))

@@ -1,3 +1,4 @@
 pub mod Unlike
 pub mod Decimals
 pub mod Missing
+pub mod Many

@@ -2,7 +2,7 @@
 ghost use Rattle.std.specs.Prelude.{◌≡◌, ◌≢◌, ◌+◌, ◌<◌, length, None};
 
 use buck_command::{Streams, Work, serve_work};
-use buck_engine::{FleetTask, Make, NamedRule, Nobody, Open, Task};
+use buck_engine::{FleetTask, Make, NamedRule, Nobody, Open, Order, Task};
 use std::alloc::Global;
 use std::sync::Wait;
 use std::thread::Threads;
@@ -70,6 +70,7 @@ impl Make for Full {
 /// The line of a fleet's fault goes to the output.
 pub fn fleet_output_and_errors_swapped<T: Threads + Wait + Sync>(rt: &T, alloc: Global) {
     let work = Work::Fleet(FleetTask {
+        order: Order::AtOnce,
         rule: NamedRule::Steady,
         journal: Some("out.jrn"),
         apt: "pine.apt",
@@ -89,6 +90,7 @@ pub fn fleet_output_and_errors_swapped<T: Threads + Wait + Sync>(rt: &T, alloc: 
 /// OUT is made before the instruction file is asked for, which isn't there.
 pub fn out_made_before_the_inputs<T: Threads + Wait + Sync>(rt: &T, alloc: Global) {
     let work = Work::Fleet(FleetTask {
+        order: Order::AtOnce,
         rule: NamedRule::Steady,
         journal: Some("out.jrn"),
         apt: "pine.apt",
@@ -109,6 +111,7 @@ pub fn out_made_before_the_inputs<T: Threads + Wait + Sync>(rt: &T, alloc: Globa
 /// The journal goes into a file of the instruction's name.
 pub fn out_of_another_name<T: Threads + Wait + Sync>(rt: &T, alloc: Global) {
     let work = Work::Fleet(FleetTask {
+        order: Order::AtOnce,
         rule: NamedRule::Steady,
         journal: Some("out.jrn"),
         apt: "pine.apt",

@@ -1,5 +1,7 @@
 //! Wrong bodies of a fleet over files.
-ghost use Rattle.std.specs.Prelude.{◌<◌, length};
+ghost use Rattle.std.specs.Prelude.{◌≡◌, ◌<◌, List, Ok, length};
+ghost use Rattle.buck_stem.specs.Stem.{StemParts};
+ghost use Rattle.buck_stem.specs.Stm.{stm_of};
 
 use buck_engine::{EngineFault, run_fleet_files};
 use buck_rule::{Rule, Standing, steady};
@@ -103,4 +105,30 @@ pub fn journal_after_the_report<'x, T: Threads + Wait + Sync>(
         Err(EngineFault::Write) => prove!(!is_unwritten),
         Err(_) => unreachable!(),
     }
+}
+
+/// More stems are accepted than a history has room for.
+pub fn too_many_stems_accepted<'x, T: Threads + Wait + Sync>(
+    rt: &T,
+    alloc: Global,
+    apt: &'x [u8],
+    stm: &'x [u8],
+    out: &mut Vec<u8>,
+)
+    requires many { (stems : List StemParts) → stm_of stm.now ≡ Ok stems → 1000000 < length stems }
+{
+    let rule = Rule::new(|s: &Standing| steady(s));
+    let mut instruction = apt;
+    let mut stems = [stm];
+    let right = run_fleet_files(
+        rt,
+        alloc,
+        &mut instruction,
+        &mut stems,
+        rule,
+        None::<&mut Vec<u8>>,
+        out,
+    );
+    let is_refused = right.is_err();
+    prove!(is_refused);
 }

@@ -13,3 +13,4 @@ pub mod opened;
 pub mod parts;
 pub mod reports;
 pub mod texts;
+pub mod turns;

@@ -4,11 +4,15 @@ use Rattle.std.specs.Io.KnownBytes.{Appends, Keeps}
 use Rattle.buck_apt.specs.Apt.{apt_of}
 use Rattle.buck_stem.specs.Stem.{StemParts}
 use Rattle.buck_stem.specs.Stm.{stm_of}
+use Rattle.buck_book.specs.declared.posting.Posting.{Posting}
 use Rattle.buck_book.specs.Posting.{harvester_of}
 use Rattle.buck_book.specs.History.{HistoryParts, IsLawful}
 use Rattle.buck_journal.specs.Written.{journal_text}
 use Rattle.buck_fleet.specs.Run.{stem_cut}
 use Rattle.buck_fleet.specs.Closed.{replies_of}
+use Rattle.buck_turn.specs.Turn.{AreInTurn}
+use Rattle.buck_engine.specs.declared.fleet.serving.Order.{Order}
+use Rattle.buck_engine.specs.declared.fleet.serving.Order.TheVariants.{AtOnce, InTurn}
 use Rattle.buck_engine.specs.declared.fault.EngineFault.{EngineFault}
 use Rattle.buck_engine.specs.declared.fault.EngineFault.TheVariants.{Seats, Full, Memory, Close}
 use Rattle.buck_engine.specs.run.Reading.{IsAccepted, IsAptFault, IsStmFault, Says}
@@ -26,13 +30,19 @@ pub record CutsFile (harvester : ℕ) (h : HistoryParts) (stm : Option (List ℕ
   pub stm_says : Says stm_of stm (Ok stems)
   pub are_cut : stems_cut_by harvester h ≡ map Some stems
 
--- a lawful history of the instruction that a file has, in which harvester k cut exactly the stems that the k-th stem
--- file has, in their order, and nobody else has a posting
+-- a lawful history of the instruction that a file has, of at most 1,000,000 postings, in which harvester k cut exactly
+-- the stems that the k-th stem file has, in their order, and nobody else has a posting
 pub record IsHarvest (apt : Option (List ℕ)) (stms : List (Option (List ℕ))) (h : HistoryParts) : Type 0 where
   pub instruction : Says apt_of apt (Ok h.instruction)
   pub lawful : IsLawful h
+  pub few : length h.postings ≤ 1000000
   pub stems : (k : ℕ) → k < length stms → CutsFile (k + 1) h (slice_index_or stms k None)
   pub nobody_else : All (λ x. (0 < harvester_of x) × (harvester_of x ≤ length stms)) h.postings
+
+-- the order of the postings: whichever came about where all harvesters work at once, or that of the turns
+abbrev pub AreInOrder : Order → List Posting → Type 0
+AreInOrder AtOnce ps = Unit {0}
+AreInOrder InTurn ps = AreInTurn ps
 
 -- the first so many stem files are accepted
 abbrev pub AreAccepted : ℕ → List (Option (List ℕ)) → Type 0
@@ -59,10 +69,14 @@ IsHarvestFault apt stms fault =
 abbrev pub AreNoSeats : ℕ → Type 0
 AreNoSeats number = (number ≡ 0) ⊎ (64 < number)
 
--- a history of all files, or the first fault
-abbrev pub AnswersFleet : Option (List ℕ) → List (Option (List ℕ)) → Result HistoryParts EngineFault → Type 0
-AnswersFleet apt stms (Ok h) = IsHarvest apt stms h
-AnswersFleet apt stms (Err fault) = (AreNoSeats (length stms) × (fault ≡ Seats)) ⊎ IsHarvestFault apt stms fault
+-- why there is no history: not 1 to 64 stem files, or the first fault
+abbrev pub IsFleetFault : Option (List ℕ) → List (Option (List ℕ)) → EngineFault → Type 0
+IsFleetFault apt stms fault = (AreNoSeats (length stms) × (fault ≡ Seats)) ⊎ IsHarvestFault apt stms fault
+
+-- a history of all files, in the order that is asked for, or why there is none
+abbrev pub AnswersFleet : Order → Option (List ℕ) → List (Option (List ℕ)) → Result HistoryParts EngineFault → Type 0
+AnswersFleet order apt stms (Ok h) = IsHarvest apt stms h × AreInOrder order h.postings
+AnswersFleet order apt stms (Err fault) = IsFleetFault apt stms fault
 
 -- the texts of a history were written: the journal, where one is asked for, and the report
 pub record WroteAll (h : HistoryParts) (OfJournal : OfWriter) (old new : Option (List ℕ)) : Type 0 where
@@ -80,8 +94,8 @@ pub record WroteSome (h : HistoryParts) (OfJournal : OfWriter) (old new : Option
       ⊎ (OfJournal (λ a b. Appends a b (journal_text h.sheets h.postings)) × AppendsSome old new report)
 
 -- how a run of a fleet ended, and what it wrote
-pub record IsFleetRun (apt : Option (List ℕ)) (stms : List (Option (List ℕ))) (OfJournal : OfWriter)
+pub record IsFleetRun (order : Order) (apt : Option (List ℕ)) (stms : List (Option (List ℕ))) (OfJournal : OfWriter)
     (old new : Option (List ℕ)) (outcome : Result (Unit {0}) EngineFault) : Type 0 where
   pub seats : AreNoSeats (length stms) → outcome ≡ Err Seats
-  pub run : IsRun (AnswersFleet apt stms) (λ h. WroteAll h OfJournal old new) (λ h. WroteSome h OfJournal old new)
+  pub run : IsRun (AnswersFleet order apt stms) (λ h. WroteAll h OfJournal old new) (λ h. WroteSome h OfJournal old new)
       (OfJournal Keeps × Keeps old new) outcome

@@ -21,12 +21,13 @@ abbrev pub AreListsOf : ℕ → List (Option (List ℕ)) → List (Vec (Arc Stem
 AreListsOf n stms lists =
     (k : ℕ) → k < n → Says stm_of (slice_index_or stms k None) (Ok (stems_at lists k))
 
--- a lawful history of an instruction, in which harvester k + 1 cut exactly the stems of the list at place k, and nobody
--- else has a posting
+-- a lawful history of an instruction, of at most 1,000,000 postings, in which harvester k + 1 cut exactly the stems of
+-- the list at place k, and nobody else has a posting
 pub record HasCutLists (i : InstructionParts) (lists : List (Vec (Arc Stem Global) Global))
     (h : HistoryParts) : Type 0 where
   pub same_instruction : h.instruction ≡ i
   pub lawful : IsLawful h
+  pub few : length h.postings ≤ 1000000
   pub stems : (k : ℕ) → k < length lists → stems_cut_by (k + 1) h ≡ map Some (stems_at lists k)
   pub nobody_else : All (λ x. (0 < harvester_of x) × (harvester_of x ≤ length lists)) h.postings
 

@@ -2,7 +2,9 @@
 use Rattle.std.specs.Prelude.{◌≡◌, ◌<◌, length, slice_get, Some}
 use Rattle.buck_apt.specs.declared.class.Class.{Class}
 use Rattle.buck_apt.specs.Instruction.{InstructionParts, AssortmentParts, classes}
-use Rattle.buck_engine.specs.text.Report.{EndingParts}
+use Rattle.buck_book.specs.Counts.{AreClassCounts}
+use Rattle.buck_book.specs.History.{HistoryParts}
+use Rattle.buck_engine.specs.text.Report.{EndingParts, ending_of}
 
 -- a number of each kind for each class
 pub record IsEnding (e : EndingParts) : Type 0 where
@@ -15,3 +17,7 @@ pub record IsClassIn (i : InstructionParts) (a : AssortmentParts) (c : Class) : 
   pub exists : slice_get i.assortments c.assortment ≡ Some a
   pub row : c.row < length a.diameters
   pub column : c.column < length a.lengths
+
+-- all classes stand so at the end of a history
+abbrev pub EndsSo : HistoryParts → EndingParts → Type 0
+EndsSo h e = AreClassCounts h.instruction h.postings e.counts × (e ≡ ending_of h e.counts)

@@ -1,22 +1,18 @@
-//! From stem files to the closed fleet that cut them.
-ghost use Rattle.std.specs.Prelude.{◌≡◌, ◌<◌, ◌≤◌, length, map, drop, IfOk, IfErr};
+//! From lists of stems to the closed fleet that cut them.
+ghost use Rattle.std.specs.Prelude.{◌≡◌, ◌<◌, ◌≤◌, length, IfOk, IfErr};
 ghost use Rattle.buck_rule.specs.Stored.{AllAnswer};
 ghost use Rattle.buck_fleet.specs.Crew.{IsCrew, parts_of};
 ghost use Rattle.buck_fleet.specs.Closed.{IsOneHistory};
-ghost use Rattle.buck_engine.specs.run.Reading.{IfStopped};
-ghost use Rattle.buck_engine.specs.fleet.Running.{IsCuttingFault, IsHarvest, IsHarvestFault};
+ghost use Rattle.buck_engine.specs.fleet.Running.{IsCuttingFault};
 ghost use Rattle.buck_engine.specs.inner.Fleet.{HasCutLists};
 
 use crate::fault::EngineFault;
-use crate::fleet::lists::{number_of_stems, read_lists};
 use crate::fleet::onlooker::{Onlooker, Seen};
-use crate::run::reading::read_instruction;
 use buck_apt::Instruction;
 use buck_fleet::{Closed, Fleet, OpenFault, RunFault, Seat, run_fleet};
 use buck_rule::{Rule, Standing};
 use buck_stem::Stem;
 use std::alloc::Global;
-use std::io;
 use std::marker::Brand;
 use std::sync::ledger::{Blank, Ledger};
 use std::sync::{Arc, Wait};
@@ -30,11 +26,15 @@ fn close<F: Drop, L: Ledger>(fleet: Fleet<F, L>, seats: Vec<Seat<L>>) -> Result<
     requires crew { IsCrew fleet.seats seats.items }
     requires parts { parts_of seats.items ≡ L.parts }
     requires few { fleet.seats ≤ 64 }
-    ensures ok { IfOk result (IsOneHistory fleet.instruction fleet.seats seats.items) }
+    ensures ok { IfOk result (λ closed. IsOneHistory fleet.instruction fleet.seats seats.items closed
+        × (length closed.history.postings ≤ 1000000)) }
     ensures fault { IfErr result IsCuttingFault }
 {
     match fleet.close(seats) {
-        Ok(closed) => Ok(closed),
+        Ok(closed) => {
+            let _few = closed.entries();
+            Ok(closed)
+        }
         Err((fault, _)) => Err(EngineFault::Close(fault)),
     }
 }
@@ -92,7 +92,11 @@ fn cut_with<
 }
 
 /// Cuts one list of stems by each harvester of a fleet, each in a thread of its own, and closes it.
-fn cut_lists<F: Fn(&Standing) -> u64 + Drop + Send, T: Threads + Wait + Sync, O: Onlooker + Sync>(
+pub(crate) fn cut_lists<
+    F: Fn(&Standing) -> u64 + Drop + Send,
+    T: Threads + Wait + Sync,
+    O: Onlooker + Sync,
+>(
     rt: &T,
     alloc: Global,
     instruction: Instruction,
@@ -108,30 +112,4 @@ fn cut_lists<F: Fn(&Standing) -> u64 + Drop + Send, T: Threads + Wait + Sync, O:
     let instruction = Arc::new(alloc, instruction)?;
     let blank = Blank::new(64);
     cut_with::<Brand, F, T, O>(rt, alloc, blank, instruction, rule, lists, onlooker)
-}
-
-/// Reads an instruction file and stem files, and cuts the stems of each by a harvester of its own.
-pub(crate) fn harvest<
-    F: Fn(&Standing) -> u64 + Drop + Send,
-    T: Threads + Wait + Sync,
-    R: io::Read,
-    O: Onlooker + Sync,
->(
-    rt: &T,
-    alloc: Global,
-    apt: &mut R,
-    stms: &mut [R],
-    rule: Rule<F>,
-    onlooker: &O,
-) -> Result<Closed, EngineFault>
-    requires answers { AllAnswer F.Fn }
-    requires seats { (0 < length stms.old) × (length stms.old ≤ 64) }
-    ensures ok { IfOk result (λ closed. IsHarvest (R.remaining apt.old) (map R.remaining stms.old) closed.history) }
-    ensures refused { IfErr result (IsHarvestFault (R.remaining apt.old) (map R.remaining stms.old)) }
-    ensures order { IfErr result (IfStopped (λ last. drop last stms.new ≡ drop last stms.old)) }
-{
-    let instruction = read_instruction(alloc, apt)?;
-    let lists = read_lists(alloc, stms)?;
-    onlooker.cutting(number_of_stems(lists.as_slice()));
-    cut_lists(rt, alloc, instruction, rule, lists.as_slice(), onlooker)
 }

@@ -1,13 +1,17 @@
-//! Stem files that are read one after the other, and their stems, which threads can share.
-ghost use Rattle.std.specs.Prelude.{◌≡◌, ◌≤◌, length, map, drop, IfOk, IfErr, Ok};
+//! An instruction file and stem files that are read one after the other, and the stems, which threads can share.
+ghost use Rattle.std.specs.Prelude.{◌≡◌, ◌<◌, ◌≤◌, length, map, drop, IfOk, IfErr, OnOk, Ok};
+ghost use Rattle.std.specs.Result.{IsErrAnd};
+ghost use Rattle.buck_apt.specs.Apt.{apt_of};
 ghost use Rattle.buck_stem.specs.Stm.{stm_of};
 ghost use Rattle.buck_fleet.specs.Run.{stems_of};
+ghost use Rattle.buck_engine.specs.declared.fault.EngineFault.TheVariants.{Seats};
 ghost use Rattle.buck_engine.specs.run.Reading.{IfStopped, IsStmFault, Says};
-ghost use Rattle.buck_engine.specs.fleet.Running.{IsListFault};
+ghost use Rattle.buck_engine.specs.fleet.Running.{AreNoSeats, IsFleetFault, IsListFault};
 ghost use Rattle.buck_engine.specs.inner.Fleet.{AreListsOf};
 
 use crate::fault::EngineFault;
-use crate::run::reading::read_stems;
+use crate::run::reading::{read_instruction, read_stems};
+use buck_apt::Instruction;
 use buck_stem::Stem;
 use std::alloc::Global;
 use std::io;
@@ -57,6 +61,49 @@ pub(crate) fn read_lists<R: io::Read>(
         }
     }
     Ok(lists)
+}
+
+/// That a fleet has so many seats: 1 to 64.
+fn check_seats(number: usize) -> Result<(), EngineFault>
+    ensures seats { OnOk result ((0 < number) × (number ≤ 64)) }
+    ensures fault { IfErr result (λ fault. AreNoSeats number × (fault ≡ Seats)) }
+{
+    if number == 0 {
+        return Err(EngineFault::Seats);
+    }
+    if number > 64 {
+        return Err(EngineFault::Seats);
+    }
+    Ok(())
+}
+
+/// What harvesters are to do: an instruction, and the stems of each.
+#[derive(Drop)]
+pub(crate) struct Orders {
+    pub(crate) instruction: Instruction,
+    pub(crate) lists: Vec<Vec<Arc<Stem>>>,
+}
+
+/// What an instruction file and stem files say, where there are 1 to 64 stem files.
+pub(crate) fn read_orders<R: io::Read>(
+    alloc: Global,
+    apt: &mut R,
+    stms: &mut [R],
+) -> Result<Orders, EngineFault>
+    ensures seats { AreNoSeats (length stms.old) → IsErrAnd result (λ fault. fault ≡ Seats) }
+    ensures some { OnOk result ((0 < length stms.old) × (length stms.old ≤ 64)) }
+    ensures instruction { IfOk result (λ orders. Says apt_of (R.remaining apt.old) (Ok orders.instruction)) }
+    ensures number { IfOk result (λ orders. length orders.lists.items ≡ length stms.old) }
+    ensures lists { IfOk result (λ orders.
+        AreListsOf (length stms.old) (map R.remaining stms.old) orders.lists.items) }
+    ensures refused { IfErr result (IsFleetFault (R.remaining apt.old) (map R.remaining stms.old)) }
+    ensures order { IfErr result (IfStopped (λ last. drop last stms.new ≡ drop last stms.old)) }
+    ensures unread { IfErr result (λ fault. fault ≡ Seats → apt.new ≡ apt.old) }
+{
+    check_seats(stms.len())?;
+    let instruction = read_instruction(alloc, apt)?;
+    let lists = read_lists(alloc, stms)?;
+    Ok(Orders { instruction, lists })
 }
 
 /// How many stems stand in all lists.

@@ -1,81 +1,25 @@
 //! `run_fleet_files`: from the bytes of an instruction file and stem files to a journal and a report.
-ghost use Rattle.std.specs.Prelude.{◌≡◌, ◌<◌, ◌≤◌, length, map, drop, Err, OnOk, IfOk, IfErr};
+ghost use Rattle.std.specs.Prelude.{◌≡◌, length, map, drop, IfOk, IfErr};
 ghost use Rattle.std.specs.Result.{IsErrAnd};
 ghost use Rattle.buck_rule.specs.Stored.{AllAnswer};
-ghost use Rattle.buck_journal.specs.Written.{journal_text};
 ghost use Rattle.buck_engine.specs.declared.fault.EngineFault.TheVariants.{Seats};
+ghost use Rattle.buck_engine.specs.declared.fleet.serving.Order.TheVariants.{AtOnce};
 ghost use Rattle.buck_engine.specs.run.Reading.{IfStopped};
-ghost use Rattle.buck_engine.specs.fleet.Lent.{no_writer, of_lent, of_writer};
-ghost use Rattle.buck_engine.specs.fleet.Running.{AnswersFleet, AreNoSeats, IsFleetRun, IsHarvest};
-ghost use Rattle.buck_engine.specs.inner.Fleet.{AreWritten};
+ghost use Rattle.buck_engine.specs.fleet.Lent.{of_lent};
+ghost use Rattle.buck_engine.specs.fleet.Running.{AreNoSeats, IsFleetFault, IsFleetRun, IsHarvest};
 
 use crate::fault::EngineFault;
-use crate::fleet::cutting::harvest;
+use crate::fleet::cutting::cut_lists;
+use crate::fleet::lists::{Orders, number_of_stems, read_orders};
 use crate::fleet::onlooker::{Nobody, Onlooker};
-use crate::text::report::report_text;
-use crate::text::writing::write_text;
+use crate::fleet::writing::{write_journal_and_report, write_report};
+use crate::text::report::harvested_by;
 use buck_fleet::Closed;
-use buck_journal::journal_text;
-use buck_record::Memory;
 use buck_rule::{Rule, Standing};
 use std::alloc::Global;
 use std::io;
 use std::sync::Wait;
 use std::thread::Threads;
-
-/// Writes the report of a closed fleet.
-pub(crate) fn write_report<W: io::Write>(
-    alloc: Global,
-    closed: &Closed,
-    out: &mut W,
-) -> Result<(), EngineFault>
-    ensures { AreWritten closed.now.history no_writer (W.contents out.old) (W.contents out.new) result }
-{
-    let report = report_text(alloc, closed)?;
-    write_text(out, report.as_slice())
-}
-
-/// The text of a closed fleet's journal.
-fn text_of_journal(alloc: Global, closed: &Closed) -> Result<Vec<u8>, Memory>
-    ensures { IfOk result (λ text.
-        text.items ≡ journal_text closed.now.history.sheets closed.now.history.postings) }
-{
-    let text = journal_text(alloc, closed.sheets(), closed.entries())?;
-    Ok(text)
-}
-
-/// Writes the journal of a closed fleet, and then its report. Both texts are there before the first byte is written.
-#[tactic(auto, using(crate::proofs::Harvests::texts))]
-pub(crate) fn write_journal_and_report<J: io::Write, W: io::Write>(
-    alloc: Global,
-    closed: &Closed,
-    journal: &mut J,
-    out: &mut W,
-) -> Result<(), EngineFault>
-    ensures { AreWritten closed.now.history (of_writer (J.contents journal.old) (J.contents journal.new))
-        (W.contents out.old) (W.contents out.new) result }
-{
-    let text = text_of_journal(alloc, closed)?;
-    let report = report_text(alloc, closed)?;
-    match write_text(journal, text.as_slice()) {
-        Ok(()) => write_text(out, report.as_slice()),
-        Err(fault) => Err(fault),
-    }
-}
-
-/// That a fleet has so many seats: 1 to 64.
-fn check_seats(number: usize) -> Result<(), EngineFault>
-    ensures seats { OnOk result ((0 < number) × (number ≤ 64)) }
-    ensures fault { IfErr result (λ fault. AreNoSeats number × (fault ≡ Seats)) }
-{
-    if number == 0 {
-        return Err(EngineFault::Seats);
-    }
-    if number > 64 {
-        return Err(EngineFault::Seats);
-    }
-    Ok(())
-}
 
 /// Cuts the stems of each file by a harvester of its own, where there are 1 to 64 stem files.
 pub(crate) fn cut_files<
@@ -94,63 +38,13 @@ pub(crate) fn cut_files<
     requires answers { AllAnswer F.Fn }
     ensures seats { AreNoSeats (length stms.old) → IsErrAnd result (λ fault. fault ≡ Seats) }
     ensures ok { IfOk result (λ closed. IsHarvest (R.remaining apt.old) (map R.remaining stms.old) closed.history) }
-    ensures refused { IfErr result (λ fault.
-        AnswersFleet (R.remaining apt.old) (map R.remaining stms.old) (Err fault)) }
+    ensures refused { IfErr result (IsFleetFault (R.remaining apt.old) (map R.remaining stms.old)) }
     ensures order { IfErr result (IfStopped (λ last. drop last stms.new ≡ drop last stms.old)) }
     ensures unread { IfErr result (λ fault. fault ≡ Seats → apt.new ≡ apt.old) }
 {
-    check_seats(stms.len())?;
-    harvest(rt, alloc, apt, stms, rule, onlooker)
-}
-
-/// Cuts the stems of each file by a harvester of its own, and writes the report.
-fn run_reported<
-    F: Fn(&Standing) -> u64 + Drop + Send,
-    T: Threads + Wait + Sync,
-    R: io::Read,
-    W: io::Write,
->(
-    rt: &T,
-    alloc: Global,
-    apt: &mut R,
-    stms: &mut [R],
-    rule: Rule<F>,
-    out: &mut W,
-) -> Result<(), EngineFault>
-    requires answers { AllAnswer F.Fn }
-    ensures run { IsFleetRun (R.remaining apt.old) (map R.remaining stms.old) no_writer
-        (W.contents out.old) (W.contents out.new) result }
-    ensures order { IfErr result (IfStopped (λ last. drop last stms.new ≡ drop last stms.old)) }
-    ensures unread { IfErr result (λ fault. fault ≡ Seats → apt.new ≡ apt.old) }
-{
-    let closed = cut_files(rt, alloc, apt, stms, rule, &Nobody)?;
-    write_report(alloc, &closed, out)
-}
-
-/// Cuts the stems of each file by a harvester of its own, and writes the journal and the report.
-fn run_journalled<
-    F: Fn(&Standing) -> u64 + Drop + Send,
-    T: Threads + Wait + Sync,
-    R: io::Read,
-    J: io::Write,
-    W: io::Write,
->(
-    rt: &T,
-    alloc: Global,
-    apt: &mut R,
-    stms: &mut [R],
-    rule: Rule<F>,
-    journal: &mut J,
-    out: &mut W,
-) -> Result<(), EngineFault>
-    requires answers { AllAnswer F.Fn }
-    ensures run { IsFleetRun (R.remaining apt.old) (map R.remaining stms.old)
-        (of_writer (J.contents journal.old) (J.contents journal.new)) (W.contents out.old) (W.contents out.new) result }
-    ensures order { IfErr result (IfStopped (λ last. drop last stms.new ≡ drop last stms.old)) }
-    ensures unread { IfErr result (λ fault. fault ≡ Seats → apt.new ≡ apt.old) }
-{
-    let closed = cut_files(rt, alloc, apt, stms, rule, &Nobody)?;
-    write_journal_and_report(alloc, &closed, journal, out)
+    let Orders { instruction, lists } = read_orders(alloc, apt, stms)?;
+    onlooker.cutting(number_of_stems(lists.as_slice()));
+    cut_lists(rt, alloc, instruction, rule, lists.as_slice(), onlooker)
 }
 
 /// Reads an instruction file and stem files, cuts the stems of the k-th stem file by harvester k of a fleet, each in a
@@ -179,18 +73,26 @@ pub fn run_fleet_files<
     out: &mut W,
 ) -> Result<(), EngineFault>
     requires answers { AllAnswer F.Fn }
-    // What is written are the texts of one history, of the instruction and the stems that the files have; a fault is that
-    // of the first file that has one, or comes after all of them, and nothing is written; a write fault leaves a prefix
-    // of the journal, or all of it and a prefix of the report. Where there are not 1 to 64 stem files, that is the fault.
-    ensures run { IsFleetRun (R.remaining apt.old) (map R.remaining stms.old)
+    // What is written are the texts of one history, of the instruction and the stems that the files have; a fault is
+    // that of the first file that has one, or comes after all of them, and nothing is written; a write fault leaves a
+    // prefix of the journal, or all of it and a prefix of the report. Where there are not 1 to 64 stem files, that is
+    // the fault.
+    ensures run { IsFleetRun AtOnce (R.remaining apt.old) (map R.remaining stms.old)
         (of_lent J.contents journal.entry journal.exit) (W.contents out.old) (W.contents out.new) result }
     // Where a file has a fault, nothing was read of those after it.
     ensures order { IfErr result (IfStopped (λ last. drop last stms.new ≡ drop last stms.old)) }
     // Where there are not 1 to 64 stem files, nothing was read of the instruction either.
     ensures unread { IfErr result (λ fault. fault ≡ Seats → apt.new ≡ apt.old) }
 {
+    let closed = cut_files(rt, alloc, apt, stms, rule, &Nobody);
     match journal {
-        None => run_reported(rt, alloc, apt, stms, rule, out),
-        Some(journal) => run_journalled(rt, alloc, apt, stms, rule, journal, out),
+        None => {
+            let closed = closed?;
+            write_report(alloc, &harvested_by(&closed), out)
+        }
+        Some(journal) => {
+            let closed = closed?;
+            write_journal_and_report(alloc, &harvested_by(&closed), journal, out)
+        }
     }
 }

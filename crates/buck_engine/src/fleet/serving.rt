@@ -1,5 +1,5 @@
 //! Whole runs of a fleet, from its task to its exit status.
-ghost use Rattle.std.specs.Prelude.{◌≡◌, map, Result};
+ghost use Rattle.std.specs.Prelude.{◌≡◌, Result};
 ghost use Rattle.std.specs.Option.{option_map};
 ghost use Rattle.buck_rule.specs.Stored.{AllAnswer};
 ghost use Rattle.buck_engine.specs.declared.fault.EngineFault.{EngineFault};
@@ -9,10 +9,12 @@ ghost use Rattle.buck_engine.specs.run.Serving.{TellsOutcome, status_after};
 
 use crate::fault::EngineFault;
 use crate::fleet::onlooker::Onlooker;
-use crate::fleet::running::{cut_files, write_journal_and_report, write_report};
+use crate::fleet::running::cut_files;
+use crate::fleet::turning::cut_files_in_turn;
+use crate::fleet::writing::{write_journal_and_report, write_report};
 use crate::run::opening::{Make, Open, open_inputs};
 use crate::run::serving::conclude;
-use buck_fleet::Closed;
+use crate::text::report::{Harvested, harvested_by};
 use buck_rule::{Rule, Standing, linear, steady, step};
 use std::alloc::Global;
 use std::io;
@@ -30,9 +32,20 @@ pub enum NamedRule {
     Step,
 }
 
+/// In which order harvesters cut.
+#[derive(Clone, Copy, Debug, PartialEq, Eq, Drop)]
+pub enum Order {
+    /// All at once, each in a thread of its own; which one commits first is open.
+    AtOnce,
+    /// In turn, one stem each, round by round.
+    InTurn,
+}
+
 /// What the words of the command line ask of a fleet.
 #[derive(Drop)]
 pub struct FleetTask<'a> {
+    /// In which order the harvesters cut.
+    pub order: Order,
     /// How prices follow what was cut.
     pub rule: NamedRule,
     /// The name of the file that the journal goes into, where one is wanted.
@@ -56,18 +69,18 @@ fn make_journal<M: Make>(maker: &mut M, name: Option<&str>) -> Result<Option<M::
     }
 }
 
-/// Writes the journal of a closed fleet into the file that was made for it, where there is one, and then its report.
+/// Writes the journal of a history into the file that was made for it, where there is one, and then its report.
 fn write_made<J: io::Write + Drop, W: io::Write>(
     alloc: Global,
-    closed: &Closed,
+    history: &Harvested<'_>,
     journal: Option<J>,
     out: &mut W,
 ) -> Result<(), EngineFault>
-    ensures { WritesMade J.contents closed.now.history journal (W.contents out.old) (W.contents out.new) result }
+    ensures { WritesMade J.contents history.now journal (W.contents out.old) (W.contents out.new) result }
 {
     match journal {
-        None => write_report(alloc, closed, out),
-        Some(mut journal) => write_journal_and_report(alloc, closed, &mut journal, out),
+        None => write_report(alloc, history, out),
+        Some(mut journal) => write_journal_and_report(alloc, history, &mut journal, out),
     }
 }
 
@@ -89,21 +102,22 @@ fn fleet_files<
     writer: &mut W,
 ) -> Result<(), EngineFault>
     requires answers { AllAnswer F.Fn }
-    ensures { RunsFleet O.opens O.makes O.File.remaining O.Made.contents opener.old opener.new task.now.apt.now
-        (map (λ s. s.now) task.now.stms.items) (option_map (λ s. s.now) task.now.journal)
+    ensures { RunsFleet O.opens O.makes O.File.remaining O.Made.contents opener.old opener.new task.now
         (W.contents writer.old) (W.contents writer.new) result }
 {
     let (mut instruction, mut stems) = open_inputs(alloc, opener, task.apt, task.stms.as_slice())?;
     let journal = make_journal(opener, task.journal)?;
-    let closed = cut_files(
-        rt,
-        alloc,
-        &mut instruction,
-        stems.as_mut_slice(),
-        rule,
-        onlooker,
-    )?;
-    write_made(alloc, &closed, journal, writer)
+    let stems = stems.as_mut_slice();
+    match task.order {
+        Order::AtOnce => {
+            let closed = cut_files(rt, alloc, &mut instruction, stems, rule, onlooker)?;
+            write_made(alloc, &harvested_by(&closed), journal, writer)
+        }
+        Order::InTurn => {
+            let turned = cut_files_in_turn(alloc, &mut instruction, stems, rule, onlooker)?;
+            write_made(alloc, &turned.history(), journal, writer)
+        }
+    }
 }
 
 /// Does what the task asks for, by its rule.
@@ -115,8 +129,7 @@ fn run_fleet_task<T: Threads + Wait + Sync, L: Onlooker + Sync, O: Open + Make, 
     opener: &mut O,
     writer: &mut W,
 ) -> Result<(), EngineFault>
-    ensures { RunsFleet O.opens O.makes O.File.remaining O.Made.contents opener.old opener.new task.now.apt.now
-        (map (λ s. s.now) task.now.stms.items) (option_map (λ s. s.now) task.now.journal)
+    ensures { RunsFleet O.opens O.makes O.File.remaining O.Made.contents opener.old opener.new task.now
         (W.contents writer.old) (W.contents writer.new) result }
 {
     match task.rule {
@@ -140,7 +153,8 @@ fn run_fleet_task<T: Threads + Wait + Sync, L: Onlooker + Sync, O: Open + Make, 
 ///
 /// The input files are opened in the order of the words before one of them is read; one that can't be opened is `Read`
 /// with its number. Then the file of the journal is made, where one is wanted; where it can't be made, that is `Write`.
-/// Each fault and what is written before it are those of [`run_fleet_files`](crate::run_fleet_files).
+/// Each fault and what is written before it are those of [`run_fleet_files`](crate::run_fleet_files), or of
+/// [`run_in_turn`](crate::run_in_turn) where the task asks for turns.
 pub fn serve_fleet<
     T: Threads + Wait + Sync,
     L: Onlooker + Sync,
@@ -157,8 +171,7 @@ pub fn serve_fleet<
     errors: &mut E,
 ) -> u8
     ensures { (outcome : Result (Unit {0}) EngineFault)
-        × RunsFleet O.opens O.makes O.File.remaining O.Made.contents opener.old opener.new task.now.apt.now
-        (map (λ s. s.now) task.now.stms.items) (option_map (λ s. s.now) task.now.journal)
+        × RunsFleet O.opens O.makes O.File.remaining O.Made.contents opener.old opener.new task.now
         (W.contents output.old) (W.contents output.new) outcome
         × (result ≡ status_after outcome)
         × TellsOutcome (E.contents errors.old) (E.contents errors.new) outcome }

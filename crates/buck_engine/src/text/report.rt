@@ -1,4 +1,4 @@
-//! The report of a closed fleet.
+//! The report of a history.
 ghost use Rattle.std.specs.Prelude.{◌≡◌, ◌++◌, ◌<◌, ◌≤◌, IfOk, OnOk, length, sum_by, slice_get, Some};
 ghost use Rattle.buck_book.specs.Degree.{IsDegree};
 ghost use Rattle.buck_engine.specs.text.Report.{IsReport, posting_line, posting_lines, class_line, row_lines, class_lines, degree_line, assortment_lines, all_lines, cuts_in, logs_in, worth_in, totals_line, report_of};
@@ -10,8 +10,10 @@ use buck_apt::{Assortment, Class, Instruction};
 use buck_book::{Posting, degree_at};
 use buck_fleet::Closed;
 use buck_record::{Memory, put_line, put_numbers};
+use buck_value::Sheet;
 use std::alloc::Global;
 use std::marker::Model;
+use std::sync::Arc;
 
 /// How all classes stand at the end.
 #[derive(Drop)]
@@ -41,6 +43,34 @@ impl<'a> Model for Ending<'a> {
       counts = e.counts.now;
       prices = e.prices.now;
     }) };
+}
+
+/// A history, and how all classes stand at its end.
+#[derive(Drop)]
+pub(crate) struct Harvested<'a> {
+    pub(crate) sheets: &'a [Arc<Sheet>],
+    pub(crate) postings: &'a [Posting],
+    pub(crate) ending: Ending<'a>,
+}
+
+impl<'a> Model for Harvested<'a> {
+    ghost use Rattle.std.specs.Prelude.{map};
+    ghost use Rattle.buck_book.specs.History.{HistoryParts};
+    ghost use Rattle.buck_engine.specs.inner.Report.{EndsSo};
+
+    ghost Value = { HistoryParts };
+
+    ghost view = { λ h. record {
+      instruction = h.ending.instruction;
+      sheets = map (λ a. a.value.prices) h.sheets.now;
+      postings = h.postings.now;
+    } };
+
+    ghost invariant = { λ h. EndsSo (record {
+      instruction = h.ending.instruction;
+      sheets = map (λ a. a.value.prices) h.sheets.now;
+      postings = h.postings.now;
+    }) h.ending };
 }
 
 /// Puts the line of a posting at a position.
@@ -266,6 +296,29 @@ pub fn degree(closed: &Closed, assortment: usize) -> Option<u32>
     )
 }
 
+/// The report of a history; see [`report_text`].
+pub(crate) fn report_of(alloc: Global, history: &Harvested<'_>) -> Result<Vec<u8>, TextFault>
+    ensures { IfOk result (λ text. IsReport history.now text.items) }
+{
+    report_with(alloc, &history.ending, history.postings)
+}
+
+/// The history of a closed fleet.
+pub(crate) fn harvested_by(closed: &Closed) -> Harvested<'_>
+    ensures { result ≡ closed.now.history }
+{
+    Harvested {
+        sheets: closed.sheets(),
+        postings: closed.entries(),
+        ending: Ending {
+            instruction: closed.instruction(),
+            targets: closed.targets(),
+            counts: closed.counts(),
+            prices: closed.last_sheet().prices(),
+        },
+    }
+}
+
 /// The report of a closed fleet: what was cut and demanded, how each class stands at the end, and the totals.
 ///
 /// ```text
@@ -282,11 +335,5 @@ pub fn degree(closed: &Closed, assortment: usize) -> Option<u32>
 pub fn report_text(alloc: Global, closed: &Closed) -> Result<Vec<u8>, TextFault>
     ensures { IfOk result (λ text. IsReport closed.now.history text.items) }
 {
-    let ending = Ending {
-        instruction: closed.instruction(),
-        targets: closed.targets(),
-        counts: closed.counts(),
-        prices: closed.last_sheet().prices(),
-    };
-    report_with(alloc, &ending, closed.entries())
+    report_of(alloc, &harvested_by(closed))
 }

@@ -1,7 +1,19 @@
+use Rattle.std.proofs.KnownBytes.{Keeps-refl}
+use Rattle.buck_engine.specs.declared.fleet.serving.Order.TheVariants.{AtOnce}
+use Rattle.buck_engine.specs.fleet.Lent.{of_writer}
+use Rattle.buck_engine.proofs.Runs.{no_texts, texts_written}
+use Rattle.buck_engine.proofs.Served.{of_files}
 use Rattle.buck_engine.proofs.fleet.running.run_fleet_files.Goals as goal
 
-pub returns-in-None-clause-run : goal.returns-in-None-clause-run
-returns-in-None-clause-run g c = rw c.in-None.is c.run_reported.ensures.run
+pub returns-in_err-closed-in-Some-clause-run : goal.returns-in_err-closed-in-Some-clause-run
+returns-in_err-closed-in-Some-clause-run g c =
+    let fault = c.in_err-closed-in-Some.ensures in
+    let kept = g.J.Write.contents c.in-Some.journal.now in
+    rw c.in-Some.is (no_texts AtOnce _ _ (of_writer kept kept) _ _ _ (λ none. fault.seats (of_files g.R.Read.remaining c.args.stms.now none)) c.from_residual-in_err-closed-in-Some.ensures.1 fault.refused (Keeps-refl kept))
 
-pub returns-in-Some-clause-run : goal.returns-in-Some-clause-run
-returns-in-Some-clause-run g c = rw c.in-Some.is c.run_journalled.ensures.run
+pub returns-in_ok-closed-in-Some-clause-run : goal.returns-in_ok-closed-in-Some-clause-run
+returns-in_ok-closed-in-Some-clause-run g c =
+    let cut = c.in_ok-closed-in-Some.ensures in
+    let contents = g.J.Write.contents in
+    rw c.in-Some.is (texts_written AtOnce _ _ (of_writer (contents c.in-Some.journal.now) (contents c.write_journal_and_report.new.journal)) _ _ _ _ _
+        (λ none. cut.seats (of_files g.R.Read.remaining c.args.stms.now none)) cut.ok tt c.harvested_by-in-Some.ensures c.write_journal_and_report.ensures)

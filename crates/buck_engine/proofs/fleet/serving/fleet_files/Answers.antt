@@ -1,32 +1,69 @@
-use Rattle.std.proofs.Common.{rules, List, Ok, Err, ap, length, map, subst, sym}
-use Rattle.buck_engine.specs.fleet.Running.{AnswersFleet, AreNoSeats, IsHarvest}
-use Rattle.buck_engine.proofs.Served.{closed_written, not_closed}
+use Rattle.std.proofs.Common.{rules, List, Ok, ap, length, map, subst, sym}
+use Rattle.buck_engine.specs.declared.fleet.serving.Order.TheVariants.{AtOnce, InTurn}
+use Rattle.buck_engine.specs.fleet.Running.{AreNoSeats, IsFleetFault, IsHarvest}
+use Rattle.buck_engine.proofs.Served.{harvest_written, not_harvested}
 use Rattle.buck_engine.proofs.fleet.serving.fleet_files.Goals as goal
 
-pub returns-in_err-closed : goal.returns-in_err-closed
-returns-in_err-closed g c =
-    let same = c.as_mut_slice.ensures.value in
+pub returns-in_err-closed-in-AtOnce : goal.returns-in_err-closed-in-AtOnce
+returns-in_err-closed-in-AtOnce g c =
+    let same = c.as_mut_slice-stems.ensures.value in
+    let held = g.O.File.Read.remaining in
+    let fault = c.in_err-closed-in-AtOnce in
     record {
       opened = Ok (c.in_ok-instruction.instruction, c.in_ok-instruction.stems.items);
       between = c.open_inputs.new.opener;
       answers = search rules;
-      runs =
-          not_closed g.O.Make.makes g.O.File.Read.remaining g.O.Made.Write.contents c.open_inputs.new.opener c.make_journal.new.maker _ (c.in_ok-instruction.instruction, c.in_ok-instruction.stems.items) c.in_ok-journal.journal _ _ _ c.in_ok-journal.ensures
-          (λ none. c.in_err-closed.ensures.seats (subst AreNoSeats (sym (ap (λ (l : List _). length l) same)) none))
-          c.from_residual-in_err-closed.ensures.1
-          (subst (λ (l : List _). AnswersFleet (g.O.File.Read.remaining c.in_ok-instruction.instruction) (map g.O.File.Read.remaining l) (Err c.in_err-closed.field-0.0)) same c.in_err-closed.ensures.refused);
+      runs = rw c.in-AtOnce.is
+          (not_harvested g.O.Make.makes held g.O.Made.Write.contents c.open_inputs.new.opener c.make_journal.new.maker AtOnce _ (c.in_ok-instruction.instruction, c.in_ok-instruction.stems.items) c.in_ok-journal.journal _ _ _ c.in_ok-journal.ensures
+          (λ none. fault.ensures.seats (subst AreNoSeats (sym (ap (λ (l : List _). length l) same)) none))
+          c.from_residual-in_err-closed-in-AtOnce.ensures.1
+          (subst (λ (l : List _). IsFleetFault (held c.in_ok-instruction.instruction) (map held l) fault.field-0.0) same fault.ensures.refused));
+    }
+
+pub returns-in-AtOnce : goal.returns-in-AtOnce
+returns-in-AtOnce g c =
+    let same = c.as_mut_slice-stems.ensures.value in
+    let held = g.O.File.Read.remaining in
+    let cut = c.in_ok-closed-in-AtOnce in
+    record {
+      opened = Ok (c.in_ok-instruction.instruction, c.in_ok-instruction.stems.items);
+      between = c.open_inputs.new.opener;
+      answers = search rules;
+      runs = rw c.in-AtOnce.is
+          (harvest_written g.O.Make.makes held g.O.Made.Write.contents c.open_inputs.new.opener c.make_journal.new.maker AtOnce _ (c.in_ok-instruction.instruction, c.in_ok-instruction.stems.items) c.in_ok-journal.journal _ _ _ _ _ c.in_ok-journal.ensures
+          (λ none. cut.ensures.seats (subst AreNoSeats (sym (ap (λ (l : List _). length l) same)) none))
+          (subst (λ (l : List _). IsHarvest (held c.in_ok-instruction.instruction) (map held l) cut.closed.history) same cut.ensures.ok)
+          tt c.harvested_by.ensures c.write_made.ensures);
+    }
+
+pub returns-in_err-turned-in-InTurn : goal.returns-in_err-turned-in-InTurn
+returns-in_err-turned-in-InTurn g c =
+    let same = c.as_mut_slice-stems.ensures.value in
+    let held = g.O.File.Read.remaining in
+    let fault = c.in_err-turned-in-InTurn in
+    record {
+      opened = Ok (c.in_ok-instruction.instruction, c.in_ok-instruction.stems.items);
+      between = c.open_inputs.new.opener;
+      answers = search rules;
+      runs = rw c.in-InTurn.is
+          (not_harvested g.O.Make.makes held g.O.Made.Write.contents c.open_inputs.new.opener c.make_journal.new.maker InTurn _ (c.in_ok-instruction.instruction, c.in_ok-instruction.stems.items) c.in_ok-journal.journal _ _ _ c.in_ok-journal.ensures
+          (λ none. fault.ensures.seats (subst AreNoSeats (sym (ap (λ (l : List _). length l) same)) none))
+          c.from_residual-in_err-turned-in-InTurn.ensures.1
+          (subst (λ (l : List _). IsFleetFault (held c.in_ok-instruction.instruction) (map held l) fault.field-0.0) same fault.ensures.refused));
     }
 
 pub returns : goal.returns
 returns g c =
-    let same = c.as_mut_slice.ensures.value in
+    let same = c.as_mut_slice-stems.ensures.value in
+    let held = g.O.File.Read.remaining in
+    let cut = c.in_ok-turned-in-InTurn in
     record {
       opened = Ok (c.in_ok-instruction.instruction, c.in_ok-instruction.stems.items);
       between = c.open_inputs.new.opener;
       answers = search rules;
-      runs =
-          closed_written g.O.Make.makes g.O.File.Read.remaining g.O.Made.Write.contents c.open_inputs.new.opener c.make_journal.new.maker _ (c.in_ok-instruction.instruction, c.in_ok-instruction.stems.items) c.in_ok-journal.journal _ _ _ _ c.in_ok-journal.ensures
-          (λ none. c.in_ok-closed.ensures.seats (subst AreNoSeats (sym (ap (λ (l : List _). length l) same)) none))
-          (subst (λ (l : List _). IsHarvest (g.O.File.Read.remaining c.in_ok-instruction.instruction) (map g.O.File.Read.remaining l) c.in_ok-closed.closed.history) same c.in_ok-closed.ensures.ok)
-          c.write_made.ensures;
+      runs = rw c.in-InTurn.is
+          (harvest_written g.O.Make.makes held g.O.Made.Write.contents c.open_inputs.new.opener c.make_journal.new.maker InTurn _ (c.in_ok-instruction.instruction, c.in_ok-instruction.stems.items) c.in_ok-journal.journal _ _ _ _ _ c.in_ok-journal.ensures
+          (λ none. cut.ensures.seats (subst AreNoSeats (sym (ap (λ (l : List _). length l) same)) none))
+          (subst (λ (l : List _). IsHarvest (held c.in_ok-instruction.instruction) (map held l) cut.turned) same cut.ensures.ok)
+          cut.ensures.in_turn c.history.ensures c.write_made-in-InTurn.ensures);
     }

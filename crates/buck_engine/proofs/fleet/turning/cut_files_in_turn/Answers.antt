@@ -1,0 +1,9 @@
+use Rattle.std.proofs.Common.{sym}
+use Rattle.std.proofs.lemmas.List.{length-map}
+use Rattle.buck_engine.proofs.Lists.{cut_fault}
+use Rattle.buck_engine.proofs.fleet.turning.cut_files_in_turn.Goals as goal
+
+pub returns-clause-refused : goal.returns-clause-refused
+returns-clause-refused g c =
+    let read = c.in_ok-instruction.ensures in
+    cut_fault _ _ _ _ _ _ read.instruction (sym (length-map c.args.stms.now g.R.Read.remaining)) read.lists c.cut_lists.ensures.fault

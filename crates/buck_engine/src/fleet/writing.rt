@@ -1,0 +1,52 @@
+//! The writing of a history's journal and report.
+ghost use Rattle.std.specs.Prelude.{◌≡◌, IfOk};
+ghost use Rattle.buck_journal.specs.Written.{journal_text};
+ghost use Rattle.buck_engine.specs.fleet.Lent.{no_writer, of_writer};
+ghost use Rattle.buck_engine.specs.inner.Fleet.{AreWritten};
+
+use crate::fault::EngineFault;
+use crate::text::report::{Harvested, report_of};
+use crate::text::writing::write_text;
+use buck_journal::journal_text;
+use buck_record::Memory;
+use std::alloc::Global;
+use std::io;
+
+/// Writes the report of a history.
+pub(crate) fn write_report<W: io::Write>(
+    alloc: Global,
+    history: &Harvested<'_>,
+    out: &mut W,
+) -> Result<(), EngineFault>
+    ensures { AreWritten history.now no_writer (W.contents out.old) (W.contents out.new) result }
+{
+    let report = report_of(alloc, history)?;
+    write_text(out, report.as_slice())
+}
+
+/// The text of a history's journal.
+fn text_of_journal(alloc: Global, history: &Harvested<'_>) -> Result<Vec<u8>, Memory>
+    ensures { IfOk result (λ text. text.items ≡ journal_text history.now.sheets history.now.postings) }
+{
+    let text = journal_text(alloc, history.sheets, history.postings)?;
+    Ok(text)
+}
+
+/// Writes the journal of a history, and then its report. Both texts are there before the first byte is written.
+#[tactic(auto, using(crate::proofs::Harvests::texts))]
+pub(crate) fn write_journal_and_report<J: io::Write, W: io::Write>(
+    alloc: Global,
+    history: &Harvested<'_>,
+    journal: &mut J,
+    out: &mut W,
+) -> Result<(), EngineFault>
+    ensures { AreWritten history.now (of_writer (J.contents journal.old) (J.contents journal.new))
+        (W.contents out.old) (W.contents out.new) result }
+{
+    let text = text_of_journal(alloc, history)?;
+    let report = report_of(alloc, history)?;
+    match write_text(journal, text.as_slice()) {
+        Ok(()) => write_text(out, report.as_slice()),
+        Err(fault) => Err(fault),
+    }
+}

@@ -1,0 +1,121 @@
+//! Wrong bodies of harvesters in turn over files.
+ghost use Rattle.std.specs.Prelude.{◌≡◌, ◌≢◌, ◌<◌, List, ℕ, Ok, length};
+ghost use Rattle.buck_stem.specs.Stem.{StemParts};
+ghost use Rattle.buck_stem.specs.Stm.{stm_of};
+ghost use Rattle.buck_book.specs.History.{HistoryParts};
+ghost use Rattle.buck_turn.specs.Turn.{AreInTurn};
+ghost use Rattle.buck_engine.specs.text.Report.{ending_of, report_of};
+
+use buck_engine::{EngineFault, run_in_turn};
+use buck_rule::{Rule, Standing, steady};
+use std::alloc::Global;
+
+/// 65 stem files are accepted.
+pub fn turns_of_65_accepted(alloc: Global, out: &mut Vec<u8>) {
+    let rule = Rule::new(|s: &Standing| steady(s));
+    let mut instruction = b"".as_slice();
+    let mut stems = [b"".as_slice(); 65];
+    let right = run_in_turn(
+        alloc,
+        &mut instruction,
+        &mut stems,
+        rule,
+        None::<&mut Vec<u8>>,
+        out,
+    );
+    let is_refused = right == Err(EngineFault::Seats);
+    prove!(is_refused);
+}
+
+/// The instruction is read before the number of stem files is looked at.
+pub fn turns_counted_after_the_instruction_was_read<'x>(
+    alloc: Global,
+    apt: &'x [u8],
+    out: &mut Vec<u8>,
+) {
+    let rule = Rule::new(|s: &Standing| steady(s));
+    let mut instruction = apt;
+    let mut stems = [b"".as_slice(); 65];
+    let _ = run_in_turn(
+        alloc,
+        &mut instruction,
+        &mut stems,
+        rule,
+        None::<&mut Vec<u8>>,
+        out,
+    );
+    let is_read = instruction.len() != apt.len();
+    prove!(!is_read);
+}
+
+/// Something is written although a stem file is refused.
+pub fn turns_written_before_all_is_read<'x>(
+    alloc: Global,
+    apt: &'x [u8],
+    stms: &mut [&'x [u8]],
+) {
+    let rule = Rule::new(|s: &Standing| steady(s));
+    let mut instruction = apt;
+    let mut out = Vec::new(alloc);
+    let outcome = run_in_turn(
+        alloc,
+        &mut instruction,
+        stms,
+        rule,
+        None::<&mut Vec<u8>>,
+        &mut out,
+    );
+    let is_wrong = !out.is_empty() && matches!(outcome, Err(EngineFault::Stm { .. }));
+    prove!(!is_wrong);
+}
+
+/// The report is of another order, as where a harvester cuts its second stem before another one has cut its first: no
+/// history in turn has this report.
+pub fn turns_reported_in_another_order<'x>(
+    alloc: Global,
+    apt: &'x [u8],
+    stms: &mut [&'x [u8]],
+    wrong: &[u8],
+)
+    requires differ { (h : HistoryParts) (counts : List ℕ) → AreInTurn h.postings
+        → wrong.now ≢ report_of h.postings (ending_of h counts) }
+{
+    let rule = Rule::new(|s: &Standing| steady(s));
+    let mut instruction = apt;
+    let mut right = Vec::new(alloc);
+    let outcome = run_in_turn(
+        alloc,
+        &mut instruction,
+        stms,
+        rule,
+        None::<&mut Vec<u8>>,
+        &mut right,
+    );
+    if outcome.is_ok() {
+        prove!(right.as_slice() != wrong);
+    }
+}
+
+/// More stems are accepted than a history has room for.
+pub fn turns_of_too_many_stems_accepted<'x>(
+    alloc: Global,
+    apt: &'x [u8],
+    stm: &'x [u8],
+    out: &mut Vec<u8>,
+)
+    requires many { (stems : List StemParts) → stm_of stm.now ≡ Ok stems → 1000000 < length stems }
+{
+    let rule = Rule::new(|s: &Standing| steady(s));
+    let mut instruction = apt;
+    let mut stems = [stm];
+    let right = run_in_turn(
+        alloc,
+        &mut instruction,
+        &mut stems,
+        rule,
+        None::<&mut Vec<u8>>,
+        out,
+    );
+    let is_refused = right.is_err();
+    prove!(is_refused);
+}
