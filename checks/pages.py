@@ -37,7 +37,15 @@ PROMISES = [
     ("the report", ["buck_engine::report_text", "buck_engine::degree", "buck_engine::run_report"]),
     ("a whole run of the program", ["buck_engine::serve", "buck_engine::conclude", "buck_engine::explain"]),
     ("the closed fleet", ["buck_fleet::Fleet::*", "buck_fleet::Closed::*", "buck_fleet::run_fleet"]),
-    ("a fleet over files", ["buck_engine::run_fleet_files", "buck_engine::serve_fleet", "buck_command::serve_work"]),
+    (
+        "a fleet over files",
+        [
+            "buck_engine::run_fleet_files",
+            "buck_engine::run_in_turn",
+            "buck_engine::serve_fleet",
+            "buck_command::serve_work",
+        ],
+    ),
     ("the world and its runs", ["buck_world::*"]),
     ("the library that C calls", ["buck_c::*"]),
     ("all other public calls", ["*"]),

@@ -1,6 +1,6 @@
--- A harvester that cut more stems than a history has room for.
-use Rattle.std.proofs.Common.{◌≡◌, ℕ, Bool, true, false, ◌+◌, ◌<◌, ◌≤◌, ◌==◌, cond, List, [], ◌∷◌, length, map, ap, arith}
-use Rattle.std.specs.Prelude.{Some}
+-- More stems than a history has room for.
+use Rattle.std.proofs.Common.{◌≡◌, ℕ, Bool, true, false, ◌+◌, ◌<◌, ◌≤◌, ◌==◌, cond, List, [], ◌∷◌, length, map, Option, Some, Result, Ok, Err, ap, arith}
+use Rattle.std.specs.Result.{is_err}
 use Rattle.std.proofs.lemmas.List.{length-map}
 use Rattle.buck_stem.specs.Stem.{StemParts}
 use Rattle.buck_book.specs.declared.posting.Posting.{Posting}
@@ -8,7 +8,11 @@ use Rattle.buck_book.specs.Posting.{harvester_of}
 use Rattle.buck_book.specs.History.{HistoryParts}
 use Rattle.buck_fleet.specs.Run.{stem_cut}
 use Rattle.buck_fleet.specs.Closed.{replies_from, replies_of}
-use Rattle.buck_engine.specs.fleet.Running.{stems_cut_by}
+use Rattle.buck_stem.specs.Stm.{stm_of}
+use Rattle.buck_engine.specs.declared.fault.EngineFault.{EngineFault}
+use Rattle.buck_engine.specs.declared.fleet.serving.Order.{Order}
+use Rattle.buck_engine.specs.fleet.Lent.{OfWriter}
+use Rattle.buck_engine.specs.fleet.Running.{stems_cut_by, IsFleetRun}
 
 -- no harvester has more postings than there are
 replies_low : (h p : ℕ) (xs : List Posting) → length (replies_from h p xs) ≤ length xs
@@ -19,8 +23,18 @@ replies_low h p (x ∷ xs) = let rest = replies_low h (p + 1) xs in by_test (har
   by_test true rest = omega (arith, rest)
   by_test false rest = omega (arith, rest)
 
-pub too_many : (harvester : ℕ) (h : HistoryParts) (stems : List StemParts) → stems_cut_by harvester h ≡ map Some stems → length h.postings ≤ 1000000
+too_many : (harvester : ℕ) (h : HistoryParts) (stems : List StemParts) → stems_cut_by harvester h ≡ map Some stems → length h.postings ≤ 1000000
     → 1000000 < length stems → ⊥
 too_many harvester h stems cut few many =
     let same : length (stems_cut_by harvester h) ≡ length (map Some stems) = ap (λ (l : List _). length l) cut in
     omega (arith, same, length-map (replies_of harvester h) (λ k. stem_cut k.entry), length-map stems Some, replies_low harvester 0 h.postings, few, many)
+
+-- a run over one file of them doesn't end well
+pub too_many_in_file : (order : Order) (apt : Option (List ℕ)) (stm : List ℕ) (OfJournal : OfWriter) (old new : Option (List ℕ)) (r : Result (Unit {0}) EngineFault)
+    → ((stems : List StemParts) → stm_of stm ≡ Ok stems → 1000000 < length stems)
+    → IsFleetRun order apt (Some stm ∷ []) OfJournal old new r → is_err r ≡ false → ⊥
+too_many_in_file order apt stm OfJournal old new (Ok u) many ran well =
+    let harvest = ran.run.1.0 in
+    let cut = harvest.stems 0 (omega arith) in
+    too_many 1 ran.run.0 cut.stems cut.are_cut harvest.few (many cut.stems cut.stm_says.1)
+too_many_in_file order apt stm OfJournal old new (Err fault) many ran well = cc well
