@@ -134,7 +134,7 @@ pub parts_low : (stems : List StemParts) (start size logs count : ℕ)
     → logs + count ≤ length stems * 18446744073709551616
 parts_low stems start size logs count low next =
     let both : length (take (start + size) stems) ≡ length (take start stems) + length (take size (drop start stems)) =
-        ap length (take-add start size stems) ∙ length-append _ _ in
+    ap length (take-add start size stems) ∙ length-append _ _ in
     omega (arith, low, next, both, length-take (start + size) stems)
 
 pub one_taken : (xs : List StemParts) (i : ℕ) (x : StemParts) → i < length xs → x ≡ get_or xs i x → take (i + 1) xs ≡ take i xs ++ x ∷ []
