@@ -5,7 +5,7 @@ use Rattle.std.specs.Io.KnownBytes.{Keeps}
 use Rattle.std.proofs.KnownBytes.{Keeps-refl}
 use Rattle.buck_book.specs.History.{HistoryParts}
 use Rattle.buck_engine.specs.declared.fault.EngineFault.{EngineFault}
-use Rattle.buck_engine.specs.declared.fault.EngineFault.TheVariants.{Read, Write, Apt, Stm, Journal, Replay, Seats, Full, Memory, Close}
+use Rattle.buck_engine.specs.declared.fault.EngineFault.TheVariants.{Read, Write, Apt, Stm, Journal, Replay, Check, Seats, Full, Memory, Close}
 use Rattle.buck_engine.specs.run.Reading.{IsFileFault}
 use Rattle.buck_engine.specs.text.Written.{IsRun}
 use Rattle.buck_engine.specs.fleet.Running.{AnswersFleet, AreNoSeats, IsFleetRun, IsHarvest, WroteAll, WroteSome}
@@ -32,6 +32,7 @@ no_answer Answers Whole Part Nothing (Apt why) other a kept = (a, kept)
 no_answer Answers Whole Part Nothing (Stm file why) other a kept = (a, kept)
 no_answer Answers Whole Part Nothing (Journal why) other a kept = (a, kept)
 no_answer Answers Whole Part Nothing (Replay why) other a kept = (a, kept)
+no_answer Answers Whole Part Nothing (Check why) other a kept = (a, kept)
 no_answer Answers Whole Part Nothing Seats other a kept = (a, kept)
 no_answer Answers Whole Part Nothing Full other a kept = (a, kept)
 no_answer Answers Whole Part Nothing Memory other a kept = (a, kept)
@@ -68,6 +69,7 @@ texts_written apt stms OfJournal old new h (Err (Apt why)) seats is never = absu
 texts_written apt stms OfJournal old new h (Err (Stm file why)) seats is never = absurd never
 texts_written apt stms OfJournal old new h (Err (Journal why)) seats is never = absurd never
 texts_written apt stms OfJournal old new h (Err (Replay why)) seats is never = absurd never
+texts_written apt stms OfJournal old new h (Err (Check why)) seats is never = absurd never
 texts_written apt stms OfJournal old new h (Err Seats) seats is never = absurd never
 texts_written apt stms OfJournal old new h (Err Full) seats is never = absurd never
 texts_written apt stms OfJournal old new h (Err (Close why)) seats is never = absurd never

@@ -2,7 +2,9 @@
 ghost use Rattle.std.specs.Prelude.{◌≤◌};
 
 use crate::streams::{Sink, Source};
-use buck_engine::{EngineFault, run_bare, run_buck, run_check, run_fleet_files};
+use buck_engine::{
+    EngineFault, NamedRule, run_bare, run_buck, run_check, run_check_with, run_fleet_files,
+};
 use buck_rule::{Rule, Standing, step};
 use std::alloc::Global;
 use std::sync::Wait;
@@ -73,11 +75,19 @@ pub enum Engine {
     Buck,
     /// Over an instruction file and a journal.
     Check,
+    /// Over an instruction file, a journal and a stem file, with the rule of the journal.
+    Tied,
     /// Over an instruction file and two stem files, the second of which has no stems.
     Fleet,
 }
 
-pub const ENGINES: [Engine; 4] = [Engine::Bare, Engine::Buck, Engine::Check, Engine::Fleet];
+pub const ENGINES: [Engine; 5] = [
+    Engine::Bare,
+    Engine::Buck,
+    Engine::Check,
+    Engine::Tied,
+    Engine::Fleet,
+];
 
 impl Engine {
     /// The files that it reads; the places of those that it doesn't are empty.
@@ -87,6 +97,7 @@ impl Engine {
             Engine::Bare => [INPUT.as_bytes(), b"", b""],
             Engine::Buck => [apt.as_bytes(), stm.as_bytes(), b""],
             Engine::Check => [apt.as_bytes(), JOURNAL.as_bytes(), b""],
+            Engine::Tied => [apt.as_bytes(), JOURNAL.as_bytes(), stm.as_bytes()],
             Engine::Fleet => [apt.as_bytes(), stm.as_bytes(), NO_STEMS.as_bytes()],
         }
     }
@@ -98,7 +109,7 @@ impl Engine {
         match self {
             Engine::Bare => 1,
             Engine::Buck | Engine::Check => 2,
-            Engine::Fleet => 3,
+            Engine::Tied | Engine::Fleet => 3,
         }
     }
 
@@ -106,7 +117,7 @@ impl Engine {
     pub fn texts(self) -> [&'static [u8]; 2] {
         match self {
             Engine::Bare | Engine::Buck => [b"", TEXT.as_bytes()],
-            Engine::Check => [b"", b"LAWFUL 2\n"],
+            Engine::Check | Engine::Tied => [b"", b"LAWFUL 2\n"],
             Engine::Fleet => [JOURNAL.as_bytes(), REPORT.as_bytes()],
         }
     }
@@ -122,11 +133,17 @@ impl Engine {
         let [mut first, second, third] = files;
         let [mut journal, mut text] = sinks;
         let mut others = [second, third];
+        let named = Some(NamedRule::Step);
         let rule = Rule::new(|s: &Standing| step(s));
         let outcome = match self {
             Engine::Bare => run_bare(alloc, &mut first, &mut text),
             Engine::Buck => run_buck(alloc, &mut first, &mut others[0], &mut text),
             Engine::Check => run_check(alloc, &mut first, &mut others[0], &mut text),
+            Engine::Tied => match &mut others {
+                [postings, rest @ ..] => {
+                    run_check_with(alloc, &mut first, postings, rest, named, &mut text)
+                }
+            },
             Engine::Fleet => run_fleet_files(
                 rt,
                 alloc,

@@ -12,3 +12,4 @@ pub mod journal_reports;
 pub mod opened;
 pub mod reports;
 pub mod texts;
+pub mod ties;
