@@ -5,7 +5,8 @@ ghost use Rattle.buck_engine.specs.run.Serving.{TellsOutcome, status_after};
 ghost use Rattle.buck_command.specs.Work.{DoesWork};
 
 use buck_engine::{
-    FleetTask, Make, Onlooker, Open, Task, ViewTask, serve, serve_fleet, serve_view,
+    CheckTask, FleetTask, Make, Onlooker, Open, Task, ViewTask, serve, serve_check, serve_fleet,
+    serve_view,
 };
 use std::alloc::Global;
 use std::io;
@@ -19,6 +20,8 @@ pub enum Work<'a> {
     Plain(Task<'a>),
     /// A fleet, whose harvesters wait for one another.
     Fleet(FleetTask<'a>),
+    /// A journal is to be checked, also by stem files and a rule.
+    Check(CheckTask<'a>),
     /// A journal is to be shown.
     View(ViewTask<'a>),
 }
@@ -35,7 +38,7 @@ pub struct Streams<R, W, E> {
 }
 
 /// Does the work, and says how it ended. The answer is the exit status. Each fault and what is written before it are
-/// those of [`serve`], [`serve_fleet`] and [`serve_view`].
+/// those of [`serve`], [`serve_fleet`], [`serve_check`] and [`serve_view`].
 pub fn serve_work<
     T: Threads + Wait + Sync,
     L: Onlooker + Sync,
@@ -72,6 +75,13 @@ pub fn serve_work<
             alloc,
             task,
             onlooker,
+            files,
+            &mut streams.output,
+            &mut streams.errors,
+        ),
+        Work::Check(task) => serve_check(
+            alloc,
+            task,
             files,
             &mut streams.output,
             &mut streams.errors,

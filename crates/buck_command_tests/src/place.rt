@@ -51,9 +51,9 @@ impl io::Read for Repeated {
     }
 }
 
-/// The files `apt`, `stm`, `jrn`, `unlawful` (a journal) and `bad` (none of these), and `many`, which has 1,000 stems of no
-/// length; `short` and `long`, of 999,000 and of 1,000,000 blanks; the files `out` and `full`, which can be made, the second
-/// with room for 99 bytes; and the names that were asked for, each with a blank after it.
+/// The files `apt`, `stm`, `jrn`, `unlawful` (a journal), `empty` (of no stems) and `bad` (none of these), and `many`,
+/// which has 1,000 stems of no length; `short` and `long`, of 999,000 and of 1,000,000 blanks; the files `out` and `full`,
+/// which can be made, the second with room for 99 bytes; and the names that were asked for, each with a blank after it.
 #[derive(Drop)]
 pub struct Shelf<'a> {
     names: &'a Mutex<Vec<u8>>,
@@ -89,6 +89,7 @@ impl<'a> Open for Shelf<'a> {
             "stm" => file(STM.as_bytes(), b"", 0),
             "jrn" => file(JOURNAL.as_bytes(), b"", 0),
             "bad" => file(b"1 2 BAD~", b"", 0),
+            "empty" => file(b"1 2 STM~", b"", 0),
             "unlawful" => file(UNLAWFUL.as_bytes(), b"", 0),
             "many" => file(b"1 2 STM~", b"951 1 1~952 1 1~953 1 250~", 1_000),
             "short" => file(b"", &BLANKS, 999),

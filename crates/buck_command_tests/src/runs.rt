@@ -25,7 +25,7 @@ TOTAL 1 1 157080000
 /// other; and the names that are asked for. All files are opened before one is read, in the order of the words, so that a
 /// file that is missing comes before one that is refused; the file of a journal is made after that, and before one is
 /// read.
-const RUNS: [(&str, u8, &str, &str); 78] = [
+const RUNS: [(&str, u8, &str, &str); 95] = [
     ("", 0, TEXT, ""),
     ("buck apt stm", 0, TEXT, "apt stm "),
     ("buck --quiet apt stm", 0, TEXT, "apt stm "),
@@ -40,6 +40,78 @@ const RUNS: [(&str, u8, &str, &str); 78] = [
     ("check apt stm", 1, "journal fault 2\n", "apt stm "),
     ("check apt none", 5, "read fault 1\n", "apt none "),
     ("check bad none", 5, "read fault 1\n", "bad none "),
+    ("check apt jrn stm", 0, "LAWFUL 1\n", "apt jrn stm "),
+    (
+        "check apt jrn stm empty",
+        0,
+        "LAWFUL 1\n",
+        "apt jrn stm empty ",
+    ),
+    (
+        "check --rule step apt jrn stm",
+        0,
+        "LAWFUL 1\n",
+        "apt jrn stm ",
+    ),
+    ("check apt jrn --rule=step", 0, "LAWFUL 1\n", "apt jrn "),
+    (
+        "check apt jrn many stm",
+        4,
+        "check fault 1 1 1\n",
+        "apt jrn many stm ",
+    ),
+    (
+        "check apt jrn stm stm",
+        4,
+        "check fault 2 2 1\n",
+        "apt jrn stm stm ",
+    ),
+    (
+        "check apt jrn empty stm",
+        4,
+        "check fault 3 1 1\n",
+        "apt jrn empty stm ",
+    ),
+    (
+        "check apt jrn --rule linear",
+        4,
+        "check fault 4 1 3 400 500\n",
+        "apt jrn ",
+    ),
+    (
+        "check --rule steady apt jrn stm",
+        4,
+        "check fault 4 1 0 600 400\n",
+        "apt jrn stm ",
+    ),
+    (
+        "check --rule linear apt jrn empty",
+        4,
+        "check fault 3 1 1\n",
+        "apt jrn empty ",
+    ),
+    (
+        "check --rule step apt unlawful empty",
+        4,
+        "replay fault 1 1\n",
+        "apt unlawful empty ",
+    ),
+    ("check apt jrn bad", 1, "stm 2 fault 2\n", "apt jrn bad "),
+    ("check apt bad bad", 1, "journal fault 2\n", "apt bad bad "),
+    (
+        "check apt unlawful stm bad",
+        1,
+        "stm 3 fault 2\n",
+        "apt unlawful stm bad ",
+    ),
+    (
+        "check apt jrn stm none",
+        5,
+        "read fault 3\n",
+        "apt jrn stm none ",
+    ),
+    ("check --rule fast apt jrn", 2, "error: ", ""),
+    ("check --rule step --rule step apt jrn", 2, "error: ", ""),
     (
         "fleet apt stm",
         0,
@@ -254,14 +326,16 @@ fn runs_of_words(rt: HostRuntime) -> Result<(), Fail> {
     Ok(())
 }
 
-/// More than 64 stem files are refused after all of them were opened.
+/// More than 64 stem files are refused after all files were opened.
 #[test]
 fn too_many_stem_files(rt: HostRuntime) -> Result<(), Fail> {
     let files = " stm".repeat(rt.alloc(), 65)?;
-    let line = format!(in rt.alloc(); "fleet apt{files}")?;
-    let ending = run_line(&rt, rt.alloc(), line.as_str())?;
-    assert!(rt; ending.status == 2 && says(&ending, "seats\n"));
-    assert!(rt; ending.names.len() == 4 * 66);
+    for (command, opened) in [("fleet apt", 66), ("check apt jrn", 67)] {
+        let line = format!(in rt.alloc(); "{command}{files}")?;
+        let ending = run_line(&rt, rt.alloc(), line.as_str())?;
+        assert!(rt; ending.status == 2 && says(&ending, "seats\n"));
+        assert!(rt; ending.names.len() == 4 * opened);
+    }
     Ok(())
 }
 
