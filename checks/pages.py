@@ -37,6 +37,7 @@ PROMISES = [
     ("the report", ["buck_engine::report_text", "buck_engine::degree", "buck_engine::run_report"]),
     ("a whole run of the program", ["buck_engine::serve", "buck_engine::conclude", "buck_engine::explain"]),
     ("the closed fleet", ["buck_fleet::Fleet::*", "buck_fleet::Closed::*", "buck_fleet::run_fleet"]),
+    ("a journal tied to files and a rule", ["buck_engine::run_check_with", "buck_engine::serve_check"]),
     (
         "a fleet over files",
         [

@@ -5,8 +5,9 @@ use Rattle.buck_engine.specs.run.Bucking.{AnswersBuck}
 use Rattle.buck_engine.specs.run.Serving.{RunsFiles, RunsTask}
 use Rattle.buck_engine.specs.fleet.Serving.{RunsFleet}
 use Rattle.buck_engine.specs.run.Showing.{RunsView}
+use Rattle.buck_engine.specs.tie.Serving.{RunsCheck}
 use Rattle.buck_command.specs.declared.working.Work.{Work}
-use Rattle.buck_command.specs.declared.working.Work.TheVariants.{Plain, Buck, Fleet, View}
+use Rattle.buck_command.specs.declared.working.Work.TheVariants.{Plain, Buck, Fleet, Check, View}
 
 -- work is its task's run, over the input and the files, and what it writes is the output
 abbrev pub DoesWork : {O F M : Type 0} → (O → List ℕ → Option F → O → Type 0) → (O → List ℕ → Option M → O → Type 0)
@@ -18,5 +19,7 @@ DoesWork opens makes held contents start end input (Buck task) old new outcome =
     RunsFiles AnswersBuck opens held start end task.apt.now task.stm.now old new outcome
 DoesWork opens makes held contents start end input (Fleet task) old new outcome =
     RunsFleet opens makes held contents start end task old new outcome
+DoesWork opens makes held contents start end input (Check task) old new outcome =
+    RunsCheck opens held start end task old new outcome
 DoesWork opens makes held contents start end input (View task) old new outcome =
     RunsView opens held start end task old new outcome

@@ -19,7 +19,7 @@ Exit statuses:
   1  a file is refused
   2  the words of the command line are wrong, or not 1 to 64 stem files
   3  memory ran out, or a fleet has more than 1000000 stems
-  4  a journal is not lawful, or a fleet did not close well
+  4  a journal is not lawful, or not as asked, or a fleet did not close well
   5  a file can't be read, or the output or a journal can't be written
 After 1, 3, 4 and 5, and after too many stem files, one line on standard error
 says what went wrong; explain says it in words. See docs/FORMATS.md.";
@@ -45,23 +45,26 @@ it in words.";
 /// The same of a check.
 pub(crate) const CHECK: &str =
     "Prints LAWFUL and the number of postings where each cutting is one that none
-outvalues under the prices in force, and the prices move only within the price
-relation. That they follow a rule it doesn't say, nor that these stems were
-felled. A journal may have at most 67108864 bytes, as each file.
+outvalues under the prices in force, and each price keeps the price relation
+with what was wanted and cut before. With stem files, the stems that harvester k
+cut must also be exactly those of the k-th, in file order, and who has no file
+must have cut none; at most 64 stem files. With a rule, each price must also be
+what that rule gives. LAWFUL doesn't say that these stems were felled, nor that
+all the wood is there. Each file may have at most 67108864 bytes.
 
 Examples:
-  buckfleet check morning.apt morning.jrn
-  buckfleet check morning.apt morning.jrn || echo not lawful
+  buckfleet check --rule linear morning.apt morning.jrn || echo not lawful
+  buckfleet check morning.apt morning.jrn morning_1.stm morning_2.stm
 
 Exit statuses:
-  0  the journal is lawful
+  0  the journal is lawful, and as the stem files and the rule say
   1  a file is refused
-  2  the words of the command line are wrong
+  2  the words of the command line are wrong, or more than 64 stem files
   3  memory ran out
-  4  the journal is not lawful
+  4  the journal is not lawful, or not as the stem files or the rule say
   5  a file can't be read, or the output can't be written
-After 1, 3, 4 and 5 one line on standard error says what went wrong; explain
-says it in words.";
+After 1, 3, 4 and 5, and after too many stem files, one line on standard error
+says what went wrong; explain says it in words.";
 
 /// What comes out of a fleet, and how it ends.
 pub(crate) const FLEET: &str =
@@ -179,6 +182,9 @@ pub(crate) const RULE: &str = "The price rule: steady, linear or step";
 pub(crate) const RULES: &str =
     "How prices follow what was cut: steady not at all, linear by how far a
 class is off its target, step by the whole span";
+
+/// What a rule is for in a check.
+pub(crate) const CHECKED_RULE: &str = "The rule that prices must follow: steady, linear or step";
 
 /// What is told on a terminal, and how it is kept off.
 pub(crate) const QUIET: &str = "Don't tell on a terminal how far long work is";

@@ -4,7 +4,7 @@ ghost use Rattle.buck_command.specs.Words.{rule_name, table_name};
 
 use crate::help;
 use crate::working::Work;
-use buck_engine::{BuckTask, FleetTask, NamedRule, Order, Shown, Table, Task, ViewTask};
+use buck_engine::{BuckTask, CheckTask, FleetTask, NamedRule, Order, Shown, Table, Task, ViewTask};
 use clap::{Arg, ArgAction, ArgMatches, Command, Error, value_parser};
 use std::alloc::Global;
 
@@ -48,9 +48,15 @@ fn check<'a>(alloc: Global) -> Result<Command<'a>, Error> {
         Command::new(alloc, "check")
             .about("Says whether a journal is lawful for an instruction")
             .after_long_help(help::CHECK)
+            .arg(rule(alloc).help(help::CHECKED_RULE))?
             .arg(quiet(alloc))?
             .arg(file(alloc, "APT", "The instruction file"))?
-            .arg(file(alloc, "JOURNAL", "The journal"))?,
+            .arg(file(alloc, "JOURNAL", "The journal"))?
+            .arg(
+                file(alloc, "STM", "The stem files, one for each harvester")
+                    .required(false)
+                    .num_args(0..),
+            )?,
     )
 }
 
@@ -85,6 +91,10 @@ fn rule<'a>(alloc: Global) -> Arg<'a> {
         .value_name("RULE")
         .value_parser(["steady", "linear", "step"].as_slice())
         .hide_possible_values(true)
+}
+
+fn steady_rule<'a>(alloc: Global) -> Arg<'a> {
+    rule(alloc)
         .default_value("steady")
         .help(help::RULE)
         .long_help(help::RULES)
@@ -111,7 +121,7 @@ fn fleet<'a>(alloc: Global) -> Result<Command<'a>, Error> {
             .about("Cuts stem files by a fleet of harvesters, one for each file")
             .after_long_help(help::FLEET)
             .arg(in_turn(alloc))?
-            .arg(rule(alloc))?
+            .arg(steady_rule(alloc))?
             .arg(journal(alloc))?
             .arg(quiet(alloc))?
             .arg(file(alloc, "APT", "The instruction file"))?
@@ -210,12 +220,30 @@ fn named_table(name: &str) -> Option<Table>
     }
 }
 
-/// The names of the stem files.
-fn stem_files<'a>(alloc: Global, words: &[&'a str]) -> Result<Vec<&'a str>, Error> {
-    let mut names = Vec::new(alloc);
+/// Adds the names of stem files to some names.
+fn add_names<'a>(names: &mut Vec<&'a str>, words: &[&'a str]) -> Result<(), Error> {
     for word in words {
         names.push(*word)?;
     }
+    Ok(())
+}
+
+/// The names of the stem files.
+fn stem_files<'a>(alloc: Global, words: &[&'a str]) -> Result<Vec<&'a str>, Error> {
+    let mut names = Vec::new(alloc);
+    add_names(&mut names, words)?;
+    Ok(names)
+}
+
+/// The names of the journal and of the stem files behind it.
+fn checked_files<'a>(
+    alloc: Global,
+    journal: &'a str,
+    stms: &[&'a str],
+) -> Result<Vec<&'a str>, Error> {
+    let mut names = Vec::new(alloc);
+    names.push(journal)?;
+    add_names(&mut names, stms)?;
     Ok(names)
 }
 
@@ -253,6 +281,30 @@ fn fleet_task<'a>(alloc: Global, words: &ArgMatches<'a>) -> Result<FleetTask<'a>
     })
 }
 
+/// The rule that a word names, where it is there.
+fn asked_rule(name: Option<&str>) -> Result<Option<NamedRule>, Unasked> {
+    match name {
+        None => Ok(None),
+        Some(name) => match named_rule(name) {
+            Some(rule) => Ok(Some(rule)),
+            None => Err(Unasked::Lost),
+        },
+    }
+}
+
+/// What the words after `check` ask for.
+fn check_task<'a>(alloc: Global, words: &ArgMatches<'a>) -> Result<CheckTask<'a>, Unasked> {
+    let rule = asked_rule(words.get_str("rule"))?;
+    let apt = word(words, "APT")?;
+    let journal = word(words, "JOURNAL")?;
+    let stms = words.get_strs("STM").unwrap_or(&[]);
+    Ok(CheckTask {
+        rule,
+        apt,
+        files: checked_files(alloc, journal, stms)?,
+    })
+}
+
 /// What the words after `view` and `table` ask for.
 fn view_task<'a>(words: &ArgMatches<'a>, shown: Shown) -> Result<ViewTask<'a>, Unasked> {
     Ok(ViewTask {
@@ -278,10 +330,7 @@ fn work_of<'a>(alloc: Global, name: &str, words: &ArgMatches<'a>) -> Result<Work
             stm: word(words, "STM")?,
             threads: words.get_one::<u8>("threads"),
         })),
-        "check" => Ok(Work::Plain(Task::Check {
-            apt: word(words, "APT")?,
-            journal: word(words, "JOURNAL")?,
-        })),
+        "check" => Ok(Work::Check(check_task(alloc, words)?)),
         "report" => Ok(Work::Plain(Task::Report {
             apt: word(words, "APT")?,
             journal: word(words, "JOURNAL")?,

@@ -5,8 +5,8 @@ ghost use Rattle.buck_engine.specs.run.Serving.{TellsOutcome, status_after};
 ghost use Rattle.buck_command.specs.Work.{DoesWork};
 
 use buck_engine::{
-    BuckTask, FleetTask, Make, Onlooker, Open, Task, ViewTask, serve, serve_buck, serve_fleet,
-    serve_view,
+    BuckTask, CheckTask, FleetTask, Make, Onlooker, Open, Task, ViewTask, serve, serve_buck,
+    serve_check, serve_fleet, serve_view,
 };
 use std::alloc::Global;
 use std::io;
@@ -22,6 +22,8 @@ pub enum Work<'a> {
     Buck(BuckTask<'a>),
     /// A fleet, whose harvesters wait for one another.
     Fleet(FleetTask<'a>),
+    /// A journal is to be checked, also by stem files and a rule.
+    Check(CheckTask<'a>),
     /// A journal is to be shown.
     View(ViewTask<'a>),
 }
@@ -38,7 +40,7 @@ pub struct Streams<R, W, E> {
 }
 
 /// Does the work, and says how it ended. The answer is the exit status. Each fault and what is written before it are
-/// those of [`serve`], [`serve_buck`], [`serve_fleet`] and [`serve_view`].
+/// those of [`serve`], [`serve_buck`], [`serve_fleet`], [`serve_check`] and [`serve_view`].
 pub fn serve_work<
     T: Threads + Wait + Sync,
     L: Onlooker + Sync,
@@ -83,6 +85,13 @@ pub fn serve_work<
             alloc,
             task,
             onlooker,
+            files,
+            &mut streams.output,
+            &mut streams.errors,
+        ),
+        Work::Check(task) => serve_check(
+            alloc,
+            task,
             files,
             &mut streams.output,
             &mut streams.errors,

@@ -55,10 +55,32 @@ const READ_1: &str = "read fault 1\n";
 
 const READ_2: &str = "read fault 2\n";
 
+const READ_3: &str = "read fault 3\n";
+
 const STM_1: &str = "stm 1 fault 2\n";
+
+const STM_2: &str = "stm 2 fault 2\n";
+
+const STM_3: &str = "stm 3 fault 2\n";
 
 /// How the report of no stem begins.
 const NOTHING: &str = "CLASS 0 0 0 1 0 400 400\n";
+
+/// What is said of a file that is no journal.
+const NO_JOURNAL: &str = "journal fault 2\n";
+
+/// What a check says that ties a journal to stem files and a rule.
+const LAWFUL: &str = "LAWFUL 1\n";
+
+const OTHER: &str = "check fault 1 1 1\n";
+
+const UNCUT: &str = "check fault 2 2 1\n";
+
+const SURPLUS: &str = "check fault 3 1 1\n";
+
+const LINEAR: &str = "check fault 4 1 3 400 500\n";
+
+const STEADY: &str = "check fault 4 1 0 600 400\n";
 
 /// Words; the status; how what stands on the output begins, or on the errors where the status isn't 0, and nothing on the
 /// other; and the names that are asked for. All files are opened before one is read, in the order of the words, so that a
@@ -105,15 +127,7 @@ const FLEETS: [Row; 27] = [
     ("fleet apt stm --journal=no -q", 5, WRITE, "apt stm >no "),
     ("fleet apt stm --journal full", 5, WRITE, "apt stm >full "),
     ("fleet apt bad --journal no", 5, WRITE, "apt bad >no "),
-    ("fleet --journal o apt stm none", 5, READ_2, "apt stm none "),
-    ("fleet apt none stm --journal out", 5, READ_1, "apt none "),
-    ("fleet apt bad --journal out", 1, STM_1, "apt bad >out "),
-    (
-        "fleet apt stm stm apt",
-        1,
-        "stm 3 fault 2\n",
-        "apt stm stm apt ",
-    ),
+    ("fleet apt stm stm apt", 1, STM_3, "apt stm stm apt "),
     ("fleet --help", 0, "Cuts stem files", ""),
     ("fleet", 2, "error: ", ""),
     ("fleet apt", 2, "error: ", ""),
@@ -135,22 +149,25 @@ const FLEETS: [Row; 27] = [
         "apt empty stm >out ",
     ),
     ("fleet --in-turn apt empty", 0, NOTHING, "apt empty "),
-    ("fleet --in-turn apt bad", 1, STM_1, "apt bad "),
     (
         "fleet --in-turn apt stm --journal no",
         5,
         WRITE,
         "apt stm >no ",
     ),
-    ("fleet --in-turn apt stm none", 5, READ_2, "apt stm none "),
     ("fleet --in-turn=yes apt stm", 2, "error: ", ""),
     ("fleet --in-turn --in-turn apt stm", 2, "error: ", ""),
     ("fleet --in-turn apt", 2, "error: ", ""),
     ("fleet --journal=stm --in-turn apt stm", 2, EATEN, ""),
+    ("fleet apt none stm --journal out", 5, READ_1, "apt none "),
+    ("fleet --journal o apt stm none", 5, READ_2, "apt stm none "),
+    ("fleet apt bad --journal out", 1, STM_1, "apt bad >out "),
+    ("fleet --in-turn apt bad", 1, STM_1, "apt bad "),
+    ("fleet --in-turn apt stm none", 5, READ_2, "apt stm none "),
 ];
 
 /// The words of `check` and `report`.
-const JOURNALS: [Row; 15] = [
+const JOURNALS: [Row; 32] = [
     ("check apt jrn", 0, "LAWFUL 1\n", "apt jrn "),
     ("check apt jrn --quiet", 0, "LAWFUL 1\n", "apt jrn "),
     ("check apt stm", 1, "journal fault 2\n", "apt stm "),
@@ -166,6 +183,28 @@ const JOURNALS: [Row; 15] = [
     ("report apt jrn stm", 2, "error: ", ""),
     ("report apt", 2, "error: ", ""),
     ("report --help", 0, "Prints the report", ""),
+    ("check apt jrn stm", 0, "LAWFUL 1\n", "apt jrn stm "),
+    ("check apt jrn stm empty", 0, LAWFUL, "apt jrn stm empty "),
+    ("check --rule step apt jrn stm", 0, LAWFUL, "apt jrn stm "),
+    ("check apt jrn --rule=step", 0, "LAWFUL 1\n", "apt jrn "),
+    ("check apt jrn many stm", 4, OTHER, "apt jrn many stm "),
+    ("check apt jrn stm stm", 4, UNCUT, "apt jrn stm stm "),
+    ("check apt jrn empty stm", 4, SURPLUS, "apt jrn empty stm "),
+    ("check apt jrn --rule linear", 4, LINEAR, "apt jrn "),
+    ("check --rule steady apt jrn", 4, STEADY, "apt jrn "),
+    (
+        "check apt jrn empty --rule linear",
+        4,
+        SURPLUS,
+        "apt jrn empty ",
+    ),
+    ("check apt unlawful stm", 4, UNLAWFUL, "apt unlawful stm "),
+    ("check apt jrn bad", 1, "stm 2 fault 2\n", "apt jrn bad "),
+    ("check apt bad bad", 1, NO_JOURNAL, "apt bad bad "),
+    ("check apt unlawful bad", 1, STM_2, "apt unlawful bad "),
+    ("check apt jrn stm none", 5, READ_3, "apt jrn stm none "),
+    ("check --rule fast apt jrn", 2, "error: ", ""),
+    ("check --rule step --rule step apt jrn", 2, "error: ", ""),
 ];
 
 /// The words of `view` and `table`.
@@ -298,16 +337,25 @@ fn sentences_of_lines(rt: HostRuntime) -> Result<(), Fail> {
     Ok(())
 }
 
+/// Words before so many stem files, how many files they name, the status, and how what stands on the stream begins.
+const SEATS: [(&str, usize, usize, u8, &str); 5] = [
+    ("fleet apt", 64, 1, 0, "ENTRY 0 "),
+    ("fleet apt", 65, 1, 2, "seats\n"),
+    ("fleet --in-turn apt", 64, 1, 0, ENTRY),
+    ("fleet --in-turn apt", 65, 1, 2, "seats\n"),
+    ("check apt jrn", 65, 2, 2, "seats\n"),
+];
+
 /// More than 64 stem files are refused after all of them were opened.
 #[test]
 fn too_many_stem_files(rt: HostRuntime) -> Result<(), Fail> {
-    for (words, number, status, start) in SEATS {
+    for (words, number, named, status, start) in SEATS {
         let files = " stm".repeat(rt.alloc(), number)?;
         let line = format!(in rt.alloc(); "{words}{files}")?;
         let ending = run_line(&rt, rt.alloc(), line.as_str())?;
         let is_right = ending.status == status && says(&ending, start);
         assert!(rt; is_right, "{words} {number}");
-        let names = "stm ".len().saturating_mul(number.saturating_add(1));
+        let names = "stm ".len().saturating_mul(number.saturating_add(named));
         assert!(rt; ending.names.len() == names, "{words} {number}");
     }
     Ok(())

@@ -9,7 +9,7 @@ use Rattle.buck_book.specs.History.{HistoryParts, IsLawful, prices_at, in_force}
 use Rattle.buck_book.proofs.Ends.{true_false, ends_with_end, ends_without, take_one_more}
 
 module _ (h : HistoryParts) (valid : IsInstruction h.instruction) (l : IsLawful h) where
-  number_after : (k : ℕ) → k ≤ length h.postings → length (prices_at h.sheets (ends_of h.instruction (take k h.postings))) ≡ classes h.instruction
+  pub number_after : (k : ℕ) → k ≤ length h.postings → length (prices_at h.sheets (ends_of h.instruction (take k h.postings))) ≡ classes h.instruction
   number_after zero le = ap length l.base_sheet ∙ length-base_prices h.instruction valid
   number_after (suc k) le = elim (slice_get_cases h.postings k).1 [
     | inr past ↦ absurd (omega (arith, past.0, le))

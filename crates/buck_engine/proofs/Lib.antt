@@ -14,3 +14,7 @@ pub mod Parts
 pub mod Served
 pub mod LastSheet
 pub mod Pages
+pub mod Compared
+pub mod HeldLemmas
+pub mod PriceLemmas
+pub mod TieAnswers

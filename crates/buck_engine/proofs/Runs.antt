@@ -5,7 +5,7 @@ use Rattle.std.specs.Io.KnownBytes.{Keeps}
 use Rattle.std.proofs.KnownBytes.{Keeps-refl}
 use Rattle.buck_book.specs.History.{HistoryParts}
 use Rattle.buck_engine.specs.declared.fault.EngineFault.{EngineFault}
-use Rattle.buck_engine.specs.declared.fault.EngineFault.TheVariants.{Read, Write, Apt, Stm, Journal, Replay, Seats, Full, Memory, Close}
+use Rattle.buck_engine.specs.declared.fault.EngineFault.TheVariants.{Read, Write, Apt, Stm, Journal, Replay, Check, Seats, Full, Memory, Close}
 use Rattle.buck_engine.specs.declared.fleet.serving.Order.{Order}
 use Rattle.buck_engine.specs.run.Reading.{IsFileFault}
 use Rattle.buck_engine.specs.text.Written.{IsRun}
@@ -33,6 +33,7 @@ no_answer Answers Whole Part Nothing (Apt why) other a kept = (a, kept)
 no_answer Answers Whole Part Nothing (Stm file why) other a kept = (a, kept)
 no_answer Answers Whole Part Nothing (Journal why) other a kept = (a, kept)
 no_answer Answers Whole Part Nothing (Replay why) other a kept = (a, kept)
+no_answer Answers Whole Part Nothing (Check why) other a kept = (a, kept)
 no_answer Answers Whole Part Nothing Seats other a kept = (a, kept)
 no_answer Answers Whole Part Nothing Full other a kept = (a, kept)
 no_answer Answers Whole Part Nothing Memory other a kept = (a, kept)
@@ -69,6 +70,7 @@ of_history order apt stms OfJournal old new h (Err (Apt why)) seats is turns nev
 of_history order apt stms OfJournal old new h (Err (Stm file why)) seats is turns never = absurd never
 of_history order apt stms OfJournal old new h (Err (Journal why)) seats is turns never = absurd never
 of_history order apt stms OfJournal old new h (Err (Replay why)) seats is turns never = absurd never
+of_history order apt stms OfJournal old new h (Err (Check why)) seats is turns never = absurd never
 of_history order apt stms OfJournal old new h (Err Seats) seats is turns never = absurd never
 of_history order apt stms OfJournal old new h (Err Full) seats is turns never = absurd never
 of_history order apt stms OfJournal old new h (Err (Close why)) seats is turns never = absurd never

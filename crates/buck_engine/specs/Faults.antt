@@ -6,8 +6,9 @@ use Rattle.buck_apt.specs.Faults.{apt_numbers}
 use Rattle.buck_stem.specs.Faults.{stm_numbers}
 use Rattle.buck_journal.specs.Faults.{journal_numbers, replay_numbers}
 use Rattle.buck_fleet.specs.Faults.{close_numbers}
+use Rattle.buck_engine.specs.tie.Told.{check_numbers}
 use Rattle.buck_engine.specs.declared.fault.EngineFault.{EngineFault}
-use Rattle.buck_engine.specs.declared.fault.EngineFault.TheVariants.{Read, Write, Apt, Stm, Journal, Replay, Seats, Full, Memory, Close}
+use Rattle.buck_engine.specs.declared.fault.EngineFault.TheVariants.{Read, Write, Apt, Stm, Journal, Replay, Check, Seats, Full, Memory, Close}
 
 abbrev pub memory_line : List ℕ
 memory_line = codes "memory\n"
@@ -26,6 +27,7 @@ fault_line (Apt fault) = numbered_line (codes "apt") [] (apt_numbers fault)
 fault_line (Stm file fault) = numbered_line (codes "stm") (file ∷ []) (stm_numbers fault)
 fault_line (Journal fault) = numbered_line (codes "journal") [] (journal_numbers fault)
 fault_line (Replay fault) = numbered_line (codes "replay") [] (replay_numbers fault)
+fault_line (Check fault) = line_of (codes "check fault") (check_numbers fault)
 fault_line Seats = codes "seats\n"
 fault_line Full = codes "full\n"
 fault_line Memory = memory_line
@@ -36,7 +38,7 @@ abbrev pub status_or : ℕ → List ℕ → ℕ
 status_or refused [] = 3
 status_or refused (number ∷ fields) = refused
 
--- the exit status after a fault: 1 after a refused file, 4 after a journal that isn't lawful
+-- the exit status after a fault: 1 after a refused file, 4 after a journal that isn't lawful or isn't tied
 abbrev pub status_of : EngineFault → ℕ
 status_of (Read file) = 5
 status_of Write = 5
@@ -44,6 +46,7 @@ status_of (Apt fault) = status_or 1 (apt_numbers fault)
 status_of (Stm file fault) = status_or 1 (stm_numbers fault)
 status_of (Journal fault) = status_or 1 (journal_numbers fault)
 status_of (Replay fault) = status_or 4 (replay_numbers fault)
+status_of (Check fault) = 4
 status_of Seats = 2
 status_of Full = 3
 status_of Memory = 3

@@ -4,3 +4,4 @@ pub mod Report
 pub mod Fleet
 pub mod Served
 pub mod View
+pub mod Tie

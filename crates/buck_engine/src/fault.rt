@@ -3,6 +3,7 @@ ghost use Rattle.std.specs.Prelude.{◌≡◌};
 ghost use Rattle.buck_engine.specs.declared.fault.EngineFault.TheVariants.{Memory};
 ghost use Rattle.buck_engine.specs.Faults.{status_of, status_or};
 
+use crate::tie::fault::CheckFault;
 use buck_apt::AptFault;
 use buck_fleet::CloseFault;
 use buck_journal::{JournalFault, ReplayFault};
@@ -32,6 +33,9 @@ pub enum EngineFault {
     /// The journal isn't lawful for the instruction.
     #[error("the journal is not lawful: {0}")]
     Replay(ReplayFault),
+    /// The journal is lawful, but not that of the stem files or of the rule.
+    #[error("the journal is lawful, but not as asked: {0}")]
+    Check(CheckFault),
     /// There are not 1 to 64 stem files.
     #[error("not 1 to 64 stem files")]
     Seats,
@@ -109,8 +113,9 @@ fn status_or<F: Numbered>(refused: u8, fault: &F) -> u8
 }
 
 /// The exit status of the program after a fault: 1 where a file was refused, 2 where there are not 1 to 64 stem files,
-/// 3 where memory or the history's room ran out, also while a file was read, 4 where a journal isn't lawful or a fleet
-/// didn't close well, and 5 where a file couldn't be read or the output couldn't be written.
+/// 3 where memory or the history's room ran out, also while a file was read, 4 where a journal isn't lawful or isn't
+/// that of the stem files or the rule, or a fleet didn't close well, and 5 where a file couldn't be read or the output
+/// couldn't be written.
 pub fn status(fault: &EngineFault) -> u8
     ensures { result ≡ status_of fault.now }
 {
@@ -120,6 +125,7 @@ pub fn status(fault: &EngineFault) -> u8
         EngineFault::Stm { fault, .. } => status_or(1, fault),
         EngineFault::Journal(fault) => status_or(1, fault),
         EngineFault::Replay(fault) => status_or(4, fault),
+        EngineFault::Check(_) => 4,
         EngineFault::Close(fault) => status_or(4, fault),
         EngineFault::Seats => 2,
         EngineFault::Full | EngineFault::Memory => 3,

@@ -3,10 +3,12 @@
 //! [`run_buck`] and [`run_bare`] are generic over readers and writers, and [`buck_text`] makes their text. So are
 //! [`run_fleet_files`], which cuts stem files by a fleet, one harvester for each, and writes the fleet's journal and
 //! its report, [`report_text`], and [`run_in_turn`], whose harvesters take turns; [`run_check`] checks such a journal,
-//! [`run_report`] writes its report, and [`run_view`] and [`run_table`] show it. [`write_fault`] and [`status`] are the
-//! line and the exit status of a fault. [`serve`] is a whole run of the program, from its [`Task`] to its exit status,
-//! over files that an [`Open`] opens, as [`Disk`], [`serve_view`] one that shows a journal, and [`serve_fleet`] one of
-//! a fleet, at which an [`Onlooker`] may look on. [`laws`] says that there is one text.
+//! [`run_check_with`] also ties it to stem files and to a rule, [`run_report`] writes its report, and [`run_view`] and
+//! [`run_table`] show it. [`write_fault`] and [`status`] are the line and the exit status of a fault. [`serve`] is a whole
+//! run of the program, from its [`Task`] to its exit status, over files that an [`Open`] opens, as [`Disk`];
+//! [`serve_buck`] one that cuts stems in several threads, [`serve_check`] one that ties a journal, [`serve_view`] one that
+//! shows a journal, and [`serve_fleet`] one of a fleet, at which an [`Onlooker`] may look on. [`laws`] says that there is
+//! one text.
 #![tactic(auto)]
 
 mod fault;
@@ -14,6 +16,7 @@ mod fleet;
 pub mod laws;
 mod run;
 mod text;
+mod tie;
 
 pub use buck_tables::Table;
 pub use buck_view::Files;
@@ -34,3 +37,6 @@ pub use run::viewing::{run_table, run_view};
 pub use text::bucking::buck_text;
 pub use text::report::{degree, report_text};
 pub use text::writing::write_fault;
+pub use tie::fault::CheckFault;
+pub use tie::running::run_check_with;
+pub use tie::serving::{CheckTask, serve_check};

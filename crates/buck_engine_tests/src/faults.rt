@@ -1,7 +1,7 @@
 //! The line, the exit status and the text of each fault.
 use crate::streams::{Sink, Trouble};
 use buck_apt::AptFault;
-use buck_engine::{EngineFault, TextFault, status, write_fault};
+use buck_engine::{CheckFault, EngineFault, TextFault, status, write_fault};
 use buck_fleet::CloseFault;
 use buck_journal::{JournalFault, ReplayFault};
 use buck_stem::StmFault;
@@ -170,6 +170,34 @@ fn wrong_replay_line() -> Option<&'static str> {
     None
 }
 
+/// The same of a lawful journal's that isn't that of the stem files or of the rule.
+fn wrong_check_line() -> Option<&'static str> {
+    let (harvester, place) = (64, 1_000_000);
+    let price = CheckFault::Price {
+        version: 3,
+        class: 16383,
+        price: 20_000_000,
+        wanted: 0,
+    };
+    for (fault, line) in [
+        (CheckFault::Other { harvester, place }, OTHER),
+        (CheckFault::Uncut { harvester, place }, UNCUT),
+        (CheckFault::Surplus { harvester, place }, SURPLUS),
+        (price, "check fault 4 3 16383 20000000 0\n"),
+    ] {
+        if !says(EngineFault::Check(fault), line, 4) {
+            return Some(line);
+        }
+    }
+    None
+}
+
+const OTHER: &str = "check fault 1 64 1000000\n";
+
+const UNCUT: &str = "check fault 2 64 1000000\n";
+
+const SURPLUS: &str = "check fault 3 64 1000000\n";
+
 #[test]
 fn lines_and_statuses(rt: HostRuntime) {
     for wrong in [
@@ -178,6 +206,7 @@ fn lines_and_statuses(rt: HostRuntime) {
         wrong_stm_line(),
         wrong_journal_line(),
         wrong_replay_line(),
+        wrong_check_line(),
     ] {
         assert!(rt; wrong == None);
     }
@@ -186,6 +215,7 @@ fn lines_and_statuses(rt: HostRuntime) {
 /// The text that a fault isn't shown as, if there is one.
 fn wrong_text(alloc: Global) -> Result<Option<&'static str>, AllocError> {
     let fault = StmFault::NotStm;
+    let (harvester, place) = (1, 2);
     for (fault, text) in [
         (EngineFault::Read { file: 1 }, "file 1 can't be read"),
         (EngineFault::Write, "the output can't be written"),
@@ -193,6 +223,10 @@ fn wrong_text(alloc: Global) -> Result<Option<&'static str>, AllocError> {
         (EngineFault::Stm { file: 2, fault }, STM),
         (EngineFault::Journal(JournalFault::NotJournal), JOURNAL),
         (EngineFault::Replay(ReplayFault::Worth { at: 1 }), REPLAY),
+        (
+            EngineFault::Check(CheckFault::Uncut { harvester, place }),
+            CHECK,
+        ),
         (EngineFault::Close(CloseFault::Instruction), CLOSE),
         (EngineFault::Seats, "not 1 to 64 stem files"),
         (EngineFault::Full, "the history is full"),
@@ -218,6 +252,9 @@ const STM: &str = "the stems of file 2 are refused: the file is not one of stems
 const JOURNAL: &str = "the journal is refused: the file is not a journal";
 
 const REPLAY: &str = "the journal is not lawful: the worth of posting 1 is not that of its logs";
+
+const CHECK: &str =
+    "the journal is lawful, but not as asked: stem 2 of the file of harvester 1 was not cut";
 
 const CLOSE: &str = "the fleet did not close well: the instruction is another";
 

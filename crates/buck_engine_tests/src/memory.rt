@@ -52,6 +52,11 @@ fn refused_memory_of_a_check(rt: HostRuntime) -> Result<(), Fail> {
 }
 
 #[test]
+fn refused_memory_of_a_check_of_files(rt: HostRuntime) -> Result<(), Fail> {
+    goes_on(&rt, rt.alloc(), Engine::Tied)
+}
+
+#[test]
 fn refused_memory_of_a_fleet(rt: HostRuntime) -> Result<(), Fail> {
     goes_on(&rt, rt.alloc(), Engine::Fleet)
 }

@@ -3,7 +3,8 @@ ghost use Rattle.std.specs.Prelude.{◌≤◌};
 
 use crate::streams::{Sink, Source};
 use buck_engine::{
-    EngineFault, run_bare, run_buck, run_buck_in_parts, run_check, run_fleet_files, run_in_turn,
+    EngineFault, NamedRule, run_bare, run_buck, run_buck_in_parts, run_check, run_check_with,
+    run_fleet_files, run_in_turn,
 };
 use buck_rule::{Rule, Standing, step};
 use std::alloc::Global;
@@ -77,17 +78,20 @@ pub enum Engine {
     Parts,
     /// Over an instruction file and a journal.
     Check,
+    /// Over an instruction file, a journal and a stem file, with the rule of the journal.
+    Tied,
     /// Over an instruction file and two stem files, the second of which has no stems.
     Fleet,
     /// Over the same files, in turn.
     Turns,
 }
 
-pub const ENGINES: [Engine; 6] = [
+pub const ENGINES: [Engine; 7] = [
     Engine::Bare,
     Engine::Buck,
     Engine::Parts,
     Engine::Check,
+    Engine::Tied,
     Engine::Fleet,
     Engine::Turns,
 ];
@@ -100,6 +104,7 @@ impl Engine {
             Engine::Bare => [INPUT.as_bytes(), b"", b""],
             Engine::Buck | Engine::Parts => [apt.as_bytes(), stm.as_bytes(), b""],
             Engine::Check => [apt.as_bytes(), JOURNAL.as_bytes(), b""],
+            Engine::Tied => [apt.as_bytes(), JOURNAL.as_bytes(), stm.as_bytes()],
             Engine::Fleet | Engine::Turns => {
                 [apt.as_bytes(), stm.as_bytes(), NO_STEMS.as_bytes()]
             }
@@ -113,7 +118,7 @@ impl Engine {
         match self {
             Engine::Bare => 1,
             Engine::Buck | Engine::Parts | Engine::Check => 2,
-            Engine::Fleet | Engine::Turns => 3,
+            Engine::Tied | Engine::Fleet | Engine::Turns => 3,
         }
     }
 
@@ -121,7 +126,7 @@ impl Engine {
     pub fn texts(self) -> [&'static [u8]; 2] {
         match self {
             Engine::Bare | Engine::Buck | Engine::Parts => [b"", TEXT.as_bytes()],
-            Engine::Check => [b"", b"LAWFUL 2\n"],
+            Engine::Check | Engine::Tied => [b"", b"LAWFUL 2\n"],
             Engine::Fleet | Engine::Turns => [JOURNAL.as_bytes(), REPORT.as_bytes()],
         }
     }
@@ -137,6 +142,7 @@ impl Engine {
         let [mut first, second, third] = files;
         let [mut journal, mut text] = sinks;
         let mut others = [second, third];
+        let named = Some(NamedRule::Step);
         let rule = Rule::new(|s: &Standing| step(s));
         let outcome = match self {
             Engine::Bare => run_bare(alloc, &mut first, &mut text),
@@ -150,6 +156,11 @@ impl Engine {
                 &mut text,
             ),
             Engine::Check => run_check(alloc, &mut first, &mut others[0], &mut text),
+            Engine::Tied => match &mut others {
+                [postings, rest @ ..] => {
+                    run_check_with(alloc, &mut first, postings, rest, named, &mut text)
+                }
+            },
             Engine::Fleet => run_fleet_files(
                 rt,
                 alloc,

@@ -4,7 +4,7 @@ use std::alloc::Global;
 use std::test::Fail;
 
 /// Lines, and their sentences; nothing where there is no such line.
-const LINES: [(&str, &str); 22] = [
+const LINES: [(&str, &str); 26] = [
     (
         "apt fault 9 3050",
         "The length 3050 mm in the instruction file is not a multiple of the module (901 1): change the length (916 1) or the module.",
@@ -24,6 +24,18 @@ const LINES: [(&str, &str); 22] = [
     (
         "stm 1 fault 5 953 1 12",
         "Item 953 1 (diameters) in file 1 after the instruction (with live: in the request) has a word that is not a number, word 12: write digits alone there, no sign, point or comma, at most 4294967295 (--explain says where).",
+    ),
+    (
+        "check fault 1 2 5",
+        "Cut 5 of harvester 2, counted from 1, is not of the stem that stands there in its stem file: look whether the stem files are those of that day, in the right order, else a stem was changed or exchanged.",
+    ),
+    (
+        "check fault 2 2 5",
+        "Stem 5 of harvester 2's stem file, counted from 1, was not cut in the journal: look whether the journal is whole, else wood is missing.",
+    ),
+    (
+        "check fault 3 2 5",
+        "Harvester 2 cut more stems in the journal than its stem file has, cut 5, counted from 1, is the first: look whether all stem files were named, in the right order.",
     ),
     (
         "check fault 4 2 5 430 412",
@@ -53,6 +65,7 @@ const LINES: [(&str, &str); 22] = [
     ("nothing", ""),
     ("fault", ""),
     ("apt fault 11", ""),
+    ("check fault 3 2", ""),
     ("replay fault 7", ""),
     ("replay fault 7 1 2", ""),
     ("replay fault 8", ""),

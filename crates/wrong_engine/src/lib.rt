@@ -13,4 +13,5 @@ pub mod opened;
 pub mod parts;
 pub mod reports;
 pub mod texts;
+pub mod ties;
 pub mod turns;

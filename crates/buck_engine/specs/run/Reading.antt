@@ -3,7 +3,7 @@ use Rattle.std.specs.Prelude.{◌≡◌, ◌⊎◌, ℕ, ◌≤◌, List, length
 use Rattle.buck_apt.specs.Apt.{apt_of}
 use Rattle.buck_stem.specs.Stm.{stm_of}
 use Rattle.buck_engine.specs.declared.fault.EngineFault.{EngineFault}
-use Rattle.buck_engine.specs.declared.fault.EngineFault.TheVariants.{Read, Apt, Stm, Seats, Memory}
+use Rattle.buck_engine.specs.declared.fault.EngineFault.TheVariants.{Read, Apt, Journal, Stm, Seats, Memory}
 
 -- a file has no more bytes than it may have
 abbrev pub IsWithinLimit : List ℕ → Type 0
@@ -34,6 +34,7 @@ IsStmFault number stm fault = IsFileFault number (Stm number) stm_of stm fault
 abbrev pub IfStopped : (ℕ → Type 0) → EngineFault → Type 0
 IfStopped Last (Read file) = Last file
 IfStopped Last (Apt fault) = Last 0
+IfStopped Last (Journal fault) = Last 1
 IfStopped Last (Stm file fault) = Last file
 IfStopped Last Seats = Last 0
 IfStopped Last _ = Unit {0}

@@ -64,7 +64,7 @@ pub(crate) fn check_journal(
 }
 
 /// The line of a lawful journal of so many postings.
-fn lawful_text(alloc: Global, postings: usize) -> Result<Vec<u8>, Memory>
+pub(crate) fn lawful_text(alloc: Global, postings: usize) -> Result<Vec<u8>, Memory>
     ensures { IfOk result (λ text. text.items ≡ lawful_line postings) }
 {
     let mut out = Vec::new(alloc);

@@ -1,12 +1,14 @@
 //! Writing texts and fault lines.
-ghost use Rattle.std.specs.Prelude.{◌∷◌};
+ghost use Rattle.std.specs.Prelude.{◌∷◌, codes};
 ghost use Rattle.std.specs.Fmt.{decimal};
 ghost use Rattle.buck_record.specs.Written.{spelled};
 ghost use Rattle.buck_record.specs.Line.{line_of};
 ghost use Rattle.buck_engine.specs.Faults.{numbered_line, fault_line};
+ghost use Rattle.buck_engine.specs.tie.Told.{check_numbers};
 ghost use Rattle.buck_engine.specs.text.Written.{IsWritten, TellsWritten};
 
 use crate::fault::EngineFault;
+use crate::tie::fault::CheckFault;
 use buck_record::Numbered;
 use itoa::Buffer;
 use std::io;
@@ -88,6 +90,42 @@ fn write_numbered<W: io::Write, F: Numbered>(
     write_line(writer, b" fault", numbers)
 }
 
+/// Writes the line of a journal that isn't that of the stem files or of the rule.
+fn write_check_line<W: io::Write>(writer: &mut W, fault: &CheckFault) -> Result<(), EngineFault>
+    ensures { IsWritten (W.contents writer.old) (W.contents writer.new)
+        (line_of (codes "check fault") (check_numbers fault.now)) result }
+{
+    match fault {
+        CheckFault::Other { harvester, place } => {
+            let numbers = [1, u64::from(*harvester), *place as u64];
+            write_line(writer, b"check fault", &numbers)
+        }
+        CheckFault::Uncut { harvester, place } => {
+            let numbers = [2, u64::from(*harvester), *place as u64];
+            write_line(writer, b"check fault", &numbers)
+        }
+        CheckFault::Surplus { harvester, place } => {
+            let numbers = [3, u64::from(*harvester), *place as u64];
+            write_line(writer, b"check fault", &numbers)
+        }
+        CheckFault::Price {
+            version,
+            class,
+            price,
+            wanted,
+        } => {
+            let numbers = [
+                4,
+                u64::from(*version),
+                *class as u64,
+                u64::from(*price),
+                *wanted,
+            ];
+            write_line(writer, b"check fault", &numbers)
+        }
+    }
+}
+
 /// Writes the line of a fault.
 fn write_fault_line<W: io::Write>(writer: &mut W, fault: &EngineFault) -> Result<(), EngineFault>
     ensures { IsWritten (W.contents writer.old) (W.contents writer.new) (fault_line fault.now) result }
@@ -101,6 +139,7 @@ fn write_fault_line<W: io::Write>(writer: &mut W, fault: &EngineFault) -> Result
         }
         EngineFault::Journal(fault) => write_numbered(writer, b"journal", &[], fault),
         EngineFault::Replay(fault) => write_numbered(writer, b"replay", &[], fault),
+        EngineFault::Check(fault) => write_check_line(writer, fault),
         EngineFault::Seats => write_text(writer, b"seats\n"),
         EngineFault::Full => write_text(writer, b"full\n"),
         EngineFault::Close(fault) => write_numbered(writer, b"close", &[], fault),

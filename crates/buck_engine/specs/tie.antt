@@ -1,0 +1,4 @@
+pub mod Told
+pub mod Ties
+pub mod Answers
+pub mod Serving

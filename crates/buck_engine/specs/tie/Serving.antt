@@ -1,0 +1,31 @@
+-- How a whole run of a check ends that ties a journal: what is opened, and what is written.
+use Rattle.std.specs.Prelude.{◌≡◌, ℕ, List, [], ◌∷◌, map, Option, Result, Ok, Err}
+use Rattle.std.specs.Io.KnownBytes.{Keeps}
+use Rattle.buck_engine.specs.declared.fault.EngineFault.{EngineFault}
+use Rattle.buck_engine.specs.declared.fault.EngineFault.TheVariants.{Read}
+use Rattle.buck_engine.specs.declared.fleet.serving.NamedRule.{NamedRule}
+use Rattle.buck_engine.specs.declared.tie.serving.CheckTask.{CheckTask}
+use Rattle.buck_engine.specs.run.Opening.{AnswersInputs}
+use Rattle.buck_engine.specs.text.Written.{WritesText}
+use Rattle.buck_engine.specs.tie.Answers.{AnswersCheckWith}
+
+-- a check over files that are open: the first of those behind the instruction file is the journal
+abbrev pub ChecksFiles : {F : Type 0} → Option NamedRule → (F → Option (List ℕ)) → F → List F
+    → Option (List ℕ) → Option (List ℕ) → Result (Unit {0}) EngineFault → Type 0
+ChecksFiles rule held apt [] old new outcome = (outcome ≡ Err (Read 1)) × Keeps old new
+ChecksFiles rule held apt (journal ∷ stms) old new outcome =
+    WritesText (AnswersCheckWith rule (held apt) (held journal) (map held stms)) old new outcome
+
+-- over the files that were opened; where one can't be, nothing is written
+abbrev pub ChecksOpened : {F : Type 0} → Option NamedRule → (F → Option (List ℕ)) → Result (F × List F) EngineFault
+    → Option (List ℕ) → Option (List ℕ) → Result (Unit {0}) EngineFault → Type 0
+ChecksOpened rule held (Ok files) old new outcome = ChecksFiles rule held files.0 files.1 old new outcome
+ChecksOpened rule held (Err fault) old new outcome = (outcome ≡ Err fault) × Keeps old new
+
+-- all files of the task are opened by their names, in order, and then the journal is checked
+pub record RunsCheck {O F : Type 0} (opens : O → List ℕ → Option F → O → Type 0) (held : F → Option (List ℕ))
+    (start end : O) (task : CheckTask) (old new : Option (List ℕ)) (outcome : Result (Unit {0}) EngineFault)
+    : Type 0 where
+  pub opened : Result (F × List F) EngineFault
+  pub answers : AnswersInputs opens start end task.apt.now (map (λ s. s.now) task.files.items) opened
+  pub runs : ChecksOpened task.rule held opened old new outcome

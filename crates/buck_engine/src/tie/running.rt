@@ -1,0 +1,176 @@
+//! `run_check_with`: a check of a journal by its instruction, by stem files and by a rule.
+ghost use Rattle.std.specs.Prelude.{◌≡◌, ◌≢◌, ◌-◌, ◌<◌, ◌≤◌, length, map, drop, IfOk, IfErr, IfSome, IfNone, OnOk, Some};
+ghost use Rattle.buck_record.specs.Reading.{listed};
+ghost use Rattle.buck_book.specs.History.{HistoryParts, IsLawful};
+ghost use Rattle.buck_journal.specs.Replay.{history_of};
+ghost use Rattle.buck_engine.specs.declared.fault.EngineFault.TheVariants.{Seats, Write};
+ghost use Rattle.buck_engine.specs.declared.fleet.serving.NamedRule.{NamedRule};
+ghost use Rattle.buck_engine.specs.run.Reading.{IfStopped};
+ghost use Rattle.buck_engine.specs.text.Written.{WritesText};
+ghost use Rattle.buck_engine.specs.tie.Answers.{AnswersCheckWith, AnswersTies};
+ghost use Rattle.buck_engine.specs.tie.Ties.{CutTheirFiles, FollowsRule, IsPriceFault, IsStemsFault, IsTied};
+ghost use Rattle.buck_engine.specs.inner.Tie.{IsUntiedFault, stems_in_lists};
+
+use crate::fault::EngineFault;
+use crate::fleet::serving::NamedRule;
+use crate::run::checking::{check_journal, lawful_text, read_postings};
+use crate::run::reading::read_instruction;
+use crate::text::writing::write_text;
+use crate::tie::comparing::compare_stems;
+use crate::tie::fault::CheckFault;
+use crate::tie::lists::read_files;
+use crate::tie::prices::compare_prices;
+use buck_apt::Instruction;
+use buck_journal::Journal;
+use buck_record::Memory;
+use buck_stem::Stem;
+use std::alloc::Global;
+use std::io;
+use std::sync::Arc;
+
+/// That there are at most 64 stem files.
+fn check_files(number: usize) -> Result<(), EngineFault>
+    ensures few { OnOk result (number ≤ 64) }
+    ensures fault { IfErr result (λ fault. (64 < number) × (fault ≡ Seats)) }
+{
+    if number > 64 {
+        return Err(EngineFault::Seats);
+    }
+    Ok(())
+}
+
+/// How a journal isn't tied to the stem files, where there are any.
+fn stems_fault(journal: &Journal, files: &[Vec<Stem>]) -> Option<CheckFault>
+    requires few { length files.now ≤ 64 }
+    ensures none { IfNone result ((h : HistoryParts) → h.postings ≡ journal.now.entries
+        → 0 < length (stems_in_lists files.now) → CutTheirFiles (stems_in_lists files.now) h) }
+    ensures found { IfSome result (λ fault. (h : HistoryParts) → h.postings ≡ journal.now.entries
+        → (0 < length (stems_in_lists files.now)) × IsStemsFault (stems_in_lists files.now) h fault) }
+{
+    if files.is_empty() {
+        return None;
+    }
+    compare_stems(journal.entries.as_slice(), files)
+}
+
+/// How a lawful journal isn't tied to the rule, where one is named.
+fn prices_fault(
+    alloc: Global,
+    rule: Option<NamedRule>,
+    instruction: &Arc<Instruction>,
+    journal: &Journal,
+) -> Result<Option<CheckFault>, Memory>
+    requires few { length journal.now.entries ≤ 1000000 }
+    requires lawful { IsLawful (history_of instruction.now.value journal.now) }
+    ensures none { IfOk result (λ found. IfNone found
+        (IfSome rule (λ r. FollowsRule r (history_of instruction.now.value journal.now)))) }
+    ensures found { IfOk result (λ found. IfSome found (λ fault.
+        (r : NamedRule) × (rule ≡ Some r) × IsPriceFault r (history_of instruction.now.value journal.now) fault)) }
+{
+    match rule {
+        None => Ok(None),
+        Some(rule) => compare_prices(alloc, rule, instruction, journal),
+    }
+}
+
+/// That a lawful journal is tied to the stem files, where there are any, and to the rule, where one is named.
+fn check_ties(
+    alloc: Global,
+    rule: Option<NamedRule>,
+    instruction: &Arc<Instruction>,
+    journal: &Journal,
+    files: &[Vec<Stem>],
+) -> Result<(), EngineFault>
+    requires few { length journal.now.entries ≤ 1000000 }
+    requires files { length files.now ≤ 64 }
+    requires lawful { IsLawful (history_of instruction.now.value journal.now) }
+    ensures tied { OnOk result (IsTied (stems_in_lists files.now) rule (history_of instruction.now.value journal.now)) }
+    ensures fault { IfErr result
+        (IsUntiedFault (stems_in_lists files.now) rule (history_of instruction.now.value journal.now)) }
+{
+    match stems_fault(journal, files) {
+        Some(fault) => return Err(EngineFault::Check(fault)),
+        None => {}
+    }
+    match prices_fault(alloc, rule, instruction, journal)? {
+        Some(fault) => Err(EngineFault::Check(fault)),
+        None => Ok(()),
+    }
+}
+
+/// The line of a journal that is lawful for an instruction, and tied to stem files and a rule.
+fn text_of_ties(
+    alloc: Global,
+    rule: Option<NamedRule>,
+    instruction: Instruction,
+    journal: &Journal,
+    files: &[Vec<Stem>],
+) -> Result<Vec<u8>, EngineFault>
+    requires few { length journal.now.entries ≤ 1000000 }
+    requires files { length files.now ≤ 64 }
+    ensures { AnswersTies (stems_in_lists files.now) rule instruction journal.now (listed result) }
+{
+    let instruction = Arc::new(alloc, instruction)?;
+    check_journal(alloc, &instruction, journal)?;
+    check_ties(alloc, rule, &instruction, journal, files)?;
+    Ok(lawful_text(alloc, journal.entries.len())?)
+}
+
+/// The line of the journal of a file that is lawful for the instruction of another, and tied to stem files and a rule.
+fn text_of_files<R: io::Read>(
+    alloc: Global,
+    apt: &mut R,
+    journal: &mut R,
+    stms: &mut [R],
+    rule: Option<NamedRule>,
+) -> Result<Vec<u8>, EngineFault>
+    ensures answer { AnswersCheckWith rule (R.remaining apt.old) (R.remaining journal.old) (map R.remaining stms.old)
+        (listed result) }
+    ensures journal_order { IfErr result (IfStopped (λ last. last ≡ 0 → journal.new ≡ journal.old)) }
+    ensures stms_order { IfErr result (IfStopped (λ last. drop (last - 1) stms.new ≡ drop (last - 1) stms.old)) }
+    ensures unread { IfErr result (λ fault. fault ≡ Seats → apt.new ≡ apt.old) }
+{
+    check_files(stms.len())?;
+    let instruction = read_instruction(alloc, apt)?;
+    let postings = read_postings(alloc, journal)?;
+    let files = read_files(alloc, stms)?;
+    text_of_ties(alloc, rule, instruction, &postings, files.as_slice())
+}
+
+/// Reads an instruction file, a journal and stem files, and writes `LAWFUL` with the number of postings where the
+/// journal is lawful for the instruction, as [`run_check`](crate::run_check) says; where, if there are stem files, the
+/// stems of harvester k's cuts are exactly those of the k-th, in their order, and who has no file cut nothing; and
+/// where, if a rule is named, each price of each sheet is what the rule gives for its class, by the targets in force
+/// and by what was cut before.
+///
+/// The instruction file is file 0, the journal file 1, and the k-th stem file is file k + 1; each is read, and refused
+/// where it must be, before the next. `Seats` comes where there are more than 64 stem files, before anything is read,
+/// `Read` where a reader fails or a file is longer than 67,108,864 bytes, `Apt`, `Journal` and `Stm` where the bytes of
+/// a file are refused, `Replay` with the first fault of a journal that isn't lawful, `Check` with how a lawful one
+/// first differs, from the stem files before the rule, `Write` where the writer fails, which leaves a prefix of the
+/// text, and `Memory` where a growth was refused.
+pub fn run_check_with<R: io::Read, W: io::Write>(
+    alloc: Global,
+    apt: &mut R,
+    journal: &mut R,
+    stms: &mut [R],
+    rule: Option<NamedRule>,
+    writer: &mut W,
+) -> Result<(), EngineFault>
+    // The line of a journal is written that is lawful for the instruction and tied to the stem files and the rule; a
+    // fault is that of the first file that has one, or of the journal, and nothing is written; a write fault leaves a
+    // prefix of the line. Where there are more than 64 stem files, that is the fault.
+    ensures run { WritesText
+        (AnswersCheckWith rule (R.remaining apt.old) (R.remaining journal.old) (map R.remaining stms.old))
+        (W.contents writer.old) (W.contents writer.new) result }
+    // Where a file has a fault, nothing was read of those after it.
+    ensures journal_order { IfErr result (IfStopped (λ last. last ≡ 0 → journal.new ≡ journal.old)) }
+    ensures stms_order { IfErr result (IfStopped (λ last. drop (last - 1) stms.new ≡ drop (last - 1) stms.old)) }
+    // Where there are more than 64 stem files, nothing was read of the instruction either.
+    ensures unread { IfErr result (λ fault. fault ≡ Seats → apt.new ≡ apt.old) }
+    // Only a failed write touches the writer.
+    ensures untouched { IfErr result (λ fault. fault ≢ Write → writer.new ≡ writer.old) }
+{
+    let text = text_of_files(alloc, apt, journal, stms, rule)?;
+    write_text(writer, text.as_slice())
+}

@@ -1,0 +1,164 @@
+//! Wrong bodies of a check that ties a journal to stem files and to a rule.
+ghost use Rattle.std.specs.Prelude.{◌≡◌, ◌≢◌, List, [], Ok};
+ghost use Rattle.buck_apt.specs.Instruction.{InstructionParts};
+ghost use Rattle.buck_apt.specs.Apt.{apt_of};
+ghost use Rattle.buck_stem.specs.Stem.{StemParts};
+ghost use Rattle.buck_stem.specs.Stm.{stm_of};
+ghost use Rattle.buck_journal.specs.Journal.{JournalParts, journal_of};
+ghost use Rattle.buck_journal.specs.Replay.{history_of};
+ghost use Rattle.buck_engine.specs.declared.fleet.serving.NamedRule.TheVariants.{Linear};
+ghost use Rattle.buck_engine.specs.tie.Ties.{FollowsRule, stems_by};
+
+use crate::opened::Missing;
+use buck_engine::{
+    CheckFault, CheckTask, EngineFault, NamedRule, run_check_with, serve_check, status,
+};
+use std::alloc::Global;
+
+/// Two stem files are taken for the harvesters' in the other order: the first isn't what harvester 1 cut.
+pub fn swapped_stem_files_accepted<'x>(
+    alloc: Global,
+    apt: &'x [u8],
+    journal: &'x [u8],
+    first: &'x [u8],
+    second: &'x [u8],
+    out: &mut Vec<u8>,
+)
+    requires other { (i : InstructionParts) (j : JournalParts) (stems : List StemParts) → apt_of apt.now ≡ Ok i
+        → journal_of journal.now ≡ Ok j → stm_of first.now ≡ Ok stems → stems_by 1 (history_of i j) ≢ stems }
+{
+    let mut instruction = apt;
+    let mut postings = journal;
+    let mut stems = [first, second];
+    let right = run_check_with(
+        alloc,
+        &mut instruction,
+        &mut postings,
+        &mut stems,
+        None,
+        out,
+    );
+    let is_refused = right.is_err();
+    prove!(is_refused);
+}
+
+/// A harvester without a stem file may have cut any stems.
+pub fn cut_that_no_file_has_accepted<'x>(
+    alloc: Global,
+    apt: &'x [u8],
+    journal: &'x [u8],
+    stm: &'x [u8],
+    out: &mut Vec<u8>,
+)
+    requires cut { (i : InstructionParts) (j : JournalParts) → apt_of apt.now ≡ Ok i → journal_of journal.now ≡ Ok j
+        → stems_by 2 (history_of i j) ≢ [] }
+{
+    let mut instruction = apt;
+    let mut postings = journal;
+    let mut stems = [stm];
+    let right = run_check_with(
+        alloc,
+        &mut instruction,
+        &mut postings,
+        &mut stems,
+        None,
+        out,
+    );
+    let is_refused = right.is_err();
+    prove!(is_refused);
+}
+
+/// The prices of another rule are taken for those of the one that was named.
+pub fn prices_of_another_rule_accepted<'x>(
+    alloc: Global,
+    apt: &'x [u8],
+    journal: &'x [u8],
+    out: &mut Vec<u8>,
+)
+    requires other { (i : InstructionParts) (j : JournalParts) → apt_of apt.now ≡ Ok i → journal_of journal.now ≡ Ok j
+        → ¬ FollowsRule Linear (history_of i j) }
+{
+    let mut instruction = apt;
+    let mut postings = journal;
+    let right = run_check_with(
+        alloc,
+        &mut instruction,
+        &mut postings,
+        &mut [],
+        Some(NamedRule::Linear),
+        out,
+    );
+    let is_refused = right.is_err();
+    prove!(is_refused);
+}
+
+/// 65 stem files are accepted.
+pub fn check_of_65_stem_files_accepted(alloc: Global, out: &mut Vec<u8>) {
+    let mut instruction = b"".as_slice();
+    let mut postings = b"".as_slice();
+    let mut stems = [b"".as_slice(); 65];
+    let right = run_check_with(
+        alloc,
+        &mut instruction,
+        &mut postings,
+        &mut stems,
+        None,
+        out,
+    );
+    let is_refused = right == Err(EngineFault::Seats);
+    prove!(is_refused);
+}
+
+/// A stem file is read although the journal is refused.
+pub fn stems_read_before_the_journal_is_refused<'x>(
+    alloc: Global,
+    apt: &'x [u8],
+    journal: &'x [u8],
+    stm: &'x [u8],
+    out: &mut Vec<u8>,
+) {
+    let mut instruction = apt;
+    let mut postings = journal;
+    let mut stems = [stm];
+    let outcome = run_check_with(
+        alloc,
+        &mut instruction,
+        &mut postings,
+        &mut stems,
+        None,
+        out,
+    );
+    let is_read = stems[0].len() != stm.len();
+    let is_wrong = is_read && matches!(outcome, Err(EngineFault::Journal(_)));
+    prove!(!is_wrong);
+}
+
+/// Status 1, as after a refused file, where a stem wasn't cut.
+pub fn uncut_stem_as_a_refused_file() {
+    let wrong = 1;
+    let uncut = CheckFault::Uncut {
+        harvester: 1,
+        place: 1,
+    };
+    let right = status(&EngineFault::Check(uncut));
+    prove!(right != wrong);
+}
+
+/// The journal is opened first, in the place of the instruction file.
+pub fn tied_check_files_swapped(
+    alloc: Global,
+    files: Vec<&str>,
+    output: &mut Vec<u8>,
+    errors: &mut Vec<u8>,
+) {
+    let task = CheckTask {
+        rule: None,
+        apt: "pine.apt",
+        files,
+    };
+    let mut opener = Missing { asked: 0 };
+    let _ = serve_check(alloc, &task, &mut opener, output, errors);
+    let right = opener.asked;
+    let wrong = "stems.jrn".len();
+    prove!(right != wrong);
+}
