@@ -100,7 +100,6 @@ impl<'a> Open for Shelf<'a> {
             "empty" => file(b"1 2 STM~", b"", 0),
             "jrn" => file(JOURNAL.as_bytes(), b"", 0),
             "bad" => file(b"1 2 BAD~", b"", 0),
-            "empty" => file(b"1 2 STM~", b"", 0),
             "unlawful" => file(UNLAWFUL.as_bytes(), b"", 0),
             "many" => file(b"1 2 STM~", b"951 1 1~952 1 1~953 1 250~", 1_000),
             "short" => file(b"", &BLANKS, 999),
