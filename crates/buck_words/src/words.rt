@@ -1,7 +1,7 @@
 //! Numbers and names as the words of a page.
 //!
 //! All arithmetic is in integers: a number is rounded once, where it is printed, a half upwards.
-ghost use Rattle.std.specs.Prelude.{◌≡◌, ◌+◌, ◌-◌, ◌*◌, ◌/◌, ◌%◌, ◌<◌, ◌≤◌, ◌^◌, true, false, length};
+ghost use Rattle.std.specs.Prelude.{◌≡◌, ◌↔◌, IsTrue, ◌+◌, ◌-◌, ◌*◌, ◌/◌, ◌%◌, ◌<◌, ◌≤◌, ◌^◌, true, false, length};
 ghost use Rattle.buck_apt.specs.Instruction.{classes_of};
 ghost use Rattle.buck_words.specs.Words.{half_up, permille};
 
@@ -190,11 +190,12 @@ pub fn difference_of(from: u128, to: u128) -> Difference
     }
 }
 
-/// A price's change per mille of its base price, to the nearest, a half away from 0.
+/// A price's change per mille of its base price, to the nearest, a half away from 0. One that rounds to 0 isn't below.
 pub fn change_of(price: u32, base: u32) -> Difference
     requires { 0 < base }
     ensures above { base ≤ price → (result.below ≡ false) × (result.size ≡ permille (price - base) base) }
-    ensures below { price < base → result.size ≡ permille (base - price) base }
+    ensures below { price < base → (result.size ≡ permille (base - price) base)
+        × (IsTrue result.below ↔ (0 < result.size)) }
 {
     let size = permille(u128::from(price.abs_diff(base)), u128::from(base));
     Difference {
