@@ -1,6 +1,6 @@
 -- What postings come to, with one more: the parts of the assortments, the longest stem and the dearest.
-use Rattle.std.proofs.Common.{◌≡◌, ℕ, zero, suc, get_or, ◌+◌, ◌-◌, ◌*◌, ◌<◌, ◌≤◌, ◌==◌, List, [], ◌∷◌, ◌++◌, true, false, cond, All, length, take, set, map, refl, sym, subst, ap, ◌∙◌, inl, inr, arith, length-set, length-append, length-take-le, get_or-set_same, get_or-set_other}
-use Rattle.std.specs.Prelude.{sum_by, slice_get, Some}
+use Rattle.std.proofs.Common.{◌≡◌, ℕ, suc, get_or, ◌+◌, ◌-◌, ◌*◌, ◌<◌, ◌≤◌, ◌==◌, List, [], ◌∷◌, ◌++◌, true, false, cond, All, length, take, set, map, refl, sym, subst, ap, ◌∙◌, inl, inr, arith, length-set, length-append, length-take-le, get_or-set_same, get_or-set_other}
+use Rattle.std.specs.Prelude.{slice_get, Some}
 use Rattle.std.specs.List.{zip}
 use Rattle.std.proofs.lemmas.Option.{slice_get_within, slice_get-get_or, get_or_from_slice_get}
 use Rattle.std.proofs.lemmas.Bool.Decides.{eqb_tells}
@@ -14,19 +14,18 @@ use Rattle.buck_value.specs.Sheet.{SheetParts}
 use Rattle.buck_value.specs.Allowed.{IsAllowed, worth_of}
 use Rattle.buck_book.specs.declared.posting.Posting.{Posting}
 use Rattle.buck_book.specs.declared.posting.Posting.TheVariants.{Cut, Demand}
-use Rattle.buck_book.specs.Counts.{assortment_logs, assortment_logs_in}
-use Rattle.buck_figures.specs.Figures.{base_sheet, log_volume, cuts_in, length_in, worth_in, at_base_in, AreUnsteered}
+use Rattle.buck_book.specs.Counts.{assortment_logs_in}
+use Rattle.buck_figures.specs.Figures.{base_sheet, log_volume, cuts_in, length_in, worth_in, at_base_in}
 use Rattle.buck_figures.specs.Sums.{AreSums}
 use Rattle.buck_figures.specs.Assorted.{AreParts, part_volume_in, part_at_base_in, sum_in_part}
 use Rattle.buck_figures.specs.Greatest.{lengths_of, costs_of}
 use Rattle.buck_figures.specs.declared.figures.Part.{Part}
 use Rattle.buck_figures.specs.declared.sums.Sums.{Sums}
 use Rattle.buck_figures.specs.declared.adding.Wood.{Wood}
-use Rattle.buck_figures.specs.declared.greatest.Greatest.{Greatest}
 use Rattle.buck_figures.specs.declared.account.Account.{Account}
 use Rattle.buck_figures.specs.inner.Adding.{IsWoodOf, logs_of}
 use Rattle.buck_figures.specs.inner.Counted.{AreOfPosting}
-use Rattle.buck_figures.specs.inner.Tally.{IsTally, IsTallyWith, AreAtMost}
+use Rattle.buck_figures.specs.inner.Tally.{IsTallyWith, AreAtMost}
 use Rattle.buck_figures.specs.inner.Assorted.{AreNone, ArePartsWith, ArePartsOn, AreFew}
 use Rattle.buck_figures.specs.inner.Greatest.{IsGreatest}
 use Rattle.buck_figures.specs.inner.Account.{IsAccount, IsAccountWith}

@@ -1,6 +1,5 @@
 -- Counts with one log more.
-use Rattle.std.proofs.Common.{◌≡◌, ◌≢◌, ℕ, ◌+◌, ◌<◌, ◌≤◌, ◌==◌, List, [], ◌∷◌, true, false, cond, length, take, set, get_or, refl, sym, subst, ap, ◌∙◌, inl, inr, arith, get_or-set_other, get_or-set_same, length-set, length-take-le}
-use Rattle.std.specs.Prelude.{count_by, slice_index}
+use Rattle.std.proofs.Common.{◌≡◌, ℕ, ◌+◌, ◌<◌, ◌==◌, List, true, false, cond, length, take, set, get_or, sym, subst, ap, ◌∙◌, inl, inr, arith, get_or-set_other, get_or-set_same, length-set, length-take-le}
 use Rattle.std.proofs.lemmas.Bool.Decides.{eqb_tells}
 use Rattle.std.proofs.lemmas.List.Sums.{sum_by_more}
 use Rattle.buck_apt.specs.declared.class.Class.{Class}

@@ -6,3 +6,4 @@ pub mod AccountLemmas
 pub mod LawfulLemmas
 pub mod CourseLemmas
 pub mod FiguresLemmas
+pub mod CostLemmas

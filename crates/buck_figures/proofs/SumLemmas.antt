@@ -1,6 +1,6 @@
 -- What postings come to, posting by posting.
 use Rattle.std.proofs.Common.{◌≡◌, ℕ, ◌+◌, ◌<◌, ◌≤◌, List, [], ◌∷◌, ◌++◌, length, refl, sym, subst, ap, ◌∙◌, inl, inr, get_or, take, arith, length-append}
-use Rattle.std.specs.Prelude.{slice_get, Some, sum_by}
+use Rattle.std.specs.Prelude.{sum_by}
 use Rattle.std.proofs.lemmas.List.Sums.{sum_by-append, sum_by-cons, sum_by_more}
 use Rattle.buck_apt.specs.Instruction.{InstructionParts}
 use Rattle.buck_book.specs.declared.posting.Posting.{Posting}
@@ -15,7 +15,7 @@ use Rattle.buck_dp.specs.Cutting.{IsCutFrom}
 use Rattle.buck_dp.proofs.Bounds.{end_within}
 use Rattle.buck_figures.specs.Figures.{base_sheet, log_volume}
 use Rattle.buck_book.specs.Entry.{EntryParts}
-use Rattle.buck_book.specs.declared.posting.Posting.TheVariants.{Cut, Demand}
+use Rattle.buck_book.specs.declared.posting.Posting.TheVariants.{Cut}
 use Rattle.buck_dp.specs.Best.{IsAdmissible, IsFirstBest, cutting_worth}
 use Rattle.buck_dp.proofs.Lists.{each_allowed}
 use Rattle.buck_book.proofs.Cuts.{few_logs}

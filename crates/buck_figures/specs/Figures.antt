@@ -1,5 +1,5 @@
 -- The figures of a journal: what each posting comes to, as it was cut and as the best cuttings at base prices.
-use Rattle.std.specs.Prelude.{◌≡◌, ℕ, ◌+◌, ◌*◌, ◌≤◌, List, length, sum_by, slice_get, Some}
+use Rattle.std.specs.Prelude.{◌≡◌, ℕ, List, length, sum_by, slice_get, Some}
 use Rattle.buck_apt.specs.Instruction.{InstructionParts}
 use Rattle.buck_stem.specs.Stem.{StemParts, stem_length}
 use Rattle.buck_value.specs.declared.log.Log.{Log}
@@ -9,7 +9,7 @@ use Rattle.buck_value.specs.Volume.{volume}
 use Rattle.buck_dp.specs.Best.{IsFirstBest, cutting_worth}
 use Rattle.buck_book.specs.declared.posting.Posting.{Posting}
 use Rattle.buck_book.specs.declared.posting.Posting.TheVariants.{Cut, Demand}
-use Rattle.buck_book.specs.Posting.{harvester_of}
+use Rattle.buck_book.specs.Entry.{EntryParts}
 
 -- the sheet of the base prices
 abbrev pub base_sheet : InstructionParts → SheetParts
@@ -18,6 +18,10 @@ base_sheet i = sheet_of 0 i (base_prices i)
 -- the volume of a log of a stem, in cubic centimetres
 abbrev pub log_volume : StemParts → Log → ℕ
 log_volume stem g = volume (top_diameter stem g) g.length
+
+-- a cut as a posting
+abbrev pub as_posting : EntryParts → Posting
+as_posting e = Cut e
 
 -- what a posting comes to: whether it is a cut or a demand, and of a cut its logs, their volume and length, the length
 -- of the stem and of the trim, and its worth under the prices in force and at base prices

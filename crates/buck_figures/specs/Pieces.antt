@@ -1,14 +1,16 @@
 -- Logs as they were cut.
-use Rattle.std.specs.Prelude.{◌≡◌, ℕ, ◌<◌, List, length, slice_get, slice_index, Some}
+use Rattle.std.specs.Prelude.{◌≡◌, ◌≢◌, ℕ, List, length, slice_get, slice_index, Option, Some, None}
 use Rattle.buck_apt.specs.Instruction.{IsClass, index_of}
 use Rattle.buck_stem.specs.Stem.{StemParts}
 use Rattle.buck_value.specs.declared.log.Log.{Log}
 use Rattle.buck_value.specs.Sheet.{SheetParts, price_of}
 use Rattle.buck_value.specs.Allowed.{class_of, kind_in, top_diameter, worth_of}
 use Rattle.buck_value.specs.Volume.{worth_at}
-use Rattle.buck_figures.specs.Figures.{log_volume}
+use Rattle.buck_figures.specs.Figures.{log_volume, as_posting}
 use Rattle.buck_dp.specs.Best.{IsFirstBest, cutting_worth}
 use Rattle.buck_book.specs.Entry.{EntryParts}
+use Rattle.buck_book.specs.History.{prices_at}
+use Rattle.buck_book.specs.declared.posting.Posting.{Posting}
 use Rattle.buck_figures.specs.declared.figures.Piece.{Piece}
 use Rattle.buck_figures.specs.declared.figures.Cut.{Cut}
 
@@ -41,3 +43,12 @@ pub record IsCut (base : SheetParts) (prices : List ℕ) (e : EntryParts) (c : C
   pub at_base : c.at_base ≡ cutting_worth base e.stem e.logs
   pub unsteered : IsFirstBest base e.stem c.unsteered.logs.items
   pub best : c.best ≡ cutting_worth base e.stem c.unsteered.logs.items
+
+-- what is told of a place among some postings: the cut that stands there, which was planned under the sheet of its
+-- version; nothing where no cut does
+abbrev pub IsToldAt : SheetParts → List (List ℕ) → List Posting → ℕ → Option Cut → Type 0
+IsToldAt base sheets ps position None = (e : EntryParts) → slice_get ps position ≢ Some (as_posting e)
+IsToldAt base sheets ps position (Some c) =
+    (c.position ≡ position)
+    × (slice_get ps position ≡ Some (as_posting c.entry.now))
+    × IsCut base (prices_at sheets c.entry.now.version) c.entry.now c

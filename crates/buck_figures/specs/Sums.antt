@@ -1,5 +1,5 @@
 -- What postings come to, added up.
-use Rattle.std.specs.Prelude.{◌≡◌, ℕ, List, sum_by}
+use Rattle.std.specs.Prelude.{◌≡◌, List, sum_by}
 use Rattle.buck_apt.specs.Instruction.{InstructionParts}
 use Rattle.buck_book.specs.declared.posting.Posting.{Posting}
 use Rattle.buck_figures.specs.Figures.{cuts_in, demands_in, logs_in, volume_in, length_in, logged_in, trim_in, worth_in, at_base_in}

@@ -9,6 +9,7 @@ mod course;
 mod cuts;
 mod figures;
 mod greatest;
+pub mod laws;
 mod making;
 mod owns;
 mod parts;
@@ -18,7 +19,7 @@ mod tally;
 
 pub use cuts::cut_of;
 pub use figures::{Cut, Figures, Part, Piece, Point};
-pub use making::figures_of;
+pub use making::{MOST_POINTS, figures_of};
 pub use owns::Own;
 pub use parts::{degree_in, number_at, part, sum_of};
 pub use shown::cut_at;

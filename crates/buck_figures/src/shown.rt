@@ -1,5 +1,6 @@
 //! The cuts of a journal, log by log.
-ghost use Rattle.std.specs.Prelude.{◌≡◌};
+ghost use Rattle.std.specs.Prelude.{◌≡◌, IfOk, map};
+ghost use Rattle.buck_figures.specs.Pieces.{IsToldAt};
 ghost use Rattle.buck_figures.specs.Shown.{IsShown};
 
 use crate::cuts::cut_of;
@@ -18,12 +19,15 @@ pub fn cut_at<'a>(
 ) -> Result<Option<Cut<'a>>, Memory>
     requires { IsShown figures.now planner.old }
     ensures same { planner.new ≡ planner.old }
+    ensures told { IfOk result
+        (IsToldAt planner.old (map (λ w. w.items) figures.now.sheets.now) figures.now.postings.now position) }
 {
     match figures.postings.get(position) {
         Some(Posting::Cut(entry)) => {
             let cut = cut_of(alloc, planner, figures.sheets, position, entry)?;
             Ok(Some(cut))
         }
-        _ => Ok(None),
+        Some(Posting::Demand(_)) => Ok(None),
+        None => Ok(None),
     }
 }

@@ -7,6 +7,7 @@ ghost use Rattle.buck_book.specs.declared.posting.Posting.{Posting};
 ghost use Rattle.buck_figures.specs.Figures.{base_sheet};
 ghost use Rattle.buck_figures.specs.inner.Counted.{AreOfPosting};
 ghost use Rattle.buck_figures.specs.inner.Adding.{IsCuttable, logs_of, logs_in_some};
+ghost use Rattle.buck_figures.specs.inner.Owned.{cut_place};
 ghost use Rattle.buck_figures.specs.inner.Tally.{IsTally, IsTallyWith, AreAtMost, IsBelow};
 
 use crate::adding::sums_of;
@@ -50,6 +51,16 @@ fn logs_in(cutting: &Option<Cutting>) -> &[Log]
     }
 }
 
+/// The place of a posting, if it is a cut.
+fn cut_place(at: usize, posting: &Posting) -> Option<usize>
+    ensures { result ≡ cut_place at posting.now }
+{
+    match posting {
+        Posting::Cut(_) => Some(at),
+        Posting::Demand(_) => None,
+    }
+}
+
 /// Adds a posting at a place. The answer is what it comes to.
 pub(crate) fn add_posting(
     alloc: Global,
@@ -65,14 +76,15 @@ pub(crate) fn add_posting(
     requires counts { (length tally.old.counts.items ≡ classes planner.old.instruction) × AreAtMost 80000000 tally.old.counts.items }
     requires unsteered { (length tally.old.unsteered.items ≡ classes planner.old.instruction) × AreAtMost 80000000 tally.old.unsteered.items }
     ensures same { planner.new ≡ planner.old }
-    ensures added { IfOk result (λ s. (ps us : List Posting) → IsTally planner.old.instruction ps us tally.old
+    ensures added { IfOk result (λ s. (ps us : List Posting) → length ps ≡ at
+        → IsTally planner.old.instruction ps us tally.old
         → IsTallyWith planner.old.instruction ps us posting.now s tally.new) }
     ensures own { OnOk result (AreOfPosting planner.old.instruction posting.now (logs_of posting.now)) }
     ensures low { OnOk result ((most : ℕ) → AreAtMost most tally.old.counts.items → AreAtMost most tally.old.unsteered.items
         → AreAtMost (most + 80) tally.new.counts.items × AreAtMost (most + 80) tally.new.unsteered.items) }
 {
     let (sums, unsteered) = sums_of(alloc, planner, posting)?;
-    let cut = if unsteered.is_some() { Some(at) } else { None };
+    let cut = cut_place(at, posting);
     add_own(&mut tally.owns, posting.harvester(), &sums, cut)?;
     tally.total = tally.total.plus(&sums);
     let base = planner.sheet();

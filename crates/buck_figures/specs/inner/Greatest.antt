@@ -1,5 +1,5 @@
 -- The first of the greatest of some numbers, and how great it is.
-use Rattle.std.specs.Prelude.{◌≡◌, ℕ, ◌≤◌, List, slice_index, Option, Some, None}
+use Rattle.std.specs.Prelude.{◌≡◌, ℕ, List, slice_index, Option, Some, None}
 use Rattle.buck_figures.specs.Greatest.{IsFirstGreatest}
 use Rattle.buck_figures.specs.declared.greatest.Greatest.{Greatest}
 

@@ -1,10 +1,10 @@
 -- How the figures of a journal are made.
-use Rattle.std.specs.Prelude.{◌≡◌, ◌↔◌, ℕ, ◌+◌, ◌<◌, IsTrue, List, length, take, slice_get, Option, Some}
+use Rattle.std.specs.Prelude.{◌≡◌, ◌↔◌, ℕ, ◌+◌, ◌<◌, IsTrue, List, length, slice_get, Option, Some}
 use Rattle.buck_apt.specs.Instruction.{InstructionParts}
 use Rattle.buck_book.specs.declared.posting.Posting.{Posting}
 use Rattle.buck_book.specs.Posting.{ends_of}
 use Rattle.buck_book.specs.Degree.{IsDegreeBy}
-use Rattle.buck_book.specs.Walk.{WalkParts, passed}
+use Rattle.buck_book.specs.Walk.{passed}
 use Rattle.buck_figures.specs.Points.{point_after, IsPoint}
 use Rattle.buck_figures.specs.inner.Course.{IsCourse}
 use Rattle.buck_figures.specs.declared.figures.Point.{Point}

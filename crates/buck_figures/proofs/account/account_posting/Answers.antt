@@ -1,4 +1,4 @@
-use Rattle.std.proofs.Common.{◌≡◌, ◌+◌, ◌*◌, ◌<◌, ◌≤◌, [], ◌∷◌, ◌++◌, length, sym, subst, arith, rules}
+use Rattle.std.proofs.Common.{◌≡◌, ◌+◌, ◌*◌, [], ◌∷◌, ◌++◌, length, subst, arith, rules}
 use Rattle.buck_value.specs.Sheet.{SheetParts}
 use Rattle.buck_figures.specs.inner.Assorted.{ArePartsOn}
 use Rattle.buck_figures.specs.inner.Greatest.{IsGreatest}
@@ -25,5 +25,5 @@ returns-clause-passed c = λ ps us is account.
     let low = c.in_ok-sums.ensures.low (80 * length ps) account.counts_low account.unsteered_low in
     account_more i c.args.planner.now ps us c.args.posting.now c.args.at c.cost.result c.in_ok-sums.sums c.args.account.now
     (record { tally = c.add_posting.new.tally; parts = c.add_parts.new.parts; longest = c.with-account.result; dearest = c.with-account-2.result })
-    c.requires.base is account (c.in_ok-sums.ensures.added ps us account.tally) low.0 low.1 c.in_ok-sums.ensures.own parts
+    c.requires.base is account (c.in_ok-sums.ensures.added ps us is account.tally) low.0 low.1 c.in_ok-sums.ensures.own parts
     (λ ns number old. subst (λ n. IsGreatest (ns ++ (n + c.in_ok-sums.sums.length) ∷ []) c.with-account.result) c.from.ensures (c.with-account.ensures ns number old)) c.cost.ensures (λ ns number old. c.with-account-2.ensures ns number old)

@@ -1,17 +1,13 @@
 use Rattle.std.proofs.Common.{◌≡◌, [], ◌∷◌, refl, sym, subst, ap, ◌∙◌, rules}
-use Rattle.buck_apt.specs.Instruction.{InstructionParts}
 use Rattle.buck_stem.specs.Stem.{StemParts}
 use Rattle.buck_value.specs.Sheet.{SheetParts}
 use Rattle.buck_dp.specs.Best.{IsAdmissible, IsFirstBest, cutting_worth}
 use Rattle.buck_book.specs.Entry.{EntryParts}
-use Rattle.buck_book.specs.declared.posting.Posting.{Posting}
 use Rattle.buck_book.specs.declared.posting.Posting.TheVariants.{Cut, Demand}
 use Rattle.buck_figures.specs.Figures.{base_sheet}
 use Rattle.buck_figures.specs.Sums.{AreSums}
 use Rattle.buck_figures.specs.inner.Adding.{IsPassed, IsCuttable, logs_of}
 use Rattle.buck_figures.specs.inner.Counted.{AreOfPosting}
-use Rattle.buck_dp.proofs.Lists.{each_allowed}
-use Rattle.buck_book.proofs.Cuts.{few_logs}
 use Rattle.buck_figures.proofs.SumLemmas.{passed_cut, of_posting}
 use Rattle.buck_figures.proofs.adding.sums_of.Goals as goal
 

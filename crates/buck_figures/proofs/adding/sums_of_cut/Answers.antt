@@ -1,9 +1,7 @@
-use Rattle.std.proofs.Common.{◌≡◌, ◌∙◌, ◌+◌, ◌≤◌, ◌<◌, arith, rules, sym, subst, ap, length}
-use Rattle.std.specs.Prelude.{List, sum_by}
+use Rattle.std.proofs.Common.{◌≡◌, ◌∙◌, arith, rules, subst, ap}
+use Rattle.std.specs.Prelude.{List}
 use Rattle.buck_stem.specs.Stem.{StemParts, stem_length}
 use Rattle.buck_value.specs.declared.log.Log.{Log}
-use Rattle.buck_value.specs.Allowed.{trim_of}
-use Rattle.buck_dp.specs.Best.{cutting_worth}
 use Rattle.buck_dp.proofs.Lists.{each_allowed}
 use Rattle.buck_figures.specs.inner.Adding.{IsWoodOf}
 use Rattle.buck_figures.proofs.SumLemmas.{within_stem}

@@ -1,7 +1,6 @@
-use Rattle.std.proofs.Common.{◌≡◌, ◌+◌, ◌<◌, length, get_or, refl, arith, ap, subst}
+use Rattle.std.proofs.Common.{◌≡◌, ◌<◌, length, get_or, arith}
 use Rattle.std.proofs.lemmas.List.{get_or_read, get_or_default}
 use Rattle.buck_value.specs.declared.log.Log.{Log}
-use Rattle.buck_figures.specs.inner.Counted.{AreCountsWith}
 use Rattle.buck_figures.proofs.CountLemmas.{count_more}
 use Rattle.buck_figures.proofs.counting.count_logs.Goals as goal
 

@@ -1,5 +1,4 @@
-use Rattle.std.proofs.Common.{◌≡◌, ◌+◌, ◌<◌, ◌∙◌, List, length, sym, subst}
-use Rattle.std.specs.Prelude.{slice_get, Some}
+use Rattle.std.proofs.Common.{◌∙◌, sym, subst}
 use Rattle.buck_value.specs.Sheet.{SheetParts}
 use Rattle.buck_figures.specs.inner.Account.{IsAccount, IsAccountWith}
 use Rattle.buck_figures.proofs.CourseLemmas.{one_further}

@@ -1,4 +1,4 @@
-use Rattle.std.proofs.Common.{◌≡◌, ◌+◌, ◌<◌, ◌++◌, ◌∙◌, List, length, sym, subst}
+use Rattle.std.proofs.Common.{◌+◌, ◌++◌, ◌∙◌, sym, subst}
 use Rattle.buck_book.specs.Walk.{WalkParts}
 use Rattle.buck_figures.specs.inner.Course.{ArePassable}
 use Rattle.buck_figures.proofs.CourseLemmas.{further_from, further_on}

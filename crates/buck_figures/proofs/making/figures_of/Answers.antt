@@ -1,12 +1,8 @@
-use Rattle.std.proofs.Common.{◌≡◌, ◌+◌, ◌<◌, ◌≤◌, ◌∙◌, List, length, take, map, ap, sym, subst, refl, arith, rules, Vec, Global, ℕ}
+use Rattle.std.proofs.Common.{◌≡◌, ◌∙◌, length, map, ap, sym, subst, refl, arith, rules, Vec, Global, ℕ}
 use Rattle.std.specs.Prelude.{min}
 use Rattle.std.proofs.Math.Seq.{take-length}
-use Rattle.buck_apt.specs.Instruction.{InstructionParts, classes}
-use Rattle.buck_book.specs.declared.posting.Posting.{Posting}
 use Rattle.buck_book.specs.Posting.{ends_of}
 use Rattle.buck_book.specs.History.{prices_at}
-use Rattle.buck_figures.specs.Figures.{base_sheet}
-use Rattle.buck_figures.specs.Shown.{IsShowable}
 use Rattle.buck_figures.specs.inner.Making.{AreCurves}
 use Rattle.buck_figures.proofs.CourseLemmas.{last_point}
 use Rattle.buck_figures.proofs.LawfulLemmas.{passable, prices_number, showable}

@@ -1,4 +1,4 @@
-use Rattle.std.proofs.Common.{◌≡◌, ◌+◌, ◌<◌, ◌≤◌, ◌∙◌, [], ◌∷◌, ◌++◌, length, ap, sym, subst, refl, arith, rules}
+use Rattle.std.proofs.Common.{◌≡◌, ◌+◌, ◌≤◌, ◌∙◌, length, ap, sym, subst, refl, arith}
 use Rattle.std.specs.Prelude.{min}
 use Rattle.buck_book.specs.Walk.{WalkParts}
 use Rattle.buck_figures.specs.Points.{point_after}

@@ -1,4 +1,4 @@
-use Rattle.std.proofs.Common.{◌≡◌, List, ℕ, subst, rules}
+use Rattle.std.proofs.Common.{◌≡◌, List, subst, rules}
 use Rattle.buck_value.specs.declared.log.Log.{Log}
 use Rattle.buck_value.specs.Sheet.{SheetParts}
 use Rattle.buck_figures.specs.inner.Counted.{AreCountsOn}
@@ -7,7 +7,7 @@ use Rattle.buck_figures.proofs.TallyLemmas.{tally_more}
 use Rattle.buck_figures.proofs.tally.add_posting.Goals as goal
 
 pub returns-clause-added : goal.returns-clause-added
-returns-clause-added c = λ ps us tally.
+returns-clause-added c = λ ps us number tally.
     let x = c.args.posting.now in
     let before = c.args.tally.now in
     let logs = logs_in_some c.in_ok-sums.unsteered in
@@ -19,6 +19,6 @@ returns-clause-added c = λ ps us tally.
     let unsteered : AreCountsOn c.args.planner.now.instruction x logs before.unsteered.items c.count_posting-2.new.counts.items =
     subst (λ (s : SheetParts). AreCountsOn s.instruction x logs before.unsteered.items c.count_posting-2.new.counts.items) shown'
     (subst (λ (l : List Log). AreCountsOn c.deref-2.result.now.instruction x l before.unsteered.items c.count_posting-2.new.counts.items) c.logs_in.ensures c.count_posting-2.ensures) in
-    tally_more c.args.planner.now.instruction ps us x c.harvester.result c.in_ok-sums.sums logs c.if-is_some.cut
+    tally_more c.args.planner.now.instruction ps us x c.args.at c.harvester.result c.in_ok-sums.sums logs c.cut_place-cut.result
     before (record { total = c.plus-tally.result; owns = c.add_own.new.owns; counts = c.count_posting.new.counts; unsteered = c.count_posting-2.new.counts })
-    c.harvester.ensures tally c.in_ok-sums.ensures.passed c.plus-tally.ensures c.in_ok-add_own.ensures.own c.in_ok-add_own.ensures.others counts unsteered
+    number c.cut_place-cut.ensures c.harvester.ensures tally c.in_ok-sums.ensures.passed c.plus-tally.ensures c.in_ok-add_own.ensures.own c.in_ok-add_own.ensures.others counts unsteered

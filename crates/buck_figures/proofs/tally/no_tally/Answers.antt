@@ -1,4 +1,3 @@
-use Rattle.std.proofs.Common.{◌≡◌, refl}
 use Rattle.buck_figures.proofs.TallyLemmas.{tally_none, none_high}
 use Rattle.buck_apt.specs.Instruction.{classes}
 use Rattle.buck_figures.proofs.tally.no_tally.Goals as goal

@@ -1,5 +1,5 @@
-use Rattle.std.proofs.Common.{◌≡◌, ◌≤◌, arith}
-use Rattle.buck_figures.proofs.GreatestLemmas.{greater, not_greater}
+use Rattle.std.proofs.Common.{arith}
+use Rattle.buck_figures.proofs.GreatestLemmas.{not_greater}
 use Rattle.buck_figures.proofs.greatest.Greatest.with.Goals as goal
 
 pub returns-else-size-self : goal.returns-else-size-self

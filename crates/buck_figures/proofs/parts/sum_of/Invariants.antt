@@ -1,0 +1,6 @@
+use Rattle.std.proofs.Common.{◌≡◌, ◌<◌, ◌^◌, take}
+use Rattle.std.specs.Prelude.{sum}
+use Rattle.buck_figures.proofs.parts.sum_of.Given as goal
+
+abbrev pub invariant-loop-number : goal.invariant-loop-number
+invariant-loop-number l = sum (take l.number-index l.numbers) < 2 ^ 64 → l.all ≡ sum (take l.number-index l.numbers)
