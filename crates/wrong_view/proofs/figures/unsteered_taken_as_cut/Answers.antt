@@ -1,0 +1,13 @@
+use Rattle.std.proofs.Common.{arith}
+use Rattle.wrong_view.proofs.Postings.{outvalued, told}
+use Rattle.wrong_view.proofs.figures.unsteered_taken_as_cut.Goals as goal
+
+pub prove-unreachable-requires : goal.prove-unreachable-requires
+prove-unreachable-requires c =
+    let i = c.args.instruction.now in
+    let j = c.args.journal.now in
+    let d = c.requires.after_a_demand.0 in
+    let e = c.args.entry.now in
+    let f = c.in-Ok.figures in
+    let less = outvalued i j d e f c.requires.outvalued (told i j _ f c.requires.after_a_demand.1 c.in-Ok.ensures.figures) in
+    omega (arith, less, c.if-prove.true)

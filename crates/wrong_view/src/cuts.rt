@@ -1,0 +1,104 @@
+//! Cuts told otherwise than they were.
+ghost use Rattle.std.specs.Prelude.{◌≡◌, [], ◌∷◌, length, map};
+ghost use Rattle.buck_figures.specs.Shown.{IsShown};
+ghost use Rattle.wrong_view.specs.Cuts.{AreOfTwoStems, IsAfterDemand, IsOffBase, IsOutvalued};
+
+use buck_book::{Demand, Entry, Posting};
+use buck_dp::Planner;
+use buck_figures::{Figures, cut_at};
+use std::alloc::Global;
+
+/// The cut after the one that is asked for is told.
+pub fn cut_of_the_next_place(alloc: Global, figures: &Figures<'_>, planner: &mut Planner)
+    requires shown { IsShown figures.now planner.old }
+    requires two { AreOfTwoStems figures.now.postings.now }
+{
+    let Ok(Some(cut)) = cut_at(alloc, figures, planner, 0) else {
+        return;
+    };
+    let entry = cut.entry;
+    let right = entry.stem.number();
+    let wrong = 2;
+    prove!(right != wrong);
+}
+
+/// A demand is told as a cut.
+pub fn demand_told_as_a_cut(
+    alloc: Global,
+    figures: &Figures<'_>,
+    planner: &mut Planner,
+    demand: &Demand,
+)
+    requires shown { IsShown figures.now planner.old }
+    requires only { figures.now.postings.now ≡ Posting.Demand demand.now ∷ [] }
+{
+    let Ok(told) = cut_at(alloc, figures, planner, 0) else {
+        return;
+    };
+    let right = told.is_some();
+    let wrong = true;
+    prove!(right != wrong);
+}
+
+/// A cut isn't told.
+pub fn cut_not_told(alloc: Global, figures: &Figures<'_>, planner: &mut Planner, entry: &Entry)
+    requires shown { IsShown figures.now planner.old }
+    requires only { figures.now.postings.now ≡ Posting.Cut entry.now ∷ [] }
+{
+    let Ok(told) = cut_at(alloc, figures, planner, 0) else {
+        return;
+    };
+    let right = told.is_none();
+    let wrong = true;
+    prove!(right != wrong);
+}
+
+/// A log of a cut isn't told.
+pub fn last_log_not_told(alloc: Global, figures: &Figures<'_>, planner: &mut Planner, entry: &Entry)
+    requires shown { IsShown figures.now planner.old }
+    requires only { figures.now.postings.now ≡ Posting.Cut entry.now ∷ [] }
+    requires logs { length entry.now.logs ≡ 2 }
+{
+    let Ok(Some(cut)) = cut_at(alloc, figures, planner, 0) else {
+        return;
+    };
+    let right = cut.pieces.len();
+    let wrong = 1;
+    prove!(right != wrong);
+}
+
+/// The cut is told as the best one at base prices.
+pub fn best_is_the_cut(alloc: Global, figures: &Figures<'_>, planner: &mut Planner, entry: &Entry)
+    requires shown { IsShown figures.now planner.old }
+    requires after_a_demand { IsAfterDemand figures.now.postings.now entry.now }
+    requires outvalued { IsOutvalued figures.now.instruction.now entry.now }
+{
+    let Ok(Some(cut)) = cut_at(alloc, figures, planner, 1) else {
+        return;
+    };
+    let right = cut.best;
+    let wrong = cut.at_base;
+    prove!(right != wrong);
+}
+
+/// A log's base price is told as the price that was in force.
+pub fn piece_at_its_base_price(
+    alloc: Global,
+    figures: &Figures<'_>,
+    planner: &mut Planner,
+    entry: &Entry,
+)
+    requires shown { IsShown figures.now planner.old }
+    requires after_a_demand { IsAfterDemand figures.now.postings.now entry.now }
+    requires off { IsOffBase figures.now.instruction.now (map (λ w. w.items) figures.now.sheets.now) entry.now }
+{
+    let Ok(Some(cut)) = cut_at(alloc, figures, planner, 1) else {
+        return;
+    };
+    let Some(piece) = cut.pieces.get(0) else {
+        return;
+    };
+    let right = piece.price;
+    let wrong = piece.base_price;
+    prove!(right != wrong);
+}
