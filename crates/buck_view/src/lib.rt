@@ -1,12 +1,7 @@
-//! The page that a mill opens, of a journal that is lawful, and of one that isn't.
+//! The page that a mill opens, of a journal that is lawful; that of one that isn't is passed on.
 #![tactic(auto)]
 
-mod fault;
-mod head;
 mod sections;
-mod stems;
-mod style;
 
-pub use fault::fault_page;
-pub use head::Files;
+pub use buck_unlawful::{Files, fault_page};
 pub use sections::page;

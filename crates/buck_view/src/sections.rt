@@ -2,14 +2,14 @@
 ghost use Rattle.std.specs.Prelude.{◌<◌, length};
 ghost use Rattle.buck_figures.specs.Shown.{IsShown};
 
-use crate::head::{Files, close_head, open_head};
-use crate::stems::write_stems;
 use buck_apt::{Assortment, Instruction};
 use buck_book::{Demand, Posting, degree_at};
 use buck_charts::{write_degree_chart, write_matrices, write_price_chart};
 use buck_dp::Planner;
-use buck_figures::{Figures, Own, Sums, part, sum_of};
+use buck_drawn::write_stems;
+use buck_figures::{Figures, MOST_POINTS, Own, Sums, part, sum_of};
 use buck_record::Memory;
+use buck_unlawful::{Files, close_head, open_head};
 use buck_words::{
     Apart, Chip, DOT, Fixed, Grouped, Known, Metres, Millionths, Several, Signed, degree_text,
     difference_of, half_up, limit_text, permille,
@@ -20,9 +20,6 @@ use std::fmt;
 
 /// At most so many demands have a row.
 const MOST_DEMANDS: u64 = 12;
-
-/// The curves have at most so many points.
-const MOST_POINTS: usize = 200;
 
 /// Writes a tile's figure in its unit; what it is comes behind.
 fn open_tile<V: fmt::Display + Drop>(

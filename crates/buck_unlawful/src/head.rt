@@ -23,7 +23,7 @@ impl fmt::Display for Files<'_> {
 }
 
 /// Writes the head of a page up to its title. Its policy lets nothing be loaded, whatever a name says.
-pub(crate) fn open_head(out: &mut String) -> Result<(), Memory> {
+pub fn open_head(out: &mut String) -> Result<(), Memory> {
     Ok(write!(
         out,
         "<!DOCTYPE html>\n<html lang=\"en\">\n<head>\n<meta charset=\"utf-8\">\n\
@@ -34,7 +34,7 @@ pub(crate) fn open_head(out: &mut String) -> Result<(), Memory> {
 }
 
 /// Writes the head of a page from its title on.
-pub(crate) fn close_head(out: &mut String) -> Result<(), Memory> {
+pub fn close_head(out: &mut String) -> Result<(), Memory> {
     Ok(write!(
         out,
         " &#8211; Gielbrok</title>\n<style>\n{STYLE}</style>\n</head>\n<body>\n\

@@ -553,7 +553,7 @@ fn write_lead(out: &mut String, figures: &Figures<'_>, drawn: usize) -> Result<(
 }
 
 /// Writes the section of the stems, where one was cut.
-pub(crate) fn write_stems(
+pub fn write_stems(
     alloc: Global,
     out: &mut String,
     figures: &Figures<'_>,
