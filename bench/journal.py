@@ -1,11 +1,12 @@
 #!/usr/bin/env python3
-"""Writes a journal of 1,000,000 cuts, and reads and replays it.
+"""Writes a journal of 1,000,000 cuts, reads and replays it, and makes its page.
 
     python3 bench/journal.py --bin PATH/buckfleet
 
 `fleet` cuts as many stems of one sample, by one harvester in periods of 1,000, and writes the journal; `check` reads and
-replays it. A line for each says how long it took on the wall, the most memory that it held, its exit status and the
-last line that it wrote. It ends in status 1 where the journal isn't found lawful. --number makes another number of cuts.
+replays it, and `view` shows it. A line for each says how long it took on the wall, the most memory that it held, its exit
+status, how many bytes it wrote, and the last line of them. It ends in status 1 where the journal isn't found lawful.
+--number makes another number of cuts.
 """
 import argparse
 import os
@@ -29,9 +30,10 @@ def run(words):
         _, status, usage = os.wait4(child.pid, 0)
         took = time.monotonic() - start
         child.returncode = os.waitstatus_to_exitcode(status)
-        shown.seek(max(shown.seek(0, os.SEEK_END) - 1000, 0))
+        size = shown.seek(0, os.SEEK_END)
+        shown.seek(max(size - 1000, 0))
         last = (shown.read().splitlines() or [""])[-1]
-    print(f"{words[1]:6} {took:8.1f} s {usage.ru_maxrss / 1024:8.0f} MiB  status {child.returncode}  {last}", flush=True)
+    print(f"{words[1]:6} {took:8.1f} s {usage.ru_maxrss / 1024:8.0f} MiB  status {child.returncode}  {size:10,} bytes  {last}", flush=True)
     return last
 
 
@@ -51,6 +53,7 @@ def main():
         print(f"journal of {os.path.getsize(journal):,} bytes")
         if run([program, "check", instruction, journal]) != f"LAWFUL {words.number}":
             sys.exit(1)
+        run([program, "view", instruction, journal])
 
 
 main()
