@@ -49,11 +49,7 @@ pub fn turns_counted_after_the_instruction_was_read<'x>(
 }
 
 /// Something is written although a stem file is refused.
-pub fn turns_written_before_all_is_read<'x>(
-    alloc: Global,
-    apt: &'x [u8],
-    stms: &mut [&'x [u8]],
-) {
+pub fn turns_written_before_all_is_read<'x>(alloc: Global, apt: &'x [u8], stms: &mut [&'x [u8]]) {
     let rule = Rule::new(|s: &Standing| steady(s));
     let mut instruction = apt;
     let mut out = Vec::new(alloc);

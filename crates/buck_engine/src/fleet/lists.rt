@@ -77,25 +77,25 @@ fn check_seats(number: usize) -> Result<(), EngineFault>
     Ok(())
 }
 
-/// What harvesters are to do: an instruction, and the stems of each.
+/// What the files of a run say: an instruction, and a list of stems for each harvester.
 #[derive(Drop)]
-pub(crate) struct Orders {
+pub(crate) struct Input {
     pub(crate) instruction: Instruction,
     pub(crate) lists: Vec<Vec<Arc<Stem>>>,
 }
 
 /// What an instruction file and stem files say, where there are 1 to 64 stem files.
-pub(crate) fn read_orders<R: io::Read>(
+pub(crate) fn read_input<R: io::Read>(
     alloc: Global,
     apt: &mut R,
     stms: &mut [R],
-) -> Result<Orders, EngineFault>
+) -> Result<Input, EngineFault>
     ensures seats { AreNoSeats (length stms.old) → IsErrAnd result (λ fault. fault ≡ Seats) }
     ensures some { OnOk result ((0 < length stms.old) × (length stms.old ≤ 64)) }
-    ensures instruction { IfOk result (λ orders. Says apt_of (R.remaining apt.old) (Ok orders.instruction)) }
-    ensures number { IfOk result (λ orders. length orders.lists.items ≡ length stms.old) }
-    ensures lists { IfOk result (λ orders.
-        AreListsOf (length stms.old) (map R.remaining stms.old) orders.lists.items) }
+    ensures instruction { IfOk result (λ input. Says apt_of (R.remaining apt.old) (Ok input.instruction)) }
+    ensures number { IfOk result (λ input. length input.lists.items ≡ length stms.old) }
+    ensures lists { IfOk result (λ input.
+        AreListsOf (length stms.old) (map R.remaining stms.old) input.lists.items) }
     ensures refused { IfErr result (IsFleetFault (R.remaining apt.old) (map R.remaining stms.old)) }
     ensures order { IfErr result (IfStopped (λ last. drop last stms.new ≡ drop last stms.old)) }
     ensures unread { IfErr result (λ fault. fault ≡ Seats → apt.new ≡ apt.old) }
@@ -103,7 +103,7 @@ pub(crate) fn read_orders<R: io::Read>(
     check_seats(stms.len())?;
     let instruction = read_instruction(alloc, apt)?;
     let lists = read_lists(alloc, stms)?;
-    Ok(Orders { instruction, lists })
+    Ok(Input { instruction, lists })
 }
 
 /// How many stems stand in all lists.

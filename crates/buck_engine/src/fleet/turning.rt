@@ -13,7 +13,7 @@ ghost use Rattle.buck_engine.specs.fleet.Running.{AreNoSeats, IsCuttingFault, Is
 ghost use Rattle.buck_engine.specs.inner.Fleet.{HasCutLists};
 
 use crate::fault::EngineFault;
-use crate::fleet::lists::{Orders, number_of_stems, read_orders};
+use crate::fleet::lists::{Input, number_of_stems, read_input};
 use crate::fleet::onlooker::{Nobody, Onlooker};
 use crate::fleet::writing::{write_journal_and_report, write_report};
 use crate::text::report::{Ending, Harvested};
@@ -139,7 +139,7 @@ pub(crate) fn cut_files_in_turn<F: Fn(&Standing) -> u64 + Drop, R: io::Read, O: 
     ensures order { IfErr result (IfStopped (λ last. drop last stms.new ≡ drop last stms.old)) }
     ensures unread { IfErr result (λ fault. fault ≡ Seats → apt.new ≡ apt.old) }
 {
-    let Orders { instruction, lists } = read_orders(alloc, apt, stms)?;
+    let Input { instruction, lists } = read_input(alloc, apt, stms)?;
     onlooker.cutting(number_of_stems(lists.as_slice()));
     cut_lists(alloc, instruction, rule, lists.as_slice())
 }

@@ -16,4 +16,4 @@ returns-in_ok-closed-in-Some-clause-run g c =
     let cut = c.in_ok-closed-in-Some.ensures in
     let contents = g.J.Write.contents in
     rw c.in-Some.is (texts_written AtOnce _ _ (of_writer (contents c.in-Some.journal.now) (contents c.write_journal_and_report.new.journal)) _ _ _ _ _
-        (λ none. cut.seats (of_files g.R.Read.remaining c.args.stms.now none)) cut.ok tt c.harvested_by-in-Some.ensures c.write_journal_and_report.ensures)
+    (λ none. cut.seats (of_files g.R.Read.remaining c.args.stms.now none)) cut.ok tt c.harvested_by-in-Some.ensures c.write_journal_and_report.ensures)

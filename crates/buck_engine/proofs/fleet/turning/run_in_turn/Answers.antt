@@ -16,4 +16,4 @@ returns-in_ok-turned-in-Some-clause-run g c =
     let cut = c.in_ok-turned-in-Some.ensures in
     let contents = g.J.Write.contents in
     rw c.in-Some.is (texts_written InTurn _ _ (of_writer (contents c.in-Some.journal.now) (contents c.write_journal_and_report.new.journal)) _ _ _ _ _
-        (λ none. cut.seats (of_files g.R.Read.remaining c.args.stms.now none)) cut.ok cut.in_turn c.history-in-Some.ensures c.write_journal_and_report.ensures)
+    (λ none. cut.seats (of_files g.R.Read.remaining c.args.stms.now none)) cut.ok cut.in_turn c.history-in-Some.ensures c.write_journal_and_report.ensures)
