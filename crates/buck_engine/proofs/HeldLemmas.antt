@@ -1,5 +1,5 @@
 -- Prices that are held against a rule, class by class, and what was cut of each assortment.
-use Rattle.std.proofs.Common.{◌≡◌, ◌≢◌, ℕ, ◌+◌, ◌*◌, ◌<◌, ◌≤◌, ◌==◌, inl, inr, List, [], ◌∷◌, ◌++◌, length, take, slice_index, replicate, get_or, refl, sym, ◌∙◌, ap, subst, arith}
+use Rattle.std.proofs.Common.{◌≡◌, ℕ, ◌+◌, ◌<◌, ◌≤◌, ◌==◌, inl, inr, List, [], ◌∷◌, ◌++◌, length, slice_index, replicate, get_or, refl, sym, ◌∙◌, ap, subst, arith}
 use Rattle.std.specs.Prelude.{Result, Ok, Err}
 use Rattle.std.specs.Result.{OnOk}
 use Rattle.std.proofs.lemmas.Bool.{cases_lt}
@@ -16,7 +16,7 @@ use Rattle.buck_book.specs.Targets.{AreTargets}
 use Rattle.buck_book.specs.Counts.{AreClassCounts, assortment_logs, assortment_logs_in, class_logs_in, count_of, assortment_count_of}
 use Rattle.buck_book.specs.History.{standing_of}
 use Rattle.buck_book.specs.inner.Running.{AreCounts, AreGrownBy}
-use Rattle.buck_book.specs.inner.Pricing.{CanPrice, standing_by}
+use Rattle.buck_book.specs.inner.Pricing.{standing_by}
 use Rattle.buck_book.proofs.Cuts.{class_logs-le}
 use Rattle.buck_book.proofs.Places.{one_place, place_lt}
 use Rattle.buck_book.proofs.Standings.{one_assortment, standing_is}

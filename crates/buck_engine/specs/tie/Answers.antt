@@ -4,7 +4,7 @@ use Rattle.buck_apt.specs.Instruction.{InstructionParts}
 use Rattle.buck_apt.specs.Apt.{apt_of}
 use Rattle.buck_stem.specs.Stem.{StemParts}
 use Rattle.buck_stem.specs.Stm.{stm_of}
-use Rattle.buck_book.specs.History.{HistoryParts, IsLawful}
+use Rattle.buck_book.specs.History.{IsLawful}
 use Rattle.buck_journal.specs.Journal.{JournalParts, journal_of}
 use Rattle.buck_journal.specs.Replay.{history_of}
 use Rattle.buck_engine.specs.declared.fault.EngineFault.{EngineFault}

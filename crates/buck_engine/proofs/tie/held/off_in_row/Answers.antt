@@ -1,4 +1,4 @@
-use Rattle.std.proofs.Common.{◌≡◌, ◌≢◌, ◌+◌, ◌<◌, length, slice_index, sym, ◌∙◌, ap, refl, subst, arith}
+use Rattle.std.proofs.Common.{◌≡◌, ◌+◌, ◌<◌, length, slice_index, sym, ◌∙◌, ap, subst, arith}
 use Rattle.buck_apt.specs.declared.class.Class.{Class}
 use Rattle.buck_apt.specs.Instruction.{index_of}
 use Rattle.buck_book.specs.inner.Pricing.{standing_by}

@@ -1,4 +1,4 @@
-use Rattle.std.proofs.Common.{◌≡◌, ◌+◌}
+use Rattle.std.proofs.Common.{◌+◌}
 use Rattle.buck_apt.specs.Instruction.{index_of}
 use Rattle.buck_engine.specs.inner.Tie.{AreByRuleBelow}
 use Rattle.buck_engine.proofs.tie.held.off_in_row.Given as goal

@@ -1,4 +1,4 @@
-use Rattle.std.proofs.Common.{◌≡◌, ◌<◌, ◌≤◌, ◌-◌, ℕ, length, take}
+use Rattle.std.proofs.Common.{◌≡◌, ◌<◌, ◌-◌, ℕ, length, take}
 use Rattle.buck_book.specs.Walk.{walk_of}
 use Rattle.buck_journal.specs.Replay.{history_of}
 use Rattle.buck_engine.specs.tie.Ties.{ArePricesAt}

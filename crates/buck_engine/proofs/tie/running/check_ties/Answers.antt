@@ -1,4 +1,4 @@
-use Rattle.std.proofs.Common.{inl, inr, refl}
+use Rattle.std.proofs.Common.{inr, refl}
 use Rattle.buck_journal.specs.Replay.{history_of}
 use Rattle.buck_engine.proofs.tie.running.check_ties.Goals as goal
 

@@ -1,5 +1,4 @@
 use Rattle.std.proofs.Common.{sym, ◌∙◌, ap, subst, arith, slice_index}
-use Rattle.std.proofs.lemmas.List.{get_or_read}
 use Rattle.buck_rule.specs.Standing.{IsInRange}
 use Rattle.buck_book.specs.inner.Pricing.{StandingsParts}
 use Rattle.buck_book.proofs.Standings.{class_in, has_counts, stands_by, stands_in_range, base_is}
