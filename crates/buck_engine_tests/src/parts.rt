@@ -5,9 +5,6 @@ use std::alloc::Global;
 use std::test::Fail;
 use std::thread::Threads;
 
-/// Numbers of stems: of no part, of one, and of many.
-const STEMS: [u32; 4] = [0, 1, 7, 1_000];
-
 /// A stem file of so many stems, each with a number of its own.
 fn stem_file(alloc: Global, number: u32) -> Result<String, Fail> {
     let mut text = String::from_str(alloc, "1 2 STM~\n")?;
@@ -39,9 +36,8 @@ fn is_same<T: Threads + Sync>(rt: &T, alloc: Global, number: u32) -> Result<bool
 
 #[test]
 fn numbers_of_threads(rt: HostRuntime) -> Result<(), Fail> {
-    for number in STEMS {
-        let same = is_same(&rt, rt.alloc(), number)?;
-        assert!(rt; same, "{number}");
+    for number in [0, 1, 7, 1_000] {
+        assert!(rt; is_same(&rt, rt.alloc(), number)?, "{number}");
     }
     Ok(())
 }
