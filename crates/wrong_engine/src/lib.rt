@@ -15,3 +15,4 @@ pub mod reports;
 pub mod texts;
 pub mod ties;
 pub mod turns;
+pub mod views;

@@ -1,5 +1,5 @@
 //! Wrong bodies of a bucking whose stems are cut in several threads at once.
-ghost use Rattle.std.specs.Prelude.{◌≡◌, ◌≢◌, ◌×◌, List, Ok};
+ghost use Rattle.std.specs.Prelude.{◌≡◌, ◌≢◌, List, Ok};
 ghost use Rattle.buck_apt.specs.Instruction.{InstructionParts};
 ghost use Rattle.buck_apt.specs.Apt.{apt_of};
 ghost use Rattle.buck_stem.specs.Stem.{StemParts};
