@@ -1,6 +1,6 @@
 //! Bucking in parts: in whatever number of threads stems are cut, what is written is what one thread writes.
 use crate::work::apt_and_stm;
-use buck_engine::{run_buck, run_buck_in_parts};
+use buck_engine::{EngineFault, run_buck, run_buck_in_parts};
 use std::alloc::Global;
 use std::test::Fail;
 use std::thread::Threads;
@@ -16,18 +16,29 @@ fn stem_file(alloc: Global, number: u32) -> Result<String, Fail> {
     Ok(text)
 }
 
+/// What so many threads write of an instruction file and a stem file, or one without threads where no number is told.
+fn text_by<'x, T: Threads + Sync>(
+    rt: &T,
+    alloc: Global,
+    (mut apt, mut stm): (&'x [u8], &'x [u8]),
+    threads: Option<u8>,
+) -> Result<Vec<u8>, EngineFault> {
+    let mut text = Vec::new(alloc);
+    match threads {
+        None => run_buck(alloc, &mut apt, &mut stm, &mut text)?,
+        Some(_) => run_buck_in_parts(rt, alloc, threads, &mut apt, &mut stm, &mut text)?,
+    }
+    Ok(text)
+}
+
 /// Whether 1 to 9 threads write of so many stems what one engine without threads writes.
 fn is_same<T: Threads + Sync>(rt: &T, alloc: Global, number: u32) -> Result<bool, Fail> {
     let (apt, _) = apt_and_stm();
     let stm = stem_file(alloc, number)?;
-    let (mut first, mut second) = (apt.as_bytes(), stm.as_bytes());
-    let mut one = Vec::new(alloc);
-    run_buck(alloc, &mut first, &mut second, &mut one)?;
+    let files = (apt.as_bytes(), stm.as_bytes());
+    let one = text_by(rt, alloc, files, None)?;
     for threads in 1..10 {
-        let (mut first, mut second) = (apt.as_bytes(), stm.as_bytes());
-        let mut many = Vec::new(alloc);
-        run_buck_in_parts(rt, alloc, Some(threads), &mut first, &mut second, &mut many)?;
-        if one.as_slice() != many.as_slice() {
+        if text_by(rt, alloc, files, Some(threads))?.as_slice() != one.as_slice() {
             return Ok(false);
         }
     }

@@ -156,11 +156,10 @@ impl Engine {
                 &mut text,
             ),
             Engine::Check => run_check(alloc, &mut first, &mut others[0], &mut text),
-            Engine::Tied => match &mut others {
-                [postings, rest @ ..] => {
-                    run_check_with(alloc, &mut first, postings, rest, named, &mut text)
-                }
-            },
+            Engine::Tied => {
+                let (postings, stms) = others.split_at_mut(1);
+                run_check_with(alloc, &mut first, &mut postings[0], stms, named, &mut text)
+            }
             Engine::Fleet => run_fleet_files(
                 rt,
                 alloc,
