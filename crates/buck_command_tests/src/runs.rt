@@ -86,7 +86,7 @@ const STEADY: &str = "check fault 4 1 0 600 400\n";
 type Row = (&'static str, u8, &'static str, &'static str);
 
 /// What needs no journal: the bare form, `buck`, and words of no command.
-const WORDS: [Row; 26] = [
+const WORDS: [Row; 23] = [
     ("", 0, TEXT, ""),
     ("buck apt stm", 0, TEXT, "apt stm "),
     ("buck --quiet apt stm", 0, TEXT, "apt stm "),
@@ -99,7 +99,6 @@ const WORDS: [Row; 26] = [
     ("buck apt bad", 1, "stm 1 fault 2\n", "apt bad "),
     ("buck none stm", 5, "read fault 0\n", "none "),
     ("buck apt none", 5, "read fault 1\n", "apt none "),
-    ("buck bad none", 5, "read fault 1\n", "bad none "),
     ("--help", 0, "Cuts each stem", ""),
     ("buck --help", 0, "Cuts each stem", ""),
     ("--version", 0, "buckfleet 0.1.0\n", ""),
@@ -109,25 +108,21 @@ const WORDS: [Row; 26] = [
     ("buck --fast apt stm", 2, "error: ", ""),
     ("buck --quiet --quiet apt stm", 2, "error: ", ""),
     ("--quiet", 2, "error: ", ""),
-    ("--quiet buck apt stm", 2, "error: ", ""),
-    ("buck --rule step apt stm", 2, "error: ", ""),
     ("bucks apt stm", 2, "error: ", ""),
     ("buck --in-turn apt stm", 2, "error: ", ""),
 ];
 
 /// The words of `fleet`.
-const FLEETS: [Row; 26] = [
+const FLEETS: [Row; 22] = [
     ("fleet apt stm", 0, ENTRY, "apt stm "),
     ("fleet --journal out apt stm", 0, ENTRY, "apt stm >out "),
     ("fleet apt stm --journal=no -q", 5, WRITE, "apt stm >no "),
     ("fleet apt stm --journal full", 5, WRITE, "apt stm >full "),
-    ("fleet apt bad --journal no", 5, WRITE, "apt bad >no "),
     ("fleet apt stm stm apt", 1, STM_3, "apt stm stm apt "),
     ("fleet --help", 0, "Cuts stem files", ""),
     ("fleet apt", 2, "error: ", ""),
     ("fleet --rule fast apt stm", 2, "error: ", ""),
     ("fleet --journal apt apt stm", 2, "error: OUT is", ""),
-    ("fleet apt stm --journal=stm", 2, "error: OUT is", ""),
     ("fleet --journal many apt stm many", 2, "error: OUT is", ""),
     ("fleet --journal ./stm apt stm", 5, WRITE, "apt stm >./stm "),
     (
@@ -156,16 +151,13 @@ const FLEETS: [Row; 26] = [
     ("fleet apt none stm --journal out", 5, READ_1, "apt none "),
     ("fleet --journal o apt stm none", 5, READ_2, "apt stm none "),
     ("fleet apt bad --journal out", 1, STM_1, "apt bad >out "),
-    ("fleet --in-turn apt bad", 1, STM_1, "apt bad "),
-    ("fleet --in-turn apt stm none", 5, READ_2, "apt stm none "),
 ];
 
 /// The words of `check` and `report`.
-const JOURNALS: [Row; 29] = [
+const JOURNALS: [Row; 27] = [
     ("check apt jrn", 0, "LAWFUL 1\n", "apt jrn "),
     ("check apt stm", 1, "journal fault 2\n", "apt stm "),
     ("check apt none", 5, "read fault 1\n", "apt none "),
-    ("check bad none", 5, "read fault 1\n", "bad none "),
     ("check --help", 0, "Says whether", ""),
     ("check apt", 2, "error: ", ""),
     ("report apt jrn", 0, REPORT, "apt jrn "),
@@ -195,7 +187,6 @@ const JOURNALS: [Row; 29] = [
     ("check apt unlawful bad", 1, STM_2, "apt unlawful bad "),
     ("check apt jrn stm none", 5, READ_3, "apt jrn stm none "),
     ("check --rule fast apt jrn", 2, "error: ", ""),
-    ("check --rule step --rule step apt jrn", 2, "error: ", ""),
 ];
 
 /// The words of `view` and `table`.
@@ -217,14 +208,13 @@ const PAGES: [Row; 14] = [
 ];
 
 /// The words of `explain`.
-const SENTENCES: [Row; 8] = [
+const SENTENCES: [Row; 7] = [
     ("explain replay fault 4 12", 0, "Posting 12, counted", ""),
     ("explain seats", 0, "There are more than 64 ", ""),
     ("explain nothing", 2, "error: there is no such", ""),
     ("explain replay fault 4", 2, "error: there is no such", ""),
     ("explain apt fault 3 953 1", 2, "error: there is", ""),
     ("explain", 2, "error: ", ""),
-    ("explain --quiet seats", 2, "error: ", ""),
     ("explain --help", 0, "Says what", ""),
 ];
 
