@@ -1,7 +1,7 @@
 #!/usr/bin/env python3
 """Times commits of short entries to a book of one thread, in periods of 100 entries.
 
-    python3 bench/commits.py                   # proves and builds crates/commit_bench, and prints a table
+    python3 bench/commits.py                   # proves and builds crates/bench_commits, and prints a table
     python3 bench/commits.py --bin PROGRAM     # one that is built already
 
 A commit is `prepare` with `commit`, timed by itself inside the program: the plans of a period are made before it. The
@@ -26,9 +26,9 @@ ENTRIES = [250_000, 500_000, 1_000_000]
 
 def build():
     """Proves and builds the program, and gives its path."""
-    folder = os.path.join(TOP, "crates", "commit_bench")
+    folder = os.path.join(TOP, "crates", "bench_commits")
     shown = subprocess.run(["rt", "run", "--", "1"], cwd=folder, capture_output=True, text=True)
-    program = os.path.join(folder, "out", "commit_bench")
+    program = os.path.join(folder, "out", "bench_commits")
     if shown.returncode != 0 or not os.path.exists(program):
         sys.exit("the program doesn't build:\n" + shown.stdout + shown.stderr)
     return program

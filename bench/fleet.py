@@ -1,7 +1,7 @@
 #!/usr/bin/env python3
 """Times a fleet that cuts one made harvest with 1, 2 and 4 threads, in periods of 1 and of 100 stems.
 
-    python3 bench/fleet.py                         # proves and builds crates/fleet_bench, and prints a table
+    python3 bench/fleet.py                         # proves and builds crates/bench_fleet, and prints a table
     python3 bench/fleet.py --bin PROGRAM           # one that is built already
     python3 bench/fleet.py --peer PROGRAM          # beside it the figures of a program with the commands gen and bench
 
@@ -26,9 +26,9 @@ THREADS = [1, 2, 4]
 
 def build():
     """Proves and builds the program, and gives its path."""
-    folder = os.path.join(TOP, "crates", "fleet_bench")
+    folder = os.path.join(TOP, "crates", "bench_fleet")
     shown = subprocess.run(["rt", "run", "--", "plans", "1", "data/saw.apt", "data/stems.stm"], cwd=folder, capture_output=True, text=True)
-    program = os.path.join(folder, "out", "fleet_bench")
+    program = os.path.join(folder, "out", "bench_fleet")
     if shown.returncode != 0 or not os.path.exists(program):
         sys.exit("the program doesn't build:\n" + shown.stdout + shown.stderr)
     return program

@@ -4,10 +4,11 @@
     python3 bench/measure.py                          # builds buckfleet, makes workloads, prints a table
     python3 bench/measure.py --bin NAME=PROGRAM ..    # beside it, other programs
     python3 bench/measure.py --threads 1 2 4          # buckfleet in so many threads, one after the other
+    python3 bench/measure.py --check --threads 1 2 4  # check of the journal that one harvester writes of the stems
 
 For each workload it prints, of the least of several runs: seconds, stems a second, nanoseconds for each pair of a
 position and a candidate log, and the peak memory. A second file of the same stems, but of a species that no assortment
-takes, tells what reading and writing alone cost.
+takes, tells what reading and writing alone cost; with --check, what reading its journal and walking along it cost.
 """
 import argparse
 import os
@@ -45,6 +46,13 @@ def run(words):
     return float(out[0]), int(out[1])
 
 
+def journal_of(program, apt, stm):
+    """The journal that one harvester writes of a stem file, by its path."""
+    out = stm + ".jrn"
+    subprocess.run([program, "fleet", "--journal", out, apt, stm], stdout=subprocess.DEVNULL, check=True)
+    return out
+
+
 def least(words, times):
     runs = [run(words) for _ in range(times)]
     return min(r[0] for r in runs), max(r[1] for r in runs)
@@ -58,10 +66,13 @@ def main():
     parser.add_argument("--times", type=int, default=5)
     parser.add_argument("--modules", type=int, nargs="*", default=[100, 10])
     parser.add_argument("--threads", type=int, nargs="*", default=[1])
+    parser.add_argument("--check", action="store_true")
+    parser.add_argument("--own", metavar="PROGRAM", help="buckfleet, where it is built already")
     args = parser.parse_args()
-    own = build()
-    programs = [(f"{n} threads" if n > 1 else "buckfleet", [own, "buck", "--threads", str(n)]) for n in args.threads]
-    programs += [(name, [program, "buck"]) for name, program in (b.split("=", 1) for b in args.bin)]
+    own = args.own or build()
+    word = "check" if args.check else "buck"
+    programs = [(f"{n} threads" if n > 1 else "buckfleet", [own, word, "--threads", str(n)]) for n in args.threads]
+    programs += [(name, [program, word]) for name, program in (b.split("=", 1) for b in args.bin)]
     with tempfile.TemporaryDirectory() as folder:
         for module in args.modules:
             out = os.path.join(folder, str(module))
@@ -70,12 +81,14 @@ def main():
                 + ["--stems", str(args.stems), "--seed", str(args.seed), "--module", str(module)]
             )
             pairs = int(open(os.path.join(out, "pairs")).read())
-            other = os.path.join(out, "other")
+            apt, read, other = (os.path.join(out, name) for name in ("apt", "stm", "other"))
             with open(other, "w") as file:
-                file.write(re.sub(r"952 1 1~", "952 1 2~", open(os.path.join(out, "stm")).read()))
+                file.write(re.sub(r"952 1 1~", "952 1 2~", open(read).read()))
+            if args.check:
+                read, other = (journal_of(own, apt, stm) for stm in (read, other))
             for name, words in programs:
-                seconds, memory = least(words + [os.path.join(out, "apt"), os.path.join(out, "stm")], args.times)
-                idle, _ = least(words + [os.path.join(out, "apt"), other], args.times)
+                seconds, memory = least(words + [apt, read], args.times)
+                idle, _ = least(words + [apt, other], args.times)
                 print(
                     f"module {module:4}  {name:10}  {seconds:7.3f} s  {args.stems / seconds:9.0f} stems/s  "
                     f"{seconds * 1e9 / pairs:6.2f} ns a pair, {(seconds - idle) * 1e9 / pairs:6.2f} of it for the cutting  "

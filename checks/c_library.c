@@ -1,8 +1,8 @@
 /*
  * What checks/c_library.py runs over the C library: calls at the edges of what the header allows, calls whose memory is
- * refused, and many threads at once. It says what is wrong, and ends with status 1 where anything is.
+ * refused, many threads at once, and books: at the edges, with memory refused, and one in each of many threads. It says what is wrong, and ends with status 1 where anything is.
  *
- *     c_library edges|memory|threads APT STM JOURNAL
+ *     c_library edges|memory|threads|books APT STM JOURNAL
  *
  * The files are those of a day: none of them is refused, and the journal is lawful.
  */
@@ -146,6 +146,41 @@ static void rooms(int k) {
     want(all_are(text, 0xff, needed, ROOM), "the rest is as it was");
 }
 
+/* The page and the tables of a journal, which want one word more. */
+static void shown(void) {
+    static uint8_t text[ROOM], again[ROOM];
+    static const uint8_t names[] = "a\nb";
+    size_t n = 0, needed;
+    uint8_t table;
+    want(buckfleet_view(NULL, 0, NULL, 0, NULL, 0, text, ROOM, &n) == BUCKFLEET_REFUSED, "a page of nothing");
+    want(memcmp(text, "apt fault ", 10) == 0, "its line");
+    want(buckfleet_view(apt.at, apt.length, journal.at, journal.length, names, 3, NULL, 0, &n) == BUCKFLEET_TOO_SMALL,
+         "a page with no room");
+    needed = n;
+    want(needed > 0 && needed < ROOM, "the length of a page");
+    memset(text, 0xff, ROOM);
+    want(buckfleet_view(apt.at, apt.length, journal.at, journal.length, names, 3, text, needed - 1, &n)
+             == BUCKFLEET_TOO_SMALL && all_are(text, 0xff, 0, ROOM), "a room one too small for a page");
+    want(buckfleet_view(apt.at, apt.length, journal.at, journal.length, names, 3, text, needed, &n) == BUCKFLEET_OK
+             && n == needed && memcmp(text, "<!", 2) == 0 && all_are(text, 0xff, needed, ROOM), "a page");
+    want(buckfleet_view(apt.at, apt.length, journal.at, journal.length, NULL, 0, text, ROOM, &n) == BUCKFLEET_OK,
+         "a page without names");
+    for (table = BUCKFLEET_CLASSES; table <= BUCKFLEET_DEGREES; table++) {
+        want(buckfleet_table(NULL, 0, NULL, 0, table, text, ROOM, &n) == BUCKFLEET_REFUSED, "a table of nothing");
+        want(buckfleet_table(apt.at, apt.length, journal.at, journal.length, table, NULL, 0, &n) == BUCKFLEET_TOO_SMALL,
+             "a table with no room");
+        needed = n;
+        memset(again, 0xff, ROOM);
+        want(buckfleet_table(apt.at, apt.length, journal.at, journal.length, table, again, needed - 1, &n)
+                 == BUCKFLEET_TOO_SMALL && all_are(again, 0xff, 0, ROOM), "a room one too small for a table");
+        want(buckfleet_table(apt.at, apt.length, journal.at, journal.length, table, again, needed, &n) == BUCKFLEET_OK
+                 && n == needed && all_are(again, 0xff, needed, ROOM), "a table");
+    }
+    n = 9;
+    want(buckfleet_table(apt.at, apt.length, journal.at, journal.length, 4, NULL, 0, &n) == BUCKFLEET_MISUSED && n == 0,
+         "no such table");
+}
+
 static void edges(void) {
     static const char head[] = "1 2 JRN~";
     uint8_t text[64];
@@ -157,6 +192,7 @@ static void edges(void) {
     nothing(buckfleet_report, "report of nothing");
     for (k = 0; k < CALLS; k++)
         rooms(k);
+    shown();
     want(memcmp(right[0].text, "STEM ", 5) == 0, "a bucking");
     want(memcmp(right[1].text, "LAWFUL ", 7) == 0, "a check");
     want(memcmp(right[2].text, "ENTRY 0 ", 8) == 0, "a report");
@@ -229,6 +265,262 @@ static void threads(void) {
     }
 }
 
+/* ---- books ---- */
+
+enum { STEMS = 12, SAMPLES = 150, MOST_CLASSES = 16384 };
+
+/* What comes of a day in a book of its own. */
+struct day {
+    buckfleet_cutting cuttings[STEMS];
+    uint32_t prices[MOST_CLASSES], counts[MOST_CLASSES];
+    size_t prices_length, counts_length;
+    uint8_t journal[ROOM];
+    size_t journal_length;
+};
+
+static uint16_t tapered[STEMS][SAMPLES];
+static const buckfleet_zone zones[] = { { 0, 1 }, { 4600, 2 } };
+static const buckfleet_terms terms = { 1000, BUCKFLEET_STEP };
+
+/* Every other stem has zones; no two are equal. */
+static buckfleet_felled felled_at(int k) {
+    buckfleet_felled felled = { 1 + k % 3, 100 + k, 1 + k % 2 };
+    return felled;
+}
+
+static uint8_t cut_at(buckfleet_book *book, int k, buckfleet_cutting *cutting) {
+    buckfleet_felled felled = felled_at(k);
+    return buckfleet_cut(book, &felled, tapered[k], SAMPLES, zones, k % 2 ? 2 : 0, cutting);
+}
+
+static void taper(void) {
+    int k, i;
+    for (k = 0; k < STEMS; k++)
+        for (i = 0; i < SAMPLES; i++)
+            tapered[k][i] = (uint16_t)(420 + 5 * k - 2 * i);
+}
+
+/* The first status of a day that isn't OK: stems are cut, and halfway the targets that are in force come again. */
+static uint8_t day_in(buckfleet_book *book, struct day *day) {
+    uint8_t status = buckfleet_open(book, apt.at, apt.length, &terms);
+    int k;
+    for (k = 0; k < STEMS && status == BUCKFLEET_OK; k++) {
+        status = cut_at(book, k, &day->cuttings[k]);
+        if (k == STEMS / 2 && status == BUCKFLEET_OK)
+            status = buckfleet_targets(book, day->prices, MOST_CLASSES, &day->prices_length);
+        if (k == STEMS / 2 && status == BUCKFLEET_OK)
+            status = buckfleet_retarget(book, 64, day->prices, day->prices_length);
+    }
+    if (status == BUCKFLEET_OK)
+        status = buckfleet_prices(book, day->prices, MOST_CLASSES, &day->prices_length);
+    if (status == BUCKFLEET_OK)
+        status = buckfleet_counts(book, day->counts, MOST_CLASSES, &day->counts_length);
+    if (status == BUCKFLEET_OK)
+        status = buckfleet_journal(book, day->journal, ROOM, &day->journal_length);
+    return status;
+}
+
+static int same_log(const buckfleet_log *a, const buckfleet_log *b) {
+    return a->worth == b->worth && a->start == b->start && a->length == b->length && a->top == b->top
+           && a->price == b->price && a->assortment == b->assortment && a->row == b->row && a->column == b->column;
+}
+
+static int same_cutting(const buckfleet_cutting *a, const buckfleet_cutting *b) {
+    uint32_t k;
+    int is = a->worth == b->worth && a->position == b->position && a->number == b->number && a->version == b->version
+             && a->logs_number == b->logs_number;
+    for (k = 0; is && k < a->logs_number; k++)
+        is = same_log(&a->logs[k], &b->logs[k]);
+    return is;
+}
+
+static int same_day(const struct day *a, const struct day *b) {
+    int k, is = 1;
+    for (k = 0; is && k < STEMS; k++)
+        is = same_cutting(&a->cuttings[k], &b->cuttings[k]);
+    return is && a->journal_length == b->journal_length
+           && memcmp(a->journal, b->journal, a->journal_length) == 0 && a->prices_length == b->prices_length
+           && memcmp(a->prices, b->prices, a->prices_length * sizeof *a->prices) == 0
+           && memcmp(a->counts, b->counts, a->counts_length * sizeof *a->counts) == 0;
+}
+
+static struct day *new_day(void) {
+    struct day *day = __real_malloc(sizeof *day);
+    if (!day)
+        exit(3);
+    memset(day, 0, sizeof *day);
+    return day;
+}
+
+/* A block that holds no book, whatever stands in it. */
+static void no_book(buckfleet_book *book, const char *what) {
+    buckfleet_felled felled = felled_at(0);
+    buckfleet_cutting cutting;
+    buckfleet_standing standing;
+    uint32_t degree = 17, numbers[1] = { 17 };
+    uint8_t text[1] = { 17 };
+    size_t n = 1;
+    memset(&cutting, 17, sizeof cutting);
+    memset(&standing, 17, sizeof standing);
+    want(buckfleet_close(book) == BUCKFLEET_CLOSED, what);
+    want(buckfleet_cut(book, &felled, NULL, 0, NULL, 0, &cutting) == BUCKFLEET_CLOSED, what);
+    want(all_are((uint8_t *)&cutting, 17, 0, sizeof cutting), "no cutting is written");
+    want(buckfleet_retarget(book, 1, NULL, 0) == BUCKFLEET_CLOSED, what);
+    want(buckfleet_state(book, &standing) == BUCKFLEET_CLOSED, what);
+    want(all_are((uint8_t *)&standing, 17, 0, sizeof standing), "no standing is written");
+    want(buckfleet_prices(book, numbers, 1, &n) == BUCKFLEET_CLOSED && n == 0, what);
+    want(buckfleet_targets(book, NULL, 0, &n) == BUCKFLEET_CLOSED && n == 0, what);
+    want(buckfleet_counts(book, numbers, 1, &n) == BUCKFLEET_CLOSED && n == 0 && numbers[0] == 17, what);
+    want(buckfleet_degree(book, 0, &degree) == BUCKFLEET_CLOSED && degree == 17, what);
+    want(buckfleet_journal(book, text, 1, &n) == BUCKFLEET_CLOSED && n == 0 && text[0] == 17, what);
+}
+
+/* Calls of an open book that are refused: nothing is changed. */
+static void refusals(buckfleet_book *book) {
+    static uint16_t many[402];
+    static buckfleet_cutting cutting, before;
+    buckfleet_terms none = { 0, 0 }, more = { 1000001, 0 }, other = { 1, 3 };
+    buckfleet_book empty = BUCKFLEET_NO_BOOK;
+    buckfleet_felled felled = felled_at(0);
+    buckfleet_zone zone = { 40001, 1 };
+    uint32_t degree = 17;
+    memset(&before, 17, sizeof before);
+    cutting = before;
+    want(buckfleet_open(&empty, apt.at, apt.length, &none) == BUCKFLEET_MISUSED, "no capacity");
+    want(buckfleet_open(&empty, apt.at, apt.length, &more) == BUCKFLEET_MISUSED, "too great a capacity");
+    want(buckfleet_open(&empty, apt.at, apt.length, &other) == BUCKFLEET_MISUSED, "no such rule");
+    want(buckfleet_open(&empty, NULL, 0, &terms) == BUCKFLEET_REFUSED, "no instruction");
+    want(buckfleet_open(&empty, stm.at, stm.length, &terms) == BUCKFLEET_REFUSED, "stems in the place of an instruction");
+    want(buckfleet_close(&empty) == BUCKFLEET_CLOSED, "nothing was opened");
+    want(buckfleet_open(book, apt.at, apt.length, &terms) == BUCKFLEET_MISUSED, "open already");
+    felled.harvester = 0;
+    want(buckfleet_cut(book, &felled, tapered[0], SAMPLES, NULL, 0, &cutting) == BUCKFLEET_MISUSED, "harvester 0");
+    felled.harvester = 65;
+    want(buckfleet_cut(book, &felled, tapered[0], SAMPLES, NULL, 0, &cutting) == BUCKFLEET_MISUSED, "harvester 65");
+    felled.harvester = 64;
+    want(buckfleet_cut(book, &felled, NULL, 0, NULL, 0, &cutting) == BUCKFLEET_REFUSED, "no diameters");
+    want(buckfleet_cut(book, &felled, many, 402, NULL, 0, &cutting) == BUCKFLEET_REFUSED, "too many diameters");
+    want(buckfleet_cut(book, &felled, tapered[0], SAMPLES, &zone, 1, &cutting) == BUCKFLEET_REFUSED, "a zone too far");
+    felled.species = 0;
+    want(buckfleet_cut(book, &felled, tapered[0], SAMPLES, NULL, 0, &cutting) == BUCKFLEET_REFUSED, "no species");
+    want(memcmp(&cutting, &before, sizeof cutting) == 0, "no refused cutting is written");
+    want(buckfleet_retarget(book, 0, NULL, 0) == BUCKFLEET_MISUSED, "harvester 0 with targets");
+    want(buckfleet_retarget(book, 1, NULL, 0) == BUCKFLEET_REFUSED, "no targets");
+    want(buckfleet_degree(book, 16, &degree) == BUCKFLEET_MISUSED && degree == 17, "no such assortment");
+}
+
+/* Lists with too little room, and just enough. */
+static void lists(buckfleet_book *book, const struct day *day) {
+    static uint32_t numbers[MOST_CLASSES];
+    static uint8_t text[ROOM];
+    buckfleet_standing standing;
+    size_t n = 0;
+    want(buckfleet_state(book, &standing) == BUCKFLEET_OK && standing.postings == STEMS + 1, "the standing");
+    want(standing.capacity == terms.capacity && standing.classes == day->prices_length, "and its numbers");
+    want(buckfleet_prices(book, NULL, 0, &n) == BUCKFLEET_TOO_SMALL && n == day->prices_length, "no room for prices");
+    want(buckfleet_counts(book, numbers, n - 1, &n) == BUCKFLEET_TOO_SMALL && numbers[0] == 0, "too little for counts");
+    want(buckfleet_targets(book, numbers, n, &n) == BUCKFLEET_OK && n == day->prices_length, "just enough");
+    want(buckfleet_journal(book, text, day->journal_length - 1, &n) == BUCKFLEET_TOO_SMALL && text[0] == 0, "a journal");
+    want(n == day->journal_length && buckfleet_journal(book, text, n, &n) == BUCKFLEET_OK, "and just enough");
+    want(memcmp(text, day->journal, n) == 0, "the same journal");
+    want(buckfleet_check(apt.at, apt.length, text, n, text, ROOM, &n) == BUCKFLEET_OK, "a lawful journal");
+}
+
+static void full_book(void) {
+    buckfleet_book book = BUCKFLEET_NO_BOOK;
+    buckfleet_terms one = { 1, BUCKFLEET_LINEAR };
+    buckfleet_cutting cutting;
+    want(buckfleet_open(&book, apt.at, apt.length, &one) == BUCKFLEET_OK, "a book of one");
+    want(cut_at(&book, 0, &cutting) == BUCKFLEET_OK && cutting.position == 0 && cutting.number == 1, "its posting");
+    want(cut_at(&book, 1, &cutting) == BUCKFLEET_FULL && cutting.position == 0, "it is full");
+    want(buckfleet_retarget(&book, 1, NULL, 0) == BUCKFLEET_FULL, "for targets too");
+    want(buckfleet_close(&book) == BUCKFLEET_OK, "closed");
+}
+
+/* Each taking of a day's memory is refused in turn: what was asked is done or not, and all goes back. */
+static void refused_days(const struct day *right_day) {
+    struct day *day = new_day();
+    long n, all = 0;
+    for (n = 1;; n++) {
+        buckfleet_book book = BUCKFLEET_NO_BOOK;
+        uint8_t status;
+        int is_open;
+        taken = 0;
+        out = 0;
+        refused_at = n;
+        status = day_in(&book, day);
+        refused_at = 0;
+        is_open = book.mark != 0;
+        want(status == BUCKFLEET_OK ? same_day(day, right_day) : status == BUCKFLEET_MEMORY, "a day of refused memory");
+        if (status == BUCKFLEET_MEMORY && is_open) {
+            size_t length = 0;
+            want(buckfleet_journal(&book, day->journal, ROOM, &length) == BUCKFLEET_OK, "the book goes on");
+            want(buckfleet_check(apt.at, apt.length, day->journal, length, day->journal, ROOM, &length) == BUCKFLEET_OK,
+                 "and is lawful");
+        }
+        want(buckfleet_close(&book) == (is_open ? BUCKFLEET_OK : BUCKFLEET_CLOSED), "a close");
+        want(out == 0, "a book leaves nothing out");
+        if (status == BUCKFLEET_OK && same_day(day, right_day) && taken < n)
+            break;
+        all++;
+    }
+    printf("%ld takings of memory of a book, each refused in turn\n", all);
+    __real_free(day);
+}
+
+struct one_day {
+    const struct day *right_day;
+    int is_wrong;
+};
+
+static void *one_book(void *asked) {
+    struct one_day *one = asked;
+    struct day *day = new_day();
+    buckfleet_book book = BUCKFLEET_NO_BOOK;
+    one->is_wrong = day_in(&book, day) != BUCKFLEET_OK || !same_day(day, one->right_day)
+                    || buckfleet_close(&book) != BUCKFLEET_OK;
+    __real_free(day);
+    return NULL;
+}
+
+static void books_in_threads(const struct day *right_day) {
+    pthread_t all[THREADS];
+    struct one_day days[THREADS];
+    int k;
+    for (k = 0; k < THREADS; k++) {
+        days[k].right_day = right_day;
+        want(pthread_create(&all[k], NULL, one_book, &days[k]) == 0, "a thread with a book");
+    }
+    for (k = 0; k < THREADS; k++) {
+        pthread_join(all[k], NULL);
+        want(!days[k].is_wrong, "the same day in each thread");
+    }
+}
+
+static void books(void) {
+    buckfleet_book book = BUCKFLEET_NO_BOOK;
+    struct day *day = new_day();
+    uint64_t logs = 0;
+    int k;
+    taper();
+    no_book(&book, "a block of zeros");
+    memset(&book, 0xa5, sizeof book);
+    no_book(&book, "a block of any bytes");
+    memset(&book, 0, sizeof book);
+    want(day_in(&book, day) == BUCKFLEET_OK, "a day");
+    for (k = 0; k < STEMS; k++)
+        logs += day->cuttings[k].logs_number;
+    want(logs > 0 && day->cuttings[STEMS - 1].position == STEMS, "it has logs");
+    refusals(&book);
+    lists(&book, day);
+    want(buckfleet_close(&book) == BUCKFLEET_OK, "a close");
+    no_book(&book, "a closed block");
+    full_book();
+    refused_days(day);
+    books_in_threads(day);
+    __real_free(day);
+}
+
 static struct bytes file_of(const char *name) {
     struct bytes file = { NULL, 0 };
     uint8_t *at = __real_malloc(ROOM);
@@ -256,6 +548,8 @@ int main(int count, char **words) {
         memory();
     else if (strcmp(words[1], "threads") == 0)
         threads();
+    else if (strcmp(words[1], "books") == 0)
+        books();
     else
         return 2;
     printf("%s: %s\n", words[1], wrong ? "wrong" : "right");

@@ -1,17 +1,22 @@
 #!/usr/bin/env python3
 """Builds the C library, and runs what stands on it.
 
-    python3 checks/c_library.py [--bin PATH/buckfleet]
+    python3 checks/c_library.py [--bin PATH/buckfleet] [--cases FOLDER]
 
 scripts/c_library proves and builds the library. Then
  - checks/c_library.c calls each function at the edges of what the header allows (null with no length, rooms of no length
    and one too small, files swapped), with each taking of memory refused in turn, and in 64 threads at once, over the
    files of examples/; once as it is, once with the compiler's own checks of addresses and of undefined behaviour, and
-   once under valgrind (of shorter files where memory is refused), where these are there;
+   once under valgrind (of shorter files where memory is refused), where these are there; and books in the same ways;
  - the examples in C and in Python cut a pine, and check and report a morning's journal: they print what the program
    prints, where it is built (`rt run -- --help` in crates/buckfleet), and the stored texts where these are there;
+ - a journal's page and its tables are those of the program, where it is built;
+ - a morning's first stem file is cut stem by stem into a book, in C and in Python, by each rule: they print what a fleet
+   of one harvester prints, with the same journal, which the program finds lawful and by the rule;
  - each worked case of crates/run_cases that an instruction file and a stem file or a journal make up is asked of the
-   library too, by Python.
+   library too, by Python;
+ - where a folder of more cases is named, each case of its own folder there, whose file `args` has the words of the
+   program, with its files there or in `files`, is asked of both the program and the library, where the library has such a call.
 
 The last line is 'N passed, M failed', and the status is 0 where none failed. Where there is no C compiler it says so, and
 ends with status 2.
@@ -67,14 +72,14 @@ def at_the_edges(compiler, scratch):
         print("the compiler has no checks of addresses: left out")
     files = [example(name) for name in ("morning.apt", "morning_1.stm", "morning.jrn")]
     few = [example(name) for name in ("two_stems.apt", "pine.stm", "two_stems.jrn")]
-    for what in ("edges", "memory", "threads"):
+    for what in ("edges", "memory", "threads", "books"):
         for name, program in (("plain", plain), ("checked", checked)):
             if program:
                 done = run([program, what, *files])
                 tell(f"{what}, {name}", done.returncode == 0, (done.stdout + done.stderr).decode(errors="replace"))
-                if what == "memory" and name == "plain":
+                if what in ("memory", "books") and name == "plain":
                     sys.stdout.write(done.stdout.decode())
-        if plain and shutil.which("valgrind") and what != "threads":
+        if plain and shutil.which("valgrind") and what not in ("threads", "books"):
             words = ["valgrind", "-q", "--error-exitcode=9", "--leak-check=full", plain, what, *(few if what == "memory" else files)]
             done = run(words)
             tell(f"{what}, valgrind", done.returncode == 0, done.stderr.decode(errors="replace")[:500])
@@ -108,8 +113,71 @@ def examples(compiler, scratch, program):
                 found = done.returncode, done.stdout, done.stderr
                 wanted = wanted or found
                 tell(f"{name}: {word} {apt} {other}", found == wanted, f"{found} in the place of {wanted}")
+    if program:
+        shown(program)
+    book_examples(compiler, scratch, program)
     header = run([compiler, "-x", "c++", "-fsyntax-only", "-Wall", "-Wextra", "-Werror", os.path.join(FOLDER, "buckfleet.h")])
     tell("the header is C++ too", header.returncode == 0)
+
+
+def library():
+    sys.path.insert(0, os.path.join(TOP, "examples", "python"))
+    os.environ["BUCKFLEET_LIBRARY"] = os.path.join(FOLDER, "libbuckfleet.so")
+    import buckfleet
+
+    return buckfleet
+
+
+def answer(call, *given):
+    """What a call of the module answers: what it prints, what it says, and its status."""
+    try:
+        return call(*given), "", 0
+    except library().Refused as refused:
+        return b"", refused.line, refused.status
+
+
+def same_as(name, done, found, is_page):
+    """The program's answer is the library's; a page is put with status 4, too, and the line is left to the check."""
+    wanted = done.stdout, done.stderr.decode(errors="replace").rstrip("\n"), done.returncode
+    if is_page and wanted[2] == 4:
+        wanted = wanted[0], "", 0
+    tell(name, found == wanted, f"{found} in the place of {wanted}"[:2000])
+
+
+def shown(program):
+    """A journal's page and its tables, by the library and by the program."""
+    buckfleet = library()
+    for apt, journal in (("morning.apt", "morning.jrn"), ("pine.apt", "morning.jrn"), ("morning.jrn", "morning.apt")):
+        files = [read(example(name)) for name in (apt, journal)]
+        done = run([program, "view", apt, journal], cwd=os.path.join(TOP, "examples"))
+        same_as(f"view {apt} {journal}", done, answer(buckfleet.view, *files, (apt, journal)), True)
+        for what in buckfleet.TABLES:
+            done = run([program, "table", apt, journal, what], cwd=os.path.join(TOP, "examples"))
+            same_as(f"table {apt} {journal} {what}", done, answer(buckfleet.table, *files, what), False)
+
+
+def book_examples(compiler, scratch, program):
+    """A morning's first file, cut stem by stem: what a fleet of one harvester prints, with a lawful journal."""
+    in_c = compiled(compiler, scratch, "cut_stems", "examples/c/cut_stems.c", "-std=c99", "-Wall", "-Wextra", "-Werror")
+    tell("examples/c/cut_stems.c is compiled", in_c is not None)
+    in_python = [sys.executable, os.path.join(TOP, "examples", "python", "cut_stems.py")]
+    files = [example("morning.apt"), example("morning_1.stm")]
+    for rule in ("steady", "linear", "step"):
+        wanted = None
+        for name, words in (("program", [program]), ("c", [in_c]), ("python", in_python)):
+            if not words[0]:
+                continue
+            journal = os.path.join(scratch, f"{name}_{rule}.jrn")
+            if name == "program":
+                done = run([program, "fleet", "--quiet", "--rule", rule, "--journal", journal, *files])
+            else:
+                done = run([*words, rule, *files, journal])
+            found = done.returncode, done.stdout, done.stderr, os.path.exists(journal) and read(journal)
+            wanted = wanted or found
+            tell(f"{name}: cut_stems {rule}", found == wanted and found[0] == 0, f"{found} in the place of {wanted}"[:2000])
+            if program and found[3]:
+                done = run([program, "check", "--rule", rule, files[0], journal, files[1]])
+                tell(f"{name}: its journal by {rule}", done.returncode == 0, done.stderr.decode(errors="replace"))
 
 
 def bytes_of(lines):
@@ -179,10 +247,7 @@ def asked(buckfleet, words, files):
 
 
 def cases():
-    sys.path.insert(0, os.path.join(TOP, "examples", "python"))
-    os.environ["BUCKFLEET_LIBRARY"] = os.path.join(FOLDER, "libbuckfleet.so")
-    import buckfleet
-
+    buckfleet = library()
     number = 0
     folder = os.path.join(TOP, "crates", "run_cases", "data")
     for name in sorted(os.listdir(folder)):
@@ -196,10 +261,38 @@ def cases():
     print(f"{number} worked cases were asked of the library")
 
 
+def more_cases(folder, program):
+    """Cases of a folder: each is a folder of its own, with files and the words of the program, in `args`."""
+    buckfleet = library()
+    number = 0
+    for name in sorted(os.listdir(folder)):
+        words = os.path.join(folder, name, "args")
+        if not os.path.exists(words):
+            continue
+        words = read(words).decode().split("\n")
+        words = [word for word in words if word]
+        at = os.path.join(folder, name, "files")
+        at = at if os.path.isdir(at) else os.path.join(folder, name)
+        more = {"buck": 0, "check": 0, "report": 0, "view": 0, "table": 1}.get(words[0]) if words else None
+        if more is None or len(words) != 3 + more:
+            continue
+        try:
+            files = [read(at, word) for word in words[1:3]]
+        except OSError:
+            continue
+        number += 1
+        done = run([program, *words], cwd=at)
+        given = [tuple(words[1:3])] if words[0] == "view" else words[3:]
+        same_as(f"case {name}", done, answer(getattr(buckfleet, words[0]), *files, *given), words[0] == "view")
+    print(f"{number} more cases were asked of the library and of the program")
+
+
 def main():
     words = argparse.ArgumentParser()
+    words.add_argument("--cases")
     words.add_argument("--bin", default=os.path.join(TOP, "crates", "buckfleet", "out", "buckfleet"))
-    program = words.parse_args().bin
+    asked_for = words.parse_args()
+    program = asked_for.bin
     compiler = os.environ.get("CC") or shutil.which("cc") or ""
     if not shutil.which(compiler):
         print("there is no C compiler")
@@ -212,6 +305,8 @@ def main():
         at_the_edges(compiler, scratch)
         examples(compiler, scratch, program if os.path.exists(program) else None)
     cases()
+    if asked_for.cases and os.path.exists(program):
+        more_cases(asked_for.cases, program)
     print(f"{len(PASSED)} passed, {len(FAILED)} failed")
     return 1 if FAILED else 0
 

@@ -1,11 +1,11 @@
 #!/usr/bin/env python3
-"""Runs the program for each line of the table of docs/GUIDE.md, and compares.
+"""Runs the program for each line of the table of docs/GUIDE.md, and its sweep, and compares.
 
     python3 checks/guide.py [PROGRAM]      # the program that is built, or another
 
 Each line is a run in turn of the morning of three harvesters, with another rule, period and limit. The price lists are
 counted in the journal; the least degree is the least of the report's DEGREE lines; worth and cost are summed over the
-table of postings.
+table of postings. A sweep that the guide shows is run in examples/ as it stands there, and prints what stands there.
 Status 0 where all lines are the program's.
 """
 import csv
@@ -52,11 +52,24 @@ def line_of(program, folder, rule, period, limit):
     return f"| `{rule}` | {int(period):,} | {int(limit):,} | {lists} | {min(degrees):,} | {worth} | {cost} |"
 
 
-def main():
-    program = sys.argv[1] if len(sys.argv) > 1 else PROGRAM
-    with open(os.path.join(TOP, "docs", "GUIDE.md")) as file:
-        lines = [it for it in file.read().splitlines() if it.startswith("| `")]
+def sweeps_that_differ(program, text):
+    """How many sweeps the guide shows, and how many of them print something else."""
+    shown = re.findall(r"^```\n\$ buckfleet (sweep .*)\n((?:.*\n)*?)```", text, re.M)
     wrong = 0
+    for words, printed in shown:
+        run = subprocess.run([program] + words.split(), capture_output=True, text=True, cwd=EXAMPLES)
+        if run.stdout != printed or run.returncode != 0:
+            wrong += 1
+            print(f"docs/GUIDE.md: {words}\n{printed}  the program:\n{run.stdout}{run.stderr}")
+    return len(shown), wrong
+
+
+def main():
+    program = os.path.abspath(sys.argv[1] if len(sys.argv) > 1 else PROGRAM)
+    with open(os.path.join(TOP, "docs", "GUIDE.md")) as file:
+        text = file.read()
+    lines = [it for it in text.splitlines() if it.startswith("| `")]
+    sweeps, wrong = sweeps_that_differ(program, text)
     with tempfile.TemporaryDirectory() as folder:
         for line in lines:
             rule, period, limit = (it.strip(" `").replace(",", "") for it in line.split("|")[1:4])
@@ -64,8 +77,8 @@ def main():
             if made != line:
                 wrong += 1
                 print(f"docs/GUIDE.md: {line}\n  the program: {made}")
-    print(f"{len(lines)} lines, {wrong} differ")
-    return 1 if wrong or not lines else 0
+    print(f"{len(lines)} lines and {sweeps} sweeps, {wrong} differ")
+    return 1 if wrong or not lines or not sweeps else 0
 
 
 if __name__ == "__main__":

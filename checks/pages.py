@@ -100,7 +100,7 @@ def files_in(crate, part, ending):
 
 def libraries():
     """The libraries of the product, lowest first."""
-    return [name for name in crates() if name.startswith("buck_") and not re.search("_(samples|plays|tests)$", name)]
+    return [name for name in crates() if name.startswith("buck_")]
 
 
 def exported(lines):

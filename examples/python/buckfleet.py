@@ -3,14 +3,36 @@
     text = buckfleet.buck(apt, stm)
     line = buckfleet.check(apt, journal)
     text = buckfleet.report(apt, journal)
+    page = buckfleet.view(apt, journal, ("morning.apt", "morning.jrn"))
+    table = buckfleet.table(apt, journal, "logs")
 
-All of them take and give the bytes of files. The shared library is looked for in $BUCKFLEET_LIBRARY, else beside this
-file, else in out/c of the repository. A call that is refused raises `Refused`, whose `line` is what the program says.
+    with buckfleet.Book(apt, rule="linear") as book:
+        cutting = book.cut(1, buckfleet.Stem(number=7, species=1, samples=diameters))
+        journal = book.journal()
+
+The first five take and give the bytes of files; a book is what is cut stem by stem. The shared library is looked for in
+$BUCKFLEET_LIBRARY, else beside this file, else in out/c of the repository. A call that is refused raises `Refused`, whose `line` is what the program says.
 """
 import ctypes
 import os
+from dataclasses import dataclass
+from typing import NamedTuple, Optional, Sequence, Tuple
 
-OK, TOO_SMALL = 0, 6
+OK, REFUSED, MEMORY, UNLAWFUL, TOO_SMALL, CLOSED, MISUSED, FULL = 0, 1, 3, 4, 6, 7, 8, 9
+RULES = ("steady", "linear", "step")
+TABLES = ("classes", "postings", "logs", "degrees")
+VERSION = 3
+MOST_LOGS = 80
+NO_DEGREE = 4294967295
+
+# What a call of a book says, which has no line of its own.
+LINES = {
+    REFUSED: "the stem, or the targets, are outside the limits",
+    MEMORY: "memory",
+    CLOSED: "the book is closed",
+    MISUSED: "a number isn't what the header allows",
+    FULL: "the book is at its capacity",
+}
 
 
 class Refused(Exception):
@@ -37,14 +59,17 @@ def _library():
 
 _lib = _library()
 _lib.buckfleet_version.restype = ctypes.c_uint32
-if _lib.buckfleet_version() != 1:
+if _lib.buckfleet_version() != VERSION:
     raise OSError("libbuckfleet.so has other calls")
-for _name in ("buck", "check", "report"):
+for _name in (
+    *("buck", "check", "report", "view", "table"),
+    *("open", "close", "cut", "retarget", "state", "prices", "targets", "counts", "degree", "journal"),
+):
     getattr(_lib, "buckfleet_" + _name).restype = ctypes.c_uint8
 
 
-def _text(call, apt: bytes, other: bytes) -> bytes:
-    """The text of a call over two files. The room grows to what the call asks for."""
+def _asked(call, apt: bytes, other: bytes, *more) -> Tuple[int, bytes]:
+    """The status and the text of a call over two files. The room grows to what the call asks for."""
     room = (ctypes.c_uint8 * 4096)()
     while True:
         written = ctypes.c_size_t(0)
@@ -53,6 +78,7 @@ def _text(call, apt: bytes, other: bytes) -> bytes:
             ctypes.c_size_t(len(apt)),
             ctypes.c_char_p(other),
             ctypes.c_size_t(len(other)),
+            *more,
             room,
             ctypes.c_size_t(len(room)),
             ctypes.byref(written),
@@ -60,7 +86,12 @@ def _text(call, apt: bytes, other: bytes) -> bytes:
         if status != TOO_SMALL:
             break
         room = (ctypes.c_uint8 * written.value)()
-    text = bytes(room[: written.value])
+    return status, bytes(room[: written.value])
+
+
+def _text(call, apt: bytes, other: bytes, *more) -> bytes:
+    """The text of a call over two files that isn't refused."""
+    status, text = _asked(call, apt, other, *more)
     if status != OK:
         raise Refused(status, text.decode().rstrip("\n"))
     return text
@@ -79,3 +110,194 @@ def check(apt: bytes, journal: bytes) -> bytes:
 def report(apt: bytes, journal: bytes) -> bytes:
     """The report of a journal that is lawful for an instruction."""
     return _text(_lib.buckfleet_report, apt, journal)
+
+
+def view(apt: bytes, journal: bytes, names: Tuple[str, str]) -> bytes:
+    """The page of a journal, or of the first fault of one that isn't lawful. The names are those of the two files, as
+    they stand on the page."""
+    name = "\n".join(names).encode()
+    status, page = _asked(_lib.buckfleet_view, apt, journal, ctypes.c_char_p(name), ctypes.c_size_t(len(name)))
+    if status not in (OK, UNLAWFUL):
+        raise Refused(status, page.decode().rstrip("\n"))
+    return page
+
+
+def table(apt: bytes, journal: bytes, what: str) -> bytes:
+    """A table of a lawful journal: of its classes, postings, logs or degrees."""
+    return _text(_lib.buckfleet_table, apt, journal, ctypes.c_uint8(TABLES.index(what)))
+
+
+@dataclass(frozen=True)
+class Stem:
+    """A felled stem: its diameters in mm under bark, one for each 100 mm from the butt, and its zones, each the place in
+    mm where it starts and the grade from there on."""
+
+    number: int
+    species: int
+    samples: Sequence[int]
+    zones: Sequence[Tuple[int, int]] = ()
+
+
+class Log(NamedTuple):
+    """A log of a cutting. Lengths are in mm from the butt, the worth in millionths of the price unit."""
+
+    start: int
+    length: int
+    assortment: int
+    row: int
+    column: int
+    top: int
+    price: int
+    worth: int
+
+
+class Cutting(NamedTuple):
+    """A cutting, and where it stands in the book."""
+
+    logs: Tuple[Log, ...]
+    worth: int
+    position: int
+    number: int
+    version: int
+
+
+class Standing(NamedTuple):
+    """How far a book is."""
+
+    postings: int
+    capacity: int
+    version: int
+    assortments: int
+    classes: int
+
+
+class _Block(ctypes.Structure):
+    _fields_ = [("mark", ctypes.c_uint64), ("kept", ctypes.c_void_p)]
+
+
+class _Terms(ctypes.Structure):
+    _fields_ = [("capacity", ctypes.c_uint32), ("rule", ctypes.c_uint8)]
+
+
+class _Felled(ctypes.Structure):
+    _fields_ = [("harvester", ctypes.c_uint32), ("number", ctypes.c_uint32), ("species", ctypes.c_uint8)]
+
+
+class _Zone(ctypes.Structure):
+    _fields_ = [("start", ctypes.c_uint32), ("grade", ctypes.c_uint8)]
+
+
+class _Log(ctypes.Structure):
+    _fields_ = [
+        ("worth", ctypes.c_uint64),
+        *((name, ctypes.c_uint32) for name in ("start", "length", "top", "price")),
+        *((name, ctypes.c_uint8) for name in ("assortment", "row", "column")),
+    ]
+
+
+class _Cutting(ctypes.Structure):
+    _fields_ = [
+        ("worth", ctypes.c_uint64),
+        *((name, ctypes.c_uint32) for name in ("position", "number", "version", "logs_number")),
+        ("logs", _Log * MOST_LOGS),
+    ]
+
+
+class _Standing(ctypes.Structure):
+    _fields_ = [(name, ctypes.c_uint32) for name in Standing._fields]
+
+
+def _list(kind, numbers):
+    """Numbers for a call, and how many."""
+    return (kind * len(numbers))(*numbers), ctypes.c_size_t(len(numbers))
+
+
+def _told(status: int):
+    """Raises what a call of a book says."""
+    if status != OK:
+        raise Refused(status, LINES.get(status, f"status {status}"))
+
+
+class Book:
+    """A book of one thread: what is cut stem by stem, and the prices that follow from it. A book that several threads
+    use needs a lock around each call."""
+
+    def __init__(self, apt: bytes, rule: str = "steady", capacity: int = 1_000_000):
+        self._block = _Block(0, None)
+        terms = _Terms(capacity, RULES.index(rule))
+        status = _lib.buckfleet_open(
+            ctypes.byref(self._block), ctypes.c_char_p(apt), ctypes.c_size_t(len(apt)), ctypes.byref(terms)
+        )
+        if status == REFUSED:
+            buck(apt, b"")  # it says the line of the fault
+        _told(status)
+
+    def close(self):
+        """Gives all memory back; the book is not to be used after it."""
+        _told(_lib.buckfleet_close(ctypes.byref(self._block)))
+
+    def __enter__(self):
+        return self
+
+    def __exit__(self, *_why):
+        self.close()
+
+    def cut(self, harvester: int, stem: Stem) -> Cutting:
+        """Cuts a stem under the prices in force, and commits the cutting."""
+        felled = _Felled(harvester, stem.number, stem.species)
+        cutting = _Cutting()
+        _told(
+            _lib.buckfleet_cut(
+                ctypes.byref(self._block),
+                ctypes.byref(felled),
+                *_list(ctypes.c_uint16, stem.samples),
+                *_list(_Zone, [_Zone(*zone) for zone in stem.zones]),
+                ctypes.byref(cutting),
+            )
+        )
+        logs = (Log(*(getattr(log, name) for name in Log._fields)) for log in cutting.logs[: cutting.logs_number])
+        return Cutting(tuple(logs), cutting.worth, cutting.position, cutting.number, cutting.version)
+
+    def retarget(self, harvester: int, targets: Sequence[int]):
+        """Puts new targets in force: one for each class, assortment by assortment and row by row."""
+        block = ctypes.byref(self._block)
+        _told(_lib.buckfleet_retarget(block, ctypes.c_uint32(harvester), *_list(ctypes.c_uint32, targets)))
+
+    def standing(self) -> Standing:
+        """How far the book is."""
+        standing = _Standing()
+        _told(_lib.buckfleet_state(ctypes.byref(self._block), ctypes.byref(standing)))
+        return Standing(*(getattr(standing, name) for name in Standing._fields))
+
+    def _items(self, call, kind):
+        room = (kind * 0)()
+        while True:
+            written = ctypes.c_size_t(0)
+            status = call(ctypes.byref(self._block), room, ctypes.c_size_t(len(room)), ctypes.byref(written))
+            if status != TOO_SMALL:
+                break
+            room = (kind * written.value)()
+        _told(status)
+        return room[: written.value]
+
+    def prices(self) -> Sequence[int]:
+        """The prices in force, class by class."""
+        return self._items(_lib.buckfleet_prices, ctypes.c_uint32)
+
+    def targets(self) -> Sequence[int]:
+        """The targets in force, class by class."""
+        return self._items(_lib.buckfleet_targets, ctypes.c_uint32)
+
+    def counts(self) -> Sequence[int]:
+        """How many logs were cut, class by class."""
+        return self._items(_lib.buckfleet_counts, ctypes.c_uint32)
+
+    def degree(self, assortment: int) -> Optional[int]:
+        """The degree of apportionment of an assortment, in ten-thousandths."""
+        degree = ctypes.c_uint32(0)
+        _told(_lib.buckfleet_degree(ctypes.byref(self._block), ctypes.c_uint8(assortment), ctypes.byref(degree)))
+        return None if degree.value == NO_DEGREE else degree.value
+
+    def journal(self) -> bytes:
+        """The journal, as the bytes of a file."""
+        return bytes(self._items(_lib.buckfleet_journal, ctypes.c_uint8))

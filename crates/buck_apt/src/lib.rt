@@ -9,6 +9,7 @@ mod instruction;
 mod lines;
 mod reading;
 mod rules;
+mod settings;
 mod slots;
 
 pub use assortment::Assortment;
@@ -17,3 +18,4 @@ pub use class::Class;
 pub use fault::AptFault;
 pub use instruction::Instruction;
 pub use reading::read_apt;
+pub use settings::Settings;

@@ -210,3 +210,20 @@ ready_to_add a b x next same below is_next posting sheet = record {
   if_needed : {A : Type 0} (next : Option SheetParts) → A → MatchOption next (Unit {0}) (λ _. A)
   if_needed None room = tt
   if_needed (Some s) room = room
+
+-- what a book keeps has no part of its rule
+pub keeps_by : {F G : Type 0} (rule : G) (b : BookParts F) (sheets : List SheetParts) (n : RunningParts) (calls : List ℕ) → Keeps b sheets n calls
+    → Keeps (record { rule = rule; history = b.history; capacity = b.capacity; room = b.room; sheet_room = b.sheet_room }) sheets n calls
+keeps_by rule b sheets n calls k = record {
+  is_book = record {
+    valid = k.is_book.valid;
+    lawful = k.is_book.lawful;
+    firsts = k.is_book.firsts;
+    harvesters = k.is_book.harvesters;
+    within = k.is_book.within;
+    capacity_range = k.is_book.capacity_range;
+  };
+  sheets_are = k.sheets_are;
+  tells = k.tells;
+  calls_are = k.calls_are;
+}

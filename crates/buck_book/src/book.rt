@@ -197,6 +197,13 @@ impl<F: Drop> Book<F> {
         self.running.counts().by_class[self.instruction.index(class)]
     }
 
+    /// How many logs were cut in each class, assortment by assortment and row by row.
+    pub fn counts(&self) -> &[u32]
+        ensures { AreClassCounts self.now.history.instruction self.now.history.postings result.now }
+    {
+        self.running.counts().by_class.as_slice()
+    }
+
     /// How many postings are a harvester's, 1 to 64.
     pub fn calls(&self, harvester: u32) -> u32
         requires { (0 < harvester) × (harvester ≤ 64) }
@@ -249,6 +256,32 @@ impl<F: Drop> Book<F> {
             entries: postings,
             targets,
             counts,
+        }
+    }
+
+    /// The same book with another rule, which is asked for each sheet from here on.
+    pub fn with_rule<G>(self, rule: Rule<G>) -> Book<G>
+        ensures rule { result.rule ≡ rule }
+        ensures history { result.history ≡ self.history }
+        ensures capacity { result.capacity ≡ self.capacity }
+    {
+        let Book {
+            rule: _,
+            instruction,
+            sheets,
+            postings,
+            running,
+            calls,
+            capacity,
+        } = self;
+        Book {
+            rule,
+            instruction,
+            sheets,
+            postings,
+            running,
+            calls,
+            capacity,
         }
     }
 

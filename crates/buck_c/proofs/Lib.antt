@@ -1,1 +1,4 @@
 pub mod Told
+pub mod Cuttings
+pub mod Prices
+pub mod Paged

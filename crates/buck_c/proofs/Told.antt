@@ -19,3 +19,9 @@ pub or_told : (Answer : List ℕ → ℕ → Type 0) (Refused : EngineFault → 
     → IsPut (IsToldOf Refused) old new written result
     → IsPut (λ text status. Answer text status ⊎ IsToldOf Refused text status) old new written result
 or_told Answer Refused old new written result (text, status, told, put) = (text, status, inr told, put)
+
+-- what is put of one kind is put of another that it is among
+pub among : (A B : List ℕ → ℕ → Type 0) (old new : List ℕ) (written result : ℕ)
+    → ((text : List ℕ) (status : ℕ) → A text status → B text status)
+    → IsPut A old new written result → IsPut B old new written result
+among A B old new written result is (text, status, a, put) = (text, status, is text status a, put)

@@ -11,7 +11,7 @@ use buck_engine::{EngineFault, run_buck, run_check, run_report};
 use std::alloc::Global;
 
 /// The version of the calls: it grows by one where one of them changes.
-const VERSION: u32 = 1;
+const VERSION: u32 = 3;
 
 /// The text of the stems of one file, bucked by the instruction of the other.
 fn bucked<'x>(alloc: Global, apt: &'x [u8], stm: &'x [u8]) -> Result<Vec<u8>, EngineFault>
@@ -64,7 +64,7 @@ fn reported<'x>(alloc: Global, apt: &'x [u8], journal: &'x [u8]) -> Result<Vec<u
 /// The version of the calls.
 #[unsafe(no_mangle)]
 pub extern "C" fn buckfleet_version() -> u32
-    ensures { result ≡ 1 }
+    ensures { result ≡ 3 }
 {
     VERSION
 }
@@ -107,9 +107,9 @@ pub extern "C" fn buckfleet_check(
     }
 }
 
-/// Reports a journal by its instruction, as the program's `report` does: the report of a lawful journal, or the line of
-/// a fault, goes to the start of `out`, and its length to `written`. The answer is the program's exit status, or 6 where
-/// `out` is too small: then nothing else is written.
+/// Reports a journal by its instruction, as the program's `report` does: the report of a lawful journal, or the line
+/// of a fault, goes to the start of `out`, and its length to `written`. The answer is the program's exit status, or 6
+/// where `out` is too small: then nothing else is written.
 #[unsafe(no_mangle)]
 pub extern "C" fn buckfleet_report(
     alloc: Global,

@@ -4,6 +4,11 @@
 //! own: a call hands its arguments to the engines, and puts what they answer where the caller wants it.
 #![tactic(auto)]
 
+mod book;
 mod files;
+mod journal;
+mod pages;
 mod room;
+mod showing;
+mod state;
 mod telling;

@@ -1,15 +1,7 @@
 -- The words of the command line.
 use Rattle.std.specs.Prelude.{ℕ, List, codes}
-use Rattle.buck_engine.specs.declared.fleet.serving.NamedRule.{NamedRule}
-use Rattle.buck_engine.specs.declared.fleet.serving.NamedRule.TheVariants.{Steady, Linear, Step}
 use Rattle.buck_tables.specs.declared.tables.Table.{Table}
 use Rattle.buck_tables.specs.declared.tables.Table.TheVariants.{Classes, Postings, Logs, Degrees}
-
--- the word that asks for a rule
-abbrev pub rule_name : NamedRule → List ℕ
-rule_name Steady = codes "steady"
-rule_name Linear = codes "linear"
-rule_name Step = codes "step"
 
 -- the word that asks for a table
 abbrev pub table_name : Table → List ℕ

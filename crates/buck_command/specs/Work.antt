@@ -6,8 +6,10 @@ use Rattle.buck_engine.specs.run.Serving.{RunsFiles, RunsTask}
 use Rattle.buck_engine.specs.fleet.Serving.{RunsFleet}
 use Rattle.buck_engine.specs.run.Showing.{RunsView}
 use Rattle.buck_engine.specs.tie.Serving.{RunsCheck}
+use Rattle.buck_live.specs.Serving.{RunsLive}
+use Rattle.buck_sweep.specs.Serving.{RunsSweep}
 use Rattle.buck_command.specs.declared.working.Work.{Work}
-use Rattle.buck_command.specs.declared.working.Work.TheVariants.{Plain, Buck, Fleet, Check, View}
+use Rattle.buck_command.specs.declared.working.Work.TheVariants.{Plain, Buck, Fleet, Check, View, Live, Sweep}
 
 -- work is its task's run, over the input and the files, and what it writes is the output
 abbrev pub DoesWork : {O F M : Type 0} → (O → List ℕ → Option F → O → Type 0) → (O → List ℕ → Option M → O → Type 0)
@@ -23,3 +25,7 @@ DoesWork opens makes held contents start end input (Check task) old new outcome 
     RunsCheck opens held start end task old new outcome
 DoesWork opens makes held contents start end input (View task) old new outcome =
     RunsView opens held start end task old new outcome
+DoesWork opens makes held contents start end input (Live task) old new outcome =
+    RunsLive opens makes held contents start end task input old new outcome
+DoesWork opens makes held contents start end input (Sweep task) old new outcome =
+    RunsSweep opens held start end task old new outcome

@@ -6,6 +6,9 @@ pub(crate) const PROGRAM: &str =
 file. Without a command, an instruction file, a | and a stem file are read from
 standard input.";
 
+/// The version, and the logic by which the toolchain proved it.
+pub(crate) const VERSION: &str = "0.1.0 (logic dac8208d650f15bf)";
+
 /// What the commands come to, and how any run ends.
 pub(crate) const COMMANDS: &str =
     "Without a command what is printed is what buck prints of the two files.
@@ -22,7 +25,9 @@ Exit statuses:
   4  a journal is not lawful, or not as asked, or a fleet did not close well
   5  a file can't be read, or the output or a journal can't be written
 After 1, 3, 4 and 5, and after too many stem files, one line on standard error
-says what went wrong; explain says it in words. See docs/FORMATS.md.";
+says what went wrong; explain says it in words, and --explain behind a command
+also what stands in the files. - stands for standard input, and as OUT for
+standard output. See docs/FORMATS.md.";
 
 /// What comes out of a bucking, and how it ends.
 pub(crate) const BUCK: &str =
@@ -76,7 +81,8 @@ line for each of its classes and its DEGREE, and last a TOTAL line. Each worth
 is under the prices in force when the stem was cut; view shows the worth at base
 prices, and what steering cost. The journal, which check reads, is written
 first. Each file may have at most 67108864 bytes, and check reads no longer
-journal.
+journal. The journal doesn't hold a period or limit that was put in the place of
+the instruction's own: check, report, view and table want the same words again.
 
 The input files are opened in the order of the words, and then OUT, which is
 made where it isn't there. OUT is never one of the input files. An old OUT stays
@@ -85,7 +91,7 @@ as it was until the whole journal is there, which then takes its place at once.
 Examples:
   buckfleet fleet --rule linear morning.apt morning_1.stm
   buckfleet fleet --journal morning.jrn morning.apt morning_1.stm morning_2.stm
-  buckfleet fleet --in-turn morning.apt morning_1.stm morning_2.stm
+  buckfleet fleet --in-turn --period 5 morning.apt morning_1.stm morning_2.stm
 
 Exit statuses:
   0  all was printed
@@ -96,6 +102,55 @@ Exit statuses:
   5  a file can't be read, or the output or OUT can't be written
 After 1, 3, 4 and 5, and after too many stem files, one line on standard error
 says what went wrong; explain says it in words.";
+
+/// What comes of a comparison, and how it ends.
+pub(crate) const SWEEP: &str =
+    "Prints CSV: a first line of the columns, and then a line for each combination:
+for each rule all periods, for each of these all limits. Each is a run of its
+own as by fleet --in-turn, of which no journal is kept. A line says how many
+sheets there were, the degree of each assortment and the least of them, what was
+cut is worth at base prices, what the best cuttings are worth at these, what
+steering cost in ten-thousandths of that, and the volume. A LIST is one number,
+or several with one comma between; at most 10000 combinations. See \"The table of
+a sweep\" in docs/FORMATS.md.
+
+Examples:
+  buckfleet sweep --rule linear --period 1,5,20 morning.apt morning_1.stm
+  buckfleet sweep --rule steady --rule step morning.apt morning_1.stm
+
+Exit statuses:
+  0  the table was printed
+  1  a file is refused
+  2  the words of the command line are wrong, or not 1 to 64 stem files
+  3  memory ran out, or there are more than 1000000 stems
+  5  a file can't be read, or the output can't be written
+After 1, 3 and 5, and after too many stem files, one line on standard error says
+what went wrong; explain says it in words.";
+
+/// What comes of requests, and how a run over them ends.
+pub(crate) const LIVE: &str =
+    "Standard input has one request a line: the items of one stem, as in a stem file,
+or new targets, 982 2 and one number for each class; 950 1 and a number from 1
+to 64 before either names the harvester, else it is the first. Each is answered
+before the next is read: a stem by its STEM and LOG lines, by the prices then in
+force, targets by their DEMAND line, and what is refused by its fault line; the
+history is then as before, and the run goes on. A line without items is passed
+over. A last line that ends with neither ~ nor a line feed is refused: who wrote
+it may have died within it. The journal, which check reads with the same words,
+is written at the end of the input.
+
+Examples:
+  buckfleet live --rule linear --journal day.jrn pine.apt < pipe
+  echo '951 1 7~952 1 1~953 1 310 280 250 220~' | buckfleet live pine.apt
+
+Exit statuses:
+  0  all was answered, whatever was refused
+  1  the instruction file is refused
+  2  the words of the command line are wrong
+  3  memory ran out
+  5  a file or the input can't be read, or the output or OUT can't be written
+After 1, 3 and 5 one line on standard error says what went wrong; explain says
+it in words.";
 
 /// The same of a report.
 pub(crate) const REPORT: &str =
@@ -186,12 +241,34 @@ class is off its target, step by the whole span";
 /// What a rule is for in a check.
 pub(crate) const CHECKED_RULE: &str = "The rule that prices must follow: steady, linear or step";
 
+/// What stands in the place of an instruction's period.
+pub(crate) const PERIOD: &str = "Stems in a period, 1 to 1000; else the instruction's own";
+
+/// The same of its limit.
+pub(crate) const LIMIT: &str = "How far prices may move, per mille, 0 to 1000; else the
+instruction's own";
+
+/// Which rules are compared.
+pub(crate) const SWEPT_RULES: &str = "A price rule: steady, linear or step; once or more;
+else steady";
+
+/// Which periods are compared.
+pub(crate) const PERIODS: &str = "Stems in a period, each 1 to 1000; else the
+instruction's own";
+
+/// Which limits are compared.
+pub(crate) const LIMITS: &str = "How far prices may move, per mille, each 0 to 1000; else
+the instruction's own";
+
 /// What is told on a terminal, and how it is kept off.
-pub(crate) const QUIET: &str = "Don't tell on a terminal how far long work is";
+pub(crate) const QUIET: &str = "Tell nothing on a terminal but what went wrong";
+
+/// What is said of a fault.
+pub(crate) const EXPLAINED: &str = "Say in words what is wrong, before the line of a fault";
 
 /// How many threads there are.
-pub(crate) const THREADS: &str = "Cut stems in at most N threads at once, 1 to 64; else in as
-many as the machine has, or 4 where it doesn't say";
+pub(crate) const THREADS: &str = "Work in at most N threads at once, 1 to 64; else in as many
+as the machine has, or 4 where it doesn't say";
 
 /// What turns are.
 pub(crate) const IN_TURN: &str = "One stem each, round by round, in one thread";

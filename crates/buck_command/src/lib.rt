@@ -4,11 +4,21 @@
 //! disk. [`serve_work`] is what it does once it knows the [`Work`].
 #![tactic(auto)]
 
+mod again;
 mod help;
+mod inputs;
+mod line;
+mod notes;
 mod progress;
+mod reason;
 mod running;
+mod served;
+mod subject;
 mod words;
 mod working;
 
+pub use again::{Again, Second, Trouble};
+pub use progress::Screen;
 pub use running::{run, say_help};
+pub use served::Place;
 pub use working::{Streams, Work, serve_work};

@@ -4,15 +4,26 @@ ghost use Rattle.std.specs.Prelude.{◌≡◌};
 ghost use Rattle.std.specs.Option.{option_map};
 
 use buck_engine::{Make, Onlooker, Open};
+use buck_reason::Shown;
 use std::alloc::Global;
 use std::io;
-use std::sync::atomic::{AtomicU64, Ordering};
+use std::sync::atomic::{AtomicBool, AtomicU64, Ordering};
+use std::time::{Clock, Instant};
 
-/// Lines for a person who looks on, where there is one.
+/// A screen for a person who looks on, and the clock by which it is told how far work is.
+#[derive(Clone, Copy)]
+pub struct Screen<S, C> {
+    pub writer: S,
+    pub clock: C,
+}
+
+/// One line for a person who looks on, where there is one: it is drawn anew in its place.
 #[derive(Drop)]
-pub struct Progress<S> {
+pub struct Progress<S, C> {
     alloc: Global,
-    screen: Option<S>,
+    screen: Option<Screen<S, C>>,
+    start: Option<Instant>,
+    is_drawn: AtomicBool,
     stems: AtomicU64,
     planned: AtomicU64,
 }
@@ -23,27 +34,66 @@ const LONG: u64 = 1_000_000;
 /// The least number of stems of a fleet that is told of.
 const MANY: u64 = 1_000;
 
-/// Whether it is told that so many stems of all are planned: at each percent, and no more often than each thousand.
+/// How many seconds work goes on before something is told of it.
+const SOON: u64 = 1;
+
+/// Whether it is told that so many stems of all are planned: at each percent, and no more often than each thousand, and
+/// at the last.
 pub fn is_told(planned: u64, stems: u64) -> bool {
-    planned % (stems / 100).max(MANY) == 0
+    planned % (stems / 100).max(MANY) == 0 || planned == stems
 }
 
-impl<S: io::Write + Copy> Progress<S> {
-    /// Lines on this screen; none where there is no screen.
-    pub fn on(alloc: Global, screen: Option<S>) -> Progress<S> {
+impl<S: io::Write + Copy, C: Clock + Copy> Progress<S, C> {
+    /// A line on this screen, for work that begins now; none where there is no screen.
+    pub fn on(alloc: Global, screen: Option<Screen<S, C>>) -> Progress<S, C> {
+        let start = match &screen {
+            Some(screen) => Instant::now(&screen.clock).ok(),
+            None => None,
+        };
         Progress {
             alloc,
             screen,
+            start,
+            is_drawn: AtomicBool::new(false),
             stems: AtomicU64::new(0),
             planned: AtomicU64::new(0),
         }
     }
 
-    /// Puts a line onto the screen. One that there is no memory for, or that the screen doesn't take, is left out.
-    fn put(&self, line: &str) {
+    /// Whether the work goes on for so long that something is told of it.
+    fn is_long(&self, clock: &C) -> bool {
+        let Some(start) = self.start else {
+            return false;
+        };
+        match start.elapsed(clock) {
+            Ok(time) => time.as_secs() >= SOON,
+            Err(_) => false,
+        }
+    }
+
+    /// Draws the line anew. One that there is no memory for, or that the screen doesn't take, is left out.
+    fn draw(&self, line: &str) {
+        let Some(screen) = &self.screen else {
+            return;
+        };
+        if !self.is_long(&screen.clock) {
+            return;
+        }
+        if let Ok(drawn) = format!(in self.alloc; "\r{line}\x1b[K") {
+            let mut writer = screen.writer;
+            let _ = writer.write_all(drawn.as_bytes());
+            self.is_drawn.store(true, Ordering::SeqCst);
+        }
+    }
+
+    /// The work has ended: what is drawn stays.
+    pub fn end(&self) {
+        if !self.is_drawn.load(Ordering::SeqCst) {
+            return;
+        }
         if let Some(screen) = &self.screen {
-            let mut screen = *screen;
-            let _ = screen.write_all(line.as_bytes());
+            let mut writer = screen.writer;
+            let _ = writer.write_all(b"\n");
         }
     }
 
@@ -52,20 +102,20 @@ impl<S: io::Write + Copy> Progress<S> {
         if bytes < LONG {
             return;
         }
-        if let Ok(line) = format!(in self.alloc; "{name}: {bytes} bytes read\n") {
-            self.put(line.as_str());
+        if let Ok(line) = format!(in self.alloc; "{}: {bytes} bytes read", Shown(name.as_bytes())) {
+            self.draw(line.as_str());
         }
     }
 }
 
-impl<S: io::Write + Copy> Onlooker for Progress<S> {
+impl<S: io::Write + Copy, C: Clock + Copy> Onlooker for Progress<S, C> {
     fn cutting(&self, stems: usize) {
         self.stems.store(stems as u64, Ordering::SeqCst);
         if (stems as u64) < MANY {
             return;
         }
-        if let Ok(line) = format!(in self.alloc; "{stems} stems to cut\n") {
-            self.put(line.as_str());
+        if let Ok(line) = format!(in self.alloc; "{stems} stems to cut") {
+            self.draw(line.as_str());
         }
     }
 
@@ -75,38 +125,38 @@ impl<S: io::Write + Copy> Onlooker for Progress<S> {
             .fetch_add(1, Ordering::SeqCst)
             .saturating_add(1);
         let stems = self.stems.load(Ordering::SeqCst);
-        if !is_told(planned, stems) {
+        if stems < MANY || !is_told(planned, stems) {
             return;
         }
-        if let Ok(line) = format!(in self.alloc; "{planned} of {stems} stems planned\n") {
-            self.put(line.as_str());
+        if let Ok(line) = format!(in self.alloc; "{planned} of {stems} stems planned") {
+            self.draw(line.as_str());
         }
     }
 }
 
 /// Files that another opener opens, and that are told of when they were read.
 #[derive(Drop)]
-pub struct Watched<'a, O, S> {
+pub struct Watched<'a, O, S, C> {
     files: O,
-    progress: &'a Progress<S>,
+    progress: &'a Progress<S, C>,
 }
 
-impl<'a, O, S> Watched<'a, O, S> {
-    pub fn of(files: O, progress: &'a Progress<S>) -> Watched<'a, O, S> {
+impl<'a, O, S, C> Watched<'a, O, S, C> {
+    pub fn of(files: O, progress: &'a Progress<S, C>) -> Watched<'a, O, S, C> {
         Watched { files, progress }
     }
 }
 
 /// A file that is told of when it was read to its end.
 #[derive(Drop)]
-pub struct WatchedFile<'a, R, S> {
+pub struct WatchedFile<'a, R, S, C> {
     file: R,
     name: Option<String>,
     bytes: u64,
-    progress: &'a Progress<S>,
+    progress: &'a Progress<S, C>,
 }
 
-impl<'a, R: io::Read, S: io::Write + Copy> io::Read for WatchedFile<'a, R, S> {
+impl<'a, R: io::Read, S: io::Write + Copy, C: Clock + Copy> io::Read for WatchedFile<'a, R, S, C> {
     // What is read is what the file gives.
     ghost remaining = { λ f. R.remaining f.file };
 
@@ -117,7 +167,7 @@ impl<'a, R: io::Read, S: io::Write + Copy> io::Read for WatchedFile<'a, R, S> {
     }
 }
 
-impl<'a, R, S: io::Write + Copy> WatchedFile<'a, R, S> {
+impl<'a, R, S: io::Write + Copy, C: Clock + Copy> WatchedFile<'a, R, S, C> {
     /// Counts the bytes of a read, or tells that there are no more.
     fn note(&mut self, count: usize)
         ensures { self.new.file ≡ self.old.file }
@@ -132,13 +182,13 @@ impl<'a, R, S: io::Write + Copy> WatchedFile<'a, R, S> {
     }
 }
 
-impl<'a, O: Open, S: io::Write + Copy> Open for Watched<'a, O, S> {
-    type File = WatchedFile<'a, O::File, S>;
+impl<'a, O: Open, S: io::Write + Copy, C: Clock + Copy> Open for Watched<'a, O, S, C> {
+    type File = WatchedFile<'a, O::File, S, C>;
 
     // What is opened is what the other opener opens by this name.
     ghost opens = { λ w name f v. O.opens w.files name (option_map (λ x. x.file) f) v.files };
 
-    fn open(&mut self, name: &str) -> Option<WatchedFile<'a, O::File, S>> {
+    fn open(&mut self, name: &str) -> Option<WatchedFile<'a, O::File, S, C>> {
         let Some(file) = self.files.open(name) else {
             return None;
         };
@@ -151,7 +201,7 @@ impl<'a, O: Open, S: io::Write + Copy> Open for Watched<'a, O, S> {
     }
 }
 
-impl<'a, O: Make, S> Make for Watched<'a, O, S> {
+impl<'a, O: Make, S, C> Make for Watched<'a, O, S, C> {
     type Made = O::Made;
 
     // What is made is what the other makes by this name.

@@ -1,7 +1,9 @@
 //! Whole runs, from the words to the exit status.
-use crate::progress::{Progress, Watched};
+use crate::again::Again;
+use crate::progress::Screen;
+use crate::served::{Place, serve_told};
 use crate::words::{Asked, Unasked, help_text, parse};
-use crate::working::{Streams, serve_work};
+use crate::working::Streams;
 use buck_engine::{EngineFault, Make, Open, conclude, explain};
 use buck_told::sentence;
 use clap::Error;
@@ -10,6 +12,7 @@ use std::alloc::{AllocError, Global};
 use std::io;
 use std::sync::Wait;
 use std::thread::Threads;
+use std::time::Clock;
 
 /// What is said where a word of the command line is no text.
 const NO_TEXT: &[u8] =
@@ -26,6 +29,36 @@ Usage: buckfleet fleet [OPTIONS] <APT> <STM>...
 For more information, try '--help'.
 ";
 
+/// What is said where a period or a limit isn't one.
+const NUMBERLESS: &[u8] = b"error: a period is 1 to 1000 and a limit 0 to 1000, each in digits alone
+
+For more information, try '--help'.
+";
+
+/// What is said where a table would have more lines than it may.
+const MANY: &[u8] = b"error: a table has a line for each combination, and at most 10000
+
+Usage: buckfleet sweep [OPTIONS] <APT> <STM>...
+
+For more information, try '--help'.
+";
+
+/// What is said where the instruction is to be read from the input that has the requests.
+const SHARED: &[u8] = b"error: standard input has the requests
+
+Usage: buckfleet live [OPTIONS] <APT>
+
+For more information, try '--help'.
+";
+
+/// What is said where a word stands before the command that it belongs to.
+const EARLY: &[u8] = b"error: --explain stands behind the name of a command
+
+Usage: buckfleet [COMMAND]
+
+For more information, try '--help'.
+";
+
 /// What is said where there is no such fault line.
 const NO_LINE: &[u8] = b"error: there is no such fault line
 
@@ -34,7 +67,8 @@ Usage: buckfleet explain <LINE>...
 For more information, try '--help'.
 ";
 
-/// Says help or the version on the output, and what is wrong with the words on the errors. The answer is the exit status.
+/// Says help or the version on the output, and what is wrong with the words on the errors. The answer is the exit
+/// status.
 fn explain_words<R, W: io::Write, E: io::Write>(
     alloc: Global,
     streams: &mut Streams<R, W, E>,
@@ -92,6 +126,11 @@ fn refuse<R, W: io::Write, E: io::Write>(
         Unasked::Said(error) => return explain_words(alloc, streams, error),
         Unasked::Lost => LOST,
         Unasked::Eaten => EATEN,
+        Unasked::Numberless => NUMBERLESS,
+        Unasked::Many => MANY,
+        Unasked::Memory => return conclude(&mut streams.errors, &Err(EngineFault::Memory)),
+        Unasked::Shared => SHARED,
+        Unasked::Early => EARLY,
     };
     explain(&mut streams.output, &mut streams.errors, text, true)
 }
@@ -128,11 +167,15 @@ fn sentence_line(alloc: Global, line: &str) -> Result<Option<Vec<u8>>, AllocErro
 /// Does what the words ask for; the first is the program's name. Where they can't be had, it is said why. The answer is
 /// the exit status.
 ///
-/// How far long work is, is told on the screen, where there is one and the words don't ask for quiet.
+/// How far long work is, is told on the screen, where there is one and the words don't ask for quiet. What is wrong
+/// where a run fails is said in words before the line of its fault: on the errors where the words ask for it, and else
+/// on the screen. For that, `again` opens a file once more.
 pub fn run<
     T: Threads + Wait + Sync,
     O: Open + Make + Drop,
-    S: io::Write + Copy + Sync,
+    A: Again + Drop,
+    S: io::Write + Copy + Drop + Sync,
+    C: Clock + Copy + Drop + Sync,
     R: io::Read,
     W: io::Write,
     E: io::Write,
@@ -140,21 +183,17 @@ pub fn run<
     rt: &T,
     alloc: Global,
     words: &Result<Vec<String>, io::ErrorKind>,
-    files: O,
-    screen: Option<S>,
+    files: Place<O, A>,
+    screen: Option<Screen<S, C>>,
     streams: &mut Streams<R, W, E>,
 ) -> u8 {
     let words = match words {
         Ok(words) => words,
         Err(kind) => return refuse_words(streams, *kind),
     };
-    let request = match parse(alloc, words.as_slice()) {
-        Ok(Asked::Work(request)) => request,
-        Ok(Asked::Sentence(line)) => return say_sentence(alloc, streams, line.as_str()),
-        Err(why) => return refuse(alloc, streams, &why),
-    };
-    let screen = if request.quiet { None } else { screen };
-    let progress = Progress::on(alloc, screen);
-    let mut files = Watched::of(files, &progress);
-    serve_work(rt, alloc, &request.work, &progress, &mut files, streams)
+    match parse(alloc, words.as_slice()) {
+        Ok(Asked::Work(request)) => serve_told(rt, alloc, &request, files, screen, streams),
+        Ok(Asked::Sentence(line)) => say_sentence(alloc, streams, line.as_str()),
+        Err(why) => refuse(alloc, streams, &why),
+    }
 }

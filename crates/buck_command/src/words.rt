@@ -1,10 +1,17 @@
 //! The words of the command line, and what they ask for.
 ghost use Rattle.std.specs.Prelude.{◌≡◌, IfSome};
-ghost use Rattle.buck_command.specs.Words.{rule_name, table_name};
+ghost use Rattle.buck_engine.specs.fleet.Named.{rule_name};
+ghost use Rattle.buck_command.specs.Words.{table_name};
 
 use crate::help;
+use crate::inputs::DASH;
 use crate::working::Work;
-use buck_engine::{BuckTask, CheckTask, FleetTask, NamedRule, Order, Shown, Table, Task, ViewTask};
+use buck_engine::{
+    BuckTask, CheckTask, FleetTask, NamedRule, Order, Settings, Shown, Table, Task, ViewTask,
+};
+use buck_live::LiveTask;
+use buck_record::Memory;
+use buck_sweep::{SweepTask, combinations};
 use clap::{Arg, ArgAction, ArgMatches, Command, Error, value_parser};
 use std::alloc::Global;
 
@@ -23,12 +30,32 @@ fn quiet<'a>(alloc: Global) -> Arg<'a> {
         .help(help::QUIET)
 }
 
+fn explained<'a>(alloc: Global) -> Arg<'a> {
+    Arg::new(alloc, "explain")
+        .long("explain")
+        .action(ArgAction::SetTrue)
+        .help(help::EXPLAINED)
+}
+
 fn threads<'a>(alloc: Global) -> Arg<'a> {
     Arg::new(alloc, "threads")
         .long("threads")
         .value_name("N")
         .value_parser(value_parser!(u8).range(1..65))
         .help(help::THREADS)
+}
+
+/// A command with the two options that put numbers in the place of the instruction's own.
+fn with_numbers<'a>(alloc: Global, command: Command<'a>) -> Result<Command<'a>, Error> {
+    let period = Arg::new(alloc, "period")
+        .long("period")
+        .value_name("N")
+        .help(help::PERIOD);
+    let limit = Arg::new(alloc, "limit")
+        .long("limit")
+        .value_name("N")
+        .help(help::LIMIT);
+    Ok(command.arg(period)?.arg(limit)?)
 }
 
 fn buck<'a>(alloc: Global) -> Result<Command<'a>, Error> {
@@ -44,11 +71,13 @@ fn buck<'a>(alloc: Global) -> Result<Command<'a>, Error> {
 }
 
 fn check<'a>(alloc: Global) -> Result<Command<'a>, Error> {
+    let command = Command::new(alloc, "check")
+        .about("Says whether a journal is lawful for an instruction")
+        .after_long_help(help::CHECK)
+        .arg(rule(alloc).help(help::CHECKED_RULE))?;
     Ok(
-        Command::new(alloc, "check")
-            .about("Says whether a journal is lawful for an instruction")
-            .after_long_help(help::CHECK)
-            .arg(rule(alloc).help(help::CHECKED_RULE))?
+        with_numbers(alloc, command)?
+            .arg(threads(alloc))?
             .arg(quiet(alloc))?
             .arg(file(alloc, "APT", "The instruction file"))?
             .arg(file(alloc, "JOURNAL", "The journal"))?
@@ -61,10 +90,12 @@ fn check<'a>(alloc: Global) -> Result<Command<'a>, Error> {
 }
 
 fn view<'a>(alloc: Global) -> Result<Command<'a>, Error> {
+    let command = Command::new(alloc, "view")
+        .about("Shows a journal as a page for a browser")
+        .after_long_help(help::VIEW);
     Ok(
-        Command::new(alloc, "view")
-            .about("Shows a journal as a page for a browser")
-            .after_long_help(help::VIEW)
+        with_numbers(alloc, command)?
+            .arg(threads(alloc))?
             .arg(quiet(alloc))?
             .arg(file(alloc, "APT", "The instruction file"))?
             .arg(file(alloc, "JOURNAL", "The journal"))?,
@@ -72,10 +103,12 @@ fn view<'a>(alloc: Global) -> Result<Command<'a>, Error> {
 }
 
 fn table<'a>(alloc: Global) -> Result<Command<'a>, Error> {
+    let command = Command::new(alloc, "table")
+        .about("Shows a journal as a table for a spreadsheet")
+        .after_long_help(help::TABLE);
     Ok(
-        Command::new(alloc, "table")
-            .about("Shows a journal as a table for a spreadsheet")
-            .after_long_help(help::TABLE)
+        with_numbers(alloc, command)?
+            .arg(threads(alloc))?
             .arg(quiet(alloc))?
             .arg(file(alloc, "APT", "The instruction file"))?
             .arg(file(alloc, "JOURNAL", "The journal"))?
@@ -116,12 +149,13 @@ fn in_turn<'a>(alloc: Global) -> Arg<'a> {
 }
 
 fn fleet<'a>(alloc: Global) -> Result<Command<'a>, Error> {
+    let command = Command::new(alloc, "fleet")
+        .about("Cuts stem files by a fleet of harvesters, one for each file")
+        .after_long_help(help::FLEET)
+        .arg(in_turn(alloc))?
+        .arg(steady_rule(alloc))?;
     Ok(
-        Command::new(alloc, "fleet")
-            .about("Cuts stem files by a fleet of harvesters, one for each file")
-            .after_long_help(help::FLEET)
-            .arg(in_turn(alloc))?
-            .arg(steady_rule(alloc))?
+        with_numbers(alloc, command)?
             .arg(journal(alloc))?
             .arg(quiet(alloc))?
             .arg(file(alloc, "APT", "The instruction file"))?
@@ -129,14 +163,54 @@ fn fleet<'a>(alloc: Global) -> Result<Command<'a>, Error> {
     )
 }
 
-fn report<'a>(alloc: Global) -> Result<Command<'a>, Error> {
+/// A list of numbers, each of which a run puts in the place of the instruction's own.
+fn numbers<'a>(alloc: Global, name: &'a str, help: &'a str) -> Arg<'a> {
+    Arg::new(alloc, name)
+        .long(name)
+        .value_name("LIST")
+        .help(help)
+}
+
+fn sweep<'a>(alloc: Global) -> Result<Command<'a>, Error> {
     Ok(
-        Command::new(alloc, "report")
-            .about("Prints the report of a journal, as fleet printed it")
-            .after_long_help(help::REPORT)
+        Command::new(alloc, "sweep")
+            .about("Compares rules, periods and limits on the same stems")
+            .after_long_help(help::SWEEP)
+            .arg(
+                rule(alloc)
+                    .action(ArgAction::Append)
+                    .help(help::SWEPT_RULES),
+            )?
+            .arg(numbers(alloc, "period", help::PERIODS))?
+            .arg(numbers(alloc, "limit", help::LIMITS))?
+            .arg(quiet(alloc))?
+            .arg(file(alloc, "APT", "The instruction file"))?
+            .arg(file(alloc, "STM", "The stem files, one for each harvester").num_args(1..))?,
+    )
+}
+
+fn report<'a>(alloc: Global) -> Result<Command<'a>, Error> {
+    let command = Command::new(alloc, "report")
+        .about("Prints the report of a journal, as fleet printed it")
+        .after_long_help(help::REPORT);
+    Ok(
+        with_numbers(alloc, command)?
             .arg(quiet(alloc))?
             .arg(file(alloc, "APT", "The instruction file"))?
             .arg(file(alloc, "JOURNAL", "The journal"))?,
+    )
+}
+
+fn live<'a>(alloc: Global) -> Result<Command<'a>, Error> {
+    let command = Command::new(alloc, "live")
+        .about("Cuts stems as they are felled, each answered before the next is read")
+        .after_long_help(help::LIVE)
+        .arg(steady_rule(alloc))?;
+    Ok(
+        with_numbers(alloc, command)?
+            .arg(journal(alloc))?
+            .arg(quiet(alloc))?
+            .arg(file(alloc, "APT", "The instruction file"))?,
     )
 }
 
@@ -149,20 +223,31 @@ fn line<'a>(alloc: Global) -> Result<Command<'a>, Error> {
     )
 }
 
+/// A command that has another one, whose faults can be asked for in words.
+fn with_told<'a>(
+    alloc: Global,
+    command: Command<'a>,
+    other: Result<Command<'a>, Error>,
+) -> Result<Command<'a>, Error> {
+    let other = other?.arg(explained(alloc))?;
+    Ok(command.subcommand(other)?)
+}
+
 fn command<'a>(alloc: Global) -> Result<Command<'a>, Error> {
-    Ok(
-        Command::new(alloc, "buckfleet")
-            .version("0.1.0")
-            .about(help::PROGRAM)
-            .after_long_help(help::COMMANDS)
-            .subcommand(buck(alloc)?)?
-            .subcommand(fleet(alloc)?)?
-            .subcommand(check(alloc)?)?
-            .subcommand(report(alloc)?)?
-            .subcommand(view(alloc)?)?
-            .subcommand(table(alloc)?)?
-            .subcommand(line(alloc)?)?,
-    )
+    let program = Command::new(alloc, "buckfleet")
+        .version(help::VERSION)
+        .about(help::PROGRAM)
+        .after_long_help(help::COMMANDS)
+        .arg(explained(alloc))?;
+    let program = with_told(alloc, program, buck(alloc))?;
+    let program = with_told(alloc, program, fleet(alloc))?;
+    let program = with_told(alloc, program, sweep(alloc))?;
+    let program = with_told(alloc, program, live(alloc))?;
+    let program = with_told(alloc, program, check(alloc))?;
+    let program = with_told(alloc, program, report(alloc))?;
+    let program = with_told(alloc, program, view(alloc))?;
+    let program = with_told(alloc, program, table(alloc))?;
+    Ok(program.subcommand(line(alloc)?)?)
 }
 
 /// What the program can be asked for, as help.
@@ -179,6 +264,22 @@ pub enum Unasked {
     Lost,
     /// The journal's name is that of an input file.
     Eaten,
+    /// A period or a limit isn't one.
+    Numberless,
+    /// A table would have more lines than it may.
+    Many,
+    /// The instruction of requests is to be read from the input that has them.
+    Shared,
+    /// A word that belongs behind a command's name stands before it.
+    Early,
+    /// A growth was refused.
+    Memory,
+}
+
+impl From<Memory> for Unasked {
+    fn from(_memory: Memory) -> Unasked {
+        Unasked::Memory
+    }
 }
 
 impl From<Error> for Unasked {
@@ -250,9 +351,43 @@ fn checked_files<'a>(
 /// Whether the journal's name, where there is one, is that of an input file.
 fn is_input(journal: Option<&str>, apt: &str, stms: &[&str]) -> bool {
     match journal {
-        Some(name) => name == apt || stms.iter().any(|stm| *stm == name),
-        None => false,
+        Some(name) if name != DASH => name == apt || stms.iter().any(|stm| *stm == name),
+        _ => false,
     }
+}
+
+/// The number that a word is: digits alone, leading zeros among them, as in files.
+fn number(word: &str) -> Option<u32> {
+    if !word.as_bytes().iter().all(|byte| byte.is_ascii_digit()) {
+        return None;
+    }
+    word.parse::<u32>().ok()
+}
+
+/// The number after an option, where it is there.
+fn number_after(words: &ArgMatches<'_>, option: &str) -> Result<Option<u32>, Unasked> {
+    match words.get_str(option) {
+        None => Ok(None),
+        Some(word) => match number(word) {
+            Some(number) => Ok(Some(number)),
+            None => Err(Unasked::Numberless),
+        },
+    }
+}
+
+/// The numbers that are put in the place of the instruction's own.
+fn settings(words: &ArgMatches<'_>) -> Result<Settings, Unasked> {
+    let period = number_after(words, "period")?;
+    let limit = number_after(words, "limit")?;
+    match Settings::of(period, limit) {
+        Some(settings) => Ok(settings),
+        None => Err(Unasked::Numberless),
+    }
+}
+
+/// How many threads there may be at once, where that is said.
+fn asked_threads(words: &ArgMatches<'_>) -> Option<u8> {
+    words.get_one::<u8>("threads")
 }
 
 /// What the words after `fleet` ask for.
@@ -275,9 +410,113 @@ fn fleet_task<'a>(alloc: Global, words: &ArgMatches<'a>) -> Result<FleetTask<'a>
             Order::AtOnce
         },
         rule,
+        settings: settings(words)?,
         journal,
         apt,
         stms: stem_files(alloc, stms)?,
+    })
+}
+
+/// The most lines of runs that a table may have.
+const MOST_RUNS: usize = 10_000;
+
+/// The rules of these names; where there is none, the steady one.
+fn named_rules(alloc: Global, names: &[&str]) -> Result<Vec<NamedRule>, Memory> {
+    let mut rules = Vec::new(alloc);
+    for name in names {
+        if let Some(rule) = named_rule(*name) {
+            rules.push(rule)?;
+        }
+    }
+    if rules.is_empty() {
+        rules.push(NamedRule::Steady)?;
+    }
+    Ok(rules)
+}
+
+/// The numbers of a list, with one comma between; none where one of them isn't one.
+fn numbers_in(alloc: Global, list: &str) -> Result<Option<Vec<Option<u32>>>, Memory> {
+    let mut numbers = Vec::new(alloc);
+    for word in list.split(',') {
+        match number(word) {
+            Some(number) => numbers.push(Some(number))?,
+            None => return Ok(None),
+        }
+    }
+    Ok(Some(numbers))
+}
+
+/// The numbers after an option; where it isn't there, the instruction's own.
+fn numbers_after(
+    alloc: Global,
+    words: &ArgMatches<'_>,
+    option: &str,
+) -> Result<Vec<Option<u32>>, Unasked> {
+    match words.get_str(option) {
+        None => Ok(own_number(alloc)?),
+        Some(list) => match numbers_in(alloc, list)? {
+            Some(numbers) => Ok(numbers),
+            None => Err(Unasked::Numberless),
+        },
+    }
+}
+
+/// A list in which nothing is told.
+fn own_number(alloc: Global) -> Result<Vec<Option<u32>>, Memory> {
+    let mut numbers = Vec::new(alloc);
+    numbers.push(None)?;
+    Ok(numbers)
+}
+
+/// What the words after `sweep` ask for.
+fn sweep_task<'a>(alloc: Global, words: &ArgMatches<'a>) -> Result<SweepTask<'a>, Unasked> {
+    let rules = named_rules(alloc, words.get_strs("rule").unwrap_or(&[]))?;
+    let periods = numbers_after(alloc, words, "period")?;
+    let limits = numbers_after(alloc, words, "limit")?;
+    let lines = rules
+        .len()
+        .saturating_mul(periods.len())
+        .saturating_mul(limits.len());
+    if lines > MOST_RUNS {
+        return Err(Unasked::Many);
+    }
+    let made = combinations(
+        alloc,
+        rules.as_slice(),
+        periods.as_slice(),
+        limits.as_slice(),
+    );
+    let Some(combinations) = made? else {
+        return Err(Unasked::Numberless);
+    };
+    let Some(stms) = words.get_strs("STM") else {
+        return Err(Unasked::Lost);
+    };
+    Ok(SweepTask {
+        combinations,
+        apt: word(words, "APT")?,
+        stms: stem_files(alloc, stms)?,
+    })
+}
+
+/// What the words after `live` ask for.
+fn live_task<'a>(words: &ArgMatches<'a>) -> Result<LiveTask<'a>, Unasked> {
+    let Some(rule) = named_rule(word(words, "rule")?) else {
+        return Err(Unasked::Lost);
+    };
+    let apt = word(words, "APT")?;
+    let journal = words.get_str("journal");
+    if apt == DASH {
+        return Err(Unasked::Shared);
+    }
+    if is_input(journal, apt, &[]) {
+        return Err(Unasked::Eaten);
+    }
+    Ok(LiveTask {
+        rule,
+        settings: settings(words)?,
+        journal,
+        apt,
     })
 }
 
@@ -300,8 +539,10 @@ fn check_task<'a>(alloc: Global, words: &ArgMatches<'a>) -> Result<CheckTask<'a>
     let stms = words.get_strs("STM").unwrap_or(&[]);
     Ok(CheckTask {
         rule,
+        settings: settings(words)?,
         apt,
         files: checked_files(alloc, journal, stms)?,
+        threads: asked_threads(words),
     })
 }
 
@@ -311,6 +552,8 @@ fn view_task<'a>(words: &ArgMatches<'a>, shown: Shown) -> Result<ViewTask<'a>, U
         apt: word(words, "APT")?,
         journal: word(words, "JOURNAL")?,
         shown,
+        settings: settings(words)?,
+        threads: asked_threads(words),
     })
 }
 
@@ -328,14 +571,17 @@ fn work_of<'a>(alloc: Global, name: &str, words: &ArgMatches<'a>) -> Result<Work
         "buck" => Ok(Work::Buck(BuckTask {
             apt: word(words, "APT")?,
             stm: word(words, "STM")?,
-            threads: words.get_one::<u8>("threads"),
+            threads: asked_threads(words),
         })),
         "check" => Ok(Work::Check(check_task(alloc, words)?)),
         "report" => Ok(Work::Plain(Task::Report {
             apt: word(words, "APT")?,
             journal: word(words, "JOURNAL")?,
+            settings: settings(words)?,
         })),
         "fleet" => Ok(Work::Fleet(fleet_task(alloc, words)?)),
+        "sweep" => Ok(Work::Sweep(sweep_task(alloc, words)?)),
+        "live" => Ok(Work::Live(live_task(words)?)),
         "view" => Ok(Work::View(view_task(words, Shown::Page)?)),
         "table" => Ok(Work::View(view_task(words, Shown::Table(table_word(words)?))?)),
         _ => Err(Unasked::Lost),
@@ -348,6 +594,8 @@ pub struct Request<'a> {
     pub work: Work<'a>,
     /// Whether nothing is to be said on a terminal of how far the work is.
     pub quiet: bool,
+    /// Whether faults are to be said in words too.
+    pub explain: bool,
 }
 
 /// The words of a fault line, with a blank before each.
@@ -380,17 +628,21 @@ fn request_of<'a>(alloc: Global, name: &str, words: &ArgMatches<'a>) -> Result<A
     Ok(Asked::Work(Request {
         work: work_of(alloc, name, words)?,
         quiet: words.get_flag("quiet"),
+        explain: words.get_flag("explain"),
     }))
 }
 
 /// What the program's words ask for, the first of which is the program's name.
 pub fn parse<'a>(alloc: Global, words: &'a [String]) -> Result<Asked<'a>, Unasked> {
     let matches = command(alloc)?.try_get_matches_from(words)?;
+    let explain = matches.get_flag("explain");
     match matches.subcommand() {
+        Some(_) if explain => Err(Unasked::Early),
         Some((name, words)) => request_of(alloc, name, words),
-        None => {
-            let work = Work::Plain(Task::Bare);
-            Ok(Asked::Work(Request { work, quiet: false }))
-        }
+        None => Ok(Asked::Work(Request {
+            work: Work::Plain(Task::Bare),
+            quiet: false,
+            explain,
+        })),
     }
 }

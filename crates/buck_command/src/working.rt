@@ -8,6 +8,8 @@ use buck_engine::{
     BuckTask, CheckTask, FleetTask, Make, Onlooker, Open, Task, ViewTask, serve, serve_buck,
     serve_check, serve_fleet, serve_view,
 };
+use buck_live::{LiveTask, serve_live};
+use buck_sweep::{SweepTask, serve_sweep};
 use std::alloc::Global;
 use std::io;
 use std::sync::Wait;
@@ -22,16 +24,30 @@ pub enum Work<'a> {
     Buck(BuckTask<'a>),
     /// A fleet, whose harvesters wait for one another.
     Fleet(FleetTask<'a>),
-    /// A journal is to be checked, also by stem files and a rule.
+    /// A journal is to be checked, also by stem files and a rule, in several threads at once.
     Check(CheckTask<'a>),
-    /// A journal is to be shown.
+    /// A journal is to be shown, and checked before in several threads at once.
     View(ViewTask<'a>),
+    /// Stems are to be cut as they are felled.
+    Live(LiveTask<'a>),
+    /// Rules, periods and limits are to be compared.
+    Sweep(SweepTask<'a>),
+}
+
+impl Work<'_> {
+    /// Whether standard input has requests.
+    pub(crate) fn has_requests(&self) -> bool {
+        match self {
+            Work::Live(_) => true,
+            _ => false,
+        }
+    }
 }
 
 /// What a run reads and writes beside its files.
 #[derive(Drop)]
 pub struct Streams<R, W, E> {
-    /// Where both files of the bare form stand.
+    /// Where both files of the bare form stand, or requests.
     pub input: R,
     /// What is asked for is written here.
     pub output: W,
@@ -40,7 +56,7 @@ pub struct Streams<R, W, E> {
 }
 
 /// Does the work, and says how it ended. The answer is the exit status. Each fault and what is written before it are
-/// those of [`serve`], [`serve_buck`], [`serve_fleet`], [`serve_check`] and [`serve_view`].
+/// those of [`serve`], [`serve_buck`], [`serve_fleet`], [`serve_check`], [`serve_view`], [`serve_live`] and [`serve_sweep`].
 pub fn serve_work<
     T: Threads + Wait + Sync,
     L: Onlooker + Sync,
@@ -90,6 +106,7 @@ pub fn serve_work<
             &mut streams.errors,
         ),
         Work::Check(task) => serve_check(
+            rt,
             alloc,
             task,
             files,
@@ -97,6 +114,22 @@ pub fn serve_work<
             &mut streams.errors,
         ),
         Work::View(task) => serve_view(
+            rt,
+            alloc,
+            task,
+            files,
+            &mut streams.output,
+            &mut streams.errors,
+        ),
+        Work::Live(task) => serve_live(
+            alloc,
+            task,
+            &mut streams.input,
+            files,
+            &mut streams.output,
+            &mut streams.errors,
+        ),
+        Work::Sweep(task) => serve_sweep(
             alloc,
             task,
             files,

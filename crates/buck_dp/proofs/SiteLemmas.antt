@@ -21,7 +21,8 @@ use Rattle.buck_dp.specs.inner.Logs.{IsLogAt}
 use Rattle.buck_dp.specs.inner.Parts.{HasTakers}
 use Rattle.buck_dp.specs.inner.Cells.{AreCells}
 use Rattle.buck_dp.specs.inner.Rows.{IsNear, IsPart}
-use Rattle.buck_dp.specs.inner.Site.{IsSite, ground_of}
+use Rattle.buck_dp.specs.inner.Kept.{all_of}
+use Rattle.buck_dp.specs.inner.Site.{IsSite, IsDiameterAt, ground_of}
 use Rattle.buck_dp.specs.declared.planning.Site.{Site}
 use Rattle.buck_dp.specs.declared.offering.Cell.{Cell}
 use Rattle.buck_dp.specs.declared.offering.Reach.{Reach}
@@ -170,6 +171,17 @@ module _ (x : Site) (is : IsSite x) where
         | inr left ↦ omega arith
       ])
       are
+
+  -- so are those of a row that is kept
+  pub row_offered : (t d first : ℕ) (takers : Takers) (cells : List Cell) → IsDiameterAt x t d → t < points_of (ground_of x)
+      → first < t → t < x.fit → ((i : ℕ) → first ≤ i → i < t → HasTakers (ground_of x) takers i t)
+      → AreCells x.market.sheet.now (codes_in x.market.menu.now.offers.items) takers d (all_of x.market.menu.now) cells
+      → IsPart (ground_of x) t first t cells
+  row_offered t d first takers cells at lt order fit here are =
+      part_offered at.table t first t takers (all_of x.market.menu.now) cells at.known (omega arith)
+      (let reached = point_reached t lt in omega (arith, reached.1)) here (is.fit t fit) (inl refl)
+      (subst (λ (n : ℕ). AreCells x.market.sheet.now (codes_in x.market.menu.now.offers.items) takers n (all_of x.market.menu.now) cells)
+      (sym at.is) are)
 
 -- the cells of a row are of logs that are no longer than the longest
 pub steps_few : (x : Site) (takers : Takers) (d t first : ℕ) (reach : Reach) (cells : List Cell) → IsSite x

@@ -3,8 +3,11 @@
 ghost use Rattle.std.specs.Prelude.{◌≡◌, ℕ, ◌+◌, ◌*◌, ◌<◌, ◌≤◌, IfOk, OnOk, IsTrue};
 ghost use Rattle.buck_stem.specs.Stem.{stem_length};
 ghost use Rattle.buck_dp.specs.inner.Points.{points_of, ground_with};
-ghost use Rattle.buck_dp.specs.inner.Parts.{HasTakers, HasNoneBefore};
-ghost use Rattle.buck_dp.specs.inner.Site.{IsSite, IsMemoFor, ground_of};
+ghost use Rattle.buck_dp.specs.inner.Parts.{HasTakers, HasNoneOf, HasNoneBefore};
+ghost use Rattle.buck_bid.specs.Offers.{codes_in};
+ghost use Rattle.buck_dp.specs.inner.Cells.{AreCells};
+ghost use Rattle.buck_dp.specs.inner.Kept.{all_of};
+ghost use Rattle.buck_dp.specs.inner.Site.{IsSite, IsMemoFor, IsDiameterAt, ground_of};
 ghost use Rattle.buck_dp.specs.inner.Takers.{AreKnown};
 
 use crate::keeping::{Kept, Market, Spot, all_logs};
@@ -42,11 +45,11 @@ pub struct Part {
     pub group: Group,
 }
 
-/// The starts nearest to the tops of a run, and whether all logs with these tops start there.
+/// The starts nearest to the tops of a run, and the first of these tops from which on all logs start there.
 #[derive(Clone, Copy)]
 pub struct Near {
     pub part: Part,
-    pub alone: bool,
+    pub low: usize,
 }
 
 /// The point before which each trim fits behind a top.
@@ -132,11 +135,18 @@ fn near_part(site: Site<'_>, kinds: &mut Kinds, top: usize) -> Result<Near, Memo
     ensures first { IfOk result (λ n. n.part.first < top) }
     ensures takers { IfOk result (λ n. (i : ℕ) → n.part.first ≤ i → i < top
         → HasTakers (ground_of site.entry) n.part.group.takers i top) }
-    ensures alone { IfOk result (λ n. IsTrue n.alone → HasNoneBefore (ground_of site.entry) n.part.first top) }
+    ensures low { IfOk result (λ n. top ≤ n.low) }
+    ensures all { IfOk result (λ n. HasNoneBefore (ground_of site.entry) n.part.first n.low) }
 {
     let part = part_before(site, kinds, top, top)?;
-    let alone = is_first(site, kinds, top, part.first)?;
-    Ok(Near { part, alone })
+    if is_first(site, kinds, top, part.first)? {
+        return Ok(Near { part, low: top });
+    }
+    let whole = part.first.saturating_add(site.market.menu.most_steps);
+    Ok(Near {
+        part,
+        low: top.max(whole),
+    })
 }
 
 /// How many mm of a stem lie behind a top.
@@ -149,68 +159,70 @@ fn left_behind(site: Site<'_>, top: usize) -> u32
     site.stem.length() - top as u32 * site.market.sheet.instruction().module()
 }
 
-/// Offers the logs with the top that was settled last, where all of them start in one part and each trim fits.
+/// Offers the logs with the top that was settled last, which all start in one part and whose trims fit, from the row of
+/// that part at the top's diameter.
 #[inline(always)]
-fn offer_whole(
+fn offer_cells(site: Site<'_>, search: &mut Search<'_>, part: Part, diameter: u32, cells: &[Cell])
+    requires site { IsSite site }
+    requires ground { search.old.ground ≡ ground_of site }
+    requires top { search.old.from < points_of (ground_of site) }
+    requires stop { search.old.stop ≡ search.old.from }
+    requires order { part.first < search.old.from }
+    requires room { search.old.from < site.fit }
+    requires takers { (i : ℕ) → part.first ≤ i → i < search.old.from
+        → HasTakers (ground_of site) part.group.takers i search.old.from }
+    requires all { HasNoneOf (ground_of site) part.first search.old.from }
+    requires diameter { IsDiameterAt site search.old.from diameter }
+    requires cells { AreCells site.market.sheet.now (codes_in site.market.menu.now.offers.items) part.group.takers
+        diameter (all_of site.market.menu.now) cells.now }
+    ensures ground { search.new.ground ≡ search.old.ground }
+    ensures from { search.new.from ≡ search.old.from }
+    ensures stop { search.new.stop ≡ 0 }
+{
+    if search.from() - part.first >= site.market.menu.most_steps {
+        search.offer_whole(part.first, cells);
+    } else {
+        search.offer_part(part.first, cells);
+    }
+    search.close_top();
+}
+
+/// Offers the logs with the top that was settled last, and goes on with the tops before it for as long as they have its
+/// diameter and all of their logs start in one part: one row serves them all. Each trim fits.
+#[inline(always)]
+fn offer_kept(
     alloc: Global,
     site: Site<'_>,
     memo: &mut Memo,
     search: &mut Search<'_>,
-    part: Part,
+    near: Near,
 ) -> Result<(), Memory>
     requires site { IsSite site }
     requires memo { IsMemoFor site memo.old }
     requires ground { search.old.ground ≡ ground_of site }
     requires top { search.old.from < points_of (ground_of site) }
     requires stop { search.old.stop ≡ search.old.from }
-    requires whole { part.first + site.market.menu.now.most_steps ≤ search.old.from }
-    requires room { search.old.from * site.market.sheet.now.instruction.module + site.market.menu.now.most_trim
-        ≤ stem_length site.stem.now.samples }
-    requires takers { (i : ℕ) → part.first ≤ i → i < search.old.stop
-        → HasTakers (ground_of site) part.group.takers i search.old.from }
+    requires order { (near.part.first < near.low) × (near.low ≤ search.old.from) }
+    requires room { search.old.from < site.fit }
+    requires takers { (i t : ℕ) → near.low ≤ t → t ≤ search.old.from → near.part.first ≤ i → i < t
+        → HasTakers (ground_of site) near.part.group.takers i t }
+    requires all { HasNoneBefore (ground_of site) near.part.first near.low }
     ensures memo { IsMemoFor site.entry memo.new }
     ensures ground { OnOk result (search.new.ground ≡ search.old.ground) }
-    ensures from { OnOk result (search.new.from ≡ search.old.from) }
-    ensures stop { OnOk result (search.new.stop ≡ part.first) }
+    ensures from { OnOk result ((near.low ≤ search.new.from) × (search.new.from ≤ search.old.from)) }
+    ensures stop { OnOk result (search.new.stop ≡ 0) }
 {
-    let top = search.from();
     let diameters = site.profile.diameters();
+    let diameter = diameters[search.from()];
     let place = memo
         .kept
-        .row(alloc, site.market, part.group, diameters[top])?;
-    search.offer_whole(part.first, memo.kept.cells(place));
-    Ok(())
-}
-
-/// Offers the logs with the top that was settled last that start in a part, where each trim fits, from the row that is
-/// kept.
-fn offer_kept(
-    alloc: Global,
-    site: Site<'_>,
-    memo: &mut Memo,
-    search: &mut Search<'_>,
-    part: Part,
-) -> Result<(), Memory>
-    requires site { IsSite site }
-    requires memo { IsMemoFor site memo.old }
-    requires ground { search.old.ground ≡ ground_of site }
-    requires top { search.old.from < points_of (ground_of site) }
-    requires order { part.first < search.old.stop }
-    requires room { search.old.from * site.market.sheet.now.instruction.module + site.market.menu.now.most_trim
-        ≤ stem_length site.stem.now.samples }
-    requires takers { (i : ℕ) → part.first ≤ i → i < search.old.stop
-        → HasTakers (ground_of site) part.group.takers i search.old.from }
-    ensures memo { IsMemoFor site.entry memo.new }
-    ensures ground { OnOk result (search.new.ground ≡ search.old.ground) }
-    ensures from { OnOk result (search.new.from ≡ search.old.from) }
-    ensures stop { OnOk result (search.new.stop ≡ part.first) }
-{
-    let top = search.from();
-    let diameters = site.profile.diameters();
-    let place = memo
-        .kept
-        .row(alloc, site.market, part.group, diameters[top])?;
-    search.offer_part(part.first, memo.kept.cells(place));
+        .row(alloc, site.market, near.part.group, diameter)?;
+    let cells = memo.kept.cells(place);
+    offer_cells(site, search, near.part, diameter, cells);
+    while search.from() > near.low && diameters[search.from() - 1] == diameter {
+        search.settle_top();
+        offer_cells(site, search, near.part, diameter, cells);
+    }
     Ok(())
 }
 
@@ -285,52 +297,43 @@ fn offer_rest(
     Ok(())
 }
 
-/// Offers the logs with the top that was settled last, of which the nearest starts are known.
+/// Offers the logs with the top that was settled last, which is `last` or a later one and of which the nearest starts
+/// are known. Where one row serves them, it goes on with the tops before it.
 fn offer_top(
     alloc: Global,
     site: Site<'_>,
     memo: &mut Memo,
     search: &mut Search<'_>,
     near: Near,
+    last: usize,
 ) -> Result<(), Memory>
     requires site { IsSite site }
     requires memo { IsMemoFor site memo.old }
     requires ground { search.old.ground ≡ ground_of site }
     requires top { search.old.from < points_of (ground_of site) }
     requires stop { search.old.stop ≡ search.old.from }
-    requires order { near.part.first < search.old.from }
-    requires takers { (i : ℕ) → near.part.first ≤ i → i < search.old.from
-        → HasTakers (ground_of site) near.part.group.takers i search.old.from }
-    requires alone { IsTrue near.alone → HasNoneBefore (ground_of site) near.part.first search.old.from }
+    requires order { (near.part.first < last) × (last ≤ near.low) × (last ≤ search.old.from) }
+    requires takers { (i t : ℕ) → last ≤ t → t ≤ search.old.from → near.part.first ≤ i → i < t
+        → HasTakers (ground_of site) near.part.group.takers i t }
+    requires all { HasNoneBefore (ground_of site) near.part.first near.low }
     ensures memo { IsMemoFor site.entry memo.new }
     ensures ground { OnOk result (search.new.ground ≡ search.old.ground) }
-    ensures from { OnOk result (search.new.from ≡ search.old.from) }
+    ensures from { OnOk result ((last ≤ search.new.from) × (search.new.from ≤ search.old.from)) }
     ensures stop { OnOk result (search.new.stop ≡ 0) }
 {
     let top = search.from();
-    let menu = site.market.menu;
-    let part = near.part;
-    if top < menu.least_steps {
+    if top < site.market.menu.least_steps {
         search.close_top();
         return Ok(());
     }
-    if part.group.takers.is_empty() {
+    if near.part.group.takers.is_empty() {
         search.close_top();
         return Ok(());
     }
-    if top < site.fit {
-        if top - part.first >= menu.most_steps {
-            offer_whole(alloc, site, memo, search, part)?;
-            search.close_top();
-            return Ok(());
-        }
-        if near.alone {
-            offer_kept(alloc, site, memo, search, part)?;
-            search.close_top();
-            return Ok(());
-        }
+    if top < site.fit && near.low <= top {
+        return offer_kept(alloc, site, memo, search, near);
     }
-    offer_part(alloc, site, memo, search, part)?;
+    offer_part(alloc, site, memo, search, near.part)?;
     offer_rest(alloc, site, memo, search)
 }
 
@@ -355,7 +358,7 @@ fn search_run(
     let near = near_part(site, &mut memo.kinds, run + 1)?;
     while search.from() > run + 1 {
         search.settle_top();
-        offer_top(alloc, site, memo, search, near)?;
+        offer_top(alloc, site, memo, search, near, run + 1)?;
     }
     Ok(())
 }

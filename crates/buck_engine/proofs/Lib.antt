@@ -8,6 +8,7 @@ pub mod Harvested
 pub mod Harvests
 pub mod Endings
 pub mod Lists
+pub mod Numbers
 pub mod Opening
 pub mod Runs
 pub mod Parts

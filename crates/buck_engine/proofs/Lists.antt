@@ -8,16 +8,14 @@ use Rattle.std.specs.Prelude.{slice_index_or}
 use Rattle.std.proofs.lemmas.List.{drop-set-lt, get_or-drop, get_or-map}
 use Rattle.std.proofs.lemmas.Grind.{drop_more_same}
 use Rattle.buck_apt.specs.Apt.{apt_of}
-use Rattle.buck_apt.specs.Instruction.{InstructionParts}
 use Rattle.buck_stem.specs.Stem.{StemParts}
 use Rattle.buck_stem.specs.declared.stem.Stem.{Stem}
 use Rattle.buck_stem.specs.Stm.{stm_of}
 use Rattle.buck_fleet.specs.Run.{stems_of, stems_at}
 use Rattle.buck_engine.specs.declared.fault.EngineFault.{EngineFault}
 use Rattle.buck_engine.specs.declared.fault.EngineFault.TheVariants.{Memory}
-use Rattle.buck_engine.specs.run.Reading.{IsStmFault, Says}
-use Rattle.buck_engine.specs.fleet.Running.{AreAccepted, IsCuttingFault, IsFleetFault, IsListFault}
-use Rattle.buck_engine.specs.inner.Fleet.{AreListsOf}
+use Rattle.buck_engine.specs.run.Reading.{IsAccepted, IsStmFault, Says}
+use Rattle.buck_engine.specs.fleet.Running.{AreListsOf, AreAccepted, IsCuttingFault, IsFleetFault, IsListFault}
 
 -- what stands at a place of what is left as it was
 pub same_place : {A : Type 0} (f : A → Option (List ℕ)) (now old : List A) (k : ℕ) (x : A) → k < length old → drop k now ≡ drop k old → f (get_or now k x) ≡ get_or (map f old) k None
@@ -79,8 +77,8 @@ memory_at k stms lists (Ok x) lt made is = tt
 memory_at k stms lists (Err e) lt made is = record { place = k; exists = lt; accepted = accepted k stms lists made; is_fault = inr (inl is) }
 
 -- what goes wrong in a fleet comes after all files were accepted
-pub cut_fault : {X : Type 0} (apt : Option (List ℕ)) (stms : List (Option (List ℕ))) (lists : List (Vec (Arc Stem Global) Global)) (n : ℕ) (i : InstructionParts) (r : Result X EngineFault)
-    → Says apt_of apt (Ok i) → n ≡ length stms → AreListsOf n stms lists → IfErr r IsCuttingFault → IfErr r (IsFleetFault apt stms)
-cut_fault apt stms lists n i (Ok x) says all made fault = tt
-cut_fault apt stms lists n i (Err e) says all made fault =
-    inr (inr ((i, says), inr (subst (λ (k : ℕ). AreAccepted k stms) all (accepted n stms lists made), fault)))
+pub cut_fault : {X : Type 0} (apt : Option (List ℕ)) (stms : List (Option (List ℕ))) (lists : List (Vec (Arc Stem Global) Global)) (n : ℕ) (r : Result X EngineFault)
+    → IsAccepted apt_of apt → n ≡ length stms → AreListsOf n stms lists → IfErr r IsCuttingFault → IfErr r (IsFleetFault apt stms)
+cut_fault apt stms lists n (Ok x) says all made fault = tt
+cut_fault apt stms lists n (Err e) says all made fault =
+    inr (inr (says, inr (subst (λ (k : ℕ). AreAccepted k stms) all (accepted n stms lists made), fault)))

@@ -5,13 +5,15 @@ use Rattle.std.specs.Str.{IsUtf8}
 use Rattle.std.specs.Io.KnownBytes.{Keeps}
 use Rattle.std.proofs.KnownBytes.{Keeps-refl}
 use Rattle.buck_apt.specs.Instruction.{InstructionParts}
-use Rattle.buck_apt.specs.Apt.{apt_of}
 use Rattle.buck_book.specs.History.{HistoryParts, IsLawful}
 use Rattle.buck_journal.specs.Journal.{JournalParts, journal_of}
 use Rattle.buck_journal.specs.Replay.{history_of, IsFirstFault}
 use Rattle.buck_journal.specs.declared.replay_fault.ReplayFault.{ReplayFault}
 use Rattle.buck_engine.specs.declared.fault.EngineFault.{EngineFault}
-use Rattle.buck_engine.specs.run.Reading.{Says}
+use Rattle.buck_engine.specs.declared.run.showing.Shown.{Shown}
+use Rattle.buck_engine.specs.declared.run.showing.Shown.TheVariants.{Page, Table}
+use Rattle.buck_engine.specs.run.Reading.{ReadsApt, Says}
+use Rattle.buck_engine.specs.run.Showing.{Shows}
 use Rattle.buck_engine.specs.run.Checking.{IsUnlawful}
 use Rattle.buck_engine.specs.run.Viewing.{AppendsPage, AppendsTable, IsReadFault, ShowsAs}
 use Rattle.buck_engine.specs.text.Written.{IsWritten}
@@ -41,40 +43,48 @@ pub fault_shown : (Shown Left : Type 0) (h : HistoryParts) (old new : Option (Li
 fault_shown Shown Left h old new why fault first (inl (is, left)) = inr (why, is, first, left)
 fault_shown Shown Left h old new why fault first (inr fails) = inl fails
 
-kept : (Shown Left : Type 0) (apt journal old : Option (List ℕ)) (fault : EngineFault) → IsReadFault apt journal fault
-    → ShowsAs Shown Left apt journal old old (Err fault)
-kept Shown Left apt journal old fault (inl (inl is)) =
-    subst (λ (f : EngineFault). ShowsAs Shown Left apt journal old old (Err f)) (sym is) (inl (inl refl), Keeps-refl old)
-kept Shown Left apt journal old fault (inl (inr (inl is))) =
-    subst (λ (f : EngineFault). ShowsAs Shown Left apt journal old old (Err f)) (sym is) (inl (inr (inl refl)), Keeps-refl old)
-kept Shown Left apt journal old fault (inl (inr (inr (why, is, says)))) =
-    subst (λ (f : EngineFault). ShowsAs Shown Left apt journal old old (Err f)) (sym is) (inl (inr (inr (why, refl, says))), Keeps-refl old)
-kept Shown Left apt journal old fault (inr (ok, inl is)) =
-    subst (λ (f : EngineFault). ShowsAs Shown Left apt journal old old (Err f)) (sym is) (inr (ok, inl refl), Keeps-refl old)
-kept Shown Left apt journal old fault (inr (ok, inr (inl is))) =
-    subst (λ (f : EngineFault). ShowsAs Shown Left apt journal old old (Err f)) (sym is) (inr (ok, inr (inl refl)), Keeps-refl old)
-kept Shown Left apt journal old fault (inr (ok, inr (inr (why, is, says)))) =
-    subst (λ (f : EngineFault). ShowsAs Shown Left apt journal old old (Err f)) (sym is) (inr (ok, inr (inr (why, refl, says))), Keeps-refl old)
+kept : (reads : ReadsApt) (Shown Left : Type 0) (apt journal old : Option (List ℕ)) (fault : EngineFault) → IsReadFault apt journal fault
+    → ShowsAs reads Shown Left apt journal old old (Err fault)
+kept reads Shown Left apt journal old fault (inl (inl is)) =
+    subst (λ (f : EngineFault). ShowsAs reads Shown Left apt journal old old (Err f)) (sym is) (inl (inl refl), Keeps-refl old)
+kept reads Shown Left apt journal old fault (inl (inr (inl is))) =
+    subst (λ (f : EngineFault). ShowsAs reads Shown Left apt journal old old (Err f)) (sym is) (inl (inr (inl refl)), Keeps-refl old)
+kept reads Shown Left apt journal old fault (inl (inr (inr (why, is, says)))) =
+    subst (λ (f : EngineFault). ShowsAs reads Shown Left apt journal old old (Err f)) (sym is) (inl (inr (inr (why, refl, says))), Keeps-refl old)
+kept reads Shown Left apt journal old fault (inr (ok, inl is)) =
+    subst (λ (f : EngineFault). ShowsAs reads Shown Left apt journal old old (Err f)) (sym is) (inr (ok, inl refl), Keeps-refl old)
+kept reads Shown Left apt journal old fault (inr (ok, inr (inl is))) =
+    subst (λ (f : EngineFault). ShowsAs reads Shown Left apt journal old old (Err f)) (sym is) (inr (ok, inr (inl refl)), Keeps-refl old)
+kept reads Shown Left apt journal old fault (inr (ok, inr (inr (why, is, says)))) =
+    subst (λ (f : EngineFault). ShowsAs reads Shown Left apt journal old old (Err f)) (sym is) (inr (ok, inr (inr (why, refl, says))), Keeps-refl old)
 
 -- nothing is written where a file has a fault
-pub nothing_shown : (Shown Left : Type 0) (apt journal old : Option (List ℕ)) (fault : EngineFault) (r : Result (Unit {0}) EngineFault)
-    → IsErrAnd r (λ x. x ≡ fault) → IsReadFault apt journal fault → ShowsAs Shown Left apt journal old old r
-nothing_shown Shown Left apt journal old fault (Ok u) h a = absurd h
-nothing_shown Shown Left apt journal old fault (Err x) h a =
-    subst (λ (f : EngineFault). ShowsAs Shown Left apt journal old old (Err f)) (sym h) (kept Shown Left apt journal old fault a)
+pub nothing_shown : (reads : ReadsApt) (Shown Left : Type 0) (apt journal old : Option (List ℕ)) (fault : EngineFault) (r : Result (Unit {0}) EngineFault)
+    → IsErrAnd r (λ x. x ≡ fault) → IsReadFault apt journal fault → ShowsAs reads Shown Left apt journal old old r
+nothing_shown reads Shown Left apt journal old fault (Ok u) h a = absurd h
+nothing_shown reads Shown Left apt journal old fault (Err x) h a =
+    subst (λ (f : EngineFault). ShowsAs reads Shown Left apt journal old old (Err f)) (sym h) (kept reads Shown Left apt journal old fault a)
+
+-- nor by a task, whatever it shows
+pub nothing_of_task : (reads : ReadsApt) (shown : Shown) (apt journal old : Option (List ℕ)) (fault : EngineFault) (r : Result (Unit {0}) EngineFault)
+    → IsErrAnd r (λ x. x ≡ fault) → IsReadFault apt journal fault → Shows reads shown apt journal old old r
+nothing_of_task reads Page apt journal old fault r h a =
+    nothing_shown reads (AppendsPage old old) (AppendsPage old old) apt journal old fault r h a
+nothing_of_task reads (Table table) apt journal old fault r h a =
+    nothing_shown reads (AppendsTable old old) (Keeps old old) apt journal old fault r h a
 
 -- what is shown of the history that the files have
-pub history_shown : (Shown Left : Type 0) (apt journal old new : Option (List ℕ)) (i : InstructionParts) (j : JournalParts) (r : Result (Unit {0}) EngineFault)
-    → Says apt_of apt (Ok i) → Says journal_of journal (Ok j) → ShowsHistory Shown Left (history_of i j) old new r
-    → ShowsAs Shown Left apt journal old new r
-history_shown Shown Left apt journal old new i j (Ok u) a b (lawful, shown) =
+pub history_shown : (reads : ReadsApt) (Shown Left : Type 0) (apt journal old new : Option (List ℕ)) (i : InstructionParts) (j : JournalParts) (r : Result (Unit {0}) EngineFault)
+    → Says reads apt (Ok i) → Says journal_of journal (Ok j) → ShowsHistory Shown Left (history_of i j) old new r
+    → ShowsAs reads Shown Left apt journal old new r
+history_shown reads Shown Left apt journal old new i j (Ok u) a b (lawful, shown) =
     (record { instruction = i; read = j; apt_says = a; journal_says = b; holds = lawful }, shown)
-history_shown Shown Left apt journal old new i j (Err fault) a b (inl (inl (memory, same))) =
-    subst (λ (f : EngineFault). ShowsAs Shown Left apt journal old new (Err f)) (sym memory) (inl (inr (inl refl)), same)
-history_shown Shown Left apt journal old new i j (Err fault) a b (inl (inr (write, some))) =
-    subst (λ (f : EngineFault). ShowsAs Shown Left apt journal old new (Err f)) (sym write) some
-history_shown Shown Left apt journal old new i j (Err fault) a b (inr (why, is, first, left)) =
-    subst (λ (f : EngineFault). ShowsAs Shown Left apt journal old new (Err f)) (sym is)
+history_shown reads Shown Left apt journal old new i j (Err fault) a b (inl (inl (memory, same))) =
+    subst (λ (f : EngineFault). ShowsAs reads Shown Left apt journal old new (Err f)) (sym memory) (inl (inr (inl refl)), same)
+history_shown reads Shown Left apt journal old new i j (Err fault) a b (inl (inr (write, some))) =
+    subst (λ (f : EngineFault). ShowsAs reads Shown Left apt journal old new (Err f)) (sym write) some
+history_shown reads Shown Left apt journal old new i j (Err fault) a b (inr (why, is, first, left)) =
+    subst (λ (f : EngineFault). ShowsAs reads Shown Left apt journal old new (Err f)) (sym is)
     (record { instruction = i; read = j; apt_says = a; journal_says = b; holds = first }, left)
 
 -- nothing is left of it

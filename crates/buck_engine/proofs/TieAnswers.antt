@@ -8,7 +8,6 @@ use Rattle.std.proofs.lemmas.Bool.{cases_lt}
 use Rattle.std.proofs.lemmas.List.{get_or_append_left, get_or_push, length-map}
 use Rattle.buck_record.specs.Reading.{listed}
 use Rattle.buck_apt.specs.Instruction.{InstructionParts}
-use Rattle.buck_apt.specs.Apt.{apt_of}
 use Rattle.buck_stem.specs.Stem.{StemParts}
 use Rattle.buck_stem.specs.declared.stem.Stem.{Stem}
 use Rattle.buck_stem.specs.Stm.{stm_of}
@@ -20,12 +19,12 @@ use Rattle.buck_journal.specs.Replay.{history_of}
 use Rattle.buck_engine.specs.declared.fault.EngineFault.{EngineFault}
 use Rattle.buck_engine.specs.declared.fault.EngineFault.TheVariants.{Memory}
 use Rattle.buck_engine.specs.declared.fleet.serving.NamedRule.{NamedRule}
-use Rattle.buck_engine.specs.run.Reading.{IfStopped, IsStmFault, Says}
+use Rattle.buck_engine.specs.run.Reading.{IfStopped, IsStmFault, ReadsApt, Says}
 use Rattle.buck_engine.specs.run.Checking.{IsUnlawful}
 use Rattle.buck_engine.specs.text.Written.{AppendsSome, WritesText}
 use Rattle.buck_engine.proofs.Runs.{IsNoWrite, file_fault, no_answer}
 use Rattle.buck_engine.specs.tie.Answers.{AnswersCheckWith, AnswersTies, HaveRead, IsInputFault, IsStemsFileFault}
-use Rattle.buck_engine.specs.inner.Tie.{AreStemsOf, IsUntiedFault, stems_in_lists}
+use Rattle.buck_engine.specs.inner.Tie.{AreStemsOf, IsTiedInputFault, IsUntiedFault, stems_in_lists}
 
 -- one file more
 one_file_more : (k : ℕ) (stms : List (Option (List ℕ))) (files : List (List StemParts)) (file : List StemParts)
@@ -80,23 +79,32 @@ untied files rule i j fault (Err x) h lawful (inl memory) = inl (inl (h ∙ memo
 untied files rule i j fault (Err x) h lawful (inr (why, is, how)) = inr (lawful, (why, h ∙ is, how))
 
 -- all files were read
-pub all_read : (rule : Option NamedRule) (apt journal : Option (List ℕ)) (stms : List (Option (List ℕ))) (i : InstructionParts) (j : JournalParts) (files : List (List StemParts)) (n : ℕ) (r : Result (List ℕ) EngineFault)
-    → Says apt_of apt (Ok i) → Says journal_of journal (Ok j) → n ≤ 64 → n ≡ length stms → length files ≡ n → AreStemsOf n stms files
-    → AnswersTies files rule i j r → AnswersCheckWith rule apt journal stms r
-all_read rule apt journal stms i j files n r a b few number long made answers = given r answers
-  where
-    have : HaveRead apt journal stms i j files
-    have = record {
-      apt_says = a;
-      journal_says = b;
-      few = omega (arith, few, number);
-      number = long ∙ number;
-      stms_say = λ k lt. made k (omega (arith, lt, number));
-    }
+pub all_read : (reads : ReadsApt) (apt journal : Option (List ℕ)) (stms : List (Option (List ℕ))) (i : InstructionParts) (j : JournalParts) (files : List (List StemParts)) (n : ℕ)
+    → Says reads apt (Ok i) → Says journal_of journal (Ok j) → n ≤ 64 → n ≡ length stms → length files ≡ n → AreStemsOf n stms files
+    → HaveRead reads apt journal stms i j files
+all_read reads apt journal stms i j files n a b few number long made = record {
+  apt_says = a;
+  journal_says = b;
+  few = omega (arith, few, number);
+  number = long ∙ number;
+  stms_say = λ k lt. made k (omega (arith, lt, number));
+}
 
-    given : (x : Result (List ℕ) EngineFault) → AnswersTies files rule i j x → AnswersCheckWith rule apt journal stms x
-    given (Ok text) answers = record { instruction = i; read = j; files = files; have = have; answers = answers }
-    given (Err fault) answers = inr (omega (arith, few, number), inr (record { instruction = i; read = j; files = files; have = have; answers = answers }))
+-- what is answered to what they have
+pub tied_answer : (reads : ReadsApt) (rule : Option NamedRule) (apt journal : Option (List ℕ)) (stms : List (Option (List ℕ))) (i : InstructionParts) (j : JournalParts) (files : List (List StemParts)) (r : Result (List ℕ) EngineFault)
+    → HaveRead reads apt journal stms i j files → AnswersTies files rule i j r → AnswersCheckWith reads rule apt journal stms r
+tied_answer reads rule apt journal stms i j files (Ok text) have answers =
+    record { instruction = i; read = j; files = files; have = have; answers = answers }
+tied_answer reads rule apt journal stms i j files (Err fault) have answers =
+    inr (have.few, inr (record { instruction = i; read = j; files = files; have = have; answers = answers }))
+
+-- a file has a fault, or there are too many
+pub input_answer : (reads : ReadsApt) (rule : Option NamedRule) (apt journal : Option (List ℕ)) (stms : List (Option (List ℕ))) (fault : EngineFault) (r : Result (Vec ℕ Global) EngineFault)
+    → IsErrAnd r (λ x. x ≡ fault) → IsTiedInputFault apt journal stms fault → AnswersCheckWith reads rule apt journal stms (listed r)
+input_answer reads rule apt journal stms fault (Ok text) h wrong = absurd h
+input_answer reads rule apt journal stms fault (Err x) h (inl (many, seats)) = inl (many, h ∙ seats)
+input_answer reads rule apt journal stms fault (Err x) h (inr (few, input)) =
+    inr (few, inl (subst (λ (f : EngineFault). IsInputFault apt journal stms f) (sym h) input))
 
 unlawful_fault : (h : HistoryParts) (fault : EngineFault) → IsUnlawful h fault → IsNoWrite fault
 unlawful_fault h fault (inl memory) = subst IsNoWrite (sym memory) tt
@@ -111,16 +119,18 @@ input_fault apt journal stms fault (inl a) = file_fault _ _ _ _ fault (λ why. t
 input_fault apt journal stms fault (inr (accepted, inl b)) = file_fault _ _ _ _ fault (λ why. tt) b
 input_fault apt journal stms fault (inr (accepted, inr (both, list))) = file_fault _ _ _ _ fault (λ why. tt) list.is_fault
 
-check_fault : (rule : Option NamedRule) (apt journal : Option (List ℕ)) (stms : List (Option (List ℕ))) (fault : EngineFault)
-    → AnswersCheckWith rule apt journal stms (Err fault) → IsNoWrite fault
-check_fault rule apt journal stms fault (inl (many, seats)) = subst IsNoWrite (sym seats) tt
-check_fault rule apt journal stms fault (inr (few, inl input)) = input_fault apt journal stms fault input
-check_fault rule apt journal stms fault (inr (few, inr of)) = ties_fault of.files rule of.instruction of.read fault of.answers
+check_fault : (reads : ReadsApt) (rule : Option NamedRule) (apt journal : Option (List ℕ)) (stms : List (Option (List ℕ))) (fault : EngineFault)
+    → AnswersCheckWith reads rule apt journal stms (Err fault) → IsNoWrite fault
+check_fault reads rule apt journal stms fault (inl (many, seats)) = subst IsNoWrite (sym seats) tt
+check_fault reads rule apt journal stms fault (inr (few, inl input)) = input_fault apt journal stms fault input
+check_fault reads rule apt journal stms fault (inr (few, inr of)) = ties_fault of.files rule of.instruction of.read fault of.answers
 
 -- nothing is written where the answer is a fault
-pub not_answered : (rule : Option NamedRule) (apt journal : Option (List ℕ)) (stms : List (Option (List ℕ))) (old : Option (List ℕ)) (fault : EngineFault) (r : Result (Unit {0}) EngineFault)
-    → IsErrAnd r (λ x. x ≡ fault) → AnswersCheckWith rule apt journal stms (Err fault) → WritesText (AnswersCheckWith rule apt journal stms) old old r
-not_answered rule apt journal stms old fault (Ok u) h a = absurd h
-not_answered rule apt journal stms old fault (Err x) h a =
-    subst (λ (f : EngineFault). WritesText (AnswersCheckWith rule apt journal stms) old old (Err f)) (sym h)
-    (no_answer (AnswersCheckWith rule apt journal stms) (Appends old old) (AppendsSome old old) (Keeps old old) fault (check_fault rule apt journal stms fault a) a (Keeps-refl old))
+pub not_answered : (reads : ReadsApt) (rule : Option NamedRule) (apt journal : Option (List ℕ)) (stms : List (Option (List ℕ))) (old : Option (List ℕ)) (fault : EngineFault) (r : Result (Unit {0}) EngineFault)
+    → IsErrAnd r (λ x. x ≡ fault) → AnswersCheckWith reads rule apt journal stms (Err fault) → WritesText (AnswersCheckWith reads rule apt journal stms) old old r
+not_answered reads rule apt journal stms old fault (Ok u) h a = absurd h
+not_answered reads rule apt journal stms old fault (Err x) h a =
+    subst (λ (f : EngineFault). WritesText (AnswersCheckWith reads rule apt journal stms) old old (Err f)) (sym h)
+    (no_answer (AnswersCheckWith reads rule apt journal stms) (Appends old old) (AppendsSome old old) (Keeps old old) fault (check_fault reads rule apt journal stms fault a) a (Keeps-refl old))
+
+pub ruleset tied = (input_answer, tied_answer)

@@ -1,3 +1,4 @@
 pub mod Lent
 pub mod Running
 pub mod Serving
+pub mod Named

@@ -4,11 +4,12 @@
 //! [`run_fleet_files`], which cuts stem files by a fleet, one harvester for each, and writes the fleet's journal and
 //! its report, [`report_text`], and [`run_in_turn`], whose harvesters take turns; [`run_check`] checks such a journal,
 //! [`run_check_with`] also ties it to stem files and to a rule, [`run_report`] writes its report, and [`run_view`] and
-//! [`run_table`] show it. [`write_fault`] and [`status`] are the line and the exit status of a fault. [`serve`] is a whole
-//! run of the program, from its [`Task`] to its exit status, over files that an [`Open`] opens, as [`Disk`];
-//! [`serve_buck`] one that cuts stems in several threads, [`serve_check`] one that ties a journal, [`serve_view`] one that
-//! shows a journal, and [`serve_fleet`] one of a fleet, at which an [`Onlooker`] may look on. [`laws`] says that there is
-//! one text.
+//! [`run_table`] show it. [`write_fault`] and [`status`] are the line and the exit status of a fault. [`serve`] is a
+//! whole run of the program, from its [`Task`] to its exit status, over files that an [`Open`] opens, as [`Disk`];
+//! [`serve_buck`] one that cuts stems in several threads, [`serve_check`] one that ties a journal, [`serve_view`] one
+//! that shows a journal, which both replay in several threads, and [`serve_fleet`] one of a fleet, at which an
+//! [`Onlooker`] may look on. The engines named `in_parts` do in several threads what the others do in one.
+//! [`laws`] says that there is one text.
 #![tactic(auto)]
 
 mod fault;
@@ -18,9 +19,11 @@ mod run;
 mod text;
 mod tie;
 
+pub use buck_apt::Settings;
 pub use buck_tables::Table;
 pub use buck_view::Files;
 pub use fault::{EngineFault, TextFault, status};
+pub use fleet::lists::{Input, read_input};
 pub use fleet::onlooker::{Nobody, Onlooker};
 pub use fleet::running::run_fleet_files;
 pub use fleet::serving::{FleetTask, NamedRule, Order, serve_fleet};
@@ -28,15 +31,17 @@ pub use fleet::turning::run_in_turn;
 pub use run::bucking::{run_bare, run_buck};
 pub use run::checking::run_check;
 pub use run::disk::{Disk, Renewed};
-pub use run::opening::{Make, Open};
+pub use run::opening::{Make, Open, open_inputs};
 pub use run::parallel::{BuckTask, run_buck_in_parts, serve_buck};
+pub use run::reading::read_instruction;
+pub use run::replayed::{run_check_in_parts, run_table_in_parts, run_view_in_parts};
 pub use run::reporting::run_report;
 pub use run::serving::{Task, conclude, explain, serve};
 pub use run::showing::{Shown, ViewTask, serve_view};
 pub use run::viewing::{run_table, run_view};
-pub use text::bucking::buck_text;
-pub use text::report::{degree, report_text};
-pub use text::writing::write_fault;
+pub use text::bucking::{buck_text, put_logs, put_stem};
+pub use text::report::{degree, put_posting, report_text};
+pub use text::writing::{write_fault, write_text};
 pub use tie::fault::CheckFault;
 pub use tie::running::run_check_with;
 pub use tie::serving::{CheckTask, serve_check};

@@ -15,7 +15,7 @@ use Rattle.buck_book.proofs.Alone.{base_meets, meets_from_alone}
 use Rattle.buck_journal.specs.declared.replay_fault.ReplayFault.{ReplayFault}
 use Rattle.buck_journal.specs.declared.replay_fault.ReplayFault.TheVariants.{Sheet, Price, Numbering, Version, Cutting, Worth, Outvalued, Memory, Targets}
 use Rattle.buck_journal.specs.Replay.{version_at, prices_then, Begins, IsSheetRight, IsSheetFault, IsCallFault, IsContentFault, IsPostingFault, IsNumberFault, IsFaultAtEnd, IsNumbered, IsOfVersion, IsFirstFault}
-use Rattle.buck_journal.specs.inner.Replay.{HoldsUnder}
+use Rattle.buck_journal.specs.inner.Replay.{IsBestUnder}
 
 no_sheet_fault : (h : HistoryParts) (k : ℕ) (fault : ReplayFault) → IsSheetRight h k → IsSheetFault h k fault → ⊥
 no_sheet_fault h k (Sheet v) right wrong = wrong.1 right.0
@@ -39,7 +39,7 @@ no_call_fault i before x k (Outvalued at) n o wrong = wrong
 no_call_fault i before x k Memory n o wrong = wrong
 no_call_fault i before x k (Targets at) n o wrong = wrong
 
-no_content_fault : (s : SheetParts) (x : Posting) (k : ℕ) (fault : ReplayFault) → HoldsUnder s x → IsContentFault s x k fault → ⊥
+no_content_fault : (s : SheetParts) (x : Posting) (k : ℕ) (fault : ReplayFault) → IsBestUnder s x → IsContentFault s x k fault → ⊥
 no_content_fault s (posting.Cut e) k (Sheet v) right wrong = wrong
 no_content_fault s (posting.Cut e) k (Price v c) right wrong = wrong
 no_content_fault s (posting.Cut e) k (Numbering at) right wrong = wrong
@@ -72,7 +72,7 @@ no_number_fault sheets last Memory right wrong = wrong
 no_number_fault sheets last (Targets at) right wrong = wrong
 
 -- what holds under the sheet of its version holds under the one in force
-holds_under : (i : InstructionParts) (sheets : List (List ℕ)) (v : ℕ) (x : Posting) → planned_version x ≡ v → Holds i sheets x → HoldsUnder (sheet_at i sheets v) x
+holds_under : (i : InstructionParts) (sheets : List (List ℕ)) (v : ℕ) (x : Posting) → planned_version x ≡ v → Holds i sheets x → IsBestUnder (sheet_at i sheets v) x
 holds_under i sheets v (posting.Cut e) is holds = (
   subst (λ w. IsBest (sheet_at i sheets w) e.stem e.logs) is holds.0,
   subst (λ w. e.worth ≡ cutting_worth (sheet_at i sheets w) e.stem e.logs) is holds.1,

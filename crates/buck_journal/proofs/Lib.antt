@@ -3,6 +3,7 @@ pub mod Limits
 pub mod Walk
 pub mod Stages
 pub mod Replays
+pub mod Judged
 pub mod Faults
 pub mod NoFault
 pub mod Lines

@@ -13,17 +13,18 @@ use Rattle.buck_value.specs.declared.log.Log.{Log}
 use Rattle.buck_value.specs.Sheet.{SheetParts}
 use Rattle.buck_value.specs.Allowed.{IsAllowed, Allows, end_of}
 use Rattle.buck_dp.specs.Cutting.{IsCutFrom}
-use Rattle.buck_dp.specs.Best.{IsAdmissible, cutting_worth}
+use Rattle.buck_dp.specs.Best.{IsAdmissible, IsBest, cutting_worth}
 use Rattle.buck_book.specs.declared.posting.Posting.{Posting}
 use Rattle.buck_book.specs.declared.posting.Posting.TheVariants as posting
+use Rattle.buck_book.specs.Posting.{planned_version}
 use Rattle.buck_book.specs.Targets.{AreTargets}
-use Rattle.buck_book.specs.History.{HistoryParts, IsLawful, Follows, standing_of}
+use Rattle.buck_book.specs.History.{HistoryParts, IsLawful, Follows, Holds, standing_of, sheet_at}
 use Rattle.buck_book.specs.Walk.{MeetsAfter}
 use Rattle.buck_journal.specs.declared.replay_fault.ReplayFault.{ReplayFault}
 use Rattle.buck_journal.specs.declared.replay_fault.ReplayFault.TheVariants.{Sheet, Price, Numbering, Version, Cutting, Worth, Outvalued, Targets}
 use Rattle.buck_journal.specs.Replay.{version_at, prices_then, Begins, HasSheet, IsSheetRight, IsSheetFault, IsContentFault, IsPostingFault, IsNumbered, IsOfVersion, IsFaultAt, IsRightBefore, IsFirstFault}
-use Rattle.buck_journal.specs.inner.Replay.{sheet_then, HoldsUnder}
-use Rattle.buck_journal.proofs.Replays.{follows_here, lawful_when}
+use Rattle.buck_journal.specs.inner.Replay.{sheet_then, IsBestUnder}
+use Rattle.buck_journal.proofs.Replays.{lawful_when}
 
 eq_of : (a b : ℕ) → ((a ≡ b → ⊥) → ⊥) → a ≡ b
 eq_of a b nn = elim (cases_eq a b) [ inl e ↦ e | inr ne ↦ absurd (nn ne) ]
@@ -94,7 +95,7 @@ meets_of s price nn = record {
 }
 
 -- what a posting says is right where no fault stands in it
-holds_of : (s : SheetParts) (x : Posting) (k : ℕ) → ((fault : ReplayFault) → IsContentFault s x k fault → ⊥) → HoldsUnder s x
+holds_of : (s : SheetParts) (x : Posting) (k : ℕ) → ((fault : ReplayFault) → IsContentFault s x k fault → ⊥) → IsBestUnder s x
 holds_of s (posting.Cut e) k none =
     let cut : IsAdmissible s e.stem e.logs = cut_of s.instruction e.stem 0 e.logs (λ no_. none (Cutting k) (refl, no_)) in
     let is : e.worth ≡ cutting_worth s e.stem e.logs = eq_of _ _ (λ no_. none (Worth k) (refl, cut, no_)) in (
@@ -135,12 +136,24 @@ module _ (h : HistoryParts) where
             },
           ))
 
+  -- what holds under the sheet in force holds under the one of its version
+  holds_there : (k : ℕ) (x : Posting) → planned_version x ≡ version_at h k → IsBestUnder (sheet_then h k) x → Holds h.instruction h.sheets x
+  holds_there k (posting.Cut e) is b = (
+    subst (λ v. IsBest (sheet_at h.instruction h.sheets v) e.stem e.logs) (sym is) b.0,
+    subst (λ v. e.worth ≡ cutting_worth (sheet_at h.instruction h.sheets v) e.stem e.logs) (sym is) b.1,
+  )
+  holds_there k (posting.Demand d) is b = b
+
   follows_of : (k : ℕ) (x : Posting) → ((fault : ReplayFault) → IsPostingFault (sheet_then h k) (take k h.postings) x k fault → ⊥)
       → Follows h.instruction h.sheets (take k h.postings) x
   follows_of k x none =
       let n : IsNumbered (take k h.postings) x = eq_of _ _ (λ no_. none (Numbering k) (inl (refl, no_))) in
       let o : IsOfVersion h.instruction (take k h.postings) x = eq_of _ _ (λ no_. none (Version k) (inl (refl, n, no_))) in
-      follows_here h k k x refl (record { numbered = n; of_version = o; holds = holds_of (sheet_then h k) x k (λ fault wrong. none fault (inr (n, o, wrong))) })
+      record {
+        number_is_next = n;
+        version_in_force = o;
+        holds = holds_there k x o (holds_of (sheet_then h k) x k (λ fault wrong. none fault (inr (n, o, wrong))));
+      }
 
   module _ (none : (fault : ReplayFault) → IsFirstFault h fault → ⊥) where
     one_more : (k : ℕ) (x : Posting) → slice_get h.postings k ≡ Some x → IsRightBefore h k → IsRightBefore h (suc k)

@@ -1,5 +1,5 @@
--- What a replay shows of a history: where each posting may follow and each sheet is right it is lawful, and where a
--- fault stands in it it isn't.
+-- What a walk through a history shows of its order, and where each posting may follow and each sheet is right it is
+-- lawful.
 use Rattle.std.proofs.Common.{◌≡◌, ◌≢◌, ℕ, ◌+◌, ◌<◌, ◌≤◌, inl, inr, List, [], ◌∷◌, ◌++◌, length, take, slice_get, Some, refl, sym, ◌∙◌, ap, subst, arith}
 use Rattle.std.specs.Prelude.{Result, Ok, Err, IfErr}
 use Rattle.std.proofs.lemmas.Bool.{cases_lt, cases_eq}
@@ -9,19 +9,18 @@ use Rattle.buck_apt.specs.Instruction.{InstructionParts, IsInstruction}
 use Rattle.buck_value.specs.Sheet.{SheetParts, IsPriceAt}
 use Rattle.buck_value.specs.Sheet as sheet
 use Rattle.buck_value.specs.declared.fault.SheetFault.{SheetFault}
-use Rattle.buck_dp.specs.Best.{IsBest, cutting_worth}
 use Rattle.buck_book.specs.declared.posting.Posting.{Posting}
-use Rattle.buck_book.specs.declared.posting.Posting.TheVariants.{Cut, Demand}
 use Rattle.buck_book.specs.Posting.{planned_version, ends_of, cuts_since_end}
-use Rattle.buck_book.specs.History.{HistoryParts, IsLawful, Follows, Holds, IsEnd, PricesMeet, standing_of, prices_at, sheet_at}
+use Rattle.buck_book.specs.History.{HistoryParts, IsLawful, IsEnd, PricesMeet, standing_of, prices_at, sheet_at}
 use Rattle.buck_book.specs.Walk.{WalkParts, walk_of}
 use Rattle.buck_book.proofs.Ends.{take_one_more, ends_with_end, cuts_with_end, ends_without}
 use Rattle.buck_book.proofs.Standings.{meets_within, no_fault}
 use Rattle.buck_book.proofs.Alone.{ClassAt, class_at, base_alone, meets_to_alone}
 use Rattle.buck_journal.specs.declared.replay_fault.ReplayFault.{ReplayFault}
-use Rattle.buck_journal.specs.Journal.{JournalParts}
-use Rattle.buck_journal.specs.Replay.{history_of, version_at, Begins, IsSheetRight, IsSheetFault, IsRightBefore, IsPostingFault, IsMet}
-use Rattle.buck_journal.specs.inner.Replay.{sheet_then, HoldsUnder, IsRightUnder, AreRightUnder, IsMetUnder, IsEndRight}
+use Rattle.buck_journal.specs.declared.stop.Stop.{Stop}
+use Rattle.buck_journal.specs.declared.stop.Stop.TheVariants as stop
+use Rattle.buck_journal.specs.Replay.{version_at, Begins, IsSheetRight, IsSheetFault, IsRightBefore, IsPostingFault}
+use Rattle.buck_journal.specs.inner.Replay.{sheet_then, IsRightUnder, AreRightUnder, IsMetUnder, IsInOrderBefore, IsMetInOrder, IfMet, IsEndRight}
 
 -- prices that keep the price relation somewhere make a sheet
 pub is_sheet : (i : InstructionParts) (ps : List Posting) (prices : List ℕ) (fault : SheetFault) → IsInstruction i → PricesMeet i ps prices → sheet.IsSheetFault i prices fault → ⊥
@@ -78,23 +77,13 @@ module _ (h : HistoryParts) (from : ℕ) where
   sheet_is : (v : ℕ) → v ≡ version_at h from → sheet_at h.instruction h.sheets v ≡ sheet_then h from
   sheet_is v e = ap (λ w. sheet_at h.instruction h.sheets w) e
 
-  holds_here : (x : Posting) → planned_version x ≡ version_at h from → HoldsUnder (sheet_then h from) x → Holds h.instruction h.sheets x
-  holds_here (Cut e) v k = (
-    subst (λ t. IsBest t e.stem e.logs) (sym (sheet_is e.version v)) k.0,
-    subst (λ t. e.worth ≡ cutting_worth t e.stem e.logs) (sym (sheet_is e.version v)) k.1,
-  )
-  holds_here (Demand d) v k = k
-
-  pub follows_here : (j : ℕ) (x : Posting) → version_at h j ≡ version_at h from → IsRightUnder (sheet_then h from) (take j h.postings) x
-      → Follows h.instruction h.sheets (take j h.postings) x
-  follows_here j x same r = record {
-    number_is_next = r.numbered;
-    version_in_force = r.of_version;
-    holds = holds_here x (r.of_version ∙ same) r.holds;
-  }
+  follows_here : (j : ℕ) (x : Posting) → version_at h j ≡ version_at h from → IsRightUnder (sheet_then h from) (take j h.postings) x
+      → IsRightUnder (sheet_at h.instruction h.sheets (planned_version x)) (take j h.postings) x
+  follows_here j x same r =
+      subst (λ t. IsRightUnder t (take j h.postings) x) (sym (sheet_is (planned_version x) (r.of_version ∙ same))) r
 
   -- a stretch of right postings from a right sheet on
-  pub right_along : (to : ℕ) → IsRightBefore h from → IsSheetRight h from → AreRightUnder (sheet_then h from) h.postings from to → IsRightBefore h to
+  pub right_along : (to : ℕ) → IsInOrderBefore h from → IsSheetRight h from → AreRightUnder (sheet_then h from) h.postings from to → IsInOrderBefore h to
   right_along to before sheet r = record {
     sheets = λ j lt b. elim (cases_lt j from) [
       | inl old ↦ before.sheets j old b
@@ -109,18 +98,17 @@ module _ (h : HistoryParts) (from : ℕ) where
     ];
   }
 
-  pub met_along : (fault : ReplayFault) → IsRightBefore h from → IsSheetRight h from → IsMetUnder (sheet_then h from) h.postings from fault → IsMet h fault
-  met_along fault before sheet m = record {
-    at = m.at;
+  pub met_along : (at : ℕ) (fault : ReplayFault) → IsInOrderBefore h from → IsSheetRight h from → IsMetUnder (sheet_then h from) h.postings from at fault → IsMetInOrder h at fault
+  met_along at fault before sheet m = record {
     next = m.next;
     there = m.there;
-    right = right_along m.at before sheet m.right;
+    right = right_along at before sheet m.right;
     wrong = inr (
-      (λ b. elim (cases_eq m.at from) [
+      (λ b. elim (cases_eq at from) [
         | inl same ↦ subst (λ n. IsSheetRight h n) (sym same) sheet
         | inr other ↦ absurd (m.goes_on (let ge = m.past in omega arith) b)
       ]),
-      subst (λ t. IsPostingFault t (take m.at h.postings) m.next m.at fault) (sym (sheet_is (version_at h m.at) m.in_force)) m.wrong,
+      subst (λ t. IsPostingFault t (take at h.postings) m.next at fault) (sym (sheet_is (version_at h at) m.in_force)) m.wrong,
     );
   }
 
@@ -147,10 +135,12 @@ lawful_when h v before last =
       | inr other ↦ before.sheets j (omega arith) b
     ]
 
--- what a fact about a fault gives
-pub weaken_err : {T E : Type 0} {P Q : E → Type 0} (r : Result T E) → ((e : E) → P e → Q e) → IfErr r P → IfErr r Q
-weaken_err (Ok x) f p = p
-weaken_err (Err e) f p = f e p
+-- what a fact about how a walk stopped gives
+pub weaken_met : {T : Type 0} {P Q : ℕ → ReplayFault → Type 0} (r : Result T Stop) → ((at : ℕ) (fault : ReplayFault) → P at fault → Q at fault)
+    → IfErr r (λ t. IfMet t P) → IfErr r (λ t. IfMet t Q)
+weaken_met (Ok x) f p = p
+weaken_met (Err stop.Memory) f p = tt
+weaken_met (Err (stop.Fault at fault)) f p = f at fault p
 
 -- a posting is passed under a sheet
 module _ (s : SheetParts) (i : InstructionParts) (ps : List Posting) (from : ℕ) (w w' : WalkParts) (x : Posting)
@@ -191,21 +181,16 @@ module _ (s : SheetParts) (i : InstructionParts) (ps : List Posting) (from : ℕ
       ∙ version
 
 -- a sheet that isn't right is met at the posting that begins its period
-pub sheet_met : (h : HistoryParts) (from : ℕ) (fault : ReplayFault) → from < length h.postings → IsRightBefore h from → Begins h from → IsSheetFault h from fault → IsMet h fault
+pub sheet_met : (h : HistoryParts) (from : ℕ) (fault : ReplayFault) → from < length h.postings → IsInOrderBefore h from → Begins h from → IsSheetFault h from fault → IsMetInOrder h from fault
 sheet_met h from fault lt before b wrong = elim (slice_get_cases h.postings from).1 [
-  | inl some ↦ record { at = from; next = some.0; there = some.2; right = before; wrong = inl (b, wrong) }
+  | inl some ↦ record { next = some.0; there = some.2; right = before; wrong = inl (b, wrong) }
   | inr past ↦ absurd (omega (arith, past.0))
 ]
 
--- after the last posting
-pub lawful_at_end : (i : InstructionParts) (jr : JournalParts) (w : WalkParts) (pss : List (List ℕ)) (ps : List Posting)
-    → w ≡ walk_of i ps (length ps) → pss ≡ jr.sheets → ps ≡ jr.entries
-    → IsInstruction i
-    → IsRightBefore (record { instruction = i; sheets = pss; postings = ps }) (length ps)
-    → IsEndRight (record { instruction = w.instruction; sheets = pss; postings = w.postings }) w.at
-    → IsLawful (history_of i jr)
-lawful_at_end i jr w pss ps end sheets entries v before right =
-    let last : IsEndRight (record { instruction = i; sheets = pss; postings = ps }) (length ps) =
-    subst (λ (x : WalkParts). IsEndRight (record { instruction = x.instruction; sheets = pss; postings = x.postings }) x.at) end right in
-    subst IsLawful (λ j. record { instruction = i; sheets = sheets j; postings = entries j })
-    (lawful_when (record { instruction = i; sheets = pss; postings = ps }) v before last)
+-- so the walk stops with what the opening of a period stops with, or with what its postings stop with
+pub sheet_stopped : (h : HistoryParts) (from : ℕ) (t : Stop) → from < length h.postings → IsInOrderBefore h from → Begins h from
+    → IfMet t (λ at fault. (at ≡ from) × IsSheetFault h from fault)
+    → IfMet t (IsMetInOrder h)
+sheet_stopped h from stop.Memory lt before b wrong = tt
+sheet_stopped h from (stop.Fault at fault) lt before b wrong =
+    subst (λ n. IsMetInOrder h n fault) (sym wrong.0) (sheet_met h from fault lt before b wrong.1)

@@ -1,19 +1,19 @@
 //! What a journal's sheets and postings have to be.
-ghost use Rattle.std.specs.Prelude.{◌≡◌, ◌≢◌, ◌+◌, ◌<◌, ◌≤◌, OnOk, IfOk, IfErr, IfNone, IfSome, length, map};
-ghost use Rattle.buck_apt.specs.Instruction.{IsInstruction};
-ghost use Rattle.buck_dp.specs.Best.{IsBest, cutting_worth};
+ghost use Rattle.std.specs.Prelude.{◌≡◌, ◌+◌, ◌<◌, ◌≤◌, OnOk, IfOk, IfErr, IfNone, IfSome, length, map};
+ghost use Rattle.buck_dp.specs.Best.{IsAdmissible, cutting_worth};
 ghost use Rattle.buck_book.specs.Targets.{AreTargets};
 ghost use Rattle.buck_book.specs.Posting.{harvester_of, number_of, planned_version};
-ghost use Rattle.buck_book.specs.History.{prices_at};
+ghost use Rattle.buck_book.specs.History.{prices_at, sheet_at};
 ghost use Rattle.buck_book.specs.Walk.{passed};
-ghost use Rattle.buck_journal.specs.Replay.{prices_then, IsSheetFault, IsSheetRight, IsCutFault, IsDemandFault, IsContentFault, IsNumbered, IsOfVersion, IsCallFault, IsNumberFault, IsFaultAtEnd};
-ghost use Rattle.buck_journal.specs.declared.replay_fault.ReplayFault.TheVariants.{Memory};
-ghost use Rattle.buck_journal.specs.inner.Replay.{along, sheet_then, HoldsUnder, IsEndRight};
+ghost use Rattle.buck_journal.specs.Replay.{IsSheetFault, IsSheetRight, IsCutFault, IsDemandFault, IsContentFault, IsNumbered, IsOfVersion, IsCallFault, IsPostingFault, IsNumberFault, IsFaultAtEnd};
+ghost use Rattle.buck_journal.specs.inner.Replay.{along, sheet_then, HoldsUnder, IsRightUnder, IsEndRight, IsPriced, IfMet};
 
 use crate::replay_fault::ReplayFault;
+use crate::stop::Stop;
 use buck_apt::Instruction;
 use buck_book::{Demand, Entry, Posting, Walk, check_targets};
-use buck_dp::{Planner, admissible, worth};
+use buck_dp::{admissible, worth};
+use buck_record::Memory;
 use buck_value::Sheet;
 use std::alloc::Global;
 use std::sync::Arc;
@@ -32,19 +32,16 @@ fn prices_of<'a>(sheets: &'a [Vec<u32>], version: u32) -> Option<&'a [u32]>
     Some(sheets[at].as_slice())
 }
 
-/// The prices of the sheet in force at a place, where it is there and right.
-fn right_prices<'a>(
+/// Checks the prices of the sheet in force at a place.
+fn check_prices(
     instruction: &Instruction,
-    sheets: &'a [Vec<u32>],
+    sheets: &[Vec<u32>],
     walk: &Walk<'_>,
-) -> Result<&'a [u32], ReplayFault>
+) -> Result<(), ReplayFault>
     requires { walk.now.instruction ≡ instruction.now }
     ensures right { OnOk result (IsSheetRight (along walk.now sheets.now) walk.now.at) }
-    ensures prices { IfOk result (λ prices.
-        prices.now ≡ prices_then (along walk.now sheets.now) walk.now.at) }
     ensures refused { IfErr result (λ fault.
         IsSheetFault (along walk.now sheets.now) walk.now.at fault) }
-    ensures valid { OnOk result (IsInstruction instruction.now) }
 {
     let version = walk.version();
     let Some(prices) = prices_of(sheets, version) else {
@@ -55,7 +52,29 @@ fn right_prices<'a>(
     }
     match walk.wrong_price(prices) {
         Some(class) => Err(ReplayFault::Price { version, class }),
-        None => Ok(prices),
+        None => Ok(()),
+    }
+}
+
+/// The sheet of a version whose prices are there and right.
+pub(crate) fn sheet_of(
+    alloc: Global,
+    instruction: &Arc<Instruction>,
+    sheets: &[Vec<u32>],
+    version: u32,
+) -> Result<Sheet, Memory>
+    requires { IsPriced instruction.now.value (map (λ v. v.items) sheets.now) version }
+    ensures { IfOk result (λ s.
+        s ≡ sheet_at instruction.now.value (map (λ v. v.items) sheets.now) version) }
+{
+    let _valid = instruction.limit();
+    let Some(prices) = prices_of(sheets, version) else {
+        unreachable!()
+    };
+    let prices = Vec::from_slice(alloc, prices)?;
+    match Sheet::with_prices(instruction.clone()?, version, prices) {
+        Ok(sheet) => Ok(sheet),
+        Err(_) => unreachable!(),
     }
 }
 
@@ -65,44 +84,34 @@ pub(crate) fn opened_sheet(
     instruction: &Arc<Instruction>,
     sheets: &[Vec<u32>],
     walk: &Walk<'_>,
-) -> Result<Sheet, ReplayFault>
+) -> Result<Sheet, Stop>
     requires { walk.now.instruction ≡ instruction.now.value }
     ensures right { OnOk result (IsSheetRight (along walk.now sheets.now) walk.now.at) }
     ensures sheet { IfOk result (λ s. s ≡ sheet_then (along walk.now sheets.now) walk.now.at) }
-    ensures refused { IfErr result (λ e.
-        e ≢ Memory → IsSheetFault (along walk.now sheets.now) walk.now.at e) }
+    ensures refused { IfErr result (λ s. IfMet s (λ at fault.
+        (at ≡ walk.now.at) × IsSheetFault (along walk.now sheets.now) walk.now.at fault)) }
 {
-    let prices = right_prices(instruction, sheets, walk)?;
-    let prices = Vec::from_slice(alloc, prices)?;
-    match Sheet::with_prices(instruction.clone()?, walk.version(), prices) {
-        Ok(sheet) => Ok(sheet),
-        Err(_) => unreachable!(),
+    match check_prices(instruction, sheets, walk) {
+        Ok(()) => Ok(sheet_of(alloc, instruction, sheets, walk.version())?),
+        Err(fault) => Err(Stop::Fault {
+            at: walk.at(),
+            fault,
+        }),
     }
 }
 
-/// Checks what a cut at a place says under a planner's sheet.
-fn check_cut(
-    alloc: Global,
-    planner: &mut Planner,
-    entry: &Entry,
-    at: usize,
-) -> Result<(), ReplayFault>
-    ensures same { planner.new ≡ planner.old }
-    ensures best { OnOk result (IsBest planner.old entry.now.stem entry.now.logs) }
+/// Checks what a cut at a place says under a sheet, but for lists of logs that are worth more.
+fn check_cut(sheet: &Sheet, entry: &Entry, at: usize) -> Result<(), ReplayFault>
+    ensures admissible { OnOk result (IsAdmissible sheet.now entry.now.stem entry.now.logs) }
     ensures worth { OnOk result
-        (entry.now.worth ≡ cutting_worth planner.old entry.now.stem entry.now.logs) }
-    ensures refused { IfErr result (λ e.
-        e ≢ Memory → IsCutFault planner.old entry.now at e) }
+        (entry.now.worth ≡ cutting_worth sheet.now entry.now.stem entry.now.logs) }
+    ensures refused { IfErr result (IsCutFault sheet.now entry.now at) }
 {
-    if !admissible(planner.sheet(), &entry.stem, &entry.cutting) {
+    if !admissible(sheet, &entry.stem, &entry.cutting) {
         return Err(ReplayFault::Cutting { at });
     }
-    if worth(planner.sheet(), &entry.stem, &entry.cutting) != entry.worth {
+    if worth(sheet, &entry.stem, &entry.cutting) != entry.worth {
         return Err(ReplayFault::Worth { at });
-    }
-    let (_best, most) = planner.best(alloc, &entry.stem)?;
-    if most > entry.worth {
-        return Err(ReplayFault::Outvalued { at });
     }
     Ok(())
 }
@@ -118,21 +127,14 @@ fn check_demand(instruction: &Instruction, demand: &Demand, at: usize) -> Result
     }
 }
 
-/// Checks what a posting at a place says under a planner's sheet.
-pub(crate) fn check_content(
-    alloc: Global,
-    planner: &mut Planner,
-    posting: &Posting,
-    at: usize,
-) -> Result<(), ReplayFault>
-    ensures same { planner.new ≡ planner.old }
-    ensures right { OnOk result (HoldsUnder planner.old posting.now) }
-    ensures refused { IfErr result (λ e.
-        e ≢ Memory → IsContentFault planner.old posting.now at e) }
+/// Checks what a posting at a place says under a sheet, but for lists of logs that are worth more.
+fn check_content(sheet: &Sheet, posting: &Posting, at: usize) -> Result<(), ReplayFault>
+    ensures right { OnOk result (HoldsUnder sheet.now posting.now) }
+    ensures refused { IfErr result (IsContentFault sheet.now posting.now at) }
 {
     match posting {
-        Posting::Cut(entry) => check_cut(alloc, planner, entry, at),
-        Posting::Demand(demand) => check_demand(planner.sheet().instruction(), demand, at),
+        Posting::Cut(entry) => check_cut(sheet, entry, at),
+        Posting::Demand(demand) => check_demand(sheet.instruction(), demand, at),
     }
 }
 
@@ -148,8 +150,16 @@ fn call_of(posting: &Posting) -> (u32, u32, u32)
     }
 }
 
+/// The version that a posting says was in force before it.
+pub(crate) fn version_of(posting: &Posting) -> u32
+    ensures { result ≡ planned_version posting.now }
+{
+    let (_, _, version) = call_of(posting);
+    version
+}
+
 /// Checks the number and the version of a posting at a place.
-pub(crate) fn check_call(walk: &Walk<'_>, posting: &Posting) -> Result<(), ReplayFault>
+fn check_call(walk: &Walk<'_>, posting: &Posting) -> Result<(), ReplayFault>
     ensures numbered { OnOk result (IsNumbered (passed walk.now) posting.now) }
     ensures version { OnOk result (IsOfVersion walk.now.instruction (passed walk.now) posting.now) }
     ensures refused { IfErr result (λ e.
@@ -164,6 +174,21 @@ pub(crate) fn check_call(walk: &Walk<'_>, posting: &Posting) -> Result<(), Repla
         return Err(ReplayFault::Version { at });
     }
     Ok(())
+}
+
+/// Checks the posting at a place under the sheet in force there, but for lists of logs that are worth more.
+pub(crate) fn check_posting(
+    sheet: &Sheet,
+    walk: &Walk<'_>,
+    posting: &Posting,
+) -> Result<(), ReplayFault>
+    requires { sheet.now.instruction ≡ walk.now.instruction }
+    ensures right { OnOk result (IsRightUnder sheet.now (passed walk.now) posting.now) }
+    ensures refused { IfErr result
+        (IsPostingFault sheet.now (passed walk.now) posting.now walk.now.at) }
+{
+    check_call(walk, posting)?;
+    check_content(sheet, posting, walk.at())
 }
 
 /// Checks the number of sheets, of which the last has this version.
@@ -195,7 +220,7 @@ pub(crate) fn check_end(
 {
     check_number(sheets, walk.version())?;
     if walk.begins_period() {
-        right_prices(instruction, sheets, walk)?;
+        check_prices(instruction, sheets, walk)?;
     }
     Ok(())
 }

@@ -1,137 +1,111 @@
 //! Whether a journal is lawful.
-ghost use Rattle.std.specs.Prelude.{◌≡◌, ◌≢◌, ◌+◌, ◌<◌, ◌≤◌, OnOk, IfOk, IfErr, length, slice_get, Some};
-ghost use Rattle.buck_apt.specs.Instruction.{IsInstruction};
+ghost use Rattle.std.specs.Prelude.{◌≡◌, ◌≢◌, ◌+◌, ◌<◌, ◌≤◌, OnOk, IfOk, IfErr, length, take, slice_get, Some};
 ghost use Rattle.buck_book.specs.Posting.{ends_of, cuts_since_end};
-ghost use Rattle.buck_book.specs.History.{IsLawful};
+ghost use Rattle.buck_book.specs.History.{HistoryParts, IsLawful};
 ghost use Rattle.buck_book.specs.Walk.{walk_of, passed};
-ghost use Rattle.buck_journal.specs.Replay.{history_of, Begins, IsPostingFault, IsRightBefore, IsMet, IsFirstFault};
+ghost use Rattle.buck_journal.specs.Replay.{history_of, Begins, IsPostingFault, IsFaultAtEnd, IsFirstFault};
 ghost use Rattle.buck_journal.specs.declared.replay_fault.ReplayFault.TheVariants.{Memory};
-ghost use Rattle.buck_journal.specs.inner.Replay.{along, IsRightUnder, AreRightUnder, IsMetUnder};
+ghost use Rattle.buck_journal.specs.inner.Replay.{along, IsRightUnder, AreRightUnder, IsMetUnder, IsInOrderBefore, IsMetInOrder, IfMet, IsEnded, IsOrdered, IsFound, IsJudged};
 
-use crate::checks::{check_call, check_content, check_end, opened_sheet};
+use crate::checks::{check_end, check_posting, opened_sheet};
 use crate::journal::Journal;
+use crate::outvalued::{first_outvalued, first_outvalued_in_parts};
 use crate::replay_fault::ReplayFault;
+use crate::stop::Stop;
 use buck_apt::Instruction;
 use buck_book::{Posting, Walk};
-use buck_dp::Planner;
 use buck_value::Sheet;
-use std::alloc::{AllocError, Global};
+use std::alloc::Global;
 use std::sync::Arc;
+use std::thread::Threads;
 
-/// Passes a posting that may follow under the sheet in force, a planner's.
-fn replay_posting<'w>(
-    alloc: Global,
-    planner: &mut Planner,
-    walk: Walk<'w>,
-    posting: &Posting,
-) -> Result<Walk<'w>, ReplayFault>
-    requires instruction { planner.old.instruction ≡ walk.instruction }
+/// Passes a posting that may follow under the sheet in force.
+fn replay_posting<'w>(sheet: &Sheet, walk: Walk<'w>, posting: &Posting) -> Result<Walk<'w>, Stop>
+    requires instruction { sheet.now.instruction ≡ walk.instruction }
     requires next { slice_get walk.postings walk.at ≡ Some posting.now }
-    ensures same { planner.new ≡ planner.old }
-    ensures right { OnOk result (IsRightUnder planner.old (passed walk.entry) posting.now) }
+    ensures right { OnOk result (IsRightUnder sheet.now (passed walk.entry) posting.now) }
     ensures further { IfOk result (λ w.
         w ≡ walk_of walk.entry.instruction walk.entry.postings (walk.entry.at + 1)) }
-    ensures refused { IfErr result (λ e.
-        e ≢ Memory → IsPostingFault planner.old (passed walk.entry) posting.now walk.entry.at e) }
+    ensures refused { IfErr result (λ s. IfMet s (λ at fault.
+        (at ≡ walk.entry.at)
+        × IsPostingFault sheet.now (passed walk.entry) posting.now walk.entry.at fault)) }
 {
-    check_call(&walk, posting)?;
-    check_content(alloc, planner, posting, walk.at())?;
-    Ok(walk.pass(planner.sheet(), posting)?)
+    match check_posting(sheet, &walk, posting) {
+        Ok(()) => Ok(walk.pass(sheet, posting)?),
+        Err(fault) => Err(Stop::Fault {
+            at: walk.at(),
+            fault,
+        }),
+    }
 }
 
-/// Passes postings that may follow under the sheet in force, a planner's, until a period begins or none is left.
-fn replay_under<'w>(
-    alloc: Global,
-    planner: &mut Planner,
-    walk: Walk<'w>,
-) -> Result<Walk<'w>, ReplayFault>
-    requires instruction { planner.old.instruction ≡ walk.instruction }
-    requires version { ends_of planner.old.instruction (passed walk) ≡ planner.old.version }
+/// Passes postings that may follow under the sheet in force, until a period begins or none is left.
+fn replay_under<'w>(sheet: &Sheet, walk: Walk<'w>) -> Result<Walk<'w>, Stop>
+    requires instruction { sheet.now.instruction ≡ walk.instruction }
+    requires version { ends_of sheet.now.instruction (passed walk) ≡ sheet.now.version }
     requires more { walk.at < length walk.postings }
     ensures right { IfOk result (λ w.
-        AreRightUnder planner.old walk.entry.postings walk.entry.at w.at) }
+        AreRightUnder sheet.now walk.entry.postings walk.entry.at w.at) }
     ensures same { IfOk result (λ w. w ≡ walk_of walk.entry.instruction walk.entry.postings w.at) }
     ensures further { IfOk result (λ w. walk.entry.at < w.at) }
     ensures begins { IfOk result (λ w.
         w.at < length w.postings → cuts_since_end w.instruction (passed w) ≡ 0) }
-    ensures refused { IfErr result (λ e.
-        e ≢ Memory → IsMetUnder planner.old walk.entry.postings walk.entry.at e) }
+    ensures refused { IfErr result (λ s. IfMet s (IsMetUnder sheet.now walk.entry.postings walk.entry.at)) }
 {
     let mut walk = walk;
     loop {
         let Some(posting) = walk.next() else {
             return Ok(walk);
         };
-        walk = replay_posting(alloc, planner, walk, posting)?;
+        walk = replay_posting(sheet, walk, posting)?;
         if walk.begins_period() {
             return Ok(walk);
         }
     }
 }
 
-/// A sheet that planners may share.
-fn share(alloc: Global, sheet: Sheet) -> Result<Arc<Sheet>, AllocError>
-    ensures { IfOk result (λ s. s.value ≡ sheet) }
-{
-    Ok(Arc::new(alloc, sheet)?)
-}
-
-/// Passes the postings of a period, from its first on. The planner plans under the period's sheet then.
+/// Passes the postings of a period, from its first on.
 fn replay_period<'w>(
     alloc: Global,
     instruction: &Arc<Instruction>,
-    planner: &mut Planner,
     sheets: &[Vec<u32>],
     walk: Walk<'w>,
-) -> Result<Walk<'w>, ReplayFault>
+) -> Result<Walk<'w>, Stop>
     requires instruction { walk.instruction ≡ instruction.now.value }
-    requires right { IsRightBefore (along walk sheets.now) walk.at }
+    requires right { IsInOrderBefore (along walk sheets.now) walk.at }
     requires begins { Begins (along walk sheets.now) walk.at }
     requires more { walk.at < length walk.postings }
-    ensures right { IfOk result (λ w. IsRightBefore (along walk.entry sheets.now) w.at) }
+    ensures right { IfOk result (λ w. IsInOrderBefore (along walk.entry sheets.now) w.at) }
     ensures same { IfOk result (λ w. w ≡ walk_of walk.entry.instruction walk.entry.postings w.at) }
     ensures further { IfOk result (λ w. walk.entry.at < w.at) }
     ensures begins { IfOk result (λ w.
         w.at < length w.postings → Begins (along w sheets.now) w.at) }
-    ensures refused { IfErr result (λ e. e ≢ Memory → IsMet (along walk.entry sheets.now) e) }
+    ensures refused { IfErr result (λ s. IfMet s (IsMetInOrder (along walk.entry sheets.now))) }
 {
     let sheet = opened_sheet(alloc, instruction, sheets, &walk)?;
-    let shared = share(alloc, sheet)?;
-    planner.renew(alloc, shared)?;
-    replay_under(alloc, planner, walk)
+    replay_under(&sheet, walk)
 }
 
 /// Passes the postings that are left, period by period.
 fn replay_periods<'w>(
     alloc: Global,
     instruction: &Arc<Instruction>,
-    planner: &mut Planner,
     sheets: &[Vec<u32>],
     walk: Walk<'w>,
-) -> Result<Walk<'w>, ReplayFault>
+) -> Result<Walk<'w>, Stop>
     requires instruction { walk.instruction ≡ instruction.now.value }
-    requires right { IsRightBefore (along walk sheets.now) walk.at }
+    requires right { IsInOrderBefore (along walk sheets.now) walk.at }
     requires begins { Begins (along walk sheets.now) walk.at }
-    ensures right { IfOk result (λ w. IsRightBefore (along walk.entry sheets.now) w.at) }
+    ensures right { IfOk result (λ w. IsInOrderBefore (along walk.entry sheets.now) w.at) }
     ensures end { IfOk result (λ w. w
         ≡ walk_of walk.entry.instruction walk.entry.postings (length walk.entry.postings)) }
-    ensures valid { OnOk result (IsInstruction walk.entry.instruction) }
-    ensures refused { IfErr result (λ e. e ≢ Memory → IsMet (along walk.entry sheets.now) e) }
+    ensures refused { IfErr result (λ s. IfMet s (IsMetInOrder (along walk.entry sheets.now))) }
 {
     let mut walk = walk;
     while walk.next().is_some() {
-        walk = replay_period(alloc, instruction, planner, sheets, walk)?;
+        walk = replay_period(alloc, instruction, sheets, walk)?;
     }
     Ok(walk)
-}
-
-/// A planner of the instruction, under its base sheet at first.
-fn planner_of(
-    alloc: Global,
-    instruction: &Arc<Instruction>,
-) -> Result<Planner, buck_record::Memory> {
-    let base = Sheet::base(alloc, instruction.clone()?)?;
-    Ok(Planner::make(alloc, share(alloc, base)?)?)
 }
 
 /// Passes all postings, from the first on.
@@ -140,18 +114,77 @@ fn replay_all<'w>(
     instruction: &'w Arc<Instruction>,
     sheets: &[Vec<u32>],
     postings: &'w [Posting],
-) -> Result<Walk<'w>, ReplayFault>
+) -> Result<Walk<'w>, Stop>
     requires { length postings.now ≤ 1000000 }
-    ensures right { OnOk result (IsRightBefore
+    ensures right { OnOk result (IsInOrderBefore
         (along (walk_of instruction.now.value postings.now 0) sheets.now) (length postings.now)) }
     ensures end { IfOk result (λ w. w ≡ walk_of instruction.now.value postings.now (length postings.now)) }
-    ensures valid { OnOk result (IsInstruction instruction.now.value) }
-    ensures refused { IfErr result (λ e.
-        e ≢ Memory → IsMet (along (walk_of instruction.now.value postings.now 0) sheets.now) e) }
+    ensures refused { IfErr result (λ s. IfMet s
+        (IsMetInOrder (along (walk_of instruction.now.value postings.now 0) sheets.now))) }
 {
-    let mut planner = planner_of(alloc, instruction)?;
     let walk = Walk::opening(alloc, instruction, postings)?;
-    replay_periods(alloc, instruction, &mut planner, sheets, walk)
+    replay_periods(alloc, instruction, sheets, walk)
+}
+
+/// The place after the last posting, where what stands there is right.
+fn ended<'w>(
+    instruction: &Instruction,
+    sheets: &[Vec<u32>],
+    walk: Walk<'w>,
+) -> Result<Walk<'w>, ReplayFault>
+    requires walk { walk ≡ walk_of instruction.now walk.postings (length walk.postings) }
+    ensures ended { IfOk result (IsEnded (along walk.entry sheets.now) walk.entry.at) }
+    ensures refused { IfErr result (IsFaultAtEnd (along walk.entry sheets.now) walk.entry.at) }
+{
+    let _valid = instruction.limit();
+    check_end(instruction, sheets, &walk)?;
+    Ok(walk)
+}
+
+/// How far a journal is in order, and what comes of it there where no cut before is outvalued.
+#[derive(Drop)]
+struct Ordered<'w> {
+    until: usize,
+    end: Result<Walk<'w>, ReplayFault>,
+}
+
+/// Goes through a journal for all that hangs on its order, and leaves out what takes time: whether a cut is outvalued.
+fn walk_in_order<'w>(
+    alloc: Global,
+    instruction: &'w Arc<Instruction>,
+    journal: &'w Journal,
+) -> Result<Ordered<'w>, buck_record::Memory>
+    requires { length journal.now.entries ≤ 1000000 }
+    ensures { IfOk result (λ o. IsOrdered (history_of instruction.now.value journal.now) o.until o.end) }
+{
+    let sheets = journal.sheets.as_slice();
+    match replay_all(alloc, instruction, sheets, journal.entries.as_slice()) {
+        Ok(walk) => Ok(Ordered {
+            until: walk.at(),
+            end: ended(instruction, sheets, walk),
+        }),
+        Err(Stop::Fault { at, fault }) => Ok(Ordered {
+            until: at,
+            end: Err(fault),
+        }),
+        Err(Stop::Memory) => Err(buck_record::Memory),
+    }
+}
+
+/// What comes of a journal, by the first of the postings in order that is outvalued.
+fn judged<'w>(ordered: Ordered<'w>, outvalued: Option<usize>) -> Result<Walk<'w>, ReplayFault>
+    ensures { (h : HistoryParts)
+        → IsOrdered h ordered.entry.until ordered.entry.end
+        → IsFound h.instruction h.sheets (take ordered.entry.until h.postings) outvalued
+        → IsJudged h result }
+{
+    match outvalued {
+        Some(at) => Err(ReplayFault::Outvalued { at }),
+        None => {
+            let Ordered { end, .. } = ordered;
+            end
+        }
+    }
 }
 
 /// The place after the last posting of a journal of at most 1,000,000, where it is lawful for an instruction: what all
@@ -168,10 +201,10 @@ pub fn replay_to_end<'w>(
     ensures refused { IfErr result (λ e.
         e ≢ Memory → IsFirstFault (history_of instruction.now.value journal.now) e) }
 {
-    let sheets = journal.sheets.as_slice();
-    let walk = replay_all(alloc, instruction, sheets, journal.entries.as_slice())?;
-    check_end(instruction, sheets, &walk)?;
-    Ok(walk)
+    let ordered = walk_in_order(alloc, instruction, journal)?;
+    let postings = &journal.entries.as_slice()[..ordered.until];
+    let outvalued = first_outvalued(alloc, instruction, journal.sheets.as_slice(), postings)?;
+    judged(ordered, outvalued)
 }
 
 /// Whether a journal of at most 1,000,000 postings is lawful for an instruction: each cutting is one that none
@@ -189,5 +222,29 @@ pub fn replay(
         e ≢ Memory → IsFirstFault (history_of instruction.now.value journal.now) e) }
 {
     let _ = replay_to_end(alloc, instruction, journal)?;
+    Ok(())
+}
+
+/// [`replay`], for which it is found in at most so many threads at once which cut is outvalued: runs of neighbours, of
+/// which each thread takes one. The answer is that of [`replay`], whatever the number, or `Memory` where a growth was
+/// refused and no part before it has found one.
+pub fn replay_in_parts<T: Threads + Sync>(
+    rt: &T,
+    alloc: Global,
+    threads: usize,
+    instruction: &Arc<Instruction>,
+    journal: &Journal,
+) -> Result<(), ReplayFault>
+    requires threads { 0 < threads }
+    requires few { length journal.now.entries ≤ 1000000 }
+    ensures lawful { OnOk result (IsLawful (history_of instruction.now.value journal.now)) }
+    ensures refused { IfErr result (λ e.
+        e ≢ Memory → IsFirstFault (history_of instruction.now.value journal.now) e) }
+{
+    let ordered = walk_in_order(alloc, instruction, journal)?;
+    let sheets = journal.sheets.as_slice();
+    let postings = &journal.entries.as_slice()[..ordered.until];
+    let outvalued = first_outvalued_in_parts(rt, alloc, threads, instruction, sheets, postings)?;
+    let _ = judged(ordered, outvalued)?;
     Ok(())
 }

@@ -5,13 +5,14 @@
 //! `buckfleet fleet APT STM..` cuts stem files by a fleet, one harvester for each, and prints its report; `--journal OUT`
 //! writes its journal. `buckfleet check APT JOURNAL` says whether a journal is lawful for an instruction, and `buckfleet
 //! report APT JOURNAL` prints its report; `buckfleet view APT JOURNAL` shows it as a page, and `buckfleet table APT JOURNAL
-//! TABLE` as a table. `buckfleet explain LINE..` says a fault line in words. See docs/FORMATS.md for the files, the texts,
-//! the fault lines and the exit statuses.
+//! TABLE` as a table. `buckfleet live APT` cuts stems as they are felled, by requests on standard input. `buckfleet
+//! explain LINE..` says a fault line in words. See docs/FORMATS.md for the files, the texts, the fault lines and the exit
+//! statuses.
 #![tactic(auto)]
 
-use buck_command::{Streams, run, say_help};
-use buck_engine::Disk;
-use std::io::{ErrorKind, IsTerminal};
+use buck_command::{Place, Screen, Second, Streams, run, say_help};
+use buck_engine::{Disk, EngineFault, conclude};
+use std::io::{BufReader, ErrorKind, IsTerminal};
 use std::process::ExitCode;
 use std::rt::Stderr;
 use std::{env, io};
@@ -28,9 +29,13 @@ fn words(rt: &HostRuntime) -> Result<Vec<String>, ErrorKind> {
 }
 
 /// Where it is told how far the work is: on standard error, where that is a terminal.
-fn screen(errors: Stderr) -> Option<Stderr> {
+fn screen(rt: &HostRuntime) -> Option<Screen<Stderr, &HostRuntime>> {
+    let errors = rt.stderr();
     if errors.is_terminal() {
-        Some(errors)
+        Some(Screen {
+            writer: errors,
+            clock: rt,
+        })
     } else {
         None
     }
@@ -45,8 +50,11 @@ fn is_bare(words: &Result<Vec<String>, ErrorKind>) -> bool {
 }
 
 fn main(rt: HostRuntime) -> ExitCode {
+    let Ok(input) = BufReader::new(rt.alloc(), rt.reader()) else {
+        return ExitCode::from(conclude(&mut rt.stderr(), &Err(EngineFault::Memory)));
+    };
     let mut streams = Streams {
-        input: rt.reader(),
+        input,
         output: io::writer(&rt),
         errors: rt.stderr(),
     };
@@ -54,14 +62,11 @@ fn main(rt: HostRuntime) -> ExitCode {
     if is_bare(&words) && rt.stdin().is_terminal() {
         return ExitCode::from(say_help(rt.alloc(), &mut streams));
     }
-    let screen = screen(rt.stderr());
-    let status = run(
-        &rt,
-        rt.alloc(),
-        &words,
-        Disk::of(&rt, rt.alloc()),
-        screen,
-        &mut streams,
-    );
+    let screen = screen(&rt);
+    let place = Place {
+        files: Disk::of(&rt, rt.alloc()),
+        again: Second::of(&rt),
+    };
+    let status = run(&rt, rt.alloc(), &words, place, screen, &mut streams);
     ExitCode::from(status)
 }

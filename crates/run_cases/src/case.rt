@@ -15,6 +15,8 @@ pub enum Engine {
     Fleet(NamedRule),
     /// An instruction file and a journal.
     Check,
+    /// The command line, by its words.
+    Words,
 }
 
 /// The part of a case that a line of bytes belongs to.
@@ -24,14 +26,22 @@ enum Part {
     Apt,
     Stm,
     Jrn,
+    File,
     Prints,
     Keeps,
+}
+
+/// A file that the words of a case may name.
+#[derive(Drop)]
+pub struct Named {
+    pub name: String,
+    pub bytes: Vec<u8>,
 }
 
 /// The files that a case is run on. One that a case leaves out is that of the case before it.
 #[derive(Drop)]
 pub struct Inputs {
-    /// An instruction and stems, with a bar between them.
+    /// An instruction and stems, with a bar between them; of the command line, all of standard input.
     pub input: Vec<u8>,
     /// An instruction file.
     pub apt: Vec<u8>,
@@ -39,6 +49,8 @@ pub struct Inputs {
     pub stm: Vec<u8>,
     /// A journal.
     pub jrn: Vec<u8>,
+    /// The files of the command line.
+    pub files: Vec<Named>,
 }
 
 /// A case, as far as it was read.
@@ -46,6 +58,8 @@ pub struct Inputs {
 pub struct Case<'a> {
     pub title: &'a str,
     pub engine: Engine,
+    /// The words of the command line, the program's name first.
+    pub words: Vec<String>,
     pub inputs: Inputs,
     pub wanted: Outcome,
     part: Part,
@@ -127,6 +141,7 @@ fn engine_of(words: &str) -> Option<Engine> {
         "fleet steady" => Some(Engine::Fleet(NamedRule::Steady)),
         "fleet linear" => Some(Engine::Fleet(NamedRule::Linear)),
         "fleet step" => Some(Engine::Fleet(NamedRule::Step)),
+        "words" => Some(Engine::Words),
         _ => None,
     }
 }
@@ -137,11 +152,13 @@ impl<'a> Case<'a> {
         Case {
             title: "",
             engine: Engine::Bare,
+            words: Vec::new(alloc),
             inputs: Inputs {
                 input: Vec::new(alloc),
                 apt: Vec::new(alloc),
                 stm: Vec::new(alloc),
                 jrn: Vec::new(alloc),
+                files: Vec::new(alloc),
             },
             wanted: Outcome::none(alloc),
             part: Part::Input,
@@ -153,10 +170,31 @@ impl<'a> Case<'a> {
         !self.title.is_empty()
     }
 
-    /// Begins the next case: its files are those of the case before, and it wants nothing yet.
+    /// Begins the next case: its files are those of the case before, and it has no words and wants nothing yet.
     pub fn begin(&mut self, title: &'a str) {
         self.title = title;
+        self.words.clear();
         self.wanted.clear();
+    }
+
+    /// Adds a word of the command line.
+    fn put_word(&mut self, alloc: Global, word: &str) -> Result<(), Memory> {
+        if self.words.is_empty() {
+            self.words.push(String::from_str(alloc, "buckfleet")?)?;
+        }
+        self.words.push(String::from_str(alloc, word)?)?;
+        Ok(())
+    }
+
+    /// Begins a file that the words may name, in the place of the one that has its name.
+    fn begin_file(&mut self, alloc: Global, name: &str) -> Result<(), Memory> {
+        self.part = Part::File;
+        self.inputs.files.retain(|file| file.name.as_str() != name);
+        self.inputs.files.push(Named {
+            name: String::from_str(alloc, name)?,
+            bytes: Vec::new(alloc),
+        })?;
+        Ok(())
     }
 
     /// Adds a line of bytes to the part that it belongs to.
@@ -166,6 +204,10 @@ impl<'a> Case<'a> {
             Part::Apt => put_line(&mut self.inputs.apt, line),
             Part::Stm => put_line(&mut self.inputs.stm, line),
             Part::Jrn => put_line(&mut self.inputs.jrn, line),
+            Part::File => match self.inputs.files.last_mut() {
+                None => Ok(false),
+                Some(file) => put_line(&mut file.bytes, line),
+            },
             Part::Prints => put_line(&mut self.wanted.text, line),
             Part::Keeps => put_line(&mut self.wanted.journal, line),
         }
@@ -207,9 +249,17 @@ impl<'a> Case<'a> {
     }
 
     /// Reads one more line of the case. Says whether it can be read.
-    pub fn read(&mut self, line: &str) -> Result<bool, Memory> {
+    pub fn read(&mut self, alloc: Global, line: &str) -> Result<bool, Memory> {
         if let Some(bytes) = line.strip_prefix("|") {
             return self.put(bytes);
+        }
+        if let Some(word) = line.strip_prefix("word ") {
+            self.put_word(alloc, word)?;
+            return Ok(true);
+        }
+        if let Some(name) = line.strip_prefix("file ") {
+            self.begin_file(alloc, name)?;
+            return Ok(true);
         }
         if let Some(words) = line.strip_prefix("run ") {
             return match engine_of(words) {

@@ -76,7 +76,7 @@ fn read_line<'a, T: Threads + Wait + Sync>(
             case.begin(title);
         }
         None => {
-            if !case.read(line)? {
+            if !case.read(alloc, line)? {
                 count.tell(line)?;
             }
         }

@@ -4,6 +4,7 @@
 #![tactic(auto)]
 
 mod case;
+mod commanding;
 mod counting;
 mod running;
 
@@ -16,7 +17,7 @@ use std::thread::Threads;
 use std::{fs, io};
 
 /// The files of cases, in the order in which they are run.
-const FILES: [&str; 10] = [
+const FILES: [&str; 11] = [
     "instructions_refused",
     "instructions_accepted",
     "instructions_cut_short",
@@ -27,6 +28,7 @@ const FILES: [&str; 10] = [
     "fleets",
     "journals",
     "journals_cut_short",
+    "commands",
 ];
 
 /// Prints a line for each file of cases, below it what differs.

@@ -2,6 +2,7 @@
 ghost use Rattle.buck_rule.specs.Stored.{AllAnswer};
 
 use crate::case::{Case, Engine, Inputs};
+use crate::commanding::outcome_of_words;
 use buck_engine::{
     EngineFault, NamedRule, run_bare, run_buck, run_check, run_fleet_files, status, write_fault,
 };
@@ -95,11 +96,15 @@ fn run_engine<T: Threads + Wait + Sync>(
         Engine::Buck => run_buck(alloc, &mut apt, &mut inputs.stm.as_slice(), &mut got.text),
         Engine::Check => run_check(alloc, &mut apt, &mut inputs.jrn.as_slice(), &mut got.text),
         Engine::Fleet(rule) => run_fleet(rt, alloc, rule, inputs, got),
+        Engine::Words => Ok(()),
     }
 }
 
 /// What comes of a case.
 pub fn outcome_of<T: Threads + Wait + Sync>(rt: &T, alloc: Global, case: &Case<'_>) -> Outcome {
+    if let Engine::Words = case.engine {
+        return outcome_of_words(rt, alloc, &case.words, &case.inputs);
+    }
     let mut got = Outcome::none(alloc);
     if let Err(fault) = run_engine(rt, alloc, case.engine, &case.inputs, &mut got) {
         got.status = status(&fault);

@@ -3,7 +3,7 @@
 //! the line of that fault stands on standard error: `apt fault 9 3050`.
 #![tactic(auto)]
 
-use buck_engine::{Disk, FleetTask, NamedRule, Nobody, Order, Task, serve, serve_fleet};
+use buck_engine::{Disk, FleetTask, NamedRule, Nobody, Order, Settings, Task, serve, serve_fleet};
 use std::alloc::{AllocError, Global};
 use std::io;
 use std::process::ExitCode;
@@ -21,6 +21,7 @@ fn harvest<'a>(alloc: Global, order: Order, stms: &[&'a str]) -> Result<FleetTas
     Ok(FleetTask {
         order,
         rule: NamedRule::Linear,
+        settings: Settings::own(),
         journal: Some(JOURNAL),
         apt: APT,
         stms: names,

@@ -3,9 +3,10 @@
 //! another language, and looked at by a person.
 #![tactic(auto)]
 
-use buck_engine::{Disk, Shown, Table, ViewTask, serve_view};
+use buck_engine::{Disk, Settings, Shown, Table, ViewTask, serve_view};
 use std::io::Write;
 use std::process::ExitCode;
+use std::thread::Threads;
 use std::{fs, io};
 
 /// What is shown, how that is to end, and where the bytes stand that are to be printed.
@@ -68,17 +69,20 @@ fn cases() -> [Case; 9] {
 }
 
 /// Whether a case ends as it is to end, with the stored bytes.
-fn is_right(rt: &HostRuntime, case: &Case) -> io::Result<bool> {
+fn is_right<T: Threads + Sync>(threads: &T, rt: &HostRuntime, case: &Case) -> io::Result<bool> {
     let alloc = rt.alloc();
     let stored = fs::read(rt, case.stored)?;
     let task = ViewTask {
         apt: case.apt,
         journal: case.journal,
         shown: case.shown,
+        settings: Settings::own(),
+        threads: None,
     };
     let mut output = Vec::new(alloc);
     let mut errors = Vec::new(alloc);
     let status = serve_view(
+        threads,
         alloc,
         &task,
         &mut Disk::of(rt, alloc),
@@ -93,10 +97,10 @@ fn is_right(rt: &HostRuntime, case: &Case) -> io::Result<bool> {
 }
 
 /// Prints a line for each case.
-fn run(rt: &HostRuntime) -> io::Result<()> {
+fn run<T: Threads + Sync>(threads: &T, rt: &HostRuntime) -> io::Result<()> {
     let mut output = io::writer(rt);
     for case in cases() {
-        let word = if is_right(rt, &case)? {
+        let word = if is_right(threads, rt, &case)? {
             ": same\n"
         } else {
             ": differs\n"
@@ -108,7 +112,7 @@ fn run(rt: &HostRuntime) -> io::Result<()> {
 }
 
 fn main(rt: HostRuntime) -> ExitCode {
-    match run(&rt) {
+    match run(&rt, &rt) {
         Ok(()) => ExitCode::from(0),
         Err(_) => ExitCode::from(1),
     }

@@ -5,5 +5,6 @@
 //! says where the wrong body would answer otherwise.
 #![tactic(auto)]
 
+pub mod bid;
 pub mod dp;
 pub mod value;

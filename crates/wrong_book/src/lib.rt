@@ -6,6 +6,7 @@
 #![tactic(auto)]
 
 pub mod book;
+pub mod parts;
 pub mod reading;
 pub mod replaying;
 pub mod rule;

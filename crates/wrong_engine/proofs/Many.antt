@@ -11,6 +11,7 @@ use Rattle.buck_fleet.specs.Closed.{replies_from, replies_of}
 use Rattle.buck_stem.specs.Stm.{stm_of}
 use Rattle.buck_engine.specs.declared.fault.EngineFault.{EngineFault}
 use Rattle.buck_engine.specs.declared.fleet.serving.Order.{Order}
+use Rattle.buck_engine.specs.run.Reading.{ReadsApt}
 use Rattle.buck_engine.specs.fleet.Lent.{OfWriter}
 use Rattle.buck_engine.specs.fleet.Running.{stems_cut_by, IsFleetRun}
 
@@ -30,11 +31,11 @@ too_many harvester h stems cut few many =
     omega (arith, same, length-map (replies_of harvester h) (λ k. stem_cut k.entry), length-map stems Some, replies_low harvester 0 h.postings, few, many)
 
 -- a run over one file of them doesn't end well
-pub too_many_in_file : (order : Order) (apt : Option (List ℕ)) (stm : List ℕ) (OfJournal : OfWriter) (old new : Option (List ℕ)) (r : Result (Unit {0}) EngineFault)
+pub too_many_in_file : (reads : ReadsApt) (order : Order) (apt : Option (List ℕ)) (stm : List ℕ) (OfJournal : OfWriter) (old new : Option (List ℕ)) (r : Result (Unit {0}) EngineFault)
     → ((stems : List StemParts) → stm_of stm ≡ Ok stems → 1000000 < length stems)
-    → IsFleetRun order apt (Some stm ∷ []) OfJournal old new r → is_err r ≡ false → ⊥
-too_many_in_file order apt stm OfJournal old new (Ok u) many ran well =
+    → IsFleetRun reads order apt (Some stm ∷ []) OfJournal old new r → is_err r ≡ false → ⊥
+too_many_in_file reads order apt stm OfJournal old new (Ok u) many ran well =
     let harvest = ran.run.1.0 in
     let cut = harvest.stems 0 (omega arith) in
     too_many 1 ran.run.0 cut.stems cut.are_cut harvest.few (many cut.stems cut.stm_says.1)
-too_many_in_file order apt stm OfJournal old new (Err fault) many ran well = cc well
+too_many_in_file reads order apt stm OfJournal old new (Err fault) many ran well = cc well

@@ -2,7 +2,7 @@
 ghost use Rattle.std.specs.Prelude.{◌≡◌, ◌≢◌, ◌+◌, ◌<◌, length, None};
 
 use buck_command::{Streams, Work, serve_work};
-use buck_engine::{FleetTask, Make, NamedRule, Nobody, Open, Order, Task};
+use buck_engine::{FleetTask, Make, NamedRule, Nobody, Open, Order, Settings, Task};
 use std::alloc::Global;
 use std::sync::Wait;
 use std::thread::Threads;
@@ -72,6 +72,7 @@ pub fn fleet_output_and_errors_swapped<T: Threads + Wait + Sync>(rt: &T, alloc: 
     let work = Work::Fleet(FleetTask {
         order: Order::AtOnce,
         rule: NamedRule::Steady,
+        settings: Settings::own(),
         journal: Some("out.jrn"),
         apt: "pine.apt",
         stms: Vec::new(alloc),
@@ -92,6 +93,7 @@ pub fn out_made_before_the_inputs<T: Threads + Wait + Sync>(rt: &T, alloc: Globa
     let work = Work::Fleet(FleetTask {
         order: Order::AtOnce,
         rule: NamedRule::Steady,
+        settings: Settings::own(),
         journal: Some("out.jrn"),
         apt: "pine.apt",
         stms: Vec::new(alloc),
@@ -113,6 +115,7 @@ pub fn out_of_another_name<T: Threads + Wait + Sync>(rt: &T, alloc: Global) {
     let work = Work::Fleet(FleetTask {
         order: Order::AtOnce,
         rule: NamedRule::Steady,
+        settings: Settings::own(),
         journal: Some("out.jrn"),
         apt: "pine.apt",
         stms: Vec::new(alloc),

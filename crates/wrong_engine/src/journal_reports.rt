@@ -1,13 +1,14 @@
 //! Wrong bodies of the report of a journal.
-ghost use Rattle.std.specs.Prelude.{◌≡◌, Ok};
+ghost use Rattle.std.specs.Prelude.{◌≡◌, ◌≢◌, List, ℕ, Ok};
 ghost use Rattle.buck_apt.specs.Instruction.{InstructionParts};
 ghost use Rattle.buck_apt.specs.Apt.{apt_of};
 ghost use Rattle.buck_book.specs.History.{IsLawful};
 ghost use Rattle.buck_journal.specs.Journal.{JournalParts, journal_of};
 ghost use Rattle.buck_journal.specs.Replay.{history_of};
+ghost use Rattle.buck_engine.specs.text.Report.{ending_of, report_of};
 
 use crate::opened::Missing;
-use buck_engine::{EngineFault, Task, run_report, serve};
+use buck_engine::{EngineFault, Settings, Task, run_report, serve};
 use std::alloc::Global;
 
 /// The report of a journal is written that isn't lawful.
@@ -27,6 +28,21 @@ pub fn report_of_an_unlawful_journal<'x>(
     prove!(is_refused);
 }
 
+/// The report is that of another history: no report of what the journal has is so.
+pub fn report_of_another_history<'x>(alloc: Global, apt: &'x [u8], journal: &'x [u8], wrong: &[u8])
+    requires differ { (i : InstructionParts) (j : JournalParts) (counts : List ℕ) → apt_of apt.now ≡ Ok i
+        → journal_of journal.now ≡ Ok j
+        → let h = history_of i j in wrong.now ≢ report_of h.postings (ending_of h counts) }
+{
+    let mut instruction = apt;
+    let mut postings = journal;
+    let mut right = Vec::new(alloc);
+    let outcome = run_report(alloc, &mut instruction, &mut postings, &mut right);
+    if outcome.is_ok() {
+        prove!(right.as_slice() != wrong);
+    }
+}
+
 /// Something is written of a journal that isn't lawful, before its first fault is found.
 pub fn report_written_before_the_fault<'x>(alloc: Global, apt: &'x [u8], journal: &'x [u8]) {
     let mut instruction = apt;
@@ -42,6 +58,7 @@ pub fn report_files_swapped(alloc: Global, output: &mut Vec<u8>, errors: &mut Ve
     let task = Task::Report {
         apt: "pine.apt",
         journal: "stems.jrn",
+        settings: Settings::own(),
     };
     let mut input = b"".as_slice();
     let mut files = Missing { asked: 0 };

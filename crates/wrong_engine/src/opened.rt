@@ -5,7 +5,9 @@ ghost use Rattle.buck_apt.specs.Apt.{apt_of};
 ghost use Rattle.buck_stem.specs.Stm.{stm_of};
 ghost use Rattle.buck_engine.specs.run.Bucking.{is_bar};
 
-use buck_engine::{FleetTask, Make, NamedRule, Nobody, Open, Order, Task, serve, serve_fleet};
+use buck_engine::{
+    FleetTask, Make, NamedRule, Nobody, Open, Order, Settings, Task, serve, serve_fleet,
+};
 use std::alloc::Global;
 use std::sync::Wait;
 use std::thread::Threads;
@@ -155,6 +157,7 @@ pub fn journal_left_out_where_it_cannot_be_made<T: Threads + Wait + Sync>(
     let task = FleetTask {
         order: Order::AtOnce,
         rule: NamedRule::Steady,
+        settings: Settings::own(),
         journal: Some("out.jrn"),
         apt: "pine.apt",
         stms: Vec::new(alloc),

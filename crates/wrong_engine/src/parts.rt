@@ -1,13 +1,18 @@
-//! Wrong bodies of a bucking whose stems are cut in several threads at once.
+//! Wrong bodies of a bucking whose stems are cut in several threads at once, and of engines whose journal is replayed so.
 ghost use Rattle.std.specs.Prelude.{◌≡◌, ◌≢◌, List, Ok};
 ghost use Rattle.buck_apt.specs.Instruction.{InstructionParts};
 ghost use Rattle.buck_apt.specs.Apt.{apt_of};
+ghost use Rattle.buck_book.specs.History.{IsLawful};
+ghost use Rattle.buck_journal.specs.Journal.{JournalParts, journal_of};
+ghost use Rattle.buck_journal.specs.Replay.{history_of};
 ghost use Rattle.buck_stem.specs.Stem.{StemParts};
 ghost use Rattle.buck_stem.specs.Stm.{stm_of};
 ghost use Rattle.buck_engine.specs.text.Bucking.{CutStem, IsBucking, base_sheet, text_of};
 ghost use Rattle.wrong_engine.specs.Texts.{first_half, halves_swapped};
 
-use buck_engine::run_buck_in_parts;
+use buck_engine::{
+    Files, Table, run_buck_in_parts, run_check_in_parts, run_table_in_parts, run_view_in_parts,
+};
 use std::alloc::Global;
 use std::thread::Threads;
 
@@ -57,4 +62,76 @@ pub fn last_part_dropped<'x, T: Threads + Sync>(
     if outcome.is_ok() {
         prove!(right.as_slice() != wrong);
     }
+}
+
+/// The last part isn't judged, and a journal is taken for lawful whose last cut is outvalued.
+pub fn last_part_unjudged<'x, T: Threads + Sync>(
+    rt: &T,
+    alloc: Global,
+    apt: &'x [u8],
+    journal: &'x [u8],
+    out: &mut Vec<u8>,
+)
+    requires unlawful { (i : InstructionParts) (j : JournalParts) → apt_of apt.now ≡ Ok i → journal_of journal.now ≡ Ok j
+        → ¬ IsLawful (history_of i j) }
+{
+    let mut instruction = apt;
+    let mut postings = journal;
+    let right = run_check_in_parts(rt, alloc, Some(2), &mut instruction, &mut postings, out);
+    let is_refused = right.is_err();
+    prove!(is_refused);
+}
+
+/// The page of a journal as a lawful one's, though a part of it is not.
+pub fn page_of_a_part<'x, T: Threads + Sync>(
+    rt: &T,
+    alloc: Global,
+    apt: &'x [u8],
+    journal: &'x [u8],
+    files: &Files<'_>,
+    out: &mut Vec<u8>,
+)
+    requires unlawful { (i : InstructionParts) (j : JournalParts) → apt_of apt.now ≡ Ok i → journal_of journal.now ≡ Ok j
+        → ¬ IsLawful (history_of i j) }
+{
+    let mut instruction = apt;
+    let mut postings = journal;
+    let right = run_view_in_parts(
+        rt,
+        alloc,
+        Some(2),
+        &mut instruction,
+        &mut postings,
+        files,
+        out,
+    );
+    let is_refused = right.is_err();
+    prove!(is_refused);
+}
+
+/// A table of a journal whose last part isn't judged.
+pub fn table_of_a_part<'x, T: Threads + Sync>(
+    rt: &T,
+    alloc: Global,
+    apt: &'x [u8],
+    journal: &'x [u8],
+    table: Table,
+    out: &mut Vec<u8>,
+)
+    requires unlawful { (i : InstructionParts) (j : JournalParts) → apt_of apt.now ≡ Ok i → journal_of journal.now ≡ Ok j
+        → ¬ IsLawful (history_of i j) }
+{
+    let mut instruction = apt;
+    let mut postings = journal;
+    let right = run_table_in_parts(
+        rt,
+        alloc,
+        Some(2),
+        &mut instruction,
+        &mut postings,
+        table,
+        out,
+    );
+    let is_refused = right.is_err();
+    prove!(is_refused);
 }

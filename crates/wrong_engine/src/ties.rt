@@ -11,9 +11,10 @@ ghost use Rattle.buck_engine.specs.tie.Ties.{FollowsRule, stems_by};
 
 use crate::opened::Missing;
 use buck_engine::{
-    CheckFault, CheckTask, EngineFault, NamedRule, run_check_with, serve_check, status,
+    CheckFault, CheckTask, EngineFault, NamedRule, Settings, run_check_with, serve_check, status,
 };
 use std::alloc::Global;
+use std::thread::Threads;
 
 /// Two stem files are taken for the harvesters' in the other order: the first isn't what harvester 1 cut.
 pub fn swapped_stem_files_accepted<'x>(
@@ -145,7 +146,8 @@ pub fn uncut_stem_as_a_refused_file() {
 }
 
 /// The journal is opened first, in the place of the instruction file.
-pub fn tied_check_files_swapped(
+pub fn tied_check_files_swapped<T: Threads + Sync>(
+    rt: &T,
     alloc: Global,
     files: Vec<&str>,
     output: &mut Vec<u8>,
@@ -153,11 +155,13 @@ pub fn tied_check_files_swapped(
 ) {
     let task = CheckTask {
         rule: None,
+        settings: Settings::own(),
         apt: "pine.apt",
         files,
+        threads: Some(2),
     };
     let mut opener = Missing { asked: 0 };
-    let _ = serve_check(alloc, &task, &mut opener, output, errors);
+    let _ = serve_check(rt, alloc, &task, &mut opener, output, errors);
     let right = opener.asked;
     let wrong = "stems.jrn".len();
     prove!(right != wrong);

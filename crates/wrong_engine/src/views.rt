@@ -7,8 +7,11 @@ ghost use Rattle.buck_journal.specs.Journal.{JournalParts, journal_of};
 ghost use Rattle.buck_journal.specs.Replay.{history_of};
 
 use crate::opened::Missing;
-use buck_engine::{EngineFault, Files, Shown, Table, ViewTask, run_table, run_view, serve_view};
+use buck_engine::{
+    EngineFault, Files, Settings, Shown, Table, ViewTask, run_table, run_view, serve_view,
+};
 use std::alloc::Global;
+use std::thread::Threads;
 
 /// A journal that isn't lawful is shown as one that is.
 pub fn page_of_an_unlawful_journal<'x>(
@@ -77,14 +80,21 @@ pub fn page_written_before_it_is_whole<'x>(
 }
 
 /// The journal is opened first, in the place of the instruction file.
-pub fn view_files_swapped(alloc: Global, output: &mut Vec<u8>, errors: &mut Vec<u8>) {
+pub fn view_files_swapped<T: Threads + Sync>(
+    rt: &T,
+    alloc: Global,
+    output: &mut Vec<u8>,
+    errors: &mut Vec<u8>,
+) {
     let task = ViewTask {
         apt: "pine.apt",
         journal: "stems.jrn",
         shown: Shown::Page,
+        settings: Settings::own(),
+        threads: Some(2),
     };
     let mut files = Missing { asked: 0 };
-    let _ = serve_view(alloc, &task, &mut files, output, errors);
+    let _ = serve_view(rt, alloc, &task, &mut files, output, errors);
     let right = files.asked;
     let wrong = "stems.jrn".len();
     prove!(right != wrong);

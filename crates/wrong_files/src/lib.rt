@@ -2,5 +2,7 @@
 #![tactic(auto)]
 
 pub mod instruction;
+pub mod notes;
 pub mod record;
+pub mod settings;
 pub mod stem;

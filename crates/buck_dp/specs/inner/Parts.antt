@@ -18,6 +18,10 @@ abbrev pub HasTakers : GroundParts → Takers → ℕ → ℕ → Type 0
 HasTakers p takers i t = (a : ℕ) (x : AssortmentParts) → slice_get p.sheet.instruction.assortments a ≡ Some x
     → (IsTaker takers a → TakesFrom p x i t) × (TakesFrom p x i t → IsTaker takers a)
 
+-- no log with a top starts before a point
+abbrev pub HasNoneOf : GroundParts → ℕ → ℕ → Type 0
+HasNoneOf p point top = (i e : ℕ) (bid : BidParts) → i < point → IsLogAt p i top e bid → ⊥
+
 -- no log with a top or a later one starts before a point
 abbrev pub HasNoneBefore : GroundParts → ℕ → ℕ → Type 0
-HasNoneBefore p point top = (i t e : ℕ) (bid : BidParts) → i < point → top ≤ t → IsLogAt p i t e bid → ⊥
+HasNoneBefore p point top = (t : ℕ) → top ≤ t → HasNoneOf p point t

@@ -1,21 +1,25 @@
 -- What a run of a fleet over an instruction file and stem files answers: a journal and a report of one history.
 use Rattle.std.specs.Prelude.{◌≡◌, ◌⊎◌, ◌<◌, ◌≤◌, ◌+◌, ℕ, List, length, map, All, Option, Some, None, Result, Ok, Err, slice_index_or}
+use Rattle.std.specs.declared.sync.Arc.{Arc}
+use Rattle.std.specs.declared.vec.Vec.{Vec}
+use Rattle.std.specs.declared.alloc.Global.{Global}
 use Rattle.std.specs.Io.KnownBytes.{Appends, Keeps}
 use Rattle.buck_apt.specs.Apt.{apt_of}
+use Rattle.buck_stem.specs.declared.stem.Stem.{Stem}
 use Rattle.buck_stem.specs.Stem.{StemParts}
 use Rattle.buck_stem.specs.Stm.{stm_of}
 use Rattle.buck_book.specs.declared.posting.Posting.{Posting}
 use Rattle.buck_book.specs.Posting.{harvester_of}
 use Rattle.buck_book.specs.History.{HistoryParts, IsLawful}
 use Rattle.buck_journal.specs.Written.{journal_text}
-use Rattle.buck_fleet.specs.Run.{stem_cut}
+use Rattle.buck_fleet.specs.Run.{stem_cut, stems_at}
 use Rattle.buck_fleet.specs.Closed.{replies_of}
 use Rattle.buck_turn.specs.Turn.{AreInTurn}
 use Rattle.buck_engine.specs.declared.fleet.serving.Order.{Order}
 use Rattle.buck_engine.specs.declared.fleet.serving.Order.TheVariants.{AtOnce, InTurn}
 use Rattle.buck_engine.specs.declared.fault.EngineFault.{EngineFault}
 use Rattle.buck_engine.specs.declared.fault.EngineFault.TheVariants.{Seats, Full, Memory, Close}
-use Rattle.buck_engine.specs.run.Reading.{IsAccepted, IsAptFault, IsStmFault, Says}
+use Rattle.buck_engine.specs.run.Reading.{IsAccepted, IsAptFault, IsStmFault, ReadsApt, Says}
 use Rattle.buck_engine.specs.fleet.Lent.{OfWriter}
 use Rattle.buck_engine.specs.text.Written.{AppendsSome, IsRun}
 use Rattle.buck_engine.specs.text.Report.{IsReport}
@@ -30,10 +34,11 @@ pub record CutsFile (harvester : ℕ) (h : HistoryParts) (stm : Option (List ℕ
   pub stm_says : Says stm_of stm (Ok stems)
   pub are_cut : stems_cut_by harvester h ≡ map Some stems
 
--- a lawful history of the instruction that a file has, of at most 1,000,000 postings, in which harvester k cut exactly
--- the stems that the k-th stem file has, in their order, and nobody else has a posting
-pub record IsHarvest (apt : Option (List ℕ)) (stms : List (Option (List ℕ))) (h : HistoryParts) : Type 0 where
-  pub instruction : Says apt_of apt (Ok h.instruction)
+-- a lawful history of the instruction that a file has, read so, of at most 1,000,000 postings, in which harvester k cut
+-- exactly the stems that the k-th stem file has, in their order, and nobody else has a posting
+pub record IsHarvest (reads : ReadsApt) (apt : Option (List ℕ)) (stms : List (Option (List ℕ))) (h : HistoryParts)
+    : Type 0 where
+  pub instruction : Says reads apt (Ok h.instruction)
   pub lawful : IsLawful h
   pub few : length h.postings ≤ 1000000
   pub stems : (k : ℕ) → k < length stms → CutsFile (k + 1) h (slice_index_or stms k None)
@@ -47,6 +52,11 @@ AreInOrder InTurn ps = AreInTurn ps
 -- the first so many stem files are accepted
 abbrev pub AreAccepted : ℕ → List (Option (List ℕ)) → Type 0
 AreAccepted n stms = (k : ℕ) → k < n → IsAccepted stm_of (slice_index_or stms k None)
+
+-- the first n lists have the stems of the first n files' bytes
+abbrev pub AreListsOf : ℕ → List (Option (List ℕ)) → List (Vec (Arc Stem Global) Global) → Type 0
+AreListsOf n stms lists =
+    (k : ℕ) → k < n → Says stm_of (slice_index_or stms k None) (Ok (stems_at lists k))
 
 -- the stem file at a place has a fault, and those before it are accepted
 pub record IsListFault (stms : List (Option (List ℕ))) (fault : EngineFault) : Type 0 where
@@ -74,9 +84,10 @@ abbrev pub IsFleetFault : Option (List ℕ) → List (Option (List ℕ)) → Eng
 IsFleetFault apt stms fault = (AreNoSeats (length stms) × (fault ≡ Seats)) ⊎ IsHarvestFault apt stms fault
 
 -- a history of all files, in the order that is asked for, or why there is none
-abbrev pub AnswersFleet : Order → Option (List ℕ) → List (Option (List ℕ)) → Result HistoryParts EngineFault → Type 0
-AnswersFleet order apt stms (Ok h) = IsHarvest apt stms h × AreInOrder order h.postings
-AnswersFleet order apt stms (Err fault) = IsFleetFault apt stms fault
+abbrev pub AnswersFleet : ReadsApt → Order → Option (List ℕ) → List (Option (List ℕ))
+    → Result HistoryParts EngineFault → Type 0
+AnswersFleet reads order apt stms (Ok h) = IsHarvest reads apt stms h × AreInOrder order h.postings
+AnswersFleet reads order apt stms (Err fault) = IsFleetFault apt stms fault
 
 -- the texts of a history were written: the journal, where one is asked for, and the report
 pub record WroteAll (h : HistoryParts) (OfJournal : OfWriter) (old new : Option (List ℕ)) : Type 0 where
@@ -94,8 +105,8 @@ pub record WroteSome (h : HistoryParts) (OfJournal : OfWriter) (old new : Option
       ⊎ (OfJournal (λ a b. Appends a b (journal_text h.sheets h.postings)) × AppendsSome old new report)
 
 -- how a run of a fleet ended, and what it wrote
-pub record IsFleetRun (order : Order) (apt : Option (List ℕ)) (stms : List (Option (List ℕ))) (OfJournal : OfWriter)
-    (old new : Option (List ℕ)) (outcome : Result (Unit {0}) EngineFault) : Type 0 where
+pub record IsFleetRun (reads : ReadsApt) (order : Order) (apt : Option (List ℕ)) (stms : List (Option (List ℕ)))
+    (OfJournal : OfWriter) (old new : Option (List ℕ)) (outcome : Result (Unit {0}) EngineFault) : Type 0 where
   pub seats : AreNoSeats (length stms) → outcome ≡ Err Seats
-  pub run : IsRun (AnswersFleet order apt stms) (λ h. WroteAll h OfJournal old new) (λ h. WroteSome h OfJournal old new)
-      (OfJournal Keeps × Keeps old new) outcome
+  pub run : IsRun (AnswersFleet reads order apt stms) (λ h. WroteAll h OfJournal old new)
+      (λ h. WroteSome h OfJournal old new) (OfJournal Keeps × Keeps old new) outcome

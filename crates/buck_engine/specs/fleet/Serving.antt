@@ -9,27 +9,30 @@ use Rattle.buck_engine.specs.declared.fleet.serving.FleetTask.{FleetTask}
 use Rattle.buck_engine.specs.fleet.Lent.{no_writer, of_writer}
 use Rattle.buck_engine.specs.fleet.Running.{IsFleetRun}
 use Rattle.buck_engine.specs.run.Opening.{AnswersInputs}
+use Rattle.buck_engine.specs.run.Reading.{ReadsApt, apt_with}
 
 -- a run over files that are open, whose journal goes into a file that was made; where that can't be, nothing is written
-abbrev pub RunsMade : {F M : Type 0} → (F → Option (List ℕ)) → (M → Option (List ℕ)) → Order → F × List F
+abbrev pub RunsMade : {F M : Type 0} → (F → Option (List ℕ)) → (M → Option (List ℕ)) → ReadsApt → Order → F × List F
     → Option M → Option (List ℕ) → Option (List ℕ) → Result (Unit {0}) EngineFault → Type 0
-RunsMade held contents order files None old new outcome = (outcome ≡ Err Write) × Keeps old new
-RunsMade held contents order files (Some made) old new outcome =
+RunsMade held contents reads order files None old new outcome = (outcome ≡ Err Write) × Keeps old new
+RunsMade held contents reads order files (Some made) old new outcome =
     (left : _)
-    × IsFleetRun order (held files.0) (map held files.1) (of_writer (contents made) (contents left)) old new outcome
+    × IsFleetRun reads order (held files.0) (map held files.1) (of_writer (contents made) (contents left))
+    old new outcome
 
 -- a run over the files that were opened: the file of the journal is made first, where one is wanted
 abbrev pub RunsInputs : {O F M : Type 0} → (O → List ℕ → Option M → O → Type 0) → (F → Option (List ℕ))
-    → (M → Option (List ℕ)) → O → O → Order → Option (List ℕ) → Result (F × List F) EngineFault
+    → (M → Option (List ℕ)) → O → O → ReadsApt → Order → Option (List ℕ) → Result (F × List F) EngineFault
     → Option (List ℕ) → Option (List ℕ) → Result (Unit {0}) EngineFault → Type 0
-RunsInputs makes held contents start end order journal (Err fault) old new outcome =
+RunsInputs makes held contents start end reads order journal (Err fault) old new outcome =
     (outcome ≡ Err fault) × (end ≡ start) × Keeps old new
-RunsInputs makes held contents start end order None (Ok files) old new outcome =
-    (end ≡ start) × IsFleetRun order (held files.0) (map held files.1) no_writer old new outcome
-RunsInputs makes held contents start end order (Some name) (Ok files) old new outcome =
-    (made : _) × makes start name made end × RunsMade held contents order files made old new outcome
+RunsInputs makes held contents start end reads order None (Ok files) old new outcome =
+    (end ≡ start) × IsFleetRun reads order (held files.0) (map held files.1) no_writer old new outcome
+RunsInputs makes held contents start end reads order (Some name) (Ok files) old new outcome =
+    (made : _) × makes start name made end × RunsMade held contents reads order files made old new outcome
 
--- all input files are opened by their names, in order, then the file of the journal is made, and then the fleet runs
+-- all input files are opened by their names, in order, then the file of the journal is made, and then the fleet runs,
+-- with the task's numbers in the place of the instruction's own
 pub record RunsFleet {O F M : Type 0} (opens : O → List ℕ → Option F → O → Type 0)
     (makes : O → List ℕ → Option M → O → Type 0) (held : F → Option (List ℕ)) (contents : M → Option (List ℕ))
     (start end : O) (task : FleetTask) (old new : Option (List ℕ)) (outcome : Result (Unit {0}) EngineFault)
@@ -37,5 +40,5 @@ pub record RunsFleet {O F M : Type 0} (opens : O → List ℕ → Option F → O
   pub opened : Result (F × List F) EngineFault
   pub between : O
   pub answers : AnswersInputs opens start between task.apt.now (map (λ s. s.now) task.stms.items) opened
-  pub runs : RunsInputs makes held contents between end task.order (option_map (λ s. s.now) task.journal) opened
-      old new outcome
+  pub runs : RunsInputs makes held contents between end (apt_with task.settings) task.order
+      (option_map (λ s. s.now) task.journal) opened old new outcome

@@ -1,25 +1,18 @@
 -- How a harvest comes about: stem files that are read, lists that are cut, and texts that are written.
-use Rattle.std.specs.Prelude.{◌≡◌, ◌<◌, ◌≤◌, ◌+◌, ℕ, List, length, map, All, Option, Some, None, Result, Ok, Err, slice_index_or}
+use Rattle.std.specs.Prelude.{◌≡◌, ◌<◌, ◌≤◌, ◌+◌, ℕ, List, length, map, All, Option, Some, Result, Ok, Err}
 use Rattle.std.specs.declared.sync.Arc.{Arc}
 use Rattle.std.specs.declared.vec.Vec.{Vec}
 use Rattle.std.specs.declared.alloc.Global.{Global}
 use Rattle.std.specs.Io.KnownBytes.{Keeps}
 use Rattle.buck_apt.specs.Instruction.{InstructionParts}
 use Rattle.buck_stem.specs.declared.stem.Stem.{Stem}
-use Rattle.buck_stem.specs.Stm.{stm_of}
 use Rattle.buck_book.specs.Posting.{harvester_of}
 use Rattle.buck_book.specs.History.{HistoryParts, IsLawful}
 use Rattle.buck_fleet.specs.Run.{stems_at}
 use Rattle.buck_engine.specs.declared.fault.EngineFault.{EngineFault}
 use Rattle.buck_engine.specs.declared.fault.EngineFault.TheVariants.{Write, Memory}
-use Rattle.buck_engine.specs.run.Reading.{Says}
 use Rattle.buck_engine.specs.fleet.Lent.{OfWriter}
 use Rattle.buck_engine.specs.fleet.Running.{stems_cut_by, WroteAll, WroteSome}
-
--- the first n lists have the stems of the first n files' bytes
-abbrev pub AreListsOf : ℕ → List (Option (List ℕ)) → List (Vec (Arc Stem Global) Global) → Type 0
-AreListsOf n stms lists =
-    (k : ℕ) → k < n → Says stm_of (slice_index_or stms k None) (Ok (stems_at lists k))
 
 -- a lawful history of an instruction, of at most 1,000,000 postings, in which harvester k + 1 cut exactly the stems of
 -- the list at place k, and nobody else has a posting

@@ -16,10 +16,11 @@ use Rattle.buck_book.specs.Counts.{assortment_count_of}
 use Rattle.buck_book.specs.History.{HistoryParts}
 use Rattle.buck_book.specs.inner.Pricing.{StandingsParts, CanPrice, standing_by}
 use Rattle.buck_engine.specs.declared.fault.EngineFault.{EngineFault}
-use Rattle.buck_engine.specs.declared.fault.EngineFault.TheVariants.{Check, Memory}
+use Rattle.buck_engine.specs.declared.fault.EngineFault.TheVariants.{Check, Memory, Seats}
 use Rattle.buck_engine.specs.declared.fleet.serving.NamedRule.{NamedRule}
 use Rattle.buck_engine.specs.declared.tie.held.Off.{Off}
 use Rattle.buck_engine.specs.run.Reading.{Says}
+use Rattle.buck_engine.specs.tie.Answers.{IsInputFault}
 use Rattle.buck_engine.specs.tie.Ties.{IsUntied, price_by}
 
 -- the stems in lists of them
@@ -86,6 +87,11 @@ pub record AreAssorted (i : InstructionParts) (ps : List Posting) (by_assortment
   pub number : length by_assortment ≡ length i.assortments
   pub each : (a : ℕ) → a < length i.assortments → slice_index by_assortment a ≡ assortment_count_of a ps
   pub low : (a : ℕ) → slice_index by_assortment a ≤ 80 * length ps
+
+-- there are more stem files than seats, or the fault of the first file that has one
+abbrev pub IsTiedInputFault : Option (List ℕ) → Option (List ℕ) → List (Option (List ℕ)) → EngineFault → Type 0
+IsTiedInputFault apt journal stms fault =
+    ((64 < length stms) × (fault ≡ Seats)) ⊎ ((length stms ≤ 64) × IsInputFault apt journal stms fault)
 
 -- a lawful history isn't tied, or memory ran out
 abbrev pub IsUntiedFault : List (List StemParts) → Option NamedRule → HistoryParts → EngineFault → Type 0

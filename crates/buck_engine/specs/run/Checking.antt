@@ -8,7 +8,7 @@ use Rattle.buck_journal.specs.Journal.{JournalParts, journal_of}
 use Rattle.buck_journal.specs.Replay.{history_of, IsFirstFault}
 use Rattle.buck_engine.specs.declared.fault.EngineFault.{EngineFault}
 use Rattle.buck_engine.specs.declared.fault.EngineFault.TheVariants.{Journal, Replay, Memory}
-use Rattle.buck_engine.specs.run.Reading.{IsAccepted, IsAptFault, IsFileFault, Says}
+use Rattle.buck_engine.specs.run.Reading.{IsAccepted, IsAptFault, IsFileFault, ReadsApt, Says}
 use Rattle.buck_engine.specs.text.Report.{IsReport}
 
 -- LAWFUL <postings>
@@ -40,24 +40,25 @@ abbrev pub AnswersReplay : OfLawful → InstructionParts → JournalParts → Re
 AnswersReplay Text i journal (Ok text) = IsLawful (history_of i journal) × Text i journal text
 AnswersReplay Text i journal (Err fault) = IsUnlawful (history_of i journal) fault
 
--- what is answered to the instruction and the journal that the two files have
-pub record IsReplayOf (Text : OfLawful) (apt journal : Option (List ℕ)) (answer : Result (List ℕ) EngineFault)
-    : Type 0 where
+-- what is answered to the instruction, which is read so, and the journal that the two files have
+pub record IsReplayOf (reads : ReadsApt) (Text : OfLawful) (apt journal : Option (List ℕ))
+    (answer : Result (List ℕ) EngineFault) : Type 0 where
   pub instruction : InstructionParts
   pub read : JournalParts
-  pub apt_says : Says apt_of apt (Ok instruction)
+  pub apt_says : Says reads apt (Ok instruction)
   pub journal_says : Says journal_of journal (Ok read)
   pub answers : AnswersReplay Text instruction read answer
 
 -- the fault of the first of the two files that has one, or what is answered to what they have
-abbrev pub AnswersJournal : OfLawful → Option (List ℕ) → Option (List ℕ) → Result (List ℕ) EngineFault → Type 0
-AnswersJournal Text apt journal (Ok text) = IsReplayOf Text apt journal (Ok text)
-AnswersJournal Text apt journal (Err fault) =
+abbrev pub AnswersJournal : ReadsApt → OfLawful → Option (List ℕ) → Option (List ℕ) → Result (List ℕ) EngineFault
+    → Type 0
+AnswersJournal reads Text apt journal (Ok text) = IsReplayOf reads Text apt journal (Ok text)
+AnswersJournal reads Text apt journal (Err fault) =
     IsAptFault apt fault
-    ⊎ ((IsAccepted apt_of apt × IsJournalFault journal fault) ⊎ IsReplayOf Text apt journal (Err fault))
+    ⊎ ((IsAccepted apt_of apt × IsJournalFault journal fault) ⊎ IsReplayOf reads Text apt journal (Err fault))
 
 abbrev pub AnswersCheck : Option (List ℕ) → Option (List ℕ) → Result (List ℕ) EngineFault → Type 0
-AnswersCheck apt journal answer = AnswersJournal IsLawfulLine apt journal answer
+AnswersCheck apt journal answer = AnswersJournal apt_of IsLawfulLine apt journal answer
 
 abbrev pub AnswersReport : Option (List ℕ) → Option (List ℕ) → Result (List ℕ) EngineFault → Type 0
-AnswersReport apt journal answer = AnswersJournal IsJournalReport apt journal answer
+AnswersReport apt journal answer = AnswersJournal apt_of IsJournalReport apt journal answer

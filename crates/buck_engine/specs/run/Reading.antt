@@ -1,5 +1,9 @@
 -- What is read of files: what their bytes say, as far as they are known, and what may go wrong.
 use Rattle.std.specs.Prelude.{◌≡◌, ◌⊎◌, ℕ, ◌≤◌, List, length, Option, Result, Ok, Err, IfSome}
+use Rattle.buck_record.specs.Check.{◌>>=◌}
+use Rattle.buck_apt.specs.declared.fault.AptFault.{AptFault}
+use Rattle.buck_apt.specs.Instruction.{InstructionParts}
+use Rattle.buck_apt.specs.Settings.{SettingsParts, with_settings}
 use Rattle.buck_apt.specs.Apt.{apt_of}
 use Rattle.buck_stem.specs.Stm.{stm_of}
 use Rattle.buck_engine.specs.declared.fault.EngineFault.{EngineFault}
@@ -8,6 +12,16 @@ use Rattle.buck_engine.specs.declared.fault.EngineFault.TheVariants.{Read, Apt, 
 -- a file has no more bytes than it may have
 abbrev pub IsWithinLimit : List ℕ → Type 0
 IsWithinLimit bytes = length bytes ≤ 67108864
+
+-- how the bytes of an instruction file are read
+abbrev pub ReadsApt : Type 0
+ReadsApt = List ℕ → Result InstructionParts AptFault
+
+-- the instruction of the bytes, or their refusal, which is by their own numbers; then a run's numbers are put in
+unfoldable pub apt_with : SettingsParts → ReadsApt
+apt_with settings bytes = do
+  own ← apt_of bytes
+  Ok (with_settings settings own)
 
 -- what the bytes of a file say, as far as they are known; no longer file is read as one
 abbrev pub Says : {V F : Type 0} → (List ℕ → Result V F) → Option (List ℕ) → Result V F → Type 0

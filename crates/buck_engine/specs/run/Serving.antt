@@ -5,7 +5,8 @@ use Rattle.buck_engine.specs.declared.fault.EngineFault.{EngineFault}
 use Rattle.buck_engine.specs.declared.run.serving.Task.{Task}
 use Rattle.buck_engine.specs.declared.run.serving.Task.TheVariants.{Bare, Buck, Check, Report}
 use Rattle.buck_engine.specs.run.Bucking.{AnswersBare, AnswersBuck}
-use Rattle.buck_engine.specs.run.Checking.{AnswersCheck, AnswersReport}
+use Rattle.buck_engine.specs.run.Checking.{AnswersCheck, AnswersJournal, IsJournalReport}
+use Rattle.buck_engine.specs.run.Reading.{apt_with}
 use Rattle.buck_engine.specs.Faults.{status_of, fault_line}
 use Rattle.buck_engine.specs.run.Opening.{AnswersOpening}
 use Rattle.buck_engine.specs.text.Written.{WritesText}
@@ -36,8 +37,9 @@ RunsTask opens held start end input (Buck apt stm) old new outcome =
     RunsFiles AnswersBuck opens held start end apt.now stm.now old new outcome
 RunsTask opens held start end input (Check apt journal) old new outcome =
     RunsFiles AnswersCheck opens held start end apt.now journal.now old new outcome
-RunsTask opens held start end input (Report apt journal) old new outcome =
-    RunsFiles AnswersReport opens held start end apt.now journal.now old new outcome
+RunsTask opens held start end input (Report apt journal settings) old new outcome =
+    RunsFiles (AnswersJournal (apt_with settings) IsJournalReport) opens held start end apt.now journal.now
+    old new outcome
 
 -- the exit status of a run
 abbrev pub status_after : Result (Unit {0}) EngineFault → ℕ

@@ -9,15 +9,15 @@ use Rattle.buck_journal.specs.Journal.{JournalParts, journal_of}
 use Rattle.buck_journal.specs.Replay.{history_of, IsFirstFault}
 use Rattle.buck_engine.specs.declared.fault.EngineFault.{EngineFault}
 use Rattle.buck_engine.specs.declared.fault.EngineFault.TheVariants.{Write, Replay}
-use Rattle.buck_engine.specs.run.Reading.{IsAccepted, IsAptFault, Says}
+use Rattle.buck_engine.specs.run.Reading.{IsAccepted, IsAptFault, ReadsApt, Says}
 use Rattle.buck_engine.specs.run.Checking.{IsJournalFault}
 use Rattle.buck_engine.specs.text.Written.{AppendsSome}
 
--- an instruction file and a journal's file have a history of which this holds
-pub record HaveHistory (Holds : HistoryParts → Type 0) (apt journal : Option (List ℕ)) : Type 0 where
+-- an instruction file, which is read so, and a journal's file have a history of which this holds
+pub record HaveHistory (reads : ReadsApt) (Holds : HistoryParts → Type 0) (apt journal : Option (List ℕ)) : Type 0 where
   pub instruction : InstructionParts
   pub read : JournalParts
-  pub apt_says : Says apt_of apt (Ok instruction)
+  pub apt_says : Says reads apt (Ok instruction)
   pub journal_says : Says journal_of journal (Ok read)
   pub holds : Holds (history_of instruction read)
 
@@ -27,12 +27,13 @@ IsReadFault apt journal fault = IsAptFault apt fault ⊎ (IsAccepted apt_of apt 
 
 -- what is there of the output after a run that shows a journal: what was written of a lawful one, what is left of one
 -- that isn't lawful, and else nothing more than before, or where the output can't be written some first bytes of a text
-abbrev pub ShowsAs : Type 0 → Type 0 → Option (List ℕ) → Option (List ℕ) → Option (List ℕ) → Option (List ℕ)
+abbrev pub ShowsAs : ReadsApt → Type 0 → Type 0 → Option (List ℕ) → Option (List ℕ) → Option (List ℕ) → Option (List ℕ)
     → Result (Unit {0}) EngineFault → Type 0
-ShowsAs Shown Left apt journal old new (Ok _) = HaveHistory IsLawful apt journal × Shown
-ShowsAs Shown Left apt journal old new (Err Write) = (text : List ℕ) × AppendsSome old new text
-ShowsAs Shown Left apt journal old new (Err (Replay why)) = HaveHistory (λ h. IsFirstFault h why) apt journal × Left
-ShowsAs Shown Left apt journal old new (Err fault) = IsReadFault apt journal fault × Keeps old new
+ShowsAs reads Shown Left apt journal old new (Ok _) = HaveHistory reads IsLawful apt journal × Shown
+ShowsAs reads Shown Left apt journal old new (Err Write) = (text : List ℕ) × AppendsSome old new text
+ShowsAs reads Shown Left apt journal old new (Err (Replay why)) =
+    HaveHistory reads (λ h. IsFirstFault h why) apt journal × Left
+ShowsAs reads Shown Left apt journal old new (Err fault) = IsReadFault apt journal fault × Keeps old new
 
 -- a page was written, which is UTF-8, and all of it
 abbrev pub AppendsPage : Option (List ℕ) → Option (List ℕ) → Type 0
@@ -43,11 +44,13 @@ abbrev pub AppendsTable : Option (List ℕ) → Option (List ℕ) → Type 0
 AppendsTable old new = (text : List ℕ) × Appends old new text
 
 -- the page of a lawful journal is written, and else the page of the journal's first fault
-abbrev pub ShowsPage : Option (List ℕ) → Option (List ℕ) → Option (List ℕ) → Option (List ℕ)
+abbrev pub ShowsPage : ReadsApt → Option (List ℕ) → Option (List ℕ) → Option (List ℕ) → Option (List ℕ)
     → Result (Unit {0}) EngineFault → Type 0
-ShowsPage apt journal old new outcome = ShowsAs (AppendsPage old new) (AppendsPage old new) apt journal old new outcome
+ShowsPage reads apt journal old new outcome =
+    ShowsAs reads (AppendsPage old new) (AppendsPage old new) apt journal old new outcome
 
 -- the table of a lawful journal is written, and else nothing
-abbrev pub ShowsTable : Option (List ℕ) → Option (List ℕ) → Option (List ℕ) → Option (List ℕ)
+abbrev pub ShowsTable : ReadsApt → Option (List ℕ) → Option (List ℕ) → Option (List ℕ) → Option (List ℕ)
     → Result (Unit {0}) EngineFault → Type 0
-ShowsTable apt journal old new outcome = ShowsAs (AppendsTable old new) (Keeps old new) apt journal old new outcome
+ShowsTable reads apt journal old new outcome =
+    ShowsAs reads (AppendsTable old new) (Keeps old new) apt journal old new outcome

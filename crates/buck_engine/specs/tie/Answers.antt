@@ -10,7 +10,7 @@ use Rattle.buck_journal.specs.Replay.{history_of}
 use Rattle.buck_engine.specs.declared.fault.EngineFault.{EngineFault}
 use Rattle.buck_engine.specs.declared.fault.EngineFault.TheVariants.{Seats, Check}
 use Rattle.buck_engine.specs.declared.fleet.serving.NamedRule.{NamedRule}
-use Rattle.buck_engine.specs.run.Reading.{IsAccepted, IsAptFault, IsStmFault, Says}
+use Rattle.buck_engine.specs.run.Reading.{IsAccepted, IsAptFault, IsStmFault, ReadsApt, Says}
 use Rattle.buck_engine.specs.run.Checking.{IsJournalFault, IsLawfulLine, IsUnlawful}
 use Rattle.buck_engine.specs.fleet.Running.{AreAccepted}
 use Rattle.buck_engine.specs.tie.Ties.{IsTied, IsUntied}
@@ -22,10 +22,10 @@ pub record IsStemsFileFault (stms : List (Option (List ℕ))) (fault : EngineFau
   pub accepted : AreAccepted place stms
   pub is_fault : IsStmFault (place + 2) (slice_index_or stms place None) fault
 
--- the instruction, the journal, and the stems of each stem file, that the files have
-pub record HaveRead (apt journal : Option (List ℕ)) (stms : List (Option (List ℕ))) (i : InstructionParts)
-    (j : JournalParts) (files : List (List StemParts)) : Type 0 where
-  pub apt_says : Says apt_of apt (Ok i)
+-- the instruction, which is read so, the journal, and the stems of each stem file, that the files have
+pub record HaveRead (reads : ReadsApt) (apt journal : Option (List ℕ)) (stms : List (Option (List ℕ)))
+    (i : InstructionParts) (j : JournalParts) (files : List (List StemParts)) : Type 0 where
+  pub apt_says : Says reads apt (Ok i)
   pub journal_says : Says journal_of journal (Ok j)
   pub few : length stms ≤ 64
   pub number : length files ≡ length stms
@@ -48,19 +48,19 @@ AnswersTies files rule i j (Err fault) =
     ⊎ (IsLawful (history_of i j) × ((why : _) × (fault ≡ Check why) × IsUntied files rule (history_of i j) why))
 
 -- what is answered to what the files have
-pub record IsTiesOf (rule : Option NamedRule) (apt journal : Option (List ℕ)) (stms : List (Option (List ℕ)))
-    (answer : Result (List ℕ) EngineFault) : Type 0 where
+pub record IsTiesOf (reads : ReadsApt) (rule : Option NamedRule) (apt journal : Option (List ℕ))
+    (stms : List (Option (List ℕ))) (answer : Result (List ℕ) EngineFault) : Type 0 where
   pub instruction : InstructionParts
   pub read : JournalParts
   pub files : List (List StemParts)
-  pub have : HaveRead apt journal stms instruction read files
+  pub have : HaveRead reads apt journal stms instruction read files
   pub answers : AnswersTies files rule instruction read answer
 
 -- there are more stem files than seats, or the fault of the first file that has one, or what is answered to what the
 -- files have
-abbrev pub AnswersCheckWith : Option NamedRule → Option (List ℕ) → Option (List ℕ) → List (Option (List ℕ))
+abbrev pub AnswersCheckWith : ReadsApt → Option NamedRule → Option (List ℕ) → Option (List ℕ) → List (Option (List ℕ))
     → Result (List ℕ) EngineFault → Type 0
-AnswersCheckWith rule apt journal stms (Ok text) = IsTiesOf rule apt journal stms (Ok text)
-AnswersCheckWith rule apt journal stms (Err fault) =
+AnswersCheckWith reads rule apt journal stms (Ok text) = IsTiesOf reads rule apt journal stms (Ok text)
+AnswersCheckWith reads rule apt journal stms (Err fault) =
     ((64 < length stms) × (fault ≡ Seats))
-    ⊎ ((length stms ≤ 64) × (IsInputFault apt journal stms fault ⊎ IsTiesOf rule apt journal stms (Err fault)))
+    ⊎ ((length stms ≤ 64) × (IsInputFault apt journal stms fault ⊎ IsTiesOf reads rule apt journal stms (Err fault)))

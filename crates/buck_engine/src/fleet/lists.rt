@@ -5,13 +5,12 @@ ghost use Rattle.buck_apt.specs.Apt.{apt_of};
 ghost use Rattle.buck_stem.specs.Stm.{stm_of};
 ghost use Rattle.buck_fleet.specs.Run.{stems_of};
 ghost use Rattle.buck_engine.specs.declared.fault.EngineFault.TheVariants.{Seats};
-ghost use Rattle.buck_engine.specs.run.Reading.{IfStopped, IsStmFault, Says};
-ghost use Rattle.buck_engine.specs.fleet.Running.{AreNoSeats, IsFleetFault, IsListFault};
-ghost use Rattle.buck_engine.specs.inner.Fleet.{AreListsOf};
+ghost use Rattle.buck_engine.specs.run.Reading.{IfStopped, IsAccepted, IsStmFault, Says, apt_with};
+ghost use Rattle.buck_engine.specs.fleet.Running.{AreListsOf, AreNoSeats, IsFleetFault, IsListFault};
 
 use crate::fault::EngineFault;
 use crate::run::reading::{read_instruction, read_stems};
-use buck_apt::Instruction;
+use buck_apt::{Instruction, Settings};
 use buck_stem::Stem;
 use std::alloc::Global;
 use std::io;
@@ -77,15 +76,19 @@ fn check_seats(number: usize) -> Result<(), EngineFault>
     Ok(())
 }
 
-/// What the files of a run say: an instruction, and a list of stems for each harvester.
+/// What the files of a run say.
 #[derive(Drop)]
-pub(crate) struct Input {
-    pub(crate) instruction: Instruction,
-    pub(crate) lists: Vec<Vec<Arc<Stem>>>,
+pub struct Input {
+    /// The instruction.
+    pub instruction: Instruction,
+    /// A list of stems for each harvester, in the order of the stem files.
+    pub lists: Vec<Vec<Arc<Stem>>>,
 }
 
-/// What an instruction file and stem files say, where there are 1 to 64 stem files.
-pub(crate) fn read_input<R: io::Read>(
+/// What an instruction file and stem files say, where there are 1 to 64 stem files: else `Seats`, before anything is
+/// read. The instruction file is file 0, the k-th stem file is file k; each is read, and refused where it must be,
+/// before the next, as [`run_in_turn`](crate::run_in_turn) says.
+pub fn read_input<R: io::Read>(
     alloc: Global,
     apt: &mut R,
     stms: &mut [R],
@@ -104,6 +107,33 @@ pub(crate) fn read_input<R: io::Read>(
     let instruction = read_instruction(alloc, apt)?;
     let lists = read_lists(alloc, stms)?;
     Ok(Input { instruction, lists })
+}
+
+/// The same with a run's numbers in the place of the instruction's own, by which it is read and refused.
+#[tactic(auto, using(crate::proofs::Numbers::says_with))]
+pub(crate) fn read_input_with<R: io::Read>(
+    alloc: Global,
+    apt: &mut R,
+    stms: &mut [R],
+    settings: &Settings,
+) -> Result<Input, EngineFault>
+    ensures seats { AreNoSeats (length stms.old) → IsErrAnd result (λ fault. fault ≡ Seats) }
+    ensures some { OnOk result ((0 < length stms.old) × (length stms.old ≤ 64)) }
+    ensures instruction { IfOk result (λ input.
+        Says (apt_with settings.now) (R.remaining apt.old) (Ok input.instruction)) }
+    ensures accepted { OnOk result (IsAccepted apt_of (R.remaining apt.old)) }
+    ensures number { IfOk result (λ input. length input.lists.items ≡ length stms.old) }
+    ensures lists { IfOk result (λ input.
+        AreListsOf (length stms.old) (map R.remaining stms.old) input.lists.items) }
+    ensures refused { IfErr result (IsFleetFault (R.remaining apt.old) (map R.remaining stms.old)) }
+    ensures order { IfErr result (IfStopped (λ last. drop last stms.new ≡ drop last stms.old)) }
+    ensures unread { IfErr result (λ fault. fault ≡ Seats → apt.new ≡ apt.old) }
+{
+    let Input { instruction, lists } = read_input(alloc, apt, stms)?;
+    Ok(Input {
+        instruction: instruction.with(settings),
+        lists,
+    })
 }
 
 /// How many stems stand in all lists.

@@ -1,19 +1,21 @@
 //! `run_fleet_files`: from the bytes of an instruction file and stem files to a journal and a report.
 ghost use Rattle.std.specs.Prelude.{◌≡◌, length, map, drop, IfOk, IfErr};
 ghost use Rattle.std.specs.Result.{IsErrAnd};
+ghost use Rattle.buck_apt.specs.Apt.{apt_of};
 ghost use Rattle.buck_rule.specs.Stored.{AllAnswer};
 ghost use Rattle.buck_engine.specs.declared.fault.EngineFault.TheVariants.{Seats};
 ghost use Rattle.buck_engine.specs.declared.fleet.serving.Order.TheVariants.{AtOnce};
-ghost use Rattle.buck_engine.specs.run.Reading.{IfStopped};
+ghost use Rattle.buck_engine.specs.run.Reading.{IfStopped, apt_with};
 ghost use Rattle.buck_engine.specs.fleet.Lent.{of_lent};
 ghost use Rattle.buck_engine.specs.fleet.Running.{AreNoSeats, IsFleetFault, IsFleetRun, IsHarvest};
 
 use crate::fault::EngineFault;
 use crate::fleet::cutting::cut_lists;
-use crate::fleet::lists::{Input, number_of_stems, read_input};
+use crate::fleet::lists::{Input, number_of_stems, read_input_with};
 use crate::fleet::onlooker::{Nobody, Onlooker};
 use crate::fleet::writing::{write_journal_and_report, write_report};
 use crate::text::report::harvested_by;
+use buck_apt::Settings;
 use buck_fleet::Closed;
 use buck_rule::{Rule, Standing};
 use std::alloc::Global;
@@ -21,7 +23,8 @@ use std::io;
 use std::sync::Wait;
 use std::thread::Threads;
 
-/// Cuts the stems of each file by a harvester of its own, where there are 1 to 64 stem files.
+/// Cuts the stems of each file by a harvester of its own, where there are 1 to 64 stem files, with a run's numbers in
+/// the place of the instruction's own.
 pub(crate) fn cut_files<
     F: Fn(&Standing) -> u64 + Drop + Send,
     T: Threads + Wait + Sync,
@@ -33,18 +36,39 @@ pub(crate) fn cut_files<
     apt: &mut R,
     stms: &mut [R],
     rule: Rule<F>,
+    settings: &Settings,
     onlooker: &O,
 ) -> Result<Closed, EngineFault>
     requires answers { AllAnswer F.Fn }
     ensures seats { AreNoSeats (length stms.old) → IsErrAnd result (λ fault. fault ≡ Seats) }
-    ensures ok { IfOk result (λ closed. IsHarvest (R.remaining apt.old) (map R.remaining stms.old) closed.history) }
+    ensures ok { IfOk result (λ closed.
+        IsHarvest (apt_with settings.now) (R.remaining apt.old) (map R.remaining stms.old) closed.history) }
     ensures refused { IfErr result (IsFleetFault (R.remaining apt.old) (map R.remaining stms.old)) }
     ensures order { IfErr result (IfStopped (λ last. drop last stms.new ≡ drop last stms.old)) }
     ensures unread { IfErr result (λ fault. fault ≡ Seats → apt.new ≡ apt.old) }
 {
-    let Input { instruction, lists } = read_input(alloc, apt, stms)?;
+    let Input { instruction, lists } = read_input_with(alloc, apt, stms, settings)?;
     onlooker.cutting(number_of_stems(lists.as_slice()));
     cut_lists(rt, alloc, instruction, rule, lists.as_slice(), onlooker)
+}
+
+/// The same with the instruction's own numbers, while nobody looks on.
+fn cut_own_files<F: Fn(&Standing) -> u64 + Drop + Send, T: Threads + Wait + Sync, R: io::Read>(
+    rt: &T,
+    alloc: Global,
+    apt: &mut R,
+    stms: &mut [R],
+    rule: Rule<F>,
+) -> Result<Closed, EngineFault>
+    requires answers { AllAnswer F.Fn }
+    ensures seats { AreNoSeats (length stms.old) → IsErrAnd result (λ fault. fault ≡ Seats) }
+    ensures ok { IfOk result (λ closed.
+        IsHarvest apt_of (R.remaining apt.old) (map R.remaining stms.old) closed.history) }
+    ensures refused { IfErr result (IsFleetFault (R.remaining apt.old) (map R.remaining stms.old)) }
+    ensures order { IfErr result (IfStopped (λ last. drop last stms.new ≡ drop last stms.old)) }
+    ensures unread { IfErr result (λ fault. fault ≡ Seats → apt.new ≡ apt.old) }
+{
+    cut_files(rt, alloc, apt, stms, rule, &Settings::own(), &Nobody)
 }
 
 /// Reads an instruction file and stem files, cuts the stems of the k-th stem file by harvester k of a fleet, each in a
@@ -77,14 +101,14 @@ pub fn run_fleet_files<
     // that of the first file that has one, or comes after all of them, and nothing is written; a write fault leaves a
     // prefix of the journal, or all of it and a prefix of the report. Where there are not 1 to 64 stem files, that is
     // the fault.
-    ensures run { IsFleetRun AtOnce (R.remaining apt.old) (map R.remaining stms.old)
+    ensures run { IsFleetRun apt_of AtOnce (R.remaining apt.old) (map R.remaining stms.old)
         (of_lent J.contents journal.entry journal.exit) (W.contents out.old) (W.contents out.new) result }
     // Where a file has a fault, nothing was read of those after it.
     ensures order { IfErr result (IfStopped (λ last. drop last stms.new ≡ drop last stms.old)) }
     // Where there are not 1 to 64 stem files, nothing was read of the instruction either.
     ensures unread { IfErr result (λ fault. fault ≡ Seats → apt.new ≡ apt.old) }
 {
-    let closed = cut_files(rt, alloc, apt, stms, rule, &Nobody);
+    let closed = cut_own_files(rt, alloc, apt, stms, rule);
     match journal {
         None => {
             let closed = closed?;

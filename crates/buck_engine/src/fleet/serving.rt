@@ -3,6 +3,7 @@ ghost use Rattle.std.specs.Prelude.{◌≡◌, Result};
 ghost use Rattle.std.specs.Option.{option_map};
 ghost use Rattle.buck_rule.specs.Stored.{AllAnswer};
 ghost use Rattle.buck_engine.specs.declared.fault.EngineFault.{EngineFault};
+ghost use Rattle.buck_engine.specs.fleet.Named.{rule_name};
 ghost use Rattle.buck_engine.specs.fleet.Serving.{RunsFleet};
 ghost use Rattle.buck_engine.specs.inner.Served.{MakesJournal, WritesMade};
 ghost use Rattle.buck_engine.specs.run.Serving.{TellsOutcome, status_after};
@@ -15,6 +16,7 @@ use crate::fleet::writing::{write_journal_and_report, write_report};
 use crate::run::opening::{Make, Open, open_inputs};
 use crate::run::serving::conclude;
 use crate::text::report::{Harvested, harvested_by};
+use buck_apt::Settings;
 use buck_rule::{Rule, Standing, linear, steady, step};
 use std::alloc::Global;
 use std::io;
@@ -30,6 +32,19 @@ pub enum NamedRule {
     Linear,
     /// Base prices, moved by the whole span where a class is off its target.
     Step,
+}
+
+impl NamedRule {
+    /// The word that asks for the rule.
+    pub fn name(self) -> &'static str
+        ensures { result.now ≡ rule_name self }
+    {
+        match self {
+            NamedRule::Steady => "steady",
+            NamedRule::Linear => "linear",
+            NamedRule::Step => "step",
+        }
+    }
 }
 
 /// In which order harvesters cut.
@@ -48,6 +63,8 @@ pub struct FleetTask<'a> {
     pub order: Order,
     /// How prices follow what was cut.
     pub rule: NamedRule,
+    /// The numbers that are put in the place of the instruction's own.
+    pub settings: Settings,
     /// The name of the file that the journal goes into, where one is wanted.
     pub journal: Option<&'a str>,
     /// The name of the instruction file.
@@ -110,11 +127,20 @@ fn fleet_files<
     let stems = stems.as_mut_slice();
     match task.order {
         Order::AtOnce => {
-            let closed = cut_files(rt, alloc, &mut instruction, stems, rule, onlooker)?;
+            let settings = &task.settings;
+            let closed = cut_files(rt, alloc, &mut instruction, stems, rule, settings, onlooker)?;
             write_made(alloc, &harvested_by(&closed), journal, writer)
         }
         Order::InTurn => {
-            let turned = cut_files_in_turn(alloc, &mut instruction, stems, rule, onlooker)?;
+            let settings = &task.settings;
+            let turned = cut_files_in_turn(
+                alloc,
+                &mut instruction,
+                stems,
+                rule,
+                settings,
+                onlooker,
+            )?;
             write_made(alloc, &turned.history(), journal, writer)
         }
     }
@@ -154,7 +180,8 @@ fn run_fleet_task<T: Threads + Wait + Sync, L: Onlooker + Sync, O: Open + Make, 
 /// The input files are opened in the order of the words before one of them is read; one that can't be opened is `Read`
 /// with its number. Then the file of the journal is made, where one is wanted; where it can't be made, that is `Write`.
 /// Each fault and what is written before it are those of [`run_fleet_files`](crate::run_fleet_files), or of
-/// [`run_in_turn`](crate::run_in_turn) where the task asks for turns.
+/// [`run_in_turn`](crate::run_in_turn) where the task asks for turns. The instruction is read, and refused, by its own
+/// numbers; then those of the task take their place.
 pub fn serve_fleet<
     T: Threads + Wait + Sync,
     L: Onlooker + Sync,

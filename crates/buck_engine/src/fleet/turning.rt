@@ -2,22 +2,23 @@
 //! take turns.
 ghost use Rattle.std.specs.Prelude.{◌≡◌, ◌<◌, ◌≤◌, length, map, drop, IfOk, IfErr};
 ghost use Rattle.std.specs.Result.{IsErrAnd};
+ghost use Rattle.buck_apt.specs.Apt.{apt_of};
 ghost use Rattle.buck_rule.specs.Stored.{Answers};
 ghost use Rattle.buck_book.specs.History.{in_force};
 ghost use Rattle.buck_turn.specs.Turn.{AreInTurn};
 ghost use Rattle.buck_engine.specs.declared.fault.EngineFault.TheVariants.{Seats};
 ghost use Rattle.buck_engine.specs.declared.fleet.serving.Order.TheVariants.{InTurn};
-ghost use Rattle.buck_engine.specs.run.Reading.{IfStopped};
+ghost use Rattle.buck_engine.specs.run.Reading.{IfStopped, apt_with};
 ghost use Rattle.buck_engine.specs.fleet.Lent.{of_lent};
 ghost use Rattle.buck_engine.specs.fleet.Running.{AreNoSeats, IsCuttingFault, IsFleetFault, IsFleetRun, IsHarvest};
 ghost use Rattle.buck_engine.specs.inner.Fleet.{HasCutLists};
 
 use crate::fault::EngineFault;
-use crate::fleet::lists::{Input, number_of_stems, read_input};
+use crate::fleet::lists::{Input, number_of_stems, read_input_with};
 use crate::fleet::onlooker::{Nobody, Onlooker};
 use crate::fleet::writing::{write_journal_and_report, write_report};
 use crate::text::report::{Ending, Harvested};
-use buck_apt::Instruction;
+use buck_apt::{Instruction, Settings};
 use buck_book::{Book, Parts};
 use buck_fleet::CutFault;
 use buck_rule::{Rule, Standing};
@@ -123,30 +124,51 @@ fn cut_lists<F: Fn(&Standing) -> u64 + Drop>(
     }
 }
 
-/// Cuts the stems of each file by a harvester of its own, in turn, where there are 1 to 64 stem files.
+/// Cuts the stems of each file by a harvester of its own, in turn, where there are 1 to 64 stem files, with a run's
+/// numbers in the place of the instruction's own.
 pub(crate) fn cut_files_in_turn<F: Fn(&Standing) -> u64 + Drop, R: io::Read, O: Onlooker>(
     alloc: Global,
     apt: &mut R,
     stms: &mut [R],
     rule: Rule<F>,
+    settings: &Settings,
     onlooker: &O,
 ) -> Result<Turned, EngineFault>
     requires answers { Answers F.Fn rule }
     ensures seats { AreNoSeats (length stms.old) → IsErrAnd result (λ fault. fault ≡ Seats) }
-    ensures ok { IfOk result (λ turned. IsHarvest (R.remaining apt.old) (map R.remaining stms.old) turned) }
+    ensures ok { IfOk result (λ turned.
+        IsHarvest (apt_with settings.now) (R.remaining apt.old) (map R.remaining stms.old) turned) }
     ensures in_turn { IfOk result (λ turned. AreInTurn turned.postings) }
     ensures refused { IfErr result (IsFleetFault (R.remaining apt.old) (map R.remaining stms.old)) }
     ensures order { IfErr result (IfStopped (λ last. drop last stms.new ≡ drop last stms.old)) }
     ensures unread { IfErr result (λ fault. fault ≡ Seats → apt.new ≡ apt.old) }
 {
-    let Input { instruction, lists } = read_input(alloc, apt, stms)?;
+    let Input { instruction, lists } = read_input_with(alloc, apt, stms, settings)?;
     onlooker.cutting(number_of_stems(lists.as_slice()));
     cut_lists(alloc, instruction, rule, lists.as_slice())
 }
 
+/// The same with the instruction's own numbers, while nobody looks on.
+fn cut_own_files_in_turn<F: Fn(&Standing) -> u64 + Drop, R: io::Read>(
+    alloc: Global,
+    apt: &mut R,
+    stms: &mut [R],
+    rule: Rule<F>,
+) -> Result<Turned, EngineFault>
+    requires answers { Answers F.Fn rule }
+    ensures seats { AreNoSeats (length stms.old) → IsErrAnd result (λ fault. fault ≡ Seats) }
+    ensures ok { IfOk result (λ turned. IsHarvest apt_of (R.remaining apt.old) (map R.remaining stms.old) turned) }
+    ensures in_turn { IfOk result (λ turned. AreInTurn turned.postings) }
+    ensures refused { IfErr result (IsFleetFault (R.remaining apt.old) (map R.remaining stms.old)) }
+    ensures order { IfErr result (IfStopped (λ last. drop last stms.new ≡ drop last stms.old)) }
+    ensures unread { IfErr result (λ fault. fault ≡ Seats → apt.new ≡ apt.old) }
+{
+    cut_files_in_turn(alloc, apt, stms, rule, &Settings::own(), &Nobody)
+}
+
 /// Reads an instruction file and stem files, cuts the stems of the k-th stem file by harvester k, in turn, and writes
-/// the journal, where one is asked for, and then the report; see [`report_text`](crate::report_text). Nothing is written
-/// before both texts are there.
+/// the journal, where one is asked for, and then the report; see [`report_text`](crate::report_text). Nothing is
+/// written before both texts are there.
 ///
 /// In each round harvester k cuts the next stem of the k-th stem file, under the sheet that is then in force; who has
 /// none left is passed over. There is one thread, and nothing waits: the same files always give the same history.
@@ -166,17 +188,17 @@ pub fn run_in_turn<F: Fn(&Standing) -> u64 + Drop, R: io::Read, J: io::Write, W:
 ) -> Result<(), EngineFault>
     requires answers { Answers F.Fn rule }
     // What is written are the texts of one history, of the instruction and the stems that the files have, in the order
-    // of the turns; a fault is that of the first file that has one, or comes after all of them, and nothing is written;
-    // a write fault leaves a prefix of the journal, or all of it and a prefix of the report. Where there are not 1 to 64
-    // stem files, that is the fault.
-    ensures run { IsFleetRun InTurn (R.remaining apt.old) (map R.remaining stms.old)
+    // of the turns; a fault is that of the first file that has one, or comes after all of them, and nothing is
+    // written; a write fault leaves a prefix of the journal, or all of it and a prefix of the report. Where there are
+    // not 1 to 64 stem files, that is the fault.
+    ensures run { IsFleetRun apt_of InTurn (R.remaining apt.old) (map R.remaining stms.old)
         (of_lent J.contents journal.entry journal.exit) (W.contents out.old) (W.contents out.new) result }
     // Where a file has a fault, nothing was read of those after it.
     ensures order { IfErr result (IfStopped (λ last. drop last stms.new ≡ drop last stms.old)) }
     // Where there are not 1 to 64 stem files, nothing was read of the instruction either.
     ensures unread { IfErr result (λ fault. fault ≡ Seats → apt.new ≡ apt.old) }
 {
-    let turned = cut_files_in_turn(alloc, apt, stms, rule, &Nobody);
+    let turned = cut_own_files_in_turn(alloc, apt, stms, rule);
     match journal {
         None => {
             let turned = turned?;

@@ -1,67 +1,20 @@
 //! `run_check`: a check of a journal by its instruction.
-ghost use Rattle.std.specs.Prelude.{◌≡◌, ◌≢◌, ◌≤◌, length, Ok, OnOk, IfOk, IfErr};
+ghost use Rattle.std.specs.Prelude.{◌≡◌, ◌≢◌, OnOk, IfOk, IfErr};
 ghost use Rattle.buck_record.specs.Reading.{listed};
 ghost use Rattle.buck_book.specs.History.{IsLawful};
-ghost use Rattle.buck_journal.specs.Journal.{journal_of};
-ghost use Rattle.buck_journal.specs.Replay.{history_of};
+ghost use Rattle.buck_journal.specs.Replay.{history_of, IsFirstFault};
 ghost use Rattle.buck_engine.specs.declared.fault.EngineFault.TheVariants.{Write};
-ghost use Rattle.buck_engine.specs.run.Checking.{AnswersCheck, AnswersReplay, IsJournalFault, IsLawfulLine, IsUnlawful, lawful_line};
-ghost use Rattle.buck_engine.specs.run.Reading.{IfStopped, Says};
+ghost use Rattle.buck_engine.specs.run.Checking.{AnswersCheck, AnswersReplay, IsLawfulLine, lawful_line};
+ghost use Rattle.buck_engine.specs.run.Reading.{IfStopped};
 ghost use Rattle.buck_engine.specs.text.Written.{WritesText};
-ghost use Rattle.buck_engine.specs.inner.Reading.{AreRefused};
 
 use crate::fault::EngineFault;
-use crate::run::reading::{read_file, read_instruction};
+use crate::run::both::{Both, read_own, replay_both, unlawful};
 use crate::text::writing::write_text;
-use buck_apt::Instruction;
-use buck_journal::{Journal, JournalFault, ReplayFault, read_journal, replay};
+use buck_journal::ReplayFault;
 use buck_record::{Memory, put_line};
 use std::alloc::Global;
 use std::io;
-use std::sync::Arc;
-
-/// The journal of the bytes of file 1.
-fn journal_in(alloc: Global, bytes: &[u8]) -> Result<Journal, EngineFault>
-    ensures ok { IfOk result (λ journal. journal_of bytes.now ≡ Ok journal) }
-    ensures few { IfOk result (λ journal. length journal.entries ≤ 1000000) }
-    ensures refused { IfErr result (AreRefused EngineFault.Journal journal_of bytes.now) }
-{
-    match read_journal(alloc, bytes) {
-        Ok(journal) => Ok(journal),
-        Err(JournalFault::Memory) => Err(EngineFault::Memory),
-        Err(fault) => Err(EngineFault::Journal(fault)),
-    }
-}
-
-/// The journal that the journal's file has.
-pub(crate) fn read_postings<R: io::Read>(
-    alloc: Global,
-    reader: &mut R,
-) -> Result<Journal, EngineFault>
-    ensures ok { IfOk result (λ journal. Says journal_of (R.remaining reader.old) (Ok journal)) }
-    ensures few { IfOk result (λ journal. length journal.entries ≤ 1000000) }
-    ensures refused { IfErr result (IsJournalFault (R.remaining reader.old)) }
-{
-    let bytes = read_file(alloc, reader, 1)?;
-    journal_in(alloc, bytes.as_slice())
-}
-
-/// Whether a journal is lawful for an instruction.
-pub(crate) fn check_journal(
-    alloc: Global,
-    instruction: &Arc<Instruction>,
-    journal: &Journal,
-) -> Result<(), EngineFault>
-    requires { length journal.now.entries ≤ 1000000 }
-    ensures lawful { OnOk result (IsLawful (history_of instruction.now.value journal.now)) }
-    ensures fault { IfErr result (IsUnlawful (history_of instruction.now.value journal.now)) }
-{
-    match replay(alloc, instruction, journal) {
-        Ok(()) => Ok(()),
-        Err(ReplayFault::Memory) => Err(EngineFault::Memory),
-        Err(fault) => Err(EngineFault::Replay(fault)),
-    }
-}
 
 /// The line of a lawful journal of so many postings.
 pub(crate) fn lawful_text(alloc: Global, postings: usize) -> Result<Vec<u8>, Memory>
@@ -72,18 +25,21 @@ pub(crate) fn lawful_text(alloc: Global, postings: usize) -> Result<Vec<u8>, Mem
     Ok(out)
 }
 
-/// The line of a journal that is lawful for an instruction.
-fn text_of_journal(
+/// The line of a journal, by what came of its replay.
+pub(crate) fn text_of_both(
     alloc: Global,
-    instruction: Instruction,
-    journal: &Journal,
+    both: &Both,
+    replayed: Result<(), ReplayFault>,
 ) -> Result<Vec<u8>, EngineFault>
-    requires { length journal.now.entries ≤ 1000000 }
-    ensures { AnswersReplay IsLawfulLine instruction journal.now (listed result) }
+    requires lawful { OnOk replayed (IsLawful (history_of both.now.instruction.value both.now.journal)) }
+    requires refused { IfErr replayed (λ why.
+        why ≢ ReplayFault.Memory → IsFirstFault (history_of both.now.instruction.value both.now.journal) why) }
+    ensures { AnswersReplay IsLawfulLine both.now.instruction.value both.now.journal (listed result) }
 {
-    let instruction = Arc::new(alloc, instruction)?;
-    check_journal(alloc, &instruction, journal)?;
-    Ok(lawful_text(alloc, journal.entries.len())?)
+    match replayed {
+        Ok(()) => Ok(lawful_text(alloc, both.journal.entries.len())?),
+        Err(why) => Err(unlawful(why)),
+    }
 }
 
 /// The line of the journal of a file that is lawful for the instruction of another.
@@ -95,9 +51,8 @@ fn text_of_check<R: io::Read>(
     ensures answer { AnswersCheck (R.remaining apt.old) (R.remaining journal.old) (listed result) }
     ensures order { IfErr result (IfStopped (λ last. last ≡ 0 → journal.new ≡ journal.old)) }
 {
-    let instruction = read_instruction(alloc, apt)?;
-    let postings = read_postings(alloc, journal)?;
-    text_of_journal(alloc, instruction, &postings)
+    let both = read_own(alloc, apt, journal)?;
+    text_of_both(alloc, &both, replay_both(alloc, &both))
 }
 
 /// Reads an instruction file and then a journal, and writes `LAWFUL` with the number of postings where the journal is

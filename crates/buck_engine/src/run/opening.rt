@@ -82,7 +82,7 @@ fn open_all<O: Open>(
 
 /// Opens the instruction file and then all stem files in order. The first that can't be opened is `Read` with its
 /// number.
-pub(crate) fn open_inputs<O: Open>(
+pub fn open_inputs<O: Open>(
     alloc: Global,
     opener: &mut O,
     apt: &str,

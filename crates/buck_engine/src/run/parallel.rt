@@ -12,17 +12,12 @@ use crate::fault::EngineFault;
 use crate::run::opening::{Open, open_both};
 use crate::run::reading::{read_instruction, read_stems};
 use crate::run::serving::conclude;
+use crate::run::threads::number_of_threads;
 use crate::text::bucking::buck_text_in_parts;
 use crate::text::writing::write_text;
 use std::alloc::Global;
 use std::io;
-use std::thread::{Threads, available_parallelism};
-
-/// How many threads there are where the machine doesn't say how many it has.
-const USUAL: usize = 4;
-
-/// The most threads that a run starts.
-const MOST: usize = 64;
+use std::thread::Threads;
 
 /// What the words of the command line ask of a bucking.
 #[derive(Drop)]
@@ -33,20 +28,6 @@ pub struct BuckTask<'a> {
     pub stm: &'a str,
     /// How many threads may cut stems at once; where nothing is said, as many as the machine has.
     pub threads: Option<u8>,
-}
-
-/// How many threads a run starts: as many as it is told, or as many as the machine has, and at most 64.
-fn number_of_threads<T: Threads>(rt: &T, told: Option<u8>) -> usize
-    ensures { 0 < result }
-{
-    let wanted = match told {
-        Some(number) => usize::from(number),
-        None => match available_parallelism(rt) {
-            Ok(number) => number.get(),
-            Err(_) => USUAL,
-        },
-    };
-    wanted.max(1).min(MOST)
 }
 
 /// The text of an instruction file and a stem file, whose stems are cut in at most so many threads at once.

@@ -1,13 +1,13 @@
 //! Files that are read to their end, and the instruction and the stems that they have.
-ghost use Rattle.std.specs.Prelude.{◌≡◌, ◌⊎◌, Ok, IfOk, IfErr, IfSome};
+ghost use Rattle.std.specs.Prelude.{◌≡◌, ◌⊎◌, Ok, OnOk, IfOk, IfErr, IfSome};
 ghost use Rattle.buck_apt.specs.Apt.{apt_of};
 ghost use Rattle.buck_stem.specs.Stm.{stm_of};
 ghost use Rattle.buck_engine.specs.declared.fault.EngineFault.TheVariants.{Apt, Memory, Read, Stm};
-ghost use Rattle.buck_engine.specs.run.Reading.{IsAptFault, IsStmFault, IsWithinLimit, Says};
+ghost use Rattle.buck_engine.specs.run.Reading.{IsAccepted, IsAptFault, IsStmFault, IsWithinLimit, Says, apt_with};
 ghost use Rattle.buck_engine.specs.inner.Reading.{AreRefused};
 
 use crate::fault::EngineFault;
-use buck_apt::{AptFault, Instruction, read_apt};
+use buck_apt::{AptFault, Instruction, Settings, read_apt};
 use buck_stem::{Stem, StmFault, read_stm};
 use std::alloc::Global;
 use std::io;
@@ -67,16 +67,29 @@ pub(crate) fn stems_in(alloc: Global, bytes: &[u8], file: u32) -> Result<Vec<Ste
     }
 }
 
-/// The instruction that the instruction file has.
-pub(crate) fn read_instruction<R: io::Read>(
-    alloc: Global,
-    apt: &mut R,
-) -> Result<Instruction, EngineFault>
+/// The instruction that the instruction file has, file 0. `Read` where the reader fails or the file is longer than
+/// 67,108,864 bytes, `Apt` where its bytes are refused, and `Memory` where a growth was refused.
+pub fn read_instruction<R: io::Read>(alloc: Global, apt: &mut R) -> Result<Instruction, EngineFault>
     ensures ok { IfOk result (λ instruction. Says apt_of (R.remaining apt.old) (Ok instruction)) }
     ensures refused { IfErr result (IsAptFault (R.remaining apt.old)) }
 {
     let bytes = read_file(alloc, apt, 0)?;
     instruction_in(alloc, bytes.as_slice())
+}
+
+/// The same with a run's numbers in the place of the instruction's own, by which it is read and refused.
+#[tactic(auto, using(crate::proofs::Numbers::says_with))]
+pub(crate) fn read_instruction_with<R: io::Read>(
+    alloc: Global,
+    apt: &mut R,
+    settings: &Settings,
+) -> Result<Instruction, EngineFault>
+    ensures ok { IfOk result (λ instruction. Says (apt_with settings.now) (R.remaining apt.old) (Ok instruction)) }
+    ensures accepted { OnOk result (IsAccepted apt_of (R.remaining apt.old)) }
+    ensures refused { IfErr result (IsAptFault (R.remaining apt.old)) }
+{
+    let own = read_instruction(alloc, apt)?;
+    Ok(own.with(settings))
 }
 
 /// The stems that the stem file of this number has.

@@ -6,16 +6,16 @@ ghost use Rattle.buck_book.specs.History.{IsLawful, in_force};
 ghost use Rattle.buck_apt.specs.Instruction.{classes};
 ghost use Rattle.buck_journal.specs.Replay.{history_of};
 ghost use Rattle.buck_engine.specs.declared.fault.EngineFault.TheVariants.{Write};
-ghost use Rattle.buck_engine.specs.run.Checking.{AnswersReplay, AnswersReport, IsJournalReport};
-ghost use Rattle.buck_engine.specs.run.Reading.{IfStopped};
+ghost use Rattle.buck_engine.specs.run.Checking.{AnswersJournal, AnswersReplay, AnswersReport, IsJournalReport};
+ghost use Rattle.buck_engine.specs.run.Reading.{IfStopped, apt_with};
 ghost use Rattle.buck_engine.specs.text.Written.{WritesText};
 
 use crate::fault::{EngineFault, TextFault};
-use crate::run::checking::read_postings;
-use crate::run::reading::read_instruction;
+use crate::run::both::read_postings;
+use crate::run::reading::read_instruction_with;
 use crate::text::report::{Ending, report_with};
 use crate::text::writing::write_text;
-use buck_apt::Instruction;
+use buck_apt::{Instruction, Settings};
 use buck_book::Walk;
 use buck_journal::{Journal, ReplayFault, replay_to_end};
 use std::alloc::Global;
@@ -78,8 +78,25 @@ fn text_of_replay(
     }
 }
 
-/// The report of the journal of a file that is lawful for the instruction of another.
+/// The report of the journal of a file that is lawful for the instruction of another, with a run's numbers in the place
+/// of its own.
 fn text_of_report<R: io::Read>(
+    alloc: Global,
+    apt: &mut R,
+    journal: &mut R,
+    settings: &Settings,
+) -> Result<Vec<u8>, EngineFault>
+    ensures answer { AnswersJournal (apt_with settings.now) IsJournalReport (R.remaining apt.old)
+        (R.remaining journal.old) (listed result) }
+    ensures order { IfErr result (IfStopped (λ last. last ≡ 0 → journal.new ≡ journal.old)) }
+{
+    let instruction = Arc::new(alloc, read_instruction_with(alloc, apt, settings)?)?;
+    let postings = read_postings(alloc, journal)?;
+    text_of_replay(alloc, &instruction, &postings)
+}
+
+/// The same with the instruction's own numbers.
+fn text_of_own_report<R: io::Read>(
     alloc: Global,
     apt: &mut R,
     journal: &mut R,
@@ -87,9 +104,7 @@ fn text_of_report<R: io::Read>(
     ensures answer { AnswersReport (R.remaining apt.old) (R.remaining journal.old) (listed result) }
     ensures order { IfErr result (IfStopped (λ last. last ≡ 0 → journal.new ≡ journal.old)) }
 {
-    let instruction = Arc::new(alloc, read_instruction(alloc, apt)?)?;
-    let postings = read_postings(alloc, journal)?;
-    text_of_replay(alloc, &instruction, &postings)
+    text_of_report(alloc, apt, journal, &Settings::own())
 }
 
 /// Reads an instruction file and then a journal, as [`run_check`](crate::run_check) does, and writes the report of the
@@ -110,6 +125,22 @@ pub fn run_report<R: io::Read, W: io::Write>(
     // Only a failed write touches the writer.
     ensures untouched { IfErr result (λ fault. fault ≢ Write → writer.new ≡ writer.old) }
 {
-    let text = text_of_report(alloc, apt, journal)?;
+    let text = text_of_own_report(alloc, apt, journal)?;
+    write_text(writer, text.as_slice())
+}
+
+/// The same with a run's numbers in the place of the instruction's own.
+pub(crate) fn run_report_with<R: io::Read, W: io::Write>(
+    alloc: Global,
+    apt: &mut R,
+    journal: &mut R,
+    settings: &Settings,
+    writer: &mut W,
+) -> Result<(), EngineFault>
+    ensures { WritesText
+        (AnswersJournal (apt_with settings.now) IsJournalReport (R.remaining apt.old) (R.remaining journal.old))
+        (W.contents writer.old) (W.contents writer.new) result }
+{
+    let text = text_of_report(alloc, apt, journal, settings)?;
     write_text(writer, text.as_slice())
 }

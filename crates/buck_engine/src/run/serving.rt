@@ -4,16 +4,18 @@ ghost use Rattle.std.specs.Io.KnownBytes.{Keeps};
 ghost use Rattle.buck_engine.specs.declared.fault.EngineFault.{EngineFault};
 ghost use Rattle.buck_engine.specs.text.Written.{IsWritten};
 ghost use Rattle.buck_engine.specs.Faults.{fault_line};
-ghost use Rattle.buck_engine.specs.run.Checking.{AnswersCheck, AnswersReport};
+ghost use Rattle.buck_engine.specs.run.Checking.{AnswersCheck, AnswersJournal, IsJournalReport};
 ghost use Rattle.buck_engine.specs.run.Bucking.{AnswersBuck};
+ghost use Rattle.buck_engine.specs.run.Reading.{apt_with};
 ghost use Rattle.buck_engine.specs.run.Serving.{AppendsFirst, RunsFiles, RunsTask, TellsOutcome, status_after};
 
 use crate::fault::{EngineFault, status};
 use crate::run::bucking::{run_bare, run_buck};
 use crate::run::checking::run_check;
 use crate::run::opening::{Open, open_both};
-use crate::run::reporting::run_report;
+use crate::run::reporting::run_report_with;
 use crate::text::writing::{write_fault, write_text};
+use buck_apt::Settings;
 use std::alloc::Global;
 use std::io;
 
@@ -23,11 +25,22 @@ pub enum Task<'a> {
     /// Both files stand on standard input, with a `|` between them.
     Bare,
     /// The files of these names.
-    Buck { apt: &'a str, stm: &'a str },
+    Buck {
+        apt: &'a str,
+        stm: &'a str,
+    },
     /// A check of a journal by its instruction, in the files of these names.
-    Check { apt: &'a str, journal: &'a str },
-    /// The report of a journal by its instruction, in the files of these names.
-    Report { apt: &'a str, journal: &'a str },
+    Check {
+        apt: &'a str,
+        journal: &'a str,
+    },
+    /// The report of a journal by its instruction, in the files of these names, with these numbers in the place of the
+    /// instruction's own.
+    Report {
+        apt: &'a str,
+        journal: &'a str,
+        settings: Settings,
+    },
 }
 
 /// Opens both files by their names, the instruction file first, and then runs over them.
@@ -60,19 +73,22 @@ fn check_files<O: Open, W: io::Write>(
     run_check(alloc, &mut instruction, &mut journal_file, writer)
 }
 
-/// Opens both files by their names, the instruction file first, and then writes the journal's report.
+/// Opens both files by their names, the instruction file first, and then writes the journal's report, with a run's
+/// numbers in the place of the instruction's own.
 fn report_files<O: Open, W: io::Write>(
     alloc: Global,
     opener: &mut O,
     apt: &str,
     journal: &str,
+    settings: &Settings,
     writer: &mut W,
 ) -> Result<(), EngineFault>
-    ensures { RunsFiles AnswersReport O.opens O.File.remaining opener.old opener.new apt.now journal.now
+    ensures { RunsFiles (AnswersJournal (apt_with settings.now) IsJournalReport) O.opens O.File.remaining
+        opener.old opener.new apt.now journal.now
         (W.contents writer.old) (W.contents writer.new) result }
 {
     let (mut instruction, mut postings) = open_both(opener, apt, journal)?;
-    run_report(alloc, &mut instruction, &mut postings, writer)
+    run_report_with(alloc, &mut instruction, &mut postings, settings, writer)
 }
 
 /// Does what the task asks for.
@@ -90,7 +106,11 @@ fn run_task<R: io::Read, O: Open, W: io::Write>(
         Task::Bare => run_bare(alloc, input, writer),
         Task::Buck { apt, stm } => run_files(alloc, opener, *apt, *stm, writer),
         Task::Check { apt, journal } => check_files(alloc, opener, *apt, *journal, writer),
-        Task::Report { apt, journal } => report_files(alloc, opener, *apt, *journal, writer),
+        Task::Report {
+            apt,
+            journal,
+            settings,
+        } => report_files(alloc, opener, *apt, *journal, settings, writer),
     }
 }
 
@@ -135,7 +155,7 @@ pub fn conclude<E: io::Write>(errors: &mut E, outcome: &Result<(), EngineFault>)
 ///
 /// The files of a task are opened in the order of its words before one of them is read; one that can't be opened is
 /// `Read` with its number. Each fault and what is written before it are those of [`run_buck`], [`run_bare`],
-/// [`run_check`] and [`run_report`].
+/// [`run_check`] and [`run_report`](crate::run_report).
 pub fn serve<R: io::Read, O: Open, W: io::Write, E: io::Write>(
     alloc: Global,
     task: &Task<'_>,

@@ -1,23 +1,21 @@
 //! A journal shown: as the page that a mill opens, or as a table for a spreadsheet.
-ghost use Rattle.std.specs.Prelude.{◌≡◌, ◌≤◌, length, Ok, IfOk, IfErr};
+ghost use Rattle.std.specs.Prelude.{◌≡◌, ◌≢◌, ◌≤◌, length, OnOk, IfOk, IfErr};
 ghost use Rattle.std.specs.Io.KnownBytes.{Keeps};
 ghost use Rattle.buck_apt.specs.Apt.{apt_of};
 ghost use Rattle.buck_book.specs.History.{IsLawful};
 ghost use Rattle.buck_figures.specs.Figures.{base_sheet};
-ghost use Rattle.buck_journal.specs.Journal.{journal_of};
-ghost use Rattle.buck_journal.specs.Replay.{history_of};
-ghost use Rattle.buck_engine.specs.run.Reading.{IfStopped, Says};
-ghost use Rattle.buck_engine.specs.run.Viewing.{AppendsPage, AppendsTable, IsReadFault, ShowsPage, ShowsTable};
+ghost use Rattle.buck_journal.specs.Replay.{history_of, IsFirstFault};
+ghost use Rattle.buck_engine.specs.run.Reading.{IfStopped};
+ghost use Rattle.buck_engine.specs.run.Viewing.{AppendsPage, AppendsTable, ShowsPage, ShowsTable};
 ghost use Rattle.buck_engine.specs.inner.View.{ShowsFault, ShowsHistory, WritesAs};
 
 use crate::fault::EngineFault;
-use crate::run::checking::{check_journal, read_postings};
-use crate::run::reading::read_instruction;
+use crate::run::both::{Both, read_own, replay_both, unlawful};
 use crate::text::writing::write_text;
 use buck_apt::Instruction;
 use buck_dp::Planner;
 use buck_figures::figures_of;
-use buck_journal::{Journal, ReplayFault, replay};
+use buck_journal::ReplayFault;
 use buck_record::Memory;
 use buck_tables::{Table, table_of};
 use buck_value::Sheet;
@@ -25,29 +23,6 @@ use buck_view::{Files, fault_page, page};
 use std::alloc::Global;
 use std::io;
 use std::sync::Arc;
-
-/// An instruction and a journal, as both were read.
-#[derive(Drop)]
-struct Both {
-    instruction: Arc<Instruction>,
-    journal: Journal,
-}
-
-/// The instruction and the journal that two files have, as [`run_check`](crate::run_check) reads them.
-fn read_both<R: io::Read>(alloc: Global, apt: &mut R, journal: &mut R) -> Result<Both, EngineFault>
-    ensures instruction { IfOk result (λ both. Says apt_of (R.remaining apt.old) (Ok both.instruction.value)) }
-    ensures journal { IfOk result (λ both. Says journal_of (R.remaining journal.old) (Ok both.journal)) }
-    ensures few { IfOk result (λ both. length both.journal.entries ≤ 1000000) }
-    ensures refused { IfErr result (IsReadFault (R.remaining apt.old) (R.remaining journal.old)) }
-    ensures order { IfErr result (IfStopped (λ last. last ≡ 0 → journal.new ≡ journal.old)) }
-{
-    let instruction = Arc::new(alloc, read_instruction(alloc, apt)?)?;
-    let journal = read_postings(alloc, journal)?;
-    Ok(Both {
-        instruction,
-        journal,
-    })
-}
 
 /// A planner at base prices.
 fn base_planner(alloc: Global, instruction: &Arc<Instruction>) -> Result<Planner, Memory>
@@ -104,19 +79,23 @@ fn write_fault_page<W: io::Write>(
     }
 }
 
-/// Writes the page of a journal: where it isn't lawful, that of its first fault.
+/// Writes the page of a journal, by what came of its replay: where it isn't lawful, that of its first fault.
 #[tactic(auto, using(crate::proofs::Pages::histories))]
-fn show_both<W: io::Write>(
+pub(crate) fn show_both<W: io::Write>(
     alloc: Global,
     both: &Both,
+    replayed: Result<(), ReplayFault>,
     files: &Files<'_>,
     writer: &mut W,
 ) -> Result<(), EngineFault>
-    requires { length both.now.journal.entries ≤ 1000000 }
+    requires few { length both.now.journal.entries ≤ 1000000 }
+    requires lawful { OnOk replayed (IsLawful (history_of both.now.instruction.value both.now.journal)) }
+    requires refused { IfErr replayed (λ why.
+        why ≢ ReplayFault.Memory → IsFirstFault (history_of both.now.instruction.value both.now.journal) why) }
     ensures { ShowsHistory (AppendsPage (W.contents writer.old) (W.contents writer.new)) (AppendsPage (W.contents writer.old) (W.contents writer.new))
         (history_of both.now.instruction.value both.now.journal) (W.contents writer.old) (W.contents writer.new) result }
 {
-    match replay(alloc, &both.instruction, &both.journal) {
+    match replayed {
         Ok(()) => write_page(writer, page_of(alloc, both, files)),
         Err(ReplayFault::Memory) => Err(EngineFault::Memory),
         Err(fault) => Err(write_fault_page(alloc, both, fault, files, writer)),
@@ -137,13 +116,14 @@ pub fn run_view<R: io::Read, W: io::Write>(
     writer: &mut W,
 ) -> Result<(), EngineFault>
     // A page is written of a lawful journal, or the page of its first fault; where a file has a fault nothing is written.
-    ensures run { ShowsPage (R.remaining apt.old) (R.remaining journal.old)
+    ensures run { ShowsPage apt_of (R.remaining apt.old) (R.remaining journal.old)
         (W.contents writer.old) (W.contents writer.new) result }
     // Where the instruction file has a fault, nothing was read of the journal.
     ensures order { IfErr result (IfStopped (λ last. last ≡ 0 → journal.new ≡ journal.old)) }
 {
-    let both = read_both(alloc, apt, journal)?;
-    show_both(alloc, &both, files, writer)
+    let both = read_own(alloc, apt, journal)?;
+    let replayed = replay_both(alloc, &both);
+    show_both(alloc, &both, replayed, files, writer)
 }
 
 /// Writes a table, once all of it is there.
@@ -158,21 +138,25 @@ fn write_table<W: io::Write>(
     write_text(writer, text.as_slice())
 }
 
-/// Writes a table of a journal, where it is lawful.
+/// Writes a table of a journal, by what came of its replay: where it is lawful.
 #[tactic(auto, using(crate::proofs::Pages::lists))]
-fn list_both<W: io::Write>(
+pub(crate) fn list_both<W: io::Write>(
     alloc: Global,
     both: &Both,
+    replayed: Result<(), ReplayFault>,
     table: Table,
     writer: &mut W,
 ) -> Result<(), EngineFault>
-    requires { length both.now.journal.entries ≤ 1000000 }
+    requires few { length both.now.journal.entries ≤ 1000000 }
+    requires lawful { OnOk replayed (IsLawful (history_of both.now.instruction.value both.now.journal)) }
+    requires refused { IfErr replayed (λ why.
+        why ≢ ReplayFault.Memory → IsFirstFault (history_of both.now.instruction.value both.now.journal) why) }
     ensures { ShowsHistory (AppendsTable (W.contents writer.old) (W.contents writer.new)) (Keeps (W.contents writer.old) (W.contents writer.new))
         (history_of both.now.instruction.value both.now.journal) (W.contents writer.old) (W.contents writer.new) result }
 {
-    match check_journal(alloc, &both.instruction, &both.journal) {
+    match replayed {
         Ok(()) => write_table(writer, table_in(alloc, both, table)),
-        Err(fault) => Err(fault),
+        Err(why) => Err(unlawful(why)),
     }
 }
 
@@ -190,11 +174,12 @@ pub fn run_table<R: io::Read, W: io::Write>(
 ) -> Result<(), EngineFault>
     // A table is written of a lawful journal; a fault is that of the first file that has one, or the first of the
     // journal, and nothing is written; where the output can't be written, some first bytes of it may be.
-    ensures run { ShowsTable (R.remaining apt.old) (R.remaining journal.old)
+    ensures run { ShowsTable apt_of (R.remaining apt.old) (R.remaining journal.old)
         (W.contents writer.old) (W.contents writer.new) result }
     // Where the instruction file has a fault, nothing was read of the journal.
     ensures order { IfErr result (IfStopped (λ last. last ≡ 0 → journal.new ≡ journal.old)) }
 {
-    let both = read_both(alloc, apt, journal)?;
-    list_both(alloc, &both, table, writer)
+    let both = read_own(alloc, apt, journal)?;
+    let replayed = replay_both(alloc, &both);
+    list_both(alloc, &both, replayed, table, writer)
 }

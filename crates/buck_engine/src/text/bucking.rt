@@ -62,8 +62,8 @@ fn put_log(out: &mut Vec<u8>, sheet: &Sheet, stem: &Stem, log: &Log) -> Result<(
     put_named_line(out, b"LOG", &numbers, assortment.name())
 }
 
-/// Puts a line for each log.
-fn put_logs(out: &mut Vec<u8>, sheet: &Sheet, stem: &Stem, logs: &[Log]) -> Result<(), Memory>
+/// Puts a line for each log, as [`buck_text`] does, by the prices of a sheet. `Memory` where a growth was refused.
+pub fn put_logs(out: &mut Vec<u8>, sheet: &Sheet, stem: &Stem, logs: &[Log]) -> Result<(), Memory>
     requires { All (λ g. IsAllowed sheet.now.instruction stem.now g) logs.now }
     ensures { OnOk result (out.new.items ≡ out.old.items ++ flat_map (log_line sheet.now stem.now) logs.now) }
 {
@@ -73,9 +73,10 @@ fn put_logs(out: &mut Vec<u8>, sheet: &Sheet, stem: &Stem, logs: &[Log]) -> Resu
     Ok(())
 }
 
-/// Puts the line of a stem.
+/// Puts the line of a stem, as [`buck_text`] does: it says how many logs there are and their worth. `Memory` where a
+/// growth was refused.
 #[tactic(auto, unfolding(crate::specs::text::Bucking::stem_line))]
-fn put_stem(out: &mut Vec<u8>, stem: &Stem, logs: usize, worth: u64) -> Result<(), Memory>
+pub fn put_stem(out: &mut Vec<u8>, stem: &Stem, logs: usize, worth: u64) -> Result<(), Memory>
     ensures { OnOk result (out.new.items ≡ out.old.items ++ stem_line stem.now logs worth) }
 {
     let number = u128::from(stem.number());

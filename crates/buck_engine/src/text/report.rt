@@ -73,8 +73,8 @@ impl<'a> Model for Harvested<'a> {
     }) h.ending };
 }
 
-/// Puts the line of a posting at a position.
-fn put_posting(out: &mut Vec<u8>, at: usize, posting: &Posting) -> Result<(), Memory>
+/// Puts the line of a posting at a position, as [`report_text`] does. `Memory` where a growth was refused.
+pub fn put_posting(out: &mut Vec<u8>, at: usize, posting: &Posting) -> Result<(), Memory>
     ensures { OnOk result (out.new.items ≡ out.old.items ++ posting_line at posting.now) }
 {
     match posting {

@@ -14,7 +14,7 @@ use itoa::Buffer;
 use std::io;
 
 /// Writes a text, or a prefix of it where the writer fails or takes nothing.
-pub(crate) fn write_text<W: io::Write>(writer: &mut W, text: &[u8]) -> Result<(), EngineFault>
+pub fn write_text<W: io::Write>(writer: &mut W, text: &[u8]) -> Result<(), EngineFault>
     ensures { IsWritten (W.contents writer.old) (W.contents writer.new) text.now result }
 {
     let mut at = 0;

@@ -1,27 +1,29 @@
 //! `run_check_with`: a check of a journal by its instruction, by stem files and by a rule.
 ghost use Rattle.std.specs.Prelude.{◌≡◌, ◌≢◌, ◌-◌, ◌<◌, ◌≤◌, length, map, drop, IfOk, IfErr, IfSome, IfNone, OnOk, Some};
 ghost use Rattle.buck_record.specs.Reading.{listed};
+ghost use Rattle.buck_apt.specs.Apt.{apt_of};
 ghost use Rattle.buck_book.specs.History.{HistoryParts, IsLawful};
-ghost use Rattle.buck_journal.specs.Replay.{history_of};
+ghost use Rattle.buck_journal.specs.Replay.{history_of, IsFirstFault};
 ghost use Rattle.buck_engine.specs.declared.fault.EngineFault.TheVariants.{Seats, Write};
 ghost use Rattle.buck_engine.specs.declared.fleet.serving.NamedRule.{NamedRule};
-ghost use Rattle.buck_engine.specs.run.Reading.{IfStopped};
+ghost use Rattle.buck_engine.specs.run.Reading.{IfStopped, apt_with};
 ghost use Rattle.buck_engine.specs.text.Written.{WritesText};
-ghost use Rattle.buck_engine.specs.tie.Answers.{AnswersCheckWith, AnswersTies};
+ghost use Rattle.buck_engine.specs.tie.Answers.{AnswersCheckWith, AnswersTies, HaveRead};
 ghost use Rattle.buck_engine.specs.tie.Ties.{CutTheirFiles, FollowsRule, IsPriceFault, IsStemsFault, IsTied};
-ghost use Rattle.buck_engine.specs.inner.Tie.{IsUntiedFault, stems_in_lists};
+ghost use Rattle.buck_engine.specs.inner.Tie.{IsTiedInputFault, IsUntiedFault, stems_in_lists};
 
 use crate::fault::EngineFault;
 use crate::fleet::serving::NamedRule;
-use crate::run::checking::{check_journal, lawful_text, read_postings};
-use crate::run::reading::read_instruction;
+use crate::run::both::{Both, read_postings, replay_both, unlawful};
+use crate::run::checking::lawful_text;
+use crate::run::reading::read_instruction_with;
 use crate::text::writing::write_text;
 use crate::tie::comparing::compare_stems;
 use crate::tie::fault::CheckFault;
 use crate::tie::lists::read_files;
 use crate::tie::prices::compare_prices;
-use buck_apt::Instruction;
-use buck_journal::Journal;
+use buck_apt::{Instruction, Settings};
+use buck_journal::{Journal, ReplayFault};
 use buck_record::Memory;
 use buck_stem::Stem;
 use std::alloc::Global;
@@ -98,43 +100,90 @@ fn check_ties(
     }
 }
 
-/// The line of a journal that is lawful for an instruction, and tied to stem files and a rule.
-fn text_of_ties(
+/// An instruction, a journal and stem files, as all were read.
+#[derive(Drop)]
+pub(crate) struct Tied {
+    pub both: Both,
+    pub files: Vec<Vec<Stem>>,
+}
+
+/// The instruction, the journal and the stems that the files have, with a run's numbers in the place of the
+/// instruction's own. Each file is read, and refused where it must be, before the next.
+pub(crate) fn read_tied<R: io::Read>(
+    alloc: Global,
+    apt: &mut R,
+    journal: &mut R,
+    stms: &mut [R],
+    settings: &Settings,
+) -> Result<Tied, EngineFault>
+    ensures read { IfOk result (λ tied. HaveRead (apt_with settings.now) (R.remaining apt.old) (R.remaining journal.old)
+        (map R.remaining stms.old) tied.both.instruction.value tied.both.journal (stems_in_lists tied.files.items)) }
+    ensures few { IfOk result (λ tied. length tied.both.journal.entries ≤ 1000000) }
+    ensures files { IfOk result (λ tied. length tied.files.items ≤ 64) }
+    ensures refused { IfErr result
+        (IsTiedInputFault (R.remaining apt.old) (R.remaining journal.old) (map R.remaining stms.old)) }
+    ensures journal_order { IfErr result (IfStopped (λ last. last ≡ 0 → journal.new ≡ journal.old)) }
+    ensures stms_order { IfErr result (IfStopped (λ last. drop (last - 1) stms.new ≡ drop (last - 1) stms.old)) }
+    ensures unread { IfErr result (λ fault. fault ≡ Seats → apt.new ≡ apt.old) }
+{
+    check_files(stms.len())?;
+    let instruction = Arc::new(alloc, read_instruction_with(alloc, apt, settings)?)?;
+    let journal = read_postings(alloc, journal)?;
+    let files = read_files(alloc, stms)?;
+    let both = Both {
+        instruction,
+        journal,
+    };
+    Ok(Tied { both, files })
+}
+
+/// The line of a journal that is tied to stem files and a rule, by what came of its replay.
+pub(crate) fn text_of_ties(
     alloc: Global,
     rule: Option<NamedRule>,
-    instruction: Instruction,
-    journal: &Journal,
-    files: &[Vec<Stem>],
+    tied: &Tied,
+    replayed: Result<(), ReplayFault>,
 ) -> Result<Vec<u8>, EngineFault>
-    requires few { length journal.now.entries ≤ 1000000 }
-    requires files { length files.now ≤ 64 }
-    ensures { AnswersTies (stems_in_lists files.now) rule instruction journal.now (listed result) }
+    requires few { length tied.now.both.journal.entries ≤ 1000000 }
+    requires files { length tied.now.files.items ≤ 64 }
+    requires lawful { OnOk replayed (IsLawful (history_of tied.now.both.instruction.value tied.now.both.journal)) }
+    requires refused { IfErr replayed (λ why. why ≢ ReplayFault.Memory
+        → IsFirstFault (history_of tied.now.both.instruction.value tied.now.both.journal) why) }
+    ensures { AnswersTies (stems_in_lists tied.now.files.items) rule tied.now.both.instruction.value
+        tied.now.both.journal (listed result) }
 {
-    let instruction = Arc::new(alloc, instruction)?;
-    check_journal(alloc, &instruction, journal)?;
-    check_ties(alloc, rule, &instruction, journal, files)?;
-    Ok(lawful_text(alloc, journal.entries.len())?)
+    match replayed {
+        Ok(()) => {}
+        Err(why) => return Err(unlawful(why)),
+    }
+    let both = &tied.both;
+    check_ties(
+        alloc,
+        rule,
+        &both.instruction,
+        &both.journal,
+        tied.files.as_slice(),
+    )?;
+    Ok(lawful_text(alloc, both.journal.entries.len())?)
 }
 
 /// The line of the journal of a file that is lawful for the instruction of another, and tied to stem files and a rule.
-fn text_of_files<R: io::Read>(
+#[tactic(auto, using(crate::proofs::TieAnswers::tied))]
+fn text_of_own_files<R: io::Read>(
     alloc: Global,
     apt: &mut R,
     journal: &mut R,
     stms: &mut [R],
     rule: Option<NamedRule>,
 ) -> Result<Vec<u8>, EngineFault>
-    ensures answer { AnswersCheckWith rule (R.remaining apt.old) (R.remaining journal.old) (map R.remaining stms.old)
-        (listed result) }
+    ensures answer { AnswersCheckWith apt_of rule (R.remaining apt.old) (R.remaining journal.old)
+        (map R.remaining stms.old) (listed result) }
     ensures journal_order { IfErr result (IfStopped (λ last. last ≡ 0 → journal.new ≡ journal.old)) }
     ensures stms_order { IfErr result (IfStopped (λ last. drop (last - 1) stms.new ≡ drop (last - 1) stms.old)) }
     ensures unread { IfErr result (λ fault. fault ≡ Seats → apt.new ≡ apt.old) }
 {
-    check_files(stms.len())?;
-    let instruction = read_instruction(alloc, apt)?;
-    let postings = read_postings(alloc, journal)?;
-    let files = read_files(alloc, stms)?;
-    text_of_ties(alloc, rule, instruction, &postings, files.as_slice())
+    let tied = read_tied(alloc, apt, journal, stms, &Settings::own())?;
+    text_of_ties(alloc, rule, &tied, replay_both(alloc, &tied.both))
 }
 
 /// Reads an instruction file, a journal and stem files, and writes `LAWFUL` with the number of postings where the
@@ -161,7 +210,7 @@ pub fn run_check_with<R: io::Read, W: io::Write>(
     // fault is that of the first file that has one, or of the journal, and nothing is written; a write fault leaves a
     // prefix of the line. Where there are more than 64 stem files, that is the fault.
     ensures run { WritesText
-        (AnswersCheckWith rule (R.remaining apt.old) (R.remaining journal.old) (map R.remaining stms.old))
+        (AnswersCheckWith apt_of rule (R.remaining apt.old) (R.remaining journal.old) (map R.remaining stms.old))
         (W.contents writer.old) (W.contents writer.new) result }
     // Where a file has a fault, nothing was read of those after it.
     ensures journal_order { IfErr result (IfStopped (λ last. last ≡ 0 → journal.new ≡ journal.old)) }
@@ -171,6 +220,6 @@ pub fn run_check_with<R: io::Read, W: io::Write>(
     // Only a failed write touches the writer.
     ensures untouched { IfErr result (λ fault. fault ≢ Write → writer.new ≡ writer.old) }
 {
-    let text = text_of_files(alloc, apt, journal, stms, rule)?;
+    let text = text_of_own_files(alloc, apt, journal, stms, rule)?;
     write_text(writer, text.as_slice())
 }

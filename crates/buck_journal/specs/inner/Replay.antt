@@ -1,16 +1,21 @@
--- What holds while a journal is replayed.
-use Rattle.std.specs.Prelude.{◌≡◌, ◌≢◌, ℕ, ◌+◌, ◌<◌, ◌≤◌, List, length, map, take, slice_get, Some}
+-- What holds while a journal is replayed: of its order, up to a place, and of which cuts are outvalued before there.
+use Rattle.std.specs.Prelude.{◌≡◌, ◌≢◌, ℕ, ◌+◌, ◌<◌, ◌≤◌, ◌⊎◌, Bool, true, false, List, length, map, take, slice_get, Option, Some, None, Result, Ok, Err, IfOk, IfErr}
 use Rattle.std.specs.declared.vec.Vec.{Vec}
+use Rattle.buck_apt.specs.Instruction.{InstructionParts, IsInstruction}
+use Rattle.buck_value.specs.declared.log.Log.{Log}
 use Rattle.buck_value.specs.Sheet.{SheetParts}
-use Rattle.buck_dp.specs.Best.{IsBest, cutting_worth}
+use Rattle.buck_dp.specs.Best.{IsAdmissible, IsBest, cutting_worth}
 use Rattle.buck_book.specs.declared.posting.Posting.{Posting}
 use Rattle.buck_book.specs.declared.posting.Posting.TheVariants.{Cut, Demand}
-use Rattle.buck_book.specs.Posting.{ends_of, cuts_since_end}
+use Rattle.buck_book.specs.Posting.{planned_version, ends_of, cuts_since_end}
 use Rattle.buck_book.specs.Targets.{AreTargets}
-use Rattle.buck_book.specs.History.{HistoryParts, sheet_at}
-use Rattle.buck_book.specs.Walk.{WalkParts}
+use Rattle.buck_book.specs.History.{HistoryParts, IsLawful, PricesMeet, prices_at, sheet_at}
+use Rattle.buck_book.specs.Walk.{WalkParts, walk_of}
 use Rattle.buck_journal.specs.declared.replay_fault.ReplayFault.{ReplayFault}
-use Rattle.buck_journal.specs.Replay.{version_at, Begins, IsSheetRight, IsNumbered, IsOfVersion, IsPostingFault}
+use Rattle.buck_journal.specs.declared.replay_fault.ReplayFault.TheVariants.{Memory}
+use Rattle.buck_journal.specs.declared.stop.Stop.{Stop}
+use Rattle.buck_journal.specs.declared.stop.Stop.TheVariants as stop
+use Rattle.buck_journal.specs.Replay.{version_at, Begins, IsSheetRight, IsNumbered, IsOfVersion, IsPostingFault, IsFaultAt, IsFaultAtEnd, IsFirstFault}
 
 -- the history that a walk goes through, with the sheets of a journal
 abbrev pub along : {A : Type 0} → WalkParts → List (Vec ℕ A) → HistoryParts
@@ -21,18 +26,23 @@ along w sheets =
 abbrev pub sheet_then : HistoryParts → ℕ → SheetParts
 sheet_then h k = sheet_at h.instruction h.sheets (version_at h k)
 
--- a posting says what is right under a sheet
+-- a posting says what is right under a sheet, whether or not other logs are worth more than its own
 abbrev pub HoldsUnder : SheetParts → Posting → Type 0
-HoldsUnder s (Cut e) = IsBest s e.stem e.logs × (e.worth ≡ cutting_worth s e.stem e.logs)
+HoldsUnder s (Cut e) = IsAdmissible s e.stem e.logs × (e.worth ≡ cutting_worth s e.stem e.logs)
 HoldsUnder s (Demand d) = AreTargets s.instruction d.targets
 
--- a posting may follow some postings under the sheet in force
+-- it says what is right under a sheet, and no other logs are worth more
+abbrev pub IsBestUnder : SheetParts → Posting → Type 0
+IsBestUnder s (Cut e) = IsBest s e.stem e.logs × (e.worth ≡ cutting_worth s e.stem e.logs)
+IsBestUnder s (Demand d) = AreTargets s.instruction d.targets
+
+-- it may follow some postings under the sheet in force
 pub record IsRightUnder (s : SheetParts) (before : List Posting) (x : Posting) : Type 0 where
   pub numbered : IsNumbered before x
   pub of_version : IsOfVersion s.instruction before x
   pub holds : HoldsUnder s x
 
--- so do the postings of a stretch in which no other period begins
+-- so may the postings of a stretch in which no other period begins
 pub record AreRightUnder (s : SheetParts) (ps : List Posting) (from to : ℕ) : Type 0 where
   pub postings : (j : ℕ) (x : Posting)
       → from ≤ j → j < to → slice_get ps j ≡ Some x → IsRightUnder s (take j ps) x
@@ -40,8 +50,7 @@ pub record AreRightUnder (s : SheetParts) (ps : List Posting) (from to : ℕ) : 
   pub inside : (j : ℕ) → from < j → j < to → cuts_since_end s.instruction (take j ps) ≢ 0
 
 -- a posting of a stretch may not follow, and all before it may
-pub record IsMetUnder (s : SheetParts) (ps : List Posting) (from : ℕ) (fault : ReplayFault) : Type 0 where
-  pub at : ℕ
+pub record IsMetUnder (s : SheetParts) (ps : List Posting) (from at : ℕ) (fault : ReplayFault) : Type 0 where
   pub next : Posting
   pub there : slice_get ps at ≡ Some next
   pub past : from ≤ at
@@ -50,7 +59,93 @@ pub record IsMetUnder (s : SheetParts) (ps : List Posting) (from : ℕ) (fault :
   pub goes_on : from < at → cuts_since_end s.instruction (take at ps) ≢ 0
   pub wrong : IsPostingFault s (take at ps) next at fault
 
+-- all is right before place k, but that other logs may be worth more than those of a cut: the sheet of each period that
+-- begins, and each posting under the sheet of its version
+pub record IsInOrderBefore (h : HistoryParts) (k : ℕ) : Type 0 where
+  pub sheets : (j : ℕ) → j < k → Begins h j → IsSheetRight h j
+  pub postings : (j : ℕ) (x : Posting)
+      → j < k
+      → slice_get h.postings j ≡ Some x
+      → IsRightUnder (sheet_at h.instruction h.sheets (planned_version x)) (take j h.postings) x
+
+-- the fault of a posting up to which all is in order
+pub record IsMetInOrder (h : HistoryParts) (at : ℕ) (fault : ReplayFault) : Type 0 where
+  pub next : Posting
+  pub there : slice_get h.postings at ≡ Some next
+  pub right : IsInOrderBefore h at
+  pub wrong : IsFaultAt h at next fault
+
+-- what holds of the place and the fault that a walk stopped with, unless it was for want of memory
+abbrev pub IfMet : Stop → (ℕ → ReplayFault → Type 0) → Type 0
+IfMet stop.Memory P = Unit {0}
+IfMet (stop.Fault at fault) P = P at fault
+
 -- after the last posting all is right
 pub record IsEndRight (h : HistoryParts) (k : ℕ) : Type 0 where
   pub number : length h.sheets ≡ version_at h k + 1
   pub last_sheet : Begins h k → IsSheetRight h k
+
+-- the walk was ended: all is in order, and the end is right
+pub record IsEnded (h : HistoryParts) (until : ℕ) (end : WalkParts) : Type 0 where
+  pub all : until ≡ length h.postings
+  pub walked : end ≡ walk_of h.instruction h.postings (length h.postings)
+  pub valid : IsInstruction h.instruction
+  pub right : IsEndRight h (length h.postings)
+
+-- or not: a posting that is there, or else the end, has the fault
+abbrev pub IsStopped : HistoryParts → ℕ → ReplayFault → Type 0
+IsStopped h until fault =
+    ((next : Posting) × (slice_get h.postings until ≡ Some next) × IsFaultAt h until next fault)
+    ⊎ ((until ≡ length h.postings) × IsFaultAtEnd h until fault)
+
+-- up to a place all is in order, and this came of the walk there
+pub record IsOrdered (h : HistoryParts) (until : ℕ) (end : Result WalkParts ReplayFault) : Type 0 where
+  pub within : until ≤ length h.postings
+  pub right : IsInOrderBefore h until
+  pub ended : IfOk end (IsEnded h until)
+  pub stopped : IfErr end (IsStopped h until)
+
+-- the prices of a version are there, and keep the price relation after some postings
+abbrev pub IsPriced : InstructionParts → List (List ℕ) → ℕ → Type 0
+IsPriced i sheets version =
+    (version < length sheets) × ((ps : List Posting) × PricesMeet i ps (prices_at sheets version))
+
+-- so are those of the versions of postings
+abbrev pub ArePriced : InstructionParts → List (List ℕ) → List Posting → Type 0
+ArePriced i sheets ps =
+    (k : ℕ) (x : Posting) → slice_get ps k ≡ Some x → IsPriced i sheets (planned_version x)
+
+-- whether some admissible list of logs is worth more under a sheet than a cut says
+abbrev pub IsOutvalued : SheetParts → Posting → Bool → Type 0
+IsOutvalued s (Cut e) true =
+    (others : List Log) × IsAdmissible s e.stem others × (e.worth < cutting_worth s e.stem others)
+IsOutvalued s (Cut e) false =
+    (others : List Log) → IsAdmissible s e.stem others → cutting_worth s e.stem others ≤ e.worth
+IsOutvalued s (Demand d) true = ⊥
+IsOutvalued s (Demand d) false = Unit {0}
+
+-- no posting before a place is outvalued under the sheet of its version
+abbrev pub NoneOutvalued : InstructionParts → List (List ℕ) → List Posting → ℕ → Type 0
+NoneOutvalued i sheets ps k =
+    (j : ℕ) (x : Posting)
+    → j < k
+    → slice_get ps j ≡ Some x
+    → IsOutvalued (sheet_at i sheets (planned_version x)) x false
+
+-- the posting at a place is, and none before it
+pub record IsFirstOutvalued (i : InstructionParts) (sheets : List (List ℕ)) (ps : List Posting) (at : ℕ) : Type 0 where
+  pub next : Posting
+  pub there : slice_get ps at ≡ Some next
+  pub wrong : IsOutvalued (sheet_at i sheets (planned_version next)) next true
+  pub before : NoneOutvalued i sheets ps at
+
+-- the first place of postings that is outvalued, or that there is none
+abbrev pub IsFound : InstructionParts → List (List ℕ) → List Posting → Option ℕ → Type 0
+IsFound i sheets ps None = NoneOutvalued i sheets ps (length ps)
+IsFound i sheets ps (Some at) = IsFirstOutvalued i sheets ps at
+
+-- what comes of a history: the walk to its end where it is lawful, else the first fault, unless memory was wanting
+abbrev pub IsJudged : HistoryParts → Result WalkParts ReplayFault → Type 0
+IsJudged h (Ok w) =
+    (w ≡ walk_of h.instruction h.postings (length h.postings)) × IsLawful h
+IsJudged h (Err fault) = fault ≢ Memory → IsFirstFault h fault

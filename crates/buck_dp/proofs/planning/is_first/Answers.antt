@@ -4,7 +4,7 @@ use Rattle.buck_dp.proofs.SiteLemmas.{none_before}
 use Rattle.buck_dp.proofs.planning.is_first.Goals as goal
 
 pub returns-clause-first : goal.returns-clause-first
-returns-clause-first c nobody i t e bid lt up log =
+returns-clause-first c nobody t up i e bid lt log =
     let last : ℕ = c.args.point - 1 in
     let behind = c.in_ok-behind.ensures in
     none_before (ground_of c.args.site) last i c.args.top t e c.in_ok-behind.behind.group.takers bid

@@ -1,32 +1,51 @@
-use Rattle.std.proofs.Common.{inl, ℕ, List, refl, slice_index, sym, subst, arith}
-use Rattle.buck_bid.specs.Offers.{codes_in}
-use Rattle.buck_dp.specs.inner.Points.{GroundParts}
-use Rattle.buck_dp.specs.declared.offering.Cell.{Cell}
-use Rattle.buck_dp.specs.inner.Cells.{AreCells}
-use Rattle.buck_dp.specs.inner.Index.{part_of}
-use Rattle.buck_dp.specs.inner.Kept.{all_of}
-use Rattle.buck_dp.specs.inner.Rows.{IsPart}
-use Rattle.buck_dp.proofs.SiteLemmas.{known_of, point_reached, part_offered}
+use Rattle.std.proofs.Common.{◌≡◌, ◌-◌, ℕ, List, slice_index, sym, ap, ◌∙◌, arith}
+use Rattle.buck_dp.proofs.SiteLemmas.{known_of}
 use Rattle.buck_dp.proofs.planning.offer_kept.Goals as goal
 
-pub offer_part-requires-clause-part : goal.offer_part-requires-clause-part
-offer_part-requires-clause-part c =
+pub offer_cells-requires-clause-takers : goal.offer_cells-requires-clause-takers
+offer_cells-requires-clause-takers c i low high =
+    c.requires.takers i c.args.search.now.from c.requires.order.1 (omega arith) low high
+
+pub offer_cells-requires-clause-all : goal.offer_cells-requires-clause-all
+offer_cells-requires-clause-all c = c.requires.all c.args.search.now.from c.requires.order.1
+
+pub offer_cells-requires-clause-diameter : goal.offer_cells-requires-clause-diameter
+offer_cells-requires-clause-diameter c =
     let x = c.args.site in
-    let s = x.market.sheet.now in
-    let m = x.market.menu.now in
-    let t : ℕ = c.args.search.now.from in
-    let first : ℕ = c.args.part.first in
-    let stop : ℕ = c.args.search.now.stop in
-    let takers = c.args.part.group.takers in
     let ds : List ℕ = c.diameters-diameters.result.now in
-    let reached = point_reached x c.requires.site t c.requires.top in
-    let below = c.from-top.ensures.right.below in
-    let cells : AreCells s (codes_in m.offers.items) takers (slice_index ds t) (all_of m) c.cells.result.now =
-    subst (λ (cs : List Cell). AreCells s (codes_in m.offers.items) takers (slice_index ds t) (all_of m) cs) (sym c.cells.ensures)
-    (subst (λ (n : ℕ). AreCells s (codes_in m.offers.items) takers (slice_index ds n) (all_of m) (part_of c.row.new.self.cells.items c.in_ok-place.place))
-    c.from-top.ensures.value c.in_ok-place.ensures.row.right) in
-    subst (λ (g : GroundParts). IsPart g t first stop c.cells.result.now) (sym c.requires.ground)
-    (part_offered x c.requires.site ds t first stop takers (all_of m) c.cells.result.now
-    (known_of x.profile.now x.stem.now s.instruction.«module» ds c.requires.site.profile c.diameters-diameters.ensures.right)
-    (omega (arith, below)) (omega (arith, reached.1)) c.requires.takers
-    c.requires.room (inl refl) cells)
+    record {
+      table = ds;
+      known = known_of x.profile.now x.stem.now x.market.sheet.now.instruction.«module» ds c.requires.site.profile
+          c.diameters-diameters.ensures.right;
+      is = ap (λ (n : ℕ). slice_index ds n) (sym c.from.ensures.value);
+    }
+
+pub offer_cells-requires-in-loop-search-clause-takers :
+    goal.offer_cells-requires-in-loop-search-clause-takers
+offer_cells-requires-in-loop-search-clause-takers c i low high =
+    let t : ℕ = c.settle_top.new.self.from in
+    let now = c.loop-search.invariant in
+    c.requires.takers i t
+    (omega (arith, c.settle_top.ensures.from, c.loop-search-test.true, c.from-in-loop-search.ensures.value))
+    (omega (arith, c.settle_top.ensures.from, now.high)) low high
+
+pub offer_cells-requires-in-loop-search-clause-all :
+    goal.offer_cells-requires-in-loop-search-clause-all
+offer_cells-requires-in-loop-search-clause-all c =
+    c.requires.all c.settle_top.new.self.from
+    (omega (arith, c.settle_top.ensures.from, c.loop-search-test.true, c.from-in-loop-search.ensures.value))
+
+pub offer_cells-requires-in-loop-search-clause-diameter :
+    goal.offer_cells-requires-in-loop-search-clause-diameter
+offer_cells-requires-in-loop-search-clause-diameter c =
+    let x = c.args.site in
+    let ds : List ℕ = c.diameters-diameters.result.now in
+    let t : ℕ = c.settle_top.new.self.from in
+    let before : t ≡ c.from-in-loop-search-2.result - 1 =
+    omega (arith, c.settle_top.ensures.from, c.from-in-loop-search-2.ensures.value) in
+    record {
+      table = ds;
+      known = known_of x.profile.now x.stem.now x.market.sheet.now.instruction.«module» ds c.requires.site.profile
+          c.diameters-diameters.ensures.right;
+      is = ap (λ (n : ℕ). slice_index ds n) before ∙ c.if-diameters-from.true;
+    }

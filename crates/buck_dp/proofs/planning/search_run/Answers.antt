@@ -4,12 +4,11 @@ use Rattle.buck_dp.proofs.SiteLemmas.{mask_of, near_takers}
 use Rattle.buck_dp.proofs.planning.search_run.Goals as goal
 
 pub offer_top-requires-clause-takers : goal.offer_top-requires-clause-takers
-offer_top-requires-clause-takers c i low high =
+offer_top-requires-clause-takers c i t from to low high =
     let x = c.args.site in
     let unit : ℕ = x.market.sheet.now.instruction.«module» in
     let run : ℕ = c.run_start-run.result in
     let even = c.run_start-run.ensures.even in
-    let t : ℕ = c.settle_top.new.self.from in
     let near = c.in_ok-near.ensures in
     let order = c.requires.from in
     let now = c.loop-alloc.invariant in
@@ -18,10 +17,4 @@ offer_top-requires-clause-takers c i low high =
     (even.1 k from (omega (arith, to, order, c.from.ensures.value))))
     (omega (arith, c.requires.site.valid.valid.module_range))
     c.in_ok-near.near.part.first i t c.in_ok-near.near.part.group.takers
-    (omega (arith, c.settle_top.ensures.from, c.loop-alloc-test.true, c.from-in-loop-alloc.ensures.value))
-    (omega (arith, c.settle_top.ensures.from, now.high)) (omega (arith, near.first)) low high near.takers
-
-pub offer_top-requires-clause-alone : goal.offer_top-requires-clause-alone
-offer_top-requires-clause-alone c is i t e bid lt le log =
-    c.in_ok-near.ensures.alone is i t e bid lt
-    (let now = c.loop-alloc.invariant in omega (arith, le, c.settle_top.ensures.from, c.loop-alloc-test.true, c.from-in-loop-alloc.ensures.value)) log
+    (omega (arith, from)) (omega (arith, to, c.settle_top.ensures.from, now.high)) (omega (arith, near.first)) low high near.takers

@@ -1,13 +1,13 @@
 use Rattle.std.proofs.Common.{◌≡◌, ◌<◌, ◌-◌, length}
 use Rattle.buck_book.specs.Walk.{walk_of}
-use Rattle.buck_journal.specs.Replay.{Begins, IsRightBefore}
-use Rattle.buck_journal.specs.inner.Replay.{along}
+use Rattle.buck_journal.specs.Replay.{Begins}
+use Rattle.buck_journal.specs.inner.Replay.{along, IsInOrderBefore}
 use Rattle.buck_journal.proofs.replaying.replay_periods.Given as goal
 
 abbrev pub invariant-loop-alloc : goal.invariant-loop-alloc
 invariant-loop-alloc l = record {
   same : l.walk ≡ walk_of l.fn.walk.instruction l.fn.walk.postings l.walk.at;
-  right : IsRightBefore (along l.fn.walk l.sheets) l.walk.at;
+  right : IsInOrderBefore (along l.fn.walk l.sheets) l.walk.at;
   begins : l.walk.at < length l.fn.walk.postings → Begins (along l.fn.walk l.sheets) l.walk.at;
 }
 

@@ -1,11 +1,11 @@
-use Rattle.std.proofs.Common.{map, ◌∙◌, ap}
+use Rattle.std.proofs.Common.{map, take, ◌∙◌, ap}
 use Rattle.buck_journal.specs.Journal.{JournalParts}
-use Rattle.buck_journal.proofs.Replays.{lawful_at_end}
+use Rattle.buck_journal.proofs.Judged.{ordered_priced}
 use Rattle.buck_journal.proofs.replaying.replay_to_end.Goals as goal
 
-pub returns-clause-lawful : goal.returns-clause-lawful
-returns-clause-lawful c =
-    let sheets = ap (λ xs. map (λ v. v.items) xs) c.as_slice-sheets.ensures.value ∙ ap (λ (j : JournalParts). j.sheets) c.journal.view_is in
-    let entries = c.as_slice.ensures.value ∙ ap (λ (j : JournalParts). j.entries) c.journal.view_is in
-    lawful_at_end c.args.instruction.now.value c.args.journal.now c.in_ok-walk.walk _ _ c.in_ok-walk.ensures.end sheets entries c.in_ok-walk.ensures.valid c.in_ok-walk.ensures.right
-    c.in_ok-check_end.ensures.right
+pub first_outvalued-requires : goal.first_outvalued-requires
+first_outvalued-requires c =
+    let o = c.in_ok-ordered.ordered in
+    let sheets = ap (λ xs. map (λ v. v.items) xs) c.as_slice-2.ensures.value ∙ ap (λ (j : JournalParts). j.sheets) c.journal.view_is in
+    let part = ap (λ xs. take o.until xs) (c.as_slice.ensures.value ∙ ap (λ (j : JournalParts). j.entries) c.journal.view_is) in
+    ordered_priced c.args.instruction.now.value c.args.journal.now _ sheets _ o.until o.end c.in_ok-ordered.ensures part

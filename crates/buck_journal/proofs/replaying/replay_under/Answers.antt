@@ -1,7 +1,5 @@
-use Rattle.std.proofs.Common.{◌≢◌, ◌∙◌, take, sym, subst, arith}
+use Rattle.std.proofs.Common.{◌≢◌, take, sym, arith}
 use Rattle.buck_book.specs.Posting.{cuts_since_end}
-use Rattle.buck_book.specs.Walk.{passed}
-use Rattle.buck_journal.specs.inner.Replay.{IsRightUnder}
 use Rattle.buck_book.proofs.Ends.{true_false}
 use Rattle.buck_journal.proofs.Replays.{at_next, same_next, right_next, goes_on_next, version_next}
 use Rattle.buck_journal.proofs.replaying.replay_under.Goals as goal
@@ -9,8 +7,8 @@ use Rattle.buck_journal.proofs.replaying.replay_under.Goals as goal
 pub returns-then-begins_period-clause-right : goal.returns-then-begins_period-clause-right
 returns-then-begins_period-clause-right c =
     let inv = c.loop-posting.invariant in
-    right_next c.args.planner.now c.args.walk.instruction c.args.walk.postings c.args.walk.at c.loop-posting.walk c.in_ok-walk.walk c.in-Some.posting.now
-    inv.same c.in_ok-walk.ensures.further c.in-Some.ensures.next inv.right inv.in_force inv.goes_on (subst (λ s. IsRightUnder s (passed c.loop-posting.walk) c.in-Some.posting.now) inv.planner c.in_ok-walk.ensures.right)
+    right_next c.args.sheet.now c.args.walk.instruction c.args.walk.postings c.args.walk.at c.loop-posting.walk c.in_ok-walk.walk c.in-Some.posting.now
+    inv.same c.in_ok-walk.ensures.further c.in-Some.ensures.next inv.right inv.in_force inv.goes_on c.in_ok-walk.ensures.right
 
 pub loop-posting-preserved : goal.loop-posting-preserved
 loop-posting-preserved c =
@@ -19,16 +17,15 @@ loop-posting-preserved c =
     let w' = c.in_ok-walk.walk in
     let further = c.in_ok-walk.ensures.further in
     let a = c.args in
-    let goes_on : cuts_since_end a.planner.now.instruction (take w'.at a.walk.postings) ≢ 0 =
-    goes_on_next a.planner.now a.walk.instruction a.walk.postings a.walk.at w w' c.in-Some.posting.now inv.same further c.in-Some.ensures.next c.requires.instruction
+    let goes_on : cuts_since_end a.sheet.now.instruction (take w'.at a.walk.postings) ≢ 0 =
+    goes_on_next a.sheet.now a.walk.instruction a.walk.postings a.walk.at w w' c.in-Some.posting.now inv.same further c.in-Some.ensures.next c.requires.instruction
     (λ e. true_false (sym (c.if-begins_period.ensures.1 e))) in
     record {
-      planner = c.in_ok-walk.ensures.same ∙ inv.planner;
-      same = same_next a.planner.now a.walk.instruction a.walk.postings a.walk.at w w' c.in-Some.posting.now inv.same further c.in-Some.ensures.next;
-      past = omega (arith, inv.past, at_next a.planner.now a.walk.instruction a.walk.postings a.walk.at w w' c.in-Some.posting.now inv.same further c.in-Some.ensures.next);
+      same = same_next a.sheet.now a.walk.instruction a.walk.postings a.walk.at w w' c.in-Some.posting.now inv.same further c.in-Some.ensures.next;
+      past = omega (arith, inv.past, at_next a.sheet.now a.walk.instruction a.walk.postings a.walk.at w w' c.in-Some.posting.now inv.same further c.in-Some.ensures.next);
       right =
-          right_next a.planner.now a.walk.instruction a.walk.postings a.walk.at w w' c.in-Some.posting.now
-          inv.same further c.in-Some.ensures.next inv.right inv.in_force inv.goes_on (subst (λ s. IsRightUnder s (passed c.loop-posting.walk) c.in-Some.posting.now) inv.planner c.in_ok-walk.ensures.right);
-      in_force = version_next a.planner.now a.walk.instruction a.walk.postings a.walk.at w w' c.in-Some.posting.now inv.same further c.in-Some.ensures.next goes_on inv.in_force;
+          right_next a.sheet.now a.walk.instruction a.walk.postings a.walk.at w w' c.in-Some.posting.now
+          inv.same further c.in-Some.ensures.next inv.right inv.in_force inv.goes_on c.in_ok-walk.ensures.right;
+      in_force = version_next a.sheet.now a.walk.instruction a.walk.postings a.walk.at w w' c.in-Some.posting.now inv.same further c.in-Some.ensures.next goes_on inv.in_force;
       goes_on = λ lt. goes_on;
     }

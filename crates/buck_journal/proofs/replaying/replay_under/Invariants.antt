@@ -6,12 +6,11 @@ use Rattle.buck_journal.proofs.replaying.replay_under.Given as goal
 
 abbrev pub invariant-loop-posting : goal.invariant-loop-posting
 invariant-loop-posting l = record {
-  planner : l.planner ≡ l.fn.planner;
   same : l.walk ≡ walk_of l.fn.walk.instruction l.fn.walk.postings l.walk.at;
   past : l.fn.walk.at ≤ l.walk.at;
-  right : AreRightUnder l.fn.planner l.fn.walk.postings l.fn.walk.at l.walk.at;
-  in_force : ends_of l.fn.planner.instruction (take l.walk.at l.fn.walk.postings) ≡ l.fn.planner.version;
-  goes_on : l.fn.walk.at < l.walk.at → cuts_since_end l.fn.planner.instruction (take l.walk.at l.fn.walk.postings) ≢ 0;
+  right : AreRightUnder l.sheet l.fn.walk.postings l.fn.walk.at l.walk.at;
+  in_force : ends_of l.sheet.instruction (take l.walk.at l.fn.walk.postings) ≡ l.sheet.version;
+  goes_on : l.fn.walk.at < l.walk.at → cuts_since_end l.sheet.instruction (take l.walk.at l.fn.walk.postings) ≢ 0;
 }
 
 abbrev pub decreases-loop-posting : goal.decreases-loop-posting

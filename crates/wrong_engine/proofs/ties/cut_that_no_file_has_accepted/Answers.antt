@@ -14,7 +14,7 @@ use Rattle.buck_engine.specs.tie.Ties.{stems_by}
 use Rattle.wrong_engine.proofs.ties.cut_that_no_file_has_accepted.Goals as goal
 
 no_file : (apt journal : List ℕ) (stm old new : Option (List ℕ)) (r : Result (Unit {0}) EngineFault) → is_err r ≡ false
-    → WritesText (AnswersCheckWith None (Some apt) (Some journal) (stm ∷ [])) old new r
+    → WritesText (AnswersCheckWith apt_of None (Some apt) (Some journal) (stm ∷ [])) old new r
     → ((i : InstructionParts) (j : JournalParts) → apt_of apt ≡ Ok i → journal_of journal ≡ Ok j → stems_by 2 (history_of i j) ≢ []) → ⊥
 no_file apt journal stm old new (Ok u) e (text, of, written) cut =
     cut of.instruction of.read of.have.apt_says.1 of.have.journal_says.1

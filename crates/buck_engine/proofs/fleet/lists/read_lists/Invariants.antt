@@ -1,5 +1,5 @@
 use Rattle.std.proofs.Common.{◌≡◌, length, map, drop}
-use Rattle.buck_engine.specs.inner.Fleet.{AreListsOf}
+use Rattle.buck_engine.specs.fleet.Running.{AreListsOf}
 use Rattle.buck_engine.proofs.fleet.lists.read_lists.Given as goal
 
 abbrev pub invariant-loop-k : goal.invariant-loop-k

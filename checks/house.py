@@ -1,0 +1,188 @@
+#!/usr/bin/env python3
+"""Looks whether the house is in order: pages, copies, links, and lines that are too wide.
+
+    python3 checks/house.py
+
+- Each product crate has a page, crates/NAME/README.md, of at most 80 lines, which names every module of its src/: in
+  backticks, a module below another one by its path, as `run/bucking`.
+- Each crate's name begins with its kind: buck_ or buckfleet is the product, and KINDS the rest.
+- The files of crates/*/data that stand in examples/ too are equal to these: those of the same name, those of COPIES.
+- Links in documents lead to a file, and to a heading where they name one; a path of the repository that stands in
+  backticks is there.
+- No line of src/ and specs/ of a product crate is wider than 120 columns, imports aside, but for as many as WIDE allows
+  each crate.
+
+The last line is 'N wrong', and the status is 0 where nothing is.
+"""
+import os
+import re
+import sys
+
+from pages import files_in, libraries
+from quick import TOP, crates
+
+# Copies of a file of examples/ under another name.
+COPIES = {"crates/run_view/data/saw.apt": "two_stems.apt", "crates/bench_fleet/data/saw.apt": "two_stems.apt"}
+
+# Callers that prove wrong bodies wrong, tests, what they share, whole runs, what is timed, uses of the libraries.
+KINDS = ("wrong_", "test_", "fixture_", "run_", "bench_", "example_")
+
+MOST_LINES = 80
+MOST_COLUMNS = 120
+
+# So many lines are wider today: texts and styles that stand as they are printed, and long clauses. None may be added; a
+# crate that isn't named has none.
+WIDE = {
+    "buck_record": 4,
+    "buck_told": 42,
+    "buck_apt": 2,
+    "buck_stem": 4,
+    "buck_dp": 21,
+    "buck_book": 5,
+    "buck_journal": 2,
+    "buck_fleet": 3,
+    "buck_turn": 1,
+    "buck_figures": 22,
+    "buck_words": 2,
+    "buck_charts": 1,
+    "buck_drawn": 1,
+    "buck_unlawful": 10,
+    "buck_view": 8,
+    "buck_engine": 17,
+    "buck_c": 1,
+    "buck_command": 1,
+    "buckfleet": 4,
+}
+
+# What a path begins with that is looked for where it stands in backticks.
+ROOMS = ("bench/", "checks/", "crates/", "docs/", "examples/", "include/", "scripts/")
+
+# And what says that it stands for several paths, or for one that isn't committed.
+NO_PATH = r"NAME|_X\b|[*{<]|\.\.|/out\b"
+
+
+def read(*words):
+    with open(os.path.join(TOP, *words)) as text:
+        return text.read()
+
+
+def product():
+    """The crates of the product, lowest first."""
+    return libraries() + ["buckfleet"]
+
+
+def modules(crate):
+    """The modules of a crate, each by its path below src/: the root of a library, which has its doc alone, left out."""
+    return [name for name in ("/".join(words) for words, _ in files_in(crate, "src", ".rt")) if name != "lib"]
+
+
+def ticked(text):
+    """What stands in backticks in a text."""
+    return re.findall(r"`([^`\n]+)`", text)
+
+
+def wrong_names():
+    """Crates whose name doesn't begin with their kind, and folders that crates.txt doesn't name."""
+    for crate in crates():
+        if not crate.startswith(("buck_", *KINDS)) and crate != "buckfleet":
+            yield f"crates/{crate} is of no kind"
+    for folder in sorted(os.listdir(os.path.join(TOP, "crates"))):
+        if folder not in crates():
+            yield f"crates/{folder} isn't in crates.txt"
+
+
+def wrong_pages():
+    """Product crates without a page, pages that are too long, and modules that their page leaves out."""
+    for crate in product():
+        page = f"crates/{crate}/README.md"
+        if not os.path.isfile(os.path.join(TOP, page)):
+            yield f"crates/{crate} has no README.md"
+            continue
+        text = read(page)
+        lines = len(text.splitlines())
+        if lines > MOST_LINES:
+            yield f"{page} has {lines} lines, {MOST_LINES} at most"
+        named = set(ticked(text))
+        yield from (f"{page} doesn't name the module `{name}`" for name in modules(crate) if name not in named)
+
+
+def wrong_copies():
+    """Copies of examples that differ from them."""
+    examples = os.listdir(os.path.join(TOP, "examples"))
+    pairs = dict(COPIES)
+    for crate in sorted(os.listdir(os.path.join(TOP, "crates"))):
+        folder = os.path.join(TOP, "crates", crate, "data")
+        names = sorted(os.listdir(folder)) if os.path.isdir(folder) else []
+        pairs.update({f"crates/{crate}/data/{name}": name for name in names if name in examples})
+    for copy, example in pairs.items():
+        files = [os.path.join(TOP, copy), os.path.join(TOP, "examples", example)]
+        if not all(map(os.path.isfile, files)):
+            yield f"{copy} and examples/{example} aren't both there"
+        elif len({open(file, "rb").read() for file in files}) > 1:
+            yield f"{copy} differs from examples/{example}"
+
+
+def documents():
+    """The documents of the repository, by their paths: those at its top, in docs/, and the pages of its crates."""
+    for folder in ("", "docs", *(f"crates/{crate}" for crate in sorted(os.listdir(os.path.join(TOP, "crates"))))):
+        for name in sorted(os.listdir(os.path.join(TOP, folder))):
+            if name.endswith(".md"):
+                yield os.path.join(folder, name)
+
+
+def anchors(text):
+    """The names of the headings of a document, as a link has them."""
+    heads = re.findall(r"(?m)^#+ (.*)$", re.sub(r"(?ms)^```.*?^```", "", text))
+    return {re.sub(r"[^\w\- ]", "", head.lower()).replace(" ", "-") for head in heads}
+
+
+def wrong_links():
+    """Links that lead nowhere, and paths in backticks that aren't there."""
+    for path in documents():
+        text = read(path)
+        for target in re.findall(r"\]\(([^)\s]+)\)", text):
+            file, _, anchor = target.partition("#")
+            to = os.path.normpath(os.path.join(os.path.dirname(path), file)) if file else path
+            if re.match(r"\w+:", target):
+                continue
+            if not os.path.exists(os.path.join(TOP, to)):
+                yield f"{path} has a link to {target}, which isn't there"
+            elif anchor and anchor not in anchors(read(to)):
+                yield f"{path} has a link to {target}, and {to} has no such heading"
+        for words in ticked(text):
+            for word in words.split():
+                name = word.rstrip("/.,:;")
+                is_path = name.startswith(ROOMS) and not re.search(NO_PATH, name)
+                if is_path and not os.path.exists(os.path.join(TOP, name)):
+                    yield f"{path} names `{name}`, which isn't there"
+
+
+def wide_lines(crate):
+    """The files of a crate with lines that are too wide, and how many there are in each."""
+    for part, ending in (("src", ".rt"), ("specs", ".antt")):
+        for words, lines in files_in(crate, part, ending):
+            wide = sum(len(line) > MOST_COLUMNS and not re.match(r"\s*(ghost |pub )?use ", line) for line in lines)
+            if wide:
+                yield f"{part}/{'/'.join(words)}{ending}", wide
+
+
+def wrong_widths():
+    """Product crates with more wide lines than they may have."""
+    for crate in product():
+        files = dict(wide_lines(crate))
+        wide, allowed = sum(files.values()), WIDE.get(crate, 0)
+        if wide > allowed:
+            told = ", ".join(f"{file} {number}" for file, number in files.items())
+            yield f"{crate} has {wide} lines over {MOST_COLUMNS} columns, {allowed} may stand: {told}"
+
+
+def main():
+    wrong = [line for look in (wrong_names, wrong_pages, wrong_copies, wrong_links, wrong_widths) for line in look()]
+    for line in wrong:
+        print(line)
+    print(f"{len(wrong)} wrong")
+    return 1 if wrong else 0
+
+
+if __name__ == "__main__":
+    sys.exit(main())

@@ -1,5 +1,0 @@
-use Rattle.buck_board.specs.Board.{IsSeatOf}
-use Rattle.board_bench.proofs.put_on.Given as goal
-
-abbrev pub invariant-loop-version : goal.invariant-loop-version
-invariant-loop-version g l = IsSeatOf l.board l.seat

@@ -1,0 +1,30 @@
+-- Numbers that a run puts in the place of an instruction's own.
+use Rattle.std.specs.Prelude.{ℕ, ◌≤◌, Option, Some, None, IfSome}
+use Rattle.buck_apt.specs.Instruction.{InstructionParts, IsWithin}
+
+pub record SettingsParts : Type 0 where
+  pub period : Option ℕ  -- stems
+  pub limit : Option ℕ  -- per mille
+
+-- what is told is within the limits of the instruction file's table
+pub record IsSettings (s : SettingsParts) : Type 0 where
+  pub period_range : IfSome s.period (λ p. IsWithin 1 1000 p)
+  pub limit_range : IfSome s.limit (λ l. l ≤ 1000)
+
+-- nothing is told
+abbrev pub own_numbers : SettingsParts
+own_numbers = record { period = None; limit = None }
+
+-- a number that is told, or else the instruction's own
+abbrev pub told_or : Option ℕ → ℕ → ℕ
+told_or None own = own
+told_or (Some told) own = told
+
+-- the instruction with the numbers that are told in the place of its own
+abbrev pub with_settings : SettingsParts → InstructionParts → InstructionParts
+with_settings s i = record {
+  «module» = i.«module»;
+  period = told_or s.period i.period;
+  limit = told_or s.limit i.limit;
+  assortments = i.assortments;
+}

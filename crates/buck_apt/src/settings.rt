@@ -1,0 +1,84 @@
+//! Numbers that a run puts in the place of an instruction's own.
+ghost use Rattle.std.specs.Prelude.{◌≡◌, IfSome, IfNone};
+ghost use Rattle.buck_apt.specs.Settings.{IsSettings, own_numbers};
+
+use std::marker::Model;
+
+/// The longest period, in stems.
+const LONGEST_PERIOD: u32 = 1_000;
+
+/// The farthest limit, in per mille.
+const FARTHEST_LIMIT: u32 = 1_000;
+
+/// Numbers that a run puts in the place of an instruction's own: the period, 1 to 1,000 stems, and the limit, at most
+/// 1,000 per mille. Where one isn't told, the instruction's own stays.
+#[derive(Debug, Drop)]
+pub struct Settings {
+    period: Option<u32>,
+    limit: Option<u32>,
+}
+
+impl Model for Settings {
+    ghost use Rattle.buck_apt.specs.Settings.{SettingsParts, IsSettings};
+
+    ghost Value = { SettingsParts };
+
+    ghost view = { λ s. record {
+      period = s.period;
+      limit = s.limit;
+    } };
+
+    ghost invariant = { λ s. IsSettings (record {
+      period = s.period;
+      limit = s.limit;
+    }) };
+}
+
+impl Settings {
+    /// The instruction's own numbers.
+    pub fn own() -> Settings
+        ensures { result ≡ own_numbers }
+    {
+        Settings {
+            period: None,
+            limit: None,
+        }
+    }
+
+    /// These numbers, and the instruction's own where there is none; or nothing, where one is out of its range.
+    pub fn of(period: Option<u32>, limit: Option<u32>) -> Option<Settings>
+        ensures some { IfSome result (λ s. s ≡ record { period = period; limit = limit }) }
+        ensures none { IfNone result (IsSettings (record { period = period; limit = limit }) → ⊥) }
+    {
+        if let Some(period) = period {
+            if period == 0 {
+                return None;
+            }
+            if period > LONGEST_PERIOD {
+                return None;
+            }
+        }
+        if let Some(limit) = limit {
+            if limit > FARTHEST_LIMIT {
+                return None;
+            }
+        }
+        Some(Settings { period, limit })
+    }
+
+    /// The period, where one is told.
+    pub(crate) fn period(&self) -> Option<u32>
+        ensures period { result ≡ self.now.period }
+        ensures valid { IsSettings self.now }
+    {
+        self.period
+    }
+
+    /// The limit, where one is told.
+    pub(crate) fn limit(&self) -> Option<u32>
+        ensures limit { result ≡ self.now.limit }
+        ensures valid { IsSettings self.now }
+    {
+        self.limit
+    }
+}

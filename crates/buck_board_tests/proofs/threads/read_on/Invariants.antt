@@ -1,5 +1,0 @@
-use Rattle.buck_board.specs.Board.{IsSeatOf}
-use Rattle.buck_board_tests.proofs.threads.read_on.Given as goal
-
-abbrev pub invariant-loop : goal.invariant-loop
-invariant-loop l = IsSeatOf l.board l.seat

@@ -1,0 +1,157 @@
+//! Files opened once more, when something was wrong with them.
+use buck_reason::Shown;
+use std::fs::{Metadata, OpenFile, OpenOptions};
+use std::io::ErrorKind;
+use std::os::unix::fs::MetadataExt;
+use std::rt::Files;
+use std::{fmt, fs, io};
+
+/// The most bytes that a file may have.
+pub(crate) const LIMIT: u64 = 67_108_864;
+
+/// Why a file can't be read or written.
+#[derive(Clone, Copy, Debug, PartialEq, Eq)]
+pub enum Trouble {
+    /// There is no file of its name.
+    Missing,
+    /// It is a folder.
+    Folder,
+    /// It may not be read or written by this user.
+    Forbidden,
+    /// It has more bytes than a file may have.
+    Long,
+    /// It is the input file at this place.
+    Input(usize),
+    /// Another reason.
+    Other,
+}
+
+impl Trouble {
+    /// What an error of a file says.
+    pub(crate) fn of(kind: ErrorKind) -> Trouble {
+        match kind {
+            ErrorKind::NotFound | ErrorKind::NotADirectory => Trouble::Missing,
+            ErrorKind::IsADirectory => Trouble::Folder,
+            ErrorKind::PermissionDenied => Trouble::Forbidden,
+            _ => Trouble::Other,
+        }
+    }
+}
+
+/// Why a file can't be read or written, in words.
+#[derive(Clone, Copy)]
+pub(crate) struct Troubled<'a> {
+    pub(crate) trouble: Trouble,
+    /// The names of the input files.
+    pub(crate) inputs: &'a [&'a str],
+}
+
+impl fmt::Display for Troubled<'_> {
+    fn fmt<W: fmt::Write>(&self, f: &mut fmt::Formatter<W>) -> fmt::Result {
+        match self.trouble {
+            Trouble::Missing => write!(f, "no such file"),
+            Trouble::Folder => write!(f, "is a folder"),
+            Trouble::Forbidden => write!(f, "not allowed"),
+            Trouble::Long => write!(f, "longer than {LIMIT} bytes"),
+            Trouble::Input(place) => {
+                let name = self.inputs.get(place).copied().unwrap_or("");
+                write!(f, "is the input file {}", Shown(name.as_bytes()))
+            }
+            Trouble::Other => write!(f, "can't be opened, read or written"),
+        }
+    }
+}
+
+/// Opens files once more, to see what is wrong with them.
+pub trait Again {
+    /// A file that was opened once more.
+    type Found: io::Read + Drop;
+
+    /// The file of this name, to be read; else why it can't be.
+    fn again(&mut self, name: &str) -> Result<Self::Found, Trouble>;
+
+    /// How many bytes the file of this name has, where it is a regular one.
+    fn size(&mut self, name: &str) -> Option<u64>;
+
+    /// Why the file of this name can't be written, where these are the input files; none where it can.
+    fn unwritten(&mut self, name: &str, inputs: &[&str]) -> Option<Trouble>;
+}
+
+/// The files that a runtime has, opened once more by their paths.
+#[derive(Clone, Copy, Drop)]
+pub struct Second<'a, R> {
+    rt: &'a R,
+}
+
+impl<'a, R> Second<'a, R> {
+    pub fn of(rt: &'a R) -> Second<'a, R> {
+        Second { rt }
+    }
+}
+
+/// Whether two files of a system are one.
+fn are_one(one: &Metadata, other: &Metadata) -> bool {
+    one.dev() == other.dev() && one.ino() == other.ino()
+}
+
+impl<'a, R: Files> Second<'a, R> {
+    /// The place of the input file that a file is, if it is one.
+    fn input_of(&self, found: &Metadata, inputs: &[&str]) -> Option<usize> {
+        let mut place = 0usize;
+        for input in inputs {
+            if let Ok(other) = self.rt.metadata(*input) {
+                if are_one(found, &other) {
+                    return Some(place);
+                }
+            }
+            place = place.saturating_add(1);
+        }
+        None
+    }
+}
+
+impl<'a, R: Files> Again for Second<'a, R> {
+    type Found = R::File;
+
+    fn again(&mut self, name: &str) -> Result<R::File, Trouble> {
+        match self.rt.metadata(name) {
+            Ok(found) if found.is_dir() => return Err(Trouble::Folder),
+            // A pipe gives other bytes when it is read once more, or lets its reader wait for ever.
+            Ok(found) if !found.is_file() => return Err(Trouble::Other),
+            Ok(_) => {}
+            Err(error) => return Err(Trouble::of(error.kind())),
+        }
+        match fs::open(self.rt, name) {
+            Ok(file) => Ok(file),
+            Err(error) => Err(Trouble::of(error.kind())),
+        }
+    }
+
+    fn size(&mut self, name: &str) -> Option<u64> {
+        match self.rt.metadata(name) {
+            Ok(found) if found.is_file() => Some(found.len()),
+            _ => None,
+        }
+    }
+
+    fn unwritten(&mut self, name: &str, inputs: &[&str]) -> Option<Trouble> {
+        let opened = OpenOptions::new()
+            .write(true)
+            .create(true)
+            .open(self.rt, name);
+        let file = match opened {
+            Ok(file) => file,
+            Err(error) => return Some(Trouble::of(error.kind())),
+        };
+        let Ok(found) = file.metadata() else {
+            return Some(Trouble::Other);
+        };
+        if !found.is_file() {
+            return None;
+        }
+        match self.input_of(&found, inputs) {
+            Some(place) => Some(Trouble::Input(place)),
+            None => None,
+        }
+    }
+}

@@ -1,0 +1,261 @@
+//! Standard input and standard output in the place of files.
+use buck_engine::{Make, Open};
+use std::alloc::Global;
+use std::cell::{Cell, RefCell};
+use std::io;
+use std::io::{Error, ErrorKind};
+
+/// The name by which standard input is read, and standard output written.
+pub(crate) const DASH: &str = "-";
+
+/// What was read from a stream, as far as it is wanted and there is memory for it.
+#[derive(Drop)]
+pub(crate) struct Copied {
+    bytes: Vec<u8>,
+    wanted: bool,
+    count: u64,
+}
+
+impl Copied {
+    pub(crate) fn none(alloc: Global, wanted: bool) -> Copied {
+        Copied {
+            bytes: Vec::new(alloc),
+            wanted,
+            count: 0,
+        }
+    }
+
+    fn keep(&mut self, bytes: &[u8]) {
+        self.count = self.count.saturating_add(bytes.len() as u64);
+        if self.wanted && self.bytes.extend_from_slice(bytes).is_err() {
+            self.wanted = false;
+        }
+    }
+
+    /// What was read, where all of it was kept.
+    pub(crate) fn bytes(&self) -> Option<&[u8]> {
+        if self.wanted {
+            Some(self.bytes.as_slice())
+        } else {
+            None
+        }
+    }
+
+    /// How many bytes were read.
+    pub(crate) fn count(&self) -> u64 {
+        self.count
+    }
+}
+
+/// Standard input, which two may read in turn, and what was read from it.
+#[derive(Drop)]
+pub(crate) struct Inlet<'a, R> {
+    reader: RefCell<&'a mut R>,
+    copied: RefCell<Copied>,
+}
+
+impl<'a, R> Inlet<'a, R> {
+    pub(crate) fn of(reader: &'a mut R, copied: Copied) -> Inlet<'a, R> {
+        Inlet {
+            reader: RefCell::new(reader),
+            copied: RefCell::new(copied),
+        }
+    }
+
+    /// Keeps what was read.
+    fn keep(&self, bytes: &[u8]) {
+        if let Ok(mut copied) = self.copied.try_borrow_mut() {
+            copied.keep(bytes);
+        }
+    }
+
+    /// What was read.
+    pub(crate) fn into_copied(self) -> Copied {
+        let Inlet { reader: _, copied } = self;
+        copied.into_inner()
+    }
+}
+
+/// One of those who read standard input.
+#[derive(Drop)]
+pub(crate) struct Drawn<'a, 'b, R> {
+    pub(crate) inlet: &'a Inlet<'b, R>,
+}
+
+impl<'a, 'b, R: io::Read> io::Read for Drawn<'a, 'b, R> {
+    fn read(&mut self, buf: &mut [u8]) -> io::Result<usize> {
+        let Ok(mut reader) = self.inlet.reader.try_borrow_mut() else {
+            return Err(Error::from(ErrorKind::Other));
+        };
+        let count = reader.read(buf)?;
+        if let Some((read, _)) = buf.split_at_checked(count) {
+            self.inlet.keep(read);
+        }
+        Ok(count)
+    }
+}
+
+/// A file, or standard input.
+#[derive(Drop)]
+pub(crate) enum Opened<'a, 'b, F, R> {
+    File(F),
+    Input(Drawn<'a, 'b, R>),
+}
+
+impl<'a, 'b, F: io::Read, R: io::Read> io::Read for Opened<'a, 'b, F, R> {
+    ghost use Rattle.buck_command.specs.Inputs.{left_in};
+
+    // What is read of a file is what the file gives.
+    ghost remaining = { λ o. left_in F.remaining o };
+
+    fn read(&mut self, buf: &mut [u8]) -> io::Result<usize> {
+        match self {
+            Opened::File(file) => file.read(buf),
+            Opened::Input(input) => input.read(buf),
+        }
+    }
+}
+
+/// Standard output, which two may write to in turn.
+#[derive(Drop)]
+pub(crate) struct Outlet<'a, W> {
+    writer: RefCell<&'a mut W>,
+    /// Whether something couldn't be written.
+    failed: Cell<bool>,
+    /// Whether nobody reads any more what is written.
+    gone: Cell<bool>,
+}
+
+impl<'a, W> Outlet<'a, W> {
+    pub(crate) fn of(writer: &'a mut W) -> Outlet<'a, W> {
+        Outlet {
+            writer: RefCell::new(writer),
+            failed: Cell::new(false),
+            gone: Cell::new(false),
+        }
+    }
+
+    /// Whether something couldn't be written.
+    pub(crate) fn is_unwritten(&self) -> bool {
+        self.failed.get()
+    }
+
+    /// Whether nobody reads any more what is written.
+    pub(crate) fn is_gone(&self) -> bool {
+        self.gone.get()
+    }
+
+    /// Keeps an error in mind.
+    fn note(&self, error: &Error) {
+        self.failed.set(true);
+        if error.kind() == ErrorKind::BrokenPipe {
+            self.gone.set(true);
+        }
+    }
+}
+
+/// One of those who write to standard output.
+#[derive(Drop)]
+pub(crate) struct Shared<'a, 'b, W> {
+    pub(crate) outlet: &'a Outlet<'b, W>,
+}
+
+impl<'a, 'b, W: io::Write> io::Write for Shared<'a, 'b, W> {
+    fn write(&mut self, buf: &[u8]) -> io::Result<usize> {
+        let Ok(mut writer) = self.outlet.writer.try_borrow_mut() else {
+            return Err(Error::from(ErrorKind::Other));
+        };
+        let written = writer.write(buf);
+        if let Err(error) = &written {
+            self.outlet.note(error);
+        }
+        written
+    }
+
+    fn flush(&mut self) -> io::Result<()> {
+        let Ok(mut writer) = self.outlet.writer.try_borrow_mut() else {
+            return Err(Error::from(ErrorKind::Other));
+        };
+        let flushed = writer.flush();
+        if let Err(error) = &flushed {
+            self.outlet.note(error);
+        }
+        flushed
+    }
+}
+
+/// A file that is written anew, or standard output.
+#[derive(Drop)]
+pub(crate) enum Written<'a, 'b, M, W> {
+    Made(M),
+    Output(Shared<'a, 'b, W>),
+}
+
+impl<'a, 'b, M: io::Write, W: io::Write> io::Write for Written<'a, 'b, M, W> {
+    ghost use Rattle.buck_command.specs.Inputs.{stands_in};
+
+    // What stands in a file is what the file says.
+    ghost contents = { λ w. stands_in M.contents w };
+
+    fn write(&mut self, buf: &[u8]) -> io::Result<usize> {
+        match self {
+            Written::Made(file) => file.write(buf),
+            Written::Output(output) => output.write(buf),
+        }
+    }
+
+    fn flush(&mut self) -> io::Result<()> {
+        match self {
+            Written::Made(file) => file.flush(),
+            Written::Output(output) => output.flush(),
+        }
+    }
+}
+
+/// Files that another opens and makes, with standard input and output under the name `-`.
+#[derive(Drop)]
+pub(crate) struct Streamed<'a, 'b, 'c, 'd, O, R, W> {
+    pub(crate) files: O,
+    pub(crate) inlet: &'a Inlet<'b, R>,
+    pub(crate) outlet: &'c Outlet<'d, W>,
+}
+
+impl<'a, 'b, 'c, 'd, O: Open, R: io::Read, W> Open for Streamed<'a, 'b, 'c, 'd, O, R, W> {
+    type File = Opened<'a, 'b, O::File, R>;
+
+    ghost use Rattle.buck_command.specs.Inputs.{OpensElse};
+
+    // What is opened is what the other opens by this name, unless it is that of standard input.
+    ghost opens = { λ s name f v. OpensElse O.opens s.files name f v.files };
+
+    fn open(&mut self, name: &str) -> Option<Opened<'a, 'b, O::File, R>> {
+        if name == DASH {
+            return Some(Opened::Input(Drawn { inlet: self.inlet }));
+        }
+        match self.files.open(name) {
+            Some(file) => Some(Opened::File(file)),
+            None => None,
+        }
+    }
+}
+
+impl<'a, 'b, 'c, 'd, O: Make, R, W: io::Write> Make for Streamed<'a, 'b, 'c, 'd, O, R, W> {
+    type Made = Written<'c, 'd, O::Made, W>;
+
+    ghost use Rattle.buck_command.specs.Inputs.{MakesElse};
+
+    // What is made is what the other makes by this name, unless it is that of standard output.
+    ghost makes = { λ s name f v. MakesElse O.makes s.files name f v.files };
+
+    fn make(&mut self, name: &str) -> Option<Written<'c, 'd, O::Made, W>> {
+        if name == DASH {
+            return Some(Written::Output(Shared {
+                outlet: self.outlet,
+            }));
+        }
+        match self.files.make(name) {
+            Some(file) => Some(Written::Made(file)),
+            None => None,
+        }
+    }
+}

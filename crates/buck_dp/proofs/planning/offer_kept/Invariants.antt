@@ -1,0 +1,14 @@
+use Rattle.std.proofs.Common.{◌≡◌, ◌≤◌}
+use Rattle.buck_dp.specs.inner.Site.{ground_of}
+use Rattle.buck_dp.proofs.planning.offer_kept.Given as goal
+
+abbrev pub invariant-loop-search : goal.invariant-loop-search
+invariant-loop-search l = record {
+  ground : l.search.ground ≡ ground_of l.site;
+  low : l.near.low ≤ l.search.from;
+  high : l.search.from ≤ l.fn.search.from;
+  stop : l.search.stop ≡ 0;
+}
+
+abbrev pub decreases-loop-search : goal.decreases-loop-search
+decreases-loop-search l = l.search.from

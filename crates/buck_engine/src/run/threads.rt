@@ -1,0 +1,24 @@
+//! How many threads a run starts.
+ghost use Rattle.std.specs.Prelude.{◌<◌};
+
+use std::thread::{Threads, available_parallelism};
+
+/// How many threads there are where the machine doesn't say how many it has.
+const USUAL: usize = 4;
+
+/// The most threads that a run starts.
+const MOST: usize = 64;
+
+/// How many threads a run starts: as many as it is told, or as many as the machine has, and at most 64.
+pub(crate) fn number_of_threads<T: Threads>(rt: &T, told: Option<u8>) -> usize
+    ensures { 0 < result }
+{
+    let wanted = match told {
+        Some(number) => usize::from(number),
+        None => match available_parallelism(rt) {
+            Ok(number) => number.get(),
+            Err(_) => USUAL,
+        },
+    };
+    wanted.max(1).min(MOST)
+}

@@ -1,4 +1,0 @@
-use Rattle.buck_fleet_plays.proofs.callers.till_evening.Given as goal
-
-abbrev pub ghosts-day_of : goal.ghosts-day_of
-ghosts-day_of g a = record { name = a.blank.name; parts = a.blank.parts }

@@ -1,0 +1,135 @@
+-- A box of a kept book, and the calls that make it a pointer and back.
+use Rattle.std.proofs.Common.{List, [], ◌∷◌, refl}
+use Rattle.std.specs.contracts.impls.GlobalAllocator.TheImpl.{ghosts, dict}
+use seplogic.Ra.Ura.{Ura}
+use base.Fraction.{full_share}
+use base.Logic.{emp, emp∗, sep, ex}
+use base.Fml.{Lft, ftrue, fsep, flft}
+use mir.Raw.{raw as bare}
+use mir.Syntax.{Dict, impl, tnil, tcons, dnil, method, no_args}
+use contract.BorrowLft.{◌⊑◌}
+use contract.Monad.{fact, fact_i}
+use contract.Running.{Running}
+use prog.Model.{Model}
+use prog.Wired.{Wired}
+use types.Kit.{Item, Goal, Step, step, ‵, raw, ◌⊛◌, ◌$◌, ◌∵◌, !, qed, done, keep, move, use0, join, show}
+use types.Logic.{Logic, sem}
+use denote.Exit.{no}
+use denote.Param.{layout, arg}
+use denote.Param.Glue.{Met, signature, spent}
+use denote.Param.Laws.{Laws, arg_laws}
+use denote.Param.NoDrop.{glues}
+use denote.RattleType.{RattleType}
+use denote.Steps.{nothing}
+use denote.Triple.Carry.{beside, spared}
+use denote.Triple.Clauses.{Ended}
+use denote.Triple.Spec.{Spec, triple_of}
+use denote.Triple.Statement.{Contract}
+use denote.Triple.Table.{widened, run_framed}
+use Rattle.std.proofs.alloc.Global.TheLaws as heap_laws
+use Rattle.std.proofs.boxed.Box.TheLaws as box_laws
+use Rattle.std.specs.contracts.alloc.Global as heap
+use Rattle.std.specs.contracts.boxed.Box as box
+use Rattle.std.specs.contracts.boxed.Box.from_raw as from_raw
+use Rattle.std.specs.contracts.boxed.Box.into_raw as into_raw
+use Rattle.buck_held.proofs.Destruct++none.drop.Code as no_drop
+use Rattle.buck_held.proofs.buck_held++kept++Kept+Destruct.drop.Met.{met}
+use Rattle.buck_held.proofs.buck_held++kept++Kept+Destruct.drop.Symbol as drop_symbol
+use Rattle.buck_held.proofs.kept.Kept.TheLaws as kept_laws
+use Rattle.buck_held.specs.contracts.buck_held++kept++Kept+Destruct.drop as drop
+use Rattle.buck_held.specs.contracts.kept.Kept as kept
+
+abbrev pub Kept : RattleType
+Kept = kept.the_row
+
+abbrev pub Heap : RattleType
+Heap = heap.the_row
+
+abbrev pub Boxed : RattleType
+Boxed = box.the_row Kept Heap ghosts
+
+abbrev pub heap_Laws : Laws Heap
+heap_Laws = heap_laws.the_row_laws
+
+abbrev pub boxed_Laws : Laws Boxed
+boxed_Laws = box_laws.the_row_laws Kept Heap ghosts kept_laws.the_row_laws heap_Laws
+
+-- the two types as a call passes them. Neither names a lifetime
+abbrev pub KeptArg : RattleType
+KeptArg = arg (bare (layout Kept)) no Kept
+
+abbrev pub HeapArg : RattleType
+HeapArg = arg (bare (layout Heap)) no Heap
+
+abbrev pub kept_arg_Laws : Laws KeptArg
+kept_arg_Laws = arg_laws (bare (layout Kept)) no Kept kept_laws.the_row_laws refl
+
+abbrev pub heap_arg_Laws : Laws HeapArg
+heap_arg_Laws = arg_laws (bare (layout Heap)) no Heap heap_Laws refl
+
+kept_lives : (κ : Lft) → κ ⊑ KeptArg.lives
+kept_lives = kept_laws.the_within
+
+heap_lives : (κ : Lft) → κ ⊑ HeapArg.lives
+heap_lives = heap_laws.the_within
+
+-- what lets go of a handle of the heap, and of a kept book
+abbrev pub heap_drop : Dict
+heap_drop = impl ("buck_held::Destruct++none::drop" ∷ []) (tcons (layout HeapArg) tnil) dnil
+
+abbrev pub kept_drop : Dict
+kept_drop = impl ("buck_held::buck_held++kept++Kept+Destruct::drop" ∷ []) tnil dnil
+
+module _ {M : Type 1} (𝓤 : Ura M) (𝓛 : Logic 𝓤) (𝓜 : Model 𝓤 𝓛.H) (𝓡 : Running 𝓤 𝓛.H 𝓜) where
+  pub heap_drop_met : Wired 𝓡.env no_drop.code → Met 𝓛 𝓜 𝓡 𝓡.env HeapArg heap_drop
+  unfolding no_drop.code
+  heap_drop_met wired = glues "buck_held::Destruct++none::drop" 𝓡.env wired HeapArg heap_arg_Laws M 𝓤 𝓛 𝓜 𝓡
+
+  -- it asks nothing, and says nothing
+  abbrev silent : Spec 𝓤 drop.signature
+  silent κs a = record {
+    ghost = Unit {0};
+    requires = λ _. emp 𝓤;
+    ensures = λ _ r. ex 𝓤 (λ (ws : Unit {0} × Unit {0}). sep 𝓤 (sem 𝓛 (fsep ftrue ftrue)) (emp 𝓤));
+  }
+
+  pub kept_drop_met : Wired 𝓡.env drop_symbol.code → Met 𝓛 𝓜 𝓡 𝓡.env KeptArg kept_drop
+  kept_drop_met wired =
+      let it = 𝓡.env drop_symbol.name in let framed = run_framed 𝓤 𝓛.H 𝓜 𝓡 it in
+      let by_name = method kept_drop 0 no_args in let said = drop.spec 𝓛 𝓜.mem 𝓡.returns in
+      widened 𝓤 𝓛.H (triple_of 𝓛 (signature KeptArg) (spent 𝓛 KeptArg)) 𝓜 𝓡 𝓡.env it (𝓡.env by_name)
+      (drop_symbol.as_method 𝓡.env wired by_name refl)
+      (spared 𝓛 drop.signature (𝓡.run it) framed 1 (KeptArg.lives, tt) silent
+      (beside 𝓛 drop.signature (𝓡.run it) framed said silent (λ κs a g. g) (λ κs a g. emp 𝓤) (λ κs a g. emp∗ 𝓤 (emp 𝓤))
+      (λ κs a g r. qed 𝓛 (raw ((said κs a).ensures g r) ∷ raw (emp 𝓤) ∷ []) ∵ keep ! [] $
+      show ! (λ (ws : Unit {0} × Unit {0}). sep 𝓤 (sem 𝓛 (fsep ftrue ftrue)) (emp 𝓤)) (tt, tt) $
+      nothing ! $ nothing ! $ nothing ! $ join ! $ done !) (met 𝓤 𝓛 𝓜 𝓡 wired)))
+
+  abbrev pub IntoRaw : Contract 𝓤
+  IntoRaw = triple_of 𝓛 (into_raw.signature KeptArg HeapArg ghosts dict heap_drop kept_drop)
+      (into_raw.spec KeptArg HeapArg ghosts dict heap_drop kept_drop 𝓛 𝓜.mem 𝓡.returns)
+
+  abbrev pub FromRaw : Contract 𝓤
+  FromRaw = triple_of 𝓛 (from_raw.signature KeptArg HeapArg ghosts dict heap_drop)
+      (from_raw.spec KeptArg HeapArg ghosts dict heap_drop 𝓛 𝓜.mem 𝓡.returns)
+
+abbrev pub into_raw_ended : Ended
+into_raw_ended = into_raw.ended KeptArg HeapArg ghosts dict heap_drop kept_drop
+
+abbrev pub from_raw_ended : Ended
+from_raw_ended = from_raw.ended KeptArg HeapArg ghosts dict heap_drop
+
+-- the tokens of the two types' lifetimes, which don't end
+abbrev pub tokens : {M : Type 1} {𝓤 : Ura M} → Item 𝓤
+tokens = ‵ (flft [] full_share) ⊛ ‵ (flft [] full_share) ⊛ ‵ ftrue
+
+module _ {M : Type 1} {𝓤 : Ura M} {𝓛 : Logic 𝓤} {K : Type 0} {Γ : List (Item 𝓤)} {G : Goal 𝓤 𝓛.H} where
+  -- what such a call is handed: [the parameters; what it asks], beside what it asks of the lifetimes
+  pub hands : K → {P Q : Item 𝓤}
+      → Step K 𝓛 (((tokens ⊛ P) ⊛ (raw (fact 𝓤 ([] ⊑ KeptArg.lives)) ⊛ raw (fact 𝓤 ([] ⊑ HeapArg.lives)) ⊛ Q)) ∷ Γ) G (P ∷ Q ∷ Γ) G
+  hands t = step (λ rest.
+      move t (1 ∷ []) $
+      use0 𝓛 (raw (fact 𝓤 ([] ⊑ HeapArg.lives))) (fact_i 𝓤 ([] ⊑ HeapArg.lives) (emp 𝓤) (heap_lives [])) $ join t $
+      use0 𝓛 (raw (fact 𝓤 ([] ⊑ KeptArg.lives))) (fact_i 𝓤 ([] ⊑ KeptArg.lives) (emp 𝓤) (kept_lives [])) $ join t $
+      move t (1 ∷ []) $ nothing t $ use0 𝓛 (‵ (flft [] full_share)) (𝓛.lfts.lft-nil full_share) $ join t $
+      use0 𝓛 (‵ (flft [] full_share)) (𝓛.lfts.lft-nil full_share) $ join t $ join t $ join t $ rest)

@@ -1,0 +1,29 @@
+-- Felled stems as a caller in another language has them, and why one isn't cut.
+use Rattle.std.specs.Prelude.{◌≡◌, ℕ, ◌<◌, ◌≤◌, List, length, map}
+use Rattle.buck_stem.specs.Stem.{StemParts, IsStem, stem_of}
+use Rattle.buck_held.specs.declared.felling.Felled.{Felled}
+use Rattle.buck_held.specs.declared.felling.Zone.{Zone}
+use Rattle.buck_held.specs.declared.felling.FellFault.{FellFault}
+use Rattle.buck_held.specs.declared.felling.FellFault.TheVariants.{Harvester, Stem, Full, Memory}
+use Rattle.buck_held.specs.Kept.{KeptParts}
+
+abbrev pub pair_of : Zone → ℕ × ℕ
+pair_of z = (z.start, z.grade)
+
+-- the stem of these parts
+abbrev pub stem_by : Felled → List ℕ → List Zone → StemParts
+stem_by felled samples zones = stem_of felled.number felled.species samples (map pair_of zones)
+
+-- why there is no stem: it is outside the limits, or memory ran out
+abbrev pub IsStemFault : StemParts → FellFault → Type 0
+IsStemFault stem Harvester = ⊥
+IsStemFault stem Stem = IsStem stem → ⊥
+IsStemFault stem Full = ⊥
+IsStemFault stem Memory = Unit {0}
+
+-- why a stem isn't cut
+abbrev pub IsFellFault : KeptParts → Felled → StemParts → FellFault → Type 0
+IsFellFault before felled stem Harvester = 0 < felled.harvester → felled.harvester ≤ 64 → ⊥
+IsFellFault before felled stem Stem = IsStem stem → ⊥
+IsFellFault before felled stem Full = length before.history.postings ≡ before.capacity
+IsFellFault before felled stem Memory = Unit {0}

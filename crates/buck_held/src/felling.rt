@@ -1,0 +1,121 @@
+//! Stems as a caller in another language has them, cut one by one.
+ghost use Rattle.std.specs.Prelude.{◌≡◌, IfOk, IfErr, map};
+ghost use Rattle.buck_held.specs.Kept.{HasCut, SameTerms};
+ghost use Rattle.buck_held.specs.Felled.{pair_of, stem_by, IsFellFault, IsStemFault};
+
+use crate::cutting::CutRefusal;
+use crate::kept::Kept;
+use buck_book::Entry;
+use buck_stem::{Stem, StemFault};
+use std::alloc::{AllocError, Global};
+use std::sync::Arc;
+use thiserror::Error;
+
+/// A felled stem, but for its diameters and its zones.
+#[repr(C)]
+#[derive(Clone, Copy, Drop)]
+pub struct Felled {
+    /// Who cuts it, 1 to 64.
+    pub harvester: u32,
+    /// The stem's number.
+    pub number: u32,
+    /// Its species, 1 to 255.
+    pub species: u8,
+}
+
+/// A zone of a stem: the grade from a place on.
+#[repr(C)]
+#[derive(Clone, Copy, Drop)]
+pub struct Zone {
+    /// Where it starts, in mm from the butt.
+    pub start: u32,
+    /// Its grade, 1 to 8.
+    pub grade: u8,
+}
+
+/// Why a felled stem wasn't cut. The book is then as before.
+#[derive(Clone, Copy, PartialEq, Eq, Debug, Drop, Error)]
+pub enum FellFault {
+    /// The harvester isn't from 1 to 64.
+    #[error("the harvester is not from 1 to 64")]
+    Harvester,
+    /// The stem is outside the limits of a stem file.
+    #[error("the stem is outside the limits")]
+    Stem,
+    /// The history is at its capacity.
+    #[error("the history is at its capacity")]
+    Full,
+    /// A growth was refused.
+    #[error("out of memory")]
+    Memory,
+}
+
+/// The zones as a stem has them.
+fn zones_of(alloc: Global, zones: &[Zone]) -> Result<Vec<(u32, u8)>, AllocError>
+    ensures { IfOk result (λ pairs. pairs.items ≡ map pair_of zones.now) }
+{
+    let mut pairs = Vec::with_capacity(alloc, zones.len())?;
+    for zone in zones {
+        pairs.push((zone.start, zone.grade))?;
+    }
+    Ok(pairs)
+}
+
+/// The stem of these parts.
+fn stem_of(
+    alloc: Global,
+    felled: &Felled,
+    samples: &[u16],
+    zones: &[Zone],
+) -> Result<Arc<Stem>, FellFault>
+    ensures made { IfOk result (λ stem. stem.value ≡ stem_by felled.now samples.now zones.now) }
+    ensures refused { IfErr result (λ fault. IsStemFault (stem_by felled.now samples.now zones.now) fault) }
+{
+    let Ok(zones) = zones_of(alloc, zones) else {
+        return Err(FellFault::Memory);
+    };
+    let Ok(samples) = Vec::from_slice(alloc, samples) else {
+        return Err(FellFault::Memory);
+    };
+    match Stem::make(alloc, felled.number, felled.species, samples, zones) {
+        Ok(stem) => match Arc::new(alloc, stem) {
+            Ok(stem) => Ok(stem),
+            Err(_) => Err(FellFault::Memory),
+        },
+        Err(StemFault::Limits) => Err(FellFault::Stem),
+        Err(_) => Err(FellFault::Memory),
+    }
+}
+
+impl Kept {
+    /// Cuts a felled stem as [`cut`](Kept::cut) does: with its diameters in mm under bark, one per 100 mm from the
+    /// butt, and its zones. Refused as `Harvester` where that isn't from 1 to 64, else as `Stem` where the stem is
+    /// outside the limits of a stem file, else as `Full` at the capacity, and as `Memory` where a growth was refused.
+    pub fn fell(
+        &mut self,
+        alloc: Global,
+        felled: &Felled,
+        samples: &[u16],
+        zones: &[Zone],
+    ) -> Result<Entry, FellFault>
+        ensures terms { SameTerms self.old self.new }
+        ensures cut { IfOk result (HasCut self.old.rule felled.now.harvester
+            (stem_by felled.now samples.now zones.now) self.old.history self.new.history) }
+        ensures left { IfErr result (λ _. self.new ≡ self.old) }
+        ensures refused { IfErr result (IsFellFault self.old felled.now (stem_by felled.now samples.now zones.now)) }
+    {
+        let harvester = felled.harvester;
+        if harvester == 0 {
+            return Err(FellFault::Harvester);
+        }
+        if harvester > 64 {
+            return Err(FellFault::Harvester);
+        }
+        let stem = stem_of(alloc, felled, samples, zones)?;
+        match self.cut(alloc, harvester, stem) {
+            Ok(entry) => Ok(entry),
+            Err(CutRefusal::Full) => Err(FellFault::Full),
+            Err(CutRefusal::Memory) => Err(FellFault::Memory),
+        }
+    }
+}

@@ -1,0 +1,52 @@
+//! The block of a caller's memory that a kept book is handed out in.
+ghost use Rattle.std.specs.Prelude.{◌≡◌, Some, None, IfSome, IfNone, IsTrue, ◌↔◌, IsSome};
+ghost use Rattle.buck_held.specs.Slot.{IsMarked};
+
+use crate::handle::Handle;
+use crate::kept::Kept;
+use std::alloc::Global;
+use std::mem::replace;
+
+/// What stands in a block that holds a book.
+const MARK: u64 = 7_094_686_100_856_205_163;
+
+/// A block of a caller's memory, which holds a book or none. One of zeros holds none.
+#[repr(C)]
+#[derive(Drop)]
+pub struct Slot {
+    mark: u64,
+    /// What it owns.
+    pub handle: Handle,
+    ghost marked: { IsMarked mark handle.held },
+}
+
+impl Slot {
+    /// Takes the book out, if there is one; the block then holds none.
+    pub fn take(&mut self, alloc: Global) -> Option<Box<Kept>>
+        ensures some { IfSome result (λ book. self.old.handle.held ≡ Some book.value) }
+        ensures none { IfNone result (self.old.handle.held ≡ None) }
+        ensures left { self.new.handle.held ≡ None }
+    {
+        if self.mark != MARK {
+            return None;
+        }
+        let handle = replace(&mut self.handle, Handle::none());
+        self.mark = 0;
+        Some(handle.into_box(alloc))
+    }
+
+    /// Puts a book into a block that holds none.
+    pub fn put(&mut self, book: Box<Kept>)
+        ensures { self.new.handle.held ≡ Some book.value }
+    {
+        self.handle = Handle::of(book);
+        self.mark = MARK;
+    }
+
+    /// Whether it holds a book.
+    pub fn is_open(&self) -> bool
+        ensures { IsTrue result ↔ IsSome self.now.handle.held }
+    {
+        self.mark == MARK
+    }
+}

@@ -1,0 +1,145 @@
+-- A run over an input that goes on.
+use Rattle.std.proofs.Common.{◌≡◌, ℕ, ◌⊎◌, inl, inr, List, [], ◌∷◌, ◌++◌, Option, Some, None, Ok, Err, length, take, refl, sym, ap, subst, ◌∙◌, append_assoc, append-nil, le_refl, take_all}
+use Rattle.std.proofs.KnownBytes.{Appends-nil, Appends-trans}
+use Rattle.std.specs.Prelude.{IfSome}
+use Rattle.std.specs.Io.KnownBytes.{Appends, Keeps}
+use Rattle.buck_book.specs.History.{HistoryParts}
+use Rattle.buck_engine.specs.declared.fault.EngineFault.{EngineFault}
+use Rattle.buck_engine.specs.run.Serving.{AppendsFirst}
+use Rattle.buck_live.specs.Lines.{lines_of}
+use Rattle.buck_live.specs.Answers.{AnswersLine, AnswersAll}
+use Rattle.buck_live.specs.Live.{HasAnswered, AnsweredAll, StoppedReading, StoppedWriting, IsLiveRun}
+use Rattle.buck_live.specs.inner.Reading.{IsNext, IsLast, IsRead}
+use Rattle.buck_live.specs.inner.Running.{AreTaken, IsAt, HasStepped, HasFailed, IsStep}
+use Rattle.buck_live.specs.declared.lines.End.{End}
+use Rattle.buck_live.specs.declared.lines.End.TheVariants.{Feed, Input}
+
+-- one line more
+all_then : (h m after : HistoryParts) (lines : List (Option (List ℕ))) (line : Option (List ℕ)) (text last : List ℕ)
+    → AnswersAll h lines text m → AnswersLine m line last after → AnswersAll h (lines ++ line ∷ []) (text ++ last) after
+all_then h m after [] line text last all answer = (
+  after,
+  last,
+  [],
+  subst (λ (x : HistoryParts). AnswersLine x line last after) all.1 answer,
+  (refl, refl),
+  ap (λ (t : List ℕ). t ++ last) all.0 ∙ sym (append-nil last),
+)
+all_then h m after (l ∷ lines) line text last (between, first, rest, one, more, is) answer = (
+  between,
+  first,
+  rest ++ last,
+  one,
+  all_then between m after lines line rest last more answer,
+  ap (λ (t : List ℕ). t ++ last) is ∙ append_assoc first rest last,
+)
+
+taken_then : (input mid left : Option (List ℕ)) (lines : List (Option (List ℕ))) (line : Option (List ℕ))
+    → AreTaken input lines mid → IsNext mid line left → AreTaken input (lines ++ line ∷ []) left
+taken_then None mid left lines line taken next = tt
+taken_then (Some x) None left lines line taken next = absurd taken
+taken_then (Some x) (Some y) None lines line taken next = absurd next
+taken_then (Some x) (Some y) (Some z) lines line taken next =
+    taken ∙ ap (λ (l : List (Option (List ℕ))). lines ++ l) next ∙ sym (append_assoc lines (line ∷ []) (lines_of z))
+
+taken_last : (input mid : Option (List ℕ)) (lines : List (Option (List ℕ))) (line : Option (List ℕ))
+    → AreTaken input lines mid → IsLast mid line → IfSome input (λ bytes. lines_of bytes ≡ (lines ++ line ∷ []) ++ [])
+taken_last None mid lines line taken next = tt
+taken_last (Some x) None lines line taken next = absurd taken
+taken_last (Some x) (Some y) lines line taken next =
+    taken ∙ ap (λ (l : List (Option (List ℕ))). lines ++ l) next ∙ sym (append-nil (lines ++ line ∷ []))
+
+-- what is left
+left_of : (input mid : Option (List ℕ)) (lines : List (Option (List ℕ))) → AreTaken input lines mid
+    → (left : List (Option (List ℕ))) × IfSome input (λ bytes. lines_of bytes ≡ lines ++ left)
+left_of None mid lines taken = ([], tt)
+left_of (Some x) None lines taken = absurd taken
+left_of (Some x) (Some y) lines taken = (lines_of y, taken)
+
+left_after : (input mid left : Option (List ℕ)) (lines : List (Option (List ℕ))) (line : Option (List ℕ)) (end : End)
+    → AreTaken input lines mid → IsRead mid left line end
+    → (more : List (Option (List ℕ))) × IfSome input (λ bytes. lines_of bytes ≡ lines ++ line ∷ more)
+left_after None mid left lines line end taken read = ([], tt)
+left_after (Some x) None left lines line end taken read = absurd taken
+left_after (Some x) (Some y) None lines line Feed taken read = absurd read
+left_after (Some x) (Some y) (Some z) lines line Feed taken read = (lines_of z, taken ∙ ap (λ (l : List (Option (List ℕ))). lines ++ l) read)
+left_after (Some x) (Some y) left lines line Input taken read = ([], taken ∙ ap (λ (l : List (Option (List ℕ))). lines ++ l) read)
+
+kept_after : (a b c : Option (List ℕ)) (bs : List ℕ) → Appends a b bs → Keeps b c → Appends a c bs
+kept_after None b c bs p q = tt
+kept_after (Some x) None c bs p q = absurd p
+kept_after (Some x) (Some y) None bs p q = absurd q
+kept_after (Some x) (Some y) (Some z) bs p q = q ∙ p
+
+-- all of an answer was written, and what follows was not
+pub all_said : (a b c : Option (List ℕ)) (text : List ℕ) → Appends a b text → Keeps b c → AppendsFirst a c text
+all_said a b c text p q = (length text, le_refl _, subst (Appends a c) (sym (take_all (length text) text (le_refl _))) (kept_after a b c text p q))
+
+started_at : (input : Option (List ℕ)) → AreTaken input [] input
+started_at None = tt
+started_at (Some x) = refl
+
+-- before the first line
+pub started : (h : HistoryParts) (input old : Option (List ℕ)) → IsAt h input input old old h
+started h input old = record { lines = []; text = []; answers = (refl, refl); taken = started_at input; written = Appends-nil old }
+
+-- a line was answered, and more come
+pub stepped : (h now after : HistoryParts) (input mid left old was new : Option (List ℕ))
+    → IsAt h input mid old was now → HasStepped now mid left was new Feed after → IsAt h input left old new after
+stepped h now after input mid left old was new at step = record {
+  lines = at.lines ++ step.line ∷ [];
+  text = at.text ++ step.text;
+  answers = all_then h now after at.lines step.line at.text step.text at.answers step.answer;
+  taken = taken_then input mid left at.lines step.line at.taken step.read;
+  written = Appends-trans old was new at.text step.text at.written step.written;
+}
+
+-- the last line was answered
+pub ended : (h now after : HistoryParts) (input mid left old was new : Option (List ℕ))
+    → IsAt h input mid old was now → HasStepped now mid left was new Input after → AnsweredAll h input old new after
+ended h now after input mid left old was new at step = record {
+  text = at.text ++ step.text;
+  answered = record {
+    lines = at.lines ++ step.line ∷ [];
+    answers = all_then h now after at.lines step.line at.text step.text at.answers step.answer;
+    read = taken_last input mid at.lines step.line at.taken step.read;
+  };
+  written = Appends-trans old was new at.text step.text at.written step.written;
+}
+
+-- nothing more can be read
+pub unread : (h now : HistoryParts) (input mid old was new : Option (List ℕ))
+    → IsAt h input mid old was now → Keeps was new → StoppedReading h input old new now
+unread h now input mid old was new at kept =
+    let left = left_of input mid at.lines at.taken in
+    record {
+      left = left.0;
+      text = at.text;
+      answered = record { lines = at.lines; answers = at.answers; read = left.1 };
+      written = kept_after old was new at.text at.written kept;
+    }
+
+-- an answer can't be written
+unsaid : (h now after : HistoryParts) (input mid old was new : Option (List ℕ))
+    → IsAt h input mid old was now → HasFailed now mid was new after → StoppedWriting h input old new after
+unsaid h now after input mid old was new at step =
+    let left = left_after input mid step.left at.lines step.line step.end at.taken step.read in
+    record {
+      line = step.line;
+      left = left.0;
+      between = now;
+      text = at.text;
+      last = step.text;
+      answered = record { lines = at.lines; answers = at.answers; read = left.1 };
+      answer = step.answer;
+      size = step.written.0;
+      part = step.written.1;
+      written = Appends-trans old was new at.text (take step.written.0 step.text) at.written step.written.2;
+    }
+
+pub stopped : (h now after : HistoryParts) (input mid left old was new : Option (List ℕ)) (fault : EngineFault)
+    → IsAt h input mid old was now → IsStep now mid left was new (Err fault) after → IsLiveRun h input old new (Err fault) after
+stopped h now after input mid left old was new fault at step = elim step [
+  | inl reading ↦ inl (reading.0, subst (StoppedReading h input old new) (sym reading.1) (unread h now input mid old was new at reading.2))
+  | inr writing ↦ inr (writing.0, unsaid h now after input mid old was new at writing.1)
+]

@@ -1,0 +1,8 @@
+use Rattle.std.proofs.Common.{◌≡◌, ◌++◌, take}
+use Rattle.std.specs.List.{flat_map}
+use Rattle.std.specs.Prelude.{codes}
+use Rattle.buck_live.specs.Request.{stem_text}
+use Rattle.buck_live.proofs.request.stem_file.Given as goal
+
+abbrev pub invariant-loop-item : goal.invariant-loop-item
+invariant-loop-item l = l.text.items ≡ codes "1 2 STM~" ++ flat_map stem_text (take l.item-index l.items)

@@ -1,0 +1,6 @@
+pub mod Lines
+pub mod Request
+pub mod Answers
+pub mod Live
+pub mod Serving
+pub mod inner

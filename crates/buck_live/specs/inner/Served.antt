@@ -1,0 +1,38 @@
+-- What the journal of a run of requests goes into.
+use Rattle.std.specs.Prelude.{◌≡◌, ◌⊎◌, ℕ, List, Option, Some, None, Result, Ok, Err}
+use Rattle.std.specs.Io.KnownBytes.{Keeps}
+use Rattle.buck_apt.specs.Instruction.{InstructionParts}
+use Rattle.buck_book.specs.History.{HistoryParts}
+use Rattle.buck_engine.specs.declared.fault.EngineFault.{EngineFault}
+use Rattle.buck_engine.specs.declared.fault.EngineFault.TheVariants.{Write, Memory}
+use Rattle.buck_engine.specs.fleet.Lent.{OfWriter, no_writer, of_writer}
+use Rattle.buck_live.specs.Serving.{KeepsJournal, IsLive}
+
+-- where a journal is wanted, its file is made by its name; where that can't be, it is a write fault
+abbrev pub MakesJournal : {O M : Type 0} → (O → List ℕ → Option M → O → Type 0) → O → O → Option (List ℕ)
+    → Result (Option M) EngineFault → Type 0
+MakesJournal makes old new None (Ok None) = new ≡ old
+MakesJournal makes old new None (Ok (Some made)) = ⊥
+MakesJournal makes old new None (Err fault) = ⊥
+MakesJournal makes old new (Some name) (Ok None) = ⊥
+MakesJournal makes old new (Some name) (Ok (Some made)) = makes old name (Some made) new
+MakesJournal makes old new (Some name) (Err fault) = (fault ≡ Write) × makes old name None new
+
+-- the journal of a history was written, where there is a file for it
+abbrev pub KeepsMade : {M : Type 0} → (M → Option (List ℕ)) → HistoryParts → Option M
+    → Result (Unit {0}) EngineFault → Type 0
+KeepsMade contents h None result = KeepsJournal no_writer h result
+KeepsMade contents h (Some made) result =
+    (left : _) × KeepsJournal (of_writer (contents made) (contents left)) h result
+
+-- requests were answered, or memory ran out before
+abbrev pub RanOrNot : InstructionParts → Option (List ℕ) → OfWriter → Option (List ℕ) → Option (List ℕ)
+    → Result (Unit {0}) EngineFault → Type 0
+RanOrNot i input OfJournal old new outcome =
+    ((outcome ≡ Err Memory) × OfJournal Keeps × Keeps old new) ⊎ IsLive i input OfJournal old new outcome
+
+abbrev pub IsLiveMade : {M : Type 0} → (M → Option (List ℕ)) → InstructionParts → Option (List ℕ) → Option M
+    → Option (List ℕ) → Option (List ℕ) → Result (Unit {0}) EngineFault → Type 0
+IsLiveMade contents i input None old new outcome = RanOrNot i input no_writer old new outcome
+IsLiveMade contents i input (Some made) old new outcome =
+    (left : _) × RanOrNot i input (of_writer (contents made) (contents left)) old new outcome

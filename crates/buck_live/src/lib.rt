@@ -1,0 +1,17 @@
+//! Stems that are cut as they are felled: requests, one a line, each answered before the next is read.
+//!
+//! [`read_request`] says what a line asks for. [`Live`] is a book of one thread that answers lines, and [`serve_live`]
+//! a whole run of the program, from its [`LiveTask`] to its exit status.
+#![tactic(auto)]
+
+mod answering;
+mod lines;
+mod live;
+mod request;
+mod serving;
+mod slots;
+
+pub use buck_apt::Settings;
+pub use live::Live;
+pub use request::{Asked, Request, read_request};
+pub use serving::{LiveTask, serve_live};

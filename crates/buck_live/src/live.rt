@@ -1,0 +1,198 @@
+//! Requests, one after the other, each answered before the next is read.
+ghost use Rattle.std.specs.Prelude.{◌≡◌, ◌≤◌, IfOk, vec_capacity};
+ghost use Rattle.buck_rule.specs.Stored.{Answers};
+ghost use Rattle.buck_book.specs.Book.{IsBook};
+ghost use Rattle.buck_journal.specs.Written.{journal_text};
+ghost use Rattle.buck_live.specs.Answers.{most_postings, opening};
+ghost use Rattle.buck_live.specs.Lines.{longest_line};
+ghost use Rattle.buck_live.specs.Live.{IsLiveRun};
+ghost use Rattle.buck_live.specs.inner.Answering.{told};
+ghost use Rattle.buck_live.specs.inner.Running.{IsSaid, IsStep};
+
+use crate::answering::answer;
+use crate::lines::{End, LONGEST, read_bytes, whole};
+use buck_apt::Instruction;
+use buck_book::Book;
+use buck_dp::Planner;
+use buck_engine::{EngineFault, write_fault, write_text};
+use buck_journal::journal_text;
+use buck_record::Memory;
+use buck_rule::{Rule, Standing};
+use std::alloc::Global;
+use std::io;
+use std::marker::Model;
+use std::sync::Arc;
+
+/// The most postings that a book may have.
+const CAPACITY: u32 = 1_000_000;
+
+/// A book of one thread that answers requests as they come. Its history is lawful at every moment.
+#[derive(Drop)]
+pub struct Live<F> {
+    book: Book<F>,
+    planner: Planner,
+    line: Vec<u8>,
+}
+
+impl<F> Model for Live<F> {
+    ghost use Rattle.std.specs.Prelude.{◌≡◌, ◌≤◌, vec_capacity};
+    ghost use Rattle.buck_book.specs.Book.{BookParts};
+    ghost use Rattle.buck_live.specs.Answers.{most_postings};
+    ghost use Rattle.buck_live.specs.Lines.{longest_line};
+
+    ghost Value = { BookParts F };
+
+    ghost view = { λ l. l.book };
+
+    ghost invariant = { λ l. (longest_line ≤ vec_capacity l.line) × (l.book.capacity ≡ most_postings) };
+}
+
+/// Writes an answer: a text, or the line of a fault.
+fn put<W: io::Write>(out: &mut W, answer: &Result<Vec<u8>, EngineFault>) -> Result<(), EngineFault>
+    ensures { IsSaid (W.contents out.old) (W.contents out.new) (told answer.now) result }
+{
+    match answer {
+        Ok(text) => write_text(out, text.as_slice()),
+        Err(fault) => {
+            if write_fault(out, fault) {
+                Ok(())
+            } else {
+                Err(EngineFault::Write)
+            }
+        }
+    }
+}
+
+/// Writes an answer, and lets nothing of it wait in a buffer.
+fn say<W: io::Write>(out: &mut W, answer: &Result<Vec<u8>, EngineFault>) -> Result<(), EngineFault>
+    ensures { IsSaid (W.contents out.old) (W.contents out.new) (told answer.now) result }
+{
+    put(out, answer)?;
+    match out.flush() {
+        Ok(()) => Ok(()),
+        Err(_) => Err(EngineFault::Write),
+    }
+}
+
+/// Reads the next line and answers it.
+fn answer_next<F: Fn(&Standing) -> u64 + Drop, R: io::Read, W: io::Write>(
+    alloc: Global,
+    book: &mut Book<F>,
+    planner: &mut Planner,
+    line: &mut Vec<u8>,
+    input: &mut R,
+    out: &mut W,
+) -> Result<End, EngineFault>
+    requires answers { Answers F.Fn book.old.rule }
+    requires capacity { book.old.capacity ≡ most_postings }
+    requires room { longest_line ≤ vec_capacity line.old }
+    ensures rule { book.new.rule ≡ book.old.rule }
+    ensures capacity { book.new.capacity ≡ book.old.capacity }
+    ensures room { vec_capacity line.new ≡ vec_capacity line.old }
+    ensures step { IsStep book.old.history (R.remaining input.old) (R.remaining input.new)
+        (W.contents out.old) (W.contents out.new) result book.new.history }
+{
+    let Ok(found) = read_bytes(input, line) else {
+        return Err(EngineFault::Read { file: 1 });
+    };
+    let answer = answer(alloc, book, planner, whole(line.as_slice(), found));
+    say(out, &answer)?;
+    Ok(found.end)
+}
+
+/// Reads all lines and answers each before it reads the next.
+fn answer_all<F: Fn(&Standing) -> u64 + Drop, R: io::Read, W: io::Write>(
+    alloc: Global,
+    book: &mut Book<F>,
+    planner: &mut Planner,
+    line: &mut Vec<u8>,
+    input: &mut R,
+    out: &mut W,
+) -> Result<(), EngineFault>
+    requires answers { Answers F.Fn book.old.rule }
+    requires capacity { book.old.capacity ≡ most_postings }
+    requires room { longest_line ≤ vec_capacity line.old }
+    ensures rule { book.new.rule ≡ book.old.rule }
+    ensures capacity { book.new.capacity ≡ book.old.capacity }
+    ensures room { vec_capacity line.new ≡ vec_capacity line.old }
+    ensures run { IsLiveRun book.old.history (R.remaining input.old)
+        (W.contents out.old) (W.contents out.new) result book.new.history }
+{
+    'requests: for _ in 0..u64::MAX {
+        match answer_next(alloc, book, planner, line, input, out) {
+            Err(fault) => return Err(fault),
+            Ok(End::Input) => return Ok(()),
+            Ok(End::Feed) => {}
+        }
+    }
+    Err(EngineFault::Read { file: 1 })
+}
+
+/// The journal of a book.
+fn journal_of<F: Drop>(alloc: Global, book: &Book<F>) -> Result<Vec<u8>, Memory>
+    ensures { IfOk result (λ text.
+        text.items ≡ journal_text book.now.history.sheets book.now.history.postings) }
+{
+    journal_text(alloc, book.sheets(), book.entries())
+}
+
+impl<F: Fn(&Standing) -> u64 + Drop> Live<F> {
+    /// A book with no posting and the base sheet in force. Refused as `Memory` alone.
+    pub fn open(
+        alloc: Global,
+        instruction: Arc<Instruction>,
+        rule: Rule<F>,
+    ) -> Result<Live<F>, Memory>
+        ensures rule { IfOk result (λ l. l.rule ≡ rule) }
+        ensures history { IfOk result (λ l. l.history ≡ opening instruction.value) }
+    {
+        let book = Book::open(alloc, instruction, rule, CAPACITY)?;
+        let planner = Planner::make(alloc, book.sheet().clone()?)?;
+        let line = Vec::with_capacity(alloc, LONGEST)?;
+        Ok(Live {
+            book,
+            planner,
+            line,
+        })
+    }
+
+    /// Reads requests, one a line, and answers each before it reads the next: no byte of the input is asked for while
+    /// an answer isn't written and flushed. The input is read byte by byte; a slow one is to be buffered. It goes on to
+    /// the end of the input, whatever is refused.
+    ///
+    /// `Read` with the number 1 comes where the input can't be read, and `Write` where an answer can't be written; what
+    /// was cut before stands, and so does what an answer says that wasn't written.
+    pub fn run<R: io::Read, W: io::Write>(
+        &mut self,
+        alloc: Global,
+        input: &mut R,
+        out: &mut W,
+    ) -> Result<(), EngineFault>
+        requires answers { Answers F.Fn self.old.rule }
+        ensures rule { self.new.rule ≡ self.old.rule }
+        // The history is lawful, and each cutting the first of the best under the sheet of its place.
+        ensures kept { IsBook self.new }
+        // Each line has its answer, by the history that came of those before it; a fault comes after the first lines.
+        ensures run { IsLiveRun self.old.history (R.remaining input.old)
+            (W.contents out.old) (W.contents out.new) result self.new.history }
+    {
+        let Live {
+            book,
+            planner,
+            line,
+        } = self;
+        let ran = answer_all(alloc, book, planner, line, input, out);
+        let _kept = book.len();
+        ran
+    }
+}
+
+impl<F: Drop> Live<F> {
+    /// The journal of all postings so far. Refused as `Memory` alone.
+    pub fn journal(&self, alloc: Global) -> Result<Vec<u8>, Memory>
+        ensures { IfOk result (λ text.
+            text.items ≡ journal_text self.now.history.sheets self.now.history.postings) }
+    {
+        journal_of(alloc, &self.book)
+    }
+}

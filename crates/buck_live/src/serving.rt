@@ -1,0 +1,190 @@
+//! Whole runs of requests, from the task to the exit status.
+ghost use Rattle.std.specs.Prelude.{◌≡◌, IfOk, IfErr, Result};
+ghost use Rattle.std.specs.Option.{option_map};
+ghost use Rattle.buck_rule.specs.Stored.{Answers};
+ghost use Rattle.buck_engine.specs.declared.fault.EngineFault.{EngineFault};
+ghost use Rattle.buck_engine.specs.run.Serving.{TellsOutcome, status_after};
+ghost use Rattle.buck_engine.specs.fleet.Lent.{of_writer};
+ghost use Rattle.buck_live.specs.Answers.{opening};
+ghost use Rattle.buck_live.specs.Serving.{KeepsJournal, RunsLive, first_fault};
+ghost use Rattle.buck_live.specs.inner.Served.{IsLiveMade, KeepsMade, MakesJournal};
+
+use crate::live::Live;
+use buck_apt::{Instruction, Settings};
+use buck_engine::{
+    EngineFault, Make, NamedRule, Open, conclude, open_inputs, read_instruction, write_text,
+};
+use buck_rule::{Rule, Standing, linear, steady, step};
+use std::alloc::Global;
+use std::io;
+use std::sync::Arc;
+
+/// What the words of the command line ask of a run of requests.
+#[derive(Drop)]
+pub struct LiveTask<'a> {
+    /// How prices follow what was cut.
+    pub rule: NamedRule,
+    /// What is put in the place of the instruction's own numbers.
+    pub settings: Settings,
+    /// The name of the file that the journal goes into, where one is wanted.
+    pub journal: Option<&'a str>,
+    /// The name of the instruction file.
+    pub apt: &'a str,
+}
+
+/// Makes the file of the journal, where one is wanted. One that can't be made is `Write`.
+fn make_journal<M: Make>(maker: &mut M, name: Option<&str>) -> Result<Option<M::Made>, EngineFault>
+    ensures { MakesJournal M.makes maker.old maker.new (option_map (λ s. s.now) name.entry) result }
+{
+    match name {
+        None => Ok(None),
+        Some(name) => match maker.make(name) {
+            None => Err(EngineFault::Write),
+            Some(made) => Ok(Some(made)),
+        },
+    }
+}
+
+/// Writes the journal of a book.
+fn write_journal<F: Drop, J: io::Write>(
+    alloc: Global,
+    live: &Live<F>,
+    journal: &mut J,
+) -> Result<(), EngineFault>
+    ensures { KeepsJournal (of_writer (J.contents journal.old) (J.contents journal.new)) live.now.history result }
+{
+    let text = live.journal(alloc)?;
+    write_text(journal, text.as_slice())
+}
+
+/// Writes the journal of a book into the file that was made for it, where there is one.
+fn keep_journal<F: Drop, J: io::Write + Drop>(
+    alloc: Global,
+    live: &Live<F>,
+    journal: Option<J>,
+) -> Result<(), EngineFault>
+    ensures { KeepsMade J.contents live.now.history journal result }
+{
+    match journal {
+        None => Ok(()),
+        Some(mut journal) => write_journal(alloc, live, &mut journal),
+    }
+}
+
+/// A book of an instruction with no posting. Refused as `Memory` alone.
+fn opened<F: Fn(&Standing) -> u64 + Drop>(
+    alloc: Global,
+    instruction: Instruction,
+    rule: Rule<F>,
+) -> Result<Live<F>, EngineFault>
+    ensures rule { IfOk result (λ l. l.rule ≡ rule) }
+    ensures history { IfOk result (λ l. l.history ≡ opening instruction) }
+    ensures refused { IfErr result (λ e. e ≡ EngineFault.Memory) }
+{
+    let instruction = Arc::new(alloc, instruction)?;
+    Ok(Live::open(alloc, instruction, rule)?)
+}
+
+/// The first of two faults, that of the journal before that of the run.
+fn first_fault(
+    kept: Result<(), EngineFault>,
+    ran: Result<(), EngineFault>,
+) -> Result<(), EngineFault>
+    ensures { result ≡ first_fault kept ran }
+{
+    match kept {
+        Ok(()) => ran,
+        Err(fault) => Err(fault),
+    }
+}
+
+/// Answers requests by a book of an instruction, and then writes its journal, where one is wanted, however that ended.
+fn live_made<F: Fn(&Standing) -> u64 + Drop, R: io::Read, J: io::Write + Drop, W: io::Write>(
+    alloc: Global,
+    instruction: Instruction,
+    rule: Rule<F>,
+    input: &mut R,
+    journal: Option<J>,
+    out: &mut W,
+) -> Result<(), EngineFault>
+    requires answers { Answers F.Fn rule }
+    ensures { IsLiveMade J.contents instruction (R.remaining input.old) journal
+        (W.contents out.old) (W.contents out.new) result }
+{
+    let mut live = opened(alloc, instruction, rule)?;
+    let ran = live.run(alloc, input, out);
+    let kept = keep_journal(alloc, &live, journal);
+    first_fault(kept, ran)
+}
+
+/// Opens the instruction file by its name, then makes the file of the journal, where one is wanted, and then answers
+/// the requests of the input.
+fn live_files<F: Fn(&Standing) -> u64 + Drop, R: io::Read, O: Open + Make, W: io::Write>(
+    alloc: Global,
+    task: &LiveTask<'_>,
+    rule: Rule<F>,
+    input: &mut R,
+    opener: &mut O,
+    out: &mut W,
+) -> Result<(), EngineFault>
+    requires answers { Answers F.Fn rule }
+    ensures { RunsLive O.opens O.makes O.File.remaining O.Made.contents opener.old opener.new task.now
+        (R.remaining input.old) (W.contents out.old) (W.contents out.new) result }
+{
+    let (mut apt, _) = open_inputs(alloc, opener, task.apt, &[])?;
+    let journal = make_journal(opener, task.journal)?;
+    let instruction = read_instruction(alloc, &mut apt)?.with(&task.settings);
+    live_made(alloc, instruction, rule, input, journal, out)
+}
+
+/// Does what the task asks for, by its rule.
+fn run_live_task<R: io::Read, O: Open + Make, W: io::Write>(
+    alloc: Global,
+    task: &LiveTask<'_>,
+    input: &mut R,
+    opener: &mut O,
+    out: &mut W,
+) -> Result<(), EngineFault>
+    ensures { RunsLive O.opens O.makes O.File.remaining O.Made.contents opener.old opener.new task.now
+        (R.remaining input.old) (W.contents out.old) (W.contents out.new) result }
+{
+    match task.rule {
+        NamedRule::Steady => {
+            let rule = Rule::new(|s: &Standing| steady(s));
+            live_files(alloc, task, rule, input, opener, out)
+        }
+        NamedRule::Linear => {
+            let rule = Rule::new(|s: &Standing| linear(s));
+            live_files(alloc, task, rule, input, opener, out)
+        }
+        NamedRule::Step => {
+            let rule = Rule::new(|s: &Standing| step(s));
+            live_files(alloc, task, rule, input, opener, out)
+        }
+    }
+}
+
+/// Answers the requests of the input, one a line, each before the next is read, and says on `errors` how it ended. The
+/// answer is the exit status.
+///
+/// The instruction file is opened, then the file of the journal is made, where one is wanted, and then the instruction
+/// is read, with the numbers of the task in the place of its own. Faults until then are those of
+/// [`read_instruction`]; no request is read then. After the last request, or where the input can't be read or an answer
+/// can't be written, the journal of all that was cut is written.
+pub fn serve_live<R: io::Read, O: Open + Make, W: io::Write, E: io::Write>(
+    alloc: Global,
+    task: &LiveTask<'_>,
+    input: &mut R,
+    opener: &mut O,
+    output: &mut W,
+    errors: &mut E,
+) -> u8
+    ensures { (outcome : Result (Unit {0}) EngineFault)
+        × RunsLive O.opens O.makes O.File.remaining O.Made.contents opener.old opener.new task.now
+        (R.remaining input.old) (W.contents output.old) (W.contents output.new) outcome
+        × (result ≡ status_after outcome)
+        × TellsOutcome (E.contents errors.old) (E.contents errors.new) outcome }
+{
+    let outcome = run_live_task(alloc, task, input, opener, output);
+    conclude(errors, &outcome)
+}

@@ -1,0 +1,113 @@
+//! Files whose items stand in groups: instructions and stem files.
+use crate::item::{Item, Key};
+use crate::rows::{Level, Row, Tag, row_of};
+use crate::source::{Here, Source};
+use crate::whose::{Group, Kind, Whose};
+use std::fmt;
+
+/// A kind of file whose items stand in groups.
+#[derive(Clone, Copy)]
+pub(crate) struct Form {
+    /// What its first item says.
+    pub(crate) name: &'static str,
+    pub(crate) rows: &'static [Row],
+    pub(crate) kind: Kind,
+}
+
+/// An item of a file that has a row, and the group that it stands in.
+#[derive(Clone, Copy)]
+pub(crate) struct Seen<'a> {
+    pub(crate) item: Item<'a>,
+    pub(crate) row: &'static Row,
+    pub(crate) whose: Whose<'a>,
+}
+
+/// What is said first of an item: where it stands, its name, and whose it is.
+#[derive(Clone, Copy)]
+pub(crate) struct Opening<'a> {
+    pub(crate) here: Here<'a>,
+    pub(crate) row: &'static Row,
+    pub(crate) whose: Whose<'a>,
+}
+
+impl fmt::Display for Opening<'_> {
+    fn fmt<W: fmt::Write>(&self, f: &mut fmt::Formatter<W>) -> fmt::Result {
+        write!(f, "{}: {}{}:", self.here, Tag(self.row), self.whose)
+    }
+}
+
+impl<'a> Seen<'a> {
+    /// What is said first of it, where a byte is what is spoken of.
+    pub(crate) fn opening(&self, source: &Source<'a>, at: usize) -> Opening<'a> {
+        Opening {
+            here: source.here(at),
+            row: self.row,
+            whose: self.whose,
+        }
+    }
+}
+
+impl Form {
+    /// The row of an item, if it has one.
+    pub(crate) fn row(&self, item: &Item<'_>) -> Option<&'static Row> {
+        row_of(self.rows, item.key()?)
+    }
+
+    /// The group that stands open behind an item, where one stood open before it.
+    pub(crate) fn group_after<'a>(
+        &self,
+        open: Option<Group<'a>>,
+        item: Item<'a>,
+        row: &Row,
+    ) -> Option<Group<'a>> {
+        if row.level != Level::Opener {
+            return open;
+        }
+        let place = match open {
+            Some(group) => group.place.saturating_add(1),
+            None => 0,
+        };
+        Some(Group {
+            place,
+            opener: item,
+        })
+    }
+
+    /// Whose an item is, where this group stands open.
+    pub(crate) fn whose<'a>(&self, open: Option<Group<'a>>, row: &Row) -> Whose<'a> {
+        let group = if row.level == Level::Head { None } else { open };
+        Whose(self.kind, group)
+    }
+}
+
+/// Whether an item stands behind the one that begins a group, and before the next such one.
+pub(crate) fn member<'a>(
+    form: &Form,
+    source: &Source<'a>,
+    opener: &Item<'a>,
+    key: Key,
+) -> Option<Item<'a>> {
+    for item in source.items_after(opener) {
+        let Some(row) = form.row(&item) else {
+            continue;
+        };
+        if row.level == Level::Opener {
+            return None;
+        }
+        if row.key == key {
+            return Some(item);
+        }
+    }
+    None
+}
+
+/// An item of the group that an item stands in.
+pub(crate) fn sibling<'a>(
+    form: &Form,
+    source: &Source<'a>,
+    seen: &Seen<'a>,
+    key: Key,
+) -> Option<Item<'a>> {
+    let Whose(_, group) = seen.whose;
+    member(form, source, &group?.opener, key)
+}

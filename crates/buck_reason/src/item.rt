@@ -1,0 +1,220 @@
+//! The items of a file, each with the place where it stands.
+ghost use Rattle.std.specs.Prelude.{◌<◌, length, IfSome};
+ghost use Rattle.std.specs.Iterator.{at_most};
+
+use buck_record::number;
+
+/// The number and the kind of an item.
+#[derive(Clone, Copy, Debug, PartialEq, Eq)]
+pub struct Key {
+    pub number: u16,
+    pub kind: u16,
+}
+
+fn is_white(byte: u8) -> bool {
+    byte == b' ' || byte == b'\t' || byte == b'\n' || byte == b'\r'
+}
+
+/// A word, and its place in its file.
+#[derive(Clone, Copy)]
+pub struct Word<'a> {
+    pub text: &'a [u8],
+    pub at: usize,
+}
+
+impl Word<'_> {
+    /// Its number, where it is one.
+    pub fn number(&self) -> Option<u32> {
+        number(self.text).ok()
+    }
+
+    /// Its number, where that can be one of an item's head.
+    fn head(&self) -> Option<u16> {
+        match self.number() {
+            Some(number) => u16::try_from(number).ok(),
+            None => None,
+        }
+    }
+}
+
+/// Some bytes within others: how many stand before them, they, and what follows.
+#[derive(Clone, Copy)]
+struct Cut<'a> {
+    before: usize,
+    found: &'a [u8],
+    after: &'a [u8],
+}
+
+/// The first word of a text, if there is one.
+fn cut_word(text: &[u8]) -> Option<Cut<'_>>
+    ensures shorter { IfSome result (λ c. length c.after.now < length text.now) }
+{
+    let before = text.iter().position(|b| !is_white(*b))?;
+    let (_, rest) = text[before..].split_first()?;
+    let more = rest.iter().position(|b| is_white(*b)).unwrap_or(rest.len());
+    Some(Cut {
+        before,
+        found: &text[before..before + 1 + more],
+        after: &rest[more..],
+    })
+}
+
+/// The words of a text between white bytes.
+#[derive(Clone, Copy, Drop)]
+pub struct Words<'a> {
+    rest: &'a [u8],
+    at: usize,
+}
+
+impl<'a> Iterator for Words<'a> {
+    type Item = Word<'a>;
+
+    ghost remaining = { λ w. at_most (length w.rest.now) };
+
+    fn next(&mut self) -> Option<Word<'a>> {
+        let cut = cut_word(self.rest)?;
+        let at = self.at.saturating_add(cut.before);
+        self.rest = cut.after;
+        self.at = at.saturating_add(cut.found.len());
+        Some(Word {
+            text: cut.found,
+            at,
+        })
+    }
+}
+
+/// The bytes up to the last that isn't white.
+fn trim_end(bytes: &[u8]) -> &[u8] {
+    match bytes.iter().rposition(|b| !is_white(*b)) {
+        Some(last) => &bytes[..last + 1],
+        None => &[],
+    }
+}
+
+/// The first piece of a file that isn't empty, without white bytes at both ends, if there is one.
+fn cut_piece(bytes: &[u8]) -> Option<Cut<'_>>
+    ensures shorter { IfSome result (λ c. length c.after.now < length bytes.now) }
+{
+    let before = bytes.iter().position(|b| !is_white(*b) && *b != b'~')?;
+    let (_, rest) = bytes[before..].split_first()?;
+    let more = rest.iter().position(|b| *b == b'~').unwrap_or(rest.len());
+    Some(Cut {
+        before,
+        found: &bytes[before..before + 1 + more],
+        after: &rest[more..],
+    })
+}
+
+/// An item of a file, or a piece without a head: its bytes, and where the first of them stands.
+#[derive(Clone, Copy)]
+pub struct Item<'a> {
+    pub text: &'a [u8],
+    pub at: usize,
+}
+
+impl<'a> Item<'a> {
+    /// All words, those of the head too.
+    fn all_words(&self) -> Words<'a> {
+        Words {
+            rest: self.text,
+            at: self.at,
+        }
+    }
+
+    /// Its number and its kind, where it has a head.
+    pub fn key(&self) -> Option<Key> {
+        let mut words = self.all_words();
+        let number = words.next()?.head()?;
+        let kind = words.next()?.head()?;
+        Some(Key { number, kind })
+    }
+
+    /// The words behind the head.
+    pub fn words(&self) -> Words<'a> {
+        let mut words = self.all_words();
+        let _ = words.next();
+        let _ = words.next();
+        words
+    }
+
+    /// The bytes behind the head.
+    pub fn rest(&self) -> &'a [u8] {
+        let words = self.words();
+        match words.rest.iter().position(|b| !is_white(*b)) {
+            Some(first) => &words.rest[first..],
+            None => &[],
+        }
+    }
+
+    /// The word at a place behind the head, counted from 1; the last byte where there is none.
+    pub fn word(&self, place: usize) -> Word<'a> {
+        let mut at = 1usize;
+        for word in self.words() {
+            if at == place {
+                return word;
+            }
+            at = at.saturating_add(1);
+        }
+        Word {
+            text: &[],
+            at: self.at.saturating_add(self.text.len()).saturating_sub(1),
+        }
+    }
+
+    /// How many words there are behind the head.
+    pub fn count(&self) -> usize {
+        let mut count = 0usize;
+        for _word in self.words() {
+            count = count.saturating_add(1);
+        }
+        count
+    }
+
+    /// Whether each word behind the head is a number.
+    pub fn has_numbers(&self) -> bool {
+        for word in self.words() {
+            if word.number().is_none() {
+                return false;
+            }
+        }
+        true
+    }
+}
+
+/// The items of a file, and its pieces without a head.
+#[derive(Clone, Copy, Drop)]
+pub struct Items<'a> {
+    rest: &'a [u8],
+    at: usize,
+}
+
+impl<'a> Items<'a> {
+    pub fn of(bytes: &'a [u8]) -> Items<'a> {
+        Items { rest: bytes, at: 0 }
+    }
+
+    /// Those from a byte on.
+    pub fn from(bytes: &'a [u8], at: usize) -> Items<'a> {
+        match bytes.split_at_checked(at) {
+            Some((_, rest)) => Items { rest, at },
+            None => Items { rest: &[], at },
+        }
+    }
+}
+
+impl<'a> Iterator for Items<'a> {
+    type Item = Item<'a>;
+
+    ghost remaining = { λ i. at_most (length i.rest.now) };
+
+    fn next(&mut self) -> Option<Item<'a>> {
+        let cut = cut_piece(self.rest)?;
+        let at = self.at.saturating_add(cut.before);
+        self.rest = cut.after;
+        self.at = at.saturating_add(cut.found.len());
+        Some(Item {
+            text: trim_end(cut.found),
+            at,
+        })
+    }
+}

@@ -1,0 +1,30 @@
+//! Why a file is refused, in words: what stands there, and what is wanted.
+//!
+//! [`apt_reason`], [`stm_reason`] and [`journal_reason`] say it of the three kinds of file, and [`request_reason`] of a
+//! request, from the bytes and the numbers of the fault: in which line it is, of which item, and of whose. They take
+//! any bytes and any numbers.
+//! The items of a file with their names and ranges stand in one table for each kind.
+#![tactic(auto)]
+
+mod counts;
+mod files;
+mod form;
+mod item;
+mod journal;
+mod numbers;
+mod places;
+mod placing;
+mod requests;
+mod rows;
+mod shown;
+mod source;
+mod told;
+mod whose;
+
+pub use files::{apt_reason, stm_reason};
+pub use item::{Item, Items, Key, Word, Words};
+pub use journal::journal_reason;
+pub use requests::request_reason;
+pub use rows::NEW_TARGETS;
+pub use shown::{Quoted, Several, Shown};
+pub use source::{Here, Source};

@@ -1,0 +1,62 @@
+//! Items of a file by their places.
+use crate::item::{Item, Key};
+use crate::rows::{CUT, DEMAND, SHEET, STEM};
+use crate::source::Source;
+
+impl<'a> Source<'a> {
+    /// The item of a kind that has so many of its kind before it, if there is one.
+    fn nth_of(&self, key: Key, before: usize) -> Option<Item<'a>> {
+        let mut place = 0usize;
+        for item in self.items() {
+            if item.key() != Some(key) {
+                continue;
+            }
+            if place == before {
+                return Some(item);
+            }
+            place = place.saturating_add(1);
+        }
+        None
+    }
+
+    /// The item that has the prices of a version, if there is one.
+    pub fn sheet_item(&self, version: u32) -> Option<Item<'a>> {
+        self.nth_of(SHEET, version as usize)
+    }
+
+    /// The item that a stem begins with, whose place among the stems is counted from 0.
+    pub fn stem_item(&self, place: usize) -> Option<Item<'a>> {
+        self.nth_of(STEM, place)
+    }
+
+    /// How many stems begin in it.
+    pub fn stems(&self) -> usize {
+        let mut stems = 0usize;
+        for item in self.items() {
+            if item.key() == Some(STEM) {
+                stems = stems.saturating_add(1);
+            }
+        }
+        stems
+    }
+
+    /// An item of a posting: the posting's place among all, and the item's in it, are counted from 0.
+    pub fn posting_item(&self, posting: usize, part: usize) -> Option<Item<'a>> {
+        let mut begun = 0usize;
+        let mut parts = 0usize;
+        for item in self.items() {
+            let Some(key) = item.key() else {
+                continue;
+            };
+            if key == CUT || key == DEMAND {
+                begun = begun.saturating_add(1);
+                parts = 0;
+            }
+            if begun == posting.saturating_add(1) && parts == part {
+                return Some(item);
+            }
+            parts = parts.saturating_add(1);
+        }
+        None
+    }
+}

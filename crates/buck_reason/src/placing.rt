@@ -1,0 +1,184 @@
+//! Items that are missing, that stand twice, or that have no head.
+use crate::form::{Form, Opening, member};
+use crate::item::Item;
+use crate::rows::{FILE, Level, Row, Tag};
+use crate::shown::Quoted;
+use crate::source::{Here, Source};
+use crate::whose::Whose;
+use std::alloc::{AllocError, Global};
+
+/// Says that a piece has no head.
+pub(crate) fn headless(
+    alloc: Global,
+    source: &Source<'_>,
+    place: usize,
+) -> Result<Option<String>, AllocError> {
+    let mut at = 1usize;
+    for item in source.items() {
+        if at == place {
+            return Ok(Some(headless_text(alloc, source, &item, place)?));
+        }
+        at = at.saturating_add(1);
+    }
+    Ok(None)
+}
+
+/// The bytes that some programs put before a text.
+const BYTE_MARK: &[u8] = b"\xef\xbb\xbf";
+
+fn headless_text(
+    alloc: Global,
+    source: &Source<'_>,
+    item: &Item<'_>,
+    place: usize,
+) -> Result<String, AllocError> {
+    let mut out = format!(in alloc;
+        "{}: item {place}, {}, two numbers from 0 to 65535 and a blank wanted at its beginning\n",
+        source.here(item.at),
+        Quoted(item.text)
+    )?;
+    if place == 1 && source.bytes.starts_with(BYTE_MARK) {
+        out.push_str("  the file begins with a byte mark (UTF-8 with BOM): save it without one\n")?;
+    }
+    Ok(out)
+}
+
+/// Says that a file is of another kind.
+pub(crate) fn other_kind(
+    alloc: Global,
+    form: &Form,
+    source: &Source<'_>,
+) -> Result<Option<String>, AllocError> {
+    let name = form.name;
+    for item in source.items() {
+        if item.key() != Some(FILE) {
+            continue;
+        }
+        return Ok(Some(format!(in alloc;
+            "{}: kind of file (1 2): {}, {name} wanted\n",
+            source.here(item.at),
+            Quoted(item.rest())
+        )?));
+    }
+    Ok(Some(format!(in alloc;
+        "{}: kind of file (1 2): not there, 1 2 {name}~ wanted\n",
+        source.whole()
+    )?))
+}
+
+/// Says that an item is not there.
+fn not_there(
+    alloc: Global,
+    here: Here<'_>,
+    row: &'static Row,
+    whose: Whose<'_>,
+) -> Result<Option<String>, AllocError> {
+    let opening = Opening { here, row, whose };
+    Ok(Some(format!(in alloc; "{opening} not there, one wanted\n")?))
+}
+
+/// Says that what begins an assortment or a stem is missing, or stands too late.
+fn unopened(
+    alloc: Global,
+    form: &Form,
+    source: &Source<'_>,
+    row: &'static Row,
+) -> Result<Option<String>, AllocError> {
+    for item in source.items() {
+        let Some(found) = form.row(&item) else {
+            continue;
+        };
+        if found.level == Level::Opener {
+            break;
+        }
+        if found.level == Level::Member {
+            return Ok(Some(format!(in alloc;
+                "{}: {}: stands before the first {}, after it wanted\n",
+                source.here(item.at),
+                Tag(found),
+                Tag(row)
+            )?));
+        }
+    }
+    not_there(alloc, source.whole(), row, Whose(form.kind, None))
+}
+
+/// Says that an item is missing in the first group that doesn't have it.
+fn missing_member(
+    alloc: Global,
+    form: &Form,
+    source: &Source<'_>,
+    row: &'static Row,
+) -> Result<Option<String>, AllocError> {
+    let mut open = None;
+    for item in source.items() {
+        let Some(found) = form.row(&item) else {
+            continue;
+        };
+        open = form.group_after(open, item, found);
+        if found.level == Level::Opener && member(form, source, &item, row.key).is_none() {
+            return not_there(alloc, source.here(item.at), row, Whose(form.kind, open));
+        }
+    }
+    Ok(None)
+}
+
+/// Says that an item is missing.
+pub(crate) fn missing(
+    alloc: Global,
+    form: &Form,
+    source: &Source<'_>,
+    row: &'static Row,
+) -> Result<Option<String>, AllocError> {
+    match row.level {
+        Level::Head => not_there(alloc, source.whole(), row, Whose(form.kind, None)),
+        Level::Opener => unopened(alloc, form, source, row),
+        Level::Member => missing_member(alloc, form, source, row),
+    }
+}
+
+fn twice_text(
+    alloc: Global,
+    source: &Source<'_>,
+    opening: &Opening<'_>,
+    before: &Item<'_>,
+) -> Result<String, AllocError> {
+    if source.is_line() {
+        return format!(in alloc; "{opening} stands twice, one wanted\n");
+    }
+    let line = source.line(before.at);
+    format!(in alloc; "{opening} stands twice, first in line {line}, one wanted\n")
+}
+
+/// Says that an item stands twice: once more in its group, or in the file.
+pub(crate) fn twice(
+    alloc: Global,
+    form: &Form,
+    source: &Source<'_>,
+    row: &'static Row,
+) -> Result<Option<String>, AllocError> {
+    let mut open = None;
+    let mut first: Option<Item<'_>> = None;
+    for item in source.items() {
+        let Some(found) = form.row(&item) else {
+            continue;
+        };
+        open = form.group_after(open, item, found);
+        if found.level == Level::Opener && row.level == Level::Member {
+            first = None;
+        }
+        if found.key != row.key {
+            continue;
+        }
+        if let Some(before) = first {
+            let opening = Opening {
+                here: source.here(item.at),
+                row,
+                whose: form.whose(open, row),
+            };
+            return Ok(Some(twice_text(alloc, source, &opening, &before)?));
+        }
+        first = Some(item);
+    }
+    Ok(None)
+}

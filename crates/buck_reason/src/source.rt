@@ -1,0 +1,102 @@
+//! A file, and places in it.
+use crate::item::{Item, Items};
+use crate::shown::Shown;
+use std::fmt;
+
+/// A file that was read, or one line of it: its name as it was given, and its bytes.
+#[derive(Clone, Copy)]
+pub struct Source<'a> {
+    pub name: &'a [u8],
+    pub bytes: &'a [u8],
+    /// The line that the bytes are, counted from 1, where they are one.
+    only: Option<usize>,
+}
+
+/// A file, or a line of it.
+#[derive(Clone, Copy)]
+pub struct Here<'a> {
+    pub name: &'a [u8],
+    /// The line, counted from 1, where it is of one.
+    pub line: Option<usize>,
+}
+
+impl fmt::Display for Here<'_> {
+    fn fmt<W: fmt::Write>(&self, f: &mut fmt::Formatter<W>) -> fmt::Result {
+        let name = Shown(self.name);
+        match self.line {
+            Some(line) => write!(f, "{name}, line {line}"),
+            None => write!(f, "{name}"),
+        }
+    }
+}
+
+impl<'a> Source<'a> {
+    /// A whole file.
+    pub fn of_file(name: &'a [u8], bytes: &'a [u8]) -> Source<'a> {
+        Source {
+            name,
+            bytes,
+            only: None,
+        }
+    }
+
+    /// One line of a file, by its number, counted from 1.
+    pub fn of_line(name: &'a [u8], bytes: &'a [u8], line: usize) -> Source<'a> {
+        Source {
+            name,
+            bytes,
+            only: Some(line),
+        }
+    }
+
+    /// Whether it is one line.
+    pub(crate) fn is_line(&self) -> bool {
+        self.only.is_some()
+    }
+
+    /// Its items, and its pieces without a head.
+    pub fn items(&self) -> Items<'a> {
+        Items::of(self.bytes)
+    }
+
+    /// The items behind one of its items.
+    pub fn items_after(&self, item: &Item<'_>) -> Items<'a> {
+        let mut items = Items::from(self.bytes, item.at);
+        let _ = items.next();
+        items
+    }
+
+    /// The line of a byte, counted from 1.
+    pub fn line(&self, at: usize) -> usize {
+        if let Some(line) = self.only {
+            return line;
+        }
+        let before = match self.bytes.split_at_checked(at) {
+            Some((before, _)) => before,
+            None => self.bytes,
+        };
+        let mut line = 1usize;
+        for byte in before {
+            if *byte == b'\n' {
+                line = line.saturating_add(1);
+            }
+        }
+        line
+    }
+
+    /// The line of a byte, as it is named.
+    pub fn here(&self, at: usize) -> Here<'a> {
+        Here {
+            name: self.name,
+            line: Some(self.line(at)),
+        }
+    }
+
+    /// The file, or its line, as it is named.
+    pub fn whole(&self) -> Here<'a> {
+        Here {
+            name: self.name,
+            line: self.only,
+        }
+    }
+}

@@ -1,0 +1,56 @@
+//! Whose an item is.
+use crate::item::Item;
+use crate::shown::{Quoted, Shown};
+use std::fmt;
+
+/// The most bytes of a stem's number that are shown.
+const MOST: usize = 20;
+
+/// What the items between one opener and the next belong to.
+#[derive(Clone, Copy)]
+pub enum Kind {
+    Assortment,
+    Stem,
+    /// The only stem of a request.
+    Request,
+}
+
+/// An assortment or a stem of a file.
+#[derive(Clone, Copy)]
+pub struct Group<'a> {
+    /// How many stand before it.
+    pub place: usize,
+    /// The item that it begins with.
+    pub opener: Item<'a>,
+}
+
+/// A stem's number as it stands, or its first bytes.
+fn first_bytes(number: &[u8]) -> &[u8] {
+    match number.split_at_checked(MOST) {
+        Some((first, _)) => first,
+        None => number,
+    }
+}
+
+/// Whose an item is, where it is one's: ` of assortment 1 "saw"`, ` of stem 412 (place 3)`.
+#[derive(Clone, Copy)]
+pub struct Whose<'a>(pub Kind, pub Option<Group<'a>>);
+
+impl fmt::Display for Whose<'_> {
+    fn fmt<W: fmt::Write>(&self, f: &mut fmt::Formatter<W>) -> fmt::Result {
+        let Whose(kind, group) = *self;
+        let Some(group) = group else {
+            return Ok(());
+        };
+        let place = group.place;
+        let rest = group.opener.rest();
+        match kind {
+            Kind::Assortment => write!(f, " of assortment {place} {}", Quoted(rest)),
+            Kind::Stem => {
+                let place = place.saturating_add(1);
+                write!(f, " of stem {} (place {place})", Shown(first_bytes(rest)))
+            }
+            Kind::Request => write!(f, " of stem {}", Shown(first_bytes(rest))),
+        }
+    }
+}

@@ -1,0 +1,63 @@
+//! Classes by their names.
+use buck_apt::{Assortment, Instruction};
+use buck_reason::Quoted;
+use std::fmt;
+
+/// A class, by its assortment and by its row and column there.
+#[derive(Clone, Copy)]
+pub(crate) struct ClassName<'a> {
+    /// The place of the assortment, counted from 0.
+    place: usize,
+    assortment: &'a Assortment,
+    /// The place of the assortment's first class among all.
+    pub(crate) first: usize,
+    /// The place of the class in its assortment.
+    pub(crate) at: usize,
+}
+
+impl<'a> ClassName<'a> {
+    /// The class at a place among all, if there is one.
+    pub(crate) fn of(instruction: &'a Instruction, class: usize) -> Option<ClassName<'a>> {
+        let mut first = 0usize;
+        let mut place = 0usize;
+        for assortment in instruction.assortments() {
+            let classes = assortment.classes();
+            let at = class.saturating_sub(first);
+            if at < classes {
+                return Some(ClassName {
+                    place,
+                    assortment,
+                    first,
+                    at,
+                });
+            }
+            first = first.saturating_add(classes);
+            place = place.saturating_add(1);
+        }
+        None
+    }
+
+    /// How many classes its assortment has.
+    pub(crate) fn classes(&self) -> usize {
+        self.assortment.classes()
+    }
+
+    /// Its base price.
+    pub(crate) fn base(&self) -> u32 {
+        self.assortment.prices().get(self.at).copied().unwrap_or(0)
+    }
+}
+
+impl fmt::Display for ClassName<'_> {
+    fn fmt<W: fmt::Write>(&self, f: &mut fmt::Formatter<W>) -> fmt::Result {
+        let place = self.place;
+        let columns = self.assortment.lengths().len().max(1);
+        let row = self.at / columns;
+        let column = self.at % columns;
+        write!(
+            f,
+            "assortment {place} {}, row {row}, column {column}",
+            Quoted(self.assortment.name())
+        )
+    }
+}

@@ -1,0 +1,5 @@
+pub mod Heads
+pub mod Lesser
+pub mod Tables
+pub mod Histories
+pub mod Sweeps

@@ -1,0 +1,5 @@
+pub mod Combinations
+pub mod Table
+pub mod Sweep
+pub mod Serving
+pub mod inner

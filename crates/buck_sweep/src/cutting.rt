@@ -1,0 +1,131 @@
+//! The run of a combination: its journal, and its line.
+ghost use Rattle.std.specs.Prelude.{◌≡◌, ◌≤◌, IfOk, IfErr, length, map};
+ghost use Rattle.buck_rule.specs.Stored.{Answers};
+ghost use Rattle.buck_book.specs.History.{IsLawful};
+ghost use Rattle.buck_journal.specs.Replay.{history_of};
+ghost use Rattle.buck_engine.specs.fleet.Running.{IsCuttingFault};
+ghost use Rattle.buck_sweep.specs.inner.Lines.{HasCut, IsRunLine};
+ghost use Rattle.buck_sweep.specs.Sweep.{AreLines};
+
+use crate::combination::Combination;
+use crate::figures::line_of;
+use buck_apt::Instruction;
+use buck_book::Book;
+use buck_engine::{EngineFault, Input, NamedRule};
+use buck_fleet::CutFault;
+use buck_journal::Journal;
+use buck_record::Memory;
+use buck_rule::{Rule, Standing, linear, steady, step};
+use buck_stem::Stem;
+use buck_turn::cut_in_turn;
+use buck_value::Sheet;
+use std::alloc::Global;
+use std::sync::Arc;
+
+/// The prices of some sheets.
+fn prices_of(alloc: Global, sheets: &[Arc<Sheet>]) -> Result<Vec<Vec<u32>>, Memory>
+    ensures { IfOk result (λ made. map (λ w. w.items) made.items ≡ map (λ a. a.value.prices) sheets.now) }
+{
+    let mut made = Vec::with_capacity(alloc, sheets.len())?;
+    for sheet in sheets {
+        made.push(sheet.prices().to_vec(alloc)?)?;
+    }
+    Ok(made)
+}
+
+/// The journal of a book.
+fn journal_of<F: Drop>(alloc: Global, book: Book<F>) -> Result<Journal, Memory>
+    ensures history { IfOk result (λ j. history_of book.history.instruction j ≡ book.history) }
+    ensures lawful { IsLawful book.history }
+    ensures few { length book.history.postings ≤ 1000000 }
+{
+    let parts = book.into_parts();
+    Ok(Journal {
+        sheets: prices_of(alloc, parts.sheets.as_slice())?,
+        entries: parts.entries,
+    })
+}
+
+/// The journal of lists of stems that were cut in turn by a rule.
+#[tactic(auto, using(crate::proofs::Histories::cut_is))]
+fn cut_by_rule<F: Fn(&Standing) -> u64 + Drop>(
+    alloc: Global,
+    instruction: &Arc<Instruction>,
+    rule: Rule<F>,
+    lists: &[Vec<Arc<Stem>>],
+) -> Result<Journal, EngineFault>
+    requires answers { Answers F.Fn rule }
+    requires few { length lists.now ≤ 64 }
+    ensures ok { IfOk result (λ j. HasCut lists.now (history_of instruction.now.value j)) }
+    ensures fault { IfErr result IsCuttingFault }
+{
+    match cut_in_turn(alloc, instruction.clone()?, rule, lists) {
+        Ok(book) => Ok(journal_of(alloc, book)?),
+        Err(CutFault::Full) => Err(EngineFault::Full),
+        Err(CutFault::Memory) => Err(EngineFault::Memory),
+    }
+}
+
+/// The same by the rule of a name.
+fn cut_by_name(
+    alloc: Global,
+    instruction: &Arc<Instruction>,
+    rule: NamedRule,
+    lists: &[Vec<Arc<Stem>>],
+) -> Result<Journal, EngineFault>
+    requires few { length lists.now ≤ 64 }
+    ensures ok { IfOk result (λ j. HasCut lists.now (history_of instruction.now.value j)) }
+    ensures fault { IfErr result IsCuttingFault }
+{
+    match rule {
+        NamedRule::Steady => {
+            let rule = Rule::new(|s: &Standing| steady(s));
+            cut_by_rule(alloc, instruction, rule, lists)
+        }
+        NamedRule::Linear => {
+            let rule = Rule::new(|s: &Standing| linear(s));
+            cut_by_rule(alloc, instruction, rule, lists)
+        }
+        NamedRule::Step => {
+            let rule = Rule::new(|s: &Standing| step(s));
+            cut_by_rule(alloc, instruction, rule, lists)
+        }
+    }
+}
+
+/// The line of a combination, whose run cuts the lists in turn.
+pub(crate) fn run_line(
+    alloc: Global,
+    input: &Input,
+    combination: &Combination,
+) -> Result<Vec<u8>, EngineFault>
+    requires few { length input.now.lists.items ≤ 64 }
+    ensures ok { IfOk result (λ line.
+        IsRunLine input.now.instruction input.now.lists.items combination.now line.items) }
+    ensures fault { IfErr result IsCuttingFault }
+{
+    let own = input.instruction.copy(alloc)?;
+    let instruction = Arc::new(alloc, own.with(&combination.settings))?;
+    let lists = input.lists.as_slice();
+    let journal = cut_by_name(alloc, &instruction, combination.rule, lists)?;
+    Ok(line_of(alloc, combination.rule, &instruction, &journal)?)
+}
+
+/// The lines of combinations, in their order.
+pub(crate) fn lines_of(
+    alloc: Global,
+    input: &Input,
+    combinations: &[Combination],
+) -> Result<Vec<u8>, EngineFault>
+    requires few { length input.now.lists.items ≤ 64 }
+    ensures ok { IfOk result (λ text.
+        AreLines (IsRunLine input.now.instruction input.now.lists.items) combinations.now text.items) }
+    ensures fault { IfErr result IsCuttingFault }
+{
+    let mut text = Vec::new(alloc);
+    for combination in combinations {
+        let line = run_line(alloc, input, combination)?;
+        text.extend_from_slice(line.as_slice())?;
+    }
+    Ok(text)
+}

@@ -1,0 +1,18 @@
+//! What a rule, a period and a limit come to on the same stems: a table with a line for each combination of them.
+//!
+//! [`combinations`] says which runs a table has. [`run_sweep`] makes it from the bytes of an instruction file and stem
+//! files, and [`serve_sweep`] is a whole run of the program, from its [`SweepTask`] to its exit status.
+#![tactic(auto)]
+
+mod combination;
+mod cutting;
+mod figures;
+mod running;
+mod serving;
+mod table;
+
+pub use buck_apt::Settings;
+pub use buck_engine::NamedRule;
+pub use combination::{Combination, combinations};
+pub use running::run_sweep;
+pub use serving::{SweepTask, serve_sweep};

@@ -1,0 +1,78 @@
+//! `run_sweep`: from the bytes of an instruction file and stem files to a table.
+ghost use Rattle.std.specs.Prelude.{◌≡◌, ◌≤◌, map, drop, length, IfOk, IfErr};
+ghost use Rattle.std.specs.Result.{IsErrAnd};
+ghost use Rattle.buck_record.specs.Reading.{listed};
+ghost use Rattle.buck_engine.specs.declared.fault.EngineFault.TheVariants.{Seats};
+ghost use Rattle.buck_engine.specs.run.Reading.{IfStopped};
+ghost use Rattle.buck_engine.specs.fleet.Running.{AreNoSeats, IsCuttingFault};
+ghost use Rattle.buck_sweep.specs.Sweep.{AnswersSweep, IsSweepRun};
+ghost use Rattle.buck_sweep.specs.inner.Lines.{IsTableOf};
+
+use crate::combination::Combination;
+use crate::cutting::lines_of;
+use crate::table::put_head;
+use buck_engine::{EngineFault, Input, read_input, write_text};
+use std::alloc::Global;
+use std::io;
+
+/// The table of some combinations.
+fn table_of(
+    alloc: Global,
+    input: &Input,
+    combinations: &[Combination],
+) -> Result<Vec<u8>, EngineFault>
+    requires few { length input.now.lists.items ≤ 64 }
+    ensures ok { IfOk result (λ text.
+        IsTableOf input.now.instruction input.now.lists.items combinations.now text.items) }
+    ensures fault { IfErr result IsCuttingFault }
+{
+    let lines = lines_of(alloc, input, combinations)?;
+    let mut text = Vec::new(alloc);
+    put_head(alloc, &mut text, &input.instruction)?;
+    text.extend_from_slice(lines.as_slice())?;
+    Ok(text)
+}
+
+/// The table of some combinations over files.
+fn text_of<R: io::Read>(
+    alloc: Global,
+    combinations: &[Combination],
+    apt: &mut R,
+    stms: &mut [R],
+) -> Result<Vec<u8>, EngineFault>
+    ensures seats { AreNoSeats (length stms.old) → IsErrAnd result (λ fault. fault ≡ Seats) }
+    ensures answer { AnswersSweep combinations.now (R.remaining apt.old) (map R.remaining stms.old) (listed result) }
+    ensures order { IfErr result (IfStopped (λ last. drop last stms.new ≡ drop last stms.old)) }
+    ensures unread { IfErr result (λ fault. fault ≡ Seats → apt.new ≡ apt.old) }
+{
+    let input = read_input(alloc, apt, stms)?;
+    table_of(alloc, &input, combinations)
+}
+
+/// Reads an instruction file and stem files, cuts the stems of the k-th stem file by harvester k, in turn, once for
+/// each combination, and writes what that came to: a line of columns, and then a line for each combination, in their
+/// order. See "The table of a sweep" in docs/FORMATS.md. Nothing is written before the whole table is there.
+///
+/// Each run is that of [`run_in_turn`](buck_engine::run_in_turn) by the combination's rule, with its numbers in the
+/// place of the instruction's own; so is each fault, and when it comes. `Write` where the writer fails, which leaves a
+/// prefix of the table.
+pub fn run_sweep<R: io::Read, W: io::Write>(
+    alloc: Global,
+    combinations: &[Combination],
+    apt: &mut R,
+    stms: &mut [R],
+    out: &mut W,
+) -> Result<(), EngineFault>
+    // What is written is the table of the combinations, of the instruction and the stems that the files have; a fault
+    // is that of the first file that has one, or comes after all of them, and nothing is written; a write fault leaves
+    // a prefix of the table. Where there are not 1 to 64 stem files, that is the fault.
+    ensures run { IsSweepRun combinations.now (R.remaining apt.old) (map R.remaining stms.old)
+        (W.contents out.old) (W.contents out.new) result }
+    // Where a file has a fault, nothing was read of those after it.
+    ensures order { IfErr result (IfStopped (λ last. drop last stms.new ≡ drop last stms.old)) }
+    // Where there are not 1 to 64 stem files, nothing was read of the instruction either.
+    ensures unread { IfErr result (λ fault. fault ≡ Seats → apt.new ≡ apt.old) }
+{
+    let text = text_of(alloc, combinations, apt, stms)?;
+    write_text(out, text.as_slice())
+}

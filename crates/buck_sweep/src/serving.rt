@@ -1,0 +1,59 @@
+//! Whole runs of a table, from the task to the exit status.
+ghost use Rattle.std.specs.Prelude.{◌≡◌, Result};
+ghost use Rattle.buck_engine.specs.declared.fault.EngineFault.{EngineFault};
+ghost use Rattle.buck_engine.specs.run.Serving.{TellsOutcome, status_after};
+ghost use Rattle.buck_sweep.specs.Serving.{RunsSweep};
+
+use crate::combination::Combination;
+use crate::running::run_sweep;
+use buck_engine::{EngineFault, Open, conclude, open_inputs};
+use std::alloc::Global;
+use std::io;
+
+/// What the words of the command line ask of a table.
+#[derive(Drop)]
+pub struct SweepTask<'a> {
+    /// The runs, in the order of their lines.
+    pub combinations: Vec<Combination>,
+    /// The name of the instruction file.
+    pub apt: &'a str,
+    /// The names of the stem files, one for each harvester.
+    pub stms: Vec<&'a str>,
+}
+
+/// Opens all input files by their names, in order, and then makes the table.
+fn sweep_files<O: Open, W: io::Write>(
+    alloc: Global,
+    task: &SweepTask<'_>,
+    opener: &mut O,
+    out: &mut W,
+) -> Result<(), EngineFault>
+    ensures { RunsSweep O.opens O.File.remaining opener.old opener.new task.now
+        (W.contents out.old) (W.contents out.new) result }
+{
+    let (mut apt, mut stms) = open_inputs(alloc, opener, task.apt, task.stms.as_slice())?;
+    let combinations = task.combinations.as_slice();
+    run_sweep(alloc, combinations, &mut apt, stms.as_mut_slice(), out)
+}
+
+/// Makes the table that a task asks for over the files of its names, and says on `errors` how it ended. The answer is
+/// the exit status.
+///
+/// The files are opened in the order of the words before one of them is read; one that can't be opened is `Read` with
+/// its number. Each fault and what is written before it are those of [`run_sweep`].
+pub fn serve_sweep<O: Open, W: io::Write, E: io::Write>(
+    alloc: Global,
+    task: &SweepTask<'_>,
+    opener: &mut O,
+    output: &mut W,
+    errors: &mut E,
+) -> u8
+    ensures { (outcome : Result (Unit {0}) EngineFault)
+        × RunsSweep O.opens O.File.remaining opener.old opener.new task.now
+        (W.contents output.old) (W.contents output.new) outcome
+        × (result ≡ status_after outcome)
+        × TellsOutcome (E.contents errors.old) (E.contents errors.new) outcome }
+{
+    let outcome = sweep_files(alloc, task, opener, output);
+    conclude(errors, &outcome)
+}

@@ -1,0 +1,82 @@
+//! The lines of a table: the names of its columns, and then one for each run.
+ghost use Rattle.std.specs.Prelude.{◌≡◌, ◌++◌, OnOk};
+ghost use Rattle.buck_sweep.specs.Table.{cell, cells, degree_head, degree_heads, head_line};
+
+use buck_apt::{Assortment, Instruction};
+use buck_record::Memory;
+use buck_words::put_quoted;
+use itoa::Buffer;
+use std::alloc::Global;
+
+/// Puts a cell: a comma, and then the number, where there is one.
+pub(crate) fn put_cell(out: &mut Vec<u8>, number: Option<u128>) -> Result<(), Memory>
+    ensures { OnOk result (out.new.items ≡ out.old.items ++ cell number) }
+{
+    out.push(b',')?;
+    if let Some(number) = number {
+        let mut buffer = Buffer::new();
+        out.extend_from_slice(buffer.format(number).as_bytes())?;
+    }
+    Ok(())
+}
+
+/// Puts a cell for each number.
+pub(crate) fn put_cells(out: &mut Vec<u8>, numbers: &[Option<u128>]) -> Result<(), Memory>
+    ensures { OnOk result (out.new.items ≡ out.old.items ++ cells numbers.now) }
+{
+    for number in numbers {
+        put_cell(out, *number)?;
+    }
+    Ok(())
+}
+
+/// Puts the name of the column that has an assortment's degree: its number, and its name.
+fn put_degree_head(
+    alloc: Global,
+    out: &mut Vec<u8>,
+    at: u8,
+    assortment: &Assortment,
+) -> Result<(), Memory>
+    ensures { OnOk result (out.new.items ≡ out.old.items ++ degree_head at assortment.now) }
+{
+    let mut name = Vec::new(alloc);
+    let mut buffer = Buffer::new();
+    name.extend_from_slice(b"degree_")?;
+    name.extend_from_slice(buffer.format(at).as_bytes())?;
+    name.extend_from_slice(b" ")?;
+    name.extend_from_slice(assortment.name())?;
+    put_quoted(out, name.as_slice())?;
+    out.push(b',')?;
+    Ok(())
+}
+
+/// Puts the names of the columns that have the degrees of the assortments.
+fn put_degree_heads(
+    alloc: Global,
+    out: &mut Vec<u8>,
+    instruction: &Instruction,
+) -> Result<(), Memory>
+    ensures { OnOk result (out.new.items ≡ out.old.items ++ degree_heads 0 instruction.now.assortments) }
+{
+    let assortments = instruction.assortments();
+    for at in 0..assortments.len() {
+        put_degree_head(alloc, out, at as u8, &assortments[at])?;
+    }
+    Ok(())
+}
+
+/// Puts the first line of a table, which names its columns.
+pub(crate) fn put_head(
+    alloc: Global,
+    out: &mut Vec<u8>,
+    instruction: &Instruction,
+) -> Result<(), Memory>
+    ensures { OnOk result (out.new.items ≡ out.old.items ++ head_line instruction.now) }
+{
+    out.extend_from_slice(b"rule,period,limit,versions,")?;
+    put_degree_heads(alloc, out, instruction)?;
+    out.extend_from_slice(
+        b"least_degree,base_worth_millionths,best_base_worth_millionths,cost_ten_thousandths,volume_cm3\n",
+    )?;
+    Ok(())
+}

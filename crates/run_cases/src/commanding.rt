@@ -1,0 +1,137 @@
+//! What comes of a case of the command line: its words over files and streams in memory.
+ghost use Rattle.std.specs.Prelude.{⊤};
+
+use crate::case::{Inputs, Named};
+use crate::running::Outcome;
+use buck_command::{Again, Place, Screen, Streams, Trouble, run};
+use buck_engine::{Make, Open};
+use std::alloc::Global;
+use std::io;
+use std::io::{Error, ErrorKind};
+use std::sync::{Mutex, Wait};
+use std::thread::Threads;
+use std::time::{Clock, Duration};
+
+/// The files of a case, and what is written into the one that is made.
+#[derive(Clone, Copy, Drop)]
+struct Shelf<'a> {
+    files: &'a [Named],
+    made: &'a Mutex<Vec<u8>>,
+}
+
+impl<'a> Shelf<'a> {
+    /// The bytes of the file of a name.
+    fn find(self, name: &str) -> Option<&'a [u8]> {
+        for file in self.files {
+            if file.name.as_str() == name {
+                return Some(file.bytes.as_slice());
+            }
+        }
+        None
+    }
+}
+
+impl<'a> Open for Shelf<'a> {
+    type File = &'a [u8];
+
+    ghost opens = { λ _ _ _ _. ⊤ };
+
+    fn open(&mut self, name: &str) -> Option<&'a [u8]> {
+        self.find(name)
+    }
+}
+
+impl<'a> Make for Shelf<'a> {
+    type Made = Sheet<'a>;
+
+    ghost makes = { λ _ _ _ _. ⊤ };
+
+    fn make(&mut self, _name: &str) -> Option<Sheet<'a>> {
+        Some(Sheet { made: self.made })
+    }
+}
+
+impl<'a> Again for Shelf<'a> {
+    type Found = &'a [u8];
+
+    fn again(&mut self, name: &str) -> Result<&'a [u8], Trouble> {
+        self.find(name).ok_or(Trouble::Missing)
+    }
+
+    fn size(&mut self, _name: &str) -> Option<u64> {
+        None
+    }
+
+    fn unwritten(&mut self, _name: &str, _inputs: &[&str]) -> Option<Trouble> {
+        None
+    }
+}
+
+/// The file that is made.
+#[derive(Clone, Copy, Drop)]
+struct Sheet<'a> {
+    made: &'a Mutex<Vec<u8>>,
+}
+
+impl<'a> io::Write for Sheet<'a> {
+    fn write(&mut self, buf: &[u8]) -> io::Result<usize> {
+        let Some(mut made) = self.made.try_lock() else {
+            return Err(Error::from(ErrorKind::Other));
+        };
+        match made.extend_from_slice(buf) {
+            Ok(()) => Ok(buf.len()),
+            Err(_) => Err(Error::from(ErrorKind::OutOfMemory)),
+        }
+    }
+
+    fn flush(&mut self) -> io::Result<()> {
+        Ok(())
+    }
+}
+
+/// No clock: nobody looks on.
+#[derive(Clone, Copy, Drop)]
+struct Still;
+
+impl Clock for Still {
+    fn monotonic(&self) -> io::Result<Duration> {
+        Ok(Duration::from_millis(0))
+    }
+
+    fn since_1970(&self) -> io::Result<Duration> {
+        Ok(Duration::from_millis(0))
+    }
+}
+
+/// What comes of the words of a case: what is printed, what is said on the errors, what is written into the file that is
+/// made, and the status.
+pub fn outcome_of_words<T: Threads + Wait + Sync>(
+    rt: &T,
+    alloc: Global,
+    words: &Vec<String>,
+    inputs: &Inputs,
+) -> Outcome {
+    let made = Mutex::new(Vec::new(alloc));
+    let shelf = Shelf {
+        files: inputs.files.as_slice(),
+        made: &made,
+    };
+    let mut streams = Streams {
+        input: inputs.input.as_slice(),
+        output: Vec::new(alloc),
+        errors: Vec::new(alloc),
+    };
+    let place = Place {
+        files: shelf,
+        again: shelf,
+    };
+    let screen: Option<Screen<Sheet<'_>, Still>> = None;
+    let words = words.clone().map_err(|_| ErrorKind::OutOfMemory);
+    let status = run(rt, alloc, &words, place, screen, &mut streams);
+    Outcome {
+        text: streams.output,
+        journal: made.into_inner(),
+        line: streams.errors,
+        status,
+    }
+}

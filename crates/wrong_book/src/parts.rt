@@ -1,0 +1,64 @@
+//! Wrong answers of a replay in parts.
+ghost use Rattle.std.specs.Prelude.{◌≡◌, ◌-◌, ◌<◌, ◌≤◌, length, slice_get, Some};
+ghost use Rattle.buck_dp.specs.Best.{IsAdmissible, cutting_worth};
+ghost use Rattle.buck_book.specs.History.{sheet_at};
+
+use buck_apt::Instruction;
+use buck_book::{Entry, Posting};
+use buck_dp::Cutting;
+use buck_journal::{Journal, ReplayFault, replay_in_parts};
+use std::alloc::Global;
+use std::sync::Arc;
+use std::thread::Threads;
+
+/// The last part is dropped: a journal is taken whose last cut is outvalued.
+pub fn last_part_dropped<T: Threads + Sync>(
+    rt: &T,
+    alloc: Global,
+    instruction: &Arc<Instruction>,
+    journal: &Journal,
+    entry: &Entry,
+    dearer: &Cutting,
+)
+    requires few { length journal.now.entries ≤ 1000000 }
+    requires last { slice_get journal.now.entries (length journal.now.entries - 1) ≡ Some (Posting.Cut entry.now) }
+    requires admissible { IsAdmissible
+        (sheet_at instruction.now.value journal.now.sheets entry.now.version) entry.now.stem dearer.now.logs.items }
+    requires more { cutting_worth (sheet_at instruction.now.value journal.now.sheets entry.now.version)
+        entry.now.stem entry.now.logs
+        < cutting_worth (sheet_at instruction.now.value journal.now.sheets entry.now.version)
+        entry.now.stem dearer.now.logs.items }
+{
+    let right = replay_in_parts(rt, alloc, 2, instruction, journal).is_ok();
+    let wrong = true;
+    prove!(right != wrong);
+}
+
+/// The parts are swapped: a cut is told that comes after one which is outvalued too.
+pub fn later_part_told_first<T: Threads + Sync>(
+    rt: &T,
+    alloc: Global,
+    instruction: &Arc<Instruction>,
+    journal: &Journal,
+    first: usize,
+    entry: &Entry,
+    dearer: &Cutting,
+)
+    requires few { length journal.now.entries ≤ 1000000 }
+    requires there { slice_get journal.now.entries first ≡ Some (Posting.Cut entry.now) }
+    requires admissible { IsAdmissible
+        (sheet_at instruction.now.value journal.now.sheets entry.now.version) entry.now.stem dearer.now.logs.items }
+    requires more { cutting_worth (sheet_at instruction.now.value journal.now.sheets entry.now.version)
+        entry.now.stem entry.now.logs
+        < cutting_worth (sheet_at instruction.now.value journal.now.sheets entry.now.version)
+        entry.now.stem dearer.now.logs.items }
+{
+    let Err(fault) = replay_in_parts(rt, alloc, 2, instruction, journal) else {
+        return;
+    };
+    let ReplayFault::Outvalued { at } = fault else {
+        return;
+    };
+    let is_wrong = at > first;
+    prove!(!is_wrong);
+}

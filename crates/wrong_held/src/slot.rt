@@ -1,0 +1,33 @@
+//! Wrong answers of the block that a kept book is handed out in.
+ghost use Rattle.std.specs.Prelude.{◌≡◌, None, IsSome};
+
+use buck_held::{Kept, Slot};
+use std::alloc::Global;
+
+/// The book is taken out, and the block still says that it holds one.
+pub fn taken_book_stays_in_its_block(alloc: Global, slot: &mut Slot) -> Option<Box<Kept>> {
+    let book = slot.take(alloc);
+    let right = slot.is_open();
+    let wrong = true;
+    prove!(right != wrong);
+    book
+}
+
+/// A block that holds a book answers that it holds none.
+pub fn book_not_found_in_its_block(alloc: Global, slot: &mut Slot) -> Option<Box<Kept>>
+    requires { IsSome slot.old.handle.held }
+{
+    let book = slot.take(alloc);
+    let right = book.is_none();
+    let wrong = true;
+    prove!(right != wrong);
+    book
+}
+
+/// A book that is put into a block isn't there.
+pub fn book_lost_on_its_way_in(slot: &mut Slot, book: Box<Kept>) {
+    slot.put(book);
+    let right = slot.is_open();
+    let wrong = false;
+    prove!(right != wrong);
+}

@@ -1,0 +1,51 @@
+//! Wrong bodies of requests.
+#![tactic(auto, unfolding(buck_record::specs::Record::numbers_of, buck_record::specs::Record::number_at_most, buck_record::specs::Record::item_of, buck_record::specs::Record::items_of, buck_record::specs::White::words, buck_record::specs::White::first_word, buck_record::specs::White::after_word, buck_record::specs::White::trim_start, buck_record::specs::White::trim_end, buck_record::specs::Reading::each_from, buck_record::specs::Table::rest_in, buck_record::specs::Rules::numbers_in, buck_live::specs::Request::request_of, buck_live::specs::Request::requested, buck_live::specs::Request::present, buck_live::specs::Request::single, buck_live::specs::Request::named_harvester, buck_live::specs::Request::asked_in, buck_live::specs::Request::targets_in))]
+
+ghost use Rattle.std.specs.Prelude.{◌≡◌, ◌≢◌};
+ghost use Rattle.buck_rule.specs.Stored.{Answers};
+ghost use Rattle.buck_journal.specs.Written.{journal_text};
+
+use buck_live::{Live, read_request};
+use buck_rule::Standing;
+use std::alloc::Global;
+
+/// Each request is taken for one of the first harvester.
+pub fn everyone_is_the_first_harvester(alloc: Global) {
+    if let Ok(Some(request)) = read_request(alloc, b"950 1 2~982 2 5~") {
+        let right = request.harvester;
+        let wrong = 1;
+        prove!(right != wrong);
+    }
+}
+
+/// A request that is refused, since the input ends within its line, changes the history.
+#[tactic(auto, using(crate::proofs::Refused::cut_off))]
+pub fn refused_request_changes_the_history<F: Fn(&Standing) -> u64 + Drop>(
+    alloc: Global,
+    live: &mut Live<F>,
+    out: &mut Vec<u8>,
+)
+    requires answers { Answers F.Fn live.old.rule }
+{
+    let Ok(before) = live.journal(alloc) else {
+        return;
+    };
+    let mut input = b"951 1 7".as_slice();
+    let outcome = live.run(alloc, &mut input, out);
+    let Ok(after) = live.journal(alloc) else {
+        return;
+    };
+    if outcome.is_ok() {
+        let is_changed = before.as_slice() != after.as_slice();
+        prove!(!is_changed);
+    }
+}
+
+/// The journal is that of another history, as where the last request is left out.
+pub fn journal_of_other_requests<F: Drop>(alloc: Global, live: &Live<F>, wrong: &[u8])
+    requires differ { wrong.now ≢ journal_text live.now.history.sheets live.now.history.postings }
+{
+    if let Ok(right) = live.journal(alloc) {
+        prove!(right.as_slice() != wrong);
+    }
+}
