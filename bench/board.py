@@ -1,7 +1,7 @@
 #!/usr/bin/env python3
 """Times reads of a board, and sheets put up with a raise each, on one thread and on four.
 
-    python3 bench/board.py                   # proves and builds crates/bench_board, and prints a table
+    python3 bench/board.py                   # proves and builds crates/bench_calls, and prints a table
     python3 bench/board.py --bin PROGRAM     # one that is built already
 
 A figure is the time on the wall, in nanoseconds, for each call on a thread: of the least of several runs, less the least
@@ -13,19 +13,9 @@ import subprocess
 import sys
 import time
 
-HERE = os.path.dirname(os.path.abspath(__file__))
-TOP = os.path.dirname(HERE)
+from building import built
+
 CALLS = {"read": 20_000_000, "put": 1_000_000}
-
-
-def build():
-    """Proves and builds the program, and gives its path."""
-    folder = os.path.join(TOP, "crates", "bench_board")
-    shown = subprocess.run(["rt", "run", "--", "read", "1", "1"], cwd=folder, capture_output=True, text=True)
-    program = os.path.join(folder, "out", "bench_board")
-    if shown.returncode != 0 or not os.path.exists(program):
-        sys.exit("the program doesn't build:\n" + shown.stdout + shown.stderr)
-    return program
 
 
 def seconds(words, times):
@@ -46,7 +36,7 @@ def main():
     parser.add_argument("--bin", metavar="PROGRAM")
     parser.add_argument("--times", type=int, default=5)
     args = parser.parse_args()
-    program = args.bin or build()
+    program = args.bin or built("bench_calls", "read", "1", "1")
     print("            ns on 1 thread  ns on 4 threads")
     for word, calls in CALLS.items():
         figures = []

@@ -1,7 +1,7 @@
 #!/usr/bin/env python3
 """Times commits of short entries to a book of one thread, in periods of 100 entries.
 
-    python3 bench/commits.py                   # proves and builds crates/bench_commits, and prints a table
+    python3 bench/commits.py                   # proves and builds crates/bench_calls, and prints a table
     python3 bench/commits.py --bin PROGRAM     # one that is built already
 
 A commit is `prepare` with `commit`, timed by itself inside the program: the plans of a period are made before it. The
@@ -18,20 +18,10 @@ import subprocess
 import sys
 import tempfile
 
-HERE = os.path.dirname(os.path.abspath(__file__))
-TOP = os.path.dirname(HERE)
+from building import built
+
 PERIOD = 100
 ENTRIES = [250_000, 500_000, 1_000_000]
-
-
-def build():
-    """Proves and builds the program, and gives its path."""
-    folder = os.path.join(TOP, "crates", "bench_commits")
-    shown = subprocess.run(["rt", "run", "--", "1"], cwd=folder, capture_output=True, text=True)
-    program = os.path.join(folder, "out", "bench_commits")
-    if shown.returncode != 0 or not os.path.exists(program):
-        sys.exit("the program doesn't build:\n" + shown.stdout + shown.stderr)
-    return program
 
 
 def output_of(words):
@@ -48,7 +38,7 @@ def output_of(words):
 
 def figures(program, number):
     """The figures of a run, in the order of the columns."""
-    shown, memory = output_of([program, str(number // PERIOD)])
+    shown, memory = output_of([program, "commits", str(number // PERIOD)])
     found = {}
     for line in shown.splitlines():
         name, *times = line.split()
@@ -63,7 +53,7 @@ def main():
     parser.add_argument("--bin", metavar="PROGRAM")
     parser.add_argument("--times", type=int, default=5)
     args = parser.parse_args()
-    program = args.bin or build()
+    program = args.bin or built("bench_calls", "commits", "1")
     runs = {number: [] for number in ENTRIES}
     for _ in range(args.times):
         for number in ENTRIES:

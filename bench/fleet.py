@@ -1,7 +1,7 @@
 #!/usr/bin/env python3
 """Times a fleet that cuts one made harvest with 1, 2 and 4 threads, in periods of 1 and of 100 stems.
 
-    python3 bench/fleet.py                         # proves and builds crates/bench_fleet, and prints a table
+    python3 bench/fleet.py                         # proves and builds crates/bench_calls, and prints a table
     python3 bench/fleet.py --bin PROGRAM           # one that is built already
     python3 bench/fleet.py --peer PROGRAM          # beside it the figures of a program with the commands gen and bench
 
@@ -18,20 +18,11 @@ import subprocess
 import sys
 import tempfile
 
+from building import built
+
 HERE = os.path.dirname(os.path.abspath(__file__))
-TOP = os.path.dirname(HERE)
 PERIODS = [100, 1]
 THREADS = [1, 2, 4]
-
-
-def build():
-    """Proves and builds the program, and gives its path."""
-    folder = os.path.join(TOP, "crates", "bench_fleet")
-    shown = subprocess.run(["rt", "run", "--", "plans", "1", "data/saw.apt", "data/stems.stm"], cwd=folder, capture_output=True, text=True)
-    program = os.path.join(folder, "out", "bench_fleet")
-    if shown.returncode != 0 or not os.path.exists(program):
-        sys.exit("the program doesn't build:\n" + shown.stdout + shown.stderr)
-    return program
 
 
 def made(folder, args, period):
@@ -87,7 +78,7 @@ def main():
     parser.add_argument("--module", type=int, default=100)
     parser.add_argument("--times", type=int, default=5)
     args = parser.parse_args()
-    program = os.path.abspath(args.bin) if args.bin else build()
+    program = os.path.abspath(args.bin) if args.bin else built("bench_calls", "commits", "1")
     print("  period  threads  who         stems/s  times one thread  stale %")
     for period in PERIODS:
         with tempfile.TemporaryDirectory() as folder:

@@ -22,7 +22,7 @@ from pages import files_in, libraries
 from quick import TOP, crates
 
 # Copies of a file of examples/ under another name.
-COPIES = {"crates/run_view/data/saw.apt": "two_stems.apt", "crates/bench_fleet/data/saw.apt": "two_stems.apt"}
+COPIES = {"crates/run_view/data/saw.apt": "two_stems.apt", "crates/bench_calls/data/saw.apt": "two_stems.apt"}
 
 # Callers that prove wrong bodies wrong, tests, what they share, whole runs, what is timed, uses of the libraries.
 KINDS = ("wrong_", "test_", "fixture_", "run_", "bench_", "example_")

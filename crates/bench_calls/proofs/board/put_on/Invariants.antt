@@ -1,5 +1,5 @@
 use Rattle.buck_board.specs.Board.{IsSeatOf}
-use Rattle.bench_board.proofs.put_on.Given as goal
+use Rattle.bench_calls.proofs.board.put_on.Given as goal
 
 abbrev pub invariant-loop-version : goal.invariant-loop-version
 invariant-loop-version g l = IsSeatOf l.board l.seat

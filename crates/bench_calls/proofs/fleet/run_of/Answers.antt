@@ -1,6 +1,6 @@
 use Rattle.std.proofs.Common.{ℕ, sym, subst}
 use Rattle.buck_fleet.specs.Crew.{IsCrew}
-use Rattle.bench_fleet.proofs.run_of.Goals as goal
+use Rattle.bench_calls.proofs.fleet.run_of.Goals as goal
 
 pub close-requires-clause-crew : goal.close-requires-clause-crew
 close-requires-clause-crew g c =

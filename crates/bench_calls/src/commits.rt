@@ -1,26 +1,17 @@
 //! Times commits of short entries to a book of one thread, in periods of 100: the plans of a period are made before its
-//! first commit, so that `prepare` and `commit` are timed by themselves. The word is how many periods, at most 10,000;
-//! without one there are as many. It prints how many entries and sheets the book has, and beside it, as errors are, the
-//! least, the median and the 90th percentile of each kind of call: bench/commits.py makes a table of them.
-#![tactic(auto)]
+//! first commit, so that `prepare` and `commit` are timed by themselves.
 
 ghost use Rattle.std.specs.Prelude.{◌≡◌};
 ghost use Rattle.buck_rule.specs.Stored.{Answers};
 
-use buck_apt::read_apt;
+use crate::instruction::one_saw_log;
 use buck_book::{Book, Plan};
 use buck_rule::{Rule, Standing, step};
 use buck_stem::Stem;
 use buck_value::Sheet;
 use std::alloc::Global;
-use std::env;
-use std::process::ExitCode;
 use std::sync::Arc;
 use std::time::{Clock, Instant};
-
-const INSTRUCTION: &str = "1 2 APT~901 1 100~902 1 100~903 1 500~910 1 1~
-911 1 saw~912 1 1~913 1 1~914 1 1~915 1 100 200~915 2 400~
-916 1 3000 4000~917 1 400 500 600 800~918 1 1 1 1 1~";
 
 /// How many entries make a period of the instruction.
 const PERIOD: u32 = 100;
@@ -161,10 +152,11 @@ fn short_stem(alloc: Global) -> Option<Arc<Stem>> {
     Arc::new(alloc, stem).ok()
 }
 
-/// Commits so many periods to a new book, and prints what was measured.
-fn run(rt: &HostRuntime, alloc: Global, periods: u32) -> Option<()> {
-    let instruction = read_apt(alloc, INSTRUCTION.as_bytes()).ok()?;
-    let instruction = Arc::new(alloc, instruction).ok()?;
+/// Commits so many periods to a new book. It prints how many entries and sheets the book has, and beside it, as errors
+/// are, what was measured.
+pub fn run(rt: &HostRuntime, periods: u32) -> Option<()> {
+    let alloc = rt.alloc();
+    let instruction = one_saw_log(alloc)?;
     let stem = short_stem(alloc)?;
     let rule = Rule::new(|s: &Standing| step(s));
     let mut times = Times::with_room(alloc, periods)?;
@@ -177,25 +169,4 @@ fn run(rt: &HostRuntime, alloc: Global, periods: u32) -> Option<()> {
     show(rt, "within", times.within);
     show(rt, "ending", times.ending);
     Some(())
-}
-
-fn main(rt: HostRuntime) -> ExitCode {
-    let alloc = rt.alloc();
-    let Ok(args) = env::args(&rt) else {
-        return ExitCode::from(1);
-    };
-    let Ok(words) = args.collect::<Vec<String>>(alloc) else {
-        return ExitCode::from(1);
-    };
-    let periods = match words.get(1) {
-        None => 10_000,
-        Some(word) => match word.as_str().parse::<u32>() {
-            Ok(periods) => periods,
-            Err(_) => return ExitCode::from(2),
-        },
-    };
-    match run(&rt, alloc, periods) {
-        Some(()) => ExitCode::from(0),
-        None => ExitCode::from(3),
-    }
 }

@@ -1,22 +1,15 @@
-//! Reads a board, or puts sheets up on it with a raise each. The words: `read` or `put`, how often on each thread, and
-//! how many threads; without words 1,000 reads on one thread. It prints nothing: bench/board.py takes the time.
-#![tactic(auto)]
+//! Reads a board, or puts sheets up on it with a raise each, on one thread or several.
 
 ghost use Rattle.std.specs.Prelude.{◌≡◌, ◌≤◌, All, IfSome};
 ghost use Rattle.buck_board.specs.Board.{IsSeatOf};
 
-use buck_apt::read_apt;
+use crate::instruction::one_saw_log;
 use buck_board::{Board, BoardSeat};
 use buck_value::Sheet;
 use std::alloc::Global;
-use std::process::ExitCode;
 use std::sync::{Arc, Wait};
+use std::thread;
 use std::thread::Threads;
-use std::{env, thread};
-
-const INSTRUCTION: &str = "1 2 APT~901 1 100~902 1 100~903 1 500~910 1 1~
-911 1 saw~912 1 1~913 1 1~914 1 1~915 1 100 200~915 2 400~
-916 1 3000 4000~917 1 400 500 600 800~918 1 1 1 1 1~";
 
 /// Reads version 1 or a later one so often, and gives the sum of the versions.
 fn read_on(board: &Board, seat: &mut BoardSeat, number: u32) -> u64
@@ -85,10 +78,7 @@ fn put_all<R: Threads + Wait + Sync>(
 fn base_sheet(alloc: Global) -> Option<Arc<Sheet>>
     ensures { IfSome result (λ s. s.value.version ≡ 0) }
 {
-    let Ok(instruction) = read_apt(alloc, INSTRUCTION.as_bytes()) else {
-        return None;
-    };
-    let Ok(instruction) = Arc::new(alloc, instruction) else {
+    let Some(instruction) = one_saw_log(alloc) else {
         return None;
     };
     let Ok(sheet) = Sheet::base(alloc, instruction) else {
@@ -109,7 +99,7 @@ fn next_sheet(alloc: Global, base: &Sheet) -> Option<Arc<Sheet>> {
 }
 
 /// Runs one of the two, on so many threads.
-fn run<R: Threads + Wait + Sync>(
+fn run_on<R: Threads + Wait + Sync>(
     rt: &R,
     alloc: Global,
     is_read: bool,
@@ -132,30 +122,19 @@ fn run<R: Threads + Wait + Sync>(
     Some(())
 }
 
-fn main(rt: HostRuntime) -> ExitCode {
-    let alloc = rt.alloc();
-    let Ok(args) = env::args(&rt) else {
-        return ExitCode::from(1);
-    };
-    let Ok(words) = args.collect::<Vec<String>>(alloc) else {
-        return ExitCode::from(1);
-    };
-    let mut number = 1000;
-    let mut threads = 1;
-    let mut is_read = true;
-    if words.len() == 4 {
-        is_read = words[1].as_str() == "read";
-        number = words[2].as_str().parse::<u32>().unwrap_or(0);
-        threads = words[3].as_str().parse::<u32>().unwrap_or(0);
-    }
+/// Reads version 1 so often on each of so many threads, or puts up a sheet as often. It prints nothing.
+pub fn run<R: Threads + Wait + Sync>(
+    rt: &R,
+    alloc: Global,
+    is_read: bool,
+    number: u32,
+    threads: u32,
+) -> Option<()> {
     if threads < 1 {
-        return ExitCode::from(2);
+        return None;
     }
     if threads > 64 {
-        return ExitCode::from(2);
+        return None;
     }
-    match run(&rt, alloc, is_read, number, threads) {
-        Some(()) => ExitCode::from(0),
-        None => ExitCode::from(3),
-    }
+    run_on(rt, alloc, is_read, number, threads)
 }

@@ -1,4 +1,4 @@
-use Rattle.bench_fleet.proofs.run.Given as goal
+use Rattle.bench_calls.proofs.fleet.cut.Given as goal
 
 abbrev pub ghosts-run_of : goal.ghosts-run_of
 ghosts-run_of g a = record { name = a.blank.name; parts = a.blank.parts }

@@ -1,8 +1,4 @@
-//! Cuts a harvest by a fleet, with a thread for each harvester, by the linear rule. The words: `time` or `plans`, how many
-//! harvesters, an instruction file and stem files, whose stems are dealt out to the harvesters in turn. It prints how many
-//! entries and sheets the history has, and beside it, as errors are, how many nanoseconds the run took, or how many plans
-//! were made without the lock and how many of these not at the first attempt: bench/fleet.py makes figures of them.
-#![tactic(auto)]
+//! Cuts a harvest by a fleet, with a thread for each harvester, by the linear rule.
 
 ghost use Rattle.std.specs.Prelude.{◌≡◌, ◌<◌, ◌≤◌, length};
 
@@ -12,14 +8,13 @@ use buck_fleet::{Closed, Fleet, Gate, NoGate, run_fleet};
 use buck_rule::{Rule, Standing, linear};
 use buck_stem::{Stem, read_stm};
 use std::alloc::Global;
+use std::fs;
 use std::marker::Brand;
-use std::process::ExitCode;
 use std::sync::atomic::{AtomicU64, Ordering};
 use std::sync::ledger::{Blank, Ledger};
 use std::sync::{Arc, Wait};
 use std::thread::Threads;
 use std::time::{Clock, Instant};
-use std::{env, fs};
 
 /// Counts plans.
 #[derive(Drop)]
@@ -78,7 +73,7 @@ fn run_of<L: Ledger + Send + Sync, R: Threads + Wait + Clock + Sync, G: Gate + S
 }
 
 /// Cuts the lists by a fleet.
-fn run<R: Threads + Wait + Clock + Sync, G: Gate + Sync>(
+fn cut<R: Threads + Wait + Clock + Sync, G: Gate + Sync>(
     rt: &R,
     alloc: Global,
     instruction: Arc<Instruction>,
@@ -156,7 +151,7 @@ fn timed<R: Threads + Wait + Clock + Sync>(
 ) -> Option<Figures>
     requires { (0 < length lists.now) × (length lists.now ≤ 64) }
 {
-    let (closed, took) = run(rt, alloc, instruction, lists, &NoGate)?;
+    let (closed, took) = cut(rt, alloc, instruction, lists, &NoGate)?;
     Some(Figures {
         entries: closed.entries().len(),
         sheets: closed.sheets().len(),
@@ -178,7 +173,7 @@ fn counted<R: Threads + Wait + Clock + Sync>(
         plans: AtomicU64::new(0),
         again: AtomicU64::new(0),
     };
-    let (closed, _) = run(rt, alloc, instruction, lists, &gate)?;
+    let (closed, _) = cut(rt, alloc, instruction, lists, &gate)?;
     Some(Figures {
         entries: closed.entries().len(),
         sheets: closed.sheets().len(),
@@ -208,41 +203,26 @@ fn serve<R: Threads + Wait + Clock + Sync>(
     }
 }
 
-/// The instruction that the words name.
-fn instruction_of(rt: &HostRuntime, words: &[String]) -> Option<Arc<Instruction>> {
-    let bytes = fs::read(rt, words.get(3)?.as_str()).ok()?;
-    Arc::new(rt.alloc(), read_apt(rt.alloc(), bytes.as_slice()).ok()?).ok()
-}
-
-/// The stems that the words name, dealt out to as many harvesters as they say.
-fn lists_of(rt: &HostRuntime, words: &[String]) -> Option<Vec<Vec<Arc<Stem>>>> {
-    let harvesters = words.get(2)?.as_str().parse::<u32>().ok()?;
-    let stems = stems_of(rt, words.get(4..)?)?;
-    dealt(rt.alloc(), stems.as_slice(), harvesters as usize)
-}
-
-fn main(rt: HostRuntime) -> ExitCode {
-    let Ok(args) = env::args(&rt) else {
-        return ExitCode::from(1);
-    };
-    let Ok(words) = args.collect::<Vec<String>>(rt.alloc()) else {
-        return ExitCode::from(1);
-    };
-    let Some(instruction) = instruction_of(&rt, words.as_slice()) else {
-        return ExitCode::from(2);
-    };
-    let Some(lists) = lists_of(&rt, words.as_slice()) else {
-        return ExitCode::from(2);
-    };
-    let is_time = words.len() > 1 && words[1].as_str() == "time";
-    match serve(&rt, rt.alloc(), is_time, instruction, lists.as_slice()) {
-        Some(run) => {
-            let (entries, sheets) = (run.entries, run.sheets);
-            let _ = println!(&rt; "{entries} entries, {sheets} sheets");
-            let (first, second) = (run.first, run.second);
-            let _ = eprintln!(&rt; "{first} {second}");
-            ExitCode::from(0)
-        }
-        None => ExitCode::from(3),
-    }
+/// Times a run of a harvest, or counts its plans. The words: how many harvesters, an instruction file and stem files,
+/// whose stems are dealt out to the harvesters in turn. It prints how many entries and sheets the history has, and beside
+/// it, as errors are, how many nanoseconds the run took, or how many plans were made without the lock and how many of
+/// these not at the first attempt.
+pub fn run<R: Threads + Wait + Clock + Sync>(
+    rt: &R,
+    host: &HostRuntime,
+    is_time: bool,
+    words: &[String],
+) -> Option<()> {
+    let harvesters = words.get(0)?.as_str().parse::<u32>().ok()?;
+    let bytes = fs::read(host, words.get(1)?.as_str()).ok()?;
+    let instruction = read_apt(host.alloc(), bytes.as_slice()).ok()?;
+    let stems = stems_of(host, words.get(2..)?)?;
+    let lists = dealt(host.alloc(), stems.as_slice(), harvesters as usize)?;
+    let instruction = Arc::new(host.alloc(), instruction).ok()?;
+    let run = serve(rt, host.alloc(), is_time, instruction, lists.as_slice())?;
+    let (entries, sheets) = (run.entries, run.sheets);
+    let _ = println!(host; "{entries} entries, {sheets} sheets");
+    let (first, second) = (run.first, run.second);
+    let _ = eprintln!(host; "{first} {second}");
+    Some(())
 }

@@ -1,5 +1,5 @@
 use Rattle.buck_board.specs.Board.{IsSeatOf}
-use Rattle.bench_board.proofs.read_on.Given as goal
+use Rattle.bench_calls.proofs.board.read_on.Given as goal
 
 abbrev pub invariant-loop : goal.invariant-loop
 invariant-loop l = IsSeatOf l.board l.seat

@@ -1,0 +1,81 @@
+//! Calls that bench/ times, by the first word:
+//!
+//! - `commits PERIODS`: commits to a book of one thread, at most 10,000 periods (bench/commits.py);
+//! - `read NUMBER THREADS` and `put NUMBER THREADS`: a board, so often on each of so many threads (bench/board.py);
+//! - `time HARVESTERS APT STM..` and `plans HARVESTERS APT STM..`: a fleet (bench/fleet.py);
+//! - `brief HARVESTERS APT STM..`: a little of each.
+#![tactic(auto)]
+
+mod board;
+mod commits;
+mod fleet;
+mod instruction;
+
+use std::env;
+use std::process::ExitCode;
+use std::sync::Wait;
+use std::thread::Threads;
+use std::time::Clock;
+
+/// The number that the word at a place is.
+fn number_at(words: &[String], place: usize) -> Option<u32> {
+    words.get(place)?.as_str().parse::<u32>().ok()
+}
+
+/// A little of each.
+fn brief<R: Threads + Wait + Clock + Sync>(
+    rt: &R,
+    host: &HostRuntime,
+    words: &[String],
+) -> Option<()> {
+    commits::run(host, 10)?;
+    board::run(rt, host.alloc(), true, 1000, 2)?;
+    board::run(rt, host.alloc(), false, 1000, 2)?;
+    fleet::run(rt, host, false, words)
+}
+
+/// Does what the words ask for. None is for words that aren't right, and for work that fails.
+fn run<R: Threads + Wait + Clock + Sync>(
+    rt: &R,
+    host: &HostRuntime,
+    words: &[String],
+) -> Option<()> {
+    let rest = words.get(1..)?;
+    match words.first()?.as_str() {
+        "commits" => commits::run(host, number_at(rest, 0)?),
+        "read" => board::run(
+            rt,
+            host.alloc(),
+            true,
+            number_at(rest, 0)?,
+            number_at(rest, 1)?,
+        ),
+        "put" => board::run(
+            rt,
+            host.alloc(),
+            false,
+            number_at(rest, 0)?,
+            number_at(rest, 1)?,
+        ),
+        "time" => fleet::run(rt, host, true, rest),
+        "plans" => fleet::run(rt, host, false, rest),
+        "brief" => brief(rt, host, rest),
+        _ => None,
+    }
+}
+
+fn main(rt: HostRuntime) -> ExitCode {
+    let Ok(args) = env::args(&rt) else {
+        return ExitCode::from(1);
+    };
+    let Ok(words) = args.collect::<Vec<String>>(rt.alloc()) else {
+        return ExitCode::from(1);
+    };
+    let Some(words) = words.get(1..) else {
+        return ExitCode::from(1);
+    };
+    match run(&rt, &rt, words) {
+        Some(()) => ExitCode::from(0),
+        None => ExitCode::from(2),
+    }
+}
