@@ -83,7 +83,7 @@ wood_of group = do
   price_kind ← numbers_in Digits PRICE_KIND group
   Ok (record { species = species; grades = grades; price_kind = price_kind })
 
--- of the sizes of its logs
+-- what they say of the sizes of its logs
 unfoldable pub sizes_of : List ItemParts → Result Sizes AptFault
 sizes_of group = do
   diameters ← numbers_in Digits DIAMETERS group
@@ -91,7 +91,7 @@ sizes_of group = do
   lengths ← numbers_in Digits LENGTHS group
   Ok (record { diameters = diameters; upper = upper; lengths = lengths })
 
--- of its classes
+-- what they say of its classes
 unfoldable pub tables_of : List ItemParts → Result Tables AptFault
 tables_of group = do
   prices ← numbers_in Digits PRICES group
@@ -239,7 +239,7 @@ instruction_of file = record {
   assortments = map assortment_of file.drafts;
 }
 
--- lines 2 to 5: what the items of an instruction say
+-- Lines 2 to 5: what the items of an instruction say.
 unfoldable pub draft_in : List ItemParts → Result FileDraft AptFault
 draft_in items = do
   _ ← check (says_apt items) NotApt
@@ -247,7 +247,7 @@ draft_in items = do
   _ ← single items
   file_draft_of items
 
--- lines 6 to 10: what the items say is within the limits
+-- Lines 6 to 10: what the items say is within the limits.
 unfoldable pub within_limits : FileDraft → Result (Unit {0}) AptFault
 within_limits file = do
   _ ← in_range file

@@ -106,7 +106,7 @@ zones_of (start ∷ grade ∷ more) = (start, grade) ∷ zones_of more
 unfoldable pub parts_of : Draft → StemParts
 parts_of d = stem_of (slice_index d.number 0) (slice_index d.species 0) d.samples (zones_of d.zones)
 
--- lines 2 to 5: the numbers of each stem, where each list is one of numbers
+-- Lines 2 to 4, and line 5, Digits: each list of each stem is one of numbers.
 unfoldable pub drafts_in : List ItemParts → Result (List Draft) StmFault
 drafts_in items = do
   _ ← check (says_stm items) NotStm
@@ -114,7 +114,7 @@ drafts_in items = do
   _ ← single items
   make_each draft_of (groups items)
 
--- lines 6 to 8: the numbers are those of stems
+-- Lines 6 to 8: the numbers are those of stems.
 unfoldable pub checked : List Draft → Result (Unit {0}) StmFault
 checked drafts = do
   _ ← in_range drafts
