@@ -6,8 +6,8 @@
 It reads the clauses of all public functions of the libraries, and goes from their words to all definitions that these
 lead to, within specs/. PROMISES says which calls a promise is about; the calls that it leaves over stand together at
 the end. A page is counted by the lines of the definitions that are reached, with their comments: the headline by
-itself, each promise beside those above it. Last come the types of the code that clauses and pages name. It ends in
-status 1 where docs/PROOFS.md has other numbers or types (--write puts these there), and where a clause leads into
+itself, each promise beside those above it; a constant of the code that a definition names counts as a line of a page, too.
+Last come the types of the code that clauses and pages name. It ends in status 1 where docs/PROOFS.md has other numbers or types (--write puts these there), and where a clause leads into
 specs/inner/.
 """
 import fnmatch
@@ -87,6 +87,21 @@ def page(lines):
     return lines, taken_by(lines, r"(?:pub )?"), stands
 
 
+def constants(lines):
+    """A file of src/ as a page: where each of its constants stands, with its comment."""
+    stands = {}
+    for at, line in enumerate(lines):
+        constant = re.match(r"(?:pub(?:\(crate\))? )?const ([A-Z]\w*):", line)
+        if constant:
+            first, last = at, at
+            while first > 0 and lines[first - 1].startswith("///"):
+                first -= 1
+            while not lines[last].endswith(";"):
+                last += 1
+            stands[constant[1]] = (at, first, last)
+    return lines, {}, stands
+
+
 def files_in(crate, part, ending):
     """The files of a crate in one of its folders: the words of each path, and its lines."""
     top = os.path.join(TOP, "crates", crate, part)
@@ -154,7 +169,7 @@ def reached(found, roots):
     while left:
         at = left.pop(0)
         declared = re.match(r"(buck_\w+)\.specs\.declared(?:\.\w+)*?\.([A-Z]\w*)", at[0])
-        if declared:
+        if declared and declared[2] != "TheConstants":
             types.add((declared[1], declared[2]))
         if at in seen or at[0] not in found:
             continue
@@ -196,7 +211,8 @@ def roots_of(calls, patterns, left):
 
 def spelled(place, promise, lengths):
     """The line of docs/PROOFS.md on a promise."""
-    pages = ", ".join(f"`{name.replace('.specs.', '/specs/').replace('.', '/')}` ({lengths[name]})" for name in lengths)
+    named = {name: re.sub(r"/specs/declared/(.*)/TheConstants", r"/src/\1", name.replace(".", "/")) for name in lengths}
+    pages = ", ".join(f"`{named[name]}` ({lengths[name]})" for name in lengths)
     head = f"{place}. **{promise[0].upper()}{promise[1:]}**: {sum(lengths.values())} lines in {len(lengths)} pages"
     return f"{head}, {'beside those above' if place > 1 else 'by itself'}: {pages}."
 
@@ -215,6 +231,8 @@ def lines_wanted():
     for crate in libraries():
         for words, lines in files_in(crate, "specs", ".antt"):
             found[".".join([crate, "specs"] + words)] = page(lines)
+        for words, lines in files_in(crate, "src", ".rt"):
+            found[".".join([crate, "specs", "declared"] + words + ["TheConstants"])] = constants(lines)
         calls += public_calls(crate)
     counts = [counted(found, set(), roots_of(calls, HEADLINE[1], set()))]
     known = set()

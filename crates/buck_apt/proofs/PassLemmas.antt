@@ -15,8 +15,7 @@ use Rattle.buck_apt.specs.declared.fault.AptFault.TheVariants.{Module, Targets}
 use Rattle.buck_apt.specs.declared.draft.Draft.{Draft}
 use Rattle.buck_apt.specs.declared.draft.FileDraft.{FileDraft}
 use Rattle.buck_apt.specs.Instruction.{IsAssortment, IsWithin, IsNameByte, IsOnModule}
-use Rattle.buck_apt.specs.Apt.{is_name, is_name_byte, all_above, is_one, is_number_of, none_found, first_off_module, draft_range, draft_order, draft_count, in_range, in_order, in_number, on_module, in_targets, assortment_of}
-use Rattle.buck_apt.specs.inner.Parts.{within_limits}
+use Rattle.buck_apt.specs.Apt.{is_name, is_name_byte, all_above, is_one, is_number_of, none_found, first_off_module, draft_range, draft_order, draft_count, in_range, in_order, in_number, on_module, in_targets, within_limits, assortment_of}
 use Rattle.buck_apt.specs.inner.Ready.{IsReadyDraft, IsReadyFile}
 
 one_within : (low high : ℕ) (ns : List ℕ) → all_within low high ns ≡ true → length ns ≡ 1 → IsWithin low high (slice_index ns 0)
@@ -72,37 +71,37 @@ position_none : {X : Type 0} (p : X → Bool) (xs : List X) → position p xs �
 position_none p xs h = λ k d lt. fails_before_first p xs k d (omega (arith, place-none p xs h))
 
 -- an assortment that passed
-draft_ready : (d : Draft) → draft_range d ≡ Ok tt → draft_order d ≡ Ok tt → draft_count d ≡ Ok tt → sum d.targets ≤ 1000000000 → IsReadyDraft d
+draft_ready : (d : Draft) → draft_range d ≡ Ok tt → draft_order d ≡ Ok tt → draft_count d ≡ Ok tt → sum d.tables.targets ≤ 1000000000 → IsReadyDraft d
 unfolding draft_range draft_order draft_count
 draft_ready d ranged ordered counted few =
     let r1 = passed (is_name d.name) _ _ ranged in
-    let r2 = passed (all_within 1 255 d.species) _ _ r1.1 in
-    let r3 = passed (all_within 1 8 d.grades) _ _ r2.1 in
-    let r4 = passed (all_within 1 2 d.price_kind) _ _ r3.1 in
-    let r5 = passed (all_within 0 1500 d.diameters) _ _ r4.1 in
-    let r6 = passed (all_within 1 2000 d.upper) _ _ r5.1 in
-    let r7 = passed (all_within 500 30000 d.lengths) _ _ r6.1 in
-    let r8 = passed (all_within 0 10000000 d.prices) _ _ r7.1 in
-    let r9 = passed (all_within 0 1000000 d.targets) _ _ r8.1 in
-    let r10 = check_ok (all_within 0 200 d.trim) _ r9.1 in
-    let o1 = passed (is_rising d.grades) _ _ ordered in
-    let o2 = passed (is_rising d.diameters) _ _ o1.1 in
-    let o3 = passed (all_above d.diameters d.upper) _ _ o2.1 in
-    let o4 = check_ok (is_rising d.lengths) _ o3.1 in
-    let c1 = passed (is_one d.species) _ _ counted in
-    let c2 = passed (within 1 8 (length d.grades)) _ _ c1.1 in
-    let c3 = passed (is_one d.price_kind) _ _ c2.1 in
-    let c4 = passed (within 1 32 (length d.diameters)) _ _ c3.1 in
-    let c5 = passed (is_one d.upper) _ _ c4.1 in
-    let c6 = passed (within 1 32 (length d.lengths)) _ _ c5.1 in
-    let c7 = passed (length d.prices == length d.diameters * length d.lengths) _ _ c6.1 in
-    let c8 = passed (length d.targets == length d.diameters * length d.lengths) _ _ c7.1 in
-    let c9 = check_ok (is_one d.trim) _ c8.1 in
+    let r2 = passed (all_within 1 255 d.wood.species) _ _ r1.1 in
+    let r3 = passed (all_within 1 8 d.wood.grades) _ _ r2.1 in
+    let r4 = passed (all_within 1 2 d.wood.price_kind) _ _ r3.1 in
+    let r5 = passed (all_within 0 1500 d.sizes.diameters) _ _ r4.1 in
+    let r6 = passed (all_within 1 2000 d.sizes.upper) _ _ r5.1 in
+    let r7 = passed (all_within 500 30000 d.sizes.lengths) _ _ r6.1 in
+    let r8 = passed (all_within 0 10000000 d.tables.prices) _ _ r7.1 in
+    let r9 = passed (all_within 0 1000000 d.tables.targets) _ _ r8.1 in
+    let r10 = check_ok (all_within 0 200 d.tables.trim) _ r9.1 in
+    let o1 = passed (is_rising d.wood.grades) _ _ ordered in
+    let o2 = passed (is_rising d.sizes.diameters) _ _ o1.1 in
+    let o3 = passed (all_above d.sizes.diameters d.sizes.upper) _ _ o2.1 in
+    let o4 = check_ok (is_rising d.sizes.lengths) _ o3.1 in
+    let c1 = passed (is_one d.wood.species) _ _ counted in
+    let c2 = passed (within 1 8 (length d.wood.grades)) _ _ c1.1 in
+    let c3 = passed (is_one d.wood.price_kind) _ _ c2.1 in
+    let c4 = passed (within 1 32 (length d.sizes.diameters)) _ _ c3.1 in
+    let c5 = passed (is_one d.sizes.upper) _ _ c4.1 in
+    let c6 = passed (within 1 32 (length d.sizes.lengths)) _ _ c5.1 in
+    let c7 = passed (length d.tables.prices == length d.sizes.diameters * length d.sizes.lengths) _ _ c6.1 in
+    let c8 = passed (length d.tables.targets == length d.sizes.diameters * length d.sizes.lengths) _ _ c7.1 in
+    let c9 = check_ok (is_one d.tables.trim) _ c8.1 in
     let name = both (within 1 32 (length d.name)) (list_all is_name_byte d.name) r1.0 in
-    let species = eqb-true (length d.species) 1 c1.0 in
-    let price_kind = eqb-true (length d.price_kind) 1 c3.0 in
-    let upper = eqb-true (length d.upper) 1 c5.0 in
-    let trim = eqb-true (length d.trim) 1 c9 in
+    let species = eqb-true (length d.wood.species) 1 c1.0 in
+    let price_kind = eqb-true (length d.wood.price_kind) 1 c3.0 in
+    let upper = eqb-true (length d.sizes.upper) 1 c5.0 in
+    let trim = eqb-true (length d.tables.trim) 1 c9 in
     record {
       species = species;
       price_kind = price_kind;
@@ -111,25 +110,25 @@ draft_ready d ranged ordered counted few =
       valid = record {
         name_length = within_ok 1 32 (length d.name) name.0;
         name_bytes = λ k b lt. name_byte_ok _ (AllPass-from_list_all is_name_byte d.name name.1 k b lt);
-        species = one_within 1 255 d.species r2.0 species;
-        grades_number = within_ok 1 8 (length d.grades) c2.0;
-        grades_range = all_within_ok 1 8 d.grades r3.0;
-        grades_rise = rising_ok d.grades o1.0;
-        price_kind = one_within 1 2 d.price_kind r4.0 price_kind;
-        rows = within_ok 1 32 (length d.diameters) c4.0;
-        diameters_range = λ k x lt. (all_within_ok 0 1500 d.diameters r5.0 k x lt).1;
-        diameters_rise = rising_ok d.diameters o2.0;
-        upper_range = one_within 1 2000 d.upper r6.0 upper;
-        upper_above = above_ok d.diameters d.upper o3.0 upper;
-        columns = within_ok 1 32 (length d.lengths) c6.0;
-        lengths_range = all_within_ok 500 30000 d.lengths r7.0;
-        lengths_rise = rising_ok d.lengths o4;
+        species = one_within 1 255 d.wood.species r2.0 species;
+        grades_number = within_ok 1 8 (length d.wood.grades) c2.0;
+        grades_range = all_within_ok 1 8 d.wood.grades r3.0;
+        grades_rise = rising_ok d.wood.grades o1.0;
+        price_kind = one_within 1 2 d.wood.price_kind r4.0 price_kind;
+        rows = within_ok 1 32 (length d.sizes.diameters) c4.0;
+        diameters_range = λ k x lt. (all_within_ok 0 1500 d.sizes.diameters r5.0 k x lt).1;
+        diameters_rise = rising_ok d.sizes.diameters o2.0;
+        upper_range = one_within 1 2000 d.sizes.upper r6.0 upper;
+        upper_above = above_ok d.sizes.diameters d.sizes.upper o3.0 upper;
+        columns = within_ok 1 32 (length d.sizes.lengths) c6.0;
+        lengths_range = all_within_ok 500 30000 d.sizes.lengths r7.0;
+        lengths_rise = rising_ok d.sizes.lengths o4;
         prices_number = eqb-true _ _ c7.0;
-        prices_range = λ k x lt. (all_within_ok 0 10000000 d.prices r8.0 k x lt).1;
+        prices_range = λ k x lt. (all_within_ok 0 10000000 d.tables.prices r8.0 k x lt).1;
         targets_number = eqb-true _ _ c8.0;
-        targets_range = λ k x lt. (all_within_ok 0 1000000 d.targets r9.0 k x lt).1;
+        targets_range = λ k x lt. (all_within_ok 0 1000000 d.tables.targets r9.0 k x lt).1;
         targets_sum = few;
-        trim_range = (one_within 0 200 d.trim r10 trim).1;
+        trim_range = (one_within 0 200 d.tables.trim r10 trim).1;
       };
     }
 
@@ -187,7 +186,7 @@ unfolding in_order on_module in_targets
 each_line_ready s ranged ordered counted stepped wanted =
     let head = head_ready s ranged counted in
     let orders = each_ok draft_order s.drafts ordered in
-    let few = position_none (λ d. nat_lt 1000000000 (sum d.targets)) s.drafts (none_found_ok _ Targets wanted) in
+    let few = position_none (λ d. nat_lt 1000000000 (sum d.tables.targets)) s.drafts (none_found_ok _ Targets wanted) in
     let ready : All IsReadyDraft s.drafts = λ k d lt. draft_ready _ (head.ranges k d lt) (orders k d lt) (head.counts k d lt) (ltb-false _ _ (few k d lt)) in
     record {
       «module» = head.«module»;

@@ -30,16 +30,19 @@ use Rattle.buck_record.specs.Record.{items_of}
 use Rattle.buck_record.specs.Table.{count_in, rest_in, first_missing, first_twice, groups_of}
 use Rattle.buck_record.specs.Check.{◌>>=◌, check, none_of, each, make_each}
 use Rattle.buck_record.specs.Rules.{file_slot, of_slot, has_no_strays, numbers_in, within, all_within, is_rising}
-use Rattle.buck_apt.specs.Slots.{module_slot, period_slot, limit_slot, count_slot, name_slot, species_slot, grades_slot, price_kind_slot, diameters_slot, upper_slot, lengths_slot, prices_slot, targets_slot, trim_slot, head_slots, member_slots, assortment_slots}
+use Rattle.buck_apt.specs.declared.slots.TheConstants.{MODULE, PERIOD, LIMIT, COUNT, NAME, SPECIES, GRADES, PRICE_KIND, DIAMETERS, UPPER, LENGTHS, PRICES, TARGETS, TRIM, HEAD, ALONE, MEMBERS, IN_ASSORTMENT}
 use Rattle.buck_apt.specs.Instruction.{AssortmentParts, InstructionParts}
 use Rattle.buck_apt.specs.declared.draft.Draft.{Draft}
+use Rattle.buck_apt.specs.declared.draft.Wood.{Wood}
+use Rattle.buck_apt.specs.declared.draft.Sizes.{Sizes}
+use Rattle.buck_apt.specs.declared.draft.Tables.{Tables}
 use Rattle.buck_apt.specs.declared.draft.FileDraft.{FileDraft}
 use Rattle.buck_apt.specs.declared.fault.AptFault.{AptFault}
 use Rattle.buck_apt.specs.declared.fault.AptFault.TheVariants.{Head, NotApt, Missing, Twice, Digits, Range, Order, Count, Module, Targets}
 
 -- the items of each assortment: a name, and what stands after it up to the next name
 abbrev pub groups : List ItemParts → List (List ItemParts)
-groups items = groups_of name_slot items
+groups items = groups_of NAME items
 
 -- Line 2, NotApt: the first item that names the kind of file says APT.
 abbrev pub says_apt : List ItemParts → Bool
@@ -47,63 +50,70 @@ says_apt items = bytes_eq (rest_in file_slot items) (codes "APT")
 
 -- there is a name, and no item of an assortment stands before the first one
 abbrev pub begins_with_name : List ItemParts → Bool
-begins_with_name items = nat_lt 0 (count_in name_slot items) && has_no_strays name_slot assortment_slots items
+begins_with_name items = nat_lt 0 (count_in NAME items) && has_no_strays NAME IN_ASSORTMENT items
 
 unfoldable pub group_present : List ItemParts → Result (Unit {0}) AptFault
-group_present group = none_of (first_missing member_slots group) Missing
+group_present group = none_of (first_missing MEMBERS group) Missing
 
 -- Line 3, Missing: each item that must be there is.
 unfoldable pub present : List ItemParts → Result (Unit {0}) AptFault
 present items = do
-  _ ← none_of (first_missing head_slots items) Missing
-  _ ← check (begins_with_name items) (of_slot Missing name_slot)
+  _ ← none_of (first_missing HEAD items) Missing
+  _ ← check (begins_with_name items) (of_slot Missing NAME)
   each group_present (groups items)
 
 unfoldable pub group_single : List ItemParts → Result (Unit {0}) AptFault
-group_single group = none_of (first_twice assortment_slots group) Twice
+group_single group = none_of (first_twice IN_ASSORTMENT group) Twice
 
 -- Line 4, Twice: no item stands twice in the file or in its assortment.
 unfoldable pub single : List ItemParts → Result (Unit {0}) AptFault
 single items = do
-  _ ← none_of (first_twice (file_slot ∷ head_slots) items) Twice
+  _ ← none_of (first_twice ALONE items) Twice
   each group_single (groups items)
 
 -- the numbers of an item that may be left out: where it is absent it says so much
 unfoldable pub numbers_or : ℕ → Slot → List ItemParts → Result (List ℕ) AptFault
 numbers_or absent s items = if count_in s items == 0 then Ok (absent ∷ []) else numbers_in Digits s items
 
+-- what the items of an assortment say of the wood that it takes
+unfoldable pub wood_of : List ItemParts → Result Wood AptFault
+wood_of group = do
+  species ← numbers_in Digits SPECIES group
+  grades ← numbers_in Digits GRADES group
+  price_kind ← numbers_in Digits PRICE_KIND group
+  Ok (record { species = species; grades = grades; price_kind = price_kind })
+
+-- what they say of the sizes of its logs
+unfoldable pub sizes_of : List ItemParts → Result Sizes AptFault
+sizes_of group = do
+  diameters ← numbers_in Digits DIAMETERS group
+  upper ← numbers_in Digits UPPER group
+  lengths ← numbers_in Digits LENGTHS group
+  Ok (record { diameters = diameters; upper = upper; lengths = lengths })
+
+-- what they say of its classes
+unfoldable pub tables_of : List ItemParts → Result Tables AptFault
+tables_of group = do
+  prices ← numbers_in Digits PRICES group
+  targets ← numbers_in Digits TARGETS group
+  trim ← numbers_or 0 TRIM group
+  Ok (record { prices = prices; targets = targets; trim = trim })
+
 -- what the items of an assortment say
 unfoldable pub draft_of : List ItemParts → Result Draft AptFault
 draft_of group = do
-  species ← numbers_in Digits species_slot group
-  grades ← numbers_in Digits grades_slot group
-  price_kind ← numbers_in Digits price_kind_slot group
-  diameters ← numbers_in Digits diameters_slot group
-  upper ← numbers_in Digits upper_slot group
-  lengths ← numbers_in Digits lengths_slot group
-  prices ← numbers_in Digits prices_slot group
-  targets ← numbers_in Digits targets_slot group
-  trim ← numbers_or 0 trim_slot group
-  Ok (record {
-    name = rest_in name_slot group;
-    species = species;
-    grades = grades;
-    price_kind = price_kind;
-    diameters = diameters;
-    upper = upper;
-    lengths = lengths;
-    prices = prices;
-    targets = targets;
-    trim = trim;
-  })
+  wood ← wood_of group
+  sizes ← sizes_of group
+  tables ← tables_of group
+  Ok (record { name = rest_in NAME group; wood = wood; sizes = sizes; tables = tables })
 
 -- Line 5, Digits: each item but the texts is a list of numbers.
 unfoldable pub file_draft_of : List ItemParts → Result FileDraft AptFault
 file_draft_of items = do
-  step ← numbers_in Digits module_slot items
-  period ← numbers_in Digits period_slot items
-  limit ← numbers_in Digits limit_slot items
-  count ← numbers_in Digits count_slot items
+  step ← numbers_in Digits MODULE items
+  period ← numbers_in Digits PERIOD items
+  limit ← numbers_in Digits LIMIT items
+  count ← numbers_in Digits COUNT items
   drafts ← make_each draft_of (groups items)
   Ok (record {
     «module» = step;
@@ -123,24 +133,24 @@ is_name bs = within 1 32 (length bs) && list_all is_name_byte bs
 
 unfoldable pub draft_range : Draft → Result (Unit {0}) AptFault
 draft_range d = do
-  _ ← check (is_name d.name) (of_slot Range name_slot)
-  _ ← check (all_within 1 255 d.species) (of_slot Range species_slot)
-  _ ← check (all_within 1 8 d.grades) (of_slot Range grades_slot)
-  _ ← check (all_within 1 2 d.price_kind) (of_slot Range price_kind_slot)
-  _ ← check (all_within 0 1500 d.diameters) (of_slot Range diameters_slot)
-  _ ← check (all_within 1 2000 d.upper) (of_slot Range upper_slot)
-  _ ← check (all_within 500 30000 d.lengths) (of_slot Range lengths_slot)
-  _ ← check (all_within 0 10000000 d.prices) (of_slot Range prices_slot)
-  _ ← check (all_within 0 1000000 d.targets) (of_slot Range targets_slot)
-  check (all_within 0 200 d.trim) (of_slot Range trim_slot)
+  _ ← check (is_name d.name) (of_slot Range NAME)
+  _ ← check (all_within 1 255 d.wood.species) (of_slot Range SPECIES)
+  _ ← check (all_within 1 8 d.wood.grades) (of_slot Range GRADES)
+  _ ← check (all_within 1 2 d.wood.price_kind) (of_slot Range PRICE_KIND)
+  _ ← check (all_within 0 1500 d.sizes.diameters) (of_slot Range DIAMETERS)
+  _ ← check (all_within 1 2000 d.sizes.upper) (of_slot Range UPPER)
+  _ ← check (all_within 500 30000 d.sizes.lengths) (of_slot Range LENGTHS)
+  _ ← check (all_within 0 10000000 d.tables.prices) (of_slot Range PRICES)
+  _ ← check (all_within 0 1000000 d.tables.targets) (of_slot Range TARGETS)
+  check (all_within 0 200 d.tables.trim) (of_slot Range TRIM)
 
 -- Line 6, Range: each number is in its range, and each name meets its rule.
 unfoldable pub in_range : FileDraft → Result (Unit {0}) AptFault
 in_range file = do
-  _ ← check (all_within 10 1000 file.«module») (of_slot Range module_slot)
-  _ ← check (all_within 1 1000 file.period) (of_slot Range period_slot)
-  _ ← check (all_within 0 1000 file.limit) (of_slot Range limit_slot)
-  _ ← check (all_within 1 16 file.count) (of_slot Range count_slot)
+  _ ← check (all_within 10 1000 file.«module») (of_slot Range MODULE)
+  _ ← check (all_within 1 1000 file.period) (of_slot Range PERIOD)
+  _ ← check (all_within 0 1000 file.limit) (of_slot Range LIMIT)
+  _ ← check (all_within 1 16 file.count) (of_slot Range COUNT)
   each draft_range file.drafts
 
 -- each of the lower limits is below each upper diameter
@@ -149,10 +159,10 @@ all_above lows highs = list_all (λ high. list_all (λ low. nat_lt low high) low
 
 unfoldable pub draft_order : Draft → Result (Unit {0}) AptFault
 draft_order d = do
-  _ ← check (is_rising d.grades) (of_slot Order grades_slot)
-  _ ← check (is_rising d.diameters) (of_slot Order diameters_slot)
-  _ ← check (all_above d.diameters d.upper) (of_slot Order upper_slot)
-  check (is_rising d.lengths) (of_slot Order lengths_slot)
+  _ ← check (is_rising d.wood.grades) (of_slot Order GRADES)
+  _ ← check (is_rising d.sizes.diameters) (of_slot Order DIAMETERS)
+  _ ← check (all_above d.sizes.diameters d.sizes.upper) (of_slot Order UPPER)
+  check (is_rising d.sizes.lengths) (of_slot Order LENGTHS)
 
 -- Line 7, Order: each list is in its order.
 unfoldable pub in_order : FileDraft → Result (Unit {0}) AptFault
@@ -163,15 +173,15 @@ is_one ns = length ns == 1
 
 unfoldable pub draft_count : Draft → Result (Unit {0}) AptFault
 draft_count d = do
-  _ ← check (is_one d.species) (of_slot Count species_slot)
-  _ ← check (within 1 8 (length d.grades)) (of_slot Count grades_slot)
-  _ ← check (is_one d.price_kind) (of_slot Count price_kind_slot)
-  _ ← check (within 1 32 (length d.diameters)) (of_slot Count diameters_slot)
-  _ ← check (is_one d.upper) (of_slot Count upper_slot)
-  _ ← check (within 1 32 (length d.lengths)) (of_slot Count lengths_slot)
-  _ ← check (length d.prices == length d.diameters * length d.lengths) (of_slot Count prices_slot)
-  _ ← check (length d.targets == length d.diameters * length d.lengths) (of_slot Count targets_slot)
-  check (is_one d.trim) (of_slot Count trim_slot)
+  _ ← check (is_one d.wood.species) (of_slot Count SPECIES)
+  _ ← check (within 1 8 (length d.wood.grades)) (of_slot Count GRADES)
+  _ ← check (is_one d.wood.price_kind) (of_slot Count PRICE_KIND)
+  _ ← check (within 1 32 (length d.sizes.diameters)) (of_slot Count DIAMETERS)
+  _ ← check (is_one d.sizes.upper) (of_slot Count UPPER)
+  _ ← check (within 1 32 (length d.sizes.lengths)) (of_slot Count LENGTHS)
+  _ ← check (length d.tables.prices == length d.sizes.diameters * length d.sizes.lengths) (of_slot Count PRICES)
+  _ ← check (length d.tables.targets == length d.sizes.diameters * length d.sizes.lengths) (of_slot Count TARGETS)
+  check (is_one d.tables.trim) (of_slot Count TRIM)
 
 -- one number, and as many as there are assortments
 abbrev pub is_number_of : List Draft → List ℕ → Bool
@@ -180,10 +190,10 @@ is_number_of drafts ns = is_one ns && slice_index ns 0 == length drafts
 -- Line 8, Count: there are as many numbers as there should be.
 unfoldable pub in_number : FileDraft → Result (Unit {0}) AptFault
 in_number file = do
-  _ ← check (is_one file.«module») (of_slot Count module_slot)
-  _ ← check (is_one file.period) (of_slot Count period_slot)
-  _ ← check (is_one file.limit) (of_slot Count limit_slot)
-  _ ← check (is_number_of file.drafts file.count) (of_slot Count count_slot)
+  _ ← check (is_one file.«module») (of_slot Count MODULE)
+  _ ← check (is_one file.period) (of_slot Count PERIOD)
+  _ ← check (is_one file.limit) (of_slot Count LIMIT)
+  _ ← check (is_number_of file.drafts file.count) (of_slot Count COUNT)
   each draft_count file.drafts
 
 -- the fault of a number that was found
@@ -199,25 +209,25 @@ first_off_module step lengths = find (λ l. not (l % step == 0)) lengths
 unfoldable pub on_module : FileDraft → Result (Unit {0}) AptFault
 on_module file =
     let step = slice_index file.«module» 0 in
-    each (λ d. none_found (first_off_module step d.lengths) Module) file.drafts
+    each (λ d. none_found (first_off_module step d.sizes.lengths) Module) file.drafts
 
 -- Line 10, Targets: no assortment's targets are above 1,000,000,000 together; assortments count from 0.
 unfoldable pub in_targets : FileDraft → Result (Unit {0}) AptFault
-in_targets file = none_found (position (λ d. nat_lt 1000000000 (sum d.targets)) file.drafts) Targets
+in_targets file = none_found (position (λ d. nat_lt 1000000000 (sum d.tables.targets)) file.drafts) Targets
 
 -- the assortment that the numbers say
 abbrev pub assortment_of : Draft → AssortmentParts
 assortment_of d = record {
   name = d.name;
-  species = slice_index d.species 0;
-  grades = d.grades;
-  price_kind = slice_index d.price_kind 0;
-  diameters = d.diameters;
-  upper = slice_index d.upper 0;
-  lengths = d.lengths;
-  prices = d.prices;
-  targets = d.targets;
-  trim = slice_index d.trim 0;
+  species = slice_index d.wood.species 0;
+  grades = d.wood.grades;
+  price_kind = slice_index d.wood.price_kind 0;
+  diameters = d.sizes.diameters;
+  upper = slice_index d.sizes.upper 0;
+  lengths = d.sizes.lengths;
+  prices = d.tables.prices;
+  targets = d.tables.targets;
+  trim = slice_index d.tables.trim 0;
 }
 
 -- the instruction that the numbers say
@@ -229,17 +239,27 @@ instruction_of file = record {
   assortments = map assortment_of file.drafts;
 }
 
--- The instruction of the bytes, or the first refusal that applies: line 1 (an item without a head) to line 10.
-unfoldable pub apt_of : List ℕ → Result InstructionParts AptFault
-apt_of bytes = do
-  items ← with_fault Head (items_of bytes)
+-- Lines 2 to 5: what the items of an instruction say.
+unfoldable pub draft_in : List ItemParts → Result FileDraft AptFault
+draft_in items = do
   _ ← check (says_apt items) NotApt
   _ ← present items
   _ ← single items
-  file ← file_draft_of items
+  file_draft_of items
+
+-- Lines 6 to 10: what the items say is within the limits.
+unfoldable pub within_limits : FileDraft → Result (Unit {0}) AptFault
+within_limits file = do
   _ ← in_range file
   _ ← in_order file
   _ ← in_number file
   _ ← on_module file
-  _ ← in_targets file
+  in_targets file
+
+-- The instruction of the bytes, or the first refusal that applies: line 1 (an item without a head) to line 10.
+unfoldable pub apt_of : List ℕ → Result InstructionParts AptFault
+apt_of bytes = do
+  items ← with_fault Head (items_of bytes)
+  file ← draft_in items
+  _ ← within_limits file
   Ok (instruction_of file)

@@ -20,8 +20,8 @@ ghost use Rattle.buck_apt.specs.Apt.{
   first_off_module,
   on_module,
   in_targets,
+  within_limits,
 };
-ghost use Rattle.buck_apt.specs.inner.Parts.{within_limits};
 
 use crate::draft::{Draft, FileDraft};
 use crate::fault::AptFault;
@@ -93,33 +93,33 @@ pub(crate) fn single<'a>(items: &'a [Piece<'a>], assortments: &[Group<'_>]) -> R
 fn draft_range(draft: &Draft) -> Result<(), AptFault>
     ensures { result ≡ draft_range draft.now }
 {
-    let diameters = draft.diameters.as_slice();
-    let lengths = draft.lengths.as_slice();
-    let prices = draft.prices.as_slice();
-    let targets = draft.targets.as_slice();
+    let diameters = draft.sizes.diameters.as_slice();
+    let lengths = draft.sizes.lengths.as_slice();
+    let prices = draft.tables.prices.as_slice();
+    let targets = draft.tables.targets.as_slice();
     check(is_name(draft.name.as_slice()), AptFault::range(NAME))?;
     check(
-        all_within(1, 255, draft.species.as_slice()),
+        all_within(1, 255, draft.wood.species.as_slice()),
         AptFault::range(SPECIES),
     )?;
     check(
-        all_within(1, 8, draft.grades.as_slice()),
+        all_within(1, 8, draft.wood.grades.as_slice()),
         AptFault::range(GRADES),
     )?;
     check(
-        all_within(1, 2, draft.price_kind.as_slice()),
+        all_within(1, 2, draft.wood.price_kind.as_slice()),
         AptFault::range(PRICE_KIND),
     )?;
     check(all_within(0, 1500, diameters), AptFault::range(DIAMETERS))?;
     check(
-        all_within(1, 2000, draft.upper.as_slice()),
+        all_within(1, 2000, draft.sizes.upper.as_slice()),
         AptFault::range(UPPER),
     )?;
     check(all_within(500, 30_000, lengths), AptFault::range(LENGTHS))?;
     check(all_within(0, 10_000_000, prices), AptFault::range(PRICES))?;
     check(all_within(0, 1_000_000, targets), AptFault::range(TARGETS))?;
     check(
-        all_within(0, 200, draft.trim.as_slice()),
+        all_within(0, 200, draft.tables.trim.as_slice()),
         AptFault::range(TRIM),
     )
 }
@@ -158,15 +158,18 @@ pub(crate) fn in_range(file: &FileDraft) -> Result<(), AptFault>
 fn draft_order(draft: &Draft) -> Result<(), AptFault>
     ensures { result ≡ draft_order draft.now }
 {
-    let diameters = draft.diameters.as_slice();
-    check(is_rising(draft.grades.as_slice()), AptFault::order(GRADES))?;
+    let diameters = draft.sizes.diameters.as_slice();
+    check(
+        is_rising(draft.wood.grades.as_slice()),
+        AptFault::order(GRADES),
+    )?;
     check(is_rising(diameters), AptFault::order(DIAMETERS))?;
     check(
-        all_above(diameters, draft.upper.as_slice()),
+        all_above(diameters, draft.sizes.upper.as_slice()),
         AptFault::order(UPPER),
     )?;
     check(
-        is_rising(draft.lengths.as_slice()),
+        is_rising(draft.sizes.lengths.as_slice()),
         AptFault::order(LENGTHS),
     )
 }
@@ -192,22 +195,28 @@ fn is_full(numbers: &[u32], rows: usize, columns: usize) -> bool
 fn draft_count(draft: &Draft) -> Result<(), AptFault>
     ensures { result ≡ draft_count draft.now }
 {
-    let rows = draft.diameters.len();
-    let columns = draft.lengths.len();
-    let prices = draft.prices.as_slice();
-    let targets = draft.targets.as_slice();
-    check(is_one(draft.species.as_slice()), AptFault::count(SPECIES))?;
-    check(within(1, 8, draft.grades.len()), AptFault::count(GRADES))?;
+    let rows = draft.sizes.diameters.len();
+    let columns = draft.sizes.lengths.len();
+    let prices = draft.tables.prices.as_slice();
+    let targets = draft.tables.targets.as_slice();
     check(
-        is_one(draft.price_kind.as_slice()),
+        is_one(draft.wood.species.as_slice()),
+        AptFault::count(SPECIES),
+    )?;
+    check(
+        within(1, 8, draft.wood.grades.len()),
+        AptFault::count(GRADES),
+    )?;
+    check(
+        is_one(draft.wood.price_kind.as_slice()),
         AptFault::count(PRICE_KIND),
     )?;
     check(within(1, 32, rows), AptFault::count(DIAMETERS))?;
-    check(is_one(draft.upper.as_slice()), AptFault::count(UPPER))?;
+    check(is_one(draft.sizes.upper.as_slice()), AptFault::count(UPPER))?;
     check(within(1, 32, columns), AptFault::count(LENGTHS))?;
     check(is_full(prices, rows, columns), AptFault::count(PRICES))?;
     check(is_full(targets, rows, columns), AptFault::count(TARGETS))?;
-    check(is_one(draft.trim.as_slice()), AptFault::count(TRIM))
+    check(is_one(draft.tables.trim.as_slice()), AptFault::count(TRIM))
 }
 
 fn each_count(drafts: &[Draft]) -> Result<(), AptFault>
@@ -241,9 +250,9 @@ pub(crate) fn in_number(file: &FileDraft) -> Result<(), AptFault>
 
 fn draft_on_module(module: u32, draft: &Draft) -> Result<(), AptFault>
     requires { 0 < «module» }
-    ensures { result ≡ none_found (first_off_module «module» draft.now.lengths) (λ l. Module l) }
+    ensures { result ≡ none_found (first_off_module «module» draft.now.sizes.lengths) (λ l. Module l) }
 {
-    match first_off_module(module, draft.lengths.as_slice()) {
+    match first_off_module(module, draft.sizes.lengths.as_slice()) {
         None => Ok(()),
         Some(length) => Err(AptFault::Module { length }),
     }
@@ -263,11 +272,9 @@ pub(crate) fn on_module(file: &FileDraft) -> Result<(), AptFault>
 
 /// The first of the drafts whose targets are above 1,000,000,000 together.
 fn first_with_too_many_targets(drafts: &[Draft]) -> Option<usize>
-    ensures { result ≡ position (λ d. nat_lt 1000000000 (sum d.targets)) drafts.now }
+    ensures { result ≡ position (λ d. nat_lt 1000000000 (sum d.tables.targets)) drafts.now }
 {
-    drafts
-        .iter()
-        .position(|draft| is_above(1_000_000_000, draft.targets.as_slice()))
+    drafts.iter().position(|draft| is_above(1_000_000_000, draft.tables.targets.as_slice()))
 }
 
 /// No assortment's targets are above 1,000,000,000 together.
@@ -282,7 +289,7 @@ pub(crate) fn in_targets(file: &FileDraft) -> Result<(), AptFault>
 }
 
 /// What the items say is within the limits.
-#[tactic(auto, using(crate::proofs::PassLemmas::module_single, crate::proofs::PassLemmas::module_above_zero), unfolding(crate::specs::inner::Parts::within_limits))]
+#[tactic(auto, using(crate::proofs::PassLemmas::module_single, crate::proofs::PassLemmas::module_above_zero), unfolding(crate::specs::Apt::within_limits))]
 pub(crate) fn within_limits(file: &FileDraft) -> Result<(), AptFault>
     ensures { result ≡ within_limits file.now }
 {

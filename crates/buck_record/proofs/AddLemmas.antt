@@ -1,5 +1,5 @@
 -- Numbers that are added to a list, word by word.
-use Rattle.std.proofs.Common.{refl, ◌≡◌, inl, inr, ℕ, ◌+◌, ◌*◌, ◌<◌, ◌≤◌, true, List, [], ◌∷◌, ◌++◌, All, Option, Some, None, Result, Ok, Err, length, get_or, drop, sym, ap, ◌∙◌, subst, arith}
+use Rattle.std.proofs.Common.{refl, ◌≡◌, inl, inr, ℕ, ◌<◌, ◌≤◌, true, List, [], ◌∷◌, ◌++◌, All, Option, Some, None, Result, Ok, Err, length, get_or, drop, sym, ap, ◌∙◌, subst, arith}
 use Rattle.std.proofs.lemmas.List.Elements.{All-push}
 use Rattle.std.proofs.lemmas.Grind.{common_steps}
 use Rattle.std.proofs.Math.Seq.{get_or-append_seam}
@@ -129,11 +129,6 @@ pub words-pass : (rest : List ℕ)
     → 0 < length rest → is_white (get_or rest 0 0) ≡ true → words rest ≡ words (drop 1 rest)
 words-pass [] some white = absurd (omega arith)
 words-pass (b ∷ bs) some white = words-cons_white b bs white
-
--- the room after a word
-pub room_after : (len cap now left : ℕ)
-    → 2 * len + now + 1 ≤ 2 * cap → (0 < left → left + 2 ≤ now) → 0 < left → 2 * (len + 1) + left + 1 ≤ 2 * cap
-room_after len cap now left room shorter more = omega (arith, room, shorter more)
 
 -- a step leaves less of the text
 pub step_shorter : (most : ℕ) (rest left now after : List ℕ)

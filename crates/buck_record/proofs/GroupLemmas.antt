@@ -14,7 +14,7 @@ use Rattle.buck_record.specs.Record.{number_at_most}
 use Rattle.buck_record.proofs.NumberLemmas.{AreDigits, digits-more, and_parts, number-some}
 use Rattle.buck_record.proofs.CutLemmas.{goes_on, word_is, after_is, cut-whole}
 use Rattle.buck_record.proofs.WordLemmas.{words-more}
-use Rattle.buck_record.specs.inner.Front.{IsThree, IsFront}
+use Rattle.buck_record.specs.inner.Front.{IsThree, IsFront, Run}
 
 -- Four bytes less "000 " are three digits, the lowest first, and nothing above them.
 pub three : (g z : ℕ)
@@ -144,27 +144,20 @@ front-word text left most v filled wide value after =
       room = rw after s.1;
     }
 
--- the digits so far, and what they stand for
-pub record Run (text : List ℕ) (n v : ℕ) : Type 0 where
-  pub digits : AreDigits (take n text)
-  pub value : v ≡ digits_value 10 (take n text)
-
 -- a byte less 48 is at most 9
 is_digit_byte : (x d : ℕ) → x < 256 → d ≡ (x + 208) % 256 → d ≤ 9 → x ≡ 48 + d
 is_digit_byte x d byte is small = omega (arith, byte, is, small)
 
-pub run_more : (text : List ℕ) (n m v d u : ℕ)
+-- one digit more
+pub run_more : (text : List ℕ) (n v d u : ℕ)
     → Run text n v → n < length text → get_or text n 0 < 256 → d ≡ (get_or text n 0 + 208) % 256 → d ≤ 9
-    → u ≡ v * 10 + d → m ≡ n + 1 → Run text m u
-run_more text n m v d u run inside byte is small more next =
+    → u ≡ v * 10 + d → Run text (n + 1) u
+run_more text n v d u run inside byte is small more =
     let e = digit (get_or text n 0) d small (is_digit_byte (get_or text n 0) d byte is small) in
-    rw next (record {
+    record {
       digits = digits-more text n inside run.digits e.0;
       value = omega (arith, digits_value_more 10 text n inside, run.value, e.1, more);
-    })
-
-pub run_none : (text : List ℕ) → Run text 0 0
-run_none text = record { digits = refl; value = refl }
+    }
 
 pub run_front : (text : List ℕ) (n v : ℕ)
     → Run text n v → 0 < n → n < length text → is_white (get_or text n 0) ≡ true → v ≤ 9999

@@ -12,7 +12,7 @@ use Rattle.buck_record.specs.Record.{items_of, numbers_of, number_of, one_number
 use Rattle.buck_record.specs.Cursor.{HasItems, Leads, item_in}
 use Rattle.buck_record.specs.Rules.{file_slot, within, all_within}
 use Rattle.buck_stem.specs.declared.draft.Draft.{Draft}
-use Rattle.buck_stem.specs.Slots.{stem_slot, species_slot, samples_slot}
+use Rattle.buck_stem.specs.declared.slots.TheConstants.{STEM, SPECIES, SAMPLES}
 use Rattle.buck_stem.specs.Stem.{StemParts, stem_of, IsStem}
 use Rattle.buck_stem.specs.Stm.{draft_range, draft_order, draft_count, parts_of, zones_of, stm_of}
 use Rattle.buck_stem.specs.inner.Ready.{IsReadyDraft}
@@ -100,9 +100,9 @@ is_plain_stem n s ns text zones z species thin number =
     (is_stem (draft n s ns z.numbers) ready.range ready.order ready.count)
 
 pub stem_leads : (text one two three left : List ℕ) (n s : ℕ) (ns : List ℕ) (zones : List (ℕ × ℕ)) (stem : StemParts)
-    → LeadsNumbers stem_slot text (n ∷ []) one
-    → LeadsNumbers species_slot one (s ∷ []) two
-    → LeadsNumbers samples_slot two ns three
+    → LeadsNumbers STEM text (n ∷ []) one
+    → LeadsNumbers SPECIES one (s ∷ []) two
+    → LeadsNumbers SAMPLES two ns three
     → LeadsZones three zones left
     → (1 ≤ s) × (s ≤ 255)
     → All (λ d. d ≤ 1500) ns
@@ -111,10 +111,10 @@ pub stem_leads : (text one two three left : List ℕ) (n s : ℕ) (ns : List ℕ
     → LeadsStem text stem left
 stem_leads text one two three left n s ns zones stem a b c z species thin number is = λ items h.
     let after = zones_item z.item ++ items in
-    let sampled = item_in samples_slot c.0 ∷ after in
-    let named = item_in species_slot b.0 ∷ sampled in
+    let sampled = item_in SAMPLES c.0 ∷ after in
+    let named = item_in SPECIES b.0 ∷ sampled in
     let zs = z.says.numbers in (
-      item_in stem_slot a.0 ∷ named,
+      item_in STEM a.0 ∷ named,
       a.2.next named (b.2.next sampled (c.2.next after (z.next items h))),
       record {
         number = a.0;

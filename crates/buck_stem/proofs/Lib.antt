@@ -7,7 +7,6 @@ pub mod RunLemmas
 pub mod Tables
 pub mod Diameters
 pub mod Along
-pub mod StageLemmas
 pub mod TableLemmas
 pub mod PlainLemmas
 pub mod JoinLemmas

@@ -10,8 +10,7 @@ use Rattle.buck_record.specs.Rules.{within, all_within, is_rising}
 use Rattle.buck_record.proofs.PassLemmas.{passed, check_ok, then_ok, each_ok, both, within_ok}
 use Rattle.buck_stem.specs.declared.draft.Draft.{Draft}
 use Rattle.buck_stem.specs.Stem.{IsStem, IsGrade, IsRisingFrom, stem_of}
-use Rattle.buck_stem.specs.Stm.{starts, grades, zones_of, draft_range, draft_order, draft_count, in_range, in_order, in_number, parts_of}
-use Rattle.buck_stem.specs.inner.Stages.{checked}
+use Rattle.buck_stem.specs.Stm.{checked, starts, grades, zones_of, draft_range, draft_order, draft_count, in_range, in_order, in_number, parts_of}
 use Rattle.buck_stem.specs.inner.Ready.{IsReadyDraft}
 
 pub first_within : (low high n : ℕ) (ns : List ℕ) → all_within low high (n ∷ ns) ≡ true → ((low ≤ n) × (n ≤ high)) × (all_within low high ns ≡ true)

@@ -16,7 +16,7 @@ use Rattle.buck_record.specs.Record.{items_of}
 use Rattle.buck_record.specs.Table.{rest_in, first_missing, first_twice, groups_of}
 use Rattle.buck_record.specs.Check.{◌>>=◌, check, none_of, each, make_each}
 use Rattle.buck_record.specs.Rules.{file_slot, of_slot, has_no_strays, numbers_in, within, all_within, is_rising}
-use Rattle.buck_stem.specs.Slots.{stem_slot, species_slot, samples_slot, zones_slot, needed_slots, member_slots}
+use Rattle.buck_stem.specs.declared.slots.TheConstants.{STEM, SPECIES, SAMPLES, ZONES, NEEDED, MEMBERS}
 use Rattle.buck_stem.specs.declared.draft.Draft.{Draft}
 use Rattle.buck_stem.specs.declared.fault.StmFault.{StmFault}
 use Rattle.buck_stem.specs.declared.fault.StmFault.TheVariants.{Head, NotStm, Missing, Twice, Digits, Range, Order, Count}
@@ -24,23 +24,23 @@ use Rattle.buck_stem.specs.Stem.{StemParts, stem_of}
 
 -- the items of each stem: its number, and what follows up to the next number
 abbrev pub groups : List ItemParts → List (List ItemParts)
-groups items = groups_of stem_slot items
+groups items = groups_of STEM items
 
 -- Line 2, NotStm: the first item that names the kind of file says STM.
 abbrev pub says_stm : List ItemParts → Bool
 says_stm items = bytes_eq (rest_in file_slot items) (codes "STM")
 
 unfoldable pub stem_present : List ItemParts → Result (Unit {0}) StmFault
-stem_present stem = none_of (first_missing needed_slots stem) Missing
+stem_present stem = none_of (first_missing NEEDED stem) Missing
 
 -- Line 3, Missing: each item that must be there is, and no item of a stem stands before the first number.
 unfoldable pub present : List ItemParts → Result (Unit {0}) StmFault
 present items = do
-  _ ← check (has_no_strays stem_slot member_slots items) (of_slot Missing stem_slot)
+  _ ← check (has_no_strays STEM MEMBERS items) (of_slot Missing STEM)
   each stem_present (groups items)
 
 unfoldable pub stem_single : List ItemParts → Result (Unit {0}) StmFault
-stem_single stem = none_of (first_twice member_slots stem) Twice
+stem_single stem = none_of (first_twice MEMBERS stem) Twice
 
 -- Line 4, Twice: no item stands twice in the file or in its stem.
 unfoldable pub single : List ItemParts → Result (Unit {0}) StmFault
@@ -51,15 +51,11 @@ single items = do
 -- what the items of a stem say; an absent one has no numbers
 unfoldable pub draft_of : List ItemParts → Result Draft StmFault
 draft_of stem = do
-  number ← numbers_in Digits stem_slot stem
-  species ← numbers_in Digits species_slot stem
-  samples ← numbers_in Digits samples_slot stem
-  zones ← numbers_in Digits zones_slot stem
+  number ← numbers_in Digits STEM stem
+  species ← numbers_in Digits SPECIES stem
+  samples ← numbers_in Digits SAMPLES stem
+  zones ← numbers_in Digits ZONES stem
   Ok (record { number = number; species = species; samples = samples; zones = zones })
-
--- Line 5, Digits: each list is one of numbers.
-abbrev pub drafts_of : List ItemParts → Result (List Draft) StmFault
-drafts_of items = make_each draft_of (groups items)
 
 -- the numbers at odd places, the last one too where it has no grade after it
 abbrev pub starts : List ℕ → List ℕ
@@ -75,16 +71,16 @@ grades (start ∷ grade ∷ more) = grade ∷ grades more
 
 unfoldable pub draft_range : Draft → Result (Unit {0}) StmFault
 draft_range d = do
-  _ ← check (all_within 1 255 d.species) (of_slot Range species_slot)
-  _ ← check (all_within 0 1500 d.samples) (of_slot Range samples_slot)
-  check (all_within 0 40000 (starts d.zones) && all_within 1 8 (grades d.zones)) (of_slot Range zones_slot)
+  _ ← check (all_within 1 255 d.species) (of_slot Range SPECIES)
+  _ ← check (all_within 0 1500 d.samples) (of_slot Range SAMPLES)
+  check (all_within 0 40000 (starts d.zones) && all_within 1 8 (grades d.zones)) (of_slot Range ZONES)
 
 -- Line 6, Range: each number is in its range.
 unfoldable pub in_range : List Draft → Result (Unit {0}) StmFault
 in_range drafts = each draft_range drafts
 
 unfoldable pub draft_order : Draft → Result (Unit {0}) StmFault
-draft_order d = check (is_rising (starts d.zones)) (of_slot Order zones_slot)
+draft_order d = check (is_rising (starts d.zones)) (of_slot Order ZONES)
 
 -- Line 7, Order: the starts of each stem's zones rise.
 unfoldable pub in_order : List Draft → Result (Unit {0}) StmFault
@@ -92,10 +88,10 @@ in_order drafts = each draft_order drafts
 
 unfoldable pub draft_count : Draft → Result (Unit {0}) StmFault
 draft_count d = do
-  _ ← check (length d.number == 1) (of_slot Count stem_slot)
-  _ ← check (length d.species == 1) (of_slot Count species_slot)
-  _ ← check (within 1 401 (length d.samples)) (of_slot Count samples_slot)
-  check (length d.zones % 2 == 0 && nat_le (length d.zones) 200) (of_slot Count zones_slot)
+  _ ← check (length d.number == 1) (of_slot Count STEM)
+  _ ← check (length d.species == 1) (of_slot Count SPECIES)
+  _ ← check (within 1 401 (length d.samples)) (of_slot Count SAMPLES)
+  check (length d.zones % 2 == 0 && nat_le (length d.zones) 200) (of_slot Count ZONES)
 
 -- Line 8, Count: there are as many numbers as there should be.
 unfoldable pub in_number : List Draft → Result (Unit {0}) StmFault
@@ -110,15 +106,25 @@ zones_of (start ∷ grade ∷ more) = (start, grade) ∷ zones_of more
 unfoldable pub parts_of : Draft → StemParts
 parts_of d = stem_of (slice_index d.number 0) (slice_index d.species 0) d.samples (zones_of d.zones)
 
+-- Lines 2 to 4, and line 5, Digits: each list of each stem is one of numbers.
+unfoldable pub drafts_in : List ItemParts → Result (List Draft) StmFault
+drafts_in items = do
+  _ ← check (says_stm items) NotStm
+  _ ← present items
+  _ ← single items
+  make_each draft_of (groups items)
+
+-- Lines 6 to 8: the numbers are those of stems.
+unfoldable pub checked : List Draft → Result (Unit {0}) StmFault
+checked drafts = do
+  _ ← in_range drafts
+  _ ← in_order drafts
+  in_number drafts
+
 -- The stems of the bytes, or the first refusal that applies: line 1 (an item without a head) to line 8.
 unfoldable pub stm_of : List ℕ → Result (List StemParts) StmFault
 stm_of bytes = do
   items ← with_fault Head (items_of bytes)
-  _ ← check (says_stm items) NotStm
-  _ ← present items
-  _ ← single items
-  drafts ← drafts_of items
-  _ ← in_range drafts
-  _ ← in_order drafts
-  _ ← in_number drafts
+  drafts ← drafts_in items
+  _ ← checked drafts
   Ok (map parts_of drafts)

@@ -2,7 +2,7 @@
 ghost use Rattle.std.specs.Prelude.{◌≡◌};
 ghost use Rattle.buck_record.specs.Check.{each};
 ghost use Rattle.buck_record.specs.Rules.{has_no_strays};
-ghost use Rattle.buck_stem.specs.Slots.{stem_slot, member_slots};
+ghost use Rattle.buck_stem.specs.declared.slots.TheConstants.{STEM, MEMBERS};
 ghost use Rattle.buck_stem.specs.Stm.{
   groups,
   stem_present,
@@ -28,7 +28,7 @@ use buck_record::{FormFault, Group, Piece};
 
 /// No item of a stem stands before the first number.
 fn has_no_strays<'a>(items: &'a [Piece<'a>]) -> bool
-    ensures { result ≡ has_no_strays stem_slot member_slots items.now }
+    ensures { result ≡ has_no_strays STEM MEMBERS items.now }
 {
     all_absent(&MEMBERS, front(items, STEM))
 }

@@ -1,7 +1,7 @@
 //! Files in the plain order, in one pass: the kind of file, and then the number, the species, the diameters and perhaps
 //! the zones of each stem. No list is made for an item, and a stem's lists take no more room than they need.
 ghost use Rattle.std.specs.Prelude.{◌≡◌, ◌≤◌, ◌∷◌, [], IfOk, IfSome, IsTrue, All, Ok, length};
-ghost use Rattle.buck_stem.specs.Slots.{stem_slot, species_slot, samples_slot};
+ghost use Rattle.buck_stem.specs.declared.slots.TheConstants.{STEM, SPECIES, SAMPLES};
 ghost use Rattle.buck_stem.specs.Stm.{stm_of};
 ghost use Rattle.buck_stem.specs.inner.Plain.{LeadsNumbers, AreZones, SaysZones, LeadsZones, LeadsStem, HasStems};
 
@@ -27,7 +27,7 @@ fn next_number(slot: Slot, text: &[u8]) -> Option<(u32, &[u8])>
 
 /// The species of the item that a text begins with, and what is left after it.
 fn next_species(text: &[u8]) -> Option<(u8, &[u8])>
-    ensures leads { IfSome result (λ w. LeadsNumbers species_slot text.now (w.0 ∷ []) w.1.now) }
+    ensures leads { IfSome result (λ w. LeadsNumbers SPECIES text.now (w.0 ∷ []) w.1.now) }
     ensures range { IfSome result (λ w. (1 ≤ w.0) × (w.0 ≤ 255)) }
 {
     let Some((species, left)) = next_number(SPECIES, text) else {
@@ -45,7 +45,7 @@ fn next_species(text: &[u8]) -> Option<(u8, &[u8])>
 /// Puts the diameters of the item that a text begins with into `room`, in the place of those of the stem before. The
 /// answer is what is left after it.
 fn next_samples<'a>(room: &mut Vec<u16>, text: &'a [u8]) -> Result<Option<&'a [u8]>, AllocError>
-    ensures leads { IfOk result (λ o. IfSome o (λ left. LeadsNumbers samples_slot text.now room.new.items left.now)) }
+    ensures leads { IfOk result (λ o. IfSome o (λ left. LeadsNumbers SAMPLES text.now room.new.items left.now)) }
     ensures range { IfOk result (λ o. IfSome o (λ _. All (λ d. d ≤ 1500) room.new.items)) }
     ensures number { IfOk result (λ o. IfSome o (λ _. (1 ≤ length room.new.items) × (length room.new.items ≤ 401))) }
 {

@@ -1,5 +1,8 @@
 -- Numbers at the front of a text, one at a time and four at a time.
-use Rattle.std.specs.Prelude.{◌≡◌, ℕ, ◌+◌, ◌*◌, ◌<◌, ◌≤◌, ◌⊎◌, List, [], ◌∷◌, ◌++◌, length, drop, slice_index, Some, None}
+use Rattle.std.specs.Prelude.{◌≡◌, ℕ, ◌+◌, ◌*◌, ◌<◌, ◌≤◌, ◌⊎◌, List, [], ◌∷◌, ◌++◌, length, take, drop, slice_index, true, Some, None}
+use Rattle.std.specs.List.{list_all}
+use Rattle.std.specs.Char.{is_ascii_digit}
+use Rattle.std.specs.Str.Parse.{digits_value}
 use Rattle.buck_record.specs.White.{first_word, after_word, words}
 use Rattle.buck_record.specs.Record.{number_at_most}
 
@@ -10,6 +13,11 @@ pub record IsFront (text : List ℕ) (v : ℕ) (left : List ℕ) : Type 0 where
   pub words : words text ≡ first_word text ∷ words left
   pub shorter : length left < length text
   pub room : 0 < length left → length left + 2 ≤ length text  -- a byte of the word and a white one
+
+-- the text begins with n digits, which stand for v
+pub record Run (text : List ℕ) (n v : ℕ) : Type 0 where
+  pub digits : list_all is_ascii_digit (take n text) ≡ true
+  pub value : v ≡ digits_value 10 (take n text)
 
 -- the text's first word is a number of at most `most`, and it was added to a list
 pub record IsPushed (most : ℕ) (text left before after : List ℕ) : Type 0 where

@@ -7,7 +7,7 @@ use Rattle.buck_record.specs.Cursor.{HasItems, Leads, item_in}
 use Rattle.buck_record.specs.declared.slot.Slot.{Slot}
 use Rattle.buck_record.specs.Rules.{all_within, is_rising}
 use Rattle.buck_stem.specs.declared.draft.Draft.{Draft}
-use Rattle.buck_stem.specs.Slots.{stem_slot, species_slot, samples_slot, zones_slot}
+use Rattle.buck_stem.specs.declared.slots.TheConstants.{STEM, SPECIES, SAMPLES, ZONES}
 use Rattle.buck_stem.specs.Stem.{StemParts}
 use Rattle.buck_stem.specs.Stm.{starts, grades, zones_of, parts_of}
 use Rattle.buck_stem.specs.inner.Ready.{IsReadyDraft}
@@ -15,12 +15,12 @@ use Rattle.buck_stem.specs.inner.Ready.{IsReadyDraft}
 -- the zones' item, where there is one
 abbrev pub zones_item : Option (List ℕ) → List ItemParts
 zones_item None = []
-zones_item (Some text) = item_in zones_slot text ∷ []
+zones_item (Some text) = item_in ZONES text ∷ []
 
 -- a stem's items, with these texts
 abbrev pub group_of : List ℕ → List ℕ → List ℕ → Option (List ℕ) → List ItemParts
 group_of number species samples zones =
-    item_in stem_slot number ∷ item_in species_slot species ∷ item_in samples_slot samples ∷ zones_item zones
+    item_in STEM number ∷ item_in SPECIES species ∷ item_in SAMPLES samples ∷ zones_item zones
 
 -- the items begin with those of the stem, which is right, and `rest` follows
 pub record IsPlain (items : List ItemParts) (stem : StemParts) (rest : List ItemParts) : Type 0 where
