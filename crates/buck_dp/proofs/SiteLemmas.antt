@@ -9,10 +9,9 @@ use Rattle.buck_stem.specs.Profile.{IsMask, IsMaskBetween, ProfileParts, profile
 use Rattle.buck_stem.proofs.Tables.{grade_at_is}
 use Rattle.buck_value.proofs.Grades.{mask_allows}
 use Rattle.buck_value.specs.Sheet.{IsSheet}
-use Rattle.buck_bid.specs.Offers.{AreCodes, codes_in, code_of}
+use Rattle.buck_bid.specs.Offers.{codes_in, code_of}
 use Rattle.buck_dp.specs.inner.Points.{GroundParts, points_of}
-use Rattle.buck_dp.proofs.Logs.{logs_long, logs_short, point_within}
-use Rattle.buck_value.specs.Allowed.{trim_of}
+use Rattle.buck_dp.proofs.Logs.{log_coded, point_within}
 use Rattle.buck_dp.specs.declared.takers.Takers.{Takers}
 use Rattle.buck_dp.specs.declared.takers.Kind.{Kind}
 use Rattle.buck_dp.specs.inner.Takers.{IsTaker, AreTakersOf}
@@ -26,7 +25,7 @@ use Rattle.buck_dp.specs.inner.Site.{IsSite, IsDiameterAt, ground_of}
 use Rattle.buck_dp.specs.declared.planning.Site.{Site}
 use Rattle.buck_dp.specs.declared.offering.Cell.{Cell}
 use Rattle.buck_dp.specs.declared.offering.Reach.{Reach}
-use Rattle.buck_dp.proofs.PartLemmas.{packed_log, cells_part}
+use Rattle.buck_dp.proofs.PartLemmas.{cells_part}
 
 -- a mask of a profile is one of its stem
 pub mask_of : (q : ProfileParts) (stem : StemParts) (step i j mask : ℕ) → q ≡ profile_of stem step → IsMaskBetween q i j mask
@@ -59,20 +58,20 @@ module _ (p : GroundParts) where
       none log.log.assortment ((has log.log.assortment a.assortment a.exists).1 (a.allows.species, grades))
 
   -- no log is longer than the longest
-  pub too_long : (most k t e : ℕ) (bid : BidParts) → IsSheet p.sheet → AreCodes p.sheet.instruction p.codes
+  pub too_long : (most k t e : ℕ) (bid : BidParts) → IsSheet p.sheet
       → ((n : ℕ) → n < length p.codes → slice_index p.codes n / 16 ≤ most * unit) → k + most < t → IsLogAt p k t e bid → ⊥
-  too_long most k t e bid valid codes long far log =
-      let short = logs_short p most valid codes long k t e (trim_of p.sheet.instruction log.log) (bid.worth * 1024 + bid.rank)
-      (packed_log p valid k t e bid log) in
-      omega arith
+  too_long most k t e bid valid long far log =
+      let c = log_coded p valid k t e bid log in
+      let least : (k + most + 1) * unit ≤ t * unit = mul-le-mul_right unit (omega arith) in
+      omega (arith, c.2, long c.0 c.1, add-mul (k + most) 1 unit, add-mul k most unit, valid.valid.module_range)
 
   -- no log is shorter than the shortest
-  pub too_short : (least k t e : ℕ) (bid : BidParts) → IsSheet p.sheet → AreCodes p.sheet.instruction p.codes
+  pub too_short : (least k t e : ℕ) (bid : BidParts) → IsSheet p.sheet
       → ((n : ℕ) → n < length p.codes → least * unit ≤ slice_index p.codes n / 16) → t < least → IsLogAt p k t e bid → ⊥
-  too_short least k t e bid valid codes short near log =
-      let long = logs_long p least valid codes short k t e (trim_of p.sheet.instruction log.log) (bid.worth * 1024 + bid.rank)
-      (packed_log p valid k t e bid log) in
-      omega arith
+  too_short least k t e bid valid short near log =
+      let c = log_coded p valid k t e bid log in
+      let most : (t + 1) * unit ≤ least * unit = mul-le-mul_right unit (omega arith) in
+      omega (arith, c.2, short c.0 c.1, add-mul t 1 unit, valid.valid.module_range)
 
   module _ (sound : IsStem p.stem) (run high one : ℕ)
       (even : (k : ℕ) → run ≤ k → k < high → IsMask p.stem.zones (k * unit) ((k + 1) * unit) one) (pos : 0 < unit) where
