@@ -24,7 +24,8 @@ module _ (p : GroundParts) (valid : IsSheet p.sheet) where
   module _ (diameters : List ℕ)
       (known : (j : ℕ) → j < points_of p → slice_index diameters j ≡ diameter_at p.stem.samples (j * unit))
       (t first stop : ℕ) (takers : Takers) (reach : Reach) (cells : List Cell)
-      (past : reach.past + stop ≤ t) (far : t ≤ reach.far + first)
+      (past : reach.past + stop ≤ t)
+      (far : (i e : ℕ) (bid : BidParts) → first ≤ i → IsLogAt p i t e bid → t ≤ reach.far + i)
       (here : (i : ℕ) → first ≤ i → i < stop → HasTakers p takers i t)
       (fits : t * unit + reach.room ≤ stem_length p.stem.samples)
       (whole : (a : ℕ) (x : AssortmentParts) → slice_get p.sheet.instruction.assortments a ≡ Some x
@@ -73,6 +74,7 @@ module _ (p : GroundParts) (valid : IsSheet p.sheet) where
           (bid_log i i c.steps r.trim c.bid (omega (arith, near.0)) (omega (arith, near.1)) (omega arith) is r.fits r.is);
       served = λ i e bid low high log.
           let b = log_bid_of i e bid low high log in
+          let within : t ≤ reach.far + i = far i e bid low log in
           elim (are.met (t - i) b.0 bid (omega arith) (omega arith) b.1 b.3) [
             | inr o ↦
                 let short = o.short in

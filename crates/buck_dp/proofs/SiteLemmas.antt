@@ -1,15 +1,14 @@
 -- Who takes the wood of a stem.
-use Rattle.std.proofs.Common.{◌≡◌, ℕ, ◌+◌, ◌-◌, ◌*◌, ◌/◌, ◌<◌, ◌≤◌, ◌⊎◌, inl, inr, List, Contains, length, slice_get, slice_index, Some, refl, sym, subst, ◌∙◌, arith, mul-le-mul_left, mul-le-mul_right, add-mul}
+use Rattle.std.proofs.Common.{◌≡◌, ℕ, ◌+◌, ◌*◌, ◌/◌, ◌<◌, ◌≤◌, ◌⊎◌, inl, inr, List, Contains, length, slice_index, refl, sym, subst, ◌∙◌, arith, mul-le-mul_left, mul-le-mul_right, add-mul}
 use Rattle.std.proofs.Math.Nat.{div-mul-le_self, lt-div-mul-add}
 use Rattle.std.proofs.lemmas.Bool.{cases_lt}
-use Rattle.std.proofs.lemmas.Option.{slice_get_within, get_or_from_slice_get}
 use Rattle.buck_stem.specs.Stem.{StemParts, IsStem, IsGrade, grade_at, HasGrade, HasGradesOf, stem_length, diameter_at}
 use Rattle.buck_stem.specs.Profile as grid
 use Rattle.buck_stem.specs.Profile.{IsMask, IsMaskBetween, ProfileParts, profile_of}
 use Rattle.buck_stem.proofs.Tables.{grade_at_is}
 use Rattle.buck_value.proofs.Grades.{mask_allows}
 use Rattle.buck_value.specs.Sheet.{IsSheet}
-use Rattle.buck_bid.specs.Offers.{codes_in, code_of}
+use Rattle.buck_bid.specs.Offers.{codes_in}
 use Rattle.buck_dp.specs.inner.Points.{GroundParts, points_of}
 use Rattle.buck_dp.proofs.Logs.{log_coded, point_within}
 use Rattle.buck_dp.specs.declared.takers.Takers.{Takers}
@@ -19,7 +18,7 @@ use Rattle.buck_dp.specs.inner.Bid.{BidParts}
 use Rattle.buck_dp.specs.inner.Logs.{IsLogAt}
 use Rattle.buck_dp.specs.inner.Parts.{HasTakers}
 use Rattle.buck_dp.specs.inner.Cells.{AreCells}
-use Rattle.buck_dp.specs.inner.Rows.{IsNear, IsPart}
+use Rattle.buck_dp.specs.inner.Rows.{IsPart}
 use Rattle.buck_dp.specs.inner.Kept.{all_of}
 use Rattle.buck_dp.specs.inner.Site.{IsSite, IsDiameterAt, ground_of}
 use Rattle.buck_dp.specs.declared.planning.Site.{Site}
@@ -157,7 +156,7 @@ module _ (x : Site) (is : IsSite x) where
   -- cells of the takers of a part are a part
   pub part_offered : (ds : List ℕ) (t first stop : ℕ) (takers : Takers) (reach : Reach) (cells : List Cell)
       → ((j : ℕ) → j < points_of (ground_of x) → slice_index ds j ≡ diameter_at x.stem.now.samples (j * x.market.sheet.now.instruction.«module»))
-      → reach.past + stop ≤ t → t ≤ reach.far + first
+      → reach.past + stop ≤ t → ((i e : ℕ) (bid : BidParts) → first ≤ i → IsLogAt (ground_of x) i t e bid → t ≤ reach.far + i)
       → ((i : ℕ) → first ≤ i → i < stop → HasTakers (ground_of x) takers i t)
       → t * x.market.sheet.now.instruction.«module» + reach.room ≤ stem_length x.stem.now.samples
       → (reach.room ≡ x.market.menu.now.most_trim) ⊎ (stem_length x.stem.now.samples ≤ t * x.market.sheet.now.instruction.«module» + reach.room)
@@ -178,31 +177,9 @@ module _ (x : Site) (is : IsSite x) where
       → IsPart (ground_of x) t first t cells
   row_offered t d first takers cells at lt order fit here are =
       part_offered at.table t first t takers (all_of x.market.menu.now) cells at.known (omega arith)
-      (let reached = point_reached t lt in omega (arith, reached.1)) here (is.fit t fit) (inl refl)
+      (λ i e bid low log. elim (cases_lt (i + x.market.menu.now.most_steps) t) [
+        | inr le ↦ omega (arith, le)
+        | inl lt ↦ absurd (too_long (ground_of x) x.market.menu.now.most_steps i t e bid is.valid is.menu.long lt log)
+      ]) here (is.fit t fit) (inl refl)
       (subst (λ (n : ℕ). AreCells x.market.sheet.now (codes_in x.market.menu.now.offers.items) takers n (all_of x.market.menu.now) cells)
       (sym at.is) are)
-
--- the cells of a row are of logs that are no longer than the longest
-pub steps_few : (x : Site) (takers : Takers) (d t first : ℕ) (reach : Reach) (cells : List Cell) → IsSite x
-    → t + reach.past ≡ t → x.market.menu.now.most_steps + first ≤ t
-    → AreCells x.market.sheet.now (codes_in x.market.menu.now.offers.items) takers d reach cells
-    → (k : ℕ) (c : Cell) → slice_get cells k ≡ Some c → IsNear t first t c
-steps_few x takers d t first reach cells is none whole are k c at =
-    let m : ℕ = x.market.sheet.now.instruction.«module» in
-    let codes : List ℕ = codes_in x.market.menu.now.offers.items in
-    let r = are.real k c at in
-    let b = r.is in
-    let place : ℕ = 1023 - c.bid.rank in
-    let there : slice_get codes place ≡ Some (code_of (c.steps * m) b.a) = b.bids.rank.at in
-    let lt : place < length codes = slice_get_within codes place (code_of (c.steps * m) b.a) there in
-    let code : slice_index codes place ≡ code_of (c.steps * m) b.a = get_or_from_slice_get codes place (code_of (c.steps * m) b.a) 0 there in
-    let long : c.steps * m ≤ x.market.menu.now.most_steps * m =
-    (let h = is.menu.long place lt in
-    let low : b.a < 16 = omega (arith, slice_get_within x.market.sheet.now.instruction.assortments b.a b.assortment b.exists, is.valid.valid.assortments_number) in
-    omega arith) in
-    let few : c.steps ≤ x.market.menu.now.most_steps = elim (cases_lt x.market.menu.now.most_steps c.steps) [
-      | inr le ↦ le
-      | inl more ↦ absurd (let far : (x.market.menu.now.most_steps + 1) * m ≤ c.steps * m = mul-le-mul_right m (omega arith) in
-          omega (arith, add-mul x.market.menu.now.most_steps 1 m, is.valid.valid.module_range))
-    ] in
-    (omega arith, omega (arith, b.some))
