@@ -187,8 +187,8 @@ impl<'a> Search<'a> {
         self.stop = top;
     }
 
-    /// Offers the logs with the top that was settled last that start in a part more, from `first` on. None of the row is
-    /// longer than `most` steps.
+    /// Offers the logs with the top that was settled last that start in a part more, from `first` on. None of the row
+    /// is longer than `most` steps.
     pub fn offer_part(&mut self, first: usize, row: &[Cell], most: usize)
         requires order { first ≤ self.old.stop }
         requires late { (k : ℕ) (c : Cell) → slice_get row.now k ≡ Some c → self.old.from < c.steps + self.old.stop }
