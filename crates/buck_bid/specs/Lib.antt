@@ -1,4 +1,3 @@
-pub mod Bid
 pub mod Offers
 pub mod Limits
 pub mod Quotes

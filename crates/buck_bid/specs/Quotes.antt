@@ -1,13 +1,11 @@
 -- What an assortment bids for logs of a length and a top diameter. Nothing else of a log counts for its bid; its stem
 -- and its place there only decide which assortments take it.
-use Rattle.std.specs.Prelude.{◌≡◌, ◌≢◌, ℕ, ◌+◌, ◌*◌, ◌<◌, ◌≤◌, List, length, slice_get, slice_index, Contains, Option, Some, None}
+use Rattle.std.specs.Prelude.{◌≡◌, ◌≢◌, ℕ, ◌+◌, ◌*◌, ◌<◌, ◌≤◌, length, slice_get, slice_index, Contains, Option, Some, None}
 use Rattle.buck_apt.specs.declared.class.Class.{Class}
 use Rattle.buck_apt.specs.Instruction.{AssortmentParts}
 use Rattle.buck_value.specs.Sheet.{SheetParts, price_of}
 use Rattle.buck_value.specs.Volume.{volume, worth_at}
-use Rattle.buck_value.specs.Allowed.{row_at, column_of, kind_in, log_of}
-use Rattle.buck_bid.specs.Bid.{bid_of}
-use Rattle.buck_bid.specs.Offers.{HasMark}
+use Rattle.buck_value.specs.Allowed.{row_at, column_of, kind_in}
 
 -- the class of logs of an assortment, a length and a top diameter
 abbrev pub class_for : Option AssortmentParts → ℕ → ℕ → ℕ → Class
@@ -32,10 +30,3 @@ pub record IsPricedAt (s : SheetParts) (a l d : ℕ) : Type 0 where
   pub assortment : AssortmentParts
   pub exists : slice_get s.instruction.assortments a ≡ Some assortment
   pub priced : IsPriced assortment l d
-
--- and bids so much for them
-pub record IsQuote (s : SheetParts) (codes : List ℕ) (a l d bid : ℕ) : Type 0 where
-  pub at : IsPricedAt s a l d
-  pub mark : ℕ
-  pub marked : HasMark codes (log_of 0 l a) mark
-  pub is : bid ≡ bid_of (worth_for s a l d) mark

@@ -12,7 +12,6 @@ pub mod Untrimmed
 pub mod BidLemmas
 pub mod CellLemmas
 pub mod TopLemmas
-pub mod FoundLemmas
 pub mod PartLemmas
 pub mod PruneLemmas
 pub mod QuoteLemmas

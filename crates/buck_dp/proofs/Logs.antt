@@ -1,4 +1,4 @@
--- Logs of a stem as bids of columns, and the other way.
+-- Logs of a stem as bids of its takers, and the other way.
 use Rattle.std.proofs.Common.{◌≡◌, ℕ, ◌+◌, ◌-◌, ◌*◌, ◌/◌, ◌%◌, ◌<◌, ◌≤◌, inl, inr, List, Option, Some, None, length, slice_get, slice_index, refl, sym, subst, ap, ◌∙◌, arith, add-mul, mul-le-mul_right}
 use Rattle.std.proofs.lemmas.Bool.{cases_lt}
 use Rattle.std.proofs.lemmas.Option.{same_Some}
@@ -10,14 +10,15 @@ use Rattle.buck_value.specs.Sheet.{SheetParts, IsSheet, price_of}
 use Rattle.buck_value.specs.Volume.{volume, worth_at}
 use Rattle.buck_value.specs.Allowed.{IsAllowed, log_of, top_of, end_of, trim_in, trim_of, top_diameter, class_in, kind_in, worth_of}
 use Rattle.buck_dp.specs.inner.Points.{GroundParts, points_of, ends_of, point_after}
-use Rattle.buck_bid.specs.Offers.{AreCodes, code_of}
-use Rattle.buck_dp.proofs.Marks.{assortment_low}
-use Rattle.std.proofs.lemmas.List.{get_or_default}
-use Rattle.buck_dp.specs.inner.Points.{IsBid, IsFromTo}
-use Rattle.buck_dp.proofs.Steps.{on_module, whole_steps, one_step}
+use Rattle.buck_bid.specs.Offers.{HasMark}
+use Rattle.buck_dp.specs.inner.Bid.{BidParts, bid_of}
+use Rattle.buck_dp.specs.inner.Logs.{IsLogAt}
+use Rattle.buck_dp.specs.inner.Cells.{IsBidOf}
+use Rattle.buck_dp.proofs.Marks.{assortment_low, mark_place, mark_code}
+use Rattle.buck_bid.proofs.ListLemmas.{on_module}
+use Rattle.buck_dp.proofs.Steps.{whole_steps, one_step}
 use Rattle.buck_value.proofs.Classes.{allowed_low}
-use Rattle.buck_bid.specs.Quotes.{class_for, worth_for, IsQuote}
-use Rattle.buck_dp.specs.inner.Settled.{IsLogBid}
+use Rattle.buck_bid.specs.Quotes.{class_for, worth_for}
 use Rattle.buck_dp.proofs.Places.{after_within}
 use Rattle.buck_dp.proofs.Bounds.{end_within}
 
@@ -68,50 +69,74 @@ module _ (p : GroundParts) (valid : IsSheet p.sheet) where
   pos : 0 < unit
   pos = omega (arith, valid.valid.module_range)
 
-  -- a log from point to point is told by its bid
-  pub log_bid : (i e bid : ℕ) (g : Log) → IsFromTo p i e g → IsBid p g bid → e < ends_of p
-      → (j : ℕ) × (trim : ℕ) × IsLogBid p i j e trim bid
-  log_bid i e bid g between brings ends =
-      let a = brings.allowed in
+  -- where the point after a log lies
+  end_is : (j : ℕ) (g : Log) → top_of g ≡ j * unit
+      → point_after unit (end_of p.sheet.instruction g) ≡ j + point_after unit (trim_of p.sheet.instruction g)
+  end_is j g top =
+      ap (λ n. point_after unit (n + trim_of p.sheet.instruction g)) top ∙ after_trim unit j (trim_of p.sheet.instruction g) pos
+
+  pub after_is : (i j e : ℕ) (bid : BidParts) → (l : IsLogAt p i j e bid) → e ≡ j + point_after unit (trim_of p.sheet.instruction l.log)
+  after_is i j e bid l = sym l.ends ∙ end_is j l.log l.top
+
+  -- the point after the end of an allowed log is at most one past the last
+  end_there : (g : Log) → IsAllowed p.sheet.instruction p.stem g → point_after unit (end_of p.sheet.instruction g) < ends_of p
+  end_there g a =
+      after_within unit (stem_length p.stem.samples) (end_of p.sheet.instruction g) pos (end_within p.sheet.instruction p.stem g a)
+
+  -- an allowed log from a point, with its mark
+  pub log_there : (i mark : ℕ) (g : Log) → g.start ≡ i * unit → IsAllowed p.sheet.instruction p.stem g → HasMark p.codes g mark
+      → (j : ℕ) × IsLogAt p i j (point_after unit (end_of p.sheet.instruction g)) (bid_of (worth_of p.sheet p.stem g) mark)
+  log_there i mark g at a marked =
       let n : ℕ = g.length / unit in
       let on : g.length % unit ≡ 0 = on_module p.sheet.instruction g.assortment a.assortment g.length valid.valid a.exists a.allows.length_offered in
       let low = allowed_low p.sheet.instruction p.stem g valid.valid a in
-      let whole : n * unit ≡ g.length = whole_steps g.length unit on in
       let some : 0 < n = one_step g.length unit (omega (arith, low.0)) on in
-      let top : top_of g ≡ (i + n) * unit = omega (arith, between.start, whole, add-mul i n unit) in (
+      let top : top_of g ≡ (i + n) * unit = omega (arith, at, whole_steps g.length unit on, add-mul i n unit) in (
         i + n,
-        trim_of p.sheet.instruction g,
         record {
           log = g;
-          between = between;
+          start = at;
           top = top;
-          own = refl;
-          brings = brings;
+          ends = refl;
+          allowed = a;
+          rank = marked;
+          worth = refl;
           later = omega arith;
+          order = omega (arith, end_is (i + n) g top);
           within = point_there unit (i + n) (stem_length p.stem.samples) pos (omega (arith, top, a.allows.within));
-          ends = ends;
+          last = end_there g a;
         },
       )
-
-  -- where the point after a log lies
-  pub after_is : (i j e trim bid : ℕ) → IsLogBid p i j e trim bid → e ≡ j + point_after unit trim
-  after_is i j e trim bid b =
-      sym b.between.ends ∙ ap (λ n. point_after unit (n + trim_of p.sheet.instruction b.log)) b.top ∙ ap (λ n. point_after unit (j * unit + n)) b.own ∙ after_trim unit j trim pos
 
   -- the trim of an allowed log is that of its assortment
   own_trim : (g : Log) → (a : IsAllowed p.sheet.instruction p.stem g) → trim_of p.sheet.instruction g ≡ a.assortment.trim
   own_trim g a = ap trim_in a.exists
 
+  -- an allowed log lies within its stem with its trim
+  pub log_fits : (i j e : ℕ) (bid : BidParts) → (l : IsLogAt p i j e bid) → j * unit + trim_of p.sheet.instruction l.log ≤ stem_length p.stem.samples
+  log_fits i j e bid l = omega (arith, l.top, own_trim l.log l.allowed, l.allowed.allows.within)
+
+  -- its code tells how many steps it is long
+  pub log_coded : (i j e : ℕ) (bid : BidParts) → (l : IsLogAt p i j e bid)
+      → (k : ℕ) × (k < length p.codes) × (slice_index p.codes k / 16 + i * unit ≡ j * unit)
+  log_coded i j e bid l =
+      let low : l.log.assortment < 16 = assortment_low p.sheet.instruction p.stem l.log valid.valid l.allowed in (
+        1023 - bid.rank,
+        mark_place p.codes l.log bid.rank l.rank,
+        omega (arith, l.start, l.top, mark_code p.codes l.log bid.rank l.rank),
+      )
+
   -- an allowed log is of an assortment that takes its wood
-  pub log_takes : (i j e trim bid : ℕ) → (b : IsLogBid p i j e trim bid) → Takes p.sheet p.stem (i * unit) (j * unit) trim b.log.assortment
-  log_takes i j e trim bid b =
-      let a = b.brings.allowed in
+  pub log_takes : (i j e : ℕ) (bid : BidParts) → (l : IsLogAt p i j e bid)
+      → Takes p.sheet p.stem (i * unit) (j * unit) (trim_of p.sheet.instruction l.log) l.log.assortment
+  log_takes i j e bid l =
+      let a = l.allowed in
       record {
         assortment = a.assortment;
         exists = a.exists;
         species = a.allows.species;
-        grades = rw (← b.between.start, ← b.top) a.allows.grades;
-        own = sym (own_trim b.log a) ∙ b.own;
+        grades = rw (← l.start, ← l.top) a.allows.grades;
+        own = sym (own_trim l.log a);
       }
 
   -- an assortment that takes some wood takes a part of it
@@ -129,18 +154,18 @@ module _ (p : GroundParts) (valid : IsSheet p.sheet) where
   module _ (diameters : List ℕ)
       (known : (j : ℕ) → j < points_of p → slice_index diameters j ≡ diameter_at p.stem.samples (j * unit)) where
     -- the bid of a log is one of its assortment for its length and its top diameter
-    pub log_quote : (i j e trim bid : ℕ) → (b : IsLogBid p i j e trim bid)
-        → IsQuote p.sheet p.codes b.log.assortment ((j - i) * unit) (slice_index diameters j) bid
-    log_quote i j e trim bid b =
-        let a = b.brings.allowed in
+    pub log_quote : (i j e : ℕ) (bid : BidParts) → (l : IsLogAt p i j e bid)
+        → IsBidOf p.sheet p.codes l.log.assortment ((j - i) * unit) (slice_index diameters j) bid
+    log_quote i j e bid l =
+        let a = l.allowed in
         let parts : (i + (j - i)) * unit ≡ i * unit + (j - i) * unit = add-mul i (j - i) unit in
-        let whole : i + (j - i) ≡ j = omega (arith, b.later) in
+        let whole : i + (j - i) ≡ j = omega (arith, l.later) in
         let both : j * unit ≡ i * unit + (j - i) * unit = rw whole at parts in
-        let l : b.log.length ≡ (j - i) * unit = omega (arith, b.between.start, b.top, both) in
-        let d : top_diameter p.stem b.log ≡ slice_index diameters j =
-        ap (λ x. diameter_at p.stem.samples x) b.top ∙ sym (known j b.within) in
-        subst (λ (n : ℕ). IsQuote p.sheet p.codes b.log.assortment n (slice_index diameters j) bid) l
-        (subst (λ (n : ℕ). IsQuote p.sheet p.codes b.log.assortment b.log.length n bid) d
+        let long : l.log.length ≡ (j - i) * unit = omega (arith, l.start, l.top, both) in
+        let d : top_diameter p.stem l.log ≡ slice_index diameters j =
+        ap (λ x. diameter_at p.stem.samples x) l.top ∙ sym (known j l.within) in
+        subst (λ (n : ℕ). IsBidOf p.sheet p.codes l.log.assortment n (slice_index diameters j) bid) long
+        (subst (λ (n : ℕ). IsBidOf p.sheet p.codes l.log.assortment l.log.length n bid) d
         (record {
           at = record {
             assortment = a.assortment;
@@ -152,23 +177,22 @@ module _ (p : GroundParts) (valid : IsSheet p.sheet) where
               priced = a.allows.priced;
             };
           };
-          mark = b.brings.mark;
-          marked = record { high = b.brings.marked.high; at = b.brings.marked.at };
-          is = b.brings.is ∙ ap (λ w. w * 1024 + b.brings.mark) (same_worth p.sheet p.stem b.log);
+          rank = record { high = l.rank.high; at = l.rank.at };
+          worth = l.worth ∙ same_worth p.sheet p.stem l.log;
         }))
 
     -- a bid of an assortment that takes the wood is that of an allowed log
-    pub quote_log : (i j a bid steps trim : ℕ) → i < j → j * unit + trim ≤ stem_length p.stem.samples → i + steps ≡ j
+    pub quote_log : (i j a steps trim : ℕ) (bid : BidParts) → i < j → j * unit + trim ≤ stem_length p.stem.samples → i + steps ≡ j
         → Takes p.sheet p.stem (i * unit) (j * unit) trim a
-        → IsQuote p.sheet p.codes a (steps * unit) (slice_index diameters j) bid
-        → IsLogBid p i j (j + point_after unit trim) trim bid
-    quote_log i j a bid steps trim lt fits e takes quote =
+        → IsBidOf p.sheet p.codes a (steps * unit) (slice_index diameters j) bid
+        → IsLogAt p i j (j + point_after unit trim) bid
+    quote_log i j a steps trim bid lt fits e takes quote =
         let g : Log = log_of (i * unit) (steps * unit) a in
         let top : top_of g ≡ j * unit = sym (add-mul i steps unit) ∙ ap (λ n. n * unit) e in
         let in_stem : j < points_of p = point_there unit j (stem_length p.stem.samples) pos (omega arith) in
         let d : slice_index diameters j ≡ top_diameter p.stem g = known j in_stem ∙ ap (λ x. diameter_at p.stem.samples x) (sym top) in
-        let q : IsQuote p.sheet p.codes a (steps * unit) (top_diameter p.stem g) bid =
-        subst (λ (n : ℕ). IsQuote p.sheet p.codes a (steps * unit) n bid) d quote in
+        let q : IsBidOf p.sheet p.codes a (steps * unit) (top_diameter p.stem g) bid =
+        subst (λ (n : ℕ). IsBidOf p.sheet p.codes a (steps * unit) n bid) d quote in
         let same : takes.assortment ≡ q.at.assortment = same_Some takes.assortment q.at.assortment (sym takes.exists ∙ q.at.exists) in
         let own : q.at.assortment.trim ≡ trim = ap (λ (x : AssortmentParts). x.trim) (sym same) ∙ takes.own in
         let allowed : IsAllowed p.sheet.instruction p.stem g = record {
@@ -186,70 +210,18 @@ module _ (p : GroundParts) (valid : IsSheet p.sheet) where
             priced = q.at.priced.priced;
           };
         } in
-        let trims : trim_of p.sheet.instruction g ≡ trim = own_trim g allowed ∙ own in
         let after : point_after unit (end_of p.sheet.instruction g) ≡ j + point_after unit trim =
-        ap (λ n. point_after unit (n + trim_of p.sheet.instruction g)) top ∙ ap (λ n. point_after unit (j * unit + n)) trims ∙ after_trim unit j trim pos in
+        end_is j g top ∙ ap (λ n. j + point_after unit n) (own_trim g allowed ∙ own) in
         record {
           log = g;
-          between = record { start = refl; ends = after };
+          start = refl;
           top = top;
-          own = trims;
-          brings = record {
-            allowed = allowed;
-            mark = q.mark;
-            marked = record { high = q.marked.high; at = q.marked.at };
-            is = q.is ∙ ap (λ w. w * 1024 + q.mark) (sym (same_worth p.sheet p.stem g));
-          };
+          ends = after;
+          allowed = allowed;
+          rank = record { high = q.rank.high; at = q.rank.at };
+          worth = q.worth ∙ sym (same_worth p.sheet p.stem g);
           later = lt;
+          order = omega arith;
           within = in_stem;
-          ends = rw (← after) (after_within unit (stem_length p.stem.samples) (end_of p.sheet.instruction g) pos (end_within p.sheet.instruction p.stem g allowed));
+          last = rw (← after) (end_there g allowed);
         }
-
--- an allowed log lies within its stem with its trim
-pub log_fits : (p : GroundParts) (i j e trim bid : ℕ) → IsLogBid p i j e trim bid → j * p.sheet.instruction.«module» + trim ≤ stem_length p.stem.samples
-log_fits p i j e trim bid b =
-    let a = b.brings.allowed in
-    let own : a.assortment.trim ≡ trim = sym (ap trim_in a.exists) ∙ b.own in
-    omega (arith, b.top, own, a.allows.within)
-
--- no log is shorter than so many steps, where no offer is
-pub logs_long : (p : GroundParts) (steps : ℕ) → IsSheet p.sheet → AreCodes p.sheet.instruction p.codes
-    → ((k : ℕ) → k < length p.codes → steps * p.sheet.instruction.«module» ≤ slice_index p.codes k / 16)
-    → (i j e trim bid : ℕ) → IsLogBid p i j e trim bid → i + steps ≤ j
-logs_long p steps v are least i j e trim bid b =
-    let a = b.brings.allowed in
-    let m : ℕ = p.sheet.instruction.«module» in
-    let found = are.whole b.log.assortment a.assortment b.log.length a.exists a.allows.length_offered in
-    let low : b.log.assortment < 16 = assortment_low p.sheet.instruction p.stem b.log v.valid a in
-    let code : slice_index p.codes found.0 ≡ code_of b.log.length b.log.assortment =
-    sym (get_or_default p.codes found.0 (code_of b.log.length b.log.assortment) 0 found.1) ∙ found.2 in
-    let l = least found.0 found.1 in
-    let long : b.log.length + i * m ≡ j * m = omega (arith, b.between.start, b.top) in
-    elim (cases_lt j (i + steps)) [
-      | inr le ↦ le
-      | inl less ↦ absurd (
-          let far : (j + 1) * m ≤ (i + steps) * m = mul-le-mul_right m (omega arith) in
-          omega (arith, add-mul j 1 m, add-mul i steps m, v.valid.module_range)
-          )
-    ]
-
--- no log is longer than so many steps, where no offer is
-pub logs_short : (p : GroundParts) (steps : ℕ) → IsSheet p.sheet → AreCodes p.sheet.instruction p.codes
-    → ((k : ℕ) → k < length p.codes → slice_index p.codes k / 16 ≤ steps * p.sheet.instruction.«module»)
-    → (i j e trim bid : ℕ) → IsLogBid p i j e trim bid → j ≤ i + steps
-logs_short p steps v are most i j e trim bid b =
-    let a = b.brings.allowed in
-    let m : ℕ = p.sheet.instruction.«module» in
-    let found = are.whole b.log.assortment a.assortment b.log.length a.exists a.allows.length_offered in
-    let low : b.log.assortment < 16 = assortment_low p.sheet.instruction p.stem b.log v.valid a in
-    let code : slice_index p.codes found.0 ≡ code_of b.log.length b.log.assortment =
-    sym (get_or_default p.codes found.0 (code_of b.log.length b.log.assortment) 0 found.1) ∙ found.2 in
-    let h = most found.0 found.1 in
-    let short : b.log.length + i * m ≡ j * m = omega (arith, b.between.start, b.top) in
-    elim (cases_lt (i + steps) j) [
-      | inr le ↦ le
-      | inl more ↦ absurd (
-          let far : (i + steps + 1) * m ≤ j * m = mul-le-mul_right m (omega arith) in
-          omega (arith, add-mul (i + steps) 1 m, add-mul i steps m, v.valid.module_range)
-          )
-    ]

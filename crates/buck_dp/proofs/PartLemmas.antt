@@ -1,80 +1,31 @@
 -- Cells of the takers of some wood are right for the starts in this wood.
-use Rattle.std.proofs.Common.{◌≡◌, ℕ, ◌+◌, ◌-◌, ◌*◌, ◌<◌, ◌≤◌, inl, inr, List, slice_get, slice_index, Some, refl, sym, subst, ap, arith}
+use Rattle.std.proofs.Common.{◌≡◌, ℕ, ◌+◌, ◌-◌, ◌*◌, ◌<◌, ◌≤◌, inl, inr, List, slice_get, slice_index, Some, sym, subst, arith}
 use Rattle.std.proofs.lemmas.Bool.{cases_lt}
 use Rattle.buck_apt.specs.Instruction.{AssortmentParts}
 use Rattle.buck_stem.specs.Stem.{stem_length, diameter_at}
 use Rattle.buck_value.specs.Sheet.{IsSheet}
-use Rattle.buck_value.specs.Allowed.{trim_of, worth_of, log_of}
-use Rattle.buck_bid.specs.Offers.{HasMark}
-use Rattle.buck_bid.specs.Quotes.{IsQuote, worth_for}
+use Rattle.buck_value.specs.Allowed.{trim_of}
 use Rattle.buck_dp.specs.inner.Points.{GroundParts, points_of, point_after}
-use Rattle.buck_dp.specs.inner.Settled.{IsLogBid}
 use Rattle.buck_dp.proofs.Logs.{Takes, log_takes, takes_less, log_quote, quote_log, after_is, log_fits}
 use Rattle.buck_dp.specs.declared.offering.Cell.{Cell}
 use Rattle.buck_dp.proofs.Places.{after_in_order}
 use Rattle.buck_dp.specs.inner.Bid.{BidParts}
 use Rattle.buck_dp.specs.inner.Logs.{IsLogAt}
 use Rattle.buck_dp.specs.inner.Rows.{IsPart}
-use Rattle.buck_dp.specs.inner.Cells.{IsBidOf, IsTakersBid, AreCells}
+use Rattle.buck_dp.specs.inner.Cells.{IsTakersBid, AreCells}
 use Rattle.buck_dp.specs.inner.Parts.{HasTakers}
 use Rattle.buck_dp.specs.declared.takers.Takers.{Takers}
 use Rattle.buck_dp.specs.declared.offering.Reach.{Reach}
-
--- what two numbers say of worths and ranks
-parts_same : (w r x y : ℕ) → r ≤ 1023 → y ≤ 1023 → w * 1024 + r ≡ x * 1024 + y → (w ≡ x) × (r ≡ y)
-parts_same w r x y low low' e = (omega arith, omega arith)
 
 module _ (p : GroundParts) (valid : IsSheet p.sheet) where
   abbrev unit : ℕ
   unit = p.sheet.instruction.«module»
 
-  -- the log of a packed bid
-  as_log : (i j e trim : ℕ) (bid : BidParts) → bid.rank ≤ 1023 → IsLogBid p i j e trim (bid.worth * 1024 + bid.rank)
-      → IsLogAt p i j e bid
-  as_log i j e trim bid low l =
-      let same = parts_same bid.worth bid.rank (worth_of p.sheet p.stem l.log) l.brings.mark low l.brings.marked.high l.brings.is in
-      record {
-        log = l.log;
-        start = l.between.start;
-        top = l.top;
-        ends = l.between.ends;
-        allowed = l.brings.allowed;
-        rank = subst (λ (n : ℕ). HasMark p.codes l.log n) (sym same.1) l.brings.marked;
-        worth = same.0;
-        later = l.later;
-        order = omega (arith, after_is p valid i j e trim (bid.worth * 1024 + bid.rank) l);
-        within = l.within;
-        last = l.ends;
-      }
-
-  -- and the other way
-  pub packed_log : (i j e : ℕ) (bid : BidParts) → (l : IsLogAt p i j e bid)
-      → IsLogBid p i j e (trim_of p.sheet.instruction l.log) (bid.worth * 1024 + bid.rank)
-  packed_log i j e bid l = record {
-    log = l.log;
-    between = record { start = l.start; ends = l.ends };
-    top = l.top;
-    own = refl;
-    brings = record { allowed = l.allowed; mark = bid.rank; marked = l.rank; is = ap (λ w. w * 1024 + bid.rank) l.worth };
-    later = l.later;
-    within = l.within;
-    ends = l.last;
-  }
-
-  packed_quote : (a l d : ℕ) (bid : BidParts) → IsBidOf p.sheet p.codes a l d bid
-      → IsQuote p.sheet p.codes a l d (bid.worth * 1024 + bid.rank)
-  packed_quote a l d bid q = record { at = q.at; mark = bid.rank; marked = q.rank; is = ap (λ w. w * 1024 + bid.rank) q.worth }
-
-  quote_parts : (a l d : ℕ) (bid : BidParts) → bid.rank ≤ 1023 → IsQuote p.sheet p.codes a l d (bid.worth * 1024 + bid.rank)
-      → IsBidOf p.sheet p.codes a l d bid
-  quote_parts a l d bid low q =
-      let same = parts_same bid.worth bid.rank (worth_for p.sheet a l d) q.mark low q.marked.high q.is in
-      record { at = q.at; rank = subst (λ (n : ℕ). HasMark p.codes (log_of 0 l a) n) (sym same.1) q.marked; worth = same.0 }
-
   module _ (diameters : List ℕ)
       (known : (j : ℕ) → j < points_of p → slice_index diameters j ≡ diameter_at p.stem.samples (j * unit))
       (t first stop : ℕ) (takers : Takers) (reach : Reach) (cells : List Cell)
-      (past : reach.past + stop ≤ t) (far : t ≤ reach.far + first)
+      (past : reach.past + stop ≤ t)
+      (far : (i e : ℕ) (bid : BidParts) → first ≤ i → IsLogAt p i t e bid → t ≤ reach.far + i)
       (here : (i : ℕ) → first ≤ i → i < stop → HasTakers p takers i t)
       (fits : t * unit + reach.room ≤ stem_length p.stem.samples)
       (whole : (a : ℕ) (x : AssortmentParts) → slice_get p.sheet.instruction.assortments a ≡ Some x
@@ -88,10 +39,8 @@ module _ (p : GroundParts) (valid : IsSheet p.sheet) where
         let h = (here i low high b.a b.assortment b.exists).0 b.taker in
         let takes : Takes p.sheet p.stem (i * unit) (t * unit) trim b.a =
         record { assortment = b.assortment; exists = b.exists; species = h.0; grades = h.1; own = b.own } in
-        let log = quote_log p valid diameters known k t b.a (bid.worth * 1024 + bid.rank) steps trim
-        (omega (arith, b.some)) (omega arith) is (takes_less p valid i k t trim b.a le takes)
-        (packed_quote b.a (steps * unit) (slice_index diameters t) bid b.bids) in
-        as_log k t (t + point_after unit trim) trim bid b.bids.rank.high log
+        quote_log p valid diameters known k t b.a steps trim bid (omega (arith, b.some)) (omega arith) is
+        (takes_less p valid i k t trim b.a le takes) b.bids
 
     -- a log from the part is a taker's bid
     log_bid_of : (i e : ℕ) (bid : BidParts) → first ≤ i → i < stop → IsLogAt p i t e bid
@@ -99,24 +48,20 @@ module _ (p : GroundParts) (valid : IsSheet p.sheet) where
         × IsTakersBid p.sheet p.codes takers (slice_index diameters t) (t - i) trim bid
     log_bid_of i e bid low high log =
         let trim : ℕ = trim_of p.sheet.instruction log.log in
-        let n : ℕ = bid.worth * 1024 + bid.rank in
-        let l : IsLogBid p i t e trim n = packed_log i t e bid log in
-        let takes : Takes p.sheet p.stem (i * unit) (t * unit) trim l.log.assortment = log_takes p valid i t e trim n l in
-        let quote : IsQuote p.sheet p.codes l.log.assortment ((t - i) * unit) (slice_index diameters t) n =
-        log_quote p valid diameters known i t e trim n l in
-        let fit : t * unit + trim ≤ stem_length p.stem.samples = log_fits p i t e trim n l in
+        let takes : Takes p.sheet p.stem (i * unit) (t * unit) trim log.log.assortment = log_takes p valid i t e bid log in
+        let fit : t * unit + trim ≤ stem_length p.stem.samples = log_fits p valid i t e bid log in
         let room : takes.assortment.trim ≤ reach.room =
-        whole l.log.assortment takes.assortment takes.exists (omega (arith, fit, takes.own)) in (
+        whole log.log.assortment takes.assortment takes.exists (omega (arith, fit, takes.own)) in (
           trim,
           omega (arith, room, takes.own),
-          after_is p valid i t e trim n l,
+          after_is p valid i t e bid log,
           record {
-            a = l.log.assortment;
-            taker = (here i low high l.log.assortment takes.assortment takes.exists).1 (takes.species, takes.grades);
+            a = log.log.assortment;
+            taker = (here i low high log.log.assortment takes.assortment takes.exists).1 (takes.species, takes.grades);
             assortment = takes.assortment;
             exists = takes.exists;
             some = omega (arith, log.later);
-            bids = quote_parts l.log.assortment ((t - i) * unit) (slice_index diameters t) bid log.rank.high quote;
+            bids = log_quote p valid diameters known i t e bid log;
             own = takes.own;
           },
         )
@@ -129,6 +74,7 @@ module _ (p : GroundParts) (valid : IsSheet p.sheet) where
           (bid_log i i c.steps r.trim c.bid (omega (arith, near.0)) (omega (arith, near.1)) (omega arith) is r.fits r.is);
       served = λ i e bid low high log.
           let b = log_bid_of i e bid low high log in
+          let within : t ≤ reach.far + i = far i e bid low log in
           elim (are.met (t - i) b.0 bid (omega arith) (omega arith) b.1 b.3) [
             | inr o ↦
                 let short = o.short in

@@ -293,6 +293,7 @@ row_cells s codes ask n d reach quotes row valid asked all are drawn = record {
         trim = o.quote.trim;
         is = q.bids d asked;
         next = q.rise;
+        near = (o.within.0, o.within.1);
         fits = o.within.2;
       });
   met = λ steps trim bid past far room b.

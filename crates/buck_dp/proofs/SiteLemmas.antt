@@ -1,18 +1,16 @@
 -- Who takes the wood of a stem.
-use Rattle.std.proofs.Common.{◌≡◌, ℕ, ◌+◌, ◌-◌, ◌*◌, ◌/◌, ◌<◌, ◌≤◌, ◌⊎◌, inl, inr, List, Contains, length, slice_get, slice_index, Some, refl, sym, subst, ◌∙◌, arith, mul-le-mul_left, mul-le-mul_right, add-mul}
+use Rattle.std.proofs.Common.{◌≡◌, ℕ, ◌+◌, ◌*◌, ◌/◌, ◌<◌, ◌≤◌, ◌⊎◌, inl, inr, List, Contains, length, slice_index, refl, sym, subst, ◌∙◌, arith, mul-le-mul_left, mul-le-mul_right, add-mul}
 use Rattle.std.proofs.Math.Nat.{div-mul-le_self, lt-div-mul-add}
 use Rattle.std.proofs.lemmas.Bool.{cases_lt}
-use Rattle.std.proofs.lemmas.Option.{slice_get_within, get_or_from_slice_get}
 use Rattle.buck_stem.specs.Stem.{StemParts, IsStem, IsGrade, grade_at, HasGrade, HasGradesOf, stem_length, diameter_at}
 use Rattle.buck_stem.specs.Profile as grid
 use Rattle.buck_stem.specs.Profile.{IsMask, IsMaskBetween, ProfileParts, profile_of}
 use Rattle.buck_stem.proofs.Tables.{grade_at_is}
 use Rattle.buck_value.proofs.Grades.{mask_allows}
 use Rattle.buck_value.specs.Sheet.{IsSheet}
-use Rattle.buck_bid.specs.Offers.{AreCodes, codes_in, code_of}
+use Rattle.buck_bid.specs.Offers.{codes_in}
 use Rattle.buck_dp.specs.inner.Points.{GroundParts, points_of}
-use Rattle.buck_dp.proofs.Logs.{logs_long, logs_short, point_within}
-use Rattle.buck_value.specs.Allowed.{trim_of}
+use Rattle.buck_dp.proofs.Logs.{log_coded, point_within}
 use Rattle.buck_dp.specs.declared.takers.Takers.{Takers}
 use Rattle.buck_dp.specs.declared.takers.Kind.{Kind}
 use Rattle.buck_dp.specs.inner.Takers.{IsTaker, AreTakersOf}
@@ -20,13 +18,13 @@ use Rattle.buck_dp.specs.inner.Bid.{BidParts}
 use Rattle.buck_dp.specs.inner.Logs.{IsLogAt}
 use Rattle.buck_dp.specs.inner.Parts.{HasTakers}
 use Rattle.buck_dp.specs.inner.Cells.{AreCells}
-use Rattle.buck_dp.specs.inner.Rows.{IsNear, IsPart}
+use Rattle.buck_dp.specs.inner.Rows.{IsPart}
 use Rattle.buck_dp.specs.inner.Kept.{all_of}
 use Rattle.buck_dp.specs.inner.Site.{IsSite, IsDiameterAt, ground_of}
 use Rattle.buck_dp.specs.declared.planning.Site.{Site}
 use Rattle.buck_dp.specs.declared.offering.Cell.{Cell}
 use Rattle.buck_dp.specs.declared.offering.Reach.{Reach}
-use Rattle.buck_dp.proofs.PartLemmas.{packed_log, cells_part}
+use Rattle.buck_dp.proofs.PartLemmas.{cells_part}
 
 -- a mask of a profile is one of its stem
 pub mask_of : (q : ProfileParts) (stem : StemParts) (step i j mask : ℕ) → q ≡ profile_of stem step → IsMaskBetween q i j mask
@@ -59,20 +57,20 @@ module _ (p : GroundParts) where
       none log.log.assortment ((has log.log.assortment a.assortment a.exists).1 (a.allows.species, grades))
 
   -- no log is longer than the longest
-  pub too_long : (most k t e : ℕ) (bid : BidParts) → IsSheet p.sheet → AreCodes p.sheet.instruction p.codes
+  pub too_long : (most k t e : ℕ) (bid : BidParts) → IsSheet p.sheet
       → ((n : ℕ) → n < length p.codes → slice_index p.codes n / 16 ≤ most * unit) → k + most < t → IsLogAt p k t e bid → ⊥
-  too_long most k t e bid valid codes long far log =
-      let short = logs_short p most valid codes long k t e (trim_of p.sheet.instruction log.log) (bid.worth * 1024 + bid.rank)
-      (packed_log p valid k t e bid log) in
-      omega arith
+  too_long most k t e bid valid long far log =
+      let c = log_coded p valid k t e bid log in
+      let least : (k + most + 1) * unit ≤ t * unit = mul-le-mul_right unit (omega arith) in
+      omega (arith, c.2, long c.0 c.1, add-mul (k + most) 1 unit, add-mul k most unit, valid.valid.module_range)
 
   -- no log is shorter than the shortest
-  pub too_short : (least k t e : ℕ) (bid : BidParts) → IsSheet p.sheet → AreCodes p.sheet.instruction p.codes
+  pub too_short : (least k t e : ℕ) (bid : BidParts) → IsSheet p.sheet
       → ((n : ℕ) → n < length p.codes → least * unit ≤ slice_index p.codes n / 16) → t < least → IsLogAt p k t e bid → ⊥
-  too_short least k t e bid valid codes short near log =
-      let long = logs_long p least valid codes short k t e (trim_of p.sheet.instruction log.log) (bid.worth * 1024 + bid.rank)
-      (packed_log p valid k t e bid log) in
-      omega arith
+  too_short least k t e bid valid short near log =
+      let c = log_coded p valid k t e bid log in
+      let most : (t + 1) * unit ≤ least * unit = mul-le-mul_right unit (omega arith) in
+      omega (arith, c.2, short c.0 c.1, add-mul t 1 unit, valid.valid.module_range)
 
   module _ (sound : IsStem p.stem) (run high one : ℕ)
       (even : (k : ℕ) → run ≤ k → k < high → IsMask p.stem.zones (k * unit) ((k + 1) * unit) one) (pos : 0 < unit) where
@@ -158,7 +156,7 @@ module _ (x : Site) (is : IsSite x) where
   -- cells of the takers of a part are a part
   pub part_offered : (ds : List ℕ) (t first stop : ℕ) (takers : Takers) (reach : Reach) (cells : List Cell)
       → ((j : ℕ) → j < points_of (ground_of x) → slice_index ds j ≡ diameter_at x.stem.now.samples (j * x.market.sheet.now.instruction.«module»))
-      → reach.past + stop ≤ t → t ≤ reach.far + first
+      → reach.past + stop ≤ t → ((i e : ℕ) (bid : BidParts) → first ≤ i → IsLogAt (ground_of x) i t e bid → t ≤ reach.far + i)
       → ((i : ℕ) → first ≤ i → i < stop → HasTakers (ground_of x) takers i t)
       → t * x.market.sheet.now.instruction.«module» + reach.room ≤ stem_length x.stem.now.samples
       → (reach.room ≡ x.market.menu.now.most_trim) ⊎ (stem_length x.stem.now.samples ≤ t * x.market.sheet.now.instruction.«module» + reach.room)
@@ -179,31 +177,9 @@ module _ (x : Site) (is : IsSite x) where
       → IsPart (ground_of x) t first t cells
   row_offered t d first takers cells at lt order fit here are =
       part_offered at.table t first t takers (all_of x.market.menu.now) cells at.known (omega arith)
-      (let reached = point_reached t lt in omega (arith, reached.1)) here (is.fit t fit) (inl refl)
+      (λ i e bid low log. elim (cases_lt (i + x.market.menu.now.most_steps) t) [
+        | inr le ↦ omega (arith, le)
+        | inl lt ↦ absurd (too_long (ground_of x) x.market.menu.now.most_steps i t e bid is.valid is.menu.long lt log)
+      ]) here (is.fit t fit) (inl refl)
       (subst (λ (n : ℕ). AreCells x.market.sheet.now (codes_in x.market.menu.now.offers.items) takers n (all_of x.market.menu.now) cells)
       (sym at.is) are)
-
--- the cells of a row are of logs that are no longer than the longest
-pub steps_few : (x : Site) (takers : Takers) (d t first : ℕ) (reach : Reach) (cells : List Cell) → IsSite x
-    → t + reach.past ≡ t → x.market.menu.now.most_steps + first ≤ t
-    → AreCells x.market.sheet.now (codes_in x.market.menu.now.offers.items) takers d reach cells
-    → (k : ℕ) (c : Cell) → slice_get cells k ≡ Some c → IsNear t first t c
-steps_few x takers d t first reach cells is none whole are k c at =
-    let m : ℕ = x.market.sheet.now.instruction.«module» in
-    let codes : List ℕ = codes_in x.market.menu.now.offers.items in
-    let r = are.real k c at in
-    let b = r.is in
-    let place : ℕ = 1023 - c.bid.rank in
-    let there : slice_get codes place ≡ Some (code_of (c.steps * m) b.a) = b.bids.rank.at in
-    let lt : place < length codes = slice_get_within codes place (code_of (c.steps * m) b.a) there in
-    let code : slice_index codes place ≡ code_of (c.steps * m) b.a = get_or_from_slice_get codes place (code_of (c.steps * m) b.a) 0 there in
-    let long : c.steps * m ≤ x.market.menu.now.most_steps * m =
-    (let h = is.menu.long place lt in
-    let low : b.a < 16 = omega (arith, slice_get_within x.market.sheet.now.instruction.assortments b.a b.assortment b.exists, is.valid.valid.assortments_number) in
-    omega arith) in
-    let few : c.steps ≤ x.market.menu.now.most_steps = elim (cases_lt x.market.menu.now.most_steps c.steps) [
-      | inr le ↦ le
-      | inl more ↦ absurd (let far : (x.market.menu.now.most_steps + 1) * m ≤ c.steps * m = mul-le-mul_right m (omega arith) in
-          omega (arith, add-mul x.market.menu.now.most_steps 1 m, is.valid.valid.module_range))
-    ] in
-    (omega arith, omega (arith, b.some))

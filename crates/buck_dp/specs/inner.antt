@@ -2,7 +2,6 @@
 pub mod Points
 pub mod Table
 pub mod Values
-pub mod Settled
 pub mod Bid
 pub mod Logs
 pub mod Rows

@@ -1,10 +1,11 @@
 //! Where lists and rows stand that are kept.
-ghost use Rattle.std.specs.Prelude.{◌≡◌, ℕ, ◌≤◌, ◌++◌, ◌∷◌, [], IfSome, OnOk, IfErr, slice_get, Some};
+ghost use Rattle.std.specs.Prelude.{◌≡◌, ℕ, ◌≤◌, ◌⊎◌, ◌++◌, ◌∷◌, [], IfSome, IfOk, slice_get, Some};
 ghost use Rattle.buck_dp.specs.declared.index.Head.{Head};
 ghost use Rattle.buck_dp.specs.inner.Index.{IsKeptAt};
 
 use crate::takers::Takers;
-use std::alloc::{AllocError, Global};
+use buck_record::Memory;
+use std::alloc::Global;
 use std::marker::Model;
 
 /// So many heads are kept at most.
@@ -83,11 +84,11 @@ impl Index {
         self.heads.len() >= HEADS
     }
 
-    /// Keeps one more, noted at a slot.
-    pub fn keep(&mut self, head: Head, slot: usize) -> Result<(), AllocError>
+    /// Keeps one more, noted at a slot, and gives its place.
+    pub fn keep(&mut self, head: Head, slot: usize) -> Result<Place, Memory>
         requires slot { slot ≤ 1000000000 }
-        ensures kept { OnOk result (self.new ≡ self.old ++ head ∷ []) }
-        ensures left { IfErr result (λ _. self.new ≡ self.old) }
+        ensures kept { (self.new ≡ self.old ++ head ∷ []) ⊎ (self.new ≡ self.old) }
+        ensures place { IfOk result (λ p. p ≡ head.place) }
     {
         if slot >= self.notes.len() {
             self.notes.resize(slot + 1, 0)?;
@@ -95,7 +96,7 @@ impl Index {
         let note = self.heads.len();
         self.heads.push(head)?;
         self.notes[slot] = note;
-        Ok(())
+        Ok(head.place)
     }
 
     /// Drops all.

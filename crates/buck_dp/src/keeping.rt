@@ -6,7 +6,7 @@ ghost use Rattle.buck_bid.specs.Offers.{codes_in};
 ghost use Rattle.buck_dp.specs.inner.Menu.{IsMenu};
 ghost use Rattle.buck_dp.specs.inner.Cells.{AreCells};
 ghost use Rattle.buck_dp.specs.inner.Index.{IsPlaceIn, part_of};
-ghost use Rattle.buck_dp.specs.inner.Kept.{ask_of, AreKept, AreTermsAt, IsListAt, IsRowAt};
+ghost use Rattle.buck_dp.specs.inner.Kept.{ask_of, AreKept, IsAt, TermsOf, ListOf, RowOf};
 ghost use Rattle.buck_dp.specs.inner.Quotes.{AreTerms, AreQuotes, IsAsked};
 ghost use Rattle.buck_dp.specs.declared.menu.Menu.{Menu};
 ghost use Rattle.buck_dp.specs.declared.pricing.Ask.{Ask};
@@ -43,12 +43,12 @@ const BANDS: usize = 512;
 #[inline(always)]
 pub(crate) fn all_logs(menu: &Menu) -> Reach
     ensures past { result.past ≡ 0 }
-    ensures far { result.far ≡ 5000 }
+    ensures far { result.far ≡ menu.now.most_steps }
     ensures room { result.room ≡ menu.now.most_trim }
 {
     Reach {
         past: 0,
-        far: 5_000,
+        far: menu.most_steps,
         room: menu.most_trim,
     }
 }
@@ -111,7 +111,7 @@ fn make_terms(
     requires band { band + 1 < length market.menu.now.limits.items }
     requires high { slice_index market.menu.now.limits.items (band + 1) ≤ 1504 }
     ensures kept { (more : List (Option Term)) × (terms.new.items ≡ terms.old.items ++ more) }
-    ensures terms { IfOk result (AreTermsAt market.entry.sheet.now.instruction market.entry.menu.now terms.new.items
+    ensures terms { IfOk result (IsAt (TermsOf market.entry.sheet.now.instruction market.entry.menu.now) terms.new.items
         (record { takers = group.takers; at = band })) }
 {
     let from = terms.as_slice().len();
@@ -144,7 +144,7 @@ fn make_list(
     requires terms { AreTerms market.sheet.now.instruction (codes_in market.menu.now.offers.items)
         (ask_of market.menu.now (record { takers = group.takers; at = band })) (length market.menu.now.offers.items) terms.now }
     ensures kept { (more : List Quote) × (quotes.new.items ≡ quotes.old.items ++ more) }
-    ensures list { IfOk result (IsListAt market.entry.sheet.now market.entry.menu.now quotes.new.items
+    ensures list { IfOk result (IsAt (ListOf market.entry.sheet.now market.entry.menu.now) quotes.new.items
         (record { takers = group.takers; at = band })) }
 {
     let ask = ask_for(market.menu, group, band);
@@ -171,7 +171,7 @@ fn make_row(
     requires list { (ask : Ask) × (ask.takers ≡ group.takers) × IsAsked ask diameter
         × AreQuotes market.sheet.now (codes_in market.menu.now.offers.items) ask (length market.menu.now.offers.items) list.now }
     ensures kept { (more : List Cell) × (cells.new.items ≡ cells.old.items ++ more) }
-    ensures row { IfOk result (IsRowAt market.entry.sheet.now market.entry.menu.now cells.new.items
+    ensures row { IfOk result (IsAt (RowOf market.entry.sheet.now market.entry.menu.now) cells.new.items
         (record { takers = group.takers; at = diameter })) }
 {
     let from = cells.as_slice().len();
@@ -224,7 +224,7 @@ impl Kept {
         requires high { slice_index market.menu.now.limits.items (band + 1) ≤ 1504 }
         requires kept { AreKept market.sheet.now market.menu.now self.old }
         ensures kept { AreKept market.entry.sheet.now market.entry.menu.now self.new }
-        ensures terms { IfOk result (AreTermsAt market.entry.sheet.now.instruction market.entry.menu.now self.new.terms.items
+        ensures terms { IfOk result (IsAt (TermsOf market.entry.sheet.now.instruction market.entry.menu.now) self.new.terms.items
             (record { takers = group.takers; at = band })) }
     {
         let key = Key {
@@ -237,8 +237,7 @@ impl Kept {
         }
         make_room(&mut self.terms, &mut self.asked, TERMS);
         let place = make_terms(&mut self.terms, market, group, band)?;
-        self.asked.keep(Head { key, place }, slot)?;
-        Ok(place)
+        self.asked.keep(Head { key, place }, slot)
     }
 
     /// Where the price list of a group in a band stands. It is made where it isn't there.
@@ -255,7 +254,7 @@ impl Kept {
         requires high { slice_index market.menu.now.limits.items (band + 1) ≤ 1504 }
         requires kept { AreKept market.sheet.now market.menu.now self.old }
         ensures kept { AreKept market.entry.sheet.now market.entry.menu.now self.new }
-        ensures list { IfOk result (IsListAt market.entry.sheet.now market.entry.menu.now self.new.quotes.items
+        ensures list { IfOk result (IsAt (ListOf market.entry.sheet.now market.entry.menu.now) self.new.quotes.items
             (record { takers = group.takers; at = band })) }
     {
         let key = Key {
@@ -276,8 +275,7 @@ impl Kept {
             group,
             band,
         )?;
-        self.lists.keep(Head { key, place }, slot)?;
-        Ok(place)
+        self.lists.keep(Head { key, place }, slot)
     }
 
     /// Draws the row of a group at a diameter, to be kept at a slot.
@@ -296,7 +294,7 @@ impl Kept {
         requires slot { slot ≤ 1000000000 }
         requires kept { AreKept market.sheet.now market.menu.now self.old }
         ensures kept { AreKept market.entry.sheet.now market.entry.menu.now self.new }
-        ensures row { IfOk result (IsRowAt market.entry.sheet.now market.entry.menu.now self.new.cells.items
+        ensures row { IfOk result (IsAt (RowOf market.entry.sheet.now market.entry.menu.now) self.new.cells.items
             (record { takers = group.takers; at = diameter })) }
     {
         let key = Key {
@@ -313,8 +311,7 @@ impl Kept {
             group,
             diameter,
         )?;
-        self.rows.keep(Head { key, place }, slot)?;
-        Ok(place)
+        self.rows.keep(Head { key, place }, slot)
     }
 
     /// Where the row of a group at a diameter stands. It is drawn where it isn't there.
@@ -331,7 +328,7 @@ impl Kept {
         requires diameter { diameter ≤ 1500 }
         requires kept { AreKept market.sheet.now market.menu.now self.old }
         ensures kept { AreKept market.entry.sheet.now market.entry.menu.now self.new }
-        ensures row { IfOk result (IsRowAt market.entry.sheet.now market.entry.menu.now self.new.cells.items
+        ensures row { IfOk result (IsAt (RowOf market.entry.sheet.now market.entry.menu.now) self.new.cells.items
             (record { takers = group.takers; at = diameter })) }
     {
         let key = Key {

@@ -24,6 +24,13 @@ pub struct Reach {
     pub room: u32,
 }
 
+/// The starts from point `first` on and before `stop`.
+#[derive(Clone, Copy, Debug)]
+pub struct Starts {
+    pub first: usize,
+    pub stop: usize,
+}
+
 /// Settles a point: its value is what was offered to it, or that of the next point if this is greater. The rank becomes
 /// the choice.
 pub(crate) fn settle(values: &mut [Bid], choices: &mut [u32], point: usize)
@@ -60,49 +67,47 @@ fn offer_near(values: &mut [Bid], top: usize, cell: Cell)
     values[start] = values[start].max(cell.bid.plus(rest));
 }
 
-/// Offers a cell at a top to the point where its log starts, if that is `first` or a later one, before `stop`.
+/// Offers a cell at a top to the point where its log starts, which is before `stop`, if it isn't before `first`.
 #[inline(always)]
-fn offer(values: &mut [Bid], top: usize, first: usize, stop: usize, cell: Cell)
-    requires order { (first ≤ stop) × (stop ≤ top) }
-    requires there { IsNear top first stop cell → top + cell.rise < length values.old }
-    requires even { IsNear top first stop cell → (bid_at values.old (top + cell.rise)).rank ≡ 0 }
-    requires low { IsNear top first stop cell
+fn offer(values: &mut [Bid], top: usize, starts: Starts, cell: Cell)
+    requires order { (starts.first ≤ starts.stop) × (starts.stop ≤ top) }
+    requires late { top < cell.steps + starts.stop }
+    requires there { IsNear top starts.first starts.stop cell → top + cell.rise < length values.old }
+    requires even { IsNear top starts.first starts.stop cell → (bid_at values.old (top + cell.rise)).rank ≡ 0 }
+    requires low { IsNear top starts.first starts.stop cell
         → cell.bid.worth + (bid_at values.old (top + cell.rise)).worth ≤ 4000000000000000 }
     ensures number { length values.new ≡ length values.old }
-    ensures others { (i : ℕ) → (i + cell.steps ≢ top) ⊎ (i < first) ⊎ (stop ≤ i)
+    ensures others { (i : ℕ) → (i + cell.steps ≢ top) ⊎ (i < starts.first) ⊎ (starts.stop ≤ i)
         → bid_at values.new i ≡ bid_at values.old i }
-    ensures raised { (i : ℕ) → i + cell.steps ≡ top → first ≤ i → i < stop
+    ensures raised { (i : ℕ) → i + cell.steps ≡ top → starts.first ≤ i → i < starts.stop
         → IsGreater (bid_at values.old i) (plus cell.bid (bid_at values.old (top + cell.rise))) (bid_at values.new i) }
 {
-    let steps = cell.steps as usize;
-    if steps > top - first {
-        return;
-    }
-    if steps <= top - stop {
+    if cell.steps as usize > top - starts.first {
         return;
     }
     offer_near(values, top, cell);
 }
 
-/// Offers the cells of a row at a top to the points where their logs start, which are all from `first` on.
-pub(crate) fn offer_whole(values: &mut [Bid], top: usize, first: usize, row: &[Cell])
-    requires order { first ≤ top }
-    requires fit { AreFit row.now top first top values.old }
-    requires near { (k : ℕ) (c : Cell) → slice_get row.now k ≡ Some c → IsNear top first top c }
-    ensures { AreOffered row.now top first top (length row.now) values.old values.new }
+/// Offers the cells of a row at a top to the points where their logs start, which are all among these.
+pub(crate) fn offer_whole(values: &mut [Bid], top: usize, starts: Starts, row: &[Cell])
+    requires order { (starts.first ≤ starts.stop) × (starts.stop ≤ top) }
+    requires fit { AreFit row.now top starts.first starts.stop values.old }
+    requires near { (k : ℕ) (c : Cell) → slice_get row.now k ≡ Some c → IsNear top starts.first starts.stop c }
+    ensures { AreOffered row.now top starts.first starts.stop (length row.now) values.old values.new }
 {
     for cell in row {
         offer_near(values, top, *cell);
     }
 }
 
-/// Offers the cells of a row at a top to the points where their logs start, from `first` on and before `stop`.
-pub(crate) fn offer_row(values: &mut [Bid], top: usize, first: usize, stop: usize, row: &[Cell])
-    requires order { (first ≤ stop) × (stop ≤ top) }
-    requires fit { AreFit row.now top first stop values.old }
-    ensures { AreOffered row.now top first stop (length row.now) values.old values.new }
+/// Offers the cells of a row at a top to those of these starts where their logs start, which are all before `stop`.
+pub(crate) fn offer_row(values: &mut [Bid], top: usize, starts: Starts, row: &[Cell])
+    requires order { (starts.first ≤ starts.stop) × (starts.stop ≤ top) }
+    requires fit { AreFit row.now top starts.first starts.stop values.old }
+    requires late { (k : ℕ) (c : Cell) → slice_get row.now k ≡ Some c → top < c.steps + starts.stop }
+    ensures { AreOffered row.now top starts.first starts.stop (length row.now) values.old values.new }
 {
     for cell in row {
-        offer(values, top, first, stop, *cell);
+        offer(values, top, starts, *cell);
     }
 }

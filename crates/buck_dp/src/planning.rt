@@ -179,11 +179,7 @@ fn offer_cells(site: Site<'_>, search: &mut Search<'_>, part: Part, diameter: u3
     ensures from { search.new.from ≡ search.old.from }
     ensures stop { search.new.stop ≡ 0 }
 {
-    if search.from() - part.first >= site.market.menu.most_steps {
-        search.offer_whole(part.first, cells);
-    } else {
-        search.offer_part(part.first, cells);
-    }
+    search.offer_part(part.first, cells, site.market.menu.most_steps);
     search.close_top();
 }
 
@@ -263,7 +259,7 @@ fn offer_part(
         part.group,
         Spot { diameter, reach },
     )?;
-    search.offer_part(part.first, memo.spare.as_slice());
+    search.offer_part(part.first, memo.spare.as_slice(), reach.far);
     Ok(())
 }
 

@@ -7,11 +7,11 @@ ghost use Rattle.buck_dp.specs.declared.offering.Cell.{Cell};
 ghost use Rattle.buck_dp.specs.inner.Points.{GroundParts, points_of, ground_with};
 ghost use Rattle.buck_dp.specs.inner.Bid.{BidParts, none};
 ghost use Rattle.buck_dp.specs.inner.Logs.{IsLogAt, bid_at};
-ghost use Rattle.buck_dp.specs.inner.Rows.{IsNear, IsPart};
+ghost use Rattle.buck_dp.specs.inner.Rows.{IsPart};
 ghost use Rattle.buck_dp.specs.inner.Searched.{AreSearched, IsSearch};
 
 use crate::bid::Bid;
-use crate::offering::{Cell, offer_row, offer_whole, settle};
+use crate::offering::{Cell, Starts, offer_row, offer_whole, settle};
 use buck_bid::Offer;
 use buck_record::Memory;
 use buck_stem::Stem;
@@ -98,31 +98,23 @@ fn settle_once(values: &mut [Bid], choices: &mut [u32], top: usize)
     settle(values, choices, top);
 }
 
-/// Offers the logs with a top that start in one part.
-fn offer_once(values: &mut [Bid], top: usize, first: usize, stop: usize, row: &[Cell])
-    requires order { (first ≤ stop) × (stop ≤ top) }
+/// Offers the logs with a top that start in one part. None of the row is longer than `most` steps.
+fn offer_once(values: &mut [Bid], top: usize, starts: Starts, row: &[Cell], most: usize)
+    requires order { (starts.first ≤ starts.stop) × (starts.stop ≤ top) }
+    requires late { (k : ℕ) (c : Cell) → slice_get row.now k ≡ Some c → top < c.steps + starts.stop }
+    requires few { (k : ℕ) (c : Cell) → slice_get row.now k ≡ Some c → c.steps ≤ most }
     requires ready { (p : GroundParts) × (choices : List ℕ) × IsSheet p.sheet × IsStem p.stem
-        × AreSearched p values.old choices top stop × IsPart p top first stop row.now }
+        × AreSearched p values.old choices top starts.stop × IsPart p top starts.first starts.stop row.now }
     ensures number { length values.new ≡ length values.old }
     ensures searched { (p : GroundParts) (choices : List ℕ) → IsSheet p.sheet → IsStem p.stem
-        → AreSearched p values.old choices top stop → IsPart p top first stop row.now
-        → AreSearched p values.new choices top first }
+        → AreSearched p values.old choices top starts.stop → IsPart p top starts.first starts.stop row.now
+        → AreSearched p values.new choices top starts.first }
 {
-    offer_row(values, top, first, stop, row);
-}
-
-/// Offers the logs with a top that all start from one point on.
-fn offer_whole_once(values: &mut [Bid], top: usize, first: usize, row: &[Cell])
-    requires order { first ≤ top }
-    requires near { (k : ℕ) (c : Cell) → slice_get row.now k ≡ Some c → IsNear top first top c }
-    requires ready { (p : GroundParts) × (choices : List ℕ) × IsSheet p.sheet × IsStem p.stem
-        × AreSearched p values.old choices top top × IsPart p top first top row.now }
-    ensures number { length values.new ≡ length values.old }
-    ensures searched { (p : GroundParts) (choices : List ℕ) → IsSheet p.sheet → IsStem p.stem
-        → AreSearched p values.old choices top top → IsPart p top first top row.now
-        → AreSearched p values.new choices top first }
-{
-    offer_whole(values, top, first, row);
+    if top - starts.first >= most {
+        offer_whole(values, top, starts, row);
+        return;
+    }
+    offer_row(values, top, starts, row);
 }
 
 impl<'a> Search<'a> {
@@ -195,29 +187,22 @@ impl<'a> Search<'a> {
         self.stop = top;
     }
 
-    /// Offers the logs with the top that was settled last that start in a part more, from `first` on.
-    pub fn offer_part(&mut self, first: usize, row: &[Cell])
+    /// Offers the logs with the top that was settled last that start in a part more, from `first` on. None of the row
+    /// is longer than `most` steps.
+    pub fn offer_part(&mut self, first: usize, row: &[Cell], most: usize)
         requires order { first ≤ self.old.stop }
+        requires late { (k : ℕ) (c : Cell) → slice_get row.now k ≡ Some c → self.old.from < c.steps + self.old.stop }
+        requires few { (k : ℕ) (c : Cell) → slice_get row.now k ≡ Some c → c.steps ≤ most }
         requires part { IsPart self.old.ground self.old.from first self.old.stop row.now }
         ensures ground { self.new.ground ≡ self.old.ground }
         ensures from { self.new.from ≡ self.old.from }
         ensures stop { self.new.stop ≡ first }
     {
-        offer_once(self.values.as_mut_slice(), self.from, first, self.stop, row);
-        self.stop = first;
-    }
-
-    /// Offers the logs with the top that was settled last that start from `first` on, where these are all.
-    pub fn offer_whole(&mut self, first: usize, row: &[Cell])
-        requires order { first ≤ self.old.stop }
-        requires settled { self.old.stop ≡ self.old.from }
-        requires near { (k : ℕ) (c : Cell) → slice_get row.now k ≡ Some c → IsNear self.old.from first self.old.from c }
-        requires part { IsPart self.old.ground self.old.from first self.old.stop row.now }
-        ensures ground { self.new.ground ≡ self.old.ground }
-        ensures from { self.new.from ≡ self.old.from }
-        ensures stop { self.new.stop ≡ first }
-    {
-        offer_whole_once(self.values.as_mut_slice(), self.from, first, row);
+        let starts = Starts {
+            first,
+            stop: self.stop,
+        };
+        offer_once(self.values.as_mut_slice(), self.from, starts, row, most);
         self.stop = first;
     }
 

@@ -28,11 +28,12 @@ pub record IsTakersBid (s : SheetParts) (codes : List ℕ) (takers : Takers) (d 
   pub bids : IsBidOf s codes a (steps * s.instruction.«module») d bid
   pub own : assortment.trim ≡ trim
 
--- a cell is a taker's bid, with a trim that has room
+-- a cell is a taker's bid, within reach
 pub record IsReal (s : SheetParts) (codes : List ℕ) (takers : Takers) (d : ℕ) (reach : Reach) (c : Cell) : Type 0 where
   pub trim : ℕ
   pub is : IsTakersBid s codes takers d c.steps trim c.bid
   pub next : c.rise ≡ point_after s.instruction.«module» trim
+  pub near : (reach.past < c.steps) × (c.steps ≤ reach.far)
   pub fits : trim ≤ reach.room
 
 -- a cell bids no less for logs as long, or more worth for shorter ones, and leaves no less

@@ -26,25 +26,24 @@ ask_of m key = record {
 
 -- logs of each length and trim
 abbrev pub all_of : Menu → Reach
-all_of m = record { past = 0; far = 5000; room = m.most_trim }
+all_of m = record { past = 0; far = m.most_steps; room = m.most_trim }
 
--- the terms of a key stand at a place
-pub record AreTermsAt (i : InstructionParts) (m : Menu) (terms : List (Option Term)) (key : Key) (place : Place) : Type 0 where
-  pub within : IsPlaceIn terms place
-  pub right : AreTerms i (codes_in m.offers.items) (ask_of m key) (length m.offers.items) (part_of terms place)
+-- what is right for a key stands at a place
+abbrev pub IsAt : {X : Type 0} → (Key → List X → Type 0) → List X → Key → Place → Type 0
+IsAt Right xs key place = IsPlaceIn xs place × Right key (part_of xs place)
 
--- the price list of a key stands at a place
-pub record IsListAt (s : SheetParts) (m : Menu) (quotes : List Quote) (key : Key) (place : Place) : Type 0 where
-  pub within : IsPlaceIn quotes place
-  pub right : AreQuotes s (codes_in m.offers.items) (ask_of m key) (length m.offers.items) (part_of quotes place)
+-- the terms, the price list and the row of a key
+abbrev pub TermsOf : InstructionParts → Menu → Key → List (Option Term) → Type 0
+TermsOf i m key terms = AreTerms i (codes_in m.offers.items) (ask_of m key) (length m.offers.items) terms
 
--- the row of a key stands at a place
-pub record IsRowAt (s : SheetParts) (m : Menu) (cells : List Cell) (key : Key) (place : Place) : Type 0 where
-  pub within : IsPlaceIn cells place
-  pub right : AreCells s (codes_in m.offers.items) key.takers key.at (all_of m) (part_of cells place)
+abbrev pub ListOf : SheetParts → Menu → Key → List Quote → Type 0
+ListOf s m key quotes = AreQuotes s (codes_in m.offers.items) (ask_of m key) (length m.offers.items) quotes
+
+abbrev pub RowOf : SheetParts → Menu → Key → List Cell → Type 0
+RowOf s m key cells = AreCells s (codes_in m.offers.items) key.takers key.at (all_of m) cells
 
 -- all terms, lists and rows that are kept are right
 pub record AreKept (s : SheetParts) (m : Menu) (k : Kept) : Type 0 where
-  pub terms : (n : ℕ) (h : Head) → slice_get k.asked n ≡ Some h → AreTermsAt s.instruction m k.terms.items h.key h.place
-  pub lists : (n : ℕ) (h : Head) → slice_get k.lists n ≡ Some h → IsListAt s m k.quotes.items h.key h.place
-  pub rows : (n : ℕ) (h : Head) → slice_get k.rows n ≡ Some h → IsRowAt s m k.cells.items h.key h.place
+  pub terms : (n : ℕ) (h : Head) → slice_get k.asked n ≡ Some h → IsAt (TermsOf s.instruction m) k.terms.items h.key h.place
+  pub lists : (n : ℕ) (h : Head) → slice_get k.lists n ≡ Some h → IsAt (ListOf s m) k.quotes.items h.key h.place
+  pub rows : (n : ℕ) (h : Head) → slice_get k.rows n ≡ Some h → IsAt (RowOf s m) k.cells.items h.key h.place

@@ -4,8 +4,7 @@ use Rattle.buck_dp.specs.inner.Points.{GroundParts, ground_with}
 use Rattle.buck_bid.specs.Offers.{codes_in}
 use Rattle.buck_bid.proofs.OfferLemmas.{codes_number}
 use Rattle.buck_dp.proofs.Walk.{AnyRest}
-use Rattle.buck_dp.proofs.Values.{walk_end}
-use Rattle.buck_dp.proofs.FoundLemmas.{choice_low, found_skip, found_within, found_log}
+use Rattle.buck_dp.proofs.Values.{walk_skip, choice_within, walk_log, walk_end}
 use Rattle.buck_dp.proofs.following.follow.Goals as goal
 
 pub loop-i-preserved-then-rank-eq0 : goal.loop-i-preserved-then-rank-eq0
@@ -14,25 +13,25 @@ loop-i-preserved-then-rank-eq0 c =
     let f = c.requires.found in
     record {
       within = omega (arith, f.1.room);
-      best = found_skip p c.requires.valid f.0 c.args.choices.now f.1 c.requires.sound c.requires.offers.codes c.loop-i.i
-          (omega (arith, f.1.room)) c.loop-i.logs.items (omega arith) c.loop-i.invariant.best;
+      best = walk_skip p c.requires.valid c.requires.offers.codes f.0 c.args.choices.now f.1 c.loop-i.i c.loop-i.logs.items
+          (omega (arith, f.1.room)) (omega arith) c.loop-i.invariant.best;
     }
 
 pub log_at-log-requires-clause-rank : goal.log_at-log-requires-clause-rank
 log_at-log-requires-clause-rank c =
     let p : GroundParts = ground_with c.args.sheet.now c.args.stem.now (codes_in c.args.offers.now) in
     let f = c.requires.found in
-    let place = found_within p c.requires.valid f.0 c.args.choices.now f.1 c.requires.sound c.requires.offers.codes c.loop-i.i
+    let place = choice_within p c.requires.valid c.requires.offers.codes f.0 c.args.choices.now f.1 c.loop-i.i
     (omega (arith, f.1.room)) (omega arith) in
-    (choice_low p c.requires.valid f.0 c.args.choices.now f.1 c.loop-i.i, omega (arith, place, codes_number c.args.offers.now))
+    (place.0, omega (arith, place.1, codes_number c.args.offers.now))
 
 pub point_after-i-requires-clause-allowed : goal.point_after-i-requires-clause-allowed
 point_after-i-requires-clause-allowed c =
     let p : GroundParts = ground_with c.args.sheet.now c.args.stem.now (codes_in c.args.offers.now) in
     let f = c.requires.found in
     let log = c.log_at-log.ensures in
-    let j = found_log p c.requires.valid f.0 c.args.choices.now f.1 c.requires.sound c.requires.offers.codes c.loop-i.i
-    (omega (arith, f.1.room)) c.log_at-log.result c.loop-i.logs.items (omega arith) log.start log.code log.assortment
+    let j = walk_log p c.requires.valid c.requires.offers.codes f.0 c.args.choices.now f.1 c.loop-i.i
+    c.log_at-log.result c.loop-i.logs.items (omega (arith, f.1.room)) (omega arith) log.start log.code log.assortment
     c.loop-i.invariant.best in
     j.4
 
@@ -41,8 +40,8 @@ loop-i-smaller c =
     let p : GroundParts = ground_with c.args.sheet.now c.args.stem.now (codes_in c.args.offers.now) in
     let f = c.requires.found in
     let log = c.log_at-log.ensures in
-    let j = found_log p c.requires.valid f.0 c.args.choices.now f.1 c.requires.sound c.requires.offers.codes c.loop-i.i
-    (omega (arith, f.1.room)) c.log_at-log.result c.loop-i.logs.items (omega arith) log.start log.code log.assortment
+    let j = walk_log p c.requires.valid c.requires.offers.codes f.0 c.args.choices.now f.1 c.loop-i.i
+    c.log_at-log.result c.loop-i.logs.items (omega (arith, f.1.room)) (omega arith) log.start log.code log.assortment
     c.loop-i.invariant.best in
     omega (arith, j.1, j.2, j.3, c.point_after-i.ensures)
 
@@ -51,8 +50,8 @@ loop-i-preserved c =
     let p : GroundParts = ground_with c.args.sheet.now c.args.stem.now (codes_in c.args.offers.now) in
     let f = c.requires.found in
     let log = c.log_at-log.ensures in
-    let j = found_log p c.requires.valid f.0 c.args.choices.now f.1 c.requires.sound c.requires.offers.codes c.loop-i.i
-    (omega (arith, f.1.room)) c.log_at-log.result c.loop-i.logs.items (omega arith) log.start log.code log.assortment
+    let j = walk_log p c.requires.valid c.requires.offers.codes f.0 c.args.choices.now f.1 c.loop-i.i
+    c.log_at-log.result c.loop-i.logs.items (omega (arith, f.1.room)) (omega arith) log.start log.code log.assortment
     c.loop-i.invariant.best in
     let at : j.0 ≡ c.point_after-i.result = omega (arith, j.3, c.point_after-i.ensures) in
     let logs : List Log = c.loop-i.logs.items ++ c.log_at-log.result ∷ [] in

@@ -6,9 +6,9 @@ use Rattle.buck_dp.specs.declared.menu.Menu.{Menu}
 use Rattle.buck_dp.specs.declared.pricing.Ask.{Ask}
 use Rattle.buck_dp.specs.declared.pricing.Quote.{Quote}
 use Rattle.buck_dp.specs.declared.pricing.Term.{Term}
-use Rattle.buck_dp.specs.inner.Kept.{ask_of, IsListAt}
+use Rattle.buck_dp.specs.inner.Kept.{ask_of, ListOf}
 use Rattle.buck_dp.specs.inner.Quotes.{AreTerms, AreQuotes}
-use Rattle.buck_dp.proofs.KeptLemmas.{list_new}
+use Rattle.buck_dp.proofs.KeptLemmas.{put_behind}
 use Rattle.buck_dp.proofs.keeping.make_list.Goals as goal
 
 -- the terms as they are asked for
@@ -42,6 +42,5 @@ returns-clause-list c =
     (asked s m key c.args.terms.now c.ask_for-ask.result c.ask_for-ask.ensures c.requires.terms))) in
     let from : ℕ = length c.as_slice-from.result.now in
     let past : ℕ = length c.as_slice-2.result.now in
-    subst (λ (xs : List Quote). IsListAt s m xs key (record { from = from; past = past })) (sym more)
-    (list_new s m old new key from past (ap (λ (xs : List Quote). length xs) c.as_slice-from.ensures.value)
-    (ap (λ (xs : List Quote). length xs) (c.as_slice-2.ensures.value ∙ more)) are)
+    put_behind (ListOf s m) old new c.extend_from_slice.new.self.items key from past more (ap (λ (xs : List Quote). length xs) c.as_slice-from.ensures.value)
+    (ap (λ (xs : List Quote). length xs) c.as_slice-2.ensures.value) are

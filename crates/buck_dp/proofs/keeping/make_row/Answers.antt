@@ -1,12 +1,12 @@
-use Rattle.std.proofs.Common.{ℕ, List, length, sym, subst, ap, ◌∙◌}
+use Rattle.std.proofs.Common.{ℕ, List, length, subst, ap}
 use Rattle.buck_bid.specs.Offers.{codes_in}
 use Rattle.buck_dp.specs.declared.index.Key.{Key}
 use Rattle.buck_dp.specs.declared.offering.Cell.{Cell}
 use Rattle.buck_dp.specs.declared.offering.Reach.{Reach}
 use Rattle.buck_dp.specs.declared.takers.Takers.{Takers}
 use Rattle.buck_dp.specs.inner.Cells.{AreCells}
-use Rattle.buck_dp.specs.inner.Kept.{all_of, IsRowAt}
-use Rattle.buck_dp.proofs.KeptLemmas.{row_new, all_same}
+use Rattle.buck_dp.specs.inner.Kept.{all_of, RowOf}
+use Rattle.buck_dp.proofs.KeptLemmas.{put_behind, all_same}
 use Rattle.buck_dp.proofs.QuoteLemmas.{row_cells, rank_offered}
 use Rattle.buck_dp.proofs.keeping.make_row.Goals as goal
 
@@ -30,6 +30,5 @@ returns-clause-row c =
     (λ steps trim bid b. rank_offered s m.offers.items l.0.takers d steps trim bid b) l.3 row.2)) in
     let from : ℕ = length c.as_slice-from.result.now in
     let past : ℕ = length c.as_slice.result.now in
-    subst (λ (xs : List Cell). IsRowAt s m xs key (record { from = from; past = past })) (sym row.1)
-    (row_new s m old row.0 key from past (ap (λ (xs : List Cell). length xs) c.as_slice-from.ensures.value)
-    (ap (λ (xs : List Cell). length xs) (c.as_slice.ensures.value ∙ row.1)) cells)
+    put_behind (RowOf s m) old row.0 c.put_row.new.cells.items key from past row.1 (ap (λ (xs : List Cell). length xs) c.as_slice-from.ensures.value)
+    (ap (λ (xs : List Cell). length xs) c.as_slice.ensures.value) cells

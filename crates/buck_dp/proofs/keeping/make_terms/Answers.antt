@@ -7,9 +7,9 @@ use Rattle.buck_bid.proofs.LimitLemmas.{band_is}
 use Rattle.buck_dp.specs.declared.index.Key.{Key}
 use Rattle.buck_dp.specs.declared.pricing.Ask.{Ask}
 use Rattle.buck_dp.specs.declared.pricing.Term.{Term}
-use Rattle.buck_dp.specs.inner.Kept.{ask_of, AreTermsAt}
+use Rattle.buck_dp.specs.inner.Kept.{ask_of, TermsOf}
 use Rattle.buck_dp.specs.inner.Quotes.{AreTerms}
-use Rattle.buck_dp.proofs.KeptLemmas.{terms_new}
+use Rattle.buck_dp.proofs.KeptLemmas.{put_behind}
 use Rattle.buck_dp.proofs.keeping.make_terms.Goals as goal
 
 pub put_terms-requires-clause-band : goal.put_terms-requires-clause-band
@@ -36,6 +36,5 @@ returns-clause-terms c =
     (c.deref.ensures ∙ c.instruction.ensures.instruction) new.2)) in
     let from : ℕ = length c.as_slice-from.result.now in
     let past : ℕ = length c.as_slice-2.result.now in
-    subst (λ (xs : List (Option Term)). AreTermsAt i m xs key (record { from = from; past = past })) (sym new.1)
-    (terms_new i m old new.0 key from past (ap (λ (xs : List (Option Term)). length xs) c.as_slice-from.ensures.value)
-    (ap (λ (xs : List (Option Term)). length xs) (c.as_slice-2.ensures.value ∙ new.1)) are)
+    put_behind (TermsOf i m) old new.0 c.put_terms.new.terms.items key from past new.1 (ap (λ (xs : List (Option Term)). length xs) c.as_slice-from.ensures.value)
+    (ap (λ (xs : List (Option Term)). length xs) c.as_slice-2.ensures.value) are

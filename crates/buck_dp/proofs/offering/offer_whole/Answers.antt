@@ -9,8 +9,8 @@ loop-cell-preserved c =
     let there = slice_get-get_or c.args.row.now c.loop-cell.cell-index c.cell-item.result (omega arith)
     ∙ ap Some (sym c.cell-item.is) in
     let near = c.requires.near c.loop-cell.cell-index c.cell-item.result there in
-    offered_more c.args.row.now c.args.top c.args.first c.args.top c.loop-cell.cell-index (omega arith) c.args.values.now c.loop-cell.values
-    c.requires.fit c.loop-cell.invariant c.cell-item.result c.offer_near.new.values there o.number
+    offered_more c.args.row.now c.args.top c.args.starts.first c.args.starts.stop c.loop-cell.cell-index c.requires.order.1 c.args.values.now
+    c.loop-cell.values c.requires.fit c.loop-cell.invariant c.cell-item.result c.offer_near.new.values there o.number
     (λ i which. elim which [
       | inl other ↦ o.others i other
       | inr out ↦ o.others i (λ e. elim out [ inl far ↦ omega (arith, near.0) | inr past ↦ omega (arith, near.1) ])

@@ -8,7 +8,7 @@ use Rattle.buck_dp.specs.Best.{IsFirstBest, cutting_worth}
 use Rattle.buck_dp.proofs.Lists.{worth_bounded}
 use Rattle.buck_dp.proofs.Walk.{top_is_first_best}
 use Rattle.buck_dp.specs.inner.Searched.{AreSearched}
-use Rattle.buck_dp.proofs.FoundLemmas.{found_worth}
+use Rattle.buck_dp.proofs.Values.{walk_worth}
 use Rattle.buck_dp.proofs.planner.cut_wanted.Goals as goal
 
 -- the stem of a profile is sound
@@ -40,10 +40,8 @@ returns-clause-worth c =
     (subst (λ (n : ℕ). AreSearched s.ground s.values s.choices n s.stop) w.0 r.searched) in
     let was : AreSearched p s.values s.choices 0 0 =
     subst (λ g. AreSearched g s.values s.choices 0 0) c.in_ok-search.ensures.ground start in
-    let stem : IsStem c.args.stem.now =
-    sound c.in_ok-profile.profile _ c.args.stem.now _ c.in_ok-profile.ensures c.profile.view_is c.profile.invariant.valid in
     c.worth.ensures
-    ∙ found_worth p c.instruction.ensures.valid s.values s.choices was c.in_ok-logs.logs.items stem c.requires.ready.offers.offers.codes c.in_ok-logs.ensures
+    ∙ walk_worth p c.instruction.ensures.valid c.requires.ready.offers.offers.codes s.values s.choices was c.in_ok-logs.logs.items c.in_ok-logs.ensures
 
 pub returns-clause-high : goal.returns-clause-high
 returns-clause-high c =

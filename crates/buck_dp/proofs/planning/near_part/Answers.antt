@@ -11,5 +11,5 @@ returns-clause-all c t from i e bid lt log =
     let x = c.args.site in
     let menu = c.requires.site.menu in
     let reached = point_reached x c.requires.site t log.within in
-    too_long (ground_of x) x.market.menu.now.most_steps i t e bid c.requires.site.valid menu.offers.codes menu.long
+    too_long (ground_of x) x.market.menu.now.most_steps i t e bid c.requires.site.valid menu.long
     (omega (arith, from, lt, c.max.ensures, c.saturating_add-whole.ensures, reached.1)) log

@@ -1,4 +1,4 @@
-use Rattle.std.proofs.Common.{◌≡◌, ◌+◌, ◌-◌, ◌*◌, ◌≤◌, ◌⊎◌, inl, inr, ℕ, List, slice_index, sym, subst, ap, arith}
+use Rattle.std.proofs.Common.{◌≡◌, ◌+◌, ◌-◌, ◌*◌, ◌≤◌, ◌⊎◌, inl, inr, ℕ, List, slice_get, slice_index, Some, sym, subst, ap, arith}
 use Rattle.std.proofs.lemmas.Bool.{cases_lt}
 use Rattle.buck_stem.specs.Stem.{stem_length}
 use Rattle.buck_bid.specs.Offers.{codes_in}
@@ -39,5 +39,14 @@ offer_part-requires-clause-part c =
     (part_offered x c.requires.site ds t first stop takers reach c.as_slice.result.now
     (known_of x.profile.now x.stem.now s.instruction.«module» ds c.requires.site.profile c.diameters-diameters.ensures.right)
     (omega (arith, below, c.from-top.ensures.value, c.stop-stop.ensures.value))
-    (omega (arith, below, c.from-top.ensures.value, c.requires.order)) c.requires.takers
+    (λ i e bid low log. omega (arith, below, c.from-top.ensures.value, c.requires.order)) c.requires.takers
     (omega (arith, c.min.ensures, c.left_behind-left.ensures, at, reached.0)) room cells)
+
+pub offer_part-requires-clause-late : goal.offer_part-requires-clause-late
+offer_part-requires-clause-late c k cell at =
+    let n = (c.in_ok-draw.ensures.row.real k cell (subst (λ (cs : List Cell). slice_get cs k ≡ Some cell) c.as_slice.ensures.value at)).near in
+    omega (arith, n.0, c.from-top.ensures.right.below, c.from-top.ensures.value, c.stop-stop.ensures.value)
+
+pub offer_part-requires-clause-few : goal.offer_part-requires-clause-few
+offer_part-requires-clause-few c k cell at =
+    (c.in_ok-draw.ensures.row.real k cell (subst (λ (cs : List Cell). slice_get cs k ≡ Some cell) c.as_slice.ensures.value at)).near.1

@@ -36,7 +36,7 @@ close_top-requires-2 c =
     let t : ℕ = c.loop-alloc.search.from in
     record {
       none = λ i e bid lt log.
-          too_long p c.args.site.market.menu.now.most_steps i t e bid c.requires.site.valid menu.offers.codes menu.long
+          too_long p c.args.site.market.menu.now.most_steps i t e bid c.requires.site.valid menu.long
           (omega (arith, lt, now.from, c.loop-alloc-test.false, c.saturating_sub-low.ensures, c.stop.ensures.value))
           (subst (λ (g : GroundParts). IsLogAt g i t e bid) now.ground log);
     }

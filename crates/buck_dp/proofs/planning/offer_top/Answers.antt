@@ -12,7 +12,7 @@ close_top-requires c =
     let t : ℕ = c.args.search.now.from in
     record {
       none = λ i e bid lt log.
-          too_short p c.args.site.market.menu.now.least_steps i t e bid c.requires.site.valid menu.offers.codes menu.short
+          too_short p c.args.site.market.menu.now.least_steps i t e bid c.requires.site.valid menu.short
           (omega (arith, c.if-top-site.true, c.from-top.ensures.value))
           (subst (λ (g : GroundParts). IsLogAt g i t e bid) c.requires.ground log);
     }

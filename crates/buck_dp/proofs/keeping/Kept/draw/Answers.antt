@@ -12,7 +12,7 @@ use Rattle.buck_dp.proofs.keeping.Kept.draw.Goals as goal
 
 pub put_row-requires-clause-small : goal.put_row-requires-clause-small
 put_row-requires-clause-small c k q at =
-    (c.in_ok-list.ensures.list.right.real k q
+    (c.in_ok-list.ensures.list.1.real k q
     (subst (λ (xs : List Quote). slice_get (part_of xs c.in_ok-list.list) k ≡ Some q) c.deref.ensures.value at)).small
 
 pub returns-clause-row : goal.returns-clause-row
@@ -30,4 +30,4 @@ returns-clause-row c =
     (sym (row.1 ∙ ap (λ (xs : List Cell). xs ++ row.0) c.clear.ensures.items))
     (row_cells s (codes_in m.offers.items) (ask_of m key) (length m.offers.items) d reach quotes row.0 c.requires.valid
     (c.band_of-band.ensures.from, c.band_of-band.ensures.past)
-    (λ steps trim bid b. rank_offered s m.offers.items c.args.group.takers d steps trim bid b) c.in_ok-list.ensures.list.right drawn)
+    (λ steps trim bid b. rank_offered s m.offers.items c.args.group.takers d steps trim bid b) c.in_ok-list.ensures.list.1 drawn)
