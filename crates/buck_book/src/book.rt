@@ -332,8 +332,7 @@ impl<F: Drop> Book<F> {
             cutting: stored_cutting,
             next,
         } = ready;
-        self.running
-            .after_cut(plan.sheet(), plan.stem(), plan.cutting().logs.as_slice());
+        self.running.after_plan(&plan);
         let (stem, cutting, worth) = plan.into_parts();
         let entry = Entry {
             harvester,
@@ -457,7 +456,7 @@ impl<F: Fn(&Standing) -> u64> Book<F> {
             IsPassed self.now.history (Posting.Cut (entry_of self.now.history harvester plan.now)) n) }
     {
         let mut after = self.running.clone(alloc)?;
-        after.after_cut(plan.sheet(), plan.stem(), plan.cutting().logs.as_slice());
+        after.after_plan(plan);
         Ok(after)
     }
 
