@@ -327,22 +327,14 @@ impl<F: Drop> Book<F> {
     {
         let number = self.calls(harvester) + 1;
         let version = self.version();
+        self.running.after_plan(&plan);
+        let entry = plan.into_entry(harvester, number, version);
         let Ready {
-            stem: stored_stem,
-            cutting: stored_cutting,
+            stem,
+            cutting,
             next,
         } = ready;
-        self.running.after_plan(&plan);
-        let (stem, cutting, worth) = plan.into_parts();
-        let entry = Entry {
-            harvester,
-            number,
-            stem,
-            version,
-            cutting,
-            worth,
-        };
-        let stored = Posting::Cut(entry.sharing(stored_stem, stored_cutting));
+        let stored = Posting::Cut(entry.sharing(stem, cutting));
         add(
             &mut self.calls,
             &mut self.postings,
