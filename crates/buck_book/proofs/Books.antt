@@ -192,9 +192,6 @@ pub prices_added : {X : Type 0} (val : X → SheetParts) (xs ys : List X) (next 
 prices_added val xs ys None is = ap (map (λ a. (val a).prices)) (is ∙ append-nil xs)
 prices_added val xs ys (Some x) is = ap (map (λ a. (val a).prices)) is ∙ map-append (λ a. (val a).prices) xs (x ∷ [])
 
-pub entry_same : (a b : EntryParts) → a.harvester ≡ b.harvester → a.number ≡ b.number → a.stem ≡ b.stem → a.version ≡ b.version → a.logs ≡ b.logs → a.worth ≡ b.worth → a ≡ b
-entry_same a b h n s v l w = λ j. record { harvester = h j; number = n j; stem = s j; version = v j; logs = l j; worth = w j }
-
 pub demand_same : (a b : DemandParts) → a.harvester ≡ b.harvester → a.number ≡ b.number → a.version ≡ b.version → a.targets ≡ b.targets → a ≡ b
 demand_same a b h n v t = λ j. record { harvester = h j; number = n j; version = v j; targets = t j }
 

@@ -19,28 +19,22 @@ use Rattle.buck_book.specs.Targets.{AreTargets}
 use Rattle.buck_book.specs.inner.Pricing.{CanPrice}
 use Rattle.buck_book.proofs.Cuts.{tallied, class_logs-le}
 
+zeros : (n k : ℕ) → get_or (replicate {A = ℕ} n 0) k 0 ≡ 0
+zeros n k = elim (cases_lt k n) [
+  | inl lt ↦ get_or-replicate {A = ℕ} n k 0 0 lt
+  | inr ge ↦ get_or_past (replicate {A = ℕ} n 0) k 0 (omega (arith, length-replicate {A = ℕ} n 0))
+]
+
 -- all counts are 0 before the first entry
 pub none_counted : (i : InstructionParts) (n m : ℕ) → n ≡ classes i → m ≡ length i.assortments → AreCounts i [] (replicate {A = ℕ} n 0) (replicate {A = ℕ} m 0)
 none_counted i n m e f = record {
-  classes = record { one_each = length-replicate {A = ℕ} n 0 ∙ e; each = λ c k. all_zero n (index_of i c) };
+  classes = record { one_each = length-replicate {A = ℕ} n 0 ∙ e; each = λ c k. zeros n (index_of i c) };
   assortments_number = length-replicate {A = ℕ} m 0 ∙ f;
-  assortment_counts = λ a lt. all_zero m a;
+  assortment_counts = λ a lt. zeros m a;
 }
-  where
-    all_zero : (n k : ℕ) → get_or (replicate {A = ℕ} n 0) k 0 ≡ 0
-    all_zero n k = elim (cases_lt k n) [
-      | inl lt ↦ get_or-replicate {A = ℕ} n k 0 0 lt
-      | inr ge ↦ get_or_past (replicate {A = ℕ} n 0) k 0 (omega (arith, length-replicate {A = ℕ} n 0))
-    ]
 
 pub none_low : (n m : ℕ) → AreAtMost 0 (replicate {A = ℕ} n 0) (replicate {A = ℕ} m 0)
-none_low n m = record { class_counts = λ k. zero_low n k; assortment_counts = λ k. zero_low m k }
-  where
-    zero_low : (n k : ℕ) → get_or (replicate {A = ℕ} n 0) k 0 ≤ 0
-    zero_low n k = elim (cases_lt k n) [
-      | inl lt ↦ omega (arith, get_or-replicate {A = ℕ} n k 0 0 lt)
-      | inr ge ↦ omega (arith, get_or_past (replicate {A = ℕ} n 0) k 0 (omega (arith, length-replicate {A = ℕ} n 0)))
-    ]
+none_low n m = record { class_counts = λ k. omega (arith, zeros n k); assortment_counts = λ k. omega (arith, zeros m k) }
 
 -- the counts after one cut more
 pub counts_more : (i : InstructionParts) (ps : List Posting) (e : EntryParts) (by_class by_assortment places by_class' by_assortment' : List ℕ)
@@ -140,7 +134,7 @@ calls_more ps x calls h number are is pos most next = record {
 
 -- before the first entry nobody has called
 pub no_calls : AreCalls [] (replicate {A = ℕ} 64 0)
-no_calls = record { number = length-replicate {A = ℕ} 64 0; each = λ k lt. get_or-replicate {A = ℕ} 64 k 0 0 lt }
+no_calls = record { number = length-replicate {A = ℕ} 64 0; each = λ k lt. zeros 64 k }
 
 pub calls-le : (h : ℕ) (ps : List Posting) → calls_of h ps ≤ length ps
 calls-le h ps = count_by-le-length (λ x. harvester_of x == h) ps

@@ -1,7 +1,7 @@
 -- Ends, and the targets in force, of longer and of shorter lists of postings.
-use Rattle.std.proofs.Common.{◌≡◌, ◌≢◌, ℕ, zero, suc, ◌+◌, ◌<◌, ◌≤◌, true, false, cond, inl, inr, List, [], ◌∷◌, ◌++◌, length, take, drop, slice_get, Some, refl, sym, ◌∙◌, ap, arith, eq-eqb}
+use Rattle.std.proofs.Common.{◌≡◌, ◌≢◌, ℕ, ◌+◌, ◌<◌, ◌≤◌, true, false, cond, inl, inr, List, [], ◌∷◌, ◌++◌, length, take, drop, slice_get, Some, refl, sym, ◌∙◌, ap, arith, eq-eqb}
 use Rattle.std.proofs.lemmas.Bool.{cases_Bool, false_from_ne_true}
-use Rattle.std.proofs.lemmas.List.{take_more}
+use Rattle.std.proofs.lemmas.List.{take-append-drop, take_more}
 use Rattle.std.proofs.lemmas.Option.{slice_get_within, get_or_from_slice_get}
 use Rattle.buck_apt.specs.Instruction.{InstructionParts}
 use Rattle.buck_book.specs.declared.posting.Posting.{Posting}
@@ -12,11 +12,6 @@ use Rattle.buck_book.specs.History.{IsEnd}
 
 pub true_false : true ≡ false → ⊥
 true_false e = absurd (cc)
-
-pub take_then_drop : {X : Type 0} (k : ℕ) (xs : List X) → take k xs ++ drop k xs ≡ xs
-take_then_drop zero xs = refl
-take_then_drop (suc k) [] = refl
-take_then_drop (suc k) (x ∷ xs) = ap (λ ys. x ∷ ys) (take_then_drop k xs)
 
 -- the first postings and the next one
 pub take_one_more : {X : Type 0} (xs : List X) (k : ℕ) (x : X) → slice_get xs k ≡ Some x → take (k + 1) xs ≡ take k xs ++ x ∷ []
@@ -84,7 +79,7 @@ module _ (i : InstructionParts) (before after : List Posting) (d : DemandParts) 
 
 -- fewer postings have no more ends
 pub ends_take-le : (i : InstructionParts) (ps : List Posting) (k : ℕ) → ends_of i (take k ps) ≤ ends_of i ps
-ends_take-le i ps k = omega (arith, ends-append i.period 0 (take k ps) (drop k ps), ap (λ xs. ends_of i xs) (take_then_drop k ps))
+ends_take-le i ps k = omega (arith, ends-append i.period 0 (take k ps) (drop k ps), ap (λ xs. ends_of i xs) (take-append-drop k ps))
 
 -- an end within some postings is counted
 pub ends_past : (i : InstructionParts) (ps : List Posting) (k : ℕ) (x : Posting) → slice_get ps k ≡ Some x → IsEnd i (take k ps) x → ends_of i (take k ps) + 1 ≤ ends_of i ps

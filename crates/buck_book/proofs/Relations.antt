@@ -32,10 +32,6 @@ met_more s prices c n k place met below = λ d l lt. elim (cases_lt (index_of s.
         subst (λ q. Meets (standing_by s l.assortment c) (slice_index prices q)) (sym place)
         (subst (λ a. Meets (standing_by s a c) (slice_index prices n)) (one_assortment s.instruction c k l) met))
 
--- no class has a place below 0
-pub met_none : (s : StandingsParts) (prices : List ℕ) → AreMetBelow s prices 0
-met_none s prices = λ c k lt. absurd (omega arith)
-
 module _ (i : InstructionParts) (targets by_class by_assortment : List ℕ) (ps : List Posting) (prices : List ℕ)
     (wanted : targets ≡ targets_of i ps) (counts : AreCounts i ps by_class by_assortment) where
   -- by running counts that are right, the prices of all classes keep the relation after the postings

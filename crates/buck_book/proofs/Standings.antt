@@ -124,11 +124,6 @@ meets_low s price r m =
 abbrev pub class_in : (i : InstructionParts) (a : AssortmentParts) (c : Class) → IsClassOf i a c → IsClass i c
 class_in i a c k = record { assortment = a; exists = k.exists; row = k.row; column = k.column }
 
--- the first class of a row
-pub first_of_row : (i : InstructionParts) (a : AssortmentParts) (at row : ℕ) → IsAssortment a → slice_get i.assortments at ≡ Some a → row < length a.diameters
-    → IsClassOf i a (record { assortment = at; row = row; column = 0 })
-first_of_row i a at row v exists in_row = record { exists = exists; row = in_row; column = v.columns.0 }
-
 -- the classes before the next assortment are those before this one, and its own
 pub before_next : (i : InstructionParts) (a : AssortmentParts) (at : ℕ) → slice_get i.assortments at ≡ Some a
     → classes_before i (at + 1) ≡ classes_before i at + length a.diameters * length a.lengths

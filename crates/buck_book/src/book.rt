@@ -327,23 +327,14 @@ impl<F: Drop> Book<F> {
     {
         let number = self.calls(harvester) + 1;
         let version = self.version();
+        self.running.after_plan(&plan);
+        let entry = plan.into_entry(harvester, number, version);
         let Ready {
-            stem: stored_stem,
-            cutting: stored_cutting,
+            stem,
+            cutting,
             next,
         } = ready;
-        self.running
-            .after_cut(plan.sheet(), plan.stem(), plan.cutting().logs.as_slice());
-        let (stem, cutting, worth) = plan.into_parts();
-        let entry = Entry {
-            harvester,
-            number,
-            stem,
-            version,
-            cutting,
-            worth,
-        };
-        let stored = Posting::Cut(entry.sharing(stored_stem, stored_cutting));
+        let stored = Posting::Cut(entry.sharing(stem, cutting));
         add(
             &mut self.calls,
             &mut self.postings,
@@ -457,7 +448,7 @@ impl<F: Fn(&Standing) -> u64> Book<F> {
             IsPassed self.now.history (Posting.Cut (entry_of self.now.history harvester plan.now)) n) }
     {
         let mut after = self.running.clone(alloc)?;
-        after.after_cut(plan.sheet(), plan.stem(), plan.cutting().logs.as_slice());
+        after.after_plan(plan);
         Ok(after)
     }
 

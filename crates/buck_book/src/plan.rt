@@ -2,6 +2,7 @@
 ghost use Rattle.std.specs.Prelude.{◌≡◌, IfOk};
 ghost use Rattle.buck_book.specs.Plan.{IsPlan};
 
+use crate::entry::Entry;
 use buck_dp::{Cutting, Planner};
 use buck_record::Memory;
 use buck_stem::Stem;
@@ -90,11 +91,16 @@ impl Plan {
         self.worth
     }
 
-    /// The stem, the cutting and the worth; the sheet is let go.
-    pub(crate) fn into_parts(self) -> (Arc<Stem>, Arc<Cutting>, u64)
-        ensures stem { result.0.value ≡ self.stem }
-        ensures logs { result.1.value.logs.items ≡ self.logs }
-        ensures worth { result.2 ≡ self.worth }
+    /// The entry of this plan in a history; the sheet is let go.
+    pub(crate) fn into_entry(self, harvester: u32, number: u32, version: u32) -> Entry
+        ensures entry { result ≡ record {
+          harvester = harvester;
+          number = number;
+          stem = self.stem;
+          version = version;
+          logs = self.logs;
+          worth = self.worth;
+        } }
         ensures best { IsPlan self }
     {
         let Plan {
@@ -103,6 +109,13 @@ impl Plan {
             cutting,
             worth,
         } = self;
-        (stem, cutting, worth)
+        Entry {
+            harvester,
+            number,
+            stem,
+            version,
+            cutting,
+            worth,
+        }
     }
 }

@@ -10,6 +10,7 @@ ghost use Rattle.buck_book.specs.Walk.{IsCountable};
 ghost use Rattle.buck_book.specs.inner.Running.{Tells, GoesOn, IsAfter};
 
 use crate::counts::Counts;
+use crate::plan::Plan;
 use crate::posting::Posting;
 use buck_apt::Instruction;
 use buck_record::Memory;
@@ -159,6 +160,15 @@ impl Running {
         self.counts.add(sheet, stem, logs);
         self.version = version_then(self.version, self.cuts, period);
         self.cuts = cuts_then(self.cuts, period);
+    }
+
+    /// Adds the cut of a plan.
+    pub fn after_plan(&mut self, plan: &Plan)
+        requires { GoesOn plan.now.sheet.instruction self.old }
+        ensures { (e : EntryParts) → e.stem ≡ plan.now.stem → e.logs ≡ plan.now.logs
+            → IsAfter plan.now.sheet.instruction self.old (Posting.Cut e) self.new }
+    {
+        self.after_cut(plan.sheet(), plan.stem(), plan.cutting().logs.as_slice());
     }
 
     /// Adds a demand of these targets.

@@ -1,6 +1,5 @@
 -- what a commit under the lock tells the seat's caller
 use Rattle.std.proofs.Common.{◌≡◌, ℕ, ◌+◌, ◌≤◌, List, [], ◌∷◌, ◌++◌, refl, sym, ap, subst, ◌∙◌, arith}
-use Rattle.buck_stem.specs.Stem.{StemParts}
 use Rattle.buck_value.specs.Sheet.{SheetParts}
 use Rattle.buck_book.specs.declared.posting.Posting.{Posting}
 use Rattle.buck_book.specs.declared.posting.Posting.TheVariants.{Demand}
@@ -10,11 +9,10 @@ use Rattle.buck_book.specs.Plan.{PlanParts, IsPlan, plan_of}
 use Rattle.buck_book.specs.History.{HistoryParts, version_of}
 use Rattle.buck_book.specs.Book.{BookParts}
 use Rattle.buck_book.proofs.Ends.{ends-append, ends_with_end}
-use Rattle.buck_fleet.specs.declared.seat.Kept.{Kept}
 use Rattle.buck_fleet.specs.declared.seat.Reply.{Reply}
 use Rattle.buck_fleet.specs.declared.seat.DemandReply.{DemandReply}
-use Rattle.buck_fleet.specs.Seat.{SeatParts, KeepsNothing, seen_of}
-use Rattle.buck_fleet.specs.Reply.{IsReplyFor, IsOfPlan, IsReplyToTargets, kept_of}
+use Rattle.buck_fleet.specs.Seat.{SeatParts}
+use Rattle.buck_fleet.specs.Reply.{IsReplyFor, IsOfPlan, IsReplyToTargets}
 use Rattle.buck_fleet.specs.inner.Desk.{IsReplyAt, IsDemandReplyAt}
 
 -- the version in force never falls
@@ -56,34 +54,4 @@ reply_to before after s s' targets r at = record {
   own_harvester = ap (λ (d : DemandParts). d.harvester) at.demand_is;
   same_targets = ap (λ (d : DemandParts). d.targets) at.demand_is;
   seen = omega (arith, ap (λ (d : DemandParts). d.version) at.demand_is, next before.history after.history _ at.postings_are at.kept.same_instruction, at.kept.seen);
-}
-
-pub same_seat : (s s' : SeatParts) → s' ≡ s → KeepsNothing s s'
-same_seat s s' is = record {
-  same_harvester = ap (λ (x : SeatParts). x.harvester) is;
-  kept_are = ap (λ (x : SeatParts). x.kept) is;
-  same_parts = ap (λ (x : SeatParts). x.parts) is;
-  seen_rises = omega (arith, ap seen_of is);
-}
-
-pub still_nothing : (a b c : SeatParts) → KeepsNothing a b → KeepsNothing b c → KeepsNothing a c
-still_nothing a b c k l = record {
-  same_harvester = l.same_harvester ∙ k.same_harvester;
-  kept_are = l.kept_are ∙ k.kept_are;
-  same_parts = l.same_parts ∙ k.same_parts;
-  seen_rises = omega (arith, k.seen_rises, l.seen_rises);
-}
-
-pub reply_after : (a b c : SeatParts) (stem : StemParts) (r : Reply) → KeepsNothing a b → IsReplyFor b c stem r → IsReplyFor a c stem r
-reply_after a b c stem r k reply = record {
-  kept = record {
-    same_harvester = reply.kept.same_harvester ∙ k.same_harvester;
-    kept_are = reply.kept.kept_are ∙ ap (λ (l : List Kept). l ++ kept_of r ∷ []) k.kept_are;
-    same_parts = reply.kept.same_parts ∙ k.same_parts;
-    seen_rises = omega (arith, k.seen_rises, reply.kept.seen_rises);
-  };
-  own_harvester = reply.own_harvester ∙ k.same_harvester;
-  same_stem = reply.same_stem;
-  first_best = reply.first_best;
-  seen = reply.seen;
 }

@@ -1,6 +1,7 @@
 -- seats of a new fleet, one by one
-use Rattle.std.proofs.Common.{◌≡◌, ℕ, zero, suc, ◌+◌, ◌<◌, ◌⊎◌, inl, inr, List, [], ◌∷◌, ◌++◌, length, get_or, refl, sym, ap, subst, ◌∙◌, arith, length-append}
+use Rattle.std.proofs.Common.{◌≡◌, ℕ, ◌+◌, ◌<◌, ◌⊎◌, inl, inr, List, [], ◌∷◌, ◌++◌, length, get_or, refl, sym, ap, subst, ◌∙◌, arith}
 use Rattle.std.specs.Prelude.{All, None}
+use Rattle.std.proofs.lemmas.List.{get_or_append_left, get_or_push, length_push}
 use Rattle.std.proofs.lemmas.List.Sums.{sum_by-append}
 use Rattle.buck_board.specs.declared.board.Board.{Board}
 use Rattle.buck_board.specs.declared.seat.BoardSeat.{BoardSeat}
@@ -8,25 +9,13 @@ use Rattle.buck_board.specs.Board.{IsSeatOf, seen_by}
 use Rattle.buck_fleet.specs.Seat.{SeatParts}
 use Rattle.buck_fleet.specs.Crew.{parts_of, IsNew}
 
-get_left : {A : Type 0} (xs ys : List A) (k : ℕ) (d : A) → k < length xs → get_or (xs ++ ys) k d ≡ get_or xs k d
-get_left [] ys k d lt = absurd (omega arith)
-get_left (x ∷ xs) ys zero d lt = refl
-get_left (x ∷ xs) ys (suc k) d lt = get_left xs ys k d (omega arith)
-
-get_last : {A : Type 0} (xs : List A) (y d : A) → get_or (xs ++ y ∷ []) (length xs) d ≡ y
-get_last [] y d = refl
-get_last (x ∷ xs) y d = get_last xs y d
-
-long : {A : Type 0} (xs : List A) (y : A) → length (xs ++ y ∷ []) ≡ length xs + 1
-long xs y = length-append xs (y ∷ [])
-
 -- what is true of all is true of the last one and of the others
 pub all_but_last : {A : Type 0} (P : A → Type 0) (all rest : List A) (x : A) → all ≡ rest ++ x ∷ [] → All P all → All P rest × P x
 all_but_last P all rest x is p =
     let p' : All P (rest ++ x ∷ []) = subst (λ (l : List _). All P l) is p in
-    let n = long rest x in (
-      λ k d lt. subst P (get_left rest (x ∷ []) k d lt) (p' k d (omega arith)),
-      subst P (get_last rest x x) (p' (length rest) x (omega arith)),
+    let n = length_push rest x in (
+      λ k d lt. subst P (get_or_append_left rest (x ∷ []) d k lt) (p' k d (omega arith)),
+      subst P (get_or_push rest x x (length rest) refl) (p' (length rest) x (omega arith)),
     )
 
 -- all seats so far are new ones
@@ -38,10 +27,10 @@ is_new b n s h p parts e eh of unseen = subst (IsNew b n) (sym e) (record { harv
 
 pub one_more_new : (b : Board) (seats after : List SeatParts) (s : SeatParts) → after ≡ seats ++ s ∷ [] → AreNew b seats → IsNew b (length seats) s → AreNew b after
 one_more_new b seats after s is new one = subst (AreNew b) (sym is) (λ i d lt. (
-    let n = long seats s in
+    let n = length_push seats s in
     elim (split i (length seats) (omega arith)) [
-      | inl less ↦ subst (IsNew b i) (sym (get_left seats (s ∷ []) i d less)) (new i d less)
-      | inr same ↦ subst (λ (k : ℕ). IsNew b k (get_or (seats ++ s ∷ []) k d)) (sym same) (subst (IsNew b (length seats)) (sym (get_last seats s d)) one)
+      | inl less ↦ subst (IsNew b i) (sym (get_or_append_left seats (s ∷ []) d i less)) (new i d less)
+      | inr same ↦ subst (λ (k : ℕ). IsNew b k (get_or (seats ++ s ∷ []) k d)) (sym same) (subst (IsNew b (length seats)) (sym (get_or_push seats s d (length seats) refl)) one)
     ])) where
       split : (i n : ℕ) → i < n + 1 → (i < n) ⊎ (i ≡ n)
       split i n lt = grind arith
@@ -50,4 +39,4 @@ pub one_more_parts : (seats after : List SeatParts) (s : SeatParts) → after �
 one_more_parts seats after s is = ap parts_of is ∙ sum_by-append (λ (x : SeatParts). x.parts) seats (s ∷ []) ∙ (omega arith)
 
 pub one_more_long : (seats after : List SeatParts) (s : SeatParts) → after ≡ seats ++ s ∷ [] → length after ≡ length seats + 1
-one_more_long seats after s is = ap (λ (l : List SeatParts). length l) is ∙ long seats s
+one_more_long seats after s is = ap (λ (l : List SeatParts). length l) is ∙ length_push seats s

@@ -32,26 +32,16 @@ one_more p n seats s lt is ps before k d small =
           subst p (is ∙ get_or_default seats n s d lt ∙ ap (λ i. get_or seats i d) (sym same)) ps
     ]
 
-pub goes_on : (n : ℕ) (seats : List SeatParts) (s : SeatParts) (lowest : ℕ) (first : Option RunFault) → n < length seats → s ≡ get_or seats n s → s.stopped ≡ None → IsStopSoFar n seats lowest first → IsStopSoFar (n + 1) seats lowest first
-goes_on n seats s lowest None lt is none so_far = (so_far.0, one_more (λ x. x.stopped ≡ None) n seats s lt is none so_far.1)
-goes_on n seats s lowest (Some fault) lt is none so_far = record {
+-- one seat more, whose harvester isn't stopped or isn't lower
+pub stays : (n : ℕ) (seats : List SeatParts) (s : SeatParts) (lowest : ℕ) (first : Option RunFault) → n < length seats → s ≡ get_or seats n s → s.harvester ≤ 64 → (s.harvester < lowest → s.stopped ≡ None) → IsStopSoFar n seats lowest first → IsStopSoFar (n + 1) seats lowest first
+stays n seats s lowest None lt is small none so_far = (so_far.0, one_more (λ x. x.stopped ≡ None) n seats s lt is (none (omega (arith, small, so_far.0))) so_far.1)
+stays n seats s lowest (Some fault) lt is small none so_far = record {
   place = so_far.place;
   seat = so_far.seat;
   is_there = so_far.is_there;
   own_harvester = so_far.own_harvester;
   stopped = so_far.stopped;
-  lowest = one_more (λ x. x.harvester < lowest → x.stopped ≡ None) n seats s lt is (λ _. none) so_far.lowest;
-}
-
-pub higher : (n : ℕ) (seats : List SeatParts) (s : SeatParts) (lowest : ℕ) (first : Option RunFault) → n < length seats → s ≡ get_or seats n s → s.harvester ≤ 64 → lowest ≤ s.harvester → IsStopSoFar n seats lowest first → IsStopSoFar (n + 1) seats lowest first
-higher n seats s lowest None lt is small above so_far = absurd (omega (arith, small, above, so_far.0))
-higher n seats s lowest (Some fault) lt is small above so_far = record {
-  place = so_far.place;
-  seat = so_far.seat;
-  is_there = so_far.is_there;
-  own_harvester = so_far.own_harvester;
-  stopped = so_far.stopped;
-  lowest = one_more (λ x. x.harvester < lowest → x.stopped ≡ None) n seats s lt is (λ below. absurd (omega (arith, below, above))) so_far.lowest;
+  lowest = one_more (λ x. x.harvester < lowest → x.stopped ≡ None) n seats s lt is none so_far.lowest;
 }
 
 none_below : (n : ℕ) (seats : List SeatParts) (lowest harvester : ℕ) (first : Option RunFault) → harvester < lowest → IsStopSoFar n seats lowest first → AllBefore (λ x. x.harvester < harvester → x.stopped ≡ None) n seats

@@ -11,8 +11,10 @@ use crate::seat::{DemandReply, Kept, Path, Reply, Seat};
 use buck_board::Board;
 use buck_book::{Book, Demand, DemandRefusal, Entry, Plan, Posting, Ready, ReadyDemand, Refusal};
 use buck_dp::Cutting;
+use buck_record::Memory;
 use buck_rule::Standing;
 use buck_stem::Stem;
+use buck_value::Sheet;
 use std::alloc::Global;
 use std::sync::ledger::{Ledger, Share};
 use std::sync::{Arc, Wait, ledger};
@@ -36,6 +38,19 @@ struct ReadyCut {
     cutting: Arc<Cutting>,
 }
 
+/// Puts a next sheet up, where there is one.
+fn put_up<R: Wait>(
+    rt: &R,
+    alloc: Global,
+    board: &Board,
+    next: Option<&Arc<Sheet>>,
+) -> Result<(), Memory> {
+    match next {
+        Some(sheet) => board.put_up(rt, alloc, sheet.clone()?),
+        None => Ok(()),
+    }
+}
+
 /// Prepares the commit of a plan, and puts the next sheet up, where it ends a period.
 fn prepare_plan<R: Wait, F: Fn(&Standing) -> u64 + Drop>(
     rt: &R,
@@ -51,9 +66,7 @@ fn prepare_plan<R: Wait, F: Fn(&Standing) -> u64 + Drop>(
 {
     // Try, of a plan that is outdated: nothing is added.
     let ready = book.prepare(alloc, plan)?;
-    if let Some(sheet) = ready.next_sheet() {
-        board.put_up(rt, alloc, sheet.clone()?)?;
-    }
+    put_up(rt, alloc, board, ready.next_sheet())?;
     Ok(ready)
 }
 
@@ -87,8 +100,26 @@ fn prepare_cut<R: Wait, F: Fn(&Standing) -> u64 + Drop>(
     })
 }
 
-/// Makes all that the commit of new targets needs, the room in the seat's kept list first, and puts the next sheet up.
-/// The second targets are what the seat keeps.
+/// Prepares the commit of new targets, and puts the next sheet up.
+fn prepare_demand<R: Wait, F: Fn(&Standing) -> u64 + Drop>(
+    rt: &R,
+    alloc: Global,
+    book: &mut Book<F>,
+    board: &Board,
+    targets: &Arc<Vec<u32>>,
+) -> Result<ReadyDemand, DemandRefusal>
+    requires { AllAnswer F.Fn }
+    ensures history { book.new.history ≡ book.old.history }
+    ensures ready { IfOk result (IsReadyDemand book.new) }
+    ensures targets { IfOk result (λ r. r.targets ≡ targets.now.value.items) }
+{
+    let ready = book.prepare_demand(alloc, targets)?;
+    put_up(rt, alloc, board, Some(ready.next_sheet()))?;
+    Ok(ready)
+}
+
+/// Makes all that the commit of new targets needs, the room in the seat's kept list first. The second targets are what
+/// the seat keeps.
 fn prepare_targets<R: Wait, F: Fn(&Standing) -> u64 + Drop>(
     rt: &R,
     alloc: Global,
@@ -107,8 +138,7 @@ fn prepare_targets<R: Wait, F: Fn(&Standing) -> u64 + Drop>(
 {
     kept.reserve(1)?;
     let copy = targets.clone()?;
-    let ready = book.prepare_demand(alloc, targets)?;
-    board.put_up(rt, alloc, ready.next_sheet().clone()?)?;
+    let ready = prepare_demand(rt, alloc, book, board, targets)?;
     Ok((ready, copy))
 }
 

@@ -1,35 +1,27 @@
-use Rattle.std.proofs.Common.{◌+◌, refl, sym, ◌∙◌, ap}
+use Rattle.std.proofs.Common.{◌+◌, sym, ◌∙◌, ap}
 use Rattle.buck_book.specs.declared.posting.Posting.TheVariants.{Cut}
 use Rattle.buck_book.specs.Book.{ReadyParts, entry_of}
 use Rattle.buck_book.specs.History.{sheets_with}
-use Rattle.buck_book.proofs.Books.{goes_on, keeps_more, entry_follows, entry_after, entry_same}
+use Rattle.buck_book.proofs.Books.{goes_on, keeps_more, entry_follows, entry_after}
 use Rattle.buck_book.proofs.book.Book.commit.Goals as goal
 
-pub after_cut-requires : goal.after_cut-requires
-after_cut-requires g c =
+pub after_plan-requires : goal.after_plan-requires
+after_plan-requires g c =
     let ready = rw (sym c.self.view_is) at c.requires.ready in
-    let sheet = c.deref.ensures ∙ c.sheet.ensures in
-    let stem = c.deref-2.ensures ∙ c.stem.ensures in
-    let logs = c.as_slice.ensures.value ∙ ap (λ x. x.logs.items) c.deref-3.ensures ∙ c.cutting.ensures.logs in
-    record {
-      before = rw sheet (goes_on _ _ _ _ c.self.invariant ready.to_add.below c.args.plan ready.sheet_in_force);
-      cutting = rw (sheet, stem, logs) c.cutting.ensures.best.first_best.best.admissible;
-    }
+    goes_on _ _ _ _ c.self.invariant ready.to_add.below c.args.plan ready.sheet_in_force
 
 pub invariant_of-self : goal.invariant_of-self
 invariant_of-self g c =
+    let p = c.args.plan in
     let ready = rw (sym c.self.view_is) at c.requires.ready in
     let next = ap (λ (x : ReadyParts). x.next) c.ready.view_is in
     let number = ap (λ n. n + 1) (rw (sym c.self.view_is) at c.calls-number.ensures) in
-    let sheet = c.deref.ensures ∙ c.sheet.ensures in
-    let stem = c.deref-2.ensures ∙ c.stem.ensures in
-    let logs = c.as_slice.ensures.value ∙ ap (λ x. x.logs.items) c.deref-3.ensures ∙ c.cutting.ensures.logs in
-    let parts = c.into_parts-stem.ensures in
-    let may = entry_follows _ c.args.harvester c.args.plan parts.best ready.sheet_in_force in
-    let told = rw (sheet, stem, logs) at c.after_cut.ensures in
-    keeps_more _ _ _ _ _ _ _ (λ h. Cut (entry_of h c.args.harvester c.args.plan)) _ c.args.ready.next _ _ _ _ _ c.self.invariant ready.to_add.below c.requires.harvester
-    may.0 may.1 (ready.to_add.next_is c.args.harvester) (entry_after _ _ _ _ _ ready.sheet_in_force told)
-    (ap Cut (c.sharing.ensures ∙ entry_same _ _ refl number parts.stem (rw (sym c.self.view_is) at c.version-version.ensures.version) parts.logs parts.worth))
+    let version = rw (sym c.self.view_is) at c.version-version.ensures.version in
+    let made = c.into_entry-entry.ensures in
+    let may = entry_follows _ c.args.harvester p made.best ready.sheet_in_force in
+    keeps_more _ _ _ _ _ _ _ (λ h. Cut (entry_of h c.args.harvester p)) _ c.args.ready.next _ _ _ _ _ c.self.invariant ready.to_add.below c.requires.harvester
+    may.0 may.1 (ready.to_add.next_is c.args.harvester) (entry_after _ _ _ _ _ ready.sheet_in_force c.after_plan.ensures)
+    (ap Cut (c.sharing.ensures ∙ made.entry ∙ (λ t. record { harvester = c.args.harvester; number = number t; stem = p.stem; version = version t; logs = p.logs; worth = p.worth })))
     next c.add.ensures.calls c.add.ensures.postings c.add.ensures.sheets c.add.ensures.prices
 
 pub returns-clause-sheets : goal.returns-clause-sheets
