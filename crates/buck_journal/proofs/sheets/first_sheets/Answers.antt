@@ -1,6 +1,6 @@
 use Rattle.std.proofs.Common.{◌≡◌, ◌∙◌, map, length, sym, ap, arith}
 use Rattle.std.proofs.lemmas.List.{length-map, length_push}
-use Rattle.buck_value.specs.Sheet.{SheetParts, sheet_of}
+use Rattle.buck_value.specs.Sheet.{sheet_of}
 use Rattle.buck_book.specs.History.{sheet_at}
 use Rattle.buck_journal.proofs.Made.{one_more}
 use Rattle.buck_journal.proofs.sheets.first_sheets.Goals as goal
