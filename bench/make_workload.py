@@ -4,7 +4,8 @@
     python3 bench/make_workload.py --out FOLDER --stems 20000 --seed 1 --module 100
 
 FOLDER/apt holds the instruction, FOLDER/stm the stems, FOLDER/pairs the number of pairs of a position and a candidate
-log that fits the stem: what the cutting programme goes over. Stems are 10 to 25 m long and taper from the butt.
+log that fits the stem: what the cutting programme goes over. Stems are 10 to 25 m long, of 100 to 250 samples, unless
+--samples says otherwise, and taper from the butt.
 """
 import argparse
 import os
@@ -38,8 +39,8 @@ def instruction(rng, args):
     return "\n".join(lines) + "\n", lengths_all
 
 
-def stem(rng, number, zoned):
-    samples = rng.randint(100, 250) + 1
+def stem(rng, number, samples, zoned):
+    samples = rng.randint(*samples) + 1
     butt = rng.uniform(220, 480)
     top = rng.uniform(40, 90)
     diameters = []
@@ -69,6 +70,7 @@ def main():
     parser.add_argument("--assortments", type=int, default=6)
     parser.add_argument("--rows", type=int, default=4)
     parser.add_argument("--lengths", type=int, default=10)
+    parser.add_argument("--samples", type=int, nargs=2, default=[100, 250], metavar=("FEWEST", "MOST"))
     parser.add_argument("--zoned", type=float, default=60, help="per cent of the stems that have grade zones")
     args = parser.parse_args()
     rng = random.Random(args.seed)
@@ -80,7 +82,7 @@ def main():
     with open(os.path.join(args.out, "stm"), "w") as file:
         file.write("1 2 STM~\n")
         for number in range(1, args.stems + 1):
-            text, length = stem(rng, number, args.zoned)
+            text, length = stem(rng, number, args.samples, args.zoned)
             file.write(text)
             total += pairs(length, args.module, lengths_all)
     with open(os.path.join(args.out, "pairs"), "w") as file:

@@ -5,10 +5,12 @@
     python3 bench/measure.py --bin NAME=PROGRAM ..    # beside it, other programs
     python3 bench/measure.py --threads 1 2 4          # buckfleet in so many threads, one after the other
     python3 bench/measure.py --check --threads 1 2 4  # check of the journal that one harvester writes of the stems
+    python3 bench/measure.py --keep FOLDER            # workloads stay in FOLDER, and those that are there are taken
 
 For each workload it prints, of the least of several runs: seconds, stems a second, nanoseconds for each pair of a
 position and a candidate log, and the peak memory. A second file of the same stems, but of a species that no assortment
 takes, tells what reading and writing alone cost; with --check, what reading its journal and walking along it cost.
+A file has at most 67,108,864 bytes: some 90,000 stems of the usual length, or 200,000 with --samples 40 100.
 """
 import argparse
 import os
@@ -49,8 +51,23 @@ def run(words):
 def journal_of(program, apt, stm):
     """The journal that one harvester writes of a stem file, by its path."""
     out = stm + ".jrn"
-    subprocess.run([program, "fleet", "--journal", out, apt, stm], stdout=subprocess.DEVNULL, check=True)
+    if not os.path.exists(out):
+        subprocess.run([program, "fleet", "--journal", out, apt, stm], stdout=subprocess.DEVNULL, check=True)
     return out
+
+
+def workload(out, module, args):
+    """The instruction, the stems, and the stems as another species, by their paths."""
+    apt, read, other = (os.path.join(out, name) for name in ("apt", "stm", "other"))
+    if not os.path.exists(other):
+        subprocess.check_call(
+            [sys.executable, os.path.join(HERE, "make_workload.py"), "--out", out]
+            + ["--stems", str(args.stems), "--seed", str(args.seed), "--module", str(module)]
+            + ["--samples"] + args.samples
+        )
+        with open(other, "w") as file:
+            file.write(re.sub(r"952 1 1~", "952 1 2~", open(read).read()))
+    return apt, read, other
 
 
 def least(words, times):
@@ -62,11 +79,13 @@ def main():
     parser = argparse.ArgumentParser(description=__doc__, formatter_class=argparse.RawDescriptionHelpFormatter)
     parser.add_argument("--bin", action="append", default=[], metavar="NAME=PROGRAM")
     parser.add_argument("--stems", type=int, default=20000)
+    parser.add_argument("--samples", nargs=2, default=["100", "250"], metavar=("FEWEST", "MOST"))
     parser.add_argument("--seed", type=int, default=1)
     parser.add_argument("--times", type=int, default=5)
     parser.add_argument("--modules", type=int, nargs="*", default=[100, 10])
     parser.add_argument("--threads", type=int, nargs="*", default=[1])
     parser.add_argument("--check", action="store_true")
+    parser.add_argument("--keep", metavar="FOLDER")
     parser.add_argument("--own", metavar="PROGRAM", help="buckfleet, where it is built already")
     args = parser.parse_args()
     own = args.own or build()
@@ -75,15 +94,9 @@ def main():
     programs += [(name, [program, word]) for name, program in (b.split("=", 1) for b in args.bin)]
     with tempfile.TemporaryDirectory() as folder:
         for module in args.modules:
-            out = os.path.join(folder, str(module))
-            subprocess.check_call(
-                [sys.executable, os.path.join(HERE, "make_workload.py"), "--out", out]
-                + ["--stems", str(args.stems), "--seed", str(args.seed), "--module", str(module)]
-            )
+            out = os.path.join(args.keep or folder, str(module))
+            apt, read, other = workload(out, module, args)
             pairs = int(open(os.path.join(out, "pairs")).read())
-            apt, read, other = (os.path.join(out, name) for name in ("apt", "stm", "other"))
-            with open(other, "w") as file:
-                file.write(re.sub(r"952 1 1~", "952 1 2~", open(read).read()))
             if args.check:
                 read, other = (journal_of(own, apt, stm) for stm in (read, other))
             for name, words in programs:

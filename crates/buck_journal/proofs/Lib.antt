@@ -4,6 +4,7 @@ pub mod Walk
 pub mod Stages
 pub mod Replays
 pub mod Judged
+pub mod Made
 pub mod Faults
 pub mod NoFault
 pub mod Lines

@@ -1,36 +1,21 @@
 //! What a journal's sheets and postings have to be.
-ghost use Rattle.std.specs.Prelude.{◌≡◌, ◌+◌, ◌<◌, ◌≤◌, OnOk, IfOk, IfErr, IfNone, IfSome, length, map};
+ghost use Rattle.std.specs.Prelude.{◌≡◌, ◌+◌, ◌<◌, ◌≤◌, OnOk, IfOk, IfErr, length, map};
 ghost use Rattle.buck_dp.specs.Best.{IsAdmissible, cutting_worth};
 ghost use Rattle.buck_book.specs.Targets.{AreTargets};
 ghost use Rattle.buck_book.specs.Posting.{harvester_of, number_of, planned_version};
-ghost use Rattle.buck_book.specs.History.{prices_at, sheet_at};
 ghost use Rattle.buck_book.specs.Walk.{passed};
 ghost use Rattle.buck_journal.specs.Replay.{IsSheetFault, IsSheetRight, IsCutFault, IsDemandFault, IsContentFault, IsNumbered, IsOfVersion, IsCallFault, IsPostingFault, IsNumberFault, IsFaultAtEnd};
-ghost use Rattle.buck_journal.specs.inner.Replay.{along, sheet_then, HoldsUnder, IsRightUnder, IsEndRight, IsPriced, IfMet};
+ghost use Rattle.buck_journal.specs.inner.Replay.{along, sheet_then, HoldsUnder, IsRightUnder, IsEndRight, AreMade, IfMet};
 
 use crate::replay_fault::ReplayFault;
+use crate::sheets::{prices_of, shared_sheet};
 use crate::stop::Stop;
 use buck_apt::Instruction;
 use buck_book::{Demand, Entry, Posting, Walk, check_targets};
 use buck_dp::{admissible, worth};
-use buck_record::Memory;
 use buck_value::Sheet;
 use std::alloc::Global;
 use std::sync::Arc;
-
-/// The prices of a version, if they are there.
-fn prices_of<'a>(sheets: &'a [Vec<u32>], version: u32) -> Option<&'a [u32]>
-    ensures there { IfSome result (λ prices. version < length sheets.now) }
-    ensures prices { IfSome result (λ prices.
-        prices.now ≡ prices_at (map (λ v. v.items) sheets.now) version) }
-    ensures none { IfNone result (length sheets.now ≤ version) }
-{
-    let at = version as usize;
-    if at >= sheets.len() {
-        return None;
-    }
-    Some(sheets[at].as_slice())
-}
 
 /// Checks the prices of the sheet in force at a place.
 fn check_prices(
@@ -56,43 +41,23 @@ fn check_prices(
     }
 }
 
-/// The sheet of a version whose prices are there and right.
-pub(crate) fn sheet_of(
-    alloc: Global,
-    instruction: &Arc<Instruction>,
-    sheets: &[Vec<u32>],
-    version: u32,
-) -> Result<Sheet, Memory>
-    requires { IsPriced instruction.now.value (map (λ v. v.items) sheets.now) version }
-    ensures { IfOk result (λ s.
-        s ≡ sheet_at instruction.now.value (map (λ v. v.items) sheets.now) version) }
-{
-    let _valid = instruction.limit();
-    let Some(prices) = prices_of(sheets, version) else {
-        unreachable!()
-    };
-    let prices = Vec::from_slice(alloc, prices)?;
-    match Sheet::with_prices(instruction.clone()?, version, prices) {
-        Ok(sheet) => Ok(sheet),
-        Err(_) => unreachable!(),
-    }
-}
-
 /// The sheet in force at a place, where it is there and right.
 pub(crate) fn opened_sheet(
     alloc: Global,
     instruction: &Arc<Instruction>,
     sheets: &[Vec<u32>],
+    made: &[Arc<Sheet>],
     walk: &Walk<'_>,
-) -> Result<Sheet, Stop>
-    requires { walk.now.instruction ≡ instruction.now.value }
+) -> Result<Arc<Sheet>, Stop>
+    requires instruction { walk.now.instruction ≡ instruction.now.value }
+    requires made { AreMade instruction.now.value (map (λ v. v.items) sheets.now) (map (λ a. a.value) made.now) }
     ensures right { OnOk result (IsSheetRight (along walk.now sheets.now) walk.now.at) }
-    ensures sheet { IfOk result (λ s. s ≡ sheet_then (along walk.now sheets.now) walk.now.at) }
+    ensures sheet { IfOk result (λ s. s.value ≡ sheet_then (along walk.now sheets.now) walk.now.at) }
     ensures refused { IfErr result (λ s. IfMet s (λ at fault.
         (at ≡ walk.now.at) × IsSheetFault (along walk.now sheets.now) walk.now.at fault)) }
 {
     match check_prices(instruction, sheets, walk) {
-        Ok(()) => Ok(sheet_of(alloc, instruction, sheets, walk.version())?),
+        Ok(()) => Ok(shared_sheet(alloc, instruction, sheets, made, walk.version())?),
         Err(fault) => Err(Stop::Fault {
             at: walk.at(),
             fault,

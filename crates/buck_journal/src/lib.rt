@@ -13,6 +13,7 @@ mod plain;
 mod postings;
 mod replay_fault;
 mod replaying;
+mod sheets;
 mod slots;
 mod stop;
 mod writing;

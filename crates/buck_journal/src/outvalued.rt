@@ -2,9 +2,10 @@
 ghost use Rattle.std.specs.Prelude.{◌≡◌, ◌<◌, IfOk, OnOk, map};
 ghost use Rattle.buck_book.specs.Posting.{planned_version};
 ghost use Rattle.buck_book.specs.History.{sheet_at};
-ghost use Rattle.buck_journal.specs.inner.Replay.{IsPriced, ArePriced, IsOutvalued, IsFound};
+ghost use Rattle.buck_journal.specs.inner.Replay.{IsPriced, ArePriced, AreMade, IsOutvalued, IsFound};
 
-use crate::checks::{sheet_of, version_of};
+use crate::checks::version_of;
+use crate::sheets::shared_sheet;
 use buck_apt::Instruction;
 use buck_book::Posting;
 use buck_dp::Planner;
@@ -15,29 +16,16 @@ use std::sync::Arc;
 use std::thread;
 use std::thread::Threads;
 
-/// The sheet of a version whose prices are there and right, as planners have it.
-fn shared_sheet(
-    alloc: Global,
-    instruction: &Arc<Instruction>,
-    sheets: &[Vec<u32>],
-    version: u32,
-) -> Result<Arc<Sheet>, Memory>
-    requires { IsPriced instruction.now.value (map (λ v. v.items) sheets.now) version }
-    ensures { IfOk result (λ s.
-        s.value ≡ sheet_at instruction.now.value (map (λ v. v.items) sheets.now) version) }
-{
-    let sheet = sheet_of(alloc, instruction, sheets, version)?;
-    Ok(Arc::new(alloc, sheet)?)
-}
-
 /// Turns a planner to the sheet of a version.
 fn turn_to(
     alloc: Global,
     instruction: &Arc<Instruction>,
     sheets: &[Vec<u32>],
+    made: &[Arc<Sheet>],
     planner: &mut Planner,
     version: u32,
 ) -> Result<(), Memory>
+    requires made { AreMade instruction.now.value (map (λ v. v.items) sheets.now) (map (λ a. a.value) made.now) }
     requires priced { IsPriced instruction.now.value (map (λ v. v.items) sheets.now) version }
     requires sheet { planner.old
         ≡ sheet_at instruction.now.value (map (λ v. v.items) sheets.now) planner.old.version }
@@ -47,7 +35,7 @@ fn turn_to(
     if planner.sheet().version() == version {
         return Ok(());
     }
-    let sheet = shared_sheet(alloc, instruction, sheets, version)?;
+    let sheet = shared_sheet(alloc, instruction, sheets, made, version)?;
     planner.renew(alloc, sheet)
 }
 
@@ -71,25 +59,23 @@ pub(crate) fn first_outvalued(
     alloc: Global,
     instruction: &Arc<Instruction>,
     sheets: &[Vec<u32>],
+    made: &[Arc<Sheet>],
     postings: &[Posting],
 ) -> Result<Option<usize>, Memory>
-    requires { ArePriced instruction.now.value (map (λ v. v.items) sheets.now) postings.now }
+    requires made { AreMade instruction.now.value (map (λ v. v.items) sheets.now) (map (λ a. a.value) made.now) }
+    requires priced { ArePriced instruction.now.value (map (λ v. v.items) sheets.now) postings.now }
     ensures { IfOk result (IsFound instruction.now.value (map (λ v. v.items) sheets.now) postings.now) }
 {
     if postings.is_empty() {
         return Ok(None);
     }
-    let sheet = shared_sheet(alloc, instruction, sheets, version_of(&postings[0]))?;
+    let version = version_of(&postings[0]);
+    let sheet = shared_sheet(alloc, instruction, sheets, made, version)?;
     let mut planner = Planner::make(alloc, sheet)?;
     for at in 0..postings.len() {
         let posting = &postings[at];
-        turn_to(
-            alloc,
-            instruction,
-            sheets,
-            &mut planner,
-            version_of(posting),
-        )?;
+        let version = version_of(posting);
+        turn_to(alloc, instruction, sheets, made, &mut planner, version)?;
         if is_outvalued(alloc, &mut planner, posting)? {
             return Ok(Some(at));
         }
@@ -107,16 +93,19 @@ fn first_by_size<T: Threads + Sync>(
     size: usize,
     instruction: &Arc<Instruction>,
     sheets: &[Vec<u32>],
+    made: &[Arc<Sheet>],
     postings: &[Posting],
 ) -> Result<Option<usize>, Memory>
     requires size { 0 < size }
+    requires made { AreMade instruction.now.value (map (λ v. v.items) sheets.now) (map (λ a. a.value) made.now) }
     requires priced { ArePriced instruction.now.value (map (λ v. v.items) sheets.now) postings.now }
     ensures { IfOk result (IsFound instruction.now.value (map (λ v. v.items) sheets.now) postings.now) }
 {
     let find = |_: usize, part: &[Posting]| -> Result<Option<usize>, Memory>
-        requires { ArePriced instruction.now.value (map (λ v. v.items) sheets.now) part.now }
+        requires { AreMade instruction.now.value (map (λ v. v.items) sheets.now) (map (λ a. a.value) made.now)
+            × ArePriced instruction.now.value (map (λ v. v.items) sheets.now) part.now }
         ensures { IfOk result (IsFound instruction.entry.now.value (map (λ v. v.items) sheets.entry.now) part.now) }
-    { first_outvalued(alloc, instruction, sheets, part) };
+    { first_outvalued(alloc, instruction, sheets, made, part) };
     let found = thread::map_chunks(rt, alloc, postings, size, &find)?;
     for k in 0..found.len() {
         let Ok(first) = &found[k] else {
@@ -137,12 +126,14 @@ pub(crate) fn first_outvalued_in_parts<T: Threads + Sync>(
     threads: usize,
     instruction: &Arc<Instruction>,
     sheets: &[Vec<u32>],
+    made: &[Arc<Sheet>],
     postings: &[Posting],
 ) -> Result<Option<usize>, Memory>
     requires threads { 0 < threads }
+    requires made { AreMade instruction.now.value (map (λ v. v.items) sheets.now) (map (λ a. a.value) made.now) }
     requires priced { ArePriced instruction.now.value (map (λ v. v.items) sheets.now) postings.now }
     ensures { IfOk result (IsFound instruction.now.value (map (λ v. v.items) sheets.now) postings.now) }
 {
     let size = (postings.len() / threads).saturating_add(FEWEST);
-    first_by_size(rt, alloc, size, instruction, sheets, postings)
+    first_by_size(rt, alloc, size, instruction, sheets, made, postings)
 }

@@ -1,16 +1,17 @@
 //! Whether a journal is lawful.
-ghost use Rattle.std.specs.Prelude.{◌≡◌, ◌≢◌, ◌+◌, ◌<◌, ◌≤◌, OnOk, IfOk, IfErr, length, take, slice_get, Some};
+ghost use Rattle.std.specs.Prelude.{◌≡◌, ◌≢◌, ◌+◌, ◌<◌, ◌≤◌, OnOk, IfOk, IfErr, length, map, take, slice_get, Some};
 ghost use Rattle.buck_book.specs.Posting.{ends_of, cuts_since_end};
 ghost use Rattle.buck_book.specs.History.{HistoryParts, IsLawful};
 ghost use Rattle.buck_book.specs.Walk.{walk_of, passed};
 ghost use Rattle.buck_journal.specs.Replay.{history_of, Begins, IsPostingFault, IsFaultAtEnd, IsFirstFault};
 ghost use Rattle.buck_journal.specs.declared.replay_fault.ReplayFault.TheVariants.{Memory};
-ghost use Rattle.buck_journal.specs.inner.Replay.{along, IsRightUnder, AreRightUnder, IsMetUnder, IsInOrderBefore, IsMetInOrder, IfMet, IsEnded, IsOrdered, IsFound, IsJudged};
+ghost use Rattle.buck_journal.specs.inner.Replay.{along, AreMade, IsRightUnder, AreRightUnder, IsMetUnder, IsInOrderBefore, IsMetInOrder, IfMet, IsEnded, IsOrdered, IsFound, IsJudged};
 
 use crate::checks::{check_end, check_posting, opened_sheet};
 use crate::journal::Journal;
 use crate::outvalued::{first_outvalued, first_outvalued_in_parts};
 use crate::replay_fault::ReplayFault;
+use crate::sheets::first_sheets;
 use crate::stop::Stop;
 use buck_apt::Instruction;
 use buck_book::{Posting, Walk};
@@ -69,9 +70,11 @@ fn replay_period<'w>(
     alloc: Global,
     instruction: &Arc<Instruction>,
     sheets: &[Vec<u32>],
+    made: &[Arc<Sheet>],
     walk: Walk<'w>,
 ) -> Result<Walk<'w>, Stop>
     requires instruction { walk.instruction ≡ instruction.now.value }
+    requires made { AreMade instruction.now.value (map (λ v. v.items) sheets.now) (map (λ a. a.value) made.now) }
     requires right { IsInOrderBefore (along walk sheets.now) walk.at }
     requires begins { Begins (along walk sheets.now) walk.at }
     requires more { walk.at < length walk.postings }
@@ -82,7 +85,7 @@ fn replay_period<'w>(
         w.at < length w.postings → Begins (along w sheets.now) w.at) }
     ensures refused { IfErr result (λ s. IfMet s (IsMetInOrder (along walk.entry sheets.now))) }
 {
-    let sheet = opened_sheet(alloc, instruction, sheets, &walk)?;
+    let sheet = opened_sheet(alloc, instruction, sheets, made, &walk)?;
     replay_under(&sheet, walk)
 }
 
@@ -91,9 +94,11 @@ fn replay_periods<'w>(
     alloc: Global,
     instruction: &Arc<Instruction>,
     sheets: &[Vec<u32>],
+    made: &[Arc<Sheet>],
     walk: Walk<'w>,
 ) -> Result<Walk<'w>, Stop>
     requires instruction { walk.instruction ≡ instruction.now.value }
+    requires made { AreMade instruction.now.value (map (λ v. v.items) sheets.now) (map (λ a. a.value) made.now) }
     requires right { IsInOrderBefore (along walk sheets.now) walk.at }
     requires begins { Begins (along walk sheets.now) walk.at }
     ensures right { IfOk result (λ w. IsInOrderBefore (along walk.entry sheets.now) w.at) }
@@ -103,7 +108,7 @@ fn replay_periods<'w>(
 {
     let mut walk = walk;
     while walk.next().is_some() {
-        walk = replay_period(alloc, instruction, sheets, walk)?;
+        walk = replay_period(alloc, instruction, sheets, made, walk)?;
     }
     Ok(walk)
 }
@@ -113,9 +118,11 @@ fn replay_all<'w>(
     alloc: Global,
     instruction: &'w Arc<Instruction>,
     sheets: &[Vec<u32>],
+    made: &[Arc<Sheet>],
     postings: &'w [Posting],
 ) -> Result<Walk<'w>, Stop>
-    requires { length postings.now ≤ 1000000 }
+    requires few { length postings.now ≤ 1000000 }
+    requires made { AreMade instruction.now.value (map (λ v. v.items) sheets.now) (map (λ a. a.value) made.now) }
     ensures right { OnOk result (IsInOrderBefore
         (along (walk_of instruction.now.value postings.now 0) sheets.now) (length postings.now)) }
     ensures end { IfOk result (λ w. w ≡ walk_of instruction.now.value postings.now (length postings.now)) }
@@ -123,7 +130,7 @@ fn replay_all<'w>(
         (IsMetInOrder (along (walk_of instruction.now.value postings.now 0) sheets.now))) }
 {
     let walk = Walk::opening(alloc, instruction, postings)?;
-    replay_periods(alloc, instruction, sheets, walk)
+    replay_periods(alloc, instruction, sheets, made, walk)
 }
 
 /// The place after the last posting, where what stands there is right.
@@ -153,12 +160,14 @@ fn walk_in_order<'w>(
     alloc: Global,
     instruction: &'w Arc<Instruction>,
     journal: &'w Journal,
+    made: &[Arc<Sheet>],
 ) -> Result<Ordered<'w>, buck_record::Memory>
-    requires { length journal.now.entries ≤ 1000000 }
+    requires few { length journal.now.entries ≤ 1000000 }
+    requires made { AreMade instruction.now.value journal.now.sheets (map (λ a. a.value) made.now) }
     ensures { IfOk result (λ o. IsOrdered (history_of instruction.now.value journal.now) o.until o.end) }
 {
     let sheets = journal.sheets.as_slice();
-    match replay_all(alloc, instruction, sheets, journal.entries.as_slice()) {
+    match replay_all(alloc, instruction, sheets, made, journal.entries.as_slice()) {
         Ok(walk) => Ok(Ordered {
             until: walk.at(),
             end: ended(instruction, sheets, walk),
@@ -201,9 +210,12 @@ pub fn replay_to_end<'w>(
     ensures refused { IfErr result (λ e.
         e ≢ Memory → IsFirstFault (history_of instruction.now.value journal.now) e) }
 {
-    let ordered = walk_in_order(alloc, instruction, journal)?;
+    let sheets = journal.sheets.as_slice();
+    let kept = first_sheets(alloc, instruction, sheets)?;
+    let made = kept.as_slice();
+    let ordered = walk_in_order(alloc, instruction, journal, made)?;
     let postings = &journal.entries.as_slice()[..ordered.until];
-    let outvalued = first_outvalued(alloc, instruction, journal.sheets.as_slice(), postings)?;
+    let outvalued = first_outvalued(alloc, instruction, sheets, made, postings)?;
     judged(ordered, outvalued)
 }
 
@@ -241,10 +253,20 @@ pub fn replay_in_parts<T: Threads + Sync>(
     ensures refused { IfErr result (λ e.
         e ≢ Memory → IsFirstFault (history_of instruction.now.value journal.now) e) }
 {
-    let ordered = walk_in_order(alloc, instruction, journal)?;
     let sheets = journal.sheets.as_slice();
+    let kept = first_sheets(alloc, instruction, sheets)?;
+    let made = kept.as_slice();
+    let ordered = walk_in_order(alloc, instruction, journal, made)?;
     let postings = &journal.entries.as_slice()[..ordered.until];
-    let outvalued = first_outvalued_in_parts(rt, alloc, threads, instruction, sheets, postings)?;
+    let outvalued = first_outvalued_in_parts(
+        rt,
+        alloc,
+        threads,
+        instruction,
+        sheets,
+        made,
+        postings,
+    )?;
     let _ = judged(ordered, outvalued)?;
     Ok(())
 }

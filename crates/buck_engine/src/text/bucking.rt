@@ -253,6 +253,10 @@ pub(crate) fn buck_text_in_parts<T: Threads + Sync>(
 {
     let sheet = base_sheet(alloc, instruction)?;
     let size = (stems.len() / threads).saturating_add(FEWEST);
+    // One part is what is cut in one thread: its lines needn't be copied.
+    if stems.len() <= size {
+        return Ok(text_under(alloc, sheet, stems)?);
+    }
     let lines = lines_in_parts(rt, alloc, &sheet, stems, size)?;
     Ok(text_of(lines, stems.len())?)
 }

@@ -115,6 +115,11 @@ abbrev pub ArePriced : InstructionParts → List (List ℕ) → List Posting →
 ArePriced i sheets ps =
     (k : ℕ) (x : Posting) → slice_get ps k ≡ Some x → IsPriced i sheets (planned_version x)
 
+-- the sheets of the first versions, in order
+abbrev pub AreMade : InstructionParts → List (List ℕ) → List SheetParts → Type 0
+AreMade i sheets made =
+    (version : ℕ) → version < length made → slice_get made version ≡ Some (sheet_at i sheets version)
+
 -- whether some admissible list of logs is worth more under a sheet than a cut says
 abbrev pub IsOutvalued : SheetParts → Posting → Bool → Type 0
 IsOutvalued s (Cut e) true =

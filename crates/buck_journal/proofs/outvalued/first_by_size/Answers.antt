@@ -5,7 +5,8 @@ use Rattle.buck_journal.proofs.Judged.{part_priced, part_found, first_in_part, n
 use Rattle.buck_journal.proofs.outvalued.first_by_size.Goals as goal
 
 pub map_chunks-requires-clause-accepts : goal.map_chunks-requires-clause-accepts
-map_chunks-requires-clause-accepts g c κs within = λ start p is. part_priced _ _ _ p.now c.args.size start is c.requires.priced
+map_chunks-requires-clause-accepts g c κs within = λ start p is.
+    (c.requires.made, part_priced _ _ _ p.now c.args.size start is c.requires.priced)
 
 pub returns-in-Some : goal.returns-in-Some
 returns-in-Some g c =

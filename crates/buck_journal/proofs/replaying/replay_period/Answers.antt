@@ -1,4 +1,4 @@
-use Rattle.std.proofs.Common.{subst}
+use Rattle.std.proofs.Common.{◌∙◌, subst}
 use Rattle.std.proofs.lemmas.Result.{err_from_is_err_and}
 use Rattle.buck_book.proofs.Sheets.{weaken_ok}
 use Rattle.buck_journal.specs.inner.Replay.{along, AreRightUnder, IsMetUnder}
@@ -16,7 +16,7 @@ returns-clause-right c =
     let a = c.args.walk in
     let h = along a c.args.sheets.now in
     weaken_ok c.replay_under.result
-    (λ w r. right_along h a.at w.at c.requires.right c.in_ok-sheet.ensures.right (subst (λ s. AreRightUnder s a.postings a.at w.at) c.in_ok-sheet.ensures.sheet r))
+    (λ w r. right_along h a.at w.at c.requires.right c.in_ok-sheet.ensures.right (subst (λ s. AreRightUnder s a.postings a.at w.at) (c.deref.ensures ∙ c.in_ok-sheet.ensures.sheet) r))
     c.replay_under.ensures.right
 
 pub returns-clause-refused : goal.returns-clause-refused
@@ -24,5 +24,5 @@ returns-clause-refused c =
     let a = c.args.walk in
     let h = along a c.args.sheets.now in
     weaken_met c.replay_under.result
-    (λ at fault met. met_along h a.at at fault c.requires.right c.in_ok-sheet.ensures.right (subst (λ s. IsMetUnder s a.postings a.at at fault) c.in_ok-sheet.ensures.sheet met))
+    (λ at fault met. met_along h a.at at fault c.requires.right c.in_ok-sheet.ensures.right (subst (λ s. IsMetUnder s a.postings a.at at fault) (c.deref.ensures ∙ c.in_ok-sheet.ensures.sheet) met))
     c.replay_under.ensures.refused

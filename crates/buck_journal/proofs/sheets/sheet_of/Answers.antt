@@ -3,7 +3,7 @@ use Rattle.buck_apt.specs.Instruction.{IsInstruction}
 use Rattle.buck_value.specs.Sheet.{IsSheetFault}
 use Rattle.buck_book.specs.History.{prices_at}
 use Rattle.buck_journal.proofs.Replays.{is_sheet}
-use Rattle.buck_journal.proofs.checks.sheet_of.Goals as goal
+use Rattle.buck_journal.proofs.sheets.sheet_of.Goals as goal
 
 pub unreachable-requires-in-Err : goal.unreachable-requires-in-Err
 unreachable-requires-in-Err c =

@@ -1,0 +1,38 @@
+-- The sheets of the first versions, one more.
+use Rattle.std.proofs.Common.{◌≡◌, ℕ, zero, suc, inl, inr, List, [], ◌∷◌, ◌++◌, length, map, slice_get, Some, refl, sym, ◌∙◌, ap, subst, arith}
+use Rattle.std.proofs.lemmas.Bool.{cases_eq}
+use Rattle.std.proofs.lemmas.List.{length_push, map-append}
+use Rattle.buck_apt.specs.Instruction.{InstructionParts}
+use Rattle.buck_value.specs.Sheet.{SheetParts}
+use Rattle.buck_book.specs.History.{sheet_at}
+use Rattle.buck_journal.specs.inner.Replay.{AreMade}
+
+kept_at : {X : Type 0} (xs : List X) (y x : X) (k : ℕ) → slice_get xs k ≡ Some x → slice_get (xs ++ y ∷ []) k ≡ Some x
+kept_at [] y x k there = absurd (cc)
+kept_at (z ∷ xs) y x zero there = there
+kept_at (z ∷ xs) y x (suc k) there = kept_at xs y x k there
+
+pushed_at : {X : Type 0} (xs : List X) (y : X) → slice_get (xs ++ y ∷ []) (length xs) ≡ Some y
+pushed_at [] y = refl
+pushed_at (x ∷ xs) y = pushed_at xs y
+
+pub none_made : (i : InstructionParts) (sheets : List (List ℕ)) → AreMade i sheets []
+none_made i sheets version lt = absurd (omega (arith, lt))
+
+pub one_made : (i : InstructionParts) (sheets : List (List ℕ)) (made : List SheetParts) (s : SheetParts) → AreMade i sheets made
+    → s ≡ sheet_at i sheets (length made)
+    → AreMade i sheets (made ++ s ∷ [])
+one_made i sheets made s are is version lt = elim (cases_eq version (length made)) [
+  | inl same ↦ ap (λ n. slice_get (made ++ s ∷ []) n) same ∙ pushed_at made s ∙ ap Some (is ∙ ap (λ n. sheet_at i sheets n) (sym same))
+  | inr other ↦ kept_at made s (sheet_at i sheets version) version (are version (omega (arith, lt, length_push made s)))
+]
+
+-- the same of a list of what the sheets stand in
+pub one_more : {A : Type 0} (f : A → SheetParts) (i : InstructionParts) (sheets : List (List ℕ)) (old new : List A) (x : A)
+    → AreMade i sheets (map f old)
+    → new ≡ old ++ x ∷ []
+    → f x ≡ sheet_at i sheets (length (map f old))
+    → AreMade i sheets (map f new)
+one_more f i sheets old new x are more is =
+    subst (λ xs. AreMade i sheets xs) (sym (ap (λ xs. map f xs) more ∙ map-append f old (x ∷ [])))
+    (one_made i sheets (map f old) (f x) are is)
