@@ -67,8 +67,8 @@ fn cut<F: Fn(&Standing) -> u64 + Drop>(
     }
 }
 
-/// The turn of the harvester whose list stands at a place: it cuts the stem at the round's place of its list, where that
-/// is so long.
+/// The turn of the harvester whose list stands at a place: it cuts the stem at the round's place of its list, where
+/// that is so long.
 fn turn<F: Fn(&Standing) -> u64 + Drop>(
     alloc: Global,
     book: &mut Book<F>,
@@ -141,9 +141,9 @@ fn longest(lists: &[Vec<Arc<Stem>>]) -> usize
 
 /// Cuts lists of stems in turn: in each round harvester k cuts the next stem of the k-th list, under the sheet that is
 /// then in force; who has none left is passed over. Two runs over the same lists give the same history, and nothing
-/// waits. 1 to 64 lists are a fleet; none gives a book with no posting. The prices of each sheet after the first are the
-/// rule's answers. Refused as `Full` where there are more stems than 1,000,000, and there alone, and as `Memory` where a
-/// growth was refused.
+/// waits. 1 to 64 lists are a fleet; none gives a book with no posting. The prices of each sheet after the first are
+/// the rule's answers. Refused as `Full` where there are more stems than 1,000,000, and there alone, and as `Memory`
+/// where a growth was refused.
 pub fn cut_in_turn<F: Fn(&Standing) -> u64 + Drop>(
     alloc: Global,
     instruction: Arc<Instruction>,
