@@ -27,21 +27,23 @@ next_given g f h x (Some s) l n given e = rw (sym l.sheets_number, get_or_push h
 
 one_more : {F : Type 0} (g : Calls F) (f : F) (h : HistoryParts) (x : Posting) (next : _) → IsLawful h → IsNext h x next
     → IfSome next (λ s. AreAnswers g f h.instruction (h.postings ++ x ∷ []) s.prices) → AreSheetsBy g f h → AreSheetsBy g f (history_with h x next)
-one_more g f h x next l n given by = record { answers = λ k y at e.
-    let i = h.instruction in
-    elim (slice_get-push h.postings x y k at) [
-      | inl old ↦
-          let before : take k (h.postings ++ x ∷ []) ≡ take k h.postings = take-append-le k h.postings (x ∷ []) (omega (arith, old.0)) in
-          let with_it : take (k + 1) (h.postings ++ x ∷ []) ≡ take (k + 1) h.postings = take-append-le (k + 1) h.postings (x ∷ []) (omega (arith, old.0)) in
-          let e' : IsEnd i (take k h.postings) y = subst (λ xs. IsEnd i xs y) before e in
-          let low : ends_of i (take k h.postings) + 1 < length h.sheets = omega (arith, l.sheets_number, ends_past i h.postings k y old.1 e') in
-          rw (before, with_it, prices_stay h.sheets next (ends_of i (take k h.postings) + 1) low) (by.answers k y old.1 e')
-      | inr new ↦
-          let before : take k (h.postings ++ x ∷ []) ≡ h.postings = take-append-le k h.postings (x ∷ []) (omega (arith, new.0)) ∙ take_all k h.postings (omega (arith, new.0)) in
-          let with_it : take (k + 1) (h.postings ++ x ∷ []) ≡ h.postings ++ x ∷ [] = take_all (k + 1) (h.postings ++ x ∷ []) (omega (arith, new.0, length_push h.postings x)) in
-          let e' : IsEnd i h.postings x = subst (λ z. IsEnd i h.postings z) new.1 (subst (λ xs. IsEnd i xs y) before e) in
-          rw (before, with_it) (next_given g f h x next l n given e')
-    ]; }
+one_more g f h x next l n given by = record {
+  answers = λ k y at e.
+      let i = h.instruction in
+      elim (slice_get-push h.postings x y k at) [
+        | inl old ↦
+            let before : take k (h.postings ++ x ∷ []) ≡ take k h.postings = take-append-le k h.postings (x ∷ []) (omega (arith, old.0)) in
+            let with_it : take (k + 1) (h.postings ++ x ∷ []) ≡ take (k + 1) h.postings = take-append-le (k + 1) h.postings (x ∷ []) (omega (arith, old.0)) in
+            let e' : IsEnd i (take k h.postings) y = subst (λ xs. IsEnd i xs y) before e in
+            let low : ends_of i (take k h.postings) + 1 < length h.sheets = omega (arith, l.sheets_number, ends_past i h.postings k y old.1 e') in
+            rw (before, with_it, prices_stay h.sheets next (ends_of i (take k h.postings) + 1) low) (by.answers k y old.1 e')
+        | inr new ↦
+            let before : take k (h.postings ++ x ∷ []) ≡ h.postings = take-append-le k h.postings (x ∷ []) (omega (arith, new.0)) ∙ take_all k h.postings (omega (arith, new.0)) in
+            let with_it : take (k + 1) (h.postings ++ x ∷ []) ≡ h.postings ++ x ∷ [] = take_all (k + 1) (h.postings ++ x ∷ []) (omega (arith, new.0, length_push h.postings x)) in
+            let e' : IsEnd i h.postings x = subst (λ z. IsEnd i h.postings z) new.1 (subst (λ xs. IsEnd i xs y) before e) in
+            rw (before, with_it) (next_given g f h x next l n given e')
+      ];
+}
 
 if_some : {A : Type 0} (P Q : A → Type 0) (o : Option A) → ((x : A) → P x → Q x) → IfSome o P → IfSome o Q
 if_some P Q None f p = p
@@ -61,12 +63,12 @@ commit_given g b m a harvester plan ready entry lawful content is_ready given en
     let e : entry ≡ entry_of h harvester plan = entry_is ∙ ap (λ h. entry_of h harvester plan) content.history in
     let x = Cut (entry_of h harvester plan) in
     let after : a.history ≡ history_with h x ready.next = same_history a.history (history_with h x ready.next)
-        (instruction ∙ ap (λ (h : HistoryParts). h.instruction) content.history)
-        (sheets ∙ ap (λ (h : HistoryParts). sheets_with h.sheets ready.next) content.history)
-        (postings ∙ ap (λ (h : HistoryParts). h.postings ++ Cut entry ∷ []) content.history ∙ ap (λ (e : EntryParts). h.postings ++ Cut e ∷ []) e) in
+    (instruction ∙ ap (λ (h : HistoryParts). h.instruction) content.history)
+    (sheets ∙ ap (λ (h : HistoryParts). sheets_with h.sheets ready.next) content.history)
+    (postings ∙ ap (λ (h : HistoryParts). h.postings ++ Cut entry ∷ []) content.history ∙ ap (λ (e : EntryParts). h.postings ++ Cut e ∷ []) e) in
     let is_next : IsNext h x ready.next =
-        subst (λ h. IsNext h (Cut (entry_of h harvester plan)) ready.next) content.history (is_ready.to_add.next_is harvester) in
+    subst (λ h. IsNext h (Cut (entry_of h harvester plan)) ready.next) content.history (is_ready.to_add.next_is harvester) in
     let answers = if_some (λ s. AreAnswersWith g b.rule h plan s.prices) (λ s. AreAnswers g b.rule h.instruction (h.postings ++ x ∷ []) s.prices)
-        ready.next (λ s all. all harvester) given in
+    ready.next (λ s all. all harvester) given in
     subst (λ f. AreSheetsBy g f a.history) (sym (rule ∙ content.rule))
     (subst (λ (k : HistoryParts). AreSheetsBy g b.rule k) (sym after) (one_more g b.rule h x ready.next lawful is_next answers by))

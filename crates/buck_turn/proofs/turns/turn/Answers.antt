@@ -18,7 +18,7 @@ pub returns-in_err-cut-clause-full : goal.returns-in_err-cut-clause-full
 returns-in_err-cut-clause-full g c =
     stopped c.from_residual.result c.in_err-cut.field-0.0 c.from_residual.ensures.1
     (λ e. not_all c.args.round c.args.place c.args.lists.now c.index-lists-place.result c.args.book.now.history.postings 1000000
-      c.requires.place c.index-lists-place.is (search rules) c.requires.number (c.in_err-cut.ensures.full e ∙ c.requires.capacity))
+    c.requires.place c.index-lists-place.is (search rules) c.requires.number (c.in_err-cut.ensures.full e ∙ c.requires.capacity))
 
 pub returns-clause-rounds : goal.returns-clause-rounds
 returns-clause-rounds g c =
