@@ -1,5 +1,5 @@
--- Who cuts when, where harvesters take turns: one stem each, round by round.
-use Rattle.std.specs.Prelude.{◌≡◌, ℕ, ◌+◌, ◌<◌, ◌≤◌, ◌⊎◌, List, [], ◌∷◌, length, map, All, Some}
+-- Who cuts when, where harvesters take turns: one stem each, round by round; and by which prices.
+use Rattle.std.specs.Prelude.{◌≡◌, ℕ, ◌+◌, ◌<◌, ◌≤◌, ◌⊎◌, List, [], ◌∷◌, length, map, take, sum_by, slice_get, All, Some}
 use Rattle.std.specs.List.{AllByRecursion}
 use Rattle.std.specs.declared.sync.Arc.{Arc}
 use Rattle.std.specs.declared.vec.Vec.{Vec}
@@ -7,7 +7,8 @@ use Rattle.std.specs.declared.alloc.Global.{Global}
 use Rattle.buck_stem.specs.declared.stem.Stem.{Stem}
 use Rattle.buck_book.specs.declared.posting.Posting.{Posting}
 use Rattle.buck_book.specs.Posting.{harvester_of, number_of}
-use Rattle.buck_book.specs.History.{HistoryParts}
+use Rattle.buck_book.specs.History.{HistoryParts, IsEnd, prices_after}
+use Rattle.buck_book.specs.Pricing.{Calls, AreAnswers}
 use Rattle.buck_fleet.specs.Closed.{replies_of}
 use Rattle.buck_fleet.specs.Run.{stem_cut, stems_at}
 
@@ -30,3 +31,14 @@ pub record HasCutInTurn (lists : List (Vec (Arc Stem Global) Global)) (h : Histo
       → map (λ x. stem_cut x.entry) (replies_of (k + 1) h) ≡ map Some (stems_at lists k)
   pub nobody_else : All (λ x. (0 < harvester_of x) × (harvester_of x ≤ length lists)) h.postings
   pub in_turn : AreInTurn h.postings
+
+-- how many stems the lists have together
+abbrev pub stems_in_all : List (Vec (Arc Stem Global) Global) → ℕ
+stems_in_all lists = sum_by (λ list. length list.items) lists
+
+-- the prices of each sheet that came after an end are answers that a closure can give to how the classes then stood
+pub record AreSheetsBy {F : Type 0} (g : Calls F) (f : F) (h : HistoryParts) : Type 0 where
+  pub answers : (k : ℕ) (x : Posting)
+      → slice_get h.postings k ≡ Some x
+      → IsEnd h.instruction (take k h.postings) x
+      → AreAnswers g f h.instruction (take (k + 1) h.postings) (prices_after h k)

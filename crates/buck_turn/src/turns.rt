@@ -4,8 +4,8 @@ ghost use Rattle.buck_rule.specs.Stored.{Answers};
 ghost use Rattle.buck_book.specs.History.{in_force};
 ghost use Rattle.buck_fleet.specs.Run.{stems_at};
 ghost use Rattle.buck_fleet.specs.declared.fault.CutFault.TheVariants.{Full};
-ghost use Rattle.buck_turn.specs.Turn.{HasCutInTurn};
-ghost use Rattle.buck_turn.specs.inner.Rounds.{HasCutRounds, IsCutOf};
+ghost use Rattle.buck_turn.specs.Turn.{AreSheetsBy, HasCutInTurn, stems_in_all};
+ghost use Rattle.buck_turn.specs.inner.Rounds.{HasCutRounds, IsCutOf, cut_in};
 
 use buck_apt::Instruction;
 use buck_book::{Book, Plan, Refusal};
@@ -45,11 +45,16 @@ fn cut<F: Fn(&Standing) -> u64 + Drop>(
     harvester: u32,
 ) -> Result<(), CutFault>
     requires answers { Answers F.Fn book.old.rule }
+    requires given { AreSheetsBy F.Fn book.old.rule book.old.history }
     requires harvester { (0 < harvester) × (harvester ≤ 64) }
     ensures rule { book.new.rule ≡ book.old.rule }
     ensures instruction { book.new.history.instruction ≡ book.old.history.instruction }
+    ensures capacity { book.new.capacity ≡ book.old.capacity }
     ensures cut { OnOk result (IsCutOf harvester stem.now.value book.old.history.postings book.new.history.postings) }
+    ensures given { OnOk result (AreSheetsBy F.Fn book.new.rule book.new.history) }
+    ensures full { IfErr result (λ fault. fault ≡ Full → length book.old.history.postings ≡ book.old.capacity) }
 {
+    let _lawful = book.entries();
     let plan = plan(alloc, book, planner, stem)?;
     match book.prepare(alloc, &plan) {
         Ok(ready) => {
@@ -62,6 +67,39 @@ fn cut<F: Fn(&Standing) -> u64 + Drop>(
     }
 }
 
+/// The turn of the harvester whose list stands at a place: it cuts the stem at the round's place of its list, where
+/// that is so long.
+fn turn<F: Fn(&Standing) -> u64 + Drop>(
+    alloc: Global,
+    book: &mut Book<F>,
+    planner: &mut Planner,
+    lists: &[Vec<Arc<Stem>>],
+    round: usize,
+    place: usize,
+) -> Result<(), CutFault>
+    requires answers { Answers F.Fn book.old.rule }
+    requires given { AreSheetsBy F.Fn book.old.rule book.old.history }
+    requires capacity { book.old.capacity ≡ 1000000 }
+    requires few { length lists.now ≤ 64 }
+    requires place { place < length lists.now }
+    requires rounds { HasCutRounds round place lists.now book.old.history.postings }
+    requires number { length book.old.history.postings ≡ cut_in round place lists.now }
+    ensures rule { book.new.rule ≡ book.old.rule }
+    ensures instruction { book.new.history.instruction ≡ book.old.history.instruction }
+    ensures capacity { book.new.capacity ≡ book.old.capacity }
+    ensures given { OnOk result (AreSheetsBy F.Fn book.new.rule book.new.history) }
+    ensures rounds { OnOk result (HasCutRounds round (place + 1) lists.now book.new.history.postings) }
+    ensures number { OnOk result (length book.new.history.postings ≡ cut_in round (place + 1) lists.now) }
+    ensures full { IfErr result (λ fault. fault ≡ Full → 1000000 < stems_in_all lists.now) }
+{
+    let list = &lists[place];
+    if round >= list.len() {
+        return Ok(());
+    }
+    cut(alloc, book, planner, &list[round], place as u32 + 1)?;
+    Ok(())
+}
+
 /// Cuts one stem of each list that is so long: the one at this place.
 fn cut_round<F: Fn(&Standing) -> u64 + Drop>(
     alloc: Global,
@@ -71,17 +109,21 @@ fn cut_round<F: Fn(&Standing) -> u64 + Drop>(
     round: usize,
 ) -> Result<(), CutFault>
     requires answers { Answers F.Fn book.old.rule }
+    requires given { AreSheetsBy F.Fn book.old.rule book.old.history }
+    requires capacity { book.old.capacity ≡ 1000000 }
     requires few { length lists.now ≤ 64 }
     requires rounds { HasCutRounds round 0 lists.now book.old.history.postings }
+    requires number { length book.old.history.postings ≡ cut_in round 0 lists.now }
     ensures rule { book.new.rule ≡ book.old.rule }
     ensures instruction { book.new.history.instruction ≡ book.old.history.instruction }
+    ensures capacity { book.new.capacity ≡ book.old.capacity }
+    ensures given { OnOk result (AreSheetsBy F.Fn book.new.rule book.new.history) }
     ensures rounds { OnOk result (HasCutRounds (round + 1) 0 lists.now book.new.history.postings) }
+    ensures number { OnOk result (length book.new.history.postings ≡ cut_in (round + 1) 0 lists.now) }
+    ensures full { IfErr result (λ fault. fault ≡ Full → 1000000 < stems_in_all lists.now) }
 {
     for k in 0..lists.len() {
-        let list = &lists[k];
-        if round < list.len() {
-            cut(alloc, book, planner, &list[round], k as u32 + 1)?;
-        }
+        turn(alloc, book, planner, lists, round, k)?;
     }
     Ok(())
 }
@@ -99,8 +141,9 @@ fn longest(lists: &[Vec<Arc<Stem>>]) -> usize
 
 /// Cuts lists of stems in turn: in each round harvester k cuts the next stem of the k-th list, under the sheet that is
 /// then in force; who has none left is passed over. Two runs over the same lists give the same history, and nothing
-/// waits. 1 to 64 lists are a fleet; none gives a book with no posting. Refused as `Full` where there are more stems
-/// than 1,000,000, and as `Memory` where a growth was refused.
+/// waits. 1 to 64 lists are a fleet; none gives a book with no posting. The prices of each sheet after the first are
+/// the rule's answers. Refused as `Full` where there are more stems than 1,000,000, and there alone, and as `Memory`
+/// where a growth was refused.
 pub fn cut_in_turn<F: Fn(&Standing) -> u64 + Drop>(
     alloc: Global,
     instruction: Arc<Instruction>,
@@ -111,6 +154,9 @@ pub fn cut_in_turn<F: Fn(&Standing) -> u64 + Drop>(
     requires few { length lists.now ≤ 64 }
     ensures instruction { IfOk result (λ b. b.history.instruction ≡ instruction.value) }
     ensures cut { IfOk result (λ b. HasCutInTurn lists.now b.history) }
+    ensures number { IfOk result (λ b. length b.history.postings ≡ stems_in_all lists.now) }
+    ensures given { IfOk result (λ b. AreSheetsBy F.Fn rule b.history) }
+    ensures full { IfErr result (λ fault. fault ≡ Full → 1000000 < stems_in_all lists.now) }
 {
     let mut book = Book::open(alloc, instruction, rule, CAPACITY)?;
     let mut planner = Planner::make(alloc, book.sheet().clone()?)?;

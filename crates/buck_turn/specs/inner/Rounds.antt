@@ -1,5 +1,5 @@
 -- Rounds that are half done: which harvesters had their turn in the last.
-use Rattle.std.specs.Prelude.{◌≡◌, ℕ, ◌+◌, ◌<◌, ◌≤◌, ◌⊎◌, List, [], ◌∷◌, ◌++◌, length, map, take, cond, Option, Some, nat_lt}
+use Rattle.std.specs.Prelude.{◌≡◌, ℕ, zero, suc, ◌+◌, ◌<◌, ◌≤◌, ◌⊎◌, List, [], ◌∷◌, ◌++◌, length, map, take, cond, Option, Some, nat_lt}
 use Rattle.std.specs.List.{AllByRecursion}
 use Rattle.std.specs.declared.sync.Arc.{Arc}
 use Rattle.std.specs.declared.vec.Vec.{Vec}
@@ -47,3 +47,9 @@ pub record IsCutOf (harvester : ℕ) (stem : StemParts) (before after : List Pos
   pub same_stem : entry.stem ≡ stem
   pub number_is_next : entry.number ≡ calls_of harvester before + 1
   pub added : after ≡ before ++ Cut entry ∷ []
+
+-- how many stems were cut in so many rounds, and by the first k harvesters in the next
+abbrev pub cut_in : ℕ → ℕ → List (Vec (Arc Stem Global) Global) → ℕ
+cut_in rounds k [] = 0
+cut_in rounds zero (list ∷ more) = length (take rounds list.items) + cut_in rounds zero more
+cut_in rounds (suc k) (list ∷ more) = length (take (rounds + 1) list.items) + cut_in rounds k more
