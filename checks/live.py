@@ -86,6 +86,13 @@ def main():
         subprocess.run([program, *words], cwd=folder, check=True, stdout=subprocess.DEVNULL)
         same = pathlib.Path(folder, "live.jrn").read_bytes() == pathlib.Path(folder, "fleet.jrn").read_bytes()
         expect(same, "the journals of live and of a fleet of one harvester differ")
+        # The words of a refused request come before its answer.
+        asked = Asked(program, folder, "--explain", "pine.apt", stderr=subprocess.STDOUT)
+        asked.ask(stems[0])
+        told = [asked.ask(b"951 1 7")[0], asked.line()]
+        words = b"standard input, line 2: species (952 1) of stem 7: not there, one wanted"
+        expect(told == [words, b"stm 1 fault 3 952 1"], f"a refused request was told as {told}")
+        expect(asked.end() == (b"", 0), "something is said after the last request")
         # A reader that goes away: nothing is said of it, and what was cut stands in the journal.
         asked = Asked(program, folder, "--journal", "left.jrn", "pine.apt", stderr=subprocess.PIPE)
         asked.ran.stdout.close()

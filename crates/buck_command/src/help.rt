@@ -7,7 +7,19 @@ file. Without a command, an instruction file, a | and a stem file are read from
 standard input.";
 
 /// The version, and the logic by which the toolchain proved it.
-pub(crate) const VERSION: &str = "0.1.0 (logic dac8208d650f15bf)";
+const VERSION: &str = "0.1.0 (logic dac8208d650f15bf)";
+
+/// The same with the commit, which `git archive` writes between the dollars and in their place.
+const VERSION_OF_COMMIT: &str = "0.1.0 (commit $Format:%h$, logic dac8208d650f15bf)";
+
+/// What is said of the version: of a program that was built from an archive of a commit, that commit too.
+pub(crate) fn version() -> &'static str {
+    if VERSION_OF_COMMIT.contains('$') {
+        VERSION
+    } else {
+        VERSION_OF_COMMIT
+    }
+}
 
 /// What the commands come to, and how any run ends.
 pub(crate) const COMMANDS: &str =

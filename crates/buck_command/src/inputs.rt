@@ -1,5 +1,8 @@
 //! Standard input and standard output in the place of files.
-use buck_engine::{Make, Open};
+use crate::teller::Teller;
+use buck_apt::Instruction;
+use buck_engine::{EngineFault, Make, Open};
+use buck_live::Replies;
 use std::alloc::Global;
 use std::cell::{Cell, RefCell};
 use std::io;
@@ -181,6 +184,36 @@ impl<'a, 'b, W: io::Write> io::Write for Shared<'a, 'b, W> {
             self.outlet.note(error);
         }
         flushed
+    }
+}
+
+/// Standard output, where it is said in words why a request is refused before that is answered.
+#[derive(Drop)]
+pub(crate) struct Spoken<'a, 'b, 'c, 'd, W, E, S, C> {
+    pub(crate) output: Shared<'a, 'b, W>,
+    pub(crate) teller: &'c Teller<'d, E, S, C>,
+}
+
+impl<'a, 'b, 'c, 'd, W: io::Write, E, S, C> io::Write for Spoken<'a, 'b, 'c, 'd, W, E, S, C> {
+    fn write(&mut self, buf: &[u8]) -> io::Result<usize> {
+        self.output.write(buf)
+    }
+
+    fn flush(&mut self) -> io::Result<()> {
+        self.output.flush()
+    }
+}
+
+impl<'a, 'b, 'c, 'd, W: io::Write, E: io::Write, S: io::Write + Copy + Drop, C: Copy + Drop> Replies
+    for Spoken<'a, 'b, 'c, 'd, W, E, S, C> {
+    fn hear(
+        &mut self,
+        line: &[u8],
+        fits: bool,
+        instruction: &Instruction,
+        answer: &Result<Vec<u8>, EngineFault>,
+    ) {
+        self.teller.hear(line, fits, instruction, answer);
     }
 }
 

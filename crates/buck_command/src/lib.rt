@@ -11,9 +11,11 @@ mod line;
 mod notes;
 mod progress;
 mod reason;
+mod refusing;
 mod running;
 mod served;
 mod subject;
+mod teller;
 mod words;
 mod working;
 

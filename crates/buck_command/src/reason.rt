@@ -25,7 +25,7 @@ pub(crate) struct Inquest<'a, A> {
 }
 
 /// The name of standard input.
-const INPUT: &str = "standard input";
+pub(crate) const INPUT: &str = "standard input";
 
 /// The name of what stands there behind the bar.
 const BEHIND: &str = "standard input, after the |";

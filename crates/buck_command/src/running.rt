@@ -5,14 +5,15 @@ use crate::served::{Place, serve_told};
 use crate::words::{Asked, Unasked, help_text, parse};
 use crate::working::Streams;
 use buck_engine::{EngineFault, Make, Open, conclude, explain};
+use buck_reason::Shown;
 use buck_told::sentence;
 use clap::Error;
 use clap::error::ErrorKind;
 use std::alloc::{AllocError, Global};
-use std::io;
 use std::sync::Wait;
 use std::thread::Threads;
 use std::time::Clock;
+use std::{fmt, io};
 
 /// What is said where a word of the command line is no text.
 const NO_TEXT: &[u8] =
@@ -67,6 +68,27 @@ Usage: buckfleet explain <LINE>...
 For more information, try '--help'.
 ";
 
+/// Lines as they may go to a terminal, which no word that stands in them can steer.
+#[derive(Clone, Copy)]
+struct Lines<'a>(&'a str);
+
+impl fmt::Display for Lines<'_> {
+    fn fmt<W: fmt::Write>(&self, f: &mut fmt::Formatter<W>) -> fmt::Result {
+        let mut before = "";
+        for line in self.0.split('\n') {
+            write!(f, "{before}{}", Shown(line.as_bytes()))?;
+            before = "\n";
+        }
+        Ok(())
+    }
+}
+
+/// What `clap` says.
+fn said(alloc: Global, error: &Error) -> Result<String, AllocError> {
+    let text = format!(in alloc; "{error}")?;
+    format!(in alloc; "{}", Lines(text.as_str()))
+}
+
 /// Says help or the version on the output, and what is wrong with the words on the errors. The answer is the exit
 /// status.
 fn explain_words<R, W: io::Write, E: io::Write>(
@@ -77,7 +99,7 @@ fn explain_words<R, W: io::Write, E: io::Write>(
     if error.kind() == ErrorKind::OutOfMemory {
         return conclude(&mut streams.errors, &Err(EngineFault::Memory));
     }
-    match format!(in alloc; "{error}") {
+    match said(alloc, error) {
         Ok(text) => explain(
             &mut streams.output,
             &mut streams.errors,

@@ -1,10 +1,11 @@
 //! Work that is done between the streams of a run, and what is said of it.
 use crate::again::Again;
-use crate::inputs::{Copied, Drawn, Inlet, Outlet, Shared, Streamed};
+use crate::inputs::{Copied, Drawn, Inlet, Outlet, Shared, Spoken, Streamed};
 use crate::line::FaultLine;
 use crate::progress::{Progress, Screen, Watched};
 use crate::reason::Inquest;
 use crate::subject::Subject;
+use crate::teller::Teller;
 use crate::words::Request;
 use crate::working::{Streams, serve_work};
 use buck_engine::{EngineFault, Make, Open, conclude, explain};
@@ -49,16 +50,17 @@ fn serve_lent<
     C: Clock + Copy + Drop + Sync,
     R: io::Read,
     W: io::Write,
+    E: io::Write,
 >(
     rt: &T,
     alloc: Global,
     request: &Request<'_>,
     files: O,
-    screen: Option<Screen<S, C>>,
     inlet: &Inlet<'_, R>,
     outlet: &Outlet<'_, W>,
+    teller: &Teller<'_, E, S, C>,
 ) -> Ended {
-    let screen = if request.quiet { None } else { screen };
+    let screen = if request.quiet { None } else { teller.screen };
     let progress = Progress::on(alloc, screen);
     let streamed = Streamed {
         files,
@@ -68,7 +70,10 @@ fn serve_lent<
     let mut watched = Watched::of(streamed, &progress);
     let mut streams = Streams {
         input: Drawn { inlet },
-        output: Shared { outlet },
+        output: Spoken {
+            output: Shared { outlet },
+            teller,
+        },
         errors: FaultLine::none(),
     };
     let status = serve_work(
@@ -86,39 +91,18 @@ fn serve_lent<
     }
 }
 
-/// Says what was wrong, in words: on the errors where that is asked for, and else on the screen.
-pub(crate) fn say_reason<S: io::Write + Copy + Drop, C: Drop, E: io::Write>(
-    text: &str,
-    explain: bool,
-    screen: Option<Screen<S, C>>,
-    errors: &mut E,
-) {
-    if explain {
-        let _ = errors.write_all(text.as_bytes());
-        return;
-    }
-    if let Some(screen) = screen {
-        let mut writer = screen.writer;
-        let _ = writer.write_all(text.as_bytes());
-    }
-}
-
 /// Says on the screen what is noted behind the work, where that isn't to be quiet.
-fn say_notes<A: Again, S: io::Write + Copy + Drop, C: Drop>(
+fn say_notes<A: Again, E: io::Write, S: io::Write + Copy + Drop, C: Copy + Drop>(
     alloc: Global,
     request: &Request<'_>,
-    screen: Option<Screen<S, C>>,
+    teller: &Teller<'_, E, S, C>,
     inquest: &mut Inquest<'_, A>,
 ) {
-    if request.quiet {
+    if request.quiet || teller.screen.is_none() {
         return;
     }
-    let Some(screen) = screen else {
-        return;
-    };
     if let Ok(text) = inquest.notes(alloc, &request.work) {
-        let mut writer = screen.writer;
-        let _ = writer.write_all(text.as_bytes());
+        teller.show(text.as_str());
     }
 }
 
@@ -149,12 +133,12 @@ pub(crate) fn serve_told<
         return explain(&mut streams.output, &mut streams.errors, TWICE, true);
     }
     let Place { files, mut again } = place;
-    let is_told = request.explain || screen.is_some();
+    let teller = Teller::of(alloc, &mut streams.errors, request.explain, screen);
     // Requests go on for as long as somebody fells: they are not kept.
-    let copies = is_told && !request.work.has_requests();
+    let copies = teller.is_told() && !request.work.has_requests();
     let inlet = Inlet::of(&mut streams.input, Copied::none(alloc, copies));
     let outlet = Outlet::of(&mut streams.output);
-    let ended = serve_lent(rt, alloc, request, files, screen, &inlet, &outlet);
+    let ended = serve_lent(rt, alloc, request, files, &inlet, &outlet, &teller);
     let copied = inlet.into_copied();
     let line = ended.line.text();
     if outlet.is_gone() && line == UNWRITTEN {
@@ -167,12 +151,12 @@ pub(crate) fn serve_told<
         again: &mut again,
     };
     if line.is_empty() {
-        say_notes(alloc, request, screen, &mut inquest);
-    } else if is_told {
+        say_notes(alloc, request, &teller, &mut inquest);
+    } else if teller.is_told() {
         if let Ok(Some(text)) = inquest.reason(alloc, line) {
-            say_reason(text.as_str(), request.explain, screen, &mut streams.errors);
+            teller.say(text.as_str());
         }
     }
-    let _ = streams.errors.write_all(ended.line.as_bytes());
+    teller.write(ended.line.as_bytes());
     ended.status
 }

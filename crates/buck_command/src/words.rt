@@ -235,7 +235,7 @@ fn with_told<'a>(
 
 fn command<'a>(alloc: Global) -> Result<Command<'a>, Error> {
     let program = Command::new(alloc, "buckfleet")
-        .version(help::VERSION)
+        .version(help::version())
         .about(help::PROGRAM)
         .after_long_help(help::COMMANDS)
         .arg(explained(alloc))?;

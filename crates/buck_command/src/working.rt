@@ -8,7 +8,7 @@ use buck_engine::{
     BuckTask, CheckTask, FleetTask, Make, Onlooker, Open, Task, ViewTask, serve, serve_buck,
     serve_check, serve_fleet, serve_view,
 };
-use buck_live::{LiveTask, serve_live};
+use buck_live::{LiveTask, Replies, serve_live};
 use buck_sweep::{SweepTask, serve_sweep};
 use std::alloc::Global;
 use std::io;
@@ -62,7 +62,7 @@ pub fn serve_work<
     L: Onlooker + Sync,
     O: Open + Make,
     R: io::Read,
-    W: io::Write,
+    W: Replies,
     E: io::Write,
 >(
     rt: &T,

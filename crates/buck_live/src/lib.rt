@@ -7,11 +7,13 @@
 mod answering;
 mod lines;
 mod live;
+mod replies;
 mod request;
 mod serving;
 mod slots;
 
 pub use buck_apt::Settings;
 pub use live::Live;
+pub use replies::Replies;
 pub use request::{Asked, Request, read_request};
 pub use serving::{LiveTask, serve_live};

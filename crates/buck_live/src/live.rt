@@ -11,6 +11,7 @@ ghost use Rattle.buck_live.specs.inner.Running.{IsSaid, IsStep};
 
 use crate::answering::answer;
 use crate::lines::{End, LONGEST, read_bytes, whole};
+use crate::replies::Replies;
 use buck_apt::Instruction;
 use buck_book::Book;
 use buck_dp::Planner;
@@ -75,7 +76,7 @@ fn say<W: io::Write>(out: &mut W, answer: &Result<Vec<u8>, EngineFault>) -> Resu
 }
 
 /// Reads the next line and answers it.
-fn answer_next<F: Fn(&Standing) -> u64 + Drop, R: io::Read, W: io::Write>(
+fn answer_next<F: Fn(&Standing) -> u64 + Drop, R: io::Read, W: Replies>(
     alloc: Global,
     book: &mut Book<F>,
     planner: &mut Planner,
@@ -96,12 +97,13 @@ fn answer_next<F: Fn(&Standing) -> u64 + Drop, R: io::Read, W: io::Write>(
         return Err(EngineFault::Read { file: 1 });
     };
     let answer = answer(alloc, book, planner, whole(line.as_slice(), found));
+    out.hear(line.as_slice(), found.fits, book.instruction(), &answer);
     say(out, &answer)?;
     Ok(found.end)
 }
 
 /// Reads all lines and answers each before it reads the next.
-fn answer_all<F: Fn(&Standing) -> u64 + Drop, R: io::Read, W: io::Write>(
+fn answer_all<F: Fn(&Standing) -> u64 + Drop, R: io::Read, W: Replies>(
     alloc: Global,
     book: &mut Book<F>,
     planner: &mut Planner,
@@ -158,11 +160,11 @@ impl<F: Fn(&Standing) -> u64 + Drop> Live<F> {
 
     /// Reads requests, one a line, and answers each before it reads the next: no byte of the input is asked for while
     /// an answer isn't written and flushed. The input is read byte by byte; a slow one is to be buffered. It goes on to
-    /// the end of the input, whatever is refused.
+    /// the end of the input, whatever is refused. The output hears of each line and its answer before that is written.
     ///
     /// `Read` with the number 1 comes where the input can't be read, and `Write` where an answer can't be written; what
     /// was cut before stands, and so does what an answer says that wasn't written.
-    pub fn run<R: io::Read, W: io::Write>(
+    pub fn run<R: io::Read, W: Replies>(
         &mut self,
         alloc: Global,
         input: &mut R,

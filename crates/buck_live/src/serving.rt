@@ -10,6 +10,7 @@ ghost use Rattle.buck_live.specs.Serving.{KeepsJournal, RunsLive, first_fault};
 ghost use Rattle.buck_live.specs.inner.Served.{IsLiveMade, KeepsMade, MakesJournal};
 
 use crate::live::Live;
+use crate::replies::Replies;
 use buck_apt::{Instruction, Settings};
 use buck_engine::{
     EngineFault, Make, NamedRule, Open, conclude, open_inputs, read_instruction, write_text,
@@ -99,7 +100,7 @@ fn first_fault(
 }
 
 /// Answers requests by a book of an instruction, and then writes its journal, where one is wanted, however that ended.
-fn live_made<F: Fn(&Standing) -> u64 + Drop, R: io::Read, J: io::Write + Drop, W: io::Write>(
+fn live_made<F: Fn(&Standing) -> u64 + Drop, R: io::Read, J: io::Write + Drop, W: Replies>(
     alloc: Global,
     instruction: Instruction,
     rule: Rule<F>,
@@ -119,7 +120,7 @@ fn live_made<F: Fn(&Standing) -> u64 + Drop, R: io::Read, J: io::Write + Drop, W
 
 /// Opens the instruction file by its name, then makes the file of the journal, where one is wanted, and then answers
 /// the requests of the input.
-fn live_files<F: Fn(&Standing) -> u64 + Drop, R: io::Read, O: Open + Make, W: io::Write>(
+fn live_files<F: Fn(&Standing) -> u64 + Drop, R: io::Read, O: Open + Make, W: Replies>(
     alloc: Global,
     task: &LiveTask<'_>,
     rule: Rule<F>,
@@ -138,7 +139,7 @@ fn live_files<F: Fn(&Standing) -> u64 + Drop, R: io::Read, O: Open + Make, W: io
 }
 
 /// Does what the task asks for, by its rule.
-fn run_live_task<R: io::Read, O: Open + Make, W: io::Write>(
+fn run_live_task<R: io::Read, O: Open + Make, W: Replies>(
     alloc: Global,
     task: &LiveTask<'_>,
     input: &mut R,
@@ -170,8 +171,9 @@ fn run_live_task<R: io::Read, O: Open + Make, W: io::Write>(
 /// The instruction file is opened, then the file of the journal is made, where one is wanted, and then the instruction
 /// is read, with the numbers of the task in the place of its own. Faults until then are those of
 /// [`read_instruction`]; no request is read then. After the last request, or where the input can't be read or an answer
-/// can't be written, the journal of all that was cut is written.
-pub fn serve_live<R: io::Read, O: Open + Make, W: io::Write, E: io::Write>(
+/// can't be written, the journal of all that was cut is written. The output hears of each line and its answer before
+/// that is written.
+pub fn serve_live<R: io::Read, O: Open + Make, W: Replies, E: io::Write>(
     alloc: Global,
     task: &LiveTask<'_>,
     input: &mut R,

@@ -7,23 +7,23 @@ use buck_journal::Journal;
 use buck_reason::{Several, Source};
 use buck_record::Memory;
 use std::alloc::Global;
+use std::cmp::Ordering;
 use std::fmt;
 use std::sync::Arc;
 
 /// The prices that a class may have.
 #[derive(Clone, Copy)]
-struct Allowed {
-    least: u64,
-    most: u64,
+enum Allowed {
+    One(u64),
+    /// From the first to the second, which a span of 0 leaves the same.
+    Between(u64, u64),
 }
 
 impl fmt::Display for Allowed {
     fn fmt<W: fmt::Write>(&self, f: &mut fmt::Formatter<W>) -> fmt::Result {
-        let Allowed { least, most } = *self;
-        if least == most {
-            write!(f, "{least}")
-        } else {
-            write!(f, "{least} to {most}")
+        match *self {
+            Allowed::One(price) => write!(f, "{price}"),
+            Allowed::Between(least, most) => write!(f, "{least} to {most}"),
         }
     }
 }
@@ -69,17 +69,10 @@ fn allowed_prices(
         .saturating_mul(targets);
     let target = u64::from(ledger.wanted.get(place).copied().unwrap_or(0));
     let wanted = target.saturating_mul(counts);
-    Allowed {
-        least: if cut > wanted {
-            base.saturating_sub(span)
-        } else {
-            base
-        },
-        most: if cut < wanted {
-            base.saturating_add(span)
-        } else {
-            base
-        },
+    match cut.cmp(&wanted) {
+        Ordering::Equal => Allowed::One(base),
+        Ordering::Less => Allowed::Between(base, base.saturating_add(span)),
+        Ordering::Greater => Allowed::Between(base.saturating_sub(span), base),
     }
 }
 
