@@ -74,10 +74,13 @@ struct Lines<'a>(&'a str);
 
 impl fmt::Display for Lines<'_> {
     fn fmt<W: fmt::Write>(&self, f: &mut fmt::Formatter<W>) -> fmt::Result {
-        let mut before = "";
+        let mut is_first = true;
         for line in self.0.split('\n') {
-            write!(f, "{before}{}", Shown(line.as_bytes()))?;
-            before = "\n";
+            if !is_first {
+                f.write_str("\n")?;
+            }
+            is_first = false;
+            write!(f, "{}", Shown(line.as_bytes()))?;
         }
         Ok(())
     }
