@@ -13,7 +13,7 @@
 #include <stdlib.h>
 #include <string.h>
 
-enum { ROOM = 1 << 18, CALLS = 5, THREADS = 64, ROUNDS = 3 };
+enum { ROOM = 1 << 18, CALLS = 9, THREADS = 64, ROUNDS = 3 };
 
 static int wrong = 0;
 
@@ -59,7 +59,7 @@ void __wrap_free(void *block) {
     __real_free(block);
 }
 
-/* ---- the calls, by number: three that are answered, and two that are refused ---- */
+/* ---- the calls, by number: five that are answered, one that is unlawful, and three that are refused ---- */
 
 struct bytes {
     const uint8_t *at;
@@ -68,7 +68,22 @@ struct bytes {
 
 static struct bytes apt, stm, journal;
 
+/* A journal of its head alone has no sheet, so it isn't lawful. */
+static const struct bytes head = { (const uint8_t *)"1 2 JRN~", 8 };
+
 typedef uint8_t call(const uint8_t *, size_t, const uint8_t *, size_t, uint8_t *, size_t, size_t *);
+
+/* A journal's page and a table of it. */
+static uint8_t view(const uint8_t *first, size_t first_length, const uint8_t *second, size_t second_length, uint8_t *text,
+                    size_t room, size_t *length) {
+    static const uint8_t names[] = "a\nb";
+    return buckfleet_view(first, first_length, second, second_length, names, 3, text, room, length);
+}
+
+static uint8_t table(const uint8_t *first, size_t first_length, const uint8_t *second, size_t second_length, uint8_t *text,
+                     size_t room, size_t *length) {
+    return buckfleet_table(first, first_length, second, second_length, BUCKFLEET_LOGS, text, room, length);
+}
 
 static const struct {
     const char *name;
@@ -81,6 +96,10 @@ static const struct {
     { "report", buckfleet_report, &apt, &journal, BUCKFLEET_OK },
     { "buck, swapped", buckfleet_buck, &stm, &apt, BUCKFLEET_REFUSED },
     { "report of stems", buckfleet_report, &apt, &stm, BUCKFLEET_REFUSED },
+    { "view", view, &apt, &journal, BUCKFLEET_OK },
+    { "view of a head", view, &apt, &head, BUCKFLEET_UNLAWFUL },
+    { "table", table, &apt, &journal, BUCKFLEET_OK },
+    { "table of stems", table, &apt, &stm, BUCKFLEET_REFUSED },
 };
 
 /* The text of each call where memory is ample. */
@@ -146,43 +165,24 @@ static void rooms(int k) {
     want(all_are(text, 0xff, needed, ROOM), "the rest is as it was");
 }
 
-/* The page and the tables of a journal, which want one word more. */
+/* The page and each table of a journal. */
 static void shown(void) {
-    static uint8_t text[ROOM], again[ROOM];
-    static const uint8_t names[] = "a\nb";
-    size_t n = 0, needed;
-    uint8_t table;
+    static uint8_t text[ROOM];
+    size_t n = 9;
+    uint8_t number;
     want(buckfleet_view(NULL, 0, NULL, 0, NULL, 0, text, ROOM, &n) == BUCKFLEET_REFUSED, "a page of nothing");
-    want(memcmp(text, "apt fault ", 10) == 0, "its line");
-    want(buckfleet_view(apt.at, apt.length, journal.at, journal.length, names, 3, NULL, 0, &n) == BUCKFLEET_TOO_SMALL,
-         "a page with no room");
-    needed = n;
-    want(needed > 0 && needed < ROOM, "the length of a page");
-    memset(text, 0xff, ROOM);
-    want(buckfleet_view(apt.at, apt.length, journal.at, journal.length, names, 3, text, needed - 1, &n)
-             == BUCKFLEET_TOO_SMALL && all_are(text, 0xff, 0, ROOM), "a room one too small for a page");
-    want(buckfleet_view(apt.at, apt.length, journal.at, journal.length, names, 3, text, needed, &n) == BUCKFLEET_OK
-             && n == needed && memcmp(text, "<!", 2) == 0 && all_are(text, 0xff, needed, ROOM), "a page");
-    want(buckfleet_view(apt.at, apt.length, journal.at, journal.length, NULL, 0, text, ROOM, &n) == BUCKFLEET_OK,
-         "a page without names");
-    for (table = BUCKFLEET_CLASSES; table <= BUCKFLEET_DEGREES; table++) {
-        want(buckfleet_table(NULL, 0, NULL, 0, table, text, ROOM, &n) == BUCKFLEET_REFUSED, "a table of nothing");
-        want(buckfleet_table(apt.at, apt.length, journal.at, journal.length, table, NULL, 0, &n) == BUCKFLEET_TOO_SMALL,
-             "a table with no room");
-        needed = n;
-        memset(again, 0xff, ROOM);
-        want(buckfleet_table(apt.at, apt.length, journal.at, journal.length, table, again, needed - 1, &n)
-                 == BUCKFLEET_TOO_SMALL && all_are(again, 0xff, 0, ROOM), "a room one too small for a table");
-        want(buckfleet_table(apt.at, apt.length, journal.at, journal.length, table, again, needed, &n) == BUCKFLEET_OK
-                 && n == needed && all_are(again, 0xff, needed, ROOM), "a table");
+    want(buckfleet_view(apt.at, apt.length, journal.at, journal.length, NULL, 0, text, ROOM, &n) == BUCKFLEET_OK
+             && memcmp(text, "<!", 2) == 0, "a page without names");
+    for (number = BUCKFLEET_CLASSES; number <= BUCKFLEET_DEGREES; number++) {
+        want(buckfleet_table(NULL, 0, NULL, 0, number, text, ROOM, &n) == BUCKFLEET_REFUSED, "a table of nothing");
+        want(buckfleet_table(apt.at, apt.length, journal.at, journal.length, number, text, ROOM, &n) == BUCKFLEET_OK
+                 && n > 0, "a table");
     }
-    n = 9;
     want(buckfleet_table(apt.at, apt.length, journal.at, journal.length, 4, NULL, 0, &n) == BUCKFLEET_MISUSED && n == 0,
          "no such table");
 }
 
 static void edges(void) {
-    static const char head[] = "1 2 JRN~";
     uint8_t text[64];
     size_t n;
     int k;
@@ -198,7 +198,7 @@ static void edges(void) {
     want(memcmp(right[2].text, "ENTRY 0 ", 8) == 0, "a report");
     want(memcmp(right[3].text, "apt fault 2\n", 12) == 0 && right[3].length == 12, "files swapped");
     want(memcmp(right[4].text, "journal fault ", 14) == 0, "stems in the place of a journal");
-    want(buckfleet_check(apt.at, apt.length, (const uint8_t *)head, sizeof head - 1, text, sizeof text, &n)
+    want(buckfleet_check(apt.at, apt.length, head.at, head.length, text, sizeof text, &n)
              == BUCKFLEET_UNLAWFUL && n == 17 && memcmp(text, "replay fault 1 0\n", 17) == 0, "a journal of its head alone");
 }
 
@@ -409,21 +409,37 @@ static void refusals(buckfleet_book *book) {
     want(buckfleet_degree(book, 16, &degree) == BUCKFLEET_MISUSED && degree == 17, "no such assortment");
 }
 
-/* Lists with too little room, and just enough. */
-static void lists(buckfleet_book *book, const struct day *day) {
+/* A list of a book with too little room, and just enough. */
+static void list(buckfleet_book *book, uint8_t (*of)(buckfleet_book *, uint32_t *, size_t, size_t *), size_t length,
+                 const char *what) {
     static uint32_t numbers[MOST_CLASSES];
+    size_t n = 0;
+    memset(numbers, 0xff, sizeof numbers);
+    want(of(book, NULL, 0, &n) == BUCKFLEET_TOO_SMALL && n == length, what);
+    want(of(book, numbers, length - 1, &n) == BUCKFLEET_TOO_SMALL && n == length, what);
+    want(all_are((uint8_t *)numbers, 0xff, 0, sizeof numbers), what);
+    want(of(book, numbers, length, &n) == BUCKFLEET_OK && n == length, what);
+    want(all_are((uint8_t *)numbers, 0xff, 4 * length, sizeof numbers) && numbers[length - 1] != UINT32_MAX, what);
+}
+
+/* How a book stands, as it is shown. */
+static void lists(buckfleet_book *book, const struct day *day) {
     static uint8_t text[ROOM];
+    uint8_t line[64];
     buckfleet_standing standing;
+    uint32_t degree = BUCKFLEET_NO_DEGREE;
     size_t n = 0;
     want(buckfleet_state(book, &standing) == BUCKFLEET_OK && standing.postings == STEMS + 1, "the standing");
     want(standing.capacity == terms.capacity && standing.classes == day->prices_length, "and its numbers");
-    want(buckfleet_prices(book, NULL, 0, &n) == BUCKFLEET_TOO_SMALL && n == day->prices_length, "no room for prices");
-    want(buckfleet_counts(book, numbers, n - 1, &n) == BUCKFLEET_TOO_SMALL && numbers[0] == 0, "too little for counts");
-    want(buckfleet_targets(book, numbers, n, &n) == BUCKFLEET_OK && n == day->prices_length, "just enough");
-    want(buckfleet_journal(book, text, day->journal_length - 1, &n) == BUCKFLEET_TOO_SMALL && text[0] == 0, "a journal");
+    list(book, buckfleet_prices, standing.classes, "prices");
+    list(book, buckfleet_targets, standing.classes, "targets");
+    list(book, buckfleet_counts, standing.classes, "counts");
+    want(buckfleet_degree(book, 0, &degree) == BUCKFLEET_OK && degree <= 10000, "a degree");
+    want(buckfleet_journal(book, NULL, 0, &n) == BUCKFLEET_TOO_SMALL && n == day->journal_length, "no room for a journal");
+    want(buckfleet_journal(book, text, day->journal_length - 1, &n) == BUCKFLEET_TOO_SMALL && text[0] == 0, "too little");
     want(n == day->journal_length && buckfleet_journal(book, text, n, &n) == BUCKFLEET_OK, "and just enough");
     want(memcmp(text, day->journal, n) == 0, "the same journal");
-    want(buckfleet_check(apt.at, apt.length, text, n, text, ROOM, &n) == BUCKFLEET_OK, "a lawful journal");
+    want(buckfleet_check(apt.at, apt.length, text, n, line, sizeof line, &n) == BUCKFLEET_OK, "a lawful journal");
 }
 
 static void full_book(void) {
@@ -443,6 +459,7 @@ static void refused_days(const struct day *right_day) {
     long n, all = 0;
     for (n = 1;; n++) {
         buckfleet_book book = BUCKFLEET_NO_BOOK;
+        uint8_t line[64];
         uint8_t status;
         int is_open;
         taken = 0;
@@ -455,7 +472,7 @@ static void refused_days(const struct day *right_day) {
         if (status == BUCKFLEET_MEMORY && is_open) {
             size_t length = 0;
             want(buckfleet_journal(&book, day->journal, ROOM, &length) == BUCKFLEET_OK, "the book goes on");
-            want(buckfleet_check(apt.at, apt.length, day->journal, length, day->journal, ROOM, &length) == BUCKFLEET_OK,
+            want(buckfleet_check(apt.at, apt.length, day->journal, length, line, sizeof line, &length) == BUCKFLEET_OK,
                  "and is lawful");
         }
         want(buckfleet_close(&book) == (is_open ? BUCKFLEET_OK : BUCKFLEET_CLOSED), "a close");

@@ -1,0 +1,7 @@
+use Rattle.std.proofs.Common.{◌≡◌}
+use Rattle.bench_stems.proofs.cut_all.Given as goal
+
+abbrev pub invariant-loop-stem : goal.invariant-loop-stem
+invariant-loop-stem g l = record {
+  rule : l.book.rule ≡ l.fn.book.rule;
+}

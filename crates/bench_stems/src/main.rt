@@ -1,0 +1,120 @@
+//! Cuts the stems of a file some times over into a book of one thread, by the linear rule: each stem by the planner that
+//! is kept, `prepare` and `commit`. The words: an instruction file, a stem file, and how often. It prints how many entries
+//! and sheets the book has, and what all cuttings are worth: bench/stems.py counts the instructions of that, and of the
+//! same stems through the C library.
+#![tactic(auto)]
+
+ghost use Rattle.std.specs.Prelude.{◌≡◌};
+ghost use Rattle.buck_rule.specs.Stored.{Answers};
+
+use buck_apt::read_apt;
+use buck_book::{Book, Plan};
+use buck_dp::Planner;
+use buck_rule::{Rule, Standing, linear};
+use buck_stem::{Stem, read_stm};
+use std::alloc::Global;
+use std::process::ExitCode;
+use std::sync::Arc;
+use std::{env, fs};
+
+/// Cuts a stem under the sheet in force, and gives what the cutting is worth.
+fn cut_one<F: Fn(&Standing) -> u64 + Drop>(
+    alloc: Global,
+    book: &mut Book<F>,
+    planner: &mut Planner,
+    stem: &Arc<Stem>,
+) -> Option<u64>
+    requires { Answers F.Fn book.old.rule }
+    ensures { book.new.rule ≡ book.old.rule }
+{
+    if !planner.sheet().same(book.sheet()) {
+        planner.renew(alloc, book.sheet().clone().ok()?).ok()?;
+    }
+    let Ok(plan) = Plan::make_with(alloc, planner, stem.clone().ok()?) else {
+        return None;
+    };
+    let Ok(ready) = book.prepare(alloc, &plan) else {
+        return None;
+    };
+    let entry = book.commit(ready, 1, plan);
+    Some(entry.worth)
+}
+
+/// Cuts all stems, and gives what the cuttings are worth together.
+fn cut_all<F: Fn(&Standing) -> u64 + Drop>(
+    alloc: Global,
+    book: &mut Book<F>,
+    planner: &mut Planner,
+    stems: &[Arc<Stem>],
+) -> Option<u64>
+    requires { Answers F.Fn book.old.rule }
+    ensures { book.new.rule ≡ book.old.rule }
+{
+    let mut worth = 0u64;
+    for stem in stems {
+        worth = worth.wrapping_add(cut_one(alloc, book, planner, stem)?);
+    }
+    Some(worth)
+}
+
+/// Cuts all stems so often.
+fn cut_often<F: Fn(&Standing) -> u64 + Drop>(
+    alloc: Global,
+    book: &mut Book<F>,
+    stems: &[Arc<Stem>],
+    times: u32,
+) -> Option<u64>
+    requires { Answers F.Fn book.old.rule }
+{
+    let mut planner = Planner::make(alloc, book.sheet().clone().ok()?).ok()?;
+    let mut worth = 0u64;
+    for _ in 0..times {
+        worth = worth.wrapping_add(cut_all(alloc, book, &mut planner, stems)?);
+    }
+    Some(worth)
+}
+
+/// The stems of a file.
+fn stems_of(rt: &HostRuntime, file: &str) -> Option<Vec<Arc<Stem>>> {
+    let bytes = fs::read(rt, file).ok()?;
+    let mut stems = Vec::new(rt.alloc());
+    for stem in read_stm(rt.alloc(), bytes.as_slice()).ok()? {
+        stems.push(Arc::new(rt.alloc(), stem).ok()?).ok()?;
+    }
+    Some(stems)
+}
+
+/// Cuts the stems of a file so often, and prints what came of it.
+fn run(rt: &HostRuntime, apt: &str, stm: &str, times: u32) -> Option<()> {
+    let bytes = fs::read(rt, apt).ok()?;
+    let instruction = read_apt(rt.alloc(), bytes.as_slice()).ok()?;
+    let instruction = Arc::new(rt.alloc(), instruction).ok()?;
+    let stems = stems_of(rt, stm)?;
+    let rule = Rule::new(|s: &Standing| linear(s));
+    let mut book = Book::open(rt.alloc(), instruction, rule, 1_000_000).ok()?;
+    let worth = cut_often(rt.alloc(), &mut book, stems.as_slice(), times)?;
+    let (entries, sheets) = (book.len(), book.sheets().len());
+    let _ = println!(rt; "{entries} entries, {sheets} sheets, {worth}");
+    Some(())
+}
+
+/// What the words ask for.
+fn serve(rt: &HostRuntime, words: &[String]) -> Option<()> {
+    let apt = words.get(1)?.as_str();
+    let stm = words.get(2)?.as_str();
+    let times = words.get(3)?.as_str().parse::<u32>().ok()?;
+    run(rt, apt, stm, times)
+}
+
+fn main(rt: HostRuntime) -> ExitCode {
+    let Ok(args) = env::args(&rt) else {
+        return ExitCode::from(1);
+    };
+    let Ok(words) = args.collect::<Vec<String>>(rt.alloc()) else {
+        return ExitCode::from(1);
+    };
+    match serve(&rt, words.as_slice()) {
+        Some(()) => ExitCode::from(0),
+        None => ExitCode::from(3),
+    }
+}
