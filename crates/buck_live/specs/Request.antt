@@ -22,7 +22,6 @@ use Rattle.buck_record.specs.Table.{count_in, first_missing, first_twice, is_in}
 use Rattle.buck_record.specs.Check.{◌>>=◌, check, none_of}
 use Rattle.buck_record.specs.Rules.{slot, of_slot, has_no_strays, numbers_in, all_within}
 use Rattle.buck_record.specs.Written.{spelled}
-use Rattle.buck_stem.specs.Slots.{stem_slot, species_slot, samples_slot, zones_slot, needed_slots, member_slots}
 use Rattle.buck_stem.specs.declared.fault.StmFault.{StmFault}
 use Rattle.buck_stem.specs.declared.fault.StmFault.TheVariants.{Head, Missing, Twice, Digits, Range, Order, Count}
 use Rattle.buck_stem.specs.Faults.{stm_numbers}
@@ -37,6 +36,26 @@ harvester_slot = slot 950 1
 
 abbrev pub targets_slot : Slot
 targets_slot = slot 982 2
+
+-- the items of a stem, its number first, as a stem file has them
+abbrev pub stem_slot : Slot
+stem_slot = slot 951 1
+
+abbrev pub species_slot : Slot
+species_slot = slot 952 1
+
+abbrev pub samples_slot : Slot
+samples_slot = slot 953 1
+
+abbrev pub zones_slot : Slot
+zones_slot = slot 954 1
+
+-- what a stem must have after its number, and what it may have
+abbrev pub needed_slots : List Slot
+needed_slots = species_slot ∷ samples_slot ∷ []
+
+abbrev pub member_slots : List Slot
+member_slots = species_slot ∷ samples_slot ∷ zones_slot ∷ []
 
 -- the items of a stem
 abbrev pub stem_slots : List Slot
