@@ -5,7 +5,9 @@ ghost use Rattle.std.specs.Prelude.{◌≡◌, ◌≢◌};
 ghost use Rattle.buck_rule.specs.Stored.{Answers};
 ghost use Rattle.buck_journal.specs.Written.{journal_text};
 
-use buck_live::{Live, read_request};
+use buck_apt::Instruction;
+use buck_engine::EngineFault;
+use buck_live::{Live, Replies, read_request};
 use buck_rule::Standing;
 use std::alloc::Global;
 
@@ -48,4 +50,16 @@ pub fn journal_of_other_requests<F: Drop>(alloc: Global, live: &Live<F>, wrong: 
     if let Ok(right) = live.journal(alloc) {
         prove!(right.as_slice() != wrong);
     }
+}
+
+/// What is said to whoever looks on stands among the answers.
+pub fn words_among_the_answers(
+    alloc: Global,
+    instruction: &Instruction,
+    answer: &Result<Vec<u8>, EngineFault>,
+) {
+    let mut right = Vec::new(alloc);
+    right.hear(b"951 1 7", true, instruction, answer);
+    let wrong = b"the request is cut off".as_slice();
+    prove!(right.as_slice() != wrong);
 }
