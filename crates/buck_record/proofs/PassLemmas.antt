@@ -7,7 +7,7 @@ use Rattle.std.proofs.lemmas.List.Sums.{AllPass-from_list_all}
 use Rattle.buck_record.specs.Check.{◌>>=◌, check, each}
 use Rattle.buck_record.specs.declared.ranged.Ranged.{Ranged}
 use Rattle.buck_record.specs.declared.slot.Slot.{Slot}
-use Rattle.buck_record.specs.Rules.{of_slot, within, all_within, one_to, all_in_range, counted_to}
+use Rattle.buck_record.specs.Rules.{within, all_within, all_in_range, counted_to}
 
 module _ {E : Type 0} where
   -- a check that passed, and what stands after it
