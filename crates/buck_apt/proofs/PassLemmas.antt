@@ -8,18 +8,24 @@ use Rattle.std.proofs.lemmas.List.{length-map}
 use Rattle.std.proofs.lemmas.List.Sums.{AllPass-from_list_all, fails_before_first}
 use Rattle.buck_record.proofs.TableLemmas.{place-none}
 use Rattle.std.proofs.lemmas.Bool.{false≢true, ltb-true, ltb-false, leb-true, eqb-false, cases_Bool, cond-true, cond-false}
-use Rattle.buck_record.specs.Rules.{within, all_within, is_rising}
-use Rattle.buck_record.proofs.PassLemmas.{passed, check_ok, then_ok, each_ok, both, within_ok, all_within_ok}
+use Rattle.buck_record.specs.declared.ranged.Ranged.{Ranged}
+use Rattle.buck_record.specs.Rules.{one_to, is_rising}
+use Rattle.buck_record.proofs.PassLemmas.{AreRanged, passed, check_ok, then_ok, each_ok, both, within_ok, in_range_ok, ranged, counted_ok, counted}
 use Rattle.buck_apt.specs.declared.fault.AptFault.{AptFault}
-use Rattle.buck_apt.specs.declared.fault.AptFault.TheVariants.{Module, Targets}
+use Rattle.buck_apt.specs.declared.fault.AptFault.TheVariants.{Range, Count, Module, Targets}
+use Rattle.buck_apt.specs.declared.slots.TheConstants.{MODULE, MODULE_RANGE, PERIOD, PERIOD_RANGE, LIMIT, LIMIT_RANGE, COUNT_RANGE, LONGEST_NAME, SPECIES, SPECIES_RANGE, GRADES, GRADES_RANGE, MOST_GRADES, PRICE_KIND, PRICE_KIND_RANGE, DIAMETERS, DIAMETERS_RANGE, MOST_ROWS, UPPER, UPPER_RANGE, LENGTHS, LENGTHS_RANGE, MOST_COLUMNS, PRICES_RANGE, TARGETS_RANGE, MOST_TARGETS_TOGETHER, TRIM, TRIM_RANGE}
 use Rattle.buck_apt.specs.declared.draft.Draft.{Draft}
 use Rattle.buck_apt.specs.declared.draft.FileDraft.{FileDraft}
 use Rattle.buck_apt.specs.Instruction.{IsAssortment, IsWithin, IsNameByte, IsOnModule}
-use Rattle.buck_apt.specs.Apt.{is_name, is_name_byte, all_above, is_one, is_number_of, none_found, first_off_module, draft_range, draft_order, draft_count, in_range, in_order, in_number, on_module, in_targets, within_limits, assortment_of}
+use Rattle.buck_apt.specs.Apt.{is_name, is_name_byte, all_above, is_number_of, none_found, first_off_module, draft_range, draft_order, draft_count, in_range, in_order, in_number, on_module, in_targets, within_limits, assortment_of}
 use Rattle.buck_apt.specs.inner.Ready.{IsReadyDraft, IsReadyFile}
 
-one_within : (low high : ℕ) (ns : List ℕ) → all_within low high ns ≡ true → length ns ≡ 1 → IsWithin low high (slice_index ns 0)
-one_within low high ns h one = all_within_ok low high ns h 0 0 (omega arith)
+-- the one number of an item
+one_of : (item : Ranged) (ns : List ℕ) → AreRanged item ns → length ns ≡ 1 → IsWithin item.low item.high (slice_index ns 0)
+one_of item ns h one = h 0 0 (omega arith)
+
+one_number : (ns : List ℕ) → (1 ≤ length ns) × (length ns ≤ 1) → length ns ≡ 1
+one_number ns h = omega (arith, h)
 
 not_true : (b : Bool) → not b ≡ true → b ≡ false
 not_true true h = absurd (false≢true h)
@@ -71,100 +77,102 @@ position_none : {X : Type 0} (p : X → Bool) (xs : List X) → position p xs �
 position_none p xs h = λ k d lt. fails_before_first p xs k d (omega (arith, place-none p xs h))
 
 -- an assortment that passed
-draft_ready : (d : Draft) → draft_range d ≡ Ok tt → draft_order d ≡ Ok tt → draft_count d ≡ Ok tt → sum d.tables.targets ≤ 1000000000 → IsReadyDraft d
+draft_ready : (d : Draft) → draft_range d ≡ Ok tt → draft_order d ≡ Ok tt → draft_count d ≡ Ok tt → sum d.tables.targets ≤ MOST_TARGETS_TOGETHER → IsReadyDraft d
 unfolding draft_range draft_order draft_count
-draft_ready d ranged ordered counted few =
-    let r1 = passed (is_name d.name) _ _ ranged in
-    let r2 = passed (all_within 1 255 d.wood.species) _ _ r1.1 in
-    let r3 = passed (all_within 1 8 d.wood.grades) _ _ r2.1 in
-    let r4 = passed (all_within 1 2 d.wood.price_kind) _ _ r3.1 in
-    let r5 = passed (all_within 0 1500 d.sizes.diameters) _ _ r4.1 in
-    let r6 = passed (all_within 1 2000 d.sizes.upper) _ _ r5.1 in
-    let r7 = passed (all_within 500 30000 d.sizes.lengths) _ _ r6.1 in
-    let r8 = passed (all_within 0 10000000 d.tables.prices) _ _ r7.1 in
-    let r9 = passed (all_within 0 1000000 d.tables.targets) _ _ r8.1 in
-    let r10 = check_ok (all_within 0 200 d.tables.trim) _ r9.1 in
+draft_ready d in_ranges ordered counted_all few =
+    let r1 = passed (is_name d.name) _ _ in_ranges in
+    let r2 = ranged Range SPECIES_RANGE d.wood.species _ r1.1 in
+    let r3 = ranged Range GRADES_RANGE d.wood.grades _ r2.1 in
+    let r4 = ranged Range PRICE_KIND_RANGE d.wood.price_kind _ r3.1 in
+    let r5 = ranged Range DIAMETERS_RANGE d.sizes.diameters _ r4.1 in
+    let r6 = ranged Range UPPER_RANGE d.sizes.upper _ r5.1 in
+    let r7 = ranged Range LENGTHS_RANGE d.sizes.lengths _ r6.1 in
+    let r8 = ranged Range PRICES_RANGE d.tables.prices _ r7.1 in
+    let r9 = ranged Range TARGETS_RANGE d.tables.targets _ r8.1 in
+    let r10 = in_range_ok Range TRIM_RANGE d.tables.trim r9.1 in
     let o1 = passed (is_rising d.wood.grades) _ _ ordered in
     let o2 = passed (is_rising d.sizes.diameters) _ _ o1.1 in
     let o3 = passed (all_above d.sizes.diameters d.sizes.upper) _ _ o2.1 in
     let o4 = check_ok (is_rising d.sizes.lengths) _ o3.1 in
-    let c1 = passed (is_one d.wood.species) _ _ counted in
-    let c2 = passed (within 1 8 (length d.wood.grades)) _ _ c1.1 in
-    let c3 = passed (is_one d.wood.price_kind) _ _ c2.1 in
-    let c4 = passed (within 1 32 (length d.sizes.diameters)) _ _ c3.1 in
-    let c5 = passed (is_one d.sizes.upper) _ _ c4.1 in
-    let c6 = passed (within 1 32 (length d.sizes.lengths)) _ _ c5.1 in
+    let c1 = counted Count SPECIES 1 d.wood.species _ counted_all in
+    let c2 = counted Count GRADES MOST_GRADES d.wood.grades _ c1.1 in
+    let c3 = counted Count PRICE_KIND 1 d.wood.price_kind _ c2.1 in
+    let c4 = counted Count DIAMETERS MOST_ROWS d.sizes.diameters _ c3.1 in
+    let c5 = counted Count UPPER 1 d.sizes.upper _ c4.1 in
+    let c6 = counted Count LENGTHS MOST_COLUMNS d.sizes.lengths _ c5.1 in
     let c7 = passed (length d.tables.prices == length d.sizes.diameters * length d.sizes.lengths) _ _ c6.1 in
     let c8 = passed (length d.tables.targets == length d.sizes.diameters * length d.sizes.lengths) _ _ c7.1 in
-    let c9 = check_ok (is_one d.tables.trim) _ c8.1 in
-    let name = both (within 1 32 (length d.name)) (list_all is_name_byte d.name) r1.0 in
-    let species = eqb-true (length d.wood.species) 1 c1.0 in
-    let price_kind = eqb-true (length d.wood.price_kind) 1 c3.0 in
-    let upper = eqb-true (length d.sizes.upper) 1 c5.0 in
-    let trim = eqb-true (length d.tables.trim) 1 c9 in
+    let name = both (one_to LONGEST_NAME (length d.name)) (list_all is_name_byte d.name) r1.0 in
+    let species = one_number d.wood.species c1.0 in
+    let price_kind = one_number d.wood.price_kind c3.0 in
+    let upper = one_number d.sizes.upper c5.0 in
+    let trim = one_number d.tables.trim (counted_ok Count TRIM 1 d.tables.trim c8.1) in
     record {
       species = species;
       price_kind = price_kind;
       upper = upper;
       trim = trim;
       valid = record {
-        name_length = within_ok 1 32 (length d.name) name.0;
+        name_length = within_ok 1 LONGEST_NAME (length d.name) name.0;
         name_bytes = λ k b lt. name_byte_ok _ (AllPass-from_list_all is_name_byte d.name name.1 k b lt);
-        species = one_within 1 255 d.wood.species r2.0 species;
-        grades_number = within_ok 1 8 (length d.wood.grades) c2.0;
-        grades_range = all_within_ok 1 8 d.wood.grades r3.0;
+        species = one_of SPECIES_RANGE d.wood.species r2.0 species;
+        grades_number = c2.0;
+        grades_range = r3.0;
         grades_rise = rising_ok d.wood.grades o1.0;
-        price_kind = one_within 1 2 d.wood.price_kind r4.0 price_kind;
-        rows = within_ok 1 32 (length d.sizes.diameters) c4.0;
-        diameters_range = λ k x lt. (all_within_ok 0 1500 d.sizes.diameters r5.0 k x lt).1;
+        price_kind = one_of PRICE_KIND_RANGE d.wood.price_kind r4.0 price_kind;
+        rows = c4.0;
+        diameters_range = λ k x lt. (r5.0 k x lt).1;
         diameters_rise = rising_ok d.sizes.diameters o2.0;
-        upper_range = one_within 1 2000 d.sizes.upper r6.0 upper;
+        upper_range = one_of UPPER_RANGE d.sizes.upper r6.0 upper;
         upper_above = above_ok d.sizes.diameters d.sizes.upper o3.0 upper;
-        columns = within_ok 1 32 (length d.sizes.lengths) c6.0;
-        lengths_range = all_within_ok 500 30000 d.sizes.lengths r7.0;
+        columns = c6.0;
+        lengths_range = r7.0;
         lengths_rise = rising_ok d.sizes.lengths o4;
         prices_number = eqb-true _ _ c7.0;
-        prices_range = λ k x lt. (all_within_ok 0 10000000 d.tables.prices r8.0 k x lt).1;
+        prices_range = λ k x lt. (r8.0 k x lt).1;
         targets_number = eqb-true _ _ c8.0;
-        targets_range = λ k x lt. (all_within_ok 0 1000000 d.tables.targets r9.0 k x lt).1;
+        targets_range = λ k x lt. (r9.0 k x lt).1;
         targets_sum = few;
-        trim_range = (one_within 0 200 d.tables.trim r10 trim).1;
+        trim_range = (one_of TRIM_RANGE d.tables.trim r10 trim).1;
       };
     }
 
 -- the numbers of the head, which passed
 record HeadReady (s : FileDraft) : Type 0 where
   pub «module» : length s.«module» ≡ 1
-  pub module_range : IsWithin 10 1000 (slice_index s.«module» 0)
+  pub module_range : IsWithin MODULE_RANGE.low MODULE_RANGE.high (slice_index s.«module» 0)
   pub period : length s.period ≡ 1
-  pub period_range : IsWithin 1 1000 (slice_index s.period 0)
+  pub period_range : IsWithin PERIOD_RANGE.low PERIOD_RANGE.high (slice_index s.period 0)
   pub limit : length s.limit ≡ 1
-  pub limit_range : IsWithin 0 1000 (slice_index s.limit 0)
-  pub count_range : IsWithin 1 16 (length s.drafts)
+  pub limit_range : IsWithin LIMIT_RANGE.low LIMIT_RANGE.high (slice_index s.limit 0)
+  pub count_range : IsWithin COUNT_RANGE.low COUNT_RANGE.high (length s.drafts)
   pub ranges : All (λ d. draft_range d ≡ Ok tt) s.drafts
   pub counts : All (λ d. draft_count d ≡ Ok tt) s.drafts
 
 head_ready : (s : FileDraft) → in_range s ≡ Ok tt → in_number s ≡ Ok tt → HeadReady s
 unfolding in_range in_number
-head_ready s ranged counted =
-    let r1 = passed (all_within 10 1000 s.«module») _ _ ranged in
-    let r2 = passed (all_within 1 1000 s.period) _ _ r1.1 in
-    let r3 = passed (all_within 0 1000 s.limit) _ _ r2.1 in
-    let r4 = passed (all_within 1 16 s.count) _ _ r3.1 in
-    let c1 = passed (is_one s.«module») _ _ counted in
-    let c2 = passed (is_one s.period) _ _ c1.1 in
-    let c3 = passed (is_one s.limit) _ _ c2.1 in
+head_ready s in_ranges counted_all =
+    let r1 = ranged Range MODULE_RANGE s.«module» _ in_ranges in
+    let r2 = ranged Range PERIOD_RANGE s.period _ r1.1 in
+    let r3 = ranged Range LIMIT_RANGE s.limit _ r2.1 in
+    let r4 = ranged Range COUNT_RANGE s.count _ r3.1 in
+    let c1 = counted Count MODULE 1 s.«module» _ counted_all in
+    let c2 = counted Count PERIOD 1 s.period _ c1.1 in
+    let c3 = counted Count LIMIT 1 s.limit _ c2.1 in
     let c4 = passed (is_number_of s.drafts s.count) _ _ c3.1 in
-    let number = both (is_one s.count) (slice_index s.count 0 == length s.drafts) c4.0 in
+    let number = both (length s.count == 1) (slice_index s.count 0 == length s.drafts) c4.0 in
     let same = eqb-true (slice_index s.count 0) (length s.drafts) number.1 in
-    let range = one_within 1 16 s.count r4.0 (eqb-true _ _ number.0) in
+    let range = one_of COUNT_RANGE s.count r4.0 (eqb-true _ _ number.0) in
+    let step = one_number s.«module» c1.0 in
+    let period = one_number s.period c2.0 in
+    let limit = one_number s.limit c3.0 in
     record {
-      «module» = eqb-true _ _ c1.0;
-      module_range = one_within 10 1000 s.«module» r1.0 (eqb-true _ _ c1.0);
-      period = eqb-true _ _ c2.0;
-      period_range = one_within 1 1000 s.period r2.0 (eqb-true _ _ c2.0);
-      limit = eqb-true _ _ c3.0;
-      limit_range = one_within 0 1000 s.limit r3.0 (eqb-true _ _ c3.0);
+      «module» = step;
+      module_range = one_of MODULE_RANGE s.«module» r1.0 step;
+      period = period;
+      period_range = one_of PERIOD_RANGE s.period r2.0 period;
+      limit = limit;
+      limit_range = one_of LIMIT_RANGE s.limit r3.0 limit;
       count_range = rw same at range;
       ranges = each_ok draft_range s.drafts r4.1;
       counts = each_ok draft_count s.drafts c4.1;
@@ -186,7 +194,7 @@ unfolding in_order on_module in_targets
 each_line_ready s ranged ordered counted stepped wanted =
     let head = head_ready s ranged counted in
     let orders = each_ok draft_order s.drafts ordered in
-    let few = position_none (λ d. nat_lt 1000000000 (sum d.tables.targets)) s.drafts (none_found_ok _ Targets wanted) in
+    let few = position_none (λ d. nat_lt MOST_TARGETS_TOGETHER (sum d.tables.targets)) s.drafts (none_found_ok _ Targets wanted) in
     let ready : All IsReadyDraft s.drafts = λ k d lt. draft_ready _ (head.ranges k d lt) (orders k d lt) (head.counts k d lt) (ltb-false _ _ (few k d lt)) in
     record {
       «module» = head.«module»;

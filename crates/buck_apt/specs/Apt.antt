@@ -1,25 +1,7 @@
 -- The instruction of a file's bytes, or the first refusal that applies: ten lines, each looked at only where all
--- before it pass, and within a line the first item in the order of the table, assortment by assortment. The chain of
--- the ten lines, `apt_of`, stands at the end of this page.
---
---   item    what it says                        how many numbers     range of each         order
---   1 2     the kind of file: APT               text
---   901 1   module in mm                        1                    10 to 1000
---   902 1   period in stems                     1                    1 to 1000
---   903 1   limit per mille                     1                    0 to 1000
---   910 1   number of assortments               1, that of 911 1     1 to 16
---   911 1   name; begins an assortment          text                 1 to 32 bytes, each
---                                                                    32 to 255 and none
---                                                                    of 124, 126, 127
---   912 1   species                             1                    1 to 255
---   913 1   grades                              1 to 8               1 to 8                strictly rising
---   914 1   price kind                          1                    1 to 2
---   915 1   lower limit of each row, mm         1 to 32              0 to 1500             strictly rising
---   915 2   exclusive upper diameter, mm        1                    1 to 2000             above each of 915 1
---   916 1   length of each column, mm           1 to 32              500 to 30000          strictly rising
---   917 1   base prices, row by row             rows times columns   0 to 10000000
---   918 1   targets, row by row                 rows times columns   0 to 1000000
---   919 1   trim allowance in mm; absent: 0     1                    0 to 200
+-- before it pass, and within a line the first item in the order of the table, assortment by assortment. The table
+-- stands in src/slots: what each item says, the range of its numbers, and how many there may be, where that isn't one.
+-- The chain of the ten lines, `apt_of`, stands at the end of this page.
 use Rattle.std.specs.Prelude.{ℕ, Bool, not, ◌*◌, ◌%◌, ◌&&◌, ◌==◌, List, [], ◌∷◌, length, map, sum, slice_index, nat_le, nat_lt, find, position, Option, Some, None, Result, Ok, Err, codes, if◌then◌else◌}
 use Rattle.std.specs.List.{list_all}
 use Rattle.std.specs.Str.{bytes_eq}
@@ -29,8 +11,8 @@ use Rattle.buck_record.specs.Reading.{with_fault}
 use Rattle.buck_record.specs.Record.{items_of}
 use Rattle.buck_record.specs.Table.{count_in, rest_in, first_missing, first_twice, groups_of}
 use Rattle.buck_record.specs.Check.{◌>>=◌, check, none_of, each, make_each}
-use Rattle.buck_record.specs.Rules.{file_slot, of_slot, has_no_strays, numbers_in, within, all_within, is_rising}
-use Rattle.buck_apt.specs.declared.slots.TheConstants.{MODULE, PERIOD, LIMIT, COUNT, NAME, SPECIES, GRADES, PRICE_KIND, DIAMETERS, UPPER, LENGTHS, PRICES, TARGETS, TRIM, HEAD, ALONE, MEMBERS, IN_ASSORTMENT}
+use Rattle.buck_record.specs.Rules.{file_slot, of_slot, has_no_strays, numbers_in, one_to, all_in_range, counted_to, is_rising}
+use Rattle.buck_apt.specs.declared.slots.TheConstants.{MODULE, MODULE_RANGE, PERIOD, PERIOD_RANGE, LIMIT, LIMIT_RANGE, COUNT, COUNT_RANGE, NAME, LONGEST_NAME, SPECIES, SPECIES_RANGE, GRADES, GRADES_RANGE, MOST_GRADES, PRICE_KIND, PRICE_KIND_RANGE, DIAMETERS, DIAMETERS_RANGE, MOST_ROWS, UPPER, UPPER_RANGE, LENGTHS, LENGTHS_RANGE, MOST_COLUMNS, PRICES, PRICES_RANGE, TARGETS, TARGETS_RANGE, MOST_TARGETS_TOGETHER, TRIM, TRIM_RANGE, HEAD, ALONE, MEMBERS, IN_ASSORTMENT}
 use Rattle.buck_apt.specs.Instruction.{AssortmentParts, InstructionParts}
 use Rattle.buck_apt.specs.declared.draft.Draft.{Draft}
 use Rattle.buck_apt.specs.declared.draft.Wood.{Wood}
@@ -127,30 +109,30 @@ file_draft_of items = do
 abbrev pub is_name_byte : ℕ → Bool
 is_name_byte b = nat_le 32 b && (not (b == 124) && (not (b == 126) && not (b == 127)))
 
--- 1 to 32 bytes
+-- as many bytes as a name may have
 abbrev pub is_name : List ℕ → Bool
-is_name bs = within 1 32 (length bs) && list_all is_name_byte bs
+is_name bs = one_to LONGEST_NAME (length bs) && list_all is_name_byte bs
 
 unfoldable pub draft_range : Draft → Result (Unit {0}) AptFault
 draft_range d = do
   _ ← check (is_name d.name) (of_slot Range NAME)
-  _ ← check (all_within 1 255 d.wood.species) (of_slot Range SPECIES)
-  _ ← check (all_within 1 8 d.wood.grades) (of_slot Range GRADES)
-  _ ← check (all_within 1 2 d.wood.price_kind) (of_slot Range PRICE_KIND)
-  _ ← check (all_within 0 1500 d.sizes.diameters) (of_slot Range DIAMETERS)
-  _ ← check (all_within 1 2000 d.sizes.upper) (of_slot Range UPPER)
-  _ ← check (all_within 500 30000 d.sizes.lengths) (of_slot Range LENGTHS)
-  _ ← check (all_within 0 10000000 d.tables.prices) (of_slot Range PRICES)
-  _ ← check (all_within 0 1000000 d.tables.targets) (of_slot Range TARGETS)
-  check (all_within 0 200 d.tables.trim) (of_slot Range TRIM)
+  _ ← all_in_range Range SPECIES_RANGE d.wood.species
+  _ ← all_in_range Range GRADES_RANGE d.wood.grades
+  _ ← all_in_range Range PRICE_KIND_RANGE d.wood.price_kind
+  _ ← all_in_range Range DIAMETERS_RANGE d.sizes.diameters
+  _ ← all_in_range Range UPPER_RANGE d.sizes.upper
+  _ ← all_in_range Range LENGTHS_RANGE d.sizes.lengths
+  _ ← all_in_range Range PRICES_RANGE d.tables.prices
+  _ ← all_in_range Range TARGETS_RANGE d.tables.targets
+  all_in_range Range TRIM_RANGE d.tables.trim
 
 -- Line 6, Range: each number is in its range, and each name meets its rule.
 unfoldable pub in_range : FileDraft → Result (Unit {0}) AptFault
 in_range file = do
-  _ ← check (all_within 10 1000 file.«module») (of_slot Range MODULE)
-  _ ← check (all_within 1 1000 file.period) (of_slot Range PERIOD)
-  _ ← check (all_within 0 1000 file.limit) (of_slot Range LIMIT)
-  _ ← check (all_within 1 16 file.count) (of_slot Range COUNT)
+  _ ← all_in_range Range MODULE_RANGE file.«module»
+  _ ← all_in_range Range PERIOD_RANGE file.period
+  _ ← all_in_range Range LIMIT_RANGE file.limit
+  _ ← all_in_range Range COUNT_RANGE file.count
   each draft_range file.drafts
 
 -- each of the lower limits is below each upper diameter
@@ -168,31 +150,28 @@ draft_order d = do
 unfoldable pub in_order : FileDraft → Result (Unit {0}) AptFault
 in_order file = each draft_order file.drafts
 
-abbrev pub is_one : List ℕ → Bool
-is_one ns = length ns == 1
-
 unfoldable pub draft_count : Draft → Result (Unit {0}) AptFault
 draft_count d = do
-  _ ← check (is_one d.wood.species) (of_slot Count SPECIES)
-  _ ← check (within 1 8 (length d.wood.grades)) (of_slot Count GRADES)
-  _ ← check (is_one d.wood.price_kind) (of_slot Count PRICE_KIND)
-  _ ← check (within 1 32 (length d.sizes.diameters)) (of_slot Count DIAMETERS)
-  _ ← check (is_one d.sizes.upper) (of_slot Count UPPER)
-  _ ← check (within 1 32 (length d.sizes.lengths)) (of_slot Count LENGTHS)
+  _ ← counted_to Count SPECIES 1 d.wood.species
+  _ ← counted_to Count GRADES MOST_GRADES d.wood.grades
+  _ ← counted_to Count PRICE_KIND 1 d.wood.price_kind
+  _ ← counted_to Count DIAMETERS MOST_ROWS d.sizes.diameters
+  _ ← counted_to Count UPPER 1 d.sizes.upper
+  _ ← counted_to Count LENGTHS MOST_COLUMNS d.sizes.lengths
   _ ← check (length d.tables.prices == length d.sizes.diameters * length d.sizes.lengths) (of_slot Count PRICES)
   _ ← check (length d.tables.targets == length d.sizes.diameters * length d.sizes.lengths) (of_slot Count TARGETS)
-  check (is_one d.tables.trim) (of_slot Count TRIM)
+  counted_to Count TRIM 1 d.tables.trim
 
 -- one number, and as many as there are assortments
 abbrev pub is_number_of : List Draft → List ℕ → Bool
-is_number_of drafts ns = is_one ns && slice_index ns 0 == length drafts
+is_number_of drafts ns = length ns == 1 && slice_index ns 0 == length drafts
 
 -- Line 8, Count: there are as many numbers as there should be.
 unfoldable pub in_number : FileDraft → Result (Unit {0}) AptFault
 in_number file = do
-  _ ← check (is_one file.«module») (of_slot Count MODULE)
-  _ ← check (is_one file.period) (of_slot Count PERIOD)
-  _ ← check (is_one file.limit) (of_slot Count LIMIT)
+  _ ← counted_to Count MODULE 1 file.«module»
+  _ ← counted_to Count PERIOD 1 file.period
+  _ ← counted_to Count LIMIT 1 file.limit
   _ ← check (is_number_of file.drafts file.count) (of_slot Count COUNT)
   each draft_count file.drafts
 
@@ -211,9 +190,9 @@ on_module file =
     let step = slice_index file.«module» 0 in
     each (λ d. none_found (first_off_module step d.sizes.lengths) Module) file.drafts
 
--- Line 10, Targets: no assortment's targets are above 1,000,000,000 together; assortments count from 0.
+-- Line 10, Targets: no assortment's targets are too many together; assortments count from 0.
 unfoldable pub in_targets : FileDraft → Result (Unit {0}) AptFault
-in_targets file = none_found (position (λ d. nat_lt 1000000000 (sum d.tables.targets)) file.drafts) Targets
+in_targets file = none_found (position (λ d. nat_lt MOST_TARGETS_TOGETHER (sum d.tables.targets)) file.drafts) Targets
 
 -- the assortment that the numbers say
 abbrev pub assortment_of : Draft → AssortmentParts

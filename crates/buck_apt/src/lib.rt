@@ -10,7 +10,7 @@ mod lines;
 mod reading;
 mod rules;
 mod settings;
-mod slots;
+pub mod slots;
 
 pub use assortment::Assortment;
 pub use buck_record::Memory;

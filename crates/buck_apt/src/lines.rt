@@ -25,13 +25,16 @@ ghost use Rattle.buck_apt.specs.Apt.{
 
 use crate::draft::{Draft, FileDraft};
 use crate::fault::AptFault;
-use crate::rules::{all_above, first_off_module, is_above, is_name, is_one};
+use crate::rules::{all_above, first_off_module, is_above, is_name};
 use crate::slots::{
-    ALONE, COUNT, DIAMETERS, GRADES, HEAD, IN_ASSORTMENT, LENGTHS, LIMIT, MEMBERS, MODULE, NAME,
-    PERIOD, PRICE_KIND, PRICES, SPECIES, TARGETS, TRIM, UPPER,
+    ALONE, COUNT, COUNT_RANGE, DIAMETERS, DIAMETERS_RANGE, GRADES, GRADES_RANGE, HEAD,
+    IN_ASSORTMENT, LENGTHS, LENGTHS_RANGE, LIMIT, LIMIT_RANGE, MEMBERS, MODULE, MODULE_RANGE,
+    MOST_COLUMNS, MOST_GRADES, MOST_ROWS, MOST_TARGETS_TOGETHER, NAME, PERIOD, PERIOD_RANGE,
+    PRICE_KIND, PRICE_KIND_RANGE, PRICES, PRICES_RANGE, SPECIES, SPECIES_RANGE, TARGETS,
+    TARGETS_RANGE, TRIM, TRIM_RANGE, UPPER, UPPER_RANGE,
 };
 use buck_record::check::{all_absent, all_single, all_there, check, each, is_there};
-use buck_record::rules::{all_within, is_rising, within};
+use buck_record::rules::{all_in_range, counted_to, is_rising};
 use buck_record::table::front;
 use buck_record::{FormFault, Group, Piece};
 
@@ -93,35 +96,16 @@ pub(crate) fn single<'a>(items: &'a [Piece<'a>], assortments: &[Group<'_>]) -> R
 fn draft_range(draft: &Draft) -> Result<(), AptFault>
     ensures { result ≡ draft_range draft.now }
 {
-    let diameters = draft.sizes.diameters.as_slice();
-    let lengths = draft.sizes.lengths.as_slice();
-    let prices = draft.tables.prices.as_slice();
-    let targets = draft.tables.targets.as_slice();
     check(is_name(draft.name.as_slice()), AptFault::range(NAME))?;
-    check(
-        all_within(1, 255, draft.wood.species.as_slice()),
-        AptFault::range(SPECIES),
-    )?;
-    check(
-        all_within(1, 8, draft.wood.grades.as_slice()),
-        AptFault::range(GRADES),
-    )?;
-    check(
-        all_within(1, 2, draft.wood.price_kind.as_slice()),
-        AptFault::range(PRICE_KIND),
-    )?;
-    check(all_within(0, 1500, diameters), AptFault::range(DIAMETERS))?;
-    check(
-        all_within(1, 2000, draft.sizes.upper.as_slice()),
-        AptFault::range(UPPER),
-    )?;
-    check(all_within(500, 30_000, lengths), AptFault::range(LENGTHS))?;
-    check(all_within(0, 10_000_000, prices), AptFault::range(PRICES))?;
-    check(all_within(0, 1_000_000, targets), AptFault::range(TARGETS))?;
-    check(
-        all_within(0, 200, draft.tables.trim.as_slice()),
-        AptFault::range(TRIM),
-    )
+    all_in_range::<AptFault>(SPECIES_RANGE, draft.wood.species.as_slice())?;
+    all_in_range::<AptFault>(GRADES_RANGE, draft.wood.grades.as_slice())?;
+    all_in_range::<AptFault>(PRICE_KIND_RANGE, draft.wood.price_kind.as_slice())?;
+    all_in_range::<AptFault>(DIAMETERS_RANGE, draft.sizes.diameters.as_slice())?;
+    all_in_range::<AptFault>(UPPER_RANGE, draft.sizes.upper.as_slice())?;
+    all_in_range::<AptFault>(LENGTHS_RANGE, draft.sizes.lengths.as_slice())?;
+    all_in_range::<AptFault>(PRICES_RANGE, draft.tables.prices.as_slice())?;
+    all_in_range::<AptFault>(TARGETS_RANGE, draft.tables.targets.as_slice())?;
+    all_in_range(TRIM_RANGE, draft.tables.trim.as_slice())
 }
 
 fn each_range(drafts: &[Draft]) -> Result<(), AptFault>
@@ -135,22 +119,10 @@ fn each_range(drafts: &[Draft]) -> Result<(), AptFault>
 pub(crate) fn in_range(file: &FileDraft) -> Result<(), AptFault>
     ensures { result ≡ in_range file.now }
 {
-    check(
-        all_within(10, 1000, file.module.as_slice()),
-        AptFault::range(MODULE),
-    )?;
-    check(
-        all_within(1, 1000, file.period.as_slice()),
-        AptFault::range(PERIOD),
-    )?;
-    check(
-        all_within(0, 1000, file.limit.as_slice()),
-        AptFault::range(LIMIT),
-    )?;
-    check(
-        all_within(1, 16, file.count.as_slice()),
-        AptFault::range(COUNT),
-    )?;
+    all_in_range::<AptFault>(MODULE_RANGE, file.module.as_slice())?;
+    all_in_range::<AptFault>(PERIOD_RANGE, file.period.as_slice())?;
+    all_in_range::<AptFault>(LIMIT_RANGE, file.limit.as_slice())?;
+    all_in_range::<AptFault>(COUNT_RANGE, file.count.as_slice())?;
     each_range(file.drafts.as_slice())
 }
 
@@ -184,8 +156,8 @@ pub(crate) fn in_order(file: &FileDraft) -> Result<(), AptFault>
 
 /// There is one number for each row and column.
 fn is_full(numbers: &[u32], rows: usize, columns: usize) -> bool
-    requires rows { rows ≤ 32 }
-    requires columns { columns ≤ 32 }
+    requires rows { rows ≤ MOST_ROWS }
+    requires columns { columns ≤ MOST_COLUMNS }
     ensures { result ≡ (length numbers.now == rows * columns) }
 {
     numbers.len() == rows * columns
@@ -195,28 +167,25 @@ fn is_full(numbers: &[u32], rows: usize, columns: usize) -> bool
 fn draft_count(draft: &Draft) -> Result<(), AptFault>
     ensures { result ≡ draft_count draft.now }
 {
-    let rows = draft.sizes.diameters.len();
-    let columns = draft.sizes.lengths.len();
+    let diameters = draft.sizes.diameters.as_slice();
+    let lengths = draft.sizes.lengths.as_slice();
     let prices = draft.tables.prices.as_slice();
     let targets = draft.tables.targets.as_slice();
+    counted_to::<AptFault>(SPECIES, 1, draft.wood.species.as_slice())?;
+    counted_to::<AptFault>(GRADES, MOST_GRADES, draft.wood.grades.as_slice())?;
+    counted_to::<AptFault>(PRICE_KIND, 1, draft.wood.price_kind.as_slice())?;
+    counted_to::<AptFault>(DIAMETERS, MOST_ROWS, diameters)?;
+    counted_to::<AptFault>(UPPER, 1, draft.sizes.upper.as_slice())?;
+    counted_to::<AptFault>(LENGTHS, MOST_COLUMNS, lengths)?;
     check(
-        is_one(draft.wood.species.as_slice()),
-        AptFault::count(SPECIES),
+        is_full(prices, diameters.len(), lengths.len()),
+        AptFault::count(PRICES),
     )?;
     check(
-        within(1, 8, draft.wood.grades.len()),
-        AptFault::count(GRADES),
+        is_full(targets, diameters.len(), lengths.len()),
+        AptFault::count(TARGETS),
     )?;
-    check(
-        is_one(draft.wood.price_kind.as_slice()),
-        AptFault::count(PRICE_KIND),
-    )?;
-    check(within(1, 32, rows), AptFault::count(DIAMETERS))?;
-    check(is_one(draft.sizes.upper.as_slice()), AptFault::count(UPPER))?;
-    check(within(1, 32, columns), AptFault::count(LENGTHS))?;
-    check(is_full(prices, rows, columns), AptFault::count(PRICES))?;
-    check(is_full(targets, rows, columns), AptFault::count(TARGETS))?;
-    check(is_one(draft.tables.trim.as_slice()), AptFault::count(TRIM))
+    counted_to(TRIM, 1, draft.tables.trim.as_slice())
 }
 
 fn each_count(drafts: &[Draft]) -> Result<(), AptFault>
@@ -229,7 +198,7 @@ fn each_count(drafts: &[Draft]) -> Result<(), AptFault>
 fn is_number_of(drafts: &[Draft], numbers: &[u32]) -> bool
     ensures { result ≡ is_number_of drafts.now numbers.now }
 {
-    is_one(numbers) && numbers[0] as usize == drafts.len()
+    numbers.len() == 1 && numbers[0] as usize == drafts.len()
 }
 
 /// There are as many numbers as there should be.
@@ -238,9 +207,9 @@ pub(crate) fn in_number(file: &FileDraft) -> Result<(), AptFault>
     ensures { result ≡ in_number file.now }
 {
     let drafts = file.drafts.as_slice();
-    check(is_one(file.module.as_slice()), AptFault::count(MODULE))?;
-    check(is_one(file.period.as_slice()), AptFault::count(PERIOD))?;
-    check(is_one(file.limit.as_slice()), AptFault::count(LIMIT))?;
+    counted_to::<AptFault>(MODULE, 1, file.module.as_slice())?;
+    counted_to::<AptFault>(PERIOD, 1, file.period.as_slice())?;
+    counted_to::<AptFault>(LIMIT, 1, file.limit.as_slice())?;
     check(
         is_number_of(drafts, file.count.as_slice()),
         AptFault::count(COUNT),
@@ -270,14 +239,14 @@ pub(crate) fn on_module(file: &FileDraft) -> Result<(), AptFault>
     each(drafts, |draft| draft_on_module(module, draft))
 }
 
-/// The first of the drafts whose targets are above 1,000,000,000 together.
+/// The first of the drafts whose targets are too many together.
 fn first_with_too_many_targets(drafts: &[Draft]) -> Option<usize>
-    ensures { result ≡ position (λ d. nat_lt 1000000000 (sum d.tables.targets)) drafts.now }
+    ensures { result ≡ position (λ d. nat_lt MOST_TARGETS_TOGETHER (sum d.tables.targets)) drafts.now }
 {
-    drafts.iter().position(|draft| is_above(1_000_000_000, draft.tables.targets.as_slice()))
+    drafts.iter().position(|draft| is_above(MOST_TARGETS_TOGETHER, draft.tables.targets.as_slice()))
 }
 
-/// No assortment's targets are above 1,000,000,000 together.
+/// No assortment's targets are too many together.
 #[tactic(auto, unfolding(crate::specs::Apt::in_targets))]
 pub(crate) fn in_targets(file: &FileDraft) -> Result<(), AptFault>
     ensures { result ≡ in_targets file.now }

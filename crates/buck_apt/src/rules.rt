@@ -1,9 +1,10 @@
 //! Tests of numbers and names.
 ghost use Rattle.std.specs.Prelude.{◌≡◌, ◌<◌, ◌==◌, length, nat_le, nat_lt, not, find, sum, slice_index};
 ghost use Rattle.std.specs.List.{list_all};
-ghost use Rattle.buck_apt.specs.Apt.{is_name, is_name_byte, all_above, is_one, first_off_module};
+ghost use Rattle.buck_apt.specs.Apt.{is_name, is_name_byte, all_above, first_off_module};
 
-use buck_record::rules::within;
+use crate::slots::LONGEST_NAME;
+use buck_record::rules::one_to;
 
 /// Each of the lower limits is below the number.
 fn all_below(lows: &[u32], high: u32) -> bool
@@ -32,18 +33,11 @@ fn are_name_bytes(bytes: &[u8]) -> bool
     bytes.iter().all(|b| is_name_byte(*b))
 }
 
-/// 1 to 32 bytes that a name may have.
+/// Bytes that a name may have, and as many as it may have.
 pub(crate) fn is_name(bytes: &[u8]) -> bool
     ensures { result ≡ is_name bytes.now }
 {
-    within(1, 32, bytes.len()) && are_name_bytes(bytes)
-}
-
-/// There is one number.
-pub(crate) fn is_one(numbers: &[u32]) -> bool
-    ensures { result ≡ is_one numbers.now }
-{
-    numbers.len() == 1
+    one_to(LONGEST_NAME, bytes.len()) && are_name_bytes(bytes)
 }
 
 /// The first length that isn't a multiple of the module.

@@ -2,13 +2,8 @@
 ghost use Rattle.std.specs.Prelude.{◌≡◌, IfSome, IfNone};
 ghost use Rattle.buck_apt.specs.Settings.{IsSettings, own_numbers};
 
+use crate::slots::{LIMIT_RANGE, PERIOD_RANGE};
 use std::marker::Model;
-
-/// The longest period, in stems.
-const LONGEST_PERIOD: u32 = 1_000;
-
-/// The farthest limit, in per mille.
-const FARTHEST_LIMIT: u32 = 1_000;
 
 /// Numbers that a run puts in the place of an instruction's own: the period, 1 to 1,000 stems, and the limit, at most
 /// 1,000 per mille. Where one isn't told, the instruction's own stays.
@@ -51,15 +46,15 @@ impl Settings {
         ensures none { IfNone result (IsSettings (record { period = period; limit = limit }) → ⊥) }
     {
         if let Some(period) = period {
-            if period == 0 {
+            if period < PERIOD_RANGE.low {
                 return None;
             }
-            if period > LONGEST_PERIOD {
+            if period > PERIOD_RANGE.high {
                 return None;
             }
         }
         if let Some(limit) = limit {
-            if limit > FARTHEST_LIMIT {
+            if limit > LIMIT_RANGE.high {
                 return None;
             }
         }

@@ -129,9 +129,3 @@ pub words-pass : (rest : List ℕ)
     → 0 < length rest → is_white (get_or rest 0 0) ≡ true → words rest ≡ words (drop 1 rest)
 words-pass [] some white = absurd (omega arith)
 words-pass (b ∷ bs) some white = words-cons_white b bs white
-
--- a step leaves less of the text
-pub step_shorter : (most : ℕ) (rest left now after : List ℕ)
-    → IsStep most rest left now after → length left < length rest
-step_shorter most rest left now after (inl p) = p.front.shorter
-step_shorter most rest left now after (inr p) = p.shorter

@@ -59,10 +59,6 @@ module _ {X Y E : Type 0} (f : X → Result Y E) (xs : List X) where
   regroup front y (Ok ys) = ap (λ zs. Ok zs) (simp append_assoc)
   regroup front y (Err e) = refl
 
-  pub make_start : (read : Result (List Y) E) → after_front [] read ≡ read
-  make_start (Ok ys) = refl
-  make_start (Err e) = refl
-
   pub make_goes_on : (front : List Y) (i : ℕ) (x : X) (y : Y) → i < length xs → x ≡ get_or xs i x → f x ≡ Ok y → after_front front (make_each f (drop i xs)) ≡ make_each f xs
       → after_front (front ++ y ∷ []) (make_each f (drop (i + 1) xs)) ≡ make_each f xs
   make_goes_on front i x y lt is h e =

@@ -1,11 +1,13 @@
 -- What checks that passed say.
-use Rattle.std.proofs.Common.{◌≡◌, ℕ, ◌≤◌, ◌&&◌, Bool, true, false, List, [], ◌∷◌, Result, Ok, Err, All, nat_le, refl}
+use Rattle.std.proofs.Common.{◌≡◌, ℕ, ◌≤◌, ◌&&◌, Bool, true, false, List, [], ◌∷◌, Result, Ok, Err, All, length, nat_le, refl}
 use Rattle.std.specs.List.{AllByRecursion}
 use Rattle.std.proofs.lemmas.Bool.{false≢true, leb-true}
 use Rattle.std.proofs.lemmas.List.Elements.{All-from_recursion}
 use Rattle.std.proofs.lemmas.List.Sums.{AllPass-from_list_all}
 use Rattle.buck_record.specs.Check.{◌>>=◌, check, each}
-use Rattle.buck_record.specs.Rules.{within, all_within}
+use Rattle.buck_record.specs.declared.ranged.Ranged.{Ranged}
+use Rattle.buck_record.specs.declared.slot.Slot.{Slot}
+use Rattle.buck_record.specs.Rules.{within, all_within, all_in_range, counted_to}
 
 module _ {E : Type 0} where
   -- a check that passed, and what stands after it
@@ -40,3 +42,26 @@ within_ok low high n h = let p = both (nat_le low n) (nat_le n high) h in (leb-t
 
 pub all_within_ok : (low high : ℕ) (ns : List ℕ) → all_within low high ns ≡ true → All (λ n. (low ≤ n) × (n ≤ high)) ns
 all_within_ok low high ns h = λ k d lt. within_ok low high _ (AllPass-from_list_all (within low high) ns h k d lt)
+
+-- each number is in the range of its item
+abbrev pub AreRanged : Ranged → List ℕ → Type 0
+AreRanged item ns = All (λ n. (item.low ≤ n) × (n ≤ item.high)) ns
+
+module _ {E : Type 0} (fault : ℕ → ℕ → E) where
+  -- numbers that are in the range of their item
+  pub in_range_ok : (item : Ranged) (ns : List ℕ) → all_in_range fault item ns ≡ Ok tt → AreRanged item ns
+  in_range_ok item ns h = all_within_ok item.low item.high ns (check_ok _ _ h)
+
+  -- and what stands after them
+  pub ranged : (item : Ranged) (ns : List ℕ) (r : Result (Unit {0}) E) → (all_in_range fault item ns >>= λ _. r) ≡ Ok tt
+      → AreRanged item ns × (r ≡ Ok tt)
+  ranged item ns r h = let p = then_ok (all_in_range fault item ns) r h in (in_range_ok item ns p.0, p.1)
+
+  -- numbers of which there are as many as there may be
+  pub counted_ok : (s : Slot) (most : ℕ) (ns : List ℕ) → counted_to fault s most ns ≡ Ok tt → (1 ≤ length ns) × (length ns ≤ most)
+  counted_ok s most ns h = within_ok 1 most (length ns) (check_ok _ _ h)
+
+  -- and what stands after them
+  pub counted : (s : Slot) (most : ℕ) (ns : List ℕ) (r : Result (Unit {0}) E) → (counted_to fault s most ns >>= λ _. r) ≡ Ok tt
+      → ((1 ≤ length ns) × (length ns ≤ most)) × (r ≡ Ok tt)
+  counted s most ns r h = let p = then_ok (counted_to fault s most ns) r h in (counted_ok s most ns p.0, p.1)

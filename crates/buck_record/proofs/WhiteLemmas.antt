@@ -7,10 +7,6 @@ use Rattle.std.proofs.lemmas.Bool.{false≢true, cases_Bool}
 use Rattle.buck_record.specs.White.{is_white, trim_end}
 use Rattle.buck_record.proofs.TableLemmas.{place-some, place-none}
 
-not_not : (b : Bool) → (not b ≡ true → ⊥) → b ≡ true
-not_not true h = refl
-not_not false h = absurd (h refl)
-
 not_false : (b : Bool) → not b ≡ true → b ≡ false
 not_false true h = absurd (false≢true h)
 not_false false h = refl

@@ -1,11 +1,13 @@
 -- What the readers of files share: the slots of items, the numbers of an item, and tests of numbers.
-use Rattle.std.specs.Prelude.{◌≡◌, ℕ, Bool, true, ◌&&◌, ◌==◌, List, [], ◌∷◌, nat_le, nat_lt, Result}
+use Rattle.std.specs.Prelude.{◌≡◌, ℕ, Bool, true, ◌&&◌, ◌==◌, List, [], ◌∷◌, length, nat_le, nat_lt, Result}
 use Rattle.std.specs.List.{before_first, list_all}
 use Rattle.buck_record.specs.Item.{ItemParts}
 use Rattle.buck_record.specs.declared.slot.Slot.{Slot}
+use Rattle.buck_record.specs.declared.ranged.Ranged.{Ranged}
 use Rattle.buck_record.specs.Reading.{with_fault}
 use Rattle.buck_record.specs.Record.{numbers_of}
 use Rattle.buck_record.specs.Table.{is_at, count_in, rest_in}
+use Rattle.buck_record.specs.Check.{check}
 
 abbrev pub slot : ℕ → ℕ → Slot
 slot number kind = record { number = number; kind = kind }
@@ -37,6 +39,18 @@ within low high n = nat_le low n && nat_le n high
 
 abbrev pub all_within : ℕ → ℕ → List ℕ → Bool
 all_within low high ns = list_all (within low high) ns
+
+-- there is one, and there are at most so many
+abbrev pub one_to : ℕ → ℕ → Bool
+one_to most n = within 1 most n
+
+-- the fault of an item, where one of its numbers is out of its range
+abbrev pub all_in_range : {E : Type 0} → (ℕ → ℕ → E) → Ranged → List ℕ → Result (Unit {0}) E
+all_in_range fault item ns = check (all_within item.low item.high ns) (of_slot fault item.slot)
+
+-- the fault of a slot, where it has no number or more than so many
+abbrev pub counted_to : {E : Type 0} → (ℕ → ℕ → E) → Slot → ℕ → List ℕ → Result (Unit {0}) E
+counted_to fault s most ns = check (one_to most (length ns)) (of_slot fault s)
 
 -- each number is below the next
 abbrev pub is_rising : List ℕ → Bool

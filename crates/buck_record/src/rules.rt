@@ -3,12 +3,14 @@ ghost use Rattle.std.specs.Prelude.{◌≡◌, ℕ};
 ghost use Rattle.buck_record.specs.Reading.{Gives, IsMemory, with_fault};
 ghost use Rattle.buck_record.specs.Record.{items_of};
 ghost use Rattle.buck_record.specs.Table.{only_in};
-ghost use Rattle.buck_record.specs.Rules.{NamesItem, numbers_in, within, all_within, is_rising};
+ghost use Rattle.buck_record.specs.Rules.{NamesItem, numbers_in, within, all_within, one_to, all_in_range, counted_to, is_rising};
 
+use crate::check::check;
 use crate::fault::RecordFault;
 use crate::form::FormFault;
 use crate::item::Piece;
 use crate::listed::Listed;
+use crate::ranged::Ranged;
 use crate::reading::{numbers, pieces, pieces_at};
 use crate::slot::Slot;
 use crate::table::rest;
@@ -80,6 +82,30 @@ pub fn all_within(low: u32, high: u32, numbers: &[u32]) -> bool
     ensures { result ≡ all_within low high numbers.now }
 {
     numbers.iter().all(|n| low <= *n && *n <= high)
+}
+
+/// There is one, and there are at most `most`.
+pub fn one_to(most: usize, n: usize) -> bool
+    ensures { result ≡ one_to most n }
+{
+    within(1, most, n)
+}
+
+/// The fault of an item, where one of its numbers is out of its range.
+pub fn all_in_range<E: FormFault>(item: Ranged, numbers: &[u32]) -> Result<(), E>
+    ensures { result ≡ all_in_range E.range item numbers.now }
+{
+    check(
+        all_within(item.low, item.high, numbers),
+        E::range(item.slot),
+    )
+}
+
+/// The fault of a slot, where it has no number or more than `most`.
+pub fn counted_to<E: FormFault>(slot: Slot, most: usize, numbers: &[u32]) -> Result<(), E>
+    ensures { result ≡ counted_to E.count slot most numbers.now }
+{
+    check(one_to(most, numbers.len()), E::count(slot))
 }
 
 /// Each number is below the next.

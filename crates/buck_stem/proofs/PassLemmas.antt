@@ -1,26 +1,21 @@
 -- What numbers that passed the tests are.
-use Rattle.std.proofs.Common.{◌≡◌, ℕ, ◌+◌, ◌*◌, ◌%◌, ◌<◌, ◌≤◌, ◌==◌, true, List, [], ◌∷◌, Ok, length, get_or, nat_le, nat_lt, refl, arith, eqb-true}
+use Rattle.std.proofs.Common.{◌≡◌, ℕ, ◌+◌, ◌*◌, ◌%◌, ◌<◌, ◌≤◌, ◌==◌, true, List, [], ◌∷◌, Ok, length, get_or, nat_le, nat_lt, refl, arith}
 use Rattle.std.specs.List.{AllByRecursion}
 use Rattle.std.specs.Prelude.{All}
 use Rattle.std.proofs.lemmas.Bool.{ltb-true, leb-true}
 use Rattle.std.proofs.lemmas.List.Elements.{All-from_recursion}
-use Rattle.std.proofs.lemmas.List.Sums.{AllPass-from_list_all}
 use Rattle.buck_record.specs.Check.{◌>>=◌}
 use Rattle.buck_record.specs.Rules.{within, all_within, is_rising}
-use Rattle.buck_record.proofs.PassLemmas.{passed, check_ok, then_ok, each_ok, both, within_ok}
+use Rattle.buck_record.proofs.PassLemmas.{AreRanged, passed, check_ok, then_ok, each_ok, both, within_ok, ranged, counted}
 use Rattle.buck_stem.specs.declared.draft.Draft.{Draft}
 use Rattle.buck_stem.specs.Stem.{IsStem, IsGrade, IsRisingFrom, stem_of}
+use Rattle.buck_stem.specs.declared.slots.TheConstants.{STEM, SPECIES, SPECIES_RANGE, SAMPLES, SAMPLES_RANGE, MOST_SAMPLES, STARTS_RANGE, GRADES_RANGE, MOST_ZONES}
+use Rattle.buck_stem.specs.declared.fault.StmFault.TheVariants.{Range, Count}
 use Rattle.buck_stem.specs.Stm.{checked, starts, grades, zones_of, draft_range, draft_order, draft_count, in_range, in_order, in_number, parts_of}
 use Rattle.buck_stem.specs.inner.Ready.{IsReadyDraft}
 
 pub first_within : (low high n : ℕ) (ns : List ℕ) → all_within low high (n ∷ ns) ≡ true → ((low ≤ n) × (n ≤ high)) × (all_within low high ns ≡ true)
 first_within low high n ns h = let p = both (within low high n) (all_within low high ns) h in (within_ok low high n p.0, p.1)
-
-pub each_within : (low high : ℕ) (ns : List ℕ) → all_within low high ns ≡ true → All (λ n. n ≤ high) ns
-each_within low high ns h = λ k d lt. (within_ok low high (get_or ns k d) (AllPass-from_list_all (within low high) ns h k d lt)).1
-
-pub at_within : (low high : ℕ) (ns : List ℕ) (k d : ℕ) → all_within low high ns ≡ true → k < length ns → (low ≤ get_or ns k d) × (get_or ns k d ≤ high)
-at_within low high ns k d h lt = within_ok low high (get_or ns k d) (AllPass-from_list_all (within low high) ns h k d lt)
 
 -- zones of numbers whose odd places are starts and whose even places are grades
 half : (ns : List ℕ) → length (zones_of ns) * 2 ≤ length ns
@@ -33,10 +28,10 @@ started high [] h = tt
 started high (s ∷ []) h = tt
 started high (s ∷ g ∷ more) h = let p = first_within 0 high s (starts more) h in (p.0.1, started high more p.1)
 
-graded : (ns : List ℕ) → all_within 1 8 (grades ns) ≡ true → AllByRecursion (λ (z : ℕ × ℕ). IsGrade z.1) (zones_of ns)
+graded : (ns : List ℕ) → all_within GRADES_RANGE.low GRADES_RANGE.high (grades ns) ≡ true → AllByRecursion (λ (z : ℕ × ℕ). IsGrade z.1) (zones_of ns)
 graded [] h = tt
 graded (s ∷ []) h = tt
-graded (s ∷ g ∷ more) h = let p = first_within 1 8 g (grades more) h in (p.0, graded more p.1)
+graded (s ∷ g ∷ more) h = let p = first_within GRADES_RANGE.low GRADES_RANGE.high g (grades more) h in (p.0, graded more p.1)
 
 risen : (low : ℕ) (ns : List ℕ) → ((n : ℕ) (more : List ℕ) → starts ns ≡ n ∷ more → low ≤ n) → is_rising (starts ns) ≡ true → IsRisingFrom low (zones_of ns)
 risen low [] first h = tt
@@ -50,33 +45,33 @@ risen low (s ∷ g ∷ t ∷ f ∷ more) first h =
 
 -- what the tests of a stem's numbers leave
 pub record AreInRange (d : Draft) : Type 0 where
-  pub species : all_within 1 255 d.species ≡ true
-  pub samples : all_within 0 1500 d.samples ≡ true
-  pub starts : all_within 0 40000 (starts d.zones) ≡ true
-  pub grades : all_within 1 8 (grades d.zones) ≡ true
+  pub species : AreRanged SPECIES_RANGE d.species
+  pub samples : AreRanged SAMPLES_RANGE d.samples
+  pub starts : all_within STARTS_RANGE.low STARTS_RANGE.high (starts d.zones) ≡ true
+  pub grades : all_within GRADES_RANGE.low GRADES_RANGE.high (grades d.zones) ≡ true
 
 pub range_ok : (d : Draft) → draft_range d ≡ Ok tt → AreInRange d
 unfolding draft_range
 range_ok d h =
-    let q = passed (all_within 1 255 d.species) _ _ h in
-    let r = passed (all_within 0 1500 d.samples) _ _ q.1 in
-    let z = both (all_within 0 40000 (starts d.zones)) (all_within 1 8 (grades d.zones)) (check_ok _ _ r.1) in
-    record { species = q.0; samples = r.0; starts = z.0; grades = z.1 }
+    let q = ranged Range SPECIES_RANGE d.species _ h in
+    let r = ranged Range SAMPLES_RANGE d.samples _ q.1 in
+    let z = passed (all_within STARTS_RANGE.low STARTS_RANGE.high (starts d.zones)) _ _ r.1 in
+    record { species = q.0; samples = r.0; starts = z.0; grades = check_ok _ _ z.1 }
 
 pub record AreCounted (d : Draft) : Type 0 where
   pub number : length d.number ≡ 1
   pub species : length d.species ≡ 1
-  pub samples : (1 ≤ length d.samples) × (length d.samples ≤ 401)
-  pub zones : length d.zones ≤ 200
+  pub samples : (1 ≤ length d.samples) × (length d.samples ≤ MOST_SAMPLES)
+  pub zones : length d.zones ≤ 2 * MOST_ZONES
 
 pub count_ok : (d : Draft) → draft_count d ≡ Ok tt → AreCounted d
 unfolding draft_count
 count_ok d h =
-    let p = passed (length d.number == 1) _ _ h in
-    let q = passed (length d.species == 1) _ _ p.1 in
-    let r = passed (within 1 401 (length d.samples)) _ _ q.1 in
-    let z = both (length d.zones % 2 == 0) (nat_le (length d.zones) 200) (check_ok _ _ r.1) in
-    record { number = eqb-true _ _ p.0; species = eqb-true _ _ q.0; samples = within_ok 1 401 (length d.samples) r.0; zones = leb-true _ _ z.1 }
+    let p = counted Count STEM 1 d.number _ h in
+    let q = counted Count SPECIES 1 d.species _ p.1 in
+    let r = counted Count SAMPLES MOST_SAMPLES d.samples _ q.1 in
+    let z = both (length d.zones % 2 == 0) (nat_le (length d.zones) (2 * MOST_ZONES)) (check_ok _ _ r.1) in
+    record { number = omega (arith, p.0); species = omega (arith, q.0); samples = r.0; zones = leb-true _ _ z.1 }
 
 pub order_ok : (d : Draft) → draft_order d ≡ Ok tt → is_rising (starts d.zones) ≡ true
 unfolding draft_order
@@ -89,11 +84,11 @@ is_stem d range order count =
     let r = range_ok d range in
     let n = count_ok d count in
     record {
-      species = at_within 1 255 d.species 0 0 r.species (omega (arith, n.species));
+      species = r.species 0 0 (omega (arith, n.species));
       samples_number = n.samples;
-      samples_range = each_within 0 1500 d.samples r.samples;
+      samples_range = λ k x lt. (r.samples k x lt).1;
       zones_number = omega (arith, half d.zones, n.zones);
-      starts_range = All-from_recursion _ (zones_of d.zones) (started 40000 d.zones r.starts);
+      starts_range = All-from_recursion _ (zones_of d.zones) (started STARTS_RANGE.high d.zones r.starts);
       starts_rise = risen 0 d.zones (λ n more e. omega arith) (order_ok d order);
       grades_range = All-from_recursion _ (zones_of d.zones) (graded d.zones r.grades);
     }

@@ -1,22 +1,16 @@
 -- The stems of a file's bytes, or their refusal: the first of eight lines that applies, and within a line the first
--- item in the order of the table, `1 2` and then stem by stem.
---
---   item    what it says                    how many numbers   range of each                      order
---   1 2     the kind of file: STM
---   951 1   stem number; begins a stem      1                  any
---   952 1   species                         1                  1 to 255
---   953 1   diameters in mm                 1 to 401           0 to 1500
---   954 1   zones: a start in mm and a      even, 0 to 200     starts 0 to 40000, grades 1 to 8   starts strictly rising
---           grade by turns; may be absent
-use Rattle.std.specs.Prelude.{ℕ, Bool, ◌&&◌, ◌==◌, ◌%◌, List, [], ◌∷◌, length, map, slice_index, nat_le, Result, Ok, codes}
+-- item in the order of the table, `1 2` and then stem by stem. The table stands in src/slots: what each item says, the
+-- range of its numbers, and how many there may be, where that isn't one. The chain of the lines, `stm_of`, stands at
+-- the end of this page.
+use Rattle.std.specs.Prelude.{ℕ, Bool, ◌*◌, ◌&&◌, ◌==◌, ◌%◌, List, [], ◌∷◌, length, map, slice_index, nat_le, Result, Ok, codes}
 use Rattle.std.specs.Str.{bytes_eq}
 use Rattle.buck_record.specs.Item.{ItemParts}
 use Rattle.buck_record.specs.Reading.{with_fault}
 use Rattle.buck_record.specs.Record.{items_of}
 use Rattle.buck_record.specs.Table.{rest_in, first_missing, first_twice, groups_of}
 use Rattle.buck_record.specs.Check.{◌>>=◌, check, none_of, each, make_each}
-use Rattle.buck_record.specs.Rules.{file_slot, of_slot, has_no_strays, numbers_in, within, all_within, is_rising}
-use Rattle.buck_stem.specs.declared.slots.TheConstants.{STEM, SPECIES, SAMPLES, ZONES, NEEDED, MEMBERS}
+use Rattle.buck_record.specs.Rules.{file_slot, of_slot, has_no_strays, numbers_in, all_in_range, counted_to, is_rising}
+use Rattle.buck_stem.specs.declared.slots.TheConstants.{STEM, SPECIES, SPECIES_RANGE, SAMPLES, SAMPLES_RANGE, MOST_SAMPLES, ZONES, STARTS_RANGE, GRADES_RANGE, MOST_ZONES, NEEDED, MEMBERS}
 use Rattle.buck_stem.specs.declared.draft.Draft.{Draft}
 use Rattle.buck_stem.specs.declared.fault.StmFault.{StmFault}
 use Rattle.buck_stem.specs.declared.fault.StmFault.TheVariants.{Head, NotStm, Missing, Twice, Digits, Range, Order, Count}
@@ -71,9 +65,10 @@ grades (start ∷ grade ∷ more) = grade ∷ grades more
 
 unfoldable pub draft_range : Draft → Result (Unit {0}) StmFault
 draft_range d = do
-  _ ← check (all_within 1 255 d.species) (of_slot Range SPECIES)
-  _ ← check (all_within 0 1500 d.samples) (of_slot Range SAMPLES)
-  check (all_within 0 40000 (starts d.zones) && all_within 1 8 (grades d.zones)) (of_slot Range ZONES)
+  _ ← all_in_range Range SPECIES_RANGE d.species
+  _ ← all_in_range Range SAMPLES_RANGE d.samples
+  _ ← all_in_range Range STARTS_RANGE (starts d.zones)
+  all_in_range Range GRADES_RANGE (grades d.zones)
 
 -- Line 6, Range: each number is in its range.
 unfoldable pub in_range : List Draft → Result (Unit {0}) StmFault
@@ -88,10 +83,10 @@ in_order drafts = each draft_order drafts
 
 unfoldable pub draft_count : Draft → Result (Unit {0}) StmFault
 draft_count d = do
-  _ ← check (length d.number == 1) (of_slot Count STEM)
-  _ ← check (length d.species == 1) (of_slot Count SPECIES)
-  _ ← check (within 1 401 (length d.samples)) (of_slot Count SAMPLES)
-  check (length d.zones % 2 == 0 && nat_le (length d.zones) 200) (of_slot Count ZONES)
+  _ ← counted_to Count STEM 1 d.number
+  _ ← counted_to Count SPECIES 1 d.species
+  _ ← counted_to Count SAMPLES MOST_SAMPLES d.samples
+  check (length d.zones % 2 == 0 && nat_le (length d.zones) (2 * MOST_ZONES)) (of_slot Count ZONES)
 
 -- Line 8, Count: there are as many numbers as there should be.
 unfoldable pub in_number : List Draft → Result (Unit {0}) StmFault

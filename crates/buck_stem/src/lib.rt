@@ -12,7 +12,7 @@ mod rules;
 mod runs;
 mod same;
 mod samples;
-mod slots;
+pub mod slots;
 mod stem;
 
 pub use buck_record::Memory;

@@ -20,9 +20,12 @@ ghost use Rattle.buck_stem.specs.Stm.{
 use crate::draft::Draft;
 use crate::fault::StmFault;
 use crate::rules::{grades_within, is_count_of_zones, starts_rise, starts_within};
-use crate::slots::{MEMBERS, NEEDED, SAMPLES, SPECIES, STEM, ZONES};
+use crate::slots::{
+    GRADES_RANGE, MEMBERS, MOST_SAMPLES, NEEDED, SAMPLES, SAMPLES_RANGE, SPECIES, SPECIES_RANGE,
+    STARTS_RANGE, STEM, ZONES,
+};
 use buck_record::check::{all_absent, all_single, all_there, check, each};
-use buck_record::rules::{FILE, all_within, within};
+use buck_record::rules::{FILE, all_in_range, counted_to};
 use buck_record::table::front;
 use buck_record::{FormFault, Group, Piece};
 
@@ -83,19 +86,11 @@ pub(crate) fn single<'a>(items: &'a [Piece<'a>], stems: &[Group<'_>]) -> Result<
 fn draft_range(draft: &Draft) -> Result<(), StmFault>
     ensures { result ≡ draft_range draft.now }
 {
+    all_in_range::<StmFault>(SPECIES_RANGE, draft.species.as_slice())?;
+    all_in_range::<StmFault>(SAMPLES_RANGE, draft.samples.as_slice())?;
     let zones = draft.zones.as_slice();
-    check(
-        all_within(1, 255, draft.species.as_slice()),
-        StmFault::range(SPECIES),
-    )?;
-    check(
-        all_within(0, 1500, draft.samples.as_slice()),
-        StmFault::range(SAMPLES),
-    )?;
-    check(
-        starts_within(0, 40_000, zones) && grades_within(1, 8, zones),
-        StmFault::range(ZONES),
-    )
+    check(starts_within(STARTS_RANGE, zones), StmFault::range(ZONES))?;
+    check(grades_within(GRADES_RANGE, zones), StmFault::range(ZONES))
 }
 
 /// Each number is in its range.
@@ -125,12 +120,9 @@ pub(crate) fn in_order(drafts: &[Draft]) -> Result<(), StmFault>
 fn draft_count(draft: &Draft) -> Result<(), StmFault>
     ensures { result ≡ draft_count draft.now }
 {
-    check(draft.number.len() == 1, StmFault::count(STEM))?;
-    check(draft.species.len() == 1, StmFault::count(SPECIES))?;
-    check(
-        within(1, 401, draft.samples.len()),
-        StmFault::count(SAMPLES),
-    )?;
+    counted_to::<StmFault>(STEM, 1, draft.number.as_slice())?;
+    counted_to::<StmFault>(SPECIES, 1, draft.species.as_slice())?;
+    counted_to::<StmFault>(SAMPLES, MOST_SAMPLES, draft.samples.as_slice())?;
     check(is_count_of_zones(draft.zones.len()), StmFault::count(ZONES))
 }
 

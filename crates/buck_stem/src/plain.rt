@@ -6,7 +6,10 @@ ghost use Rattle.buck_stem.specs.Stm.{stm_of};
 ghost use Rattle.buck_stem.specs.inner.Plain.{LeadsNumbers, AreZones, SaysZones, LeadsZones, LeadsStem, HasStems};
 
 use crate::rules::{grades_within, is_count_of_zones, starts_rise, starts_within, zones_of};
-use crate::slots::{SAMPLES, SPECIES, STEM, ZONES};
+use crate::slots::{
+    GRADES_RANGE, MOST_SAMPLES, SAMPLES, SAMPLES_RANGE, SPECIES, SPECIES_RANGE, STARTS_RANGE, STEM,
+    ZONES,
+};
 use crate::stem::Stem;
 use buck_record::rules::FILE;
 use buck_record::{RecordFault, Slot, append_numbers, is_done, next_in, number, numbers};
@@ -28,15 +31,15 @@ fn next_number(slot: Slot, text: &[u8]) -> Option<(u32, &[u8])>
 /// The species of the item that a text begins with, and what is left after it.
 fn next_species(text: &[u8]) -> Option<(u8, &[u8])>
     ensures leads { IfSome result (λ w. LeadsNumbers SPECIES text.now (w.0 ∷ []) w.1.now) }
-    ensures range { IfSome result (λ w. (1 ≤ w.0) × (w.0 ≤ 255)) }
+    ensures range { IfSome result (λ w. (SPECIES_RANGE.low ≤ w.0) × (w.0 ≤ SPECIES_RANGE.high)) }
 {
     let Some((species, left)) = next_number(SPECIES, text) else {
         return None;
     };
-    if species < 1 {
+    if species < SPECIES_RANGE.low {
         return None;
     }
-    if species > 255 {
+    if species > SPECIES_RANGE.high {
         return None;
     }
     Some((species as u8, left))
@@ -46,21 +49,22 @@ fn next_species(text: &[u8]) -> Option<(u8, &[u8])>
 /// answer is what is left after it.
 fn next_samples<'a>(room: &mut Vec<u16>, text: &'a [u8]) -> Result<Option<&'a [u8]>, AllocError>
     ensures leads { IfOk result (λ o. IfSome o (λ left. LeadsNumbers SAMPLES text.now room.new.items left.now)) }
-    ensures range { IfOk result (λ o. IfSome o (λ _. All (λ d. d ≤ 1500) room.new.items)) }
-    ensures number { IfOk result (λ o. IfSome o (λ _. (1 ≤ length room.new.items) × (length room.new.items ≤ 401))) }
+    ensures range { IfOk result (λ o. IfSome o (λ _. All (λ d. d ≤ SAMPLES_RANGE.high) room.new.items)) }
+    ensures number { IfOk result (λ o. IfSome o (λ _.
+        (1 ≤ length room.new.items) × (length room.new.items ≤ MOST_SAMPLES))) }
 {
     let Some((rest, left)) = next_in(SAMPLES, text) else {
         return Ok(None);
     };
     room.clear();
     room.reserve(rest.len() / 2 + 1)?;
-    if !append_numbers(1500, rest, room) {
+    if !append_numbers(SAMPLES_RANGE.high as u16, rest, room) {
         return Ok(None);
     }
     if room.len() < 1 {
         return Ok(None);
     }
-    if room.len() > 401 {
+    if room.len() > MOST_SAMPLES {
         return Ok(None);
     }
     Ok(Some(left))
@@ -70,8 +74,8 @@ fn next_samples<'a>(room: &mut Vec<u16>, text: &'a [u8]) -> Result<Option<&'a [u
 fn are_zones(numbers: &[u32]) -> bool
     ensures { IsTrue result → AreZones numbers.now }
 {
-    starts_within(0, 40_000, numbers)
-        && grades_within(1, 8, numbers)
+    starts_within(STARTS_RANGE, numbers)
+        && grades_within(GRADES_RANGE, numbers)
         && starts_rise(numbers)
         && is_count_of_zones(numbers.len())
 }

@@ -10,12 +10,15 @@ ghost use Rattle.buck_record.specs.declared.fault.RecordFault.TheVariants.{Memor
 
 use buck_apt::AptFault;
 use buck_record::check::{all_absent, all_single, all_there, check, each, is_there, make_each};
-use buck_record::rules::{FILE, all_within, is_rising, items_at, items_in, numbers_in, within};
+use buck_record::rules::{
+    FILE, all_in_range, all_within, counted_to, is_rising, items_at, items_in, numbers_in, one_to,
+    within,
+};
 use buck_record::table::{count, front, groups, missing, rest, twice};
 use buck_record::{
-    FaultNumbers, FormFault, Group, Listed, Numbered, Piece, RecordFault, Slot, append_numbers,
-    is_done, items, next_in, number, numbers, numbers_into, pieces, pieces_at, put_line,
-    put_number, wide,
+    FaultNumbers, FormFault, Group, Listed, Numbered, Piece, Ranged, RecordFault, Slot,
+    append_numbers, is_done, items, next_in, number, numbers, numbers_into, pieces, pieces_at,
+    put_line, put_number, wide,
 };
 use std::alloc::Global;
 
@@ -403,6 +406,32 @@ pub fn within_without_the_lowest() {
 /// The highest number is left out.
 pub fn all_within_without_the_highest() {
     let right = all_within(1, 8, &[1, 8]);
+    let wrong = false;
+    prove!(right != wrong);
+}
+
+/// A number one past the range is let by.
+pub fn all_in_range_lets_one_more_by() {
+    let item = Ranged {
+        slot: UPPER,
+        low: 1,
+        high: 2000,
+    };
+    let right: Result<(), AptFault> = all_in_range(item, &[2001]);
+    let wrong = Ok(());
+    prove!(right != wrong);
+}
+
+/// No number is let by.
+pub fn counted_to_lets_none_by() {
+    let right: Result<(), AptFault> = counted_to(UPPER, 1, &[]);
+    let wrong = Ok(());
+    prove!(right != wrong);
+}
+
+/// As many as there may be are too many.
+pub fn one_to_without_the_last() {
+    let right = one_to(8, 8);
     let wrong = false;
     prove!(right != wrong);
 }

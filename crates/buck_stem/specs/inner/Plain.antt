@@ -1,5 +1,5 @@
 -- Stem files in their plain order: `1 2`, and then for each stem `951 1`, `952 1`, `953 1` and perhaps `954 1`.
-use Rattle.std.specs.Prelude.{◌≡◌, ℕ, ◌&&◌, ◌==◌, ◌%◌, List, [], ◌∷◌, ◌++◌, length, nat_le, Option, Some, None, Ok, true}
+use Rattle.std.specs.Prelude.{◌≡◌, ℕ, ◌*◌, ◌&&◌, ◌==◌, ◌%◌, List, [], ◌∷◌, ◌++◌, length, nat_le, Option, Some, None, Ok, true}
 use Rattle.std.specs.Option.{unwrap_or}
 use Rattle.buck_record.specs.Item.{ItemParts}
 use Rattle.buck_record.specs.Record.{numbers_of}
@@ -7,7 +7,7 @@ use Rattle.buck_record.specs.Cursor.{HasItems, Leads, item_in}
 use Rattle.buck_record.specs.declared.slot.Slot.{Slot}
 use Rattle.buck_record.specs.Rules.{all_within, is_rising}
 use Rattle.buck_stem.specs.declared.draft.Draft.{Draft}
-use Rattle.buck_stem.specs.declared.slots.TheConstants.{STEM, SPECIES, SAMPLES, ZONES}
+use Rattle.buck_stem.specs.declared.slots.TheConstants.{STEM, SPECIES, SAMPLES, ZONES, STARTS_RANGE, GRADES_RANGE, MOST_ZONES}
 use Rattle.buck_stem.specs.Stem.{StemParts}
 use Rattle.buck_stem.specs.Stm.{starts, grades, zones_of, parts_of}
 use Rattle.buck_stem.specs.inner.Ready.{IsReadyDraft}
@@ -48,10 +48,10 @@ LeadsNumbers s text ns left = (t : List ℕ) × (numbers_of t ≡ Ok ns) × Lead
 
 -- starts and grades by turns that pass the last three lines
 pub record AreZones (numbers : List ℕ) : Type 0 where
-  pub starts_range : all_within 0 40000 (starts numbers) ≡ true
-  pub grades_range : all_within 1 8 (grades numbers) ≡ true
+  pub starts_range : all_within STARTS_RANGE.low STARTS_RANGE.high (starts numbers) ≡ true
+  pub grades_range : all_within GRADES_RANGE.low GRADES_RANGE.high (grades numbers) ≡ true
   pub order : is_rising (starts numbers) ≡ true
-  pub count : (length numbers % 2 == 0 && nat_le (length numbers) 200) ≡ true
+  pub count : (length numbers % 2 == 0 && nat_le (length numbers) (2 * MOST_ZONES)) ≡ true
 
 -- the text says the numbers of these zones, which pass the last three lines
 pub record SaysZones (text : List ℕ) (zones : List (ℕ × ℕ)) : Type 0 where

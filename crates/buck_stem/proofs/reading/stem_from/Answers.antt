@@ -1,5 +1,5 @@
 use Rattle.std.proofs.Common.{arith}
-use Rattle.buck_stem.proofs.PassLemmas.{range_ok, count_ok, at_within, is_stem, parts_are}
+use Rattle.buck_stem.proofs.PassLemmas.{range_ok, count_ok, is_stem, parts_are}
 use Rattle.buck_stem.proofs.reading.stem_from.Goals as goal
 
 pub bounds-as_slice-0 : goal.bounds-as_slice-0
@@ -16,11 +16,13 @@ pub overflow_cast-species : goal.overflow_cast-species
 overflow_cast-species c =
     let counted = count_ok c.args.draft.now c.requires.count in
     let ranged = range_ok c.args.draft.now c.requires.range in
-    let fits = at_within 1 255 c.args.draft.now.species 0 0 ranged.species (omega (arith, counted.species)) in
+    let fits = ranged.species 0 0 (omega (arith, counted.species)) in
     rw c.as_slice-2.ensures (omega (arith, fits.1))
 
 pub samples_of-requires : goal.samples_of-requires
-samples_of-requires c = rw c.as_slice-3.ensures (range_ok c.args.draft.now c.requires.range).samples
+samples_of-requires c =
+    let ranged = range_ok c.args.draft.now c.requires.range in
+    rw c.as_slice-3.ensures (λ k d lt. omega (arith, (ranged.samples k d lt).1))
 
 pub zones_of-requires : goal.zones_of-requires
 zones_of-requires c = rw c.as_slice-4.ensures (range_ok c.args.draft.now c.requires.range).grades

@@ -4,4 +4,4 @@ use Rattle.buck_stem.specs.Stm.{grades}
 use Rattle.buck_stem.proofs.rules.grades_within.Given as goal
 
 abbrev pub invariant-loop-k : goal.invariant-loop-k
-invariant-loop-k l = all_within l.low l.high (grades (drop (2 * l.k) l.zones)) ≡ all_within l.low l.high (grades l.zones)
+invariant-loop-k l = all_within l.item.low l.item.high (grades (drop (2 * l.k) l.zones)) ≡ all_within l.item.low l.item.high (grades l.zones)
