@@ -165,10 +165,11 @@ def main():
     parser = argparse.ArgumentParser(description=__doc__, formatter_class=argparse.RawDescriptionHelpFormatter)
     parser.add_argument("--jobs", type=int, default=2)
     parser.add_argument("--every", type=int, default=1)
-    parser.add_argument("--most", type=int, default=400)
+    parser.add_argument("--most", type=int, help="400, or 6,000 with --built")
     parser.add_argument("--built", action="store_true", help="run the tests that `rt test` left in out/")
     parser.add_argument("crates", nargs="*", metavar="CRATE")
     args = parser.parse_args()
+    args.most = args.most or (6000 if args.built else 400)
     names = args.crates or [crate for crate in crates() if has_such_tests(crate)]
     places = range(1, args.most + 1, args.every)
     passed = failed = 0

@@ -1,8 +1,8 @@
 -- A journal that is gone through item by item is read as what was found.
-use Rattle.std.proofs.Common.{◌≡◌, ℕ, suc, ◌+◌, ◌%◌, ◌<◌, ◌≤◌, true, List, [], ◌∷◌, ◌++◌, All, Ok, Err, Result, codes, length, slice_get, get_or, refl, sym, ap, ◌∙◌, subst, arith, append_assoc, eq-eqb}
+use Rattle.std.proofs.Common.{◌≡◌, ℕ, suc, ◌+◌, ◌%◌, ◌≤◌, true, List, [], ◌∷◌, ◌++◌, All, Ok, Err, Result, codes, length, slice_get, get_or, refl, sym, ap, ◌∙◌, subst, arith, append_assoc, eq-eqb}
 use Rattle.std.specs.Str.{bytes_eq}
 use Rattle.std.proofs.lemmas.Bool.{le-leb, lt-ltb, and_from}
-use Rattle.std.proofs.lemmas.List.{append-nil, length_push}
+use Rattle.std.proofs.lemmas.List.{append-nil, length-append}
 use Rattle.std.proofs.lemmas.List.Sums.{list_all-from_AllPass}
 use Rattle.buck_record.specs.Item.{ItemParts}
 use Rattle.buck_record.specs.declared.slot.Slot.{Slot}
@@ -10,7 +10,7 @@ use Rattle.buck_record.specs.declared.fault.RecordFault.{RecordFault}
 use Rattle.buck_record.specs.Reading.{with_fault}
 use Rattle.buck_record.specs.Record.{items_of, numbers_of, number_of}
 use Rattle.buck_record.specs.Table.{is_at}
-use Rattle.buck_record.specs.Cursor.{HasItems, Leads, item_in}
+use Rattle.buck_record.specs.Cursor.{HasItems, Joins, Leads, item_in}
 use Rattle.buck_record.specs.Rules.{slot, file_slot, within, all_within}
 use Rattle.buck_stem.specs.Stem.{StemParts}
 use Rattle.buck_stem.specs.Stm.{zones_of}
@@ -20,23 +20,22 @@ use Rattle.buck_book.specs.declared.posting.Posting.TheVariants.{Cut, Demand}
 use Rattle.buck_journal.specs.declared.call.Call.{Call}
 use Rattle.buck_journal.specs.declared.fault.JournalFault.TheVariants.{Head}
 use Rattle.buck_journal.specs.Journal.{rest_at, numbers_at, sheet_at, call_of, is_call, call_at, head_at, samples_at, are_zones, zones_at, stem_at, are_logs, logs_of, logs_at, worth_at, targets_at, follows, posting_follows, entry_of, cut_at, demand_of, demand_at, posting_at, sheets_from, postings_from, journal_in, journal_of}
-use Rattle.buck_journal.specs.inner.Plain.{LeadsNumbers, IsReadAs, LeadsTo, LeadsStem, Stands, begins, ArePostings, AreParts, LeadsPosting, LeadsPostings, HasPostings, LeadsSheets}
+use Rattle.buck_journal.specs.inner.Plain.{LeadsNumbers, IsReadAs, LeadsTo, LeadsCall, LeadsStem, Stands, begins, ArePostings, AreParts, AreReadAs, LeadsPosting, LeadsPostings, HasPostings, LeadsSheets}
 use Rattle.buck_journal.proofs.Stages.{journal_of_items}
 
 -- ---- an item
 is_at_its_slot : (s : Slot) (t : List ℕ) → is_at s (item_in s t) ≡ true
 is_at_its_slot s t = and_from _ _ (eq-eqb s.number s.number refl) (eq-eqb s.kind s.kind refl)
 
-pub call_leads : (s : Slot) (text ns left : List ℕ) (before : ℕ)
+pub call_leads : (s : Slot) (text ns left : List ℕ)
     → LeadsNumbers s text ns left
     → length ns ≡ 3
-    → before < 1000000
     → is_call (call_of ns) ≡ true
-    → LeadsTo s (λ items k. call_at s items k before) text (call_of ns) left
+    → LeadsCall s text (call_of ns) left
 unfolding call_at numbers_at rest_at
-call_leads s text ns left before l number few range = (
+call_leads s text ns left l number range = (
   l.0,
-  λ items k there.
+  λ before few items k there.
       rw (there, is_at_its_slot s l.0, l.1, eq-eqb (length ns) 3 number, lt-ltb before 1000000 few, range) refl,
   l.2,
 )
@@ -211,18 +210,28 @@ module _ (before : ℕ) (c : Call) (stem : StemParts) (cutting : List Log) (w : 
         ) refl;
   }
 
-pub cut_leads : (before : ℕ) (c : Call) (stem : StemParts) (cutting : List Log) (w : ℕ)
+-- one more comes before the others
+one_before : (before : ℕ) (p : Posting) (others more : List Posting) (items : List ItemParts)
+    → ArePostings (before + length (p ∷ others)) items more → ArePostings (before + 1 + length others) items more
+one_before before p others more items h =
+    subst (λ n. ArePostings n items more)
+    (let e : before + length (p ∷ others) ≡ before + 1 + length others = omega arith in e) h
+
+pub cut_leads : (c : Call) (stem : StemParts) (cutting : List Log) (w : ℕ)
     (text called felled logged left : List ℕ)
-    → LeadsTo (slot 981 1) (λ items k. call_at (slot 981 1) items k before) text c called
+    → LeadsCall (slot 981 1) text c called
     → LeadsStem called stem felled
     → LeadsTo (slot 981 5) logs_at felled cutting logged
     → LeadsTo (slot 981 6) worth_at logged w left
-    → LeadsPosting text before (Cut (entry_of c stem cutting w)) left
-cut_leads before c stem cutting w text called felled logged left l s g v = λ items others h more. (
+    → LeadsPosting text (Cut (entry_of c stem cutting w)) left
+cut_leads c stem cutting w text called felled logged left l s g v = λ items others h read. (
   cut_items l.0 s.head.0 s.samples.0 s.zones.0 g.0 v.0 items,
   l.2.next _ (s.head.2.next _ (s.samples.2.next _ (s.zones.2.next _ (g.2.next _ (v.2.next items h))))),
-  cut_postings before c stem cutting w l.0 s.head.0 s.samples.0 s.zones.0 g.0 v.0 items others l.1 s.head.1 s.samples.1
-      s.zones.1 g.1 v.1 more,
+  λ before more ps few after.
+      cut_postings before c stem cutting w l.0 s.head.0 s.samples.0 s.zones.0 g.0 v.0 (items ++ more) (others ++ ps)
+      (l.1 before (omega (arith, few))) s.head.1 s.samples.1 s.zones.1 g.1 v.1
+      (read (before + 1) more ps (omega (arith, few))
+      (one_before before (Cut (entry_of c stem cutting w)) others ps more after)),
 )
 
 -- ---- a demand
@@ -261,38 +270,69 @@ module _ (before : ℕ) (c : Call) (found call targets : List ℕ) where
         ) refl;
   }
 
-pub demand_leads : (before : ℕ) (c : Call) (found text called left : List ℕ)
-    → LeadsTo (slot 982 1) (λ items k. call_at (slot 982 1) items k before) text c called
+pub demand_leads : (c : Call) (found text called left : List ℕ)
+    → LeadsCall (slot 982 1) text c called
     → LeadsTo (slot 982 2) targets_at called found left
-    → LeadsPosting text before (Demand (demand_of c found)) left
-demand_leads before c found text called left l t = λ items others h more. (
-  demand_items before c found l.0 t.0 items,
+    → LeadsPosting text (Demand (demand_of c found)) left
+demand_leads c found text called left l t = λ items others h read. (
+  demand_items 0 c found l.0 t.0 items,
   l.2.next _ (t.2.next items h),
-  demand_postings before c found l.0 t.0 items others l.1 t.1 more,
+  λ before more ps few after.
+      demand_postings before c found l.0 t.0 (items ++ more) (others ++ ps) (l.1 before (omega (arith, few))) t.1
+      (read (before + 1) more ps (omega (arith, few))
+      (one_before before (Demand (demand_of c found)) others ps more after)),
 )
 
 -- ---- posting after posting
 pub postings_start : (text : List ℕ) → LeadsPostings text [] text
 postings_start text = λ items others h r. (items, h, r)
 
-pub postings_go_on : (text rest left : List ℕ) (ps : List Posting) (p : Posting) (n : ℕ)
-    → LeadsPostings text ps rest → n ≡ length ps → LeadsPosting rest n p left
-    → LeadsPostings text (ps ++ p ∷ []) left
-postings_go_on text rest left ps p n through is one = λ items others h r.
-    let count : length (ps ++ p ∷ []) ≡ n + 1 = omega (arith, is, length_push ps p) in
-    let m = one items others h (subst (λ b. ArePostings b items others) count r) in
-    let all = through m.0 (p ∷ others) m.1 (subst (λ b. ArePostings b m.0 (p ∷ others)) is m.2) in
-    (all.0, all.1, subst (ArePostings 0 all.0) (sym (append_assoc ps (p ∷ []) others)) all.2)
+pub postings_go_on : (text rest left : List ℕ) (ps : List Posting) (p : Posting)
+    → LeadsPostings text ps rest → LeadsPosting rest p left → LeadsPostings text (ps ++ p ∷ []) left
+postings_go_on text rest left ps p through one = λ items others h r.
+    let m = one items others h r in
+    let all = through m.0 (p ∷ others) m.1 m.2 in
+    (all.0, all.1, subst (AreReadAs all.0) (sym (append_assoc ps (p ∷ []) others)) all.2)
 
 pub no_postings : (before : ℕ) → ArePostings before [] []
 unfolding postings_from
 no_postings before = record { begin = refl; read = λ all k at. refl }
 
+nothing_read : AreReadAs [] []
+nothing_read = λ before more others few h.
+    subst (λ n. ArePostings n more others) (let e : before + 0 ≡ before = omega arith in e) h
+
 pub postings_end : (text rest : List ℕ) (ps : List Posting)
     → LeadsPostings text ps rest → HasItems rest [] → HasPostings text ps
 postings_end text rest ps through end =
-    let all = through [] [] end (no_postings (length ps)) in
-    (all.0, all.1, subst (ArePostings 0 all.0) (append-nil ps) all.2)
+    let all = through [] [] end nothing_read in
+    (all.0, all.1, subst (AreReadAs all.0) (append-nil ps) all.2)
+
+-- at the end of a file, the items of all postings
+all_read : (items : List ItemParts) (ps : List Posting) → AreReadAs items ps → length ps ≤ 1000000 → ArePostings 0 items ps
+all_read items ps read few =
+    subst (λ qs. ArePostings 0 items qs) (append-nil ps)
+    (subst (λ xs. ArePostings 0 xs (ps ++ [])) (append-nil items)
+    (read 0 [] [] (omega (arith, few)) (no_postings (0 + length ps))))
+
+-- ---- two parts of a text
+both_read : (xs ys : List ItemParts) (ps qs : List Posting)
+    → AreReadAs xs ps → AreReadAs ys qs → AreReadAs (xs ++ ys) (ps ++ qs)
+both_read xs ys ps qs first second = λ before more others few h.
+    let count : length (ps ++ qs) ≡ length ps + length qs = length-append ps qs in
+    let after : ArePostings (before + length ps + length qs) more others =
+    subst (λ n. ArePostings n more others)
+    (let e : before + length (ps ++ qs) ≡ before + length ps + length qs = omega (arith, count) in e) h in
+    let whole : ArePostings before (xs ++ (ys ++ more)) (ps ++ (qs ++ others)) =
+    first before (ys ++ more) (qs ++ others) (omega (arith, few, count))
+    (second (before + length ps) more others (omega (arith, few, count)) after) in
+    subst (λ rs. ArePostings before ((xs ++ ys) ++ more) rs) (sym (append_assoc ps qs others))
+    (subst (λ items. ArePostings before items (ps ++ (qs ++ others))) (sym (append_assoc xs ys more)) whole)
+
+pub postings_join : (text front back : List ℕ) (ps qs : List Posting)
+    → Joins text front back → HasPostings front ps → HasPostings back qs → HasPostings text (ps ++ qs)
+postings_join text front back ps qs joins h g =
+    (h.0 ++ g.0, joins h.0 g.0 h.1 g.1, both_read h.0 g.0 ps qs h.2 g.2)
 
 -- ---- sheet after sheet
 pub sheets_start : (text : List ℕ) → LeadsSheets text [] text
@@ -353,10 +393,11 @@ pub plain_journal : (bytes kind body rest : List ℕ) (pss : List (List ℕ)) (p
     → Leads bytes (item_in file_slot kind) body
     → bytes_eq kind (codes "JRN") ≡ true
     → LeadsSheets body pss rest
+    → length ps ≤ 1000000
     → HasPostings rest ps
     → journal_of bytes ≡ Ok (record { sheets = pss; entries = ps })
-plain_journal bytes kind body rest pss ps first says sheets h =
-    let all = sheets h.0 [] ps h.1 (postings_alone h.0 ps h.2) in
+plain_journal bytes kind body rest pss ps first says sheets few h =
+    let all = sheets h.0 [] ps h.1 (postings_alone h.0 ps (all_read h.0 ps h.2 few)) in
     let parts : AreParts all.0 pss ps = subst (λ xs. AreParts all.0 xs ps) (append-nil pss) all.2 in
     let read : items_of bytes ≡ Ok (item_in file_slot kind ∷ all.0) =
     items-are bytes (item_in file_slot kind ∷ all.0) (first.next all.0 all.1) in

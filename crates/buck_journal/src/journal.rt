@@ -57,7 +57,7 @@ fn journal_in<'a>(alloc: Global, items: &'a [Piece<'a>]) -> Result<Journal, Jour
 }
 
 /// The journal of a file's bytes, or the first refusal that applies, by the list of the file's items.
-fn read_by_items(alloc: Global, bytes: &[u8]) -> Result<Journal, JournalFault>
+pub(crate) fn read_by_items(alloc: Global, bytes: &[u8]) -> Result<Journal, JournalFault>
     ensures value { Gives Memory result (journal_of bytes.now) }
     ensures few { IfOk result (λ journal. length journal.entries ≤ 1000000) }
 {

@@ -1,10 +1,10 @@
 //! Journals in one pass, with no list of their items: the kind of file, the sheets, and then the items of each posting.
 //! The numbers of an item, and the diameters of a stem, are read into rooms that are kept from item to item.
-ghost use Rattle.std.specs.Prelude.{◌≡◌, ◌<◌, ◌≤◌, IfOk, IfSome, Ok, length, map};
+ghost use Rattle.std.specs.Prelude.{◌≡◌, ◌≤◌, IfOk, IfSome, Ok, length, map};
 ghost use Rattle.buck_record.specs.Rules.{slot};
-ghost use Rattle.buck_journal.specs.Journal.{call_at, head_at, samples_at, zones_at, logs_at, worth_at, targets_at, sheet_at, journal_of};
+ghost use Rattle.buck_journal.specs.Journal.{head_at, samples_at, zones_at, logs_at, worth_at, targets_at, sheet_at, journal_of};
 ghost use Rattle.buck_journal.specs.inner.Limits.{AreSamples, AreZones};
-ghost use Rattle.buck_journal.specs.inner.Plain.{LeadsNumbers, LeadsTo, LeadsStem, LeadsPosting, LeadsPostings, HasPostings, LeadsSheets};
+ghost use Rattle.buck_journal.specs.inner.Plain.{LeadsNumbers, LeadsTo, LeadsCall, LeadsStem, LeadsPosting, LeadsPostings, HasPostings, LeadsSheets, BeginsJournal};
 
 use crate::call::Call;
 use crate::items::{call_of, is_call};
@@ -37,24 +37,18 @@ fn next_numbers<'a>(
     Ok(Some(left))
 }
 
-/// What the first item of a posting says, which so many come before, and what is left after it.
+/// What the first item of a posting says, and what is left after it.
 fn next_call<'a>(
     room: &mut Vec<u32>,
     slot: Slot,
     text: &'a [u8],
-    before: usize,
 ) -> Result<Option<(Call, &'a [u8])>, AllocError>
-    ensures leads { IfOk result (λ o. IfSome o (λ w.
-        LeadsTo slot (λ items k. call_at slot items k before) text.now w.0 w.1.now)) }
-    ensures few { IfOk result (λ o. IfSome o (λ w. before < 1000000)) }
+    ensures { IfOk result (λ o. IfSome o (λ w. LeadsCall slot text.now w.0 w.1.now)) }
 {
     let Some(left) = next_numbers(room, slot, text)? else {
         return Ok(None);
     };
     if room.len() != 3 {
-        return Ok(None);
-    }
-    if before >= 1_000_000 {
         return Ok(None);
     }
     let call = call_of(room.as_slice());
@@ -195,18 +189,16 @@ fn next_worth(text: &[u8]) -> Option<(u64, &[u8])>
     }
 }
 
-/// A cut, which so many postings come before, and what is left after its items.
+/// A cut, and what is left after its items.
 fn next_cut<'a>(
     alloc: Global,
     room: &mut Vec<u32>,
     samples: &mut Vec<u16>,
     text: &'a [u8],
-    before: usize,
 ) -> Result<Option<(Posting, &'a [u8])>, AllocError>
-    ensures leads { IfOk result (λ o. IfSome o (λ w. LeadsPosting text.now before w.0 w.1.now)) }
-    ensures few { IfOk result (λ o. IfSome o (λ w. before < 1000000)) }
+    ensures { IfOk result (λ o. IfSome o (λ w. LeadsPosting text.now w.0 w.1.now)) }
 {
-    let Some((call, called)) = next_call(room, CUT, text, before)? else {
+    let Some((call, called)) = next_call(room, CUT, text)? else {
         return Ok(None);
     };
     let Some((stem, felled)) = next_stem(alloc, room, samples, called)? else {
@@ -244,17 +236,15 @@ fn next_targets<'a>(
     Ok(Some((targets, left)))
 }
 
-/// A demand, which so many postings come before, and what is left after its items.
+/// A demand, and what is left after its items.
 fn next_demand<'a>(
     alloc: Global,
     room: &mut Vec<u32>,
     text: &'a [u8],
-    before: usize,
 ) -> Result<Option<(Posting, &'a [u8])>, AllocError>
-    ensures leads { IfOk result (λ o. IfSome o (λ w. LeadsPosting text.now before w.0 w.1.now)) }
-    ensures few { IfOk result (λ o. IfSome o (λ w. before < 1000000)) }
+    ensures { IfOk result (λ o. IfSome o (λ w. LeadsPosting text.now w.0 w.1.now)) }
 {
-    let Some((call, called)) = next_call(room, DEMAND, text, before)? else {
+    let Some((call, called)) = next_call(room, DEMAND, text)? else {
         return Ok(None);
     };
     let Some((targets, left)) = next_targets(alloc, room, called)? else {
@@ -264,32 +254,26 @@ fn next_demand<'a>(
     Ok(Some((demand, left)))
 }
 
-/// A posting, which so many come before, and what is left after its items.
+/// A posting, and what is left after its items.
 fn next_posting<'a>(
     alloc: Global,
     room: &mut Vec<u32>,
     samples: &mut Vec<u16>,
     text: &'a [u8],
-    before: usize,
 ) -> Result<Option<(Posting, &'a [u8])>, AllocError>
-    ensures leads { IfOk result (λ o. IfSome o (λ w. LeadsPosting text.now before w.0 w.1.now)) }
-    ensures few { IfOk result (λ o. IfSome o (λ w. before < 1000000)) }
+    ensures { IfOk result (λ o. IfSome o (λ w. LeadsPosting text.now w.0 w.1.now)) }
 {
-    match next_cut(alloc, room, samples, text, before)? {
+    match next_cut(alloc, room, samples, text)? {
         Some(cut) => Ok(Some(cut)),
-        None => next_demand(alloc, room, text, before),
+        None => next_demand(alloc, room, text),
     }
 }
 
 /// The postings of a text, up to its end.
-fn postings_of(
-    alloc: Global,
-    room: &mut Vec<u32>,
-    text: &[u8],
-) -> Result<Option<Vec<Posting>>, AllocError>
-    ensures value { IfOk result (λ o. IfSome o (λ postings. HasPostings text.now postings.items)) }
-    ensures few { IfOk result (λ o. IfSome o (λ postings. length postings.items ≤ 1000000)) }
+pub(crate) fn postings_of(alloc: Global, text: &[u8]) -> Result<Option<Vec<Posting>>, AllocError>
+    ensures { IfOk result (λ o. IfSome o (λ postings. HasPostings text.now postings.items)) }
 {
+    let mut room = Vec::new(alloc);
     let mut samples = Vec::new(alloc);
     let mut postings = Vec::new(alloc);
     let mut rest = text;
@@ -298,8 +282,7 @@ fn postings_of(
         if is_done(rest) {
             return Ok(Some(postings));
         }
-        let before = postings.len();
-        let Some((posting, left)) = next_posting(alloc, room, &mut samples, rest, before)? else {
+        let Some((posting, left)) = next_posting(alloc, &mut room, &mut samples, rest)? else {
             return Ok(None);
         };
         postings.push(posting)?;
@@ -350,10 +333,13 @@ fn sheets_of<'a>(
     Ok((sheets, rest))
 }
 
-/// The journal of a file's bytes, where all of it is right; `None` says nothing of them.
-pub(crate) fn read_plain(alloc: Global, bytes: &[u8]) -> Result<Option<Journal>, AllocError>
-    ensures value { IfOk result (λ o. IfSome o (λ journal. journal_of bytes.now ≡ Ok journal)) }
-    ensures few { IfOk result (λ o. IfSome o (λ journal. length journal.entries ≤ 1000000)) }
+/// The sheets of a journal's bytes, and what is left after them.
+pub(crate) fn opened<'a>(
+    alloc: Global,
+    bytes: &'a [u8],
+) -> Result<Option<(Vec<Vec<u32>>, &'a [u8])>, AllocError>
+    ensures { IfOk result (λ o. IfSome o (λ w.
+        BeginsJournal bytes.now (map (λ v. v.items) w.0.items) w.1.now)) }
 {
     let Some((kind, body)) = next_quick(FILE, bytes) else {
         return Ok(None);
@@ -363,8 +349,22 @@ pub(crate) fn read_plain(alloc: Global, bytes: &[u8]) -> Result<Option<Journal>,
     }
     let mut room = Vec::new(alloc);
     let (sheets, rest) = sheets_of(alloc, &mut room, body)?;
-    match postings_of(alloc, &mut room, rest)? {
-        Some(entries) => Ok(Some(Journal { sheets, entries })),
-        None => Ok(None),
+    Ok(Some((sheets, rest)))
+}
+
+/// The journal of a file's bytes, where all of it is right; `None` says nothing of them.
+pub(crate) fn read_plain(alloc: Global, bytes: &[u8]) -> Result<Option<Journal>, AllocError>
+    ensures value { IfOk result (λ o. IfSome o (λ journal. journal_of bytes.now ≡ Ok journal)) }
+    ensures few { IfOk result (λ o. IfSome o (λ journal. length journal.entries ≤ 1000000)) }
+{
+    let Some((sheets, rest)) = opened(alloc, bytes)? else {
+        return Ok(None);
+    };
+    let Some(entries) = postings_of(alloc, rest)? else {
+        return Ok(None);
+    };
+    if entries.len() > 1_000_000 {
+        return Ok(None);
     }
+    Ok(Some(Journal { sheets, entries }))
 }

@@ -17,4 +17,5 @@ pub mod FourLemmas
 pub mod AddLemmas
 pub mod CursorLemmas
 pub mod QuickLemmas
+pub mod PartLemmas
 pub mod Three

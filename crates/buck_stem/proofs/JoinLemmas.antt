@@ -9,14 +9,14 @@ use Rattle.buck_record.specs.declared.fault.RecordFault.{RecordFault}
 use Rattle.buck_record.specs.Reading.{each_from, put_front, with_fault}
 use Rattle.buck_record.specs.White.{words}
 use Rattle.buck_record.specs.Record.{items_of, numbers_of, number_of, one_number, number_at_most}
-use Rattle.buck_record.specs.Cursor.{HasItems, Leads, item_in}
+use Rattle.buck_record.specs.Cursor.{HasItems, Joins, Leads, item_in}
 use Rattle.buck_record.specs.Rules.{file_slot, within, all_within}
 use Rattle.buck_stem.specs.declared.draft.Draft.{Draft}
 use Rattle.buck_stem.specs.declared.slots.TheConstants.{STEM, SPECIES, SPECIES_RANGE, SAMPLES, SAMPLES_RANGE, MOST_SAMPLES}
 use Rattle.buck_stem.specs.Stem.{StemParts, stem_of, IsStem}
 use Rattle.buck_stem.specs.Stm.{draft_range, draft_order, draft_count, parts_of, zones_of, stm_of}
 use Rattle.buck_stem.specs.inner.Ready.{IsReadyDraft}
-use Rattle.buck_stem.specs.inner.Plain.{zones_item, ArePlain, AreZones, LeadsNumbers, SaysZones, LeadsZones, LeadsStem, LeadsStems, HasStems}
+use Rattle.buck_stem.specs.inner.Plain.{zones_item, group_of, ArePlain, AreZones, LeadsNumbers, SaysZones, LeadsZones, LeadsStem, LeadsStems, HasStems}
 use Rattle.buck_stem.proofs.PassLemmas.{is_stem}
 use Rattle.buck_stem.proofs.PlainLemmas.{plain_files}
 
@@ -49,6 +49,37 @@ pub read_stems : (bytes text body : List ℕ) (stems : List StemParts)
 read_stems bytes text body stems first says h =
     plain_files text h.0 stems h.2 bytes
     (items-are bytes (item_in file_slot text ∷ h.0) (first.next h.0 h.1)) says
+
+-- ---- two parts of a text
+both : (xs ys : List ItemParts) (stems more : List StemParts)
+    → ArePlain xs stems → ArePlain ys more → ArePlain (xs ++ ys) (stems ++ more)
+both xs ys [] more p q = rw p q
+both xs ys (stem ∷ stems) more p q =
+    let one = p.1 in (
+      p.0 ++ ys,
+      record {
+        number = one.number;
+        species = one.species;
+        samples = one.samples;
+        zones = one.zones;
+        draft = one.draft;
+        group =
+            ap (λ items. items ++ ys) one.group
+            ∙ append_assoc (group_of one.number one.species one.samples one.zones) p.0 ys;
+        numbers = one.numbers;
+        kinds = one.kinds;
+        diameters = one.diameters;
+        grades = one.grades;
+        ready = one.ready;
+        parts = one.parts;
+      },
+      both p.0 ys stems more p.2 q,
+    )
+
+pub stems_join : (text front back : List ℕ) (stems more : List StemParts)
+    → Joins text front back → HasStems front stems → HasStems back more → HasStems text (stems ++ more)
+stems_join text front back stems more joins h g =
+    (h.0 ++ g.0, joins h.0 g.0 h.1 g.1, both h.0 g.0 stems more h.2 g.2)
 
 -- ---- the numbers of a stem
 abbrev draft : ℕ → ℕ → List ℕ → List ℕ → Draft
@@ -185,6 +216,12 @@ pub if_ok_some : {V E : Type 0} (P Q : V → Type 0)
 if_ok_some P Q f (Ok (Some v)) h = f v h
 if_ok_some P Q f (Ok None) h = tt
 if_ok_some P Q f (Err e) h = tt
+
+pub ok_some : {V E : Type 0} (P : V → Type 0) (r : Result (Option V) E) (v : V)
+    → IfOk r (λ o. IfSome o P) → r ≡ Ok (Some v) → P v
+ok_some P (Ok (Some w)) v h e = let same : w ≡ v = cc in subst P same h
+ok_some P (Ok None) v h e = cc
+ok_some P (Err f) v h e = cc
 
 pub not_false : (b : Bool) → false ≡ not b → b ≡ true
 not_false true h = refl

@@ -5,6 +5,7 @@ mod body;
 mod draft;
 mod fault;
 mod lines;
+mod parallel;
 mod plain;
 mod profile;
 mod reading;
@@ -17,6 +18,7 @@ mod stem;
 
 pub use buck_record::Memory;
 pub use fault::StmFault;
+pub use parallel::read_stm_in_parts;
 pub use profile::{Profile, ProfileLists};
 pub use reading::read_stm;
 pub use stem::{Stem, StemFault};

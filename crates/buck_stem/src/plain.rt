@@ -3,7 +3,7 @@
 ghost use Rattle.std.specs.Prelude.{◌≡◌, ◌≤◌, ◌∷◌, [], IfOk, IfSome, IsTrue, All, Ok, length};
 ghost use Rattle.buck_stem.specs.declared.slots.TheConstants.{STEM, SPECIES, SAMPLES};
 ghost use Rattle.buck_stem.specs.Stm.{stm_of};
-ghost use Rattle.buck_stem.specs.inner.Plain.{LeadsNumbers, AreZones, SaysZones, LeadsZones, LeadsStem, HasStems};
+ghost use Rattle.buck_stem.specs.inner.Plain.{LeadsNumbers, AreZones, SaysZones, LeadsZones, LeadsStem, HasStems, IsBodyOf};
 
 use crate::rules::{grades_within, is_count_of_zones, starts_rise, starts_within, zones_of};
 use crate::slots::{
@@ -137,7 +137,7 @@ fn next_stem<'a>(
 }
 
 /// The stems of a text in the plain order, up to its end.
-fn stems_of(alloc: Global, body: &[u8]) -> Result<Option<Vec<Stem>>, AllocError>
+pub(crate) fn stems_of(alloc: Global, body: &[u8]) -> Result<Option<Vec<Stem>>, AllocError>
     ensures { IfOk result (λ o. IfSome o (λ stems. HasStems body.now stems.items)) }
 {
     let mut room = Vec::new(alloc);
@@ -156,15 +156,25 @@ fn stems_of(alloc: Global, body: &[u8]) -> Result<Option<Vec<Stem>>, AllocError>
     Ok(None)
 }
 
+/// What stands behind the item with which a stem file begins.
+pub(crate) fn body_of(bytes: &[u8]) -> Option<&[u8]>
+    ensures { IfSome result (λ body. IsBodyOf bytes.now body.now) }
+{
+    let Some((kind, body)) = next_in(FILE, bytes) else {
+        return None;
+    };
+    if kind != b"STM".as_slice() {
+        return None;
+    }
+    Some(body)
+}
+
 /// The stems of a file's bytes, where they are in the plain order and all is right; `None` says nothing of them.
 pub(crate) fn read_plain(alloc: Global, bytes: &[u8]) -> Result<Option<Vec<Stem>>, AllocError>
     ensures { IfOk result (λ o. IfSome o (λ stems. stm_of bytes.now ≡ Ok stems.items)) }
 {
-    let Some((kind, body)) = next_in(FILE, bytes) else {
+    let Some(body) = body_of(bytes) else {
         return Ok(None);
     };
-    if kind != b"STM".as_slice() {
-        return Ok(None);
-    }
     stems_of(alloc, body)
 }

@@ -1,5 +1,6 @@
 //! Journals replayed in parts: in whatever number of threads outvalued cuts are looked for, what is written, and what is
 //! refused, is what one thread writes and refuses.
+use crate::parts::ROOM;
 use crate::work::apt_and_stm;
 use buck_engine::{
     EngineFault, Files, Table, run_check, run_check_in_parts, run_table, run_table_in_parts,
@@ -65,7 +66,8 @@ fn text_by<'x, T: Threads + Sync>(
     (mut apt, mut jrn): (&'x [u8], &'x [u8]),
     threads: Option<u8>,
 ) -> Result<Vec<u8>, EngineFault> {
-    let mut text = Vec::new(alloc);
+    // Room for all, since what a list as a writer is refused is a fault of writing.
+    let mut text = Vec::with_capacity(alloc, ROOM)?;
     let out = &mut text;
     let table = Table::Logs;
     match (made, threads) {

@@ -5,6 +5,9 @@ use std::alloc::Global;
 use std::test::Fail;
 use std::thread::Threads;
 
+/// The most bytes that a text has here.
+pub const ROOM: usize = 131_072;
+
 /// A stem file of so many stems, each with a number of its own.
 fn stem_file(alloc: Global, number: u32) -> Result<String, Fail> {
     let mut text = String::from_str(alloc, "1 2 STM~\n")?;
@@ -23,7 +26,8 @@ fn text_by<'x, T: Threads + Sync>(
     (mut apt, mut stm): (&'x [u8], &'x [u8]),
     threads: Option<u8>,
 ) -> Result<Vec<u8>, EngineFault> {
-    let mut text = Vec::new(alloc);
+    // Room for all, since what a list as a writer is refused is a fault of writing.
+    let mut text = Vec::with_capacity(alloc, ROOM)?;
     match threads {
         None => run_buck(alloc, &mut apt, &mut stm, &mut text)?,
         Some(_) => run_buck_in_parts(rt, alloc, threads, &mut apt, &mut stm, &mut text)?,
@@ -51,4 +55,34 @@ fn numbers_of_threads(rt: HostRuntime) -> Result<(), Fail> {
         assert!(rt; is_same(&rt, rt.alloc(), number)?, "{number}");
     }
     Ok(())
+}
+
+/// Whether a bucking in two parts is refused memory; an error, if it ends otherwise than it may.
+fn is_refused<T: Threads + Sync>(
+    rt: &T,
+    alloc: Global,
+    files: (&[u8], &[u8]),
+    text: &[u8],
+) -> Result<bool, Fail> {
+    match text_by(rt, alloc, files, Some(2)) {
+        Ok(made) if made.as_slice() == text => Ok(false),
+        Err(EngineFault::Memory) => Ok(true),
+        _ => Err(Fail::from("another answer")),
+    }
+}
+
+/// The first part has 128 stems, the second one.
+#[test]
+fn refused_memory_of_each_part(rt: HostRuntime) -> Result<(), Fail> {
+    let (apt, _) = apt_and_stm();
+    let stm = stem_file(rt.alloc(), 129)?;
+    let files = (apt.as_bytes(), stm.as_bytes());
+    let text = text_by(&rt, rt.alloc(), files, None)?;
+    if !is_refused(&rt, rt.alloc(), files, text.as_slice())? {
+        return Ok(());
+    }
+    if is_refused(&rt, rt.alloc(), files, text.as_slice())? {
+        return Err(Fail::from("refused again"));
+    }
+    Err(Fail::from(EngineFault::Memory))
 }

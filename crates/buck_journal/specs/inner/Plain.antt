@@ -1,5 +1,5 @@
 -- Journals that are gone through item by item, with no list of the items.
-use Rattle.std.specs.Prelude.{◌≡◌, ℕ, ◌+◌, Bool, true, List, [], ◌∷◌, ◌++◌, length, slice_get, Some, Result, Ok}
+use Rattle.std.specs.Prelude.{◌≡◌, ℕ, ◌+◌, ◌<◌, ◌≤◌, Bool, true, List, [], ◌∷◌, ◌++◌, length, slice_get, Some, Result, Ok}
 use Rattle.buck_record.specs.Item.{ItemParts}
 use Rattle.buck_record.specs.Record.{numbers_of}
 use Rattle.buck_record.specs.Cursor.{HasItems, Leads, item_in}
@@ -7,8 +7,9 @@ use Rattle.buck_record.specs.declared.slot.Slot.{Slot}
 use Rattle.buck_record.specs.Rules.{slot}
 use Rattle.buck_stem.specs.Stem.{StemParts}
 use Rattle.buck_book.specs.declared.posting.Posting.{Posting}
+use Rattle.buck_journal.specs.declared.call.Call.{Call}
 use Rattle.buck_journal.specs.declared.fault.JournalFault.{JournalFault}
-use Rattle.buck_journal.specs.Journal.{is_first, head_at, samples_at, zones_at, sheets_from, postings_from}
+use Rattle.buck_journal.specs.Journal.{is_first, call_at, head_at, samples_at, zones_at, sheets_from, postings_from, journal_of}
 
 -- the text begins with an item of the slot that says these numbers, and `left` has the other items
 abbrev pub LeadsNumbers : Slot → List ℕ → List ℕ → List ℕ → Type 0
@@ -22,6 +23,14 @@ IsReadAs read item x = (items : List ItemParts) (k : ℕ) → slice_get items k 
 abbrev pub LeadsTo : {X : Type 0}
     → Slot → (List ItemParts → ℕ → Result X JournalFault) → List ℕ → X → List ℕ → Type 0
 LeadsTo s read text x left = (t : List ℕ) × IsReadAs read (item_in s t) x × Leads text (item_in s t) left
+
+-- the text begins with an item of the slot that is read as this call, wherever fewer than 1,000,000 postings come
+-- before it, and `left` has the other items
+abbrev pub LeadsCall : Slot → List ℕ → Call → List ℕ → Type 0
+LeadsCall s text c left =
+    (t : List ℕ)
+    × ((before : ℕ) → before < 1000000 → IsReadAs (λ items k. call_at s items k before) (item_in s t) c)
+    × Leads text (item_in s t) left
 
 -- the text begins with the three items of the stem, and `left` has the others
 pub record LeadsStem (text : List ℕ) (stem : StemParts) (left : List ℕ) : Type 0 where
@@ -50,21 +59,28 @@ pub record AreParts (items : List ItemParts) (sheets : List (List ℕ)) (ps : Li
   pub sheets_read : (all : List ItemParts) (k : ℕ) → Stands all k items → sheets_from all k items ≡ Ok sheets
   pub postings_read : (all : List ItemParts) (k : ℕ) → Stands all k items → postings_from all k 0 items ≡ Ok ps
 
--- the text begins with the items of the posting, which so many come before, and `left` has the others
-abbrev pub LeadsPosting : List ℕ → ℕ → Posting → List ℕ → Type 0
-LeadsPosting text before p left =
-    (items : List ItemParts) (others : List Posting) → HasItems left items → ArePostings (before + 1) items others
-    → (more : List ItemParts) × HasItems text more × ArePostings before more (p ∷ others)
+-- after so many postings that there is room for these, and whatever follows, the items are read as these postings
+abbrev pub AreReadAs : List ItemParts → List Posting → Type 0
+AreReadAs items ps =
+    (before : ℕ) (more : List ItemParts) (others : List Posting)
+    → before + length ps ≤ 1000000 → ArePostings (before + length ps) more others
+    → ArePostings before (items ++ more) (ps ++ others)
+
+-- the text begins with the items of the posting, and `left` has the others
+abbrev pub LeadsPosting : List ℕ → Posting → List ℕ → Type 0
+LeadsPosting text p left =
+    (items : List ItemParts) (others : List Posting) → HasItems left items → AreReadAs items others
+    → (more : List ItemParts) × HasItems text more × AreReadAs more (p ∷ others)
 
 -- the text begins with the items of the postings, and `rest` has the others
 abbrev pub LeadsPostings : List ℕ → List Posting → List ℕ → Type 0
 LeadsPostings text ps rest =
-    (items : List ItemParts) (others : List Posting) → HasItems rest items → ArePostings (length ps) items others
-    → (all : List ItemParts) × HasItems text all × ArePostings 0 all (ps ++ others)
+    (items : List ItemParts) (others : List Posting) → HasItems rest items → AreReadAs items others
+    → (all : List ItemParts) × HasItems text all × AreReadAs all (ps ++ others)
 
 -- the items of the text are those of the postings
 abbrev pub HasPostings : List ℕ → List Posting → Type 0
-HasPostings text ps = (all : List ItemParts) × HasItems text all × ArePostings 0 all ps
+HasPostings text ps = (all : List ItemParts) × HasItems text all × AreReadAs all ps
 
 -- the text begins with the items of the sheets, and `rest` has the others
 abbrev pub LeadsSheets : List ℕ → List (List ℕ) → List ℕ → Type 0
@@ -72,3 +88,9 @@ LeadsSheets text sheets rest =
     (items : List ItemParts) (others : List (List ℕ)) (ps : List Posting)
     → HasItems rest items → AreParts items others ps
     → (all : List ItemParts) × HasItems text all × AreParts all (sheets ++ others) ps
+
+-- whatever postings the rest has, if they aren't too many, the file has these sheets and them
+abbrev pub BeginsJournal : List ℕ → List (List ℕ) → List ℕ → Type 0
+BeginsJournal bytes sheets rest =
+    (ps : List Posting) → length ps ≤ 1000000 → HasPostings rest ps
+    → journal_of bytes ≡ Ok (record { sheets = sheets; entries = ps })

@@ -9,7 +9,7 @@ use Rattle.buck_record.specs.Rules.{all_within, is_rising}
 use Rattle.buck_stem.specs.declared.draft.Draft.{Draft}
 use Rattle.buck_stem.specs.declared.slots.TheConstants.{STEM, SPECIES, SAMPLES, ZONES, STARTS_RANGE, GRADES_RANGE, MOST_ZONES}
 use Rattle.buck_stem.specs.Stem.{StemParts}
-use Rattle.buck_stem.specs.Stm.{starts, grades, zones_of, parts_of}
+use Rattle.buck_stem.specs.Stm.{starts, grades, zones_of, parts_of, stm_of}
 use Rattle.buck_stem.specs.inner.Ready.{IsReadyDraft}
 
 -- the zones' item, where there is one
@@ -82,3 +82,7 @@ LeadsStems text stems rest =
 -- the items of the text are those of the stems
 abbrev pub HasStems : List ℕ → List StemParts → Type 0
 HasStems text stems = (all : List ItemParts) × HasItems text all × ArePlain all stems
+
+-- whatever stems the text has are those of the file
+abbrev pub IsBodyOf : List ℕ → List ℕ → Type 0
+IsBodyOf bytes body = (stems : List StemParts) → HasStems body stems → stm_of bytes ≡ Ok stems

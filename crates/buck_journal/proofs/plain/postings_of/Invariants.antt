@@ -1,10 +1,6 @@
-use Rattle.std.proofs.Common.{◌≤◌, length}
 use Rattle.buck_journal.specs.inner.Plain.{LeadsPostings}
 use Rattle.buck_journal.proofs.plain.postings_of.Given as goal
 
 -- the postings so far lead to what is left
 abbrev pub invariant-loop : goal.invariant-loop
-invariant-loop l = record {
-  leads : LeadsPostings l.fn.text l.postings.items l.rest;
-  few : length l.postings.items ≤ 1000000;
-}
+invariant-loop l = LeadsPostings l.fn.text l.postings.items l.rest

@@ -1,17 +1,12 @@
-use Rattle.std.proofs.Common.{◌≡◌, true, codes, map, ap, sym, ◌∙◌}
-use Rattle.std.specs.Str.{bytes_eq}
-use Rattle.buck_stem.proofs.JoinLemmas.{not_false}
-use Rattle.buck_journal.specs.inner.Plain.{HasPostings}
-use Rattle.buck_journal.proofs.OnePass.{plain_journal}
+use Rattle.std.proofs.Common.{map, arith}
+use Rattle.buck_journal.specs.inner.Plain.{HasPostings, BeginsJournal}
 use Rattle.buck_journal.proofs.plain.read_plain.Goals as goal
 
-pub returns-in-Some-2-clause-value : goal.returns-in-Some-2-clause-value
-returns-in-Some-2-clause-value c =
-    let kind = c.in-Some.kind.now in
-    let rest = c.in_ok-sheets.rest.now in
+pub returns-clause-value : goal.returns-clause-value
+returns-clause-value c =
+    let sheets = map (λ v. v.items) c.in-Some.sheets.items in
+    let rest = c.in-Some.rest.now in
     let ps = c.in-Some-2.entries.items in
-    let says : bytes_eq kind (codes "JRN") ≡ true =
-    ap (bytes_eq kind) (sym c.as_slice.ensures) ∙ not_false _ c.if-ne.ensures in
-    let postings : HasPostings rest ps = rw c.in-Some-2.is at c.in_ok-entries.ensures.value in
-    plain_journal c.args.bytes.now kind c.in-Some.body.now rest (map (λ v. v.items) c.in_ok-sheets.sheets.items) ps
-    c.in-Some.ensures says c.in_ok-sheets.ensures postings
+    let begun : BeginsJournal c.args.bytes.now sheets rest = rw c.in-Some.is at c.in_ok-sheets.ensures in
+    let postings : HasPostings rest ps = rw c.in-Some-2.is at c.in_ok-entries.ensures in
+    begun ps (omega (arith, c.len.ensures, c.if-len-gt1000000.false)) postings

@@ -1,0 +1,76 @@
+-- A text that is cut in two at a tilde.
+use Rattle.std.proofs.Common.{◌≡◌, ℕ, suc, ◌+◌, ◌*◌, ◌/◌, ◌<◌, ◌≤◌, Bool, true, false, cond, List, [], ◌∷◌, ◌++◌, map, filter, Option, None, Some, Result, Ok, Err, length, take, drop, get_or, refl, sym, ap, ◌∙◌, arith, length-drop, take_all, ◌-◌}
+use Rattle.std.specs.List.{slice_split, onto_first}
+use Rattle.std.proofs.Math.Nat.{div-mul-le_self, mul-le-mul_left}
+use Rattle.std.proofs.Math.Seq.{split_at}
+use Rattle.std.proofs.lemmas.List.{map-append}
+use Rattle.std.proofs.lemmas.List.Elements.{filter-append}
+use Rattle.std.proofs.lemmas.List.Splits.{slice_split-cons_yes, length-slice_split}
+use Rattle.buck_record.specs.White.{is_filled, trim}
+use Rattle.buck_record.specs.Reading.{each_from, put_front}
+use Rattle.buck_record.specs.Record.{item_of, is_tilde, filled_parts, pieces}
+use Rattle.buck_record.specs.Cursor.{Joins}
+
+-- ---- the pieces
+onto : (x : ℕ) (parts more : List (List ℕ)) → 0 < length parts → onto_first x (parts ++ more) ≡ onto_first x parts ++ more
+onto x [] more some = absurd (omega (arith, some))
+onto x (part ∷ parts) more some = refl
+
+one_more : (x : ℕ) (b : Bool) (whole parts more : List (List ℕ))
+    → whole ≡ parts ++ more → 0 < length parts
+    → cond b ([] ∷ whole) (onto_first x whole) ≡ cond b ([] ∷ parts) (onto_first x parts) ++ more
+one_more x true whole parts more is some = ap (λ ps. [] ∷ ps) is
+one_more x false whole parts more is some = ap (onto_first x) is ∙ onto x parts more some
+
+split_both : (p : ℕ → Bool) (xs : List ℕ) (y : ℕ) (ys : List ℕ)
+    → p y ≡ true → slice_split p (xs ++ y ∷ ys) ≡ slice_split p xs ++ slice_split p ys
+split_both p [] y ys e = slice_split-cons_yes p y ys e
+split_both p (x ∷ xs) y ys e =
+    one_more x (p x) (slice_split p (xs ++ y ∷ ys)) (slice_split p xs) (slice_split p ys) (split_both p xs y ys e)
+    (omega (arith, length-slice_split p xs))
+
+pieces_both : (front back : List ℕ) (y : ℕ)
+    → is_tilde y ≡ true → pieces (front ++ y ∷ back) ≡ pieces front ++ pieces back
+pieces_both front back y e =
+    ap filled_parts (split_both is_tilde front y back e)
+    ∙ ap (filter is_filled) (map-append trim (slice_split is_tilde front) (slice_split is_tilde back))
+    ∙ filter-append is_filled (map trim (slice_split is_tilde front)) (map trim (slice_split is_tilde back))
+
+-- ---- the items
+module _ {X Y : Type 0} (f : X → Option Y) (qs : List X) (ys : List Y) (back : (k : ℕ) → each_from f k qs ≡ Ok ys) where
+  then : (o : Option Y) (k : ℕ) (r s : Result (List Y) ℕ) (xs : List Y)
+      → put_front o k r ≡ Ok xs
+      → ((zs : List Y) → r ≡ Ok zs → s ≡ Ok (zs ++ ys))
+      → put_front o k s ≡ Ok (xs ++ ys)
+  then None k r s xs h go = cc
+  then (Some y) k (Err e) s xs h go = cc
+  then (Some y) k (Ok zs) s xs h go = let e : xs ≡ y ∷ zs = cc in rw (go zs refl, e) refl
+
+  each_both : (k : ℕ) (ps : List X) (xs : List Y) → each_from f k ps ≡ Ok xs → each_from f k (ps ++ qs) ≡ Ok (xs ++ ys)
+  unfolding each_from
+  each_both k [] xs h = let e : xs ≡ [] = cc in rw e (back k)
+  each_both k (p ∷ ps) xs h =
+      then (f p) k (each_from f (k + 1) ps) (each_from f (k + 1) (ps ++ qs)) xs h (λ zs r. each_both (k + 1) ps zs r)
+
+pub joins : (text front back : List ℕ) (y : ℕ) → text ≡ front ++ y ∷ back → is_tilde y ≡ true → Joins text front back
+joins text front back y is tilde = λ xs ys before behind k.
+    ap (each_from item_of k) (ap pieces is ∙ pieces_both front back y tilde)
+    ∙ each_both item_of (pieces back) ys behind k (pieces front) xs (before k)
+
+-- a text that is cut at a place
+pub joins_at : (text : List ℕ) (at : ℕ)
+    → at < length text
+    → is_tilde (get_or text at 0) ≡ true
+    → Joins text (take at text) (take (length text - (at + 1)) (drop (at + 1) text))
+joins_at text at within tilde =
+    let behind : drop (suc at) text ≡ take (length text - (at + 1)) (drop (at + 1) text) =
+    ap (λ n. drop n text) (let e : suc at ≡ at + 1 = omega arith in e)
+    ∙ sym (take_all (length text - (at + 1)) (drop (at + 1) text) (omega (arith, length-drop (at + 1) text))) in
+    joins text (take at text) (take (length text - (at + 1)) (drop (at + 1) text)) (get_or text at 0)
+    (split_at text at 0 within ∙ ap (λ back. take at text ++ get_or text at 0 ∷ back) behind) tilde
+
+-- the first part's share lies in the text
+pub share_within : (n threads : ℕ) → n / threads * (threads / 2) ≤ n
+share_within n threads =
+    let half : threads / 2 ≤ threads = omega arith in
+    omega (arith, mul-le-mul_left (n / threads) half, div-mul-le_self n threads)
