@@ -192,7 +192,7 @@ module _ (quotes : List Quote) (d : ℕ) (reach : Reach) where
     pub drawn_skip : (IsWithin reach q → ⊥) → IsDrawn quotes d reach (n + 1) row
     drawn_skip out = met_next (λ within. absurd (out within))
 
-    pub drawn_cut : (best : Cell) → IsBest row best → IsCutOff best (cell_of q d) → IsDrawn quotes d reach (n + 1) row
+    pub drawn_cut : (best : Cell) → IsBest row best → IsCutOff best (cell_of reach q d) → IsDrawn quotes d reach (n + 1) row
     drawn_cut best is cut = met_next (λ within. elim is [
       | inl none ↦ absurd (omega (arith, cut.2))
       | inr b ↦ record {
@@ -216,7 +216,7 @@ module _ (quotes : List Quote) (d : ℕ) (reach : Reach) where
       leaves = m.leaves;
     }
 
-    pub drawn_push : (c : Cell) → IsWithin reach q → c ≡ cell_of q d → IsDrawn quotes d reach (n + 1) (row ++ c ∷ [])
+    pub drawn_push : (c : Cell) → IsWithin reach q → c ≡ cell_of reach q d → IsDrawn quotes d reach (n + 1) (row ++ c ∷ [])
     drawn_push c within is = record {
       real = push_each (λ k x. IsCellOf quotes d reach x) row c was.real
           (record { place = n; quote = q; there = at; within = within; is = is });
@@ -249,7 +249,7 @@ step_skip quotes d reach n start cells best q at out was =
 
 -- and with one whose cell is put, unless the best cuts it off
 pub step_put : (quotes : List Quote) (d : ℕ) (reach : Reach) (n : ℕ) (start cells new : List Cell) (best b c : Cell) (q : Quote)
-    → slice_get quotes n ≡ Some q → IsWithin reach q → c ≡ cell_of q d
+    → slice_get quotes n ≡ Some q → IsWithin reach q → c ≡ cell_of reach q d
     → ((new ≡ cells) × (b ≡ best) × IsCutOff best c) ⊎ ((new ≡ cells ++ c ∷ []) × ((b ≡ best) ⊎ (b ≡ c)))
     → IsRowSoFar quotes d reach n start cells best → IsRowSoFar quotes d reach (n + 1) start new b
 step_put quotes d reach n start cells new best b c q at within is put was = elim put [
@@ -293,7 +293,8 @@ row_cells s codes ask n d reach quotes row valid asked all are drawn = record {
         trim = o.quote.trim;
         is = q.bids d asked;
         next = q.rise;
-        near = (o.within.0, o.within.1);
+        late = o.within.0;
+        back = omega (arith, o.within.1);
         fits = o.within.2;
       });
   met = λ steps trim bid past far room b.

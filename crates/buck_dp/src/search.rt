@@ -98,11 +98,11 @@ fn settle_once(values: &mut [Bid], choices: &mut [u32], top: usize)
     settle(values, choices, top);
 }
 
-/// Offers the logs with a top that start in one part. None of the row is longer than `most` steps.
-fn offer_once(values: &mut [Bid], top: usize, starts: Starts, row: &[Cell], most: usize)
+/// Offers the logs with a top that start in one part. The row reaches `far` points back.
+fn offer_once(values: &mut [Bid], top: usize, starts: Starts, row: &[Cell], far: usize)
     requires order { (starts.first ≤ starts.stop) × (starts.stop ≤ top) }
     requires late { (k : ℕ) (c : Cell) → slice_get row.now k ≡ Some c → top < c.steps + starts.stop }
-    requires few { (k : ℕ) (c : Cell) → slice_get row.now k ≡ Some c → c.steps ≤ most }
+    requires back { (k : ℕ) (c : Cell) → slice_get row.now k ≡ Some c → c.back + c.steps ≡ far }
     requires ready { (p : GroundParts) × (choices : List ℕ) × IsSheet p.sheet × IsStem p.stem
         × AreSearched p values.old choices top starts.stop × IsPart p top starts.first starts.stop row.now }
     ensures number { length values.new ≡ length values.old }
@@ -110,8 +110,8 @@ fn offer_once(values: &mut [Bid], top: usize, starts: Starts, row: &[Cell], most
         → AreSearched p values.old choices top starts.stop → IsPart p top starts.first starts.stop row.now
         → AreSearched p values.new choices top starts.first }
 {
-    if top - starts.first >= most {
-        offer_whole(values, top, starts, row);
+    if top - starts.first >= far {
+        offer_whole(values, top, starts, row, far);
         return;
     }
     offer_row(values, top, starts, row);
@@ -187,12 +187,12 @@ impl<'a> Search<'a> {
         self.stop = top;
     }
 
-    /// Offers the logs with the top that was settled last that start in a part more, from `first` on. None of the row
-    /// is longer than `most` steps.
-    pub fn offer_part(&mut self, first: usize, row: &[Cell], most: usize)
+    /// Offers the logs with the top that was settled last that start in a part more, from `first` on. The row reaches
+    /// `far` points back.
+    pub fn offer_part(&mut self, first: usize, row: &[Cell], far: usize)
         requires order { first ≤ self.old.stop }
         requires late { (k : ℕ) (c : Cell) → slice_get row.now k ≡ Some c → self.old.from < c.steps + self.old.stop }
-        requires few { (k : ℕ) (c : Cell) → slice_get row.now k ≡ Some c → c.steps ≤ most }
+        requires back { (k : ℕ) (c : Cell) → slice_get row.now k ≡ Some c → c.back + c.steps ≡ far }
         requires part { IsPart self.old.ground self.old.from first self.old.stop row.now }
         ensures ground { self.new.ground ≡ self.old.ground }
         ensures from { self.new.from ≡ self.old.from }
@@ -202,7 +202,7 @@ impl<'a> Search<'a> {
             first,
             stop: self.stop,
         };
-        offer_once(self.values.as_mut_slice(), self.from, starts, row, most);
+        offer_once(self.values.as_mut_slice(), self.from, starts, row, far);
         self.stop = first;
     }
 
