@@ -13,12 +13,13 @@ ghost use Rattle.buck_dp.specs.inner.Takers.{AreKnown};
 use crate::keeping::{Kept, Market, Spot, all_logs};
 use crate::kinds::{Group, Kinds};
 use crate::offering::{Cell, Reach};
-use crate::search::Search;
+use crate::search::{Search, SearchLists};
 use crate::takers::Kind;
 use buck_record::Memory;
-use buck_stem::{Profile, Stem};
+use buck_stem::{Profile, ProfileLists, Stem};
 use buck_value::Sheet;
 use std::alloc::Global;
+use std::mem;
 
 /// A stem at its points, and the sheet under which it is cut. Each trim fits behind the tops before point `fit`.
 #[derive(Clone, Copy)]
@@ -36,6 +37,9 @@ pub struct Memo {
     pub kept: Kept,
     /// A row that isn't kept.
     pub spare: Vec<Cell>,
+    /// The lists of a plan. What they hold of the one before is of no account.
+    pub profile: ProfileLists,
+    pub search: SearchLists,
 }
 
 /// The starts from point `first` on and before another: the same assortments take the wood from these to a top.
@@ -334,6 +338,7 @@ fn offer_top(
 }
 
 /// Searches the tops behind the steps of one run.
+#[inline(never)]
 fn search_run(
     alloc: Global,
     site: Site<'_>,
@@ -367,8 +372,9 @@ pub fn search_stem<'a>(alloc: Global, site: Site<'a>, memo: &mut Memo) -> Result
     ensures ground { IfOk result (λ s. s.ground ≡ ground_of site.entry) }
     ensures whole { IfOk result (λ s. (s.from ≡ 0) × (s.stop ≡ 0)) }
 {
+    let lists = mem::replace(&mut memo.search, SearchLists::new(alloc));
     let mut search = Search::start(
-        alloc,
+        lists,
         site.market.sheet,
         site.stem,
         site.market.menu.offers.as_slice(),

@@ -55,24 +55,39 @@ impl<'a> Model for Search<'a> {
     }) };
 }
 
-/// So many bids of no log.
-fn no_bids(alloc: Global, count: usize) -> Result<Vec<Bid>, AllocError>
-    ensures number { IfOk result (λ bids. length bids.items ≡ count) }
-    ensures zeros { IfOk result (λ bids. (k : ℕ) → bid_at bids.items k ≡ none) }
-{
-    let mut bids = Vec::new(alloc);
-    bids.resize(count, Bid::none())?;
-    Ok(bids)
+/// The lists of a search, to be kept from stem to stem. What they hold of the stem before is of no account.
+#[derive(Drop)]
+pub struct SearchLists {
+    values: Vec<Bid>,
+    choices: Vec<u32>,
 }
 
-/// So many choices of no log.
-fn no_choices(alloc: Global, count: usize) -> Result<Vec<u32>, AllocError>
-    ensures number { IfOk result (λ choices. length choices.items ≡ count) }
-    ensures zeros { IfOk result (λ choices. (k : ℕ) → get_or choices.items k 0 ≡ 0) }
+impl SearchLists {
+    /// Empty lists.
+    pub fn new(alloc: Global) -> SearchLists {
+        SearchLists {
+            values: Vec::new(alloc),
+            choices: Vec::new(alloc),
+        }
+    }
+}
+
+/// Puts so many bids of no log in the place of others.
+fn put_bids(bids: &mut Vec<Bid>, count: usize) -> Result<(), AllocError>
+    ensures number { OnOk result (length bids.new.items ≡ count) }
+    ensures zeros { OnOk result ((k : ℕ) → bid_at bids.new.items k ≡ none) }
 {
-    let mut choices = Vec::new(alloc);
-    choices.resize(count, 0)?;
-    Ok(choices)
+    bids.clear();
+    bids.resize(count, Bid::none())
+}
+
+/// Puts so many choices of no log in the place of others.
+fn put_choices(choices: &mut Vec<u32>, count: usize) -> Result<(), AllocError>
+    ensures number { OnOk result (length choices.new.items ≡ count) }
+    ensures zeros { OnOk result ((k : ℕ) → get_or choices.new.items k 0 ≡ 0) }
+{
+    choices.clear();
+    choices.resize(count, 0)
 }
 
 /// How many points a stem has under a sheet, the butt among them.
@@ -120,7 +135,7 @@ fn offer_once(values: &mut [Bid], top: usize, starts: Starts, row: &[Cell], far:
 impl<'a> Search<'a> {
     /// A search at the top end of a stem, behind its last point.
     pub fn start(
-        alloc: Global,
+        lists: SearchLists,
         sheet: &'a Sheet,
         stem: &'a Stem,
         offers: &'a [Offer],
@@ -129,8 +144,12 @@ impl<'a> Search<'a> {
         ensures from { IfOk result (λ s. (s.from ≡ points_of s.ground) × (s.stop ≡ 0)) }
     {
         let from = points_of(sheet, stem);
-        let values = no_bids(alloc, from + 1)?;
-        let choices = no_choices(alloc, from + 1)?;
+        let SearchLists {
+            mut values,
+            mut choices,
+        } = lists;
+        put_bids(&mut values, from + 1)?;
+        put_choices(&mut choices, from + 1)?;
         Ok(Search {
             sheet,
             stem,
@@ -140,6 +159,14 @@ impl<'a> Search<'a> {
             values,
             choices,
         })
+    }
+
+    /// Its lists, for the search of another stem.
+    pub fn into_lists(self) -> SearchLists {
+        SearchLists {
+            values: self.values,
+            choices: self.choices,
+        }
     }
 
     /// The first point of those that have their values.
