@@ -1,5 +1,5 @@
 -- Cells offered one after another.
-use Rattle.std.proofs.Common.{◌≡◌, ◌≢◌, ℕ, ◌+◌, ◌-◌, ◌<◌, ◌≤◌, ◌⊎◌, inl, inr, List, ◌++◌, take, drop, length, length-append, slice_get, Some, refl, sym, subst, ap, ◌∙◌, arith}
+use Rattle.std.proofs.Common.{◌≡◌, ◌≢◌, ℕ, ◌+◌, ◌-◌, ◌<◌, ◌≤◌, ◌⊎◌, inl, inr, List, ◌++◌, take, drop, length, length-append, slice_get, Some, sym, subst, ap, ◌∙◌, arith}
 use Rattle.std.proofs.lemmas.Bool.{cases_lt, cases_order}
 use Rattle.std.proofs.lemmas.Option.{same_Some}
 use Rattle.std.proofs.lemmas.List.{length-drop, length-take-le, get_or-drop, get_or-take, get_or_append_left, get_or-append_right}
@@ -8,15 +8,6 @@ use Rattle.buck_dp.specs.inner.Bid.{BidParts, none, IsAtMost, IsGreater, plus}
 use Rattle.buck_dp.specs.inner.Logs.{bid_at}
 use Rattle.buck_dp.specs.inner.Rows.{IsNear, AreOffered, AreFit}
 use Rattle.buck_dp.proofs.BidLemmas.{IsAtMost-refl, IsAtMost-trans, greater_first, greater_second}
-
--- before any is offered
-pub offered_none : (cells : List Cell) (top first stop : ℕ) (v : List BidParts) → AreOffered cells top first stop 0 v v
-offered_none cells top first stop v = record {
-  number = refl;
-  kept = λ k. IsAtMost-refl (bid_at v k);
-  done = λ k c lt at near i is. absurd (omega arith);
-  one = λ i. inl refl;
-}
 
 module _ (cells : List Cell) (top first stop n : ℕ) (low : stop ≤ top) (v u : List BidParts)
     (fit : AreFit cells top first stop v) (offered : AreOffered cells top first stop n v u) where

@@ -1,4 +1,3 @@
-use Rattle.std.proofs.Common.{arith}
 use Rattle.buck_dp.proofs.TopLemmas.{part_fits, offered_part}
 use Rattle.buck_dp.proofs.search.offer_once.Goals as goal
 
