@@ -14,7 +14,6 @@ use crate::keeping::{Kept, Market};
 use crate::kinds::Kinds;
 use crate::menu::Menu;
 use crate::planning::{Memo, Site, fit_of, search_stem};
-use crate::search::SearchLists;
 use buck_record::Memory;
 use buck_stem::{Profile, ProfileLists, Stem};
 use buck_value::Sheet;
@@ -73,7 +72,8 @@ fn own_of(alloc: Global, sheet: &Sheet) -> Result<Own, Memory>
         kept: Kept::new(alloc),
         spare: Vec::new(alloc),
         profile: ProfileLists::new(alloc),
-        search: SearchLists::new(alloc),
+        values: Vec::new(alloc),
+        choices: Vec::new(alloc),
     };
     Ok(Own { menu, memo })
 }
@@ -114,7 +114,7 @@ fn cut_wanted<'a>(
     let search = search_stem(alloc, site, memo)?;
     let logs = follow(alloc, sheet, stem, menu.offers.as_slice(), search.choices())?;
     let worth = search.worth();
-    memo.search = search.into_lists();
+    (memo.values, memo.choices) = search.into_lists();
     memo.profile = profile.into_lists();
     Ok((Cutting { logs }, worth))
 }

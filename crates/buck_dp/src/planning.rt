@@ -10,10 +10,11 @@ ghost use Rattle.buck_dp.specs.inner.Kept.{all_of};
 ghost use Rattle.buck_dp.specs.inner.Site.{IsSite, IsMemoFor, IsDiameterAt, ground_of};
 ghost use Rattle.buck_dp.specs.inner.Takers.{AreKnown};
 
+use crate::bid::Bid;
 use crate::keeping::{Kept, Market, Spot, all_logs};
 use crate::kinds::{Group, Kinds};
 use crate::offering::{Cell, Reach};
-use crate::search::{Search, SearchLists};
+use crate::search::Search;
 use crate::takers::Kind;
 use buck_record::Memory;
 use buck_stem::{Profile, ProfileLists, Stem};
@@ -39,7 +40,8 @@ pub struct Memo {
     pub spare: Vec<Cell>,
     /// The lists of a plan. What they hold of the one before is of no account.
     pub profile: ProfileLists,
-    pub search: SearchLists,
+    pub values: Vec<Bid>,
+    pub choices: Vec<u32>,
 }
 
 /// The starts from point `first` on and before another: the same assortments take the wood from these to a top.
@@ -372,9 +374,9 @@ pub fn search_stem<'a>(alloc: Global, site: Site<'a>, memo: &mut Memo) -> Result
     ensures ground { IfOk result (λ s. s.ground ≡ ground_of site.entry) }
     ensures whole { IfOk result (λ s. (s.from ≡ 0) × (s.stop ≡ 0)) }
 {
-    let lists = mem::replace(&mut memo.search, SearchLists::new(alloc));
     let mut search = Search::start(
-        lists,
+        mem::replace(&mut memo.values, Vec::new(alloc)),
+        mem::replace(&mut memo.choices, Vec::new(alloc)),
         site.market.sheet,
         site.stem,
         site.market.menu.offers.as_slice(),

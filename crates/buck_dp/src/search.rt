@@ -55,39 +55,13 @@ impl<'a> Model for Search<'a> {
     }) };
 }
 
-/// The lists of a search, to be kept from stem to stem. What they hold of the stem before is of no account.
-#[derive(Drop)]
-pub struct SearchLists {
-    values: Vec<Bid>,
-    choices: Vec<u32>,
-}
-
-impl SearchLists {
-    /// Empty lists.
-    pub fn new(alloc: Global) -> SearchLists {
-        SearchLists {
-            values: Vec::new(alloc),
-            choices: Vec::new(alloc),
-        }
-    }
-}
-
-/// Puts so many bids of no log in the place of others.
-fn put_bids(bids: &mut Vec<Bid>, count: usize) -> Result<(), AllocError>
-    ensures number { OnOk result (length bids.new.items ≡ count) }
-    ensures zeros { OnOk result ((k : ℕ) → bid_at bids.new.items k ≡ none) }
+/// Puts so many of one in the place of others.
+fn put_all<T: Copy>(list: &mut Vec<T>, count: usize, one: T) -> Result<(), AllocError>
+    ensures number { OnOk result (length list.new.items ≡ count) }
+    ensures same { OnOk result ((k : ℕ) → get_or list.new.items k one ≡ one) }
 {
-    bids.clear();
-    bids.resize(count, Bid::none())
-}
-
-/// Puts so many choices of no log in the place of others.
-fn put_choices(choices: &mut Vec<u32>, count: usize) -> Result<(), AllocError>
-    ensures number { OnOk result (length choices.new.items ≡ count) }
-    ensures zeros { OnOk result ((k : ℕ) → get_or choices.new.items k 0 ≡ 0) }
-{
-    choices.clear();
-    choices.resize(count, 0)
+    list.clear();
+    list.resize(count, one)
 }
 
 /// How many points a stem has under a sheet, the butt among them.
@@ -133,9 +107,10 @@ fn offer_once(values: &mut [Bid], top: usize, starts: Starts, row: &[Cell], far:
 }
 
 impl<'a> Search<'a> {
-    /// A search at the top end of a stem, behind its last point.
+    /// A search at the top end of a stem, behind its last point. It takes lists of an earlier one, whatever they hold.
     pub fn start(
-        lists: SearchLists,
+        mut values: Vec<Bid>,
+        mut choices: Vec<u32>,
         sheet: &'a Sheet,
         stem: &'a Stem,
         offers: &'a [Offer],
@@ -144,12 +119,8 @@ impl<'a> Search<'a> {
         ensures from { IfOk result (λ s. (s.from ≡ points_of s.ground) × (s.stop ≡ 0)) }
     {
         let from = points_of(sheet, stem);
-        let SearchLists {
-            mut values,
-            mut choices,
-        } = lists;
-        put_bids(&mut values, from + 1)?;
-        put_choices(&mut choices, from + 1)?;
+        put_all(&mut values, from + 1, Bid::none())?;
+        put_all(&mut choices, from + 1, 0)?;
         Ok(Search {
             sheet,
             stem,
@@ -161,12 +132,9 @@ impl<'a> Search<'a> {
         })
     }
 
-    /// Its lists, for the search of another stem.
-    pub fn into_lists(self) -> SearchLists {
-        SearchLists {
-            values: self.values,
-            choices: self.choices,
-        }
+    /// Its lists of values and choices, for the search of another stem.
+    pub fn into_lists(self) -> (Vec<Bid>, Vec<u32>) {
+        (self.values, self.choices)
     }
 
     /// The first point of those that have their values.
