@@ -30,7 +30,7 @@ const TERMS: usize = 16_384;
 /// So many quotes are kept at most, and then all are dropped: 459 kB.
 const QUOTES: usize = 16_384;
 
-/// So many cells are kept at most, and then all are dropped: 1 MB.
+/// So many cells are kept at most, and then all are dropped: 1.6 MB.
 const CELLS: usize = 65_536;
 
 /// So many diameters there are, from 0 to 1,500 mm.
