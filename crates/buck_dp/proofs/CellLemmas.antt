@@ -1,21 +1,13 @@
 -- Cells offered one after another.
-use Rattle.std.proofs.Common.{◌≡◌, ◌≢◌, ℕ, ◌+◌, ◌<◌, ◌≤◌, ◌⊎◌, inl, inr, List, length, slice_get, Some, refl, sym, subst, ap, ◌∙◌, arith}
+use Rattle.std.proofs.Common.{◌≡◌, ◌≢◌, ℕ, ◌+◌, ◌-◌, ◌<◌, ◌≤◌, ◌⊎◌, inl, inr, List, ◌++◌, take, drop, length, length-append, slice_get, Some, sym, subst, ap, ◌∙◌, arith}
 use Rattle.std.proofs.lemmas.Bool.{cases_lt, cases_order}
 use Rattle.std.proofs.lemmas.Option.{same_Some}
+use Rattle.std.proofs.lemmas.List.{length-drop, length-take-le, get_or-drop, get_or-take, get_or_append_left, get_or-append_right}
 use Rattle.buck_dp.specs.declared.offering.Cell.{Cell}
-use Rattle.buck_dp.specs.inner.Bid.{BidParts, IsAtMost, IsGreater, plus}
+use Rattle.buck_dp.specs.inner.Bid.{BidParts, none, IsAtMost, IsGreater, plus}
 use Rattle.buck_dp.specs.inner.Logs.{bid_at}
 use Rattle.buck_dp.specs.inner.Rows.{IsNear, AreOffered, AreFit}
 use Rattle.buck_dp.proofs.BidLemmas.{IsAtMost-refl, IsAtMost-trans, greater_first, greater_second}
-
--- before any is offered
-pub offered_none : (cells : List Cell) (top first stop : ℕ) (v : List BidParts) → AreOffered cells top first stop 0 v v
-offered_none cells top first stop v = record {
-  number = refl;
-  kept = λ k. IsAtMost-refl (bid_at v k);
-  done = λ k c lt at near i is. absurd (omega arith);
-  one = λ i. inl refl;
-}
 
 module _ (cells : List Cell) (top first stop n : ℕ) (low : stop ≤ top) (v u : List BidParts)
     (fit : AreFit cells top first stop v) (offered : AreOffered cells top first stop n v u) where
@@ -89,6 +81,63 @@ module _ (cells : List Cell) (top first stop n : ℕ) (low : stop ≤ top) (v u 
             | inr o ↦ inr (o.0, o.1, o.2, o.3, o.4, a.0 ∙ o.5)
           ]
           | inr a ↦ inr (n, c, there, g.1, g.0, a.0 ∙ ap (λ x. plus c.bid x) rest_same)
+        ]
+      ];
+    }
+
+-- A row whose cells all start at point `base` or later is offered to the points from there on alone.
+module _ (cells : List Cell) (top first stop far base : ℕ) (v : List BidParts)
+    (is : base + far ≡ top) (begins : first ≤ base) (below : stop ≤ top) (inside : base ≤ length v)
+    (late : (k : ℕ) (c : Cell) → slice_get cells k ≡ Some c → top < c.steps + stop)
+    (back : (k : ℕ) (c : Cell) → slice_get cells k ≡ Some c → c.back + c.steps ≡ far) where
+  near_all : (k : ℕ) (c : Cell) → slice_get cells k ≡ Some c → IsNear top first stop c
+  near_all k c at = (omega (arith, back k c at), late k c at)
+
+  was_at : (k : ℕ) → bid_at (drop base v) k ≡ bid_at v (base + k)
+  was_at k = get_or-drop base v k none
+
+  rest_at : (rise : ℕ) → bid_at (drop base v) (far + rise) ≡ bid_at v (top + rise)
+  rest_at rise = was_at (far + rise) ∙ ap (λ n. bid_at v n) (let e : base + (far + rise) ≡ top + rise = omega arith in e)
+
+  -- they can be offered there
+  pub fits_back : AreFit cells top first stop v → AreFit cells far 0 far (drop base v)
+  fits_back fit = record {
+    there = λ k c at near. omega (arith, fit.there k c at (near_all k c at), length-drop base v);
+    even = λ k le. ap (λ b. b.rank) (was_at k) ∙ fit.even (base + k) (omega arith);
+    low = λ k c at near.
+        subst (λ (b : BidParts). c.bid.worth + b.worth ≤ 4000000000000000) (sym (rest_at c.rise)) (fit.low k c at (near_all k c at));
+  }
+
+  module _ (w : List BidParts) (offered : AreOffered cells far 0 far (length cells) (drop base v) w) where
+    same_before : (k : ℕ) → k < base → bid_at (take base v ++ w) k ≡ bid_at v k
+    same_before k lt =
+        get_or_append_left (take base v) w none k (omega (arith, length-take-le base v inside)) ∙ get_or-take base v k none lt
+
+    now_at : (k : ℕ) → base ≤ k → bid_at (take base v ++ w) k ≡ bid_at w (k - base)
+    now_at k le = get_or-append_right (take base v) w base k none (omega (arith, length-take-le base v inside)) le
+
+    before_at : (k : ℕ) → base ≤ k → bid_at (drop base v) (k - base) ≡ bid_at v k
+    before_at k le = was_at (k - base) ∙ ap (λ n. bid_at v n) (let e : base + (k - base) ≡ k = omega arith in e)
+
+    pub offered_back : AreOffered cells top first stop (length cells) v (take base v ++ w)
+    offered_back = record {
+      number = omega (arith, length-append (take base v) w, length-take-le base v inside, length-drop base v, offered.number);
+      kept = λ k. elim (cases_lt k base) [
+        | inl before ↦ subst (λ x. IsAtMost (bid_at v k) x) (sym (same_before k before)) (IsAtMost-refl (bid_at v k))
+        | inr after ↦
+            subst (λ x. IsAtMost (bid_at v k) x) (sym (now_at k after))
+            (subst (λ x. IsAtMost x (bid_at w (k - base))) (before_at k after) (offered.kept (k - base)))
+      ];
+      done = λ k c lt at near i sum.
+          subst (λ x. IsAtMost (plus c.bid (bid_at v (top + c.rise))) x) (sym (now_at i (omega (arith, back k c at))))
+          (subst (λ x. IsAtMost (plus c.bid x) (bid_at w (i - base))) (rest_at c.rise)
+          (offered.done k c lt at (omega (arith, back k c at), omega (arith, late k c at)) (i - base) (omega (arith, back k c at))));
+      one = λ i. elim (cases_lt i base) [
+        | inl before ↦ inl (same_before i before)
+        | inr after ↦ elim (offered.one (i - base)) [
+          | inl same ↦ inl (now_at i after ∙ same ∙ before_at i after)
+          | inr o ↦
+              inr (o.0, o.1, o.2, near_all o.0 o.1 o.2, omega (arith, o.4), now_at i after ∙ o.5 ∙ ap (λ x. plus o.1.bid x) (rest_at o.1.rise))
         ]
       ];
     }

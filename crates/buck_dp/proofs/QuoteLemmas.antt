@@ -1,7 +1,7 @@
 -- Price lists that grow, and rows drawn from them.
 use Rattle.std.proofs.Common.{◌≡◌, ℕ, ◌+◌, ◌-◌, ◌*◌, ◌<◌, ◌≤◌, ◌⊎◌, inl, inr, List, [], ◌∷◌, ◌++◌, Option, IfSome, IfNone, length, length-append, slice_get, Some, None, refl, sym, subst, ap, ◌∙◌, append_assoc, arith}
 use Rattle.std.proofs.lemmas.Bool.{cases_lt}
-use Rattle.std.proofs.lemmas.Option.{none-some, same_Some, slice_get_within}
+use Rattle.std.proofs.lemmas.Option.{same_Some, slice_get_within}
 use Rattle.buck_apt.specs.Instruction.{InstructionParts}
 use Rattle.buck_value.specs.Sheet.{SheetParts, IsSheet}
 use Rattle.buck_bid.specs.declared.offers.Offer.{Offer}
@@ -20,14 +20,6 @@ use Rattle.buck_dp.specs.inner.Quotes.{quote_bid, IsSmall, IsAsked, IsQuote, IsQ
 use Rattle.buck_dp.specs.inner.Drawn.{IsWithin, IsCutOff, cell_of, IsCellOf, IsDrawn}
 use Rattle.buck_dp.proofs.BidLemmas.{IsAtMost-refl, IsAtMost-trans, worth_at_most}
 use Rattle.buck_dp.proofs.Places.{after_in_order}
-
--- no quotes of no offers
-pub quotes_none : (s : SheetParts) (codes : List ℕ) (ask : Ask) → ((steps trim d : ℕ) (bid : BidParts)
-    → IsTakersBid s codes ask.takers d steps trim bid → bid.rank ≤ 1023) → AreQuotes s codes ask 0 []
-quotes_none s codes ask low = record {
-  real = λ k q at. absurd (none-some q at);
-  met = λ steps trim d bid asked past b. absurd (omega (arith, low steps trim d bid b));
-}
 
 -- an offer for which nobody bids leaves a list right
 pub quotes_skip : (s : SheetParts) (codes : List ℕ) (ask : Ask) (n : ℕ) (list : List Quote) → HasNoBid s codes ask n
@@ -169,13 +161,6 @@ pub best_new : (row : List Cell) (c : Cell) → IsBest (row ++ c ∷ []) c
 best_new row c = inr (length row, pushed_at row c (length row) refl)
 
 module _ (quotes : List Quote) (d : ℕ) (reach : Reach) where
-  -- no cells of no quotes
-  pub drawn_none : IsDrawn quotes d reach 0 []
-  drawn_none = record {
-    real = λ k c at. absurd (none-some c at);
-    met = λ k q lt at within. absurd (omega arith);
-  }
-
   module _ (n : ℕ) (row : List Cell) (q : Quote) (at : slice_get quotes n ≡ Some q) (was : IsDrawn quotes d reach n row) where
     -- a quote that is met leaves a row right
     met_next : (IsWithin reach q → IsMet row q.steps q.rise (quote_bid q d)) → IsDrawn quotes d reach (n + 1) row
@@ -192,7 +177,7 @@ module _ (quotes : List Quote) (d : ℕ) (reach : Reach) where
     pub drawn_skip : (IsWithin reach q → ⊥) → IsDrawn quotes d reach (n + 1) row
     drawn_skip out = met_next (λ within. absurd (out within))
 
-    pub drawn_cut : (best : Cell) → IsBest row best → IsCutOff best (cell_of q d) → IsDrawn quotes d reach (n + 1) row
+    pub drawn_cut : (best : Cell) → IsBest row best → IsCutOff best (cell_of reach q d) → IsDrawn quotes d reach (n + 1) row
     drawn_cut best is cut = met_next (λ within. elim is [
       | inl none ↦ absurd (omega (arith, cut.2))
       | inr b ↦ record {
@@ -216,7 +201,7 @@ module _ (quotes : List Quote) (d : ℕ) (reach : Reach) where
       leaves = m.leaves;
     }
 
-    pub drawn_push : (c : Cell) → IsWithin reach q → c ≡ cell_of q d → IsDrawn quotes d reach (n + 1) (row ++ c ∷ [])
+    pub drawn_push : (c : Cell) → IsWithin reach q → c ≡ cell_of reach q d → IsDrawn quotes d reach (n + 1) (row ++ c ∷ [])
     drawn_push c within is = record {
       real = push_each (λ k x. IsCellOf quotes d reach x) row c was.real
           (record { place = n; quote = q; there = at; within = within; is = is });
@@ -249,7 +234,7 @@ step_skip quotes d reach n start cells best q at out was =
 
 -- and with one whose cell is put, unless the best cuts it off
 pub step_put : (quotes : List Quote) (d : ℕ) (reach : Reach) (n : ℕ) (start cells new : List Cell) (best b c : Cell) (q : Quote)
-    → slice_get quotes n ≡ Some q → IsWithin reach q → c ≡ cell_of q d
+    → slice_get quotes n ≡ Some q → IsWithin reach q → c ≡ cell_of reach q d
     → ((new ≡ cells) × (b ≡ best) × IsCutOff best c) ⊎ ((new ≡ cells ++ c ∷ []) × ((b ≡ best) ⊎ (b ≡ c)))
     → IsRowSoFar quotes d reach n start cells best → IsRowSoFar quotes d reach (n + 1) start new b
 step_put quotes d reach n start cells new best b c q at within is put was = elim put [
@@ -293,7 +278,8 @@ row_cells s codes ask n d reach quotes row valid asked all are drawn = record {
         trim = o.quote.trim;
         is = q.bids d asked;
         next = q.rise;
-        near = (o.within.0, o.within.1);
+        late = o.within.0;
+        back = omega (arith, o.within.1);
         fits = o.within.2;
       });
   met = λ steps trim bid past far room b.

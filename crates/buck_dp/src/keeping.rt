@@ -18,7 +18,7 @@ use crate::index::{Head, Index, Key, Place};
 use crate::kinds::Group;
 use crate::menu::Menu;
 use crate::offering::{Cell, Reach};
-use crate::pricing::{Ask, Quote, Term, price_list, put_terms};
+use crate::pricing::{Ask, Quote, Term, put_list, put_terms};
 use crate::rowing::put_row;
 use buck_record::Memory;
 use buck_value::Sheet;
@@ -30,7 +30,7 @@ const TERMS: usize = 16_384;
 /// So many quotes are kept at most, and then all are dropped: 459 kB.
 const QUOTES: usize = 16_384;
 
-/// So many cells are kept at most, and then all are dropped: 1 MB.
+/// So many cells are kept at most, and then all are dropped: 1.6 MB.
 const CELLS: usize = 65_536;
 
 /// So many diameters there are, from 0 to 1,500 mm.
@@ -130,7 +130,6 @@ fn make_terms(
 
 /// Makes the price list of a group in a band from its terms.
 fn make_list(
-    alloc: Global,
     quotes: &mut Vec<Quote>,
     terms: &[Option<Term>],
     market: Market<'_>,
@@ -147,10 +146,9 @@ fn make_list(
     ensures list { IfOk result (IsAt (ListOf market.entry.sheet.now market.entry.menu.now) quotes.new.items
         (record { takers = group.takers; at = band })) }
 {
-    let ask = ask_for(market.menu, group, band);
-    let list = price_list(alloc, market.sheet, terms, ask)?;
     let from = quotes.as_slice().len();
-    quotes.extend_from_slice(list.as_slice())?;
+    let ask = ask_for(market.menu, group, band);
+    put_list(quotes, market.sheet, terms, ask)?;
     Ok(Place {
         from,
         past: quotes.as_slice().len(),
@@ -241,13 +239,7 @@ impl Kept {
     }
 
     /// Where the price list of a group in a band stands. It is made where it isn't there.
-    fn list(
-        &mut self,
-        alloc: Global,
-        market: Market<'_>,
-        group: Group,
-        band: usize,
-    ) -> Result<Place, Memory>
+    fn list(&mut self, market: Market<'_>, group: Group, band: usize) -> Result<Place, Memory>
         requires valid { IsSheet market.sheet.now }
         requires menu { IsMenu market.sheet.now.instruction market.menu.now }
         requires band { band + 1 < length market.menu.now.limits.items }
@@ -268,7 +260,6 @@ impl Kept {
         let terms = self.terms(market, group, band)?;
         make_room(&mut self.quotes, &mut self.lists, QUOTES);
         let place = make_list(
-            alloc,
             &mut self.quotes,
             &self.terms[terms.from..terms.past],
             market,
@@ -282,7 +273,6 @@ impl Kept {
     #[inline(never)]
     fn draw_kept(
         &mut self,
-        alloc: Global,
         market: Market<'_>,
         group: Group,
         diameter: u32,
@@ -302,7 +292,7 @@ impl Kept {
             at: diameter as usize,
         };
         let band = market.menu.band_of(diameter);
-        let list = self.list(alloc, market, group, band)?;
+        let list = self.list(market, group, band)?;
         make_room(&mut self.cells, &mut self.rows, CELLS);
         let place = make_row(
             &mut self.cells,
@@ -316,13 +306,7 @@ impl Kept {
 
     /// Where the row of a group at a diameter stands. It is drawn where it isn't there.
     #[inline(always)]
-    pub fn row(
-        &mut self,
-        alloc: Global,
-        market: Market<'_>,
-        group: Group,
-        diameter: u32,
-    ) -> Result<Place, Memory>
+    pub fn row(&mut self, market: Market<'_>, group: Group, diameter: u32) -> Result<Place, Memory>
         requires valid { IsSheet market.sheet.now }
         requires menu { IsMenu market.sheet.now.instruction market.menu.now }
         requires diameter { diameter ≤ 1500 }
@@ -339,7 +323,7 @@ impl Kept {
         match self.rows.find(key, slot) {
             Some(place) => Ok(place),
             None => {
-                let place = self.draw_kept(alloc, market, group, diameter, slot)?;
+                let place = self.draw_kept(market, group, diameter, slot)?;
                 Ok(place)
             }
         }
@@ -348,7 +332,6 @@ impl Kept {
     /// Draws a row of a group at a diameter in the place of another, for the logs within reach. It isn't kept.
     pub fn draw(
         &mut self,
-        alloc: Global,
         spare: &mut Vec<Cell>,
         market: Market<'_>,
         group: Group,
@@ -363,7 +346,7 @@ impl Kept {
             place.diameter place.reach spare.new.items) }
     {
         let band = market.menu.band_of(place.diameter);
-        let list = self.list(alloc, market, group, band)?;
+        let list = self.list(market, group, band)?;
         spare.clear();
         put_row(
             spare,

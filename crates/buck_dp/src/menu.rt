@@ -1,9 +1,7 @@
 //! What an instruction offers.
-ghost use Rattle.std.specs.Prelude.{◌≡◌, ℕ, ◌+◌, ◌*◌, ◌/◌, ◌<◌, ◌≤◌, All, IfOk, length, slice_get, slice_index, Some};
-ghost use Rattle.std.specs.List.Sorted.{IsStrictlyIncreasing};
+ghost use Rattle.std.specs.Prelude.{◌≡◌, ℕ, ◌+◌, ◌*◌, ◌<◌, ◌≤◌, IfOk, length, slice_get, slice_index, Some};
 ghost use Rattle.buck_apt.specs.Instruction.{AssortmentParts, InstructionParts};
 ghost use Rattle.buck_bid.specs.declared.offers.Offer.{Offer};
-ghost use Rattle.buck_bid.specs.Offers.{codes_in, IsWhole};
 ghost use Rattle.buck_bid.specs.Limits.{IsBandOf};
 ghost use Rattle.buck_dp.specs.inner.Menu.{IsMenu};
 
@@ -22,34 +20,29 @@ pub struct Menu {
     pub most_trim: u32,
 }
 
-/// How many steps the shortest offer is long; 1 where there is none.
+/// How many whole steps go into the shortest offer; a great many where there is none.
 fn least_steps(offers: &[Offer], step: u32) -> usize
     requires step { (10 ≤ step) × (step ≤ 1000) }
-    requires whole { All (λ c. IsWhole step c) (codes_in offers.now) }
-    requires rise { IsStrictlyIncreasing (codes_in offers.now) }
-    requires low { (k : ℕ) (o : Offer) → slice_get offers.now k ≡ Some o → o.assortment < 16 }
-    ensures some { 0 < result }
-    ensures least { (k : ℕ) → k < length (codes_in offers.now)
-        → result * step ≤ slice_index (codes_in offers.now) k / 16 }
+    ensures { (k : ℕ) (o : Offer) → slice_get offers.now k ≡ Some o → result * step ≤ o.length }
 {
-    if offers.len() == 0 {
-        return 1;
+    let mut least = u32::MAX;
+    for offer in offers {
+        least = least.min(offer.length / step);
     }
-    (offers[0].length / step) as usize
+    least as usize
 }
 
-/// How many steps the longest offer is long; 0 where there is none.
+/// How many steps cover the longest offer; 0 where there is none.
 fn most_steps(offers: &[Offer], step: u32) -> usize
     requires step { (10 ≤ step) × (step ≤ 1000) }
-    requires whole { All (λ c. IsWhole step c) (codes_in offers.now) }
-    requires rise { IsStrictlyIncreasing (codes_in offers.now) }
-    requires low { (k : ℕ) (o : Offer) → slice_get offers.now k ≡ Some o → o.assortment < 16 }
-    ensures { (k : ℕ) → k < length (codes_in offers.now) → slice_index (codes_in offers.now) k / 16 ≤ result * step }
+    ensures { (k : ℕ) (o : Offer) → slice_get offers.now k ≡ Some o → o.length ≤ result * step }
 {
-    if offers.len() == 0 {
-        return 0;
+    let step = step as usize;
+    let mut most: usize = 0;
+    for offer in offers {
+        most = most.max((offer.length as usize + (step - 1)) / step);
     }
-    (offers[offers.len() - 1].length / step) as usize
+    most
 }
 
 /// The greatest trim of all assortments.

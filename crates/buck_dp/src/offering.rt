@@ -7,12 +7,14 @@ ghost use Rattle.buck_dp.specs.inner.Rows.{IsNear, AreOffered, AreFit};
 
 use crate::bid::Bid;
 
-/// What a log brings that is so many steps long, and how many points after its top the next log can start.
+/// What a log brings that is so many steps long, and how many points after its top the next log can start. It starts
+/// `back` points after the first of those that its row reaches.
 #[derive(Clone, Copy, Debug)]
 pub struct Cell {
     pub bid: Bid,
     pub steps: u32,
     pub rise: u32,
+    pub back: usize,
 }
 
 /// Which logs with one top are meant: those longer than `past` steps and of at most `far`, with a trim in mm that is at
@@ -50,21 +52,20 @@ pub(crate) fn settle(values: &mut [Bid], choices: &mut [u32], point: usize)
     values[point] = value.without_rank();
 }
 
-/// Offers a cell at a top to the point where its log starts.
+/// Offers a cell at the top `far` to the point where its log starts.
 #[inline(always)]
-fn offer_near(values: &mut [Bid], top: usize, cell: Cell)
-    requires near { (0 < cell.steps) × (cell.steps ≤ top) }
-    requires there { top + cell.rise < length values.old }
-    requires even { (bid_at values.old (top + cell.rise)).rank ≡ 0 }
-    requires low { cell.bid.worth + (bid_at values.old (top + cell.rise)).worth ≤ 4000000000000000 }
+fn offer_near(values: &mut [Bid], far: usize, cell: Cell)
+    requires near { (0 < cell.steps) × (cell.back + cell.steps ≡ far) }
+    requires there { far + cell.rise < length values.old }
+    requires even { (bid_at values.old (far + cell.rise)).rank ≡ 0 }
+    requires low { cell.bid.worth + (bid_at values.old (far + cell.rise)).worth ≤ 4000000000000000 }
     ensures number { length values.new ≡ length values.old }
-    ensures others { (i : ℕ) → i + cell.steps ≢ top → bid_at values.new i ≡ bid_at values.old i }
-    ensures raised { (i : ℕ) → i + cell.steps ≡ top
-        → IsGreater (bid_at values.old i) (plus cell.bid (bid_at values.old (top + cell.rise))) (bid_at values.new i) }
+    ensures others { (i : ℕ) → i + cell.steps ≢ far → bid_at values.new i ≡ bid_at values.old i }
+    ensures raised { (i : ℕ) → i + cell.steps ≡ far
+        → IsGreater (bid_at values.old i) (plus cell.bid (bid_at values.old (far + cell.rise))) (bid_at values.new i) }
 {
-    let rest = values[top + cell.rise as usize];
-    let start = top - cell.steps as usize;
-    values[start] = values[start].max(cell.bid.plus(rest));
+    let rest = values[far + cell.rise as usize];
+    values[cell.back] = values[cell.back].max(cell.bid.plus(rest));
 }
 
 /// Offers a cell at a top to the point where its log starts, which is before `stop`, if it isn't before `first`.
@@ -85,19 +86,35 @@ fn offer(values: &mut [Bid], top: usize, starts: Starts, cell: Cell)
     if cell.steps as usize > top - starts.first {
         return;
     }
-    offer_near(values, top, cell);
+    let back = top - cell.steps as usize;
+    offer_near(values, top, Cell { back, ..cell });
 }
 
-/// Offers the cells of a row at a top to the points where their logs start, which are all among these.
-pub(crate) fn offer_whole(values: &mut [Bid], top: usize, starts: Starts, row: &[Cell])
-    requires order { (starts.first ≤ starts.stop) × (starts.stop ≤ top) }
-    requires fit { AreFit row.now top starts.first starts.stop values.old }
-    requires near { (k : ℕ) (c : Cell) → slice_get row.now k ≡ Some c → IsNear top starts.first starts.stop c }
-    ensures { AreOffered row.now top starts.first starts.stop (length row.now) values.old values.new }
+/// Offers the cells of a row at the top `far` to the points where their logs start.
+fn offer_back(values: &mut [Bid], far: usize, row: &[Cell])
+    requires fit { AreFit row.now far 0 far values.old }
+    requires near { (k : ℕ) (c : Cell) → slice_get row.now k ≡ Some c → IsNear far 0 far c }
+    requires back { (k : ℕ) (c : Cell) → slice_get row.now k ≡ Some c → c.back + c.steps ≡ far }
+    ensures { AreOffered row.now far 0 far (length row.now) values.old values.new }
 {
     for cell in row {
-        offer_near(values, top, *cell);
+        offer_near(values, far, *cell);
     }
+}
+
+/// Offers the cells of a row at a top to the points where their logs start, which are all among these. The row reaches
+/// `far` points back.
+pub(crate) fn offer_whole(values: &mut [Bid], top: usize, starts: Starts, row: &[Cell], far: usize)
+    requires order { (starts.first ≤ starts.stop) × (starts.stop ≤ top) }
+    requires far { starts.first + far ≤ top }
+    requires inside { top ≤ length values.old }
+    requires fit { AreFit row.now top starts.first starts.stop values.old }
+    requires late { (k : ℕ) (c : Cell) → slice_get row.now k ≡ Some c → top < c.steps + starts.stop }
+    requires back { (k : ℕ) (c : Cell) → slice_get row.now k ≡ Some c → c.back + c.steps ≡ far }
+    ensures { AreOffered row.now top starts.first starts.stop (length row.now) values.old values.new }
+{
+    let (_, reached) = values.split_at_mut(top - far);
+    offer_back(reached, far, row);
 }
 
 /// Offers the cells of a row at a top to those of these starts where their logs start, which are all before `stop`.

@@ -15,10 +15,11 @@ use crate::kinds::Kinds;
 use crate::menu::Menu;
 use crate::planning::{Memo, Site, fit_of, search_stem};
 use buck_record::Memory;
-use buck_stem::{Profile, Stem};
+use buck_stem::{Profile, ProfileLists, Stem};
 use buck_value::Sheet;
 use std::alloc::Global;
 use std::marker::Model;
+use std::mem;
 use std::sync::Arc;
 
 /// Plans stem after stem under one sheet. It keeps what it has found of the sheet, so that each stem is planned faster
@@ -70,6 +71,9 @@ fn own_of(alloc: Global, sheet: &Sheet) -> Result<Own, Memory>
         kinds: Kinds::new(alloc),
         kept: Kept::new(alloc),
         spare: Vec::new(alloc),
+        profile: ProfileLists::new(alloc),
+        values: Vec::new(alloc),
+        choices: Vec::new(alloc),
     };
     Ok(Own { menu, memo })
 }
@@ -98,7 +102,8 @@ fn cut_wanted<'a>(
     ensures worth { IfOk result (λ found. found.1 ≡ cutting_worth sheet.now stem.now found.0.logs.items) }
     ensures high { IfOk result (λ found. found.1 ≤ 2800000000000000) }
 {
-    let profile = Profile::make(alloc, stem, sheet.instruction().module())?;
+    let lists = mem::replace(&mut memo.profile, ProfileLists::new(alloc));
+    let profile = Profile::make_with(lists, stem, sheet.instruction().module())?;
     let site = Site {
         market: Market { sheet, menu },
         stem,
@@ -108,7 +113,10 @@ fn cut_wanted<'a>(
     make_room(memo);
     let search = search_stem(alloc, site, memo)?;
     let logs = follow(alloc, sheet, stem, menu.offers.as_slice(), search.choices())?;
-    Ok((Cutting { logs }, search.worth()))
+    let worth = search.worth();
+    (memo.values, memo.choices) = search.into_lists();
+    memo.profile = profile.into_lists();
+    Ok((Cutting { logs }, worth))
 }
 
 /// The first of the best cuttings of a stem under a sheet, and its worth. A stem of a species that no assortment takes

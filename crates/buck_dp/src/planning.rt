@@ -10,15 +10,17 @@ ghost use Rattle.buck_dp.specs.inner.Kept.{all_of};
 ghost use Rattle.buck_dp.specs.inner.Site.{IsSite, IsMemoFor, IsDiameterAt, ground_of};
 ghost use Rattle.buck_dp.specs.inner.Takers.{AreKnown};
 
+use crate::bid::Bid;
 use crate::keeping::{Kept, Market, Spot, all_logs};
 use crate::kinds::{Group, Kinds};
 use crate::offering::{Cell, Reach};
 use crate::search::Search;
 use crate::takers::Kind;
 use buck_record::Memory;
-use buck_stem::{Profile, Stem};
+use buck_stem::{Profile, ProfileLists, Stem};
 use buck_value::Sheet;
 use std::alloc::Global;
+use std::mem;
 
 /// A stem at its points, and the sheet under which it is cut. Each trim fits behind the tops before point `fit`.
 #[derive(Clone, Copy)]
@@ -36,6 +38,10 @@ pub struct Memo {
     pub kept: Kept,
     /// A row that isn't kept.
     pub spare: Vec<Cell>,
+    /// The lists of a plan. What they hold of the one before is of no account.
+    pub profile: ProfileLists,
+    pub values: Vec<Bid>,
+    pub choices: Vec<u32>,
 }
 
 /// The starts from point `first` on and before another: the same assortments take the wood from these to a top.
@@ -187,7 +193,6 @@ fn offer_cells(site: Site<'_>, search: &mut Search<'_>, part: Part, diameter: u3
 /// diameter and all of their logs start in one part: one row serves them all. Each trim fits.
 #[inline(always)]
 fn offer_kept(
-    alloc: Global,
     site: Site<'_>,
     memo: &mut Memo,
     search: &mut Search<'_>,
@@ -210,9 +215,7 @@ fn offer_kept(
 {
     let diameters = site.profile.diameters();
     let diameter = diameters[search.from()];
-    let place = memo
-        .kept
-        .row(alloc, site.market, near.part.group, diameter)?;
+    let place = memo.kept.row(site.market, near.part.group, diameter)?;
     let cells = memo.kept.cells(place);
     offer_cells(site, search, near.part, diameter, cells);
     while search.from() > near.low && diameters[search.from() - 1] == diameter {
@@ -224,7 +227,6 @@ fn offer_kept(
 
 /// Offers the logs with the top that was settled last that start in a part, from a row that is drawn for it alone.
 fn offer_part(
-    alloc: Global,
     site: Site<'_>,
     memo: &mut Memo,
     search: &mut Search<'_>,
@@ -253,7 +255,6 @@ fn offer_part(
         room: left.min(site.market.menu.most_trim),
     };
     memo.kept.draw(
-        alloc,
         &mut memo.spare,
         site.market,
         part.group,
@@ -264,12 +265,7 @@ fn offer_part(
 }
 
 /// Offers the logs with the top that was settled last from the starts to which they aren't offered yet.
-fn offer_rest(
-    alloc: Global,
-    site: Site<'_>,
-    memo: &mut Memo,
-    search: &mut Search<'_>,
-) -> Result<(), Memory>
+fn offer_rest(site: Site<'_>, memo: &mut Memo, search: &mut Search<'_>) -> Result<(), Memory>
     requires site { IsSite site }
     requires memo { IsMemoFor site memo.old }
     requires ground { search.old.ground ≡ ground_of site }
@@ -287,7 +283,7 @@ fn offer_rest(
             search.close_top();
             return Ok(());
         }
-        offer_part(alloc, site, memo, search, part)?;
+        offer_part(site, memo, search, part)?;
     }
     search.close_top();
     Ok(())
@@ -296,7 +292,6 @@ fn offer_rest(
 /// Offers the logs with the top that was settled last, which is `last` or a later one and of which the nearest starts
 /// are known. Where one row serves them, it goes on with the tops before it.
 fn offer_top(
-    alloc: Global,
     site: Site<'_>,
     memo: &mut Memo,
     search: &mut Search<'_>,
@@ -327,19 +322,15 @@ fn offer_top(
         return Ok(());
     }
     if top < site.fit && near.low <= top {
-        return offer_kept(alloc, site, memo, search, near);
+        return offer_kept(site, memo, search, near);
     }
-    offer_part(alloc, site, memo, search, near.part)?;
-    offer_rest(alloc, site, memo, search)
+    offer_part(site, memo, search, near.part)?;
+    offer_rest(site, memo, search)
 }
 
 /// Searches the tops behind the steps of one run.
-fn search_run(
-    alloc: Global,
-    site: Site<'_>,
-    memo: &mut Memo,
-    search: &mut Search<'_>,
-) -> Result<(), Memory>
+#[inline(never)]
+fn search_run(site: Site<'_>, memo: &mut Memo, search: &mut Search<'_>) -> Result<(), Memory>
     requires site { IsSite site }
     requires memo { IsMemoFor site memo.old }
     requires ground { search.old.ground ≡ ground_of site }
@@ -354,7 +345,7 @@ fn search_run(
     let near = near_part(site, &mut memo.kinds, run + 1)?;
     while search.from() > run + 1 {
         search.settle_top();
-        offer_top(alloc, site, memo, search, near, run + 1)?;
+        offer_top(site, memo, search, near, run + 1)?;
     }
     Ok(())
 }
@@ -368,13 +359,14 @@ pub fn search_stem<'a>(alloc: Global, site: Site<'a>, memo: &mut Memo) -> Result
     ensures whole { IfOk result (λ s. (s.from ≡ 0) × (s.stop ≡ 0)) }
 {
     let mut search = Search::start(
-        alloc,
+        mem::replace(&mut memo.values, Vec::new(alloc)),
+        mem::replace(&mut memo.choices, Vec::new(alloc)),
         site.market.sheet,
         site.stem,
         site.market.menu.offers.as_slice(),
     )?;
     while search.from() > 1 {
-        search_run(alloc, site, memo, &mut search)?;
+        search_run(site, memo, &mut search)?;
     }
     search.settle_top();
     Ok(search)

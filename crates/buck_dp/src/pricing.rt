@@ -1,5 +1,5 @@
 //! Price lists: what the logs of some takers are bid by length and trim, at each diameter of a band.
-ghost use Rattle.std.specs.Prelude.{◌≡◌, ℕ, ◌+◌, ◌-◌, ◌*◌, ◌/◌, ◌<◌, ◌≤◌, ◌⊎◌, ◌++◌, ◌∷◌, [], IfOk, OnOk, IfSome, IfNone, IsTrue, List, Option, length, slice_get, slice_index};
+ghost use Rattle.std.specs.Prelude.{◌≡◌, ℕ, ◌+◌, ◌-◌, ◌*◌, ◌/◌, ◌<◌, ◌≤◌, ◌⊎◌, ◌++◌, ◌∷◌, [], IfErr, OnOk, IfSome, IfNone, IsTrue, List, Option, length, slice_get, slice_index};
 ghost use Rattle.buck_apt.specs.Instruction.{classes};
 ghost use Rattle.buck_value.specs.Sheet.{IsSheet};
 ghost use Rattle.buck_bid.specs.Offers.{codes_in, AreOffers};
@@ -14,7 +14,7 @@ use crate::takers::Takers;
 use buck_apt::Instruction;
 use buck_bid::{Band, Offer, Pricing, pricing_of};
 use buck_value::{Sheet, volume_of, worth_of_piece};
-use std::alloc::{AllocError, Global};
+use std::alloc::AllocError;
 
 /// What an assortment bids for its logs of one length at each diameter of a band: a price per cubic metre or per piece,
 /// by the kind.
@@ -196,8 +196,9 @@ fn put_quote(
     requires small { IsSmall quote }
     requires leader { IsSmall leader.old }
     requires thinnest { thinnest ≤ 2000 }
-    ensures { OnOk result (((list.new.items ≡ list.old.items) × (leader.new ≡ leader.old) × IsOver thinnest leader.old quote)
+    ensures put { OnOk result (((list.new.items ≡ list.old.items) × (leader.new ≡ leader.old) × IsOver thinnest leader.old quote)
         ⊎ ((list.new.items ≡ list.old.items ++ quote ∷ []) × ((leader.new ≡ leader.old) ⊎ (leader.new ≡ quote)))) }
+    ensures left { IfErr result (λ _. list.new.items ≡ list.old.items) }
 {
     if is_outbid(quote, *leader, thinnest) {
         return Ok(());
@@ -209,21 +210,21 @@ fn put_quote(
     Ok(())
 }
 
-/// A price list: the quotes of some takers in a band, by their length, from their terms, without those that a shorter log
-/// outbids in the whole band.
-pub fn price_list(
-    alloc: Global,
+/// Puts a price list behind others: the quotes of some takers in a band, by their length, from their terms, without those
+/// that a shorter log outbids in the whole band.
+pub fn put_list(
+    quotes: &mut Vec<Quote>,
     sheet: &Sheet,
     terms: &[Option<Term>],
     ask: Ask,
-) -> Result<Vec<Quote>, AllocError>
+) -> Result<(), AllocError>
     requires valid { IsSheet sheet.now }
     requires thinnest { ask.band.thinnest ≤ 2000 }
     requires terms { (codes : List ℕ) × AreTerms sheet.now.instruction codes ask (length terms.now) terms.now }
-    ensures { IfOk result (λ list. (codes : List ℕ) → AreTerms sheet.now.instruction codes ask (length terms.now) terms.now
-        → AreQuotes sheet.now codes ask (length terms.now) list.items) }
+    ensures { (list : List Quote) × (quotes.new.items ≡ quotes.old.items ++ list)
+        × OnOk result ((codes : List ℕ) → AreTerms sheet.now.instruction codes ask (length terms.now) terms.now
+        → AreQuotes sheet.now codes ask (length terms.now) list) }
 {
-    let mut list = Vec::with_capacity(alloc, terms.len())?;
     let mut leader = Quote {
         kind: 0,
         price: 0,
@@ -238,9 +239,9 @@ pub fn price_list(
             None => {}
             Some(term) => {
                 let quote = term.quote_under(sheet);
-                put_quote(&mut list, &mut leader, quote, ask.band.thinnest)?;
+                put_quote(quotes, &mut leader, quote, ask.band.thinnest)?;
             }
         }
     }
-    Ok(list)
+    Ok(())
 }

@@ -15,7 +15,7 @@ use std::alloc::AllocError;
 fn cell_at(quote: Quote, diameter: u32, reach: Reach) -> Option<Cell>
     requires small { IsSmall quote }
     requires diameter { diameter ≤ 1500 }
-    ensures some { IfSome result (λ c. IsWithin reach quote × (c ≡ cell_of quote diameter)) }
+    ensures some { IfSome result (λ c. IsWithin reach quote × (c ≡ cell_of reach quote diameter)) }
     ensures none { IfNone result (IsWithin reach quote → ⊥) }
 {
     if quote.steps as usize <= reach.past {
@@ -31,6 +31,7 @@ fn cell_at(quote: Quote, diameter: u32, reach: Reach) -> Option<Cell>
         bid: quote.bid(diameter),
         steps: quote.steps,
         rise: quote.rise,
+        back: reach.far - quote.steps as usize,
     })
 }
 
@@ -76,6 +77,7 @@ pub fn put_row(
         bid: Bid::none(),
         steps: 0,
         rise: u32::MAX,
+        back: 0,
     };
     for quote in list {
         if let Some(cell) = cell_at(*quote, diameter, reach) {

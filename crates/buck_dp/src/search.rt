@@ -55,24 +55,13 @@ impl<'a> Model for Search<'a> {
     }) };
 }
 
-/// So many bids of no log.
-fn no_bids(alloc: Global, count: usize) -> Result<Vec<Bid>, AllocError>
-    ensures number { IfOk result (λ bids. length bids.items ≡ count) }
-    ensures zeros { IfOk result (λ bids. (k : ℕ) → bid_at bids.items k ≡ none) }
+/// Puts so many of one in the place of others.
+fn put_all<T: Copy>(list: &mut Vec<T>, count: usize, one: T) -> Result<(), AllocError>
+    ensures number { OnOk result (length list.new.items ≡ count) }
+    ensures same { OnOk result ((k : ℕ) → get_or list.new.items k one ≡ one) }
 {
-    let mut bids = Vec::new(alloc);
-    bids.resize(count, Bid::none())?;
-    Ok(bids)
-}
-
-/// So many choices of no log.
-fn no_choices(alloc: Global, count: usize) -> Result<Vec<u32>, AllocError>
-    ensures number { IfOk result (λ choices. length choices.items ≡ count) }
-    ensures zeros { IfOk result (λ choices. (k : ℕ) → get_or choices.items k 0 ≡ 0) }
-{
-    let mut choices = Vec::new(alloc);
-    choices.resize(count, 0)?;
-    Ok(choices)
+    list.clear();
+    list.resize(count, one)
 }
 
 /// How many points a stem has under a sheet, the butt among them.
@@ -98,11 +87,11 @@ fn settle_once(values: &mut [Bid], choices: &mut [u32], top: usize)
     settle(values, choices, top);
 }
 
-/// Offers the logs with a top that start in one part. None of the row is longer than `most` steps.
-fn offer_once(values: &mut [Bid], top: usize, starts: Starts, row: &[Cell], most: usize)
+/// Offers the logs with a top that start in one part. The row reaches `far` points back.
+fn offer_once(values: &mut [Bid], top: usize, starts: Starts, row: &[Cell], far: usize)
     requires order { (starts.first ≤ starts.stop) × (starts.stop ≤ top) }
     requires late { (k : ℕ) (c : Cell) → slice_get row.now k ≡ Some c → top < c.steps + starts.stop }
-    requires few { (k : ℕ) (c : Cell) → slice_get row.now k ≡ Some c → c.steps ≤ most }
+    requires back { (k : ℕ) (c : Cell) → slice_get row.now k ≡ Some c → c.back + c.steps ≡ far }
     requires ready { (p : GroundParts) × (choices : List ℕ) × IsSheet p.sheet × IsStem p.stem
         × AreSearched p values.old choices top starts.stop × IsPart p top starts.first starts.stop row.now }
     ensures number { length values.new ≡ length values.old }
@@ -110,17 +99,18 @@ fn offer_once(values: &mut [Bid], top: usize, starts: Starts, row: &[Cell], most
         → AreSearched p values.old choices top starts.stop → IsPart p top starts.first starts.stop row.now
         → AreSearched p values.new choices top starts.first }
 {
-    if top - starts.first >= most {
-        offer_whole(values, top, starts, row);
+    if top - starts.first >= far {
+        offer_whole(values, top, starts, row, far);
         return;
     }
     offer_row(values, top, starts, row);
 }
 
 impl<'a> Search<'a> {
-    /// A search at the top end of a stem, behind its last point.
+    /// A search at the top end of a stem, behind its last point. It takes lists of an earlier one, whatever they hold.
     pub fn start(
-        alloc: Global,
+        mut values: Vec<Bid>,
+        mut choices: Vec<u32>,
         sheet: &'a Sheet,
         stem: &'a Stem,
         offers: &'a [Offer],
@@ -129,8 +119,8 @@ impl<'a> Search<'a> {
         ensures from { IfOk result (λ s. (s.from ≡ points_of s.ground) × (s.stop ≡ 0)) }
     {
         let from = points_of(sheet, stem);
-        let values = no_bids(alloc, from + 1)?;
-        let choices = no_choices(alloc, from + 1)?;
+        put_all(&mut values, from + 1, Bid::none())?;
+        put_all(&mut choices, from + 1, 0)?;
         Ok(Search {
             sheet,
             stem,
@@ -140,6 +130,11 @@ impl<'a> Search<'a> {
             values,
             choices,
         })
+    }
+
+    /// Its lists of values and choices, for the search of another stem.
+    pub fn into_lists(self) -> (Vec<Bid>, Vec<u32>) {
+        (self.values, self.choices)
     }
 
     /// The first point of those that have their values.
@@ -187,12 +182,12 @@ impl<'a> Search<'a> {
         self.stop = top;
     }
 
-    /// Offers the logs with the top that was settled last that start in a part more, from `first` on. None of the row
-    /// is longer than `most` steps.
-    pub fn offer_part(&mut self, first: usize, row: &[Cell], most: usize)
+    /// Offers the logs with the top that was settled last that start in a part more, from `first` on. The row reaches
+    /// `far` points back.
+    pub fn offer_part(&mut self, first: usize, row: &[Cell], far: usize)
         requires order { first ≤ self.old.stop }
         requires late { (k : ℕ) (c : Cell) → slice_get row.now k ≡ Some c → self.old.from < c.steps + self.old.stop }
-        requires few { (k : ℕ) (c : Cell) → slice_get row.now k ≡ Some c → c.steps ≤ most }
+        requires back { (k : ℕ) (c : Cell) → slice_get row.now k ≡ Some c → c.back + c.steps ≡ far }
         requires part { IsPart self.old.ground self.old.from first self.old.stop row.now }
         ensures ground { self.new.ground ≡ self.old.ground }
         ensures from { self.new.from ≡ self.old.from }
@@ -202,7 +197,7 @@ impl<'a> Search<'a> {
             first,
             stop: self.stop,
         };
-        offer_once(self.values.as_mut_slice(), self.from, starts, row, most);
+        offer_once(self.values.as_mut_slice(), self.from, starts, row, far);
         self.stop = first;
     }
 

@@ -1,5 +1,5 @@
 -- Cells of some takers at a diameter: what assortments bid, whatever the stem.
-use Rattle.std.specs.Prelude.{◌≡◌, ℕ, ◌*◌, ◌<◌, ◌≤◌, ◌⊎◌, List, slice_get, Some}
+use Rattle.std.specs.Prelude.{◌≡◌, ℕ, ◌+◌, ◌*◌, ◌<◌, ◌≤◌, ◌⊎◌, List, slice_get, Some}
 use Rattle.buck_apt.specs.Instruction.{AssortmentParts}
 use Rattle.buck_value.specs.Sheet.{SheetParts}
 use Rattle.buck_value.specs.Allowed.{log_of}
@@ -33,7 +33,8 @@ pub record IsReal (s : SheetParts) (codes : List ℕ) (takers : Takers) (d : ℕ
   pub trim : ℕ
   pub is : IsTakersBid s codes takers d c.steps trim c.bid
   pub next : c.rise ≡ point_after s.instruction.«module» trim
-  pub near : (reach.past < c.steps) × (c.steps ≤ reach.far)
+  pub late : reach.past < c.steps
+  pub back : c.back + c.steps ≡ reach.far
   pub fits : trim ≤ reach.room
 
 -- a cell bids no less for logs as long, or more worth for shorter ones, and leaves no less

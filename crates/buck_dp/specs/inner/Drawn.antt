@@ -1,5 +1,5 @@
 -- Rows that are drawn from price lists at one diameter.
-use Rattle.std.specs.Prelude.{◌≡◌, ℕ, ◌<◌, ◌≤◌, List, slice_get, Some}
+use Rattle.std.specs.Prelude.{◌≡◌, ℕ, ◌-◌, ◌<◌, ◌≤◌, List, slice_get, Some}
 use Rattle.buck_dp.specs.declared.offering.Cell.{Cell}
 use Rattle.buck_dp.specs.declared.offering.Reach.{Reach}
 use Rattle.buck_dp.specs.declared.pricing.Quote.{Quote}
@@ -11,8 +11,8 @@ abbrev pub IsWithin : Reach → Quote → Type 0
 IsWithin reach q = (reach.past < q.steps) × (q.steps ≤ reach.far) × (q.trim ≤ reach.room)
 
 -- the cell of a quote at a diameter
-abbrev pub cell_of : Quote → ℕ → Cell
-cell_of q d = record { bid = quote_bid q d; steps = q.steps; rise = q.rise }
+abbrev pub cell_of : Reach → Quote → ℕ → Cell
+cell_of reach q d = record { bid = quote_bid q d; steps = q.steps; rise = q.rise; back = reach.far - q.steps }
 
 -- a cell bids more worth for logs that are no longer, and leaves no less
 abbrev pub IsCutOff : Cell → Cell → Type 0
@@ -24,7 +24,7 @@ pub record IsCellOf (quotes : List Quote) (d : ℕ) (reach : Reach) (c : Cell) :
   pub quote : Quote
   pub there : slice_get quotes place ≡ Some quote
   pub within : IsWithin reach quote
-  pub is : c ≡ cell_of quote d
+  pub is : c ≡ cell_of reach quote d
 
 -- the cells of the first n quotes
 pub record IsDrawn (quotes : List Quote) (d : ℕ) (reach : Reach) (n : ℕ) (row : List Cell) : Type 0 where

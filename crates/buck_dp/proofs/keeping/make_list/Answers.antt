@@ -19,8 +19,8 @@ asked s m key terms ask is are =
     subst (λ (n : ℕ). AreTerms s.instruction (codes_in m.offers.items) ask n terms) (sym are.number)
     (subst (λ (a : Ask). AreTerms s.instruction (codes_in m.offers.items) a (length m.offers.items) terms) (sym is) are)
 
-pub price_list-requires-clause-terms : goal.price_list-requires-clause-terms
-price_list-requires-clause-terms c = (
+pub put_list-requires-clause-terms : goal.put_list-requires-clause-terms
+put_list-requires-clause-terms c = (
   codes_in c.args.market.menu.now.offers.items,
   asked c.args.market.sheet.now c.args.market.menu.now
       (record { takers = c.args.group.takers; at = c.args.band }) c.args.terms.now c.ask_for-ask.result c.ask_for-ask.ensures c.requires.terms,
@@ -33,14 +33,12 @@ returns-clause-list c =
     let codes : List ℕ = codes_in m.offers.items in
     let key : Key = record { takers = c.args.group.takers; at = c.args.band } in
     let old : List Quote = c.args.quotes.now.items in
-    let new : List Quote = c.in_ok-list.list.items in
-    let more : c.extend_from_slice.new.self.items ≡ old ++ new =
-    c.in_ok-extend_from_slice.ensures.items ∙ ap (λ (xs : List Quote). old ++ xs) c.as_slice.ensures.value in
-    let are : AreQuotes s codes (ask_of m key) (length m.offers.items) new =
-    subst (λ (n : ℕ). AreQuotes s codes (ask_of m key) n new) c.requires.terms.number
-    (subst (λ (a : Ask). AreQuotes s codes a (length c.args.terms.now) new) c.ask_for-ask.ensures (c.in_ok-list.ensures codes
+    let new = c.in_ok-put_list.ensures in
+    let are : AreQuotes s codes (ask_of m key) (length m.offers.items) new.0 =
+    subst (λ (n : ℕ). AreQuotes s codes (ask_of m key) n new.0) c.requires.terms.number
+    (subst (λ (a : Ask). AreQuotes s codes a (length c.args.terms.now) new.0) c.ask_for-ask.ensures (new.2 codes
     (asked s m key c.args.terms.now c.ask_for-ask.result c.ask_for-ask.ensures c.requires.terms))) in
     let from : ℕ = length c.as_slice-from.result.now in
-    let past : ℕ = length c.as_slice-2.result.now in
-    put_behind (ListOf s m) old new c.extend_from_slice.new.self.items key from past more (ap (λ (xs : List Quote). length xs) c.as_slice-from.ensures.value)
-    (ap (λ (xs : List Quote). length xs) c.as_slice-2.ensures.value) are
+    let past : ℕ = length c.as_slice.result.now in
+    put_behind (ListOf s m) old new.0 c.put_list.new.quotes.items key from past new.1 (ap (λ (xs : List Quote). length xs) c.as_slice-from.ensures.value)
+    (ap (λ (xs : List Quote). length xs) c.as_slice.ensures.value) are

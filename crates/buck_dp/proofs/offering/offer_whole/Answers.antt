@@ -1,18 +1,23 @@
-use Rattle.std.proofs.Common.{Some, inl, inr, ap, sym, ◌∙◌, arith}
-use Rattle.std.proofs.lemmas.Option.{slice_get-get_or}
-use Rattle.buck_dp.proofs.CellLemmas.{offered_more}
+use Rattle.std.proofs.Common.{◌≡◌, ◌+◌, ◌-◌, length, ◌++◌, sym, subst, arith}
+use Rattle.buck_dp.specs.inner.Rows.{AreFit, AreOffered}
+use Rattle.buck_dp.proofs.CellLemmas.{fits_back, offered_back}
 use Rattle.buck_dp.proofs.offering.offer_whole.Goals as goal
 
-pub loop-cell-preserved : goal.loop-cell-preserved
-loop-cell-preserved c =
-    let o = c.offer_near.ensures in
-    let there = slice_get-get_or c.args.row.now c.loop-cell.cell-index c.cell-item.result (omega arith)
-    ∙ ap Some (sym c.cell-item.is) in
-    let near = c.requires.near c.loop-cell.cell-index c.cell-item.result there in
-    offered_more c.args.row.now c.args.top c.args.starts.first c.args.starts.stop c.loop-cell.cell-index c.requires.order.1 c.args.values.now
-    c.loop-cell.values c.requires.fit c.loop-cell.invariant c.cell-item.result c.offer_near.new.values there o.number
-    (λ i which. elim which [
-      | inl other ↦ o.others i other
-      | inr out ↦ o.others i (λ e. elim out [ inl far ↦ omega (arith, near.0) | inr past ↦ omega (arith, near.1) ])
-    ])
-    (λ i e low high. o.raised i e)
+pub offer_back-requires-clause-fit : goal.offer_back-requires-clause-fit
+offer_back-requires-clause-fit c =
+    let a = c.args in
+    let r = c.requires in
+    subst (λ xs. AreFit a.row.now a.far 0 a.far xs) (sym c.split_at_mut-reached.ensures.back)
+    (fits_back a.row.now a.top a.starts.first a.starts.stop a.far (a.top - a.far) a.values.now (omega (arith, r.far)) (omega (arith, r.far))
+    r.order.1 (omega (arith, r.inside)) r.late r.back r.fit)
+
+pub returns : goal.returns
+returns c =
+    let a = c.args in
+    let r = c.requires in
+    let parts = c.split_at_mut-reached.ensures in
+    subst (λ xs. AreOffered a.row.now a.top a.starts.first a.starts.stop (length a.row.now) a.values.now (xs ++ c.offer_back.new.values))
+    (sym parts.front)
+    (offered_back a.row.now a.top a.starts.first a.starts.stop a.far (a.top - a.far) a.values.now (omega (arith, r.far)) (omega (arith, r.far))
+    r.order.1 (omega (arith, r.inside)) r.late r.back c.offer_back.new.values
+    (subst (λ xs. AreOffered a.row.now a.far 0 a.far (length a.row.now) xs c.offer_back.new.values) parts.back c.offer_back.ensures))

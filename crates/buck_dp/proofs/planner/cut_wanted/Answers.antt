@@ -40,7 +40,7 @@ returns-clause-worth c =
     (subst (λ (n : ℕ). AreSearched s.ground s.values s.choices n s.stop) w.0 r.searched) in
     let was : AreSearched p s.values s.choices 0 0 =
     subst (λ g. AreSearched g s.values s.choices 0 0) c.in_ok-search.ensures.ground start in
-    c.worth.ensures
+    c.worth-worth.ensures
     ∙ walk_worth p c.instruction.ensures.valid c.requires.ready.offers.offers.codes s.values s.choices was c.in_ok-logs.logs.items c.in_ok-logs.ensures
 
 pub returns-clause-high : goal.returns-clause-high
@@ -51,5 +51,5 @@ returns-clause-high c =
     let first : IsFirstBest c.args.sheet.now c.args.stem.now logs = returns-clause-first c in
     let low : cutting_worth c.args.sheet.now c.args.stem.now logs ≤ 2800000000000000 =
     worth_bounded c.args.sheet.now c.args.stem.now logs c.instruction.ensures.valid stem first.best.admissible in
-    let worth : c.worth.result ≡ cutting_worth c.args.sheet.now c.args.stem.now logs = returns-clause-worth c in
+    let worth : c.worth-worth.result ≡ cutting_worth c.args.sheet.now c.args.stem.now logs = returns-clause-worth c in
     omega (arith, low, worth)

@@ -18,11 +18,10 @@ offer_part-requires-clause-part c =
 
 pub offer_part-requires-clause-late : goal.offer_part-requires-clause-late
 offer_part-requires-clause-late c k cell at =
-    let n = (c.requires.cells.real k cell at).near in
-    omega (arith, n.0, c.requires.stop)
+    omega (arith, (c.requires.cells.real k cell at).late, c.requires.stop)
 
-pub offer_part-requires-clause-few : goal.offer_part-requires-clause-few
-offer_part-requires-clause-few c k cell at = (c.requires.cells.real k cell at).near.1
+pub offer_part-requires-clause-back : goal.offer_part-requires-clause-back
+offer_part-requires-clause-back c k cell at = (c.requires.cells.real k cell at).back
 
 pub close_top-requires : goal.close_top-requires
 close_top-requires c =

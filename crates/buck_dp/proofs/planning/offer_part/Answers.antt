@@ -44,9 +44,9 @@ offer_part-requires-clause-part c =
 
 pub offer_part-requires-clause-late : goal.offer_part-requires-clause-late
 offer_part-requires-clause-late c k cell at =
-    let n = (c.in_ok-draw.ensures.row.real k cell (subst (λ (cs : List Cell). slice_get cs k ≡ Some cell) c.as_slice.ensures.value at)).near in
-    omega (arith, n.0, c.from-top.ensures.right.below, c.from-top.ensures.value, c.stop-stop.ensures.value)
+    let late = (c.in_ok-draw.ensures.row.real k cell (subst (λ (cs : List Cell). slice_get cs k ≡ Some cell) c.as_slice.ensures.value at)).late in
+    omega (arith, late, c.from-top.ensures.right.below, c.from-top.ensures.value, c.stop-stop.ensures.value)
 
-pub offer_part-requires-clause-few : goal.offer_part-requires-clause-few
-offer_part-requires-clause-few c k cell at =
-    (c.in_ok-draw.ensures.row.real k cell (subst (λ (cs : List Cell). slice_get cs k ≡ Some cell) c.as_slice.ensures.value at)).near.1
+pub offer_part-requires-clause-back : goal.offer_part-requires-clause-back
+offer_part-requires-clause-back c k cell at =
+    (c.in_ok-draw.ensures.row.real k cell (subst (λ (cs : List Cell). slice_get cs k ≡ Some cell) c.as_slice.ensures.value at)).back

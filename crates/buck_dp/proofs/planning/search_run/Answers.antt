@@ -11,7 +11,7 @@ offer_top-requires-clause-takers c i t from to low high =
     let even = c.run_start-run.ensures.even in
     let near = c.in_ok-near.ensures in
     let order = c.requires.from in
-    let now = c.loop-alloc.invariant in
+    let now = c.loop-near.invariant in
     near_takers (ground_of x) c.requires.site.sound run (c.args.search.now.from - 1) even.0
     (λ k from to. mask_of x.profile.now x.stem.now unit k (k + 1) even.0 c.requires.site.profile
     (even.1 k from (omega (arith, to, order, c.from.ensures.value))))

@@ -2,8 +2,8 @@ use Rattle.std.proofs.Common.{◌≡◌, ◌<◌, ◌≤◌}
 use Rattle.buck_dp.specs.inner.Site.{IsMemoFor, ground_of}
 use Rattle.buck_dp.proofs.planning.search_run.Given as goal
 
-abbrev pub invariant-loop-alloc : goal.invariant-loop-alloc
-invariant-loop-alloc l = record {
+abbrev pub invariant-loop-near : goal.invariant-loop-near
+invariant-loop-near l = record {
   memo : IsMemoFor l.site l.memo;
   ground : l.search.ground ≡ ground_of l.site;
   low : l.run < l.search.from;
@@ -11,5 +11,5 @@ invariant-loop-alloc l = record {
   stop : l.search.stop ≡ 0;
 }
 
-abbrev pub decreases-loop-alloc : goal.decreases-loop-alloc
-decreases-loop-alloc l = l.search.from
+abbrev pub decreases-loop-near : goal.decreases-loop-near
+decreases-loop-near l = l.search.from

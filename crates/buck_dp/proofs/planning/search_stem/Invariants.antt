@@ -3,8 +3,8 @@ use Rattle.buck_dp.specs.inner.Points.{points_of}
 use Rattle.buck_dp.specs.inner.Site.{IsMemoFor, ground_of}
 use Rattle.buck_dp.proofs.planning.search_stem.Given as goal
 
-abbrev pub invariant-loop-alloc : goal.invariant-loop-alloc
-invariant-loop-alloc l = record {
+abbrev pub invariant-loop-site : goal.invariant-loop-site
+invariant-loop-site l = record {
   memo : IsMemoFor l.site l.memo;
   ground : l.search.ground ≡ ground_of l.site;
   low : 0 < l.search.from;
@@ -12,5 +12,5 @@ invariant-loop-alloc l = record {
   stop : l.search.stop ≡ 0;
 }
 
-abbrev pub decreases-loop-alloc : goal.decreases-loop-alloc
-decreases-loop-alloc l = l.search.from
+abbrev pub decreases-loop-site : goal.decreases-loop-site
+decreases-loop-site l = l.search.from

@@ -1,4 +1,3 @@
-use Rattle.std.proofs.Common.{arith}
 use Rattle.buck_dp.proofs.TopLemmas.{part_fits, offered_part}
 use Rattle.buck_dp.proofs.search.offer_once.Goals as goal
 
@@ -6,10 +5,6 @@ pub offer_whole-requires-clause-fit : goal.offer_whole-requires-clause-fit
 offer_whole-requires-clause-fit c =
     let r = c.requires.ready in
     part_fits r.0 r.2 r.3 c.args.values.now r.1 c.args.top c.args.starts.first c.args.starts.stop c.args.row.now c.requires.order.1 r.5 r.4
-
-pub offer_whole-requires-clause-near : goal.offer_whole-requires-clause-near
-offer_whole-requires-clause-near c k cell at =
-    (omega (arith, c.requires.few k cell at, c.if-top-starts.true, c.requires.order), c.requires.late k cell at)
 
 pub offer_row-requires-clause-fit : goal.offer_row-requires-clause-fit
 offer_row-requires-clause-fit c =

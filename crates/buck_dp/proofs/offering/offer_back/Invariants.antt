@@ -1,0 +1,5 @@
+use Rattle.buck_dp.specs.inner.Rows.{AreOffered}
+use Rattle.buck_dp.proofs.offering.offer_back.Given as goal
+
+abbrev pub invariant-loop-cell : goal.invariant-loop-cell
+invariant-loop-cell l = AreOffered l.row l.far 0 l.far l.cell-index l.fn.values l.values

@@ -1,5 +1,0 @@
-use Rattle.buck_dp.specs.inner.Rows.{AreOffered}
-use Rattle.buck_dp.proofs.offering.offer_whole.Given as goal
-
-abbrev pub invariant-loop-cell : goal.invariant-loop-cell
-invariant-loop-cell l = AreOffered l.row l.top l.fn.starts.first l.fn.starts.stop l.cell-index l.fn.values l.values

@@ -1,8 +1,0 @@
-use Rattle.std.proofs.Common.{ℕ, List, length}
-use Rattle.buck_dp.specs.inner.Quotes.{AreTerms}
-use Rattle.buck_dp.proofs.QuoteLemmas.{IsListSoFar}
-use Rattle.buck_dp.proofs.pricing.price_list.Given as goal
-
-abbrev pub invariant-loop-term : goal.invariant-loop-term
-invariant-loop-term l = (codes : List ℕ) → AreTerms l.sheet.instruction codes l.ask (length l.terms) l.terms
-    → IsListSoFar l.sheet codes l.ask l.term-index l.list.items l.leader
