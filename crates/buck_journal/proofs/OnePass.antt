@@ -271,10 +271,6 @@ demand_leads before c found text called left l t = λ items others h more. (
   demand_postings before c found l.0 t.0 items others l.1 t.1 more,
 )
 
--- ---- posting after posting
-pub postings_start : (text : List ℕ) → LeadsPostings text [] text
-postings_start text = λ items others h r. (items, h, r)
-
 pub postings_go_on : (text rest left : List ℕ) (ps : List Posting) (p : Posting) (n : ℕ)
     → LeadsPostings text ps rest → n ≡ length ps → LeadsPosting rest n p left
     → LeadsPostings text (ps ++ p ∷ []) left
