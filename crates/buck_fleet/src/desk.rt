@@ -32,7 +32,7 @@ pub struct Desk<F, L: Ledger> {
     ghost no_amount: { rest.amount ≡ 0 },
 }
 
-/// All that the commit of a plan stores or hands out, and what a seat keeps of it, made before the commit.
+/// A prepared commit of a plan, and what the seat keeps of the entry.
 #[derive(Drop)]
 pub struct ReadyCut {
     pub(crate) ready: Ready,
@@ -40,12 +40,12 @@ pub struct ReadyCut {
     pub(crate) cutting: Arc<Cutting>,
 }
 
-/// A prepared posting: the one commit of a cut or a demand adds it.
+/// A posting that is ready to be added.
 #[derive(Drop)]
 pub enum Made {
-    /// The entry of this plan.
+    /// The entry of a plan, with what the seat keeps of it.
     Cut(ReadyCut, Plan),
-    /// A demand, with the targets that the seat keeps.
+    /// A demand, and the targets that the seat keeps of it.
     Demand(ReadyDemand, Arc<Vec<u32>>),
 }
 

@@ -1,8 +1,8 @@
-use Rattle.std.proofs.Common.{◌≡◌, arith, sym, ap, ◌∙◌}
+use Rattle.std.proofs.Common.{◌≡◌, refl, sym, ap, ◌∙◌}
 use Rattle.buck_book.specs.declared.posting.Posting.TheVariants.{Cut}
 use Rattle.buck_book.specs.History.{in_force}
 use Rattle.buck_book.specs.Book.{entry_of}
-use Rattle.buck_fleet.specs.Seat.{SeatParts, seen_of}
+use Rattle.buck_fleet.specs.Seat.{SeatParts}
 use Rattle.buck_fleet.proofs.Keeping.{is_added}
 use Rattle.buck_fleet.proofs.desk.Desk.commit.Goals as goal
 
@@ -19,13 +19,6 @@ returns-clause-ok g c =
       planned = made.best;
       entry_is = entry ∙ (λ t. entry_of (same t) (harvester t) c.args.plan);
       added =
-          is_added _ c.prepare_cut.new.book _ _ _ _ _ _ _ same c.in-Cut.is added.position added.postings added.instruction
-          record {
-            same_harvester = harvester;
-            kept_are = added.kept;
-            same_parts = added.parts ∙ ap (λ (s : SeatParts). s.parts) c.seat.view_is;
-            seen_rises = omega (arith, added.rises, ap seen_of c.seat.view_is);
-          }
-          (c.prepare_cut.ensures.kept ∙ ap (λ (s : SeatParts). s.kept) c.seat.view_is)
-          added.seen;
+          is_added _ c.prepare_cut.new.book _ _ _ _ _ _ _ _ same c.seat.view_is c.prepare_cut.ensures.kept c.in-Cut.is added.position added.postings added.instruction
+          record { same_harvester = refl; kept_are = added.kept; same_parts = added.parts; seen_rises = added.rises } added.seen;
     }

@@ -1,7 +1,7 @@
-use Rattle.std.proofs.Common.{◌≡◌, arith, sym, ap, ◌∙◌}
+use Rattle.std.proofs.Common.{◌≡◌, refl, sym, ap, ◌∙◌}
 use Rattle.buck_book.specs.declared.posting.Posting.TheVariants.{Demand}
 use Rattle.buck_book.specs.Book.{demand_of}
-use Rattle.buck_fleet.specs.Seat.{SeatParts, seen_of}
+use Rattle.buck_fleet.specs.Seat.{SeatParts}
 use Rattle.buck_fleet.proofs.Keeping.{is_added}
 use Rattle.buck_fleet.proofs.desk.Desk.retarget.Goals as goal
 
@@ -17,13 +17,6 @@ returns-clause-ok g c =
     record {
       demand_is = demand ∙ (λ t. demand_of (same t) (harvester t) targets);
       added =
-          is_added _ c.prepare_targets.new.book _ _ _ _ _ _ _ same c.in-Demand.is added.position added.postings added.instruction
-          record {
-            same_harvester = harvester;
-            kept_are = added.kept;
-            same_parts = added.parts ∙ ap (λ (s : SeatParts). s.parts) c.seat.view_is;
-            seen_rises = omega (arith, added.rises, ap seen_of c.seat.view_is);
-          }
-          (c.prepare_targets.ensures.kept ∙ ap (λ (s : SeatParts). s.kept) c.seat.view_is)
-          added.seen;
+          is_added _ c.prepare_targets.new.book _ _ _ _ _ _ _ _ same c.seat.view_is c.prepare_targets.ensures.kept c.in-Demand.is added.position added.postings added.instruction
+          record { same_harvester = refl; kept_are = added.kept; same_parts = added.parts; seen_rises = added.rises } added.seen;
     }
