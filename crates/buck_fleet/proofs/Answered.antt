@@ -49,9 +49,11 @@ of_plan before after s s' p r at = record {
 }
 
 pub reply_to : {F : Type 0} (before after : BookParts F) (s s' : SeatParts) (targets : List ℕ) (r : DemandReply) → IsDemandReplyAt before after s s' targets r → IsReplyToTargets s s' targets r
-reply_to before after s s' targets r at = record {
-  kept = at.added.kept;
-  own_harvester = ap (λ (d : DemandParts). d.harvester) at.demand_is;
-  same_targets = ap (λ (d : DemandParts). d.targets) at.demand_is;
-  seen = omega (arith, ap (λ (d : DemandParts). d.version) at.demand_is, next before.history after.history _ at.added.postings_are at.added.same_instruction, at.added.seen);
-}
+reply_to before after s s' targets r at =
+    let added = at.added in
+    record {
+      kept = added.kept;
+      own_harvester = ap (λ (d : DemandParts). d.harvester) at.demand_is;
+      same_targets = ap (λ (d : DemandParts). d.targets) at.demand_is;
+      seen = omega (arith, ap (λ (d : DemandParts). d.version) at.demand_is, next before.history after.history _ added.postings_are added.same_instruction, added.seen);
+    }

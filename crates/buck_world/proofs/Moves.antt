@@ -59,6 +59,12 @@ entry_follows h n p under =
       holds = subst (λ (s : SheetParts). IsBest s p.stem p.logs × (p.worth ≡ cutting_worth s p.stem p.logs)) under.sheet_is holds;
     }
 
+not_answered : (stage : Stage) → IsIdleOrReading stage → stage ≢ Answered
+not_answered Idle is e = absurd (cc)
+not_answered Reading is e = absurd (cc)
+not_answered (Planned p) is e = absurd is
+not_answered Answered is e = absurd is
+
 -- nobody holds a plan
 no_plan : (w : WorldParts) (seen stale : ℕ) (stage : Stage) → ((p : PlanParts) → stage ≢ Planned p) → seen ≤ w.front → stale ≤ 3 → IsFit w.history w.front (record { stage = stage; seen = seen; stale = stale })
 no_plan w seen stale stage none low few = record { plan = λ p e. absurd (none p e); seen = low; stale = few }
