@@ -24,7 +24,8 @@ with_one ps x = ps ++ x ∷ []
 
 -- the posting was prepared by this book, with no commit since, and what the seat keeps is of the same parts
 abbrev pub IsMade : {F : Type 0} → BookParts F → Made → Type 0
-IsMade b (made.Cut cut p) = IsReadyFor b cut.ready p × (cut.stem.value ≡ p.stem) × (cut.cutting.value.logs.items ≡ p.logs)
+IsMade b (made.Cut cut p) =
+    IsReadyFor b cut.ready p × (cut.stem.value ≡ p.stem) × (cut.cutting.value.logs.items ≡ p.logs)
 IsMade b (made.Demand ready copy) = IsReadyDemand b ready × (copy.value.items ≡ ready.targets)
 
 -- what is added of it for a harvester
