@@ -34,11 +34,11 @@ reply_for before after s s' p r at =
     let worth = ap (λ (e : EntryParts). e.worth) at.entry_is in
     let same : p ≡ plan_of r.entry.stem p.sheet r.entry.logs r.entry.worth = λ t. plan_of (sym stem t) p.sheet (sym logs t) (sym worth t) in
     record {
-      kept = at.kept.kept;
+      kept = at.added.kept;
       own_harvester = ap (λ (e : EntryParts). e.harvester) at.entry_is;
       same_stem = stem;
       first_best = (p.sheet, sheet ∙ sym version, subst IsPlan same at.planned);
-      seen = omega (arith, version, no_less before.history after.history _ at.postings_are at.kept.same_instruction, at.kept.seen);
+      seen = omega (arith, version, no_less before.history after.history _ at.added.postings_are at.added.same_instruction, at.added.seen);
     }
 
 pub of_plan : {F : Type 0} (before after : BookParts F) (s s' : SeatParts) (p : PlanParts) (r : Reply) → IsReplyAt before after s s' p r → IsOfPlan p r.entry
@@ -49,9 +49,11 @@ of_plan before after s s' p r at = record {
 }
 
 pub reply_to : {F : Type 0} (before after : BookParts F) (s s' : SeatParts) (targets : List ℕ) (r : DemandReply) → IsDemandReplyAt before after s s' targets r → IsReplyToTargets s s' targets r
-reply_to before after s s' targets r at = record {
-  kept = at.kept.kept;
-  own_harvester = ap (λ (d : DemandParts). d.harvester) at.demand_is;
-  same_targets = ap (λ (d : DemandParts). d.targets) at.demand_is;
-  seen = omega (arith, ap (λ (d : DemandParts). d.version) at.demand_is, next before.history after.history _ at.postings_are at.kept.same_instruction, at.kept.seen);
-}
+reply_to before after s s' targets r at =
+    let added = at.added in
+    record {
+      kept = added.kept;
+      own_harvester = ap (λ (d : DemandParts). d.harvester) at.demand_is;
+      same_targets = ap (λ (d : DemandParts). d.targets) at.demand_is;
+      seen = omega (arith, ap (λ (d : DemandParts). d.version) at.demand_is, next before.history after.history _ added.postings_are added.same_instruction, added.seen);
+    }

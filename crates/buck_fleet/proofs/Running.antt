@@ -7,7 +7,7 @@ use Rattle.buck_stem.specs.Stem.{StemParts}
 use Rattle.buck_book.proofs.Ends.{take_one_more}
 use Rattle.buck_fleet.specs.declared.seat.Kept.{Kept}
 use Rattle.buck_fleet.specs.declared.seat.Reply.{Reply}
-use Rattle.buck_fleet.specs.Seat.{SeatParts, KeepsNothing}
+use Rattle.buck_fleet.specs.Seat.{SeatParts}
 use Rattle.buck_fleet.specs.Reply.{IsReplyFor, kept_of}
 use Rattle.buck_book.specs.Posting.{harvester_of}
 use Rattle.buck_fleet.specs.Run.{HasCut, IsFirstBestCut, stem_cut}
@@ -16,16 +16,6 @@ pub got : {A : Type 0} (f : A → StemParts) (xs : List A) (n : ℕ) (x : A) →
 got f [] n x lt is = absurd (omega arith)
 got f (y ∷ ys) zero x lt is = ap (λ z. Some (f z)) (sym is)
 got f (y ∷ ys) (suc n) x lt is = got f ys n x (omega arith) is
-
-pub none_cut : (stems : List StemParts) (s : SeatParts) → HasCut 0 stems s s
-none_cut stems s = record {
-  more = [];
-  kept = record { same_harvester = refl; kept_are = sym (append-nil s.kept); same_parts = refl; seen_rises = omega arith };
-  within = omega arith;
-  each = refl;
-  own = λ i d lt. absurd (omega (arith, lt));
-  best = λ i d lt. absurd (omega (arith, lt));
-}
 
 pub one_more_cut : (n : ℕ) (stems : List StemParts) (a b c : SeatParts) (r : Reply) (stem : StemParts) → HasCut n stems a b → IsReplyFor b c stem r → slice_get stems n ≡ Some stem → n < length stems → HasCut (n + 1) stems a c
 one_more_cut n stems a b c r stem cut reply at lt = record {
@@ -43,19 +33,4 @@ one_more_cut n stems a b c r stem cut reply at lt = record {
       (All-cons (λ (k : Kept). harvester_of k.entry ≡ a.harvester) (kept_of r) [] (reply.own_harvester ∙ cut.kept.same_harvester) (λ i d lt. absurd (omega (arith, lt))));
   best = All-append (λ (k : Kept). IsFirstBestCut k.entry) cut.more (kept_of r ∷ []) cut.best
       (All-cons (λ (k : Kept). IsFirstBestCut k.entry) (kept_of r) [] reply.first_best (λ i d lt. absurd (omega (arith, lt))));
-}
-
-pub still_cut : (n : ℕ) (stems : List StemParts) (a b c : SeatParts) → HasCut n stems a b → KeepsNothing b c → HasCut n stems a c
-still_cut n stems a b c cut k = record {
-  more = cut.more;
-  kept = record {
-    same_harvester = k.same_harvester ∙ cut.kept.same_harvester;
-    kept_are = k.kept_are ∙ cut.kept.kept_are;
-    same_parts = k.same_parts ∙ cut.kept.same_parts;
-    seen_rises = omega (arith, k.seen_rises, cut.kept.seen_rises);
-  };
-  within = cut.within;
-  each = cut.each;
-  own = cut.own;
-  best = cut.best;
 }

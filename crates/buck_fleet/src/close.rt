@@ -13,7 +13,7 @@ ghost use Rattle.buck_fleet.specs.inner.Lists.{AreEmpty};
 
 use crate::desk::Desk;
 use crate::fleet::Fleet;
-use crate::seat::{Kept, Seat};
+use crate::seat::{Kept, Own, Seat};
 use buck_apt::Instruction;
 use buck_book::{Book, Parts, Posting};
 use buck_record::{FaultNumbers, Numbered};
@@ -109,40 +109,19 @@ fn collect<L: Ledger>(seats: Vec<Seat<L>>, kept: &mut Vec<Vec<Kept>>, all: &mut 
     while let Some(seat) = seats.pop() {
         let Seat {
             harvester,
-            place: _,
-            kept: list,
-            share,
+            own,
             stopped: _,
             planner: _,
         } = seat;
+        let Own {
+            place: _,
+            kept: list,
+            share,
+        } = own;
         all.merge(share);
         let its_place = &mut kept[harvester as usize - 1];
         *its_place = list;
     }
-}
-
-/// Takes all seats in, and holds what they kept against the ledger's total. The book is what is left of the desk.
-fn take_in<F: Drop, L: Ledger>(
-    desk: Desk<F, L>,
-    seats: Vec<Seat<L>>,
-    kept: &mut Vec<Vec<Kept>>,
-) -> Book<F>
-    requires crew { IsCrew (length kept.old.items) seats.items }
-    requires empty { AreEmpty (lists_of kept.old.items) }
-    requires parts { parts_of seats.items ≡ L.parts }
-    ensures lists { All (λ s. slice_index_or (lists_of kept.new.items) (s.harvester - 1) [] ≡ s.kept) seats.items }
-    ensures number { length kept.new.items ≡ length kept.old.items }
-    ensures total { length result.history.postings ≡ sum_by length (lists_of kept.new.items) }
-{
-    let Desk {
-        book,
-        mut calls,
-        rest,
-    } = desk;
-    let mut all = rest;
-    collect(seats, &mut *kept, &mut all);
-    calls.audit(&mut all);
-    book
 }
 
 /// What is handed out of a book, beside the kept lists.
@@ -166,6 +145,29 @@ fn hand_out<F: Drop>(book: Book<F>, kept: Vec<Vec<Kept>>) -> Closed
         targets,
         counts,
     }
+}
+
+/// Takes all seats in, holds what they kept against the ledger's total, and hands all out.
+fn take_in<F: Drop, L: Ledger>(
+    desk: Desk<F, L>,
+    seats: Vec<Seat<L>>,
+    kept: Vec<Vec<Kept>>,
+) -> Closed
+    requires crew { IsCrew (length kept.items) seats.items }
+    requires empty { AreEmpty (lists_of kept.items) }
+    requires parts { parts_of seats.items ≡ L.parts }
+    ensures { IsHandedOut (length kept.items) seats.items result }
+{
+    let Desk {
+        book,
+        mut calls,
+        rest,
+    } = desk;
+    let mut kept = kept;
+    let mut all = rest;
+    collect(seats, &mut kept, &mut all);
+    calls.audit(&mut all);
+    hand_out(book, kept)
 }
 
 /// Whether a posting is a harvester's.
@@ -314,9 +316,7 @@ impl<F: Drop, L: Ledger> Fleet<F, L> {
             desk,
             kept,
         } = self;
-        let mut kept = kept;
-        let book = take_in(desk.into_inner(), seats, &mut kept);
-        let closed = hand_out(book, kept);
+        let closed = take_in(desk.into_inner(), seats, kept);
         match closed.fault(&instruction) {
             Some(fault) => Err((fault, closed)),
             None => Ok(closed),

@@ -1,15 +1,17 @@
 //! The desk: what lies under the lock, and all that is done there.
-ghost use Rattle.std.specs.Prelude.{◌≡◌, ◌+◌, ◌<◌, ◌≤◌, ◌++◌, ◌∷◌, [], length, IfOk, IfErr, OnOk, vec_len, vec_capacity};
+ghost use Rattle.std.specs.Prelude.{◌≡◌, ℕ, ◌+◌, ◌<◌, ◌≤◌, ◌++◌, ◌∷◌, [], length, IfOk, IfErr, OnOk, vec_len, vec_capacity};
 ghost use Rattle.buck_rule.specs.Stored.{AllAnswer};
-ghost use Rattle.buck_board.specs.Board.{IsSeatOf};
+ghost use Rattle.buck_board.specs.Board.{IsSeatOf, seen_by};
 ghost use Rattle.buck_book.specs.Plan.{IsPlan};
-ghost use Rattle.buck_book.specs.Book.{IsReadyFor, IsReadyDemand, entry_of, demand_of};
+ghost use Rattle.buck_book.specs.History.{version_of};
+ghost use Rattle.buck_book.specs.Book.{IsReadyFor, IsReadyDemand, demand_of};
 ghost use Rattle.buck_book.specs.Refused.{IsRefusal};
-ghost use Rattle.buck_fleet.specs.inner.Desk.{IsPlanRefused, IsReplyAt, IsDemandReplyAt};
+ghost use Rattle.buck_book.specs.declared.posting.Posting.TheVariants as Posting;
+ghost use Rattle.buck_fleet.specs.inner.Desk.{with_one, IsMade, posting_of, IsPlanRefused, IsReplyAt, IsDemandReplyAt};
 
-use crate::seat::{DemandReply, Kept, Path, Reply, Seat};
+use crate::seat::{DemandReply, Kept, Own, Path, Reply, Seat};
 use buck_board::Board;
-use buck_book::{Book, Demand, DemandRefusal, Entry, Plan, Posting, Ready, ReadyDemand, Refusal};
+use buck_book::{Book, DemandRefusal, Plan, Posting, Ready, ReadyDemand, Refusal};
 use buck_dp::Cutting;
 use buck_record::Memory;
 use buck_rule::Standing;
@@ -30,12 +32,21 @@ pub struct Desk<F, L: Ledger> {
     ghost no_amount: { rest.amount ≡ 0 },
 }
 
-/// All that the commit of a plan stores or hands out, and what a seat keeps of it, made before the commit.
+/// A prepared commit of a plan, and what the seat keeps of the entry.
 #[derive(Drop)]
-struct ReadyCut {
-    ready: Ready,
-    stem: Arc<Stem>,
-    cutting: Arc<Cutting>,
+pub struct ReadyCut {
+    pub(crate) ready: Ready,
+    pub(crate) stem: Arc<Stem>,
+    pub(crate) cutting: Arc<Cutting>,
+}
+
+/// A posting that is ready to be added.
+#[derive(Drop)]
+pub enum Made {
+    /// The entry of a plan, with what the seat keeps of it.
+    Cut(ReadyCut, Plan),
+    /// A demand, and the targets that the seat keeps of it.
+    Demand(ReadyDemand, Arc<Vec<u32>>),
 }
 
 /// Puts a next sheet up, where there is one.
@@ -118,8 +129,7 @@ fn prepare_demand<R: Wait, F: Fn(&Standing) -> u64 + Drop>(
     Ok(ready)
 }
 
-/// Makes all that the commit of new targets needs, the room in the seat's kept list first. The second targets are what
-/// the seat keeps.
+/// Makes all that the commit of new targets needs, the room in the seat's kept list first.
 fn prepare_targets<R: Wait, F: Fn(&Standing) -> u64 + Drop>(
     rt: &R,
     alloc: Global,
@@ -127,93 +137,82 @@ fn prepare_targets<R: Wait, F: Fn(&Standing) -> u64 + Drop>(
     board: &Board,
     kept: &mut Vec<Kept>,
     targets: &Arc<Vec<u32>>,
-) -> Result<(ReadyDemand, Arc<Vec<u32>>), DemandRefusal>
+) -> Result<Made, DemandRefusal>
     requires { AllAnswer F.Fn }
     ensures history { book.new.history ≡ book.old.history }
     ensures kept { kept.new.items ≡ kept.old.items }
     ensures room { OnOk result (vec_len kept.new < vec_capacity kept.new) }
-    ensures ready { IfOk result (λ r. IsReadyDemand book.new r.0) }
-    ensures targets { IfOk result (λ r. r.0.targets ≡ targets.now.value.items) }
-    ensures copy { IfOk result (λ r. r.1.value.items ≡ targets.now.value.items) }
+    ensures made { IfOk result (IsMade book.new) }
+    ensures posting { IfOk result (λ r. (harvester : ℕ) →
+        posting_of book.new.history harvester r
+        ≡ Posting.Demand (demand_of book.new.history harvester targets.now.value.items)) }
 {
     kept.reserve(1)?;
     let copy = targets.clone()?;
     let ready = prepare_demand(rt, alloc, book, board, targets)?;
-    Ok((ready, copy))
+    Ok(Made::Demand(ready, copy))
 }
 
-/// Adds the entry of a prepared plan to the history: the entry, and what the seat keeps of it.
-fn add_entry<F: Drop>(
-    book: &mut Book<F>,
-    made: ReadyCut,
-    harvester: u32,
-    plan: Plan,
-) -> (Entry, Kept)
-    requires ready { IsReadyFor book.old made.ready plan }
-    requires stem { made.stem.value ≡ plan.stem }
-    requires logs { made.cutting.value.logs.items ≡ plan.logs }
+/// Adds a prepared posting to the history: the posting, and what a seat keeps of it.
+fn add_to_book<F: Drop>(book: &mut Book<F>, made: Made, harvester: u32) -> (Posting, Posting)
+    requires made { IsMade book.old made }
     requires harvester { (0 < harvester) × (harvester ≤ 64) }
-    ensures entry { result.0 ≡ entry_of book.old.history harvester plan }
-    ensures kept { result.1 ≡ record { position = length book.old.history.postings; entry = Posting.Cut result.0 } }
-    ensures postings { book.new.history.postings ≡ book.old.history.postings ++ Posting.Cut result.0 ∷ [] }
+    ensures posting { result.0 ≡ posting_of book.old.history harvester made }
+    ensures copy { result.1 ≡ result.0 }
+    ensures postings { book.new.history.postings ≡ with_one book.old.history.postings result.0 }
     ensures instruction { book.new.history.instruction ≡ book.old.history.instruction }
 {
-    let ReadyCut {
-        ready,
-        stem,
-        cutting,
-    } = made;
-    let position = book.len() as u32;
-    // Try, or Locked: the entry is added.
-    let entry = book.commit(ready, harvester, plan);
-    let one = Kept {
-        position,
-        entry: Posting::Cut(entry.sharing(stem, cutting)),
-    };
-    (entry, one)
+    match made {
+        Made::Cut(cut, plan) => {
+            let ReadyCut {
+                ready,
+                stem,
+                cutting,
+            } = cut;
+            // Try, or Locked: the entry is added.
+            let entry = book.commit(ready, harvester, plan);
+            let copy = entry.sharing(stem, cutting);
+            (Posting::Cut(entry), Posting::Cut(copy))
+        }
+        Made::Demand(ready, copy) => {
+            // Retarget: the demand is added.
+            let demand = book.commit_demand(ready, harvester);
+            let copy = demand.sharing(copy);
+            (Posting::Demand(demand), Posting::Demand(copy))
+        }
+    }
 }
 
-/// Adds a prepared demand to the history: the demand, and what the seat keeps of it.
-fn add_demand<F: Drop>(
-    book: &mut Book<F>,
-    ready: ReadyDemand,
-    copy: Arc<Vec<u32>>,
-    harvester: u32,
-) -> (Demand, Kept)
-    requires ready { IsReadyDemand book.old ready }
-    requires copy { copy.value.items ≡ ready.targets }
-    requires harvester { (0 < harvester) × (harvester ≤ 64) }
-    ensures demand { result.0 ≡ demand_of book.old.history harvester ready.targets }
-    ensures kept { result.1 ≡ record { position = length book.old.history.postings; entry = Posting.Demand result.0 } }
-    ensures postings { book.new.history.postings ≡ book.old.history.postings ++ Posting.Demand result.0 ∷ [] }
-    ensures instruction { book.new.history.instruction ≡ book.old.history.instruction }
-{
-    let position = book.len() as u32;
-    // Retarget: the demand is added.
-    let demand = book.commit_demand(ready, harvester);
-    let one = Kept {
-        position,
-        entry: Posting::Demand(demand.sharing(copy)),
-    };
-    (demand, one)
-}
-
-/// Keeps what was added to the book: in the seat's list, and in the ledger.
-fn keep<L: Ledger>(
-    calls: &mut ledger::Book<L>,
-    share: &mut Share<L>,
-    kept: &mut Vec<Kept>,
-    one: Kept,
-)
-    requires parts { 0 < share.old.parts }
-    requires room { vec_len kept.old < vec_capacity kept.old }
-    ensures kept { kept.new.items ≡ kept.old.items ++ one ∷ [] }
-    ensures total { calls.new.total ≡ calls.old.total + 1 }
-    ensures amount { share.new.amount ≡ share.old.amount + 1 }
-    ensures parts { share.new.parts ≡ share.old.parts }
-{
-    calls.add(share, 1);
-    kept.push_reserved(one);
+impl<F: Drop, L: Ledger> Desk<F, L> {
+    /// Adds a prepared posting of a harvester, with its position: to the history, to its seat's kept list and to the
+    /// ledger. Raises the front to the version in force.
+    fn add(&mut self, board: &Board, own: &mut Own<L>, harvester: u32, made: Made) -> (Posting, u32)
+        requires made { IsMade self.old.book made }
+        requires harvester { (0 < harvester) × (harvester ≤ 64) }
+        requires room { vec_len own.old.kept < vec_capacity own.old.kept }
+        requires parts { 0 < own.old.share.parts }
+        requires seat { IsSeatOf board.now own.old.place }
+        ensures posting { result.0 ≡ posting_of self.old.book.history harvester made }
+        ensures position { result.1 ≡ length self.old.book.history.postings }
+        ensures postings { self.new.book.history.postings ≡ with_one self.old.book.history.postings result.0 }
+        ensures instruction { self.new.book.history.instruction ≡ self.old.book.history.instruction }
+        ensures kept { own.new.kept.items
+            ≡ own.old.kept.items ++ (record { position = result.1; entry = result.0 }) ∷ [] }
+        ensures amount { own.new.share.amount ≡ own.old.share.amount + 1 }
+        ensures parts { own.new.share.parts ≡ own.old.share.parts }
+        ensures seat { IsSeatOf board.now own.new.place }
+        ensures rises { seen_by own.old.place ≤ seen_by own.new.place }
+        ensures seen { version_of self.new.book.history ≤ seen_by own.new.place }
+    {
+        let Desk { book, calls, .. } = self;
+        let position = book.len() as u32;
+        let (posting, entry) = add_to_book(book, made, harvester);
+        calls.add(&mut own.share, 1);
+        own.kept.push_reserved(Kept { position, entry });
+        // Raise: before the lock is given back.
+        board.raise(&mut own.place, book.version());
+        (posting, position)
+    }
 }
 
 impl<F: Fn(&Standing) -> u64 + Drop, L: Ledger> Desk<F, L> {
@@ -237,29 +236,21 @@ impl<F: Fn(&Standing) -> u64 + Drop, L: Ledger> Desk<F, L> {
         ensures refused { IfErr result (λ e. IsPlanRefused self.old.book self.new.book plan e.0) }
         ensures plan { IfErr result (λ e. (e.1 ≡ plan) × (seat.new ≡ seat.old)) }
     {
-        let Desk { book, calls, .. } = self;
-        let Seat {
-            harvester,
-            place,
-            kept,
-            share,
-            ..
-        } = seat;
-        let made = match prepare_cut(rt, alloc, book, board, kept, &plan) {
-            Ok(made) => made,
+        let Seat { harvester, own, .. } = seat;
+        let cut = match prepare_cut(rt, alloc, &mut self.book, board, &mut own.kept, &plan) {
+            Ok(cut) => cut,
             Err(refusal) => return Err((refusal, plan)),
         };
-        let (entry, one) = add_entry(book, made, *harvester, plan);
-        let position = one.position;
-        keep(calls, share, kept, one);
-        // Raise: before the lock is given back.
-        board.raise(place, book.version());
-        Ok(Reply {
-            entry,
-            position,
-            attempts,
-            path,
-        })
+        let (posting, position) = self.add(board, own, *harvester, Made::Cut(cut, plan));
+        match posting {
+            Posting::Cut(entry) => Ok(Reply {
+                entry,
+                position,
+                attempts,
+                path,
+            }),
+            Posting::Demand(_) => unreachable!(),
+        }
     }
 
     /// Puts new targets in force for a seat: adds the demand to the history and to the seat's kept list, and raises the
@@ -279,21 +270,12 @@ impl<F: Fn(&Standing) -> u64 + Drop, L: Ledger> Desk<F, L> {
             (IsDemandReplyAt self.old.book self.new.book seat.old seat.new targets.now.value.items) }
         ensures refused { IfErr result (λ e. (self.new.book.history ≡ self.old.book.history) × (seat.new ≡ seat.old)) }
     {
-        let Desk { book, calls, .. } = self;
-        let Seat {
-            harvester,
-            place,
-            kept,
-            share,
-            ..
-        } = seat;
-        let (ready, copy) = prepare_targets(rt, alloc, book, board, kept, targets)?;
-        let (demand, one) = add_demand(book, ready, copy, *harvester);
-        let position = one.position;
-        keep(calls, share, kept, one);
-        // Raise: before the lock is given back.
-        let begun = book.version();
-        board.raise(place, begun);
-        Ok(DemandReply { demand, position })
+        let Seat { harvester, own, .. } = seat;
+        let made = prepare_targets(rt, alloc, &mut self.book, board, &mut own.kept, targets)?;
+        let (posting, position) = self.add(board, own, *harvester, made);
+        match posting {
+            Posting::Demand(demand) => Ok(DemandReply { demand, position }),
+            Posting::Cut(_) => unreachable!(),
+        }
     }
 }

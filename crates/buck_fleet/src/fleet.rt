@@ -57,7 +57,7 @@ impl<F, L: Ledger> Fleet<F, L> {
         ensures none { IfNone result (1 ≤ seen_of seat.new) }
     {
         // Read: one load of the front.
-        self.board.read(&mut seat.place)
+        self.board.read(&mut seat.own.place)
     }
 
     /// Takes the lock. Most of what is done behind it is shorter than a wake, so a thread asks many times before it

@@ -56,13 +56,19 @@ pub struct DemandReply {
     pub position: u32,
 }
 
+/// What a posting changes of its seat: its place at the board, what it was answered, and its share of the ledger.
+#[derive(Drop)]
+pub struct Own<L: Ledger> {
+    pub(crate) place: BoardSeat,
+    pub(crate) kept: Vec<Kept>,
+    pub(crate) share: Share<L>,
+}
+
 /// A harvester's seat: any thread may use it, one at a time. It keeps each posting that it was answered.
 #[derive(Drop)]
 pub struct Seat<L: Ledger> {
     pub(crate) harvester: u32,
-    pub(crate) place: BoardSeat,
-    pub(crate) kept: Vec<Kept>,
-    pub(crate) share: Share<L>,
+    pub(crate) own: Own<L>,
     pub(crate) stopped: Option<RunFault>,
     /// What plans its stems, under the sheet that it planned under last.
     pub(crate) planner: Option<Planner>,
@@ -76,14 +82,14 @@ impl<L: Ledger> Model for Seat<L> {
 
     ghost view = { λ s. record {
       harvester = s.harvester;
-      place = s.place;
-      kept = s.kept.items;
-      parts = s.share.parts;
+      place = s.own.place;
+      kept = s.own.kept.items;
+      parts = s.own.share.parts;
       stopped = s.stopped;
     } };
 
-    ghost invariant = { λ s. (s.share.amount ≡ length s.kept.items) × (0 < s.share.parts) × (0 < s.harvester)
-        × (s.harvester ≤ 64) };
+    ghost invariant = { λ s. (s.own.share.amount ≡ length s.own.kept.items) × (0 < s.own.share.parts)
+        × (0 < s.harvester) × (s.harvester ≤ 64) };
 }
 
 /// Plans a stem under a sheet, with the planner that is there. It is renewed where the sheet is another.
@@ -125,11 +131,10 @@ impl<L: Ledger> Seat<L> {
           stopped = None;
         } }
     {
+        let kept = Vec::new(alloc);
         Seat {
             harvester,
-            place,
-            kept: Vec::new(alloc),
-            share,
+            own: Own { place, kept, share },
             stopped: None,
             planner: None,
         }
@@ -167,13 +172,13 @@ impl<L: Ledger> Seat<L> {
     pub fn seen(&self) -> u32
         ensures { result ≡ seen_of self.now }
     {
-        self.place.seen()
+        self.own.place.seen()
     }
 
     /// What it was answered, in order.
     pub fn kept(&self) -> &[Kept]
         ensures { result.now ≡ self.now.kept }
     {
-        self.kept.as_slice()
+        self.own.kept.as_slice()
     }
 }

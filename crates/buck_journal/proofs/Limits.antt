@@ -82,9 +82,3 @@ samples_ok items k item ns there at read small number =
     list_all-from_AllPass (within 0 1500) ns
     (λ j d lt. and_from _ _ (le-leb 0 (get_or ns j d) (omega arith)) (le-leb _ _ (small j d lt))) in
     rw (there, at, read, number, range) refl
-
-pub are_small_ok : (ns : List ℕ) → within 1 401 (length ns) ≡ true → All (λ d. d ≤ 1500) ns → AreSamples ns
-are_small_ok ns counted small = record {
-  samples_number = within_ok 1 401 (length ns) counted;
-  samples_range = small;
-}

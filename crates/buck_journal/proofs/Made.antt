@@ -16,9 +16,6 @@ pushed_at : {X : Type 0} (xs : List X) (y : X) → slice_get (xs ++ y ∷ []) (l
 pushed_at [] y = refl
 pushed_at (x ∷ xs) y = pushed_at xs y
 
-pub none_made : (i : InstructionParts) (sheets : List (List ℕ)) → AreMade i sheets []
-none_made i sheets version lt = absurd (omega (arith, lt))
-
 pub one_made : (i : InstructionParts) (sheets : List (List ℕ)) (made : List SheetParts) (s : SheetParts) → AreMade i sheets made
     → s ≡ sheet_at i sheets (length made)
     → AreMade i sheets (made ++ s ∷ [])

@@ -66,13 +66,6 @@ right_more s ps from to x at r version goes_on right = record {
         let one : x ≡ y = same_Some x y (sym at ∙ ap (λ n. slice_get ps n) (sym same) ∙ there) in
         subst (λ n. IsRightUnder s (take n ps) y) (sym same) (subst (λ z. IsRightUnder s (take to ps) z) one right)
 
-pub right_none : (s : SheetParts) (ps : List Posting) (from : ℕ) → AreRightUnder s ps from from
-right_none s ps from = record {
-  postings = λ j y ge lt there. absurd (omega arith);
-  in_force = λ j ge lt. absurd (omega arith);
-  inside = λ j gt lt. absurd (omega arith);
-}
-
 module _ (h : HistoryParts) (from : ℕ) where
   sheet_is : (v : ℕ) → v ≡ version_at h from → sheet_at h.instruction h.sheets v ≡ sheet_then h from
   sheet_is v e = ap (λ w. sheet_at h.instruction h.sheets w) e

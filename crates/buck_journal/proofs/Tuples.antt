@@ -46,17 +46,9 @@ pub zones_more : (low : ℕ) (xs : List ℕ) (i : ℕ) → i + 1 < length xs →
     → are_zones low (drop i xs) ≡ are_zones (get_or xs i 0 + 1) (drop (i + 2) xs)
 zones_more low xs i lt h = ap (are_zones low) (two xs i 0 lt) ∙ ap (λ b. b && are_zones (get_or xs i 0 + 1) (drop (i + 2) xs)) h
 
-pub zones_stop : (low : ℕ) (xs : List ℕ) (i : ℕ) → i + 1 < length xs → is_zone low (get_or xs i 0) (get_or xs (i + 1) 0) ≡ false
-    → are_zones low (drop i xs) ≡ false
-zones_stop low xs i lt h = ap (are_zones low) (two xs i 0 lt) ∙ ap (λ b. b && are_zones (get_or xs i 0 + 1) (drop (i + 2) xs)) h
-
 pub logs_more : (xs : List ℕ) (i : ℕ) → i + 2 < length xs → is_log (get_or xs i 0) (get_or xs (i + 1) 0) (get_or xs (i + 2) 0) ≡ true
     → are_logs (drop i xs) ≡ are_logs (drop (i + 3) xs)
 logs_more xs i lt h = ap are_logs (three xs i 0 lt) ∙ ap (λ b. b && are_logs (drop (i + 3) xs)) h
-
-pub logs_stop : (xs : List ℕ) (i : ℕ) → i + 2 < length xs → is_log (get_or xs i 0) (get_or xs (i + 1) 0) (get_or xs (i + 2) 0) ≡ false
-    → are_logs (drop i xs) ≡ false
-logs_stop xs i lt h = ap are_logs (three xs i 0 lt) ∙ ap (λ b. b && are_logs (drop (i + 3) xs)) h
 
 -- what passed: the two, and the rest
 pub zone_right : (low : ℕ) (xs : List ℕ) (i : ℕ) → i + 1 < length xs → are_zones low (drop i xs) ≡ true

@@ -98,10 +98,6 @@ module _ (items : List ItemParts) where
       ap (λ xs. after_front made (postings_from items k before xs)) (drop_all k items le)
       ∙ ap (after_front made) (no_more k before) ∙ ap (λ ys. Ok ys) (append-nil made)
 
-pub nothing_made : {X : Type 0} (read : Result (List X) JournalFault) → after_front [] read ≡ read
-nothing_made (Ok xs) = refl
-nothing_made (Err e) = refl
-
 module _ (items : List ItemParts) where
   -- the goals of the loop over sheets
   pub sheet_goes_on : (made more : List (List ℕ)) (k : ℕ) (x : ItemParts) (prices : List ℕ) (all : Result (List (List ℕ)) JournalFault) → k < length items → x ≡ get_or items k x → is_first x ≡ false

@@ -1,11 +1,14 @@
 -- What is done under the lock.
 use Rattle.std.specs.Prelude.{◌≡◌, ◌≢◌, ℕ, ◌≤◌, List, [], ◌∷◌, ◌++◌, length}
+use Rattle.buck_book.specs.declared.posting.Posting.{Posting}
 use Rattle.buck_book.specs.declared.posting.Posting.TheVariants.{Cut, Demand}
 use Rattle.buck_book.specs.declared.ready.Refusal.{Refusal}
 use Rattle.buck_book.specs.declared.ready.Refusal.TheVariants.{Full, Stale, Memory}
 use Rattle.buck_book.specs.Plan.{PlanParts, IsPlan}
 use Rattle.buck_book.specs.History.{HistoryParts, in_force, version_of}
-use Rattle.buck_book.specs.Book.{BookParts, entry_of, demand_of}
+use Rattle.buck_book.specs.Book.{BookParts, entry_of, demand_of, IsReadyFor, IsReadyDemand}
+use Rattle.buck_fleet.specs.declared.desk.Made.{Made}
+use Rattle.buck_fleet.specs.declared.desk.Made.TheVariants as made
 use Rattle.buck_fleet.specs.declared.seat.Kept.{Kept}
 use Rattle.buck_fleet.specs.declared.seat.Reply.{Reply}
 use Rattle.buck_fleet.specs.declared.seat.DemandReply.{DemandReply}
@@ -15,9 +18,25 @@ use Rattle.buck_fleet.specs.declared.cut.Attempt.TheVariants.{Done, Outdated, Re
 use Rattle.buck_fleet.specs.declared.seat.Path.TheVariants.{Optimistic}
 use Rattle.buck_fleet.specs.Reply.{kept_of, kept_demand_of, IsReplyFor, IsOfPlan}
 
--- the posting that was added is kept, with its position, and the version in force has been seen
-pub record IsKeptAt {F : Type 0} (before after : BookParts F) (seat_before seat_after : SeatParts) (k : Kept) : Type 0 where
+-- the postings and one more
+abbrev pub with_one : List Posting → Posting → List Posting
+with_one ps x = ps ++ x ∷ []
+
+-- the posting was prepared by this book, with no commit since, and what the seat keeps is of the same parts
+abbrev pub IsMade : {F : Type 0} → BookParts F → Made → Type 0
+IsMade b (made.Cut cut p) =
+    IsReadyFor b cut.ready p × (cut.stem.value ≡ p.stem) × (cut.cutting.value.logs.items ≡ p.logs)
+IsMade b (made.Demand ready copy) = IsReadyDemand b ready × (copy.value.items ≡ ready.targets)
+
+-- what is added of it for a harvester
+abbrev pub posting_of : HistoryParts → ℕ → Made → Posting
+posting_of h harvester (made.Cut cut p) = Cut (entry_of h harvester p)
+posting_of h harvester (made.Demand ready copy) = Demand (demand_of h harvester ready.targets)
+
+-- the posting was added and is kept, with its position, and the version in force has been seen
+pub record IsAddedAt {F : Type 0} (before after : BookParts F) (seat_before seat_after : SeatParts) (k : Kept) : Type 0 where
   pub position_is : k.position ≡ length before.history.postings
+  pub postings_are : after.history.postings ≡ with_one before.history.postings k.entry
   pub same_instruction : after.history.instruction ≡ before.history.instruction
   pub kept : KeepsOne seat_before k seat_after
   pub seen : version_of after.history ≤ seen_of seat_after
@@ -28,8 +47,7 @@ pub record IsReplyAt {F : Type 0} (before after : BookParts F) (seat_before seat
   pub under : p.sheet ≡ in_force before.history
   pub planned : IsPlan p
   pub entry_is : r.entry ≡ entry_of before.history seat_before.harvester p
-  pub postings_are : after.history.postings ≡ before.history.postings ++ Cut r.entry ∷ []
-  pub kept : IsKeptAt before after seat_before seat_after (kept_of r)
+  pub added : IsAddedAt before after seat_before seat_after (kept_of r)
 
 -- a plan is stale where another sheet is in force
 abbrev pub HasOtherSheet : PlanParts → Refusal → Type 0
@@ -53,8 +71,7 @@ pub record IsPlanRefused {F : Type 0} (before after : BookParts F) (p : PlanPart
 pub record IsDemandReplyAt {F : Type 0} (before after : BookParts F) (seat_before seat_after : SeatParts)
     (targets : List ℕ) (r : DemandReply) : Type 0 where
   pub demand_is : r.demand ≡ demand_of before.history seat_before.harvester targets
-  pub postings_are : after.history.postings ≡ before.history.postings ++ Demand r.demand ∷ []
-  pub kept : IsKeptAt before after seat_before seat_after (kept_demand_of r)
+  pub added : IsAddedAt before after seat_before seat_after (kept_demand_of r)
 
 -- what became of a plan that was brought to the book
 abbrev pub IsAttempt : SeatParts → SeatParts → PlanParts → ℕ → Attempt → Type 0

@@ -28,7 +28,7 @@ pub loop-seat-preserved : goal.loop-seat-preserved
 loop-seat-preserved g c =
     let n = length-map c.loop-seat.kept.items (λ v. v.items) ∙ c.loop-seat.invariant.1 in
     let p = places_one _ _ _ _ _ _ _ (crew_of _ _ _ n c.requires.crew) c.in-Some.ensures.items c.loop-seat.invariant.0 in
-    let m = map-set (λ v. v.items) c.loop-seat.kept.items (c.seat.inside.harvester - 1) c.seat.inside.kept in (
+    let m = map-set (λ v. v.items) c.loop-seat.kept.items (c.seat.inside.harvester - 1) c.seat.inside.own.kept in (
       placed _ _ _ _ _ _ _ _ _ _ (sym c.seat.view_is) m c.merge.ensures.parts (c.merge.ensures.amount ∙ ap (λ (x : ℕ). c.loop-seat.all.amount + x) c.seat.invariant.0) p.2,
       length-set c.loop-seat.kept.items _ _ ∙ c.loop-seat.invariant.1,
     )
@@ -37,7 +37,7 @@ pub loop-seat-preserved-in-Some : goal.loop-seat-preserved-in-Some
 loop-seat-preserved-in-Some g c =
     let n = length-map c.loop-seat.kept.items (λ v. v.items) ∙ c.loop-seat.invariant.1 in
     let p = places_one _ _ _ _ _ _ _ (crew_of _ _ _ n c.requires.crew) c.in-Some.ensures.items c.loop-seat.invariant.0 in
-    let m = map-set (λ v. v.items) c.loop-seat.kept.items (c.seat.inside.harvester - 1) c.seat.inside.kept in (
+    let m = map-set (λ v. v.items) c.loop-seat.kept.items (c.seat.inside.harvester - 1) c.seat.inside.own.kept in (
       placed _ _ _ _ _ _ _ _ _ _ (sym c.seat.view_is) m c.merge.ensures.parts (c.merge.ensures.amount ∙ ap (λ (x : ℕ). c.loop-seat.all.amount + x) c.seat.invariant.0) p.2,
       length-set c.loop-seat.kept.items _ _ ∙ c.loop-seat.invariant.1,
     )
