@@ -1,5 +1,6 @@
 -- What stands in a table over files.
 use Rattle.std.proofs.Common.{◌≡◌, ◌≢◌, ◌≤◌, ◌<◌, ℕ, List, [], ◌∷◌, ◌++◌, length, map, Option, Some, None, Result, Ok, Err, codes, refl, sym, ap, subst, ◌∙◌, append_assoc, append-nil, arith}
+use Rattle.std.proofs.lemmas.List.{append_cancel_left}
 use Rattle.std.specs.Prelude.{sum_by, slice_index_or}
 use Rattle.std.specs.Io.KnownBytes.{Appends}
 use Rattle.buck_apt.specs.declared.fault.AptFault.{AptFault}
@@ -21,7 +22,7 @@ use Rattle.buck_engine.specs.tie.Ties.{FollowsRule}
 use Rattle.buck_sweep.specs.declared.combination.Combination.{Combination}
 use Rattle.buck_sweep.specs.Sweep.{AreLines, IsLineOver, IsSweepRun, IsTable}
 use Rattle.buck_sweep.specs.Table.{IsLine, back_of, cell, cells, head_line, line_of}
-use Rattle.wrong_sweep.specs.Texts.{StandsIn, own_run}
+use Rattle.wrong_sweep.specs.Texts.{HasInstead, StandsIn, Wrongs, own_run}
 
 -- the table that a run wrote, where it ended well
 table : (cs : List Combination) (apt : Option (List ℕ)) (stms : List (Option (List ℕ))) (old text : List ℕ) (r : Result (Unit {0}) EngineFault) (u : Unit {0})
@@ -73,6 +74,18 @@ without_lines first second cs apt stms old text wrong r u run none well other sa
     let t = subst (λ (l : List Combination). IsTable l apt stms text) these (table cs apt stms old text r u run none well) in
     let (one, two, a, b, there) = lines_in (own_run first) (own_run second) apt stms text t in
     other one two a b (subst (λ (x : List ℕ). StandsIn (one ++ two) x) same there)
+
+-- no table of one run is a text that has a wrong line in the place of its own
+pub without_wrong : (rule : NamedRule) (IsWrong : Wrongs) (cs : List Combination) (apt : Option (List ℕ)) (stms : List (Option (List ℕ))) (old text wrong : List ℕ) (r : Result (Unit {0}) EngineFault) (u : Unit {0})
+    → IsSweepRun cs apt stms (Some old) (Some text) r → old ≡ [] → r ≡ Ok u
+    → HasInstead rule IsWrong apt stms wrong → text ≡ wrong → cs ≡ own_run rule ∷ [] → ⊥
+without_wrong rule IsWrong cs apt stms old text wrong r u run none well other same these =
+    let t = subst (λ (l : List Combination). IsTable l apt stms text) these (table cs apt stms old text r u run none well) in
+    let (line, rest, is, one, ended) = t.are_lines in
+    let (instead, put, form, differ) = other.instead t.instruction line t.apt_says one in
+    let head = head_line t.instruction in
+    differ (append_cancel_left head instead line
+    (sym put ∙ sym same ∙ t.text_is ∙ ap (λ (l : List ℕ). head ++ l) (is ∙ ap (λ (l : List ℕ). line ++ l) ended ∙ append-nil line)))
 
 -- what is read has the numbers that are put in
 read_with : (s : SettingsParts) (r : Result InstructionParts AptFault) (i : InstructionParts) → (r >>= λ own. Ok (with_settings s own)) ≡ Ok i

@@ -1,15 +1,13 @@
 //! Wrong bodies of a table over files.
-ghost use Rattle.std.specs.Prelude.{◌≡◌, ◌≢◌, ◌≤◌, ◌++◌, ℕ, List, [], ◌∷◌, Option, Some, Ok, codes, length, map, sum_by};
+ghost use Rattle.std.specs.Prelude.{◌≡◌, ◌≤◌, ◌++◌, List, [], ◌∷◌, Some, Ok, codes, length, map};
 ghost use Rattle.buck_stem.specs.Stem.{StemParts};
 ghost use Rattle.buck_stem.specs.Stm.{stm_of};
 ghost use Rattle.buck_book.specs.History.{HistoryParts};
-ghost use Rattle.buck_book.specs.declared.posting.Posting.{Posting};
-ghost use Rattle.buck_figures.specs.Figures.{worth_in};
 ghost use Rattle.buck_engine.specs.declared.fleet.serving.NamedRule.TheVariants.{Steady, Step};
 ghost use Rattle.buck_engine.specs.tie.Ties.{FollowsRule};
 ghost use Rattle.buck_sweep.specs.Sweep.{IsLineOver};
-ghost use Rattle.buck_sweep.specs.Table.{IsLeast, IsLine, cells, line_of};
-ghost use Rattle.wrong_sweep.specs.Texts.{StandsIn, line_in_force, own_run};
+ghost use Rattle.buck_sweep.specs.Table.{IsLine, cells};
+ghost use Rattle.wrong_sweep.specs.Texts.{HasGreatest, HasInstead, IsInForce, StandsIn, own_run};
 
 use buck_engine::{EngineFault, NamedRule};
 use buck_sweep::{Combination, Settings, run_sweep};
@@ -48,6 +46,48 @@ pub fn linear_rule_under_the_name_of_step<'x>(
 )
     requires other { (h : HistoryParts) (line : List ℕ) → FollowsRule Step h → IsLine Step h line
         → StandsIn line wrong.now → ⊥ }
+{
+    let runs = [Combination {
+        rule: NamedRule::Step,
+        settings: Settings::own(),
+    }];
+    let mut instruction = apt;
+    let mut right = Vec::new(alloc);
+    let outcome = run_sweep(alloc, &runs, &mut instruction, stms, &mut right);
+    if let Ok(()) = outcome {
+        prove!(right.as_slice() != wrong);
+    }
+}
+
+/// What was cut is worth what it was under the prices then in force, and not at base prices; so is what steering cost.
+pub fn worths_under_the_prices_in_force<'x>(
+    alloc: Global,
+    apt: &'x [u8],
+    stms: &mut [&'x [u8]],
+    wrong: &[u8],
+)
+    requires instead { HasInstead Step (IsInForce Step) (Some apt.now) (map (λ s. Some s.now) stms.old) wrong.now }
+{
+    let runs = [Combination {
+        rule: NamedRule::Step,
+        settings: Settings::own(),
+    }];
+    let mut instruction = apt;
+    let mut right = Vec::new(alloc);
+    let outcome = run_sweep(alloc, &runs, &mut instruction, stms, &mut right);
+    if let Ok(()) = outcome {
+        prove!(right.as_slice() != wrong);
+    }
+}
+
+/// The least degree is the greatest one.
+pub fn greatest_degree_for_the_least<'x>(
+    alloc: Global,
+    apt: &'x [u8],
+    stms: &mut [&'x [u8]],
+    wrong: &[u8],
+)
+    requires instead { HasInstead Step (HasGreatest Step) (Some apt.now) (map (λ s. Some s.now) stms.old) wrong.now }
 {
     let runs = [Combination {
         rule: NamedRule::Step,
