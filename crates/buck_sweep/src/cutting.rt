@@ -149,7 +149,7 @@ pub(crate) fn lines_in_parts<T: Threads + Sync>(
     ensures stop { IfErr result (IsStop input.now.lists.items) }
 {
     let make = |_: usize, part: &[Combination]| -> Result<Vec<u8>, EngineFault>
-        requires { length input.entry.now.lists.items ≤ 64 }
+        requires { length input.now.lists.items ≤ 64 }
         ensures { IsPart input.entry.now.instruction input.entry.now.lists.items part.now result }
     { lines_of(alloc, input, part) };
     let parts = thread::map_chunks(rt, alloc, combinations, size, &make)?;

@@ -23,8 +23,8 @@ loop-k-preserved g c =
     part_put _ c.args.combinations.now _ c.args.size c.loop-k.k _ _ _ c.loop-k.invariant refl made
     (c.in_ok-extend_from_slice-in-Ok.ensures.items ∙ ap (λ l. c.loop-k.text.items ++ l) c.as_slice.ensures.value)
 
-pub returns : goal.returns
-returns g c =
+pub returns-clause-ok : goal.returns-clause-ok
+returns-clause-ok g c =
     let all : length c.args.combinations.now ≤ c.loop-k.k * c.args.size =
     subst (λ (n : ℕ). length c.args.combinations.now ≤ n * c.args.size) (sym (c.in_ok-parts.ensures.len) ∙ omega (arith, c.loop-k-test.false)) (div_ceil_times (length c.args.combinations.now) c.args.size c.requires.size).0 in
     subst (λ (cs : List Combination). AreLines (IsRunLine c.args.input.now.instruction c.args.input.now.lists.items) cs c.loop-k.text.items) (take_all _ _ all) c.loop-k.invariant
