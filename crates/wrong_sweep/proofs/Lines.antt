@@ -91,7 +91,7 @@ without_wrong rule IsWrong cs apt stms old text wrong r u run none well other sa
 read_with : (s : SettingsParts) (r : Result InstructionParts AptFault) (i : InstructionParts) → (r >>= λ own. Ok (with_settings s own)) ≡ Ok i
     → (own : InstructionParts) × (i ≡ with_settings s own)
 read_with s (Ok own) i is = (own, sym (ok_is is)) where
-  ok_is : {x y : InstructionParts} → _≡_ {A = Result InstructionParts AptFault} (Ok x) (Ok y) → x ≡ y
+  ok_is : {x y : InstructionParts} → ◌≡◌ {A = Result InstructionParts AptFault} (Ok x) (Ok y) → x ≡ y
   ok_is e = cc e
 read_with s (Err fault) i is = absurd (cc is)
 

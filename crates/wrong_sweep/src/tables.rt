@@ -1,5 +1,5 @@
 //! Wrong bodies of a table over files.
-ghost use Rattle.std.specs.Prelude.{◌≡◌, ◌≤◌, ◌++◌, List, [], ◌∷◌, Some, Ok, codes, length, map};
+ghost use Rattle.std.specs.Prelude.{◌≡◌, ◌≤◌, ◌++◌, ℕ, List, [], ◌∷◌, Some, Ok, codes, length, map};
 ghost use Rattle.buck_stem.specs.Stem.{StemParts};
 ghost use Rattle.buck_stem.specs.Stm.{stm_of};
 ghost use Rattle.buck_book.specs.History.{HistoryParts};
