@@ -183,6 +183,7 @@ fn sweep<'a>(alloc: Global) -> Result<Command<'a>, Error> {
             )?
             .arg(numbers(alloc, "period", help::PERIODS))?
             .arg(numbers(alloc, "limit", help::LIMITS))?
+            .arg(threads(alloc))?
             .arg(quiet(alloc))?
             .arg(file(alloc, "APT", "The instruction file"))?
             .arg(file(alloc, "STM", "The stem files, one for each harvester").num_args(1..))?,
@@ -496,6 +497,7 @@ fn sweep_task<'a>(alloc: Global, words: &ArgMatches<'a>) -> Result<SweepTask<'a>
         combinations,
         apt: word(words, "APT")?,
         stms: stem_files(alloc, stms)?,
+        threads: asked_threads(words),
     })
 }
 

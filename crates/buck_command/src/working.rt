@@ -30,7 +30,7 @@ pub enum Work<'a> {
     View(ViewTask<'a>),
     /// Stems are to be cut as they are felled.
     Live(LiveTask<'a>),
-    /// Rules, periods and limits are to be compared.
+    /// Rules, periods and limits are to be compared, in several threads at once.
     Sweep(SweepTask<'a>),
 }
 
@@ -130,6 +130,7 @@ pub fn serve_work<
             &mut streams.errors,
         ),
         Work::Sweep(task) => serve_sweep(
+            rt,
             alloc,
             task,
             files,

@@ -10,6 +10,7 @@ pub mod Endings
 pub mod Lists
 pub mod Numbers
 pub mod Opening
+pub mod Ruled
 pub mod Runs
 pub mod Parts
 pub mod Served

@@ -1,21 +1,24 @@
 -- Stem files that are read one after the other.
-use Rattle.std.proofs.Common.{◌≡◌, ℕ, zero, suc, ◌+◌, ◌<◌, ◌⊎◌, inl, inr, List, [], ◌∷◌, ◌++◌, length, map, drop, get_or, set, Option, None, Result, Ok, Err, refl, sym, ap, subst, ◌∙◌, arith}
+use Rattle.std.proofs.Common.{◌≡◌, ℕ, zero, suc, ◌+◌, ◌<◌, ◌⊎◌, inl, inr, List, [], ◌∷◌, ◌++◌, length, map, drop, get_or, set, Option, None, Result, Ok, Err, refl, sym, ap, subst, ◌∙◌, arith, ◌≢◌}
 use Rattle.std.specs.Result.{IfErr, IsErrAnd}
 use Rattle.std.specs.declared.sync.Arc.{Arc}
 use Rattle.std.specs.declared.vec.Vec.{Vec}
 use Rattle.std.specs.declared.alloc.Global.{Global}
-use Rattle.std.specs.Prelude.{slice_index_or}
-use Rattle.std.proofs.lemmas.List.{drop-set-lt, get_or-drop, get_or-map}
+use Rattle.std.specs.Arc.{arc_value}
+use Rattle.std.specs.Prelude.{slice_index_or, sum_by}
+use Rattle.std.proofs.lemmas.List.{drop-set-lt, get_or-drop, get_or-map, length-map}
 use Rattle.std.proofs.lemmas.Grind.{drop_more_same}
+use Rattle.std.proofs.lemmas.List.Sums.{sum_by-cons}
 use Rattle.buck_apt.specs.Apt.{apt_of}
 use Rattle.buck_stem.specs.Stem.{StemParts}
 use Rattle.buck_stem.specs.declared.stem.Stem.{Stem}
 use Rattle.buck_stem.specs.Stm.{stm_of}
 use Rattle.buck_fleet.specs.Run.{stems_of, stems_at}
 use Rattle.buck_engine.specs.declared.fault.EngineFault.{EngineFault}
-use Rattle.buck_engine.specs.declared.fault.EngineFault.TheVariants.{Memory}
-use Rattle.buck_engine.specs.run.Reading.{IsAccepted, IsStmFault, Says}
-use Rattle.buck_engine.specs.fleet.Running.{AreListsOf, AreAccepted, IsCuttingFault, IsFleetFault, IsListFault}
+use Rattle.buck_turn.specs.Turn.{stems_in_all}
+use Rattle.buck_engine.specs.declared.fault.EngineFault.TheVariants.{Apt, Full, Memory, Seats, Stm}
+use Rattle.buck_engine.specs.run.Reading.{IsAccepted, IsAptFault, IsFileFault, IsStmFault, Says}
+use Rattle.buck_engine.specs.fleet.Running.{AreListsOf, AreAccepted, HaveTooMany, IsCuttingFault, IsFleetFault, IsListFault}
 
 -- what stands at a place of what is left as it was
 pub same_place : {A : Type 0} (f : A → Option (List ℕ)) (now old : List A) (k : ℕ) (x : A) → k < length old → drop k now ≡ drop k old → f (get_or now k x) ≡ get_or (map f old) k None
@@ -82,3 +85,41 @@ pub cut_fault : {X : Type 0} (apt : Option (List ℕ)) (stms : List (Option (Lis
 cut_fault apt stms lists n (Ok x) says all made fault = tt
 cut_fault apt stms lists n (Err e) says all made fault =
     inr (inr (says, inr (subst (λ (k : ℕ). AreAccepted k stms) all (accepted n stms lists made), fault)))
+
+-- what is wrong with a file isn't that a history is full
+file_not_full : {V F : Type 0} (number : ℕ) (named : F → EngineFault) (reading : List ℕ → Result V F) (file : Option (List ℕ)) (fault : EngineFault)
+    → ((why : F) → named why ≢ Full) → IsFileFault number named reading file fault → fault ≢ Full
+file_not_full number named reading file fault none (inl read) = λ e. absurd (cc (read, e))
+file_not_full number named reading file fault none (inr (inl memory)) = λ e. absurd (cc (memory, e))
+file_not_full number named reading file fault none (inr (inr (why, is, says))) = λ e. none why (sym is ∙ e)
+
+pub seats_not_full : (fault : EngineFault) → fault ≡ Seats → fault ≢ Full
+seats_not_full fault is = λ e. absurd (cc (is, e))
+
+pub apt_not_full : (apt : Option (List ℕ)) (fault : EngineFault) → IsAptFault apt fault → fault ≢ Full
+apt_not_full apt fault f = file_not_full 0 Apt apt_of apt fault (λ why e. absurd (cc e)) f
+
+pub list_not_full : (stms : List (Option (List ℕ))) (fault : EngineFault) → IsListFault stms fault → fault ≢ Full
+list_not_full stms fault f = file_not_full (f.place + 1) (Stm (f.place + 1)) stm_of (slice_index_or stms f.place None) fault (λ why e. absurd (cc e)) f.is_fault
+
+-- as many stems as their lists have
+stems_all : (lists : List (Vec (Arc Stem Global) Global)) → sum_by (λ (l : List StemParts). length l) (map (λ (v : Vec (Arc Stem Global) Global). stems_of v.items) lists) ≡ stems_in_all lists
+stems_all [] = refl
+stems_all (x ∷ xs) =
+    let lists : List (List StemParts) = map (λ (v : Vec (Arc Stem Global) Global). stems_of v.items) xs in
+    let same : length (stems_of x.items) ≡ length x.items = length-map x.items arc_value in
+    let rest : sum_by (λ (l : List StemParts). length l) lists ≡ stems_in_all xs = stems_all xs in
+    let both : length (stems_of x.items) + sum_by (λ (l : List StemParts). length l) lists ≡ length x.items + stems_in_all xs = omega (arith, same, rest) in
+    sum_by-cons (λ (l : List StemParts). length l) (stems_of x.items) lists ∙ both ∙ sym (sum_by-cons (λ (v : Vec (Arc Stem Global) Global). length v.items) x xs)
+
+-- lists with too many stems are those of files that have too many
+pub too_many : {X : Type 0} (stms : List (Option (List ℕ))) (lists : List (Vec (Arc Stem Global) Global)) (n : ℕ) (r : Result X EngineFault)
+    → length lists ≡ length stms → n ≡ length stms → AreListsOf n stms lists → IfErr r (λ fault. fault ≡ Full → 1000000 < stems_in_all lists)
+    → IfErr r (λ fault. fault ≡ Full → HaveTooMany stms)
+too_many stms lists n (Ok x) long all made full = tt
+too_many stms lists n (Err e) long all made full = λ is. record {
+  stems = map (λ (v : Vec (Arc Stem Global) Global). stems_of v.items) lists;
+  number = length-map lists (λ (v : Vec (Arc Stem Global) Global). stems_of v.items) ∙ long;
+  stms_say = λ k lt. made k (omega (arith, lt, all));
+  many = omega (arith, full is, stems_all lists);
+}

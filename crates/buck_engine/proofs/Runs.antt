@@ -7,9 +7,10 @@ use Rattle.buck_book.specs.History.{HistoryParts}
 use Rattle.buck_engine.specs.declared.fault.EngineFault.{EngineFault}
 use Rattle.buck_engine.specs.declared.fault.EngineFault.TheVariants.{Read, Write, Apt, Stm, Journal, Replay, Check, Seats, Full, Memory, Close}
 use Rattle.buck_engine.specs.declared.fleet.serving.Order.{Order}
+use Rattle.buck_engine.specs.declared.fleet.serving.Order.TheVariants.{AtOnce, InTurn}
 use Rattle.buck_engine.specs.run.Reading.{IsFileFault, ReadsApt}
 use Rattle.buck_engine.specs.text.Written.{IsRun}
-use Rattle.buck_engine.specs.fleet.Running.{AnswersFleet, AreInOrder, AreNoSeats, IsFleetFault, IsFleetRun, IsHarvest, WroteAll, WroteSome}
+use Rattle.buck_engine.specs.fleet.Running.{AnswersFleet, AreNoSeats, IsFleetFault, IsFleetRun, IsFullInOrder, IsHarvest, IsInOrder, WroteAll, WroteSome}
 use Rattle.buck_engine.specs.fleet.Lent.{OfWriter}
 use Rattle.buck_engine.specs.inner.Fleet.{AreWritten}
 
@@ -49,34 +50,38 @@ fleet_fault apt stms fault (inr (inr (accepted, inr (all, inr (inl memory))))) =
 fleet_fault apt stms fault (inr (inr (accepted, inr (all, inr (inr close))))) = subst IsNoWrite (sym close.1) tt
 
 -- nothing is written where there is no history
-pub no_texts : (reads : ReadsApt) (order : Order) (apt : Option (List ℕ)) (stms : List (Option (List ℕ))) (OfJournal : OfWriter) (old : Option (List ℕ)) (fault : EngineFault) (r : Result (Unit {0}) EngineFault)
-    → (AreNoSeats (length stms) → fault ≡ Seats) → IsErrAnd r (λ x. x ≡ fault) → IsFleetFault apt stms fault → OfJournal Keeps → IsFleetRun reads order apt stms OfJournal old old r
-no_texts reads order apt stms OfJournal old fault (Ok u) seats h a kept = absurd h
-no_texts reads order apt stms OfJournal old fault (Err x) seats h a kept =
-    subst (λ (f : EngineFault). IsFleetRun reads order apt stms OfJournal old old (Err f)) (sym h)
+pub no_texts : (reads : ReadsApt) (order : Order) (ByRule : HistoryParts → Type 0) (apt : Option (List ℕ)) (stms : List (Option (List ℕ))) (OfJournal : OfWriter) (old : Option (List ℕ)) (fault : EngineFault) (r : Result (Unit {0}) EngineFault)
+    → (AreNoSeats (length stms) → fault ≡ Seats) → IsErrAnd r (λ x. x ≡ fault) → IsFleetFault apt stms fault → IsFullInOrder order stms fault → OfJournal Keeps → IsFleetRun reads order ByRule apt stms OfJournal old old r
+no_texts reads order ByRule apt stms OfJournal old fault (Ok u) seats h a full kept = absurd h
+no_texts reads order ByRule apt stms OfJournal old fault (Err x) seats h a full kept =
+    subst (λ (f : EngineFault). IsFleetRun reads order ByRule apt stms OfJournal old old (Err f)) (sym h)
     (record {
       seats = λ none. ap (λ (f : EngineFault). Err f) (seats none);
-      run = no_answer (AnswersFleet reads order apt stms) (λ h. WroteAll h OfJournal old old) (λ h. WroteSome h OfJournal old old) (OfJournal Keeps × Keeps old old) fault (fleet_fault apt stms fault a) a (kept, Keeps-refl old);
+      run = no_answer (AnswersFleet reads order ByRule apt stms) (λ h. WroteAll h OfJournal old old) (λ h. WroteSome h OfJournal old old) (OfJournal Keeps × Keeps old old) fault (fleet_fault apt stms fault a) (a, full) (kept, Keeps-refl old);
     })
 
+memory_not_full : (order : Order) (stms : List (Option (List ℕ))) → IsFullInOrder order stms Memory
+memory_not_full AtOnce stms = tt
+memory_not_full InTurn stms = λ e. absurd (cc e)
+
 -- the texts of a history are written, or some first bytes of them
-of_history : (reads : ReadsApt) (order : Order) (apt : Option (List ℕ)) (stms : List (Option (List ℕ))) (OfJournal : OfWriter) (old new : Option (List ℕ)) (h : HistoryParts) (r : Result (Unit {0}) EngineFault)
-    → (AreNoSeats (length stms) → ⊥) → IsHarvest reads apt stms h → AreInOrder order h.postings → AreWritten h OfJournal old new r → IsFleetRun reads order apt stms OfJournal old new r
-of_history reads order apt stms OfJournal old new h (Ok u) seats is turns all = record { seats = λ none. absurd (seats none); run = (h, (is, turns), all) }
-of_history reads order apt stms OfJournal old new h (Err Write) seats is turns some = record { seats = λ none. absurd (seats none); run = (h, (is, turns), some) }
-of_history reads order apt stms OfJournal old new h (Err Memory) seats is turns kept = record { seats = λ none. absurd (seats none); run = (inr (inl (inr (inl refl))), kept) }
-of_history reads order apt stms OfJournal old new h (Err (Read file)) seats is turns never = absurd never
-of_history reads order apt stms OfJournal old new h (Err (Apt why)) seats is turns never = absurd never
-of_history reads order apt stms OfJournal old new h (Err (Stm file why)) seats is turns never = absurd never
-of_history reads order apt stms OfJournal old new h (Err (Journal why)) seats is turns never = absurd never
-of_history reads order apt stms OfJournal old new h (Err (Replay why)) seats is turns never = absurd never
-of_history reads order apt stms OfJournal old new h (Err (Check why)) seats is turns never = absurd never
-of_history reads order apt stms OfJournal old new h (Err Seats) seats is turns never = absurd never
-of_history reads order apt stms OfJournal old new h (Err Full) seats is turns never = absurd never
-of_history reads order apt stms OfJournal old new h (Err (Close why)) seats is turns never = absurd never
+of_history : (reads : ReadsApt) (order : Order) (ByRule : HistoryParts → Type 0) (apt : Option (List ℕ)) (stms : List (Option (List ℕ))) (OfJournal : OfWriter) (old new : Option (List ℕ)) (h : HistoryParts) (r : Result (Unit {0}) EngineFault)
+    → (AreNoSeats (length stms) → ⊥) → IsHarvest reads apt stms h → IsInOrder order ByRule h → AreWritten h OfJournal old new r → IsFleetRun reads order ByRule apt stms OfJournal old new r
+of_history reads order ByRule apt stms OfJournal old new h (Ok u) seats is turns all = record { seats = λ none. absurd (seats none); run = (h, (is, turns), all) }
+of_history reads order ByRule apt stms OfJournal old new h (Err Write) seats is turns some = record { seats = λ none. absurd (seats none); run = (h, (is, turns), some) }
+of_history reads order ByRule apt stms OfJournal old new h (Err Memory) seats is turns kept = record { seats = λ none. absurd (seats none); run = ((inr (inl (inr (inl refl))), memory_not_full order stms), kept) }
+of_history reads order ByRule apt stms OfJournal old new h (Err (Read file)) seats is turns never = absurd never
+of_history reads order ByRule apt stms OfJournal old new h (Err (Apt why)) seats is turns never = absurd never
+of_history reads order ByRule apt stms OfJournal old new h (Err (Stm file why)) seats is turns never = absurd never
+of_history reads order ByRule apt stms OfJournal old new h (Err (Journal why)) seats is turns never = absurd never
+of_history reads order ByRule apt stms OfJournal old new h (Err (Replay why)) seats is turns never = absurd never
+of_history reads order ByRule apt stms OfJournal old new h (Err (Check why)) seats is turns never = absurd never
+of_history reads order ByRule apt stms OfJournal old new h (Err Seats) seats is turns never = absurd never
+of_history reads order ByRule apt stms OfJournal old new h (Err Full) seats is turns never = absurd never
+of_history reads order ByRule apt stms OfJournal old new h (Err (Close why)) seats is turns never = absurd never
 
 -- the same, where they are those of the same history by another name
-pub texts_written : (reads : ReadsApt) (order : Order) (apt : Option (List ℕ)) (stms : List (Option (List ℕ))) (OfJournal : OfWriter) (old new : Option (List ℕ)) (h shown : HistoryParts) (r : Result (Unit {0}) EngineFault)
-    → (AreNoSeats (length stms) → ⊥) → IsHarvest reads apt stms h → AreInOrder order h.postings → shown ≡ h → AreWritten shown OfJournal old new r → IsFleetRun reads order apt stms OfJournal old new r
-texts_written reads order apt stms OfJournal old new h shown r seats is turns same written =
-    of_history reads order apt stms OfJournal old new h r seats is turns (subst (λ (x : HistoryParts). AreWritten x OfJournal old new r) same written)
+pub texts_written : (reads : ReadsApt) (order : Order) (ByRule : HistoryParts → Type 0) (apt : Option (List ℕ)) (stms : List (Option (List ℕ))) (OfJournal : OfWriter) (old new : Option (List ℕ)) (h shown : HistoryParts) (r : Result (Unit {0}) EngineFault)
+    → (AreNoSeats (length stms) → ⊥) → IsHarvest reads apt stms h → IsInOrder order ByRule h → shown ≡ h → AreWritten shown OfJournal old new r → IsFleetRun reads order ByRule apt stms OfJournal old new r
+texts_written reads order ByRule apt stms OfJournal old new h shown r seats is turns same written =
+    of_history reads order ByRule apt stms OfJournal old new h r seats is turns (subst (λ (x : HistoryParts). AreWritten x OfJournal old new r) same written)

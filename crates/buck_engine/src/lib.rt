@@ -38,6 +38,7 @@ pub use run::replayed::{run_check_in_parts, run_table_in_parts, run_view_in_part
 pub use run::reporting::run_report;
 pub use run::serving::{Task, conclude, explain, serve};
 pub use run::showing::{Shown, ViewTask, serve_view};
+pub use run::threads::number_of_threads;
 pub use run::viewing::{run_table, run_view};
 pub use text::bucking::{buck_text, put_logs, put_stem};
 pub use text::report::{degree, put_posting, report_text};

@@ -10,13 +10,16 @@ use Rattle.buck_stem.specs.declared.stem.Stem.{Stem}
 use Rattle.buck_book.specs.Degree.{IsDegreeBy}
 use Rattle.buck_book.specs.Posting.{targets_of}
 use Rattle.buck_book.specs.History.{HistoryParts, IsLawful}
+use Rattle.buck_book.specs.Pricing.{Calls}
 use Rattle.buck_journal.specs.Journal.{JournalParts}
 use Rattle.buck_journal.specs.Replay.{history_of}
-use Rattle.buck_turn.specs.Turn.{HasCutInTurn}
+use Rattle.buck_turn.specs.Turn.{AreSheetsBy, HasCutInTurn}
 use Rattle.buck_figures.specs.declared.figures.Figures.{Figures}
 use Rattle.buck_figures.specs.Shown.{AreFigures}
 use Rattle.buck_engine.specs.declared.fleet.serving.NamedRule.{NamedRule}
 use Rattle.buck_engine.specs.fleet.Named.{rule_name}
+use Rattle.buck_engine.specs.tie.Ties.{GivesBy}
+use Rattle.buck_engine.proofs.Ruled.{follows_rule}
 use Rattle.buck_sweep.specs.Table.{IsLine, cells, line_of, rate_of}
 use Rattle.buck_sweep.specs.inner.Lines.{HasCut, IsLineBy}
 
@@ -67,8 +70,9 @@ if_line rule i j f (Ok line) figures by = is_line rule i j f line.items figures 
 if_line rule i j f (Err e) figures by = tt
 
 -- what was cut by an instruction, in the history of a journal
-pub cut_is : (lists : List (Vec (Arc Stem Global) Global)) (h : HistoryParts) (i : InstructionParts) (j : JournalParts)
-    → history_of h.instruction j ≡ h → h.instruction ≡ i → IsLawful h → length h.postings ≤ 1000000 → HasCutInTurn lists h → HasCut lists (history_of i j)
-cut_is lists h i j is same lawful few cut =
-    subst (λ (x : InstructionParts). HasCut lists (history_of x j)) same
-    (subst (λ (x : HistoryParts). HasCut lists x) (sym is) (record { lawful = lawful; few = few; cut = cut }))
+pub cut_is : {F : Type 0} (g : Calls F) (f : F) (rule : NamedRule) (lists : List (Vec (Arc Stem Global) Global)) (h : HistoryParts) (i : InstructionParts) (j : JournalParts)
+    → history_of h.instruction j ≡ h → h.instruction ≡ i → IsLawful h → length h.postings ≤ 1000000 → HasCutInTurn lists h
+    → GivesBy g f rule → AreSheetsBy g f h → HasCut rule lists (history_of i j)
+cut_is g f rule lists h i j is same lawful few cut gives by =
+    subst (λ (x : InstructionParts). HasCut rule lists (history_of x j)) same
+    (subst (λ (x : HistoryParts). HasCut rule lists x) (sym is) (record { lawful = lawful; few = few; cut = cut; by_rule = follows_rule g f rule h gives lawful by }))

@@ -1,5 +1,6 @@
 pub mod Heads
 pub mod Lesser
 pub mod Tables
+pub mod Parts
 pub mod Histories
 pub mod Sweeps

@@ -15,14 +15,14 @@ use Rattle.buck_fleet.specs.Run.{stems_at}
 use Rattle.buck_engine.specs.declared.fault.EngineFault.{EngineFault}
 use Rattle.buck_engine.specs.declared.fault.EngineFault.TheVariants.{Seats}
 use Rattle.buck_engine.specs.run.Reading.{Says}
-use Rattle.buck_engine.specs.fleet.Running.{AreAccepted, AreListsOf, AreNoSeats, IsCuttingFault}
+use Rattle.buck_engine.specs.fleet.Running.{AreAccepted, AreListsOf, AreNoSeats}
 use Rattle.buck_engine.specs.text.Written.{AppendsSome, IsWritten}
-use Rattle.buck_engine.proofs.Lists.{accepted}
+use Rattle.buck_engine.proofs.Lists.{accepted, too_many}
 use Rattle.buck_engine.proofs.Numbers.{says_with}
 use Rattle.buck_engine.proofs.Runs.{fleet_fault, no_answer}
 use Rattle.buck_sweep.specs.declared.combination.Combination.{Combination}
 use Rattle.buck_sweep.specs.Sweep.{AnswersSweep, IsLineOver, IsSweepRun, IsTable}
-use Rattle.buck_sweep.specs.inner.Lines.{IsRunLine, IsTableOf}
+use Rattle.buck_sweep.specs.inner.Lines.{IsRunLine, IsStop, IsTableOf}
 use Rattle.buck_sweep.proofs.Tables.{lines_mapped}
 
 -- the line of a run over the lists that files have is a line over the files
@@ -44,13 +44,14 @@ over apt stms i lists c line says long made run =
         nobody_else = subst (λ (n : ℕ). All (λ x. (0 < harvester_of x) × (harvester_of x ≤ n)) run.history.postings) long cut.nobody_else;
       };
       in_turn = cut.in_turn;
+      by_rule = run.has_cut.by_rule;
       is_line = run.is_line;
     }
 
 -- what is answered to files that have an instruction and lists
 pub answered : (cs : List Combination) (apt : Option (List ℕ)) (stms : List (Option (List ℕ))) (n : ℕ) (i : InstructionParts) (lists : List (Vec (Arc Stem Global) Global)) (r : Result (Vec ℕ Global) EngineFault)
     → n ≡ length stms → Says apt_of apt (Ok i) → length lists ≡ n → AreListsOf n stms lists
-    → IfOk r (λ text. IsTableOf i lists cs text.items) → IfErr r IsCuttingFault → AnswersSweep cs apt stms (listed r)
+    → IfOk r (λ text. IsTableOf i lists cs text.items) → IfErr r (IsStop lists) → AnswersSweep cs apt stms (listed r)
 answered cs apt stms n i lists (Ok text) same says long made of fault =
     let all : AreListsOf (length stms) stms lists = subst (λ (m : ℕ). AreListsOf m stms lists) same made in
     record {
@@ -60,8 +61,10 @@ answered cs apt stms n i lists (Ok text) same says long made of fault =
       are_lines = lines_mapped (IsRunLine i lists) (IsLineOver apt stms) (λ c line. over apt stms i lists c line says (long ∙ same) all) cs of.lines of.are_lines;
       text_is = of.text_is;
     }
-answered cs apt stms n i lists (Err e) same says long made of fault =
-    inr (inr ((i, says), inr (subst (λ (m : ℕ). AreAccepted m stms) same (accepted n stms lists made), fault)))
+answered cs apt stms n i lists (Err e) same says long made of fault = (
+  inr (inr ((i, says), inr (subst (λ (m : ℕ). AreAccepted m stms) same (accepted n stms lists made), fault.0))),
+  too_many {X = Unit {0}} stms lists n (Err e) (long ∙ same) same made fault.1,
+)
 
 -- nothing is written where there is no table
 pub not_swept : (cs : List Combination) (apt : Option (List ℕ)) (stms : List (Option (List ℕ))) (old : Option (List ℕ)) (fault : EngineFault) (r : Result (Unit {0}) EngineFault)
@@ -71,7 +74,7 @@ not_swept cs apt stms old fault (Err x) seats h a =
     subst (λ (f : EngineFault). IsSweepRun cs apt stms old old (Err f)) (sym h)
     (record {
       seats = λ none. ap (λ (f : EngineFault). Err f) (seats none);
-      run = no_answer (AnswersSweep cs apt stms) (Appends old old) (AppendsSome old old) (Keeps old old) fault (fleet_fault apt stms fault a) a (Keeps-refl old);
+      run = no_answer (AnswersSweep cs apt stms) (Appends old old) (AppendsSome old old) (Keeps old old) fault (fleet_fault apt stms fault a.0) a (Keeps-refl old);
     })
 
 -- a table was written, or some first bytes of it

@@ -1,5 +1,6 @@
 -- The lines of a table, one after the other.
-use Rattle.std.proofs.Common.{◌≡◌, ℕ, ◌+◌, ◌<◌, List, [], ◌∷◌, ◌++◌, length, take, get_or, refl, sym, ap, subst, ◌∙◌, append_assoc, append-nil}
+use Rattle.std.proofs.Common.{◌≡◌, ℕ, ◌+◌, ◌<◌, ◌*◌, List, [], ◌∷◌, ◌++◌, length, take, drop, get_or, refl, sym, ap, subst, ◌∙◌, append_assoc, append-nil, arith}
+use Rattle.std.proofs.Math.Seq.{take-add}
 use Rattle.buck_sweep.specs.declared.combination.Combination.{Combination}
 use Rattle.buck_sweep.specs.Sweep.{AreLines}
 use Rattle.buck_sweep.proofs.Heads.{one_taken}
@@ -23,3 +24,20 @@ pub lines_taken : (IsOne : Combination → List ℕ → Type 0) (cs : List Combi
 lines_taken IsOne cs k c text line new lt is so_far one e =
     subst (λ (t : List ℕ). AreLines IsOne (take (k + 1) cs) t) (sym e)
     (subst (λ (ds : List Combination). AreLines IsOne ds (text ++ line)) (sym (one_taken cs k c lt is)) (lines_more IsOne (take k cs) c text line so_far one))
+
+-- the lines of some, and then of others
+pub lines_both : (IsOne : Combination → List ℕ → Type 0) (cs ds : List Combination) (text more : List ℕ)
+    → AreLines IsOne cs text → AreLines IsOne ds more → AreLines IsOne (cs ++ ds) (text ++ more)
+lines_both IsOne [] ds text more none next = subst (λ (t : List ℕ). AreLines IsOne ds (t ++ more)) (sym none) next
+lines_both IsOne (c ∷ cs) ds text more (first, rest, is, said, others) next =
+    (first, rest ++ more, ap (λ (t : List ℕ). t ++ more) is ∙ append_assoc first rest more, said, lines_both IsOne cs ds rest more others next)
+
+-- of the next run of so many neighbours
+pub part_put : (IsOne : Combination → List ℕ → Type 0) (cs part : List Combination) (size k : ℕ) (text more new : List ℕ)
+    → AreLines IsOne (take (k * size) cs) text → part ≡ take size (drop (k * size) cs) → AreLines IsOne part more → new ≡ text ++ more
+    → AreLines IsOne (take ((k + 1) * size) cs) new
+part_put IsOne cs part size k text more new so_far is next e =
+    let on : take ((k + 1) * size) cs ≡ take (k * size) cs ++ part =
+    ap (λ (n : ℕ). take n cs) (omega arith) ∙ take-add (k * size) size cs ∙ ap (λ (l : List Combination). take (k * size) cs ++ l) (sym is) in
+    subst (λ (t : List ℕ). AreLines IsOne (take ((k + 1) * size) cs) t) (sym e)
+    (subst (λ (l : List Combination). AreLines IsOne l (text ++ more)) (sym on) (lines_both IsOne (take (k * size) cs) part text more so_far next))

@@ -5,20 +5,22 @@ use Rattle.buck_apt.specs.Instruction.{InstructionParts}
 use Rattle.buck_book.specs.History.{HistoryParts}
 use Rattle.buck_turn.specs.Turn.{AreInTurn}
 use Rattle.buck_engine.specs.declared.fault.EngineFault.{EngineFault}
-use Rattle.buck_engine.specs.declared.fault.EngineFault.TheVariants.{Seats}
+use Rattle.buck_engine.specs.declared.fault.EngineFault.TheVariants.{Full, Seats}
 use Rattle.buck_engine.specs.run.Reading.{Says, apt_with}
-use Rattle.buck_engine.specs.fleet.Running.{AreNoSeats, IsFleetFault, IsHarvest}
+use Rattle.buck_engine.specs.fleet.Running.{AreNoSeats, HaveTooMany, IsFleetFault, IsHarvest}
+use Rattle.buck_engine.specs.tie.Ties.{FollowsRule}
 use Rattle.buck_engine.specs.text.Written.{WritesText}
 use Rattle.buck_sweep.specs.declared.combination.Combination.{Combination}
 use Rattle.buck_sweep.specs.Table.{IsLine, head_line}
 
 -- the line of a combination: that of a history in which the stems of the files were cut in turn, by the instruction
--- with the combination's numbers in the place of its own
+-- with the combination's numbers in the place of its own, and by the prices that the combination's rule gives
 pub record IsLineOver (apt : Option (List ℕ)) (stms : List (Option (List ℕ))) (c : Combination) (line : List ℕ)
     : Type 0 where
   pub history : HistoryParts
   pub harvest : IsHarvest (apt_with c.settings) apt stms history
   pub in_turn : AreInTurn history.postings
+  pub by_rule : FollowsRule c.rule history
   pub is_line : IsLine c.rule history line
 
 -- a line for each combination, one after the other
@@ -36,11 +38,11 @@ pub record IsTable (cs : List Combination) (apt : Option (List ℕ)) (stms : Lis
   pub are_lines : AreLines (IsLineOver apt stms) cs lines
   pub text_is : text ≡ head_line instruction ++ lines
 
--- the table, or why there is none, as of a fleet
+-- the table, or why there is none, as of a fleet in turn
 abbrev pub AnswersSweep : List Combination → Option (List ℕ) → List (Option (List ℕ))
     → Result (List ℕ) EngineFault → Type 0
 AnswersSweep cs apt stms (Ok text) = IsTable cs apt stms text
-AnswersSweep cs apt stms (Err fault) = IsFleetFault apt stms fault
+AnswersSweep cs apt stms (Err fault) = IsFleetFault apt stms fault × (fault ≡ Full → HaveTooMany stms)
 
 -- how a run over the files ended, and what it wrote
 pub record IsSweepRun (cs : List Combination) (apt : Option (List ℕ)) (stms : List (Option (List ℕ)))

@@ -1,10 +1,10 @@
 //! The run of a combination: its journal, and its line.
-ghost use Rattle.std.specs.Prelude.{◌≡◌, ◌≤◌, IfOk, IfErr, length, map};
+ghost use Rattle.std.specs.Prelude.{◌≡◌, ◌<◌, ◌≤◌, IfOk, IfErr, length, map};
 ghost use Rattle.buck_rule.specs.Stored.{Answers};
 ghost use Rattle.buck_book.specs.History.{IsLawful};
 ghost use Rattle.buck_journal.specs.Replay.{history_of};
-ghost use Rattle.buck_engine.specs.fleet.Running.{IsCuttingFault};
-ghost use Rattle.buck_sweep.specs.inner.Lines.{HasCut, IsRunLine};
+ghost use Rattle.buck_engine.specs.tie.Ties.{GivesBy};
+ghost use Rattle.buck_sweep.specs.inner.Lines.{HasCut, IsPart, IsRunLine, IsStop};
 ghost use Rattle.buck_sweep.specs.Sweep.{AreLines};
 
 use crate::combination::Combination;
@@ -21,6 +21,8 @@ use buck_turn::cut_in_turn;
 use buck_value::Sheet;
 use std::alloc::Global;
 use std::sync::Arc;
+use std::thread;
+use std::thread::Threads;
 
 /// The prices of some sheets.
 fn prices_of(alloc: Global, sheets: &[Arc<Sheet>]) -> Result<Vec<Vec<u32>>, Memory>
@@ -46,18 +48,20 @@ fn journal_of<F: Drop>(alloc: Global, book: Book<F>) -> Result<Journal, Memory>
     })
 }
 
-/// The journal of lists of stems that were cut in turn by a rule.
+/// The journal of lists of stems that were cut in turn by a closure, which answers what the rule of a name gives.
 #[tactic(auto, using(crate::proofs::Histories::cut_is))]
 fn cut_by_rule<F: Fn(&Standing) -> u64 + Drop>(
     alloc: Global,
     instruction: &Arc<Instruction>,
+    named: NamedRule,
     rule: Rule<F>,
     lists: &[Vec<Arc<Stem>>],
 ) -> Result<Journal, EngineFault>
     requires answers { Answers F.Fn rule }
+    requires gives { GivesBy F.Fn rule named }
     requires few { length lists.now ≤ 64 }
-    ensures ok { IfOk result (λ j. HasCut lists.now (history_of instruction.now.value j)) }
-    ensures fault { IfErr result IsCuttingFault }
+    ensures ok { IfOk result (λ j. HasCut named lists.now (history_of instruction.now.value j)) }
+    ensures stop { IfErr result (IsStop lists.now) }
 {
     match cut_in_turn(alloc, instruction.clone()?, rule, lists) {
         Ok(book) => Ok(journal_of(alloc, book)?),
@@ -70,25 +74,25 @@ fn cut_by_rule<F: Fn(&Standing) -> u64 + Drop>(
 fn cut_by_name(
     alloc: Global,
     instruction: &Arc<Instruction>,
-    rule: NamedRule,
+    named: NamedRule,
     lists: &[Vec<Arc<Stem>>],
 ) -> Result<Journal, EngineFault>
     requires few { length lists.now ≤ 64 }
-    ensures ok { IfOk result (λ j. HasCut lists.now (history_of instruction.now.value j)) }
-    ensures fault { IfErr result IsCuttingFault }
+    ensures ok { IfOk result (λ j. HasCut named lists.now (history_of instruction.now.value j)) }
+    ensures stop { IfErr result (IsStop lists.now) }
 {
-    match rule {
+    match named {
         NamedRule::Steady => {
             let rule = Rule::new(|s: &Standing| steady(s));
-            cut_by_rule(alloc, instruction, rule, lists)
+            cut_by_rule(alloc, instruction, named, rule, lists)
         }
         NamedRule::Linear => {
             let rule = Rule::new(|s: &Standing| linear(s));
-            cut_by_rule(alloc, instruction, rule, lists)
+            cut_by_rule(alloc, instruction, named, rule, lists)
         }
         NamedRule::Step => {
             let rule = Rule::new(|s: &Standing| step(s));
-            cut_by_rule(alloc, instruction, rule, lists)
+            cut_by_rule(alloc, instruction, named, rule, lists)
         }
     }
 }
@@ -102,7 +106,7 @@ pub(crate) fn run_line(
     requires few { length input.now.lists.items ≤ 64 }
     ensures ok { IfOk result (λ line.
         IsRunLine input.now.instruction input.now.lists.items combination.now line.items) }
-    ensures fault { IfErr result IsCuttingFault }
+    ensures stop { IfErr result (IsStop input.now.lists.items) }
 {
     let own = input.instruction.copy(alloc)?;
     let instruction = Arc::new(alloc, own.with(&combination.settings))?;
@@ -120,12 +124,41 @@ pub(crate) fn lines_of(
     requires few { length input.now.lists.items ≤ 64 }
     ensures ok { IfOk result (λ text.
         AreLines (IsRunLine input.now.instruction input.now.lists.items) combinations.now text.items) }
-    ensures fault { IfErr result IsCuttingFault }
+    ensures stop { IfErr result (IsStop input.now.lists.items) }
 {
     let mut text = Vec::new(alloc);
     for combination in combinations {
         let line = run_line(alloc, input, combination)?;
         text.extend_from_slice(line.as_slice())?;
+    }
+    Ok(text)
+}
+
+/// The lines of combinations, in their order, each run of so many neighbours made in a thread of its own.
+pub(crate) fn lines_in_parts<T: Threads + Sync>(
+    rt: &T,
+    alloc: Global,
+    input: &Input,
+    combinations: &[Combination],
+    size: usize,
+) -> Result<Vec<u8>, EngineFault>
+    requires few { length input.now.lists.items ≤ 64 }
+    requires size { 0 < size }
+    ensures ok { IfOk result (λ text.
+        AreLines (IsRunLine input.now.instruction input.now.lists.items) combinations.now text.items) }
+    ensures stop { IfErr result (IsStop input.now.lists.items) }
+{
+    let make = |_: usize, part: &[Combination]| -> Result<Vec<u8>, EngineFault>
+        requires { length input.now.lists.items ≤ 64 }
+        ensures { IsPart input.entry.now.instruction input.entry.now.lists.items part.now result }
+    { lines_of(alloc, input, part) };
+    let parts = thread::map_chunks(rt, alloc, combinations, size, &make)?;
+    let mut text = Vec::new(alloc);
+    for k in 0..parts.len() {
+        match &parts[k] {
+            Ok(lines) => text.extend_from_slice(lines.as_slice())?,
+            Err(fault) => return Err(*fault),
+        }
     }
     Ok(text)
 }

@@ -1,7 +1,8 @@
 //! What a rule, a period and a limit come to on the same stems: a table with a line for each combination of them.
 //!
 //! [`combinations`] says which runs a table has. [`run_sweep`] makes it from the bytes of an instruction file and stem
-//! files, and [`serve_sweep`] is a whole run of the program, from its [`SweepTask`] to its exit status.
+//! files, [`run_sweep_in_parts`] with the runs in several threads at once, and [`serve_sweep`] is a whole run of the
+//! program, from its [`SweepTask`] to its exit status.
 #![tactic(auto)]
 
 mod combination;
@@ -14,5 +15,5 @@ mod table;
 pub use buck_apt::Settings;
 pub use buck_engine::NamedRule;
 pub use combination::{Combination, combinations};
-pub use running::run_sweep;
+pub use running::{run_sweep, run_sweep_in_parts};
 pub use serving::{SweepTask, serve_sweep};

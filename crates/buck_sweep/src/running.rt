@@ -1,32 +1,34 @@
 //! `run_sweep`: from the bytes of an instruction file and stem files to a table.
-ghost use Rattle.std.specs.Prelude.{◌≡◌, ◌≤◌, map, drop, length, IfOk, IfErr};
+ghost use Rattle.std.specs.Prelude.{◌≡◌, ◌<◌, ◌≤◌, map, drop, length, IfOk, IfErr};
 ghost use Rattle.std.specs.Result.{IsErrAnd};
 ghost use Rattle.buck_record.specs.Reading.{listed};
 ghost use Rattle.buck_engine.specs.declared.fault.EngineFault.TheVariants.{Seats};
 ghost use Rattle.buck_engine.specs.run.Reading.{IfStopped};
-ghost use Rattle.buck_engine.specs.fleet.Running.{AreNoSeats, IsCuttingFault};
+ghost use Rattle.buck_engine.specs.fleet.Running.{AreNoSeats};
 ghost use Rattle.buck_sweep.specs.Sweep.{AnswersSweep, IsSweepRun};
-ghost use Rattle.buck_sweep.specs.inner.Lines.{IsTableOf};
+ghost use Rattle.buck_sweep.specs.inner.Lines.{IsPart, IsStop, IsTableOf};
 
 use crate::combination::Combination;
-use crate::cutting::lines_of;
+use crate::cutting::{lines_in_parts, lines_of};
 use crate::table::put_head;
-use buck_engine::{EngineFault, Input, read_input, write_text};
+use buck_engine::{EngineFault, Input, number_of_threads, read_input, write_text};
 use std::alloc::Global;
 use std::io;
+use std::thread::Threads;
 
-/// The table of some combinations.
+/// The table of some combinations, given what came of their lines.
 fn table_of(
     alloc: Global,
     input: &Input,
     combinations: &[Combination],
+    lines: Result<Vec<u8>, EngineFault>,
 ) -> Result<Vec<u8>, EngineFault>
-    requires few { length input.now.lists.items ≤ 64 }
+    requires lines { IsPart input.now.instruction input.now.lists.items combinations.now lines }
     ensures ok { IfOk result (λ text.
         IsTableOf input.now.instruction input.now.lists.items combinations.now text.items) }
-    ensures fault { IfErr result IsCuttingFault }
+    ensures stop { IfErr result (IsStop input.now.lists.items) }
 {
-    let lines = lines_of(alloc, input, combinations)?;
+    let lines = lines?;
     let mut text = Vec::new(alloc);
     put_head(alloc, &mut text, &input.instruction)?;
     text.extend_from_slice(lines.as_slice())?;
@@ -46,7 +48,29 @@ fn text_of<R: io::Read>(
     ensures unread { IfErr result (λ fault. fault ≡ Seats → apt.new ≡ apt.old) }
 {
     let input = read_input(alloc, apt, stms)?;
-    table_of(alloc, &input, combinations)
+    let lines = lines_of(alloc, &input, combinations);
+    table_of(alloc, &input, combinations, lines)
+}
+
+/// The same, for which the runs are done in at most so many threads at once.
+fn text_in_parts<T: Threads + Sync, R: io::Read>(
+    rt: &T,
+    alloc: Global,
+    threads: usize,
+    combinations: &[Combination],
+    apt: &mut R,
+    stms: &mut [R],
+) -> Result<Vec<u8>, EngineFault>
+    requires threads { 0 < threads }
+    ensures seats { AreNoSeats (length stms.old) → IsErrAnd result (λ fault. fault ≡ Seats) }
+    ensures answer { AnswersSweep combinations.now (R.remaining apt.old) (map R.remaining stms.old) (listed result) }
+    ensures order { IfErr result (IfStopped (λ last. drop last stms.new ≡ drop last stms.old)) }
+    ensures unread { IfErr result (λ fault. fault ≡ Seats → apt.new ≡ apt.old) }
+{
+    let input = read_input(alloc, apt, stms)?;
+    let size = combinations.len().div_ceil(threads).max(1);
+    let lines = lines_in_parts(rt, alloc, &input, combinations, size);
+    table_of(alloc, &input, combinations, lines)
 }
 
 /// Reads an instruction file and stem files, cuts the stems of the k-th stem file by harvester k, in turn, once for
@@ -63,9 +87,10 @@ pub fn run_sweep<R: io::Read, W: io::Write>(
     stms: &mut [R],
     out: &mut W,
 ) -> Result<(), EngineFault>
-    // What is written is the table of the combinations, of the instruction and the stems that the files have; a fault
-    // is that of the first file that has one, or comes after all of them, and nothing is written; a write fault leaves
-    // a prefix of the table. Where there are not 1 to 64 stem files, that is the fault.
+    // What is written is the table of the combinations, of the instruction and the stems that the files have, each line
+    // that of a run by its rule; a fault is that of the first file that has one, or comes after all of them, and
+    // nothing is written; a write fault leaves a prefix of the table. Where there are not 1 to 64 stem files, that is
+    // the fault; it is `Full` only where there are more stems than 1,000,000.
     ensures run { IsSweepRun combinations.now (R.remaining apt.old) (map R.remaining stms.old)
         (W.contents out.old) (W.contents out.new) result }
     // Where a file has a fault, nothing was read of those after it.
@@ -74,5 +99,33 @@ pub fn run_sweep<R: io::Read, W: io::Write>(
     ensures unread { IfErr result (λ fault. fault ≡ Seats → apt.new ≡ apt.old) }
 {
     let text = text_of(alloc, combinations, apt, stms)?;
+    write_text(out, text.as_slice())
+}
+
+/// [`run_sweep`], for which the runs are done in several threads at once: in as many as are told, from 1 to 64, or,
+/// where nothing is said, in as many as the machine has. What is written, and each fault, are those of [`run_sweep`],
+/// whatever the number; where memory runs out in one of the runs, it is `Memory`, and nothing is written.
+pub fn run_sweep_in_parts<T: Threads + Sync, R: io::Read, W: io::Write>(
+    rt: &T,
+    alloc: Global,
+    threads: Option<u8>,
+    combinations: &[Combination],
+    apt: &mut R,
+    stms: &mut [R],
+    out: &mut W,
+) -> Result<(), EngineFault>
+    // What is written is the table of the combinations, of the instruction and the stems that the files have, each line
+    // that of a run by its rule; a fault is that of the first file that has one, or comes after all of them, and
+    // nothing is written; a write fault leaves a prefix of the table. Where there are not 1 to 64 stem files, that is
+    // the fault; it is `Full` only where there are more stems than 1,000,000.
+    ensures run { IsSweepRun combinations.now (R.remaining apt.old) (map R.remaining stms.old)
+        (W.contents out.old) (W.contents out.new) result }
+    // Where a file has a fault, nothing was read of those after it.
+    ensures order { IfErr result (IfStopped (λ last. drop last stms.new ≡ drop last stms.old)) }
+    // Where there are not 1 to 64 stem files, nothing was read of the instruction either.
+    ensures unread { IfErr result (λ fault. fault ≡ Seats → apt.new ≡ apt.old) }
+{
+    let threads = number_of_threads(rt, threads);
+    let text = text_in_parts(rt, alloc, threads, combinations, apt, stms)?;
     write_text(out, text.as_slice())
 }

@@ -5,10 +5,11 @@ ghost use Rattle.buck_engine.specs.run.Serving.{TellsOutcome, status_after};
 ghost use Rattle.buck_sweep.specs.Serving.{RunsSweep};
 
 use crate::combination::Combination;
-use crate::running::run_sweep;
+use crate::running::run_sweep_in_parts;
 use buck_engine::{EngineFault, Open, conclude, open_inputs};
 use std::alloc::Global;
 use std::io;
+use std::thread::Threads;
 
 /// What the words of the command line ask of a table.
 #[derive(Drop)]
@@ -19,10 +20,13 @@ pub struct SweepTask<'a> {
     pub apt: &'a str,
     /// The names of the stem files, one for each harvester.
     pub stms: Vec<&'a str>,
+    /// How many runs may be done at once, in threads of their own; where nothing is said, as many as the machine has.
+    pub threads: Option<u8>,
 }
 
 /// Opens all input files by their names, in order, and then makes the table.
-fn sweep_files<O: Open, W: io::Write>(
+fn sweep_files<T: Threads + Sync, O: Open, W: io::Write>(
+    rt: &T,
     alloc: Global,
     task: &SweepTask<'_>,
     opener: &mut O,
@@ -33,15 +37,25 @@ fn sweep_files<O: Open, W: io::Write>(
 {
     let (mut apt, mut stms) = open_inputs(alloc, opener, task.apt, task.stms.as_slice())?;
     let combinations = task.combinations.as_slice();
-    run_sweep(alloc, combinations, &mut apt, stms.as_mut_slice(), out)
+    run_sweep_in_parts(
+        rt,
+        alloc,
+        task.threads,
+        combinations,
+        &mut apt,
+        stms.as_mut_slice(),
+        out,
+    )
 }
 
-/// Makes the table that a task asks for over the files of its names, and says on `errors` how it ended. The answer is
-/// the exit status.
+/// Makes the table that a task asks for over the files of its names, in several threads at once, and says on `errors`
+/// how it ended. The answer is the exit status.
 ///
 /// The files are opened in the order of the words before one of them is read; one that can't be opened is `Read` with
-/// its number. Each fault and what is written before it are those of [`run_sweep`].
-pub fn serve_sweep<O: Open, W: io::Write, E: io::Write>(
+/// its number. Each fault and what is written before it are those of [`run_sweep`](crate::run_sweep), whatever the
+/// number of threads.
+pub fn serve_sweep<T: Threads + Sync, O: Open, W: io::Write, E: io::Write>(
+    rt: &T,
     alloc: Global,
     task: &SweepTask<'_>,
     opener: &mut O,
@@ -54,6 +68,6 @@ pub fn serve_sweep<O: Open, W: io::Write, E: io::Write>(
         × (result ≡ status_after outcome)
         × TellsOutcome (E.contents errors.old) (E.contents errors.new) outcome }
 {
-    let outcome = sweep_files(alloc, task, opener, output);
+    let outcome = sweep_files(rt, alloc, task, opener, output);
     conclude(errors, &outcome)
 }

@@ -1,6 +1,7 @@
 -- More stems than a history has room for.
-use Rattle.std.proofs.Common.{◌≡◌, ℕ, Bool, true, false, ◌+◌, ◌<◌, ◌≤◌, ◌==◌, cond, List, [], ◌∷◌, length, map, Option, Some, Result, Ok, Err, ap, arith}
+use Rattle.std.proofs.Common.{◌≡◌, ℕ, Bool, true, false, ◌+◌, ◌<◌, ◌≤◌, ◌==◌, cond, List, [], ◌∷◌, length, map, Option, Some, Result, Ok, Err, refl, ap, subst, arith}
 use Rattle.std.specs.Result.{is_err}
+use Rattle.std.specs.Prelude.{slice_index_or, sum_by}
 use Rattle.std.proofs.lemmas.List.{length-map}
 use Rattle.buck_stem.specs.Stem.{StemParts}
 use Rattle.buck_book.specs.declared.posting.Posting.{Posting}
@@ -10,10 +11,12 @@ use Rattle.buck_fleet.specs.Run.{stem_cut}
 use Rattle.buck_fleet.specs.Closed.{replies_from, replies_of}
 use Rattle.buck_stem.specs.Stm.{stm_of}
 use Rattle.buck_engine.specs.declared.fault.EngineFault.{EngineFault}
+use Rattle.buck_engine.specs.declared.fault.EngineFault.TheVariants.{Full}
 use Rattle.buck_engine.specs.declared.fleet.serving.Order.{Order}
+use Rattle.buck_engine.specs.declared.fleet.serving.Order.TheVariants.{InTurn}
 use Rattle.buck_engine.specs.run.Reading.{ReadsApt}
 use Rattle.buck_engine.specs.fleet.Lent.{OfWriter}
-use Rattle.buck_engine.specs.fleet.Running.{stems_cut_by, IsFleetRun}
+use Rattle.buck_engine.specs.fleet.Running.{stems_cut_by, HaveTooMany, IsFleetRun}
 
 -- no harvester has more postings than there are
 replies_low : (h p : ℕ) (xs : List Posting) → length (replies_from h p xs) ≤ length xs
@@ -31,11 +34,25 @@ too_many harvester h stems cut few many =
     omega (arith, same, length-map (replies_of harvester h) (λ k. stem_cut k.entry), length-map stems Some, replies_low harvester 0 h.postings, few, many)
 
 -- a run over one file of them doesn't end well
-pub too_many_in_file : (reads : ReadsApt) (order : Order) (apt : Option (List ℕ)) (stm : List ℕ) (OfJournal : OfWriter) (old new : Option (List ℕ)) (r : Result (Unit {0}) EngineFault)
+pub too_many_in_file : (reads : ReadsApt) (order : Order) (ByRule : HistoryParts → Type 0) (apt : Option (List ℕ)) (stm : List ℕ) (OfJournal : OfWriter) (old new : Option (List ℕ)) (r : Result (Unit {0}) EngineFault)
     → ((stems : List StemParts) → stm_of stm ≡ Ok stems → 1000000 < length stems)
-    → IsFleetRun reads order apt (Some stm ∷ []) OfJournal old new r → is_err r ≡ false → ⊥
-too_many_in_file reads order apt stm OfJournal old new (Ok u) many ran well =
+    → IsFleetRun reads order ByRule apt (Some stm ∷ []) OfJournal old new r → is_err r ≡ false → ⊥
+too_many_in_file reads order ByRule apt stm OfJournal old new (Ok u) many ran well =
     let harvest = ran.run.1.0 in
     let cut = harvest.stems 0 (omega arith) in
     too_many 1 ran.run.0 cut.stems cut.are_cut harvest.few (many cut.stems cut.stm_says.1)
-too_many_in_file reads order apt stm OfJournal old new (Err fault) many ran well = cc well
+too_many_in_file reads order ByRule apt stm OfJournal old new (Err fault) many ran well = cc well
+
+-- few stems of one file aren't too many
+pub few_in_file : (reads : ReadsApt) (ByRule : HistoryParts → Type 0) (apt : Option (List ℕ)) (stm : List ℕ) (OfJournal : OfWriter) (old new : Option (List ℕ)) (r : Result (Unit {0}) EngineFault)
+    → ((stems : List StemParts) → stm_of stm ≡ Ok stems → length stems ≤ 1000000)
+    → IsFleetRun reads InTurn ByRule apt (Some stm ∷ []) OfJournal old new r → r ≡ Err Full → ⊥
+few_in_file reads ByRule apt stm OfJournal old new r few ran full =
+    one_file ((subst (λ (x : Result (Unit {0}) EngineFault). IsFleetRun reads InTurn ByRule apt (Some stm ∷ []) OfJournal old new x) full ran).run.0.1 refl) where
+      one_list : (lists : List (List StemParts)) → length lists ≡ 1 → sum_by (λ (l : List StemParts). length l) lists ≡ length (slice_index_or lists 0 [])
+      one_list [] n = absurd (omega (arith, n))
+      one_list (x ∷ []) n = omega arith
+      one_list (x ∷ y ∷ more) n = absurd (omega (arith, n))
+
+      one_file : HaveTooMany (Some stm ∷ []) → ⊥
+      one_file t = omega (arith, t.many, one_list t.stems t.number, few (slice_index_or t.stems 0 []) (t.stms_say 0 (omega arith)).1)

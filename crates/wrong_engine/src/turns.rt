@@ -1,9 +1,10 @@
 //! Wrong bodies of harvesters in turn over files.
-ghost use Rattle.std.specs.Prelude.{◌≡◌, ◌≢◌, ◌<◌, List, ℕ, Ok, length};
+ghost use Rattle.std.specs.Prelude.{◌≡◌, ◌≢◌, ◌<◌, ◌≤◌, List, ℕ, Ok, length};
+ghost use Rattle.buck_rule.specs.Stored.{Answers};
 ghost use Rattle.buck_stem.specs.Stem.{StemParts};
 ghost use Rattle.buck_stem.specs.Stm.{stm_of};
 ghost use Rattle.buck_book.specs.History.{HistoryParts};
-ghost use Rattle.buck_turn.specs.Turn.{AreInTurn};
+ghost use Rattle.buck_turn.specs.Turn.{AreInTurn, AreSheetsBy};
 ghost use Rattle.buck_engine.specs.text.Report.{ending_of, report_of};
 
 use buck_engine::{EngineFault, run_in_turn};
@@ -114,4 +115,51 @@ pub fn turns_of_too_many_stems_accepted<'x>(
     );
     let is_refused = right.is_err();
     prove!(is_refused);
+}
+
+/// The prices are in the relation, but another rule gave them: no history whose prices are the rule's answers has this
+/// report.
+pub fn turns_by_another_rule<'x, F: Fn(&Standing) -> u64 + Drop>(
+    alloc: Global,
+    apt: &'x [u8],
+    stms: &mut [&'x [u8]],
+    rule: Rule<F>,
+    wrong: &[u8],
+)
+    requires answers { Answers F.Fn rule }
+    requires differ { (h : HistoryParts) (counts : List ℕ) → AreSheetsBy F.Fn rule h
+        → wrong.now ≢ report_of h.postings (ending_of h counts) }
+{
+    let mut instruction = apt;
+    let mut right = Vec::new(alloc);
+    let outcome = run_in_turn(
+        alloc,
+        &mut instruction,
+        stms,
+        rule,
+        None::<&mut Vec<u8>>,
+        &mut right,
+    );
+    if outcome.is_ok() {
+        prove!(right.as_slice() != wrong);
+    }
+}
+
+/// Stems are too many, though they are few.
+pub fn turns_full_at_once<'x>(alloc: Global, apt: &'x [u8], stm: &'x [u8], out: &mut Vec<u8>)
+    requires few { (stems : List StemParts) → stm_of stm.now ≡ Ok stems → length stems ≤ 1000000 }
+{
+    let rule = Rule::new(|s: &Standing| steady(s));
+    let mut instruction = apt;
+    let mut stems = [stm];
+    let outcome = run_in_turn(
+        alloc,
+        &mut instruction,
+        &mut stems,
+        rule,
+        None::<&mut Vec<u8>>,
+        out,
+    );
+    let is_full = outcome == Err(EngineFault::Full);
+    prove!(!is_full);
 }

@@ -56,3 +56,16 @@ pub fn list_after_list<F: Fn(&Standing) -> u64 + Drop>(
     }
     Ok(())
 }
+
+/// Stems are too many where there is none.
+pub fn full_at_once<F: Fn(&Standing) -> u64 + Drop>(
+    alloc: Global,
+    instruction: Arc<Instruction>,
+    rule: Rule<F>,
+)
+    requires answers { Answers F.Fn rule }
+{
+    let right = cut_in_turn(alloc, instruction, rule, &[]);
+    let is_full = matches!(right, Err(CutFault::Full));
+    prove!(!is_full);
+}

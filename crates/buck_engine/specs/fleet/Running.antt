@@ -1,5 +1,5 @@
 -- What a run of a fleet over an instruction file and stem files answers: a journal and a report of one history.
-use Rattle.std.specs.Prelude.{◌≡◌, ◌⊎◌, ◌<◌, ◌≤◌, ◌+◌, ℕ, List, length, map, All, Option, Some, None, Result, Ok, Err, slice_index_or}
+use Rattle.std.specs.Prelude.{◌≡◌, ◌⊎◌, ◌<◌, ◌≤◌, ◌+◌, ℕ, List, [], length, map, sum_by, All, Option, Some, None, Result, Ok, Err, slice_index_or}
 use Rattle.std.specs.declared.sync.Arc.{Arc}
 use Rattle.std.specs.declared.vec.Vec.{Vec}
 use Rattle.std.specs.declared.alloc.Global.{Global}
@@ -8,7 +8,6 @@ use Rattle.buck_apt.specs.Apt.{apt_of}
 use Rattle.buck_stem.specs.declared.stem.Stem.{Stem}
 use Rattle.buck_stem.specs.Stem.{StemParts}
 use Rattle.buck_stem.specs.Stm.{stm_of}
-use Rattle.buck_book.specs.declared.posting.Posting.{Posting}
 use Rattle.buck_book.specs.Posting.{harvester_of}
 use Rattle.buck_book.specs.History.{HistoryParts, IsLawful}
 use Rattle.buck_journal.specs.Written.{journal_text}
@@ -44,10 +43,11 @@ pub record IsHarvest (reads : ReadsApt) (apt : Option (List ℕ)) (stms : List (
   pub stems : (k : ℕ) → k < length stms → CutsFile (k + 1) h (slice_index_or stms k None)
   pub nobody_else : All (λ x. (0 < harvester_of x) × (harvester_of x ≤ length stms)) h.postings
 
--- the order of the postings: whichever came about where all harvesters work at once, or that of the turns
-abbrev pub AreInOrder : Order → List Posting → Type 0
-AreInOrder AtOnce ps = Unit {0}
-AreInOrder InTurn ps = AreInTurn ps
+-- what else holds of the history: nothing where all harvesters work at once; where they take turns, the postings stand
+-- in the order of these, and the prices are what the rule gives
+abbrev pub IsInOrder : Order → (HistoryParts → Type 0) → HistoryParts → Type 0
+IsInOrder AtOnce ByRule h = Unit {0}
+IsInOrder InTurn ByRule h = AreInTurn h.postings × ByRule h
 
 -- the first so many stem files are accepted
 abbrev pub AreAccepted : ℕ → List (Option (List ℕ)) → Type 0
@@ -83,11 +83,23 @@ AreNoSeats number = (number ≡ 0) ⊎ (64 < number)
 abbrev pub IsFleetFault : Option (List ℕ) → List (Option (List ℕ)) → EngineFault → Type 0
 IsFleetFault apt stms fault = (AreNoSeats (length stms) × (fault ≡ Seats)) ⊎ IsHarvestFault apt stms fault
 
--- a history of all files, in the order that is asked for, or why there is none
-abbrev pub AnswersFleet : ReadsApt → Order → Option (List ℕ) → List (Option (List ℕ))
+-- the files have more stems together than a history may have postings
+pub record HaveTooMany (stms : List (Option (List ℕ))) : Type 0 where
+  pub stems : List (List StemParts)
+  pub number : length stems ≡ length stms
+  pub stms_say : (k : ℕ) → k < length stms → Says stm_of (slice_index_or stms k None) (Ok (slice_index_or stems k []))
+  pub many : 1000000 < sum_by (λ list. length list) stems
+
+-- where harvesters take turns, a history is full only where there are too many stems
+abbrev pub IsFullInOrder : Order → List (Option (List ℕ)) → EngineFault → Type 0
+IsFullInOrder AtOnce stms fault = Unit {0}
+IsFullInOrder InTurn stms fault = fault ≡ Full → HaveTooMany stms
+
+-- a history of all files, in the order that is asked for, by a rule, or why there is none
+abbrev pub AnswersFleet : ReadsApt → Order → (HistoryParts → Type 0) → Option (List ℕ) → List (Option (List ℕ))
     → Result HistoryParts EngineFault → Type 0
-AnswersFleet reads order apt stms (Ok h) = IsHarvest reads apt stms h × AreInOrder order h.postings
-AnswersFleet reads order apt stms (Err fault) = IsFleetFault apt stms fault
+AnswersFleet reads order ByRule apt stms (Ok h) = IsHarvest reads apt stms h × IsInOrder order ByRule h
+AnswersFleet reads order ByRule apt stms (Err fault) = IsFleetFault apt stms fault × IsFullInOrder order stms fault
 
 -- the texts of a history were written: the journal, where one is asked for, and the report
 pub record WroteAll (h : HistoryParts) (OfJournal : OfWriter) (old new : Option (List ℕ)) : Type 0 where
@@ -105,8 +117,9 @@ pub record WroteSome (h : HistoryParts) (OfJournal : OfWriter) (old new : Option
       ⊎ (OfJournal (λ a b. Appends a b (journal_text h.sheets h.postings)) × AppendsSome old new report)
 
 -- how a run of a fleet ended, and what it wrote
-pub record IsFleetRun (reads : ReadsApt) (order : Order) (apt : Option (List ℕ)) (stms : List (Option (List ℕ)))
-    (OfJournal : OfWriter) (old new : Option (List ℕ)) (outcome : Result (Unit {0}) EngineFault) : Type 0 where
+pub record IsFleetRun (reads : ReadsApt) (order : Order) (ByRule : HistoryParts → Type 0) (apt : Option (List ℕ))
+    (stms : List (Option (List ℕ))) (OfJournal : OfWriter) (old new : Option (List ℕ))
+    (outcome : Result (Unit {0}) EngineFault) : Type 0 where
   pub seats : AreNoSeats (length stms) → outcome ≡ Err Seats
-  pub run : IsRun (AnswersFleet reads order apt stms) (λ h. WroteAll h OfJournal old new)
+  pub run : IsRun (AnswersFleet reads order ByRule apt stms) (λ h. WroteAll h OfJournal old new)
       (λ h. WroteSome h OfJournal old new) (OfJournal Keeps × Keeps old new) outcome

@@ -2,6 +2,7 @@
 use Rattle.std.specs.Prelude.{◌≡◌, ◌≢◌, ◌⊎◌, ℕ, ◌-◌, ◌<◌, ◌≤◌, List, [], length, take, Option, Some, slice_get, slice_index, slice_index_or, IfSome}
 use Rattle.std.specs.List.{flat_map}
 use Rattle.std.specs.Option.{option_to_list}
+use denote.Ref.{Bor}
 use Rattle.buck_apt.specs.declared.class.Class.{Class}
 use Rattle.buck_apt.specs.Instruction.{InstructionParts, IsClass, index_of}
 use Rattle.buck_stem.specs.Stem.{StemParts}
@@ -9,6 +10,7 @@ use Rattle.buck_rule.specs.declared.standing.Standing.{Standing}
 use Rattle.buck_rule.specs.Ready.{steady_of, linear_of, step_of}
 use Rattle.buck_book.specs.declared.posting.Posting.{Posting}
 use Rattle.buck_book.specs.History.{HistoryParts, standing_of}
+use Rattle.buck_book.specs.Pricing.{Calls}
 use Rattle.buck_journal.specs.Replay.{Begins, version_at, prices_then}
 use Rattle.buck_engine.specs.declared.fleet.serving.NamedRule.{NamedRule}
 use Rattle.buck_engine.specs.declared.fleet.serving.NamedRule.TheVariants.{Steady, Linear, Step}
@@ -63,6 +65,10 @@ abbrev pub price_by : NamedRule → Standing → ℕ
 price_by Steady s = steady_of s
 price_by Linear s = linear_of s
 price_by Step s = step_of s
+
+-- a closure answers what a rule gives
+pub record GivesBy {F : Type 0} (g : Calls F) (f : F) (rule : NamedRule) : Type 0 where
+  pub by_rule : (s : Bor Standing) (price : ℕ) → g.post f (s, tt) price → price ≡ price_by rule s.now
 
 -- the price of a class is what a rule gives after some postings
 abbrev pub IsByRule : NamedRule → (i : InstructionParts) → List Posting → List ℕ → (c : Class) → IsClass i c → Type 0

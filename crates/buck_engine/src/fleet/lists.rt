@@ -1,10 +1,10 @@
 //! An instruction file and stem files that are read one after the other, and the stems, which threads can share.
-ghost use Rattle.std.specs.Prelude.{◌≡◌, ◌<◌, ◌≤◌, length, map, drop, IfOk, IfErr, OnOk, Ok};
+ghost use Rattle.std.specs.Prelude.{◌≡◌, ◌≢◌, ◌<◌, ◌≤◌, length, map, drop, IfOk, IfErr, OnOk, Ok};
 ghost use Rattle.std.specs.Result.{IsErrAnd};
 ghost use Rattle.buck_apt.specs.Apt.{apt_of};
 ghost use Rattle.buck_stem.specs.Stm.{stm_of};
 ghost use Rattle.buck_fleet.specs.Run.{stems_of};
-ghost use Rattle.buck_engine.specs.declared.fault.EngineFault.TheVariants.{Seats};
+ghost use Rattle.buck_engine.specs.declared.fault.EngineFault.TheVariants.{Full, Seats};
 ghost use Rattle.buck_engine.specs.run.Reading.{IfStopped, IsAccepted, IsStmFault, Says, apt_with};
 ghost use Rattle.buck_engine.specs.fleet.Running.{AreListsOf, AreNoSeats, IsFleetFault, IsListFault};
 
@@ -100,6 +100,7 @@ pub fn read_input<R: io::Read>(
     ensures lists { IfOk result (λ input.
         AreListsOf (length stms.old) (map R.remaining stms.old) input.lists.items) }
     ensures refused { IfErr result (IsFleetFault (R.remaining apt.old) (map R.remaining stms.old)) }
+    ensures not_full { IfErr result (λ fault. fault ≢ Full) }
     ensures order { IfErr result (IfStopped (λ last. drop last stms.new ≡ drop last stms.old)) }
     ensures unread { IfErr result (λ fault. fault ≡ Seats → apt.new ≡ apt.old) }
 {
@@ -126,6 +127,7 @@ pub(crate) fn read_input_with<R: io::Read>(
     ensures lists { IfOk result (λ input.
         AreListsOf (length stms.old) (map R.remaining stms.old) input.lists.items) }
     ensures refused { IfErr result (IsFleetFault (R.remaining apt.old) (map R.remaining stms.old)) }
+    ensures not_full { IfErr result (λ fault. fault ≢ Full) }
     ensures order { IfErr result (IfStopped (λ last. drop last stms.new ≡ drop last stms.old)) }
     ensures unread { IfErr result (λ fault. fault ≡ Seats → apt.new ≡ apt.old) }
 {

@@ -101,7 +101,7 @@ pub fn run_fleet_files<
     // that of the first file that has one, or comes after all of them, and nothing is written; a write fault leaves a
     // prefix of the journal, or all of it and a prefix of the report. Where there are not 1 to 64 stem files, that is
     // the fault.
-    ensures run { IsFleetRun apt_of AtOnce (R.remaining apt.old) (map R.remaining stms.old)
+    ensures run { IsFleetRun apt_of AtOnce (λ _. Unit {0}) (R.remaining apt.old) (map R.remaining stms.old)
         (of_lent J.contents journal.entry journal.exit) (W.contents out.old) (W.contents out.new) result }
     // Where a file has a fault, nothing was read of those after it.
     ensures order { IfErr result (IfStopped (λ last. drop last stms.new ≡ drop last stms.old)) }

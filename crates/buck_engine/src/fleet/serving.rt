@@ -7,6 +7,7 @@ ghost use Rattle.buck_engine.specs.fleet.Named.{rule_name};
 ghost use Rattle.buck_engine.specs.fleet.Serving.{RunsFleet};
 ghost use Rattle.buck_engine.specs.inner.Served.{MakesJournal, WritesMade};
 ghost use Rattle.buck_engine.specs.run.Serving.{TellsOutcome, status_after};
+ghost use Rattle.buck_engine.specs.tie.Ties.{GivesBy};
 
 use crate::fault::EngineFault;
 use crate::fleet::onlooker::Onlooker;
@@ -119,6 +120,7 @@ fn fleet_files<
     writer: &mut W,
 ) -> Result<(), EngineFault>
     requires answers { AllAnswer F.Fn }
+    requires gives { GivesBy F.Fn rule task.now.rule }
     ensures { RunsFleet O.opens O.makes O.File.remaining O.Made.contents opener.old opener.new task.now
         (W.contents writer.old) (W.contents writer.new) result }
 {

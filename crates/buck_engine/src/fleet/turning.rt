@@ -5,12 +5,12 @@ ghost use Rattle.std.specs.Result.{IsErrAnd};
 ghost use Rattle.buck_apt.specs.Apt.{apt_of};
 ghost use Rattle.buck_rule.specs.Stored.{Answers};
 ghost use Rattle.buck_book.specs.History.{in_force};
-ghost use Rattle.buck_turn.specs.Turn.{AreInTurn};
-ghost use Rattle.buck_engine.specs.declared.fault.EngineFault.TheVariants.{Seats};
+ghost use Rattle.buck_turn.specs.Turn.{AreInTurn, AreSheetsBy, stems_in_all};
+ghost use Rattle.buck_engine.specs.declared.fault.EngineFault.TheVariants.{Full, Seats};
 ghost use Rattle.buck_engine.specs.declared.fleet.serving.Order.TheVariants.{InTurn};
 ghost use Rattle.buck_engine.specs.run.Reading.{IfStopped, apt_with};
 ghost use Rattle.buck_engine.specs.fleet.Lent.{of_lent};
-ghost use Rattle.buck_engine.specs.fleet.Running.{AreNoSeats, IsCuttingFault, IsFleetFault, IsFleetRun, IsHarvest};
+ghost use Rattle.buck_engine.specs.fleet.Running.{AreNoSeats, HaveTooMany, IsCuttingFault, IsFleetFault, IsFleetRun, IsHarvest};
 ghost use Rattle.buck_engine.specs.inner.Fleet.{HasCutLists};
 
 use crate::fault::EngineFault;
@@ -111,7 +111,9 @@ fn cut_lists<F: Fn(&Standing) -> u64 + Drop>(
     requires few { length lists.now ≤ 64 }
     ensures ok { IfOk result (λ turned. HasCutLists instruction lists.now turned) }
     ensures in_turn { IfOk result (λ turned. AreInTurn turned.postings) }
+    ensures given { IfOk result (λ turned. AreSheetsBy F.Fn rule turned) }
     ensures fault { IfErr result IsCuttingFault }
+    ensures full { IfErr result (λ fault. fault ≡ Full → 1000000 < stems_in_all lists.now) }
 {
     let instruction = Arc::new(alloc, instruction)?;
     match cut_in_turn(alloc, instruction, rule, lists) {
@@ -139,7 +141,9 @@ pub(crate) fn cut_files_in_turn<F: Fn(&Standing) -> u64 + Drop, R: io::Read, O: 
     ensures ok { IfOk result (λ turned.
         IsHarvest (apt_with settings.now) (R.remaining apt.old) (map R.remaining stms.old) turned) }
     ensures in_turn { IfOk result (λ turned. AreInTurn turned.postings) }
+    ensures given { IfOk result (λ turned. AreSheetsBy F.Fn rule turned) }
     ensures refused { IfErr result (IsFleetFault (R.remaining apt.old) (map R.remaining stms.old)) }
+    ensures full { IfErr result (λ fault. fault ≡ Full → HaveTooMany (map R.remaining stms.old)) }
     ensures order { IfErr result (IfStopped (λ last. drop last stms.new ≡ drop last stms.old)) }
     ensures unread { IfErr result (λ fault. fault ≡ Seats → apt.new ≡ apt.old) }
 {
@@ -159,7 +163,9 @@ fn cut_own_files_in_turn<F: Fn(&Standing) -> u64 + Drop, R: io::Read>(
     ensures seats { AreNoSeats (length stms.old) → IsErrAnd result (λ fault. fault ≡ Seats) }
     ensures ok { IfOk result (λ turned. IsHarvest apt_of (R.remaining apt.old) (map R.remaining stms.old) turned) }
     ensures in_turn { IfOk result (λ turned. AreInTurn turned.postings) }
+    ensures given { IfOk result (λ turned. AreSheetsBy F.Fn rule turned) }
     ensures refused { IfErr result (IsFleetFault (R.remaining apt.old) (map R.remaining stms.old)) }
+    ensures full { IfErr result (λ fault. fault ≡ Full → HaveTooMany (map R.remaining stms.old)) }
     ensures order { IfErr result (IfStopped (λ last. drop last stms.new ≡ drop last stms.old)) }
     ensures unread { IfErr result (λ fault. fault ≡ Seats → apt.new ≡ apt.old) }
 {
@@ -188,10 +194,11 @@ pub fn run_in_turn<F: Fn(&Standing) -> u64 + Drop, R: io::Read, J: io::Write, W:
 ) -> Result<(), EngineFault>
     requires answers { Answers F.Fn rule }
     // What is written are the texts of one history, of the instruction and the stems that the files have, in the order
-    // of the turns; a fault is that of the first file that has one, or comes after all of them, and nothing is
-    // written; a write fault leaves a prefix of the journal, or all of it and a prefix of the report. Where there are
-    // not 1 to 64 stem files, that is the fault.
-    ensures run { IsFleetRun apt_of InTurn (R.remaining apt.old) (map R.remaining stms.old)
+    // of the turns, with the rule's answers for prices; a fault is that of the first file that has one, or comes after
+    // all of them, and nothing is written; a write fault leaves a prefix of the journal, or all of it and a prefix of
+    // the report. Where there are not 1 to 64 stem files, that is the fault; it is `Full` only where there are more
+    // stems than 1,000,000.
+    ensures run { IsFleetRun apt_of InTurn (AreSheetsBy F.Fn rule) (R.remaining apt.old) (map R.remaining stms.old)
         (of_lent J.contents journal.entry journal.exit) (W.contents out.old) (W.contents out.new) result }
     // Where a file has a fault, nothing was read of those after it.
     ensures order { IfErr result (IfStopped (λ last. drop last stms.new ≡ drop last stms.old)) }

@@ -9,8 +9,9 @@ const USUAL: usize = 4;
 /// The most threads that a run starts.
 const MOST: usize = 64;
 
-/// How many threads a run starts: as many as it is told, or as many as the machine has, and at most 64.
-pub(crate) fn number_of_threads<T: Threads>(rt: &T, told: Option<u8>) -> usize
+/// How many threads a run starts: as many as it is told, or as many as the machine has, or 4 where it doesn't say; from
+/// 1 to 64.
+pub fn number_of_threads<T: Threads>(rt: &T, told: Option<u8>) -> usize
     ensures { 0 < result }
 {
     let wanted = match told {

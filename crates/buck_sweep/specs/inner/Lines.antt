@@ -1,5 +1,5 @@
 -- How the line of a run comes about: lists that are cut, and figures that are taken.
-use Rattle.std.specs.Prelude.{◌≡◌, ◌≤◌, ◌++◌, ℕ, List, [], ◌∷◌, length, slice_get, nat_le, cond, Option, Some, None, codes}
+use Rattle.std.specs.Prelude.{◌≡◌, ◌<◌, ◌≤◌, ◌++◌, ℕ, List, [], ◌∷◌, length, slice_get, nat_le, cond, Option, Some, None, Result, IfOk, IfErr, codes}
 use Rattle.std.specs.declared.sync.Arc.{Arc}
 use Rattle.std.specs.declared.vec.Vec.{Vec}
 use Rattle.std.specs.declared.alloc.Global.{Global}
@@ -8,11 +8,15 @@ use Rattle.buck_apt.specs.Settings.{with_settings}
 use Rattle.buck_stem.specs.declared.stem.Stem.{Stem}
 use Rattle.buck_book.specs.Degree.{IsDegreeBy}
 use Rattle.buck_book.specs.History.{HistoryParts, IsLawful}
-use Rattle.buck_turn.specs.Turn.{HasCutInTurn}
+use Rattle.buck_turn.specs.Turn.{HasCutInTurn, stems_in_all}
 use Rattle.buck_sweep.specs.declared.combination.Combination.{Combination}
 use Rattle.buck_figures.specs.declared.figures.Figures.{Figures}
+use Rattle.buck_engine.specs.declared.fault.EngineFault.{EngineFault}
+use Rattle.buck_engine.specs.declared.fault.EngineFault.TheVariants.{Full}
 use Rattle.buck_engine.specs.declared.fleet.serving.NamedRule.{NamedRule}
 use Rattle.buck_engine.specs.fleet.Named.{rule_name}
+use Rattle.buck_engine.specs.fleet.Running.{IsCuttingFault}
+use Rattle.buck_engine.specs.tie.Ties.{FollowsRule}
 use Rattle.buck_sweep.specs.Table.{IsLeast, IsLine, cells, head_line, rate_of}
 use Rattle.buck_sweep.specs.Sweep.{AreLines}
 
@@ -44,19 +48,30 @@ pub record IsLineBy (rule : NamedRule) (f : Figures) (line : List ℕ) : Type 0 
   pub is_least : IsLeast degrees least
   pub line_is : line ≡ line_by rule f degrees least
 
--- a lawful history of at most 1,000,000 postings, in which lists were cut in turn
-pub record HasCut (lists : List (Vec (Arc Stem Global) Global)) (h : HistoryParts) : Type 0 where
+-- a lawful history of at most 1,000,000 postings, in which lists were cut in turn by a rule
+pub record HasCut (rule : NamedRule) (lists : List (Vec (Arc Stem Global) Global)) (h : HistoryParts) : Type 0 where
   pub lawful : IsLawful h
   pub few : length h.postings ≤ 1000000
   pub cut : HasCutInTurn lists h
+  pub by_rule : FollowsRule rule h
 
 -- the line of a combination, whose run cut these lists in turn by this instruction, with its numbers put in
 pub record IsRunLine (i : InstructionParts) (lists : List (Vec (Arc Stem Global) Global)) (c : Combination)
     (line : List ℕ) : Type 0 where
   pub history : HistoryParts
   pub instruction : history.instruction ≡ with_settings c.settings i
-  pub has_cut : HasCut lists history
+  pub has_cut : HasCut c.rule lists history
   pub is_line : IsLine c.rule history line
+
+-- why lists aren't cut: memory ran out, or they have too many stems
+abbrev pub IsStop : List (Vec (Arc Stem Global) Global) → EngineFault → Type 0
+IsStop lists fault = IsCuttingFault fault × (fault ≡ Full → 1000000 < stems_in_all lists)
+
+-- the lines of some combinations, or why there are none
+abbrev pub IsPart : InstructionParts → List (Vec (Arc Stem Global) Global) → List Combination
+    → Result (Vec ℕ Global) EngineFault → Type 0
+IsPart i lists cs result =
+    IfOk result (λ text. AreLines (IsRunLine i lists) cs text.items) × IfErr result (IsStop lists)
 
 -- the names of the columns, and the lines of combinations whose runs cut these lists by this instruction
 pub record IsTableOf (i : InstructionParts) (lists : List (Vec (Arc Stem Global) Global)) (cs : List Combination)

@@ -1,0 +1,9 @@
+use Rattle.std.proofs.Common.{rules}
+use Rattle.buck_sweep.proofs.Histories.{cut_is}
+use Rattle.buck_sweep.proofs.cutting.cut_by_rule.Goals as goal
+
+pub returns-in_ok-journal_of-in-Ok-clause-ok : goal.returns-in_ok-journal_of-in-Ok-clause-ok
+returns-in_ok-journal_of-in-Ok-clause-ok g c =
+    let cut = c.in-Ok.ensures in
+    let journal = c.in_ok-journal_of-in-Ok.ensures in
+    cut_is g.F.Fn c.args.rule c.args.named c.args.lists.now _ _ _ journal.history (search (rules, cut.instruction)) journal.lawful journal.few cut.cut c.requires.gives cut.given

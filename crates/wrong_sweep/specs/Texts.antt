@@ -1,0 +1,56 @@
+-- The texts that wrong bodies would print of runs.
+use Rattle.std.specs.Prelude.{◌≡◌, ◌≢◌, ◌≤◌, ◌++◌, ℕ, List, [], ◌∷◌, sum_by, Option, Some, Ok, IfSome, codes}
+use Rattle.std.specs.List.{AllByRecursion, Contains}
+use Rattle.buck_apt.specs.Apt.{apt_of}
+use Rattle.buck_apt.specs.Instruction.{InstructionParts}
+use Rattle.buck_apt.specs.Settings.{own_numbers}
+use Rattle.buck_book.specs.History.{HistoryParts}
+use Rattle.buck_figures.specs.Figures.{volume_in, worth_in}
+use Rattle.buck_engine.specs.declared.fleet.serving.NamedRule.{NamedRule}
+use Rattle.buck_engine.specs.fleet.Named.{rule_name}
+use Rattle.buck_engine.specs.run.Reading.{Says}
+use Rattle.buck_sweep.specs.declared.combination.Combination.{Combination}
+use Rattle.buck_sweep.specs.Sweep.{IsLineOver}
+use Rattle.buck_sweep.specs.Table.{cells, front_of, head_line, line_of, rate_of}
+
+-- a rule with the instruction's own numbers
+abbrev pub own_run : NamedRule → Combination
+own_run rule = record { rule = rule; settings = own_numbers }
+
+-- some bytes stand in a text
+abbrev pub StandsIn : List ℕ → List ℕ → Type 0
+StandsIn bytes text = (before : List ℕ) × (after : List ℕ) × (text ≡ before ++ (bytes ++ after))
+
+-- what a wrong line of a rule, in the place of that of a history, has to do with this, its degrees, the least of them,
+-- and what the best cuttings at base prices are worth
+abbrev pub Wrongs : Type 1
+Wrongs = HistoryParts → List (Option ℕ) → Option ℕ → ℕ → List ℕ → Type 0
+
+-- the columns, and then, whichever line a run by a rule may have over files, such a wrong one that isn't it
+pub record HasInstead (rule : NamedRule) (IsWrong : Wrongs) (apt : Option (List ℕ)) (stms : List (Option (List ℕ)))
+    (text : List ℕ) : Type 0 where
+  pub instead : (i : InstructionParts) (right : List ℕ) → Says apt_of apt (Ok i)
+      → (run : IsLineOver apt stms (own_run rule) right)
+      → (wrong : List ℕ)
+      × (text ≡ head_line i ++ wrong)
+      × IsWrong run.history run.is_line.degrees run.is_line.least (sum_by worth_in run.is_line.unsteered) wrong
+      × (wrong ≢ right)
+
+-- with the worths under the prices in force in the place of those at base prices
+abbrev pub IsInForce : NamedRule → Wrongs
+IsInForce rule h degrees least best wrong =
+    wrong
+    ≡ rule_name rule
+    ++ (cells (front_of h)
+    ++ (cells degrees
+    ++ (cells (least ∷ Some (sum_by worth_in h.postings) ∷ Some best
+    ∷ Some (rate_of best (sum_by worth_in h.postings)) ∷ Some (sum_by volume_in h.postings) ∷ [])
+    ++ codes "\n")))
+
+-- with the greatest of the degrees that are there in the place of the least
+abbrev pub HasGreatest : NamedRule → Wrongs
+HasGreatest rule h degrees least best wrong =
+    (greatest : ℕ)
+    × Contains degrees (Some greatest)
+    × AllByRecursion (λ d. IfSome d (λ n. n ≤ greatest)) degrees
+    × (wrong ≡ line_of rule h degrees (Some greatest) best)

@@ -1,0 +1,166 @@
+//! Wrong bodies of a table over files.
+ghost use Rattle.std.specs.Prelude.{◌≡◌, ◌≤◌, ◌++◌, ℕ, List, [], ◌∷◌, Some, Ok, codes, length, map};
+ghost use Rattle.buck_stem.specs.Stem.{StemParts};
+ghost use Rattle.buck_stem.specs.Stm.{stm_of};
+ghost use Rattle.buck_book.specs.History.{HistoryParts};
+ghost use Rattle.buck_engine.specs.declared.fleet.serving.NamedRule.TheVariants.{Steady, Step};
+ghost use Rattle.buck_engine.specs.tie.Ties.{FollowsRule};
+ghost use Rattle.buck_sweep.specs.Sweep.{IsLineOver};
+ghost use Rattle.buck_sweep.specs.Table.{IsLine, cells};
+ghost use Rattle.wrong_sweep.specs.Texts.{HasGreatest, HasInstead, IsInForce, StandsIn, own_run};
+
+use buck_engine::{EngineFault, NamedRule};
+use buck_sweep::{Combination, Settings, run_sweep};
+use std::alloc::Global;
+
+/// A line is of the instruction's own period, or of its own limit, and not of those that were asked for.
+pub fn numbers_of_the_instruction<'x>(
+    alloc: Global,
+    apt: &'x [u8],
+    stms: &mut [&'x [u8]],
+    settings: Settings,
+    wrong: &[u8],
+)
+    requires asked { settings ≡ record { period = Some 7; limit = Some 300 } }
+    requires other { StandsIn (codes "step" ++ cells (Some 7 ∷ Some 300 ∷ [])) wrong.now → ⊥ }
+{
+    let runs = [Combination {
+        rule: NamedRule::Step,
+        settings,
+    }];
+    let mut instruction = apt;
+    let mut right = Vec::new(alloc);
+    let outcome = run_sweep(alloc, &runs, &mut instruction, stms, &mut right);
+    if let Ok(()) = outcome {
+        prove!(right.as_slice() != wrong);
+    }
+}
+
+/// What stands under the name of the rule step are the lines of the linear rule: no history whose prices are those that
+/// step gives has a line in such a text.
+pub fn linear_rule_under_the_name_of_step<'x>(
+    alloc: Global,
+    apt: &'x [u8],
+    stms: &mut [&'x [u8]],
+    wrong: &[u8],
+)
+    requires other { (h : HistoryParts) (line : List ℕ) → FollowsRule Step h → IsLine Step h line
+        → StandsIn line wrong.now → ⊥ }
+{
+    let runs = [Combination {
+        rule: NamedRule::Step,
+        settings: Settings::own(),
+    }];
+    let mut instruction = apt;
+    let mut right = Vec::new(alloc);
+    let outcome = run_sweep(alloc, &runs, &mut instruction, stms, &mut right);
+    if let Ok(()) = outcome {
+        prove!(right.as_slice() != wrong);
+    }
+}
+
+/// What was cut is worth what it was under the prices then in force, and not at base prices; so is what steering cost.
+pub fn worths_under_the_prices_in_force<'x>(
+    alloc: Global,
+    apt: &'x [u8],
+    stms: &mut [&'x [u8]],
+    wrong: &[u8],
+)
+    requires instead { HasInstead Step (IsInForce Step) (Some apt.now) (map (λ s. Some s.now) stms.old) wrong.now }
+{
+    let runs = [Combination {
+        rule: NamedRule::Step,
+        settings: Settings::own(),
+    }];
+    let mut instruction = apt;
+    let mut right = Vec::new(alloc);
+    let outcome = run_sweep(alloc, &runs, &mut instruction, stms, &mut right);
+    if let Ok(()) = outcome {
+        prove!(right.as_slice() != wrong);
+    }
+}
+
+/// The least degree is the greatest one.
+pub fn greatest_degree_for_the_least<'x>(
+    alloc: Global,
+    apt: &'x [u8],
+    stms: &mut [&'x [u8]],
+    wrong: &[u8],
+)
+    requires instead { HasInstead Step (HasGreatest Step) (Some apt.now) (map (λ s. Some s.now) stms.old) wrong.now }
+{
+    let runs = [Combination {
+        rule: NamedRule::Step,
+        settings: Settings::own(),
+    }];
+    let mut instruction = apt;
+    let mut right = Vec::new(alloc);
+    let outcome = run_sweep(alloc, &runs, &mut instruction, stms, &mut right);
+    if let Ok(()) = outcome {
+        prove!(right.as_slice() != wrong);
+    }
+}
+
+/// Two lines are swapped, or one of them is left out: a text without the line of a run by the steady rule and, right
+/// behind it, that of a run by the rule step.
+pub fn lines_swapped<'x>(alloc: Global, apt: &'x [u8], stms: &mut [&'x [u8]], wrong: &[u8])
+    requires other { (one two : List ℕ)
+        → IsLineOver (Some apt.now) (map (λ s. Some s.now) stms.old) (own_run Steady) one
+        → IsLineOver (Some apt.now) (map (λ s. Some s.now) stms.old) (own_run Step) two
+        → StandsIn (one ++ two) wrong.now → ⊥ }
+{
+    let runs = [
+        Combination {
+            rule: NamedRule::Steady,
+            settings: Settings::own(),
+        },
+        Combination {
+            rule: NamedRule::Step,
+            settings: Settings::own(),
+        },
+    ];
+    let mut instruction = apt;
+    let mut right = Vec::new(alloc);
+    let outcome = run_sweep(alloc, &runs, &mut instruction, stms, &mut right);
+    if let Ok(()) = outcome {
+        prove!(right.as_slice() != wrong);
+    }
+}
+
+/// Stems are too many, though they are few.
+pub fn full_at_once<'x>(alloc: Global, apt: &'x [u8], stm: &'x [u8], out: &mut Vec<u8>)
+    requires few { (stems : List StemParts) → stm_of stm.now ≡ Ok stems → length stems ≤ 1000000 }
+{
+    let runs = [Combination {
+        rule: NamedRule::Steady,
+        settings: Settings::own(),
+    }];
+    let mut instruction = apt;
+    let mut stems = [stm];
+    let outcome = run_sweep(alloc, &runs, &mut instruction, &mut stems, out);
+    let is_full = outcome == Err(EngineFault::Full);
+    prove!(!is_full);
+}
+
+/// 65 stem files are accepted.
+pub fn sweep_of_65_accepted(alloc: Global, out: &mut Vec<u8>) {
+    let mut instruction = b"".as_slice();
+    let mut stems = [b"".as_slice(); 65];
+    let right = run_sweep(alloc, &[], &mut instruction, &mut stems, out);
+    let is_refused = right == Err(EngineFault::Seats);
+    prove!(is_refused);
+}
+
+/// The columns are written although a stem file is refused.
+pub fn columns_written_before_all_is_read<'x>(
+    alloc: Global,
+    runs: &[Combination],
+    apt: &'x [u8],
+    stms: &mut [&'x [u8]],
+) {
+    let mut instruction = apt;
+    let mut out = Vec::new(alloc);
+    let outcome = run_sweep(alloc, runs, &mut instruction, stms, &mut out);
+    let is_wrong = !out.is_empty() && matches!(outcome, Err(EngineFault::Stm { .. }));
+    prove!(!is_wrong);
+}
