@@ -2,13 +2,10 @@
 use Rattle.std.proofs.Common.{◌≡◌, ℕ, ◌+◌, ◌<◌, ◌≤◌, ◌⊎◌, inl, inr, All, List, Some, length, get_or, set, slice_get, unwrap_or, sym, ap, ◌∙◌, subst, arith}
 use Rattle.std.proofs.lemmas.List.{get_or-set_other}
 use Rattle.std.proofs.lemmas.Grind.{get_or-set_at}
-use Rattle.buck_apt.specs.declared.class.Class.{Class}
-use Rattle.buck_apt.specs.Instruction.{IsClass}
 use Rattle.buck_stem.specs.Stem.{StemParts}
 use Rattle.buck_value.specs.declared.log.Log.{Log}
 use Rattle.buck_value.specs.Sheet.{SheetParts, IsSheet}
-use Rattle.buck_value.specs.Allowed.{IsAllowed, class_of}
-use Rattle.buck_value.proofs.Classes.{class_is_class}
+use Rattle.buck_value.specs.Allowed.{IsAllowed}
 use Rattle.buck_dp.proofs.Lists.{at_most_80}
 use Rattle.buck_book.specs.Entry.{EntryParts}
 use Rattle.buck_book.specs.History.{HistoryParts, in_force}
@@ -24,10 +21,6 @@ few sheet e k = at_most_80 sheet e.stem e.logs k.sheet_valid k.stem_valid k.admi
 
 pub allowed : (sheet : SheetParts) (e : EntryParts) → IsCutUnder sheet e → All (IsAllowed sheet.instruction e.stem) e.logs
 allowed sheet e k = each_allowed sheet.instruction e.stem 0 e.logs k.admissible
-
-pub class_exists : (sheet : SheetParts) (stem : StemParts) (g : Log) (c : Class) → IsSheet sheet → IsAllowed sheet.instruction stem g
-    → c ≡ class_of sheet.instruction stem g → IsClass sheet.instruction c
-class_exists sheet stem g c s a e = subst (λ d. IsClass sheet.instruction d) (sym e) (class_is_class sheet.instruction stem g s.valid a)
 
 -- what was cut is a cutting under the sheet that was in force
 pub cut_under : (rule : StoredRule) (harvester : ℕ) (stem : StemParts) (before after : HistoryParts) (entry : EntryParts) (sheet : SheetParts)

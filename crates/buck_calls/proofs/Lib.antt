@@ -4,3 +4,4 @@ pub mod Prices
 pub mod Paged
 pub mod Splits
 pub mod Turned
+pub mod Logs

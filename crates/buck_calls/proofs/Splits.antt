@@ -4,6 +4,7 @@ use Rattle.std.specs.List.{concat}
 use Rattle.std.proofs.lemmas.List.{map-append, take_more, append_assoc, append-nil, nil_from_length, drop_all}
 use Rattle.std.proofs.lemmas.List.Folds.{concat-append}
 use Rattle.std.proofs.lemmas.List.Sums.{sum_by-drop_more}
+use Rattle.buck_calls.specs.Turns.{AreFiles}
 
 -- the next length, and those behind it
 pub sum_drop : (xs : List ℕ) (k d : ℕ) → k < length xs → sum (drop k xs) ≡ get_or xs k d + sum (drop (k + 1) xs)
@@ -33,3 +34,11 @@ pub bytes_all : (files : List (List ℕ)) (left bytes : List ℕ) → length lef
     → concat files ≡ bytes
 bytes_all files left bytes none is =
     sym (append-nil (concat files)) ∙ ap (λ xs. concat files ++ xs) (sym (nil_from_length left none)) ∙ is
+
+-- the first file, and those behind it
+pub first_more : (lengths bytes file behind : List ℕ) (files : List (List ℕ)) → 0 < length lengths
+    → length file ≡ get_or lengths 0 0 → file ++ behind ≡ bytes → AreFiles (drop 1 lengths) behind files
+    → AreFiles lengths bytes (file ∷ files)
+first_more [] bytes file behind files lt is split rest = absurd (omega (arith, lt))
+first_more (n ∷ ns) bytes file behind files lt is split rest =
+    (ap (λ k. k ∷ map (λ f. length f) files) is ∙ ap (λ ks. n ∷ ks) rest.0, ap (λ xs. file ++ xs) rest.1 ∙ split)

@@ -1,13 +1,15 @@
 //! A cutting as C sees it.
 ghost use Rattle.std.specs.Prelude.{◌≡◌, ◌≤◌, ℕ, All, length, slice_get, slice_index_or, Some};
+ghost use Rattle.buck_stem.specs.Stem.{stem_length};
 ghost use Rattle.buck_value.specs.declared.log.Log.{Log};
-ghost use Rattle.buck_value.specs.Allowed.{IsAllowed};
+ghost use Rattle.buck_value.specs.Allowed.{Allows, IsAllowed, class_in, top_diameter, top_of};
 ghost use Rattle.buck_calls.specs.Shown.{IsCutUnder, ShowsCut, ShowsLog};
 ghost use Rattle.buck_calls.specs.declared.showing.CutLog.{CutLog};
 
+use buck_apt::{Assortment, Class};
 use buck_book::Entry;
 use buck_stem::Stem;
-use buck_value::{Log, Sheet, log_valuation};
+use buck_value::{Log, Sheet, column_of, row_of, volume_of, worth_of_piece};
 
 /// The most logs that a stem can be cut into.
 const MOST_LOGS: usize = 80;
@@ -52,25 +54,63 @@ pub struct Cut {
     pub logs: [CutLog; MOST_LOGS],
 }
 
+/// The diameter where the length of a log ends that lies within its stem.
+fn top_of(stem: &Stem, log: &Log) -> u32
+    requires { top_of log.now ≤ stem_length stem.now.samples }
+    ensures { result ≡ top_diameter stem.now log.now }
+{
+    prove!(log.start <= stem.length());
+    stem.diameter_at(log.start + log.length)
+}
+
+/// The class of a log that its assortment allows and whose top diameter this is.
+#[tactic(auto, using(crate::proofs::Logs::column_found, crate::proofs::Logs::column_there, crate::proofs::Logs::column_low))]
+fn class_in(assortment: &Assortment, stem: &Stem, log: &Log, top: u32) -> Class
+    requires allows { (step : ℕ) × Allows step assortment.now stem.now log.now }
+    requires top { top ≡ top_diameter stem.now log.now }
+    ensures { result ≡ class_in (Some assortment.now) stem.now log.now }
+{
+    let _valid = assortment.lengths();
+    match column_of(assortment, log.length) {
+        Some(column) => Class {
+            assortment: log.assortment,
+            row: row_of(assortment, top) as u8,
+            column: column as u8,
+        },
+        None => unreachable!(),
+    }
+}
+
+/// A log that its assortment allows, as C sees it: nothing is tested anew.
+fn shown_in(sheet: &Sheet, assortment: &Assortment, stem: &Stem, log: &Log) -> CutLog
+    requires there { slice_get sheet.now.instruction.assortments log.now.assortment ≡ Some assortment.now }
+    requires allows { Allows sheet.now.instruction.«module» assortment.now stem.now log.now }
+    ensures { ShowsLog sheet.now stem.now log.now result }
+{
+    let _valid = sheet.instruction();
+    let top = top_of(stem, log);
+    let class = class_in(assortment, stem, log, top);
+    let price = sheet.price(class);
+    CutLog {
+        worth: worth_of_piece(assortment.price_kind(), price, volume_of(top, log.length)),
+        start: log.start,
+        length: log.length,
+        top,
+        price,
+        assortment: class.assortment,
+        row: class.row,
+        column: class.column,
+    }
+}
+
 /// A log of a stem as C sees it.
-#[tactic(auto, using(crate::proofs::Cuttings::class_exists))]
+#[tactic(auto, using(crate::proofs::Logs::its_place, crate::proofs::Logs::its_assortment, crate::proofs::Logs::it_allows))]
 fn shown(sheet: &Sheet, stem: &Stem, log: &Log) -> CutLog
     requires { IsAllowed sheet.now.instruction stem.now log.now }
     ensures { ShowsLog sheet.now stem.now log.now result }
 {
-    match log_valuation(sheet, stem, log) {
-        Some(found) => CutLog {
-            worth: found.worth,
-            start: log.start,
-            length: log.length,
-            top: found.top,
-            price: sheet.price(found.class),
-            assortment: found.class.assortment,
-            row: found.class.row,
-            column: found.class.column,
-        },
-        None => unreachable!(),
-    }
+    let assortment = &sheet.instruction().assortments()[log.assortment as usize];
+    shown_in(sheet, assortment, stem, log)
 }
 
 /// Shows the logs of a cutting, one after the other.

@@ -119,9 +119,9 @@ fn take_turns<'x>(
     ensures ok { IfOk result (λ texts. HaveTexts lengths.now bytes.now texts.journal.items texts.report.items) }
     ensures refused { IfErr result (AreRefused lengths.now bytes.now) }
 {
-    let mut files = files_of(alloc, bytes, lengths)?;
-    let (apt, stms) = files.as_mut_slice().split_at_mut(1);
-    texts_of(alloc, &mut apt[0], stms, rule)
+    let (mut apt, stms) = bytes.split_at(lengths[0]);
+    let mut stms = files_of(alloc, stms, &lengths[1..])?;
+    texts_of(alloc, &mut apt, stms.as_mut_slice(), rule)
 }
 
 /// Cuts the stems of each stem file by a harvester of its own, in turn, as the program's `fleet --in-turn` does by a
