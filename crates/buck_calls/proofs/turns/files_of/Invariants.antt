@@ -1,4 +1,4 @@
-use Rattle.std.proofs.Common.{◌≡◌, ◌+◌, ◌++◌, drop, take, sum, map, length}
+use Rattle.std.proofs.Common.{◌≡◌, ◌++◌, drop, take, sum, map, length}
 use Rattle.std.specs.List.{concat}
 use Rattle.buck_calls.proofs.turns.files_of.Given as goal
 
