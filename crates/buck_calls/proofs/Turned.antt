@@ -14,7 +14,7 @@ use Rattle.buck_engine.specs.fleet.Lent.{OfWriter}
 use Rattle.buck_engine.specs.fleet.Running.{AnswersFleet, IsFleetRun}
 use Rattle.buck_calls.specs.declared.turns.Texts.{Texts}
 use Rattle.buck_calls.specs.Room.{IsPutAs}
-use Rattle.buck_calls.specs.Turns.{ArePut, AreRefused, AreTexts, IsTurned}
+use Rattle.buck_calls.specs.Turns.{ArePut, AreRefused, AreTexts, AreUsed, IsTurned}
 
 -- what is no failed write is why there is no history
 run_fault : (reads : ReadsApt) (order : Order) (apt : Option (List ℕ)) (stms : List (Option (List ℕ))) (OfJournal : OfWriter)
@@ -41,22 +41,22 @@ behind_nothing line status old new texts result none put =
 
 -- the fault's own line was put, or that of memory, with no journal before it
 pub turns_told : (rule : ℕ) (lengths bytes : List ℕ) (fault : EngineFault) (old new : List ℕ) (texts : Texts) (result : ℕ)
-    → AreRefused lengths bytes fault → texts.journal ≡ 0
+    → AreUsed rule lengths bytes → AreRefused lengths bytes fault → texts.journal ≡ 0
     → IsPutAs (fault_line fault) (status_of fault) old new texts.report result ⊎ IsPutAs memory_line 3 old new texts.report result
     → ArePut (IsTurned rule lengths bytes) old new texts result
-turns_told rule lengths bytes fault old new texts result why none (inl put) = (
+turns_told rule lengths bytes fault old new texts result used why none (inl put) = (
   [],
   fault_line fault,
   status_of fault,
-  inr (inr (refl, (fault, why, refl, refl))),
+  inr (used, inr (refl, (fault, why, refl, refl))),
   none,
   behind_nothing (fault_line fault) (status_of fault) old new texts result none put,
 )
-turns_told rule lengths bytes fault old new texts result why none (inr put) = (
+turns_told rule lengths bytes fault old new texts result used why none (inr put) = (
   [],
   memory_line,
   3,
-  inr (inr (refl, (Memory, inl refl, refl, refl))),
+  inr (used, inr (refl, (Memory, inl refl, refl, refl))),
   none,
   behind_nothing memory_line 3 old new texts result none put,
 )

@@ -66,7 +66,7 @@ IsAllowed terms old =
 -- an opening: misused where the block holds a book or the terms aren't allowed
 abbrev pub AnswersOpen : List ℕ → Terms → Option KeptParts → Option KeptParts → ℕ → Type 0
 AnswersOpen apt terms old new status =
-    ((status ≡ 0) × ((rule : StoredRule) × (kept : KeptParts) × (old ≡ None) × (rule_of terms.rule ≡ Some rule)
+    ((status ≡ 0) × IsAllowed terms old × ((rule : StoredRule) × (kept : KeptParts) × (rule_of terms.rule ≡ Some rule)
     × HasOpened apt rule terms.capacity kept × (new ≡ Some kept)))
     ⊎ ((new ≡ old) × (IsOpenFault apt status ⊎ ((status ≡ misused) × (IsAllowed terms old → ⊥))))
 

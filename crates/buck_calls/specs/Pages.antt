@@ -1,5 +1,5 @@
 -- What the calls that show a journal answer: a text and a status.
-use Rattle.std.specs.Prelude.{◌≡◌, ◌<◌, ℕ, ◌⊎◌, List, [], Option, Some}
+use Rattle.std.specs.Prelude.{◌≡◌, ◌<◌, ◌≤◌, ℕ, ◌⊎◌, List, [], Option, Some}
 use Rattle.std.specs.Str.{IsUtf8}
 use Rattle.buck_apt.specs.Apt.{apt_of}
 use Rattle.buck_book.specs.History.{IsLawful}
@@ -40,4 +40,5 @@ IsTableFault apt journal fault =
 abbrev pub IsListed : ℕ → List ℕ → List ℕ → List ℕ → ℕ → Type 0
 IsListed table apt journal text status =
     ((3 < table) × (text ≡ []) × (status ≡ misused))
-    ⊎ ((IsOfLawful apt journal × (status ≡ 0)) ⊎ IsToldOf (IsTableFault (Some apt) (Some journal)) text status)
+    ⊎ ((table ≤ 3) × ((IsOfLawful apt journal × (status ≡ 0))
+    ⊎ IsToldOf (IsTableFault (Some apt) (Some journal)) text status))

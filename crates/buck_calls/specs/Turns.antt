@@ -1,5 +1,5 @@
 -- What the call answers by which harvesters take turns, over the bytes of files: a journal, a report and a status.
-use Rattle.std.specs.Prelude.{◌≡◌, ◌≢◌, ◌⊎◌, ℕ, ◌+◌, List, [], ◌∷◌, ◌++◌, map, length, sum, Some, None, Ok, Err}
+use Rattle.std.specs.Prelude.{◌≡◌, ◌≢◌, ◌⊎◌, ◌<◌, ℕ, ◌+◌, List, [], ◌∷◌, ◌++◌, map, length, sum, Some, None, Ok, Err}
 use Rattle.std.specs.List.{concat}
 use Rattle.buck_apt.specs.Apt.{apt_of}
 use Rattle.buck_book.specs.History.{HistoryParts}
@@ -9,6 +9,7 @@ use Rattle.buck_engine.specs.declared.fault.EngineFault.TheVariants.{Memory}
 use Rattle.buck_engine.specs.declared.fleet.serving.Order.TheVariants.{InTurn}
 use Rattle.buck_engine.specs.fleet.Running.{AnswersFleet}
 use Rattle.buck_engine.specs.text.Report.{IsReport}
+use Rattle.buck_held.specs.declared.stored.StoredRule.{StoredRule}
 use Rattle.buck_calls.specs.declared.turns.Texts.{Texts}
 use Rattle.buck_calls.specs.Books.{misused, rule_of}
 use Rattle.buck_calls.specs.Files.{IsToldOf}
@@ -40,12 +41,17 @@ AreRefused lengths bytes fault =
 abbrev pub AreMisused : ℕ → List ℕ → List ℕ → Type 0
 AreMisused rule lengths bytes = (rule_of rule ≡ None) ⊎ ((lengths ≡ []) ⊎ (sum lengths ≢ length bytes))
 
+-- and what can
+abbrev pub AreUsed : ℕ → List ℕ → List ℕ → Type 0
+AreUsed rule lengths bytes =
+    ((named : StoredRule) × (rule_of rule ≡ Some named)) × (0 < length lengths) × (sum lengths ≡ length bytes)
+
 -- the texts, or the line of the fault, which stands where the report would, and no journal; none where it is misused
 abbrev pub IsTurned : ℕ → List ℕ → List ℕ → List ℕ → List ℕ → ℕ → Type 0
 IsTurned rule lengths bytes journal report status =
     (AreMisused rule lengths bytes × (journal ≡ []) × (report ≡ []) × (status ≡ misused))
-    ⊎ ((HaveTexts lengths bytes journal report × (status ≡ 0))
-    ⊎ ((journal ≡ []) × IsToldOf (AreRefused lengths bytes) report status))
+    ⊎ (AreUsed rule lengths bytes × ((HaveTexts lengths bytes journal report × (status ≡ 0))
+    ⊎ ((journal ≡ []) × IsToldOf (AreRefused lengths bytes) report status)))
 
 -- a journal and a report were put one after the other, and their lengths are told
 abbrev pub ArePut : (List ℕ → List ℕ → ℕ → Type 0) → List ℕ → List ℕ → Texts → ℕ → Type 0

@@ -1,2 +1,3 @@
-pub mod Files
-pub mod Rooms
+pub mod Fits
+pub mod Statuses
+pub mod Misuse

@@ -10,7 +10,7 @@ use buck_calls::{buckfleet_buck, buckfleet_check, buckfleet_table};
 use std::alloc::Global;
 
 /// The two files are handed on in the other order: one that is read is refused, since it has stems and no instruction.
-#[tactic(auto, using(crate::proofs::Files::never_refused))]
+#[tactic(auto, using(crate::proofs::Statuses::never_refused))]
 pub fn files_swapped(alloc: Global, apt: &[u8], stm: &[u8], out: &mut [u8], written: &mut usize)
     requires apt { (i : InstructionParts) × (apt_of apt.now ≡ Ok i) }
     requires stm { (stems : List StemParts) × (stm_of stm.now ≡ Ok stems) }
@@ -21,7 +21,7 @@ pub fn files_swapped(alloc: Global, apt: &[u8], stm: &[u8], out: &mut [u8], writ
 }
 
 /// The status of a refused file is lost: the line is put, and the answer says that all is well.
-#[tactic(auto, using(crate::proofs::Files::never_done))]
+#[tactic(auto, using(crate::proofs::Statuses::never_done))]
 pub fn status_lost(alloc: Global, apt: &[u8], stm: &[u8], out: &mut [u8], written: &mut usize)
     requires { (why : AptFault) × (apt_of apt.now ≡ Err why) }
 {
@@ -31,7 +31,7 @@ pub fn status_lost(alloc: Global, apt: &[u8], stm: &[u8], out: &mut [u8], writte
 }
 
 /// A text that is longer than the room is cut off there, and the answer says that all is well.
-#[tactic(auto, using(crate::proofs::Rooms::done_fits))]
+#[tactic(auto, using(crate::proofs::Fits::done_fits))]
 pub fn text_cut_off_at_the_room(
     alloc: Global,
     apt: &[u8],
@@ -60,6 +60,7 @@ pub fn length_of_no_text_one_off(
 }
 
 /// There is a table of the number 4.
+#[tactic(auto, using(crate::proofs::Misuse::never_listed))]
 pub fn table_of_no_number(
     alloc: Global,
     apt: &[u8],

@@ -5,6 +5,7 @@ use buck_calls::{Texts, buckfleet_in_turn};
 use std::alloc::Global;
 
 /// Bytes are cut although the lengths aren't theirs.
+#[tactic(auto, using(crate::proofs::Misuse::other_lengths))]
 pub fn lengths_of_other_bytes(
     alloc: Global,
     files: &[u8],
@@ -20,6 +21,7 @@ pub fn lengths_of_other_bytes(
 }
 
 /// A rule of the number 3 is taken for another one.
+#[tactic(auto, using(crate::proofs::Misuse::no_rule))]
 pub fn rule_of_no_number(
     alloc: Global,
     files: &[u8],

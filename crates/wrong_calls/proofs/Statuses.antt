@@ -1,5 +1,5 @@
 -- Which statuses can't come of two files.
-use Rattle.std.proofs.Common.{◌≡◌, ◌⊎◌, ◌<◌, ◌≤◌, ℕ, List, [], ◌∷◌, length, Some, Result, Ok, Err, inl, inr, sym, ap, ◌∙◌, arith}
+use Rattle.std.proofs.Common.{◌≡◌, ◌<◌, ℕ, List, [], ◌∷◌, Some, Result, Ok, Err, inl, inr, sym, ap, ◌∙◌, arith}
 use Rattle.buck_apt.specs.declared.fault.AptFault.{AptFault}
 use Rattle.buck_apt.specs.Apt.{apt_of}
 use Rattle.buck_apt.specs.Faults.{apt_numbers}
@@ -14,8 +14,9 @@ use Rattle.buck_engine.specs.declared.fault.EngineFault.TheVariants.{Read, Write
 use Rattle.buck_engine.specs.Faults.{status_of, status_or}
 use Rattle.buck_engine.specs.run.Reading.{IsFileFault}
 use Rattle.buck_engine.specs.run.Bucking.{AnswersBuck}
-use Rattle.buck_calls.specs.Room.{IsPutAs, IsPut}
+use Rattle.buck_calls.specs.Room.{IsPut}
 use Rattle.buck_calls.specs.Files.{IsBucked}
+use Rattle.wrong_calls.proofs.Fits.{never_of}
 
 tag : {V F : Type 0} → Result V F → ℕ
 tag (Ok v) = 0
@@ -52,18 +53,6 @@ file_never_1 number named reading bytes v fault ok (inr (inl memory)) e =
     let is : 3 ≡ 1 = ap (λ f. status_of f) (sym memory) ∙ e in omega (arith, is)
 file_never_1 number named reading bytes v fault ok (inr (inr why)) e = not_both (reading bytes) v why.0 ok why.2.1
 
--- an answer's own status isn't this one: then the call's isn't either, but for 6
-fits_or_not : (a b : ℕ) → (a ≤ b) ⊎ (b < a)
-fits_or_not a b = grind arith
-
-own_status : {X : Type 0} (Answer : List X → ℕ → Type 0) (old new : List X) (written result s : ℕ) → s < 6
-    → ((items : List X) (status : ℕ) → Answer items status → status ≡ s → ⊥)
-    → IsPut Answer old new written result → result ≡ s → ⊥
-own_status Answer old new written result s lt never (items, status, a, put) is = elim (fits_or_not (length items) (length old)) [
-  | inl fits ↦ never items status a (sym (put.fits fits).1 ∙ is)
-  | inr small ↦ omega (arith, lt, is, (put.too_small small).1)
-]
-
 bucked_1 : (apt stm : List ℕ) (i : InstructionParts) (stems : List StemParts) → apt_of apt ≡ Ok i → stm_of stm ≡ Ok stems
     → (text : List ℕ) (status : ℕ) → IsBucked apt stm text status → status ≡ 1 → ⊥
 bucked_1 apt stm i stems a b text status (inl done) is = omega (arith, done.1, is)
@@ -81,10 +70,10 @@ bucked_0 apt stm refused a text status (inr (fault, why, text_is, status_is)) is
 pub never_refused : (apt stm old new : List ℕ) (written result : ℕ) (i : InstructionParts) (stems : List StemParts)
     → apt_of apt ≡ Ok i → stm_of stm ≡ Ok stems → IsPut (IsBucked apt stm) old new written result → result ≡ 1 → ⊥
 never_refused apt stm old new written result i stems a b put is =
-    own_status (IsBucked apt stm) old new written result 1 (omega arith) (bucked_1 apt stm i stems a b) put is
+    never_of (IsBucked apt stm) old new written result 1 (omega arith) (bucked_1 apt stm i stems a b) put is
 
 -- an instruction that is refused never ends well
 pub never_done : (apt stm old new : List ℕ) (written result : ℕ) (refused : AptFault) → apt_of apt ≡ Err refused
     → IsPut (IsBucked apt stm) old new written result → result ≡ 0 → ⊥
 never_done apt stm old new written result refused a put is =
-    own_status (IsBucked apt stm) old new written result 0 (omega arith) (bucked_0 apt stm refused a) put is
+    never_of (IsBucked apt stm) old new written result 0 (omega arith) (bucked_0 apt stm refused a) put is
