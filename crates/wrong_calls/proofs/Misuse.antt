@@ -9,7 +9,7 @@ use Rattle.wrong_calls.proofs.Fits.{own_status, never_of}
 
 listed_0 : (table : ℕ) (apt journal : List ℕ) → 3 < table → (text : List ℕ) (status : ℕ) → IsListed table apt journal text status
     → status ≡ 0 → ⊥
-listed_0 table apt journal lt text status (inl misused) is = omega (arith, misused.2.1, is)
+listed_0 table apt journal lt text status (inl misused) is = omega (arith, misused.2, is)
 listed_0 table apt journal lt text status (inr listed) is = omega (arith, listed.0, lt)
 
 -- no table of a greater number than 3 is put

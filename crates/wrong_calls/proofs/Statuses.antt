@@ -18,13 +18,13 @@ use Rattle.buck_calls.specs.Room.{IsPut}
 use Rattle.buck_calls.specs.Files.{IsBucked}
 use Rattle.wrong_calls.proofs.Fits.{never_of}
 
-tag : {V F : Type 0} → Result V F → ℕ
+abbrev tag : {V F : Type 0} → Result V F → ℕ
 tag (Ok v) = 0
 tag (Err f) = 1
 
 -- what is read isn't refused
 not_both : {V F : Type 0} (r : Result V F) (v : V) (f : F) → r ≡ Ok v → r ≡ Err f → ⊥
-not_both r v f ok err = let e : 0 ≡ 1 = sym (ap (λ x. tag x) ok) ∙ ap (λ x. tag x) err in omega (arith, e)
+not_both {V} {F} r v f ok err = let e : 0 ≡ 1 = ap (λ (x : Result V F). tag x) (sym ok ∙ err) in omega (arith, e)
 
 -- every fault has a status of its own
 status_or_some : (refused : ℕ) (numbers : List ℕ) → 0 < refused → status_or refused numbers ≡ 0 → ⊥
