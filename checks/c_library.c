@@ -13,7 +13,7 @@
 #include <stdlib.h>
 #include <string.h>
 
-enum { ROOM = 1 << 18, CALLS = 9, THREADS = 64, ROUNDS = 3 };
+enum { ROOM = 1 << 18, CALLS = 11, THREADS = 64, ROUNDS = 3 };
 
 static int wrong = 0;
 
@@ -59,7 +59,7 @@ void __wrap_free(void *block) {
     __real_free(block);
 }
 
-/* ---- the calls, by number: five that are answered, one that is unlawful, and three that are refused ---- */
+/* ---- the calls, by number: six that are answered, one that is unlawful, and four that are refused ---- */
 
 struct bytes {
     const uint8_t *at;
@@ -85,6 +85,30 @@ static uint8_t table(const uint8_t *first, size_t first_length, const uint8_t *s
     return buckfleet_table(first, first_length, second, second_length, BUCKFLEET_LOGS, text, room, length);
 }
 
+/* Both files one after the other, in memory of their own. */
+static uint8_t *joined(const uint8_t *first, size_t first_length, const uint8_t *second, size_t second_length) {
+    uint8_t *both = __real_malloc(first_length + second_length + 1);
+    if (!both)
+        exit(3);
+    if (first_length)
+        memcpy(both, first, first_length);
+    if (second_length)
+        memcpy(both + first_length, second, second_length);
+    return both;
+}
+
+/* A harvester of its own cuts the stems: its journal, and the report behind it. */
+static uint8_t turns(const uint8_t *first, size_t first_length, const uint8_t *second, size_t second_length, uint8_t *text,
+                     size_t room, size_t *length) {
+    uint8_t *both = joined(first, first_length, second, second_length);
+    size_t lengths[2] = { first_length, second_length };
+    buckfleet_texts texts = { 1, 1 };
+    uint8_t status = buckfleet_in_turn(both, first_length + second_length, lengths, 2, BUCKFLEET_LINEAR, text, room, &texts);
+    __real_free(both);
+    *length = texts.journal + texts.report;
+    return status;
+}
+
 static const struct {
     const char *name;
     call *ask;
@@ -100,6 +124,8 @@ static const struct {
     { "view of a head", view, &apt, &head, BUCKFLEET_UNLAWFUL },
     { "table", table, &apt, &journal, BUCKFLEET_OK },
     { "table of stems", table, &apt, &stm, BUCKFLEET_REFUSED },
+    { "in turn", turns, &apt, &stm, BUCKFLEET_OK },
+    { "in turn, swapped", turns, &stm, &apt, BUCKFLEET_REFUSED },
 };
 
 /* The text of each call where memory is ample. */
@@ -182,6 +208,34 @@ static void shown(void) {
          "no such table");
 }
 
+/* What can't be cut in turn, and the two texts of what can. */
+static void in_turn(void) {
+    static uint8_t text[ROOM];
+    uint8_t line[64];
+    size_t n = 0, lengths[3] = { apt.length, stm.length, stm.length }, great[2] = { SIZE_MAX, 2 };
+    buckfleet_texts texts = { 5, 5 };
+    uint8_t *both = joined(apt.at, apt.length, stm.at, stm.length);
+    size_t all = apt.length + stm.length;
+    want(buckfleet_in_turn(NULL, 0, NULL, 0, BUCKFLEET_STEP, NULL, 0, &texts) == BUCKFLEET_MISUSED
+             && texts.journal == 0 && texts.report == 0, "no files in turn");
+    texts.journal = texts.report = 5;
+    want(buckfleet_in_turn(both, all, lengths, 2, 3, text, ROOM, &texts) == BUCKFLEET_MISUSED
+             && texts.journal == 0 && texts.report == 0, "no such rule in turn");
+    want(buckfleet_in_turn(both, all, lengths, 3, BUCKFLEET_STEP, text, ROOM, &texts) == BUCKFLEET_MISUSED, "lengths of more");
+    want(buckfleet_in_turn(both, all, lengths, 1, BUCKFLEET_STEP, text, ROOM, &texts) == BUCKFLEET_MISUSED, "lengths of less");
+    want(buckfleet_in_turn(both, 1, great, 2, BUCKFLEET_STEP, text, ROOM, &texts) == BUCKFLEET_MISUSED, "lengths that wrap");
+    want(all_are(text, 0, 0, ROOM), "nothing is written where it is misused");
+    want(buckfleet_in_turn(apt.at, apt.length, lengths, 1, BUCKFLEET_STEP, text, ROOM, &texts) == BUCKFLEET_SEATS
+             && texts.journal == 0 && texts.report > 0, "no stem file");
+    want(buckfleet_in_turn(both, all, lengths, 2, BUCKFLEET_LINEAR, text, ROOM, &texts) == BUCKFLEET_OK
+             && texts.journal > 0 && texts.report > 0, "both texts");
+    want(buckfleet_check(apt.at, apt.length, text, texts.journal, line, sizeof line, &n) == BUCKFLEET_OK, "its journal is lawful");
+    want(buckfleet_report(apt.at, apt.length, text, texts.journal, text + texts.journal + texts.report,
+                          ROOM - texts.journal - texts.report, &n) == BUCKFLEET_OK
+             && n == texts.report && memcmp(text + texts.journal, text + texts.journal + n, n) == 0, "and its report is that");
+    __real_free(both);
+}
+
 static void edges(void) {
     uint8_t text[64];
     size_t n;
@@ -190,9 +244,11 @@ static void edges(void) {
     nothing(buckfleet_buck, "buck of nothing");
     nothing(buckfleet_check, "check of nothing");
     nothing(buckfleet_report, "report of nothing");
+    nothing(turns, "in turn of nothing");
     for (k = 0; k < CALLS; k++)
         rooms(k);
     shown();
+    in_turn();
     want(memcmp(right[0].text, "STEM ", 5) == 0, "a bucking");
     want(memcmp(right[1].text, "LAWFUL ", 7) == 0, "a check");
     want(memcmp(right[2].text, "ENTRY 0 ", 8) == 0, "a report");

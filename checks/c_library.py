@@ -10,13 +10,15 @@ scripts/c_library proves and builds the library. Then
    once under valgrind, where these are there (both of shorter files where memory is refused); and books in the same ways;
  - the examples in C and in Python cut a pine, and check and report a morning's journal: they print what the program
    prints, where it is built (`rt run -- --help` in crates/buckfleet), and the stored texts where these are there;
- - a journal's page and its tables are those of the program, where it is built;
+ - a journal's page and its tables are those of the program, where it is built; and the journal and the report of a
+   morning's three files in turn, by each rule;
  - a morning's first stem file is cut stem by stem into a book, in C and in Python, by each rule: they print what a fleet
    of one harvester prints, with the same journal, which the program finds lawful and by the rule;
  - each worked case of crates/run_cases that an instruction file and a stem file or a journal make up is asked of the
    library too, by Python;
  - where a folder of more cases is named, each case of its own folder there, whose file `args` has the words of the
-   program, with its files there or in `files`, is asked of both the program and the library, where the library has such a call.
+   program, with its files there or in `files`, is asked of both the program and the library, where the library has such a
+   call; of a fleet, both are asked for the same harvesters in turn.
 
 The last line is 'N passed, M failed', and the status is 0 where none failed. Where there is no C compiler it says so, and
 ends with status 2.
@@ -115,6 +117,9 @@ def examples(compiler, scratch, program):
                 tell(f"{name}: {word} {apt} {other}", found == wanted, f"{found} in the place of {wanted}")
     if program:
         shown(program)
+        for rule in ("steady", "linear", "step"):
+            files = [example(name) for name in ("morning.apt", "morning_1.stm", "morning_2.stm", "morning_3.stm")]
+            same_turns(f"in turn by {rule}", program, rule, files)
     book_examples(compiler, scratch, program)
     header = run([compiler, "-x", "c++", "-fsyntax-only", "-Wall", "-Wextra", "-Werror", os.path.join(FOLDER, "buckfleet.h")])
     tell("the header is C++ too", header.returncode == 0)
@@ -142,6 +147,17 @@ def same_as(name, done, found, is_page):
     if is_page and wanted[2] == 4:
         wanted = wanted[0], "", 0
     tell(name, found == wanted, f"{found} in the place of {wanted}"[:2000])
+
+
+def same_turns(name, program, rule, files):
+    """The program's journal and report of harvesters in turn are the library's."""
+    with tempfile.TemporaryDirectory() as scratch:
+        journal = os.path.join(scratch, "journal")
+        done = run([program, "fleet", "--quiet", "--in-turn", "--rule", rule, "--journal", journal, *files])
+        kept = read(journal) if os.path.exists(journal) else b""
+    text, line, status = answer(library().in_turn, read(files[0]), [read(file) for file in files[1:]], rule)
+    same_as(name, done, (text and text[1], line, status), False)
+    tell(f"{name}, its journal", kept == (text and text[0]))
 
 
 def shown(program):
@@ -261,6 +277,23 @@ def cases():
     print(f"{number} worked cases were asked of the library")
 
 
+def fleet_case(name, program, at, words):
+    """Whether the harvesters of a case's fleet were asked in turn, of both."""
+    given = argparse.ArgumentParser(add_help=False, exit_on_error=False)
+    given.add_argument("--journal")
+    given.add_argument("--rule", default="linear", choices=("steady", "linear", "step"))
+    given.add_argument("files", nargs="*")
+    try:
+        given = given.parse_args(words)
+    except argparse.ArgumentError:
+        return 0
+    files = [os.path.join(at, file) for file in given.files]
+    if not files or not all(os.path.isfile(file) for file in files):
+        return 0
+    same_turns(f"case {name}, in turn", program, given.rule, files)
+    return 1
+
+
 def more_cases(folder, program):
     """Cases of a folder: each is a folder of its own, with files and the words of the program, in `args`."""
     buckfleet = library()
@@ -273,6 +306,9 @@ def more_cases(folder, program):
         words = [word for word in words if word]
         at = os.path.join(folder, name, "files")
         at = at if os.path.isdir(at) else os.path.join(folder, name)
+        if words and words[0] == "fleet":
+            number += fleet_case(name, program, at, words[1:])
+            continue
         more = {"buck": 0, "check": 0, "report": 0, "view": 0, "table": 1}.get(words[0]) if words else None
         if more is None or len(words) != 3 + more:
             continue

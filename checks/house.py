@@ -49,7 +49,7 @@ WIDE = {
     "buck_unlawful": 10,
     "buck_view": 8,
     "buck_engine": 17,
-    "buck_c": 1,
+    "buck_calls": 1,
     "buck_command": 1,
     "buckfleet": 4,
 }

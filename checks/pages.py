@@ -48,7 +48,7 @@ PROMISES = [
         ],
     ),
     ("the world and its runs", ["buck_world::*"]),
-    ("the library that C calls", ["buck_c::*"]),
+    ("the library that C calls", ["buck_calls::*", "buck_c::*"]),
     ("all other public calls", ["*"]),
 ]
 

@@ -33,13 +33,14 @@ extern "C" {
 #endif
 
 /* The version of these calls. It grows by one where one of them changes, or one is added. */
-#define BUCKFLEET_VERSION 3
+#define BUCKFLEET_VERSION 4
 
 /* How a call ended. Those up to 5 are exit statuses of the program `buckfleet`. */
 enum {
     BUCKFLEET_OK = 0,
     BUCKFLEET_REFUSED = 1,   /* the bytes of a file, a stem or targets are refused */
-    BUCKFLEET_MEMORY = 3,    /* memory ran out */
+    BUCKFLEET_SEATS = 2,     /* there are not 1 to 64 stem files */
+    BUCKFLEET_MEMORY = 3,    /* memory ran out, or there are more stems than a history has room for */
     BUCKFLEET_UNLAWFUL = 4,  /* the journal isn't lawful for the instruction */
     BUCKFLEET_READ = 5,      /* a file has more than 67,108,864 bytes */
     BUCKFLEET_TOO_SMALL = 6, /* the caller's room is too small; `*written` says how much is needed */
@@ -100,6 +101,32 @@ uint8_t buckfleet_view(const uint8_t *apt, size_t apt_length, const uint8_t *jou
 uint8_t buckfleet_table(const uint8_t *apt, size_t apt_length, const uint8_t *journal, size_t journal_length,
                         uint8_t table, uint8_t *out, size_t out_length, size_t *written);
 
+/* The rules that make prices anew where a period ends. They are those of the program's `--rule`. */
+enum {
+    BUCKFLEET_STEADY = 0, /* base prices, always */
+    BUCKFLEET_LINEAR = 1, /* base prices, moved by as much of the span as a class is off its target */
+    BUCKFLEET_STEP = 2    /* base prices, moved by the whole span where a class is off its target */
+};
+
+/* How long two texts are that stand in `out`, one after the other. */
+typedef struct buckfleet_texts {
+    size_t journal; /* the journal, which stands first; 0 where there is a fault */
+    size_t report;  /* the report, or the line of the fault */
+} buckfleet_texts;
+
+/*
+ * Cuts the stems of some stem files by a rule, each file by a harvester of its own, in turn, as
+ * `buckfleet fleet --in-turn --rule RULE --journal OUT` does: in each round the k-th harvester cuts the next stem of the
+ * k-th file, under the prices that are then in force. The same files always give the same texts. `files` has the bytes of
+ * the instruction file and of 1 to 64 stem files, one after the other, and `lengths` the length of each, the
+ * instruction's first. The journal goes to `out`, and the report right behind it, or the line of a fault alone; what the
+ * room says of `*written` is said of `*texts` here, whose lengths together are what is needed. The answer is the program's
+ * exit status (0, 1, 2, 3 or 5), BUCKFLEET_TOO_SMALL, or BUCKFLEET_MISUSED with both lengths 0 where there is no such
+ * rule or no instruction, or the lengths don't add up to `files_length`.
+ */
+uint8_t buckfleet_in_turn(const uint8_t *files, size_t files_length, const size_t *lengths, size_t lengths_length,
+                          uint8_t rule, uint8_t *out, size_t out_length, buckfleet_texts *texts);
+
 /*
  * A book: what is cut stem by stem, as the stems are felled, and the prices that follow from it.
  *
@@ -122,13 +149,6 @@ typedef struct buckfleet_book {
 } buckfleet_book;
 
 #define BUCKFLEET_NO_BOOK { 0, 0 }
-
-/* The rules that make a book's prices anew where a period ends. They are those of the program's `--rule`. */
-enum {
-    BUCKFLEET_STEADY = 0, /* base prices, always */
-    BUCKFLEET_LINEAR = 1, /* base prices, moved by as much of the span as a class is off its target */
-    BUCKFLEET_STEP = 2    /* base prices, moved by the whole span where a class is off its target */
-};
 
 /* What a book is opened with. */
 typedef struct buckfleet_terms {

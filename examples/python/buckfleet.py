@@ -5,12 +5,13 @@
     text = buckfleet.report(apt, journal)
     page = buckfleet.view(apt, journal, ("morning.apt", "morning.jrn"))
     table = buckfleet.table(apt, journal, "logs")
+    journal, report = buckfleet.in_turn(apt, (stm, another_stm), rule="linear")
 
     with buckfleet.Book(apt, rule="linear") as book:
         cutting = book.cut(1, buckfleet.Stem(number=7, species=1, samples=diameters))
         journal = book.journal()
 
-The first five take and give the bytes of files; a book is what is cut stem by stem. The shared library is looked for in
+The first six take and give the bytes of files; a book is what is cut stem by stem. The shared library is looked for in
 $BUCKFLEET_LIBRARY, else beside this file, else in out/c of the repository. A call that is refused raises `Refused`, whose `line` is what the program says.
 """
 import ctypes
@@ -18,10 +19,10 @@ import os
 from dataclasses import dataclass
 from typing import NamedTuple, Optional, Sequence, Tuple
 
-OK, REFUSED, MEMORY, UNLAWFUL, TOO_SMALL, CLOSED, MISUSED, FULL = 0, 1, 3, 4, 6, 7, 8, 9
+OK, REFUSED, SEATS, MEMORY, UNLAWFUL, READ, TOO_SMALL, CLOSED, MISUSED, FULL = range(10)
 RULES = ("steady", "linear", "step")
 TABLES = ("classes", "postings", "logs", "degrees")
-VERSION = 3
+VERSION = 4
 MOST_LOGS = 80
 NO_DEGREE = 4294967295
 
@@ -62,7 +63,7 @@ _lib.buckfleet_version.restype = ctypes.c_uint32
 if _lib.buckfleet_version() != VERSION:
     raise OSError("libbuckfleet.so has other calls")
 for _name in (
-    *("buck", "check", "report", "view", "table"),
+    *("buck", "check", "report", "view", "table", "in_turn"),
     *("open", "close", "cut", "retarget", "state", "prices", "targets", "counts", "degree", "journal"),
 ):
     getattr(_lib, "buckfleet_" + _name).restype = ctypes.c_uint8
@@ -125,6 +126,29 @@ def view(apt: bytes, journal: bytes, names: Tuple[str, str]) -> bytes:
 def table(apt: bytes, journal: bytes, what: str) -> bytes:
     """A table of a lawful journal: of its classes, postings, logs or degrees."""
     return _text(_lib.buckfleet_table, apt, journal, ctypes.c_uint8(TABLES.index(what)))
+
+
+class _Texts(ctypes.Structure):
+    _fields_ = [("journal", ctypes.c_size_t), ("report", ctypes.c_size_t)]
+
+
+def in_turn(apt: bytes, stms: Sequence[bytes], rule: str = "linear") -> Tuple[bytes, bytes]:
+    """The journal and the report of harvesters that take turns, one for each stem file, by a rule."""
+    lengths = _list(ctypes.c_size_t, [len(file) for file in (apt, *stms)])
+    files = apt + b"".join(stms)
+    given = ctypes.c_char_p(files), ctypes.c_size_t(len(files)), *lengths, ctypes.c_uint8(RULES.index(rule))
+    room = (ctypes.c_uint8 * 4096)()
+    while True:
+        texts = _Texts()
+        status = _lib.buckfleet_in_turn(*given, room, ctypes.c_size_t(len(room)), ctypes.byref(texts))
+        if status != TOO_SMALL:
+            break
+        room = (ctypes.c_uint8 * (texts.journal + texts.report))()
+    journal = bytes(room[: texts.journal])
+    report = bytes(room[texts.journal : texts.journal + texts.report])
+    if status != OK:
+        raise Refused(status, report.decode().rstrip("\n"))
+    return journal, report
 
 
 @dataclass(frozen=True)

@@ -27,7 +27,7 @@ fn cut_one<F: Fn(&Standing) -> u64 + Drop>(
     requires { Answers F.Fn book.old.rule }
     ensures { book.new.rule ≡ book.old.rule }
 {
-    if !planner.sheet().same(book.sheet()) {
+    if planner.sheet().version() != book.version() {
         planner.renew(alloc, book.sheet().clone().ok()?).ok()?;
     }
     let Ok(plan) = Plan::make_with(alloc, planner, stem.clone().ok()?) else {

@@ -1,14 +1,9 @@
 //! The bucker for programs in other languages: a static library with a C header, `include/buckfleet.h`.
 //!
-//! Each exported function is one that C calls; its text in the header is for the caller. This crate has no logic of its
-//! own: a call hands its arguments to the engines, and puts what they answer where the caller wants it.
+//! Each exported function is the one of that name of `buck_calls`, with its clauses again; its text in the header is
+//! for the caller. No crate can stand on a static library, so what the calls do stands in that library, and their names
+//! here.
 #![tactic(auto)]
 
 mod book;
 mod files;
-mod journal;
-mod pages;
-mod room;
-mod showing;
-mod state;
-mod telling;

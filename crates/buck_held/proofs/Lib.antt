@@ -1,3 +1,4 @@
 pub mod Walks
 pub mod Boxes
 pub mod Adding
+pub mod Sheets

@@ -5,6 +5,7 @@ ghost use Rattle.buck_book.specs.Refused.{IsFull, IsDemandRefusal};
 ghost use Rattle.buck_rule.specs.Relation.{Meets};
 ghost use Rattle.buck_rule.specs.Standing.{IsInRange};
 ghost use Rattle.buck_held.specs.Kept.{GivesBy, HasCut, HasRetargeted, IsDemandRefused, price_by};
+ghost use Rattle.buck_held.specs.inner.Resting.{IsSheetOf};
 
 use crate::stored::StoredRule;
 use buck_book::{Book, Demand, DemandRefusal, Entry, Plan, Refusal};
@@ -49,17 +50,21 @@ impl From<Memory> for CutRefusal {
     }
 }
 
-/// Plans a stem under the sheet in force.
+/// Plans a stem under the sheet in force, by a planner whose sheet is one of the book's.
+#[tactic(auto, using(crate::proofs::Sheets::is_in_force, crate::proofs::Sheets::in_force_is))]
 fn plan<F: Drop>(
     alloc: Global,
     book: &Book<F>,
     planner: &mut Planner,
     stem: Arc<Stem>,
 ) -> Result<Plan, Memory>
+    requires planner { IsSheetOf book.now.history planner.old }
+    ensures planner { IsSheetOf book.now.history planner.new }
     ensures stem { IfOk result (λ p. p.stem ≡ stem.value) }
     ensures sheet { IfOk result (λ p. p.sheet ≡ in_force book.now.history) }
 {
-    if !planner.sheet().same(book.sheet()) {
+    if planner.sheet().version() != book.version() {
+        let _lawful = book.entries();
         planner.renew(alloc, book.sheet().clone()?)?;
     }
     Plan::make_with(alloc, planner, stem)
@@ -91,6 +96,7 @@ fn commit<F: Fn(&Standing) -> u64 + Drop>(
 }
 
 /// Cuts a stem for a harvester, by a rule that is stored so.
+#[tactic(auto, using(crate::proofs::Sheets::stays))]
 fn cut_by<F: Fn(&Standing) -> u64 + Drop>(
     alloc: Global,
     book: &mut Book<F>,
@@ -100,6 +106,8 @@ fn cut_by<F: Fn(&Standing) -> u64 + Drop>(
 ) -> Result<Entry, CutRefusal>
     requires gives { GivesBy F.Fn book.old.rule rule }
     requires harvester { (0 < felled.harvester) × (felled.harvester ≤ 64) }
+    requires planner { IsSheetOf book.old.history planner.old }
+    ensures planner { IsSheetOf book.new.history planner.new }
     ensures capacity { book.new.capacity ≡ book.old.capacity }
     ensures cut { IfOk result (HasCut rule felled.harvester felled.stem.value book.old.history book.new.history) }
     ensures left { IfErr result (λ _. book.new.history ≡ book.old.history) }
@@ -159,6 +167,8 @@ pub(crate) fn cut(
     felled: Felled,
 ) -> (Book<()>, Result<Entry, CutRefusal>)
     requires harvester { (0 < felled.harvester) × (felled.harvester ≤ 64) }
+    requires planner { IsSheetOf book.history planner.old }
+    ensures planner { IsSheetOf result.0.history planner.new }
     ensures capacity { result.0.capacity ≡ book.capacity }
     ensures cut { IfOk result.1 (HasCut rule felled.harvester felled.stem.value book.history result.0.history) }
     ensures left { IfErr result.1 (λ _. result.0.history ≡ book.history) }

@@ -15,7 +15,8 @@ use std::alloc::Global;
 use std::marker::Model;
 use std::sync::Arc;
 
-/// A book that rests between its calls, the planner of its next stem, and the name of its rule.
+/// A book that rests between its calls, the planner of its next stem, and the name of its rule. The planner's sheet is
+/// the book's of the same version, which may be an earlier one than that in force.
 #[derive(Drop)]
 pub struct Kept {
     rule: StoredRule,
@@ -26,13 +27,13 @@ pub struct Kept {
 impl Model for Kept {
     ghost use Rattle.std.specs.Prelude.{IsSome};
     ghost use Rattle.buck_held.specs.Kept.{KeptParts};
-    ghost use Rattle.buck_held.specs.inner.Resting.{book_in, kept_of};
+    ghost use Rattle.buck_held.specs.inner.Resting.{IsSheetOf, book_in, kept_of};
 
     ghost Value = { KeptParts };
 
     ghost view = { λ k. kept_of k.rule (book_in k.book) };
 
-    ghost invariant = { λ k. IsSome k.book };
+    ghost invariant = { λ k. IsSome k.book × IsSheetOf (book_in k.book).history k.planner };
 }
 
 /// A book that asks no rule until it has one, with the base sheet.
@@ -47,6 +48,7 @@ fn resting(alloc: Global, instruction: Arc<Instruction>, capacity: u32) -> Resul
 
 impl Kept {
     /// A book with no posting, which may have from 1 to 1,000,000. Refused as `Memory` alone.
+    #[tactic(auto, using(crate::proofs::Sheets::in_force_is))]
     pub fn open(
         alloc: Global,
         instruction: Arc<Instruction>,
@@ -57,6 +59,7 @@ impl Kept {
         ensures { IfOk result (λ k. k ≡ opened rule instruction.value capacity) }
     {
         let book = resting(alloc, instruction, capacity)?;
+        let _lawful = book.entries();
         let planner = Planner::make(alloc, book.sheet().clone()?)?;
         Ok(Kept {
             rule,

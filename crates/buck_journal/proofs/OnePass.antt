@@ -284,6 +284,9 @@ demand_leads c found text called left l t = λ items others h read. (
 )
 
 -- ---- posting after posting
+pub postings_start : (text : List ℕ) → LeadsPostings text [] text
+postings_start text = λ items others h r. (items, h, r)
+
 pub postings_go_on : (text rest left : List ℕ) (ps : List Posting) (p : Posting)
     → LeadsPostings text ps rest → LeadsPosting rest p left → LeadsPostings text (ps ++ p ∷ []) left
 postings_go_on text rest left ps p through one = λ items others h r.

@@ -1,8 +1,9 @@
 -- A book that rests, without its rule.
-use Rattle.std.specs.Prelude.{◌≡◌, ℕ, [], ◌∷◌, Option, Some, None}
+use Rattle.std.specs.Prelude.{◌≡◌, ◌<◌, ℕ, [], ◌∷◌, length, Option, Some, None}
 use Rattle.buck_apt.specs.Instruction.{InstructionParts}
-use Rattle.buck_value.specs.Sheet.{base_prices}
+use Rattle.buck_value.specs.Sheet.{SheetParts, base_prices}
 use Rattle.buck_book.specs.Book.{BookParts}
+use Rattle.buck_book.specs.History.{HistoryParts, sheet_at}
 use Rattle.buck_held.specs.declared.stored.StoredRule.{StoredRule}
 use Rattle.buck_held.specs.Kept.{KeptParts}
 
@@ -32,3 +33,8 @@ pub record IsOpened (instruction : InstructionParts) (capacity : ℕ) (b : Resti
   pub history_is : b.history
       ≡ record { instruction = instruction; sheets = base_prices instruction ∷ []; postings = [] }
   pub capacity_is : b.capacity ≡ capacity
+
+-- a sheet is that of its version in a history
+pub record IsSheetOf (h : HistoryParts) (s : SheetParts) : Type 0 where
+  pub there : s.version < length h.sheets
+  pub is : s ≡ sheet_at h.instruction h.sheets s.version

@@ -1,4 +1,0 @@
-pub mod Told
-pub mod Cuttings
-pub mod Prices
-pub mod Paged

@@ -1,0 +1,7 @@
+pub mod Told
+pub mod Cuttings
+pub mod Prices
+pub mod Paged
+pub mod Splits
+pub mod Turned
+pub mod Logs

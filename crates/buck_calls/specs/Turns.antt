@@ -1,0 +1,61 @@
+-- What the call answers by which harvesters take turns, over the bytes of files: a journal, a report and a status.
+use Rattle.std.specs.Prelude.{◌≡◌, ◌≢◌, ◌⊎◌, ◌<◌, ℕ, ◌+◌, List, [], ◌∷◌, ◌++◌, map, length, sum, Some, None, Ok, Err}
+use Rattle.std.specs.List.{concat}
+use Rattle.buck_apt.specs.Apt.{apt_of}
+use Rattle.buck_book.specs.History.{HistoryParts}
+use Rattle.buck_journal.specs.Written.{journal_text}
+use Rattle.buck_engine.specs.declared.fault.EngineFault.{EngineFault}
+use Rattle.buck_engine.specs.declared.fault.EngineFault.TheVariants.{Memory}
+use Rattle.buck_engine.specs.declared.fleet.serving.Order.TheVariants.{InTurn}
+use Rattle.buck_engine.specs.fleet.Running.{AnswersFleet}
+use Rattle.buck_engine.specs.text.Report.{IsReport}
+use Rattle.buck_held.specs.declared.stored.StoredRule.{StoredRule}
+use Rattle.buck_calls.specs.declared.turns.Texts.{Texts}
+use Rattle.buck_calls.specs.Books.{misused, rule_of}
+use Rattle.buck_calls.specs.Files.{IsToldOf}
+use Rattle.buck_calls.specs.Room.{IsPutAs}
+
+-- some bytes are these files, one after the other, each of its length
+abbrev pub AreFiles : List ℕ → List ℕ → List (List ℕ) → Type 0
+AreFiles lengths bytes files = (map (λ file. length file) files ≡ lengths) × (concat files ≡ bytes)
+
+-- a journal and a report are those of one history of the files, whose harvesters took turns
+abbrev pub AreTexts : List ℕ → List (List ℕ) → List ℕ → List ℕ → Type 0
+AreTexts apt stms journal report =
+    (h : HistoryParts) × AnswersFleet apt_of InTurn (Some apt) (map Some stms) (Ok h)
+    × (journal ≡ journal_text h.sheets h.postings) × IsReport h report
+
+-- the texts of one history of the first file's instruction and the stems of the others
+abbrev pub HaveTexts : List ℕ → List ℕ → List ℕ → List ℕ → Type 0
+HaveTexts lengths bytes journal report =
+    (apt : List ℕ) × (stms : List (List ℕ)) × AreFiles lengths bytes (apt ∷ stms) × AreTexts apt stms journal report
+
+-- why there is none: memory ran out, or the first file that has a fault, or what went wrong after all of them
+abbrev pub AreRefused : List ℕ → List ℕ → EngineFault → Type 0
+AreRefused lengths bytes fault =
+    (fault ≡ Memory)
+    ⊎ ((apt : List ℕ) × (stms : List (List ℕ)) × AreFiles lengths bytes (apt ∷ stms)
+    × AnswersFleet apt_of InTurn (Some apt) (map Some stms) (Err fault))
+
+-- what is handed over can't be cut: there is no such rule or no file, or the lengths aren't those of the bytes
+abbrev pub AreMisused : ℕ → List ℕ → List ℕ → Type 0
+AreMisused rule lengths bytes = (rule_of rule ≡ None) ⊎ ((lengths ≡ []) ⊎ (sum lengths ≢ length bytes))
+
+-- and what can
+abbrev pub AreUsed : ℕ → List ℕ → List ℕ → Type 0
+AreUsed rule lengths bytes =
+    ((named : StoredRule) × (rule_of rule ≡ Some named)) × (0 < length lengths) × (sum lengths ≡ length bytes)
+
+-- the texts, or the line of the fault, which stands where the report would, and no journal; none where it is misused
+abbrev pub IsTurned : ℕ → List ℕ → List ℕ → List ℕ → List ℕ → ℕ → Type 0
+IsTurned rule lengths bytes journal report status =
+    (AreMisused rule lengths bytes × (journal ≡ []) × (report ≡ []) × (status ≡ misused))
+    ⊎ (AreUsed rule lengths bytes × ((HaveTexts lengths bytes journal report × (status ≡ 0))
+    ⊎ ((journal ≡ []) × IsToldOf (AreRefused lengths bytes) report status)))
+
+-- a journal and a report were put one after the other, and their lengths are told
+abbrev pub ArePut : (List ℕ → List ℕ → ℕ → Type 0) → List ℕ → List ℕ → Texts → ℕ → Type 0
+ArePut Answer old new texts result =
+    (journal : List ℕ) × (report : List ℕ) × (status : ℕ) × Answer journal report status
+    × (texts.journal ≡ length journal)
+    × IsPutAs (journal ++ report) status old new (texts.journal + texts.report) result

@@ -1,0 +1,26 @@
+//! The calls of the library for other languages, as functions of this one: the crate `buck_c` exports each by its name.
+//!
+//! What crosses is in C's layout: bytes and numbers with their lengths, structs of numbers, and a block that a book is
+//! kept in. This crate has no logic of its own: a call hands its arguments to an engine or to a kept book, and puts
+//! what they answer where the caller wants it.
+#![tactic(auto)]
+
+mod book;
+mod files;
+mod journal;
+mod pages;
+mod room;
+mod showing;
+mod state;
+mod telling;
+mod turns;
+
+pub use book::{Terms, buckfleet_close, buckfleet_cut, buckfleet_open, buckfleet_retarget};
+pub use files::{buckfleet_buck, buckfleet_check, buckfleet_report, buckfleet_version};
+pub use journal::buckfleet_journal;
+pub use pages::{buckfleet_table, buckfleet_view};
+pub use showing::{Cut, CutLog};
+pub use state::{
+    State, buckfleet_counts, buckfleet_degree, buckfleet_prices, buckfleet_state, buckfleet_targets,
+};
+pub use turns::{Texts, buckfleet_in_turn};

@@ -1,0 +1,165 @@
+//! The call by which harvesters take turns, over the bytes of an instruction file and stem files.
+ghost use Rattle.std.specs.Prelude.{◌≡◌, ◌<◌, ◌≤◌, ◌↔◌, Some, Err, IfOk, IfErr, IsTrue, map, length, sum};
+ghost use Rattle.buck_apt.specs.Apt.{apt_of};
+ghost use Rattle.buck_rule.specs.Stored.{Answers};
+ghost use Rattle.buck_engine.specs.declared.fleet.serving.Order.TheVariants.{InTurn};
+ghost use Rattle.buck_engine.specs.fleet.Running.{AnswersFleet};
+ghost use Rattle.buck_calls.specs.Turns.{AreFiles, ArePut, AreRefused, AreTexts, HaveTexts, IsTurned};
+
+use crate::book::{DONE, MISUSED, rule_of};
+use crate::room::put_both;
+use crate::telling::put_fault;
+use buck_engine::{EngineFault, run_in_turn};
+use buck_held::StoredRule;
+use buck_rule::{Rule, Standing, linear, steady, step};
+use std::alloc::{AllocError, Global};
+
+/// How long two texts are that stand one after the other in the caller's room.
+#[repr(C)]
+#[derive(Clone, Copy, Drop)]
+pub struct Texts {
+    /// The length of the journal, which stands first.
+    pub journal: usize,
+    /// The length of the report, or of the line of a fault.
+    pub report: usize,
+}
+
+/// The texts of one history.
+#[derive(Drop)]
+struct Turned {
+    journal: Vec<u8>,
+    report: Vec<u8>,
+}
+
+/// Whether files of these lengths are so long together.
+#[tactic(auto, using(crate::proofs::Splits::sum_drop, crate::proofs::Splits::sum_behind))]
+fn are_lengths(lengths: &[usize], size: usize) -> bool
+    ensures { IsTrue result ↔ (sum lengths.now ≡ size) }
+{
+    let mut left = size;
+    for length in lengths {
+        if *length > left {
+            return false;
+        }
+        left -= *length;
+    }
+    left == 0
+}
+
+/// The files of these lengths, which stand one after the other.
+fn files_of<'x>(
+    alloc: Global,
+    bytes: &'x [u8],
+    lengths: &[usize],
+) -> Result<Vec<&'x [u8]>, AllocError>
+    requires { sum lengths.now ≡ length bytes.now }
+    ensures { IfOk result (λ files. AreFiles lengths.now bytes.now (map (λ file. file.now) files.items)) }
+{
+    let mut files = Vec::new(alloc);
+    let mut left = bytes;
+    for length in lengths {
+        let (file, behind) = left.split_at(*length);
+        files.push(file)?;
+        left = behind;
+    }
+    Ok(files)
+}
+
+/// The texts of harvesters that take turns, by a rule.
+fn texts_by<'x, F: Fn(&Standing) -> u64 + Drop>(
+    alloc: Global,
+    apt: &mut &'x [u8],
+    stms: &mut [&'x [u8]],
+    rule: Rule<F>,
+) -> Result<Turned, EngineFault>
+    requires answers { Answers F.Fn rule }
+    ensures ok { IfOk result (λ texts.
+        AreTexts apt.old.now (map (λ file. file.now) stms.old) texts.journal.items texts.report.items) }
+    ensures refused { IfErr result (λ fault.
+        AnswersFleet apt_of InTurn (Some apt.old.now) (map Some (map (λ file. file.now) stms.old)) (Err fault)) }
+{
+    let mut journal = Vec::new(alloc);
+    let mut report = Vec::new(alloc);
+    match run_in_turn(alloc, apt, stms, rule, Some(&mut journal), &mut report) {
+        Ok(()) => Ok(Turned { journal, report }),
+        // A list takes each text, but where a growth is refused.
+        Err(EngineFault::Write) => Err(EngineFault::Memory),
+        Err(fault) => Err(fault),
+    }
+}
+
+/// The same by a stored rule.
+fn texts_of<'x>(
+    alloc: Global,
+    apt: &mut &'x [u8],
+    stms: &mut [&'x [u8]],
+    rule: StoredRule,
+) -> Result<Turned, EngineFault>
+    ensures ok { IfOk result (λ texts.
+        AreTexts apt.old.now (map (λ file. file.now) stms.old) texts.journal.items texts.report.items) }
+    ensures refused { IfErr result (λ fault.
+        AnswersFleet apt_of InTurn (Some apt.old.now) (map Some (map (λ file. file.now) stms.old)) (Err fault)) }
+{
+    match rule {
+        StoredRule::Steady => texts_by(alloc, apt, stms, Rule::new(|s: &Standing| steady(s))),
+        StoredRule::Linear => texts_by(alloc, apt, stms, Rule::new(|s: &Standing| linear(s))),
+        StoredRule::Step => texts_by(alloc, apt, stms, Rule::new(|s: &Standing| step(s))),
+    }
+}
+
+/// The texts of the first file's instruction and the stems of the others.
+fn take_turns<'x>(
+    alloc: Global,
+    bytes: &'x [u8],
+    lengths: &[usize],
+    rule: StoredRule,
+) -> Result<Turned, EngineFault>
+    requires some { 0 < length lengths.now }
+    requires fill { sum lengths.now ≡ length bytes.now }
+    ensures ok { IfOk result (λ texts. HaveTexts lengths.now bytes.now texts.journal.items texts.report.items) }
+    ensures refused { IfErr result (AreRefused lengths.now bytes.now) }
+{
+    let (mut apt, stms) = bytes.split_at(lengths[0]);
+    let mut stms = files_of(alloc, stms, &lengths[1..])?;
+    texts_of(alloc, &mut apt, stms.as_mut_slice(), rule)
+}
+
+/// Cuts the stems of each stem file by a harvester of its own, in turn, as the program's `fleet --in-turn` does by a
+/// rule: 0 steady, 1 linear, 2 step. `files` has the bytes of the instruction file and of the stem files, one after the
+/// other, and `lengths` the length of each. The journal goes to the start of `out`, and the report behind it; of a
+/// fault the line alone. Their lengths go to `texts`. The answer is the program's exit status, 6 where `out` is too
+/// small: then nothing else is written, or 8 where there is no such rule, no instruction file, or the lengths aren't
+/// those of the bytes: then no text is put.
+pub fn buckfleet_in_turn(
+    alloc: Global,
+    files: &[u8],
+    lengths: &[usize],
+    rule: u8,
+    out: &mut [u8],
+    texts: &mut Texts,
+) -> u8
+    ensures { ArePut (IsTurned rule lengths.now files.now) out.old out.new texts.new result }
+{
+    let Some(rule) = rule_of(rule) else {
+        return put_both(&[], &[], MISUSED, out, texts);
+    };
+    if lengths.is_empty() {
+        return put_both(&[], &[], MISUSED, out, texts);
+    }
+    if !are_lengths(lengths, files.len()) {
+        return put_both(&[], &[], MISUSED, out, texts);
+    }
+    match take_turns(alloc, files, lengths, rule) {
+        Ok(turned) => put_both(
+            turned.journal.as_slice(),
+            turned.report.as_slice(),
+            DONE,
+            out,
+            texts,
+        ),
+        Err(fault) => {
+            texts.journal = 0;
+            put_fault(alloc, &fault, out, &mut texts.report)
+        }
+    }
+}
