@@ -1,5 +1,5 @@
 /*
- * Cuts stems some times over into a book of the C library, by the linear rule, and prints what crates/bench_stems prints
+ * Cuts stems some times over into a book of the C library, by the linear rule, and prints what crates/bench_calls prints
  * of them. bench/stems.py writes the file of the stems: numbers of 32 bits, which are of each stem its number, its species,
  * how many diameters and how many zones, then the diameters, and then start and grade of each zone.
  *

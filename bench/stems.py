@@ -1,10 +1,10 @@
 #!/usr/bin/env python3
 """Counts the instructions of one stem through the C library, beside those of its plan and commit alone.
 
-    python3 bench/stems.py [--stems N] [--module MM] [--period N] [--zoned PERCENT] [--bin PATH/bench_stems]
+    python3 bench/stems.py [--stems N] [--module MM] [--period N] [--zoned PERCENT] [--bin PATH/bench_calls]
 
 It makes a workload (bench/make_workload.py), and lets callgrind count the instructions of two programs that cut its stems
-once and twice over into one book, by the linear rule: crates/bench_stems, by the planner that is kept, `prepare` and
+once and twice over into one book, by the linear rule: crates/bench_calls, by the planner that is kept, `prepare` and
 `commit`, over stems that were read before; and bench/stems.c, by `buckfleet_cut`, from diameters and zones. Twice less once
 is what the stems cost, with no start and no reading. Both must print the same: entries, sheets, and the worth of all.
 The last line is the ratio; the status is 1 where it is above 1.1. valgrind and a C compiler are wanted, and the library
@@ -18,17 +18,11 @@ import subprocess
 import sys
 import tempfile
 
+from building import built
+
 HERE = os.path.dirname(os.path.abspath(__file__))
 TOP = os.path.dirname(HERE)
 LIBRARY = os.path.join(TOP, "out", "c")
-
-
-def built():
-    """Proves and builds crates/bench_stems, and gives its path."""
-    folder = os.path.join(TOP, "crates", "bench_stems")
-    words = ["data/morning.apt", "data/morning_1.stm", "1"]
-    subprocess.run(["rt", "run", "--", *words], cwd=folder, check=True, stdout=subprocess.DEVNULL)
-    return os.path.join(folder, "out", "bench_stems")
 
 
 def write_stems(text, name):
@@ -71,7 +65,7 @@ def main():
     reader.add_argument("--zoned", type=int, default=0)
     reader.add_argument("--bin")
     words = reader.parse_args()
-    program = words.bin or built()
+    program = words.bin or built("bench_calls", "commits", "1")
     with tempfile.TemporaryDirectory() as scratch:
         make = [sys.executable, os.path.join(HERE, "make_workload.py"), "--out", scratch, "--seed", "1"]
         make += ["--stems", str(words.stems), "--module", str(words.module), "--zoned", str(words.zoned)]
@@ -85,7 +79,7 @@ def main():
             number = write_stems(file.read(), stems)
         compiler = [os.environ.get("CC", "cc"), "-O2", "-I", LIBRARY, os.path.join(HERE, "stems.c")]
         subprocess.run([*compiler, os.path.join(LIBRARY, "libbuckfleet.a"), "-o", in_c], check=True)
-        alone, least = of_a_stem(scratch, number, program, apt, stm)
+        alone, least = of_a_stem(scratch, number, program, "stems", apt, stm)
         through, most = of_a_stem(scratch, number, in_c, apt, stems)
         print(f"module {words.module}, periods of {words.period}, {number} stems, {words.zoned} percent of them with zones")
         print(f"a plan and a commit      {least:10.0f} instructions    {alone.strip()}")

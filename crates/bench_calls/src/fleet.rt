@@ -204,9 +204,9 @@ fn serve<R: Threads + Wait + Clock + Sync>(
 }
 
 /// Times a run of a harvest, or counts its plans. The words: how many harvesters, an instruction file and stem files,
-/// whose stems are dealt out to the harvesters in turn. It prints how many entries and sheets the history has, and beside
-/// it, as errors are, how many nanoseconds the run took, or how many plans were made without the lock and how many of
-/// these not at the first attempt.
+/// whose stems are dealt out to the harvesters in turn. It prints how many entries and sheets the history has, and
+/// beside it, as errors are, how many nanoseconds the run took, or how many plans were made without the lock and how
+/// many of these not at the first attempt.
 pub fn run<R: Threads + Wait + Clock + Sync>(
     rt: &R,
     host: &HostRuntime,

@@ -1,15 +1,18 @@
-//! Calls that bench/ times, by the first word:
+//! Calls that bench/ times or counts, by the first word:
 //!
 //! - `commits PERIODS`: commits to a book of one thread, at most 10,000 periods (bench/commits.py);
 //! - `read NUMBER THREADS` and `put NUMBER THREADS`: a board, so often on each of so many threads (bench/board.py);
 //! - `time HARVESTERS APT STM..` and `plans HARVESTERS APT STM..`: a fleet (bench/fleet.py);
-//! - `brief HARVESTERS APT STM..`: a little of each.
+//! - `stems APT STM TIMES`: the stems of a file, cut so often into a book of one thread; bench/stems.py counts the
+//!   instructions of that, and of the same stems through the C library;
+//! - `brief HARVESTERS APT STM TIMES`: a little of each.
 #![tactic(auto)]
 
 mod board;
 mod commits;
 mod fleet;
 mod instruction;
+mod stems;
 
 use std::env;
 use std::process::ExitCode;
@@ -31,7 +34,8 @@ fn brief<R: Threads + Wait + Clock + Sync>(
     commits::run(host, 10)?;
     board::run(rt, host.alloc(), true, 1000, 2)?;
     board::run(rt, host.alloc(), false, 1000, 2)?;
-    fleet::run(rt, host, false, words)
+    fleet::run(rt, host, false, words.get(..3)?)?;
+    stems::run(host, words.get(1..)?)
 }
 
 /// Does what the words ask for. None is for words that aren't right, and for work that fails.
@@ -59,6 +63,7 @@ fn run<R: Threads + Wait + Clock + Sync>(
         ),
         "time" => fleet::run(rt, host, true, rest),
         "plans" => fleet::run(rt, host, false, rest),
+        "stems" => stems::run(host, rest),
         "brief" => brief(rt, host, rest),
         _ => None,
     }

@@ -1,8 +1,5 @@
-//! Cuts the stems of a file some times over into a book of one thread, by the linear rule: each stem by the planner that
-//! is kept, `prepare` and `commit`. The words: an instruction file, a stem file, and how often. It prints how many entries
-//! and sheets the book has, and what all cuttings are worth: bench/stems.py counts the instructions of that, and of the
-//! same stems through the C library.
-#![tactic(auto)]
+//! Cuts stems some times over into a book of one thread, by the linear rule: each by the planner that is kept,
+//! `prepare` and `commit`.
 
 ghost use Rattle.std.specs.Prelude.{◌≡◌};
 ghost use Rattle.buck_rule.specs.Stored.{Answers};
@@ -13,9 +10,8 @@ use buck_dp::Planner;
 use buck_rule::{Rule, Standing, linear};
 use buck_stem::{Stem, read_stm};
 use std::alloc::Global;
-use std::process::ExitCode;
+use std::fs;
 use std::sync::Arc;
-use std::{env, fs};
 
 /// Cuts a stem under the sheet in force, and gives what the cutting is worth.
 fn cut_one<F: Fn(&Standing) -> u64 + Drop>(
@@ -84,37 +80,18 @@ fn stems_of(rt: &HostRuntime, file: &str) -> Option<Vec<Arc<Stem>>> {
     Some(stems)
 }
 
-/// Cuts the stems of a file so often, and prints what came of it.
-fn run(rt: &HostRuntime, apt: &str, stm: &str, times: u32) -> Option<()> {
-    let bytes = fs::read(rt, apt).ok()?;
+/// Cuts the stems of a file. The words: an instruction file, a stem file, and how often the stems are cut. It prints
+/// how many entries and sheets the book has, and what all cuttings are worth.
+pub fn run(rt: &HostRuntime, words: &[String]) -> Option<()> {
+    let bytes = fs::read(rt, words.first()?.as_str()).ok()?;
     let instruction = read_apt(rt.alloc(), bytes.as_slice()).ok()?;
     let instruction = Arc::new(rt.alloc(), instruction).ok()?;
-    let stems = stems_of(rt, stm)?;
+    let stems = stems_of(rt, words.get(1)?.as_str())?;
+    let times = words.get(2)?.as_str().parse::<u32>().ok()?;
     let rule = Rule::new(|s: &Standing| linear(s));
     let mut book = Book::open(rt.alloc(), instruction, rule, 1_000_000).ok()?;
     let worth = cut_often(rt.alloc(), &mut book, stems.as_slice(), times)?;
     let (entries, sheets) = (book.len(), book.sheets().len());
     let _ = println!(rt; "{entries} entries, {sheets} sheets, {worth}");
     Some(())
-}
-
-/// What the words ask for.
-fn serve(rt: &HostRuntime, words: &[String]) -> Option<()> {
-    let apt = words.get(1)?.as_str();
-    let stm = words.get(2)?.as_str();
-    let times = words.get(3)?.as_str().parse::<u32>().ok()?;
-    run(rt, apt, stm, times)
-}
-
-fn main(rt: HostRuntime) -> ExitCode {
-    let Ok(args) = env::args(&rt) else {
-        return ExitCode::from(1);
-    };
-    let Ok(words) = args.collect::<Vec<String>>(rt.alloc()) else {
-        return ExitCode::from(1);
-    };
-    match serve(&rt, words.as_slice()) {
-        Some(()) => ExitCode::from(0),
-        None => ExitCode::from(3),
-    }
 }

@@ -1,5 +1,5 @@
 use Rattle.std.proofs.Common.{◌≡◌}
-use Rattle.bench_stems.proofs.cut_all.Given as goal
+use Rattle.bench_calls.proofs.stems.cut_all.Given as goal
 
 abbrev pub invariant-loop-stem : goal.invariant-loop-stem
 invariant-loop-stem g l = record {
