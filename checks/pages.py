@@ -118,14 +118,19 @@ def libraries():
     return [name for name in crates() if name.startswith("buck_")]
 
 
-def exported(lines):
-    """What the root of a crate hands out: its public modules, and the names it takes from private ones."""
-    text = "\n".join(lines)
-    modules = set(re.findall(r"^pub mod (\w+);", text, re.M))
-    names = {}
-    for module, several, one in re.findall(r"^pub use (?:\w+::)*(\w+)::(?:\{([^}]*)\}|(\w+));", text, re.M):
+def exported(files):
+    """What the root of a crate hands out: its public modules, by where they stand, and the names from private ones."""
+    text = "\n".join(next(lines for words, lines in files if words == ["lib"]))
+    stand = {tuple(words) for words, _ in files}
+    modules = {(name,): name for name in re.findall(r"^pub mod (\w+);", text, re.M)}
+    names = set()
+    for room, several, one in re.findall(r"^pub use ((?:\w+::)*\w+)::(?:\{([^}]*)\}|(\w+));", text, re.M):
         for name in re.findall(r"\w+", several or one):
-            names[name] = module
+            path = (*room.split("::"), name)
+            if path in stand:
+                modules[path] = name
+            else:
+                names.add(name)
     return modules, names
 
 
@@ -143,8 +148,9 @@ def clauses(lines, at):
 def public_calls(crate):
     """Each public function of a crate that has clauses: its name, its clauses, and where the names in them stand."""
     files = list(files_in(crate, "src", ".rt"))
-    modules, names = exported(next(lines for words, lines in files if words == ["lib"]))
+    modules, names = exported(files)
     for words, lines in files:
+        module = modules.get(tuple(words))
         taken = taken_by(lines, "ghost ")
         holder, is_trait = None, False
         for at, line in enumerate(lines):
@@ -157,8 +163,8 @@ def public_calls(crate):
             if not call or not (call[1] or is_trait):
                 continue
             outer = holder or call[2]
-            if words[0] in modules or outer in names or "extern" in (call[1] or ""):
-                where = [words[0]] if words[0] in modules else []
+            if module or outer in names or "extern" in (call[1] or ""):
+                where = [module] if module else []
                 name = "::".join([crate] + where + ([holder] if holder else []) + [call[2]])
                 yield name, clauses(lines, at), taken
 
