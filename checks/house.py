@@ -43,7 +43,6 @@ WIDE = {
     "buck_fleet": 3,
     "buck_turn": 1,
     "buck_figures": 22,
-    "buck_words": 2,
     "buck_charts": 1,
     "buck_drawn": 1,
     "buck_unlawful": 10,

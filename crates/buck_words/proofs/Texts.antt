@@ -10,4 +10,5 @@ is_of_text name is = sym (ap (λ q. cond q (escaped_text name) (escaped_bytes na
 
 pub not_text : (name : List ℕ) → (IsUtf8 name → ⊥) → escaped_bytes name ≡ name_text name
 not_text name none =
-    sym (ap (λ q. cond q (escaped_text name) (escaped_bytes name)) (false_from_ne_true (is_utf8 name) (λ is. none (IsUtf8-from_is_utf8 name is))))
+    sym (ap (λ q. cond q (escaped_text name) (escaped_bytes name))
+    (false_from_ne_true (is_utf8 name) (λ is. none (IsUtf8-from_is_utf8 name is))))

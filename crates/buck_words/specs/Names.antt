@@ -45,8 +45,8 @@ abbrev pub with_byte : ℕ → Option (List ℕ × List ℕ) → Option (List �
 with_byte b None = None
 with_byte b (Some read) = Some (b ∷ read.0, read.1)
 
--- what a field says from behind its first quote on, and what stands behind it; of two quotes the first says nothing, and
--- a quote that another byte follows ends the field
+-- what a field says from behind its first quote on, and what stands behind it; of two quotes the first says nothing,
+-- and a quote that another byte follows ends the field
 abbrev pub unquoted : Bool → List ℕ → Option (List ℕ × List ℕ)
 unquoted false [] = None
 unquoted true [] = Some ([], [])

@@ -194,7 +194,8 @@ pub fn difference_of(from: u128, to: u128) -> Difference
 pub fn change_of(price: u32, base: u32) -> Difference
     requires { 0 < base }
     ensures above { base ≤ price → (result.below ≡ false) × (result.size ≡ permille (price - base) base) }
-    ensures below { price < base → (result.size ≡ permille (base - price) base) × (IsTrue result.below ↔ (0 < result.size)) }
+    ensures below { price < base → (result.size ≡ permille (base - price) base)
+        × (IsTrue result.below ↔ (0 < result.size)) }
 {
     let size = permille(u128::from(price.abs_diff(base)), u128::from(base));
     Difference {

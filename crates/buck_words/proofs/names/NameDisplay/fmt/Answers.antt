@@ -13,7 +13,8 @@ use Rattle.buck_words.proofs.names.NameDisplay.fmt.Goals as goal
 pub returns-in-None-clause-writes : goal.returns-in-None-clause-writes
 returns-in-None-clause-writes g c p ok =
     let utf8 : IsUtf8 c.in-Ok.text.now = subst IsUtf8 (sym c.in-Ok.ensures.cases.0) c.in-Ok.ensures.cases.1 in
-    let t = YieldsList-end (YieldsList-from_chars c.in-Ok.text.now utf8 cc) c.loop-c.yielded _ c.loop-c.yielded_by _ _ c.in-None.is c.next.ensures.steps in
+    let t = YieldsList-end (YieldsList-from_chars c.in-Ok.text.now utf8 cc) c.loop-c.yielded _ c.loop-c.yielded_by _ _
+    c.in-None.is c.next.ensures.steps in
     has_written_of_eq _ _ _ _ _
     (ap (flat_map escaped) (sym (map-id c.loop-c.yielded) ∙ t.0)
     ∙ ap escaped_text c.in-Ok.ensures.cases.0
