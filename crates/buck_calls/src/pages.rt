@@ -82,10 +82,10 @@ fn listed<'x>(
     }
 }
 
-/// Shows a journal, as the program's `view` does: the page of a lawful journal, or of the first fault of another, or the
-/// line of a fault, goes to the start of `out`, and its length to `written`. `names` are the two files' names, as they
-/// stand on the page: the instruction's, a line feed, the journal's. The answer is the program's exit status, or 6
-/// where `out` is too small: then nothing else is written.
+/// Shows a journal, as the program's `view` does: the page of a lawful journal, or of the first fault of another, or
+/// the line of a fault, goes to the start of `out`, and its length to `written`. `names` are the two files' names, as
+/// they stand on the page: the instruction's, a line feed, the journal's. The answer is the program's exit status, or
+/// 6 where `out` is too small: then nothing else is written.
 pub fn buckfleet_view(
     alloc: Global,
     apt: &[u8],
