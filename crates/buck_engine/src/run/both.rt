@@ -13,7 +13,10 @@ use crate::fault::EngineFault;
 use crate::run::reading::{read_file, read_instruction_with};
 use crate::run::threads::number_of_threads;
 use buck_apt::{Instruction, Settings};
-use buck_journal::{Journal, JournalFault, ReplayFault, read_journal, replay, replay_in_parts};
+use buck_journal::{
+    Journal, JournalFault, ReplayFault, read_journal, read_journal_in_parts, replay,
+    replay_in_parts,
+};
 use std::alloc::Global;
 use std::io;
 use std::sync::Arc;
@@ -26,6 +29,24 @@ fn journal_in(alloc: Global, bytes: &[u8]) -> Result<Journal, EngineFault>
     ensures refused { IfErr result (AreRefused EngineFault.Journal journal_of bytes.now) }
 {
     match read_journal(alloc, bytes) {
+        Ok(journal) => Ok(journal),
+        Err(JournalFault::Memory) => Err(EngineFault::Memory),
+        Err(fault) => Err(EngineFault::Journal(fault)),
+    }
+}
+
+/// The same, its postings read in at most so many threads at once.
+fn journal_in_parts<T: Threads + Sync>(
+    rt: &T,
+    alloc: Global,
+    bytes: &[u8],
+    threads: usize,
+) -> Result<Journal, EngineFault>
+    ensures ok { IfOk result (λ journal. journal_of bytes.now ≡ Ok journal) }
+    ensures few { IfOk result (λ journal. length journal.entries ≤ 1000000) }
+    ensures refused { IfErr result (AreRefused EngineFault.Journal journal_of bytes.now) }
+{
+    match read_journal_in_parts(rt, alloc, bytes, threads) {
         Ok(journal) => Ok(journal),
         Err(JournalFault::Memory) => Err(EngineFault::Memory),
         Err(fault) => Err(EngineFault::Journal(fault)),
@@ -45,6 +66,21 @@ pub(crate) fn read_postings<R: io::Read>(
     journal_in(alloc, bytes.as_slice())
 }
 
+/// The same, its postings read in several threads at once: in as many as are told, or as the machine has.
+pub(crate) fn read_postings_in_parts<T: Threads + Sync, R: io::Read>(
+    rt: &T,
+    alloc: Global,
+    threads: Option<u8>,
+    reader: &mut R,
+) -> Result<Journal, EngineFault>
+    ensures ok { IfOk result (λ journal. Says journal_of (R.remaining reader.old) (Ok journal)) }
+    ensures few { IfOk result (λ journal. length journal.entries ≤ 1000000) }
+    ensures refused { IfErr result (IsJournalFault (R.remaining reader.old)) }
+{
+    let bytes = read_file(alloc, reader, 1)?;
+    journal_in_parts(rt, alloc, bytes.as_slice(), number_of_threads(rt, threads))
+}
+
 /// An instruction and a journal, as both were read.
 #[derive(Drop)]
 pub(crate) struct Both {
@@ -52,10 +88,33 @@ pub(crate) struct Both {
     pub journal: Journal,
 }
 
-/// The instruction and the journal that two files have, with a run's numbers in the place of the instruction's own. The
-/// instruction file is refused where it must be before the journal is read.
-pub(crate) fn read_both<R: io::Read>(
+/// The instruction and the journal that two files have. The instruction file is refused where it must be before the
+/// journal is read.
+pub(crate) fn read_own<R: io::Read>(
     alloc: Global,
+    apt: &mut R,
+    journal: &mut R,
+) -> Result<Both, EngineFault>
+    ensures instruction { IfOk result (λ both. Says apt_of (R.remaining apt.old) (Ok both.instruction.value)) }
+    ensures journal { IfOk result (λ both. Says journal_of (R.remaining journal.old) (Ok both.journal)) }
+    ensures few { IfOk result (λ both. length both.journal.entries ≤ 1000000) }
+    ensures refused { IfErr result (IsReadFault (R.remaining apt.old) (R.remaining journal.old)) }
+    ensures order { IfErr result (IfStopped (λ last. last ≡ 0 → journal.new ≡ journal.old)) }
+{
+    let instruction = Arc::new(alloc, read_instruction_with(alloc, apt, &Settings::own())?)?;
+    let journal = read_postings(alloc, journal)?;
+    Ok(Both {
+        instruction,
+        journal,
+    })
+}
+
+/// The same with a run's numbers in the place of the instruction's own, and with the postings read in several threads at
+/// once: in as many as are told, or as the machine has.
+pub(crate) fn read_both_in_parts<T: Threads + Sync, R: io::Read>(
+    rt: &T,
+    alloc: Global,
+    threads: Option<u8>,
     apt: &mut R,
     journal: &mut R,
     settings: &Settings,
@@ -68,7 +127,7 @@ pub(crate) fn read_both<R: io::Read>(
     ensures order { IfErr result (IfStopped (λ last. last ≡ 0 → journal.new ≡ journal.old)) }
 {
     let instruction = Arc::new(alloc, read_instruction_with(alloc, apt, settings)?)?;
-    let journal = read_postings(alloc, journal)?;
+    let journal = read_postings_in_parts(rt, alloc, threads, journal)?;
     Ok(Both {
         instruction,
         journal,
@@ -76,8 +135,10 @@ pub(crate) fn read_both<R: io::Read>(
 }
 
 /// The same with the instruction's own numbers.
-pub(crate) fn read_own<R: io::Read>(
+pub(crate) fn read_own_in_parts<T: Threads + Sync, R: io::Read>(
+    rt: &T,
     alloc: Global,
+    threads: Option<u8>,
     apt: &mut R,
     journal: &mut R,
 ) -> Result<Both, EngineFault>
@@ -87,7 +148,7 @@ pub(crate) fn read_own<R: io::Read>(
     ensures refused { IfErr result (IsReadFault (R.remaining apt.old) (R.remaining journal.old)) }
     ensures order { IfErr result (IfStopped (λ last. last ≡ 0 → journal.new ≡ journal.old)) }
 {
-    read_both(alloc, apt, journal, &Settings::own())
+    read_both_in_parts(rt, alloc, threads, apt, journal, &Settings::own())
 }
 
 /// Whether the journal is lawful for the instruction.

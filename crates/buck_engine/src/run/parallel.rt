@@ -1,4 +1,4 @@
-//! `run_buck_in_parts`: a bucking whose stems are cut in several threads at once.
+//! `run_buck_in_parts`: a bucking whose stems are read and cut in several threads at once.
 ghost use Rattle.std.specs.Prelude.{◌≡◌, ◌≢◌, ◌<◌, IfErr, Result};
 ghost use Rattle.buck_record.specs.Reading.{listed};
 ghost use Rattle.buck_engine.specs.declared.fault.EngineFault.{EngineFault};
@@ -10,7 +10,7 @@ ghost use Rattle.buck_engine.specs.run.Serving.{RunsFiles, TellsOutcome, status_
 
 use crate::fault::EngineFault;
 use crate::run::opening::{Open, open_both};
-use crate::run::reading::{read_instruction, read_stems};
+use crate::run::reading::{read_instruction, read_stems_in_parts};
 use crate::run::serving::conclude;
 use crate::run::threads::number_of_threads;
 use crate::text::bucking::buck_text_in_parts;
@@ -26,11 +26,11 @@ pub struct BuckTask<'a> {
     pub apt: &'a str,
     /// The name of the stem file.
     pub stm: &'a str,
-    /// How many threads may cut stems at once; where nothing is said, as many as the machine has.
+    /// How many threads may read or cut stems at once; where nothing is said, as many as the machine has.
     pub threads: Option<u8>,
 }
 
-/// The text of an instruction file and a stem file, whose stems are cut in at most so many threads at once.
+/// The text of an instruction file and a stem file, whose stems are read and cut in at most so many threads at once.
 fn text_in_parts<T: Threads + Sync, R: io::Read>(
     rt: &T,
     alloc: Global,
@@ -43,13 +43,13 @@ fn text_in_parts<T: Threads + Sync, R: io::Read>(
     ensures order { IfErr result (IfStopped (λ last. last ≡ 0 → stm.new ≡ stm.old)) }
 {
     let instruction = read_instruction(alloc, apt)?;
-    let stems = read_stems(alloc, stm, 1)?;
+    let stems = read_stems_in_parts(rt, alloc, stm, 1, threads)?;
     Ok(buck_text_in_parts(rt, alloc, &instruction, stems.as_slice(), threads)?)
 }
 
-/// [`run_buck`](crate::run_buck), for which the stems are cut in several threads at once: in as many as are told, from
-/// 1 to 64, or, where nothing is said, in as many as the machine has. What is written, and each fault, are those of
-/// [`run_buck`](crate::run_buck), whatever the number.
+/// [`run_buck`](crate::run_buck), for which the stems are read and cut in several threads at once: in as many as are
+/// told, from 1 to 64, or, where nothing is said, in as many as the machine has. What is written, and each fault, are
+/// those of [`run_buck`](crate::run_buck), whatever the number.
 pub fn run_buck_in_parts<T: Threads + Sync, R: io::Read, W: io::Write>(
     rt: &T,
     alloc: Global,

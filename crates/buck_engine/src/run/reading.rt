@@ -8,9 +8,10 @@ ghost use Rattle.buck_engine.specs.inner.Reading.{AreRefused};
 
 use crate::fault::EngineFault;
 use buck_apt::{AptFault, Instruction, Settings, read_apt};
-use buck_stem::{Stem, StmFault, read_stm};
+use buck_stem::{Stem, StmFault, read_stm, read_stm_in_parts};
 use std::alloc::Global;
 use std::io;
+use std::thread::Threads;
 
 /// The most bytes that a file may have.
 const LIMIT: usize = 67_108_864;
@@ -67,6 +68,24 @@ pub(crate) fn stems_in(alloc: Global, bytes: &[u8], file: u32) -> Result<Vec<Ste
     }
 }
 
+/// The same, read in at most so many threads at once.
+fn stems_in_parts<T: Threads + Sync>(
+    rt: &T,
+    alloc: Global,
+    bytes: &[u8],
+    file: u32,
+    threads: usize,
+) -> Result<Vec<Stem>, EngineFault>
+    ensures ok { IfOk result (λ stems. stm_of bytes.now ≡ Ok stems.items) }
+    ensures refused { IfErr result (AreRefused (Stm file) stm_of bytes.now) }
+{
+    match read_stm_in_parts(rt, alloc, bytes, threads) {
+        Ok(stems) => Ok(stems),
+        Err(StmFault::Memory) => Err(EngineFault::Memory),
+        Err(fault) => Err(EngineFault::Stm { file, fault }),
+    }
+}
+
 /// The instruction that the instruction file has, file 0. `Read` where the reader fails or the file is longer than
 /// 67,108,864 bytes, `Apt` where its bytes are refused, and `Memory` where a growth was refused.
 pub fn read_instruction<R: io::Read>(alloc: Global, apt: &mut R) -> Result<Instruction, EngineFault>
@@ -103,4 +122,19 @@ pub(crate) fn read_stems<R: io::Read>(
 {
     let bytes = read_file(alloc, stm, file)?;
     stems_in(alloc, bytes.as_slice(), file)
+}
+
+/// The same, read in at most so many threads at once.
+pub(crate) fn read_stems_in_parts<T: Threads + Sync, R: io::Read>(
+    rt: &T,
+    alloc: Global,
+    stm: &mut R,
+    file: u32,
+    threads: usize,
+) -> Result<Vec<Stem>, EngineFault>
+    ensures ok { IfOk result (λ stems. Says stm_of (R.remaining stm.old) (Ok stems.items)) }
+    ensures refused { IfErr result (IsStmFault file (R.remaining stm.old)) }
+{
+    let bytes = read_file(alloc, stm, file)?;
+    stems_in_parts(rt, alloc, bytes.as_slice(), file, threads)
 }

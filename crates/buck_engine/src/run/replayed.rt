@@ -1,5 +1,5 @@
-//! `run_check_in_parts`, `run_view_in_parts` and `run_table_in_parts`: engines whose journal is replayed in several
-//! threads at once.
+//! `run_check_in_parts`, `run_view_in_parts` and `run_table_in_parts`: engines whose journal is read and replayed in
+//! several threads at once.
 ghost use Rattle.std.specs.Prelude.{◌≡◌, ◌≢◌, IfErr};
 ghost use Rattle.buck_record.specs.Reading.{listed};
 ghost use Rattle.buck_apt.specs.Apt.{apt_of};
@@ -10,7 +10,7 @@ ghost use Rattle.buck_engine.specs.run.Viewing.{ShowsPage, ShowsTable};
 ghost use Rattle.buck_engine.specs.text.Written.{WritesText};
 
 use crate::fault::EngineFault;
-use crate::run::both::{read_own, replay_both_in_parts};
+use crate::run::both::{read_own_in_parts, replay_both_in_parts};
 use crate::run::checking::text_of_both;
 use crate::run::viewing::{list_both, show_both};
 use crate::text::writing::write_text;
@@ -31,12 +31,12 @@ fn text_in_parts<T: Threads + Sync, R: io::Read>(
     ensures answer { AnswersCheck (R.remaining apt.old) (R.remaining journal.old) (listed result) }
     ensures order { IfErr result (IfStopped (λ last. last ≡ 0 → journal.new ≡ journal.old)) }
 {
-    let both = read_own(alloc, apt, journal)?;
+    let both = read_own_in_parts(rt, alloc, threads, apt, journal)?;
     let replayed = replay_both_in_parts(rt, alloc, threads, &both);
     text_of_both(alloc, &both, replayed)
 }
 
-/// [`run_check`](crate::run_check), for which it is found in several threads at once which cut is outvalued: in as
+/// [`run_check`](crate::run_check), whose journal is read, and searched for an outvalued cut, in several threads at once: in as
 /// many as are told, from 1 to 64, or, where nothing is said, in as many as the machine has. What is written, and each
 /// fault, are those of [`run_check`](crate::run_check), whatever the number.
 pub fn run_check_in_parts<T: Threads + Sync, R: io::Read, W: io::Write>(
@@ -60,7 +60,7 @@ pub fn run_check_in_parts<T: Threads + Sync, R: io::Read, W: io::Write>(
     write_text(writer, text.as_slice())
 }
 
-/// [`run_view`](crate::run_view), whose journal is replayed in several threads at once, as by
+/// [`run_view`](crate::run_view), whose journal is read and replayed in several threads at once, as by
 /// [`run_check_in_parts`](crate::run_check_in_parts); the page is made in one. What is written, and each fault, are
 /// those of [`run_view`](crate::run_view), whatever the number.
 #[tactic(auto, using(crate::proofs::Pages::shown))]
@@ -80,12 +80,12 @@ pub fn run_view_in_parts<T: Threads + Sync, R: io::Read, W: io::Write>(
     // Where the instruction file has a fault, nothing was read of the journal.
     ensures order { IfErr result (IfStopped (λ last. last ≡ 0 → journal.new ≡ journal.old)) }
 {
-    let both = read_own(alloc, apt, journal)?;
+    let both = read_own_in_parts(rt, alloc, threads, apt, journal)?;
     let replayed = replay_both_in_parts(rt, alloc, threads, &both);
     show_both(alloc, &both, replayed, files, writer)
 }
 
-/// [`run_table`](crate::run_table), whose journal is replayed in several threads at once, as by
+/// [`run_table`](crate::run_table), whose journal is read and replayed in several threads at once, as by
 /// [`run_check_in_parts`](crate::run_check_in_parts); the table is made in one. What is written, and each fault, are
 /// those of [`run_table`](crate::run_table), whatever the number.
 #[tactic(auto, using(crate::proofs::Pages::shown))]
@@ -105,7 +105,7 @@ pub fn run_table_in_parts<T: Threads + Sync, R: io::Read, W: io::Write>(
     // Where the instruction file has a fault, nothing was read of the journal.
     ensures order { IfErr result (IfStopped (λ last. last ≡ 0 → journal.new ≡ journal.old)) }
 {
-    let both = read_own(alloc, apt, journal)?;
+    let both = read_own_in_parts(rt, alloc, threads, apt, journal)?;
     let replayed = replay_both_in_parts(rt, alloc, threads, &both);
     list_both(alloc, &both, replayed, table, writer)
 }

@@ -6,7 +6,7 @@ ghost use Rattle.buck_engine.specs.run.Serving.{TellsOutcome, status_after};
 ghost use Rattle.buck_engine.specs.run.Showing.{RunsView, Shows};
 
 use crate::fault::EngineFault;
-use crate::run::both::{read_both, replay_both_in_parts};
+use crate::run::both::{read_both_in_parts, replay_both_in_parts};
 use crate::run::opening::{Open, open_both};
 use crate::run::serving::conclude;
 use crate::run::viewing::{list_both, show_both};
@@ -53,7 +53,7 @@ fn show_opened<T: Threads + Sync, R: io::Read, W: io::Write>(
     ensures { Shows (apt_with task.now.settings) task.now.shown (R.remaining apt.old) (R.remaining journal.old)
         (W.contents writer.old) (W.contents writer.new) result }
 {
-    let both = read_both(alloc, apt, journal, &task.settings)?;
+    let both = read_both_in_parts(rt, alloc, task.threads, apt, journal, &task.settings)?;
     let replayed = replay_both_in_parts(rt, alloc, task.threads, &both);
     match task.shown {
         Shown::Page => {

@@ -14,7 +14,7 @@ ghost use Rattle.buck_engine.specs.inner.Tie.{IsTiedInputFault, IsUntiedFault, s
 
 use crate::fault::EngineFault;
 use crate::fleet::serving::NamedRule;
-use crate::run::both::{Both, read_postings, replay_both, unlawful};
+use crate::run::both::{Both, read_postings, read_postings_in_parts, replay_both, unlawful};
 use crate::run::checking::lawful_text;
 use crate::run::reading::read_instruction_with;
 use crate::text::writing::write_text;
@@ -29,6 +29,7 @@ use buck_stem::Stem;
 use std::alloc::Global;
 use std::io;
 use std::sync::Arc;
+use std::thread::Threads;
 
 /// That there are at most 64 stem files.
 fn check_files(number: usize) -> Result<(), EngineFault>
@@ -129,6 +130,34 @@ pub(crate) fn read_tied<R: io::Read>(
     check_files(stms.len())?;
     let instruction = Arc::new(alloc, read_instruction_with(alloc, apt, settings)?)?;
     let journal = read_postings(alloc, journal)?;
+    let files = read_files(alloc, stms)?;
+    let both = Both {
+        instruction,
+        journal,
+    };
+    Ok(Tied { both, files })
+}
+
+/// The same, with the postings read in several threads at once: in as many as are told, or as the machine has.
+pub(crate) fn read_tied_in_parts<T: Threads + Sync, R: io::Read>(
+    rt: &T,
+    alloc: Global,
+    threads: Option<u8>,
+    apt: &mut R,
+    journal: &mut R,
+    stms: &mut [R],
+    settings: &Settings,
+) -> Result<Tied, EngineFault>
+    ensures read { IfOk result (λ tied. HaveRead (apt_with settings.now) (R.remaining apt.old) (R.remaining journal.old)
+        (map R.remaining stms.old) tied.both.instruction.value tied.both.journal (stems_in_lists tied.files.items)) }
+    ensures few { IfOk result (λ tied. length tied.both.journal.entries ≤ 1000000) }
+    ensures files { IfOk result (λ tied. length tied.files.items ≤ 64) }
+    ensures refused { IfErr result
+        (IsTiedInputFault (R.remaining apt.old) (R.remaining journal.old) (map R.remaining stms.old)) }
+{
+    check_files(stms.len())?;
+    let instruction = Arc::new(alloc, read_instruction_with(alloc, apt, settings)?)?;
+    let journal = read_postings_in_parts(rt, alloc, threads, journal)?;
     let files = read_files(alloc, stms)?;
     let both = Both {
         instruction,

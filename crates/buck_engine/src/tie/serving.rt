@@ -14,7 +14,7 @@ use crate::run::both::replay_both_in_parts;
 use crate::run::opening::{Open, open_inputs};
 use crate::run::serving::conclude;
 use crate::text::writing::write_text;
-use crate::tie::running::{read_tied, text_of_ties};
+use crate::tie::running::{read_tied_in_parts, text_of_ties};
 use buck_apt::Settings;
 use std::alloc::Global;
 use std::io;
@@ -31,7 +31,7 @@ pub struct CheckTask<'a> {
     pub apt: &'a str,
     /// The name of the journal, and then those of the stem files, one for each harvester.
     pub files: Vec<&'a str>,
-    /// How many threads may look for outvalued cuts at once; where nothing is said, as many as the machine has.
+    /// How many threads may read the journal, or look for outvalued cuts, at once; where nothing is said, as many as the machine has.
     pub threads: Option<u8>,
 }
 
@@ -49,7 +49,7 @@ fn text_in_parts<T: Threads + Sync, R: io::Read>(
     ensures { AnswersCheckWith (apt_with task.now.settings) task.now.rule (R.remaining apt.old)
         (R.remaining journal.old) (map R.remaining stms.old) (listed result) }
 {
-    let tied = read_tied(alloc, apt, journal, stms, &task.settings)?;
+    let tied = read_tied_in_parts(rt, alloc, task.threads, apt, journal, stms, &task.settings)?;
     let replayed = replay_both_in_parts(rt, alloc, task.threads, &tied.both);
     text_of_ties(alloc, task.rule, &tied, replayed)
 }
