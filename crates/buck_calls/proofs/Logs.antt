@@ -11,12 +11,12 @@ use Rattle.buck_value.specs.Allowed.{IsAllowed, Allows, class_in, class_of, colu
 use Rattle.buck_value.proofs.Classes as classes
 
 -- the column is that of the definition
-pub column_found : (a : AssortmentParts) (l column : ℕ) → position (λ x. x == l) a.lengths ≡ Some column → column ≡ column_of a l
-column_found a l column at = sym (classes.column_is a l column at)
+pub column_is : (a : AssortmentParts) (l column : ℕ) → position (λ x. x == l) a.lengths ≡ Some column → column ≡ column_of a l
+column_is a l column at = sym (classes.column_is a l column at)
 
-pub column_there : (a : AssortmentParts) (step l : ℕ) (stem : StemParts) (g : Log) → Allows step a stem g → l ≡ g.length
+pub has_column : (a : AssortmentParts) (step l : ℕ) (stem : StemParts) (g : Log) → Allows step a stem g → l ≡ g.length
     → position (λ x. x == l) a.lengths ≡ None → ⊥
-column_there a step l stem g allows is at = classes.column_none a.lengths l at (subst (λ k. Contains a.lengths k) (sym is) allows.length_offered)
+has_column a step l stem g allows is at = classes.column_none a.lengths l at (subst (λ k. Contains a.lengths k) (sym is) allows.length_offered)
 
 -- its place is small
 pub column_low : (a : AssortmentParts) (l column : ℕ) → IsAssortment a → position (λ x. x == l) a.lengths ≡ Some column → column < 32
@@ -30,9 +30,9 @@ same_assortment : (i : InstructionParts) (stem : StemParts) (g : Log) (a d : Ass
     → a ≡ get_or i.assortments g.assortment d → a ≡ k.assortment
 same_assortment i stem g a d k is = is ∙ get_or_from_slice_get i.assortments g.assortment k.assortment d k.exists
 
-pub its_assortment : (i : InstructionParts) (stem : StemParts) (g : Log) (a d : AssortmentParts) → IsAllowed i stem g
+pub is_there : (i : InstructionParts) (stem : StemParts) (g : Log) (a d : AssortmentParts) → IsAllowed i stem g
     → a ≡ get_or i.assortments g.assortment d → slice_get i.assortments g.assortment ≡ Some a
-its_assortment i stem g a d k is = k.exists ∙ ap (λ b. Some b) (sym (same_assortment i stem g a d k is))
+is_there i stem g a d k is = k.exists ∙ ap (λ b. Some b) (sym (same_assortment i stem g a d k is))
 
 pub it_allows : (i : InstructionParts) (stem : StemParts) (g : Log) (a d : AssortmentParts) → IsAllowed i stem g
     → a ≡ get_or i.assortments g.assortment d → Allows i.«module» a stem g

@@ -64,7 +64,7 @@ fn top_of(stem: &Stem, log: &Log) -> u32
 }
 
 /// The class of a log that its assortment allows and whose top diameter this is.
-#[tactic(auto, using(crate::proofs::Logs::column_found, crate::proofs::Logs::column_there, crate::proofs::Logs::column_low))]
+#[tactic(auto, using(crate::proofs::Logs::column_is, crate::proofs::Logs::has_column, crate::proofs::Logs::column_low))]
 fn class_in(assortment: &Assortment, stem: &Stem, log: &Log, top: u32) -> Class
     requires allows { (step : ℕ) × Allows step assortment.now stem.now log.now }
     requires top { top ≡ top_diameter stem.now log.now }
@@ -104,7 +104,7 @@ fn shown_in(sheet: &Sheet, assortment: &Assortment, stem: &Stem, log: &Log) -> C
 }
 
 /// A log of a stem as C sees it.
-#[tactic(auto, using(crate::proofs::Logs::its_place, crate::proofs::Logs::its_assortment, crate::proofs::Logs::it_allows))]
+#[tactic(auto, using(crate::proofs::Logs::its_place, crate::proofs::Logs::is_there, crate::proofs::Logs::it_allows))]
 fn shown(sheet: &Sheet, stem: &Stem, log: &Log) -> CutLog
     requires { IsAllowed sheet.now.instruction stem.now log.now }
     ensures { ShowsLog sheet.now stem.now log.now result }
