@@ -48,7 +48,7 @@ WIDE = {
     "buck_unlawful": 10,
     "buck_view": 8,
     "buck_engine": 17,
-    "buck_calls": 2,
+    "buck_calls": 1,
     "buck_command": 1,
     "buckfleet": 4,
 }
