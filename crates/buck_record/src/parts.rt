@@ -44,10 +44,10 @@ fn cut_before(slot: Slot, text: &[u8], near: usize) -> Option<(&[u8], &[u8])>
     None
 }
 
-/// A text in two parts: the items of the text are those of the first and then those of the second. The first is for
-/// half of so many threads, rounded down, and the second for the others, and is as much of the text; it begins with an
-/// item of this slot. `None` where there is one thread, where the text has less than 131,072 bytes, or where no such
-/// item is found within the next 64.
+/// A text in two parts, to be read in at most so many threads: the items of the text are those of the first part and
+/// then those of the second. Half of the threads, rounded down, are for the first and the others for the second, which
+/// begins with an item of this slot, and each is about as long as its threads' share. `None` where there is one thread,
+/// where the text has less than 131,072 bytes, or where no such item is among the next 64.
 #[tactic(auto, using(crate::proofs::PartLemmas::share_within))]
 pub fn two_parts(slot: Slot, text: &[u8], threads: usize) -> Option<(&[u8], &[u8])>
     ensures joins { IfSome result (λ w. Joins text.now w.0.now w.1.now) }

@@ -1,6 +1,7 @@
 //! Wrong answers of the reader of journals.
-use buck_journal::{JournalFault, read_journal};
+use buck_journal::{JournalFault, read_journal, read_journal_in_parts};
 use std::alloc::Global;
+use std::thread::Threads;
 
 /// A file of another kind is read.
 #[tactic(auto, using(crate::proofs::Read::other_file_read))]
@@ -160,5 +161,31 @@ pub fn one_posting_too_many(alloc: Global, bytes: &[u8]) {
     };
     let right = journal.entries.len();
     let wrong = 1_000_001;
+    prove!(right != wrong);
+}
+
+/// Of two parts that are read side by side, the second comes first.
+#[tactic(auto, using(crate::proofs::Read::two_demands))]
+pub fn later_part_read_first<T: Threads + Sync>(rt: &T, alloc: Global) {
+    let file = b"1 2 JRN~982 1 1 1 0~982 2~982 1 2 1 0~982 2~";
+    let Ok(journal) = read_journal_in_parts(rt, alloc, file, 2) else {
+        return;
+    };
+    if let Some(demand) = journal.entries.first() {
+        let right = demand.harvester();
+        let wrong = 2;
+        prove!(right != wrong);
+    }
+}
+
+/// Of two parts that are read side by side, the last is dropped.
+#[tactic(auto, using(crate::proofs::Read::two_demands))]
+pub fn last_part_read_dropped<T: Threads + Sync>(rt: &T, alloc: Global) {
+    let file = b"1 2 JRN~982 1 1 1 0~982 2~982 1 2 1 0~982 2~";
+    let Ok(journal) = read_journal_in_parts(rt, alloc, file, 2) else {
+        return;
+    };
+    let right = journal.entries.len();
+    let wrong = 1;
     prove!(right != wrong);
 }

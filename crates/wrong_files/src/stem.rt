@@ -6,8 +6,9 @@ ghost use Rattle.std.specs.Prelude.{◌≡◌, ◌≢◌, ◌<◌, ◌≤◌, �
 ghost use Rattle.buck_stem.specs.Profile.{points_of, profile_of};
 ghost use Rattle.buck_stem.specs.Stem.{stem_of, stem_length, diameter_at, grade_at, HasGrade};
 
-use buck_stem::{Profile, ProfileLists, Stem, StemFault, StmFault, read_stm};
+use buck_stem::{Profile, ProfileLists, Stem, StemFault, StmFault, read_stm, read_stm_in_parts};
 use std::alloc::Global;
+use std::thread::Threads;
 
 /// Each file of stems is refused.
 pub fn always_refuses_read_stm(alloc: Global) {
@@ -90,6 +91,30 @@ pub fn read_stem_lost(alloc: Global) {
         alloc,
         b"1 2 STM~951 1 7~952 1 1~953 1 300 290~951 1 8~952 1 1~953 1 300~",
     ) else {
+        return;
+    };
+    let right = stems.len();
+    let wrong = 1;
+    prove!(right != wrong);
+}
+
+/// Of two parts that are read side by side, the second comes first.
+pub fn later_part_read_first<T: Threads + Sync>(rt: &T, alloc: Global) {
+    let file = b"1 2 STM~951 1 7~952 1 1~953 1 300 290~951 1 8~952 1 1~953 1 300~";
+    let Ok(stems) = read_stm_in_parts(rt, alloc, file, 2) else {
+        return;
+    };
+    if let Some(stem) = stems.first() {
+        let right = stem.number();
+        let wrong = 8;
+        prove!(right != wrong);
+    }
+}
+
+/// Of two parts that are read side by side, the last is dropped.
+pub fn last_part_read_dropped<T: Threads + Sync>(rt: &T, alloc: Global) {
+    let file = b"1 2 STM~951 1 7~952 1 1~953 1 300 290~951 1 8~952 1 1~953 1 300~";
+    let Ok(stems) = read_stm_in_parts(rt, alloc, file, 2) else {
         return;
     };
     let right = stems.len();

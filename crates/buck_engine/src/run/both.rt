@@ -88,8 +88,30 @@ pub(crate) struct Both {
     pub journal: Journal,
 }
 
-/// The instruction and the journal that two files have. The instruction file is refused where it must be before the
-/// journal is read.
+/// The instruction and the journal that two files have, with a run's numbers in the place of the instruction's own. The
+/// instruction file is refused where it must be before the journal is read.
+pub(crate) fn read_both<R: io::Read>(
+    alloc: Global,
+    apt: &mut R,
+    journal: &mut R,
+    settings: &Settings,
+) -> Result<Both, EngineFault>
+    ensures instruction { IfOk result (λ both.
+        Says (apt_with settings.now) (R.remaining apt.old) (Ok both.instruction.value)) }
+    ensures journal { IfOk result (λ both. Says journal_of (R.remaining journal.old) (Ok both.journal)) }
+    ensures few { IfOk result (λ both. length both.journal.entries ≤ 1000000) }
+    ensures refused { IfErr result (IsReadFault (R.remaining apt.old) (R.remaining journal.old)) }
+    ensures order { IfErr result (IfStopped (λ last. last ≡ 0 → journal.new ≡ journal.old)) }
+{
+    let instruction = Arc::new(alloc, read_instruction_with(alloc, apt, settings)?)?;
+    let journal = read_postings(alloc, journal)?;
+    Ok(Both {
+        instruction,
+        journal,
+    })
+}
+
+/// The same with the instruction's own numbers.
 pub(crate) fn read_own<R: io::Read>(
     alloc: Global,
     apt: &mut R,
@@ -101,16 +123,11 @@ pub(crate) fn read_own<R: io::Read>(
     ensures refused { IfErr result (IsReadFault (R.remaining apt.old) (R.remaining journal.old)) }
     ensures order { IfErr result (IfStopped (λ last. last ≡ 0 → journal.new ≡ journal.old)) }
 {
-    let instruction = Arc::new(alloc, read_instruction_with(alloc, apt, &Settings::own())?)?;
-    let journal = read_postings(alloc, journal)?;
-    Ok(Both {
-        instruction,
-        journal,
-    })
+    read_both(alloc, apt, journal, &Settings::own())
 }
 
-/// The same with a run's numbers in the place of the instruction's own, and with the postings read in several threads at
-/// once: in as many as are told, or as the machine has.
+/// The same as `read_both`, with the postings read in several threads at once: in as many as are told, or as the machine
+/// has.
 pub(crate) fn read_both_in_parts<T: Threads + Sync, R: io::Read>(
     rt: &T,
     alloc: Global,
