@@ -288,7 +288,8 @@ def fleet_case(name, program, at, words):
     except argparse.ArgumentError:
         return 0
     files = [os.path.join(at, file) for file in given.files]
-    if not files or not all(os.path.isfile(file) for file in files):
+    # With no stem file the program says how it is used, and not that there are no seats.
+    if len(files) < 2 or not all(os.path.isfile(file) for file in files):
         return 0
     same_turns(f"case {name}, in turn", program, given.rule, files)
     return 1
