@@ -13,7 +13,6 @@ use Rattle.buck_engine.specs.declared.fault.EngineFault.{EngineFault}
 use Rattle.buck_engine.specs.declared.fault.EngineFault.TheVariants.{Read, Write, Apt, Stm, Journal, Replay, Check, Seats, Full, Memory, Close}
 use Rattle.buck_engine.specs.Faults.{status_of, status_or}
 use Rattle.buck_engine.specs.run.Reading.{IsFileFault}
-use Rattle.buck_engine.specs.run.Bucking.{AnswersBuck}
 use Rattle.buck_calls.specs.Room.{IsPut}
 use Rattle.buck_calls.specs.Files.{IsBucked}
 use Rattle.wrong_calls.proofs.Fits.{never_of}
