@@ -7,8 +7,9 @@ use Rattle.std.proofs.lemmas.List.Sums.{AllPass-from_list_all, list_all-from_All
 use Rattle.buck_record.specs.Item.{ItemParts}
 use Rattle.buck_record.specs.Record.{numbers_of}
 use Rattle.buck_record.specs.Table.{is_at}
-use Rattle.buck_record.specs.Rules.{slot, within, all_within}
+use Rattle.buck_record.specs.Rules.{slot, within, all_within, one_to}
 use Rattle.buck_record.proofs.PassLemmas.{both, within_ok}
+use Rattle.buck_stem.specs.declared.slots.TheConstants.{SPECIES_RANGE, SAMPLES_RANGE, MOST_SAMPLES, STARTS_RANGE, GRADES_RANGE, MOST_ZONES}
 use Rattle.buck_stem.specs.Stem.{IsStem, IsGrade, IsRisingFrom, stem_of}
 use Rattle.buck_stem.specs.Stm.{zones_of}
 use Rattle.buck_journal.specs.Journal.{rest_at, numbers_at, samples_at, is_zone, are_zones}
@@ -21,13 +22,13 @@ half (s ∷ g ∷ more) = omega (arith, half more)
 
 -- the first zone, and the rest
 first : (low s g : ℕ) (more : List ℕ) → are_zones low (s ∷ g ∷ more) ≡ true
-    → ((low ≤ s) × (s ≤ 40000)) × ((1 ≤ g) × (g ≤ 8)) × (are_zones (s + 1) more ≡ true)
+    → ((low ≤ s) × (s ≤ STARTS_RANGE.high)) × ((GRADES_RANGE.low ≤ g) × (g ≤ GRADES_RANGE.high)) × (are_zones (s + 1) more ≡ true)
 first low s g more h =
     let p = both (is_zone low s g) (are_zones (s + 1) more) h in
-    let q = both (within low 40000 s) (within 1 8 g) p.0 in
-    (within_ok low 40000 s q.0, within_ok 1 8 g q.1, p.1)
+    let q = both (within low STARTS_RANGE.high s) (within GRADES_RANGE.low GRADES_RANGE.high g) p.0 in
+    (within_ok low STARTS_RANGE.high s q.0, within_ok GRADES_RANGE.low GRADES_RANGE.high g q.1, p.1)
 
-started : (low : ℕ) (ns : List ℕ) → are_zones low ns ≡ true → AllByRecursion (λ (z : ℕ × ℕ). z.0 ≤ 40000) (zones_of ns)
+started : (low : ℕ) (ns : List ℕ) → are_zones low ns ≡ true → AllByRecursion (λ (z : ℕ × ℕ). z.0 ≤ STARTS_RANGE.high) (zones_of ns)
 started low [] h = tt
 started low (s ∷ []) h = tt
 started low (s ∷ g ∷ more) h = let p = first low s g more h in (p.0.1, started (s + 1) more p.2)
@@ -42,7 +43,7 @@ risen low [] h = tt
 risen low (s ∷ []) h = tt
 risen low (s ∷ g ∷ more) h = let p = first low s g more h in (p.0.0, risen (s + 1) more p.2)
 
-pub are_zones_ok : (ns : List ℕ) → length ns ≤ 200 → are_zones 0 ns ≡ true → AreZones (zones_of ns)
+pub are_zones_ok : (ns : List ℕ) → length ns ≤ 2 * MOST_ZONES → are_zones 0 ns ≡ true → AreZones (zones_of ns)
 are_zones_ok ns few h = record {
   zones_number = omega (arith, half ns, few);
   starts_range = All-from_recursion _ (zones_of ns) (started 0 ns h);
@@ -50,13 +51,13 @@ are_zones_ok ns few h = record {
   grades_range = All-from_recursion _ (zones_of ns) (graded 0 ns h);
 }
 
-pub are_samples_ok : (ns : List ℕ) → within 1 401 (length ns) ≡ true → all_within 0 1500 ns ≡ true → AreSamples ns
+pub are_samples_ok : (ns : List ℕ) → one_to MOST_SAMPLES (length ns) ≡ true → all_within SAMPLES_RANGE.low SAMPLES_RANGE.high ns ≡ true → AreSamples ns
 are_samples_ok ns counted h = record {
-  samples_number = within_ok 1 401 (length ns) counted;
-  samples_range = λ k d lt. (within_ok 0 1500 (get_or ns k d) (AllPass-from_list_all (within 0 1500) ns h k d lt)).1;
+  samples_number = within_ok 1 MOST_SAMPLES (length ns) counted;
+  samples_range = λ k d lt. (within_ok SAMPLES_RANGE.low SAMPLES_RANGE.high (get_or ns k d) (AllPass-from_list_all (within SAMPLES_RANGE.low SAMPLES_RANGE.high) ns h k d lt)).1;
 }
 
-pub is_stem_ok : (number species : ℕ) (samples : List ℕ) (zones : List (ℕ × ℕ)) → (1 ≤ species) → (species ≤ 255)
+pub is_stem_ok : (number species : ℕ) (samples : List ℕ) (zones : List (ℕ × ℕ)) → (SPECIES_RANGE.low ≤ species) → (species ≤ SPECIES_RANGE.high)
     → AreSamples samples → AreZones zones → IsStem (stem_of number species samples zones)
 is_stem_ok number species samples zones low high s z = record {
   species = (low, high);
@@ -73,12 +74,12 @@ pub samples_ok : (items : List ItemParts) (k : ℕ) (item : ItemParts) (ns : Lis
     → slice_get items k ≡ Some item
     → is_at (slot 981 3) item ≡ true
     → numbers_of item.rest ≡ Ok ns
-    → All (λ d. d ≤ 1500) ns
-    → within 1 401 (length ns) ≡ true
+    → All (λ d. d ≤ SAMPLES_RANGE.high) ns
+    → one_to MOST_SAMPLES (length ns) ≡ true
     → samples_at items k ≡ Ok ns
 unfolding samples_at numbers_at rest_at
 samples_ok items k item ns there at read small number =
-    let range : all_within 0 1500 ns ≡ true =
-    list_all-from_AllPass (within 0 1500) ns
+    let range : all_within SAMPLES_RANGE.low SAMPLES_RANGE.high ns ≡ true =
+    list_all-from_AllPass (within SAMPLES_RANGE.low SAMPLES_RANGE.high) ns
     (λ j d lt. and_from _ _ (le-leb 0 (get_or ns j d) (omega arith)) (le-leb _ _ (small j d lt))) in
     rw (there, at, read, number, range) refl

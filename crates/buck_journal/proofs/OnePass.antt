@@ -1,5 +1,5 @@
 -- A journal that is gone through item by item is read as what was found.
-use Rattle.std.proofs.Common.{◌≡◌, ℕ, suc, ◌+◌, ◌%◌, ◌≤◌, true, List, [], ◌∷◌, ◌++◌, All, Ok, Err, Result, codes, length, slice_get, get_or, refl, sym, ap, ◌∙◌, subst, arith, append_assoc, eq-eqb}
+use Rattle.std.proofs.Common.{◌≡◌, ℕ, suc, ◌+◌, ◌*◌, ◌%◌, ◌≤◌, true, List, [], ◌∷◌, ◌++◌, All, Ok, Err, Result, codes, length, slice_get, get_or, refl, sym, ap, ◌∙◌, subst, arith, append_assoc, eq-eqb}
 use Rattle.std.specs.Str.{bytes_eq}
 use Rattle.std.proofs.lemmas.Bool.{le-leb, lt-ltb, and_from}
 use Rattle.std.proofs.lemmas.List.{append-nil, length-append}
@@ -11,7 +11,9 @@ use Rattle.buck_record.specs.Reading.{with_fault}
 use Rattle.buck_record.specs.Record.{items_of, numbers_of, number_of}
 use Rattle.buck_record.specs.Table.{is_at}
 use Rattle.buck_record.specs.Cursor.{HasItems, Joins, Leads, item_in}
-use Rattle.buck_record.specs.Rules.{slot, file_slot, within, all_within}
+use Rattle.buck_record.specs.Rules.{slot, file_slot, within, all_within, one_to}
+use Rattle.buck_apt.specs.declared.slots.TheConstants.{TARGETS_RANGE}
+use Rattle.buck_stem.specs.declared.slots.TheConstants.{SPECIES_RANGE, SAMPLES_RANGE, MOST_SAMPLES, MOST_ZONES}
 use Rattle.buck_stem.specs.Stem.{StemParts}
 use Rattle.buck_stem.specs.Stm.{zones_of}
 use Rattle.buck_value.specs.declared.log.Log.{Log}
@@ -44,37 +46,37 @@ pub head_leads : (text ns left : List ℕ)
     → LeadsNumbers (slot 981 2) text ns left
     → length ns ≡ 2
     → 1 ≤ get_or ns 1 0
-    → get_or ns 1 0 ≤ 255
+    → get_or ns 1 0 ≤ SPECIES_RANGE.high
     → LeadsTo (slot 981 2) head_at text (get_or ns 0 0, get_or ns 1 0) left
 unfolding head_at numbers_at rest_at
 head_leads text ns left l number low high =
-    let range : within 1 255 (get_or ns 1 0) ≡ true = and_from _ _ (le-leb _ _ low) (le-leb _ _ high) in
+    let range : within SPECIES_RANGE.low SPECIES_RANGE.high (get_or ns 1 0) ≡ true = and_from _ _ (le-leb _ _ low) (le-leb _ _ high) in
     (l.0, λ items k there. rw (there, l.1, eq-eqb (length ns) 2 number, range) refl, l.2)
 
 pub samples_lead : (text t ns left : List ℕ)
     → Leads text (item_in (slot 981 3) t) left
     → numbers_of t ≡ Ok ns
-    → within 1 401 (length ns) ≡ true
-    → All (λ d. d ≤ 1500) ns
+    → one_to MOST_SAMPLES (length ns) ≡ true
+    → All (λ d. d ≤ SAMPLES_RANGE.high) ns
     → LeadsTo (slot 981 3) samples_at text ns left
 unfolding samples_at numbers_at rest_at
 samples_lead text t ns left first read number small =
-    let range : all_within 0 1500 ns ≡ true =
-    list_all-from_AllPass (within 0 1500) ns
+    let range : all_within SAMPLES_RANGE.low SAMPLES_RANGE.high ns ≡ true =
+    list_all-from_AllPass (within SAMPLES_RANGE.low SAMPLES_RANGE.high) ns
     (λ j d lt. and_from _ _ (le-leb 0 (get_or ns j d) (omega arith)) (le-leb _ _ (small j d lt))) in
     (t, λ items k there. rw (there, read, number, range) refl, first)
 
 pub zones_lead : (text ns left : List ℕ)
     → LeadsNumbers (slot 981 4) text ns left
     → length ns % 2 ≡ 0
-    → length ns ≤ 200
+    → length ns ≤ 2 * MOST_ZONES
     → are_zones 0 ns ≡ true
     → LeadsTo (slot 981 4) zones_at text (zones_of ns) left
 unfolding zones_at numbers_at rest_at
 zones_lead text ns left l even few range = (
   l.0,
   λ items k there.
-      rw (there, l.1, eq-eqb (length ns % 2) 0 even, le-leb (length ns) 200 few, range) refl,
+      rw (there, l.1, eq-eqb (length ns % 2) 0 even, le-leb (length ns) (2 * MOST_ZONES) few, range) refl,
   l.2,
 )
 
@@ -108,7 +110,7 @@ worth_leads text t left worth fault first read =
 pub targets_lead : (text ns left : List ℕ)
     → LeadsNumbers (slot 982 2) text ns left
     → length ns ≤ 16384
-    → all_within 0 1000000 ns ≡ true
+    → all_within TARGETS_RANGE.low TARGETS_RANGE.high ns ≡ true
     → LeadsTo (slot 982 2) targets_at text ns left
 unfolding targets_at numbers_at rest_at
 targets_lead text ns left l few range =

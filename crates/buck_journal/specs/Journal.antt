@@ -1,4 +1,5 @@
--- The journal of a file's bytes, or its refusal. The items stand in this sequence, and no item is skipped:
+-- The journal of a file's bytes, or its refusal. The items stand in this sequence, and no item is skipped. What stands
+-- in a stem file or an instruction too has the range that it has there:
 --
 --   item    what it says                       how many numbers     range of each
 --   1 2     the kind of file: JRN
@@ -21,7 +22,7 @@
 -- these, and on it the first: Shape, it isn't the item that the sequence wants there; Digits, a word isn't a number;
 -- Count, another count of numbers, or the first item of a 1,000,001st posting; Range. Items count from 1, and places in
 -- a list from 0.
-use Rattle.std.specs.Prelude.{ℕ, ◌+◌, ◌%◌, Bool, true, false, ◌&&◌, ◌||◌, ◌==◌, List, [], ◌∷◌, length, drop, slice_index, slice_get, nat_le, nat_lt, Option, Some, None, Result, Ok, Err, if◌then◌else◌, codes}
+use Rattle.std.specs.Prelude.{ℕ, ◌+◌, ◌*◌, ◌%◌, Bool, true, false, ◌&&◌, ◌||◌, ◌==◌, List, [], ◌∷◌, length, drop, slice_index, slice_get, nat_le, nat_lt, Option, Some, None, Result, Ok, Err, if◌then◌else◌, codes}
 use Rattle.std.specs.Str.{bytes_eq}
 use Rattle.buck_record.specs.Item.{ItemParts}
 use Rattle.buck_record.specs.declared.slot.Slot.{Slot}
@@ -29,7 +30,9 @@ use Rattle.buck_record.specs.Reading.{with_fault}
 use Rattle.buck_record.specs.Record.{items_of, numbers_of, number_of}
 use Rattle.buck_record.specs.Table.{is_at}
 use Rattle.buck_record.specs.Check.{◌>>=◌, check}
-use Rattle.buck_record.specs.Rules.{slot, file_slot, within, all_within}
+use Rattle.buck_record.specs.Rules.{slot, file_slot, within, all_within, one_to}
+use Rattle.buck_apt.specs.declared.slots.TheConstants.{LENGTHS_RANGE, TARGETS_RANGE}
+use Rattle.buck_stem.specs.declared.slots.TheConstants.{SPECIES_RANGE, SAMPLES_RANGE, MOST_SAMPLES, STARTS_RANGE, GRADES_RANGE, MOST_ZONES}
 use Rattle.buck_stem.specs.Stem.{StemParts, stem_of}
 use Rattle.buck_stem.specs.Stm.{zones_of}
 use Rattle.buck_value.specs.declared.log.Log.{Log}
@@ -90,20 +93,20 @@ unfoldable pub head_at : List ItemParts → ℕ → Result (ℕ × ℕ) JournalF
 head_at items k = do
   numbers ← numbers_at (slot 981 2) items k
   _ ← check (length numbers == 2) (Count (k + 1))
-  _ ← check (within 1 255 (slice_index numbers 1)) (Range (k + 1))
+  _ ← check (within SPECIES_RANGE.low SPECIES_RANGE.high (slice_index numbers 1)) (Range (k + 1))
   Ok (slice_index numbers 0, slice_index numbers 1)
 
 unfoldable pub samples_at : List ItemParts → ℕ → Result (List ℕ) JournalFault
 samples_at items k = do
   samples ← numbers_at (slot 981 3) items k
-  _ ← check (within 1 401 (length samples)) (Count (k + 1))
-  _ ← check (all_within 0 1500 samples) (Range (k + 1))
+  _ ← check (one_to MOST_SAMPLES (length samples)) (Count (k + 1))
+  _ ← check (all_within SAMPLES_RANGE.low SAMPLES_RANGE.high samples) (Range (k + 1))
   Ok samples
 
 abbrev pub is_zone : ℕ → ℕ → ℕ → Bool
-is_zone low start grade = within low 40000 start && within 1 8 grade
+is_zone low start grade = within low STARTS_RANGE.high start && within GRADES_RANGE.low GRADES_RANGE.high grade
 
--- starts from `low` to 40000, each above the one before, and grades from 1 to 8
+-- starts from `low` on and grades, each in its range, and each start above the one before
 abbrev pub are_zones : ℕ → List ℕ → Bool
 are_zones low [] = true
 are_zones low (start ∷ []) = true
@@ -113,7 +116,7 @@ unfoldable pub zones_at : List ItemParts → ℕ → Result (List (ℕ × ℕ)) 
 zones_at items k = do
   numbers ← numbers_at (slot 981 4) items k
   _ ← check (length numbers % 2 == 0) (Count (k + 1))
-  _ ← check (nat_le (length numbers) 200) (Count (k + 1))
+  _ ← check (nat_le (length numbers) (2 * MOST_ZONES)) (Count (k + 1))
   _ ← check (are_zones 0 numbers) (Range (k + 1))
   Ok (zones_of numbers)
 
@@ -125,7 +128,8 @@ stem_at items k = do
   Ok (stem_of head.0 head.1 samples zones)
 
 abbrev pub is_log : ℕ → ℕ → ℕ → Bool
-is_log start long assortment = within 0 40000 start && (within 0 30000 long && within 0 15 assortment)
+is_log start long assortment =
+    within STARTS_RANGE.low STARTS_RANGE.high start && (within 0 LENGTHS_RANGE.high long && within 0 15 assortment)
 
 -- starts, lengths and assortments, three by three
 abbrev pub are_logs : List ℕ → Bool
@@ -154,7 +158,7 @@ unfoldable pub targets_at : List ItemParts → ℕ → Result (List ℕ) Journal
 targets_at items k = do
   targets ← numbers_at (slot 982 2) items k
   _ ← check (nat_le (length targets) 16384) (Count (k + 1))
-  _ ← check (all_within 0 1000000 targets) (Range (k + 1))
+  _ ← check (all_within TARGETS_RANGE.low TARGETS_RANGE.high targets) (Range (k + 1))
   Ok targets
 
 -- the item begins a posting

@@ -1,7 +1,9 @@
 -- Sheets and postings whose numbers, and how many there are, lie within a journal's ranges.
 use Rattle.std.specs.Prelude.{◌≡◌, ℕ, ◌≤◌, true, List, length, All}
-use Rattle.buck_record.specs.Rules.{within, all_within}
+use Rattle.buck_record.specs.Rules.{within, all_within, one_to}
 use Rattle.buck_apt.specs.Instruction.{IsWithin}
+use Rattle.buck_apt.specs.declared.slots.TheConstants.{TARGETS_RANGE}
+use Rattle.buck_stem.specs.declared.slots.TheConstants.{SPECIES_RANGE, SAMPLES_RANGE, MOST_SAMPLES, MOST_ZONES}
 use Rattle.buck_stem.specs.Stem.{IsStem}
 use Rattle.buck_book.specs.declared.posting.Posting.{Posting}
 use Rattle.buck_book.specs.declared.posting.Posting.TheVariants.{Cut, Demand}
@@ -25,10 +27,10 @@ call_of_demand d = record { harvester = d.harvester; number = d.number; version 
 pub record IsCutInRange (e : EntryParts) : Type 0 where
   pub call : is_call (call_of_cut e) ≡ true
   pub stem_number : e.stem.number ≤ 4294967295
-  pub species : within 1 255 e.stem.species ≡ true
-  pub samples_number : within 1 401 (length e.stem.samples) ≡ true
-  pub samples_range : all_within 0 1500 e.stem.samples ≡ true
-  pub zones_number : length e.stem.zones ≤ 100
+  pub species : within SPECIES_RANGE.low SPECIES_RANGE.high e.stem.species ≡ true
+  pub samples_number : one_to MOST_SAMPLES (length e.stem.samples) ≡ true
+  pub samples_range : all_within SAMPLES_RANGE.low SAMPLES_RANGE.high e.stem.samples ≡ true
+  pub zones_number : length e.stem.zones ≤ MOST_ZONES
   pub zones_range : are_zones 0 (zone_numbers e.stem.zones) ≡ true
   pub logs_number : length e.logs ≤ 80
   pub logs_range : are_logs (log_numbers e.logs) ≡ true
@@ -37,7 +39,7 @@ pub record IsCutInRange (e : EntryParts) : Type 0 where
 pub record IsDemandInRange (d : DemandParts) : Type 0 where
   pub call : is_call (call_of_demand d) ≡ true
   pub targets_number : length d.targets ≤ 16384
-  pub targets_range : all_within 0 1000000 d.targets ≡ true
+  pub targets_range : all_within TARGETS_RANGE.low TARGETS_RANGE.high d.targets ≡ true
 
 abbrev pub IsInRange : Posting → Type 0
 IsInRange (Cut e) = IsCutInRange e

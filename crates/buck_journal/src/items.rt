@@ -10,9 +10,11 @@ ghost use Rattle.buck_journal.specs.Journal.{rest_at, numbers_at, sheet_at, call
 use crate::call::Call;
 use crate::fault::JournalFault;
 use crate::slots::{HEAD, SHEET, TARGETS, WORTH};
+use buck_apt::slots::TARGETS_RANGE;
 use buck_record::check::check;
-use buck_record::rules::{all_within, within};
+use buck_record::rules::all_within;
 use buck_record::{Listed, Piece, RecordFault, Slot, numbers, wide};
+use buck_stem::slots::SPECIES_RANGE;
 use buck_value::Log;
 use std::alloc::{AllocError, Global};
 
@@ -99,7 +101,7 @@ pub(crate) fn targets_at<'a>(
     let targets = numbers_at(alloc, TARGETS, items, k)?;
     check(targets.len() <= 16_384, JournalFault::Count { item: k + 1 })?;
     check(
-        all_within(0, 1_000_000, targets.as_slice()),
+        all_within(TARGETS_RANGE.low, TARGETS_RANGE.high, targets.as_slice()),
         JournalFault::Range { item: k + 1 },
     )?;
     Ok(targets)
@@ -162,17 +164,17 @@ pub(crate) fn head_at<'a>(
 ) -> Result<(u32, u8), JournalFault>
     requires { k ≤ length items.now + 5 }
     ensures value { Gives Memory result (head_at items.now k) }
-    ensures species { IfOk result (λ head. (1 ≤ head.1) × (head.1 ≤ 255)) }
+    ensures species { IfOk result (λ head. (SPECIES_RANGE.low ≤ head.1) × (head.1 ≤ SPECIES_RANGE.high)) }
 {
     let numbers = numbers_at(alloc, HEAD, items, k)?;
     if numbers.len() != 2 {
         return Err(JournalFault::Count { item: k + 1 });
     }
     let species = numbers.as_slice()[1];
-    if species < 1 {
+    if species < SPECIES_RANGE.low {
         return Err(JournalFault::Range { item: k + 1 });
     }
-    if species > 255 {
+    if species > SPECIES_RANGE.high {
         return Err(JournalFault::Range { item: k + 1 });
     }
     Ok((numbers.as_slice()[0], species as u8))

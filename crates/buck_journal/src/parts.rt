@@ -10,10 +10,12 @@ ghost use Rattle.buck_journal.specs.Journal.{samples_at, is_zone, are_zones, zon
 use crate::fault::JournalFault;
 use crate::items::{head_at, numbers_at};
 use crate::slots::{LOGS, SAMPLES, ZONES};
+use buck_apt::slots::LENGTHS_RANGE;
 use buck_record::Piece;
 use buck_record::check::check;
-use buck_record::rules::{all_within, within};
+use buck_record::rules::{all_within, one_to};
 use buck_stem::Stem;
+use buck_stem::slots::{GRADES_RANGE, MOST_SAMPLES, MOST_ZONES, SAMPLES_RANGE, STARTS_RANGE};
 use buck_value::Log;
 use std::alloc::{AllocError, Global};
 
@@ -41,10 +43,10 @@ pub(crate) fn samples_at<'a>(
     ensures valid { IfOk result (λ samples. AreSamples samples.items) }
 {
     let numbers = numbers_at(alloc, SAMPLES, items, k)?;
-    if !within(1, 401, numbers.len()) {
+    if !one_to(MOST_SAMPLES, numbers.len()) {
         return Err(JournalFault::Count { item: k + 1 });
     }
-    if !all_within(0, 1500, numbers.as_slice()) {
+    if !all_within(SAMPLES_RANGE.low, SAMPLES_RANGE.high, numbers.as_slice()) {
         return Err(JournalFault::Range { item: k + 1 });
     }
     Ok(samples_of(alloc, numbers.as_slice())?)
@@ -53,16 +55,19 @@ pub(crate) fn samples_at<'a>(
 fn is_zone(low: u32, start: u32, grade: u32) -> bool
     ensures { result ≡ is_zone low start grade }
 {
-    low <= start && start <= 40_000 && 1 <= grade && grade <= 8
+    low <= start
+        && start <= STARTS_RANGE.high
+        && GRADES_RANGE.low <= grade
+        && grade <= GRADES_RANGE.high
 }
 
 fn is_log(start: u32, length: u32, assortment: u32) -> bool
     ensures { result ≡ is_log start length assortment }
 {
-    start <= 40_000 && length <= 30_000 && assortment <= 15
+    start <= STARTS_RANGE.high && length <= LENGTHS_RANGE.high && assortment <= 15
 }
 
-/// Whether starts rise and are at most 40,000, and grades are from 1 to 8.
+/// Whether starts and grades are in their ranges, and starts rise.
 pub(crate) fn are_zones(numbers: &[u32]) -> bool
     ensures { result ≡ are_zones 0 numbers.now }
 {
@@ -102,7 +107,7 @@ pub(crate) fn zones_at<'a>(
 {
     let numbers = numbers_at(alloc, ZONES, items, k)?;
     check(numbers.len() % 2 == 0, JournalFault::Count { item: k + 1 })?;
-    if numbers.len() > 200 {
+    if numbers.len() > 2 * MOST_ZONES {
         return Err(JournalFault::Count { item: k + 1 });
     }
     if !are_zones(numbers.as_slice()) {

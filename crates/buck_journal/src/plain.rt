@@ -12,10 +12,12 @@ use crate::journal::Journal;
 use crate::parts::{are_logs, are_zones, logs_of, zones_of};
 use crate::postings::{cut_of, demand_of};
 use crate::slots::{CUT, DEMAND, HEAD, LOGS, SAMPLES, SHEET, TARGETS, WORTH, ZONES};
+use buck_apt::slots::TARGETS_RANGE;
 use buck_book::Posting;
-use buck_record::rules::{FILE, all_within, within};
+use buck_record::rules::{FILE, all_within, one_to};
 use buck_record::{Slot, append_numbers, is_done, next_quick, numbers_into, wide};
 use buck_stem::Stem;
+use buck_stem::slots::{MOST_SAMPLES, MOST_ZONES, SAMPLES_RANGE, SPECIES_RANGE};
 use buck_value::Log;
 use std::alloc::{AllocError, Global};
 
@@ -65,7 +67,7 @@ fn next_head<'a>(
     text: &'a [u8],
 ) -> Result<Option<((u32, u8), &'a [u8])>, AllocError>
     ensures leads { IfOk result (λ o. IfSome o (λ w. LeadsTo (slot 981 2) head_at text.now w.0 w.1.now)) }
-    ensures species { IfOk result (λ o. IfSome o (λ w. (1 ≤ w.0.1) × (w.0.1 ≤ 255))) }
+    ensures species { IfOk result (λ o. IfSome o (λ w. (SPECIES_RANGE.low ≤ w.0.1) × (w.0.1 ≤ SPECIES_RANGE.high))) }
 {
     let Some(left) = next_numbers(room, HEAD, text)? else {
         return Ok(None);
@@ -75,10 +77,10 @@ fn next_head<'a>(
         return Ok(None);
     }
     let species = numbers[1];
-    if species < 1 {
+    if species < SPECIES_RANGE.low {
         return Ok(None);
     }
-    if species > 255 {
+    if species > SPECIES_RANGE.high {
         return Ok(None);
     }
     Ok(Some(((numbers[0], species as u8), left)))
@@ -95,10 +97,10 @@ fn next_samples<'a>(samples: &mut Vec<u16>, text: &'a [u8]) -> Result<Option<&'a
     };
     samples.clear();
     samples.reserve(rest.len() / 2 + 1)?;
-    if !append_numbers(1500, rest, samples) {
+    if !append_numbers(SAMPLES_RANGE.high as u16, rest, samples) {
         return Ok(None);
     }
-    if !within(1, 401, samples.len()) {
+    if !one_to(MOST_SAMPLES, samples.len()) {
         return Ok(None);
     }
     Ok(Some(left))
@@ -119,7 +121,7 @@ fn next_zones<'a>(
     if room.len() % 2 != 0 {
         return Ok(None);
     }
-    if room.len() > 200 {
+    if room.len() > 2 * MOST_ZONES {
         return Ok(None);
     }
     if !are_zones(room.as_slice()) {
@@ -229,7 +231,7 @@ fn next_targets<'a>(
     if room.len() > 16_384 {
         return Ok(None);
     }
-    if !all_within(0, 1_000_000, room.as_slice()) {
+    if !all_within(TARGETS_RANGE.low, TARGETS_RANGE.high, room.as_slice()) {
         return Ok(None);
     }
     let targets = Vec::from_slice(alloc, room.as_slice())?;

@@ -1,14 +1,11 @@
 -- What a line of the input asks for, or its refusal: the first of eight lines that applies, and within a line the first
 -- item in the order of the table.
 --
---   item    what it says                          how many numbers   range of each   order
---   950 1   the harvester; where it is absent,    1                  1 to 64         before the others
---           the first
---   951 1   a stem: these four as in a stem file
---   952 1
---   953 1
---   954 1
---   982 2   new targets                           any                any
+--   item        what it says                          how many numbers   range of each   order
+--   HARVESTER   the harvester; where it is absent,    1                  1 to 64         before the others
+--               the first
+--   STEM ..     a stem: its four items, as in a stem file
+--   TARGETS     new targets                           any                any
 --
 -- A line asks for one thing, a stem to be cut or new targets. Items that aren't in the table say nothing, and a line
 -- with no item at all asks for nothing. Line 2 has no fault here: nobody says the kind of a line.
@@ -20,53 +17,18 @@ use Rattle.buck_record.specs.Reading.{with_fault}
 use Rattle.buck_record.specs.Record.{items_of}
 use Rattle.buck_record.specs.Table.{count_in, first_missing, first_twice, is_in}
 use Rattle.buck_record.specs.Check.{◌>>=◌, check, none_of}
-use Rattle.buck_record.specs.Rules.{slot, of_slot, has_no_strays, numbers_in, all_within}
+use Rattle.buck_record.specs.Rules.{of_slot, has_no_strays, numbers_in, all_within}
 use Rattle.buck_record.specs.Written.{spelled}
+use Rattle.buck_stem.specs.declared.slots.TheConstants.{STEM, NEEDED, MEMBERS}
 use Rattle.buck_stem.specs.declared.fault.StmFault.{StmFault}
 use Rattle.buck_stem.specs.declared.fault.StmFault.TheVariants.{Head, Missing, Twice, Digits, Range, Order, Count}
 use Rattle.buck_stem.specs.Faults.{stm_numbers}
 use Rattle.buck_stem.specs.Stem.{StemParts}
 use Rattle.buck_stem.specs.Stm.{stm_of}
+use Rattle.buck_live.specs.declared.slots.TheConstants.{HARVESTER, TARGETS, STEM_ITEMS, ASKED, TABLE}
 use Rattle.buck_live.specs.declared.request.Asked.{Asked}
 use Rattle.buck_live.specs.declared.request.Asked.TheVariants.{Stem, Targets}
 use Rattle.buck_live.specs.declared.request.Request.{Request}
-
-abbrev pub harvester_slot : Slot
-harvester_slot = slot 950 1
-
-abbrev pub targets_slot : Slot
-targets_slot = slot 982 2
-
--- the items of a stem, its number first, as a stem file has them
-abbrev pub stem_slot : Slot
-stem_slot = slot 951 1
-
-abbrev pub species_slot : Slot
-species_slot = slot 952 1
-
-abbrev pub samples_slot : Slot
-samples_slot = slot 953 1
-
-abbrev pub zones_slot : Slot
-zones_slot = slot 954 1
-
--- what a stem must have after its number, and what it may have
-abbrev pub needed_slots : List Slot
-needed_slots = species_slot ∷ samples_slot ∷ []
-
-abbrev pub member_slots : List Slot
-member_slots = species_slot ∷ samples_slot ∷ zones_slot ∷ []
-
--- the items of a stem
-abbrev pub stem_slots : List Slot
-stem_slots = stem_slot ∷ member_slots
-
--- all items of the table but the harvester's, and all
-abbrev pub asked_slots : List Slot
-asked_slots = stem_slot ∷ species_slot ∷ samples_slot ∷ zones_slot ∷ targets_slot ∷ []
-
-abbrev pub table_slots : List Slot
-table_slots = harvester_slot ∷ asked_slots
 
 -- some item stands in a slot
 abbrev pub has : Slot → List ItemParts → Bool
@@ -75,33 +37,33 @@ has s items = nat_lt 0 (count_in s items)
 -- a stem has all its items, and where there is none there are targets
 abbrev pub all_there : List ItemParts → Result (Unit {0}) StmFault
 all_there items =
-    if has stem_slot items then none_of (first_missing needed_slots items) Missing
-    else check (has targets_slot items) (of_slot Missing stem_slot)
+    if has STEM items then none_of (first_missing NEEDED items) Missing
+    else check (has TARGETS items) (of_slot Missing STEM)
 
 -- Line 3, Missing: no item of a stem stands before its number, and what is asked for is all there.
 unfoldable pub present : List ItemParts → Result (Unit {0}) StmFault
 present items = do
-  _ ← check (has_no_strays stem_slot member_slots items) (of_slot Missing stem_slot)
+  _ ← check (has_no_strays STEM MEMBERS items) (of_slot Missing STEM)
   all_there items
 
 -- Line 4, Twice: no item stands twice, and targets don't stand beside a stem.
 unfoldable pub single : List ItemParts → Result (Unit {0}) StmFault
 single items = do
-  _ ← none_of (first_twice table_slots items) Twice
-  check (not (has stem_slot items && has targets_slot items)) (of_slot Twice targets_slot)
+  _ ← none_of (first_twice TABLE items) Twice
+  check (not (has STEM items && has TARGETS items)) (of_slot Twice TARGETS)
 
 -- Lines 5 to 8 of the harvester that an item names.
 unfoldable pub named_harvester : List ItemParts → Result ℕ StmFault
 named_harvester items = do
-  numbers ← numbers_in Digits harvester_slot items
-  _ ← check (all_within 1 64 numbers) (of_slot Range harvester_slot)
-  _ ← check (has_no_strays harvester_slot asked_slots items) (of_slot Order harvester_slot)
-  _ ← check (length numbers == 1) (of_slot Count harvester_slot)
+  numbers ← numbers_in Digits HARVESTER items
+  _ ← check (all_within 1 64 numbers) (of_slot Range HARVESTER)
+  _ ← check (has_no_strays HARVESTER ASKED items) (of_slot Order HARVESTER)
+  _ ← check (length numbers == 1) (of_slot Count HARVESTER)
   Ok (slice_index numbers 0)
 
 -- who asks
 abbrev pub harvester_in : List ItemParts → Result ℕ StmFault
-harvester_in items = if has harvester_slot items then named_harvester items else Ok 1
+harvester_in items = if has HARVESTER items then named_harvester items else Ok 1
 
 -- an item as it is written
 abbrev pub item_text : ItemParts → List ℕ
@@ -109,7 +71,7 @@ item_text item = spelled (item.number ∷ item.kind ∷ []) ++ (codes " " ++ (it
 
 -- the same of an item of a stem; nothing of another
 abbrev pub stem_text : ItemParts → List ℕ
-stem_text item = if is_in stem_slots item then item_text item else []
+stem_text item = if is_in STEM_ITEMS item then item_text item else []
 
 -- the stem file that has a line's items of a stem, and no others
 abbrev pub stem_file : List ItemParts → List ℕ
@@ -118,17 +80,17 @@ stem_file items = codes "1 2 STM~" ++ flat_map stem_text items
 -- the stem of a stem file that has one
 abbrev pub only_stem : Result (List StemParts) StmFault → Result Asked StmFault
 only_stem (Ok (stem ∷ [])) = Ok (Stem stem)
-only_stem (Ok _) = Err (of_slot Missing stem_slot)
+only_stem (Ok _) = Err (of_slot Missing STEM)
 only_stem (Err fault) = Err fault
 
 -- the targets that an item has
 unfoldable pub targets_in : List ItemParts → Result Asked StmFault
-targets_in items = numbers_in Digits targets_slot items >>= λ targets. Ok (Targets targets)
+targets_in items = numbers_in Digits TARGETS items >>= λ targets. Ok (Targets targets)
 
 -- Lines 5 to 8 of what is asked for: numbers as targets, or else a stem, which is refused as its stem file is.
 unfoldable pub asked_in : List ItemParts → Result Asked StmFault
 asked_in items =
-    if has targets_slot items then targets_in items
+    if has TARGETS items then targets_in items
     else only_stem (stm_of (stem_file items))
 
 -- the number of a fault's line, from its number and fields

@@ -20,16 +20,16 @@ ghost use Rattle.buck_live.specs.Request.{
   requested,
   single,
   stem_file,
-  stem_slots,
   stem_text,
   targets_in,
 };
 
-use crate::slots::{ASKED, HARVESTER, MEMBERS, NEEDED, STEM, STEM_ITEMS, TABLE, TARGETS};
+use crate::slots::{ASKED, HARVESTER, STEM_ITEMS, TABLE, TARGETS};
 use buck_record::check::{all_absent, all_single, all_there as each_there, check, is_there};
 use buck_record::rules::{all_within, numbers_in};
 use buck_record::table::front;
 use buck_record::{FormFault, Listed, Memory, Numbered, Piece, RecordFault, pieces, put_numbers};
+use buck_stem::slots::{MEMBERS, NEEDED, STEM};
 use buck_stem::{Stem, StmFault, read_stm};
 use std::alloc::Global;
 
@@ -126,7 +126,7 @@ fn put_item(out: &mut Vec<u8>, item: &Piece<'_>) -> Result<(), Memory>
 
 /// Whether it is an item of a stem.
 fn is_of_stem(item: &Piece<'_>) -> bool
-    ensures { result ≡ is_in stem_slots item.now }
+    ensures { result ≡ is_in STEM_ITEMS item.now }
 {
     STEM_ITEMS.iter().any(|slot| item.number == slot.number && item.kind == slot.kind)
 }

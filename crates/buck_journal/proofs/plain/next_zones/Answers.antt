@@ -1,5 +1,6 @@
-use Rattle.std.proofs.Common.{rules, ◌≡◌, ◌%◌, ◌≤◌, true, length, sym, subst, arith}
+use Rattle.std.proofs.Common.{rules, ◌≡◌, ◌*◌, ◌%◌, ◌≤◌, true, length, sym, subst, arith}
 use Rattle.buck_record.specs.Rules.{slot}
+use Rattle.buck_stem.specs.declared.slots.TheConstants.{MOST_ZONES}
 use Rattle.buck_stem.specs.Stm.{zones_of}
 use Rattle.buck_journal.specs.Journal.{are_zones, zones_at}
 use Rattle.buck_journal.specs.inner.Limits.{AreZones}
@@ -13,7 +14,7 @@ returns-clause-leads c =
     let ns = c.next_numbers.new.room.items in
     let l : LeadsNumbers (slot 981 4) c.args.text.now ns c.in-Some.left.now = rw c.in-Some.is at c.in_ok-left.ensures in
     let even : length ns % 2 ≡ 0 = search (rules, arith) in
-    let few : length ns ≤ 200 = search (rules, arith) in
+    let few : length ns ≤ 2 * MOST_ZONES = search (rules, arith) in
     let range : are_zones 0 ns ≡ true = search (rules, arith) in
     let is : c.in_ok-zones.zones.items ≡ zones_of ns = search rules in
     subst (λ zs. LeadsTo (slot 981 4) zones_at c.args.text.now zs c.in-Some.left.now) (sym is)
@@ -22,7 +23,7 @@ returns-clause-leads c =
 pub returns-clause-valid : goal.returns-clause-valid
 returns-clause-valid c =
     let ns = c.next_numbers.new.room.items in
-    let few : length ns ≤ 200 = search (rules, arith) in
+    let few : length ns ≤ 2 * MOST_ZONES = search (rules, arith) in
     let range : are_zones 0 ns ≡ true = search (rules, arith) in
     let is : c.in_ok-zones.zones.items ≡ zones_of ns = search rules in
     subst AreZones (sym is) (are_zones_ok ns few range)
