@@ -11,26 +11,27 @@ use Rattle.buck_engine.specs.text.Report.{IsReport}
 use Rattle.buck_engine.specs.Faults.{fault_line, memory_line, status_of}
 use Rattle.buck_engine.specs.run.Reading.{ReadsApt}
 use Rattle.buck_engine.specs.fleet.Lent.{OfWriter}
-use Rattle.buck_engine.specs.fleet.Running.{AnswersFleet, IsFleetRun}
+use Rattle.buck_engine.specs.fleet.Running.{AnswersFleet, IsFleetRun, IsHarvest, IsInOrder}
 use Rattle.buck_calls.specs.declared.turns.Texts.{Texts}
 use Rattle.buck_calls.specs.Room.{IsPutAs}
 use Rattle.buck_calls.specs.Turns.{ArePut, AreRefused, AreTexts, AreUsed, IsTurned}
 
 -- what is no failed write is why there is no history
-run_fault : (reads : ReadsApt) (order : Order) (apt : Option (List ℕ)) (stms : List (Option (List ℕ))) (OfJournal : OfWriter)
-    (old new : Option (List ℕ)) (fault : EngineFault) → IsFleetRun reads order apt stms OfJournal old new (Err fault)
-    → fault ≢ Write → AnswersFleet reads order apt stms (Err fault)
-run_fault reads order apt stms OfJournal old new (Read n) r w = r.run.0
-run_fault reads order apt stms OfJournal old new Write r w = absurd (w refl)
-run_fault reads order apt stms OfJournal old new (Apt x) r w = r.run.0
-run_fault reads order apt stms OfJournal old new (Stm n x) r w = r.run.0
-run_fault reads order apt stms OfJournal old new (Journal x) r w = r.run.0
-run_fault reads order apt stms OfJournal old new (Replay x) r w = r.run.0
-run_fault reads order apt stms OfJournal old new (Check x) r w = r.run.0
-run_fault reads order apt stms OfJournal old new Seats r w = r.run.0
-run_fault reads order apt stms OfJournal old new Full r w = r.run.0
-run_fault reads order apt stms OfJournal old new Memory r w = r.run.0
-run_fault reads order apt stms OfJournal old new (Close x) r w = r.run.0
+run_fault : (reads : ReadsApt) (order : Order) (ByRule : HistoryParts → Type 0) (apt : Option (List ℕ))
+    (stms : List (Option (List ℕ))) (OfJournal : OfWriter) (old new : Option (List ℕ)) (fault : EngineFault)
+    → IsFleetRun reads order ByRule apt stms OfJournal old new (Err fault)
+    → fault ≢ Write → AnswersFleet reads order (λ _. Unit {0}) apt stms (Err fault)
+run_fault reads order ByRule apt stms OfJournal old new (Read n) r w = r.run.0
+run_fault reads order ByRule apt stms OfJournal old new Write r w = absurd (w refl)
+run_fault reads order ByRule apt stms OfJournal old new (Apt x) r w = r.run.0
+run_fault reads order ByRule apt stms OfJournal old new (Stm n x) r w = r.run.0
+run_fault reads order ByRule apt stms OfJournal old new (Journal x) r w = r.run.0
+run_fault reads order ByRule apt stms OfJournal old new (Replay x) r w = r.run.0
+run_fault reads order ByRule apt stms OfJournal old new (Check x) r w = r.run.0
+run_fault reads order ByRule apt stms OfJournal old new Seats r w = r.run.0
+run_fault reads order ByRule apt stms OfJournal old new Full r w = r.run.0
+run_fault reads order ByRule apt stms OfJournal old new Memory r w = r.run.0
+run_fault reads order ByRule apt stms OfJournal old new (Close x) r w = r.run.0
 
 behind_nothing : (line : List ℕ) (status : ℕ) (old new : List ℕ) (texts : Texts) (result : ℕ) → texts.journal ≡ 0
     → IsPutAs line status old new texts.report result
@@ -69,21 +70,22 @@ known_each f (x ∷ xs) = ap (λ ys. Some (f x) ∷ ys) (known_each f xs)
 -- what a run wrote into nothing are the texts of its history
 pub texts_written : {X : Type 0} (f : X → List ℕ) (apt : List ℕ) (stms : List X) (h : HistoryParts)
     (before journal before_report report text : List ℕ)
-    → AnswersFleet apt_of InTurn (Some apt) (map (λ x. Some (f x)) stms) (Ok h)
+    → IsHarvest apt_of (Some apt) (map (λ x. Some (f x)) stms) h → IsInOrder InTurn (λ _. Unit {0}) h
     → before ≡ [] → journal ≡ before ++ journal_text h.sheets h.postings
     → before_report ≡ [] → report ≡ before_report ++ text → IsReport h text
     → AreTexts apt (map f stms) journal report
-texts_written f apt stms h before journal before_report report text answers none is none_yet is_report right = (
+texts_written f apt stms h before journal before_report report text harvest turns none is none_yet is_report right = (
   h,
-  subst (λ files. AnswersFleet apt_of InTurn (Some apt) files (Ok h)) (known_each f stms) answers,
+  (subst (λ files. IsHarvest apt_of (Some apt) files h) (known_each f stms) harvest, turns),
   is ∙ ap (λ xs. xs ++ journal_text h.sheets h.postings) none,
   subst (λ xs. IsReport h xs) (sym (is_report ∙ ap (λ xs. xs ++ text) none_yet)) right,
 )
 
 -- and what is no failed write is why there are none
-pub texts_refused : {X : Type 0} (f : X → List ℕ) (apt : List ℕ) (stms : List X) (OfJournal : OfWriter) (old new : Option (List ℕ))
-    (fault : EngineFault) → IsFleetRun apt_of InTurn (Some apt) (map (λ x. Some (f x)) stms) OfJournal old new (Err fault)
-    → fault ≢ Write → AnswersFleet apt_of InTurn (Some apt) (map Some (map f stms)) (Err fault)
-texts_refused f apt stms OfJournal old new fault run other =
-    subst (λ files. AnswersFleet apt_of InTurn (Some apt) files (Err fault)) (known_each f stms)
-    (run_fault apt_of InTurn (Some apt) (map (λ x. Some (f x)) stms) OfJournal old new fault run other)
+pub texts_refused : {X : Type 0} (f : X → List ℕ) (ByRule : HistoryParts → Type 0) (apt : List ℕ) (stms : List X)
+    (OfJournal : OfWriter) (old new : Option (List ℕ)) (fault : EngineFault)
+    → IsFleetRun apt_of InTurn ByRule (Some apt) (map (λ x. Some (f x)) stms) OfJournal old new (Err fault)
+    → fault ≢ Write → AnswersFleet apt_of InTurn (λ _. Unit {0}) (Some apt) (map Some (map f stms)) (Err fault)
+texts_refused f ByRule apt stms OfJournal old new fault run other =
+    subst (λ files. AnswersFleet apt_of InTurn (λ _. Unit {0}) (Some apt) files (Err fault)) (known_each f stms)
+    (run_fault apt_of InTurn ByRule (Some apt) (map (λ x. Some (f x)) stms) OfJournal old new fault run other)

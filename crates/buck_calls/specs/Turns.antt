@@ -22,7 +22,7 @@ AreFiles lengths bytes files = (map (λ file. length file) files ≡ lengths) ×
 -- a journal and a report are those of one history of the files, whose harvesters took turns
 abbrev pub AreTexts : List ℕ → List (List ℕ) → List ℕ → List ℕ → Type 0
 AreTexts apt stms journal report =
-    (h : HistoryParts) × AnswersFleet apt_of InTurn (Some apt) (map Some stms) (Ok h)
+    (h : HistoryParts) × AnswersFleet apt_of InTurn (λ _. Unit {0}) (Some apt) (map Some stms) (Ok h)
     × (journal ≡ journal_text h.sheets h.postings) × IsReport h report
 
 -- the texts of one history of the first file's instruction and the stems of the others
@@ -35,7 +35,7 @@ abbrev pub AreRefused : List ℕ → List ℕ → EngineFault → Type 0
 AreRefused lengths bytes fault =
     (fault ≡ Memory)
     ⊎ ((apt : List ℕ) × (stms : List (List ℕ)) × AreFiles lengths bytes (apt ∷ stms)
-    × AnswersFleet apt_of InTurn (Some apt) (map Some stms) (Err fault))
+    × AnswersFleet apt_of InTurn (λ _. Unit {0}) (Some apt) (map Some stms) (Err fault))
 
 -- what is handed over can't be cut: there is no such rule or no file, or the lengths aren't those of the bytes
 abbrev pub AreMisused : ℕ → List ℕ → List ℕ → Type 0

@@ -76,7 +76,8 @@ fn texts_by<'x, F: Fn(&Standing) -> u64 + Drop>(
     ensures ok { IfOk result (λ texts.
         AreTexts apt.old.now (map (λ file. file.now) stms.old) texts.journal.items texts.report.items) }
     ensures refused { IfErr result (λ fault.
-        AnswersFleet apt_of InTurn (Some apt.old.now) (map Some (map (λ file. file.now) stms.old)) (Err fault)) }
+        AnswersFleet apt_of InTurn (λ _. Unit {0}) (Some apt.old.now) (map Some (map (λ file. file.now) stms.old))
+        (Err fault)) }
 {
     let mut journal = Vec::new(alloc);
     let mut report = Vec::new(alloc);
@@ -98,7 +99,8 @@ fn texts_of<'x>(
     ensures ok { IfOk result (λ texts.
         AreTexts apt.old.now (map (λ file. file.now) stms.old) texts.journal.items texts.report.items) }
     ensures refused { IfErr result (λ fault.
-        AnswersFleet apt_of InTurn (Some apt.old.now) (map Some (map (λ file. file.now) stms.old)) (Err fault)) }
+        AnswersFleet apt_of InTurn (λ _. Unit {0}) (Some apt.old.now) (map Some (map (λ file. file.now) stms.old))
+        (Err fault)) }
 {
     match rule {
         StoredRule::Steady => texts_by(alloc, apt, stms, Rule::new(|s: &Standing| steady(s))),
