@@ -9,7 +9,7 @@ use Rattle.std.proofs.lemmas.List.Sums.{AllPass-from_list_all, fails_before_firs
 use Rattle.buck_record.proofs.TableLemmas.{place-none}
 use Rattle.std.proofs.lemmas.Bool.{false≢true, ltb-true, ltb-false, leb-true, eqb-false, cases_Bool, cond-true, cond-false}
 use Rattle.buck_record.specs.declared.ranged.Ranged.{Ranged}
-use Rattle.buck_record.specs.Rules.{one_to, is_rising}
+use Rattle.buck_record.specs.checking.Rules.{one_to, is_rising}
 use Rattle.buck_record.proofs.PassLemmas.{AreRanged, passed, check_ok, then_ok, each_ok, both, within_ok, in_range_ok, ranged, counted_ok, counted}
 use Rattle.buck_apt.specs.declared.fault.AptFault.{AptFault}
 use Rattle.buck_apt.specs.declared.fault.AptFault.TheVariants.{Range, Count, Module, Targets}

@@ -8,10 +8,10 @@ use Rattle.std.specs.Str.{bytes_eq}
 use Rattle.buck_record.specs.Item.{ItemParts}
 use Rattle.buck_record.specs.declared.slot.Slot.{Slot}
 use Rattle.buck_record.specs.Reading.{with_fault}
-use Rattle.buck_record.specs.Record.{items_of}
-use Rattle.buck_record.specs.Table.{count_in, rest_in, first_missing, first_twice, groups_of}
-use Rattle.buck_record.specs.Check.{◌>>=◌, check, none_of, each, make_each}
-use Rattle.buck_record.specs.Rules.{file_slot, of_slot, has_no_strays, numbers_in, one_to, all_in_range, counted_to, is_rising}
+use Rattle.buck_record.specs.bytes.Record.{items_of}
+use Rattle.buck_record.specs.checking.Table.{count_in, rest_in, first_missing, first_twice, groups_of}
+use Rattle.buck_record.specs.checking.Check.{◌>>=◌, check, none_of, each, make_each}
+use Rattle.buck_record.specs.checking.Rules.{file_slot, of_slot, has_no_strays, numbers_in, one_to, all_in_range, counted_to, is_rising}
 use Rattle.buck_apt.specs.declared.slots.TheConstants.{MODULE, MODULE_RANGE, PERIOD, PERIOD_RANGE, LIMIT, LIMIT_RANGE, COUNT, COUNT_RANGE, NAME, LONGEST_NAME, SPECIES, SPECIES_RANGE, GRADES, GRADES_RANGE, MOST_GRADES, PRICE_KIND, PRICE_KIND_RANGE, DIAMETERS, DIAMETERS_RANGE, MOST_ROWS, UPPER, UPPER_RANGE, LENGTHS, LENGTHS_RANGE, MOST_COLUMNS, PRICES, PRICES_RANGE, TARGETS, TARGETS_RANGE, MOST_TARGETS_TOGETHER, TRIM, TRIM_RANGE, HEAD, ALONE, MEMBERS, IN_ASSORTMENT}
 use Rattle.buck_apt.specs.Instruction.{AssortmentParts, InstructionParts}
 use Rattle.buck_apt.specs.declared.draft.Draft.{Draft}

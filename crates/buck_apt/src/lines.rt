@@ -1,6 +1,6 @@
 //! The lines of the order of refusals.
 ghost use Rattle.std.specs.Prelude.{◌≡◌, ◌<◌, ◌≤◌, ◌*◌, ◌==◌, length, slice_index, sum, position, nat_lt};
-ghost use Rattle.buck_record.specs.Check.{each};
+ghost use Rattle.buck_record.specs.checking.Check.{each};
 ghost use Rattle.buck_apt.specs.declared.fault.AptFault.TheVariants.{Module};
 ghost use Rattle.buck_apt.specs.Apt.{
   groups,

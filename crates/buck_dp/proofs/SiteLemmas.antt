@@ -3,8 +3,8 @@ use Rattle.std.proofs.Common.{◌≡◌, ℕ, ◌+◌, ◌*◌, ◌/◌, ◌<◌
 use Rattle.std.proofs.Math.Nat.{div-mul-le_self, lt-div-mul-add}
 use Rattle.std.proofs.lemmas.Bool.{cases_lt}
 use Rattle.buck_stem.specs.Stem.{StemParts, IsStem, IsGrade, grade_at, HasGrade, HasGradesOf, stem_length, diameter_at}
-use Rattle.buck_stem.specs.Profile as grid
-use Rattle.buck_stem.specs.Profile.{IsMask, IsMaskBetween, ProfileParts, profile_of}
+use Rattle.buck_stem.specs.points.Profile as grid
+use Rattle.buck_stem.specs.points.Profile.{IsMask, IsMaskBetween, ProfileParts, profile_of}
 use Rattle.buck_stem.proofs.Tables.{grade_at_is}
 use Rattle.buck_value.proofs.Grades.{mask_allows}
 use Rattle.buck_value.specs.Sheet.{IsSheet}

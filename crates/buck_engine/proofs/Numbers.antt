@@ -1,7 +1,7 @@
 -- A run's numbers in the place of an instruction's own.
 use Rattle.std.proofs.Common.{◌≡◌, List, ℕ, Option, Some, None, Result, Ok, Err, refl, sym, ap}
 use Rattle.std.proofs.Math.Path.{fun_ext}
-use Rattle.buck_record.specs.Check.{◌>>=◌}
+use Rattle.buck_record.specs.checking.Check.{◌>>=◌}
 use Rattle.buck_apt.specs.declared.fault.AptFault.{AptFault}
 use Rattle.buck_apt.specs.Instruction.{InstructionParts}
 use Rattle.buck_apt.specs.Settings.{SettingsParts, own_numbers, with_settings}

@@ -6,9 +6,9 @@ use Rattle.std.specs.Io.KnownBytes.{Keeps}
 use Rattle.std.proofs.KnownBytes.{Keeps-refl}
 use Rattle.buck_apt.specs.Instruction.{InstructionParts}
 use Rattle.buck_book.specs.History.{HistoryParts, IsLawful}
-use Rattle.buck_journal.specs.Journal.{JournalParts, journal_of}
-use Rattle.buck_journal.specs.Replay.{history_of, IsFirstFault}
-use Rattle.buck_journal.specs.declared.replay_fault.ReplayFault.{ReplayFault}
+use Rattle.buck_journal.specs.reading.Journal.{JournalParts, journal_of}
+use Rattle.buck_journal.specs.judging.Replay.{history_of, IsFirstFault}
+use Rattle.buck_journal.specs.declared.judging.fault.ReplayFault.{ReplayFault}
 use Rattle.buck_engine.specs.declared.fault.EngineFault.{EngineFault}
 use Rattle.buck_engine.specs.declared.run.showing.Shown.{Shown}
 use Rattle.buck_engine.specs.declared.run.showing.Shown.TheVariants.{Page, Table}

@@ -12,8 +12,8 @@ use Rattle.buck_book.specs.Walk.{IsCountable, WalkParts, passed, walk_of}
 use Rattle.buck_book.specs.declared.posting.Posting.{Posting}
 use Rattle.buck_book.specs.declared.posting.Posting.TheVariants.{Cut, Demand}
 use Rattle.buck_book.proofs.Ends.{ends_take-le}
-use Rattle.buck_journal.specs.Journal.{JournalParts}
-use Rattle.buck_journal.specs.Replay.{history_of, version_at, prices_then, Begins}
+use Rattle.buck_journal.specs.reading.Journal.{JournalParts}
+use Rattle.buck_journal.specs.judging.Replay.{history_of, version_at, prices_then, Begins}
 use Rattle.buck_engine.specs.declared.fleet.serving.NamedRule.{NamedRule}
 use Rattle.buck_engine.specs.declared.tie.held.Off.{Off}
 use Rattle.buck_engine.specs.declared.tie.fault.CheckFault.TheVariants.{Price}

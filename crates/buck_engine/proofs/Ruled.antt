@@ -12,7 +12,7 @@ use Rattle.buck_book.specs.Posting.{is_end, ends_of, cuts_since_end}
 use Rattle.buck_book.specs.History.{HistoryParts, IsLawful, IsEnd, standing_of}
 use Rattle.buck_book.specs.Pricing.{Calls, AreAnswers}
 use Rattle.buck_book.proofs.Ends.{take_one_more, ends_with_end, cuts_without, true_false}
-use Rattle.buck_journal.specs.Replay.{Begins, version_at, prices_then}
+use Rattle.buck_journal.specs.judging.Replay.{Begins, version_at, prices_then}
 use Rattle.buck_turn.specs.Turn.{AreSheetsBy}
 use Rattle.buck_engine.specs.declared.fleet.serving.NamedRule.{NamedRule}
 use Rattle.buck_engine.specs.declared.fleet.serving.NamedRule.TheVariants.{Steady, Linear, Step}

@@ -10,12 +10,12 @@ use Rattle.buck_record.specs.Reading.{listed}
 use Rattle.buck_apt.specs.Instruction.{InstructionParts}
 use Rattle.buck_stem.specs.Stem.{StemParts}
 use Rattle.buck_stem.specs.declared.stem.Stem.{Stem}
-use Rattle.buck_stem.specs.Stm.{stm_of}
+use Rattle.buck_stem.specs.file.Stm.{stm_of}
 use Rattle.std.specs.Io.KnownBytes.{Appends, Keeps}
 use Rattle.std.proofs.KnownBytes.{Keeps-refl}
 use Rattle.buck_book.specs.History.{HistoryParts, IsLawful}
-use Rattle.buck_journal.specs.Journal.{JournalParts, journal_of}
-use Rattle.buck_journal.specs.Replay.{history_of}
+use Rattle.buck_journal.specs.reading.Journal.{JournalParts, journal_of}
+use Rattle.buck_journal.specs.judging.Replay.{history_of}
 use Rattle.buck_engine.specs.declared.fault.EngineFault.{EngineFault}
 use Rattle.buck_engine.specs.declared.fault.EngineFault.TheVariants.{Memory}
 use Rattle.buck_engine.specs.declared.fleet.serving.NamedRule.{NamedRule}

@@ -4,8 +4,8 @@ use Rattle.std.proofs.lemmas.List.{take-append-le}
 use Rattle.std.proofs.lemmas.Grind.{flat_map-append}
 use Rattle.std.specs.List.{flat_map}
 use Rattle.std.specs.Fmt.{decimal}
-use Rattle.buck_record.specs.Written.{spelled}
-use Rattle.buck_record.specs.Line.{line_of}
+use Rattle.buck_record.specs.writing.Written.{spelled}
+use Rattle.buck_record.specs.writing.Line.{line_of}
 use Rattle.buck_engine.specs.Faults.{memory_line, numbered_line}
 use Rattle.std.proofs.Math.Seq.{take-append-add}
 use Rattle.std.proofs.KnownBytes.{Appends-trans}

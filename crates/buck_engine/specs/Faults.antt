@@ -1,9 +1,9 @@
 -- What the program says of a fault: its line on standard error and the exit status.
 use Rattle.std.specs.Prelude.{ℕ, List, [], ◌∷◌, ◌++◌, codes}
-use Rattle.buck_record.specs.Written.{spelled}
-use Rattle.buck_record.specs.Line.{line_of}
+use Rattle.buck_record.specs.writing.Written.{spelled}
+use Rattle.buck_record.specs.writing.Line.{line_of}
 use Rattle.buck_apt.specs.Faults.{apt_numbers}
-use Rattle.buck_stem.specs.Faults.{stm_numbers}
+use Rattle.buck_stem.specs.file.Faults.{stm_numbers}
 use Rattle.buck_journal.specs.Faults.{journal_numbers, replay_numbers}
 use Rattle.buck_fleet.specs.Faults.{close_numbers}
 use Rattle.buck_engine.specs.tie.Told.{check_numbers}

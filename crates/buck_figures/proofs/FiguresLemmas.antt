@@ -10,7 +10,7 @@ use Rattle.buck_apt.specs.Instruction.{InstructionParts}
 use Rattle.buck_book.specs.declared.posting.Posting.{Posting}
 use Rattle.buck_book.specs.Posting.{ends_of, targets_of}
 use Rattle.buck_book.specs.History.{prices_at}
-use Rattle.buck_journal.specs.Journal.{JournalParts}
+use Rattle.buck_journal.specs.reading.Journal.{JournalParts}
 use Rattle.buck_figures.specs.Shown.{AreFigures}
 use Rattle.buck_figures.specs.inner.Account.{IsAccount}
 use Rattle.buck_figures.specs.inner.Course.{IsCourse}

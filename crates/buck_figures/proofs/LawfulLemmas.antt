@@ -12,8 +12,8 @@ use Rattle.buck_book.specs.Posting.{ends_of, cuts_since_end, is_end}
 use Rattle.buck_book.specs.History.{IsLawful, Follows, Holds, prices_at}
 use Rattle.buck_book.specs.Walk.{IsCountable}
 use Rattle.buck_book.proofs.Ends.{take_one_more, ends_with_end, ends_without, ends_take-le, true_false}
-use Rattle.buck_journal.specs.Journal.{JournalParts}
-use Rattle.buck_journal.specs.Replay.{history_of}
+use Rattle.buck_journal.specs.reading.Journal.{JournalParts}
+use Rattle.buck_journal.specs.judging.Replay.{history_of}
 use Rattle.buck_figures.specs.Shown.{IsShowable}
 use Rattle.buck_figures.specs.inner.Adding.{IsCuttable}
 use Rattle.buck_figures.specs.inner.Course.{ArePassable}

@@ -8,7 +8,7 @@ use Rattle.buck_book.specs.declared.posting.Posting.TheVariants.{Cut, Demand}
 use Rattle.buck_book.specs.Posting.{ends_of, targets_of}
 use Rattle.buck_book.specs.Counts.{AreClassCounts}
 use Rattle.buck_book.specs.History.{prices_at}
-use Rattle.buck_journal.specs.Journal.{JournalParts}
+use Rattle.buck_journal.specs.reading.Journal.{JournalParts}
 use Rattle.buck_figures.specs.Figures.{base_sheet, AreUnsteered}
 use Rattle.buck_figures.specs.Sums.{AreSums}
 use Rattle.buck_figures.specs.Owns.{AreOwns}

@@ -3,8 +3,8 @@ ghost use Rattle.std.specs.Prelude.{◌≡◌, ◌≤◌, ℕ, List, Some, slice
 ghost use Rattle.buck_apt.specs.Instruction.{InstructionParts};
 ghost use Rattle.buck_book.specs.declared.posting.Posting.{Posting};
 ghost use Rattle.buck_book.specs.History.{IsLawful};
-ghost use Rattle.buck_journal.specs.Journal.{JournalParts};
-ghost use Rattle.buck_journal.specs.Replay.{history_of};
+ghost use Rattle.buck_journal.specs.reading.Journal.{JournalParts};
+ghost use Rattle.buck_journal.specs.judging.Replay.{history_of};
 ghost use Rattle.buck_figures.specs.Figures.{AreUnsteered, at_base_in, worth_in};
 
 /// What steering cost is never below 0, of a posting nor of all: what was cut of a stem is one of its cuttings under any

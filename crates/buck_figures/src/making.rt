@@ -3,7 +3,7 @@ ghost use Rattle.std.specs.Prelude.{◌≡◌, ◌+◌, ◌<◌, ◌≤◌, ◌�
 ghost use Rattle.buck_apt.specs.Instruction.{classes};
 ghost use Rattle.buck_book.specs.Degree.{IsDegreeBy};
 ghost use Rattle.buck_book.specs.History.{IsLawful};
-ghost use Rattle.buck_journal.specs.Replay.{history_of};
+ghost use Rattle.buck_journal.specs.judging.Replay.{history_of};
 ghost use Rattle.buck_figures.specs.Figures.{base_sheet};
 ghost use Rattle.buck_figures.specs.Points.{point_after};
 ghost use Rattle.buck_figures.specs.Shown.{AreFigures, IsShown};

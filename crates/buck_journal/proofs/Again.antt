@@ -4,17 +4,17 @@ use Rattle.std.specs.Prelude.{nat_le, nat_lt}
 use Rattle.std.specs.List.{AllByRecursion, flat_map}
 use Rattle.std.proofs.lemmas.Bool.Decides.{nat_tests}
 use Rattle.buck_record.specs.Item.{ItemParts}
-use Rattle.buck_record.specs.Rules.{slot, within, all_within, one_to}
+use Rattle.buck_record.specs.checking.Rules.{slot, within, all_within, one_to}
 use Rattle.buck_record.proofs.PassLemmas.{both, within_ok}
 use Rattle.buck_apt.specs.declared.slots.TheConstants.{LENGTHS_RANGE, TARGETS_RANGE}
-use Rattle.buck_stem.specs.declared.slots.TheConstants.{SPECIES_RANGE, SAMPLES_RANGE, MOST_SAMPLES, STARTS_RANGE, GRADES_RANGE, MOST_ZONES}
-use Rattle.buck_stem.specs.Stm.{zones_of}
+use Rattle.buck_stem.specs.declared.file.slots.TheConstants.{SPECIES_RANGE, SAMPLES_RANGE, MOST_SAMPLES, STARTS_RANGE, GRADES_RANGE, MOST_ZONES}
+use Rattle.buck_stem.specs.file.Stm.{zones_of}
 use Rattle.buck_value.specs.declared.log.Log.{Log}
 use Rattle.buck_book.specs.declared.posting.Posting.{Posting}
 use Rattle.buck_book.specs.declared.posting.Posting.TheVariants.{Cut, Demand}
 use Rattle.buck_book.specs.Entry.{EntryParts, DemandParts}
-use Rattle.buck_journal.specs.declared.call.Call.{Call}
-use Rattle.buck_journal.specs.Journal.{rest_at, numbers_at, sheet_at, is_call, call_at, head_at, samples_at, is_zone, are_zones, zones_at, is_log, are_logs, logs_of, logs_at, worth_at, targets_at, journal_in}
+use Rattle.buck_journal.specs.declared.reading.call.Call.{Call}
+use Rattle.buck_journal.specs.reading.Journal.{rest_at, numbers_at, sheet_at, is_call, call_at, head_at, samples_at, is_zone, are_zones, zones_at, is_log, are_logs, logs_of, logs_at, worth_at, targets_at, journal_in}
 use Rattle.buck_journal.specs.Written.{zone_numbers, log_numbers}
 use Rattle.buck_journal.specs.Ranges.{AreSheetPrices, call_of_cut, call_of_demand, IsCutInRange, IsDemandInRange, IsInRange}
 use Rattle.buck_journal.specs.inner.Plain.{ArePostings, AreParts}

@@ -3,16 +3,16 @@ use Rattle.std.proofs.Common.{◌≡◌, ℕ, suc, ◌+◌, ◌||◌, Bool, true
 use Rattle.std.specs.Prelude.{if◌then◌else◌}
 use Rattle.std.proofs.Math.Bool.{or-false}
 use Rattle.buck_record.specs.Item.{ItemParts}
-use Rattle.buck_record.specs.Check.{◌>>=◌, check}
-use Rattle.buck_record.specs.Table.{is_at}
-use Rattle.buck_record.specs.Rules.{slot}
+use Rattle.buck_record.specs.checking.Check.{◌>>=◌, check}
+use Rattle.buck_record.specs.checking.Table.{is_at}
+use Rattle.buck_record.specs.checking.Rules.{slot}
 use Rattle.buck_book.specs.declared.posting.Posting.{Posting}
 use Rattle.buck_book.specs.declared.posting.Posting.TheVariants.{Cut}
 use Rattle.buck_book.specs.Entry.{EntryParts}
-use Rattle.buck_journal.specs.declared.fault.JournalFault.{JournalFault}
-use Rattle.buck_journal.specs.declared.fault.JournalFault.TheVariants.{NotJournal, Shape}
-use Rattle.buck_journal.specs.Journal.{JournalParts, sheet_at, call_at, stem_at, logs_at, worth_at, is_first, follows, posting_follows, entry_of, cut_at, posting_at, sheets_from, postings_from, says_journal, journal_in}
-use Rattle.buck_journal.specs.CutsAlone as alone
+use Rattle.buck_journal.specs.declared.reading.fault.JournalFault.{JournalFault}
+use Rattle.buck_journal.specs.declared.reading.fault.JournalFault.TheVariants.{NotJournal, Shape}
+use Rattle.buck_journal.specs.reading.Journal.{JournalParts, sheet_at, call_at, stem_at, logs_at, worth_at, is_first, follows, posting_follows, entry_of, cut_at, posting_at, sheets_from, postings_from, says_journal, journal_in}
+use Rattle.buck_journal.specs.reading.CutsAlone as alone
 use Rattle.buck_journal.specs.inner.Plain.{Stands}
 use Rattle.buck_journal.proofs.OnePass.{next_stands, first_stands}
 

@@ -12,9 +12,9 @@ use Rattle.buck_book.specs.Posting.{planned_version, is_end, ends_of, cuts_since
 use Rattle.buck_book.specs.History.{HistoryParts, IsLawful, Holds, PricesMeet, prices_at, sheet_at}
 use Rattle.buck_book.proofs.Ends.{true_false, take_one_more, ends_take-le, ends_with_end, cuts_without}
 use Rattle.buck_book.proofs.Alone.{base_meets, meets_from_alone}
-use Rattle.buck_journal.specs.declared.replay_fault.ReplayFault.{ReplayFault}
-use Rattle.buck_journal.specs.declared.replay_fault.ReplayFault.TheVariants.{Sheet, Price, Numbering, Version, Cutting, Worth, Outvalued, Memory, Targets}
-use Rattle.buck_journal.specs.Replay.{version_at, prices_then, Begins, IsSheetRight, IsSheetFault, IsCallFault, IsContentFault, IsPostingFault, IsNumberFault, IsFaultAtEnd, IsNumbered, IsOfVersion, IsFirstFault}
+use Rattle.buck_journal.specs.declared.judging.fault.ReplayFault.{ReplayFault}
+use Rattle.buck_journal.specs.declared.judging.fault.ReplayFault.TheVariants.{Sheet, Price, Numbering, Version, Cutting, Worth, Outvalued, Memory, Targets}
+use Rattle.buck_journal.specs.judging.Replay.{version_at, prices_then, Begins, IsSheetRight, IsSheetFault, IsCallFault, IsContentFault, IsPostingFault, IsNumberFault, IsFaultAtEnd, IsNumbered, IsOfVersion, IsFirstFault}
 use Rattle.buck_journal.specs.inner.Replay.{IsBestUnder}
 
 no_sheet_fault : (h : HistoryParts) (k : ℕ) (fault : ReplayFault) → IsSheetRight h k → IsSheetFault h k fault → ⊥

@@ -13,10 +13,10 @@ use Rattle.buck_book.specs.declared.posting.Posting.TheVariants.{Cut, Demand}
 use Rattle.buck_book.specs.Posting.{planned_version, cuts_since_end}
 use Rattle.buck_book.specs.History.{HistoryParts, Follows, Holds, sheet_at}
 use Rattle.buck_book.specs.Walk.{WalkParts}
-use Rattle.buck_journal.specs.declared.replay_fault.ReplayFault.{ReplayFault}
-use Rattle.buck_journal.specs.declared.replay_fault.ReplayFault.TheVariants.{Outvalued}
-use Rattle.buck_journal.specs.Journal.{JournalParts}
-use Rattle.buck_journal.specs.Replay.{history_of, version_at, Begins, IsRightBefore, IsContentFault, IsPostingFault, IsFaultAtEnd, IsFirstFault}
+use Rattle.buck_journal.specs.declared.judging.fault.ReplayFault.{ReplayFault}
+use Rattle.buck_journal.specs.declared.judging.fault.ReplayFault.TheVariants.{Outvalued}
+use Rattle.buck_journal.specs.reading.Journal.{JournalParts}
+use Rattle.buck_journal.specs.judging.Replay.{history_of, version_at, Begins, IsRightBefore, IsContentFault, IsPostingFault, IsFaultAtEnd, IsFirstFault}
 use Rattle.buck_journal.specs.inner.Replay.{HoldsUnder, IsRightUnder, IsInOrderBefore, IsStopped, IsOrdered, IsPriced, ArePriced, IsOutvalued, NoneOutvalued, IsFirstOutvalued, IsFound, IsJudged}
 use Rattle.buck_journal.proofs.Replays.{version_stays, lawful_when}
 

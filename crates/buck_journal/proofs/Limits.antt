@@ -5,14 +5,14 @@ use Rattle.std.proofs.lemmas.List.Elements.{All-from_recursion}
 use Rattle.std.proofs.lemmas.Bool.{le-leb, and_from}
 use Rattle.std.proofs.lemmas.List.Sums.{AllPass-from_list_all, list_all-from_AllPass}
 use Rattle.buck_record.specs.Item.{ItemParts}
-use Rattle.buck_record.specs.Record.{numbers_of}
-use Rattle.buck_record.specs.Table.{is_at}
-use Rattle.buck_record.specs.Rules.{slot, within, all_within, one_to}
+use Rattle.buck_record.specs.bytes.Record.{numbers_of}
+use Rattle.buck_record.specs.checking.Table.{is_at}
+use Rattle.buck_record.specs.checking.Rules.{slot, within, all_within, one_to}
 use Rattle.buck_record.proofs.PassLemmas.{both, within_ok}
-use Rattle.buck_stem.specs.declared.slots.TheConstants.{SPECIES_RANGE, SAMPLES_RANGE, MOST_SAMPLES, STARTS_RANGE, GRADES_RANGE, MOST_ZONES}
+use Rattle.buck_stem.specs.declared.file.slots.TheConstants.{SPECIES_RANGE, SAMPLES_RANGE, MOST_SAMPLES, STARTS_RANGE, GRADES_RANGE, MOST_ZONES}
 use Rattle.buck_stem.specs.Stem.{IsStem, IsGrade, IsRisingFrom, stem_of}
-use Rattle.buck_stem.specs.Stm.{zones_of}
-use Rattle.buck_journal.specs.Journal.{rest_at, numbers_at, samples_at, is_zone, are_zones}
+use Rattle.buck_stem.specs.file.Stm.{zones_of}
+use Rattle.buck_journal.specs.reading.Journal.{rest_at, numbers_at, samples_at, is_zone, are_zones}
 use Rattle.buck_journal.specs.inner.Limits.{AreSamples, AreZones}
 
 half : (ns : List ℕ) → length (zones_of ns) * 2 ≤ length ns

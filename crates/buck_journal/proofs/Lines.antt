@@ -11,10 +11,10 @@ use Rattle.std.proofs.lemmas.List.Elements.{All-append, All-cons, All-nil}
 use Rattle.std.proofs.lemmas.List.Splits.{slice_split_at}
 use Rattle.std.proofs.lemmas.List.Sums.{AllPass-from_list_all, suffix_len_is}
 use Rattle.buck_record.specs.Item.{ItemParts}
-use Rattle.buck_record.specs.White.{is_white, is_filled, trim, trim_start, trim_end, first_word, after_word, words}
+use Rattle.buck_record.specs.bytes.White.{is_white, is_filled, trim, trim_start, trim_end, first_word, after_word, words}
 use Rattle.buck_record.specs.Reading.{each_from}
-use Rattle.buck_record.specs.Record.{number_at_most, is_tilde, filled_parts, pieces, item_of, items_of, numbers_of, number_of}
-use Rattle.buck_record.specs.Written.{spelled}
+use Rattle.buck_record.specs.bytes.Record.{number_at_most, is_tilde, filled_parts, pieces, item_of, items_of, numbers_of, number_of}
+use Rattle.buck_record.specs.writing.Written.{spelled}
 use Rattle.buck_record.proofs.NumberLemmas.{numeral}
 use Rattle.buck_record.proofs.RoundLemmas.{number-decimal, numbers_again, words-spelled}
 use Rattle.buck_record.proofs.WordLemmas.{words-trim_start}

@@ -20,9 +20,9 @@ use Rattle.buck_book.specs.Posting.{planned_version}
 use Rattle.buck_book.specs.Targets.{AreTargets}
 use Rattle.buck_book.specs.History.{HistoryParts, IsLawful, Follows, Holds, standing_of, sheet_at}
 use Rattle.buck_book.specs.Walk.{MeetsAfter}
-use Rattle.buck_journal.specs.declared.replay_fault.ReplayFault.{ReplayFault}
-use Rattle.buck_journal.specs.declared.replay_fault.ReplayFault.TheVariants.{Sheet, Price, Numbering, Version, Cutting, Worth, Outvalued, Targets}
-use Rattle.buck_journal.specs.Replay.{version_at, prices_then, Begins, HasSheet, IsSheetRight, IsSheetFault, IsContentFault, IsPostingFault, IsNumbered, IsOfVersion, IsFaultAt, IsRightBefore, IsFirstFault}
+use Rattle.buck_journal.specs.declared.judging.fault.ReplayFault.{ReplayFault}
+use Rattle.buck_journal.specs.declared.judging.fault.ReplayFault.TheVariants.{Sheet, Price, Numbering, Version, Cutting, Worth, Outvalued, Targets}
+use Rattle.buck_journal.specs.judging.Replay.{version_at, prices_then, Begins, HasSheet, IsSheetRight, IsSheetFault, IsContentFault, IsPostingFault, IsNumbered, IsOfVersion, IsFaultAt, IsRightBefore, IsFirstFault}
 use Rattle.buck_journal.specs.inner.Replay.{sheet_then, IsBestUnder}
 use Rattle.buck_journal.proofs.Replays.{lawful_when}
 

@@ -8,20 +8,20 @@ use Rattle.buck_record.specs.Item.{ItemParts}
 use Rattle.buck_record.specs.declared.slot.Slot.{Slot}
 use Rattle.buck_record.specs.declared.fault.RecordFault.{RecordFault}
 use Rattle.buck_record.specs.Reading.{with_fault}
-use Rattle.buck_record.specs.Record.{items_of, numbers_of, number_of}
-use Rattle.buck_record.specs.Table.{is_at}
-use Rattle.buck_record.specs.Cursor.{HasItems, Joins, Leads, item_in}
-use Rattle.buck_record.specs.Rules.{slot, file_slot, within, all_within, one_to}
+use Rattle.buck_record.specs.bytes.Record.{items_of, numbers_of, number_of}
+use Rattle.buck_record.specs.checking.Table.{is_at}
+use Rattle.buck_record.specs.pass.Cursor.{HasItems, Joins, Leads, item_in}
+use Rattle.buck_record.specs.checking.Rules.{slot, file_slot, within, all_within, one_to}
 use Rattle.buck_apt.specs.declared.slots.TheConstants.{TARGETS_RANGE}
-use Rattle.buck_stem.specs.declared.slots.TheConstants.{SPECIES_RANGE, SAMPLES_RANGE, MOST_SAMPLES, MOST_ZONES}
+use Rattle.buck_stem.specs.declared.file.slots.TheConstants.{SPECIES_RANGE, SAMPLES_RANGE, MOST_SAMPLES, MOST_ZONES}
 use Rattle.buck_stem.specs.Stem.{StemParts}
-use Rattle.buck_stem.specs.Stm.{zones_of}
+use Rattle.buck_stem.specs.file.Stm.{zones_of}
 use Rattle.buck_value.specs.declared.log.Log.{Log}
 use Rattle.buck_book.specs.declared.posting.Posting.{Posting}
 use Rattle.buck_book.specs.declared.posting.Posting.TheVariants.{Cut, Demand}
-use Rattle.buck_journal.specs.declared.call.Call.{Call}
-use Rattle.buck_journal.specs.declared.fault.JournalFault.TheVariants.{Head}
-use Rattle.buck_journal.specs.Journal.{rest_at, numbers_at, sheet_at, call_of, is_call, call_at, head_at, samples_at, are_zones, zones_at, stem_at, are_logs, logs_of, logs_at, worth_at, targets_at, follows, posting_follows, entry_of, cut_at, demand_of, demand_at, posting_at, sheets_from, postings_from, journal_in, journal_of}
+use Rattle.buck_journal.specs.declared.reading.call.Call.{Call}
+use Rattle.buck_journal.specs.declared.reading.fault.JournalFault.TheVariants.{Head}
+use Rattle.buck_journal.specs.reading.Journal.{rest_at, numbers_at, sheet_at, call_of, is_call, call_at, head_at, samples_at, are_zones, zones_at, stem_at, are_logs, logs_of, logs_at, worth_at, targets_at, follows, posting_follows, entry_of, cut_at, demand_of, demand_at, posting_at, sheets_from, postings_from, journal_in, journal_of}
 use Rattle.buck_journal.specs.inner.Plain.{LeadsNumbers, IsReadAs, LeadsTo, LeadsCall, LeadsStem, Stands, begins, ArePostings, AreParts, AreReadAs, LeadsPosting, LeadsPostings, HasPostings, LeadsSheets}
 use Rattle.buck_journal.proofs.Stages.{journal_of_items}
 

@@ -16,10 +16,10 @@ use Rattle.buck_book.specs.Walk.{WalkParts, walk_of}
 use Rattle.buck_book.proofs.Ends.{take_one_more, ends_with_end, cuts_with_end, ends_without}
 use Rattle.buck_book.proofs.Standings.{meets_within, no_fault}
 use Rattle.buck_book.proofs.Alone.{ClassAt, class_at, base_alone, meets_to_alone}
-use Rattle.buck_journal.specs.declared.replay_fault.ReplayFault.{ReplayFault}
-use Rattle.buck_journal.specs.declared.stop.Stop.{Stop}
-use Rattle.buck_journal.specs.declared.stop.Stop.TheVariants as stop
-use Rattle.buck_journal.specs.Replay.{version_at, Begins, IsSheetRight, IsSheetFault, IsRightBefore, IsPostingFault}
+use Rattle.buck_journal.specs.declared.judging.fault.ReplayFault.{ReplayFault}
+use Rattle.buck_journal.specs.declared.judging.stop.Stop.{Stop}
+use Rattle.buck_journal.specs.declared.judging.stop.Stop.TheVariants as stop
+use Rattle.buck_journal.specs.judging.Replay.{version_at, Begins, IsSheetRight, IsSheetFault, IsRightBefore, IsPostingFault}
 use Rattle.buck_journal.specs.inner.Replay.{sheet_then, IsRightUnder, AreRightUnder, IsMetUnder, IsInOrderBefore, IsMetInOrder, IfMet, IsEndRight}
 
 -- prices that keep the price relation somewhere make a sheet

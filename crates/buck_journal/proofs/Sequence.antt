@@ -5,17 +5,17 @@ use Rattle.std.specs.Str.{bytes_eq}
 use Rattle.std.proofs.lemmas.Bool.{eqb-true, ne_eqb, cases_Bool}
 use Rattle.std.proofs.lemmas.List.Sums.{sum_by-cons}
 use Rattle.buck_record.specs.Item.{ItemParts}
-use Rattle.buck_record.specs.Check.{◌>>=◌, check}
+use Rattle.buck_record.specs.checking.Check.{◌>>=◌, check}
 use Rattle.buck_record.specs.Reading.{with_fault}
-use Rattle.buck_record.specs.Record.{items_of}
-use Rattle.buck_record.specs.Table.{is_at}
-use Rattle.buck_record.specs.Rules.{slot, file_slot}
+use Rattle.buck_record.specs.bytes.Record.{items_of}
+use Rattle.buck_record.specs.checking.Table.{is_at}
+use Rattle.buck_record.specs.checking.Rules.{slot, file_slot}
 use Rattle.buck_record.proofs.PassLemmas.{both, check_ok}
 use Rattle.buck_value.specs.declared.log.Log.{Log}
 use Rattle.buck_book.specs.declared.posting.Posting.{Posting}
-use Rattle.buck_journal.specs.declared.fault.JournalFault.{JournalFault}
-use Rattle.buck_journal.specs.declared.fault.JournalFault.TheVariants.{Head, NotJournal, Shape}
-use Rattle.buck_journal.specs.Journal.{JournalParts, wanted, rest_at, numbers_at, sheet_at, call_at, head_at, samples_at, zones_at, stem_at, logs_at, worth_at, targets_at, is_first, follows, posting_follows, cut_at, demand_at, posting_at, sheets_from, postings_from, says_journal, journal_in, journal_of, number_of_items}
+use Rattle.buck_journal.specs.declared.reading.fault.JournalFault.{JournalFault}
+use Rattle.buck_journal.specs.declared.reading.fault.JournalFault.TheVariants.{Head, NotJournal, Shape}
+use Rattle.buck_journal.specs.reading.Journal.{JournalParts, wanted, rest_at, numbers_at, sheet_at, call_at, head_at, samples_at, zones_at, stem_at, logs_at, worth_at, targets_at, is_first, follows, posting_follows, cut_at, demand_at, posting_at, sheets_from, postings_from, says_journal, journal_in, journal_of, number_of_items}
 use Rattle.buck_journal.specs.inner.Plain.{Stands, begins}
 use Rattle.buck_journal.proofs.OnePass.{next_stands, first_stands}
 use Rattle.buck_journal.proofs.Alone.{stands_rest}

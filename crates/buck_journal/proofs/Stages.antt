@@ -2,10 +2,10 @@
 use Rattle.std.proofs.Common.{◌≡◌, ℕ, List, Ok, Err, refl}
 use Rattle.buck_record.specs.Item.{ItemParts}
 use Rattle.buck_record.specs.Reading.{with_fault}
-use Rattle.buck_record.specs.Record.{items_of}
-use Rattle.buck_journal.specs.declared.fault.JournalFault.{JournalFault}
-use Rattle.buck_journal.specs.declared.fault.JournalFault.TheVariants.{Head}
-use Rattle.buck_journal.specs.Journal.{journal_in, journal_of}
+use Rattle.buck_record.specs.bytes.Record.{items_of}
+use Rattle.buck_journal.specs.declared.reading.fault.JournalFault.{JournalFault}
+use Rattle.buck_journal.specs.declared.reading.fault.JournalFault.TheVariants.{Head}
+use Rattle.buck_journal.specs.reading.Journal.{journal_in, journal_of}
 
 pub journal_without_items : (bytes : List ℕ) (e : JournalFault) → with_fault Head (items_of bytes) ≡ Err e → journal_of bytes ≡ Err e
 unfolding journal_of

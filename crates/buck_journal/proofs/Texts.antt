@@ -5,16 +5,16 @@ use Rattle.std.proofs.lemmas.List.{map-append, append-nil}
 use Rattle.std.proofs.lemmas.Grind.{flat_map-append}
 use Rattle.std.proofs.lemmas.List.Elements.{recursion_from_All}
 use Rattle.buck_record.specs.Reading.{with_fault}
-use Rattle.buck_record.specs.Rules.{within}
+use Rattle.buck_record.specs.checking.Rules.{within}
 use Rattle.buck_record.proofs.PassLemmas.{within_ok}
-use Rattle.buck_record.specs.Record.{items_of, number_at_most}
+use Rattle.buck_record.specs.bytes.Record.{items_of, number_at_most}
 use Rattle.buck_apt.specs.declared.slots.TheConstants.{TARGETS_RANGE}
-use Rattle.buck_stem.specs.declared.slots.TheConstants.{SPECIES_RANGE, SAMPLES_RANGE}
+use Rattle.buck_stem.specs.declared.file.slots.TheConstants.{SPECIES_RANGE, SAMPLES_RANGE}
 use Rattle.buck_book.specs.declared.posting.Posting.{Posting}
 use Rattle.buck_book.specs.declared.posting.Posting.TheVariants.{Cut, Demand}
 use Rattle.buck_book.specs.Entry.{EntryParts, DemandParts}
-use Rattle.buck_journal.specs.declared.fault.JournalFault.TheVariants as fault
-use Rattle.buck_journal.specs.Journal.{journal_of}
+use Rattle.buck_journal.specs.declared.reading.fault.JournalFault.TheVariants as fault
+use Rattle.buck_journal.specs.reading.Journal.{journal_of}
 use Rattle.buck_journal.specs.Written.{item_text, sheet_text, cut_text, demand_text, posting_text, journal_text, zone_numbers, log_numbers}
 use Rattle.buck_journal.specs.Ranges.{AreSheetPrices, IsCutInRange, IsDemandInRange, IsInRange, AreInRange, call_of_cut, call_of_demand}
 use Rattle.buck_journal.proofs.Lines.{Head, Line, smaller, text_of, item_at, items_again, kind_item}

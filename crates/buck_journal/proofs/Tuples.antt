@@ -1,11 +1,11 @@
 -- Numbers two and three at a time.
 use Rattle.std.proofs.Common.{◌≡◌, ℕ, ◌+◌, ◌<◌, ◌≤◌, ◌&&◌, true, false, List, [], ◌∷◌, length, drop, get_or, refl, sym, ap, ◌∙◌, arith, drop-cons, add-one}
-use Rattle.buck_record.specs.Rules.{within}
+use Rattle.buck_record.specs.checking.Rules.{within}
 use Rattle.buck_record.proofs.PassLemmas.{both, within_ok}
 use Rattle.buck_apt.specs.declared.slots.TheConstants.{LENGTHS_RANGE}
-use Rattle.buck_stem.specs.declared.slots.TheConstants.{STARTS_RANGE, GRADES_RANGE}
-use Rattle.buck_stem.specs.Stm.{zones_of}
-use Rattle.buck_journal.specs.Journal.{is_zone, are_zones, is_log, are_logs, logs_of}
+use Rattle.buck_stem.specs.declared.file.slots.TheConstants.{STARTS_RANGE, GRADES_RANGE}
+use Rattle.buck_stem.specs.file.Stm.{zones_of}
+use Rattle.buck_journal.specs.reading.Journal.{is_zone, are_zones, is_log, are_logs, logs_of}
 
 here : (xs : List ℕ) (i d : ℕ) → i < length xs → drop i xs ≡ get_or xs i d ∷ drop (i + 1) xs
 here xs i d lt = rw add-one (drop-cons xs i d lt)

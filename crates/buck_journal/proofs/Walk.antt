@@ -2,11 +2,11 @@
 use Rattle.std.proofs.Common.{◌≡◌, ℕ, ◌+◌, ◌<◌, ◌≤◌, true, false, List, [], ◌∷◌, ◌++◌, Result, Ok, Err, length, map, drop, get_or, refl, sym, ap, ◌∙◌, drop-cons, add-one, append_assoc}
 use Rattle.std.proofs.lemmas.List.{drop_all, append-nil}
 use Rattle.buck_record.specs.Item.{ItemParts}
-use Rattle.buck_record.specs.Check.{◌>>=◌}
+use Rattle.buck_record.specs.checking.Check.{◌>>=◌}
 use Rattle.buck_record.proofs.CheckLemmas.{after_front}
 use Rattle.buck_book.specs.declared.posting.Posting.{Posting}
-use Rattle.buck_journal.specs.declared.fault.JournalFault.{JournalFault}
-use Rattle.buck_journal.specs.Journal.{is_first, sheet_at, posting_at, sheets_from, postings_from}
+use Rattle.buck_journal.specs.declared.reading.fault.JournalFault.{JournalFault}
+use Rattle.buck_journal.specs.reading.Journal.{is_first, sheet_at, posting_at, sheets_from, postings_from}
 
 regroup : {X : Type 0} (made : List X) (x : X) (read : Result (List X) JournalFault)
     → after_front made (read >>= λ xs. Ok (x ∷ xs)) ≡ after_front (made ++ x ∷ []) read

@@ -7,10 +7,10 @@ use Rattle.std.proofs.lemmas.Bool.Decides.{nat_tests}
 use Rattle.std.proofs.lemmas.List.{take_all, length-take-le}
 use Rattle.std.proofs.lemmas.List.Elements.{recursion_from_All, All-contains}
 use Rattle.std.proofs.lemmas.Option.{slice_get_within, slice_get_cases, slice_get-get_or, same_Some}
-use Rattle.buck_record.specs.Rules.{within, all_within}
+use Rattle.buck_record.specs.checking.Rules.{within, all_within}
 use Rattle.buck_apt.specs.Instruction.{InstructionParts, IsInstruction, IsWithin}
 use Rattle.buck_apt.specs.declared.slots.TheConstants.{LENGTHS_RANGE, TARGETS_RANGE}
-use Rattle.buck_stem.specs.declared.slots.TheConstants.{SPECIES_RANGE, SAMPLES_RANGE, MOST_SAMPLES, STARTS_RANGE, GRADES_RANGE}
+use Rattle.buck_stem.specs.declared.file.slots.TheConstants.{SPECIES_RANGE, SAMPLES_RANGE, MOST_SAMPLES, STARTS_RANGE, GRADES_RANGE}
 use Rattle.buck_stem.specs.Stem.{StemParts, IsStem, IsGrade, IsRisingFrom}
 use Rattle.buck_value.specs.declared.log.Log.{Log}
 use Rattle.buck_value.specs.Sheet.{IsSheet, IsPriceAt, base_prices, sheet_of}
@@ -31,10 +31,10 @@ use Rattle.buck_book.proofs.Cuts.{few_logs}
 use Rattle.buck_book.proofs.Sheets.{classes-le}
 use Rattle.buck_book.proofs.Standings.{meets_within}
 use Rattle.buck_book.proofs.Alone.{ClassAt, class_at}
-use Rattle.buck_journal.specs.declared.call.Call.{Call}
-use Rattle.buck_journal.specs.Journal.{is_call, is_zone, are_zones, is_log, are_logs}
+use Rattle.buck_journal.specs.declared.reading.call.Call.{Call}
+use Rattle.buck_journal.specs.reading.Journal.{is_call, is_zone, are_zones, is_log, are_logs}
 use Rattle.buck_journal.specs.Written.{zone_numbers, log_numbers}
-use Rattle.buck_journal.specs.Replay.{version_at, Begins}
+use Rattle.buck_journal.specs.judging.Replay.{version_at, Begins}
 use Rattle.buck_journal.specs.Ranges.{AreSheetPrices, IsCutInRange, IsDemandInRange, IsInRange, AreInRange, IsOfBook, call_of_cut, call_of_demand}
 use Rattle.buck_journal.proofs.Faults.{prices_right}
 

@@ -1,7 +1,6 @@
 pub mod Written
-pub mod Journal
-pub mod CutsAlone
-pub mod Replay
+pub mod reading
+pub mod judging
 pub mod Ranges
 pub mod Faults
 pub mod inner

@@ -1,15 +1,15 @@
 -- Sheets and postings whose numbers, and how many there are, lie within a journal's ranges.
 use Rattle.std.specs.Prelude.{◌≡◌, ℕ, ◌≤◌, true, List, length, All}
-use Rattle.buck_record.specs.Rules.{within, all_within, one_to}
+use Rattle.buck_record.specs.checking.Rules.{within, all_within, one_to}
 use Rattle.buck_apt.specs.Instruction.{IsWithin}
 use Rattle.buck_apt.specs.declared.slots.TheConstants.{TARGETS_RANGE}
-use Rattle.buck_stem.specs.declared.slots.TheConstants.{SPECIES_RANGE, SAMPLES_RANGE, MOST_SAMPLES, MOST_ZONES}
+use Rattle.buck_stem.specs.declared.file.slots.TheConstants.{SPECIES_RANGE, SAMPLES_RANGE, MOST_SAMPLES, MOST_ZONES}
 use Rattle.buck_stem.specs.Stem.{IsStem}
 use Rattle.buck_book.specs.declared.posting.Posting.{Posting}
 use Rattle.buck_book.specs.declared.posting.Posting.TheVariants.{Cut, Demand}
 use Rattle.buck_book.specs.Entry.{EntryParts, DemandParts}
-use Rattle.buck_journal.specs.declared.call.Call.{Call}
-use Rattle.buck_journal.specs.Journal.{is_call, are_zones, are_logs}
+use Rattle.buck_journal.specs.declared.reading.call.Call.{Call}
+use Rattle.buck_journal.specs.reading.Journal.{is_call, are_zones, are_logs}
 use Rattle.buck_journal.specs.Written.{zone_numbers, log_numbers}
 
 -- the prices of a sheet

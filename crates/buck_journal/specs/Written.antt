@@ -1,7 +1,7 @@
 -- The text of a journal: the kind of file, the prices of each sheet, and then the items of each posting.
 use Rattle.std.specs.Prelude.{ℕ, List, [], ◌∷◌, ◌++◌, codes}
 use Rattle.std.specs.List.{flat_map}
-use Rattle.buck_record.specs.Written.{spelled}
+use Rattle.buck_record.specs.writing.Written.{spelled}
 use Rattle.buck_value.specs.declared.log.Log.{Log}
 use Rattle.buck_book.specs.declared.posting.Posting.{Posting}
 use Rattle.buck_book.specs.declared.posting.Posting.TheVariants.{Cut, Demand}

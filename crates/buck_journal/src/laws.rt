@@ -1,15 +1,15 @@
 //! What follows from the definitions of a journal, for all journals: each law is the contract of an empty function.
 ghost use Rattle.std.specs.Prelude.{◌≡◌, ℕ, ◌+◌, ◌≤◌, List, length, slice_get, sum_by, Some, Ok};
 ghost use Rattle.buck_record.specs.Item.{ItemParts};
-ghost use Rattle.buck_record.specs.Record.{items_of};
+ghost use Rattle.buck_record.specs.bytes.Record.{items_of};
 ghost use Rattle.buck_apt.specs.Instruction.{IsInstruction};
 ghost use Rattle.buck_book.specs.declared.posting.Posting.{Posting};
 ghost use Rattle.buck_book.specs.History.{HistoryParts, IsLawful};
-ghost use Rattle.buck_journal.specs.declared.replay_fault.ReplayFault.{ReplayFault};
-ghost use Rattle.buck_journal.specs.Journal.{JournalParts, number_of_items, journal_in, journal_of};
-ghost use Rattle.buck_journal.specs.CutsAlone as alone;
+ghost use Rattle.buck_journal.specs.declared.judging.fault.ReplayFault.{ReplayFault};
+ghost use Rattle.buck_journal.specs.reading.Journal.{JournalParts, number_of_items, journal_in, journal_of};
+ghost use Rattle.buck_journal.specs.reading.CutsAlone as alone;
 ghost use Rattle.buck_journal.specs.Ranges.{AreInRange, IsOfBook};
-ghost use Rattle.buck_journal.specs.Replay.{IsFirstFault};
+ghost use Rattle.buck_journal.specs.judging.Replay.{IsFirstFault};
 ghost use Rattle.buck_journal.specs.Written.{journal_text};
 
 /// The journal of a journal's text is what was written: the prices of the sheets, and the postings. There are at most

@@ -1,28 +1,15 @@
 //! Journals of a history: their text, and what a reader of that text gives back.
 #![tactic(auto)]
 
-mod call;
-mod checks;
-mod fault;
-mod items;
-mod journal;
+mod judging;
 pub mod laws;
-mod outvalued;
-mod parallel;
-mod parts;
-mod plain;
-mod postings;
-mod replay_fault;
-mod replaying;
-mod sheets;
-mod slots;
-mod stop;
+mod reading;
 mod writing;
 
 pub use buck_record::Memory;
-pub use fault::JournalFault;
-pub use journal::{Journal, read_journal};
-pub use parallel::read_journal_in_parts;
-pub use replay_fault::ReplayFault;
-pub use replaying::{replay, replay_in_parts, replay_to_end};
+pub use judging::fault::ReplayFault;
+pub use judging::replaying::{replay, replay_in_parts, replay_to_end};
+pub use reading::fault::JournalFault;
+pub use reading::journal::{Journal, read_journal};
+pub use reading::parallel::read_journal_in_parts;
 pub use writing::journal_text;

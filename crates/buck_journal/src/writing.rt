@@ -1,7 +1,7 @@
 //! The text of a journal.
 ghost use Rattle.std.specs.Prelude.{◌≡◌, [], ◌∷◌, ◌++◌, IfOk, OnOk, codes, map};
 ghost use Rattle.std.specs.List.{flat_map};
-ghost use Rattle.buck_record.specs.Written.{spelled};
+ghost use Rattle.buck_record.specs.writing.Written.{spelled};
 ghost use Rattle.buck_journal.specs.Written.{item_text, zone_numbers, log_numbers, sheet_text, cut_text, demand_text, posting_text, journal_text};
 
 use buck_book::{Demand, Entry, Posting};

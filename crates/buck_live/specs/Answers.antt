@@ -1,8 +1,8 @@
 -- What is answered to a line of the input by the history so far, and which history comes of it.
 use Rattle.std.specs.Prelude.{◌≡◌, ◌⊎◌, ◌<◌, ℕ, List, [], ◌∷◌, ◌++◌, length, Option, Some, None, Result, Ok, Err, codes}
-use Rattle.buck_record.specs.Line.{line_of}
+use Rattle.buck_record.specs.writing.Line.{line_of}
 use Rattle.buck_apt.specs.Instruction.{InstructionParts}
-use Rattle.buck_stem.specs.declared.fault.StmFault.{StmFault}
+use Rattle.buck_stem.specs.declared.file.fault.StmFault.{StmFault}
 use Rattle.buck_stem.specs.Stem.{StemParts}
 use Rattle.buck_value.specs.declared.log.Log.{Log}
 use Rattle.buck_value.specs.Sheet.{SheetParts, base_prices}

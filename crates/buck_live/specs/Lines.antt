@@ -1,7 +1,7 @@
 -- The lines of the input.
 use Rattle.std.specs.Prelude.{ℕ, Bool, true, ◌&&◌, ◌==◌, List, [], ◌∷◌, length, reverse, find, not, nat_le, Option, Some, None, if◌then◌else◌}
 use Rattle.std.specs.List.{slice_split}
-use Rattle.buck_record.specs.White.{is_white}
+use Rattle.buck_record.specs.bytes.White.{is_white}
 
 -- the most bytes that a line may have before its line feed
 abbrev pub longest_line : ℕ

@@ -14,17 +14,17 @@ use Rattle.std.specs.List.{flat_map}
 use Rattle.buck_record.specs.Item.{ItemParts}
 use Rattle.buck_record.specs.declared.slot.Slot.{Slot}
 use Rattle.buck_record.specs.Reading.{with_fault}
-use Rattle.buck_record.specs.Record.{items_of}
-use Rattle.buck_record.specs.Table.{count_in, first_missing, first_twice, is_in}
-use Rattle.buck_record.specs.Check.{◌>>=◌, check, none_of}
-use Rattle.buck_record.specs.Rules.{of_slot, has_no_strays, numbers_in, all_within}
-use Rattle.buck_record.specs.Written.{spelled}
-use Rattle.buck_stem.specs.declared.slots.TheConstants.{STEM, NEEDED, MEMBERS}
-use Rattle.buck_stem.specs.declared.fault.StmFault.{StmFault}
-use Rattle.buck_stem.specs.declared.fault.StmFault.TheVariants.{Head, Missing, Twice, Digits, Range, Order, Count}
-use Rattle.buck_stem.specs.Faults.{stm_numbers}
+use Rattle.buck_record.specs.bytes.Record.{items_of}
+use Rattle.buck_record.specs.checking.Table.{count_in, first_missing, first_twice, is_in}
+use Rattle.buck_record.specs.checking.Check.{◌>>=◌, check, none_of}
+use Rattle.buck_record.specs.checking.Rules.{of_slot, has_no_strays, numbers_in, all_within}
+use Rattle.buck_record.specs.writing.Written.{spelled}
+use Rattle.buck_stem.specs.declared.file.slots.TheConstants.{STEM, NEEDED, MEMBERS}
+use Rattle.buck_stem.specs.declared.file.fault.StmFault.{StmFault}
+use Rattle.buck_stem.specs.declared.file.fault.StmFault.TheVariants.{Head, Missing, Twice, Digits, Range, Order, Count}
+use Rattle.buck_stem.specs.file.Faults.{stm_numbers}
 use Rattle.buck_stem.specs.Stem.{StemParts}
-use Rattle.buck_stem.specs.Stm.{stm_of}
+use Rattle.buck_stem.specs.file.Stm.{stm_of}
 use Rattle.buck_live.specs.declared.slots.TheConstants.{HARVESTER, TARGETS, STEM_ITEMS, ASKED, TABLE}
 use Rattle.buck_live.specs.declared.request.Asked.{Asked}
 use Rattle.buck_live.specs.declared.request.Asked.TheVariants.{Stem, Targets}

@@ -2,7 +2,7 @@
 ghost use Rattle.std.specs.Prelude.{◌≡◌, ◌≤◌, ◌<◌, ℕ, List, length, IfOk, IfErr, codes};
 ghost use Rattle.std.specs.Option.{option_map};
 ghost use Rattle.buck_rule.specs.Stored.{Answers};
-ghost use Rattle.buck_record.specs.Line.{line_of};
+ghost use Rattle.buck_record.specs.writing.Line.{line_of};
 ghost use Rattle.buck_book.specs.Book.{SameContent, IsReadyFor, demand_of};
 ghost use Rattle.buck_book.specs.History.{in_force};
 ghost use Rattle.buck_book.specs.Plan.{IsPlan};

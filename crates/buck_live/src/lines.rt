@@ -1,7 +1,7 @@
 //! The lines of the input, each read to its end and no further.
 ghost use Rattle.std.specs.Prelude.{◌≡◌, ◌≤◌, IfOk, length, nat_lt, vec_capacity};
 ghost use Rattle.std.specs.Option.{option_map};
-ghost use Rattle.buck_record.specs.White.{is_white};
+ghost use Rattle.buck_record.specs.bytes.White.{is_white};
 ghost use Rattle.buck_live.specs.Lines.{is_finished, last_byte, longest_line};
 ghost use Rattle.buck_live.specs.inner.Reading.{IsRead, ReadsByte, held_with, line_of};
 

@@ -1,10 +1,10 @@
 //! What a line of the input asks for.
 ghost use Rattle.std.specs.Prelude.{◌≡◌, ◌++◌, ◌<◌, ◌≤◌, Ok, IfOk, IfSome, OnOk};
 ghost use Rattle.buck_record.specs.Reading.{Gives, with_fault};
-ghost use Rattle.buck_record.specs.Record.{items_of};
-ghost use Rattle.buck_record.specs.Table.{is_in};
-ghost use Rattle.buck_stem.specs.Faults.{stm_numbers};
-ghost use Rattle.buck_stem.specs.Stm.{stm_of};
+ghost use Rattle.buck_record.specs.bytes.Record.{items_of};
+ghost use Rattle.buck_record.specs.checking.Table.{is_in};
+ghost use Rattle.buck_stem.specs.file.Faults.{stm_numbers};
+ghost use Rattle.buck_stem.specs.file.Stm.{stm_of};
 ghost use Rattle.buck_live.specs.Request.{
   all_there,
   asked_in,

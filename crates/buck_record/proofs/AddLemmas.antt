@@ -4,10 +4,10 @@ use Rattle.std.proofs.lemmas.List.Elements.{All-push}
 use Rattle.std.proofs.lemmas.Grind.{common_steps}
 use Rattle.std.proofs.Math.Seq.{get_or-append_seam}
 use Rattle.std.proofs.lemmas.List.{append_assoc, append-nil}
-use Rattle.buck_record.specs.White.{words, first_word, is_white}
-use Rattle.buck_record.specs.Record.{numbers_of, number_at_most}
+use Rattle.buck_record.specs.bytes.White.{words, first_word, is_white}
+use Rattle.buck_record.specs.bytes.Record.{numbers_of, number_at_most}
 use Rattle.buck_record.specs.Reading.{with_front}
-use Rattle.buck_record.specs.Added.{HasAdded, AreSmall, IsLonger}
+use Rattle.buck_record.specs.pass.Added.{HasAdded, AreSmall, IsLonger}
 use Rattle.buck_record.specs.inner.Front.{IsFront, IsStep, IsStuck, HasFronts, four_of}
 use Rattle.buck_record.proofs.RecordLemmas.{counts_on, counts-start, counts-more, counts-stop, counts-done}
 use Rattle.buck_record.proofs.GroupLemmas.{number_within}

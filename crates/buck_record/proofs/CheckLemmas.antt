@@ -1,7 +1,7 @@
 -- Checks of a list, one element after the other.
 use Rattle.std.proofs.Common.{◌≡◌, ℕ, ◌+◌, ◌<◌, ◌≤◌, List, [], ◌∷◌, ◌++◌, append_assoc, Result, Ok, Err, length, drop, get_or, refl, sym, ap, ◌∙◌, drop-cons, add-one}
 use Rattle.std.proofs.lemmas.List.{drop_all, append-nil}
-use Rattle.buck_record.specs.Check.{◌>>=◌, each, make_each, IsCheck, IsMaker}
+use Rattle.buck_record.specs.checking.Check.{◌>>=◌, each, make_each, IsCheck, IsMaker}
 use Rattle.buck_record.specs.Reading.{IsMemory}
 use Rattle.std.specs.Borrow.{Bor}
 

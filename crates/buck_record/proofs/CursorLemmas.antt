@@ -8,10 +8,10 @@ use Rattle.std.proofs.lemmas.List.Sums.{prefix_len-le-length, fails_before_first
 use Rattle.std.proofs.lemmas.Bool.{cases_lt, lt-ltb, le-ltb, cond-true, cond-false}
 use Rattle.memchr.specs.Find.{IsFirstByte, is_byte}
 use Rattle.buck_record.specs.Item.{ItemParts}
-use Rattle.buck_record.specs.White.{trim, trim_start, trim_end}
+use Rattle.buck_record.specs.bytes.White.{trim, trim_start, trim_end}
 use Rattle.buck_record.specs.Reading.{each_from, put_front}
-use Rattle.buck_record.specs.Record.{item_of, is_tilde, filled_parts, pieces}
-use Rattle.buck_record.specs.Cursor.{HasItems, Leads}
+use Rattle.buck_record.specs.bytes.Record.{item_of, is_tilde, filled_parts, pieces}
+use Rattle.buck_record.specs.pass.Cursor.{HasItems, Leads}
 use Rattle.buck_record.proofs.WhiteLemmas.{no_true}
 
 filled_parts-cons : (part : List ℕ) (parts : List (List ℕ)) → 0 < length (trim part) → filled_parts (part ∷ parts) ≡ trim part ∷ filled_parts parts

@@ -9,8 +9,8 @@ use Rattle.std.proofs.lemmas.List.Sums.{prefix_len-le-length, passes_at_first, p
 use Rattle.std.proofs.lemmas.Bool.{cases_Bool, cases_lt, false≢true}
 use Rattle.std.proofs.lemmas.Bool.Decides.{nat_tests}
 use borrow.Author.Count.{below_more}
-use Rattle.buck_record.specs.White.{is_white, first_word, after_word}
-use Rattle.buck_record.specs.Record.{number_at_most}
+use Rattle.buck_record.specs.bytes.White.{is_white, first_word, after_word}
+use Rattle.buck_record.specs.bytes.Record.{number_at_most}
 use Rattle.buck_record.proofs.NumberLemmas.{AreDigits, number-some, number-none, number-not_digits, number-too_large}
 
 white_no_digit : (b : ℕ) → is_white b ≡ true → is_ascii_digit b ≡ false

@@ -9,8 +9,8 @@ use Rattle.std.proofs.lemmas.Int.Digits.{digits_value_more}
 use Rattle.std.specs.List.{position_or_len, list_all}
 use Rattle.std.proofs.lemmas.List.Sums.{prefix_len-le-length}
 use Rattle.std.proofs.lemmas.Bool.{cases_Bool, false≢true, cond-true, cond-false, ltb-true}
-use Rattle.buck_record.specs.White.{is_filled, is_white, first_word, after_word}
-use Rattle.buck_record.specs.Record.{number_at_most}
+use Rattle.buck_record.specs.bytes.White.{is_filled, is_white, first_word, after_word}
+use Rattle.buck_record.specs.bytes.Record.{number_at_most}
 use Rattle.buck_record.proofs.NumberLemmas.{AreDigits, digits-more, and_parts, number-some}
 use Rattle.buck_record.proofs.CutLemmas.{goes_on, word_is, after_is, cut-whole}
 use Rattle.buck_record.proofs.WordLemmas.{words-more}

@@ -6,8 +6,8 @@ use Rattle.std.proofs.lemmas.Bool.{cond-true, cond-false}
 use Rattle.buck_record.specs.Item.{ItemParts}
 use Rattle.buck_record.specs.declared.slot.Slot.{Slot}
 use Rattle.buck_record.specs.Reading.{with_front, each_from}
-use Rattle.buck_record.specs.Record.{item_of, items_of, pieces}
-use Rattle.buck_record.specs.Table.{is_in, only_in}
+use Rattle.buck_record.specs.bytes.Record.{item_of, items_of, pieces}
+use Rattle.buck_record.specs.checking.Table.{is_in, only_in}
 use Rattle.buck_record.proofs.EachLemmas.{each_start}
 
 module _ (slots : List Slot) where

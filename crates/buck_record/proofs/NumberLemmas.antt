@@ -8,8 +8,8 @@ use Rattle.std.proofs.lemmas.Int.Digits.{digits_value_more}
 use Rattle.std.proofs.lemmas.List.{take_all}
 use Rattle.std.proofs.lemmas.List.Folds.{list_all_at, list_all_more}
 use Rattle.std.proofs.lemmas.Bool.{cases_Bool, false≢true, and_from, ltb-true, leb-true, le-leb, lt-ltb, cond-true, cond-false}
-use Rattle.buck_record.specs.White.{is_filled}
-use Rattle.buck_record.specs.Record.{number_at_most}
+use Rattle.buck_record.specs.bytes.White.{is_filled}
+use Rattle.buck_record.specs.bytes.Record.{number_at_most}
 
 abbrev pub AreDigits : List ℕ → Type 0
 AreDigits word = list_all is_ascii_digit word ≡ true

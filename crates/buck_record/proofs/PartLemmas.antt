@@ -6,10 +6,10 @@ use Rattle.std.proofs.Math.Seq.{split_at}
 use Rattle.std.proofs.lemmas.List.{map-append}
 use Rattle.std.proofs.lemmas.List.Elements.{filter-append}
 use Rattle.std.proofs.lemmas.List.Splits.{slice_split-cons_yes, length-slice_split}
-use Rattle.buck_record.specs.White.{is_filled, trim}
+use Rattle.buck_record.specs.bytes.White.{is_filled, trim}
 use Rattle.buck_record.specs.Reading.{each_from, put_front}
-use Rattle.buck_record.specs.Record.{item_of, is_tilde, filled_parts, pieces}
-use Rattle.buck_record.specs.Cursor.{Joins}
+use Rattle.buck_record.specs.bytes.Record.{item_of, is_tilde, filled_parts, pieces}
+use Rattle.buck_record.specs.pass.Cursor.{Joins}
 
 -- ---- the pieces
 onto : (x : ℕ) (parts more : List (List ℕ)) → 0 < length parts → onto_first x (parts ++ more) ≡ onto_first x parts ++ more

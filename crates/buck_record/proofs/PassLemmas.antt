@@ -4,10 +4,10 @@ use Rattle.std.specs.List.{AllByRecursion}
 use Rattle.std.proofs.lemmas.Bool.{false≢true, leb-true}
 use Rattle.std.proofs.lemmas.List.Elements.{All-from_recursion}
 use Rattle.std.proofs.lemmas.List.Sums.{AllPass-from_list_all}
-use Rattle.buck_record.specs.Check.{◌>>=◌, check, each}
+use Rattle.buck_record.specs.checking.Check.{◌>>=◌, check, each}
 use Rattle.buck_record.specs.declared.ranged.Ranged.{Ranged}
 use Rattle.buck_record.specs.declared.slot.Slot.{Slot}
-use Rattle.buck_record.specs.Rules.{within, all_within, all_in_range, counted_to}
+use Rattle.buck_record.specs.checking.Rules.{within, all_within, all_in_range, counted_to}
 
 module _ {E : Type 0} where
   -- a check that passed, and what stands after it

@@ -1,8 +1,8 @@
 -- Texts with no white byte at their ends, and pieces of a short head.
 use Rattle.std.proofs.Common.{◌≡◌, ℕ, ◌-◌, ◌<◌, ◌≤◌, false, List, [], ◌∷◌, Some, Bool, true, not, length, get_or, refl, sym, ap, ◌∙◌, arith}
 use Rattle.std.proofs.lemmas.List.{take_all}
-use Rattle.buck_record.specs.White.{is_white, trim, trim_start, trim_end}
-use Rattle.buck_record.specs.Record.{item_of}
+use Rattle.buck_record.specs.bytes.White.{is_white, trim, trim_start, trim_end}
+use Rattle.buck_record.specs.bytes.Record.{item_of}
 use Rattle.buck_record.specs.inner.Front.{IsFront}
 use Rattle.buck_record.proofs.WhiteLemmas.{trim_end-found}
 use Rattle.buck_record.proofs.GroupLemmas.{number_within}

@@ -2,9 +2,9 @@
 use Rattle.std.proofs.Common.{◌≡◌, ℕ, ◌+◌, List, [], ◌∷◌, ◌++◌, Some, None, Result, Ok, Err, length, refl, sym, ap, ◌∙◌}
 use Rattle.std.proofs.lemmas.List.{length_push}
 use Rattle.buck_record.specs.Item.{ItemParts}
-use Rattle.buck_record.specs.White.{words}
+use Rattle.buck_record.specs.bytes.White.{words}
 use Rattle.buck_record.specs.Reading.{with_front, each_from}
-use Rattle.buck_record.specs.Record.{item_of, items_of, pieces, number_at_most, numbers_of, number_of}
+use Rattle.buck_record.specs.bytes.Record.{item_of, items_of, pieces, number_at_most, numbers_of, number_of}
 use Rattle.buck_record.proofs.EachLemmas.{each_more, each_stop, each_done, each_start}
 
 -- what is read before, and what is still to be read

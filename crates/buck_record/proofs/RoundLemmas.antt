@@ -10,10 +10,10 @@ use Rattle.std.proofs.lemmas.List.{append-nil}
 use Rattle.std.proofs.lemmas.Bool.{cond-true, lt-ltb}
 use Rattle.std.proofs.lemmas.Bool.Decides.{nat_tests}
 use Rattle.std.proofs.lemmas.List.Sums.{AllPass-from_list_all}
-use Rattle.buck_record.specs.White.{is_white, is_filled, words}
+use Rattle.buck_record.specs.bytes.White.{is_white, is_filled, words}
 use Rattle.buck_record.specs.Reading.{each_from}
-use Rattle.buck_record.specs.Record.{number_at_most, numbers_of}
-use Rattle.buck_record.specs.Written.{spelled}
+use Rattle.buck_record.specs.bytes.Record.{number_at_most, numbers_of}
+use Rattle.buck_record.specs.writing.Written.{spelled}
 use Rattle.buck_record.proofs.NumberLemmas.{numeral, number-some}
 
 pub number-decimal : (most n : ℕ) → n ≤ most → most < 2 ^ 64 → number_at_most most (decimal n) ≡ Some n

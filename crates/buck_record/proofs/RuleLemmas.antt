@@ -1,6 +1,6 @@
 -- What the tests of numbers and names say.
 use Rattle.std.proofs.Common.{◌≡◌, ℕ, ◌+◌, ◌≤◌, true, List, [], ◌∷◌, length, drop, refl, arith, length-drop}
-use Rattle.buck_record.specs.Rules.{is_rising}
+use Rattle.buck_record.specs.checking.Rules.{is_rising}
 
 short : (ns : List ℕ) → length ns ≤ 1 → is_rising ns ≡ true
 short [] le = refl

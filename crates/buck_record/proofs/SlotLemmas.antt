@@ -6,9 +6,9 @@ use Rattle.std.proofs.lemmas.List.Sums.{sum_by-cons}
 use Rattle.std.proofs.lemmas.Bool.{cases_Bool, cond-true, cond-false, false≢true}
 use Rattle.buck_record.specs.Item.{ItemParts}
 use Rattle.buck_record.specs.declared.slot.Slot.{Slot}
-use Rattle.buck_record.specs.Table.{is_at, is_in, count_in, rest_in, first_missing, first_twice, groups_of}
-use Rattle.buck_record.specs.Check.{each, make_each}
-use Rattle.buck_record.specs.Rules.{has_no_strays, numbers_in}
+use Rattle.buck_record.specs.checking.Table.{is_at, is_in, count_in, rest_in, first_missing, first_twice, groups_of}
+use Rattle.buck_record.specs.checking.Check.{each, make_each}
+use Rattle.buck_record.specs.checking.Rules.{has_no_strays, numbers_in}
 use Rattle.buck_record.proofs.TableLemmas.{take-one_more, group-cons, group-skip, groups-nil}
 
 -- a test that passes each item of a slot

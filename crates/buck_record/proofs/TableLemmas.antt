@@ -7,7 +7,7 @@ use Rattle.std.proofs.lemmas.List.Sums.{prefix_len-le-length}
 use Rattle.std.proofs.lemmas.Bool.{cases_lt, cond-true, cond-false, lt-ltb, le-ltb}
 use Rattle.buck_record.specs.Item.{ItemParts}
 use Rattle.buck_record.specs.declared.slot.Slot.{Slot}
-use Rattle.buck_record.specs.Table.{is_at, groups_of}
+use Rattle.buck_record.specs.checking.Table.{is_at, groups_of}
 
 module _ {X : Type 0} (p : X → Bool) (xs : List X) where
   bounded : position_or_len p xs ≤ length xs

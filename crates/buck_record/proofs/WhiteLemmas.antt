@@ -4,7 +4,7 @@ use Rattle.std.specs.Prelude.{position}
 use Rattle.std.specs.List.{prefix_len, suffix_len, position_or_len}
 use Rattle.std.proofs.lemmas.List.Sums.{suffix_len_is}
 use Rattle.std.proofs.lemmas.Bool.{false≢true, cases_Bool}
-use Rattle.buck_record.specs.White.{is_white, trim_end}
+use Rattle.buck_record.specs.bytes.White.{is_white, trim_end}
 use Rattle.buck_record.proofs.TableLemmas.{place-some, place-none}
 
 not_false : (b : Bool) → not b ≡ true → b ≡ false

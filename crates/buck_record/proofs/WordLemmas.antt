@@ -5,7 +5,7 @@ use Rattle.std.proofs.lemmas.List.{drop_all}
 use Rattle.std.proofs.lemmas.List.Splits.{slice_split_none, slice_split_first, slice_split-cons_yes}
 use Rattle.std.proofs.lemmas.List.Sums.{prefix_len-le-length, fails_before_first}
 use Rattle.std.proofs.lemmas.Bool.{cases_Bool, cond-true, lt-ltb, cases_lt}
-use Rattle.buck_record.specs.White.{is_white, is_filled, trim_start, first_word, after_word, words}
+use Rattle.buck_record.specs.bytes.White.{is_white, is_filled, trim_start, first_word, after_word, words}
 
 pub words-cons_white : (b : ℕ) (bs : List ℕ) → is_white b ≡ true → words (b ∷ bs) ≡ words bs
 unfolding words

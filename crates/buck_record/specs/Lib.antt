@@ -1,12 +1,7 @@
-pub mod White
+pub mod bytes
 pub mod Item
 pub mod Reading
-pub mod Record
-pub mod Table
-pub mod Check
-pub mod Rules
-pub mod Written
-pub mod Line
-pub mod Cursor
-pub mod Added
+pub mod checking
+pub mod writing
+pub mod pass
 pub mod inner

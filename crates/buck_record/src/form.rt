@@ -1,6 +1,6 @@
 //! Faults of file forms.
 ghost use Rattle.std.specs.Prelude.{◌≡◌, ℕ};
-ghost use Rattle.buck_record.specs.Rules.{of_slot};
+ghost use Rattle.buck_record.specs.checking.Rules.{of_slot};
 
 use crate::slot::Slot;
 

@@ -1,8 +1,8 @@
 //! Laws of what is written and read.
 ghost use Rattle.std.specs.Prelude.{◌≡◌, ◌≤◌, Ok};
 ghost use Rattle.std.specs.List.{All};
-ghost use Rattle.buck_record.specs.Record.{numbers_of};
-ghost use Rattle.buck_record.specs.Written.{spelled};
+ghost use Rattle.buck_record.specs.bytes.Record.{numbers_of};
+ghost use Rattle.buck_record.specs.writing.Written.{spelled};
 
 /// Numbers that are written in decimal, a blank before each, are read again as they were.
 pub fn numbers_are_read_again(numbers: &[u32])

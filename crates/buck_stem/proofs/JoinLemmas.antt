@@ -7,14 +7,14 @@ use Rattle.std.proofs.lemmas.List.Sums.{list_all-from_AllPass}
 use Rattle.buck_record.specs.Item.{ItemParts}
 use Rattle.buck_record.specs.declared.fault.RecordFault.{RecordFault}
 use Rattle.buck_record.specs.Reading.{each_from, put_front, with_fault}
-use Rattle.buck_record.specs.White.{words}
-use Rattle.buck_record.specs.Record.{items_of, numbers_of, number_of, one_number, number_at_most}
-use Rattle.buck_record.specs.Cursor.{HasItems, Joins, Leads, item_in}
-use Rattle.buck_record.specs.Rules.{file_slot, within, all_within}
-use Rattle.buck_stem.specs.declared.draft.Draft.{Draft}
-use Rattle.buck_stem.specs.declared.slots.TheConstants.{STEM, SPECIES, SPECIES_RANGE, SAMPLES, SAMPLES_RANGE, MOST_SAMPLES}
+use Rattle.buck_record.specs.bytes.White.{words}
+use Rattle.buck_record.specs.bytes.Record.{items_of, numbers_of, number_of, one_number, number_at_most}
+use Rattle.buck_record.specs.pass.Cursor.{HasItems, Joins, Leads, item_in}
+use Rattle.buck_record.specs.checking.Rules.{file_slot, within, all_within}
+use Rattle.buck_stem.specs.declared.file.draft.Draft.{Draft}
+use Rattle.buck_stem.specs.declared.file.slots.TheConstants.{STEM, SPECIES, SPECIES_RANGE, SAMPLES, SAMPLES_RANGE, MOST_SAMPLES}
 use Rattle.buck_stem.specs.Stem.{StemParts, stem_of, IsStem}
-use Rattle.buck_stem.specs.Stm.{draft_range, draft_order, draft_count, parts_of, zones_of, stm_of}
+use Rattle.buck_stem.specs.file.Stm.{draft_range, draft_order, draft_count, parts_of, zones_of, stm_of}
 use Rattle.buck_stem.specs.inner.Ready.{IsReadyDraft}
 use Rattle.buck_stem.specs.inner.Plain.{zones_item, group_of, ArePlain, AreZones, LeadsNumbers, SaysZones, LeadsZones, LeadsStem, LeadsStems, HasStems}
 use Rattle.buck_stem.proofs.PassLemmas.{is_stem}

@@ -11,8 +11,8 @@ use Rattle.buck_book.specs.Degree.{IsDegreeBy}
 use Rattle.buck_book.specs.Posting.{targets_of}
 use Rattle.buck_book.specs.History.{HistoryParts, IsLawful}
 use Rattle.buck_book.specs.Pricing.{Calls}
-use Rattle.buck_journal.specs.Journal.{JournalParts}
-use Rattle.buck_journal.specs.Replay.{history_of}
+use Rattle.buck_journal.specs.reading.Journal.{JournalParts}
+use Rattle.buck_journal.specs.judging.Replay.{history_of}
 use Rattle.buck_turn.specs.Turn.{AreSheetsBy, HasCutInTurn}
 use Rattle.buck_figures.specs.declared.figures.Figures.{Figures}
 use Rattle.buck_figures.specs.Shown.{AreFigures}

@@ -2,7 +2,7 @@
 ghost use Rattle.std.specs.Prelude.{◌≡◌, ◌<◌, ◌≤◌, IfOk, IfErr, length, map};
 ghost use Rattle.buck_rule.specs.Stored.{Answers};
 ghost use Rattle.buck_book.specs.History.{IsLawful};
-ghost use Rattle.buck_journal.specs.Replay.{history_of};
+ghost use Rattle.buck_journal.specs.judging.Replay.{history_of};
 ghost use Rattle.buck_engine.specs.tie.Ties.{GivesBy};
 ghost use Rattle.buck_sweep.specs.inner.Lines.{HasCut, IsPart, IsRunLine, IsStop};
 ghost use Rattle.buck_sweep.specs.Sweep.{AreLines};

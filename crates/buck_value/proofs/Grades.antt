@@ -2,7 +2,7 @@
 use Rattle.std.proofs.Common.{◌≡◌, ℕ, ◌+◌, ◌*◌, ◌%◌, ◌≤◌, ◌↔◌, List, Contains, refl, sym, ◌∙◌, ap, subst, arith}
 use Rattle.std.proofs.Math.Nat.{mul-mod_left}
 use Rattle.buck_stem.specs.Stem.{StemParts, IsStem, stem_length, diameter_at, IsGrade, grade_at, HasGrade, HasGradesOf}
-use Rattle.buck_stem.specs.Profile.{IsMask, ProfileParts, profile_of}
+use Rattle.buck_stem.specs.points.Profile.{IsMask, ProfileParts, profile_of}
 use Rattle.buck_stem.proofs.Tables.{grade_at_is}
 use Rattle.buck_value.specs.declared.log.Log.{Log}
 use Rattle.buck_value.specs.declared.wood.Wood.{Wood}

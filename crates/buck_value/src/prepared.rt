@@ -1,8 +1,8 @@
 //! A stem prepared for cutting under a sheet: which log is allowed from point to point, and its worth, from tables.
 ghost use Rattle.std.specs.Prelude.{◌≡◌, ℕ, ◌+◌, ◌-◌, ◌*◌, ◌/◌, ◌<◌, ◌≤◌, ◌↔◌, IsTrue, IfOk, IfSome, IfNone, Some, length, slice_get, slice_index};
 ghost use Rattle.buck_stem.specs.Stem.{StemParts, IsStem, stem_length, diameter_at};
-ghost use Rattle.buck_stem.specs.Profile.{IsMask, profile_of};
-ghost use Rattle.buck_stem.specs.Profile as grid;
+ghost use Rattle.buck_stem.specs.points.Profile.{IsMask, profile_of};
+ghost use Rattle.buck_stem.specs.points.Profile as grid;
 ghost use Rattle.buck_value.specs.Sheet.{IsSheet};
 ghost use Rattle.buck_value.specs.Allowed.{IsAllowed, Allows, log_of, top_of, class_in, class_of, worth_of};
 ghost use Rattle.buck_value.specs.Prepared.{prepared_of, points_of, lengths_of, log_at};
@@ -29,7 +29,7 @@ pub struct Prepared<'s, 't> {
 
 impl<'s, 't> Model for Prepared<'s, 't> {
     ghost use Rattle.std.specs.Prelude.{◌≡◌};
-    ghost use Rattle.buck_stem.specs.Profile.{profile_of};
+    ghost use Rattle.buck_stem.specs.points.Profile.{profile_of};
     ghost use Rattle.buck_value.specs.Sheet.{IsSheet};
     ghost use Rattle.buck_value.specs.Prepared.{PreparedParts, prepared_of};
 

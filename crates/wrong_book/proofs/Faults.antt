@@ -7,8 +7,8 @@ use Rattle.buck_book.specs.declared.posting.Posting.{Posting}
 use Rattle.buck_book.specs.declared.posting.Posting.TheVariants.{Cut, Demand}
 use Rattle.buck_book.specs.Entry.{EntryParts}
 use Rattle.buck_book.specs.History.{HistoryParts, sheet_at}
-use Rattle.buck_journal.specs.declared.replay_fault.ReplayFault.TheVariants.{Outvalued}
-use Rattle.buck_journal.specs.Replay.{IsFaultAt, IsFirstFault}
+use Rattle.buck_journal.specs.declared.judging.fault.ReplayFault.TheVariants.{Outvalued}
+use Rattle.buck_journal.specs.judging.Replay.{IsFaultAt, IsFirstFault}
 
 -- the fault says its own place
 place_of : (h : HistoryParts) (k at : ℕ) (x : Posting) → IsFaultAt h k x (Outvalued at) → at ≡ k

@@ -7,9 +7,9 @@ use Rattle.buck_book.specs.declared.posting.Posting.{Posting}
 use Rattle.buck_book.specs.declared.posting.Posting.TheVariants.{Cut, Demand}
 use Rattle.buck_book.specs.Entry.{EntryParts, DemandParts}
 use Rattle.buck_book.specs.History.{HistoryParts, IsLawful, Follows, PricesMeet, prices_at, sheet_at}
-use Rattle.buck_journal.specs.declared.replay_fault.ReplayFault.{ReplayFault}
-use Rattle.buck_journal.specs.declared.replay_fault.ReplayFault.TheVariants.{Price, Version, Worth, Outvalued}
-use Rattle.buck_journal.specs.Replay.{IsFirstFault, IsMetAtEnd, IsFaultAt}
+use Rattle.buck_journal.specs.declared.judging.fault.ReplayFault.{ReplayFault}
+use Rattle.buck_journal.specs.declared.judging.fault.ReplayFault.TheVariants.{Price, Version, Worth, Outvalued}
+use Rattle.buck_journal.specs.judging.Replay.{IsFirstFault, IsMetAtEnd, IsFaultAt}
 
 abbrev pub made : InstructionParts → List (List ℕ) → List Posting → HistoryParts
 made i sheets ps = record { instruction = i; sheets = sheets; postings = ps }

@@ -5,7 +5,7 @@ ghost use Rattle.buck_dp.specs.Best.{IsAdmissible, cutting_worth};
 ghost use Rattle.buck_book.specs.Posting.{ends_of};
 ghost use Rattle.buck_book.specs.Targets.{AreTargets};
 ghost use Rattle.buck_book.specs.History.{IsLawful, PricesMeet, prices_at, sheet_at};
-ghost use Rattle.buck_journal.specs.Replay.{history_of};
+ghost use Rattle.buck_journal.specs.judging.Replay.{history_of};
 
 use buck_apt::Instruction;
 use buck_book::{Demand, Entry, Posting};

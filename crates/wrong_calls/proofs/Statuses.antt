@@ -4,9 +4,9 @@ use Rattle.buck_apt.specs.declared.fault.AptFault.{AptFault}
 use Rattle.buck_apt.specs.Apt.{apt_of}
 use Rattle.buck_apt.specs.Faults.{apt_numbers}
 use Rattle.buck_apt.specs.Instruction.{InstructionParts}
-use Rattle.buck_stem.specs.Faults.{stm_numbers}
+use Rattle.buck_stem.specs.file.Faults.{stm_numbers}
 use Rattle.buck_stem.specs.Stem.{StemParts}
-use Rattle.buck_stem.specs.Stm.{stm_of}
+use Rattle.buck_stem.specs.file.Stm.{stm_of}
 use Rattle.buck_journal.specs.Faults.{journal_numbers, replay_numbers}
 use Rattle.buck_fleet.specs.Faults.{close_numbers}
 use Rattle.buck_engine.specs.declared.fault.EngineFault.{EngineFault}

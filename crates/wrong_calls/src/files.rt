@@ -4,7 +4,7 @@ ghost use Rattle.buck_apt.specs.declared.fault.AptFault.{AptFault};
 ghost use Rattle.buck_apt.specs.Apt.{apt_of};
 ghost use Rattle.buck_apt.specs.Instruction.{InstructionParts};
 ghost use Rattle.buck_stem.specs.Stem.{StemParts};
-ghost use Rattle.buck_stem.specs.Stm.{stm_of};
+ghost use Rattle.buck_stem.specs.file.Stm.{stm_of};
 
 use buck_calls::{buckfleet_buck, buckfleet_check, buckfleet_table};
 use std::alloc::Global;

@@ -3,7 +3,7 @@ use Rattle.std.specs.Prelude.{ℕ, ◌+◌, ◌*◌, List, [], ◌∷◌, ◌++�
 use Rattle.std.specs.List.{flat_map, range_with_len}
 use Rattle.buck_apt.specs.declared.class.Class.{Class}
 use Rattle.buck_apt.specs.Instruction.{AssortmentParts, index_of}
-use Rattle.buck_record.specs.Line.{line_of}
+use Rattle.buck_record.specs.writing.Line.{line_of}
 use Rattle.buck_book.specs.declared.posting.Posting.{Posting}
 use Rattle.buck_book.specs.Degree.{part_of, degree_of}
 use Rattle.buck_engine.specs.text.Bucking.{total_line}

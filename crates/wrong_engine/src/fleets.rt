@@ -1,7 +1,7 @@
 //! Wrong bodies of a fleet over files.
 ghost use Rattle.std.specs.Prelude.{◌≡◌, ◌<◌, List, Ok, length};
 ghost use Rattle.buck_stem.specs.Stem.{StemParts};
-ghost use Rattle.buck_stem.specs.Stm.{stm_of};
+ghost use Rattle.buck_stem.specs.file.Stm.{stm_of};
 
 use buck_engine::{EngineFault, run_fleet_files};
 use buck_rule::{Rule, Standing, steady};

@@ -2,7 +2,7 @@
 ghost use Rattle.std.specs.Prelude.{◌≡◌, ◌≢◌, ◌<◌, ◌≤◌, List, ℕ, Ok, length};
 ghost use Rattle.buck_rule.specs.Stored.{Answers};
 ghost use Rattle.buck_stem.specs.Stem.{StemParts};
-ghost use Rattle.buck_stem.specs.Stm.{stm_of};
+ghost use Rattle.buck_stem.specs.file.Stm.{stm_of};
 ghost use Rattle.buck_book.specs.History.{HistoryParts};
 ghost use Rattle.buck_turn.specs.Turn.{AreInTurn, AreSheetsBy};
 ghost use Rattle.buck_engine.specs.text.Report.{ending_of, report_of};

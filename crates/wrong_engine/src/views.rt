@@ -3,8 +3,8 @@ ghost use Rattle.std.specs.Prelude.{◌≡◌, Ok};
 ghost use Rattle.buck_apt.specs.Instruction.{InstructionParts};
 ghost use Rattle.buck_apt.specs.Apt.{apt_of};
 ghost use Rattle.buck_book.specs.History.{IsLawful};
-ghost use Rattle.buck_journal.specs.Journal.{JournalParts, journal_of};
-ghost use Rattle.buck_journal.specs.Replay.{history_of};
+ghost use Rattle.buck_journal.specs.reading.Journal.{JournalParts, journal_of};
+ghost use Rattle.buck_journal.specs.judging.Replay.{history_of};
 
 use crate::opened::Missing;
 use buck_engine::{

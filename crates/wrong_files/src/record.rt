@@ -1,11 +1,11 @@
 //! Wrong bodies of what reads items and numbers, and of what writes them.
-#![tactic(auto, unfolding(buck_record::specs::Record::number_of, buck_record::specs::Record::numbers_of, buck_record::specs::Record::number_at_most, buck_record::specs::Record::item_of, buck_record::specs::Record::items_of, buck_record::specs::White::words, buck_record::specs::White::first_word, buck_record::specs::White::after_word, buck_record::specs::White::trim_start, buck_record::specs::White::trim_end, buck_record::specs::Reading::each_from, buck_record::specs::Table::rest_in, buck_record::specs::Table::groups_of, buck_record::specs::Rules::numbers_in, buck_record::specs::Check::each, buck_record::specs::Check::make_each))]
+#![tactic(auto, unfolding(buck_record::specs::bytes::Record::number_of, buck_record::specs::bytes::Record::numbers_of, buck_record::specs::bytes::Record::number_at_most, buck_record::specs::bytes::Record::item_of, buck_record::specs::bytes::Record::items_of, buck_record::specs::bytes::White::words, buck_record::specs::bytes::White::first_word, buck_record::specs::bytes::White::after_word, buck_record::specs::bytes::White::trim_start, buck_record::specs::bytes::White::trim_end, buck_record::specs::Reading::each_from, buck_record::specs::checking::Table::rest_in, buck_record::specs::checking::Table::groups_of, buck_record::specs::checking::Rules::numbers_in, buck_record::specs::checking::Check::each, buck_record::specs::checking::Check::make_each))]
 
 ghost use Rattle.std.specs.Prelude.{◌≡◌, ◌≤◌, ◌+◌, ◌*◌, [], ◌∷◌, nat_le, length, IsTrue, Ok};
 ghost use Rattle.std.specs.Vec.{vec_len, vec_capacity};
-ghost use Rattle.buck_record.specs.Check.{check, each, make_each};
+ghost use Rattle.buck_record.specs.checking.Check.{check, each, make_each};
 ghost use Rattle.buck_record.specs.Reading.{Gives, with_fault};
-ghost use Rattle.buck_record.specs.Record.{items_of};
+ghost use Rattle.buck_record.specs.bytes.Record.{items_of};
 ghost use Rattle.buck_record.specs.declared.fault.RecordFault.TheVariants.{Memory, Head, Digits};
 
 use buck_apt::AptFault;

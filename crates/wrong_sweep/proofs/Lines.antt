@@ -7,9 +7,9 @@ use Rattle.buck_apt.specs.declared.fault.AptFault.{AptFault}
 use Rattle.buck_apt.specs.Apt.{apt_of}
 use Rattle.buck_apt.specs.Instruction.{InstructionParts}
 use Rattle.buck_apt.specs.Settings.{SettingsParts, with_settings}
-use Rattle.buck_record.specs.Check.{◌>>=◌}
+use Rattle.buck_record.specs.checking.Check.{◌>>=◌}
 use Rattle.buck_stem.specs.Stem.{StemParts}
-use Rattle.buck_stem.specs.Stm.{stm_of}
+use Rattle.buck_stem.specs.file.Stm.{stm_of}
 use Rattle.buck_book.specs.History.{HistoryParts}
 use Rattle.buck_figures.specs.Figures.{worth_in}
 use Rattle.buck_engine.specs.declared.fault.EngineFault.{EngineFault}

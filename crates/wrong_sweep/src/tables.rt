@@ -1,7 +1,7 @@
 //! Wrong bodies of a table over files.
 ghost use Rattle.std.specs.Prelude.{◌≡◌, ◌≤◌, ◌++◌, ℕ, List, [], ◌∷◌, Some, Ok, codes, length, map};
 ghost use Rattle.buck_stem.specs.Stem.{StemParts};
-ghost use Rattle.buck_stem.specs.Stm.{stm_of};
+ghost use Rattle.buck_stem.specs.file.Stm.{stm_of};
 ghost use Rattle.buck_book.specs.History.{HistoryParts};
 ghost use Rattle.buck_engine.specs.declared.fleet.serving.NamedRule.TheVariants.{Steady, Step};
 ghost use Rattle.buck_engine.specs.tie.Ties.{FollowsRule};

@@ -18,7 +18,7 @@ use Rattle.buck_book.specs.History.{prices_at}
 use Rattle.buck_book.proofs.Alone.{class_at}
 use Rattle.buck_book.proofs.Ends.{true_false}
 use Rattle.buck_dp.specs.Best.{cutting_worth}
-use Rattle.buck_journal.specs.Journal.{JournalParts}
+use Rattle.buck_journal.specs.reading.Journal.{JournalParts}
 use Rattle.buck_figures.specs.Figures.{base_sheet, as_posting, AreUnsteered, IsUnsteered, at_base_in, worth_in}
 use Rattle.buck_figures.specs.Greatest.{IsFirstGreatest, lengths_of, costs_of}
 use Rattle.buck_figures.specs.Pieces.{IsCut}

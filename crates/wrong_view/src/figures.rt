@@ -4,7 +4,7 @@ ghost use Rattle.buck_apt.specs.Instruction.{IsClass};
 ghost use Rattle.buck_dp.specs.Best.{cutting_worth};
 ghost use Rattle.buck_book.specs.Counts.{assortment_logs};
 ghost use Rattle.buck_book.specs.History.{IsLawful, prices_at};
-ghost use Rattle.buck_journal.specs.Replay.{history_of};
+ghost use Rattle.buck_journal.specs.judging.Replay.{history_of};
 ghost use Rattle.buck_figures.specs.Figures.{base_sheet};
 ghost use Rattle.wrong_view.specs.Cuts.{AreAsLong, AreOfTwoHarvesters, IsAfterDemand, IsOneCutInto, IsOutvalued};
 

@@ -2,8 +2,8 @@
 use Rattle.std.specs.Prelude.{◌≡◌, ◌⊎◌, ℕ, List, Option, Result, Ok, Err}
 use Rattle.std.specs.Io.KnownBytes.{Keeps}
 use Rattle.buck_book.specs.History.{HistoryParts, IsLawful}
-use Rattle.buck_journal.specs.Replay.{IsFirstFault}
-use Rattle.buck_journal.specs.declared.replay_fault.ReplayFault.{ReplayFault}
+use Rattle.buck_journal.specs.judging.Replay.{IsFirstFault}
+use Rattle.buck_journal.specs.declared.judging.fault.ReplayFault.{ReplayFault}
 use Rattle.buck_engine.specs.declared.fault.EngineFault.{EngineFault}
 use Rattle.buck_engine.specs.declared.fault.EngineFault.TheVariants.{Write, Replay, Memory}
 use Rattle.buck_engine.specs.text.Written.{AppendsSome}

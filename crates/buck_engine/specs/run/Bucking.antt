@@ -5,7 +5,7 @@ use Rattle.std.specs.Option.{option_map}
 use Rattle.buck_apt.specs.Instruction.{InstructionParts}
 use Rattle.buck_apt.specs.Apt.{apt_of}
 use Rattle.buck_stem.specs.Stem.{StemParts}
-use Rattle.buck_stem.specs.Stm.{stm_of}
+use Rattle.buck_stem.specs.file.Stm.{stm_of}
 use Rattle.buck_engine.specs.declared.fault.EngineFault.{EngineFault}
 use Rattle.buck_engine.specs.declared.fault.EngineFault.TheVariants.{Stm}
 use Rattle.buck_engine.specs.text.Bucking.{IsBuckText}

@@ -1,11 +1,11 @@
 -- What a check of a journal and a report of it answer.
 use Rattle.std.specs.Prelude.{◌≡◌, ◌⊎◌, ℕ, List, [], ◌∷◌, length, Option, Result, Ok, Err, codes}
-use Rattle.buck_record.specs.Line.{line_of}
+use Rattle.buck_record.specs.writing.Line.{line_of}
 use Rattle.buck_apt.specs.Instruction.{InstructionParts}
 use Rattle.buck_apt.specs.Apt.{apt_of}
 use Rattle.buck_book.specs.History.{HistoryParts, IsLawful}
-use Rattle.buck_journal.specs.Journal.{JournalParts, journal_of}
-use Rattle.buck_journal.specs.Replay.{history_of, IsFirstFault}
+use Rattle.buck_journal.specs.reading.Journal.{JournalParts, journal_of}
+use Rattle.buck_journal.specs.judging.Replay.{history_of, IsFirstFault}
 use Rattle.buck_engine.specs.declared.fault.EngineFault.{EngineFault}
 use Rattle.buck_engine.specs.declared.fault.EngineFault.TheVariants.{Journal, Replay, Memory}
 use Rattle.buck_engine.specs.run.Reading.{IsAccepted, IsAptFault, IsFileFault, ReadsApt, Says}

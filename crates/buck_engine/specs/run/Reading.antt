@@ -1,11 +1,11 @@
 -- What is read of files: what their bytes say, as far as they are known, and what may go wrong.
 use Rattle.std.specs.Prelude.{◌≡◌, ◌⊎◌, ℕ, ◌≤◌, List, length, Option, Result, Ok, Err, IfSome}
-use Rattle.buck_record.specs.Check.{◌>>=◌}
+use Rattle.buck_record.specs.checking.Check.{◌>>=◌}
 use Rattle.buck_apt.specs.declared.fault.AptFault.{AptFault}
 use Rattle.buck_apt.specs.Instruction.{InstructionParts}
 use Rattle.buck_apt.specs.Settings.{SettingsParts, with_settings}
 use Rattle.buck_apt.specs.Apt.{apt_of}
-use Rattle.buck_stem.specs.Stm.{stm_of}
+use Rattle.buck_stem.specs.file.Stm.{stm_of}
 use Rattle.buck_engine.specs.declared.fault.EngineFault.{EngineFault}
 use Rattle.buck_engine.specs.declared.fault.EngineFault.TheVariants.{Read, Apt, Journal, Stm, Seats, Memory}
 

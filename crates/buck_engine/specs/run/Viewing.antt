@@ -5,8 +5,8 @@ use Rattle.std.specs.Str.{IsUtf8}
 use Rattle.buck_apt.specs.Instruction.{InstructionParts}
 use Rattle.buck_apt.specs.Apt.{apt_of}
 use Rattle.buck_book.specs.History.{HistoryParts, IsLawful}
-use Rattle.buck_journal.specs.Journal.{JournalParts, journal_of}
-use Rattle.buck_journal.specs.Replay.{history_of, IsFirstFault}
+use Rattle.buck_journal.specs.reading.Journal.{JournalParts, journal_of}
+use Rattle.buck_journal.specs.judging.Replay.{history_of, IsFirstFault}
 use Rattle.buck_engine.specs.declared.fault.EngineFault.{EngineFault}
 use Rattle.buck_engine.specs.declared.fault.EngineFault.TheVariants.{Write, Replay}
 use Rattle.buck_engine.specs.run.Reading.{IsAccepted, IsAptFault, ReadsApt, Says}

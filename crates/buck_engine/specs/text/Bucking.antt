@@ -6,8 +6,8 @@ use Rattle.buck_stem.specs.Stem.{StemParts, stem_length}
 use Rattle.buck_value.specs.declared.log.Log.{Log}
 use Rattle.buck_value.specs.Sheet.{SheetParts, sheet_of, base_prices}
 use Rattle.buck_value.specs.Allowed.{class_of, top_diameter, worth_of}
-use Rattle.buck_record.specs.Line.{line_of}
-use Rattle.buck_record.specs.Written.{spelled}
+use Rattle.buck_record.specs.writing.Line.{line_of}
+use Rattle.buck_record.specs.writing.Written.{spelled}
 use Rattle.buck_dp.specs.Best.{IsFirstBest, cutting_worth}
 
 -- a stem and the logs that are cut from it

@@ -3,8 +3,8 @@ use Rattle.std.specs.Prelude.{◌≡◌, ℕ, ◌+◌, ◌*◌, List, [], ◌∷
 use Rattle.std.specs.List.{flat_map, range_with_len}
 use Rattle.buck_apt.specs.declared.class.Class.{Class}
 use Rattle.buck_apt.specs.Instruction.{InstructionParts, AssortmentParts, index_of}
-use Rattle.buck_record.specs.Line.{line_of}
-use Rattle.buck_record.specs.Written.{spelled}
+use Rattle.buck_record.specs.writing.Line.{line_of}
+use Rattle.buck_record.specs.writing.Written.{spelled}
 use Rattle.buck_book.specs.declared.posting.Posting.{Posting}
 use Rattle.buck_book.specs.declared.posting.Posting.TheVariants.{Cut, Demand}
 use Rattle.buck_book.specs.Posting.{targets_of}

@@ -3,10 +3,10 @@ use Rattle.std.specs.Prelude.{◌≡◌, ◌⊎◌, ℕ, ◌+◌, ◌<◌, ◌�
 use Rattle.buck_apt.specs.Instruction.{InstructionParts}
 use Rattle.buck_apt.specs.Apt.{apt_of}
 use Rattle.buck_stem.specs.Stem.{StemParts}
-use Rattle.buck_stem.specs.Stm.{stm_of}
+use Rattle.buck_stem.specs.file.Stm.{stm_of}
 use Rattle.buck_book.specs.History.{IsLawful}
-use Rattle.buck_journal.specs.Journal.{JournalParts, journal_of}
-use Rattle.buck_journal.specs.Replay.{history_of}
+use Rattle.buck_journal.specs.reading.Journal.{JournalParts, journal_of}
+use Rattle.buck_journal.specs.judging.Replay.{history_of}
 use Rattle.buck_engine.specs.declared.fault.EngineFault.{EngineFault}
 use Rattle.buck_engine.specs.declared.fault.EngineFault.TheVariants.{Seats, Check}
 use Rattle.buck_engine.specs.declared.fleet.serving.NamedRule.{NamedRule}

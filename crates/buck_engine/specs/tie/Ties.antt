@@ -11,7 +11,7 @@ use Rattle.buck_rule.specs.Ready.{steady_of, linear_of, step_of}
 use Rattle.buck_book.specs.declared.posting.Posting.{Posting}
 use Rattle.buck_book.specs.History.{HistoryParts, standing_of}
 use Rattle.buck_book.specs.Pricing.{Calls}
-use Rattle.buck_journal.specs.Replay.{Begins, version_at, prices_then}
+use Rattle.buck_journal.specs.judging.Replay.{Begins, version_at, prices_then}
 use Rattle.buck_engine.specs.declared.fleet.serving.NamedRule.{NamedRule}
 use Rattle.buck_engine.specs.declared.fleet.serving.NamedRule.TheVariants.{Steady, Linear, Step}
 use Rattle.buck_engine.specs.declared.tie.fault.CheckFault.{CheckFault}

@@ -2,8 +2,8 @@
 ghost use Rattle.std.specs.Prelude.{◌≡◌, ◌≢◌, ◌≤◌, length, Ok, OnOk, IfOk, IfErr};
 ghost use Rattle.buck_apt.specs.Apt.{apt_of};
 ghost use Rattle.buck_book.specs.History.{HistoryParts, IsLawful};
-ghost use Rattle.buck_journal.specs.Journal.{journal_of};
-ghost use Rattle.buck_journal.specs.Replay.{history_of, IsFirstFault};
+ghost use Rattle.buck_journal.specs.reading.Journal.{journal_of};
+ghost use Rattle.buck_journal.specs.judging.Replay.{history_of, IsFirstFault};
 ghost use Rattle.buck_engine.specs.run.Checking.{IsJournalFault, IsUnlawful};
 ghost use Rattle.buck_engine.specs.run.Reading.{IfStopped, Says, apt_with};
 ghost use Rattle.buck_engine.specs.run.Viewing.{IsReadFault};

@@ -1,7 +1,7 @@
 //! Files that are read to their end, and the instruction and the stems that they have.
 ghost use Rattle.std.specs.Prelude.{◌≡◌, ◌⊎◌, Ok, OnOk, IfOk, IfErr, IfSome};
 ghost use Rattle.buck_apt.specs.Apt.{apt_of};
-ghost use Rattle.buck_stem.specs.Stm.{stm_of};
+ghost use Rattle.buck_stem.specs.file.Stm.{stm_of};
 ghost use Rattle.buck_engine.specs.declared.fault.EngineFault.TheVariants.{Apt, Memory, Read, Stm};
 ghost use Rattle.buck_engine.specs.run.Reading.{IsAccepted, IsAptFault, IsStmFault, IsWithinLimit, Says, apt_with};
 ghost use Rattle.buck_engine.specs.inner.Reading.{AreRefused};

@@ -4,7 +4,7 @@ ghost use Rattle.buck_record.specs.Reading.{listed};
 ghost use Rattle.buck_book.specs.Walk.{walk_of};
 ghost use Rattle.buck_book.specs.History.{IsLawful, in_force};
 ghost use Rattle.buck_apt.specs.Instruction.{classes};
-ghost use Rattle.buck_journal.specs.Replay.{history_of};
+ghost use Rattle.buck_journal.specs.judging.Replay.{history_of};
 ghost use Rattle.buck_engine.specs.declared.fault.EngineFault.TheVariants.{Write};
 ghost use Rattle.buck_engine.specs.run.Checking.{AnswersJournal, AnswersReplay, AnswersReport, IsJournalReport};
 ghost use Rattle.buck_engine.specs.run.Reading.{IfStopped, apt_with};

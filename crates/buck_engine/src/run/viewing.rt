@@ -4,7 +4,7 @@ ghost use Rattle.std.specs.Io.KnownBytes.{Keeps};
 ghost use Rattle.buck_apt.specs.Apt.{apt_of};
 ghost use Rattle.buck_book.specs.History.{IsLawful};
 ghost use Rattle.buck_figures.specs.Figures.{base_sheet};
-ghost use Rattle.buck_journal.specs.Replay.{history_of, IsFirstFault};
+ghost use Rattle.buck_journal.specs.judging.Replay.{history_of, IsFirstFault};
 ghost use Rattle.buck_engine.specs.run.Reading.{IfStopped};
 ghost use Rattle.buck_engine.specs.run.Viewing.{AppendsPage, AppendsTable, ShowsPage, ShowsTable};
 ghost use Rattle.buck_engine.specs.inner.View.{ShowsFault, ShowsHistory, WritesAs};

@@ -1,8 +1,8 @@
 //! Writing texts and fault lines.
 ghost use Rattle.std.specs.Prelude.{◌∷◌, codes};
 ghost use Rattle.std.specs.Fmt.{decimal};
-ghost use Rattle.buck_record.specs.Written.{spelled};
-ghost use Rattle.buck_record.specs.Line.{line_of};
+ghost use Rattle.buck_record.specs.writing.Written.{spelled};
+ghost use Rattle.buck_record.specs.writing.Line.{line_of};
 ghost use Rattle.buck_engine.specs.Faults.{numbered_line, fault_line};
 ghost use Rattle.buck_engine.specs.tie.Told.{check_numbers};
 ghost use Rattle.buck_engine.specs.text.Written.{IsWritten, TellsWritten};

@@ -6,7 +6,7 @@ ghost use Rattle.buck_dp.specs.Cutting.{IsCutFrom};
 ghost use Rattle.buck_book.specs.History.{IsLawful};
 ghost use Rattle.buck_book.specs.Walk.{IsCountable, passed, walk_of};
 ghost use Rattle.buck_book.specs.inner.Running.{AreGrownBy};
-ghost use Rattle.buck_journal.specs.Replay.{history_of, prices_then};
+ghost use Rattle.buck_journal.specs.judging.Replay.{history_of, prices_then};
 ghost use Rattle.buck_engine.specs.tie.Ties.{ArePricesAt, FollowsRule, IsPriceFault, IsPriceFaultAt};
 ghost use Rattle.buck_engine.specs.inner.Tie.{AreAssorted, logs_in};
 

@@ -3,7 +3,7 @@ ghost use Rattle.std.specs.Prelude.{◌≡◌, ◌≢◌, ◌-◌, ◌<◌, ◌�
 ghost use Rattle.buck_record.specs.Reading.{listed};
 ghost use Rattle.buck_apt.specs.Apt.{apt_of};
 ghost use Rattle.buck_book.specs.History.{HistoryParts, IsLawful};
-ghost use Rattle.buck_journal.specs.Replay.{history_of, IsFirstFault};
+ghost use Rattle.buck_journal.specs.judging.Replay.{history_of, IsFirstFault};
 ghost use Rattle.buck_engine.specs.declared.fault.EngineFault.TheVariants.{Seats, Write};
 ghost use Rattle.buck_engine.specs.declared.fleet.serving.NamedRule.{NamedRule};
 ghost use Rattle.buck_engine.specs.run.Reading.{IfStopped, apt_with};

@@ -1,6 +1,6 @@
 -- Numbers that are within the limits of a stem.
 use Rattle.std.specs.Prelude.{ℕ, ◌≤◌, List, length, All}
-use Rattle.buck_stem.specs.declared.slots.TheConstants.{SAMPLES_RANGE, MOST_SAMPLES, STARTS_RANGE, MOST_ZONES}
+use Rattle.buck_stem.specs.declared.file.slots.TheConstants.{SAMPLES_RANGE, MOST_SAMPLES, STARTS_RANGE, MOST_ZONES}
 use Rattle.buck_stem.specs.Stem.{IsGrade, IsRisingFrom}
 
 pub record AreSamples (samples : List ℕ) : Type 0 where

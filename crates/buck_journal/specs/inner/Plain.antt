@@ -1,15 +1,15 @@
 -- Journals that are gone through item by item, with no list of the items.
 use Rattle.std.specs.Prelude.{◌≡◌, ℕ, ◌+◌, ◌<◌, ◌≤◌, Bool, true, List, [], ◌∷◌, ◌++◌, length, slice_get, Some, Result, Ok}
 use Rattle.buck_record.specs.Item.{ItemParts}
-use Rattle.buck_record.specs.Record.{numbers_of}
-use Rattle.buck_record.specs.Cursor.{HasItems, Leads, item_in}
+use Rattle.buck_record.specs.bytes.Record.{numbers_of}
+use Rattle.buck_record.specs.pass.Cursor.{HasItems, Leads, item_in}
 use Rattle.buck_record.specs.declared.slot.Slot.{Slot}
-use Rattle.buck_record.specs.Rules.{slot}
+use Rattle.buck_record.specs.checking.Rules.{slot}
 use Rattle.buck_stem.specs.Stem.{StemParts}
 use Rattle.buck_book.specs.declared.posting.Posting.{Posting}
-use Rattle.buck_journal.specs.declared.call.Call.{Call}
-use Rattle.buck_journal.specs.declared.fault.JournalFault.{JournalFault}
-use Rattle.buck_journal.specs.Journal.{is_first, call_at, head_at, samples_at, zones_at, sheets_from, postings_from, journal_of}
+use Rattle.buck_journal.specs.declared.reading.call.Call.{Call}
+use Rattle.buck_journal.specs.declared.reading.fault.JournalFault.{JournalFault}
+use Rattle.buck_journal.specs.reading.Journal.{is_first, call_at, head_at, samples_at, zones_at, sheets_from, postings_from, journal_of}
 
 -- the text begins with an item of the slot that says these numbers, and `left` has the other items
 abbrev pub LeadsNumbers : Slot → List ℕ → List ℕ → List ℕ → Type 0

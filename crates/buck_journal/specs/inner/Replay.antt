@@ -11,11 +11,11 @@ use Rattle.buck_book.specs.Posting.{planned_version, ends_of, cuts_since_end}
 use Rattle.buck_book.specs.Targets.{AreTargets}
 use Rattle.buck_book.specs.History.{HistoryParts, IsLawful, PricesMeet, prices_at, sheet_at}
 use Rattle.buck_book.specs.Walk.{WalkParts, walk_of}
-use Rattle.buck_journal.specs.declared.replay_fault.ReplayFault.{ReplayFault}
-use Rattle.buck_journal.specs.declared.replay_fault.ReplayFault.TheVariants.{Memory}
-use Rattle.buck_journal.specs.declared.stop.Stop.{Stop}
-use Rattle.buck_journal.specs.declared.stop.Stop.TheVariants as stop
-use Rattle.buck_journal.specs.Replay.{version_at, Begins, IsSheetRight, IsNumbered, IsOfVersion, IsPostingFault, IsFaultAt, IsFaultAtEnd, IsFirstFault}
+use Rattle.buck_journal.specs.declared.judging.fault.ReplayFault.{ReplayFault}
+use Rattle.buck_journal.specs.declared.judging.fault.ReplayFault.TheVariants.{Memory}
+use Rattle.buck_journal.specs.declared.judging.stop.Stop.{Stop}
+use Rattle.buck_journal.specs.declared.judging.stop.Stop.TheVariants as stop
+use Rattle.buck_journal.specs.judging.Replay.{version_at, Begins, IsSheetRight, IsNumbered, IsOfVersion, IsPostingFault, IsFaultAt, IsFaultAtEnd, IsFirstFault}
 
 -- the history that a walk goes through, with the sheets of a journal
 abbrev pub along : {A : Type 0} → WalkParts → List (Vec ℕ A) → HistoryParts

@@ -3,8 +3,8 @@ use Rattle.std.specs.Prelude.{◌≡◌, ℕ, ◌+◌, ◌*◌, ◌<◌, ◌≤�
 use Rattle.std.specs.List.{list_all}
 use Rattle.std.specs.Char.{is_ascii_digit}
 use Rattle.std.specs.Str.Parse.{digits_value}
-use Rattle.buck_record.specs.White.{first_word, after_word, words}
-use Rattle.buck_record.specs.Record.{number_at_most}
+use Rattle.buck_record.specs.bytes.White.{first_word, after_word, words}
+use Rattle.buck_record.specs.bytes.Record.{number_at_most}
 
 -- the text's first word is the number v, and `left` has the other words
 pub record IsFront (text : List ℕ) (v : ℕ) (left : List ℕ) : Type 0 where

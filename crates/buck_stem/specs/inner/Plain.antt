@@ -2,14 +2,14 @@
 use Rattle.std.specs.Prelude.{◌≡◌, ℕ, ◌*◌, ◌&&◌, ◌==◌, ◌%◌, List, [], ◌∷◌, ◌++◌, length, nat_le, Option, Some, None, Ok, true}
 use Rattle.std.specs.Option.{unwrap_or}
 use Rattle.buck_record.specs.Item.{ItemParts}
-use Rattle.buck_record.specs.Record.{numbers_of}
-use Rattle.buck_record.specs.Cursor.{HasItems, Leads, item_in}
+use Rattle.buck_record.specs.bytes.Record.{numbers_of}
+use Rattle.buck_record.specs.pass.Cursor.{HasItems, Leads, item_in}
 use Rattle.buck_record.specs.declared.slot.Slot.{Slot}
-use Rattle.buck_record.specs.Rules.{all_within, is_rising}
-use Rattle.buck_stem.specs.declared.draft.Draft.{Draft}
-use Rattle.buck_stem.specs.declared.slots.TheConstants.{STEM, SPECIES, SAMPLES, ZONES, STARTS_RANGE, GRADES_RANGE, MOST_ZONES}
+use Rattle.buck_record.specs.checking.Rules.{all_within, is_rising}
+use Rattle.buck_stem.specs.declared.file.draft.Draft.{Draft}
+use Rattle.buck_stem.specs.declared.file.slots.TheConstants.{STEM, SPECIES, SAMPLES, ZONES, STARTS_RANGE, GRADES_RANGE, MOST_ZONES}
 use Rattle.buck_stem.specs.Stem.{StemParts}
-use Rattle.buck_stem.specs.Stm.{starts, grades, zones_of, parts_of, stm_of}
+use Rattle.buck_stem.specs.file.Stm.{starts, grades, zones_of, parts_of, stm_of}
 use Rattle.buck_stem.specs.inner.Ready.{IsReadyDraft}
 
 -- the zones' item, where there is one

@@ -1,7 +1,7 @@
 -- The wood of a log of a prepared stem.
 use Rattle.std.specs.Prelude.{◌≡◌, ℕ, ◌+◌, ◌*◌, ◌%◌, ◌≤◌}
 use Rattle.buck_stem.specs.Stem.{StemParts, IsStem, stem_length}
-use Rattle.buck_stem.specs.Profile.{IsMask}
+use Rattle.buck_stem.specs.points.Profile.{IsMask}
 use Rattle.buck_value.specs.declared.log.Log.{Log}
 use Rattle.buck_value.specs.declared.wood.Wood.{Wood}
 use Rattle.buck_value.specs.Allowed.{top_of, trim_of, top_diameter}

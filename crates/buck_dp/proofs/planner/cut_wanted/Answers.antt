@@ -1,6 +1,6 @@
 use Rattle.std.proofs.Common.{◌≡◌, ◌≤◌, ◌∙◌, ℕ, List, ap, subst, arith}
 use Rattle.buck_stem.specs.Stem.{StemParts, IsStem}
-use Rattle.buck_stem.specs.Profile.{ProfileParts, profile_of}
+use Rattle.buck_stem.specs.points.Profile.{ProfileParts, profile_of}
 use Rattle.buck_value.specs.declared.log.Log.{Log}
 use Rattle.buck_bid.specs.Offers.{codes_in}
 use Rattle.buck_dp.specs.inner.Points.{GroundParts, ground_with}

@@ -1,6 +1,6 @@
 use Rattle.std.proofs.Common.{◌<◌, ℕ, sym, subst, arith}
-use Rattle.buck_stem.specs.Profile.{ProfileParts}
-use Rattle.buck_stem.specs.Profile as grid
+use Rattle.buck_stem.specs.points.Profile.{ProfileParts}
+use Rattle.buck_stem.specs.points.Profile as grid
 use Rattle.buck_dp.specs.declared.takers.Kind.{Kind}
 use Rattle.buck_dp.specs.inner.Site.{ground_of}
 use Rattle.buck_dp.proofs.SiteLemmas.{mask_of, kind_takers}

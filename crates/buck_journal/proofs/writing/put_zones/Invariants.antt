@@ -1,5 +1,5 @@
 use Rattle.std.proofs.Common.{◌≡◌, ◌++◌, take}
-use Rattle.buck_record.specs.Written.{spelled}
+use Rattle.buck_record.specs.writing.Written.{spelled}
 use Rattle.buck_journal.specs.Written.{zone_numbers}
 use Rattle.buck_journal.proofs.writing.put_zones.Given as goal
 

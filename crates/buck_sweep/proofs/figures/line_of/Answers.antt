@@ -1,5 +1,5 @@
 use Rattle.std.proofs.Common.{rules, ◌≡◌, IfOk, subst}
-use Rattle.buck_journal.specs.Replay.{history_of}
+use Rattle.buck_journal.specs.judging.Replay.{history_of}
 use Rattle.buck_sweep.specs.Table.{IsLine}
 use Rattle.buck_sweep.proofs.Histories.{if_line}
 use Rattle.buck_sweep.proofs.figures.line_of.Goals as goal

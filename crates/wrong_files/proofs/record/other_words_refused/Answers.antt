@@ -1,7 +1,7 @@
 use Rattle.std.proofs.Common.{rules, [], ◌∷◌, refl}
 use Rattle.buck_record.specs.Reading.{each_from}
-use Rattle.buck_record.specs.Record.{number_at_most, numbers_of}
-use Rattle.buck_record.specs.White.{words}
+use Rattle.buck_record.specs.bytes.Record.{number_at_most, numbers_of}
+use Rattle.buck_record.specs.bytes.White.{words}
 use Rattle.wrong_files.proofs.record.other_words_refused.Goals as goal
 
 pub prove-unreachable-requires : goal.prove-unreachable-requires

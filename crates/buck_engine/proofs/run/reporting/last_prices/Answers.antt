@@ -1,4 +1,4 @@
-use Rattle.buck_journal.specs.Replay.{history_of}
+use Rattle.buck_journal.specs.judging.Replay.{history_of}
 use Rattle.buck_engine.proofs.LastSheet.{number_given}
 use Rattle.buck_engine.proofs.run.reporting.last_prices.Goals as goal
 

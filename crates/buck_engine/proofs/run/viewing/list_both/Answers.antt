@@ -1,7 +1,7 @@
 use Rattle.std.proofs.Common.{◌≢◌, IfErr, Result, subst}
-use Rattle.buck_journal.specs.declared.replay_fault.ReplayFault.{ReplayFault}
-use Rattle.buck_journal.specs.declared.replay_fault.ReplayFault.TheVariants.{Memory}
-use Rattle.buck_journal.specs.Replay.{IsFirstFault, history_of}
+use Rattle.buck_journal.specs.declared.judging.fault.ReplayFault.{ReplayFault}
+use Rattle.buck_journal.specs.declared.judging.fault.ReplayFault.TheVariants.{Memory}
+use Rattle.buck_journal.specs.judging.Replay.{IsFirstFault, history_of}
 use Rattle.buck_engine.proofs.Pages.{nothing_left}
 use Rattle.buck_engine.proofs.run.viewing.list_both.Goals as goal
 

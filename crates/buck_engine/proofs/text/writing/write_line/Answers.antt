@@ -1,4 +1,4 @@
-use Rattle.buck_record.specs.Written.{spelled}
+use Rattle.buck_record.specs.writing.Written.{spelled}
 use Rattle.buck_engine.proofs.WrittenLemmas.{stopped, then_written}
 use Rattle.buck_engine.proofs.text.writing.write_line.Goals as goal
 

@@ -1,7 +1,7 @@
 use Rattle.std.proofs.Common.{◌∙◌, ◌<◌, codes, length, arith}
 use Rattle.std.proofs.lemmas.Grind.{common_steps}
-use Rattle.buck_record.specs.Written.{spelled}
-use Rattle.buck_record.specs.Line.{line_of}
+use Rattle.buck_record.specs.writing.Written.{spelled}
+use Rattle.buck_record.specs.writing.Line.{line_of}
 use Rattle.buck_engine.proofs.WrittenLemmas.{stopped, then_written, told}
 use Rattle.buck_engine.proofs.text.writing.write_numbered.Goals as goal
 

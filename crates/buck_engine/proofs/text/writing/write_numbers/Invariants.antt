@@ -1,6 +1,6 @@
 use Rattle.std.proofs.Common.{take}
 use Rattle.std.specs.Io.KnownBytes.{Appends}
-use Rattle.buck_record.specs.Written.{spelled}
+use Rattle.buck_record.specs.writing.Written.{spelled}
 use Rattle.buck_engine.proofs.text.writing.write_numbers.Given as goal
 
 abbrev pub invariant-loop-number : goal.invariant-loop-number

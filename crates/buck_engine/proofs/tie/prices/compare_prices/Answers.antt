@@ -1,7 +1,7 @@
 use Rattle.std.proofs.Common.{◌≡◌, ◌+◌, take, sym, ap, subst}
 use Rattle.buck_apt.specs.Instruction.{InstructionParts}
 use Rattle.buck_book.specs.Walk.{IsCountable, WalkParts}
-use Rattle.buck_journal.specs.Replay.{history_of}
+use Rattle.buck_journal.specs.judging.Replay.{history_of}
 use Rattle.buck_engine.specs.tie.Ties.{ArePricesAt}
 use Rattle.buck_engine.specs.inner.Tie.{AreAssorted}
 use Rattle.buck_engine.proofs.PriceLemmas.{next_countable, passed_all, passed_more, same_more}

@@ -1,6 +1,6 @@
 use Rattle.std.proofs.Common.{◌≡◌, ◌<◌, ◌-◌, ℕ, length, take}
 use Rattle.buck_book.specs.Walk.{walk_of}
-use Rattle.buck_journal.specs.Replay.{history_of}
+use Rattle.buck_journal.specs.judging.Replay.{history_of}
 use Rattle.buck_engine.specs.tie.Ties.{ArePricesAt}
 use Rattle.buck_engine.specs.inner.Tie.{AreAssorted}
 use Rattle.buck_engine.proofs.tie.prices.compare_prices.Given as goal

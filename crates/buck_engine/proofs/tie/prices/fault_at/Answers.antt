@@ -1,5 +1,5 @@
 use Rattle.std.proofs.Common.{◌≡◌, take, refl, sym, subst}
-use Rattle.buck_journal.specs.Replay.{Begins, history_of, version_at}
+use Rattle.buck_journal.specs.judging.Replay.{Begins, history_of, version_at}
 use Rattle.buck_engine.specs.declared.tie.fault.CheckFault.TheVariants.{Price}
 use Rattle.buck_engine.specs.tie.Ties.{IsPriceFaultAt}
 use Rattle.buck_engine.proofs.HeldLemmas.{can_hold}

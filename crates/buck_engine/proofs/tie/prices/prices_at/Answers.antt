@@ -1,8 +1,8 @@
 use Rattle.std.proofs.Common.{◌≡◌, ◌<◌, List, [], ℕ, length, map, take, get_or, sym, ap, ◌∙◌, arith}
 use Rattle.std.proofs.lemmas.List.{get_or-map, length-map}
 use Rattle.buck_book.specs.Posting.{ends_of}
-use Rattle.buck_journal.specs.Journal.{JournalParts}
-use Rattle.buck_journal.specs.Replay.{history_of, version_at}
+use Rattle.buck_journal.specs.reading.Journal.{JournalParts}
+use Rattle.buck_journal.specs.judging.Replay.{history_of, version_at}
 use Rattle.buck_engine.proofs.LastSheet.{number_after}
 use Rattle.buck_engine.proofs.PriceLemmas.{version_in}
 use Rattle.buck_engine.proofs.tie.prices.prices_at.Goals as goal

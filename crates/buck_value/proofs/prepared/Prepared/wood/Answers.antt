@@ -1,6 +1,6 @@
 use Rattle.std.proofs.Common.{◌≡◌, ◌+◌, ◌*◌, ◌≤◌, ◌∙◌, ap}
 use Rattle.buck_stem.specs.Stem.{stem_length}
-use Rattle.buck_stem.specs.Profile.{profile_of}
+use Rattle.buck_stem.specs.points.Profile.{profile_of}
 use Rattle.buck_value.specs.Prepared.{PreparedParts}
 use Rattle.buck_value.proofs.Grades.{has_wood, wood_there}
 use Rattle.buck_value.proofs.prepared.Prepared.wood.Goals as goal

@@ -1,9 +1,0 @@
-use Rattle.std.proofs.Common.{◌≡◌, ◌*◌, ◌++◌, drop, true}
-use Rattle.buck_journal.specs.Journal.{are_logs, logs_of}
-use Rattle.buck_journal.proofs.parts.logs_of.Given as goal
-
-abbrev pub invariant-loop-k : goal.invariant-loop-k
-invariant-loop-k l = record {
-  so_far : l.logs.items ++ logs_of (drop (3 * l.k) l.numbers) ≡ logs_of l.numbers;
-  right : are_logs (drop (3 * l.k) l.numbers) ≡ true;
-}

@@ -1,7 +1,0 @@
-use Rattle.std.proofs.Common.{map}
-use Rattle.buck_journal.specs.inner.Plain.{LeadsSheets}
-use Rattle.buck_journal.proofs.plain.sheets_of.Given as goal
-
--- the sheets so far lead to what is left
-abbrev pub invariant-loop : goal.invariant-loop
-invariant-loop l = LeadsSheets l.fn.text (map (λ v. v.items) l.sheets.items) l.rest

@@ -1,0 +1,252 @@
+-- The journal of a file's bytes, or its refusal. The items stand in this sequence, and no item is skipped. What stands
+-- in a stem file or an instruction too has the range that it has there:
+--
+--   item    what it says                       how many numbers     range of each
+--   1 2     the kind of file: JRN
+--   971 1   the prices of a sheet; one item    0 to 16384           0 to 20000000
+--           for each, in the order of versions
+--   then for each posting either the items of a cut
+--   981 1   harvester, number, version         3                    1 to 64, 1 to 1000000, 0 to 1000000
+--   981 2   stem number, species               2                    any, 1 to 255
+--   981 3   diameters in mm                    1 to 401             0 to 1500
+--   981 4   zones: a start in mm and a         even, 0 to 200       starts 0 to 40000, strictly rising; grades 1 to 8
+--           grade by turns
+--   981 5   logs: start and length in mm,      a multiple of 3,     0 to 40000, 0 to 30000, 0 to 15
+--           assortment                         0 to 240
+--   981 6   worth                              1                    below 2^64
+--   or those of a demand
+--   982 1   harvester, number, version         3                    1 to 64, 1 to 1000000, 0 to 1000000
+--   982 2   targets                            0 to 16384           0 to 1000000
+--
+-- The refusals, in order: Head, of the least item without a head; NotJournal; then of the least item that has one of
+-- these, and on it the first: Shape, it isn't the item that the sequence wants there; Digits, a word isn't a number;
+-- Count, another count of numbers, or the first item of a 1,000,001st posting; Range. Items count from 1, and places in
+-- a list from 0.
+use Rattle.std.specs.Prelude.{ℕ, ◌+◌, ◌*◌, ◌%◌, Bool, true, false, ◌&&◌, ◌||◌, ◌==◌, List, [], ◌∷◌, length, drop, slice_index, slice_get, nat_le, nat_lt, Option, Some, None, Result, Ok, Err, if◌then◌else◌, codes}
+use Rattle.std.specs.Str.{bytes_eq}
+use Rattle.buck_record.specs.Item.{ItemParts}
+use Rattle.buck_record.specs.declared.slot.Slot.{Slot}
+use Rattle.buck_record.specs.Reading.{with_fault}
+use Rattle.buck_record.specs.bytes.Record.{items_of, numbers_of, number_of}
+use Rattle.buck_record.specs.checking.Table.{is_at}
+use Rattle.buck_record.specs.checking.Check.{◌>>=◌, check}
+use Rattle.buck_record.specs.checking.Rules.{slot, file_slot, within, all_within, one_to}
+use Rattle.buck_apt.specs.declared.slots.TheConstants.{LENGTHS_RANGE, TARGETS_RANGE}
+use Rattle.buck_stem.specs.declared.file.slots.TheConstants.{SPECIES_RANGE, SAMPLES_RANGE, MOST_SAMPLES, STARTS_RANGE, GRADES_RANGE, MOST_ZONES}
+use Rattle.buck_stem.specs.Stem.{StemParts, stem_of}
+use Rattle.buck_stem.specs.file.Stm.{zones_of}
+use Rattle.buck_value.specs.declared.log.Log.{Log}
+use Rattle.buck_book.specs.declared.posting.Posting.{Posting}
+use Rattle.buck_book.specs.declared.posting.Posting.TheVariants.{Cut, Demand}
+use Rattle.buck_book.specs.Entry.{EntryParts, DemandParts}
+use Rattle.buck_journal.specs.declared.reading.call.Call.{Call}
+use Rattle.buck_journal.specs.declared.reading.fault.JournalFault.{JournalFault}
+use Rattle.buck_journal.specs.declared.reading.fault.JournalFault.TheVariants.{Head, NotJournal, Shape, Digits, Count, Range}
+
+pub record JournalParts : Type 0 where
+  pub sheets : List (List ℕ)  -- the prices of each, by version
+  pub entries : List Posting  -- in the order of their commits
+
+-- the rest of an item in the slot that is wanted at a place
+abbrev pub wanted : Slot → ℕ → Option ItemParts → Result (List ℕ) JournalFault
+wanted s place None = Err (Shape place)
+wanted s place (Some item) = if is_at s item then Ok item.rest else Err (Shape place)
+
+-- the rest of the item at place k, which has to be in this slot
+unfoldable pub rest_at : Slot → List ItemParts → ℕ → Result (List ℕ) JournalFault
+rest_at s items k = wanted s (k + 1) (slice_get items k)
+
+-- its numbers
+unfoldable pub numbers_at : Slot → List ItemParts → ℕ → Result (List ℕ) JournalFault
+numbers_at s items k = do
+  rest ← rest_at s items k
+  with_fault (λ _. Digits (k + 1)) (numbers_of rest)
+
+unfoldable pub sheet_at : List ItemParts → ℕ → Result (List ℕ) JournalFault
+sheet_at items k = do
+  prices ← numbers_at (slot 971 1) items k
+  _ ← check (nat_le (length prices) 16384) (Count (k + 1))
+  _ ← check (all_within 0 20000000 prices) (Range (k + 1))
+  Ok prices
+
+abbrev pub call_of : List ℕ → Call
+call_of numbers = record {
+  harvester = slice_index numbers 0;
+  number = slice_index numbers 1;
+  version = slice_index numbers 2;
+}
+
+abbrev pub is_call : Call → Bool
+is_call c = within 1 64 c.harvester && (within 1 1000000 c.number && nat_le c.version 1000000)
+
+-- the item that begins a posting, which so many come before
+unfoldable pub call_at : Slot → List ItemParts → ℕ → ℕ → Result Call JournalFault
+call_at s items k before = do
+  numbers ← numbers_at s items k
+  _ ← check (length numbers == 3) (Count (k + 1))
+  _ ← check (nat_lt before 1000000) (Count (k + 1))
+  _ ← check (is_call (call_of numbers)) (Range (k + 1))
+  Ok (call_of numbers)
+
+-- the stem's number and species
+unfoldable pub head_at : List ItemParts → ℕ → Result (ℕ × ℕ) JournalFault
+head_at items k = do
+  numbers ← numbers_at (slot 981 2) items k
+  _ ← check (length numbers == 2) (Count (k + 1))
+  _ ← check (within SPECIES_RANGE.low SPECIES_RANGE.high (slice_index numbers 1)) (Range (k + 1))
+  Ok (slice_index numbers 0, slice_index numbers 1)
+
+unfoldable pub samples_at : List ItemParts → ℕ → Result (List ℕ) JournalFault
+samples_at items k = do
+  samples ← numbers_at (slot 981 3) items k
+  _ ← check (one_to MOST_SAMPLES (length samples)) (Count (k + 1))
+  _ ← check (all_within SAMPLES_RANGE.low SAMPLES_RANGE.high samples) (Range (k + 1))
+  Ok samples
+
+abbrev pub is_zone : ℕ → ℕ → ℕ → Bool
+is_zone low start grade = within low STARTS_RANGE.high start && within GRADES_RANGE.low GRADES_RANGE.high grade
+
+-- starts from `low` on and grades, each in its range, and each start above the one before
+abbrev pub are_zones : ℕ → List ℕ → Bool
+are_zones low [] = true
+are_zones low (start ∷ []) = true
+are_zones low (start ∷ grade ∷ more) = is_zone low start grade && are_zones (start + 1) more
+
+unfoldable pub zones_at : List ItemParts → ℕ → Result (List (ℕ × ℕ)) JournalFault
+zones_at items k = do
+  numbers ← numbers_at (slot 981 4) items k
+  _ ← check (length numbers % 2 == 0) (Count (k + 1))
+  _ ← check (nat_le (length numbers) (2 * MOST_ZONES)) (Count (k + 1))
+  _ ← check (are_zones 0 numbers) (Range (k + 1))
+  Ok (zones_of numbers)
+
+unfoldable pub stem_at : List ItemParts → ℕ → Result StemParts JournalFault
+stem_at items k = do
+  head ← head_at items k
+  samples ← samples_at items (k + 1)
+  zones ← zones_at items (k + 2)
+  Ok (stem_of head.0 head.1 samples zones)
+
+abbrev pub is_log : ℕ → ℕ → ℕ → Bool
+is_log start long assortment =
+    within STARTS_RANGE.low STARTS_RANGE.high start && (within 0 LENGTHS_RANGE.high long && within 0 15 assortment)
+
+-- starts, lengths and assortments, three by three
+abbrev pub are_logs : List ℕ → Bool
+are_logs (start ∷ long ∷ assortment ∷ more) = is_log start long assortment && are_logs more
+are_logs other = true
+
+abbrev pub logs_of : List ℕ → List Log
+logs_of (start ∷ long ∷ assortment ∷ more) =
+    record { start = start; length = long; assortment = assortment } ∷ logs_of more
+logs_of other = []
+
+unfoldable pub logs_at : List ItemParts → ℕ → Result (List Log) JournalFault
+logs_at items k = do
+  numbers ← numbers_at (slot 981 5) items k
+  _ ← check (length numbers % 3 == 0) (Count (k + 1))
+  _ ← check (nat_le (length numbers) 240) (Count (k + 1))
+  _ ← check (are_logs numbers) (Range (k + 1))
+  Ok (logs_of numbers)
+
+unfoldable pub worth_at : List ItemParts → ℕ → Result ℕ JournalFault
+worth_at items k = do
+  rest ← rest_at (slot 981 6) items k
+  with_fault (λ _. Digits (k + 1)) (number_of 18446744073709551615 rest)
+
+unfoldable pub targets_at : List ItemParts → ℕ → Result (List ℕ) JournalFault
+targets_at items k = do
+  targets ← numbers_at (slot 982 2) items k
+  _ ← check (nat_le (length targets) 16384) (Count (k + 1))
+  _ ← check (all_within TARGETS_RANGE.low TARGETS_RANGE.high targets) (Range (k + 1))
+  Ok targets
+
+-- the item begins a posting
+abbrev pub is_first : ItemParts → Bool
+is_first item = is_at (slot 981 1) item || is_at (slot 982 1) item
+
+-- after a posting comes the next one, or the end
+abbrev pub follows : ℕ → Option ItemParts → Result (Unit {0}) JournalFault
+follows place None = Ok tt
+follows place (Some item) = check (is_first item) (Shape place)
+
+unfoldable pub posting_follows : List ItemParts → ℕ → Result (Unit {0}) JournalFault
+posting_follows items k = follows (k + 1) (slice_get items k)
+
+abbrev pub entry_of : Call → StemParts → List Log → ℕ → EntryParts
+entry_of c stem logs worth = record {
+  harvester = c.harvester;
+  number = c.number;
+  stem = stem;
+  version = c.version;
+  logs = logs;
+  worth = worth;
+}
+
+unfoldable pub cut_at : List ItemParts → ℕ → ℕ → Result Posting JournalFault
+cut_at items k before = do
+  call ← call_at (slot 981 1) items k before
+  stem ← stem_at items (k + 1)
+  logs ← logs_at items (k + 4)
+  worth ← worth_at items (k + 5)
+  _ ← posting_follows items (k + 6)
+  Ok (Cut (entry_of call stem logs worth))
+
+abbrev pub demand_of : Call → List ℕ → DemandParts
+demand_of c targets = record {
+  harvester = c.harvester;
+  number = c.number;
+  version = c.version;
+  targets = targets;
+}
+
+unfoldable pub demand_at : List ItemParts → ℕ → ℕ → Result Posting JournalFault
+demand_at items k before = do
+  call ← call_at (slot 982 1) items k before
+  targets ← targets_at items (k + 1)
+  _ ← posting_follows items (k + 2)
+  Ok (Demand (demand_of call targets))
+
+-- the posting that an item begins, with the items that come with it
+unfoldable pub posting_at : ItemParts → List ItemParts → ℕ → ℕ → Result Posting JournalFault
+posting_at first items k before =
+    if is_at (slot 981 1) first then cut_at items k before else demand_at items k before
+
+-- the sheets of the items from place k on: one for each item up to the first that begins a posting
+unfoldable pub sheets_from : List ItemParts → ℕ → List ItemParts → Result (List (List ℕ)) JournalFault
+sheets_from items k [] = Ok []
+sheets_from items k (item ∷ more) =
+    if is_first item then Ok []
+    else (sheet_at items k >>= λ prices. sheets_from items (k + 1) more >>= λ sheets. Ok (prices ∷ sheets))
+
+-- the postings of the items from place k on, so many coming before: one for each item that begins a posting
+unfoldable pub postings_from : List ItemParts → ℕ → ℕ → List ItemParts → Result (List Posting) JournalFault
+postings_from items k before [] = Ok []
+postings_from items k before (item ∷ more) =
+    if is_first item
+    then (posting_at item items k before >>= λ posting.
+    postings_from items (k + 1) (before + 1) more >>= λ rest. Ok (posting ∷ rest))
+    else postings_from items (k + 1) before more
+
+-- the first item says that the file is a journal
+abbrev pub says_journal : List ItemParts → Bool
+says_journal [] = false
+says_journal (item ∷ more) = is_at file_slot item && bytes_eq item.rest (codes "JRN")
+
+-- the journal of items
+unfoldable pub journal_in : List ItemParts → Result JournalParts JournalFault
+journal_in items = do
+  _ ← check (says_journal items) NotJournal
+  sheets ← sheets_from items 1 (drop 1 items)
+  postings ← postings_from items 0 0 items
+  Ok (record { sheets = sheets; entries = postings })
+
+unfoldable pub journal_of : List ℕ → Result JournalParts JournalFault
+journal_of bytes = do
+  items ← with_fault Head (items_of bytes)
+  journal_in items
+
+-- how many items a posting has
+abbrev pub number_of_items : Posting → ℕ
+number_of_items (Cut e) = 6
+number_of_items (Demand d) = 2

@@ -1,0 +1,191 @@
+//! What a journal's sheets and postings have to be.
+ghost use Rattle.std.specs.Prelude.{◌≡◌, ◌+◌, ◌<◌, ◌≤◌, OnOk, IfOk, IfErr, length, map};
+ghost use Rattle.buck_dp.specs.Best.{IsAdmissible, cutting_worth};
+ghost use Rattle.buck_book.specs.Targets.{AreTargets};
+ghost use Rattle.buck_book.specs.Posting.{harvester_of, number_of, planned_version};
+ghost use Rattle.buck_book.specs.Walk.{passed};
+ghost use Rattle.buck_journal.specs.judging.Replay.{IsSheetFault, IsSheetRight, IsCutFault, IsDemandFault, IsContentFault, IsNumbered, IsOfVersion, IsCallFault, IsPostingFault, IsNumberFault, IsFaultAtEnd};
+ghost use Rattle.buck_journal.specs.inner.Replay.{along, sheet_then, HoldsUnder, IsRightUnder, IsEndRight, AreMade, IfMet};
+
+use crate::judging::fault::ReplayFault;
+use crate::judging::sheets::{prices_of, shared_sheet};
+use crate::judging::stop::Stop;
+use buck_apt::Instruction;
+use buck_book::{Demand, Entry, Posting, Walk, check_targets};
+use buck_dp::{admissible, worth};
+use buck_value::Sheet;
+use std::alloc::Global;
+use std::sync::Arc;
+
+/// Checks the prices of the sheet in force at a place.
+fn check_prices(
+    instruction: &Instruction,
+    sheets: &[Vec<u32>],
+    walk: &Walk<'_>,
+) -> Result<(), ReplayFault>
+    requires { walk.now.instruction ≡ instruction.now }
+    ensures right { OnOk result (IsSheetRight (along walk.now sheets.now) walk.now.at) }
+    ensures refused { IfErr result (λ fault.
+        IsSheetFault (along walk.now sheets.now) walk.now.at fault) }
+{
+    let version = walk.version();
+    let Some(prices) = prices_of(sheets, version) else {
+        return Err(ReplayFault::Sheet { version });
+    };
+    if prices.len() != instruction.classes() {
+        return Err(ReplayFault::Sheet { version });
+    }
+    match walk.wrong_price(prices) {
+        Some(class) => Err(ReplayFault::Price { version, class }),
+        None => Ok(()),
+    }
+}
+
+/// The sheet in force at a place, where it is there and right.
+pub(crate) fn opened_sheet(
+    alloc: Global,
+    instruction: &Arc<Instruction>,
+    sheets: &[Vec<u32>],
+    made: &[Arc<Sheet>],
+    walk: &Walk<'_>,
+) -> Result<Arc<Sheet>, Stop>
+    requires instruction { walk.now.instruction ≡ instruction.now.value }
+    requires made { AreMade instruction.now.value (map (λ v. v.items) sheets.now) (map (λ a. a.value) made.now) }
+    ensures right { OnOk result (IsSheetRight (along walk.now sheets.now) walk.now.at) }
+    ensures sheet { IfOk result (λ s. s.value ≡ sheet_then (along walk.now sheets.now) walk.now.at) }
+    ensures refused { IfErr result (λ s. IfMet s (λ at fault.
+        (at ≡ walk.now.at) × IsSheetFault (along walk.now sheets.now) walk.now.at fault)) }
+{
+    match check_prices(instruction, sheets, walk) {
+        Ok(()) => Ok(shared_sheet(alloc, instruction, sheets, made, walk.version())?),
+        Err(fault) => Err(Stop::Fault {
+            at: walk.at(),
+            fault,
+        }),
+    }
+}
+
+/// Checks what a cut at a place says under a sheet, but for lists of logs that are worth more.
+fn check_cut(sheet: &Sheet, entry: &Entry, at: usize) -> Result<(), ReplayFault>
+    ensures admissible { OnOk result (IsAdmissible sheet.now entry.now.stem entry.now.logs) }
+    ensures worth { OnOk result
+        (entry.now.worth ≡ cutting_worth sheet.now entry.now.stem entry.now.logs) }
+    ensures refused { IfErr result (IsCutFault sheet.now entry.now at) }
+{
+    if !admissible(sheet, &entry.stem, &entry.cutting) {
+        return Err(ReplayFault::Cutting { at });
+    }
+    if worth(sheet, &entry.stem, &entry.cutting) != entry.worth {
+        return Err(ReplayFault::Worth { at });
+    }
+    Ok(())
+}
+
+/// Checks the targets of a demand at a place.
+fn check_demand(instruction: &Instruction, demand: &Demand, at: usize) -> Result<(), ReplayFault>
+    ensures valid { OnOk result (AreTargets instruction.now demand.now.targets) }
+    ensures refused { IfErr result (IsDemandFault instruction.now demand.now.targets at) }
+{
+    match check_targets(instruction, demand.targets.as_slice()) {
+        Ok(()) => Ok(()),
+        Err(_) => Err(ReplayFault::Targets { at }),
+    }
+}
+
+/// Checks what a posting at a place says under a sheet, but for lists of logs that are worth more.
+fn check_content(sheet: &Sheet, posting: &Posting, at: usize) -> Result<(), ReplayFault>
+    ensures right { OnOk result (HoldsUnder sheet.now posting.now) }
+    ensures refused { IfErr result (IsContentFault sheet.now posting.now at) }
+{
+    match posting {
+        Posting::Cut(entry) => check_cut(sheet, entry, at),
+        Posting::Demand(demand) => check_demand(sheet.instruction(), demand, at),
+    }
+}
+
+/// Who a posting is of, which of its harvester's calls it is, and its version.
+fn call_of(posting: &Posting) -> (u32, u32, u32)
+    ensures harvester { result.0 ≡ harvester_of posting.now }
+    ensures number { result.1 ≡ number_of posting.now }
+    ensures version { result.2 ≡ planned_version posting.now }
+{
+    match posting {
+        Posting::Cut(entry) => (entry.harvester, entry.number, entry.version),
+        Posting::Demand(demand) => (demand.harvester, demand.number, demand.version),
+    }
+}
+
+/// The version that a posting says was in force before it.
+pub(crate) fn version_of(posting: &Posting) -> u32
+    ensures { result ≡ planned_version posting.now }
+{
+    let (_, _, version) = call_of(posting);
+    version
+}
+
+/// Checks the number and the version of a posting at a place.
+fn check_call(walk: &Walk<'_>, posting: &Posting) -> Result<(), ReplayFault>
+    ensures numbered { OnOk result (IsNumbered (passed walk.now) posting.now) }
+    ensures version { OnOk result (IsOfVersion walk.now.instruction (passed walk.now) posting.now) }
+    ensures refused { IfErr result (λ e.
+        IsCallFault walk.now.instruction (passed walk.now) posting.now walk.now.at e) }
+{
+    let at = walk.at();
+    let (harvester, number, version) = call_of(posting);
+    if number != walk.next_number(harvester) {
+        return Err(ReplayFault::Numbering { at });
+    }
+    if version != walk.version() {
+        return Err(ReplayFault::Version { at });
+    }
+    Ok(())
+}
+
+/// Checks the posting at a place under the sheet in force there, but for lists of logs that are worth more.
+pub(crate) fn check_posting(
+    sheet: &Sheet,
+    walk: &Walk<'_>,
+    posting: &Posting,
+) -> Result<(), ReplayFault>
+    requires { sheet.now.instruction ≡ walk.now.instruction }
+    ensures right { OnOk result (IsRightUnder sheet.now (passed walk.now) posting.now) }
+    ensures refused { IfErr result
+        (IsPostingFault sheet.now (passed walk.now) posting.now walk.now.at) }
+{
+    check_call(walk, posting)?;
+    check_content(sheet, posting, walk.at())
+}
+
+/// Checks the number of sheets, of which the last has this version.
+fn check_number(sheets: &[Vec<u32>], last: u32) -> Result<(), ReplayFault>
+    requires { last ≤ 1000000 }
+    ensures right { OnOk result (length sheets.now ≡ last + 1) }
+    ensures refused { IfErr result (λ e. IsNumberFault (map (λ v. v.items) sheets.now) last e) }
+{
+    let wanted = last as usize + 1;
+    if sheets.len() < wanted {
+        let version = sheets.len() as u32;
+        return Err(ReplayFault::Sheet { version });
+    }
+    if sheets.len() > wanted {
+        return Err(ReplayFault::Sheet { version: last + 1 });
+    }
+    Ok(())
+}
+
+/// Checks what there is after the last posting.
+pub(crate) fn check_end(
+    instruction: &Instruction,
+    sheets: &[Vec<u32>],
+    walk: &Walk<'_>,
+) -> Result<(), ReplayFault>
+    requires { walk.now.instruction ≡ instruction.now }
+    ensures right { OnOk result (IsEndRight (along walk.now sheets.now) walk.now.at) }
+    ensures refused { IfErr result (λ e. IsFaultAtEnd (along walk.now sheets.now) walk.now.at e) }
+{
+    check_number(sheets, walk.version())?;
+    if walk.begins_period() {
+        check_prices(instruction, sheets, walk)?;
+    }
+    Ok(())
+}

@@ -1,0 +1,81 @@
+//! Journals, and how one is read.
+ghost use Rattle.std.specs.Prelude.{◌≡◌, ◌≤◌, IfOk, length};
+ghost use Rattle.buck_record.specs.Reading.{Gives};
+ghost use Rattle.buck_journal.specs.declared.reading.fault.JournalFault.TheVariants.{Memory};
+ghost use Rattle.buck_journal.specs.reading.Journal.{says_journal, journal_in, journal_of};
+
+use crate::reading::fault::{self, JournalFault};
+use crate::reading::items::is_at;
+use crate::reading::plain::read_plain;
+use crate::reading::postings::{postings_in, sheets_in};
+use buck_book::Posting;
+use buck_record::Piece;
+use buck_record::check::check;
+use buck_record::rules::{FILE, items_in};
+use std::alloc::Global;
+use std::marker::Model;
+
+/// The journal of a history, as it was written: whether it is lawful is another question.
+#[derive(Drop)]
+pub struct Journal {
+    /// The prices of each sheet, by version.
+    pub sheets: Vec<Vec<u32>>,
+    /// The postings, in the order of their commits.
+    pub entries: Vec<Posting>,
+}
+
+impl Model for Journal {
+    ghost use Rattle.std.specs.Prelude.{map};
+    ghost use Rattle.buck_journal.specs.reading.Journal.{JournalParts};
+
+    ghost Value = { JournalParts };
+
+    ghost view = { λ j. record { sheets = map (λ w. w.items) j.sheets.items; entries = j.entries.items } };
+}
+
+/// The first item says that the file is a journal.
+fn says_journal(items: &[Piece<'_>]) -> bool
+    ensures { result ≡ says_journal items.now }
+{
+    if items.is_empty() {
+        return false;
+    }
+    let item = &items[0];
+    is_at(item, FILE) && item.rest == b"JRN".as_slice()
+}
+
+/// The journal of a file's items.
+#[tactic(auto, unfolding(crate::specs::reading::Journal::journal_in))]
+fn journal_in<'a>(alloc: Global, items: &'a [Piece<'a>]) -> Result<Journal, JournalFault>
+    ensures value { Gives Memory result (journal_in items.now) }
+    ensures few { IfOk result (λ journal. length journal.entries ≤ 1000000) }
+{
+    check(says_journal(items), JournalFault::NotJournal)?;
+    let sheets = sheets_in(alloc, items)?;
+    let entries = postings_in(alloc, items)?;
+    Ok(Journal { sheets, entries })
+}
+
+/// The journal of a file's bytes, or the first refusal that applies, by the list of the file's items.
+pub(crate) fn read_by_items(alloc: Global, bytes: &[u8]) -> Result<Journal, JournalFault>
+    ensures value { Gives Memory result (journal_of bytes.now) }
+    ensures few { IfOk result (λ journal. length journal.entries ≤ 1000000) }
+{
+    let items = items_in(alloc, bytes, fault::head)?;
+    journal_in(alloc, items.as_slice())
+}
+
+/// Reads a journal, whose bytes are items between tildes (see docs/FORMATS.md).
+///
+/// The answer is what was written, or the first refusal that applies, as [`JournalFault`] says; and `Memory` where a
+/// growth was refused. A journal needs no sheet and no posting, and has at most 1,000,000 postings. Its items stand in
+/// one sequence, and none is skipped.
+pub fn read_journal(alloc: Global, bytes: &[u8]) -> Result<Journal, JournalFault>
+    ensures value { Gives Memory result (journal_of bytes.now) }
+    ensures few { IfOk result (λ journal. length journal.entries ≤ 1000000) }
+{
+    match read_plain(alloc, bytes)? {
+        Some(journal) => Ok(journal),
+        None => read_by_items(alloc, bytes),
+    }
+}

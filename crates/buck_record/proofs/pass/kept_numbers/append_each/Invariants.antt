@@ -1,0 +1,16 @@
+use Rattle.std.proofs.Common.{◌<◌, ◌+◌, ◌-◌, ◌*◌, length}
+use Rattle.std.specs.Vec.{vec_len, vec_capacity}
+use Rattle.buck_record.specs.inner.Front.{HasRoom}
+use Rattle.buck_record.proofs.AddLemmas.{IsAdding}
+use Rattle.buck_record.proofs.pass.kept_numbers.append_each.Given as goal
+
+-- what was added, with what is left, gives the numbers, and there is room for what is left
+abbrev pub invariant-loop-rest : goal.invariant-loop-rest
+invariant-loop-rest l = record {
+  adding : IsAdding 4294967295 l.fn.text l.fn.out.items l.out.items l.rest;
+  room : 0 < length l.rest → HasRoom (vec_len l.out) (vec_capacity l.out) (length l.rest);
+}
+
+-- a text that doesn't begin with four words is gone through word by word for a while
+abbrev pub decreases-loop-rest : goal.decreases-loop-rest
+decreases-loop-rest l = 2 * length l.rest + (1 - l.single)

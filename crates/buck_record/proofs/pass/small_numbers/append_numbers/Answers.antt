@@ -1,0 +1,38 @@
+use Rattle.std.proofs.Common.{◌≡◌, ◌<◌, length, arith, rules}
+use Rattle.std.proofs.lemmas.Grind.{common_steps}
+use Rattle.std.proofs.lemmas.List.{take_rest}
+use Rattle.buck_record.proofs.AddLemmas.{start, add_four, step, stuck, done}
+use Rattle.buck_record.proofs.pass.small_numbers.append_numbers.Goals as goal
+
+pub loop-rest-init : goal.loop-rest-init
+loop-rest-init c = record { adding = start _ _ _; room = λ _. c.requires.room }
+
+pub loop-rest-preserved-in-Some : goal.loop-rest-preserved-in-Some
+loop-rest-preserved-in-Some c =
+    let some : 0 < length c.loop-rest.rest.now =
+    grind (arith, common_steps, c.is_empty.ensures, c.loop-rest-test.true) in
+    let left = take_rest c.loop-rest.rest.now 16 in
+    let room = c.loop-rest.invariant.room some in
+    record {
+      adding = rw left
+          (add_four _ _ _ _ _ _ _ c.in-Some.values c.loop-rest.invariant.adding c.in-Some.ensures c.requires.most
+          c.push_four.ensures.items);
+      room = λ more. rw left
+          (omega (arith, c.push_four.ensures.len, c.push_four.ensures.capacity, c.in-Some.ensures.long, room));
+    }
+
+pub returns-clause-read : goal.returns-clause-read
+returns-clause-read c =
+    let empty : length c.loop-rest.rest.now ≡ 0 =
+    grind (arith, common_steps, c.is_empty.ensures, c.loop-rest-test.false) in
+    λ _. done _ _ _ _ _ c.loop-rest.invariant.adding empty
+
+pub loop-rest-preserved : goal.loop-rest-preserved
+loop-rest-preserved c = record {
+  adding = step _ _ _ _ _ _ _ c.loop-rest.invariant.adding c.in-Some-append_one.ensures.step;
+  room = c.in-Some-append_one.ensures.room;
+}
+
+pub returns-in_default-clause-refused : goal.returns-in_default-clause-refused
+returns-in_default-clause-refused c = λ _.
+    stuck c.args.most c.args.text.now _ _ _ c.loop-rest.invariant.adding (search rules)

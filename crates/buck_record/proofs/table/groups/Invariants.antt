@@ -1,6 +1,0 @@
-use Rattle.std.proofs.Common.{◌≡◌, ◌++◌, drop}
-use Rattle.buck_record.specs.Table.{groups_of}
-use Rattle.buck_record.proofs.table.groups.Given as goal
-
-abbrev pub invariant-loop-i : goal.invariant-loop-i
-invariant-loop-i l = l.groups.items ++ groups_of l.slot (drop l.i l.items) ≡ groups_of l.slot l.items

@@ -1,0 +1,2 @@
+pub mod White
+pub mod Record

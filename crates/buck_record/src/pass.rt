@@ -1,0 +1,8 @@
+//! Items and numbers in one pass over the bytes, with no list of the items.
+pub(crate) mod cursor;
+pub(crate) mod kept_numbers;
+pub(crate) mod lanes;
+pub(crate) mod parts;
+pub(crate) mod short_heads;
+pub(crate) mod short_words;
+pub(crate) mod small_numbers;

@@ -1,0 +1,110 @@
+//! The numbers of a text, in a list that is kept from text to text.
+ghost use Rattle.std.specs.Prelude.{◌≡◌, ◌+◌, ◌*◌, ◌≤◌, ◌<◌, ◌++◌, length, IsTrue, IsFalse, IfOk, IfSome, IfNone, None, Ok};
+ghost use Rattle.std.specs.Vec.{vec_len, vec_capacity};
+ghost use Rattle.buck_record.specs.bytes.Record.{number_at_most, numbers_of};
+ghost use Rattle.buck_record.specs.bytes.White.{first_word};
+ghost use Rattle.buck_record.specs.pass.Added.{HasAdded, AreSmall};
+ghost use Rattle.buck_record.specs.inner.Front.{IsFront, IsStep, IsStuck, HasRoom, four_of};
+
+use crate::bytes::digits::cut_number;
+use crate::bytes::white::is_white;
+use crate::pass::lanes::front_fours;
+use crate::pass::short_words::front_quick;
+use std::alloc::AllocError;
+
+/// The number that a text begins with, digit by digit, and what is left after it.
+fn front_long(text: &[u8]) -> Option<(u32, &[u8])>
+    requires { 0 < length (first_word text.now) }
+    ensures front { IfSome result (λ w. IsFront text.now w.0 w.1.now) }
+    ensures none { IfNone result (number_at_most 4294967295 (first_word text.now) ≡ None) }
+{
+    match cut_number(4_294_967_295, text) {
+        None => None,
+        Some((value, after)) => Some((value as u32, after)),
+    }
+}
+
+/// Passes over the byte that a text begins with, where that is white; or else adds the number that it begins with. What
+/// is left after it, and `None` where there is no such number.
+#[inline(always)]
+fn append_word<'a>(text: &'a [u8], out: &mut Vec<u32>) -> Option<&'a [u8]>
+    requires some { 0 < length text.now }
+    requires room { HasRoom (vec_len out.old) (vec_capacity out.old) (length text.now) }
+    ensures step { IfSome result (λ left. IsStep 4294967295 text.now left.now out.old.items out.new.items) }
+    ensures room { IfSome result (λ left. 0 < length left.now
+        → HasRoom (vec_len out.new) (vec_capacity out.new) (length left.now)) }
+    ensures stuck { IfNone result (IsStuck 4294967295 text.now) }
+{
+    match front_quick(9999, text) {
+        Some((value, left)) => {
+            out.push_reserved(u32::from(value));
+            return Some(left);
+        }
+        None => {}
+    }
+    if is_white(text[0]) {
+        return Some(&text[1..]);
+    }
+    let Some((value, left)) = front_long(text) else {
+        return None;
+    };
+    out.push_reserved(value);
+    Some(left)
+}
+
+/// Adds four numbers.
+#[inline(always)]
+fn append_four(values: [u32; 4], out: &mut Vec<u32>)
+    requires { vec_len out.old + 4 ≤ vec_capacity out.old }
+    ensures items { out.new.items ≡ out.old.items ++ four_of values }
+    ensures len { vec_len out.new ≡ vec_len out.old + 4 }
+    ensures capacity { vec_capacity out.new ≡ vec_capacity out.old }
+{
+    out.push_reserved(values[0]);
+    out.push_reserved(values[1]);
+    out.push_reserved(values[2]);
+    out.push_reserved(values[3]);
+}
+
+/// Adds the numbers of a text to a list that has room for one for each two bytes of the text, and answers whether each
+/// of its words was a number. Four words of three digits, each with a blank after it, are read at once.
+fn append_each(text: &[u8], out: &mut Vec<u32>) -> bool
+    requires room { 2 * vec_len out.old + length text.now + 1 ≤ 2 * vec_capacity out.old }
+    ensures read { IsTrue result → HasAdded 4294967295 text.now out.old.items out.new.items }
+    ensures refused { IsFalse result → AreSmall 4294967295 text.now → ⊥ }
+{
+    let mut rest = text;
+    let mut single: usize = 0;
+    while !rest.is_empty() {
+        if single == 0 {
+            match front_fours(rest) {
+                Some(values) => {
+                    append_four(values, out);
+                    rest = &rest[16..];
+                }
+                None => {
+                    single = 8;
+                }
+            }
+        } else {
+            single -= 1;
+            let Some(left) = append_word(rest, out) else {
+                return false;
+            };
+            rest = left;
+        }
+    }
+    true
+}
+
+/// Reads the numbers of a text, as [`numbers`](crate::numbers) has them, into a list, in the place of what it held.
+/// Answers whether each word of the text was a number. A list that is kept for the next text takes memory for that only
+/// where it is longer.
+pub fn numbers_into(text: &[u8], held: &mut Vec<u32>) -> Result<bool, AllocError>
+    ensures read { IfOk result (λ all. IsTrue all → numbers_of text.now ≡ Ok held.new.items) }
+    ensures refused { IfOk result (λ all. IsFalse all → AreSmall 4294967295 text.now → ⊥) }
+{
+    held.clear();
+    held.reserve(text.len() / 2 + 1)?;
+    Ok(append_each(text, held))
+}

@@ -1,0 +1,68 @@
+//! Lines and items as they are written: words, then numbers, a blank before each.
+ghost use Rattle.std.specs.Prelude.{◌≡◌, ◌<◌, ◌≤◌, ◌++◌, ◌∷◌, OnOk};
+ghost use Rattle.std.specs.Fmt.{decimal};
+ghost use Rattle.buck_record.specs.writing.Line.{line_of};
+ghost use Rattle.buck_record.specs.writing.Written.{spelled};
+
+use crate::memory::Memory;
+use itoa::Buffer;
+
+/// Puts a number of three digits, after a blank: most diameters in mm have three.
+#[inline(always)]
+fn put_three(out: &mut Vec<u8>, number: u32) -> Result<(), Memory>
+    requires { (100 ≤ number) × (number < 1000) }
+    ensures { OnOk result (out.new.items ≡ out.old.items ++ (32 ∷ decimal number)) }
+{
+    let hundreds = b'0' + (number / 100) as u8;
+    let tens = b'0' + (number / 10 % 10) as u8;
+    let ones = b'0' + (number % 10) as u8;
+    out.extend_from_slice(&[b' ', hundreds, tens, ones])?;
+    Ok(())
+}
+
+/// Puts a number of any digits, after a blank.
+#[inline(never)]
+fn put_any(out: &mut Vec<u8>, number: u128) -> Result<(), Memory>
+    ensures { OnOk result (out.new.items ≡ out.old.items ++ (32 ∷ decimal number)) }
+{
+    let mut buffer = Buffer::new();
+    out.push(b' ')?;
+    let digits = if number < 1 << 64 {
+        buffer.format(number as u64)
+    } else {
+        buffer.format(number)
+    };
+    out.extend_from_slice(digits.as_bytes())?;
+    Ok(())
+}
+
+/// Puts a number in decimal, after a blank.
+#[inline(always)]
+pub fn put_number(out: &mut Vec<u8>, number: u128) -> Result<(), Memory>
+    ensures { OnOk result (out.new.items ≡ out.old.items ++ (32 ∷ decimal number)) }
+{
+    if 100 <= number && number < 1000 {
+        return put_three(out, number as u32);
+    }
+    put_any(out, number)
+}
+
+/// Puts numbers in decimal, each after a blank.
+pub fn put_numbers(out: &mut Vec<u8>, numbers: &[u128]) -> Result<(), Memory>
+    ensures { OnOk result (out.new.items ≡ out.old.items ++ spelled numbers.now) }
+{
+    for number in numbers {
+        put_number(out, *number)?;
+    }
+    Ok(())
+}
+
+/// Puts a line: words, and numbers after them.
+pub fn put_line(out: &mut Vec<u8>, words: &[u8], numbers: &[u128]) -> Result<(), Memory>
+    ensures { OnOk result (out.new.items ≡ out.old.items ++ line_of words.now numbers.now) }
+{
+    out.extend_from_slice(words)?;
+    put_numbers(out, numbers)?;
+    out.extend_from_slice(b"\n")?;
+    Ok(())
+}

@@ -1,7 +1,0 @@
-use Rattle.std.proofs.Common.{◌≡◌, ◌*◌, drop}
-use Rattle.buck_record.specs.Rules.{all_within}
-use Rattle.buck_stem.specs.Stm.{starts}
-use Rattle.buck_stem.proofs.rules.starts_within.Given as goal
-
-abbrev pub invariant-loop-k : goal.invariant-loop-k
-invariant-loop-k l = all_within l.item.low l.item.high (starts (drop (2 * l.k) l.zones)) ≡ all_within l.item.low l.item.high (starts l.zones)

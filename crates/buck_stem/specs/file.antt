@@ -1,0 +1,2 @@
+pub mod Stm
+pub mod Faults

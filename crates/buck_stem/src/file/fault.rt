@@ -1,0 +1,193 @@
+//! Why a file has no stems.
+ghost use Rattle.std.specs.Prelude.{◌≡◌, ◌∷◌, []};
+ghost use Rattle.buck_stem.specs.file.Faults.{stm_numbers};
+ghost use Rattle.buck_stem.specs.declared.file.fault.StmFault.TheVariants.{Memory, Head, Missing, Twice, Digits, Range, Order, Count};
+
+use buck_record::text::write_fields;
+use buck_record::{FaultNumbers, FormFault, Numbered, Slot};
+use std::alloc::{AllocError, AllocFailed};
+use std::error::Error;
+use std::fmt;
+
+/// What is wrong with a stem file: the first refusal that applies to its bytes, and within it the first item in the
+/// order of the table. Items of the file and words of an item count from 1.
+#[derive(Clone, Copy, Debug, PartialEq, Eq)]
+pub enum StmFault {
+    /// The least item without a number and a kind.
+    Head {
+        item: usize,
+    },
+    /// There is no item `1 2`, or the first one doesn't say `STM`.
+    NotStm,
+    /// An item that must be there isn't. An item of a stem before the first stem number wants the number, `951 1`.
+    Missing {
+        number: u16,
+        kind: u16,
+    },
+    /// An item stands twice, in the file or in its stem.
+    Twice {
+        number: u16,
+        kind: u16,
+    },
+    /// The first word of an item that isn't a number below 2^32.
+    Digits {
+        number: u16,
+        kind: u16,
+        place: usize,
+    },
+    /// A number is outside its range.
+    Range {
+        number: u16,
+        kind: u16,
+    },
+    /// A list is against its order.
+    Order {
+        number: u16,
+        kind: u16,
+    },
+    /// There are not as many numbers as there should be.
+    Count {
+        number: u16,
+        kind: u16,
+    },
+    /// A growth was refused.
+    Memory,
+}
+
+impl StmFault {
+    /// The words before a fault's fields in its text, and those after them.
+    fn words(&self) -> (&'static str, &'static str) {
+        match self {
+            StmFault::Head { .. } => ("item", " has no head"),
+            StmFault::NotStm => ("the file is not one of stems", ""),
+            StmFault::Missing { .. } => ("item", " is missing"),
+            StmFault::Twice { .. } => ("item", " stands twice"),
+            StmFault::Digits { .. } => ("word", " is not a number"),
+            StmFault::Range { .. } => ("a number of item", " is out of range"),
+            StmFault::Order { .. } => ("item", " is out of order"),
+            StmFault::Count { .. } => ("item", " has another count of numbers"),
+            StmFault::Memory => ("out of memory", ""),
+        }
+    }
+}
+
+impl fmt::Display for StmFault {
+    fn fmt<W: fmt::Write>(&self, f: &mut fmt::Formatter<W>) -> fmt::Result {
+        let (before, after) = self.words();
+        match self {
+            StmFault::Digits {
+                number,
+                kind,
+                place,
+            } => write!(f, "{before} {place} of item {number} {kind}{after}"),
+            _ => write_fields(f, before, self, after),
+        }
+    }
+}
+
+impl Error for StmFault {}
+
+impl From<AllocError> for StmFault {
+    ghost from_gives = { λ _ e. e ≡ Memory };
+
+    fn from(_e: AllocError) -> StmFault {
+        StmFault::Memory
+    }
+}
+
+impl<T: Drop> From<AllocFailed<T>> for StmFault {
+    ghost from_gives = { λ _ e. e ≡ Memory };
+
+    fn from(_e: AllocFailed<T>) -> StmFault {
+        StmFault::Memory
+    }
+}
+
+impl FormFault for StmFault {
+    ghost out_of_memory = { Memory };
+
+    ghost headless = { Head };
+
+    ghost missing = { Missing };
+
+    ghost twice = { Twice };
+
+    ghost digits = { Digits };
+
+    ghost range = { Range };
+
+    ghost order = { Order };
+
+    ghost count = { Count };
+
+    fn out_of_memory() -> StmFault {
+        StmFault::Memory
+    }
+
+    fn headless(item: usize) -> StmFault {
+        StmFault::Head { item }
+    }
+
+    fn missing(slot: Slot) -> StmFault {
+        let Slot { number, kind } = slot;
+        StmFault::Missing { number, kind }
+    }
+
+    fn twice(slot: Slot) -> StmFault {
+        let Slot { number, kind } = slot;
+        StmFault::Twice { number, kind }
+    }
+
+    fn digits(slot: Slot, place: usize) -> StmFault {
+        let Slot { number, kind } = slot;
+        StmFault::Digits {
+            number,
+            kind,
+            place,
+        }
+    }
+
+    fn range(slot: Slot) -> StmFault {
+        let Slot { number, kind } = slot;
+        StmFault::Range { number, kind }
+    }
+
+    fn order(slot: Slot) -> StmFault {
+        let Slot { number, kind } = slot;
+        StmFault::Order { number, kind }
+    }
+
+    fn count(slot: Slot) -> StmFault {
+        let Slot { number, kind } = slot;
+        StmFault::Count { number, kind }
+    }
+}
+
+/// A fault's number, and the slot that it names.
+fn at(fault: u64, number: u16, kind: u16) -> FaultNumbers
+    ensures { result ≡ fault ∷ number ∷ kind ∷ [] }
+{
+    FaultNumbers::of(&[fault, u64::from(number), u64::from(kind)])
+}
+
+impl Numbered for StmFault {
+    ghost numbers = { stm_numbers };
+
+    fn numbers(&self) -> FaultNumbers {
+        match self {
+            StmFault::Head { item } => FaultNumbers::of(&[1, *item as u64]),
+            StmFault::NotStm => FaultNumbers::of(&[2]),
+            StmFault::Missing { number, kind } => at(3, *number, *kind),
+            StmFault::Twice { number, kind } => at(4, *number, *kind),
+            StmFault::Digits {
+                number,
+                kind,
+                place,
+            } => FaultNumbers::of(&[5, u64::from(*number), u64::from(*kind), *place as u64]),
+            StmFault::Range { number, kind } => at(6, *number, *kind),
+            StmFault::Order { number, kind } => at(7, *number, *kind),
+            StmFault::Count { number, kind } => at(8, *number, *kind),
+            StmFault::Memory => FaultNumbers::of(&[]),
+        }
+    }
+}

@@ -1,0 +1,135 @@
+//! The lines of the order of refusals.
+ghost use Rattle.std.specs.Prelude.{◌≡◌};
+ghost use Rattle.buck_record.specs.checking.Check.{each};
+ghost use Rattle.buck_record.specs.checking.Rules.{has_no_strays};
+ghost use Rattle.buck_stem.specs.declared.file.slots.TheConstants.{STEM, MEMBERS};
+ghost use Rattle.buck_stem.specs.file.Stm.{
+  groups,
+  stem_present,
+  present,
+  stem_single,
+  single,
+  draft_range,
+  in_range,
+  draft_order,
+  in_order,
+  draft_count,
+  in_number,
+};
+
+use crate::file::draft::Draft;
+use crate::file::fault::StmFault;
+use crate::file::rules::{grades_within, is_count_of_zones, starts_rise, starts_within};
+use crate::file::slots::{
+    GRADES_RANGE, MEMBERS, MOST_SAMPLES, NEEDED, SAMPLES, SAMPLES_RANGE, SPECIES, SPECIES_RANGE,
+    STARTS_RANGE, STEM, ZONES,
+};
+use buck_record::check::{all_absent, all_single, all_there, check, each};
+use buck_record::rules::{FILE, all_in_range, counted_to};
+use buck_record::table::front;
+use buck_record::{FormFault, Group, Piece};
+
+/// No item of a stem stands before the first number.
+fn has_no_strays<'a>(items: &'a [Piece<'a>]) -> bool
+    ensures { result ≡ has_no_strays STEM MEMBERS items.now }
+{
+    all_absent(&MEMBERS, front(items, STEM))
+}
+
+#[tactic(auto, unfolding(crate::specs::file::Stm::stem_present))]
+fn stem_present<'a>(stem: &'a [Piece<'a>]) -> Result<(), StmFault>
+    ensures { result ≡ stem_present stem.now }
+{
+    all_there(&NEEDED, stem)
+}
+
+fn each_present(stems: &[Group<'_>]) -> Result<(), StmFault>
+    ensures { result ≡ each stem_present stems.now }
+{
+    each(stems, |stem| stem_present(stem.items()))
+}
+
+/// Each item that must be there is.
+#[tactic(auto, unfolding(crate::specs::file::Stm::present))]
+pub(crate) fn present<'a>(items: &'a [Piece<'a>], stems: &[Group<'_>]) -> Result<(), StmFault>
+    requires { stems.now ≡ groups items.now }
+    ensures { result ≡ present items.now }
+{
+    check(has_no_strays(items), StmFault::missing(STEM))?;
+    each_present(stems)
+}
+
+#[tactic(auto, unfolding(crate::specs::file::Stm::stem_single))]
+fn stem_single<'a>(stem: &'a [Piece<'a>]) -> Result<(), StmFault>
+    ensures { result ≡ stem_single stem.now }
+{
+    all_single(&MEMBERS, stem)
+}
+
+fn each_single(stems: &[Group<'_>]) -> Result<(), StmFault>
+    ensures { result ≡ each stem_single stems.now }
+{
+    each(stems, |stem| stem_single(stem.items()))
+}
+
+/// No item stands twice in the file or in its stem.
+#[tactic(auto, unfolding(crate::specs::file::Stm::single))]
+pub(crate) fn single<'a>(items: &'a [Piece<'a>], stems: &[Group<'_>]) -> Result<(), StmFault>
+    requires { stems.now ≡ groups items.now }
+    ensures { result ≡ single items.now }
+{
+    all_single::<StmFault>(&[FILE], items)?;
+    each_single(stems)
+}
+
+#[tactic(auto, unfolding(crate::specs::file::Stm::draft_range))]
+fn draft_range(draft: &Draft) -> Result<(), StmFault>
+    ensures { result ≡ draft_range draft.now }
+{
+    all_in_range::<StmFault>(SPECIES_RANGE, draft.species.as_slice())?;
+    all_in_range::<StmFault>(SAMPLES_RANGE, draft.samples.as_slice())?;
+    let zones = draft.zones.as_slice();
+    check(starts_within(STARTS_RANGE, zones), StmFault::range(ZONES))?;
+    check(grades_within(GRADES_RANGE, zones), StmFault::range(ZONES))
+}
+
+/// Each number is in its range.
+#[tactic(auto, unfolding(crate::specs::file::Stm::in_range))]
+pub(crate) fn in_range(drafts: &[Draft]) -> Result<(), StmFault>
+    ensures { result ≡ in_range drafts.now }
+{
+    each(drafts, |draft| draft_range(draft))
+}
+
+#[tactic(auto, unfolding(crate::specs::file::Stm::draft_order))]
+fn draft_order(draft: &Draft) -> Result<(), StmFault>
+    ensures { result ≡ draft_order draft.now }
+{
+    check(starts_rise(draft.zones.as_slice()), StmFault::order(ZONES))
+}
+
+/// The starts of each stem's zones rise.
+#[tactic(auto, unfolding(crate::specs::file::Stm::in_order))]
+pub(crate) fn in_order(drafts: &[Draft]) -> Result<(), StmFault>
+    ensures { result ≡ in_order drafts.now }
+{
+    each(drafts, |draft| draft_order(draft))
+}
+
+#[tactic(auto, unfolding(crate::specs::file::Stm::draft_count))]
+fn draft_count(draft: &Draft) -> Result<(), StmFault>
+    ensures { result ≡ draft_count draft.now }
+{
+    counted_to::<StmFault>(STEM, 1, draft.number.as_slice())?;
+    counted_to::<StmFault>(SPECIES, 1, draft.species.as_slice())?;
+    counted_to::<StmFault>(SAMPLES, MOST_SAMPLES, draft.samples.as_slice())?;
+    check(is_count_of_zones(draft.zones.len()), StmFault::count(ZONES))
+}
+
+/// There are as many numbers as there should be.
+#[tactic(auto, unfolding(crate::specs::file::Stm::in_number))]
+pub(crate) fn in_number(drafts: &[Draft]) -> Result<(), StmFault>
+    ensures { result ≡ in_number drafts.now }
+{
+    each(drafts, |draft| draft_count(draft))
+}

@@ -1,0 +1,119 @@
+//! The stems of a file.
+ghost use Rattle.std.specs.Prelude.{◌≡◌, ◌<◌, All, IfOk, map};
+ghost use Rattle.buck_record.specs.Reading.{Gives, listed};
+ghost use Rattle.buck_stem.specs.declared.file.fault.StmFault.TheVariants.{Memory};
+ghost use Rattle.buck_stem.specs.inner.Ready.{IsReadyDraft};
+ghost use Rattle.buck_stem.specs.inner.Stages.{stems_in};
+ghost use Rattle.buck_stem.specs.file.Stm.{says_stm, drafts_in, checked, stm_of, parts_of};
+
+use crate::file::draft::{Draft, drafts_of};
+use crate::file::fault::StmFault;
+use crate::file::lines::{in_number, in_order, in_range, present, single};
+use crate::file::plain::read_plain;
+use crate::file::rules::zones_of;
+use crate::file::slots::{STEM, TABLE};
+use crate::stem::Stem;
+use buck_record::check::check;
+use buck_record::rules::{FILE, items_at};
+use buck_record::table::{groups, rest};
+use buck_record::{Listed, Piece};
+use std::alloc::{AllocError, Global};
+
+/// The first item that names the kind of file says `STM`.
+fn says_stm<'a>(items: &'a [Piece<'a>]) -> bool
+    ensures { result ≡ says_stm items.now }
+{
+    rest(items, FILE) == b"STM".as_slice()
+}
+
+/// The samples as they are kept.
+fn samples_of(alloc: Global, numbers: &[u32]) -> Result<Vec<u16>, AllocError>
+    requires { All (λ n. n < 65536) numbers.now }
+    ensures { IfOk result (λ samples. samples.items ≡ numbers.now) }
+{
+    let mut samples = Vec::with_capacity(alloc, numbers.len())?;
+    for number in numbers {
+        samples.push(*number as u16)?;
+    }
+    Ok(samples)
+}
+
+/// The stem of numbers that are as they should be.
+fn stem_from(alloc: Global, draft: &Draft) -> Result<Stem, AllocError>
+    requires { IsReadyDraft draft.now }
+    ensures { IfOk result (λ stem. stem ≡ parts_of draft.now) }
+{
+    let number = draft.number.as_slice()[0];
+    let species = draft.species.as_slice()[0] as u8;
+    let samples = samples_of(alloc, draft.samples.as_slice())?;
+    let zones = zones_of(alloc, draft.zones.as_slice())?;
+    Stem::of_parts(alloc, number, species, samples.as_slice(), zones)
+}
+
+/// The stems of drafts that passed the last three lines. Each draft is given up once its stem is made.
+fn stems_from(alloc: Global, drafts: Vec<Draft>) -> Result<Vec<Stem>, AllocError>
+    requires { All IsReadyDraft drafts.items }
+    ensures { IfOk result (λ stems. stems.items ≡ map parts_of drafts.items) }
+{
+    let mut stems = Vec::with_capacity(alloc, drafts.len())?;
+    for draft in drafts {
+        stems.push(stem_from(alloc, &draft)?)?;
+    }
+    Ok(stems)
+}
+
+/// The numbers of each stem of a file that has each item once.
+#[tactic(auto, unfolding(crate::specs::file::Stm::drafts_in))]
+fn drafts_in<'a>(alloc: Global, items: &'a [Piece<'a>]) -> Result<Listed<Draft>, StmFault>
+    ensures { Gives Memory result (drafts_in items.now) }
+{
+    let stems = groups(alloc, items, STEM)?;
+    check(says_stm(items), StmFault::NotStm)?;
+    present(items, stems.as_slice())?;
+    single(items, stems.as_slice())?;
+    drafts_of(alloc, stems.as_slice())
+}
+
+/// Each stem's numbers are in range, in order and as many as there should be.
+#[tactic(auto, unfolding(crate::specs::file::Stm::checked))]
+fn checked(drafts: &[Draft]) -> Result<(), StmFault>
+    ensures { result ≡ checked drafts.now }
+{
+    in_range(drafts)?;
+    in_order(drafts)?;
+    in_number(drafts)
+}
+
+/// The stems of drafts, where they pass the last three lines.
+#[tactic(auto, unfolding(crate::specs::inner::Stages::stems_in))]
+fn stems_in(alloc: Global, drafts: Listed<Draft>) -> Result<Vec<Stem>, StmFault>
+    ensures { Gives Memory (listed result) (stems_in drafts) }
+{
+    checked(drafts.as_slice())?;
+    Ok(stems_from(alloc, drafts.into_vec())?)
+}
+
+/// The stems of a file's bytes, or the first refusal that applies, line by line over lists of the table's items and their numbers.
+/// This takes items in any order, and it alone says why a file is refused.
+pub(crate) fn read_by_lines(alloc: Global, bytes: &[u8]) -> Result<Vec<Stem>, StmFault>
+    ensures { Gives Memory (listed result) (stm_of bytes.now) }
+{
+    let items = items_at::<StmFault>(alloc, bytes, &TABLE)?;
+    let drafts = drafts_in(alloc, items.as_slice())?;
+    stems_in(alloc, drafts)
+}
+
+/// The stems of a stem file's bytes, in file order, or the first refusal that applies, as [`StmFault`] says; and
+/// `Memory` where a growth was refused. Items that aren't in the table are skipped and take no
+/// memory; each must have a number and a kind.
+///
+/// A file whose items stand in the order of the table, stem by stem, is read in one pass over its bytes; any other is
+/// read line by line.
+pub fn read_stm(alloc: Global, bytes: &[u8]) -> Result<Vec<Stem>, StmFault>
+    ensures { Gives Memory (listed result) (stm_of bytes.now) }
+{
+    match read_plain(alloc, bytes)? {
+        Some(stems) => Ok(stems),
+        None => read_by_lines(alloc, bytes),
+    }
+}

@@ -1,0 +1,3 @@
+//! The tables of a stem at the multiples of a module.
+pub(crate) mod profile;
+pub(crate) mod runs;

@@ -1,0 +1,158 @@
+//! A stem at the points where a log may start or end.
+ghost use Rattle.std.specs.Prelude.{◌≡◌, ℕ, ◌+◌, ◌-◌, ◌*◌, ◌<◌, ◌≤◌, IfOk, OnOk, length, slice_index};
+ghost use Rattle.buck_stem.specs.Stem.{IsStem, diameter_at};
+ghost use Rattle.buck_stem.specs.points.Profile.{profile_of, points_of, IsMaskBetween};
+ghost use Rattle.buck_stem.specs.inner.ProfileTables.{AreDiameters, AreTables};
+
+use crate::points::runs::{Runs, put_between, put_runs};
+use crate::stem::Stem;
+use buck_record::Memory;
+use std::alloc::{AllocError, Global};
+use std::marker::Model;
+
+/// The diameters and the grades of a stem at the multiples of a module, its points, in tables.
+#[derive(Drop)]
+pub struct Profile<'a> {
+    stem: &'a Stem,
+    /// The module in mm.
+    step: u32,
+    lists: ProfileLists,
+}
+
+impl<'a> Model for Profile<'a> {
+    ghost use Rattle.buck_stem.specs.points.Profile.{ProfileParts, profile_of};
+    ghost use Rattle.buck_stem.specs.inner.ProfileTables.{AreTables};
+
+    ghost Value = { ProfileParts };
+
+    ghost view = { λ p. profile_of p.stem.now p.step };
+
+    ghost invariant = { λ p.
+        AreTables (profile_of p.stem.now p.step) p.lists.diameters.items p.lists.runs.starts.items
+        p.lists.runs.masks.items p.lists.runs.run_of.items p.lists.between.items };
+}
+
+/// The lists of a profile, to be kept from stem to stem. What they hold of the stem before is of no account.
+#[derive(Drop)]
+pub struct ProfileLists {
+    diameters: Vec<u32>,
+    runs: Runs,
+    /// The grades of the steps of one run up to those of another.
+    between: Vec<u8>,
+}
+
+impl ProfileLists {
+    /// Empty lists. It takes no memory.
+    pub fn new(alloc: Global) -> ProfileLists {
+        ProfileLists {
+            diameters: Vec::new(alloc),
+            runs: Runs::new(alloc),
+            between: Vec::new(alloc),
+        }
+    }
+}
+
+/// Puts the diameter at each point in the place of others.
+fn put_diameters(diameters: &mut Vec<u32>, stem: &Stem, step: u32) -> Result<(), AllocError>
+    requires { (10 ≤ step) × (step ≤ 1000) }
+    ensures number { OnOk result (length diameters.new.items ≡ points_of (profile_of stem.now step)) }
+    ensures right { OnOk result (AreDiameters (profile_of stem.now step) diameters.new.items) }
+    ensures valid { IsStem stem.now }
+{
+    let points = stem.length() / step + 1;
+    diameters.clear();
+    diameters.reserve(points as usize)?;
+    stem.put_diameters(step, diameters)
+}
+
+impl<'a> Profile<'a> {
+    /// The tables of a stem at the multiples of a module of `step` mm, 10 to 1,000. It borrows the stem. Refused as
+    /// `Memory` alone.
+    pub fn make(alloc: Global, stem: &'a Stem, step: u32) -> Result<Profile<'a>, Memory>
+        requires { (10 ≤ step) × (step ≤ 1000) }
+        ensures { IfOk result (λ p. p ≡ profile_of stem.now step) }
+    {
+        Profile::make_with(ProfileLists::new(alloc), stem, step)
+    }
+
+    /// The same in lists of an earlier profile, which [`into_lists`](Profile::into_lists) gives back. Where it is
+    /// refused, their room is given up.
+    pub fn make_with(
+        mut lists: ProfileLists,
+        stem: &'a Stem,
+        step: u32,
+    ) -> Result<Profile<'a>, Memory>
+        requires { (10 ≤ step) × (step ≤ 1000) }
+        ensures { IfOk result (λ p. p ≡ profile_of stem.now step) }
+    {
+        put_diameters(&mut lists.diameters, stem, step)?;
+        put_runs(&mut lists.runs, stem, step)?;
+        put_between(&mut lists.between, lists.runs.masks.as_slice())?;
+        Ok(Profile { stem, step, lists })
+    }
+
+    /// Its lists, for the profile of another stem.
+    pub fn into_lists(self) -> ProfileLists {
+        self.lists
+    }
+
+    /// The diameters in mm at the points.
+    pub fn diameters(&self) -> &[u32]
+        ensures number { length result.now ≡ points_of self.now }
+        ensures right { (i : ℕ) → i < points_of self.now
+            → slice_index result.now i ≡ diameter_at self.now.stem.samples (i * self.now.module) }
+        ensures high { (i : ℕ) → i < points_of self.now → slice_index result.now i ≤ 1500 }
+    {
+        self.lists.diameters.as_slice()
+    }
+
+    /// How many points there are, the butt among them.
+    pub fn points(&self) -> usize
+        ensures number { result ≡ points_of self.now }
+        ensures valid { IsStem self.now.stem }
+        ensures module_range { (10 ≤ self.now.module) × (self.now.module ≤ 1000) }
+    {
+        self.lists.diameters.len()
+    }
+
+    /// The diameter in mm at point `i`, that is at `i * step` mm from the butt.
+    pub fn diameter(&self, i: usize) -> u32
+        requires { i < points_of self.now }
+        ensures diameter { result ≡ diameter_at self.now.stem.samples (i * self.now.module) }
+        ensures high { result ≤ 1500 }
+    {
+        self.lists.diameters[i]
+    }
+
+    /// The grades of the step from point `i` to the next one: bit g - 1 for grade g.
+    pub fn step_grades(&self, i: usize) -> u8
+        requires { i + 1 < points_of self.now }
+        ensures { IsMaskBetween self.now i (i + 1) result }
+    {
+        self.lists.runs.masks[self.lists.runs.run_of[i] as usize]
+    }
+
+    /// The grades from point `i` up to point `j`: bit g - 1 for grade g. They are found in constant time.
+    pub fn grades(&self, i: usize, j: usize) -> u8
+        requires { (i ≤ j) × (j < points_of self.now) }
+        ensures { IsMaskBetween self.now i j result }
+    {
+        if i == j {
+            return 0;
+        }
+        let first = self.lists.runs.run_of[i] as usize;
+        let last = self.lists.runs.run_of[j - 1] as usize;
+        self.lists.between[self.lists.runs.masks.len() * last + first]
+    }
+
+    /// A point from which on each step up to step `i` has the grades of step `i`: the first of its run.
+    pub fn run_start(&self, i: usize) -> usize
+        requires { i + 1 < points_of self.now }
+        ensures low { result ≤ i }
+        ensures same { (j mask : ℕ) → i < j → j < points_of self.now → IsMaskBetween self.now i j mask
+            → (k : ℕ) → result ≤ k → k ≤ i → IsMaskBetween self.now k j mask }
+        ensures even { (one : ℕ) × ((k : ℕ) → result ≤ k → k ≤ i → IsMaskBetween self.now k (k + 1) one) }
+    {
+        self.lists.runs.starts[self.lists.runs.run_of[i] as usize] as usize
+    }
+}
