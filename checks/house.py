@@ -8,7 +8,8 @@
 - Each crate's name begins with its kind: buck_ or buckfleet is the product, and KINDS the rest.
 - The files of crates/*/data that stand in examples/ too are equal to these: those of the same name, those of COPIES.
 - Links in documents lead to a file, and to a heading where they name one; a path of the repository that stands in
-  backticks is there.
+  backticks is there, and so is a file of a crate: `src/..`, `specs/..` and `proofs/..` behind the crate's name, or on
+  its own page.
 - No line of src/ and specs/ of a product crate is wider than 120 columns, imports aside, but for as many as WIDE allows
   each crate.
 
@@ -156,6 +157,34 @@ def wrong_links():
                     yield f"{path} names `{name}`, which isn't there"
 
 
+def named_files(line, crate, known):
+    """The files of crates that a line of a document names: in src/, specs/ or proofs/ of the crate that is named last
+    before, and `NAME.rt` there, or beside the file before it. Each comes as the paths at which it may stand."""
+    room = None
+    for word in ticked(line):
+        head = re.fullmatch(r"(?:crates/)?(\w+)(?:/(.+))?", word)
+        if head and head[1] in known:
+            crate, word, room = head[1], head[2] or "", None
+        path = re.fullmatch(r"((?:src|specs|proofs)/[\w/]+)(\.rt|\.antt)?", word)
+        if crate and path:
+            room = os.path.dirname(path[1])
+            yield crate, word, [word]
+        elif crate and room and re.fullmatch(r"[\w/]+\.rt", word):
+            yield crate, word, [f"src/{word}", f"{room}/{word}"]
+
+
+def wrong_files():
+    """Files of crates that documents name and that aren't there."""
+    known = crates()
+    for path in documents():
+        own = re.fullmatch(r"crates/(\w+)/README\.md", path)
+        for line in read(path).split("\n"):
+            for crate, word, places in named_files(line, own[1] if own else None, known):
+                stand = [os.path.join(TOP, "crates", crate, place) for place in places]
+                if not any(os.path.exists(place + ending) for place in stand for ending in ("", ".rt", ".antt")):
+                    yield f"{path} names `{word}` of {crate}, which isn't there"
+
+
 def wide_lines(crate):
     """The files of a crate with lines that are too wide, and how many there are in each."""
     for part, ending in (("src", ".rt"), ("specs", ".antt")):
@@ -176,7 +205,8 @@ def wrong_widths():
 
 
 def main():
-    wrong = [line for look in (wrong_names, wrong_pages, wrong_copies, wrong_links, wrong_widths) for line in look()]
+    looks = (wrong_names, wrong_pages, wrong_copies, wrong_links, wrong_files, wrong_widths)
+    wrong = [line for look in looks for line in look()]
     for line in wrong:
         print(line)
     print(f"{len(wrong)} wrong")
