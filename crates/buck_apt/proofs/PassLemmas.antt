@@ -8,12 +8,12 @@ use Rattle.std.proofs.lemmas.List.{length-map}
 use Rattle.std.proofs.lemmas.List.Sums.{AllPass-from_list_all, fails_before_first}
 use Rattle.buck_record.proofs.TableLemmas.{place-none}
 use Rattle.std.proofs.lemmas.Bool.{false≢true, ltb-true, ltb-false, leb-true, eqb-false, cases_Bool, cond-true, cond-false}
-use Rattle.buck_record.specs.declared.ranged.Ranged.{Ranged}
+use Rattle.buck_record.specs.declared.slot.Slot.{Slot}
 use Rattle.buck_record.specs.checking.Rules.{one_to, is_rising}
 use Rattle.buck_record.proofs.PassLemmas.{AreRanged, passed, check_ok, then_ok, each_ok, both, within_ok, in_range_ok, ranged, counted_ok, counted}
 use Rattle.buck_apt.specs.declared.fault.AptFault.{AptFault}
 use Rattle.buck_apt.specs.declared.fault.AptFault.TheVariants.{Range, Count, Module, Targets}
-use Rattle.buck_apt.specs.declared.slots.TheConstants.{MODULE, MODULE_RANGE, PERIOD, PERIOD_RANGE, LIMIT, LIMIT_RANGE, COUNT_RANGE, LONGEST_NAME, SPECIES, SPECIES_RANGE, GRADES, GRADES_RANGE, MOST_GRADES, PRICE_KIND, PRICE_KIND_RANGE, DIAMETERS, DIAMETERS_RANGE, MOST_ROWS, UPPER, UPPER_RANGE, LENGTHS, LENGTHS_RANGE, MOST_COLUMNS, PRICES_RANGE, TARGETS_RANGE, MOST_TARGETS_TOGETHER, TRIM, TRIM_RANGE}
+use Rattle.buck_apt.specs.declared.slots.TheConstants.{MODULE, PERIOD, LIMIT, COUNT, LONGEST_NAME, SPECIES, GRADES, MOST_GRADES, PRICE_KIND, DIAMETERS, MOST_ROWS, UPPER, LENGTHS, MOST_COLUMNS, PRICES, TARGETS, MOST_TARGETS_TOGETHER, TRIM}
 use Rattle.buck_apt.specs.declared.draft.Draft.{Draft}
 use Rattle.buck_apt.specs.declared.draft.FileDraft.{FileDraft}
 use Rattle.buck_apt.specs.Instruction.{IsAssortment, IsWithin, IsNameByte, IsOnModule}
@@ -21,7 +21,7 @@ use Rattle.buck_apt.specs.Apt.{is_name, is_name_byte, all_above, is_number_of, n
 use Rattle.buck_apt.specs.inner.Ready.{IsReadyDraft, IsReadyFile}
 
 -- the one number of an item
-one_of : (item : Ranged) (ns : List ℕ) → AreRanged item ns → length ns ≡ 1 → IsWithin item.low item.high (slice_index ns 0)
+one_of : (item : Slot) (ns : List ℕ) → AreRanged item ns → length ns ≡ 1 → IsWithin item.low item.high (slice_index ns 0)
 one_of item ns h one = h 0 0 (omega arith)
 
 one_number : (ns : List ℕ) → (1 ≤ length ns) × (length ns ≤ 1) → length ns ≡ 1
@@ -81,15 +81,15 @@ draft_ready : (d : Draft) → draft_range d ≡ Ok tt → draft_order d ≡ Ok t
 unfolding draft_range draft_order draft_count
 draft_ready d in_ranges ordered counted_all few =
     let r1 = passed (is_name d.name) _ _ in_ranges in
-    let r2 = ranged Range SPECIES_RANGE d.wood.species _ r1.1 in
-    let r3 = ranged Range GRADES_RANGE d.wood.grades _ r2.1 in
-    let r4 = ranged Range PRICE_KIND_RANGE d.wood.price_kind _ r3.1 in
-    let r5 = ranged Range DIAMETERS_RANGE d.sizes.diameters _ r4.1 in
-    let r6 = ranged Range UPPER_RANGE d.sizes.upper _ r5.1 in
-    let r7 = ranged Range LENGTHS_RANGE d.sizes.lengths _ r6.1 in
-    let r8 = ranged Range PRICES_RANGE d.tables.prices _ r7.1 in
-    let r9 = ranged Range TARGETS_RANGE d.tables.targets _ r8.1 in
-    let r10 = in_range_ok Range TRIM_RANGE d.tables.trim r9.1 in
+    let r2 = ranged Range SPECIES d.wood.species _ r1.1 in
+    let r3 = ranged Range GRADES d.wood.grades _ r2.1 in
+    let r4 = ranged Range PRICE_KIND d.wood.price_kind _ r3.1 in
+    let r5 = ranged Range DIAMETERS d.sizes.diameters _ r4.1 in
+    let r6 = ranged Range UPPER d.sizes.upper _ r5.1 in
+    let r7 = ranged Range LENGTHS d.sizes.lengths _ r6.1 in
+    let r8 = ranged Range PRICES d.tables.prices _ r7.1 in
+    let r9 = ranged Range TARGETS d.tables.targets _ r8.1 in
+    let r10 = in_range_ok Range TRIM d.tables.trim r9.1 in
     let o1 = passed (is_rising d.wood.grades) _ _ ordered in
     let o2 = passed (is_rising d.sizes.diameters) _ _ o1.1 in
     let o3 = passed (all_above d.sizes.diameters d.sizes.upper) _ _ o2.1 in
@@ -115,15 +115,15 @@ draft_ready d in_ranges ordered counted_all few =
       valid = record {
         name_length = within_ok 1 LONGEST_NAME (length d.name) name.0;
         name_bytes = λ k b lt. name_byte_ok _ (AllPass-from_list_all is_name_byte d.name name.1 k b lt);
-        species = one_of SPECIES_RANGE d.wood.species r2.0 species;
+        species = one_of SPECIES d.wood.species r2.0 species;
         grades_number = c2.0;
         grades_range = r3.0;
         grades_rise = rising_ok d.wood.grades o1.0;
-        price_kind = one_of PRICE_KIND_RANGE d.wood.price_kind r4.0 price_kind;
+        price_kind = one_of PRICE_KIND d.wood.price_kind r4.0 price_kind;
         rows = c4.0;
         diameters_range = λ k x lt. (r5.0 k x lt).1;
         diameters_rise = rising_ok d.sizes.diameters o2.0;
-        upper_range = one_of UPPER_RANGE d.sizes.upper r6.0 upper;
+        upper_range = one_of UPPER d.sizes.upper r6.0 upper;
         upper_above = above_ok d.sizes.diameters d.sizes.upper o3.0 upper;
         columns = c6.0;
         lengths_range = r7.0;
@@ -133,46 +133,46 @@ draft_ready d in_ranges ordered counted_all few =
         targets_number = eqb-true _ _ c8.0;
         targets_range = λ k x lt. (r9.0 k x lt).1;
         targets_sum = few;
-        trim_range = (one_of TRIM_RANGE d.tables.trim r10 trim).1;
+        trim_range = (one_of TRIM d.tables.trim r10 trim).1;
       };
     }
 
 -- the numbers of the head, which passed
 record HeadReady (s : FileDraft) : Type 0 where
   pub «module» : length s.«module» ≡ 1
-  pub module_range : IsWithin MODULE_RANGE.low MODULE_RANGE.high (slice_index s.«module» 0)
+  pub module_range : IsWithin MODULE.low MODULE.high (slice_index s.«module» 0)
   pub period : length s.period ≡ 1
-  pub period_range : IsWithin PERIOD_RANGE.low PERIOD_RANGE.high (slice_index s.period 0)
+  pub period_range : IsWithin PERIOD.low PERIOD.high (slice_index s.period 0)
   pub limit : length s.limit ≡ 1
-  pub limit_range : IsWithin LIMIT_RANGE.low LIMIT_RANGE.high (slice_index s.limit 0)
-  pub count_range : IsWithin COUNT_RANGE.low COUNT_RANGE.high (length s.drafts)
+  pub limit_range : IsWithin LIMIT.low LIMIT.high (slice_index s.limit 0)
+  pub count_range : IsWithin COUNT.low COUNT.high (length s.drafts)
   pub ranges : All (λ d. draft_range d ≡ Ok tt) s.drafts
   pub counts : All (λ d. draft_count d ≡ Ok tt) s.drafts
 
 head_ready : (s : FileDraft) → in_range s ≡ Ok tt → in_number s ≡ Ok tt → HeadReady s
 unfolding in_range in_number
 head_ready s in_ranges counted_all =
-    let r1 = ranged Range MODULE_RANGE s.«module» _ in_ranges in
-    let r2 = ranged Range PERIOD_RANGE s.period _ r1.1 in
-    let r3 = ranged Range LIMIT_RANGE s.limit _ r2.1 in
-    let r4 = ranged Range COUNT_RANGE s.count _ r3.1 in
+    let r1 = ranged Range MODULE s.«module» _ in_ranges in
+    let r2 = ranged Range PERIOD s.period _ r1.1 in
+    let r3 = ranged Range LIMIT s.limit _ r2.1 in
+    let r4 = ranged Range COUNT s.count _ r3.1 in
     let c1 = counted Count MODULE 1 s.«module» _ counted_all in
     let c2 = counted Count PERIOD 1 s.period _ c1.1 in
     let c3 = counted Count LIMIT 1 s.limit _ c2.1 in
     let c4 = passed (is_number_of s.drafts s.count) _ _ c3.1 in
     let number = both (length s.count == 1) (slice_index s.count 0 == length s.drafts) c4.0 in
     let same = eqb-true (slice_index s.count 0) (length s.drafts) number.1 in
-    let range = one_of COUNT_RANGE s.count r4.0 (eqb-true _ _ number.0) in
+    let range = one_of COUNT s.count r4.0 (eqb-true _ _ number.0) in
     let step = one_number s.«module» c1.0 in
     let period = one_number s.period c2.0 in
     let limit = one_number s.limit c3.0 in
     record {
       «module» = step;
-      module_range = one_of MODULE_RANGE s.«module» r1.0 step;
+      module_range = one_of MODULE s.«module» r1.0 step;
       period = period;
-      period_range = one_of PERIOD_RANGE s.period r2.0 period;
+      period_range = one_of PERIOD s.period r2.0 period;
       limit = limit;
-      limit_range = one_of LIMIT_RANGE s.limit r3.0 limit;
+      limit_range = one_of LIMIT s.limit r3.0 limit;
       count_range = rw same at range;
       ranges = each_ok draft_range s.drafts r4.1;
       counts = each_ok draft_count s.drafts c4.1;

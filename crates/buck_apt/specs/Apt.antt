@@ -12,7 +12,7 @@ use Rattle.buck_record.specs.bytes.Record.{items_of}
 use Rattle.buck_record.specs.checking.Table.{count_in, rest_in, first_missing, first_twice, groups_of}
 use Rattle.buck_record.specs.checking.Check.{◌>>=◌, check, none_of, each, make_each}
 use Rattle.buck_record.specs.checking.Rules.{file_slot, of_slot, has_no_strays, numbers_in, one_to, all_in_range, counted_to, is_rising}
-use Rattle.buck_apt.specs.declared.slots.TheConstants.{MODULE, MODULE_RANGE, PERIOD, PERIOD_RANGE, LIMIT, LIMIT_RANGE, COUNT, COUNT_RANGE, NAME, LONGEST_NAME, SPECIES, SPECIES_RANGE, GRADES, GRADES_RANGE, MOST_GRADES, PRICE_KIND, PRICE_KIND_RANGE, DIAMETERS, DIAMETERS_RANGE, MOST_ROWS, UPPER, UPPER_RANGE, LENGTHS, LENGTHS_RANGE, MOST_COLUMNS, PRICES, PRICES_RANGE, TARGETS, TARGETS_RANGE, MOST_TARGETS_TOGETHER, TRIM, TRIM_RANGE, HEAD, ALONE, MEMBERS, IN_ASSORTMENT}
+use Rattle.buck_apt.specs.declared.slots.TheConstants.{MODULE, PERIOD, LIMIT, COUNT, NAME, LONGEST_NAME, SPECIES, GRADES, MOST_GRADES, PRICE_KIND, DIAMETERS, MOST_ROWS, UPPER, LENGTHS, MOST_COLUMNS, PRICES, TARGETS, MOST_TARGETS_TOGETHER, TRIM, HEAD, ALONE, MEMBERS, IN_ASSORTMENT}
 use Rattle.buck_apt.specs.Instruction.{AssortmentParts, InstructionParts}
 use Rattle.buck_apt.specs.declared.draft.Draft.{Draft}
 use Rattle.buck_apt.specs.declared.draft.Wood.{Wood}
@@ -116,23 +116,23 @@ is_name bs = one_to LONGEST_NAME (length bs) && list_all is_name_byte bs
 unfoldable pub draft_range : Draft → Result (Unit {0}) AptFault
 draft_range d = do
   _ ← check (is_name d.name) (of_slot Range NAME)
-  _ ← all_in_range Range SPECIES_RANGE d.wood.species
-  _ ← all_in_range Range GRADES_RANGE d.wood.grades
-  _ ← all_in_range Range PRICE_KIND_RANGE d.wood.price_kind
-  _ ← all_in_range Range DIAMETERS_RANGE d.sizes.diameters
-  _ ← all_in_range Range UPPER_RANGE d.sizes.upper
-  _ ← all_in_range Range LENGTHS_RANGE d.sizes.lengths
-  _ ← all_in_range Range PRICES_RANGE d.tables.prices
-  _ ← all_in_range Range TARGETS_RANGE d.tables.targets
-  all_in_range Range TRIM_RANGE d.tables.trim
+  _ ← all_in_range Range SPECIES d.wood.species
+  _ ← all_in_range Range GRADES d.wood.grades
+  _ ← all_in_range Range PRICE_KIND d.wood.price_kind
+  _ ← all_in_range Range DIAMETERS d.sizes.diameters
+  _ ← all_in_range Range UPPER d.sizes.upper
+  _ ← all_in_range Range LENGTHS d.sizes.lengths
+  _ ← all_in_range Range PRICES d.tables.prices
+  _ ← all_in_range Range TARGETS d.tables.targets
+  all_in_range Range TRIM d.tables.trim
 
 -- Line 6, Range: each number is in its range, and each name meets its rule.
 unfoldable pub in_range : FileDraft → Result (Unit {0}) AptFault
 in_range file = do
-  _ ← all_in_range Range MODULE_RANGE file.«module»
-  _ ← all_in_range Range PERIOD_RANGE file.period
-  _ ← all_in_range Range LIMIT_RANGE file.limit
-  _ ← all_in_range Range COUNT_RANGE file.count
+  _ ← all_in_range Range MODULE file.«module»
+  _ ← all_in_range Range PERIOD file.period
+  _ ← all_in_range Range LIMIT file.limit
+  _ ← all_in_range Range COUNT file.count
   each draft_range file.drafts
 
 -- each of the lower limits is below each upper diameter

@@ -1,6 +1,6 @@
 -- Numbers that a run puts in the place of an instruction's own.
 use Rattle.std.specs.Prelude.{ℕ, ◌≤◌, Option, Some, None, IfSome}
-use Rattle.buck_apt.specs.declared.slots.TheConstants.{PERIOD_RANGE, LIMIT_RANGE}
+use Rattle.buck_apt.specs.declared.slots.TheConstants.{PERIOD, LIMIT}
 use Rattle.buck_apt.specs.Instruction.{InstructionParts, IsWithin}
 
 pub record SettingsParts : Type 0 where
@@ -9,8 +9,8 @@ pub record SettingsParts : Type 0 where
 
 -- what is told is within the limits of the instruction file's table
 pub record IsSettings (s : SettingsParts) : Type 0 where
-  pub period_range : IfSome s.period (λ p. IsWithin PERIOD_RANGE.low PERIOD_RANGE.high p)
-  pub limit_range : IfSome s.limit (λ l. l ≤ LIMIT_RANGE.high)
+  pub period_range : IfSome s.period (λ p. IsWithin PERIOD.low PERIOD.high p)
+  pub limit_range : IfSome s.limit (λ l. l ≤ LIMIT.high)
 
 -- nothing is told
 abbrev pub own_numbers : SettingsParts

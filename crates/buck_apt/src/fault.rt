@@ -139,17 +139,17 @@ impl FormFault for AptFault {
     }
 
     fn missing(slot: Slot) -> AptFault {
-        let Slot { number, kind } = slot;
+        let Slot { number, kind, .. } = slot;
         AptFault::Missing { number, kind }
     }
 
     fn twice(slot: Slot) -> AptFault {
-        let Slot { number, kind } = slot;
+        let Slot { number, kind, .. } = slot;
         AptFault::Twice { number, kind }
     }
 
     fn digits(slot: Slot, place: usize) -> AptFault {
-        let Slot { number, kind } = slot;
+        let Slot { number, kind, .. } = slot;
         AptFault::Digits {
             number,
             kind,
@@ -158,17 +158,17 @@ impl FormFault for AptFault {
     }
 
     fn range(slot: Slot) -> AptFault {
-        let Slot { number, kind } = slot;
+        let Slot { number, kind, .. } = slot;
         AptFault::Range { number, kind }
     }
 
     fn order(slot: Slot) -> AptFault {
-        let Slot { number, kind } = slot;
+        let Slot { number, kind, .. } = slot;
         AptFault::Order { number, kind }
     }
 
     fn count(slot: Slot) -> AptFault {
-        let Slot { number, kind } = slot;
+        let Slot { number, kind, .. } = slot;
         AptFault::Count { number, kind }
     }
 }

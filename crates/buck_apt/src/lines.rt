@@ -27,11 +27,7 @@ use crate::draft::{Draft, FileDraft};
 use crate::fault::AptFault;
 use crate::rules::{all_above, first_off_module, is_above, is_name};
 use crate::slots::{
-    ALONE, COUNT, COUNT_RANGE, DIAMETERS, DIAMETERS_RANGE, GRADES, GRADES_RANGE, HEAD,
-    IN_ASSORTMENT, LENGTHS, LENGTHS_RANGE, LIMIT, LIMIT_RANGE, MEMBERS, MODULE, MODULE_RANGE,
-    MOST_COLUMNS, MOST_GRADES, MOST_ROWS, MOST_TARGETS_TOGETHER, NAME, PERIOD, PERIOD_RANGE,
-    PRICE_KIND, PRICE_KIND_RANGE, PRICES, PRICES_RANGE, SPECIES, SPECIES_RANGE, TARGETS,
-    TARGETS_RANGE, TRIM, TRIM_RANGE, UPPER, UPPER_RANGE,
+    ALONE, COUNT, DIAMETERS, GRADES, HEAD, IN_ASSORTMENT, LENGTHS, LIMIT, MEMBERS, MODULE, MOST_COLUMNS, MOST_GRADES, MOST_ROWS, MOST_TARGETS_TOGETHER, NAME, PERIOD, PRICES, PRICE_KIND, SPECIES, TARGETS, TRIM, UPPER,
 };
 use buck_record::check::{all_absent, all_single, all_there, check, each, is_there};
 use buck_record::rules::{all_in_range, counted_to, is_rising};
@@ -97,15 +93,15 @@ fn draft_range(draft: &Draft) -> Result<(), AptFault>
     ensures { result ≡ draft_range draft.now }
 {
     check(is_name(draft.name.as_slice()), AptFault::range(NAME))?;
-    all_in_range::<AptFault>(SPECIES_RANGE, draft.wood.species.as_slice())?;
-    all_in_range::<AptFault>(GRADES_RANGE, draft.wood.grades.as_slice())?;
-    all_in_range::<AptFault>(PRICE_KIND_RANGE, draft.wood.price_kind.as_slice())?;
-    all_in_range::<AptFault>(DIAMETERS_RANGE, draft.sizes.diameters.as_slice())?;
-    all_in_range::<AptFault>(UPPER_RANGE, draft.sizes.upper.as_slice())?;
-    all_in_range::<AptFault>(LENGTHS_RANGE, draft.sizes.lengths.as_slice())?;
-    all_in_range::<AptFault>(PRICES_RANGE, draft.tables.prices.as_slice())?;
-    all_in_range::<AptFault>(TARGETS_RANGE, draft.tables.targets.as_slice())?;
-    all_in_range(TRIM_RANGE, draft.tables.trim.as_slice())
+    all_in_range::<AptFault>(SPECIES, draft.wood.species.as_slice())?;
+    all_in_range::<AptFault>(GRADES, draft.wood.grades.as_slice())?;
+    all_in_range::<AptFault>(PRICE_KIND, draft.wood.price_kind.as_slice())?;
+    all_in_range::<AptFault>(DIAMETERS, draft.sizes.diameters.as_slice())?;
+    all_in_range::<AptFault>(UPPER, draft.sizes.upper.as_slice())?;
+    all_in_range::<AptFault>(LENGTHS, draft.sizes.lengths.as_slice())?;
+    all_in_range::<AptFault>(PRICES, draft.tables.prices.as_slice())?;
+    all_in_range::<AptFault>(TARGETS, draft.tables.targets.as_slice())?;
+    all_in_range(TRIM, draft.tables.trim.as_slice())
 }
 
 fn each_range(drafts: &[Draft]) -> Result<(), AptFault>
@@ -119,10 +115,10 @@ fn each_range(drafts: &[Draft]) -> Result<(), AptFault>
 pub(crate) fn in_range(file: &FileDraft) -> Result<(), AptFault>
     ensures { result ≡ in_range file.now }
 {
-    all_in_range::<AptFault>(MODULE_RANGE, file.module.as_slice())?;
-    all_in_range::<AptFault>(PERIOD_RANGE, file.period.as_slice())?;
-    all_in_range::<AptFault>(LIMIT_RANGE, file.limit.as_slice())?;
-    all_in_range::<AptFault>(COUNT_RANGE, file.count.as_slice())?;
+    all_in_range::<AptFault>(MODULE, file.module.as_slice())?;
+    all_in_range::<AptFault>(PERIOD, file.period.as_slice())?;
+    all_in_range::<AptFault>(LIMIT, file.limit.as_slice())?;
+    all_in_range::<AptFault>(COUNT, file.count.as_slice())?;
     each_range(file.drafts.as_slice())
 }
 

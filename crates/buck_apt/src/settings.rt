@@ -2,7 +2,7 @@
 ghost use Rattle.std.specs.Prelude.{◌≡◌, IfSome, IfNone};
 ghost use Rattle.buck_apt.specs.Settings.{IsSettings, own_numbers};
 
-use crate::slots::{LIMIT_RANGE, PERIOD_RANGE};
+use crate::slots::{LIMIT, PERIOD};
 use std::marker::Model;
 
 /// Numbers that a run puts in the place of an instruction's own: the period, 1 to 1,000 stems, and the limit, at most
@@ -46,15 +46,15 @@ impl Settings {
         ensures none { IfNone result (IsSettings (record { period = period; limit = limit }) → ⊥) }
     {
         if let Some(period) = period {
-            if period < PERIOD_RANGE.low {
+            if period < PERIOD.low {
                 return None;
             }
-            if period > PERIOD_RANGE.high {
+            if period > PERIOD.high {
                 return None;
             }
         }
         if let Some(limit) = limit {
-            if limit > LIMIT_RANGE.high {
+            if limit > LIMIT.high {
                 return None;
             }
         }

@@ -6,8 +6,8 @@ use Rattle.std.proofs.lemmas.Bool.Decides.{nat_tests}
 use Rattle.buck_record.specs.Item.{ItemParts}
 use Rattle.buck_record.specs.checking.Rules.{slot, within, all_within, one_to}
 use Rattle.buck_record.proofs.PassLemmas.{both, within_ok}
-use Rattle.buck_apt.specs.declared.slots.TheConstants.{LENGTHS_RANGE, TARGETS_RANGE}
-use Rattle.buck_stem.specs.declared.file.slots.TheConstants.{SPECIES_RANGE, SAMPLES_RANGE, MOST_SAMPLES, STARTS_RANGE, GRADES_RANGE, MOST_ZONES}
+use Rattle.buck_apt.specs.declared.slots.TheConstants.{LENGTHS, TARGETS}
+use Rattle.buck_stem.specs.declared.file.slots.TheConstants.{SPECIES, SAMPLES, MOST_SAMPLES, STARTS, GRADES, MOST_ZONES}
 use Rattle.buck_stem.specs.file.Stm.{zones_of}
 use Rattle.buck_value.specs.declared.log.Log.{Log}
 use Rattle.buck_book.specs.declared.posting.Posting.{Posting}
@@ -47,22 +47,22 @@ module _ (items : List ItemParts) (k : ℕ) where
   sheet_again prices there r =
       rw (there, numbers_told prices (in_small 0 20000000 prices (omega arith) r.range), nat_le_yes (length prices) 16384 r.number, r.range) refl
 
-  pub samples_again : (samples : List ℕ) → slice_get items k ≡ Some (made 981 3 samples) → one_to MOST_SAMPLES (length samples) ≡ true → all_within SAMPLES_RANGE.low SAMPLES_RANGE.high samples ≡ true
+  pub samples_again : (samples : List ℕ) → slice_get items k ≡ Some (made 981 3 samples) → one_to MOST_SAMPLES (length samples) ≡ true → all_within SAMPLES.low SAMPLES.high samples ≡ true
       → samples_at items k ≡ Ok samples
   unfolding samples_at numbers_at rest_at
   samples_again samples there number range =
-      rw (there, numbers_told samples (in_small SAMPLES_RANGE.low SAMPLES_RANGE.high samples (omega arith) range), number, range) refl
+      rw (there, numbers_told samples (in_small SAMPLES.low SAMPLES.high samples (omega arith) range), number, range) refl
 
-  pub targets_again : (targets : List ℕ) → slice_get items k ≡ Some (made 982 2 targets) → length targets ≤ 16384 → all_within TARGETS_RANGE.low TARGETS_RANGE.high targets ≡ true → targets_at items k ≡ Ok targets
+  pub targets_again : (targets : List ℕ) → slice_get items k ≡ Some (made 982 2 targets) → length targets ≤ 16384 → all_within TARGETS.low TARGETS.high targets ≡ true → targets_at items k ≡ Ok targets
   unfolding targets_at numbers_at rest_at
   targets_again targets there number range =
-      rw (there, numbers_told targets (in_small TARGETS_RANGE.low TARGETS_RANGE.high targets (omega arith) range), nat_le_yes (length targets) 16384 number, range) refl
+      rw (there, numbers_told targets (in_small TARGETS.low TARGETS.high targets (omega arith) range), nat_le_yes (length targets) 16384 number, range) refl
 
-  pub head_again : (number species : ℕ) → slice_get items k ≡ Some (made 981 2 (number ∷ species ∷ [])) → number ≤ 4294967295 → within SPECIES_RANGE.low SPECIES_RANGE.high species ≡ true
+  pub head_again : (number species : ℕ) → slice_get items k ≡ Some (made 981 2 (number ∷ species ∷ [])) → number ≤ 4294967295 → within SPECIES.low SPECIES.high species ≡ true
       → head_at items k ≡ Ok (number, species)
   unfolding head_at numbers_at rest_at
   head_again number species there le range =
-      rw (there, numbers_told (number ∷ species ∷ []) (le, ((let h = within_ok SPECIES_RANGE.low SPECIES_RANGE.high species range in omega (arith, h.1)), tt)), range) refl
+      rw (there, numbers_told (number ∷ species ∷ []) (le, ((let h = within_ok SPECIES.low SPECIES.high species range in omega (arith, h.1)), tt)), range) refl
 
   pub worth_again : (worth : ℕ) → slice_get items k ≡ Some (made 981 6 (worth ∷ [])) → worth ≤ 18446744073709551615 → worth_at items k ≡ Ok worth
   unfolding worth_at rest_at
@@ -99,8 +99,8 @@ pub zones_small : (low : ℕ) (zones : List (ℕ × ℕ)) → are_zones low (zon
 zones_small low [] h = tt
 zones_small low (z ∷ zs) h =
     let p = both (is_zone low z.0 z.1) (are_zones (z.0 + 1) (zone_numbers zs)) h in
-    let q = both (within low STARTS_RANGE.high z.0) (within GRADES_RANGE.low GRADES_RANGE.high z.1) p.0 in
-    (omega (arith, (within_ok low STARTS_RANGE.high z.0 q.0).1), (omega (arith, (within_ok GRADES_RANGE.low GRADES_RANGE.high z.1 q.1).1), zones_small (z.0 + 1) zs p.1))
+    let q = both (within low STARTS.high z.0) (within GRADES.low GRADES.high z.1) p.0 in
+    (omega (arith, (within_ok low STARTS.high z.0 q.0).1), (omega (arith, (within_ok GRADES.low GRADES.high z.1 q.1).1), zones_small (z.0 + 1) zs p.1))
 
 -- logs and their numbers
 pub logs_back : (logs : List Log) → logs_of (log_numbers logs) ≡ logs
@@ -115,9 +115,9 @@ pub logs_small : (logs : List Log) → are_logs (log_numbers logs) ≡ true → 
 logs_small [] h = tt
 logs_small (g ∷ gs) h =
     let p = both (is_log g.start g.length g.assortment) (are_logs (log_numbers gs)) h in
-    let q = both (within STARTS_RANGE.low STARTS_RANGE.high g.start) (within 0 LENGTHS_RANGE.high g.length && within 0 15 g.assortment) p.0 in
-    let r = both (within 0 LENGTHS_RANGE.high g.length) (within 0 15 g.assortment) q.1 in
-    (omega (arith, (within_ok STARTS_RANGE.low STARTS_RANGE.high g.start q.0).1), (omega (arith, (within_ok 0 LENGTHS_RANGE.high g.length r.0).1), (omega (arith, (within_ok 0 15 g.assortment r.1).1), logs_small gs p.1)))
+    let q = both (within STARTS.low STARTS.high g.start) (within 0 LENGTHS.high g.length && within 0 15 g.assortment) p.0 in
+    let r = both (within 0 LENGTHS.high g.length) (within 0 15 g.assortment) q.1 in
+    (omega (arith, (within_ok STARTS.low STARTS.high g.start q.0).1), (omega (arith, (within_ok 0 LENGTHS.high g.length r.0).1), (omega (arith, (within_ok 0 15 g.assortment r.1).1), logs_small gs p.1)))
 
 even_rest : (n m : ℕ) → n ≡ 2 * m → (n % 2 == 0) ≡ true
 even_rest n m e = eq-eqb (n % 2) 0 (omega arith)

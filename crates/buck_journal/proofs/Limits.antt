@@ -9,7 +9,7 @@ use Rattle.buck_record.specs.bytes.Record.{numbers_of}
 use Rattle.buck_record.specs.checking.Table.{is_at}
 use Rattle.buck_record.specs.checking.Rules.{slot, within, all_within, one_to}
 use Rattle.buck_record.proofs.PassLemmas.{both, within_ok}
-use Rattle.buck_stem.specs.declared.file.slots.TheConstants.{SPECIES_RANGE, SAMPLES_RANGE, MOST_SAMPLES, STARTS_RANGE, GRADES_RANGE, MOST_ZONES}
+use Rattle.buck_stem.specs.declared.file.slots.TheConstants.{SPECIES, SAMPLES, MOST_SAMPLES, STARTS, GRADES, MOST_ZONES}
 use Rattle.buck_stem.specs.Stem.{IsStem, IsGrade, IsRisingFrom, stem_of}
 use Rattle.buck_stem.specs.file.Stm.{zones_of}
 use Rattle.buck_journal.specs.reading.Journal.{rest_at, numbers_at, samples_at, is_zone, are_zones}
@@ -22,13 +22,13 @@ half (s ∷ g ∷ more) = omega (arith, half more)
 
 -- the first zone, and the rest
 first : (low s g : ℕ) (more : List ℕ) → are_zones low (s ∷ g ∷ more) ≡ true
-    → ((low ≤ s) × (s ≤ STARTS_RANGE.high)) × ((GRADES_RANGE.low ≤ g) × (g ≤ GRADES_RANGE.high)) × (are_zones (s + 1) more ≡ true)
+    → ((low ≤ s) × (s ≤ STARTS.high)) × ((GRADES.low ≤ g) × (g ≤ GRADES.high)) × (are_zones (s + 1) more ≡ true)
 first low s g more h =
     let p = both (is_zone low s g) (are_zones (s + 1) more) h in
-    let q = both (within low STARTS_RANGE.high s) (within GRADES_RANGE.low GRADES_RANGE.high g) p.0 in
-    (within_ok low STARTS_RANGE.high s q.0, within_ok GRADES_RANGE.low GRADES_RANGE.high g q.1, p.1)
+    let q = both (within low STARTS.high s) (within GRADES.low GRADES.high g) p.0 in
+    (within_ok low STARTS.high s q.0, within_ok GRADES.low GRADES.high g q.1, p.1)
 
-started : (low : ℕ) (ns : List ℕ) → are_zones low ns ≡ true → AllByRecursion (λ (z : ℕ × ℕ). z.0 ≤ STARTS_RANGE.high) (zones_of ns)
+started : (low : ℕ) (ns : List ℕ) → are_zones low ns ≡ true → AllByRecursion (λ (z : ℕ × ℕ). z.0 ≤ STARTS.high) (zones_of ns)
 started low [] h = tt
 started low (s ∷ []) h = tt
 started low (s ∷ g ∷ more) h = let p = first low s g more h in (p.0.1, started (s + 1) more p.2)
@@ -51,13 +51,13 @@ are_zones_ok ns few h = record {
   grades_range = All-from_recursion _ (zones_of ns) (graded 0 ns h);
 }
 
-pub are_samples_ok : (ns : List ℕ) → one_to MOST_SAMPLES (length ns) ≡ true → all_within SAMPLES_RANGE.low SAMPLES_RANGE.high ns ≡ true → AreSamples ns
+pub are_samples_ok : (ns : List ℕ) → one_to MOST_SAMPLES (length ns) ≡ true → all_within SAMPLES.low SAMPLES.high ns ≡ true → AreSamples ns
 are_samples_ok ns counted h = record {
   samples_number = within_ok 1 MOST_SAMPLES (length ns) counted;
-  samples_range = λ k d lt. (within_ok SAMPLES_RANGE.low SAMPLES_RANGE.high (get_or ns k d) (AllPass-from_list_all (within SAMPLES_RANGE.low SAMPLES_RANGE.high) ns h k d lt)).1;
+  samples_range = λ k d lt. (within_ok SAMPLES.low SAMPLES.high (get_or ns k d) (AllPass-from_list_all (within SAMPLES.low SAMPLES.high) ns h k d lt)).1;
 }
 
-pub is_stem_ok : (number species : ℕ) (samples : List ℕ) (zones : List (ℕ × ℕ)) → (SPECIES_RANGE.low ≤ species) → (species ≤ SPECIES_RANGE.high)
+pub is_stem_ok : (number species : ℕ) (samples : List ℕ) (zones : List (ℕ × ℕ)) → (SPECIES.low ≤ species) → (species ≤ SPECIES.high)
     → AreSamples samples → AreZones zones → IsStem (stem_of number species samples zones)
 is_stem_ok number species samples zones low high s z = record {
   species = (low, high);
@@ -74,12 +74,12 @@ pub samples_ok : (items : List ItemParts) (k : ℕ) (item : ItemParts) (ns : Lis
     → slice_get items k ≡ Some item
     → is_at (slot 981 3) item ≡ true
     → numbers_of item.rest ≡ Ok ns
-    → All (λ d. d ≤ SAMPLES_RANGE.high) ns
+    → All (λ d. d ≤ SAMPLES.high) ns
     → one_to MOST_SAMPLES (length ns) ≡ true
     → samples_at items k ≡ Ok ns
 unfolding samples_at numbers_at rest_at
 samples_ok items k item ns there at read small number =
-    let range : all_within SAMPLES_RANGE.low SAMPLES_RANGE.high ns ≡ true =
-    list_all-from_AllPass (within SAMPLES_RANGE.low SAMPLES_RANGE.high) ns
+    let range : all_within SAMPLES.low SAMPLES.high ns ≡ true =
+    list_all-from_AllPass (within SAMPLES.low SAMPLES.high) ns
     (λ j d lt. and_from _ _ (le-leb 0 (get_or ns j d) (omega arith)) (le-leb _ _ (small j d lt))) in
     rw (there, at, read, number, range) refl

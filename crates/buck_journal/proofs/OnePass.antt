@@ -12,8 +12,8 @@ use Rattle.buck_record.specs.bytes.Record.{items_of, numbers_of, number_of}
 use Rattle.buck_record.specs.checking.Table.{is_at}
 use Rattle.buck_record.specs.pass.Cursor.{HasItems, Joins, Leads, item_in}
 use Rattle.buck_record.specs.checking.Rules.{slot, file_slot, within, all_within, one_to}
-use Rattle.buck_apt.specs.declared.slots.TheConstants.{TARGETS_RANGE}
-use Rattle.buck_stem.specs.declared.file.slots.TheConstants.{SPECIES_RANGE, SAMPLES_RANGE, MOST_SAMPLES, MOST_ZONES}
+use Rattle.buck_apt.specs.declared.slots.TheConstants.{TARGETS}
+use Rattle.buck_stem.specs.declared.file.slots.TheConstants.{SPECIES, SAMPLES, MOST_SAMPLES, MOST_ZONES}
 use Rattle.buck_stem.specs.Stem.{StemParts}
 use Rattle.buck_stem.specs.file.Stm.{zones_of}
 use Rattle.buck_value.specs.declared.log.Log.{Log}
@@ -46,23 +46,23 @@ pub head_leads : (text ns left : List ℕ)
     → LeadsNumbers (slot 981 2) text ns left
     → length ns ≡ 2
     → 1 ≤ get_or ns 1 0
-    → get_or ns 1 0 ≤ SPECIES_RANGE.high
+    → get_or ns 1 0 ≤ SPECIES.high
     → LeadsTo (slot 981 2) head_at text (get_or ns 0 0, get_or ns 1 0) left
 unfolding head_at numbers_at rest_at
 head_leads text ns left l number low high =
-    let range : within SPECIES_RANGE.low SPECIES_RANGE.high (get_or ns 1 0) ≡ true = and_from _ _ (le-leb _ _ low) (le-leb _ _ high) in
+    let range : within SPECIES.low SPECIES.high (get_or ns 1 0) ≡ true = and_from _ _ (le-leb _ _ low) (le-leb _ _ high) in
     (l.0, λ items k there. rw (there, l.1, eq-eqb (length ns) 2 number, range) refl, l.2)
 
 pub samples_lead : (text t ns left : List ℕ)
     → Leads text (item_in (slot 981 3) t) left
     → numbers_of t ≡ Ok ns
     → one_to MOST_SAMPLES (length ns) ≡ true
-    → All (λ d. d ≤ SAMPLES_RANGE.high) ns
+    → All (λ d. d ≤ SAMPLES.high) ns
     → LeadsTo (slot 981 3) samples_at text ns left
 unfolding samples_at numbers_at rest_at
 samples_lead text t ns left first read number small =
-    let range : all_within SAMPLES_RANGE.low SAMPLES_RANGE.high ns ≡ true =
-    list_all-from_AllPass (within SAMPLES_RANGE.low SAMPLES_RANGE.high) ns
+    let range : all_within SAMPLES.low SAMPLES.high ns ≡ true =
+    list_all-from_AllPass (within SAMPLES.low SAMPLES.high) ns
     (λ j d lt. and_from _ _ (le-leb 0 (get_or ns j d) (omega arith)) (le-leb _ _ (small j d lt))) in
     (t, λ items k there. rw (there, read, number, range) refl, first)
 
@@ -110,7 +110,7 @@ worth_leads text t left worth fault first read =
 pub targets_lead : (text ns left : List ℕ)
     → LeadsNumbers (slot 982 2) text ns left
     → length ns ≤ 16384
-    → all_within TARGETS_RANGE.low TARGETS_RANGE.high ns ≡ true
+    → all_within TARGETS.low TARGETS.high ns ≡ true
     → LeadsTo (slot 982 2) targets_at text ns left
 unfolding targets_at numbers_at rest_at
 targets_lead text ns left l few range =

@@ -8,8 +8,8 @@ use Rattle.buck_record.specs.Reading.{with_fault}
 use Rattle.buck_record.specs.checking.Rules.{within}
 use Rattle.buck_record.proofs.PassLemmas.{within_ok}
 use Rattle.buck_record.specs.bytes.Record.{items_of, number_at_most}
-use Rattle.buck_apt.specs.declared.slots.TheConstants.{TARGETS_RANGE}
-use Rattle.buck_stem.specs.declared.file.slots.TheConstants.{SPECIES_RANGE, SAMPLES_RANGE}
+use Rattle.buck_apt.specs.declared.slots.TheConstants.{TARGETS}
+use Rattle.buck_stem.specs.declared.file.slots.TheConstants.{SPECIES, SAMPLES}
 use Rattle.buck_book.specs.declared.posting.Posting.{Posting}
 use Rattle.buck_book.specs.declared.posting.Posting.TheVariants.{Cut, Demand}
 use Rattle.buck_book.specs.Entry.{EntryParts, DemandParts}
@@ -65,14 +65,14 @@ abbrev sheet_lines : (pss : List (List ℕ)) → AllByRecursion AreSheetPrices p
 sheet_lines [] r = []
 sheet_lines (prices ∷ pss) r = line_of head_971_1 prices (smaller prices (in_small 0 20000000 prices (omega arith) r.0.range)) ∷ sheet_lines pss r.1
 
-species_small : (n : ℕ) → within SPECIES_RANGE.low SPECIES_RANGE.high n ≡ true → n < 2 ^ 64
-species_small n h = let le = within_ok SPECIES_RANGE.low SPECIES_RANGE.high n h in omega (arith, le.1)
+species_small : (n : ℕ) → within SPECIES.low SPECIES.high n ≡ true → n < 2 ^ 64
+species_small n h = let le = within_ok SPECIES.low SPECIES.high n h in omega (arith, le.1)
 
 cut_lines : (e : EntryParts) → IsCutInRange e → List Line
 cut_lines e r =
     line_of head_981_1 (e.harvester ∷ e.number ∷ e.version ∷ []) (smaller (e.harvester ∷ e.number ∷ e.version ∷ []) (call_small [] 0 (call_of_cut e) r.call))
     ∷ line_of head_981_2 (e.stem.number ∷ e.stem.species ∷ []) ((let h = r.stem_number in omega arith), (species_small e.stem.species r.species, tt))
-    ∷ line_of head_981_3 e.stem.samples (smaller e.stem.samples (in_small SAMPLES_RANGE.low SAMPLES_RANGE.high e.stem.samples (omega arith) r.samples_range))
+    ∷ line_of head_981_3 e.stem.samples (smaller e.stem.samples (in_small SAMPLES.low SAMPLES.high e.stem.samples (omega arith) r.samples_range))
     ∷ line_of head_981_4 (zone_numbers e.stem.zones) (smaller (zone_numbers e.stem.zones) (zones_small 0 e.stem.zones r.zones_range))
     ∷ line_of head_981_5 (log_numbers e.logs) (smaller (log_numbers e.logs) (logs_small e.logs r.logs_range))
     ∷ line_of head_981_6 (e.worth ∷ []) ((let h = r.worth in omega arith), tt)
@@ -81,7 +81,7 @@ cut_lines e r =
 demand_lines : (d : DemandParts) → IsDemandInRange d → List Line
 demand_lines d r =
     line_of head_982_1 (d.harvester ∷ d.number ∷ d.version ∷ []) (smaller (d.harvester ∷ d.number ∷ d.version ∷ []) (call_small [] 0 (call_of_demand d) r.call))
-    ∷ line_of head_982_2 d.targets (smaller d.targets (in_small TARGETS_RANGE.low TARGETS_RANGE.high d.targets (omega arith) r.targets_range))
+    ∷ line_of head_982_2 d.targets (smaller d.targets (in_small TARGETS.low TARGETS.high d.targets (omega arith) r.targets_range))
     ∷ []
 
 posting_lines : (ps : List Posting) → AllByRecursion IsInRange ps → List Line
@@ -112,7 +112,7 @@ cut_parts e r =
     six_lines
     (line_of head_981_1 (e.harvester ∷ e.number ∷ e.version ∷ []) (smaller (e.harvester ∷ e.number ∷ e.version ∷ []) (call_small [] 0 (call_of_cut e) r.call)))
     (line_of head_981_2 (e.stem.number ∷ e.stem.species ∷ []) ((let h = r.stem_number in omega arith), (species_small e.stem.species r.species, tt)))
-    (line_of head_981_3 e.stem.samples (smaller e.stem.samples (in_small SAMPLES_RANGE.low SAMPLES_RANGE.high e.stem.samples (omega arith) r.samples_range)))
+    (line_of head_981_3 e.stem.samples (smaller e.stem.samples (in_small SAMPLES.low SAMPLES.high e.stem.samples (omega arith) r.samples_range)))
     (line_of head_981_4 (zone_numbers e.stem.zones) (smaller (zone_numbers e.stem.zones) (zones_small 0 e.stem.zones r.zones_range)))
     (line_of head_981_5 (log_numbers e.logs) (smaller (log_numbers e.logs) (logs_small e.logs r.logs_range)))
     (line_of head_981_6 (e.worth ∷ []) ((let h = r.worth in omega arith), tt))

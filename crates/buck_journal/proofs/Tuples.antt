@@ -2,8 +2,8 @@
 use Rattle.std.proofs.Common.{◌≡◌, ℕ, ◌+◌, ◌<◌, ◌≤◌, ◌&&◌, true, false, List, [], ◌∷◌, length, drop, get_or, refl, sym, ap, ◌∙◌, arith, drop-cons, add-one}
 use Rattle.buck_record.specs.checking.Rules.{within}
 use Rattle.buck_record.proofs.PassLemmas.{both, within_ok}
-use Rattle.buck_apt.specs.declared.slots.TheConstants.{LENGTHS_RANGE}
-use Rattle.buck_stem.specs.declared.file.slots.TheConstants.{STARTS_RANGE, GRADES_RANGE}
+use Rattle.buck_apt.specs.declared.slots.TheConstants.{LENGTHS}
+use Rattle.buck_stem.specs.declared.file.slots.TheConstants.{STARTS, GRADES}
 use Rattle.buck_stem.specs.file.Stm.{zones_of}
 use Rattle.buck_journal.specs.reading.Journal.{is_zone, are_zones, is_log, are_logs, logs_of}
 
@@ -57,13 +57,13 @@ pub zone_right : (low : ℕ) (xs : List ℕ) (i : ℕ) → i + 1 < length xs →
     → (get_or xs (i + 1) 0 ≤ 8) × (are_zones (get_or xs i 0 + 1) (drop (i + 2) xs) ≡ true)
 zone_right low xs i lt h =
     let p = both (is_zone low (get_or xs i 0) (get_or xs (i + 1) 0)) (are_zones (get_or xs i 0 + 1) (drop (i + 2) xs)) (sym (ap (are_zones low) (two xs i 0 lt)) ∙ h) in
-    let q = both (within low STARTS_RANGE.high (get_or xs i 0)) (within GRADES_RANGE.low GRADES_RANGE.high (get_or xs (i + 1) 0)) p.0 in
-    ((within_ok GRADES_RANGE.low GRADES_RANGE.high (get_or xs (i + 1) 0) q.1).1, p.1)
+    let q = both (within low STARTS.high (get_or xs i 0)) (within GRADES.low GRADES.high (get_or xs (i + 1) 0)) p.0 in
+    ((within_ok GRADES.low GRADES.high (get_or xs (i + 1) 0) q.1).1, p.1)
 
 pub log_right : (xs : List ℕ) (i : ℕ) → i + 2 < length xs → are_logs (drop i xs) ≡ true
     → (get_or xs (i + 2) 0 ≤ 15) × (are_logs (drop (i + 3) xs) ≡ true)
 log_right xs i lt h =
     let p = both (is_log (get_or xs i 0) (get_or xs (i + 1) 0) (get_or xs (i + 2) 0)) (are_logs (drop (i + 3) xs)) (sym (ap are_logs (three xs i 0 lt)) ∙ h) in
-    let q = both (within STARTS_RANGE.low STARTS_RANGE.high (get_or xs i 0)) (within 0 LENGTHS_RANGE.high (get_or xs (i + 1) 0) && within 0 15 (get_or xs (i + 2) 0)) p.0 in
-    let r = both (within 0 LENGTHS_RANGE.high (get_or xs (i + 1) 0)) (within 0 15 (get_or xs (i + 2) 0)) q.1 in
+    let q = both (within STARTS.low STARTS.high (get_or xs i 0)) (within 0 LENGTHS.high (get_or xs (i + 1) 0) && within 0 15 (get_or xs (i + 2) 0)) p.0 in
+    let r = both (within 0 LENGTHS.high (get_or xs (i + 1) 0)) (within 0 15 (get_or xs (i + 2) 0)) q.1 in
     ((within_ok 0 15 (get_or xs (i + 2) 0) r.1).1, p.1)

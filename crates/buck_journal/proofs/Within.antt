@@ -9,8 +9,8 @@ use Rattle.std.proofs.lemmas.List.Elements.{recursion_from_All, All-contains}
 use Rattle.std.proofs.lemmas.Option.{slice_get_within, slice_get_cases, slice_get-get_or, same_Some}
 use Rattle.buck_record.specs.checking.Rules.{within, all_within}
 use Rattle.buck_apt.specs.Instruction.{InstructionParts, IsInstruction, IsWithin}
-use Rattle.buck_apt.specs.declared.slots.TheConstants.{LENGTHS_RANGE, TARGETS_RANGE}
-use Rattle.buck_stem.specs.declared.file.slots.TheConstants.{SPECIES_RANGE, SAMPLES_RANGE, MOST_SAMPLES, STARTS_RANGE, GRADES_RANGE}
+use Rattle.buck_apt.specs.declared.slots.TheConstants.{LENGTHS, TARGETS}
+use Rattle.buck_stem.specs.declared.file.slots.TheConstants.{SPECIES, SAMPLES, MOST_SAMPLES, STARTS, GRADES}
 use Rattle.buck_stem.specs.Stem.{StemParts, IsStem, IsGrade, IsRisingFrom}
 use Rattle.buck_value.specs.declared.log.Log.{Log}
 use Rattle.buck_value.specs.Sheet.{IsSheet, IsPriceAt, base_prices, sheet_of}
@@ -56,22 +56,22 @@ call_yes c h n v =
     and_from (within 1 64 c.harvester) (within 1 1000000 c.number && nat_le c.version 1000000) (within_yes 1 64 c.harvester h.0 h.1)
     (and_from (within 1 1000000 c.number) (nat_le c.version 1000000) (within_yes 1 1000000 c.number n.0 n.1) (let le = v in grind (arith, nat_tests)))
 
-zones_yes : (low : ℕ) (zones : List (ℕ × ℕ)) → IsRisingFrom low zones → AllByRecursion (λ z. z.0 ≤ STARTS_RANGE.high) zones → AllByRecursion (λ z. IsGrade z.1) zones
+zones_yes : (low : ℕ) (zones : List (ℕ × ℕ)) → IsRisingFrom low zones → AllByRecursion (λ z. z.0 ≤ STARTS.high) zones → AllByRecursion (λ z. IsGrade z.1) zones
     → are_zones low (zone_numbers zones) ≡ true
 zones_yes low [] rise starts grades = refl
 zones_yes low (z ∷ zs) rise starts grades =
     and_from (is_zone low z.0 z.1) (are_zones (z.0 + 1) (zone_numbers zs))
-    (and_from (within low STARTS_RANGE.high z.0) (within GRADES_RANGE.low GRADES_RANGE.high z.1) (within_yes low STARTS_RANGE.high z.0 rise.0 starts.0) (within_yes GRADES_RANGE.low GRADES_RANGE.high z.1 grades.0.0 grades.0.1))
+    (and_from (within low STARTS.high z.0) (within GRADES.low GRADES.high z.1) (within_yes low STARTS.high z.0 rise.0 starts.0) (within_yes GRADES.low GRADES.high z.1 grades.0.0 grades.0.1))
     (zones_yes (z.0 + 1) zs rise.1 starts.1 grades.1)
 
 log_yes : (i : InstructionParts) (stem : StemParts) (g : Log) → IsInstruction i → IsStem stem → IsAllowed i stem g → is_log g.start g.length g.assortment ≡ true
 log_yes i stem g v s a =
     let w = valid_of i stem g v a in
-    let long : g.length ≤ LENGTHS_RANGE.high = (All-contains (λ l. IsWithin LENGTHS_RANGE.low LENGTHS_RANGE.high l) a.assortment.lengths g.length w.lengths_range a.allows.length_offered).1 in
-    let start : g.start ≤ STARTS_RANGE.high = omega (arith, a.allows.within, s.samples_number.1) in
+    let long : g.length ≤ LENGTHS.high = (All-contains (λ l. IsWithin LENGTHS.low LENGTHS.high l) a.assortment.lengths g.length w.lengths_range a.allows.length_offered).1 in
+    let start : g.start ≤ STARTS.high = omega (arith, a.allows.within, s.samples_number.1) in
     let which : g.assortment ≤ 15 = omega (arith, slice_get_within i.assortments g.assortment a.assortment a.exists, v.assortments_number.1) in
-    and_from (within STARTS_RANGE.low STARTS_RANGE.high g.start) (within 0 LENGTHS_RANGE.high g.length && within 0 15 g.assortment) (within_yes STARTS_RANGE.low STARTS_RANGE.high g.start (omega arith) start)
-    (and_from (within 0 LENGTHS_RANGE.high g.length) (within 0 15 g.assortment) (within_yes 0 LENGTHS_RANGE.high g.length (omega arith) long) (within_yes 0 15 g.assortment (omega arith) which))
+    and_from (within STARTS.low STARTS.high g.start) (within 0 LENGTHS.high g.length && within 0 15 g.assortment) (within_yes STARTS.low STARTS.high g.start (omega arith) start)
+    (and_from (within 0 LENGTHS.high g.length) (within 0 15 g.assortment) (within_yes 0 LENGTHS.high g.length (omega arith) long) (within_yes 0 15 g.assortment (omega arith) which))
 
 logs_yes : (i : InstructionParts) (stem : StemParts) (from : ℕ) (gs : List Log) → IsInstruction i → IsStem stem → IsCutFrom (IsAllowed i stem) (end_of i) from gs
     → are_logs (log_numbers gs) ≡ true
@@ -176,13 +176,13 @@ module _ (h : HistoryParts) (v : IsInstruction h.instruction) (l : IsLawful h) w
         record {
           call = call_yes (call_of_cut e) b.0 (subst (λ n. IsWithin 1 1000000 n) (sym f.number_is_next) (number_in k (Cut e) at)) (omega (arith, f.version_in_force, version_in k (Cut e) at));
           stem_number = b.2;
-          species = within_yes SPECIES_RANGE.low SPECIES_RANGE.high e.stem.species s.species.0 s.species.1;
+          species = within_yes SPECIES.low SPECIES.high e.stem.species s.species.0 s.species.1;
           samples_number = within_yes 1 MOST_SAMPLES (length e.stem.samples) s.samples_number.0 s.samples_number.1;
-          samples_range = all_within_yes SAMPLES_RANGE.high e.stem.samples (recursion_from_All (λ d. d ≤ SAMPLES_RANGE.high) e.stem.samples s.samples_range);
+          samples_range = all_within_yes SAMPLES.high e.stem.samples (recursion_from_All (λ d. d ≤ SAMPLES.high) e.stem.samples s.samples_range);
           zones_number = s.zones_number;
           zones_range =
               zones_yes 0 e.stem.zones s.starts_rise
-              (recursion_from_All (λ z. z.0 ≤ STARTS_RANGE.high) e.stem.zones s.starts_range)
+              (recursion_from_All (λ z. z.0 ≤ STARTS.high) e.stem.zones s.starts_range)
               (recursion_from_All (λ z. IsGrade z.1) e.stem.zones s.grades_range);
           logs_number = few_logs i e.stem e.logs v s f.holds.0.admissible;
           logs_range = logs_yes i e.stem 0 e.logs v s f.holds.0.admissible;
@@ -195,7 +195,7 @@ module _ (h : HistoryParts) (v : IsInstruction h.instruction) (l : IsLawful h) w
         record {
           call = call_yes (call_of_demand d) b (subst (λ n. IsWithin 1 1000000 n) (sym f.number_is_next) (number_in k (Demand d) at)) (omega (arith, f.version_in_force, version_in k (Demand d) at));
           targets_number = omega (arith, f.holds.one_each, classes-le h.instruction v);
-          targets_range = all_within_yes TARGETS_RANGE.high d.targets (recursion_from_All (λ t. t ≤ TARGETS_RANGE.high) d.targets (λ k c lt. subst (λ t. t ≤ TARGETS_RANGE.high) (one_element d.targets k 0 c lt) (f.holds.low k lt)));
+          targets_range = all_within_yes TARGETS.high d.targets (recursion_from_All (λ t. t ≤ TARGETS.high) d.targets (λ k c lt. subst (λ t. t ≤ TARGETS.high) (one_element d.targets k 0 c lt) (f.holds.low k lt)));
         }
 
     posting_in : (k : ℕ) (x : Posting) → slice_get h.postings k ≡ Some x → IsOfBook x → IsInRange x

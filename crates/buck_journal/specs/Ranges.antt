@@ -2,8 +2,8 @@
 use Rattle.std.specs.Prelude.{◌≡◌, ℕ, ◌≤◌, true, List, length, All}
 use Rattle.buck_record.specs.checking.Rules.{within, all_within, one_to}
 use Rattle.buck_apt.specs.Instruction.{IsWithin}
-use Rattle.buck_apt.specs.declared.slots.TheConstants.{TARGETS_RANGE}
-use Rattle.buck_stem.specs.declared.file.slots.TheConstants.{SPECIES_RANGE, SAMPLES_RANGE, MOST_SAMPLES, MOST_ZONES}
+use Rattle.buck_apt.specs.declared.slots.TheConstants.{TARGETS}
+use Rattle.buck_stem.specs.declared.file.slots.TheConstants.{SPECIES, SAMPLES, MOST_SAMPLES, MOST_ZONES}
 use Rattle.buck_stem.specs.Stem.{IsStem}
 use Rattle.buck_book.specs.declared.posting.Posting.{Posting}
 use Rattle.buck_book.specs.declared.posting.Posting.TheVariants.{Cut, Demand}
@@ -27,9 +27,9 @@ call_of_demand d = record { harvester = d.harvester; number = d.number; version 
 pub record IsCutInRange (e : EntryParts) : Type 0 where
   pub call : is_call (call_of_cut e) ≡ true
   pub stem_number : e.stem.number ≤ 4294967295
-  pub species : within SPECIES_RANGE.low SPECIES_RANGE.high e.stem.species ≡ true
+  pub species : within SPECIES.low SPECIES.high e.stem.species ≡ true
   pub samples_number : one_to MOST_SAMPLES (length e.stem.samples) ≡ true
-  pub samples_range : all_within SAMPLES_RANGE.low SAMPLES_RANGE.high e.stem.samples ≡ true
+  pub samples_range : all_within SAMPLES.low SAMPLES.high e.stem.samples ≡ true
   pub zones_number : length e.stem.zones ≤ MOST_ZONES
   pub zones_range : are_zones 0 (zone_numbers e.stem.zones) ≡ true
   pub logs_number : length e.logs ≤ 80
@@ -39,7 +39,7 @@ pub record IsCutInRange (e : EntryParts) : Type 0 where
 pub record IsDemandInRange (d : DemandParts) : Type 0 where
   pub call : is_call (call_of_demand d) ≡ true
   pub targets_number : length d.targets ≤ 16384
-  pub targets_range : all_within TARGETS_RANGE.low TARGETS_RANGE.high d.targets ≡ true
+  pub targets_range : all_within TARGETS.low TARGETS.high d.targets ≡ true
 
 abbrev pub IsInRange : Posting → Type 0
 IsInRange (Cut e) = IsCutInRange e

@@ -5,7 +5,6 @@ use Rattle.std.proofs.lemmas.Bool.{false≢true, leb-true}
 use Rattle.std.proofs.lemmas.List.Elements.{All-from_recursion}
 use Rattle.std.proofs.lemmas.List.Sums.{AllPass-from_list_all}
 use Rattle.buck_record.specs.checking.Check.{◌>>=◌, check, each}
-use Rattle.buck_record.specs.declared.ranged.Ranged.{Ranged}
 use Rattle.buck_record.specs.declared.slot.Slot.{Slot}
 use Rattle.buck_record.specs.checking.Rules.{within, all_within, all_in_range, counted_to}
 
@@ -44,16 +43,16 @@ pub all_within_ok : (low high : ℕ) (ns : List ℕ) → all_within low high ns 
 all_within_ok low high ns h = λ k d lt. within_ok low high _ (AllPass-from_list_all (within low high) ns h k d lt)
 
 -- each number is in the range of its item
-abbrev pub AreRanged : Ranged → List ℕ → Type 0
+abbrev pub AreRanged : Slot → List ℕ → Type 0
 AreRanged item ns = All (λ n. (item.low ≤ n) × (n ≤ item.high)) ns
 
 module _ {E : Type 0} (fault : ℕ → ℕ → E) where
   -- numbers that are in the range of their item
-  pub in_range_ok : (item : Ranged) (ns : List ℕ) → all_in_range fault item ns ≡ Ok tt → AreRanged item ns
+  pub in_range_ok : (item : Slot) (ns : List ℕ) → all_in_range fault item ns ≡ Ok tt → AreRanged item ns
   in_range_ok item ns h = all_within_ok item.low item.high ns (check_ok _ _ h)
 
   -- and what stands after them
-  pub ranged : (item : Ranged) (ns : List ℕ) (r : Result (Unit {0}) E) → (all_in_range fault item ns >>= λ _. r) ≡ Ok tt
+  pub ranged : (item : Slot) (ns : List ℕ) (r : Result (Unit {0}) E) → (all_in_range fault item ns >>= λ _. r) ≡ Ok tt
       → AreRanged item ns × (r ≡ Ok tt)
   ranged item ns r h = let p = then_ok (all_in_range fault item ns) r h in (in_range_ok item ns p.0, p.1)
 

@@ -20,7 +20,6 @@ mod listed;
 mod memory;
 mod numbered;
 mod pass;
-mod ranged;
 mod slot;
 mod writing;
 
@@ -38,7 +37,6 @@ pub use pass::kept_numbers::numbers_into;
 pub use pass::parts::two_parts;
 pub use pass::short_heads::next_quick;
 pub use pass::small_numbers::append_numbers;
-pub use ranged::Ranged;
 pub use slot::Slot;
 pub use writing::line::{put_line, put_number, put_numbers};
 pub use writing::text;

@@ -12,7 +12,7 @@ use Rattle.buck_record.specs.bytes.Record.{items_of, numbers_of, number_of, one_
 use Rattle.buck_record.specs.pass.Cursor.{HasItems, Joins, Leads, item_in}
 use Rattle.buck_record.specs.checking.Rules.{file_slot, within, all_within}
 use Rattle.buck_stem.specs.declared.file.draft.Draft.{Draft}
-use Rattle.buck_stem.specs.declared.file.slots.TheConstants.{STEM, SPECIES, SPECIES_RANGE, SAMPLES, SAMPLES_RANGE, MOST_SAMPLES}
+use Rattle.buck_stem.specs.declared.file.slots.TheConstants.{STEM, SPECIES, SAMPLES, MOST_SAMPLES}
 use Rattle.buck_stem.specs.Stem.{StemParts, stem_of, IsStem}
 use Rattle.buck_stem.specs.file.Stm.{draft_range, draft_order, draft_count, parts_of, zones_of, stm_of}
 use Rattle.buck_stem.specs.inner.Ready.{IsReadyDraft}
@@ -89,14 +89,14 @@ is-within : (low high n : ℕ) → low ≤ n → n ≤ high → within low high 
 is-within low high n l h = and_from _ _ (le-leb _ _ l) (le-leb _ _ h)
 
 module _ (n s : ℕ) (ns zs : List ℕ) (z : AreZones zs) where
-  plain-range : SPECIES_RANGE.low ≤ s → s ≤ SPECIES_RANGE.high → All (λ d. d ≤ SAMPLES_RANGE.high) ns → draft_range (draft n s ns zs) ≡ Ok tt
+  plain-range : SPECIES.low ≤ s → s ≤ SPECIES.high → All (λ d. d ≤ SAMPLES.high) ns → draft_range (draft n s ns zs) ≡ Ok tt
   unfolding draft_range
   plain-range low high thin =
-      let species : all_within SPECIES_RANGE.low SPECIES_RANGE.high (s ∷ []) ≡ true =
-      and_from _ _ (is-within SPECIES_RANGE.low SPECIES_RANGE.high s low high) refl in
-      let samples : all_within SAMPLES_RANGE.low SAMPLES_RANGE.high ns ≡ true =
-      list_all-from_AllPass (within SAMPLES_RANGE.low SAMPLES_RANGE.high) ns
-      (λ k d lt. is-within SAMPLES_RANGE.low SAMPLES_RANGE.high (get_or ns k d) (omega arith) (thin k d lt)) in
+      let species : all_within SPECIES.low SPECIES.high (s ∷ []) ≡ true =
+      and_from _ _ (is-within SPECIES.low SPECIES.high s low high) refl in
+      let samples : all_within SAMPLES.low SAMPLES.high ns ≡ true =
+      list_all-from_AllPass (within SAMPLES.low SAMPLES.high) ns
+      (λ k d lt. is-within SAMPLES.low SAMPLES.high (get_or ns k d) (omega arith) (thin k d lt)) in
       rw (species, samples, z.starts_range, z.grades_range) refl
 
   plain-order : draft_order (draft n s ns zs) ≡ Ok tt
@@ -107,7 +107,7 @@ module _ (n s : ℕ) (ns zs : List ℕ) (z : AreZones zs) where
   unfolding draft_count
   plain-count low high = rw (is-within 1 MOST_SAMPLES (length ns) low high, z.count) refl
 
-  pub plain-ready : SPECIES_RANGE.low ≤ s → s ≤ SPECIES_RANGE.high → All (λ d. d ≤ SAMPLES_RANGE.high) ns → 1 ≤ length ns → length ns ≤ MOST_SAMPLES
+  pub plain-ready : SPECIES.low ≤ s → s ≤ SPECIES.high → All (λ d. d ≤ SAMPLES.high) ns → 1 ≤ length ns → length ns ≤ MOST_SAMPLES
       → IsReadyDraft (draft n s ns zs)
   plain-ready low high thin some few = record {
     range = plain-range low high thin;
@@ -122,8 +122,8 @@ parts-of-draft n s ns zs = refl
 -- they are those of a stem
 pub is_plain_stem : (n s : ℕ) (ns text : List ℕ) (zones : List (ℕ × ℕ))
     → SaysZones text zones
-    → (SPECIES_RANGE.low ≤ s) × (s ≤ SPECIES_RANGE.high)
-    → All (λ d. d ≤ SAMPLES_RANGE.high) ns
+    → (SPECIES.low ≤ s) × (s ≤ SPECIES.high)
+    → All (λ d. d ≤ SAMPLES.high) ns
     → (1 ≤ length ns) × (length ns ≤ MOST_SAMPLES)
     → IsStem (stem_of n s ns zones)
 is_plain_stem n s ns text zones z species thin number =
@@ -136,8 +136,8 @@ pub stem_leads : (text one two three left : List ℕ) (n s : ℕ) (ns : List ℕ
     → LeadsNumbers SPECIES one (s ∷ []) two
     → LeadsNumbers SAMPLES two ns three
     → LeadsZones three zones left
-    → (SPECIES_RANGE.low ≤ s) × (s ≤ SPECIES_RANGE.high)
-    → All (λ d. d ≤ SAMPLES_RANGE.high) ns
+    → (SPECIES.low ≤ s) × (s ≤ SPECIES.high)
+    → All (λ d. d ≤ SAMPLES.high) ns
     → (1 ≤ length ns) × (length ns ≤ MOST_SAMPLES)
     → stem ≡ stem_of n s ns zones
     → LeadsStem text stem left

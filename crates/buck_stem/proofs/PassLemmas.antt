@@ -9,7 +9,7 @@ use Rattle.buck_record.specs.checking.Rules.{within, all_within, is_rising}
 use Rattle.buck_record.proofs.PassLemmas.{AreRanged, passed, check_ok, then_ok, each_ok, both, within_ok, ranged, counted}
 use Rattle.buck_stem.specs.declared.file.draft.Draft.{Draft}
 use Rattle.buck_stem.specs.Stem.{IsStem, IsGrade, IsRisingFrom, stem_of}
-use Rattle.buck_stem.specs.declared.file.slots.TheConstants.{STEM, SPECIES, SPECIES_RANGE, SAMPLES, SAMPLES_RANGE, MOST_SAMPLES, STARTS_RANGE, GRADES_RANGE, MOST_ZONES}
+use Rattle.buck_stem.specs.declared.file.slots.TheConstants.{STEM, SPECIES, SAMPLES, MOST_SAMPLES, STARTS, GRADES, MOST_ZONES}
 use Rattle.buck_stem.specs.declared.file.fault.StmFault.TheVariants.{Range, Count}
 use Rattle.buck_stem.specs.file.Stm.{checked, starts, grades, zones_of, draft_range, draft_order, draft_count, in_range, in_order, in_number, parts_of}
 use Rattle.buck_stem.specs.inner.Ready.{IsReadyDraft}
@@ -28,10 +28,10 @@ started high [] h = tt
 started high (s ∷ []) h = tt
 started high (s ∷ g ∷ more) h = let p = first_within 0 high s (starts more) h in (p.0.1, started high more p.1)
 
-graded : (ns : List ℕ) → all_within GRADES_RANGE.low GRADES_RANGE.high (grades ns) ≡ true → AllByRecursion (λ (z : ℕ × ℕ). IsGrade z.1) (zones_of ns)
+graded : (ns : List ℕ) → all_within GRADES.low GRADES.high (grades ns) ≡ true → AllByRecursion (λ (z : ℕ × ℕ). IsGrade z.1) (zones_of ns)
 graded [] h = tt
 graded (s ∷ []) h = tt
-graded (s ∷ g ∷ more) h = let p = first_within GRADES_RANGE.low GRADES_RANGE.high g (grades more) h in (p.0, graded more p.1)
+graded (s ∷ g ∷ more) h = let p = first_within GRADES.low GRADES.high g (grades more) h in (p.0, graded more p.1)
 
 risen : (low : ℕ) (ns : List ℕ) → ((n : ℕ) (more : List ℕ) → starts ns ≡ n ∷ more → low ≤ n) → is_rising (starts ns) ≡ true → IsRisingFrom low (zones_of ns)
 risen low [] first h = tt
@@ -45,17 +45,17 @@ risen low (s ∷ g ∷ t ∷ f ∷ more) first h =
 
 -- what the tests of a stem's numbers leave
 pub record AreInRange (d : Draft) : Type 0 where
-  pub species : AreRanged SPECIES_RANGE d.species
-  pub samples : AreRanged SAMPLES_RANGE d.samples
-  pub starts : all_within STARTS_RANGE.low STARTS_RANGE.high (starts d.zones) ≡ true
-  pub grades : all_within GRADES_RANGE.low GRADES_RANGE.high (grades d.zones) ≡ true
+  pub species : AreRanged SPECIES d.species
+  pub samples : AreRanged SAMPLES d.samples
+  pub starts : all_within STARTS.low STARTS.high (starts d.zones) ≡ true
+  pub grades : all_within GRADES.low GRADES.high (grades d.zones) ≡ true
 
 pub range_ok : (d : Draft) → draft_range d ≡ Ok tt → AreInRange d
 unfolding draft_range
 range_ok d h =
-    let q = ranged Range SPECIES_RANGE d.species _ h in
-    let r = ranged Range SAMPLES_RANGE d.samples _ q.1 in
-    let z = passed (all_within STARTS_RANGE.low STARTS_RANGE.high (starts d.zones)) _ _ r.1 in
+    let q = ranged Range SPECIES d.species _ h in
+    let r = ranged Range SAMPLES d.samples _ q.1 in
+    let z = passed (all_within STARTS.low STARTS.high (starts d.zones)) _ _ r.1 in
     record { species = q.0; samples = r.0; starts = z.0; grades = check_ok _ _ z.1 }
 
 pub record AreCounted (d : Draft) : Type 0 where
@@ -88,7 +88,7 @@ is_stem d range order count =
       samples_number = n.samples;
       samples_range = λ k x lt. (r.samples k x lt).1;
       zones_number = omega (arith, half d.zones, n.zones);
-      starts_range = All-from_recursion _ (zones_of d.zones) (started STARTS_RANGE.high d.zones r.starts);
+      starts_range = All-from_recursion _ (zones_of d.zones) (started STARTS.high d.zones r.starts);
       starts_rise = risen 0 d.zones (λ n more e. omega arith) (order_ok d order);
       grades_range = All-from_recursion _ (zones_of d.zones) (graded d.zones r.grades);
     }

@@ -1,6 +1,6 @@
 //! Items one after the other: a text that begins with an item is seen to, and a text without one is seen to be at its end.
 //! What is found is right by contract; that something is found, no contract says.
-use buck_record::{Slot, is_done, next_in, next_quick};
+use buck_record::{is_done, next_in, next_quick, slot};
 
 /// A slot, a text that begins with an item in it, its rest, and what is left.
 const FRONTS: [(u16, u16, &str, &str, &str); 14] = [
@@ -31,7 +31,7 @@ fn is_found(found: Option<(&[u8], &[u8])>, rest: &str, left: &str) -> bool {
 fn first_other(rows: &[(u16, u16, &str, &str, &str)]) -> usize {
     for i in 0..rows.len() {
         let (number, kind, text, rest, left) = rows[i];
-        let slot = Slot { number, kind };
+        let slot = slot!(number, kind);
         if !is_found(next_in(slot, text.as_bytes()), rest, left) {
             return i + 1;
         }

@@ -3,22 +3,16 @@ use buck_apt::AptFault;
 use buck_record::check::make_each;
 use buck_record::rules::{FILE, items_at, items_in, numbers_in};
 use buck_record::table::groups;
-use buck_record::{Group, RecordFault, Slot, pieces_at};
+use buck_record::{Group, RecordFault, Slot, pieces_at, slot};
 use std::alloc::Global;
 use std::test::Fail;
 
 /// Two groups of a slot `911 1`, after other items.
 const ITEMS: &[u8] = b"1 2 APT~901 1 100~911 1 saw~912 1 1 7~911 1 pole~912 1 2~912 1 3~";
 
-const NAME: Slot = Slot {
-    number: 911,
-    kind: 1,
-};
+const NAME: Slot = slot!(911, 1);
 
-const SPECIES: Slot = Slot {
-    number: 912,
-    kind: 1,
-};
+const SPECIES: Slot = slot!(912, 1);
 
 fn place(item: usize) -> RecordFault {
     RecordFault::Head { item }

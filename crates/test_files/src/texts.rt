@@ -1,6 +1,6 @@
 //! Texts of faults.
 use buck_apt::AptFault;
-use buck_record::{FormFault, Memory, RecordFault, Slot};
+use buck_record::{FormFault, Memory, RecordFault, slot};
 use buck_stem::{StemFault, StmFault};
 use std::alloc::Global;
 use std::fmt::Display;
@@ -29,10 +29,7 @@ out of memory
 
 /// Those texts as they are.
 fn common<T: FormFault + Display>(alloc: Global) -> Result<String, Fail> {
-    let slot = Slot {
-        number: 954,
-        kind: 1,
-    };
+    let slot = slot!(954, 1);
     let (head, missing, twice) = (T::headless(3), T::missing(slot), T::twice(slot));
     let (digits, range, order) = (T::digits(slot, 2), T::range(slot), T::order(slot));
     let (count, memory) = (T::count(slot), T::out_of_memory());

@@ -16,21 +16,15 @@ use buck_record::rules::{
 };
 use buck_record::table::{count, front, groups, missing, rest, twice};
 use buck_record::{
-    FaultNumbers, FormFault, Group, Listed, Numbered, Piece, Ranged, RecordFault, Slot,
+    FaultNumbers, FormFault, Group, Listed, Numbered, Piece, RecordFault, Slot,
     append_numbers, is_done, items, next_in, number, numbers, numbers_into, pieces, pieces_at,
-    put_line, put_number, wide,
+    put_line, put_number, slot, wide,
 };
 use std::alloc::Global;
 
-const LOWER: Slot = Slot {
-    number: 915,
-    kind: 1,
-};
+const LOWER: Slot = slot!(915, 1);
 
-const UPPER: Slot = Slot {
-    number: 915,
-    kind: 2,
-};
+const UPPER: Slot = slot!(915, 2, 1..=2000);
 
 /// Two items of one number, and of two kinds.
 const TWO_KINDS: [Piece<'static>; 2] = [
@@ -412,12 +406,7 @@ pub fn all_within_without_the_highest() {
 
 /// A number one past the range is let by.
 pub fn all_in_range_lets_one_more_by() {
-    let item = Ranged {
-        slot: UPPER,
-        low: 1,
-        high: 2000,
-    };
-    let right: Result<(), AptFault> = all_in_range(item, &[2001]);
+    let right: Result<(), AptFault> = all_in_range(UPPER, &[2001]);
     let wrong = Ok(());
     prove!(right != wrong);
 }

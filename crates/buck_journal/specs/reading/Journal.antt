@@ -31,8 +31,8 @@ use Rattle.buck_record.specs.bytes.Record.{items_of, numbers_of, number_of}
 use Rattle.buck_record.specs.checking.Table.{is_at}
 use Rattle.buck_record.specs.checking.Check.{◌>>=◌, check}
 use Rattle.buck_record.specs.checking.Rules.{slot, file_slot, within, all_within, one_to}
-use Rattle.buck_apt.specs.declared.slots.TheConstants.{LENGTHS_RANGE, TARGETS_RANGE}
-use Rattle.buck_stem.specs.declared.file.slots.TheConstants.{SPECIES_RANGE, SAMPLES_RANGE, MOST_SAMPLES, STARTS_RANGE, GRADES_RANGE, MOST_ZONES}
+use Rattle.buck_apt.specs.declared.slots.TheConstants.{LENGTHS, TARGETS}
+use Rattle.buck_stem.specs.declared.file.slots.TheConstants.{SPECIES, SAMPLES, MOST_SAMPLES, STARTS, GRADES, MOST_ZONES}
 use Rattle.buck_stem.specs.Stem.{StemParts, stem_of}
 use Rattle.buck_stem.specs.file.Stm.{zones_of}
 use Rattle.buck_value.specs.declared.log.Log.{Log}
@@ -93,18 +93,18 @@ unfoldable pub head_at : List ItemParts → ℕ → Result (ℕ × ℕ) JournalF
 head_at items k = do
   numbers ← numbers_at (slot 981 2) items k
   _ ← check (length numbers == 2) (Count (k + 1))
-  _ ← check (within SPECIES_RANGE.low SPECIES_RANGE.high (slice_index numbers 1)) (Range (k + 1))
+  _ ← check (within SPECIES.low SPECIES.high (slice_index numbers 1)) (Range (k + 1))
   Ok (slice_index numbers 0, slice_index numbers 1)
 
 unfoldable pub samples_at : List ItemParts → ℕ → Result (List ℕ) JournalFault
 samples_at items k = do
   samples ← numbers_at (slot 981 3) items k
   _ ← check (one_to MOST_SAMPLES (length samples)) (Count (k + 1))
-  _ ← check (all_within SAMPLES_RANGE.low SAMPLES_RANGE.high samples) (Range (k + 1))
+  _ ← check (all_within SAMPLES.low SAMPLES.high samples) (Range (k + 1))
   Ok samples
 
 abbrev pub is_zone : ℕ → ℕ → ℕ → Bool
-is_zone low start grade = within low STARTS_RANGE.high start && within GRADES_RANGE.low GRADES_RANGE.high grade
+is_zone low start grade = within low STARTS.high start && within GRADES.low GRADES.high grade
 
 -- starts from `low` on and grades, each in its range, and each start above the one before
 abbrev pub are_zones : ℕ → List ℕ → Bool
@@ -129,7 +129,7 @@ stem_at items k = do
 
 abbrev pub is_log : ℕ → ℕ → ℕ → Bool
 is_log start long assortment =
-    within STARTS_RANGE.low STARTS_RANGE.high start && (within 0 LENGTHS_RANGE.high long && within 0 15 assortment)
+    within STARTS.low STARTS.high start && (within 0 LENGTHS.high long && within 0 15 assortment)
 
 -- starts, lengths and assortments, three by three
 abbrev pub are_logs : List ℕ → Bool
@@ -158,7 +158,7 @@ unfoldable pub targets_at : List ItemParts → ℕ → Result (List ℕ) Journal
 targets_at items k = do
   targets ← numbers_at (slot 982 2) items k
   _ ← check (nat_le (length targets) 16384) (Count (k + 1))
-  _ ← check (all_within TARGETS_RANGE.low TARGETS_RANGE.high targets) (Range (k + 1))
+  _ ← check (all_within TARGETS.low TARGETS.high targets) (Range (k + 1))
   Ok targets
 
 -- the item begins a posting

@@ -9,12 +9,12 @@ ghost use Rattle.buck_journal.specs.reading.Journal.{rest_at, numbers_at, sheet_
 
 use crate::reading::call::Call;
 use crate::reading::fault::JournalFault;
-use crate::reading::slots::{HEAD, SHEET, TARGETS, WORTH};
-use buck_apt::slots::TARGETS_RANGE;
+use crate::reading::slots::{DEMAND_TARGETS, HEAD, SHEET, WORTH};
+use buck_apt::slots::TARGETS;
 use buck_record::check::check;
 use buck_record::rules::all_within;
 use buck_record::{Listed, Piece, RecordFault, Slot, numbers, wide};
-use buck_stem::slots::SPECIES_RANGE;
+use buck_stem::slots::SPECIES;
 use buck_value::Log;
 use std::alloc::{AllocError, Global};
 
@@ -98,10 +98,10 @@ pub(crate) fn targets_at<'a>(
     requires { k ≤ length items.now + 5 }
     ensures { Gives Memory result (targets_at items.now k) }
 {
-    let targets = numbers_at(alloc, TARGETS, items, k)?;
+    let targets = numbers_at(alloc, DEMAND_TARGETS, items, k)?;
     check(targets.len() <= 16_384, JournalFault::Count { item: k + 1 })?;
     check(
-        all_within(TARGETS_RANGE.low, TARGETS_RANGE.high, targets.as_slice()),
+        all_within(TARGETS.low, TARGETS.high, targets.as_slice()),
         JournalFault::Range { item: k + 1 },
     )?;
     Ok(targets)
@@ -164,17 +164,17 @@ pub(crate) fn head_at<'a>(
 ) -> Result<(u32, u8), JournalFault>
     requires { k ≤ length items.now + 5 }
     ensures value { Gives Memory result (head_at items.now k) }
-    ensures species { IfOk result (λ head. (SPECIES_RANGE.low ≤ head.1) × (head.1 ≤ SPECIES_RANGE.high)) }
+    ensures species { IfOk result (λ head. (SPECIES.low ≤ head.1) × (head.1 ≤ SPECIES.high)) }
 {
     let numbers = numbers_at(alloc, HEAD, items, k)?;
     if numbers.len() != 2 {
         return Err(JournalFault::Count { item: k + 1 });
     }
     let species = numbers.as_slice()[1];
-    if species < SPECIES_RANGE.low {
+    if species < SPECIES.low {
         return Err(JournalFault::Range { item: k + 1 });
     }
-    if species > SPECIES_RANGE.high {
+    if species > SPECIES.high {
         return Err(JournalFault::Range { item: k + 1 });
     }
     Ok((numbers.as_slice()[0], species as u8))

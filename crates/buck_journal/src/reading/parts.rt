@@ -9,13 +9,13 @@ ghost use Rattle.buck_journal.specs.reading.Journal.{samples_at, is_zone, are_zo
 
 use crate::reading::fault::JournalFault;
 use crate::reading::items::{head_at, numbers_at};
-use crate::reading::slots::{LOGS, SAMPLES, ZONES};
-use buck_apt::slots::LENGTHS_RANGE;
+use crate::reading::slots::{CUT_SAMPLES, CUT_ZONES, LOGS};
+use buck_apt::slots::LENGTHS;
 use buck_record::Piece;
 use buck_record::check::check;
 use buck_record::rules::{all_within, one_to};
 use buck_stem::Stem;
-use buck_stem::slots::{GRADES_RANGE, MOST_SAMPLES, MOST_ZONES, SAMPLES_RANGE, STARTS_RANGE};
+use buck_stem::slots::{GRADES, MOST_SAMPLES, MOST_ZONES, SAMPLES, STARTS};
 use buck_value::Log;
 use std::alloc::{AllocError, Global};
 
@@ -42,11 +42,11 @@ pub(crate) fn samples_at<'a>(
     ensures value { Gives Memory (listed result) (samples_at items.now k) }
     ensures valid { IfOk result (λ samples. AreSamples samples.items) }
 {
-    let numbers = numbers_at(alloc, SAMPLES, items, k)?;
+    let numbers = numbers_at(alloc, CUT_SAMPLES, items, k)?;
     if !one_to(MOST_SAMPLES, numbers.len()) {
         return Err(JournalFault::Count { item: k + 1 });
     }
-    if !all_within(SAMPLES_RANGE.low, SAMPLES_RANGE.high, numbers.as_slice()) {
+    if !all_within(SAMPLES.low, SAMPLES.high, numbers.as_slice()) {
         return Err(JournalFault::Range { item: k + 1 });
     }
     Ok(samples_of(alloc, numbers.as_slice())?)
@@ -56,15 +56,15 @@ fn is_zone(low: u32, start: u32, grade: u32) -> bool
     ensures { result ≡ is_zone low start grade }
 {
     low <= start
-        && start <= STARTS_RANGE.high
-        && GRADES_RANGE.low <= grade
-        && grade <= GRADES_RANGE.high
+        && start <= STARTS.high
+        && GRADES.low <= grade
+        && grade <= GRADES.high
 }
 
 fn is_log(start: u32, length: u32, assortment: u32) -> bool
     ensures { result ≡ is_log start length assortment }
 {
-    start <= STARTS_RANGE.high && length <= LENGTHS_RANGE.high && assortment <= 15
+    start <= STARTS.high && length <= LENGTHS.high && assortment <= 15
 }
 
 /// Whether starts and grades are in their ranges, and starts rise.
@@ -105,7 +105,7 @@ pub(crate) fn zones_at<'a>(
     ensures value { Gives Memory (listed result) (zones_at items.now k) }
     ensures valid { IfOk result (λ zones. AreZones zones.items) }
 {
-    let numbers = numbers_at(alloc, ZONES, items, k)?;
+    let numbers = numbers_at(alloc, CUT_ZONES, items, k)?;
     check(numbers.len() % 2 == 0, JournalFault::Count { item: k + 1 })?;
     if numbers.len() > 2 * MOST_ZONES {
         return Err(JournalFault::Count { item: k + 1 });

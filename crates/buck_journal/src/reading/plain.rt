@@ -11,13 +11,15 @@ use crate::reading::items::{call_of, is_call};
 use crate::reading::journal::Journal;
 use crate::reading::parts::{are_logs, are_zones, logs_of, zones_of};
 use crate::reading::postings::{cut_of, demand_of};
-use crate::reading::slots::{CUT, DEMAND, HEAD, LOGS, SAMPLES, SHEET, TARGETS, WORTH, ZONES};
-use buck_apt::slots::TARGETS_RANGE;
+use crate::reading::slots::{
+    CUT, CUT_SAMPLES, CUT_ZONES, DEMAND, DEMAND_TARGETS, HEAD, LOGS, SHEET, WORTH,
+};
+use buck_apt::slots::TARGETS;
 use buck_book::Posting;
 use buck_record::rules::{FILE, all_within, one_to};
 use buck_record::{Slot, append_numbers, is_done, next_quick, numbers_into, wide};
 use buck_stem::Stem;
-use buck_stem::slots::{MOST_SAMPLES, MOST_ZONES, SAMPLES_RANGE, SPECIES_RANGE};
+use buck_stem::slots::{MOST_SAMPLES, MOST_ZONES, SAMPLES, SPECIES};
 use buck_value::Log;
 use std::alloc::{AllocError, Global};
 
@@ -67,7 +69,7 @@ fn next_head<'a>(
     text: &'a [u8],
 ) -> Result<Option<((u32, u8), &'a [u8])>, AllocError>
     ensures leads { IfOk result (λ o. IfSome o (λ w. LeadsTo (slot 981 2) head_at text.now w.0 w.1.now)) }
-    ensures species { IfOk result (λ o. IfSome o (λ w. (SPECIES_RANGE.low ≤ w.0.1) × (w.0.1 ≤ SPECIES_RANGE.high))) }
+    ensures species { IfOk result (λ o. IfSome o (λ w. (SPECIES.low ≤ w.0.1) × (w.0.1 ≤ SPECIES.high))) }
 {
     let Some(left) = next_numbers(room, HEAD, text)? else {
         return Ok(None);
@@ -77,10 +79,10 @@ fn next_head<'a>(
         return Ok(None);
     }
     let species = numbers[1];
-    if species < SPECIES_RANGE.low {
+    if species < SPECIES.low {
         return Ok(None);
     }
-    if species > SPECIES_RANGE.high {
+    if species > SPECIES.high {
         return Ok(None);
     }
     Ok(Some(((numbers[0], species as u8), left)))
@@ -92,12 +94,12 @@ fn next_samples<'a>(samples: &mut Vec<u16>, text: &'a [u8]) -> Result<Option<&'a
         LeadsTo (slot 981 3) samples_at text.now samples.new.items left.now)) }
     ensures valid { IfOk result (λ o. IfSome o (λ _. AreSamples samples.new.items)) }
 {
-    let Some((rest, left)) = next_quick(SAMPLES, text) else {
+    let Some((rest, left)) = next_quick(CUT_SAMPLES, text) else {
         return Ok(None);
     };
     samples.clear();
     samples.reserve(rest.len() / 2 + 1)?;
-    if !append_numbers(SAMPLES_RANGE.high as u16, rest, samples) {
+    if !append_numbers(SAMPLES.high as u16, rest, samples) {
         return Ok(None);
     }
     if !one_to(MOST_SAMPLES, samples.len()) {
@@ -115,7 +117,7 @@ fn next_zones<'a>(
     ensures leads { IfOk result (λ o. IfSome o (λ w. LeadsTo (slot 981 4) zones_at text.now w.0.items w.1.now)) }
     ensures valid { IfOk result (λ o. IfSome o (λ w. AreZones w.0.items)) }
 {
-    let Some(left) = next_numbers(room, ZONES, text)? else {
+    let Some(left) = next_numbers(room, CUT_ZONES, text)? else {
         return Ok(None);
     };
     if room.len() % 2 != 0 {
@@ -225,13 +227,13 @@ fn next_targets<'a>(
 ) -> Result<Option<(Vec<u32>, &'a [u8])>, AllocError>
     ensures { IfOk result (λ o. IfSome o (λ w. LeadsTo (slot 982 2) targets_at text.now w.0.items w.1.now)) }
 {
-    let Some(left) = next_numbers(room, TARGETS, text)? else {
+    let Some(left) = next_numbers(room, DEMAND_TARGETS, text)? else {
         return Ok(None);
     };
     if room.len() > 16_384 {
         return Ok(None);
     }
-    if !all_within(TARGETS_RANGE.low, TARGETS_RANGE.high, room.as_slice()) {
+    if !all_within(TARGETS.low, TARGETS.high, room.as_slice()) {
         return Ok(None);
     }
     let targets = Vec::from_slice(alloc, room.as_slice())?;

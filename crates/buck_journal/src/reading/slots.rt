@@ -1,56 +1,29 @@
 //! The items of a journal's table.
-use buck_record::Slot;
+use buck_record::{Slot, slot};
 
 /// The prices of a sheet.
-pub(crate) const SHEET: Slot = Slot {
-    number: 971,
-    kind: 1,
-};
+pub(crate) const SHEET: Slot = slot!(971, 1);
 
 /// The first item of a cut.
-pub(crate) const CUT: Slot = Slot {
-    number: 981,
-    kind: 1,
-};
+pub(crate) const CUT: Slot = slot!(981, 1);
 
 /// The number and the species of a stem.
-pub(crate) const HEAD: Slot = Slot {
-    number: 981,
-    kind: 2,
-};
+pub(crate) const HEAD: Slot = slot!(981, 2);
 
 /// The diameters.
-pub(crate) const SAMPLES: Slot = Slot {
-    number: 981,
-    kind: 3,
-};
+pub(crate) const CUT_SAMPLES: Slot = slot!(981, 3);
 
 /// The zones, a start and a grade by turns.
-pub(crate) const ZONES: Slot = Slot {
-    number: 981,
-    kind: 4,
-};
+pub(crate) const CUT_ZONES: Slot = slot!(981, 4);
 
 /// The logs: start, length and assortment by turns.
-pub(crate) const LOGS: Slot = Slot {
-    number: 981,
-    kind: 5,
-};
+pub(crate) const LOGS: Slot = slot!(981, 5);
 
 /// The worth of a cutting.
-pub(crate) const WORTH: Slot = Slot {
-    number: 981,
-    kind: 6,
-};
+pub(crate) const WORTH: Slot = slot!(981, 6);
 
 /// The first item of a demand.
-pub(crate) const DEMAND: Slot = Slot {
-    number: 982,
-    kind: 1,
-};
+pub(crate) const DEMAND: Slot = slot!(982, 1);
 
 /// The targets of a demand.
-pub(crate) const TARGETS: Slot = Slot {
-    number: 982,
-    kind: 2,
-};
+pub(crate) const DEMAND_TARGETS: Slot = slot!(982, 2);

@@ -3,14 +3,14 @@ use Rattle.std.specs.Prelude.{◌≡◌, ℕ, Bool, true, ◌&&◌, ◌==◌, Li
 use Rattle.std.specs.List.{before_first, list_all}
 use Rattle.buck_record.specs.Item.{ItemParts}
 use Rattle.buck_record.specs.declared.slot.Slot.{Slot}
-use Rattle.buck_record.specs.declared.ranged.Ranged.{Ranged}
 use Rattle.buck_record.specs.Reading.{with_fault}
 use Rattle.buck_record.specs.bytes.Record.{numbers_of}
 use Rattle.buck_record.specs.checking.Table.{is_at, count_in, rest_in}
 use Rattle.buck_record.specs.checking.Check.{check}
 
+-- an item whose numbers may be any, or a text
 abbrev pub slot : ℕ → ℕ → Slot
-slot number kind = record { number = number; kind = kind }
+slot number kind = record { number = number; kind = kind; low = 0; high = 4294967295 }
 
 -- the kind of file
 abbrev pub file_slot : Slot
@@ -44,9 +44,9 @@ all_within low high ns = list_all (within low high) ns
 abbrev pub one_to : ℕ → ℕ → Bool
 one_to most n = within 1 most n
 
--- the fault of an item, where one of its numbers is out of its range
-abbrev pub all_in_range : {E : Type 0} → (ℕ → ℕ → E) → Ranged → List ℕ → Result (Unit {0}) E
-all_in_range fault item ns = check (all_within item.low item.high ns) (of_slot fault item.slot)
+-- the fault of a slot, where one of its numbers is out of its range
+abbrev pub all_in_range : {E : Type 0} → (ℕ → ℕ → E) → Slot → List ℕ → Result (Unit {0}) E
+all_in_range fault s ns = check (all_within s.low s.high ns) (of_slot fault s)
 
 -- the fault of a slot, where it has no number or more than so many
 abbrev pub counted_to : {E : Type 0} → (ℕ → ℕ → E) → Slot → ℕ → List ℕ → Result (Unit {0}) E

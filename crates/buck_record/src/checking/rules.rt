@@ -12,12 +12,12 @@ use crate::fault::RecordFault;
 use crate::form::FormFault;
 use crate::item::Piece;
 use crate::listed::Listed;
-use crate::ranged::Ranged;
+use crate::slot;
 use crate::slot::Slot;
 use std::alloc::{AllocError, Global};
 
 /// The slot of the item that says the kind of file.
-pub const FILE: Slot = Slot { number: 1, kind: 2 };
+pub const FILE: Slot = slot!(1, 2);
 
 /// The items of a file's bytes, as [`pieces`] has them. Refused by the fault that is made of the place of the first
 /// item, counted from 1, that has no head, or by that of a refused growth.
@@ -91,14 +91,11 @@ pub fn one_to(most: usize, n: usize) -> bool
     within(1, most, n)
 }
 
-/// The fault of an item, where one of its numbers is out of its range.
-pub fn all_in_range<E: FormFault>(item: Ranged, numbers: &[u32]) -> Result<(), E>
-    ensures { result ≡ all_in_range E.range item numbers.now }
+/// The fault of a slot, where one of its numbers is out of its range.
+pub fn all_in_range<E: FormFault>(slot: Slot, numbers: &[u32]) -> Result<(), E>
+    ensures { result ≡ all_in_range E.range slot numbers.now }
 {
-    check(
-        all_within(item.low, item.high, numbers),
-        E::range(item.slot),
-    )
+    check(all_within(slot.low, slot.high, numbers), E::range(slot))
 }
 
 /// The fault of a slot, where it has no number or more than `most`.

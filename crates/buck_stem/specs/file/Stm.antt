@@ -10,7 +10,7 @@ use Rattle.buck_record.specs.bytes.Record.{items_of}
 use Rattle.buck_record.specs.checking.Table.{rest_in, first_missing, first_twice, groups_of}
 use Rattle.buck_record.specs.checking.Check.{◌>>=◌, check, none_of, each, make_each}
 use Rattle.buck_record.specs.checking.Rules.{file_slot, of_slot, has_no_strays, numbers_in, all_in_range, counted_to, is_rising}
-use Rattle.buck_stem.specs.declared.file.slots.TheConstants.{STEM, SPECIES, SPECIES_RANGE, SAMPLES, SAMPLES_RANGE, MOST_SAMPLES, ZONES, STARTS_RANGE, GRADES_RANGE, MOST_ZONES, NEEDED, MEMBERS}
+use Rattle.buck_stem.specs.declared.file.slots.TheConstants.{STEM, SPECIES, SAMPLES, MOST_SAMPLES, ZONES, STARTS, GRADES, MOST_ZONES, NEEDED, MEMBERS}
 use Rattle.buck_stem.specs.declared.file.draft.Draft.{Draft}
 use Rattle.buck_stem.specs.declared.file.fault.StmFault.{StmFault}
 use Rattle.buck_stem.specs.declared.file.fault.StmFault.TheVariants.{Head, NotStm, Missing, Twice, Digits, Range, Order, Count}
@@ -65,10 +65,10 @@ grades (start ∷ grade ∷ more) = grade ∷ grades more
 
 unfoldable pub draft_range : Draft → Result (Unit {0}) StmFault
 draft_range d = do
-  _ ← all_in_range Range SPECIES_RANGE d.species
-  _ ← all_in_range Range SAMPLES_RANGE d.samples
-  _ ← all_in_range Range STARTS_RANGE (starts d.zones)
-  all_in_range Range GRADES_RANGE (grades d.zones)
+  _ ← all_in_range Range SPECIES d.species
+  _ ← all_in_range Range SAMPLES d.samples
+  _ ← all_in_range Range STARTS (starts d.zones)
+  all_in_range Range GRADES (grades d.zones)
 
 -- Line 6, Range: each number is in its range.
 unfoldable pub in_range : List Draft → Result (Unit {0}) StmFault

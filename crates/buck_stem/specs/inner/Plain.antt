@@ -7,7 +7,7 @@ use Rattle.buck_record.specs.pass.Cursor.{HasItems, Leads, item_in}
 use Rattle.buck_record.specs.declared.slot.Slot.{Slot}
 use Rattle.buck_record.specs.checking.Rules.{all_within, is_rising}
 use Rattle.buck_stem.specs.declared.file.draft.Draft.{Draft}
-use Rattle.buck_stem.specs.declared.file.slots.TheConstants.{STEM, SPECIES, SAMPLES, ZONES, STARTS_RANGE, GRADES_RANGE, MOST_ZONES}
+use Rattle.buck_stem.specs.declared.file.slots.TheConstants.{STEM, SPECIES, SAMPLES, ZONES, STARTS, GRADES, MOST_ZONES}
 use Rattle.buck_stem.specs.Stem.{StemParts}
 use Rattle.buck_stem.specs.file.Stm.{starts, grades, zones_of, parts_of, stm_of}
 use Rattle.buck_stem.specs.inner.Ready.{IsReadyDraft}
@@ -48,8 +48,8 @@ LeadsNumbers s text ns left = (t : List ℕ) × (numbers_of t ≡ Ok ns) × Lead
 
 -- starts and grades by turns that pass the last three lines
 pub record AreZones (numbers : List ℕ) : Type 0 where
-  pub starts_range : all_within STARTS_RANGE.low STARTS_RANGE.high (starts numbers) ≡ true
-  pub grades_range : all_within GRADES_RANGE.low GRADES_RANGE.high (grades numbers) ≡ true
+  pub starts_range : all_within STARTS.low STARTS.high (starts numbers) ≡ true
+  pub grades_range : all_within GRADES.low GRADES.high (grades numbers) ≡ true
   pub order : is_rising (starts numbers) ≡ true
   pub count : (length numbers % 2 == 0 && nat_le (length numbers) (2 * MOST_ZONES)) ≡ true
 

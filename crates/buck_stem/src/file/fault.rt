@@ -129,17 +129,17 @@ impl FormFault for StmFault {
     }
 
     fn missing(slot: Slot) -> StmFault {
-        let Slot { number, kind } = slot;
+        let Slot { number, kind, .. } = slot;
         StmFault::Missing { number, kind }
     }
 
     fn twice(slot: Slot) -> StmFault {
-        let Slot { number, kind } = slot;
+        let Slot { number, kind, .. } = slot;
         StmFault::Twice { number, kind }
     }
 
     fn digits(slot: Slot, place: usize) -> StmFault {
-        let Slot { number, kind } = slot;
+        let Slot { number, kind, .. } = slot;
         StmFault::Digits {
             number,
             kind,
@@ -148,17 +148,17 @@ impl FormFault for StmFault {
     }
 
     fn range(slot: Slot) -> StmFault {
-        let Slot { number, kind } = slot;
+        let Slot { number, kind, .. } = slot;
         StmFault::Range { number, kind }
     }
 
     fn order(slot: Slot) -> StmFault {
-        let Slot { number, kind } = slot;
+        let Slot { number, kind, .. } = slot;
         StmFault::Order { number, kind }
     }
 
     fn count(slot: Slot) -> StmFault {
-        let Slot { number, kind } = slot;
+        let Slot { number, kind, .. } = slot;
         StmFault::Count { number, kind }
     }
 }

@@ -21,8 +21,7 @@ use crate::file::draft::Draft;
 use crate::file::fault::StmFault;
 use crate::file::rules::{grades_within, is_count_of_zones, starts_rise, starts_within};
 use crate::file::slots::{
-    GRADES_RANGE, MEMBERS, MOST_SAMPLES, NEEDED, SAMPLES, SAMPLES_RANGE, SPECIES, SPECIES_RANGE,
-    STARTS_RANGE, STEM, ZONES,
+    GRADES, MEMBERS, MOST_SAMPLES, NEEDED, SAMPLES, SPECIES, STARTS, STEM, ZONES,
 };
 use buck_record::check::{all_absent, all_single, all_there, check, each};
 use buck_record::rules::{FILE, all_in_range, counted_to};
@@ -86,11 +85,11 @@ pub(crate) fn single<'a>(items: &'a [Piece<'a>], stems: &[Group<'_>]) -> Result<
 fn draft_range(draft: &Draft) -> Result<(), StmFault>
     ensures { result ≡ draft_range draft.now }
 {
-    all_in_range::<StmFault>(SPECIES_RANGE, draft.species.as_slice())?;
-    all_in_range::<StmFault>(SAMPLES_RANGE, draft.samples.as_slice())?;
+    all_in_range::<StmFault>(SPECIES, draft.species.as_slice())?;
+    all_in_range::<StmFault>(SAMPLES, draft.samples.as_slice())?;
     let zones = draft.zones.as_slice();
-    check(starts_within(STARTS_RANGE, zones), StmFault::range(ZONES))?;
-    check(grades_within(GRADES_RANGE, zones), StmFault::range(ZONES))
+    check(starts_within(STARTS, zones), StmFault::range(ZONES))?;
+    check(grades_within(GRADES, zones), StmFault::range(ZONES))
 }
 
 /// Each number is in its range.

@@ -7,8 +7,7 @@ ghost use Rattle.buck_stem.specs.inner.Plain.{LeadsNumbers, AreZones, SaysZones,
 
 use crate::file::rules::{grades_within, is_count_of_zones, starts_rise, starts_within, zones_of};
 use crate::file::slots::{
-    GRADES_RANGE, MOST_SAMPLES, SAMPLES, SAMPLES_RANGE, SPECIES, SPECIES_RANGE, STARTS_RANGE, STEM,
-    ZONES,
+    GRADES, MOST_SAMPLES, SAMPLES, SPECIES, STARTS, STEM, ZONES,
 };
 use crate::stem::Stem;
 use buck_record::rules::FILE;
@@ -31,15 +30,15 @@ fn next_number(slot: Slot, text: &[u8]) -> Option<(u32, &[u8])>
 /// The species of the item that a text begins with, and what is left after it.
 fn next_species(text: &[u8]) -> Option<(u8, &[u8])>
     ensures leads { IfSome result (λ w. LeadsNumbers SPECIES text.now (w.0 ∷ []) w.1.now) }
-    ensures range { IfSome result (λ w. (SPECIES_RANGE.low ≤ w.0) × (w.0 ≤ SPECIES_RANGE.high)) }
+    ensures range { IfSome result (λ w. (SPECIES.low ≤ w.0) × (w.0 ≤ SPECIES.high)) }
 {
     let Some((species, left)) = next_number(SPECIES, text) else {
         return None;
     };
-    if species < SPECIES_RANGE.low {
+    if species < SPECIES.low {
         return None;
     }
-    if species > SPECIES_RANGE.high {
+    if species > SPECIES.high {
         return None;
     }
     Some((species as u8, left))
@@ -49,7 +48,7 @@ fn next_species(text: &[u8]) -> Option<(u8, &[u8])>
 /// answer is what is left after it.
 fn next_samples<'a>(room: &mut Vec<u16>, text: &'a [u8]) -> Result<Option<&'a [u8]>, AllocError>
     ensures leads { IfOk result (λ o. IfSome o (λ left. LeadsNumbers SAMPLES text.now room.new.items left.now)) }
-    ensures range { IfOk result (λ o. IfSome o (λ _. All (λ d. d ≤ SAMPLES_RANGE.high) room.new.items)) }
+    ensures range { IfOk result (λ o. IfSome o (λ _. All (λ d. d ≤ SAMPLES.high) room.new.items)) }
     ensures number { IfOk result (λ o. IfSome o (λ _.
         (1 ≤ length room.new.items) × (length room.new.items ≤ MOST_SAMPLES))) }
 {
@@ -58,7 +57,7 @@ fn next_samples<'a>(room: &mut Vec<u16>, text: &'a [u8]) -> Result<Option<&'a [u
     };
     room.clear();
     room.reserve(rest.len() / 2 + 1)?;
-    if !append_numbers(SAMPLES_RANGE.high as u16, rest, room) {
+    if !append_numbers(SAMPLES.high as u16, rest, room) {
         return Ok(None);
     }
     if room.len() < 1 {
@@ -74,8 +73,8 @@ fn next_samples<'a>(room: &mut Vec<u16>, text: &'a [u8]) -> Result<Option<&'a [u
 fn are_zones(numbers: &[u32]) -> bool
     ensures { IsTrue result → AreZones numbers.now }
 {
-    starts_within(STARTS_RANGE, numbers)
-        && grades_within(GRADES_RANGE, numbers)
+    starts_within(STARTS, numbers)
+        && grades_within(GRADES, numbers)
         && starts_rise(numbers)
         && is_count_of_zones(numbers.len())
 }

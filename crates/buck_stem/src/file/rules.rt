@@ -1,11 +1,11 @@
 //! Tests of the numbers of zones, and the zones of numbers.
 ghost use Rattle.std.specs.Prelude.{◌≡◌, ◌*◌, ◌%◌, ◌==◌, ◌&&◌, nat_le, IfOk, true};
 ghost use Rattle.buck_record.specs.checking.Rules.{within, all_within, is_rising};
-ghost use Rattle.buck_stem.specs.declared.file.slots.TheConstants.{GRADES_RANGE};
+ghost use Rattle.buck_stem.specs.declared.file.slots.TheConstants.{GRADES};
 ghost use Rattle.buck_stem.specs.file.Stm.{starts, grades, zones_of};
 
 use crate::file::slots::MOST_ZONES;
-use buck_record::Ranged;
+use buck_record::Slot;
 use std::alloc::{AllocError, Global};
 
 fn is_within(low: u32, high: u32, n: u32) -> bool
@@ -15,11 +15,11 @@ fn is_within(low: u32, high: u32, n: u32) -> bool
 }
 
 /// Each number at an odd place is in the range of the item.
-pub(crate) fn starts_within(item: Ranged, zones: &[u32]) -> bool
-    ensures { result ≡ all_within item.low item.high (starts zones.now) }
+pub(crate) fn starts_within(slot: Slot, zones: &[u32]) -> bool
+    ensures { result ≡ all_within slot.low slot.high (starts zones.now) }
 {
     for k in 0..zones.len().div_ceil(2) {
-        if !is_within(item.low, item.high, zones[2 * k]) {
+        if !is_within(slot.low, slot.high, zones[2 * k]) {
             return false;
         }
     }
@@ -27,11 +27,11 @@ pub(crate) fn starts_within(item: Ranged, zones: &[u32]) -> bool
 }
 
 /// Each number at an even place is in the range of the item.
-pub(crate) fn grades_within(item: Ranged, zones: &[u32]) -> bool
-    ensures { result ≡ all_within item.low item.high (grades zones.now) }
+pub(crate) fn grades_within(slot: Slot, zones: &[u32]) -> bool
+    ensures { result ≡ all_within slot.low slot.high (grades zones.now) }
 {
     for k in 0..zones.len() / 2 {
-        if !is_within(item.low, item.high, zones[2 * k + 1]) {
+        if !is_within(slot.low, slot.high, zones[2 * k + 1]) {
             return false;
         }
     }
@@ -59,7 +59,7 @@ pub(crate) fn is_count_of_zones(count: usize) -> bool
 
 /// Starts and grades, two by two.
 pub(crate) fn zones_of(alloc: Global, numbers: &[u32]) -> Result<Vec<(u32, u8)>, AllocError>
-    requires { all_within GRADES_RANGE.low GRADES_RANGE.high (grades numbers.now) ≡ true }
+    requires { all_within GRADES.low GRADES.high (grades numbers.now) ≡ true }
     ensures { IfOk result (λ zones. zones.items ≡ zones_of numbers.now) }
 {
     let mut zones = Vec::with_capacity(alloc, numbers.len() / 2)?;

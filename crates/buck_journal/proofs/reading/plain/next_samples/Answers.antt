@@ -1,6 +1,6 @@
 use Rattle.std.proofs.Common.{rules, ◌≡◌, ◌++◌, ◌≤◌, IsTrue, All, Ok, sym, ap, ◌∙◌, subst}
 use Rattle.buck_record.specs.bytes.Record.{numbers_of}
-use Rattle.buck_stem.specs.declared.file.slots.TheConstants.{SAMPLES_RANGE}
+use Rattle.buck_stem.specs.declared.file.slots.TheConstants.{SAMPLES}
 use Rattle.buck_journal.proofs.OnePass.{samples_lead}
 use Rattle.buck_journal.proofs.reading.plain.next_samples.Goals as goal
 
@@ -12,4 +12,4 @@ returns-clause-leads c =
     let is : ns ≡ r.numbers = r.added ∙ ap (λ xs. xs ++ r.numbers) (c.in_ok-reserve.ensures.items ∙ c.clear.ensures.items) in
     let read : numbers_of c.in-Some.rest.now ≡ Ok ns = r.read ∙ ap Ok (sym is) in
     samples_lead c.args.text.now c.in-Some.rest.now ns c.in-Some.left.now c.in-Some.ensures read (search rules)
-    (subst (All (λ d. d ≤ SAMPLES_RANGE.high)) (sym is) r.small)
+    (subst (All (λ d. d ≤ SAMPLES.high)) (sym is) r.small)

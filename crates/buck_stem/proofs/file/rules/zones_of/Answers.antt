@@ -1,7 +1,7 @@
 use Rattle.std.proofs.Common.{◌≡◌, ℕ, ◌*◌, ◌+◌, ◌<◌, ◌++◌, ◌∷◌, [], List, length, get_or, sym, ap, ◌∙◌, arith, drop, append_assoc}
 use Rattle.std.proofs.lemmas.List.{append-nil}
 use Rattle.buck_record.specs.checking.Rules.{all_within}
-use Rattle.buck_stem.specs.declared.file.slots.TheConstants.{GRADES_RANGE}
+use Rattle.buck_stem.specs.declared.file.slots.TheConstants.{GRADES}
 use Rattle.buck_stem.specs.file.Stm.{zones_of, grades}
 use Rattle.buck_stem.proofs.ZoneWords.{zones-at, zones-end, grades-at}
 use Rattle.buck_stem.proofs.PassLemmas.{first_within}
@@ -11,7 +11,7 @@ pub overflow_cast-numbers : goal.overflow_cast-numbers
 overflow_cast-numbers c =
     let i : ℕ = 2 * c.loop-k.k in
     let ns : List ℕ = c.args.numbers.now in
-    let grade = first_within GRADES_RANGE.low GRADES_RANGE.high (get_or ns (i + 1) 0) (grades (drop (i + 2) ns)) (sym (ap (all_within GRADES_RANGE.low GRADES_RANGE.high) (grades-at ns i 0 (omega arith))) ∙ c.loop-k.invariant.graded) in
+    let grade = first_within GRADES.low GRADES.high (get_or ns (i + 1) 0) (grades (drop (i + 2) ns)) (sym (ap (all_within GRADES.low GRADES.high) (grades-at ns i 0 (omega arith))) ∙ c.loop-k.invariant.graded) in
     omega (arith, grade.0.1)
 
 pub loop-k-preserved : goal.loop-k-preserved
@@ -21,7 +21,7 @@ loop-k-preserved c =
     let next : 2 * (c.loop-k.k + 1) ≡ i + 2 = omega arith in
     let zone : ℕ × ℕ = (get_or ns i 0, get_or ns (i + 1) 0) in
     let lt : i + 1 < length ns = omega arith in
-    let rest = first_within GRADES_RANGE.low GRADES_RANGE.high (get_or ns (i + 1) 0) (grades (drop (i + 2) ns)) (sym (ap (all_within GRADES_RANGE.low GRADES_RANGE.high) (grades-at ns i 0 lt)) ∙ c.loop-k.invariant.graded) in
+    let rest = first_within GRADES.low GRADES.high (get_or ns (i + 1) 0) (grades (drop (i + 2) ns)) (sym (ap (all_within GRADES.low GRADES.high) (grades-at ns i 0 lt)) ∙ c.loop-k.invariant.graded) in
     record {
       so_far = rw (c.in_ok-push.ensures.items, next)
           (append_assoc c.loop-k.zones.items (zone ∷ []) (zones_of (drop (i + 2) ns))
