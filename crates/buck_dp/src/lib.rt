@@ -21,5 +21,5 @@ mod takers;
 
 pub use buck_record::Memory;
 pub use cutting::Cutting;
-pub use judging::{admissible, worth};
+pub use judging::{admissible, worth, worth_if_admissible};
 pub use planner::{Planner, best};

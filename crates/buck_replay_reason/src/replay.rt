@@ -6,7 +6,7 @@ use crate::prices::{price_reason, sheet_reason};
 use crate::targets::WrongTargets;
 use buck_apt::Instruction;
 use buck_book::{Entry, Posting};
-use buck_dp::{admissible, best, worth};
+use buck_dp::{best, worth_if_admissible};
 use buck_journal::Journal;
 use buck_reason::{Quoted, Source};
 use buck_record::Memory;
@@ -127,11 +127,10 @@ fn misvalued(
     let Some(sheet) = unlawful.sheet(alloc, who.at)? else {
         return Ok(None);
     };
-    if !admissible(&sheet, &entry.stem, &entry.cutting) {
+    let Some(wanted) = worth_if_admissible(&sheet, &entry.stem, &entry.cutting) else {
         return Ok(None);
-    }
+    };
     let found = entry.worth;
-    let wanted = worth(&sheet, &entry.stem, &entry.cutting);
     Ok(Some(format!(in alloc;
         "{}: {who}: worth {found}, {wanted} wanted\n",
         unlawful

@@ -5,7 +5,7 @@ ghost use Rattle.buck_value.specs.Allowed.{IsAllowed, top_of, end_of, trim_of, w
 ghost use Rattle.buck_dp.specs.Best.{IsAdmissible, IsFirstBest, cutting_worth};
 ghost use Rattle.buck_dp.specs.Order.{IsLogBefore};
 
-use buck_dp::{Cutting, Planner, admissible, best, worth};
+use buck_dp::{Cutting, Planner, admissible, best, worth, worth_if_admissible};
 use buck_record::Memory;
 use buck_stem::Stem;
 use buck_value::{Log, Sheet, log_worth};
@@ -81,6 +81,16 @@ pub fn worth_of_no_log_is_one(alloc: Global, sheet: &Sheet, stem: &Stem) {
     };
     let right = worth(sheet, stem, &none);
     let wrong = 1;
+    prove!(right != wrong);
+}
+
+/// A cutting of no log has no worth.
+pub fn cutting_of_no_log_without_worth(alloc: Global, sheet: &Sheet, stem: &Stem) {
+    let none = Cutting {
+        logs: Vec::new(alloc),
+    };
+    let right = worth_if_admissible(sheet, stem, &none);
+    let wrong: Option<u64> = None;
     prove!(right != wrong);
 }
 

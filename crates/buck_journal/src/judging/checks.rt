@@ -12,7 +12,7 @@ use crate::judging::sheets::{prices_of, shared_sheet};
 use crate::judging::stop::Stop;
 use buck_apt::Instruction;
 use buck_book::{Demand, Entry, Posting, Walk, check_targets};
-use buck_dp::{admissible, worth};
+use buck_dp::worth_if_admissible;
 use buck_value::Sheet;
 use std::alloc::Global;
 use std::sync::Arc;
@@ -72,10 +72,10 @@ fn check_cut(sheet: &Sheet, entry: &Entry, at: usize) -> Result<(), ReplayFault>
         (entry.now.worth ≡ cutting_worth sheet.now entry.now.stem entry.now.logs) }
     ensures refused { IfErr result (IsCutFault sheet.now entry.now at) }
 {
-    if !admissible(sheet, &entry.stem, &entry.cutting) {
+    let Some(worth) = worth_if_admissible(sheet, &entry.stem, &entry.cutting) else {
         return Err(ReplayFault::Cutting { at });
-    }
-    if worth(sheet, &entry.stem, &entry.cutting) != entry.worth {
+    };
+    if worth != entry.worth {
         return Err(ReplayFault::Worth { at });
     }
     Ok(())

@@ -1,4 +1,4 @@
-use Rattle.std.proofs.Common.{◌≡◌, ℕ, ◌++◌, List, Option, length, sym, subst, ap, ◌∙◌}
+use Rattle.std.proofs.Common.{◌≡◌, ℕ, List, Option, length, sym, subst, ap}
 use Rattle.buck_value.specs.Sheet.{SheetParts}
 use Rattle.buck_bid.specs.Offers.{codes_in}
 use Rattle.buck_dp.specs.declared.index.Key.{Key}
