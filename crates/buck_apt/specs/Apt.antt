@@ -97,13 +97,7 @@ file_draft_of items = do
   limit ← numbers_in Digits LIMIT items
   count ← numbers_in Digits COUNT items
   drafts ← make_each draft_of (groups items)
-  Ok (record {
-    «module» = step;
-    period = period;
-    limit = limit;
-    count = count;
-    drafts = drafts;
-  })
+  Ok (record { «module» = step; period = period; limit = limit; count = count; drafts = drafts })
 
 -- from the blank on, and none of | ~ and DEL
 abbrev pub is_name_byte : ℕ → Bool

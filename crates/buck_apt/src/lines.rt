@@ -27,7 +27,9 @@ use crate::draft::{Draft, FileDraft};
 use crate::fault::AptFault;
 use crate::rules::{all_above, first_off_module, is_above, is_name};
 use crate::slots::{
-    ALONE, COUNT, DIAMETERS, GRADES, HEAD, IN_ASSORTMENT, LENGTHS, LIMIT, MEMBERS, MODULE, MOST_COLUMNS, MOST_GRADES, MOST_ROWS, MOST_TARGETS_TOGETHER, NAME, PERIOD, PRICES, PRICE_KIND, SPECIES, TARGETS, TRIM, UPPER,
+    ALONE, COUNT, DIAMETERS, GRADES, HEAD, IN_ASSORTMENT, LENGTHS, LIMIT, MEMBERS, MODULE,
+    MOST_COLUMNS, MOST_GRADES, MOST_ROWS, MOST_TARGETS_TOGETHER, NAME, PERIOD, PRICE_KIND, PRICES,
+    SPECIES, TARGETS, TRIM, UPPER,
 };
 use buck_record::check::{all_absent, all_single, all_there, check, each, is_there};
 use buck_record::rules::{all_in_range, counted_to, is_rising};

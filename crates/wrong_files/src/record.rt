@@ -16,9 +16,9 @@ use buck_record::rules::{
 };
 use buck_record::table::{count, front, groups, missing, rest, twice};
 use buck_record::{
-    FaultNumbers, FormFault, Group, Listed, Numbered, Piece, RecordFault, Slot,
-    append_numbers, is_done, items, next_in, number, numbers, numbers_into, pieces, pieces_at,
-    put_line, put_number, slot, wide,
+    FaultNumbers, FormFault, Group, Listed, Numbered, Piece, RecordFault, Slot, append_numbers,
+    is_done, items, next_in, number, numbers, numbers_into, pieces, pieces_at, put_line,
+    put_number, slot, wide,
 };
 use std::alloc::Global;
 

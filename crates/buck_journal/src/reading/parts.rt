@@ -55,10 +55,7 @@ pub(crate) fn samples_at<'a>(
 fn is_zone(low: u32, start: u32, grade: u32) -> bool
     ensures { result ≡ is_zone low start grade }
 {
-    low <= start
-        && start <= STARTS.high
-        && GRADES.low <= grade
-        && grade <= GRADES.high
+    low <= start && start <= STARTS.high && GRADES.low <= grade && grade <= GRADES.high
 }
 
 fn is_log(start: u32, length: u32, assortment: u32) -> bool

@@ -6,9 +6,7 @@ ghost use Rattle.buck_stem.specs.file.Stm.{stm_of};
 ghost use Rattle.buck_stem.specs.inner.Plain.{LeadsNumbers, AreZones, SaysZones, LeadsZones, LeadsStem, HasStems, IsBodyOf};
 
 use crate::file::rules::{grades_within, is_count_of_zones, starts_rise, starts_within, zones_of};
-use crate::file::slots::{
-    GRADES, MOST_SAMPLES, SAMPLES, SPECIES, STARTS, STEM, ZONES,
-};
+use crate::file::slots::{GRADES, MOST_SAMPLES, SAMPLES, SPECIES, STARTS, STEM, ZONES};
 use crate::stem::Stem;
 use buck_record::rules::FILE;
 use buck_record::{RecordFault, Slot, append_numbers, is_done, next_in, number, numbers};

@@ -12,12 +12,12 @@ loop-sample-preserved c =
     elim c.if-thickest-sample.branch [
       | then-thickest-sample w ↦ record {
         bound = All-more (λ d. d ≤ c.if-thickest-sample.thickest) xs i 0 (omega (arith, c.loop-sample-test.true))
-          (λ k d lt. omega (arith, old.bound k d lt, w.if-thickest-sample.true, w.thickest-is)) (omega (arith, w.thickest-is));
+            (λ k d lt. omega (arith, old.bound k d lt, w.if-thickest-sample.true, w.thickest-is)) (omega (arith, w.thickest-is));
         least = λ most all. omega (arith, w.thickest-is, all i 0 (omega (arith, c.loop-sample-test.true)));
       }
       | else-thickest-sample w ↦ record {
         bound = All-more (λ d. d ≤ c.if-thickest-sample.thickest) xs i 0 (omega (arith, c.loop-sample-test.true))
-          (λ k d lt. omega (arith, old.bound k d lt, w.thickest-is)) (omega (arith, w.thickest-is, w.if-thickest-sample.false));
+            (λ k d lt. omega (arith, old.bound k d lt, w.thickest-is)) (omega (arith, w.thickest-is, w.if-thickest-sample.false));
         least = λ most all. omega (arith, w.thickest-is, old.least most all);
       }
     ]
