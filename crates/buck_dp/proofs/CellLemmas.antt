@@ -51,12 +51,14 @@ module _ (cells : List Cell) (top first stop n : ℕ) (low : stop ≤ top) (v u 
         → IsAtMost (plus c.bid (bid_at v (top + c.rise))) (bid_at w i)
     this_done i e near =
         subst (λ x. IsAtMost (plus c.bid x) (bid_at w i)) rest_same
-        (greater_second (bid_at u i) (plus c.bid (bid_at u (top + c.rise))) (bid_at w i) (raised i e (omega (arith, near.0)) (omega (arith, near.1))))
+        (greater_second (bid_at u i) (plus c.bid (bid_at u (top + c.rise))) (bid_at w i)
+        (raised i e (omega (arith, near.0)) (omega (arith, near.1))))
 
     before_done : (k : ℕ) (d : Cell) → k < n → slice_get cells k ≡ Some d → IsNear top first stop d
         → (i : ℕ) → i + d.steps ≡ top → IsAtMost (plus d.bid (bid_at v (top + d.rise))) (bid_at w i)
     before_done k d lt at near i is =
-        IsAtMost-trans (plus d.bid (bid_at v (top + d.rise))) (bid_at u i) (bid_at w i) (offered.done k d lt at near i is) (more i)
+        IsAtMost-trans (plus d.bid (bid_at v (top + d.rise))) (bid_at u i) (bid_at w i)
+        (offered.done k d lt at near i is) (more i)
 
     -- one cell more is offered
     pub offered_more : AreOffered cells top first stop (n + 1) v w
@@ -66,8 +68,10 @@ module _ (cells : List Cell) (top first stop n : ℕ) (low : stop ≤ top) (v u 
       done = λ k d lt at near i is. elim (cases_lt k n) [
         | inl before ↦ before_done k d before at near i is
         | inr here ↦
-            let same : c ≡ d = same_Some c d (sym there ∙ ap (λ x. slice_get cells x) (let e : n ≡ k = omega arith in e) ∙ at) in
-            subst (λ x. IsNear top first stop x → i + x.steps ≡ top → IsAtMost (plus x.bid (bid_at v (top + x.rise))) (bid_at w i))
+            let same : c ≡ d =
+            same_Some c d (sym there ∙ ap (λ x. slice_get cells x) (let e : n ≡ k = omega arith in e) ∙ at) in
+            subst (λ x. IsNear top first stop x → i + x.steps ≡ top
+            → IsAtMost (plus x.bid (bid_at v (top + x.rise))) (bid_at w i))
             same (λ a b. this_done i b a) near is
       ];
       one = λ i. elim (which i) [
@@ -97,7 +101,8 @@ module _ (cells : List Cell) (top first stop far base : ℕ) (v : List BidParts)
   was_at k = get_or-drop base v k none
 
   rest_at : (rise : ℕ) → bid_at (drop base v) (far + rise) ≡ bid_at v (top + rise)
-  rest_at rise = was_at (far + rise) ∙ ap (λ n. bid_at v n) (let e : base + (far + rise) ≡ top + rise = omega arith in e)
+  rest_at rise = was_at (far + rise)
+      ∙ ap (λ n. bid_at v n) (let e : base + (far + rise) ≡ top + rise = omega arith in e)
 
   -- they can be offered there
   pub fits_back : AreFit cells top first stop v → AreFit cells far 0 far (drop base v)
@@ -105,13 +110,15 @@ module _ (cells : List Cell) (top first stop far base : ℕ) (v : List BidParts)
     there = λ k c at near. omega (arith, fit.there k c at (near_all k c at), length-drop base v);
     even = λ k le. ap (λ b. b.rank) (was_at k) ∙ fit.even (base + k) (omega arith);
     low = λ k c at near.
-        subst (λ (b : BidParts). c.bid.worth + b.worth ≤ 4000000000000000) (sym (rest_at c.rise)) (fit.low k c at (near_all k c at));
+        subst (λ (b : BidParts). c.bid.worth + b.worth ≤ 4000000000000000) (sym (rest_at c.rise))
+        (fit.low k c at (near_all k c at));
   }
 
   module _ (w : List BidParts) (offered : AreOffered cells far 0 far (length cells) (drop base v) w) where
     same_before : (k : ℕ) → k < base → bid_at (take base v ++ w) k ≡ bid_at v k
     same_before k lt =
-        get_or_append_left (take base v) w none k (omega (arith, length-take-le base v inside)) ∙ get_or-take base v k none lt
+        get_or_append_left (take base v) w none k (omega (arith, length-take-le base v inside))
+        ∙ get_or-take base v k none lt
 
     now_at : (k : ℕ) → base ≤ k → bid_at (take base v ++ w) k ≡ bid_at w (k - base)
     now_at k le = get_or-append_right (take base v) w base k none (omega (arith, length-take-le base v inside)) le
@@ -121,7 +128,8 @@ module _ (cells : List Cell) (top first stop far base : ℕ) (v : List BidParts)
 
     pub offered_back : AreOffered cells top first stop (length cells) v (take base v ++ w)
     offered_back = record {
-      number = omega (arith, length-append (take base v) w, length-take-le base v inside, length-drop base v, offered.number);
+      number = omega
+          (arith, length-append (take base v) w, length-take-le base v inside, length-drop base v, offered.number);
       kept = λ k. elim (cases_lt k base) [
         | inl before ↦ subst (λ x. IsAtMost (bid_at v k) x) (sym (same_before k before)) (IsAtMost-refl (bid_at v k))
         | inr after ↦
@@ -131,13 +139,22 @@ module _ (cells : List Cell) (top first stop far base : ℕ) (v : List BidParts)
       done = λ k c lt at near i sum.
           subst (λ x. IsAtMost (plus c.bid (bid_at v (top + c.rise))) x) (sym (now_at i (omega (arith, back k c at))))
           (subst (λ x. IsAtMost (plus c.bid x) (bid_at w (i - base))) (rest_at c.rise)
-          (offered.done k c lt at (omega (arith, back k c at), omega (arith, late k c at)) (i - base) (omega (arith, back k c at))));
+          (offered.done k c lt at (omega (arith, back k c at), omega (arith, late k c at)) (i - base)
+          (omega (arith, back k c at))));
       one = λ i. elim (cases_lt i base) [
         | inl before ↦ inl (same_before i before)
         | inr after ↦ elim (offered.one (i - base)) [
           | inl same ↦ inl (now_at i after ∙ same ∙ before_at i after)
           | inr o ↦
-              inr (o.0, o.1, o.2, near_all o.0 o.1 o.2, omega (arith, o.4), now_at i after ∙ o.5 ∙ ap (λ x. plus o.1.bid x) (rest_at o.1.rise))
+              inr (
+                o.0,
+                o.1,
+                o.2,
+                near_all o.0 o.1 o.2,
+                omega (arith, o.4),
+                now_at i after ∙ o.5
+                    ∙ ap (λ x. plus o.1.bid x) (rest_at o.1.rise),
+              )
         ]
       ];
     }

@@ -33,18 +33,22 @@ module _ {X : Type 0} (R : Key → List X → Type 0) where
       ((is.0.0, omega (arith, is.0.1, length-append xs ys)), subst (λ zs. R key zs) (sym same) is.1)
 
   -- what is put behind a list stands there
-  pub put_behind : (xs ys zs : List X) (key : Key) (from past : ℕ) → zs ≡ xs ++ ys → from ≡ length xs → past ≡ length zs → R key ys
+  pub put_behind : (xs ys zs : List X) (key : Key) (from past : ℕ) → zs ≡ xs ++ ys → from ≡ length xs → past ≡ length zs
+      → R key ys
       → IsAt R zs key (record { from = from; past = past })
   put_behind xs ys zs key from past is at end right =
       let whole : length zs ≡ length xs + length ys = ap (λ (vs : List X). length vs) is ∙ length-append xs ys in
       let same : part_of (xs ++ ys) (record { from = from; past = past }) ≡ ys =
-      ap (λ vs. take (past - from) vs) (drop_at xs ys from (sym at)) ∙ take_all (past - from) ys (omega (arith, at, end, whole)) in (
+      ap (λ vs. take (past - from) vs) (drop_at xs ys from (sym at))
+      ∙ take_all (past - from) ys (omega (arith, at, end, whole)) in (
         (omega (arith, at, end, whole), omega (arith, end)),
-        subst (λ vs. R key (part_of vs (record { from = from; past = past }))) (sym is) (subst (λ vs. R key vs) (sym same) right),
+        subst (λ vs. R key (part_of vs (record { from = from; past = past }))) (sym is)
+            (subst (λ vs. R key vs) (sym same) right),
       )
 
   -- what is kept for a key
-  pub kept_is : (heads : List Head) (xs : List X) (key : Key) (place : Place) → Each R heads xs → IsKeptAt heads key place → IsAt R xs key place
+  pub kept_is : (heads : List Head) (xs : List X) (key : Key) (place : Place) → Each R heads xs
+      → IsKeptAt heads key place → IsAt R xs key place
   kept_is heads xs key place each at =
       subst (λ k. IsAt R xs k place) at.own (subst (λ q. IsAt R xs at.head.key q) at.is (each at.at at.head at.there))
 
@@ -52,15 +56,18 @@ module _ {X : Type 0} (R : Key → List X → Type 0) where
   kept_none heads xs none = subst (λ (hs : List Head). Each R hs xs) (sym none) (λ n h at. absurd (none-some h at))
 
   -- what is kept stays right where all were dropped, and where more stands behind
-  pub kept_room : (old new : List Head) (xs ys zs vs : List X) → ((ys ≡ xs) × (new ≡ old)) ⊎ (new ≡ []) → vs ≡ ys ++ zs → Each R old xs
+  pub kept_room : (old new : List Head) (xs ys zs vs : List X) → ((ys ≡ xs) × (new ≡ old)) ⊎ (new ≡ []) → vs ≡ ys ++ zs
+      → Each R old xs
       → Each R new vs
   kept_room old new xs ys zs vs (inr none) is each = kept_none new vs none
   kept_room old new xs ys zs vs (inl same) is each =
-      subst (λ (hs : List Head). Each R hs vs) (sym same.1) (subst (λ (us : List X). Each R old us) (sym (is ∙ ap (λ us. us ++ zs) same.0))
+      subst (λ (hs : List Head). Each R hs vs) (sym same.1)
+      (subst (λ (us : List X). Each R old us) (sym (is ∙ ap (λ us. us ++ zs) same.0))
       (λ n h at. more xs zs h.key h.place (each n h at)))
 
   -- one more is kept, or not
-  pub kept_push : (heads new : List Head) (xs : List X) (h : Head) → (new ≡ heads ++ h ∷ []) ⊎ (new ≡ heads) → IsAt R xs h.key h.place
+  pub kept_push : (heads new : List Head) (xs : List X) (h : Head) → (new ≡ heads ++ h ∷ []) ⊎ (new ≡ heads)
+      → IsAt R xs h.key h.place
       → Each R heads xs → Each R new xs
   kept_push heads new xs h (inl is) right each =
       subst (λ (hs : List Head). Each R hs xs) (sym is) (push_each (λ n x. IsAt R xs x.key x.place) heads h each right)
@@ -73,7 +80,8 @@ all_same m r e f g =
 
 -- what is kept is right under another sheet of the instruction, once what hangs on prices is dropped
 pub prices_dropped : (s t : SheetParts) (m : Menu) (old new : Kept) → s.instruction ≡ t.instruction
-    → (new.terms.items ≡ old.terms.items) × (new.asked ≡ old.asked) → (new.lists ≡ []) × (new.rows ≡ []) → AreKept s m old
+    → (new.terms.items ≡ old.terms.items) × (new.asked ≡ old.asked) → (new.lists ≡ []) × (new.rows ≡ [])
+    → AreKept s m old
     → AreKept t m new
 prices_dropped s t m old new same terms none are = record {
   terms = subst (λ (i : InstructionParts). Each (TermsOf i m) new.asked new.terms.items) same

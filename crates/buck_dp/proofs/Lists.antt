@@ -26,7 +26,10 @@ pub at_most_80 : (sheet : SheetParts) (stem : StemParts) (logs : List Log) → I
 at_most_80 sheet stem logs s t c =
     let h : sum_by (λ _. 500) logs + 1 * 0 ≤ 1 * stem_length stem.samples =
     worth_within (IsAllowed sheet.instruction stem) (end_of sheet.instruction) (λ _. 500) 1 (stem_length stem.samples)
-    (λ d a. (let low = allowed_low sheet.instruction stem d s.valid a in omega (arith, low.0), end_within sheet.instruction stem d a)) 0 logs (omega arith) c in
+    (λ d a. (
+      let low = allowed_low sheet.instruction stem d s.valid a in omega (arith, low.0),
+      end_within sheet.instruction stem d a,
+    )) 0 logs (omega arith) c in
     let n : stem_length stem.samples ≤ 40000 = omega (arith, t.samples_number) in
     omega (arith, sum_each_500 logs)
 
@@ -71,14 +74,17 @@ asym : (gs hs : List Log) → IsBefore gs hs → IsBefore hs gs → ⊥
 asym [] hs p q = absurd p
 asym (g ∷ gs) [] p q = absurd q
 asym (g ∷ gs) (h ∷ hs) (inl p) (inl q) = log_asym g h p q
-asym (g ∷ gs) (h ∷ hs) (inl p) (inr q) = (let r : IsLogBefore g g = subst (λ x. IsLogBefore g x) q.0 p in log_asym g g r r)
-asym (g ∷ gs) (h ∷ hs) (inr p) (inl q) = (let r : IsLogBefore h h = subst (λ x. IsLogBefore h x) p.0 q in log_asym h h r r)
+asym (g ∷ gs) (h ∷ hs) (inl p) (inr q) =
+    (let r : IsLogBefore g g = subst (λ x. IsLogBefore g x) q.0 p in log_asym g g r r)
+asym (g ∷ gs) (h ∷ hs) (inr p) (inl q) =
+    (let r : IsLogBefore h h = subst (λ x. IsLogBefore h x) p.0 q in log_asym h h r r)
 asym (g ∷ gs) (h ∷ hs) (inr p) (inr q) = asym gs hs p.1 q.1
 
 others : (gs hs : List Log) → IsBefore gs hs → gs ≢ hs
 others gs hs p e = (let r : IsBefore gs gs = subst (λ x. IsBefore gs x) (sym e) p in asym gs gs r r)
 
-pub only_one : (sheet : SheetParts) (stem : StemParts) (gs hs : List Log) → IsFirstBest sheet stem gs → IsFirstBest sheet stem hs → gs ≡ hs
+pub only_one : (sheet : SheetParts) (stem : StemParts) (gs hs : List Log) → IsFirstBest sheet stem gs
+    → IsFirstBest sheet stem hs → gs ≡ hs
 only_one sheet stem gs hs a b = elim (order gs hs) [
   | inl e ↦ e
   | inr o ↦ elim o [

@@ -22,20 +22,24 @@ use Rattle.buck_bid.specs.Quotes.{class_for, worth_for}
 use Rattle.buck_dp.proofs.Places.{after_within}
 use Rattle.buck_dp.proofs.Bounds.{end_within}
 
-same_class : (x : Option AssortmentParts) (stem : StemParts) (g : Log) → class_in x stem g ≡ class_for x g.assortment g.length (top_diameter stem g)
+same_class : (x : Option AssortmentParts) (stem : StemParts) (g : Log)
+    → class_in x stem g ≡ class_for x g.assortment g.length (top_diameter stem g)
 same_class None stem g = refl
 same_class (Some x) stem g = refl
 
 -- a log is worth what any log of its assortment, length and top diameter is
-same_worth : (s : SheetParts) (stem : StemParts) (g : Log) → worth_of s stem g ≡ worth_for s g.assortment g.length (top_diameter stem g)
+same_worth : (s : SheetParts) (stem : StemParts) (g : Log)
+    → worth_of s stem g ≡ worth_for s g.assortment g.length (top_diameter stem g)
 unfolding worth_of
 same_worth s stem g =
-    ap (λ c. worth_at (kind_in (slice_get s.instruction.assortments g.assortment)) (price_of s c) (volume (top_diameter stem g) g.length))
+    ap (λ c. worth_at (kind_in (slice_get s.instruction.assortments g.assortment)) (price_of s c)
+    (volume (top_diameter stem g) g.length))
     (same_class (slice_get s.instruction.assortments g.assortment) stem g)
 
 -- a point lies within the stem
 pub point_within : (m j length : ℕ) → j < length / m + 1 → j * m ≤ length
-point_within m j length lt = (let le : j * m ≤ length / m * m = mul-le-mul_right m (omega arith) in omega (arith, div-mul-le_self length m))
+point_within m j length lt =
+    (let le : j * m ≤ length / m * m = mul-le-mul_right m (omega arith) in omega (arith, div-mul-le_self length m))
 
 -- what lies within the stem is a point
 pub point_there : (m j length : ℕ) → 0 < m → j * m ≤ length → j < length / m + 1
@@ -51,7 +55,8 @@ point_there m j length pos le = elim (cases_lt j (length / m + 1)) [
 -- the point after a trim behind a point
 pub after_trim : (m j trim : ℕ) → 0 < m → point_after m (j * m + trim) ≡ j + point_after m trim
 after_trim m j trim pos =
-    ap (λ n. n / m) (let e : j * m + trim + (m - 1) ≡ j * m + (trim + (m - 1)) = omega arith in e) ∙ mul-add-div_right pos j (trim + (m - 1))
+    ap (λ n. n / m) (let e : j * m + trim + (m - 1) ≡ j * m + (trim + (m - 1)) = omega arith in e)
+    ∙ mul-add-div_right pos j (trim + (m - 1))
 
 -- an assortment takes the wood of a stem from a place to another, with a trim
 pub record Takes (s : SheetParts) (stem : StemParts) (from to trim a : ℕ) : Type 0 where
@@ -73,22 +78,30 @@ module _ (p : GroundParts) (valid : IsSheet p.sheet) where
   end_is : (j : ℕ) (g : Log) → top_of g ≡ j * unit
       → point_after unit (end_of p.sheet.instruction g) ≡ j + point_after unit (trim_of p.sheet.instruction g)
   end_is j g top =
-      ap (λ n. point_after unit (n + trim_of p.sheet.instruction g)) top ∙ after_trim unit j (trim_of p.sheet.instruction g) pos
+      ap (λ n. point_after unit (n + trim_of p.sheet.instruction g)) top
+      ∙ after_trim unit j (trim_of p.sheet.instruction g) pos
 
-  pub after_is : (i j e : ℕ) (bid : BidParts) → (l : IsLogAt p i j e bid) → e ≡ j + point_after unit (trim_of p.sheet.instruction l.log)
+  pub after_is : (i j e : ℕ) (bid : BidParts) → (l : IsLogAt p i j e bid)
+      → e ≡ j + point_after unit (trim_of p.sheet.instruction l.log)
   after_is i j e bid l = sym l.ends ∙ end_is j l.log l.top
 
   -- the point after the end of an allowed log is at most one past the last
-  end_there : (g : Log) → IsAllowed p.sheet.instruction p.stem g → point_after unit (end_of p.sheet.instruction g) < ends_of p
+  end_there : (g : Log) → IsAllowed p.sheet.instruction p.stem g
+      → point_after unit (end_of p.sheet.instruction g) < ends_of p
   end_there g a =
-      after_within unit (stem_length p.stem.samples) (end_of p.sheet.instruction g) pos (end_within p.sheet.instruction p.stem g a)
+      after_within unit (stem_length p.stem.samples) (end_of p.sheet.instruction g) pos
+      (end_within p.sheet.instruction p.stem g a)
 
   -- an allowed log from a point, with its mark
-  pub log_there : (i mark : ℕ) (g : Log) → g.start ≡ i * unit → IsAllowed p.sheet.instruction p.stem g → HasMark p.codes g mark
-      → (j : ℕ) × IsLogAt p i j (point_after unit (end_of p.sheet.instruction g)) (bid_of (worth_of p.sheet p.stem g) mark)
+  pub log_there : (i mark : ℕ) (g : Log) → g.start ≡ i * unit → IsAllowed p.sheet.instruction p.stem g
+      → HasMark p.codes g mark
+      → (j : ℕ)
+      × IsLogAt p i j (point_after unit (end_of p.sheet.instruction g)) (bid_of (worth_of p.sheet p.stem g) mark)
   log_there i mark g at a marked =
       let n : ℕ = g.length / unit in
-      let on : g.length % unit ≡ 0 = on_module p.sheet.instruction g.assortment a.assortment g.length valid.valid a.exists a.allows.length_offered in
+      let on : g.length % unit ≡ 0 =
+      on_module p.sheet.instruction g.assortment a.assortment g.length valid.valid a.exists
+      a.allows.length_offered in
       let low = allowed_low p.sheet.instruction p.stem g valid.valid a in
       let some : 0 < n = one_step g.length unit (omega (arith, low.0)) on in
       let top : top_of g ≡ (i + n) * unit = omega (arith, at, whole_steps g.length unit on, add-mul i n unit) in (
@@ -109,11 +122,13 @@ module _ (p : GroundParts) (valid : IsSheet p.sheet) where
       )
 
   -- the trim of an allowed log is that of its assortment
-  own_trim : (g : Log) → (a : IsAllowed p.sheet.instruction p.stem g) → trim_of p.sheet.instruction g ≡ a.assortment.trim
+  own_trim : (g : Log) → (a : IsAllowed p.sheet.instruction p.stem g)
+      → trim_of p.sheet.instruction g ≡ a.assortment.trim
   own_trim g a = ap trim_in a.exists
 
   -- an allowed log lies within its stem with its trim
-  pub log_fits : (i j e : ℕ) (bid : BidParts) → (l : IsLogAt p i j e bid) → j * unit + trim_of p.sheet.instruction l.log ≤ stem_length p.stem.samples
+  pub log_fits : (i j e : ℕ) (bid : BidParts) → (l : IsLogAt p i j e bid)
+      → j * unit + trim_of p.sheet.instruction l.log ≤ stem_length p.stem.samples
   log_fits i j e bid l = omega (arith, l.top, own_trim l.log l.allowed, l.allowed.allows.within)
 
   -- its code tells how many steps it is long
@@ -140,7 +155,8 @@ module _ (p : GroundParts) (valid : IsSheet p.sheet) where
       }
 
   -- an assortment that takes some wood takes a part of it
-  pub takes_less : (i k j trim a : ℕ) → i ≤ k → Takes p.sheet p.stem (i * unit) (j * unit) trim a → Takes p.sheet p.stem (k * unit) (j * unit) trim a
+  pub takes_less : (i k j trim a : ℕ) → i ≤ k → Takes p.sheet p.stem (i * unit) (j * unit) trim a
+      → Takes p.sheet p.stem (k * unit) (j * unit) trim a
   takes_less i k j trim a le takes = record {
     assortment = takes.assortment;
     exists = takes.exists;
@@ -182,7 +198,8 @@ module _ (p : GroundParts) (valid : IsSheet p.sheet) where
         }))
 
     -- a bid of an assortment that takes the wood is that of an allowed log
-    pub quote_log : (i j a steps trim : ℕ) (bid : BidParts) → i < j → j * unit + trim ≤ stem_length p.stem.samples → i + steps ≡ j
+    pub quote_log : (i j a steps trim : ℕ) (bid : BidParts) → i < j → j * unit + trim ≤ stem_length p.stem.samples
+        → i + steps ≡ j
         → Takes p.sheet p.stem (i * unit) (j * unit) trim a
         → IsBidOf p.sheet p.codes a (steps * unit) (slice_index diameters j) bid
         → IsLogAt p i j (j + point_after unit trim) bid
@@ -190,10 +207,12 @@ module _ (p : GroundParts) (valid : IsSheet p.sheet) where
         let g : Log = log_of (i * unit) (steps * unit) a in
         let top : top_of g ≡ j * unit = sym (add-mul i steps unit) ∙ ap (λ n. n * unit) e in
         let in_stem : j < points_of p = point_there unit j (stem_length p.stem.samples) pos (omega arith) in
-        let d : slice_index diameters j ≡ top_diameter p.stem g = known j in_stem ∙ ap (λ x. diameter_at p.stem.samples x) (sym top) in
+        let d : slice_index diameters j ≡ top_diameter p.stem g = known j in_stem
+        ∙ ap (λ x. diameter_at p.stem.samples x) (sym top) in
         let q : IsBidOf p.sheet p.codes a (steps * unit) (top_diameter p.stem g) bid =
         subst (λ (n : ℕ). IsBidOf p.sheet p.codes a (steps * unit) n bid) d quote in
-        let same : takes.assortment ≡ q.at.assortment = same_Some takes.assortment q.at.assortment (sym takes.exists ∙ q.at.exists) in
+        let same : takes.assortment ≡ q.at.assortment =
+        same_Some takes.assortment q.at.assortment (sym takes.exists ∙ q.at.exists) in
         let own : q.at.assortment.trim ≡ trim = ap (λ (x : AssortmentParts). x.trim) (sym same) ∙ takes.own in
         let allowed : IsAllowed p.sheet.instruction p.stem g = record {
           assortment = q.at.assortment;
@@ -204,7 +223,8 @@ module _ (p : GroundParts) (valid : IsSheet p.sheet) where
             length_offered = q.at.priced.offered;
             within = omega (arith, top, own, fits);
             grades = subst (λ (x : AssortmentParts). HasGradesOf p.stem.zones (i * unit) (top_of g) x.grades) same
-                (subst (λ (x : ℕ). HasGradesOf p.stem.zones (i * unit) x takes.assortment.grades) (sym top) takes.grades);
+                (subst (λ (x : ℕ). HasGradesOf p.stem.zones (i * unit) x takes.assortment.grades) (sym top)
+                takes.grades);
             thick_enough = q.at.priced.thick_enough;
             thin_enough = q.at.priced.thin_enough;
             priced = q.at.priced.priced;

@@ -20,16 +20,19 @@ use Rattle.buck_dp.proofs.Logs.{log_there}
 
 -- no other list that may be cut from a place on is better
 abbrev pub IsTopAt : GroundParts → ℕ → List Log → Type 0
-IsTopAt p from gs = IsTop (IsAllowed p.sheet.instruction p.stem) (end_of p.sheet.instruction) (worth_of p.sheet p.stem) from gs
+IsTopAt p from gs =
+    IsTop (IsAllowed p.sheet.instruction p.stem) (end_of p.sheet.instruction) (worth_of p.sheet p.stem) from gs
 
 -- a list may be cut from a place on
 abbrev pub IsCutAt : GroundParts → ℕ → List Log → Type 0
 IsCutAt p from gs = IsCutFrom (IsAllowed p.sheet.instruction p.stem) (end_of p.sheet.instruction) from gs
 
 -- what may be cut from a place on may be cut from an earlier one on
-pub cut_earlier : (p : GroundParts) (from next : ℕ) (gs : List Log) → from ≤ next → IsCutAt p next gs → IsCutAt p from gs
+pub cut_earlier : (p : GroundParts) (from next : ℕ) (gs : List Log) → from ≤ next → IsCutAt p next gs
+    → IsCutAt p from gs
 cut_earlier p from next gs le c =
-    IsCutFrom-le (IsAllowed p.sheet.instruction p.stem) (end_of p.sheet.instruction) (worth_of p.sheet p.stem) from next gs le c
+    IsCutFrom-le (IsAllowed p.sheet.instruction p.stem) (end_of p.sheet.instruction) (worth_of p.sheet p.stem)
+    from next gs le c
 
 -- what a list is worth
 abbrev pub sum_of : GroundParts → List Log → ℕ

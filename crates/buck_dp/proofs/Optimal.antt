@@ -32,7 +32,8 @@ IsAtOrBefore-trans (a ∷ as_) (b ∷ bs) (c ∷ cs) p q =
     along_trans a b c as_ bs cs (IsAtOrBefore-trans as_ bs cs) p q
 
 -- what is no worse than a list that is no worse than another is no worse than that one
-pub IsNoWorse-trans : (worth_of : Log → ℕ) (fs gs hs : List Log) → IsNoWorse worth_of fs gs → IsNoWorse worth_of gs hs → IsNoWorse worth_of fs hs
+pub IsNoWorse-trans : (worth_of : Log → ℕ) (fs gs hs : List Log) → IsNoWorse worth_of fs gs → IsNoWorse worth_of gs hs
+    → IsNoWorse worth_of fs hs
 IsNoWorse-trans worth_of fs gs hs (inl p) (inl q) = inl (omega arith)
 IsNoWorse-trans worth_of fs gs hs (inl p) (inr q) = inl (omega arith)
 IsNoWorse-trans worth_of fs gs hs (inr p) (inl q) = inl (omega arith)
@@ -48,7 +49,8 @@ pub IsNoWorse-refl : (worth_of : Log → ℕ) (gs : List Log) → IsNoWorse wort
 IsNoWorse-refl worth_of gs = inr (refl, IsAtOrBefore-refl gs)
 
 -- one log before two lists leaves which is no worse
-pub IsNoWorse-cons : (worth_of : Log → ℕ) (g : Log) (gs hs : List Log) → IsNoWorse worth_of gs hs → IsNoWorse worth_of (g ∷ gs) (g ∷ hs)
+pub IsNoWorse-cons : (worth_of : Log → ℕ) (g : Log) (gs hs : List Log) → IsNoWorse worth_of gs hs
+    → IsNoWorse worth_of (g ∷ gs) (g ∷ hs)
 IsNoWorse-cons worth_of g gs hs (inl p) = inl (omega (arith, sum_by-cons worth_of g gs, sum_by-cons worth_of g hs))
 IsNoWorse-cons worth_of g gs hs (inr p) =
     inr (omega (arith, sum_by-cons worth_of g gs, sum_by-cons worth_of g hs), inr (refl, p.1))
@@ -64,7 +66,8 @@ same_log a b p q r =
 
 module _ (Allowed : Log → Type 0) (end_of worth_of : Log → ℕ) where
   -- what may be cut from a place on may be cut from an earlier one on
-  pub IsCutFrom-le : (from next : ℕ) (gs : List Log) → from ≤ next → IsCutFrom Allowed end_of next gs → IsCutFrom Allowed end_of from gs
+  pub IsCutFrom-le : (from next : ℕ) (gs : List Log) → from ≤ next → IsCutFrom Allowed end_of next gs
+      → IsCutFrom Allowed end_of from gs
   IsCutFrom-le from next [] le c = tt
   IsCutFrom-le from next (g ∷ gs) le c = (omega (arith, c.0), c.1, c.2)
 
@@ -88,7 +91,8 @@ module _ (Allowed : Log → Type 0) (end_of worth_of : Log → ℕ) where
       → IsTop Allowed end_of worth_of from (g ∷ rest)
   IsTop-rest from g gs rest t r = record {
     cut = (t.cut.0, t.cut.1, r.cut);
-    top = λ hs c. IsNoWorse-trans worth_of (g ∷ rest) (g ∷ gs) hs (IsNoWorse-cons worth_of g rest gs (r.top gs t.cut.2)) (t.top hs c);
+    top = λ hs c. IsNoWorse-trans worth_of (g ∷ rest) (g ∷ gs) hs (IsNoWorse-cons worth_of g rest gs (r.top gs t.cut.2))
+        (t.top hs c);
   }
 
   -- worths are bounded by the length that is cut
@@ -99,6 +103,7 @@ module _ (Allowed : Log → Type 0) (end_of worth_of : Log → ℕ) where
   worth_within rate total bound from [] le c = omega (arith, mul-le-mul_left rate le)
   worth_within rate total bound from (g ∷ gs) le c =
       let b : (worth_of g + rate * g.start ≤ rate * end_of g) × (end_of g ≤ total) = bound g c.1 in
-      let h : sum_by worth_of gs + rate * end_of g ≤ rate * total = worth_within rate total bound (end_of g) gs b.1 c.2 in
+      let h : sum_by worth_of gs + rate * end_of g ≤ rate * total =
+      worth_within rate total bound (end_of g) gs b.1 c.2 in
       let k : rate * from ≤ rate * g.start = mul-le-mul_left rate c.0 in
       omega (arith, sum_by-cons worth_of g gs)

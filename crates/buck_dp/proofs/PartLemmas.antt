@@ -48,7 +48,8 @@ module _ (p : GroundParts) (valid : IsSheet p.sheet) where
         × IsTakersBid p.sheet p.codes takers (slice_index diameters t) (t - i) trim bid
     log_bid_of i e bid low high log =
         let trim : ℕ = trim_of p.sheet.instruction log.log in
-        let takes : Takes p.sheet p.stem (i * unit) (t * unit) trim log.log.assortment = log_takes p valid i t e bid log in
+        let takes : Takes p.sheet p.stem (i * unit) (t * unit) trim log.log.assortment =
+        log_takes p valid i t e bid log in
         let fit : t * unit + trim ≤ stem_length p.stem.samples = log_fits p valid i t e bid log in
         let room : takes.assortment.trim ≤ reach.room =
         whole log.log.assortment takes.assortment takes.exists (omega (arith, fit, takes.own)) in (
@@ -71,7 +72,8 @@ module _ (p : GroundParts) (valid : IsSheet p.sheet) where
       real = λ k c at near i is.
           let r = are.real k c at in
           subst (λ (n : ℕ). IsLogAt p i t (t + n) c.bid) (sym r.next)
-          (bid_log i i c.steps r.trim c.bid (omega (arith, near.0)) (omega (arith, near.1)) (omega arith) is r.fits r.is);
+          (bid_log i i c.steps r.trim c.bid (omega (arith, near.0)) (omega (arith, near.1)) (omega arith)
+          is r.fits r.is);
       served = λ i e bid low high log.
           let b = log_bid_of i e bid low high log in
           let within : t ≤ reach.far + i = far i e bid low log in
@@ -82,10 +84,12 @@ module _ (p : GroundParts) (valid : IsSheet p.sheet) where
                   start = t - o.steps;
                   next = t + point_after unit o.less;
                   other = o.other;
-                  log = bid_log i (t - o.steps) o.steps o.less o.other low high (omega arith) (omega arith) (omega (arith, o.trims, b.1)) o.is;
+                  log = bid_log i (t - o.steps) o.steps o.less o.other low high (omega arith) (omega arith)
+                      (omega (arith, o.trims, b.1)) o.is;
                   later = omega arith;
                   more = o.more;
-                  leaves = omega (arith, b.2, after_in_order unit o.less b.0 (omega (arith, valid.valid.module_range)) o.trims);
+                  leaves = omega
+                      (arith, b.2, after_in_order unit o.less b.0 (omega (arith, valid.valid.module_range)) o.trims);
                 })
             | inl m ↦
                 let real = are.real m.place m.cell m.there in

@@ -53,4 +53,5 @@ after_within m total x pos le = elim (cases_lt (point_after m x) (total / m + 1 
 
 -- after a later place the point is no earlier
 pub after_in_order : (m a b : ℕ) → 0 < m → a ≤ b → point_after m a ≤ point_after m b
-after_in_order m a b pos le = le-div (point_after m a) (b + (m - 1)) m pos (omega (arith, div-mul-le_self (a + (m - 1)) m))
+after_in_order m a b pos le =
+    le-div (point_after m a) (b + (m - 1)) m pos (omega (arith, div-mul-le_self (a + (m - 1)) m))

@@ -22,7 +22,8 @@ use Rattle.buck_dp.specs.inner.Cells.{IsTakersBid}
 use Rattle.buck_dp.specs.inner.Quotes.{quote_bid, priced_at, IsAsked, IsQuoteOf, IsTermOf, HasNoBid}
 use Rattle.buck_dp.proofs.BidLemmas.{same_bid}
 
-module _ (s : SheetParts) (offers : List Offer) (ask : Ask) (place : ℕ) (o : Offer) (valid : IsSheet s) (are : AreOffers s.instruction offers)
+module _ (s : SheetParts) (offers : List Offer) (ask : Ask) (place : ℕ) (o : Offer) (valid : IsSheet s)
+    (are : AreOffers s.instruction offers)
     (at : slice_get offers place ≡ Some o) where
   abbrev unit : ℕ
   unit = s.instruction.«module»
@@ -31,16 +32,22 @@ module _ (s : SheetParts) (offers : List Offer) (ask : Ask) (place : ℕ) (o : O
   pos = omega (arith, valid.valid.module_range)
 
   -- a taker's bid of the rank of the offer is for its logs
-  pub bid_own : (steps trim d : ℕ) (bid : BidParts) → bid.rank + place ≡ 1023 → (b : IsTakersBid s (codes_in offers) ask.takers d steps trim bid)
+  pub bid_own : (steps trim d : ℕ) (bid : BidParts) → bid.rank + place ≡ 1023
+      → (b : IsTakersBid s (codes_in offers) ask.takers d steps trim bid)
       → (o.length ≡ steps * unit) × (o.assortment ≡ b.a)
   bid_own steps trim d bid rank b =
       let here : slice_get (codes_in offers) place ≡ Some (code_of (steps * unit) b.a) =
-      subst (λ k. slice_get (codes_in offers) k ≡ Some (code_of (steps * unit) b.a)) (let e : 1023 - bid.rank ≡ place = omega arith in e) b.bids.rank.at in
+      subst (λ k. slice_get (codes_in offers) k ≡ Some (code_of (steps * unit) b.a))
+      (let e : 1023 - bid.rank ≡ place = omega arith in e) b.bids.rank.at in
       let same : code_of o.length o.assortment ≡ code_of (steps * unit) b.a =
       same_Some (code_of o.length o.assortment) (code_of (steps * unit) b.a) (sym (code_at offers place o at) ∙ here) in
       let low : o.assortment < 16 = are.low place o at in
       let low' : b.a < 16 =
-      omega (arith, slice_get_within s.instruction.assortments b.a b.assortment b.exists, valid.valid.assortments_number) in
+      omega (
+        arith,
+        slice_get_within s.instruction.assortments b.a b.assortment b.exists,
+        valid.valid.assortments_number,
+      ) in
       (omega arith, omega arith)
 
   -- nobody bids for its logs where its assortment isn't among the takers
@@ -49,15 +56,18 @@ module _ (s : SheetParts) (offers : List Offer) (ask : Ask) (place : ℕ) (o : O
       none (subst (λ a. IsTaker ask.takers a) (sym (bid_own steps trim d bid rank b).1) b.taker)
 
   -- nor where they have no price
-  pub no_price : HasNoPrice s.instruction o.assortment o.length ask.band.thinnest ask.band.past → HasNoBid s (codes_in offers) ask place
+  pub no_price : HasNoPrice s.instruction o.assortment o.length ask.band.thinnest ask.band.past
+      → HasNoBid s (codes_in offers) ask place
   no_price none steps trim d bid asked rank b =
       let own = bid_own steps trim d bid rank b in
       none s d refl asked.0 asked.1
       (subst (λ a. IsPricedAt s a o.length d) (sym own.1) (subst (λ n. IsPricedAt s b.a n d) (sym own.0) b.bids.at))
 
   module _ (p : Pricing) (q : Quote) (taker : IsTaker ask.takers o.assortment)
-      (pricing : IsPricing s.instruction o.assortment o.length ask.band.thinnest ask.band.past p) (short : o.length ≤ 30000)
-      (kind : q.kind ≡ p.kind) (price : q.price ≡ slice_index s.prices p.class) (low : q.price ≤ 20000000) (rank : q.rank + place ≡ 1023)
+      (pricing : IsPricing s.instruction o.assortment o.length ask.band.thinnest ask.band.past p)
+      (short : o.length ≤ 30000)
+      (kind : q.kind ≡ p.kind) (price : q.price ≡ slice_index s.prices p.class) (low : q.price ≤ 20000000)
+      (rank : q.rank + place ≡ 1023)
       (long : q.length ≡ o.length) (steps_is : q.steps ≡ o.length / unit)
       (trim : IfSome (slice_get s.instruction.assortments o.assortment) (λ (x : AssortmentParts). x.trim ≡ q.trim))
       (rise : q.rise ≡ point_after unit q.trim) where
@@ -65,7 +75,8 @@ module _ (s : SheetParts) (offers : List Offer) (ask : Ask) (place : ℕ) (o : O
     whole =
         let lt : place < length offers = slice_get_within offers place o at in
         whole_length unit o.length o pos refl
-        (subst (IsWhole unit) (code_index offers place o at) (are.steps place 0 (omega (arith, codes_number offers)))) (are.low place o at)
+        (subst (IsWhole unit) (code_index offers place o at) (are.steps place 0 (omega (arith, codes_number offers))))
+        (are.low place o at)
 
     steps_long : q.steps * unit ≡ o.length
     steps_long = ap (λ n. n * unit) steps_is ∙ whole.0
@@ -76,7 +87,8 @@ module _ (s : SheetParts) (offers : List Offer) (ask : Ask) (place : ℕ) (o : O
     -- what a quote is worth at a diameter
     worth_is : (d : ℕ) → IsAsked ask d → worth_for s o.assortment o.length d ≡ (quote_bid q d).worth
     worth_is d asked =
-        pricing.worth s d refl asked.0 asked.1 ∙ same p.kind q.kind (slice_index s.prices p.class) q.price (volume d o.length) (volume d q.length)
+        pricing.worth s d refl asked.0 asked.1
+        ∙ same p.kind q.kind (slice_index s.prices p.class) q.price (volume d o.length) (volume d q.length)
         (sym kind) (sym price) (ap (λ n. volume d n) (sym long))
       where
         same : (k k' x x' v v' : ℕ) → k ≡ k' → x ≡ x' → v ≡ v' → worth_at k x v ≡ worth_at k' x' v'
@@ -99,7 +111,8 @@ module _ (s : SheetParts) (offers : List Offer) (ask : Ask) (place : ℕ) (o : O
                 at = subst (λ n. IsPricedAt s o.assortment n d) (sym steps_long) there;
                 rank = record {
                   high = omega arith;
-                  at = subst (λ k. slice_get (codes_in offers) k ≡ Some (code_of (q.steps * unit) o.assortment)) (let e : place ≡ 1023 - q.rank = omega arith in e)
+                  at = subst (λ k. slice_get (codes_in offers) k ≡ Some (code_of (q.steps * unit) o.assortment))
+                      (let e : place ≡ 1023 - q.rank = omega arith in e)
                       (code_at offers place o at ∙ ap (λ n. Some (code_of n o.assortment)) (sym steps_long));
                 };
                 worth = sym (ap (λ n. worth_for s o.assortment n d) steps_long ∙ worth_is d asked);
@@ -110,7 +123,8 @@ module _ (s : SheetParts) (offers : List Offer) (ask : Ask) (place : ℕ) (o : O
       only = λ steps trim d bid asked rank' b.
           let own = bid_own steps trim d bid rank' b in
           let worth : bid.worth ≡ (quote_bid q d).worth =
-          b.bids.worth ∙ ap (λ n. worth_for s b.a n d) (sym own.0) ∙ ap (λ a. worth_for s a o.length d) (sym own.1) ∙ worth_is d asked in (
+          b.bids.worth ∙ ap (λ n. worth_for s b.a n d) (sym own.0) ∙ ap (λ a. worth_for s a o.length d) (sym own.1)
+          ∙ worth_is d asked in (
             steps_is ∙ ap (λ n. n / unit) own.0 ∙ mul-div_left steps pos,
             sym (trim_at b.assortment (ap (λ a. slice_get s.instruction.assortments a) own.1 ∙ b.exists)) ∙ b.own,
             same_bid bid (quote_bid q d) worth (omega arith),
@@ -118,7 +132,8 @@ module _ (s : SheetParts) (offers : List Offer) (ask : Ask) (place : ℕ) (o : O
     }
 
 -- the term of an offer is its quote under each sheet of the instruction
-pub term_right : (i : InstructionParts) (offers : List Offer) (ask : Ask) (place : ℕ) (o : Offer) (p : Pricing) (t : Term) → AreOffers i offers
+pub term_right : (i : InstructionParts) (offers : List Offer) (ask : Ask) (place : ℕ) (o : Offer) (p : Pricing)
+    (t : Term) → AreOffers i offers
     → slice_get offers place ≡ Some o → IsTaker ask.takers o.assortment
     → IsPricing i o.assortment o.length ask.band.thinnest ask.band.past p → o.length ≤ 30000
     → t.class ≡ p.class → t.quote.kind ≡ p.kind → t.quote.rank + place ≡ 1023 → t.quote.length ≡ o.length
@@ -130,9 +145,11 @@ term_right i offers ask place o p t are at taker pricing short class kind rank l
   quotes = λ s valid is.
       quote_right s offers ask place o valid (subst (λ (j : InstructionParts). AreOffers j offers) (sym is) are) at p
       (priced_at t.quote (slice_index s.prices t.class)) taker
-      (subst (λ (j : InstructionParts). IsPricing j o.assortment o.length ask.band.thinnest ask.band.past p) (sym is) pricing) short kind
+      (subst (λ (j : InstructionParts). IsPricing j o.assortment o.length ask.band.thinnest ask.band.past p) (sym is)
+      pricing) short kind
       (ap (λ n. slice_index s.prices n) class) (price-le s t.class valid) rank long
       (subst (λ (j : InstructionParts). t.quote.steps ≡ o.length / j.«module») (sym is) steps)
-      (subst (λ (j : InstructionParts). IfSome (slice_get j.assortments o.assortment) (λ (x : AssortmentParts). x.trim ≡ t.quote.trim)) (sym is) trim)
+      (subst (λ (j : InstructionParts). IfSome (slice_get j.assortments o.assortment)
+      (λ (x : AssortmentParts). x.trim ≡ t.quote.trim)) (sym is) trim)
       (subst (λ (j : InstructionParts). t.quote.rise ≡ point_after j.«module» t.quote.trim) (sym is) rise);
 }

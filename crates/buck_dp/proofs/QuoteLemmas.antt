@@ -52,7 +52,8 @@ leader_more list q p (inl nobody) = inl nobody
 leader_more list q p (inr there) = inr (there.0, kept_at list q p there.0 there.1)
 
 -- the quote of an offer is put behind others
-pub quotes_push : (s : SheetParts) (codes : List ℕ) (ask : Ask) (n : ℕ) (list : List Quote) (q : Quote) → IsQuoteOf s codes ask n q
+pub quotes_push : (s : SheetParts) (codes : List ℕ) (ask : Ask) (n : ℕ) (list : List Quote) (q : Quote)
+    → IsQuoteOf s codes ask n q
     → AreQuotes s codes ask n list → AreQuotes s codes ask (n + 1) (list ++ q ∷ [])
 quotes_push s codes ask n list q is was = record {
   real = push_each (λ k x. IsQuote s codes ask x) list q was.real is.is;
@@ -71,7 +72,8 @@ quotes_push s codes ask n list q is was = record {
 }
 
 -- the quote of an offer is left out, where one of the list is over it
-pub quotes_cut : (s : SheetParts) (codes : List ℕ) (ask : Ask) (n : ℕ) (list : List Quote) (p q : Quote) → IsQuoteOf s codes ask n q
+pub quotes_cut : (s : SheetParts) (codes : List ℕ) (ask : Ask) (n : ℕ) (list : List Quote) (p q : Quote)
+    → IsQuoteOf s codes ask n q
     → IsLeader list p → IsOver ask.band.thinnest p q → AreQuotes s codes ask n list → AreQuotes s codes ask (n + 1) list
 quotes_cut s codes ask n list p q is leads over was = record {
   real = was.real;
@@ -98,20 +100,27 @@ quotes_cut s codes ask n list p q is leads over was = record {
 }
 
 -- a list is right so far, and who leads it stands there
-pub record IsListSoFar (s : SheetParts) (codes : List ℕ) (ask : Ask) (n : ℕ) (list : List Quote) (leader : Quote) : Type 0 where
+pub record IsListSoFar (s : SheetParts) (codes : List ℕ) (ask : Ask) (n : ℕ) (list : List Quote)
+    (leader : Quote) : Type 0 where
   pub quotes : AreQuotes s codes ask n list
   pub leads : IsLeader list leader
   pub small : IsSmall leader
 
 -- so with one more, unless the leader is over it
-pub list_put : (s : SheetParts) (codes : List ℕ) (ask : Ask) (n : ℕ) (list new : List Quote) (p l q : Quote) → IsQuoteOf s codes ask n q
+pub list_put : (s : SheetParts) (codes : List ℕ) (ask : Ask) (n : ℕ) (list new : List Quote) (p l q : Quote)
+    → IsQuoteOf s codes ask n q
     → ((new ≡ list) × (l ≡ p) × IsOver ask.band.thinnest p q) ⊎ ((new ≡ list ++ q ∷ []) × ((l ≡ p) ⊎ (l ≡ q)))
     → IsListSoFar s codes ask n list p → IsListSoFar s codes ask (n + 1) new l
 list_put s codes ask n list new p l q is put was = elim put [
   | inl cut ↦
       subst (λ (x : Quote). IsListSoFar s codes ask (n + 1) new x) (sym cut.1)
       (subst (λ (xs : List Quote). IsListSoFar s codes ask (n + 1) xs p) (sym cut.0)
-      (record { quotes = quotes_cut s codes ask n list p q is was.leads cut.2 was.quotes; leads = was.leads; small = was.small }))
+      (record {
+        quotes = quotes_cut s codes ask n list p q is was.leads cut.2 was.quotes;
+        leads = was.leads;
+        small =
+            was.small;
+      }))
   | inr more ↦
       subst (λ (xs : List Quote). IsListSoFar s codes ask (n + 1) xs l) (sym more.0)
       (elim more.1 [
@@ -129,7 +138,8 @@ list_put s codes ask n list new p l q is put was = elim put [
 ]
 
 -- a term is put behind others
-pub terms_put : (i : InstructionParts) (codes : List ℕ) (ask : Ask) (n : ℕ) (terms : List (Option Term)) (term : Option Term)
+pub terms_put : (i : InstructionParts) (codes : List ℕ) (ask : Ask) (n : ℕ) (terms : List (Option Term))
+    (term : Option Term)
     → IfSome term (IsTermOf i codes ask n) → IfNone term (IsNoTerm i codes ask n) → AreTerms i codes ask n terms
     → AreTerms i codes ask (n + 1) (terms ++ term ∷ [])
 terms_put i codes ask n terms term some none was =
@@ -137,14 +147,16 @@ terms_put i codes ask n terms term some none was =
     → IfSome x (IsTermOf i codes ask k) × IfNone x (IsNoTerm i codes ask k) =
     push_each (λ k x. IfSome x (IsTermOf i codes ask k) × IfNone x (IsNoTerm i codes ask k)) terms term
     (λ k x at. at_place k x at)
-    (subst (λ (k : ℕ). IfSome term (IsTermOf i codes ask k) × IfNone term (IsNoTerm i codes ask k)) (sym was.number) (some, none)) in
+    (subst (λ (k : ℕ). IfSome term (IsTermOf i codes ask k) × IfNone term (IsNoTerm i codes ask k)) (sym was.number)
+    (some, none)) in
     record {
       number = length-append terms (term ∷ []) ∙ ap (λ m. m + 1) was.number;
       some = λ k t at. (each k (Some t) at).0;
       none = λ k at. (each k None at).1;
     }
   where
-    at_place : (k : ℕ) (x : Option Term) → slice_get terms k ≡ Some x → IfSome x (IsTermOf i codes ask k) × IfNone x (IsNoTerm i codes ask k)
+    at_place : (k : ℕ) (x : Option Term) → slice_get terms k ≡ Some x
+        → IfSome x (IsTermOf i codes ask k) × IfNone x (IsNoTerm i codes ask k)
     at_place k (Some t) at = (was.some k t at, tt)
     at_place k None at = (tt, was.none k at)
 
@@ -161,64 +173,73 @@ pub best_new : (row : List Cell) (c : Cell) → IsBest (row ++ c ∷ []) c
 best_new row c = inr (length row, pushed_at row c (length row) refl)
 
 module _ (quotes : List Quote) (d : ℕ) (reach : Reach) where
-  module _ (n : ℕ) (row : List Cell) (q : Quote) (at : slice_get quotes n ≡ Some q) (was : IsDrawn quotes d reach n row) where
-    -- a quote that is met leaves a row right
-    met_next : (IsWithin reach q → IsMet row q.steps q.rise (quote_bid q d)) → IsDrawn quotes d reach (n + 1) row
-    met_next met = record {
-      real = was.real;
-      met = λ k x lt there within. elim (cases_lt k n) [
-        | inl before ↦ was.met k x before there within
-        | inr here ↦
-            let same : q ≡ x = same_Some q x (sym at ∙ ap (λ m. slice_get quotes m) (let e : n ≡ k = omega arith in e) ∙ there) in
-            subst (λ y. IsWithin reach y → IsMet row y.steps y.rise (quote_bid y d)) same met within
-      ];
-    }
-
-    pub drawn_skip : (IsWithin reach q → ⊥) → IsDrawn quotes d reach (n + 1) row
-    drawn_skip out = met_next (λ within. absurd (out within))
-
-    pub drawn_cut : (best : Cell) → IsBest row best → IsCutOff best (cell_of reach q d) → IsDrawn quotes d reach (n + 1) row
-    drawn_cut best is cut = met_next (λ within. elim is [
-      | inl none ↦ absurd (omega (arith, cut.2))
-      | inr b ↦ record {
-        place = b.0;
-        cell = best;
-        there = b.1;
-        meets = elim (cases_lt best.steps q.steps) [
-          | inl less ↦ inr (less, cut.2)
-          | inr same ↦ inl (omega (arith, cut.0), inl cut.2)
+  module _ (n : ℕ) (row : List Cell) (q : Quote) (at : slice_get quotes n ≡ Some q) (was : IsDrawn quotes d reach n row)
+    where
+      -- a quote that is met leaves a row right
+      met_next : (IsWithin reach q → IsMet row q.steps q.rise (quote_bid q d)) → IsDrawn quotes d reach (n + 1) row
+      met_next met = record {
+        real = was.real;
+        met = λ k x lt there within. elim (cases_lt k n) [
+          | inl before ↦ was.met k x before there within
+          | inr here ↦
+              let same : q ≡ x =
+              same_Some q x (sym at ∙ ap (λ m. slice_get quotes m) (let e : n ≡ k = omega arith in e) ∙ there) in
+              subst (λ y. IsWithin reach y → IsMet row y.steps y.rise (quote_bid y d)) same met within
         ];
-        leaves = cut.1;
       }
-    ])
 
-    met_kept : (c : Cell) (steps rise : ℕ) (bid : BidParts) → IsMet row steps rise bid → IsMet (row ++ c ∷ []) steps rise bid
-    met_kept c steps rise bid m = record {
-      place = m.place;
-      cell = m.cell;
-      there = kept_at row c m.cell m.place m.there;
-      meets = m.meets;
-      leaves = m.leaves;
-    }
+      pub drawn_skip : (IsWithin reach q → ⊥) → IsDrawn quotes d reach (n + 1) row
+      drawn_skip out = met_next (λ within. absurd (out within))
 
-    pub drawn_push : (c : Cell) → IsWithin reach q → c ≡ cell_of reach q d → IsDrawn quotes d reach (n + 1) (row ++ c ∷ [])
-    drawn_push c within is = record {
-      real = push_each (λ k x. IsCellOf quotes d reach x) row c was.real
-          (record { place = n; quote = q; there = at; within = within; is = is });
-      met = λ k x lt there w. elim (cases_lt k n) [
-        | inl before ↦ met_kept c x.steps x.rise (quote_bid x d) (was.met k x before there w)
-        | inr here ↦
-            let same : q ≡ x = same_Some q x (sym at ∙ ap (λ m. slice_get quotes m) (let e : n ≡ k = omega arith in e) ∙ there) in
-            subst (λ y. IsMet (row ++ c ∷ []) y.steps y.rise (quote_bid y d)) same
-            (record {
-              place = length row;
-              cell = c;
-              there = pushed_at row c (length row) refl;
-              meets = inl (ap (λ y. y.steps) is, subst (λ y. IsAtMost (quote_bid q d) y) (sym (ap (λ y. y.bid) is)) (IsAtMost-refl (quote_bid q d)));
-              leaves = omega (arith, ap (λ y. y.rise) is);
-            })
-      ];
-    }
+      pub drawn_cut : (best : Cell) → IsBest row best → IsCutOff best (cell_of reach q d)
+          → IsDrawn quotes d reach (n + 1) row
+      drawn_cut best is cut = met_next (λ within. elim is [
+        | inl none ↦ absurd (omega (arith, cut.2))
+        | inr b ↦ record {
+          place = b.0;
+          cell = best;
+          there = b.1;
+          meets = elim (cases_lt best.steps q.steps) [
+            | inl less ↦ inr (less, cut.2)
+            | inr same ↦ inl (omega (arith, cut.0), inl cut.2)
+          ];
+          leaves = cut.1;
+        }
+      ])
+
+      met_kept : (c : Cell) (steps rise : ℕ) (bid : BidParts) → IsMet row steps rise bid
+          → IsMet (row ++ c ∷ []) steps rise bid
+      met_kept c steps rise bid m = record {
+        place = m.place;
+        cell = m.cell;
+        there = kept_at row c m.cell m.place m.there;
+        meets = m.meets;
+        leaves = m.leaves;
+      }
+
+      pub drawn_push : (c : Cell) → IsWithin reach q → c ≡ cell_of reach q d
+          → IsDrawn quotes d reach (n + 1) (row ++ c ∷ [])
+      drawn_push c within is = record {
+        real = push_each (λ k x. IsCellOf quotes d reach x) row c was.real
+            (record { place = n; quote = q; there = at; within = within; is = is });
+        met = λ k x lt there w. elim (cases_lt k n) [
+          | inl before ↦ met_kept c x.steps x.rise (quote_bid x d) (was.met k x before there w)
+          | inr here ↦
+              let same : q ≡ x =
+              same_Some q x (sym at ∙ ap (λ m. slice_get quotes m) (let e : n ≡ k = omega arith in e) ∙ there) in
+              subst (λ y. IsMet (row ++ c ∷ []) y.steps y.rise (quote_bid y d)) same
+              (record {
+                place = length row;
+                cell = c;
+                there = pushed_at row c (length row) refl;
+                meets = inl (
+                  ap (λ y. y.steps) is,
+                  subst (λ y. IsAtMost (quote_bid q d) y) (sym (ap (λ y. y.bid) is)) (IsAtMost-refl (quote_bid q d)),
+                );
+                leaves = omega (arith, ap (λ y. y.rise) is);
+              })
+        ];
+      }
 
 -- the cells of the first n quotes stand behind others, and the best of them is known
 abbrev pub IsRowSoFar : List Quote → ℕ → Reach → ℕ → List Cell → List Cell → Cell → Type 0
@@ -226,14 +247,16 @@ IsRowSoFar quotes d reach n start cells best =
     (row : List Cell) × (cells ≡ start ++ row) × IsDrawn quotes d reach n row × IsBest row best
 
 -- so with a quote more that is not within reach
-pub step_skip : (quotes : List Quote) (d : ℕ) (reach : Reach) (n : ℕ) (start cells : List Cell) (best : Cell) (q : Quote)
+pub step_skip : (quotes : List Quote) (d : ℕ) (reach : Reach) (n : ℕ) (start cells : List Cell) (best : Cell)
+    (q : Quote)
     → slice_get quotes n ≡ Some q → (IsWithin reach q → ⊥) → IsRowSoFar quotes d reach n start cells best
     → IsRowSoFar quotes d reach (n + 1) start cells best
 step_skip quotes d reach n start cells best q at out was =
     (was.0, was.1, drawn_skip quotes d reach n was.0 q at was.2 out, was.3)
 
 -- and with one whose cell is put, unless the best cuts it off
-pub step_put : (quotes : List Quote) (d : ℕ) (reach : Reach) (n : ℕ) (start cells new : List Cell) (best b c : Cell) (q : Quote)
+pub step_put : (quotes : List Quote) (d : ℕ) (reach : Reach) (n : ℕ) (start cells new : List Cell) (best b c : Cell)
+    (q : Quote)
     → slice_get quotes n ≡ Some q → IsWithin reach q → c ≡ cell_of reach q d
     → ((new ≡ cells) × (b ≡ best) × IsCutOff best c) ⊎ ((new ≡ cells ++ c ∷ []) × ((b ≡ best) ⊎ (b ≡ c)))
     → IsRowSoFar quotes d reach n start cells best → IsRowSoFar quotes d reach (n + 1) start new b
@@ -263,13 +286,17 @@ rank_offered s offers takers d steps trim bid b =
       arith,
       codes_number offers,
       b.bids.rank.high,
-      slice_get_within (codes_in offers) (1023 - bid.rank) (code_of (steps * s.instruction.«module») b.a) b.bids.rank.at,
+      slice_get_within (codes_in offers) (1023 - bid.rank) (code_of (steps * s.instruction.«module») b.a)
+          b.bids.rank.at,
     )
 
 -- a row of a price list has the cells of its takers
-pub row_cells : (s : SheetParts) (codes : List ℕ) (ask : Ask) (n d : ℕ) (reach : Reach) (quotes : List Quote) (row : List Cell)
-    → IsSheet s → IsAsked ask d → ((steps trim : ℕ) (bid : BidParts) → IsTakersBid s codes ask.takers d steps trim bid → 1023 < bid.rank + n)
-    → AreQuotes s codes ask n quotes → IsDrawn quotes d reach (length quotes) row → AreCells s codes ask.takers d reach row
+pub row_cells : (s : SheetParts) (codes : List ℕ) (ask : Ask) (n d : ℕ) (reach : Reach) (quotes : List Quote)
+    (row : List Cell)
+    → IsSheet s → IsAsked ask d
+    → ((steps trim : ℕ) (bid : BidParts) → IsTakersBid s codes ask.takers d steps trim bid → 1023 < bid.rank + n)
+    → AreQuotes s codes ask n quotes → IsDrawn quotes d reach (length quotes) row
+    → AreCells s codes ask.takers d reach row
 row_cells s codes ask n d reach quotes row valid asked all are drawn = record {
   real = λ k c at.
       let o = drawn.real k c at in
@@ -287,19 +314,31 @@ row_cells s codes ask n d reach quotes row valid asked all are drawn = record {
       let q = are.real i.place i.quote i.there in
       elim (cases_lt reach.past i.quote.steps) [
         | inl within ↦
-            let m = drawn.met i.place i.quote (slice_get_within quotes i.place i.quote i.there) i.there
-            (within, (elim i.meets [ inl same ↦ omega (arith, same.0) | inr less ↦ omega (arith, less.0) ]), omega (arith, i.trims)) in
+            let m = drawn.met i.place i.quote (slice_get_within quotes i.place i.quote i.there) i.there (
+              within,
+              (elim i.meets [ inl same ↦ omega (arith, same.0) | inr less ↦ omega (arith, less.0) ]),
+              omega (arith, i.trims),
+            ) in
             inl (record {
               place = m.place;
               cell = m.cell;
               there = m.there;
               meets = elim m.meets [
                 | inl same ↦ elim i.meets [
-                  | inl x ↦ inl (omega (arith, same.0, x.0), IsAtMost-trans bid (quote_bid i.quote d) m.cell.bid x.1 same.1)
-                  | inr x ↦ inr (omega (arith, same.0, x.0), omega (arith, x.1, worth_at_most (quote_bid i.quote d) m.cell.bid same.1))
+                  | inl x ↦
+                      inl (omega (arith, same.0, x.0), IsAtMost-trans bid (quote_bid i.quote d) m.cell.bid x.1 same.1)
+                  | inr x ↦
+                      inr (
+                        omega (arith, same.0, x.0),
+                        omega (arith, x.1, worth_at_most (quote_bid i.quote d) m.cell.bid same.1),
+                      )
                 ]
                 | inr less ↦ elim i.meets [
-                  | inl x ↦ inr (omega (arith, less.0, x.0), omega (arith, less.1, worth_at_most bid (quote_bid i.quote d) x.1))
+                  | inl x ↦
+                      inr (
+                        omega (arith, less.0, x.0),
+                        omega (arith, less.1, worth_at_most bid (quote_bid i.quote d) x.1),
+                      )
                   | inr x ↦ inr (omega (arith, less.0, x.0), omega (arith, less.1, x.1))
                 ]
               ];
@@ -307,7 +346,8 @@ row_cells s codes ask n d reach quotes row valid asked all are drawn = record {
                 arith,
                 m.leaves,
                 q.rise,
-                after_in_order s.instruction.«module» i.quote.trim trim (omega (arith, valid.valid.module_range)) i.trims,
+                after_in_order s.instruction.«module» i.quote.trim trim (omega (arith, valid.valid.module_range))
+                    i.trims,
               );
             })
         | inr short ↦ inr (record {

@@ -27,9 +27,11 @@ use Rattle.buck_dp.specs.declared.offering.Reach.{Reach}
 use Rattle.buck_dp.proofs.PartLemmas.{cells_part}
 
 -- a mask of a profile is one of its stem
-pub mask_of : (q : ProfileParts) (stem : StemParts) (step i j mask : ℕ) → q ≡ profile_of stem step → IsMaskBetween q i j mask
+pub mask_of : (q : ProfileParts) (stem : StemParts) (step i j mask : ℕ) → q ≡ profile_of stem step
+    → IsMaskBetween q i j mask
     → IsMask stem.zones (i * step) (j * step) mask
-mask_of q stem step i j mask same is = subst (λ (r : ProfileParts). IsMask r.stem.zones (i * r.«module») (j * r.«module») mask) same is
+mask_of q stem step i j mask same is =
+    subst (λ (r : ProfileParts). IsMask r.stem.zones (i * r.«module») (j * r.«module») mask) same is
 
 module _ (p : GroundParts) where
   abbrev unit : ℕ
@@ -37,7 +39,8 @@ module _ (p : GroundParts) where
 
   -- who takes wood of a kind, takes the wood that is of it
   pub kind_takers : (i t : ℕ) (kind : Kind) (takers : Takers) → IsStem p.stem → kind.species ≡ p.stem.species
-      → IsMask p.stem.zones (i * unit) (t * unit) kind.grades → AreTakersOf p.sheet.instruction kind takers → HasTakers p takers i t
+      → IsMask p.stem.zones (i * unit) (t * unit) kind.grades → AreTakersOf p.sheet.instruction kind takers
+      → HasTakers p takers i t
   kind_takers i t kind takers sound species mask are = λ a x at.
       let both = are a x at in
       let grades = mask_allows p.stem (i * unit) (t * unit) kind.grades x.grades sound mask in (
@@ -46,7 +49,8 @@ module _ (p : GroundParts) where
       )
 
   -- where nobody takes the wood from a start to a top, no log with that top or a later one starts there or before
-  pub none_before : (i k u t e : ℕ) (takers : Takers) (bid : BidParts) → HasTakers p takers i u → ((a : ℕ) → IsTaker takers a → ⊥) → k ≤ i
+  pub none_before : (i k u t e : ℕ) (takers : Takers) (bid : BidParts) → HasTakers p takers i u
+      → ((a : ℕ) → IsTaker takers a → ⊥) → k ≤ i
       → u ≤ t → IsLogAt p k t e bid → ⊥
   none_before i k u t e takers bid has none le up log =
       let a = log.allowed in
@@ -58,7 +62,8 @@ module _ (p : GroundParts) where
 
   -- no log is longer than the longest
   pub too_long : (most k t e : ℕ) (bid : BidParts) → IsSheet p.sheet
-      → ((n : ℕ) → n < length p.codes → slice_index p.codes n / 16 ≤ most * unit) → k + most < t → IsLogAt p k t e bid → ⊥
+      → ((n : ℕ) → n < length p.codes → slice_index p.codes n / 16 ≤ most * unit) → k + most < t → IsLogAt p k t e bid
+      → ⊥
   too_long most k t e bid valid long far log =
       let c = log_coded p valid k t e bid log in
       let least : (k + most + 1) * unit ≤ t * unit = mul-le-mul_right unit (omega arith) in
@@ -92,7 +97,9 @@ module _ (p : GroundParts) where
         let above : x < k * unit + unit = lt-div-mul-add pos in
         let first : run ≤ k = elim (cases_lt k run) [
           | inr le ↦ le
-          | inl less ↦ absurd (let m : (k + 1) * unit ≤ run * unit = mul-le-mul_right unit (omega arith) in omega (arith, add-mul k 1 unit))
+          | inl less ↦
+              absurd (let m : (k + 1) * unit ≤ run * unit = mul-le-mul_right unit (omega arith) in
+              omega (arith, add-mul k 1 unit))
         ] in
         let last : k < t = elim (cases_lt k t) [
           | inl less ↦ less
@@ -113,7 +120,9 @@ module _ (p : GroundParts) where
               w.0,
               λ y low' high'. elim (cases_lt y ((run + 1) * unit)) [
                 | inl near ↦ w.1 y low' near
-                | inr far ↦ grades_on run i t x.grades (omega arith) (omega arith) le before w.1 y (omega (arith, add-mul run 1 unit)) high'
+                | inr far ↦
+                    grades_on run i t x.grades (omega arith) (omega arith) le before w.1 y
+                    (omega (arith, add-mul run 1 unit)) high'
               ],
             )),
             λ takes. h.1 (takes.0, λ y low' high'. takes.1 y low' (omega arith)),
@@ -141,7 +150,8 @@ pub known_of : (q : ProfileParts) (stem : StemParts) (step : ℕ) (ds : List ℕ
     → ((j : ℕ) → j < grid.points_of q → slice_index ds j ≡ diameter_at q.stem.samples (j * q.«module»))
     → (j : ℕ) → j < grid.points_of (profile_of stem step) → slice_index ds j ≡ diameter_at stem.samples (j * step)
 known_of q stem step ds same known =
-    subst (λ (r : ProfileParts). (j : ℕ) → j < grid.points_of r → slice_index ds j ≡ diameter_at r.stem.samples (j * r.«module»)) same known
+    subst (λ (r : ProfileParts). (j : ℕ) → j < grid.points_of r
+    → slice_index ds j ≡ diameter_at r.stem.samples (j * r.«module»)) same known
 
 module _ (x : Site) (is : IsSite x) where
   -- the length of the stem reaches each of its points, and these are few
@@ -155,11 +165,14 @@ module _ (x : Site) (is : IsSite x) where
 
   -- cells of the takers of a part are a part
   pub part_offered : (ds : List ℕ) (t first stop : ℕ) (takers : Takers) (reach : Reach) (cells : List Cell)
-      → ((j : ℕ) → j < points_of (ground_of x) → slice_index ds j ≡ diameter_at x.stem.now.samples (j * x.market.sheet.now.instruction.«module»))
-      → reach.past + stop ≤ t → ((i e : ℕ) (bid : BidParts) → first ≤ i → IsLogAt (ground_of x) i t e bid → t ≤ reach.far + i)
+      → ((j : ℕ) → j < points_of (ground_of x)
+      → slice_index ds j ≡ diameter_at x.stem.now.samples (j * x.market.sheet.now.instruction.«module»))
+      → reach.past + stop ≤ t
+      → ((i e : ℕ) (bid : BidParts) → first ≤ i → IsLogAt (ground_of x) i t e bid → t ≤ reach.far + i)
       → ((i : ℕ) → first ≤ i → i < stop → HasTakers (ground_of x) takers i t)
       → t * x.market.sheet.now.instruction.«module» + reach.room ≤ stem_length x.stem.now.samples
-      → (reach.room ≡ x.market.menu.now.most_trim) ⊎ (stem_length x.stem.now.samples ≤ t * x.market.sheet.now.instruction.«module» + reach.room)
+      → (reach.room ≡ x.market.menu.now.most_trim)
+      ⊎ (stem_length x.stem.now.samples ≤ t * x.market.sheet.now.instruction.«module» + reach.room)
       → AreCells x.market.sheet.now (codes_in x.market.menu.now.offers.items) takers (slice_index ds t) reach cells
       → IsPart (ground_of x) t first stop cells
   part_offered ds t first stop takers reach cells known past far here fits room are =
@@ -171,7 +184,8 @@ module _ (x : Site) (is : IsSite x) where
       are
 
   -- so are those of a row that is kept
-  pub row_offered : (t d first : ℕ) (takers : Takers) (cells : List Cell) → IsDiameterAt x t d → t < points_of (ground_of x)
+  pub row_offered : (t d first : ℕ) (takers : Takers) (cells : List Cell) → IsDiameterAt x t d
+      → t < points_of (ground_of x)
       → first < t → t < x.fit → ((i : ℕ) → first ≤ i → i < t → HasTakers (ground_of x) takers i t)
       → AreCells x.market.sheet.now (codes_in x.market.menu.now.offers.items) takers d (all_of x.market.menu.now) cells
       → IsPart (ground_of x) t first t cells
@@ -181,5 +195,6 @@ module _ (x : Site) (is : IsSite x) where
         | inr le ↦ omega (arith, le)
         | inl lt ↦ absurd (too_long (ground_of x) x.market.menu.now.most_steps i t e bid is.valid is.menu.long lt log)
       ]) here (is.fit t fit) (inl refl)
-      (subst (λ (n : ℕ). AreCells x.market.sheet.now (codes_in x.market.menu.now.offers.items) takers n (all_of x.market.menu.now) cells)
+      (subst (λ (n : ℕ). AreCells x.market.sheet.now (codes_in x.market.menu.now.offers.items) takers n
+      (all_of x.market.menu.now) cells)
       (sym at.is) are)

@@ -34,7 +34,8 @@ pub log_low : (p : GroundParts) (i j e : ℕ) (bid : BidParts) → IsSheet p.she
     → bid.worth + 70000000000 * (i * p.sheet.instruction.«module») ≤ 70000000000 * (e * p.sheet.instruction.«module»)
 log_low p i j e bid s log =
     let w = worth_low p.sheet p.stem log.log s log.allowed in
-    let le : j * p.sheet.instruction.«module» ≤ e * p.sheet.instruction.«module» = mul-le-mul_right p.sheet.instruction.«module» log.order in
+    let le : j * p.sheet.instruction.«module» ≤ e * p.sheet.instruction.«module» =
+    mul-le-mul_right p.sheet.instruction.«module» log.order in
     omega (arith, log.start, log.top, log.worth)
 
 -- a settled point stays so where nothing changes from there on
@@ -49,7 +50,8 @@ settled_same p v w ch ci k same choice was =
       even = ap (λ b. b.rank) (same k (omega arith)) ∙ was.even;
       falls = omega (arith, was.falls);
       each = λ j e bid log.
-          let there : (bid_at w e).worth ≡ (bid_at v e).worth = ap (λ b. b.worth) (same e (omega (arith, log.later, log.order))) in
+          let there : (bid_at w e).worth ≡ (bid_at v e).worth =
+          ap (λ b. b.worth) (same e (omega (arith, log.later, log.order))) in
           elim (was.each j e bid log) [
             | inl less ↦ inl (omega arith)
             | inr even ↦ inr (omega (arith, even.0), omega (arith, even.1))
@@ -57,7 +59,8 @@ settled_same p v w ch ci k same choice was =
       one = elim was.one [
         | inl skip ↦ inl (omega (arith, skip.0), omega (arith, skip.1))
         | inr o ↦
-            let there : (bid_at w o.1).worth ≡ (bid_at v o.1).worth = ap (λ b. b.worth) (same o.1 (omega (arith, o.3.later, o.3.order))) in
+            let there : (bid_at w o.1).worth ≡ (bid_at v o.1).worth =
+            ap (λ b. b.worth) (same o.1 (omega (arith, o.3.later, o.3.order))) in
             inr (o.0, o.1, o.2, o.3, omega (arith, o.4), choice ∙ o.5)
       ];
     }
@@ -84,25 +87,32 @@ module _ (p : GroundParts) (valid : IsSheet p.sheet) (v w : List BidParts) (ch c
     | inl e ↦
         subst (λ (n : ℕ). (bid_at v n).worth ≤ (bid_at w n).worth) (sym e)
         (worth_at_most (bid_at v t) value (greater_first (bid_at v t) (bid_at v (t + 1)) value greater))
-    | inr o ↦ (let e : (bid_at w k).worth ≡ (bid_at v k).worth = ap (λ b. b.worth) (others k (λ e. elim o [ inl a ↦ omega arith | inr a ↦ omega arith ])) in omega arith)
+    | inr o ↦
+        (let e : (bid_at w k).worth ≡ (bid_at v k).worth =
+        ap (λ b. b.worth) (others k (λ e. elim o [ inl a ↦ omega arith | inr a ↦ omega arith ])) in omega arith)
   ]
 
   -- the point itself
   here_settled : IsSettled p w ci t
   here_settled = record {
     even = even;
-    falls = (let e : (bid_at w (t + 1)).worth ≡ (bid_at v (t + 1)).worth = ap (λ b. b.worth) (later_same (t + 1) (omega arith)) in omega (arith, next_less));
+    falls = (let e : (bid_at w (t + 1)).worth ≡ (bid_at v (t + 1)).worth =
+        ap (λ b. b.worth) (later_same (t + 1) (omega arith)) in omega (arith, next_less));
     each = λ j e bid log.
         let same : bid_at w e ≡ bid_at v e = later_same e (omega (arith, log.later, log.order)) in
-        subst (λ x. IsAtMost (plus bid x) value) (sym same) (elim (was.each t j e bid (omega arith) (inr (omega (arith, log.later), omega arith)) log) [
-          | inl at ↦ IsAtMost-trans (plus bid (bid_at v e)) (bid_at v t) value at (greater_first (bid_at v t) (bid_at v (t + 1)) value greater)
+        subst (λ x. IsAtMost (plus bid x) value) (sym same)
+        (elim (was.each t j e bid (omega arith) (inr (omega (arith, log.later), omega arith)) log) [
+          | inl at ↦
+              IsAtMost-trans (plus bid (bid_at v e)) (bid_at v t) value at
+              (greater_first (bid_at v t) (bid_at v (t + 1)) value greater)
           | inr o ↦
               let f : (bid_at v o.0).worth ≤ (bid_at v (t + 1)).worth =
               falls_to p v ch (t + 1) (t + 1) o.0 was.settled (omega arith) (omega (arith, o.1)) in
               inl (omega (arith, o.2, next_less))
         ]);
     one =
-        let after : (bid_at w (t + 1)).worth ≡ (bid_at v (t + 1)).worth = ap (λ b. b.worth) (later_same (t + 1) (omega arith)) in
+        let after : (bid_at w (t + 1)).worth ≡ (bid_at v (t + 1)).worth =
+        ap (λ b. b.worth) (later_same (t + 1) (omega arith)) in
         elim greater [
           | inl g ↦
               let worth : (bid_at w t).worth ≡ (bid_at v t).worth = ap (λ b. b.worth) g.0 in
@@ -116,7 +126,8 @@ module _ (p : GroundParts) (valid : IsSheet p.sheet) (v w : List BidParts) (ch c
                     let is : bid_at v t ≡ plus o.2 (bid_at v o.1) = o.5 in
                     let is_worth : (bid_at v t).worth ≡ o.2.worth + (bid_at v o.1).worth = ap (λ b. b.worth) is in
                     let is_rank : (bid_at v t).rank ≡ o.2.rank = ap (λ b. b.rank) is in
-                    let rest : (bid_at w o.1).worth ≡ (bid_at v o.1).worth = ap (λ b. b.worth) (later_same o.1 (omega (arith, o.4.later, o.4.order))) in
+                    let rest : (bid_at w o.1).worth ≡ (bid_at v o.1).worth =
+                    ap (λ b. b.worth) (later_same o.1 (omega (arith, o.4.later, o.4.order))) in
                     inr (o.0, o.1, o.2, o.4, omega arith, omega arith)
               ]
           | inr g ↦
@@ -132,11 +143,18 @@ module _ (p : GroundParts) (valid : IsSheet p.sheet) (v w : List BidParts) (ch c
       let up : t * m ≤ (t + 1) * m = mul-le-mul_right m (omega arith) in
       elim here_settled.one [
         | inl skip ↦
-            let after : (bid_at w (t + 1)).worth ≡ (bid_at v (t + 1)).worth = ap (λ b. b.worth) (later_same (t + 1) (omega arith)) in
+            let after : (bid_at w (t + 1)).worth ≡ (bid_at v (t + 1)).worth =
+            ap (λ b. b.worth) (later_same (t + 1) (omega arith)) in
             omega (arith, skip.0, was.low (t + 1) (omega arith) was.within)
         | inr o ↦
-            let rest : (bid_at w o.1).worth ≡ (bid_at v o.1).worth = ap (λ b. b.worth) (later_same o.1 (omega (arith, o.3.later, o.3.order))) in
-            omega (arith, o.4, was.low o.1 (omega (arith, o.3.later, o.3.order)) o.3.last, log_low p t o.0 o.1 o.2 valid o.3)
+            let rest : (bid_at w o.1).worth ≡ (bid_at v o.1).worth =
+            ap (λ b. b.worth) (later_same o.1 (omega (arith, o.3.later, o.3.order))) in
+            omega (
+              arith,
+              o.4,
+              was.low o.1 (omega (arith, o.3.later, o.3.order)) o.3.last,
+              log_low p t o.0 o.1 o.2 valid o.3,
+            )
       ]
 
   -- one point more is settled
@@ -152,20 +170,30 @@ module _ (p : GroundParts) (valid : IsSheet p.sheet) (v w : List BidParts) (ch c
     ];
     settled = λ k le. elim (cases_lt t k) [
       | inl later ↦
-          settled_same p v w ch ci k (λ n far. later_same n (omega arith)) (other_choices k (λ e. omega arith)) (was.settled k (omega arith))
+          settled_same p v w ch ci k (λ n far. later_same n (omega arith)) (other_choices k (λ e. omega arith))
+          (was.settled k (omega arith))
       | inr here ↦ subst (λ n. IsSettled p w ci n) (let e : t ≡ k = omega arith in e) here_settled
     ];
     each = λ i j e bid lt which log.
         let far : t < j = elim which [ inl a ↦ a | inr a ↦ absurd (omega (arith, a.1)) ] in
         let same : bid_at w e ≡ bid_at v e = later_same e (omega (arith, log.order)) in
-        subst (λ x. Reaches w i (plus bid x)) (sym same) (elim (was.each i j e bid (omega arith) (inr (omega arith, omega arith)) log) [
+        subst (λ x. Reaches w i (plus bid x)) (sym same)
+        (elim (was.each i j e bid (omega arith) (inr (omega arith, omega arith)) log) [
           | inl at ↦ inl (subst (λ x. IsAtMost (plus bid (bid_at v e)) x) (sym (others i (λ e. omega arith))) at)
           | inr o ↦ inr (o.0, o.1, omega (arith, o.2, worth_more o.0))
         ]);
     one = λ i lt. elim (was.one i (omega arith)) [
       | inl nothing ↦ inl (others i (λ e. omega arith) ∙ nothing)
       | inr o ↦
-          inr (o.0, o.1, o.2, omega (arith, o.3), o.4, others i (λ e. omega arith) ∙ o.5 ∙ ap (λ x. plus o.2 x) (sym (later_same o.1 (omega (arith, o.3, o.4.order)))))
+          inr (
+            o.0,
+            o.1,
+            o.2,
+            omega (arith, o.3),
+            o.4,
+            others i (λ e. omega arith) ∙ o.5
+                ∙ ap (λ x. plus o.2 x) (sym (later_same o.1 (omega (arith, o.3, o.4.order)))),
+          )
     ];
   }
 
@@ -178,7 +206,8 @@ ends_low p s t =
     let far : n ≤ 40000 = omega (arith, t.samples_number) in
     omega (arith, s.valid.module_range, add-mul (n / m) 2 m)
 
-module _ (p : GroundParts) (valid : IsSheet p.sheet) (sound : IsStem p.stem) (v : List BidParts) (ch : List ℕ) (t first stop : ℕ) (cells : List Cell)
+module _ (p : GroundParts) (valid : IsSheet p.sheet) (sound : IsStem p.stem) (v : List BidParts) (ch : List ℕ)
+    (t first stop : ℕ) (cells : List Cell)
     (below : stop ≤ t)
     (part : IsPart p t first stop cells)
     (was : AreSearched p v ch t stop) where
@@ -194,7 +223,12 @@ module _ (p : GroundParts) (valid : IsSheet p.sheet) (sound : IsStem p.stem) (v 
     even = λ k le. (was.settled k le).even;
     low = λ k c at near.
         let log = real_at k c at near in
-        omega (arith, log_low p (t - c.steps) t (t + c.rise) c.bid valid log, was.low (t + c.rise) (omega arith) log.last, ends_low p valid sound);
+        omega (
+          arith,
+          log_low p (t - c.steps) t (t + c.rise) c.bid valid log,
+          was.low (t + c.rise) (omega arith) log.last,
+          ends_low p valid sound,
+        );
   }
 
   module _ (w : List BidParts) (offered : AreOffered cells t first stop (length cells) v w) where
@@ -205,10 +239,12 @@ module _ (p : GroundParts) (valid : IsSheet p.sheet) (sound : IsStem p.stem) (v 
     -- what reached the values reaches them still
     reaches_still : (i : ℕ) (bid : BidParts) → Reaches v i bid → Reaches w i bid
     reaches_still i bid (inl at) = inl (IsAtMost-trans bid (bid_at v i) (bid_at w i) at (offered.kept i))
-    reaches_still i bid (inr o) = inr (o.0, o.1, omega (arith, o.2, worth_at_most (bid_at v o.0) (bid_at w o.0) (offered.kept o.0)))
+    reaches_still i bid (inr o) =
+        inr (o.0, o.1, omega (arith, o.2, worth_at_most (bid_at v o.0) (bid_at w o.0) (offered.kept o.0)))
 
     -- a log that a cell serves reaches the values
-    reached_here : (i e : ℕ) (bid : BidParts) → IsServed cells t first stop i e bid → Reaches w i (plus bid (bid_at v e))
+    reached_here : (i e : ℕ) (bid : BidParts) → IsServed cells t first stop i e bid
+        → Reaches w i (plus bid (bid_at v e))
     reached_here i e bid s =
         let start : ℕ = t - s.cell.steps in
         let at : start + s.cell.steps ≡ t = omega (arith, s.near.0) in
@@ -228,7 +264,8 @@ module _ (p : GroundParts) (valid : IsSheet p.sheet) (sound : IsStem p.stem) (v 
         ]
 
     -- and so does one that is beaten
-    reached_later : (i e : ℕ) (bid : BidParts) → i < stop → IsBeaten p t stop e bid → Reaches w i (plus bid (bid_at v e))
+    reached_later : (i e : ℕ) (bid : BidParts) → i < stop → IsBeaten p t stop e bid
+        → Reaches w i (plus bid (bid_at v e))
     reached_later i e bid lt b =
         let falls : (bid_at v e).worth ≤ (bid_at v b.next).worth =
         falls_to p v ch t b.next e was.settled b.log.order b.leaves in
@@ -270,10 +307,26 @@ module _ (p : GroundParts) (valid : IsSheet p.sheet) (sound : IsStem p.stem) (v 
         | inl same ↦ elim (was.one i lt) [
           | inl nothing ↦ inl (same ∙ nothing)
           | inr o ↦
-              inr (o.0, o.1, o.2, o.3, o.4, same ∙ o.5 ∙ ap (λ x. plus o.2 x) (sym (stays o.1 (omega (arith, o.3, o.4.order)))))
+              inr (
+                o.0,
+                o.1,
+                o.2,
+                o.3,
+                o.4,
+                same ∙ o.5
+                    ∙ ap (λ x. plus o.2 x) (sym (stays o.1 (omega (arith, o.3, o.4.order)))),
+              )
         ]
         | inr o ↦
-            inr (t, t + o.1.rise, o.1.bid, omega arith, part.real o.0 o.1 o.2 o.3 i o.4, o.5 ∙ ap (λ x. plus o.1.bid x) (sym (stays (t + o.1.rise) (omega arith))))
+            inr (
+              t,
+              t + o.1.rise,
+              o.1.bid,
+              omega arith,
+              part.real o.0 o.1 o.2 o.3 i o.4,
+              o.5
+                  ∙ ap (λ x. plus o.1.bid x) (sym (stays (t + o.1.rise) (omega arith))),
+            )
       ];
     }
 
@@ -293,7 +346,8 @@ offered_all p v ch t first none was = record {
         | inl later ↦ was.each i j e bid lt (inl (omega arith)) log
         | inr here ↦ elim (cases_lt i first) [
           | inl before ↦
-              absurd (none i e bid before (subst (λ (n : ℕ). IsLogAt p i n e bid) (let is : j ≡ t = omega arith in is) log))
+              absurd (none i e bid before
+              (subst (λ (n : ℕ). IsLogAt p i n e bid) (let is : j ≡ t = omega arith in is) log))
           | inr after ↦ was.each i j e bid lt (inr (far, after)) log
         ]
       ];

@@ -9,7 +9,8 @@ use Rattle.buck_value.proofs.Untrimmed.{no_trim, without_trim, with_trim}
 use Rattle.buck_dp.specs.Cutting.{IsCutFrom}
 
 -- a log ends with its length
-ends_same : (i : InstructionParts) (stem : StemParts) (g : Log) → HasNoTrim i → IsAllowedUntrimmed i stem g → end_of i g ≡ top_of g
+ends_same : (i : InstructionParts) (stem : StemParts) (g : Log) → HasNoTrim i → IsAllowedUntrimmed i stem g
+    → end_of i g ≡ top_of g
 ends_same i stem g none a = omega (arith, ap trim_in a.exists, no_trim i g.assortment a.assortment none a.exists)
 
 pub cut_without : (i : InstructionParts) (stem : StemParts) (from : ℕ) (gs : List Log) → HasNoTrim i

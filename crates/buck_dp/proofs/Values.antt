@@ -1,4 +1,5 @@
--- Searched values give the best from each point on, and following their choices from the butt gives the first best cutting.
+-- Searched values give the best from each point on, and following their choices from the butt gives the first best
+-- cutting.
 use Rattle.std.proofs.Common.{◌≡◌, ℕ, zero, suc, ◌+◌, ◌-◌, ◌*◌, ◌<◌, ◌≤◌, inl, inr, List, [], ◌∷◌, ◌++◌, length, get_or, slice_index, append_assoc, refl, sym, ◌∙◌, subst, ap, arith, add-mul, mul-le-mul_right}
 use Rattle.std.proofs.lemmas.Bool.{cases_lt}
 use Rattle.std.proofs.lemmas.List.{append-nil, get_or_past}
@@ -31,13 +32,15 @@ starts_before Allowed ends from g more [] lt c = tt
 starts_before Allowed ends from g more (h ∷ hs) lt c = inl (inl (omega (arith, c.0)))
 
 -- past the last point nothing can be cut
-nothing_past : (p : GroundParts) (n : ℕ) → points_of p ≤ n → IsSheet p.sheet → IsTopAt p (n * p.sheet.instruction.«module») []
+nothing_past : (p : GroundParts) (n : ℕ) → points_of p ≤ n → IsSheet p.sheet
+    → IsTopAt p (n * p.sheet.instruction.«module») []
 nothing_past p n past s =
     let m : ℕ = p.sheet.instruction.«module» in
     let pos : 0 < m = module_pos p.sheet.instruction s.valid in
     nothing_top (IsAllowed p.sheet.instruction p.stem) (end_of p.sheet.instruction) (worth_of p.sheet p.stem) (n * m)
     (λ d le a.
-    let within : end_of p.sheet.instruction d ≤ stem_length p.stem.samples = end_within p.sheet.instruction p.stem d a in
+    let within : end_of p.sheet.instruction d ≤ stem_length p.stem.samples =
+    end_within p.sheet.instruction p.stem d a in
     let far : points_of p * m ≤ n * m = mul-le-mul_right m past in
     past_top m (stem_length p.stem.samples) d.start pos (omega arith) (omega arith))
 
@@ -70,7 +73,11 @@ module _ (p : GroundParts) (s : IsSheet p.sheet) (codes : AreCodes p.sheet.instr
   no_worse_later from g more gs hs lt t le c =
       let first : IsNoWorseIn p (g ∷ more) gs = elim (cases_lt (sum_of p gs) (sum_of p (g ∷ more))) [
         | inl less ↦ inl less
-        | inr same ↦ inr (omega arith, starts_before (IsAllowed p.sheet.instruction p.stem) (end_of p.sheet.instruction) from g more gs lt t.cut)
+        | inr same ↦
+            inr (
+              omega arith,
+              starts_before (IsAllowed p.sheet.instruction p.stem) (end_of p.sheet.instruction) from g more gs lt t.cut,
+            )
       ] in
       IsNoWorse-trans (worth_of p.sheet p.stem) (g ∷ more) gs hs first (t.top hs c)
 
@@ -90,12 +97,16 @@ module _ (p : GroundParts) (s : IsSheet p.sheet) (codes : AreCodes p.sheet.instr
         | inl less ↦ inl less
         | inr even ↦ elim (cases_lt o.mark mark) [
           | inl less ↦
-              inr (even.0, inl (marks_before p.sheet.instruction p.codes g d mark o.mark codes m o.marked less at low low'))
+              inr (
+                even.0,
+                inl (marks_before p.sheet.instruction p.codes g d mark o.mark codes m o.marked less at low low'),
+              )
           | inr more_or ↦
               let one : g ≡ d = marks_same p.codes g d mark o.mark m o.marked (omega (arith, even.1)) at low low' in
               let rest : IsNoWorseIn p more o.rest =
               t.top o.rest (subst (λ x. IsCutAt p (end_of p.sheet.instruction x) o.rest) (sym one) o.top.cut) in
-              subst (λ x. IsNoWorseIn p (g ∷ more) (x ∷ o.rest)) one (IsNoWorse-cons (worth_of p.sheet p.stem) g more o.rest rest)
+              subst (λ x. IsNoWorseIn p (g ∷ more) (x ∷ o.rest)) one
+              (IsNoWorse-cons (worth_of p.sheet p.stem) g more o.rest rest)
         ]
       ]
 
@@ -115,7 +126,9 @@ module _ (p : GroundParts) (s : IsSheet p.sheet) (codes : AreCodes p.sheet.instr
                   b.1.top.top
                   (λ d at a o. inl (elim o.brings [
                     | inl less ↦ omega (arith, less, is.0, b.1.worth_is)
-                    | inr even ↦ absurd (omega (arith, even.1, is.1, mark_high p.sheet.instruction p.codes d o.mark codes o.marked))
+                    | inr even ↦
+                        absurd (omega
+                        (arith, even.1, is.1, mark_high p.sheet.instruction p.codes d o.mark codes o.marked))
                   ])) c;
             };
             worth_is = is.0 ∙ b.1.worth_is;
@@ -152,7 +165,8 @@ module _ (p : GroundParts) (s : IsSheet p.sheet) (codes : AreCodes p.sheet.instr
                   (λ d at a o. no_worse_here bid.rank g d r.0 log.allowed a log.rank t (log.start ∙ sym at) o) c;
             };
             worth_is = whole;
-            later = λ none. absurd (omega (arith, none, choice, mark_high p.sheet.instruction p.codes g bid.rank codes log.rank));
+            later = λ none. absurd
+                (omega (arith, none, choice, mark_high p.sheet.instruction p.codes g bid.rank codes log.rank));
             here = λ some. (g, r.0, refl, log.start, subst (λ x. HasMark p.codes g x) (sym choice) log.rank);
           },
         )
@@ -195,7 +209,8 @@ module _ (p : GroundParts) (s : IsSheet p.sheet) (codes : AreCodes p.sheet.instr
         let b : BestAt p v ch i = best_at i (omega arith) in
         any rest (record {
           cut = cut_earlier p (i * unit) ((i + 1) * unit) rest (omega (arith, add-mul i 1 unit)) top.cut;
-          top = λ hs c. IsNoWorse-trans (worth_of p.sheet p.stem) rest b.0 hs (top.top b.0 (b.1.later none)) (b.1.top.top hs c);
+          top = λ hs c. IsNoWorse-trans (worth_of p.sheet p.stem) rest b.0 hs (top.top b.0 (b.1.later none))
+              (b.1.top.top hs c);
         })
 
     -- a choice is a mark, and other than 0 that of a code
@@ -221,10 +236,12 @@ module _ (p : GroundParts) (s : IsSheet p.sheet) (codes : AreCodes p.sheet.instr
         let d : Log = f.0 in
         let begun : IsTopAt p (i * unit) (d ∷ f.1) = subst (λ x. IsTopAt p (i * unit) x) f.2 b.1.top in
         let parts = code_parts g.length g.assortment d.length d.assortment low
-        (assortment_low p.sheet.instruction p.stem d s.valid begun.cut.1) (code ∙ mark_code p.codes d (get_or ch i 0) f.4) in
+        (assortment_low p.sheet.instruction p.stem d s.valid begun.cut.1)
+        (code ∙ mark_code p.codes d (get_or ch i 0) f.4) in
         let one : d ≡ g = sym (same_log g d (at ∙ sym f.3) parts.0 parts.1) in
         let first : IsTopAt p (i * unit) (g ∷ f.1) = subst (λ x. IsTopAt p (i * unit) (x ∷ f.1)) one begun in
-        let l = log_there p s i (get_or ch i 0) g at first.cut.1 (subst (λ x. HasMark p.codes x (get_or ch i 0)) one f.4) in
+        let l = log_there p s i (get_or ch i 0) g at first.cut.1
+        (subst (λ x. HasMark p.codes x (get_or ch i 0)) one f.4) in
         let e : ℕ = point_after unit (end_of p.sheet.instruction g) in (
           e,
           omega (arith, l.1.later, l.1.order),
@@ -233,7 +250,8 @@ module _ (p : GroundParts) (s : IsSheet p.sheet) (codes : AreCodes p.sheet.instr
           first.cut.1,
           λ rest top.
               rw append_assoc (any (g ∷ rest)
-              (IsTop-rest (IsAllowed p.sheet.instruction p.stem) (end_of p.sheet.instruction) (worth_of p.sheet p.stem) (i * unit) g f.1 rest first
+              (IsTop-rest (IsAllowed p.sheet.instruction p.stem) (end_of p.sheet.instruction) (worth_of p.sheet p.stem)
+              (i * unit) g f.1 rest first
               (top_at_end p e g rest s refl top))),
         )
 
@@ -259,4 +277,5 @@ pub nothing_first : (sheet : SheetParts) (stem : StemParts) → ((g : Log) → I
     → IsFirstBest sheet stem []
 nothing_first sheet stem none =
     top_is_first_best sheet stem []
-    (nothing_top (IsAllowed sheet.instruction stem) (end_of sheet.instruction) (worth_of sheet stem) 0 (λ d le a. none d a))
+    (nothing_top (IsAllowed sheet.instruction stem) (end_of sheet.instruction) (worth_of sheet stem) 0
+    (λ d le a. none d a))

@@ -12,7 +12,8 @@ use Rattle.buck_dp.specs.Best.{IsFirstBest}
 -- whatever best list goes on from `from`, the logs so far with it are the best
 abbrev pub AnyRest : SheetParts → StemParts → ℕ → List Log → Type 0
 AnyRest sheet stem from logs =
-    (rest : List Log) → IsTop (IsAllowed sheet.instruction stem) (end_of sheet.instruction) (worth_of sheet stem) from rest
+    (rest : List Log)
+    → IsTop (IsAllowed sheet.instruction stem) (end_of sheet.instruction) (worth_of sheet stem) from rest
     → IsTop (IsAllowed sheet.instruction stem) (end_of sheet.instruction) (worth_of sheet stem) 0 (logs ++ rest)
 
 module _ (sheet : SheetParts) (stem : StemParts) where
@@ -52,7 +53,8 @@ module _ (sheet : SheetParts) (stem : StemParts) where
 
   -- each log of an admissible list is allowed
   pub cut_each : (from k : ℕ) (gs : List Log) (d : Log) → k < length gs
-      → IsCutFrom (IsAllowed sheet.instruction stem) (end_of sheet.instruction) from gs → IsAllowed sheet.instruction stem (get_or gs k d)
+      → IsCutFrom (IsAllowed sheet.instruction stem) (end_of sheet.instruction) from gs
+      → IsAllowed sheet.instruction stem (get_or gs k d)
   cut_each from k [] d lt c = absurd (omega arith)
   cut_each from zero (g ∷ gs) d lt c = c.1
   cut_each from (suc k) (g ∷ gs) d lt c = cut_each (end_of sheet.instruction g) k gs d (omega arith) c.2

@@ -13,7 +13,8 @@ loop-i-preserved-then-rank-eq0 c =
     let f = c.requires.found in
     record {
       within = omega (arith, f.1.room);
-      best = walk_skip p c.requires.valid c.requires.offers.codes f.0 c.args.choices.now f.1 c.loop-i.i c.loop-i.logs.items
+      best = walk_skip p c.requires.valid c.requires.offers.codes f.0 c.args.choices.now f.1 c.loop-i.i
+          c.loop-i.logs.items
           (omega (arith, f.1.room)) (omega arith) c.loop-i.invariant.best;
     }
 

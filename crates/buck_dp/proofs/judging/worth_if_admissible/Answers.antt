@@ -24,7 +24,8 @@ loop-log-preserved c =
     let logs = c.as_slice-log-items.result.now in
     let i = c.loop-log.log-index in
     let log : Log = get_or logs i (record { start = 0; length = 0; assortment = 0 }) in
-    let cut = IsCutFrom (IsAllowed c.args.sheet.now.instruction c.args.stem.now) (end_of c.args.sheet.now.instruction) in
+    let cut =
+    IsCutFrom (IsAllowed c.args.sheet.now.instruction c.args.stem.now) (end_of c.args.sheet.now.instruction) in
     let here : drop i logs ≡ log ∷ drop (i + 1) logs = rw add-one (drop-cons logs i _ c.loop-log-test.true) in
     record {
       cut = (

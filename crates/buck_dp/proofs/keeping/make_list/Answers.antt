@@ -23,7 +23,8 @@ pub put_list-requires-clause-terms : goal.put_list-requires-clause-terms
 put_list-requires-clause-terms c = (
   codes_in c.args.market.menu.now.offers.items,
   asked c.args.market.sheet.now c.args.market.menu.now
-      (record { takers = c.args.group.takers; at = c.args.band }) c.args.terms.now c.ask_for-ask.result c.ask_for-ask.ensures c.requires.terms,
+      (record { takers = c.args.group.takers; at = c.args.band })
+      c.args.terms.now c.ask_for-ask.result c.ask_for-ask.ensures c.requires.terms,
 )
 
 pub returns-clause-list : goal.returns-clause-list
@@ -40,5 +41,6 @@ returns-clause-list c =
     (asked s m key c.args.terms.now c.ask_for-ask.result c.ask_for-ask.ensures c.requires.terms))) in
     let from : ℕ = length c.as_slice-from.result.now in
     let past : ℕ = length c.as_slice.result.now in
-    put_behind (ListOf s m) old new.0 c.put_list.new.quotes.items key from past new.1 (ap (λ (xs : List Quote). length xs) c.as_slice-from.ensures.value)
+    put_behind (ListOf s m) old new.0 c.put_list.new.quotes.items key from past new.1
+    (ap (λ (xs : List Quote). length xs) c.as_slice-from.ensures.value)
     (ap (λ (xs : List Quote). length xs) c.as_slice.ensures.value) are

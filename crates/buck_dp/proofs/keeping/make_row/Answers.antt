@@ -26,9 +26,11 @@ returns-clause-row c =
     subst (λ (r : Reach). AreCells s (codes_in m.offers.items) c.args.group.takers d r row.0)
     (all_same m c.all_logs.result c.all_logs.ensures.past c.all_logs.ensures.far c.all_logs.ensures.room)
     (subst (λ (t : Takers). AreCells s (codes_in m.offers.items) t d c.all_logs.result row.0) l.1
-    (row_cells s (codes_in m.offers.items) l.0 (length m.offers.items) d c.all_logs.result c.args.list.now row.0 c.requires.valid l.2
+    (row_cells s (codes_in m.offers.items) l.0 (length m.offers.items)
+    d c.all_logs.result c.args.list.now row.0 c.requires.valid l.2
     (λ steps trim bid b. rank_offered s m.offers.items l.0.takers d steps trim bid b) l.3 row.2)) in
     let from : ℕ = length c.as_slice-from.result.now in
     let past : ℕ = length c.as_slice.result.now in
-    put_behind (RowOf s m) old row.0 c.put_row.new.cells.items key from past row.1 (ap (λ (xs : List Cell). length xs) c.as_slice-from.ensures.value)
+    put_behind (RowOf s m) old row.0 c.put_row.new.cells.items key from past row.1
+    (ap (λ (xs : List Cell). length xs) c.as_slice-from.ensures.value)
     (ap (λ (xs : List Cell). length xs) c.as_slice.ensures.value) cells

@@ -31,10 +31,13 @@ returns-clause-terms c =
     let new = c.in_ok-put_terms.ensures in
     let are : AreTerms i (codes_in m.offers.items) (ask_of m key) (length m.offers.items) new.0 =
     subst (λ (a : Ask). AreTerms i (codes_in m.offers.items) a (length m.offers.items) new.0) c.ask_for-ask.ensures
-    (subst (λ (os : List Offer). AreTerms i (codes_in os) c.ask_for-ask.result (length os) new.0) c.as_slice.ensures.value
-    (subst (λ (j : InstructionParts). AreTerms j (codes_in c.as_slice.result.now) c.ask_for-ask.result (length c.as_slice.result.now) new.0)
+    (subst (λ (os : List Offer). AreTerms i (codes_in os) c.ask_for-ask.result (length os) new.0)
+    c.as_slice.ensures.value
+    (subst (λ (j : InstructionParts). AreTerms j (codes_in c.as_slice.result.now) c.ask_for-ask.result
+    (length c.as_slice.result.now) new.0)
     (c.deref.ensures ∙ c.instruction.ensures.instruction) new.2)) in
     let from : ℕ = length c.as_slice-from.result.now in
     let past : ℕ = length c.as_slice-2.result.now in
-    put_behind (TermsOf i m) old new.0 c.put_terms.new.terms.items key from past new.1 (ap (λ (xs : List (Option Term)). length xs) c.as_slice-from.ensures.value)
+    put_behind (TermsOf i m) old new.0 c.put_terms.new.terms.items key from past new.1
+    (ap (λ (xs : List (Option Term)). length xs) c.as_slice-from.ensures.value)
     (ap (λ (xs : List (Option Term)). length xs) c.as_slice-2.ensures.value) are

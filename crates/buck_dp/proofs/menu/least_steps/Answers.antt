@@ -13,11 +13,13 @@ loop-offer-preserved c k o lt at =
     slice_get-get_or c.args.offers.now n (record { length = 0; assortment = 0 }) c.loop-offer-test.true in
     elim (cases_lt k n) [
       | inl before ↦
-          let less : c.min-least.result * c.args.step ≤ c.loop-offer.least * c.args.step = mul-le-mul_right c.args.step (omega (arith, c.min-least.ensures)) in
+          let less : c.min-least.result * c.args.step ≤ c.loop-offer.least * c.args.step =
+          mul-le-mul_right c.args.step (omega (arith, c.min-least.ensures)) in
           omega (arith, less, c.loop-offer.invariant k o before at)
       | inr here ↦
           let e : n ≡ k = omega arith in
           let same : x ≡ o = same_Some x o (sym there ∙ ap (slice_get c.args.offers.now) e ∙ at) in
-          let less : c.min-least.result * c.args.step ≤ x.length / c.args.step * c.args.step = mul-le-mul_right c.args.step (omega (arith, c.min-least.ensures)) in
+          let less : c.min-least.result * c.args.step ≤ x.length / c.args.step * c.args.step =
+          mul-le-mul_right c.args.step (omega (arith, c.min-least.ensures)) in
           omega (arith, less, div-mul-le_self x.length c.args.step, ap (λ y. y.length) same)
     ]

@@ -14,11 +14,18 @@ loop-offer-preserved c k o lt at =
     slice_get-get_or c.args.offers.now n (record { length = 0; assortment = 0 }) c.loop-offer-test.true in
     elim (cases_lt k n) [
       | inl before ↦
-          let more : c.loop-offer.most * c.args.step ≤ c.max-most.result * c.args.step = mul-le-mul_right c.args.step (omega (arith, c.max-most.ensures)) in
+          let more : c.loop-offer.most * c.args.step ≤ c.max-most.result * c.args.step =
+          mul-le-mul_right c.args.step (omega (arith, c.max-most.ensures)) in
           omega (arith, more, c.loop-offer.invariant k o before at)
       | inr here ↦
           let e : n ≡ k = omega arith in
           let same : x ≡ o = same_Some x o (sym there ∙ ap (slice_get c.args.offers.now) e ∙ at) in
-          let more : point_after c.args.step x.length * c.args.step ≤ c.max-most.result * c.args.step = mul-le-mul_right c.args.step (omega (arith, c.max-most.ensures)) in
-          omega (arith, more, after_covers c.args.step x.length (omega (arith, c.requires.step.0)), ap (λ y. y.length) same)
+          let more : point_after c.args.step x.length * c.args.step ≤ c.max-most.result * c.args.step =
+          mul-le-mul_right c.args.step (omega (arith, c.max-most.ensures)) in
+          omega (
+            arith,
+            more,
+            after_covers c.args.step x.length (omega (arith, c.requires.step.0)),
+            ap (λ y. y.length) same,
+          )
     ]

@@ -8,7 +8,8 @@ offer_back-requires-clause-fit c =
     let a = c.args in
     let r = c.requires in
     subst (λ xs. AreFit a.row.now a.far 0 a.far xs) (sym c.split_at_mut-reached.ensures.back)
-    (fits_back a.row.now a.top a.starts.first a.starts.stop a.far (a.top - a.far) a.values.now (omega (arith, r.far)) (omega (arith, r.far))
+    (fits_back a.row.now a.top a.starts.first a.starts.stop a.far (a.top - a.far) a.values.now (omega (arith, r.far))
+    (omega (arith, r.far))
     r.order.1 (omega (arith, r.inside)) r.late r.back r.fit)
 
 pub returns : goal.returns
@@ -16,8 +17,11 @@ returns c =
     let a = c.args in
     let r = c.requires in
     let parts = c.split_at_mut-reached.ensures in
-    subst (λ xs. AreOffered a.row.now a.top a.starts.first a.starts.stop (length a.row.now) a.values.now (xs ++ c.offer_back.new.values))
+    subst (λ xs. AreOffered a.row.now a.top a.starts.first a.starts.stop (length a.row.now) a.values.now
+    (xs ++ c.offer_back.new.values))
     (sym parts.front)
-    (offered_back a.row.now a.top a.starts.first a.starts.stop a.far (a.top - a.far) a.values.now (omega (arith, r.far)) (omega (arith, r.far))
+    (offered_back a.row.now a.top a.starts.first a.starts.stop a.far (a.top - a.far) a.values.now (omega (arith, r.far))
+    (omega (arith, r.far))
     r.order.1 (omega (arith, r.inside)) r.late r.back c.offer_back.new.values
-    (subst (λ xs. AreOffered a.row.now a.far 0 a.far (length a.row.now) xs c.offer_back.new.values) parts.back c.offer_back.ensures))
+    (subst (λ xs. AreOffered a.row.now a.far 0 a.far (length a.row.now) xs c.offer_back.new.values)
+    parts.back c.offer_back.ensures))

@@ -8,11 +8,14 @@ use Rattle.buck_dp.proofs.planner.best_under.Goals as goal
 
 -- a stem that isn't wanted
 unwanted : (sheet : SheetParts) (stem : StemParts) (b : Bool) → b ≡ false
-    → IsTrue b ⊎ ((g : Log) → IsAllowed sheet.instruction stem g → ⊥) → (g : Log) → IsAllowed sheet.instruction stem g → ⊥
+    → IsTrue b ⊎ ((g : Log) → IsAllowed sheet.instruction stem g → ⊥) → (g : Log) → IsAllowed sheet.instruction stem g
+    → ⊥
 unwanted sheet stem b no_one (inl yes_one) = absurd (true≢false (sym yes_one ∙ no_one))
 unwanted sheet stem b no_one (inr none) = none
 
 pub returns-then-not-is_wanted-clause-first : goal.returns-then-not-is_wanted-clause-first
 returns-then-not-is_wanted-clause-first c =
-    let none = unwanted c.args.sheet.now c.args.stem.now c.is_wanted.result c.if-not-is_wanted.true c.is_wanted.ensures.wanted in
+    let none =
+    unwanted c.args.sheet.now c.args.stem.now c.is_wanted.result c.if-not-is_wanted.true
+    c.is_wanted.ensures.wanted in
     rw c.new.ensures.items (nothing_first c.args.sheet.now c.args.stem.now none)

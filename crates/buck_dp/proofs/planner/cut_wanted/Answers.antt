@@ -12,7 +12,8 @@ use Rattle.buck_dp.proofs.Values.{walk_worth}
 use Rattle.buck_dp.proofs.planner.cut_wanted.Goals as goal
 
 -- the stem of a profile is sound
-sound : (q r : ProfileParts) (stem : StemParts) (step : ℕ) → q ≡ profile_of stem step → r ≡ q → IsStem r.stem → IsStem stem
+sound : (q r : ProfileParts) (stem : StemParts) (step : ℕ) → q ≡ profile_of stem step → r ≡ q → IsStem r.stem
+    → IsStem stem
 sound q r stem step is view valid = subst (λ (x : ProfileParts). IsStem x.stem) (view ∙ is) valid
 
 pub search_stem-requires-clause-site : goal.search_stem-requires-clause-site
@@ -20,7 +21,8 @@ search_stem-requires-clause-site c =
     let unit : c.module.result ≡ c.args.sheet.now.instruction.«module» = cc in
     record {
       valid = c.instruction.ensures.valid;
-      sound = sound c.in_ok-profile.profile _ c.args.stem.now _ c.in_ok-profile.ensures c.profile.view_is c.profile.invariant.valid;
+      sound = sound c.in_ok-profile.profile _ c.args.stem.now _ c.in_ok-profile.ensures c.profile.view_is
+          c.profile.invariant.valid;
       menu = c.requires.ready.offers;
       profile = c.in_ok-profile.ensures ∙ ap (λ n. profile_of c.args.stem.now n) unit;
       fit = c.fit_of.ensures;
@@ -41,13 +43,15 @@ returns-clause-worth c =
     let was : AreSearched p s.values s.choices 0 0 =
     subst (λ g. AreSearched g s.values s.choices 0 0) c.in_ok-search.ensures.ground start in
     c.worth-worth.ensures
-    ∙ walk_worth p c.instruction.ensures.valid c.requires.ready.offers.offers.codes s.values s.choices was c.in_ok-logs.logs.items c.in_ok-logs.ensures
+    ∙ walk_worth p c.instruction.ensures.valid c.requires.ready.offers.offers.codes s.values s.choices was
+    c.in_ok-logs.logs.items c.in_ok-logs.ensures
 
 pub returns-clause-high : goal.returns-clause-high
 returns-clause-high c =
     let logs : List Log = c.in_ok-logs.logs.items in
     let stem : IsStem c.args.stem.now =
-    sound c.in_ok-profile.profile _ c.args.stem.now _ c.in_ok-profile.ensures c.profile.view_is c.profile.invariant.valid in
+    sound c.in_ok-profile.profile _ c.args.stem.now _ c.in_ok-profile.ensures c.profile.view_is
+    c.profile.invariant.valid in
     let first : IsFirstBest c.args.sheet.now c.args.stem.now logs = returns-clause-first c in
     let low : cutting_worth c.args.sheet.now c.args.stem.now logs ≤ 2800000000000000 =
     worth_bounded c.args.sheet.now c.args.stem.now logs c.instruction.ensures.valid stem first.best.admissible in

@@ -16,9 +16,11 @@ loop-assortment-preserved c = λ k x lt at same. elim (cases_lt k c.loop-assortm
       let within : c.loop-assortment.assortment-index < length i.assortments =
       omega (arith, c.loop-assortment-test.true, ap (λ (xs : List AssortmentParts). length xs) all) in
       let there : slice_get i.assortments c.loop-assortment.assortment-index ≡ Some y =
-      stands i c.loop-assortment.assortment-index y c.assortments-assortment-items.result.now all within c.assortment-item.is in
+      stands i c.loop-assortment.assortment-index y c.assortments-assortment-items.result.now all within
+      c.assortment-item.is in
       let e : y ≡ x = same_Some y x (sym there ∙ ap (slice_get i.assortments) (sym here) ∙ at) in
-      c.if-species.false (c.species.ensures ∙ ap (λ (z : AssortmentParts). z.species) e ∙ same ∙ sym c.species-species.ensures)
+      c.if-species.false
+      (c.species.ensures ∙ ap (λ (z : AssortmentParts). z.species) e ∙ same ∙ sym c.species-species.ensures)
 ]
 
 pub returns-clause-wanted : goal.returns-clause-wanted
@@ -26,7 +28,8 @@ returns-clause-wanted c =
     let i = c.args.sheet.now.instruction in
     let all : c.assortments-assortment-items.result.now ≡ i.assortments = cc in
     inr (λ g a.
-    let within : g.assortment < length i.assortments = slice_get_within i.assortments g.assortment a.assortment a.exists in
+    let within : g.assortment < length i.assortments =
+    slice_get_within i.assortments g.assortment a.assortment a.exists in
     c.loop-assortment.invariant g.assortment a.assortment
     (omega (arith, within, c.loop-assortment-test.false, ap (λ (xs : List AssortmentParts). length xs) all))
     a.exists a.allows.species)

@@ -13,7 +13,8 @@ offer_part-requires-clause-part c =
     let first : ℕ = c.args.part.first in
     subst (λ (g : GroundParts). IsPart g t first c.args.search.now.stop c.args.cells.now) (sym r.ground)
     (subst (λ (n : ℕ). IsPart (ground_of c.args.site) t first n c.args.cells.now) (sym r.stop)
-    (row_offered c.args.site r.site t c.args.diameter first c.args.part.group.takers c.args.cells.now r.diameter r.top r.order
+    (row_offered c.args.site r.site t c.args.diameter first c.args.part.group.takers c.args.cells.now r.diameter r.top
+    r.order
     r.room r.takers r.cells))
 
 pub offer_part-requires-clause-late : goal.offer_part-requires-clause-late

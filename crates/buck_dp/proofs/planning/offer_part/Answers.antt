@@ -25,28 +25,40 @@ offer_part-requires-clause-part c =
     let reached = point_reached x c.requires.site t c.requires.top in
     let below = c.from-top.ensures.right.below in
     let left : ℕ = c.left_behind-left.result in
-    let reach : Reach = record { past = c.from-top.result - c.stop-stop.result; far = c.from-top.result - first; room = c.min.result } in
+    let reach : Reach =
+    record {
+      past = c.from-top.result - c.stop-stop.result;
+      far = c.from-top.result - first;
+      room =
+          c.min.result;
+    } in
     let cells : AreCells s (codes_in m.offers.items) takers (slice_index ds t) reach c.as_slice.result.now =
-    subst (λ (cs : List Cell). AreCells s (codes_in m.offers.items) takers (slice_index ds t) reach cs) (sym c.as_slice.ensures.value)
+    subst (λ (cs : List Cell). AreCells s (codes_in m.offers.items) takers (slice_index ds t) reach cs)
+    (sym c.as_slice.ensures.value)
     (subst (λ (n : ℕ). AreCells s (codes_in m.offers.items) takers (slice_index ds n) reach c.draw.new.spare.items)
     c.from-top.ensures.value c.in_ok-draw.ensures.row) in
-    let room : (c.min.result ≡ m.most_trim) ⊎ (stem_length x.stem.now.samples ≤ t * s.instruction.«module» + c.min.result) =
+    let room : (c.min.result ≡ m.most_trim)
+    ⊎ (stem_length x.stem.now.samples ≤ t * s.instruction.«module» + c.min.result) =
     elim (cases_lt left m.most_trim) [
       | inl less ↦ inr (omega (arith, c.min.ensures, less, c.left_behind-left.ensures, at))
       | inr more ↦ inl (omega (arith, c.min.ensures, more))
     ] in
     subst (λ (g : GroundParts). IsPart g t first stop c.as_slice.result.now) (sym c.requires.ground)
     (part_offered x c.requires.site ds t first stop takers reach c.as_slice.result.now
-    (known_of x.profile.now x.stem.now s.instruction.«module» ds c.requires.site.profile c.diameters-diameters.ensures.right)
+    (known_of x.profile.now x.stem.now s.instruction.«module» ds c.requires.site.profile
+    c.diameters-diameters.ensures.right)
     (omega (arith, below, c.from-top.ensures.value, c.stop-stop.ensures.value))
     (λ i e bid low log. omega (arith, below, c.from-top.ensures.value, c.requires.order)) c.requires.takers
     (omega (arith, c.min.ensures, c.left_behind-left.ensures, at, reached.0)) room cells)
 
 pub offer_part-requires-clause-late : goal.offer_part-requires-clause-late
 offer_part-requires-clause-late c k cell at =
-    let late = (c.in_ok-draw.ensures.row.real k cell (subst (λ (cs : List Cell). slice_get cs k ≡ Some cell) c.as_slice.ensures.value at)).late in
+    let late =
+    (c.in_ok-draw.ensures.row.real k cell
+    (subst (λ (cs : List Cell). slice_get cs k ≡ Some cell) c.as_slice.ensures.value at)).late in
     omega (arith, late, c.from-top.ensures.right.below, c.from-top.ensures.value, c.stop-stop.ensures.value)
 
 pub offer_part-requires-clause-back : goal.offer_part-requires-clause-back
 offer_part-requires-clause-back c k cell at =
-    (c.in_ok-draw.ensures.row.real k cell (subst (λ (cs : List Cell). slice_get cs k ≡ Some cell) c.as_slice.ensures.value at)).back
+    (c.in_ok-draw.ensures.row.real k cell
+    (subst (λ (cs : List Cell). slice_get cs k ≡ Some cell) c.as_slice.ensures.value at)).back

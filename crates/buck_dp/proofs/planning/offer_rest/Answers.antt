@@ -15,17 +15,20 @@ close_top-requires c =
     let part = c.in_ok-part.ensures in
     let takers = c.in_ok-part.part.group.takers in
     let has : HasTakers p takers last t =
-    subst (λ (n : ℕ). HasTakers p takers last n) (sym now.from) (part.takers last (omega (arith, part.first)) (omega (arith, part.first))) in
+    subst (λ (n : ℕ). HasTakers p takers last n) (sym now.from)
+    (part.takers last (omega (arith, part.first)) (omega (arith, part.first))) in
     record {
       none = λ i e bid lt log.
-          none_before p last i t t e takers bid has (c.is_empty.ensures c.if-is_empty.true) (omega (arith, lt, c.stop-in-loop-site.ensures.value))
+          none_before p last i t t e takers bid has (c.is_empty.ensures c.if-is_empty.true)
+          (omega (arith, lt, c.stop-in-loop-site.ensures.value))
           (omega arith)
           (subst (λ (g : GroundParts). IsLogAt g i t e bid) now.ground log);
     }
 
 pub offer_part-requires-clause-takers : goal.offer_part-requires-clause-takers
 offer_part-requires-clause-takers c i low high =
-    subst (λ (n : ℕ). HasTakers (ground_of c.args.site) c.in_ok-part.part.group.takers i n) (sym c.loop-site.invariant.from)
+    subst (λ (n : ℕ). HasTakers (ground_of c.args.site) c.in_ok-part.part.group.takers i n)
+    (sym c.loop-site.invariant.from)
     (c.in_ok-part.ensures.takers i low (omega (arith, high, c.stop-in-loop-site.ensures.value)))
 
 pub close_top-requires-2 : goal.close_top-requires-2

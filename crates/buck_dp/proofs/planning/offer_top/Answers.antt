@@ -32,7 +32,8 @@ close_top-requires-then-is_empty c =
 
 pub offer_part-requires-clause-takers : goal.offer_part-requires-clause-takers
 offer_part-requires-clause-takers c i low high =
-    c.requires.takers i c.args.search.now.from c.requires.order.2 (omega arith) low (omega (arith, high, c.requires.stop))
+    c.requires.takers i c.args.search.now.from c.requires.order.2 (omega arith) low
+    (omega (arith, high, c.requires.stop))
 
 pub offer_kept-requires-clause-takers : goal.offer_kept-requires-clause-takers
 offer_kept-requires-clause-takers c i t from to low high =

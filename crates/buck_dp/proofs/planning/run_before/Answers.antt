@@ -13,7 +13,8 @@ returns-clause-takers c i low high =
     let kind : Kind = record { species = c.species.result; grades = c.grades.result } in
     let order = c.requires.order in
     kind_takers (ground_of x) i top kind c.in_ok-group.group.takers c.requires.site.sound c.species.ensures
-    (mask_of x.profile.now x.stem.now x.market.sheet.now.instruction.«module» i top c.grades.result c.requires.site.profile
+    (mask_of x.profile.now x.stem.now x.market.sheet.now.instruction.«module» i top c.grades.result
+    c.requires.site.profile
     (c.run_start-first.ensures.same top c.grades.result (omega arith)
     (subst (λ (q : ProfileParts). top < grid.points_of q) (sym c.requires.site.profile) c.requires.top)
     c.grades.ensures i low (omega arith)))

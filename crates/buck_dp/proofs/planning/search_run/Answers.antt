@@ -17,4 +17,5 @@ offer_top-requires-clause-takers c i t from to low high =
     (even.1 k from (omega (arith, to, order, c.from.ensures.value))))
     (omega (arith, c.requires.site.valid.valid.module_range))
     c.in_ok-near.near.part.first i t c.in_ok-near.near.part.group.takers
-    (omega (arith, from)) (omega (arith, to, c.settle_top.ensures.from, now.high)) (omega (arith, near.first)) low high near.takers
+    (omega (arith, from)) (omega (arith, to, c.settle_top.ensures.from, now.high)) (omega (arith, near.first))
+    low high near.takers

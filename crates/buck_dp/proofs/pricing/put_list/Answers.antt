@@ -10,7 +10,8 @@ use Rattle.buck_dp.proofs.pricing.put_list.Goals.{in-None, in-Some+in_ok-put_quo
 use Rattle.buck_dp.proofs.pricing.put_list.Goals as goal
 
 -- the quote of a term
-quoted : (s : SheetParts) (codes : List ℕ) (ask : Ask) (terms : List (Option Term)) (n : ℕ) (t : Term) (q : Quote) → IsSheet s
+quoted : (s : SheetParts) (codes : List ℕ) (ask : Ask) (terms : List (Option Term)) (n : ℕ) (t : Term) (q : Quote)
+    → IsSheet s
     → AreTerms s.instruction codes ask (length terms) terms → slice_get terms n ≡ Some (Some t)
     → q ≡ priced_at t.quote (slice_index s.prices t.class) → IsQuoteOf s codes ask n q
 quoted s codes ask terms n t q valid are at is =
@@ -19,8 +20,10 @@ quoted s codes ask terms n t q valid are at is =
 pub put_quote-requires-clause-small : goal.put_quote-requires-clause-small
 put_quote-requires-clause-small c =
     let n = c.loop-term.term-index in
-    let q = quoted c.args.sheet.now c.requires.terms.0 c.args.ask c.args.terms.now n c.in-Some.term c.quote_under-quote.result c.requires.valid
-    c.requires.terms.1 (slice_get-get_or c.args.terms.now n None c.loop-term-test.true ∙ ap (λ (x : Option Term). Some x) c.in-Some.is)
+    let q = quoted c.args.sheet.now c.requires.terms.0 c.args.ask c.args.terms.now n c.in-Some.term
+    c.quote_under-quote.result c.requires.valid
+    c.requires.terms.1
+    (slice_get-get_or c.args.terms.now n None c.loop-term-test.true ∙ ap (λ (x : Option Term). Some x) c.in-Some.is)
     c.quote_under-quote.ensures in
     q.is.small
 
@@ -38,25 +41,30 @@ loop-term-preserved c =
           (let q : Quote = w.quote_under-quote.result in
           let put = w.in_ok-put_quote-in-Some.ensures.put in
           let is : (codes : List ℕ) → AreTerms s.instruction codes c.args.ask (length c.args.terms.now) c.args.terms.now
-          → IsQuoteOf s codes c.args.ask n q = (λ codes are. quoted s codes c.args.ask c.args.terms.now n w.in-Some.term q c.requires.valid are
+          → IsQuoteOf s codes c.args.ask n q =
+          (λ codes are. quoted s codes c.args.ask c.args.terms.now n w.in-Some.term q c.requires.valid are
           (item ∙ ap (λ (x : Option Term). Some x) w.in-Some.is) w.quote_under-quote.ensures) in
           elim put [
             | inl cut ↦ (
               was.0,
               cut.0 ∙ was.1,
-              λ codes are. list_put s codes c.args.ask n was.0 was.0 c.loop-term.leader w.put_quote.new.leader q (is codes are) (inl (refl, cut.1, cut.2)) (was.2 codes are),
+              λ codes are. list_put s codes c.args.ask n was.0 was.0 c.loop-term.leader w.put_quote.new.leader q
+                  (is codes are) (inl (refl, cut.1, cut.2)) (was.2 codes are),
             )
             | inr more ↦ (
               was.0 ++ q ∷ [],
-              more.0 ∙ ap (λ (xs : List Quote). xs ++ q ∷ []) was.1 ∙ append_assoc c.args.quotes.now.items was.0 (q ∷ []),
-              λ codes are. list_put s codes c.args.ask n was.0 (was.0 ++ q ∷ []) c.loop-term.leader w.put_quote.new.leader q (is codes are) (inr (refl, more.1)) (was.2 codes are),
+              more.0 ∙ ap (λ (xs : List Quote). xs ++ q ∷ []) was.1
+                  ∙ append_assoc c.args.quotes.now.items was.0 (q ∷ []),
+              λ codes are. list_put s codes c.args.ask n was.0 (was.0 ++ q ∷ [])
+                  c.loop-term.leader w.put_quote.new.leader q (is codes are) (inr (refl, more.1)) (was.2 codes are),
             )
           ])
       | in-None w ↦ rw (w.quotes-is, w.leader-is) (
         was.0,
         was.1,
         λ codes are. let so_far = was.2 codes are in record {
-          quotes = quotes_skip s codes c.args.ask n was.0 (are.none n (item ∙ ap (λ (x : Option Term). Some x) w.in-None.is) s c.requires.valid refl) so_far.quotes;
+          quotes = quotes_skip s codes c.args.ask n was.0
+              (are.none n (item ∙ ap (λ (x : Option Term). Some x) w.in-None.is) s c.requires.valid refl) so_far.quotes;
           leads = so_far.leads;
           small = so_far.small;
         },
@@ -70,6 +78,7 @@ returns c =
       was.1,
       λ codes are.
           subst (λ (n : ℕ). AreQuotes c.args.sheet.now codes c.args.ask n was.0)
-          (let e : c.loop-term.term-index ≡ length c.args.terms.now = omega (arith, c.loop-term-test.false, c.loop-term.auto.term-index-end) in e)
+          (let e : c.loop-term.term-index ≡ length c.args.terms.now =
+          omega (arith, c.loop-term-test.false, c.loop-term.auto.term-index-end) in e)
           (was.2 codes are).quotes,
     )

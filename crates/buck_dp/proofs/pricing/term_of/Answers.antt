@@ -9,5 +9,7 @@ returns-clause-trim c =
     let all : c.assortments.result.now ≡ i.assortments = cc in
     let y : AssortmentParts = c.index-assortments-offer.result in
     let there : slice_get i.assortments c.args.offer.assortment ≡ Some y =
-    read_at i c.args.offer.assortment y c.assortments.result.now all c.requires.assortment c.index-assortments-offer.is in
-    subst (λ o. IfSome o (λ (x : AssortmentParts). x.trim ≡ c.trim-trim.result)) (sym there) (sym c.trim-trim.ensures.trim)
+    read_at i c.args.offer.assortment y c.assortments.result.now all c.requires.assortment
+    c.index-assortments-offer.is in
+    subst (λ o. IfSome o (λ (x : AssortmentParts). x.trim ≡ c.trim-trim.result)) (sym there)
+    (sym c.trim-trim.ensures.trim)

@@ -17,10 +17,12 @@ loop-quote-preserved c =
     let at : slice_get list n ≡ Some q = slice_get-get_or list n blank (omega arith) in
     elim c.match-cell_at.branch [
       | in-Some+in_ok-put_cell w ↦ rw (w.cells-is, w.best-is)
-          (step_put list c.args.diameter c.args.reach n c.args.cells.now.items c.loop-quote.cells.items w.put_cell.new.cells.items
+          (step_put list c.args.diameter c.args.reach n c.args.cells.now.items c.loop-quote.cells.items
+          w.put_cell.new.cells.items
           c.loop-quote.best w.put_cell.new.best w.in-Some.cell q at w.in-Some.ensures.some.0 w.in-Some.ensures.some.1
           w.in_ok-put_cell.ensures.put c.loop-quote.invariant)
       | in_default w ↦ rw (w.cells-is, w.best-is)
-          (step_skip list c.args.diameter c.args.reach n c.args.cells.now.items c.loop-quote.cells.items c.loop-quote.best q at
+          (step_skip list c.args.diameter c.args.reach n c.args.cells.now.items c.loop-quote.cells.items
+          c.loop-quote.best q at
           w.in_default.ensures.none c.loop-quote.invariant)
     ]

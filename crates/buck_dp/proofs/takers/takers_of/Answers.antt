@@ -33,5 +33,6 @@ loop-place-preserved c =
 
 pub returns : goal.returns
 returns c a x at =
-    let all : length c.assortments-all.result.now ≡ length c.args.instruction.now.assortments = ap length c.assortments-all.ensures.items in
+    let all : length c.assortments-all.result.now ≡ length c.args.instruction.now.assortments =
+    ap length c.assortments-all.ensures.items in
     c.loop-place.invariant.right a x (omega (arith, slice_get_within c.args.instruction.now.assortments a x at)) at

@@ -25,9 +25,11 @@ returns-clause-row c =
     let quotes : List Quote = part_of c.list.new.self.quotes.items c.in_ok-list.list in
     let row = c.in_ok-put_row.ensures.row in
     let drawn : IsDrawn quotes d reach (length quotes) row.0 =
-    subst (λ (xs : List Quote). IsDrawn (part_of xs c.in_ok-list.list) d reach (length (part_of xs c.in_ok-list.list)) row.0) c.deref.ensures.value row.2 in
+    subst (λ (xs : List Quote). IsDrawn (part_of xs c.in_ok-list.list) d reach (length (part_of xs c.in_ok-list.list))
+    row.0) c.deref.ensures.value row.2 in
     subst (λ (xs : List Cell). AreCells s (codes_in m.offers.items) c.args.group.takers d reach xs)
     (sym (row.1 ∙ ap (λ (xs : List Cell). xs ++ row.0) c.clear.ensures.items))
     (row_cells s (codes_in m.offers.items) (ask_of m key) (length m.offers.items) d reach quotes row.0 c.requires.valid
     (c.band_of-band.ensures.from, c.band_of-band.ensures.past)
-    (λ steps trim bid b. rank_offered s m.offers.items c.args.group.takers d steps trim bid b) c.in_ok-list.ensures.list.1 drawn)
+    (λ steps trim bid b. rank_offered s m.offers.items c.args.group.takers d steps trim bid b)
+    c.in_ok-list.ensures.list.1 drawn)

@@ -15,7 +15,8 @@ returns-in_err-place-clause-kept c =
     let k = c.make_list.ensures.kept in
     record {
       terms = c.terms.ensures.kept.terms;
-      lists = kept_room R c.terms.new.self.lists new.heads c.terms.new.self.quotes.items new.items.items k.0 c.make_list.new.quotes.items
+      lists = kept_room R c.terms.new.self.lists new.heads c.terms.new.self.quotes.items new.items.items k.0
+          c.make_list.new.quotes.items
           c.make_room.ensures k.1 c.terms.ensures.kept.lists;
       rows = c.terms.ensures.kept.rows;
     }
@@ -25,11 +26,14 @@ returns-clause-kept c =
     let R = ListOf c.args.market.sheet.now c.args.market.menu.now in
     let new = c.make_room.new in
     let k = c.make_list.ensures.kept in
-    let head : Head = record { key = record { takers = c.args.group.takers; at = c.args.band }; place = c.in_ok-place.place } in
+    let head : Head =
+    record { key = record { takers = c.args.group.takers; at = c.args.band }; place = c.in_ok-place.place } in
     record {
       terms = c.terms.ensures.kept.terms;
-      lists = kept_push R new.heads c.keep.new.self c.make_list.new.quotes.items head c.keep.ensures.kept c.in_ok-place.ensures.list
-          (kept_room R c.terms.new.self.lists new.heads c.terms.new.self.quotes.items new.items.items k.0 c.make_list.new.quotes.items
+      lists = kept_push R new.heads c.keep.new.self c.make_list.new.quotes.items head c.keep.ensures.kept
+          c.in_ok-place.ensures.list
+          (kept_room R c.terms.new.self.lists new.heads c.terms.new.self.quotes.items new.items.items k.0
+          c.make_list.new.quotes.items
           c.make_room.ensures k.1 c.terms.ensures.kept.lists);
       rows = c.terms.ensures.kept.rows;
     }

@@ -11,7 +11,8 @@ coded : (P : ℕ → Type 0) (offers : List Offer) → ((k : ℕ) (o : Offer) �
     → P (slice_index (codes_in offers) k / 16)
 coded P offers low each k lt =
     let o : Offer = get_or offers k (record { length = 0; assortment = 0 }) in
-    let at : slice_get offers k ≡ Some o = slice_get-get_or offers k (record { length = 0; assortment = 0 }) (omega (arith, codes_number offers)) in
+    let at : slice_get offers k ≡ Some o =
+    slice_get-get_or offers k (record { length = 0; assortment = 0 }) (omega (arith, codes_number offers)) in
     let e : o.length ≡ slice_index (codes_in offers) k / 16 = omega (arith, code_index offers k o at, low k o at) in
     subst P e (each k o at)
 
@@ -24,10 +25,14 @@ returns c =
     record {
       offers = c.in_ok-offers.ensures;
       limits = c.in_ok-limits.ensures;
-      short = coded (λ n. c.least_steps-least_steps.result * step ≤ n) offers low (λ k o at. subst (λ m. c.least_steps-least_steps.result * m ≤ o.length) same
-          (c.least_steps-least_steps.ensures k o (subst (λ xs. slice_get xs k ≡ Some o) (sym c.as_slice.ensures.value) at)));
-      long = coded (λ n. n ≤ c.most_steps-most_steps.result * step) offers low (λ k o at. subst (λ m. o.length ≤ c.most_steps-most_steps.result * m) same
-          (c.most_steps-most_steps.ensures k o (subst (λ xs. slice_get xs k ≡ Some o) (sym c.as_slice-2.ensures.value) at)));
+      short = coded (λ n. c.least_steps-least_steps.result * step ≤ n) offers low
+          (λ k o at. subst (λ m. c.least_steps-least_steps.result * m ≤ o.length) same
+          (c.least_steps-least_steps.ensures k o
+          (subst (λ xs. slice_get xs k ≡ Some o) (sym c.as_slice.ensures.value) at)));
+      long = coded (λ n. n ≤ c.most_steps-most_steps.result * step) offers low
+          (λ k o at. subst (λ m. o.length ≤ c.most_steps-most_steps.result * m) same
+          (c.most_steps-most_steps.ensures k o
+          (subst (λ xs. slice_get xs k ≡ Some o) (sym c.as_slice-2.ensures.value) at)));
       trims = c.most_trim.ensures.each;
       low = c.most_trim.ensures.low;
     }

@@ -26,7 +26,10 @@ invariant_of-self c =
       valid = i.valid;
       sound = i.sound;
       below = omega arith;
-      searched = subst (λ xs. AreSearched p xs (take v.choices.len (c.settle_once.new.choices ++ drop (length c.settle_once.new.choices) v.choices.items)) (v.from - 1) (v.from - 1))
+      searched =
+          subst (λ xs. AreSearched p xs
+          (take v.choices.len (c.settle_once.new.choices ++ drop (length c.settle_once.new.choices) v.choices.items))
+          (v.from - 1) (v.from - 1))
           (sym (whole v.values.len c.settle_once.new.values (drop (length c.settle_once.new.values) v.values.items)
           (omega (arith, c.settle_once.ensures.number, c.as_mut_slice.ensures.len))))
           (subst (λ xs. AreSearched p c.settle_once.new.values xs (v.from - 1) (v.from - 1))

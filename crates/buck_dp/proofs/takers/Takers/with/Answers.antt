@@ -6,7 +6,9 @@ pub returns-clause-same : goal.returns-clause-same
 returns-clause-same c = bit_at_set_same w16 c.args.self.marks c.args.place (omega (arith, c.requires))
 
 pub returns-clause-others : goal.returns-clause-others
-returns-clause-others c a lt = bit_at_set_other w16 c.args.self.marks c.args.place (omega (arith, c.requires)) a (λ e. omega arith)
+returns-clause-others c a lt =
+    bit_at_set_other w16 c.args.self.marks c.args.place (omega (arith, c.requires)) a (λ e. omega arith)
 
 pub returns-clause-later : goal.returns-clause-later
-returns-clause-later c a lt = bit_at_set_other w16 c.args.self.marks c.args.place (omega (arith, c.requires)) a (λ e. omega arith)
+returns-clause-later c a lt =
+    bit_at_set_other w16 c.args.self.marks c.args.place (omega (arith, c.requires)) a (λ e. omega arith)
