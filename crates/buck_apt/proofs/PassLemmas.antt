@@ -21,7 +21,8 @@ use Rattle.buck_apt.specs.Apt.{is_name, is_name_byte, all_above, is_number_of, n
 use Rattle.buck_apt.specs.inner.Ready.{IsReadyDraft, IsReadyFile}
 
 -- the one number of an item
-one_of : (item : Slot) (ns : List ℕ) → AreRanged item ns → length ns ≡ 1 → IsWithin item.low item.high (slice_index ns 0)
+one_of : (item : Slot) (ns : List ℕ) → AreRanged item ns → length ns ≡ 1
+    → IsWithin item.low item.high (slice_index ns 0)
 one_of item ns h one = h 0 0 (omega arith)
 
 one_number : (ns : List ℕ) → (1 ≤ length ns) × (length ns ≤ 1) → length ns ≡ 1
@@ -45,7 +46,8 @@ name_byte_ok b h =
     let r = both (not (b == 126)) _ q.1 in
     (leb-true _ _ p.0, differs b 124 q.0, differs b 126 r.0, differs b 127 r.1)
 
-rising_at : (ns : List ℕ) → is_rising ns ≡ true → (k : ℕ) → suc k < length ns → slice_index ns k < slice_index ns (suc k)
+rising_at : (ns : List ℕ) → is_rising ns ≡ true → (k : ℕ) → suc k < length ns
+    → slice_index ns k < slice_index ns (suc k)
 rising_at [] h k lt = absurd (omega arith)
 rising_at (n ∷ []) h k lt = absurd (omega arith)
 rising_at (m ∷ n ∷ ns) h zero lt = ltb-true _ _ (both (nat_lt m n) _ h).0
@@ -54,9 +56,12 @@ rising_at (m ∷ n ∷ ns) h (suc k) lt = rising_at (n ∷ ns) (both (nat_lt m n
 rising_ok : (ns : List ℕ) → is_rising ns ≡ true → IsStrictlyIncreasing ns
 rising_ok ns h = λ k lt. rw add-one (rising_at ns h k (omega arith))
 
-above_ok : (lows highs : List ℕ) → all_above lows highs ≡ true → length highs ≡ 1 → All (λ low. low < slice_index highs 0) lows
+above_ok : (lows highs : List ℕ) → all_above lows highs ≡ true → length highs ≡ 1
+    → All (λ low. low < slice_index highs 0) lows
 above_ok lows highs h one =
-    λ k d lt. ltb-true _ _ (AllPass-from_list_all (λ low. nat_lt low (slice_index highs 0)) lows (AllPass-from_list_all (λ high. list_all (λ low. nat_lt low high) lows) highs h 0 0 (omega arith)) k d lt)
+    λ k d lt. ltb-true _ _
+    (AllPass-from_list_all (λ low. nat_lt low (slice_index highs 0)) lows
+    (AllPass-from_list_all (λ high. list_all (λ low. nat_lt low high) lows) highs h 0 0 (omega arith)) k d lt)
 
 none_found_ok : (o : Option ℕ) (fault : ℕ → AptFault) → none_found o fault ≡ Ok tt → o ≡ None
 none_found_ok None fault h = refl
@@ -77,7 +82,8 @@ position_none : {X : Type 0} (p : X → Bool) (xs : List X) → position p xs �
 position_none p xs h = λ k d lt. fails_before_first p xs k d (omega (arith, place-none p xs h))
 
 -- an assortment that passed
-draft_ready : (d : Draft) → draft_range d ≡ Ok tt → draft_order d ≡ Ok tt → draft_count d ≡ Ok tt → sum d.tables.targets ≤ MOST_TARGETS_TOGETHER → IsReadyDraft d
+draft_ready : (d : Draft) → draft_range d ≡ Ok tt → draft_order d ≡ Ok tt → draft_count d ≡ Ok tt
+    → sum d.tables.targets ≤ MOST_TARGETS_TOGETHER → IsReadyDraft d
 unfolding draft_range draft_order draft_count
 draft_ready d in_ranges ordered counted_all few =
     let r1 = passed (is_name d.name) _ _ in_ranges in
@@ -178,8 +184,11 @@ head_ready s in_ranges counted_all =
       counts = each_ok draft_count s.drafts c4.1;
     }
 
-lengths_ok : (step : ℕ) (lengths : List ℕ) → none_found (first_off_module step lengths) Module ≡ Ok tt → All (λ l. l % step ≡ 0) lengths
-lengths_ok step lengths h = λ k d lt. eqb-true _ _ (not_false _ (find_none (λ l. not (l % step == 0)) lengths (none_found_ok _ Module h) k d lt))
+lengths_ok : (step : ℕ) (lengths : List ℕ) → none_found (first_off_module step lengths) Module ≡ Ok tt
+    → All (λ l. l % step ≡ 0) lengths
+lengths_ok step lengths h =
+    λ k d lt. eqb-true _ _
+    (not_false _ (find_none (λ l. not (l % step == 0)) lengths (none_found_ok _ Module h) k d lt))
 
 -- what the ninth line requires
 pub module_single : (s : FileDraft) → in_range s ≡ Ok tt → in_number s ≡ Ok tt → length s.«module» ≡ 1
@@ -189,13 +198,18 @@ pub module_above_zero : (s : FileDraft) → in_range s ≡ Ok tt → in_number s
 module_above_zero s ranged counted = let head = head_ready s ranged counted in omega (arith, head.module_range)
 
 -- a file that passed each of the last five lines
-each_line_ready : (s : FileDraft) → in_range s ≡ Ok tt → in_order s ≡ Ok tt → in_number s ≡ Ok tt → on_module s ≡ Ok tt → in_targets s ≡ Ok tt → IsReadyFile s
+each_line_ready : (s : FileDraft) → in_range s ≡ Ok tt → in_order s ≡ Ok tt → in_number s ≡ Ok tt → on_module s ≡ Ok tt
+    → in_targets s ≡ Ok tt → IsReadyFile s
 unfolding in_order on_module in_targets
 each_line_ready s ranged ordered counted stepped wanted =
     let head = head_ready s ranged counted in
     let orders = each_ok draft_order s.drafts ordered in
-    let few = position_none (λ d. nat_lt MOST_TARGETS_TOGETHER (sum d.tables.targets)) s.drafts (none_found_ok _ Targets wanted) in
-    let ready : All IsReadyDraft s.drafts = λ k d lt. draft_ready _ (head.ranges k d lt) (orders k d lt) (head.counts k d lt) (ltb-false _ _ (few k d lt)) in
+    let few =
+    position_none (λ d. nat_lt MOST_TARGETS_TOGETHER (sum d.tables.targets)) s.drafts
+    (none_found_ok _ Targets wanted) in
+    let ready : All IsReadyDraft s.drafts =
+    λ k d lt. draft_ready _ (head.ranges k d lt) (orders k d lt) (head.counts k d lt)
+    (ltb-false _ _ (few k d lt)) in
     record {
       «module» = head.«module»;
       period = head.period;
@@ -207,7 +221,9 @@ each_line_ready s ranged ordered counted stepped wanted =
         limit_range = head.limit_range.1;
         assortments_number = rw length-map head.count_range;
         assortments_valid = All-map IsAssortment assortment_of s.drafts (λ k d lt. (ready k d lt).valid);
-        on_module = All-map (λ a. IsOnModule (slice_index s.«module» 0) a) assortment_of s.drafts (λ k d lt. lengths_ok (slice_index s.«module» 0) _ (each_ok _ s.drafts stepped k d lt));
+        on_module =
+            All-map (λ a. IsOnModule (slice_index s.«module» 0) a) assortment_of s.drafts
+            (λ k d lt. lengths_ok (slice_index s.«module» 0) _ (each_ok _ s.drafts stepped k d lt));
       };
     }
 

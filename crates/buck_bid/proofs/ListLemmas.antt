@@ -25,7 +25,8 @@ pub at_place : (P : ℕ → Type 0) (xs : List ℕ) → ((k : ℕ) → k < lengt
 at_place P xs each l (k, lt, is) = subst P (sym (get_or_default xs k l 0 lt) ∙ is) (each k lt)
 
 -- of numbers that rise, a later one is no lower
-pub in_order : (xs : List ℕ) → IsStrictlyIncreasing xs → (k n : ℕ) → k ≤ n → n < length xs → get_or xs k 0 ≤ get_or xs n 0
+pub in_order : (xs : List ℕ) → IsStrictlyIncreasing xs → (k n : ℕ) → k ≤ n → n < length xs
+    → get_or xs k 0 ≤ get_or xs n 0
 in_order xs rise k zero le lt = (let e : k ≡ 0 = omega arith in omega (arith, ap (λ m. get_or xs m 0) e))
 in_order xs rise k (suc n) le lt =
     let here : n + 1 ≡ suc n = omega arith in
@@ -62,7 +63,8 @@ module _ (i : InstructionParts) (a : ℕ) (all : List AssortmentParts) (x : Asso
 pub read_at : (i : InstructionParts) (a : ℕ) (x : AssortmentParts) (all : List AssortmentParts)
     → all ≡ i.assortments → a < length i.assortments → x ≡ get_or all a x → slice_get i.assortments a ≡ Some x
 read_at i a x all same lt is =
-    slice_get_read i.assortments (length i.assortments) a x refl lt (is ∙ ap (λ (xs : List AssortmentParts). get_or xs a x) same)
+    slice_get_read i.assortments (length i.assortments) a x refl lt
+    (is ∙ ap (λ (xs : List AssortmentParts). get_or xs a x) same)
 
 -- what stands in a list with one more at its end
 pub push_cases : {X : Type 0} (xs : List X) (t x : X) (i : ℕ) → slice_get (xs ++ t ∷ []) i ≡ Some x
@@ -76,7 +78,8 @@ push_cases (y ∷ ys) t x (suc i) h = elim (push_cases ys t x i h) [
 ]
 
 -- what holds of each element of a list, and of one more, holds of each once that is pushed
-pub push_each : {X : Type 0} (P : ℕ → X → Type 0) (xs : List X) (t : X) → ((k : ℕ) (x : X) → slice_get xs k ≡ Some x → P k x)
+pub push_each : {X : Type 0} (P : ℕ → X → Type 0) (xs : List X) (t : X)
+    → ((k : ℕ) (x : X) → slice_get xs k ≡ Some x → P k x)
     → P (length xs) t → (k : ℕ) (x : X) → slice_get (xs ++ t ∷ []) k ≡ Some x → P k x
 push_each P xs t old new k x at = elim (push_cases xs t x k at) [
   | inl p ↦ old k x p
@@ -100,7 +103,8 @@ on_module i a x l v at has =
     at_place (λ n. n % i.«module» ≡ 0) x.lengths (λ k within. on k 0 within) l has
 
 -- what stood at a place, stands there with one more behind
-pub kept_at : {X : Type 0} (xs : List X) (y x : X) (k : ℕ) → slice_get xs k ≡ Some x → slice_get (xs ++ y ∷ []) k ≡ Some x
+pub kept_at : {X : Type 0} (xs : List X) (y x : X) (k : ℕ) → slice_get xs k ≡ Some x
+    → slice_get (xs ++ y ∷ []) k ≡ Some x
 kept_at xs y x k at =
     let lt : k < length xs = slice_get_within xs k x at in
     slice_get-get_or (xs ++ y ∷ []) k x (omega (arith, length-append xs (y ∷ [])))

@@ -8,13 +8,15 @@ use Rattle.buck_bid.specs.declared.offers.Offer.{Offer}
 use Rattle.buck_bid.specs.Offers.{code_of, codes_in, IsWhole}
 
 -- what stands at a place of a list that is made from another
-mapped_at : {X : Type 0} (f : X → ℕ) (xs : List X) (k : ℕ) (x : X) → slice_get xs k ≡ Some x → slice_get (map f xs) k ≡ Some (f x)
+mapped_at : {X : Type 0} (f : X → ℕ) (xs : List X) (k : ℕ) (x : X) → slice_get xs k ≡ Some x
+    → slice_get (map f xs) k ≡ Some (f x)
 mapped_at f [] k x at = absurd (none-some x at)
 mapped_at f (y ∷ ys) zero x at = ap (λ z. Some (f z)) (same_Some y x at)
 mapped_at f (y ∷ ys) (suc k) x at = mapped_at f ys k x at
 
 -- the code of the offer at a place
-pub code_at : (offers : List Offer) (k : ℕ) (o : Offer) → slice_get offers k ≡ Some o → slice_get (codes_in offers) k ≡ Some (code_of o.length o.assortment)
+pub code_at : (offers : List Offer) (k : ℕ) (o : Offer) → slice_get offers k ≡ Some o
+    → slice_get (codes_in offers) k ≡ Some (code_of o.length o.assortment)
 code_at offers k o at = mapped_at (λ (p : Offer). code_of p.length p.assortment) offers k o at
 
 -- as many codes as offers
@@ -22,11 +24,14 @@ pub codes_number : (offers : List Offer) → length (codes_in offers) ≡ length
 codes_number offers = length-map offers (λ (p : Offer). code_of p.length p.assortment)
 
 -- the code of the offer at a place
-pub code_index : (offers : List Offer) (k : ℕ) (o : Offer) → slice_get offers k ≡ Some o → slice_index (codes_in offers) k ≡ code_of o.length o.assortment
-code_index offers k o at = get_or_from_slice_get (codes_in offers) k (code_of o.length o.assortment) 0 (code_at offers k o at)
+pub code_index : (offers : List Offer) (k : ℕ) (o : Offer) → slice_get offers k ≡ Some o
+    → slice_index (codes_in offers) k ≡ code_of o.length o.assortment
+code_index offers k o at =
+    get_or_from_slice_get (codes_in offers) k (code_of o.length o.assortment) 0 (code_at offers k o at)
 
 -- the length of an offer, in steps
-pub whole_length : (step long : ℕ) (o : Offer) → 0 < step → o.length ≡ long → IsWhole step (code_of o.length o.assortment) → o.assortment < 16
+pub whole_length : (step long : ℕ) (o : Offer) → 0 < step → o.length ≡ long
+    → IsWhole step (code_of o.length o.assortment) → o.assortment < 16
     → (long / step * step ≡ long) × (0 < long / step)
 whole_length step long o pos is w low =
     let e : o.length ≡ code_of o.length o.assortment / 16 = omega arith in

@@ -32,9 +32,11 @@ spread p n [] = omega arith
 spread p n (e ∷ es) = elim (cases_Bool (is_end p n (Cut e))) [
   | inl yes_ ↦
       let full : n + 1 ≡ p = eqb-true (n + 1) p yes_ in
-      (λ j. ends_yes p n (Cut e) (map Cut es) yes_ j * p + cuts_yes p n (Cut e) (map Cut es) yes_ j) ∙ omega (arith, spread p 0 es)
+      (λ j. ends_yes p n (Cut e) (map Cut es) yes_ j * p + cuts_yes p n (Cut e) (map Cut es) yes_ j)
+      ∙ omega (arith, spread p 0 es)
   | inr no_ ↦
-      (λ j. ends_no p n (Cut e) (map Cut es) no_ j * p + cuts_no p n (Cut e) (map Cut es) no_ j) ∙ omega (arith, spread p (n + 1) es)
+      (λ j. ends_no p n (Cut e) (map Cut es) no_ j * p + cuts_no p n (Cut e) (map Cut es) no_ j)
+      ∙ omega (arith, spread p (n + 1) es)
 ]
 
 -- where no demand stands, the ends are the full periods
@@ -52,7 +54,8 @@ ends_alone i es pos =
 -- sums over postings that are cuts are sums over their entries
 sum_of_cuts : (f : Posting → ℕ) (es : List EntryParts) → sum_by f (map Cut es) ≡ sum_by (λ e. f (Cut e)) es
 sum_of_cuts f [] = refl
-sum_of_cuts f (e ∷ es) = sum_by-cons f (Cut e) (map Cut es) ∙ ap (λ n. f (Cut e) + n) (sum_of_cuts f es) ∙ sym (sum_by-cons (λ x. f (Cut x)) e es)
+sum_of_cuts f (e ∷ es) = sum_by-cons f (Cut e) (map Cut es) ∙ ap (λ n. f (Cut e) + n) (sum_of_cuts f es)
+    ∙ sym (sum_by-cons (λ x. f (Cut x)) e es)
 
 -- cuts leave the targets as they are
 targets_stay : (ts : List ℕ) (es : List EntryParts) → targets_after ts (map Cut es) ≡ ts
@@ -65,50 +68,66 @@ take_cuts (suc k) [] = refl
 take_cuts (suc k) (e ∷ es) = ap (λ ps. Cut e ∷ ps) (take_cuts k es)
 
 -- a posting among cuts is a cut
-cut_at : (es : List EntryParts) (k : ℕ) (x : Posting) → slice_get (map Cut es) k ≡ Some x → (e : EntryParts) × (slice_get es k ≡ Some e) × (x ≡ Cut e)
+cut_at : (es : List EntryParts) (k : ℕ) (x : Posting) → slice_get (map Cut es) k ≡ Some x
+    → (e : EntryParts) × (slice_get es k ≡ Some e) × (x ≡ Cut e)
 cut_at [] k x at = absurd (none-some x at)
 cut_at (e ∷ es) zero x at = (e, refl, sym (same_Some (Cut e) x at))
 cut_at (e ∷ es) (suc k) x at = cut_at es k x at
 
-at_cut : (es : List EntryParts) (k : ℕ) (e : EntryParts) → slice_get es k ≡ Some e → slice_get (map Cut es) k ≡ Some (Cut e)
+at_cut : (es : List EntryParts) (k : ℕ) (e : EntryParts) → slice_get es k ≡ Some e
+    → slice_get (map Cut es) k ≡ Some (Cut e)
 at_cut es k e at = slice_get-map Cut es k ∙ ap (λ o. option_map Cut o) at
 
 module _ (i : InstructionParts) (c : Class) (v : IsInstruction i) (k : IsClass i c) where
-  part : take (classes_of k.assortment) (drop (classes_before i c.assortment) (opening_targets i)) ≡ k.assortment.targets
-  part = part_of i.assortments c.assortment k.assortment (recursion_from_All _ i.assortments v.assortments_valid) k.exists
+  part : take (classes_of k.assortment) (drop (classes_before i c.assortment) (opening_targets i))
+      ≡ k.assortment.targets
+  part = part_of i.assortments c.assortment k.assortment (recursion_from_All _ i.assortments v.assortments_valid)
+      k.exists
 
   -- a class's target at the opening is read from its assortment
-  target_is : slice_index (opening_targets i) (index_of i c) ≡ slice_index k.assortment.targets (alone.place_in k.assortment c)
+  target_is : slice_index (opening_targets i) (index_of i c)
+      ≡ slice_index k.assortment.targets (alone.place_in k.assortment c)
   target_is =
       ap (λ n. slice_index (opening_targets i) n) (inner_is i c k)
       ∙ sym (get_or-drop (classes_before i c.assortment) (opening_targets i) (alone.place_in k.assortment c) 0)
-      ∙ sym (get_or-take (classes_of k.assortment) (drop (classes_before i c.assortment) (opening_targets i)) (alone.place_in k.assortment c) 0 (inner_lt i c k))
+      ∙ sym (get_or-take (classes_of k.assortment) (drop (classes_before i c.assortment) (opening_targets i))
+      (alone.place_in k.assortment c) 0 (inner_lt i c k))
       ∙ ap (λ ts. slice_index ts (alone.place_in k.assortment c)) part
 
   -- after cuts alone a class stands the same in both words
-  same_standing : (es : List EntryParts) → standing_of i k.assortment c (map Cut es) ≡ alone.standing_of i k.assortment c es
+  same_standing : (es : List EntryParts)
+      → standing_of i k.assortment c (map Cut es) ≡ alone.standing_of i k.assortment c es
   same_standing es =
       let stay : targets_of i (map Cut es) ≡ opening_targets i = targets_stay (opening_targets i) es in
-      let b : slice_index (base_prices i) (index_of i c) ≡ slice_index k.assortment.prices (alone.place_in k.assortment c) = base_is i c v k in
-      let t : slice_index (targets_of i (map Cut es)) (index_of i c) ≡ slice_index k.assortment.targets (alone.place_in k.assortment c) =
+      let b : slice_index (base_prices i) (index_of i c)
+      ≡ slice_index k.assortment.prices (alone.place_in k.assortment c) = base_is i c v k in
+      let t : slice_index (targets_of i (map Cut es)) (index_of i c)
+      ≡ slice_index k.assortment.targets (alone.place_in k.assortment c) =
       ap (λ ts. slice_index ts (index_of i c)) stay ∙ target_is in
       let ts : targets_sum i k.assortment c.assortment (targets_of i (map Cut es)) ≡ sum k.assortment.targets =
       ap (λ ts. targets_sum i k.assortment c.assortment ts) stay ∙ ap sum part in
-      let n : count_of i c (map Cut es) ≡ sum_by (λ e. class_logs i c e.stem e.logs) es = sum_of_cuts (λ x. class_logs_in i c x) es in
-      let ns : assortment_count_of c.assortment (map Cut es) ≡ sum_by (λ e. assortment_logs c.assortment e.logs) es = sum_of_cuts (λ x. assortment_logs_in c.assortment x) es in
+      let n : count_of i c (map Cut es) ≡ sum_by (λ e. class_logs i c e.stem e.logs) es =
+      sum_of_cuts (λ x. class_logs_in i c x) es in
+      let ns : assortment_count_of c.assortment (map Cut es) ≡ sum_by (λ e. assortment_logs c.assortment e.logs) es =
+      sum_of_cuts (λ x. assortment_logs_in c.assortment x) es in
       λ j. record { base = b j; limit = i.limit; target = t j; targets = ts j; count = n j; counts = ns j }
 
 -- prices that keep the relation after cuts do so in words that know of no demand, and the other way round
-pub meets_to_alone : (i : InstructionParts) (es : List EntryParts) (prices : List ℕ) → IsInstruction i → PricesMeet i (map Cut es) prices → alone.PricesMeet i es prices
+pub meets_to_alone : (i : InstructionParts) (es : List EntryParts) (prices : List ℕ) → IsInstruction i
+    → PricesMeet i (map Cut es) prices → alone.PricesMeet i es prices
 meets_to_alone i es prices v m = record {
   one_each = m.one_each;
-  each_meets = λ c k. subst (λ s. Meets s (slice_index prices (index_of i c))) (same_standing i c v k es) (m.each_meets c k);
+  each_meets =
+      λ c k. subst (λ s. Meets s (slice_index prices (index_of i c))) (same_standing i c v k es) (m.each_meets c k);
 }
 
-pub meets_from_alone : (i : InstructionParts) (es : List EntryParts) (prices : List ℕ) → IsInstruction i → alone.PricesMeet i es prices → PricesMeet i (map Cut es) prices
+pub meets_from_alone : (i : InstructionParts) (es : List EntryParts) (prices : List ℕ) → IsInstruction i
+    → alone.PricesMeet i es prices → PricesMeet i (map Cut es) prices
 meets_from_alone i es prices v m = record {
   one_each = m.one_each;
-  each_meets = λ c k. subst (λ s. Meets s (slice_index prices (index_of i c))) (sym (same_standing i c v k es)) (m.each_meets c k);
+  each_meets =
+      λ c k. subst (λ s. Meets s (slice_index prices (index_of i c))) (sym (same_standing i c v k es))
+      (m.each_meets c k);
 }
 
 -- base prices keep the relation where nothing was cut
@@ -136,7 +155,8 @@ place_of [] q lt = absurd (omega arith)
 place_of (a ∷ as_) q lt = elim (cases_lt q (classes_of a)) [
   | inl here ↦ record { at = 0; a = a; exists = refl; inner = q; within = here; is = omega arith }
   | inr past ↦
-      let rest : PlaceIn as_ (q - classes_of a) = place_of as_ (q - classes_of a) (omega (arith, sum_by-cons classes_of a as_)) in
+      let rest : PlaceIn as_ (q - classes_of a) =
+      place_of as_ (q - classes_of a) (omega (arith, sum_by-cons classes_of a as_)) in
       record {
         at = suc rest.at;
         a = rest.a;
@@ -171,18 +191,24 @@ class_at i q lt =
     record { class = c; is_class = k; place = omega (arith, inner_is i c k, div-add-mod' p.inner wide, p.is) }
 
 -- prices in the relation where nothing was cut are the base prices
-pub base_alone : (i : InstructionParts) (prices : List ℕ) → IsInstruction i → alone.PricesMeet i [] prices → prices ≡ base_prices i
+pub base_alone : (i : InstructionParts) (prices : List ℕ) → IsInstruction i → alone.PricesMeet i [] prices
+    → prices ≡ base_prices i
 base_alone i prices v m =
     same_number_lists prices (base_prices i) (m.one_each ∙ sym (length-base_prices i v))
     (λ q lt.
     let w : ClassAt i q = class_at i q (omega (arith, m.one_each)) in
-    let here : slice_index prices (index_of i w.class) ≡ slice_index w.is_class.assortment.prices (alone.place_in w.is_class.assortment w.class) = (m.each_meets w.class w.is_class).even (omega arith) in
-    subst (λ n. slice_index prices n ≡ slice_index (base_prices i) n) w.place (here ∙ sym (base_is i w.class v w.is_class)))
+    let here : slice_index prices (index_of i w.class)
+    ≡ slice_index w.is_class.assortment.prices (alone.place_in w.is_class.assortment w.class) =
+    (m.each_meets w.class w.is_class).even (omega arith) in
+    subst (λ n. slice_index prices n ≡ slice_index (base_prices i) n) w.place
+    (here ∙ sym (base_is i w.class v w.is_class)))
 
-module _ (i : InstructionParts) (sheets : List (List ℕ)) (before : List EntryParts) (e : EntryParts) (v : IsInstruction i) where
+module _ (i : InstructionParts) (sheets : List (List ℕ)) (before : List EntryParts) (e : EntryParts)
+    (v : IsInstruction i) where
   follows_to_alone : Follows i sheets (map Cut before) (Cut e) → alone.Follows i sheets before e
   follows_to_alone f = record {
-    number_is_next = f.number_is_next ∙ ap (λ n. n + 1) (sum_of_cuts (λ x. cond (harvester_of x == e.harvester) 1 0) before);
+    number_is_next = f.number_is_next
+        ∙ ap (λ n. n + 1) (sum_of_cuts (λ x. cond (harvester_of x == e.harvester) 1 0) before);
     version_in_force = f.version_in_force ∙ (ends_alone i before v.period_range.0).0;
     best = f.holds.0;
     worth_is = f.holds.1;
@@ -190,14 +216,16 @@ module _ (i : InstructionParts) (sheets : List (List ℕ)) (before : List EntryP
 
   follows_from_alone : alone.Follows i sheets before e → Follows i sheets (map Cut before) (Cut e)
   follows_from_alone f = record {
-    number_is_next = f.number_is_next ∙ ap (λ n. n + 1) (sym (sum_of_cuts (λ x. cond (harvester_of x == e.harvester) 1 0) before));
+    number_is_next = f.number_is_next
+        ∙ ap (λ n. n + 1) (sym (sum_of_cuts (λ x. cond (harvester_of x == e.harvester) 1 0) before));
     version_in_force = f.version_in_force ∙ sym (ends_alone i before v.period_range.0).0;
     holds = (f.best, f.worth_is);
   }
 
 module _ (i : InstructionParts) (sheets : List (List ℕ)) (es : List EntryParts) (v : IsInstruction i) where
   -- the sheet of a version that comes after a full period
-  later_sheet : IsLawful (alone.history_of i sheets es) → (w : ℕ) (e : EntryParts) → slice_get es (w * i.period + (i.period - 1)) ≡ Some e
+  later_sheet : IsLawful (alone.history_of i sheets es) → (w : ℕ) (e : EntryParts)
+      → slice_get es (w * i.period + (i.period - 1)) ≡ Some e
       → alone.PricesMeet i (take (suc w * i.period) es) (prices_at sheets (suc w))
   later_sheet l w e at =
       let p : ℕ = i.period in
@@ -205,12 +233,17 @@ module _ (i : InstructionParts) (sheets : List (List ℕ)) (es : List EntryParts
       let pos : 0 < p = v.period_range.0 in
       let shown : length (take k es) ≡ k = length-take-le k es (let lt = slice_get_within es k e at in omega arith) in
       let next : k + 1 ≡ suc w * p = omega arith in
-      let ends : ends_of i (map Cut (take k es)) ≡ w = (ends_alone i (take k es) pos).0 ∙ ap (λ m. m / p) shown ∙ div-mul-add w p (p - 1) (omega arith) in
-      let cuts : cuts_since_end i (map Cut (take k es)) ≡ p - 1 = (ends_alone i (take k es) pos).1 ∙ ap (λ m. m % p) shown ∙ mod-mul-add w p (p - 1) (omega arith) in
-      let is : IsEnd i (map Cut (take k es)) (Cut e) = eq-eqb (cuts_since_end i (map Cut (take k es)) + 1) p (omega (arith, cuts)) in
+      let ends : ends_of i (map Cut (take k es)) ≡ w = (ends_alone i (take k es) pos).0 ∙ ap (λ m. m / p) shown
+      ∙ div-mul-add w p (p - 1) (omega arith) in
+      let cuts : cuts_since_end i (map Cut (take k es)) ≡ p - 1 = (ends_alone i (take k es) pos).1
+      ∙ ap (λ m. m % p) shown ∙ mod-mul-add w p (p - 1) (omega arith) in
+      let is : IsEnd i (map Cut (take k es)) (Cut e) =
+      eq-eqb (cuts_since_end i (map Cut (take k es)) + 1) p (omega (arith, cuts)) in
       let is' : IsEnd i (take k (map Cut es)) (Cut e) = subst (λ ps. IsEnd i ps (Cut e)) (sym (take_cuts k es)) is in
-      let version : ends_of i (take k (map Cut es)) + 1 ≡ suc w = ap (λ ps. ends_of i ps + 1) (take_cuts k es) ∙ omega (arith, ends) in
-      let there : PricesMeet i (take (k + 1) (map Cut es)) (prices_at sheets (ends_of i (take k (map Cut es)) + 1)) = l.sheets_meet k (Cut e) (at_cut es k e at) is' in
+      let version : ends_of i (take k (map Cut es)) + 1 ≡ suc w = ap (λ ps. ends_of i ps + 1) (take_cuts k es)
+      ∙ omega (arith, ends) in
+      let there : PricesMeet i (take (k + 1) (map Cut es)) (prices_at sheets (ends_of i (take k (map Cut es)) + 1)) =
+      l.sheets_meet k (Cut e) (at_cut es k e at) is' in
       let here : PricesMeet i (map Cut (take (suc w * p) es)) (prices_at sheets (suc w)) =
       subst (λ n. PricesMeet i (map Cut (take n es)) (prices_at sheets (suc w))) next
       (subst (λ ps. PricesMeet i ps (prices_at sheets (suc w))) (take_cuts (k + 1) es)
@@ -220,7 +253,8 @@ module _ (i : InstructionParts) (sheets : List (List ℕ)) (es : List EntryParts
   number_alone : IsLawful (alone.history_of i sheets es) → length sheets ≡ length es / i.period + 1
   number_alone l = l.sheets_number ∙ ap (λ n. n + 1) (ends_alone i es v.period_range.0).0
 
-  sheets_alone : IsLawful (alone.history_of i sheets es) → (w : ℕ) → w < length sheets → alone.PricesMeet i (take (w * i.period) es) (prices_at sheets w)
+  sheets_alone : IsLawful (alone.history_of i sheets es) → (w : ℕ) → w < length sheets
+      → alone.PricesMeet i (take (w * i.period) es) (prices_at sheets w)
   sheets_alone l zero lt =
       let none : 0 ≡ zero * i.period = omega arith in
       subst (λ n. alone.PricesMeet i (take n es) (prices_at sheets 0)) none
@@ -250,32 +284,40 @@ module _ (i : InstructionParts) (sheets : List (List ℕ)) (es : List EntryParts
   number_from_alone l = l.sheets_number ∙ ap (λ n. n + 1) (sym (ends_alone i es v.period_range.0).0)
 
   -- an end is the last cut of a full period
-  sheets_from_alone : alone.IsLawful i sheets es → (k : ℕ) (e : EntryParts) → slice_get es k ≡ Some e → IsEnd i (take k (map Cut es)) (Cut e)
+  sheets_from_alone : alone.IsLawful i sheets es → (k : ℕ) (e : EntryParts) → slice_get es k ≡ Some e
+      → IsEnd i (take k (map Cut es)) (Cut e)
       → PricesMeet i (take (k + 1) (map Cut es)) (prices_at sheets (ends_of i (take k (map Cut es)) + 1))
   sheets_from_alone l k e at is =
       let p : ℕ = i.period in
       let ends : ℕ = ends_of i (take k (map Cut es)) in
       let shown : length (take k es) ≡ k = length-take-le k es (let lt = slice_get_within es k e at in omega arith) in
       let all : ends * p + cuts_since_end i (take k (map Cut es)) ≡ k =
-      ap (λ ps. ends_of i ps * p + cuts_since_end i ps) (take_cuts k es) ∙ spread p 0 (take k es) ∙ omega (arith, shown) in
-      let full : cuts_since_end i (take k (map Cut es)) + 1 ≡ p = eqb-true (cuts_since_end i (take k (map Cut es)) + 1) p is in
+      ap (λ ps. ends_of i ps * p + cuts_since_end i ps) (take_cuts k es) ∙ spread p 0 (take k es)
+      ∙ omega (arith, shown) in
+      let full : cuts_since_end i (take k (map Cut es)) + 1 ≡ p =
+      eqb-true (cuts_since_end i (take k (map Cut es)) + 1) p is in
       let next : (ends + 1) * p ≡ k + 1 = omega arith in
-      let within : ends + 1 < length sheets = omega (arith, ends_past i (map Cut es) k (Cut e) (at_cut es k e at) is, number_from_alone l) in
+      let within : ends + 1 < length sheets =
+      omega (arith, ends_past i (map Cut es) k (Cut e) (at_cut es k e at) is, number_from_alone l) in
       let there : alone.PricesMeet i (take (k + 1) es) (prices_at sheets (ends + 1)) =
-      subst (λ n. alone.PricesMeet i (take n es) (prices_at sheets (ends + 1))) next (l.sheets_meet (ends + 1) within) in
-      subst (λ ps. PricesMeet i ps (prices_at sheets (ends + 1))) (sym (take_cuts (k + 1) es)) (meets_from_alone i (take (k + 1) es) (prices_at sheets (ends + 1)) v there)
+      subst (λ n. alone.PricesMeet i (take n es) (prices_at sheets (ends + 1))) next
+      (l.sheets_meet (ends + 1) within) in
+      subst (λ ps. PricesMeet i ps (prices_at sheets (ends + 1))) (sym (take_cuts (k + 1) es))
+      (meets_from_alone i (take (k + 1) es) (prices_at sheets (ends + 1)) v there)
 
   from_alone : alone.IsLawful i sheets es → IsLawful (alone.history_of i sheets es)
   from_alone l = record {
     postings_follow = λ k x at.
         let c = cut_at es k x at in
         subst (λ y. Follows i sheets (take k (map Cut es)) y) (sym c.2)
-        (subst (λ ps. Follows i sheets ps (Cut c.0)) (sym (take_cuts k es)) (follows_from_alone i sheets (take k es) c.0 v (l.entries_follow k c.0 c.1)));
+        (subst (λ ps. Follows i sheets ps (Cut c.0)) (sym (take_cuts k es))
+        (follows_from_alone i sheets (take k es) c.0 v (l.entries_follow k c.0 c.1)));
     sheets_number = number_from_alone l;
     base_sheet =
         let none : 0 * i.period ≡ 0 = omega arith in
         base_alone i (prices_at sheets 0) v
-        (subst (λ n. alone.PricesMeet i (take n es) (prices_at sheets 0)) none (l.sheets_meet 0 (omega (arith, l.sheets_number))));
+        (subst (λ n. alone.PricesMeet i (take n es) (prices_at sheets 0)) none
+        (l.sheets_meet 0 (omega (arith, l.sheets_number))));
     sheets_meet = λ k x at is.
         let c = cut_at es k x at in
         sheets_from_alone l k c.0 c.1 (subst (λ y. IsEnd i (take k (map Cut es)) y) c.2 is);

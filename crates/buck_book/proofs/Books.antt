@@ -27,12 +27,19 @@ use Rattle.buck_book.proofs.Standings.{prices_meet, are_answers}
 use Rattle.buck_book.proofs.Sheets.{length-sheets_from, get_or-sheets_from, sheets_from-append}
 
 -- the version in force has a sheet
-pub in_sheets : {F : Type 0} (b : BookParts F) (sheets : List SheetParts) (n : RunningParts) (calls : List ℕ) → Keeps b sheets n calls → version_of b.history < length sheets
+pub in_sheets : {F : Type 0} (b : BookParts F) (sheets : List SheetParts) (n : RunningParts) (calls : List ℕ)
+    → Keeps b sheets n calls → version_of b.history < length sheets
 in_sheets b sheets n calls k =
-    omega (arith, ap (λ xs. length xs) k.sheets_are, length-sheets_from 0 b.history.instruction b.history.sheets, k.is_book.lawful.sheets_number)
+    omega (
+      arith,
+      ap (λ xs. length xs) k.sheets_are,
+      length-sheets_from 0 b.history.instruction b.history.sheets,
+      k.is_book.lawful.sheets_number,
+    )
 
 -- the sheet at its place is the sheet in force
-pub force_is : {F : Type 0} (b : BookParts F) (sheets : List SheetParts) (n : RunningParts) (calls : List ℕ) (d : SheetParts) → Keeps b sheets n calls → get_or sheets (version_of b.history) d ≡ in_force b.history
+pub force_is : {F : Type 0} (b : BookParts F) (sheets : List SheetParts) (n : RunningParts) (calls : List ℕ)
+    (d : SheetParts) → Keeps b sheets n calls → get_or sheets (version_of b.history) d ≡ in_force b.history
 force_is b sheets n calls d k =
     let lt : version_of b.history < length b.history.sheets = omega (arith, k.is_book.lawful.sheets_number) in
     ap (λ xs. get_or xs (version_of b.history) d) k.sheets_are
@@ -40,7 +47,8 @@ force_is b sheets n calls d k =
     ∙ ap (λ v. sheet_of v b.history.instruction (get_or b.history.sheets (version_of b.history) [])) (omega arith)
 
 -- a history with no posting
-pub lawful_empty : (i : InstructionParts) → IsLawful (record { instruction = i; sheets = base_prices i ∷ []; postings = [] })
+pub lawful_empty : (i : InstructionParts)
+    → IsLawful (record { instruction = i; sheets = base_prices i ∷ []; postings = [] })
 lawful_empty i = record {
   postings_follow = λ n x at. absurd (none-some x at);
   sheets_number = refl;
@@ -48,43 +56,66 @@ lawful_empty i = record {
   sheets_meet = λ n x at e. absurd (none-some x at);
 }
 
-pub keeps_empty : {F : Type 0} (f : F) (i : InstructionParts) (pss : List (List ℕ)) (ps : List Posting) (ts : List SheetParts) (n : RunningParts) (calls : List ℕ) (capacity room sheet_room : ℕ)
+pub keeps_empty : {F : Type 0} (f : F) (i : InstructionParts) (pss : List (List ℕ)) (ps : List Posting)
+    (ts : List SheetParts) (n : RunningParts) (calls : List ℕ) (capacity room sheet_room : ℕ)
     → capacity ≤ 1000000
     → ps ≡ [] → pss ≡ base_prices i ∷ [] → ts ≡ sheet_of 0 i (base_prices i) ∷ []
     → Tells i [] n → calls ≡ replicate {A = ℕ} 64 0
-    → Keeps (record { rule = f; history = record { instruction = i; sheets = pss; postings = ps }; capacity = capacity; room = room; sheet_room = sheet_room })
+    → Keeps (record {
+      rule = f;
+      history = record { instruction = i; sheets = pss; postings = ps };
+      capacity =
+          capacity;
+      room = room;
+      sheet_room = sheet_room;
+    })
     ts n calls
-keeps_empty f i pss ps ts n calls capacity room sheet_room le none priced sheeted told called = rw (none, priced) (record {
-  is_book = record {
-    valid = told.valid;
-    lawful = lawful_empty i;
-    firsts = λ n x at. absurd (none-some x at);
-    harvesters = λ n x at. absurd (none-some x at);
-    within = omega arith;
-    capacity_range = le;
-  };
-  sheets_are = sheeted;
-  tells = told;
-  calls_are = rw called no_calls;
-})
+keeps_empty f i pss ps ts n calls capacity room sheet_room le none priced sheeted told called =
+    rw (none, priced) (record {
+      is_book = record {
+        valid = told.valid;
+        lawful = lawful_empty i;
+        firsts = λ n x at. absurd (none-some x at);
+        harvesters = λ n x at. absurd (none-some x at);
+        within = omega arith;
+        capacity_range = le;
+      };
+      sheets_are = sheeted;
+      tells = told;
+      calls_are = rw called no_calls;
+    })
 
 -- a cutting stays the first of the best with more sheets
-first_stays : (h : HistoryParts) (x y : Posting) (next : Option SheetParts) → planned_version y < length h.sheets → IsFirst h y → IsFirst (history_with h x next) y
-first_stays h x (Cut e) next lt f = (f.0, subst (λ prices. IsFirstBest (sheet_of e.version h.instruction prices) e.stem e.logs) (sym (prices_stay h.sheets next e.version lt)) f.1)
+first_stays : (h : HistoryParts) (x y : Posting) (next : Option SheetParts) → planned_version y < length h.sheets
+    → IsFirst h y → IsFirst (history_with h x next) y
+first_stays h x (Cut e) next lt f = (
+  f.0,
+  subst (λ prices. IsFirstBest (sheet_of e.version h.instruction prices) e.stem e.logs)
+      (sym (prices_stay h.sheets next e.version lt)) f.1,
+)
 first_stays h x (Demand d) next lt f = f
 
 -- a book is one with a posting more that may follow
 pub book_more : {F : Type 0} (b : BookParts F) (x : Posting) (next : Option SheetParts) (room sheet_room : ℕ)
-    → IsBook b → Follows b.history.instruction b.history.sheets b.history.postings x → IsNext b.history x next → IsFirst b.history x → IsWithin 1 64 (harvester_of x)
+    → IsBook b → Follows b.history.instruction b.history.sheets b.history.postings x → IsNext b.history x next
+    → IsFirst b.history x → IsWithin 1 64 (harvester_of x)
     → length b.history.postings < b.capacity
-    → IsBook (record { rule = b.rule; history = history_with b.history x next; capacity = b.capacity; room = room; sheet_room = sheet_room })
+    → IsBook (record {
+      rule = b.rule;
+      history = history_with b.history x next;
+      capacity = b.capacity;
+      room =
+          room;
+      sheet_room = sheet_room;
+    })
 book_more b x next room sheet_room k follows n first in_range below = record {
   valid = k.valid;
   lawful = one_more b.history x next k.lawful follows n;
   firsts = λ j y at. elim (slice_get-push b.history.postings x y j at) [
     | inl old ↦ first_stays b.history x y next (version_within b.history j y k.lawful old.1).1 (k.firsts j y old.1)
     | inr new ↦
-        let lt : planned_version x < length b.history.sheets = omega (arith, follows.version_in_force, k.lawful.sheets_number) in
+        let lt : planned_version x < length b.history.sheets =
+        omega (arith, follows.version_in_force, k.lawful.sheets_number) in
         subst (λ z. IsFirst (history_with b.history x next) z) (sym new.1) (first_stays b.history x x next lt first)
   ];
   harvesters = λ j y at. elim (slice_get-push b.history.postings x y j at) [
@@ -96,43 +127,66 @@ book_more b x next room sheet_room k follows n first in_range below = record {
 }
 
 -- the sheets with the next one
-pub sheets_after : (h : HistoryParts) (x : Posting) (ts : List SheetParts) (next : Option SheetParts) → IsLawful h → ts ≡ sheets_from 0 h.instruction h.sheets → IsNext h x next
+pub sheets_after : (h : HistoryParts) (x : Posting) (ts : List SheetParts) (next : Option SheetParts) → IsLawful h
+    → ts ≡ sheets_from 0 h.instruction h.sheets → IsNext h x next
     → ts ++ option_to_list next ≡ sheets_from 0 h.instruction (sheets_with h.sheets next)
 sheets_after h x ts None l are n = append-nil ts ∙ are
 sheets_after h x ts (Some s) l are n =
     let at : s.version ≡ 0 + length h.sheets = omega (arith, n.1.version_is_next, l.sheets_number) in
     let instruction = n.1.same_instruction in
-    let is : s ≡ sheet_of (0 + length h.sheets) h.instruction s.prices = λ j. record { version = at j; instruction = instruction j; prices = s.prices } in
+    let is : s ≡ sheet_of (0 + length h.sheets) h.instruction s.prices =
+    λ j. record { version = at j; instruction = instruction j; prices = s.prices } in
     (λ j. are j ++ is j ∷ []) ∙ sym (sheets_from-append 0 h.instruction h.sheets (s.prices ∷ []))
 
 -- what is kept after a posting more, of what then stands in the book's lists
-pub keeps_more : {F : Type 0} (b : BookParts F) (sheets sheets' : List SheetParts) (n n' : RunningParts) (calls calls' : List ℕ) (x : HistoryParts → Posting) (y : Posting) (next added : Option SheetParts)
+pub keeps_more : {F : Type 0} (b : BookParts F) (sheets sheets' : List SheetParts) (n n' : RunningParts)
+    (calls calls' : List ℕ) (x : HistoryParts → Posting) (y : Posting) (next added : Option SheetParts)
     (pss' : List (List ℕ)) (ps' : List Posting) (room sheet_room : ℕ)
     → Keeps b sheets n calls → length b.history.postings < b.capacity → IsWithin 1 64 (harvester_of (x b.history))
     → Follows b.history.instruction b.history.sheets b.history.postings (x b.history) → IsFirst b.history (x b.history)
     → IsNext b.history (x b.history) next → IsAfter b.history.instruction n (x b.history) n'
-    → y ≡ x b.history → added ≡ next → calls' ≡ set calls (harvester_of y - 1) (number_of y) → ps' ≡ b.history.postings ++ y ∷ []
+    → y ≡ x b.history → added ≡ next → calls' ≡ set calls (harvester_of y - 1) (number_of y)
+    → ps' ≡ b.history.postings ++ y ∷ []
     → sheets' ≡ sheets ++ option_to_list added → pss' ≡ sheets_with b.history.sheets added
-    → Keeps (record { rule = b.rule; history = record { instruction = b.history.instruction; sheets = pss'; postings = ps' }; capacity = b.capacity; room = room; sheet_room = sheet_room }) sheets' n' calls'
-keeps_more b sheets sheets' n n' calls calls' x y next added pss' ps' room sheet_room k below own follows first is_next told y_is added_is calls_are ps_are sheets_are pss_are =
+    → Keeps (record {
+      rule = b.rule;
+      history =
+          record { instruction = b.history.instruction; sheets = pss'; postings = ps' };
+      capacity = b.capacity;
+      room =
+          room;
+      sheet_room = sheet_room;
+    }) sheets' n' calls'
+keeps_more b sheets sheets' n n' calls calls' x y next added pss' ps' room sheet_room k below own follows first is_next
+    told y_is added_is calls_are ps_are sheets_are pss_are =
     let z : Posting = x b.history in
     let all : ps' ≡ b.history.postings ++ z ∷ [] = ps_are ∙ ap (λ w. b.history.postings ++ w ∷ []) y_is in
-    let called : calls' ≡ set calls (harvester_of z - 1) (number_of z) = calls_are ∙ ap (λ w. set calls (harvester_of w - 1) (number_of w)) y_is in
+    let called : calls' ≡ set calls (harvester_of z - 1) (number_of z) = calls_are
+    ∙ ap (λ w. set calls (harvester_of w - 1) (number_of w)) y_is in
     rw (pss_are, all, added_is) (record {
       is_book = book_more b z next room sheet_room k.is_book follows is_next first own below;
-      sheets_are = sheets_are ∙ ap (λ o. sheets ++ option_to_list o) added_is ∙ sheets_after b.history z sheets next k.is_book.lawful k.sheets_are is_next;
+      sheets_are = sheets_are ∙ ap (λ o. sheets ++ option_to_list o) added_is
+          ∙ sheets_after b.history z sheets next k.is_book.lawful k.sheets_are is_next;
       tells = told b.history.postings (omega (arith, below, k.is_book.capacity_range)) k.tells;
-      calls_are = rw called (calls_more b.history.postings z calls (harvester_of z) (number_of z) k.calls_are refl own.0 own.1 follows.number_is_next);
+      calls_are =
+          rw called
+          (calls_more b.history.postings z calls (harvester_of z) (number_of z)
+          k.calls_are refl own.0 own.1 follows.number_is_next);
     })
 
 -- a plan's entry may follow
 pub entry_follows : (h : HistoryParts) (harvester : ℕ) (p : PlanParts) → IsPlan p → p.sheet ≡ in_force h
-    → Follows h.instruction h.sheets h.postings (Cut (entry_of h harvester p)) × IsFirst h (Cut (entry_of h harvester p))
+    → Follows h.instruction h.sheets h.postings (Cut (entry_of h harvester p))
+    × IsFirst h (Cut (entry_of h harvester p))
 entry_follows h harvester p plan same = (
   record {
     number_is_next = refl;
     version_in_force = refl;
-    holds = (subst (λ s. IsBest s p.stem p.logs) same plan.first_best.best, plan.worth_is ∙ ap (λ s. cutting_worth s p.stem p.logs) same);
+    holds = (
+      subst (λ s. IsBest s p.stem p.logs) same plan.first_best.best,
+      plan.worth_is
+          ∙ ap (λ s. cutting_worth s p.stem p.logs) same,
+    );
   },
   (plan.stem_valid, subst (λ s. IsFirstBest s p.stem p.logs) same plan.first_best),
 )
@@ -141,63 +195,94 @@ entry_follows h harvester p plan same = (
 pub entry_after : (h : HistoryParts) (harvester : ℕ) (p : PlanParts) (n n' : RunningParts) → p.sheet ≡ in_force h
     → ((e : EntryParts) → e.stem ≡ p.stem → e.logs ≡ p.logs → IsAfter p.sheet.instruction n (Cut e) n')
     → IsAfter h.instruction n (Cut (entry_of h harvester p)) n'
-entry_after h harvester p n n' same told = subst (λ s. IsAfter s.instruction n (Cut (entry_of h harvester p)) n') same (told (entry_of h harvester p) refl refl)
+entry_after h harvester p n n' same told =
+    subst (λ s. IsAfter s.instruction n (Cut (entry_of h harvester p)) n') same
+    (told (entry_of h harvester p) refl refl)
 
 -- what runs on in a book below its capacity, with a posting more
-module _ {F : Type 0} (b : BookParts F) (sheets : List SheetParts) (n : RunningParts) (calls : List ℕ) (k : Keeps b sheets n calls) (below : length b.history.postings < b.capacity) where
+module _ {F : Type 0} (b : BookParts F) (sheets : List SheetParts) (n : RunningParts) (calls : List ℕ)
+    (k : Keeps b sheets n calls) (below : length b.history.postings < b.capacity) where
   pub goes_on : (p : PlanParts) → p.sheet ≡ in_force b.history → GoesOn p.sheet.instruction n
-  goes_on p same = subst (λ s. GoesOn s.instruction n) (sym same) (b.history.postings, omega (arith, below, k.is_book.capacity_range), k.tells)
+  goes_on p same =
+      subst (λ s. GoesOn s.instruction n) (sym same)
+      (b.history.postings, omega (arith, below, k.is_book.capacity_range), k.tells)
 
   pub passed_cut : (p : PlanParts) (n₁ n' : RunningParts) → p.sheet ≡ in_force b.history → n₁ ≡ n
       → ((e : EntryParts) → e.stem ≡ p.stem → e.logs ≡ p.logs → IsAfter p.sheet.instruction n₁ (Cut e) n')
       → (harvester : ℕ) → IsPassed b.history (Cut (entry_of b.history harvester p)) n'
   passed_cut p n₁ n' same is told harvester =
-      entry_after b.history harvester p n₁ n' same told b.history.postings (omega (arith, below, k.is_book.capacity_range)) (subst (λ m. Tells b.history.instruction b.history.postings m) (sym is) k.tells)
+      entry_after b.history harvester p n₁ n' same told b.history.postings
+      (omega (arith, below, k.is_book.capacity_range))
+      (subst (λ m. Tells b.history.instruction b.history.postings m) (sym is) k.tells)
 
   pub passed_demand : (targets : List ℕ) (n₁ n' : RunningParts) → AreTargets b.history.instruction targets → n₁ ≡ n
-      → ((i : InstructionParts) (d : DemandParts) → d.targets ≡ targets → AreTargets i d.targets → IsAfter i n₁ (Demand d) n')
+      → ((i : InstructionParts) (d : DemandParts) → d.targets ≡ targets → AreTargets i d.targets
+      → IsAfter i n₁ (Demand d) n')
       → (harvester : ℕ) → IsPassed b.history (Demand (demand_of b.history harvester targets)) n'
   passed_demand targets n₁ n' valid is told harvester =
       told b.history.instruction (demand_of b.history harvester targets) refl valid
-      b.history.postings (omega (arith, below, k.is_book.capacity_range)) (subst (λ m. Tells b.history.instruction b.history.postings m) (sym is) k.tells)
+      b.history.postings (omega (arith, below, k.is_book.capacity_range))
+      (subst (λ m. Tells b.history.instruction b.history.postings m) (sym is) k.tells)
 
 -- a sheet of prices by what then runs on is the next sheet, and its prices are the closure's answers
-module _ {F : Type 0} (g : Shared F (Bor Standing × Unit {0}) ℕ) (f : F) (h : HistoryParts) (x : Posting) (i : InstructionParts) (n : RunningParts) (s : SheetParts)
+module _ {F : Type 0} (g : Shared F (Bor Standing × Unit {0}) ℕ) (f : F) (h : HistoryParts) (x : Posting)
+    (i : InstructionParts) (n : RunningParts) (s : SheetParts)
     (same : i ≡ h.instruction)
-    (sheet : IsPricedSheet g f (record { instruction = i; targets = n.targets; by_class = n.by_class; by_assortment = n.by_assortment }) n.version s)
+    (sheet : IsPricedSheet g f
+    (record { instruction = i; targets = n.targets; by_class = n.by_class; by_assortment = n.by_assortment })
+    n.version s)
     (told : IsPassed h x n) where
   all_here : length s.prices ≡ classes h.instruction
   all_here = sheet.one_each ∙ ap classes same
 
-  priced_here : ArePriced g f (record { instruction = h.instruction; targets = n.targets; by_class = n.by_class; by_assortment = n.by_assortment }) s.prices
-  priced_here = subst (λ j. ArePriced g f (record { instruction = j; targets = n.targets; by_class = n.by_class; by_assortment = n.by_assortment }) s.prices) same sheet.priced
+  priced_here : ArePriced g f
+      (record {
+        instruction = h.instruction;
+        targets = n.targets;
+        by_class = n.by_class;
+        by_assortment =
+            n.by_assortment;
+      }) s.prices
+  priced_here =
+      subst (λ j. ArePriced g f
+      (record { instruction = j; targets = n.targets; by_class = n.by_class; by_assortment = n.by_assortment })
+      s.prices) same sheet.priced
 
   pub is_next_sheet : IsEnd h.instruction h.postings x → IsNextSheet h x s
   is_next_sheet last = record {
     version_is_next = ap (λ y. y.version) sheet.made ∙ told.version_is ∙ ends_with_end h.instruction h.postings x last;
     same_instruction = ap (λ y. y.instruction) sheet.made ∙ same;
-    prices_meet = prices_meet g f h.instruction n.targets n.by_class n.by_assortment (h.postings ++ x ∷ []) s.prices told.targets_are told.counts_are all_here priced_here;
+    prices_meet =
+        prices_meet g f h.instruction n.targets n.by_class n.by_assortment (h.postings ++ x ∷ [])
+        s.prices told.targets_are told.counts_are all_here priced_here;
   }
 
   pub next_answers : AreAnswers g f h.instruction (h.postings ++ x ∷ []) s.prices
-  next_answers = are_answers g f h.instruction n.targets n.by_class n.by_assortment (h.postings ++ x ∷ []) s.prices told.targets_are told.counts_are all_here priced_here
+  next_answers =
+      are_answers g f h.instruction n.targets n.by_class n.by_assortment (h.postings ++ x ∷ [])
+      s.prices told.targets_are told.counts_are all_here priced_here
 
 -- a sheet added to a list, as a list of values and of prices
-pub values_added : {X : Type 0} (val : X → SheetParts) (xs ys : List X) (next : Option X) → ys ≡ xs ++ option_to_list next → map val ys ≡ map val xs ++ option_to_list (option_map val next)
+pub values_added : {X : Type 0} (val : X → SheetParts) (xs ys : List X) (next : Option X)
+    → ys ≡ xs ++ option_to_list next → map val ys ≡ map val xs ++ option_to_list (option_map val next)
 values_added val xs ys None is = ap (map val) is ∙ map-append val xs []
 values_added val xs ys (Some x) is = ap (map val) is ∙ map-append val xs (x ∷ [])
 
-pub prices_added : {X : Type 0} (val : X → SheetParts) (xs ys : List X) (next : Option X) → ys ≡ xs ++ option_to_list next
+pub prices_added : {X : Type 0} (val : X → SheetParts) (xs ys : List X) (next : Option X)
+    → ys ≡ xs ++ option_to_list next
     → map (λ a. (val a).prices) ys ≡ sheets_with (map (λ a. (val a).prices) xs) (option_map val next)
 prices_added val xs ys None is = ap (map (λ a. (val a).prices)) (is ∙ append-nil xs)
 prices_added val xs ys (Some x) is = ap (map (λ a. (val a).prices)) is ∙ map-append (λ a. (val a).prices) xs (x ∷ [])
 
-pub demand_same : (a b : DemandParts) → a.harvester ≡ b.harvester → a.number ≡ b.number → a.version ≡ b.version → a.targets ≡ b.targets → a ≡ b
+pub demand_same : (a b : DemandParts) → a.harvester ≡ b.harvester → a.number ≡ b.number → a.version ≡ b.version
+    → a.targets ≡ b.targets → a ≡ b
 demand_same a b h n v t = λ j. record { harvester = h j; number = n j; version = v j; targets = t j }
 
 -- what was made for a book can be added to it when more memory is held ready
-pub ready_to_add : {F : Type 0} (a b : BookParts F) (x : HistoryParts → ℕ → Posting) (next : Option SheetParts) → SameContent a b → length a.history.postings < a.capacity
-    → ((h : ℕ) → IsNext a.history (x a.history h) next) → length b.history.postings < b.room → length b.history.sheets < b.sheet_room → IsReadyToAdd b (x b.history) next
+pub ready_to_add : {F : Type 0} (a b : BookParts F) (x : HistoryParts → ℕ → Posting) (next : Option SheetParts)
+    → SameContent a b → length a.history.postings < a.capacity
+    → ((h : ℕ) → IsNext a.history (x a.history h) next) → length b.history.postings < b.room
+    → length b.history.sheets < b.sheet_room → IsReadyToAdd b (x b.history) next
 ready_to_add a b x next same below is_next posting sheet = record {
   below = rw (same.history, same.capacity) below;
   next_is = λ h. rw same.history (is_next h);
@@ -209,8 +294,16 @@ ready_to_add a b x next same below is_next posting sheet = record {
   if_needed (Some s) room = room
 
 -- what a book keeps has no part of its rule
-pub keeps_by : {F G : Type 0} (rule : G) (b : BookParts F) (sheets : List SheetParts) (n : RunningParts) (calls : List ℕ) → Keeps b sheets n calls
-    → Keeps (record { rule = rule; history = b.history; capacity = b.capacity; room = b.room; sheet_room = b.sheet_room }) sheets n calls
+pub keeps_by : {F G : Type 0} (rule : G) (b : BookParts F) (sheets : List SheetParts) (n : RunningParts)
+    (calls : List ℕ) → Keeps b sheets n calls
+    → Keeps (record {
+      rule = rule;
+      history = b.history;
+      capacity = b.capacity;
+      room = b.room;
+      sheet_room =
+          b.sheet_room;
+    }) sheets n calls
 keeps_by rule b sheets n calls k = record {
   is_book = record {
     valid = k.is_book.valid;

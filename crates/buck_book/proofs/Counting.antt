@@ -26,7 +26,8 @@ zeros n k = elim (cases_lt k n) [
 ]
 
 -- all counts are 0 before the first entry
-pub none_counted : (i : InstructionParts) (n m : ℕ) → n ≡ classes i → m ≡ length i.assortments → AreCounts i [] (replicate {A = ℕ} n 0) (replicate {A = ℕ} m 0)
+pub none_counted : (i : InstructionParts) (n m : ℕ) → n ≡ classes i → m ≡ length i.assortments
+    → AreCounts i [] (replicate {A = ℕ} n 0) (replicate {A = ℕ} m 0)
 none_counted i n m e f = record {
   classes = record { one_each = length-replicate {A = ℕ} n 0 ∙ e; each = λ c k. zeros n (index_of i c) };
   assortments_number = length-replicate {A = ℕ} m 0 ∙ f;
@@ -34,34 +35,39 @@ none_counted i n m e f = record {
 }
 
 pub none_low : (n m : ℕ) → AreAtMost 0 (replicate {A = ℕ} n 0) (replicate {A = ℕ} m 0)
-none_low n m = record { class_counts = λ k. omega (arith, zeros n k); assortment_counts = λ k. omega (arith, zeros m k) }
+none_low n m =
+    record { class_counts = λ k. omega (arith, zeros n k); assortment_counts = λ k. omega (arith, zeros m k) }
 
 -- the counts after one cut more
-pub counts_more : (i : InstructionParts) (ps : List Posting) (e : EntryParts) (by_class by_assortment places by_class' by_assortment' : List ℕ)
+pub counts_more : (i : InstructionParts) (ps : List Posting) (e : EntryParts)
+    (by_class by_assortment places by_class' by_assortment' : List ℕ)
     → IsInstruction i
     → IsCutFrom (IsAllowed i e.stem) (end_of i) 0 e.logs
     → AreCounts i ps by_class by_assortment
     → places ≡ tally_of i e.stem e.logs
     → AreGrown by_class places by_class' → AreGrownBy by_assortment e.logs by_assortment'
     → AreCounts i (ps ++ Cut e ∷ []) by_class' by_assortment'
-counts_more i ps e by_class by_assortment places by_class' by_assortment' v cut counts tally classes_grown assortments_grown = record {
-  classes = record {
-    one_each = classes_grown.number ∙ counts.classes.one_each;
-    each = λ c k.
-        let own : count_by (λ p. p == index_of i c) places ≡ class_logs i c e.stem e.logs = ap (λ ps. count_by (λ p. p == index_of i c) ps) tally ∙ tallied i c e.stem 0 e.logs v k cut in
-        classes_grown.each (index_of i c)
-        ∙ (λ j. counts.classes.each c k j + own j)
-        ∙ sym (sum_by_push (λ x. class_logs_in i c x) ps (Cut e));
-  };
-  assortments_number = assortments_grown.number ∙ counts.assortments_number;
-  assortment_counts = λ a lt.
-      assortments_grown.each a
-      ∙ ap (λ n. n + assortment_logs a e.logs) (counts.assortment_counts a lt)
-      ∙ sym (sum_by_push (λ x. assortment_logs_in a x) ps (Cut e));
-}
+counts_more i ps e by_class by_assortment places by_class' by_assortment' v cut counts tally classes_grown
+    assortments_grown = record {
+      classes = record {
+        one_each = classes_grown.number ∙ counts.classes.one_each;
+        each = λ c k.
+            let own : count_by (λ p. p == index_of i c) places ≡ class_logs i c e.stem e.logs =
+            ap (λ ps. count_by (λ p. p == index_of i c) ps) tally ∙ tallied i c e.stem 0 e.logs v k cut in
+            classes_grown.each (index_of i c)
+            ∙ (λ j. counts.classes.each c k j + own j)
+            ∙ sym (sum_by_push (λ x. class_logs_in i c x) ps (Cut e));
+      };
+      assortments_number = assortments_grown.number ∙ counts.assortments_number;
+      assortment_counts = λ a lt.
+          assortments_grown.each a
+          ∙ ap (λ n. n + assortment_logs a e.logs) (counts.assortment_counts a lt)
+          ∙ sym (sum_by_push (λ x. assortment_logs_in a x) ps (Cut e));
+    }
 
 -- the counts stay after a demand
-pub counts_stay : (i : InstructionParts) (ps : List Posting) (d : DemandParts) (by_class by_assortment : List ℕ) → AreCounts i ps by_class by_assortment
+pub counts_stay : (i : InstructionParts) (ps : List Posting) (d : DemandParts) (by_class by_assortment : List ℕ)
+    → AreCounts i ps by_class by_assortment
     → AreCounts i (ps ++ Demand d ∷ []) by_class by_assortment
 counts_stay i ps d by_class by_assortment counts = record {
   classes = record {
@@ -69,7 +75,8 @@ counts_stay i ps d by_class by_assortment counts = record {
     each = λ c k. omega (arith, counts.classes.each c k, sum_by_push (λ x. class_logs_in i c x) ps (Demand d));
   };
   assortments_number = counts.assortments_number;
-  assortment_counts = λ a lt. omega (arith, counts.assortment_counts a lt, sum_by_push (λ x. assortment_logs_in a x) ps (Demand d));
+  assortment_counts =
+      λ a lt. omega (arith, counts.assortment_counts a lt, sum_by_push (λ x. assortment_logs_in a x) ps (Demand d));
 }
 
 -- counts grow by at most the logs of a cutting
@@ -80,14 +87,16 @@ pub low_more : (most few : ℕ) (by_class by_assortment places by_class' by_asso
     → AreAtMost (most + few) by_class' by_assortment'
 low_more most few by_class by_assortment places by_class' by_assortment' logs low p l cg ag = record {
   class_counts = λ k. omega (arith, cg.each k, low.class_counts k, count_by-le-length (λ x. x == k) places);
-  assortment_counts = λ a. omega (arith, ag.each a, low.assortment_counts a, count_by-le-length (λ (g : Log). g.assortment == a) logs);
+  assortment_counts =
+      λ a. omega (arith, ag.each a, low.assortment_counts a, count_by-le-length (λ (g : Log). g.assortment == a) logs);
 }
 
 logs_in-le : (i : InstructionParts) (c : Class) (x : Posting) → class_logs_in i c x ≤ assortment_logs_in c.assortment x
 logs_in-le i c (Cut e) = class_logs-le i c e.stem e.logs
 logs_in-le i c (Demand d) = omega arith
 
-count_of-le : (i : InstructionParts) (c : Class) (ps : List Posting) → count_of i c ps ≤ assortment_count_of c.assortment ps
+count_of-le : (i : InstructionParts) (c : Class) (ps : List Posting)
+    → count_of i c ps ≤ assortment_count_of c.assortment ps
 count_of-le i c [] = omega arith
 count_of-le i c (x ∷ ps) =
     omega (
@@ -100,7 +109,8 @@ count_of-le i c (x ∷ ps) =
 
 -- by valid targets, and by counts that are right and low, prices can be made
 pub can_price : (i : InstructionParts) (targets : List ℕ) (ps : List Posting) (by_class by_assortment : List ℕ)
-    → IsInstruction i → AreTargets i targets → AreCounts i ps by_class by_assortment → AreAtMost 80000000 by_class by_assortment
+    → IsInstruction i → AreTargets i targets → AreCounts i ps by_class by_assortment
+    → AreAtMost 80000000 by_class by_assortment
     → CanPrice (record { instruction = i; targets = targets; by_class = by_class; by_assortment = by_assortment })
 can_price i targets ps by_class by_assortment v t counts low = record {
   valid = v;
@@ -108,7 +118,8 @@ can_price i targets ps by_class by_assortment v t counts low = record {
   classes_number = counts.classes.one_each;
   assortments_number = counts.assortments_number;
   class_within = λ c k.
-      let there : c.assortment < length i.assortments = slice_get_within i.assortments c.assortment k.assortment k.exists in
+      let there : c.assortment < length i.assortments =
+      slice_get_within i.assortments c.assortment k.assortment k.exists in
       omega (arith, counts.classes.each c k, counts.assortment_counts c.assortment there, count_of-le i c ps);
   bounded = low.assortment_counts;
 }
@@ -123,11 +134,18 @@ calls_more ps x calls h number are is pos most next = record {
     | inl same ↦
         let here : h ≡ k + 1 = omega arith in
         let own : (harvester_of x == k + 1) ≡ true = eq-eqb (harvester_of x) (k + 1) (is ∙ here) in
-        let value : get_or (set calls (h - 1) number) k 0 ≡ number = ap (λ x. get_or (set calls (h - 1) number) x 0) same ∙ get_or-set_same calls (h - 1) number 0 (omega (arith, are.number)) in
-        value ∙ next ∙ ap (λ y. calls_of y ps + 1) here ∙ sym (sum_by_push (λ y. cond (harvester_of y == k + 1) 1 0) ps x ∙ ap (λ b. calls_of (k + 1) ps + cond b 1 0) own)
+        let value : get_or (set calls (h - 1) number) k 0 ≡ number =
+        ap (λ x. get_or (set calls (h - 1) number) x 0) same
+        ∙ get_or-set_same calls (h - 1) number 0 (omega (arith, are.number)) in
+        value ∙ next ∙ ap (λ y. calls_of y ps + 1) here
+        ∙ sym (sum_by_push (λ y. cond (harvester_of y == k + 1) 1 0) ps x
+        ∙ ap (λ b. calls_of (k + 1) ps + cond b 1 0) own)
     | inr other ↦
-        let not_own : (harvester_of x == k + 1) ≡ false = ne_eqb (harvester_of x) (k + 1) (λ z. other (omega (arith, is))) in
-        let plus : calls_of (k + 1) (ps ++ x ∷ []) ≡ calls_of (k + 1) ps + 0 = sum_by_push (λ y. cond (harvester_of y == k + 1) 1 0) ps x ∙ ap (λ b. calls_of (k + 1) ps + cond b 1 0) not_own in
+        let not_own : (harvester_of x == k + 1) ≡ false =
+        ne_eqb (harvester_of x) (k + 1) (λ z. other (omega (arith, is))) in
+        let plus : calls_of (k + 1) (ps ++ x ∷ []) ≡ calls_of (k + 1) ps + 0 =
+        sum_by_push (λ y. cond (harvester_of y == k + 1) 1 0) ps x
+        ∙ ap (λ b. calls_of (k + 1) ps + cond b 1 0) not_own in
         get_or-set_other calls (h - 1) k number 0 other ∙ are.each k lt ∙ omega arith
   ];
 }
@@ -140,49 +158,68 @@ pub calls-le : (h : ℕ) (ps : List Posting) → calls_of h ps ≤ length ps
 calls-le h ps = count_by-le-length (λ x. harvester_of x == h) ps
 
 -- one place more
-pub grown_more : (before after places : List ℕ) (i p n : ℕ) → i < length places → p ≡ get_or places i 0 → p < length after → n ≡ get_or after p 0
+pub grown_more : (before after places : List ℕ) (i p n : ℕ) → i < length places → p ≡ get_or places i 0
+    → p < length after → n ≡ get_or after p 0
     → AreGrown before (take i places) after → AreGrown before (take (i + 1) places) (set after p (n + 1))
 grown_more before after places i p n lt is within value grown = record {
   number = length-set after p (n + 1) ∙ grown.number;
   each = λ k. elim (cases_eq k p) [
     | inl same ↦
         let test : (get_or places i 0 == k) ≡ true = eq-eqb (get_or places i 0) k (sym is ∙ sym same) in
-        let more : count_by (λ x. x == k) (take (i + 1) places) ≡ count_by (λ x. x == k) (take i places) + 1 = count_by_more_yes (λ x. x == k) places i 0 lt test in
-        let here : get_or (set after p (n + 1)) k 0 ≡ n + 1 = ap (λ x. get_or (set after p (n + 1)) x 0) same ∙ get_or-set_same after p (n + 1) 0 within in
+        let more : count_by (λ x. x == k) (take (i + 1) places) ≡ count_by (λ x. x == k) (take i places) + 1 =
+        count_by_more_yes (λ x. x == k) places i 0 lt test in
+        let here : get_or (set after p (n + 1)) k 0 ≡ n + 1 = ap (λ x. get_or (set after p (n + 1)) x 0) same
+        ∙ get_or-set_same after p (n + 1) 0 within in
         let was : n ≡ get_or after k 0 = value ∙ ap (λ x. get_or after x 0) (sym same) in
         omega (arith, grown.each k)
     | inr other ↦
         let test : (get_or places i 0 == k) ≡ false = ne_eqb (get_or places i 0) k (λ z. other (sym z ∙ sym is)) in
-        let more : count_by (λ x. x == k) (take (i + 1) places) ≡ count_by (λ x. x == k) (take i places) = count_by_more_no (λ x. x == k) places i 0 lt test in
+        let more : count_by (λ x. x == k) (take (i + 1) places) ≡ count_by (λ x. x == k) (take i places) =
+        count_by_more_no (λ x. x == k) places i 0 lt test in
         let here : get_or (set after p (n + 1)) k 0 ≡ get_or after k 0 = get_or-set_other after p k (n + 1) 0 other in
         omega (arith, grown.each k)
   ];
 }
 
-pub grown_fits : (before after places : List ℕ) (i p n : ℕ) → i < length places → n ≡ get_or after p 0 → AreGrown before (take i places) after → get_or before p 0 + length places < 2 ^ 32 → n + 1 < 2 ^ 32
+pub grown_fits : (before after places : List ℕ) (i p n : ℕ) → i < length places → n ≡ get_or after p 0
+    → AreGrown before (take i places) after → get_or before p 0 + length places < 2 ^ 32 → n + 1 < 2 ^ 32
 grown_fits before after places i p n lt value grown low =
     omega (arith, grown.each p, count_by-le-length (λ x. x == p) (take i places), length-take-le i places (omega arith))
 
 -- one log more
-pub grown_by_more : (before after : List ℕ) (logs : List Log) (i n : ℕ) (g : Log) → i < length logs → g ≡ get_or logs i g → g.assortment < length after → n ≡ get_or after g.assortment 0
+pub grown_by_more : (before after : List ℕ) (logs : List Log) (i n : ℕ) (g : Log) → i < length logs
+    → g ≡ get_or logs i g → g.assortment < length after → n ≡ get_or after g.assortment 0
     → AreGrownBy before (take i logs) after → AreGrownBy before (take (i + 1) logs) (set after g.assortment (n + 1))
 grown_by_more before after logs i n g lt is within value grown = record {
   number = length-set after g.assortment (n + 1) ∙ grown.number;
   each = λ a. elim (cases_eq a g.assortment) [
     | inl same ↦
-        let test : ((get_or logs i g).assortment == a) ≡ true = eq-eqb (get_or logs i g).assortment a (ap (λ x. x.assortment) (sym is) ∙ sym same) in
-        let more : assortment_logs a (take (i + 1) logs) ≡ assortment_logs a (take i logs) + 1 = count_by_more_yes (λ (x : Log). x.assortment == a) logs i g lt test in
-        let here : get_or (set after g.assortment (n + 1)) a 0 ≡ n + 1 = ap (λ x. get_or (set after g.assortment (n + 1)) x 0) same ∙ get_or-set_same after g.assortment (n + 1) 0 within in
+        let test : ((get_or logs i g).assortment == a) ≡ true =
+        eq-eqb (get_or logs i g).assortment a (ap (λ x. x.assortment) (sym is) ∙ sym same) in
+        let more : assortment_logs a (take (i + 1) logs) ≡ assortment_logs a (take i logs) + 1 =
+        count_by_more_yes (λ (x : Log). x.assortment == a) logs i g lt test in
+        let here : get_or (set after g.assortment (n + 1)) a 0 ≡ n + 1 =
+        ap (λ x. get_or (set after g.assortment (n + 1)) x 0) same
+        ∙ get_or-set_same after g.assortment (n + 1) 0 within in
         let was : n ≡ get_or after a 0 = value ∙ ap (λ x. get_or after x 0) (sym same) in
         omega (arith, grown.each a)
     | inr other ↦
-        let test : ((get_or logs i g).assortment == a) ≡ false = ne_eqb (get_or logs i g).assortment a (λ z. other (sym z ∙ ap (λ x. x.assortment) (sym is))) in
-        let more : assortment_logs a (take (i + 1) logs) ≡ assortment_logs a (take i logs) = count_by_more_no (λ (x : Log). x.assortment == a) logs i g lt test in
-        let here : get_or (set after g.assortment (n + 1)) a 0 ≡ get_or after a 0 = get_or-set_other after g.assortment a (n + 1) 0 other in
+        let test : ((get_or logs i g).assortment == a) ≡ false =
+        ne_eqb (get_or logs i g).assortment a (λ z. other (sym z ∙ ap (λ x. x.assortment) (sym is))) in
+        let more : assortment_logs a (take (i + 1) logs) ≡ assortment_logs a (take i logs) =
+        count_by_more_no (λ (x : Log). x.assortment == a) logs i g lt test in
+        let here : get_or (set after g.assortment (n + 1)) a 0 ≡ get_or after a 0 =
+        get_or-set_other after g.assortment a (n + 1) 0 other in
         omega (arith, grown.each a)
   ];
 }
 
-pub grown_by_fits : (before after : List ℕ) (logs : List Log) (i a n : ℕ) → i < length logs → n ≡ get_or after a 0 → AreGrownBy before (take i logs) after → get_or before a 0 + length logs < 2 ^ 32 → n + 1 < 2 ^ 32
+pub grown_by_fits : (before after : List ℕ) (logs : List Log) (i a n : ℕ) → i < length logs → n ≡ get_or after a 0
+    → AreGrownBy before (take i logs) after → get_or before a 0 + length logs < 2 ^ 32 → n + 1 < 2 ^ 32
 grown_by_fits before after logs i a n lt value grown low =
-    omega (arith, grown.each a, count_by-le-length (λ (x : Log). x.assortment == a) (take i logs), length-take-le i logs (omega arith))
+    omega (
+      arith,
+      grown.each a,
+      count_by-le-length (λ (x : Log). x.assortment == a) (take i logs),
+      length-take-le i logs (omega arith),
+    )

@@ -15,22 +15,26 @@ use Rattle.buck_book.specs.Counts.{is_class, class_logs, assortment_logs}
 use Rattle.buck_book.specs.inner.Running.{tally_of}
 use Rattle.buck_book.proofs.Places.{one_place, class_of_assortment}
 
-pub each_allowed : (i : InstructionParts) (stem : StemParts) (from : ℕ) (gs : List Log) → IsCutFrom (IsAllowed i stem) (end_of i) from gs → All (IsAllowed i stem) gs
+pub each_allowed : (i : InstructionParts) (stem : StemParts) (from : ℕ) (gs : List Log)
+    → IsCutFrom (IsAllowed i stem) (end_of i) from gs → All (IsAllowed i stem) gs
 each_allowed i stem from [] c = All-nil (IsAllowed i stem)
 each_allowed i stem from (g ∷ gs) c = All-cons (IsAllowed i stem) g gs c.1 (each_allowed i stem (end_of i g) gs c.2)
 
-long_enough : (i : InstructionParts) (stem : StemParts) (from : ℕ) (gs : List Log) → IsInstruction i → from ≤ stem_length stem.samples → IsCutFrom (IsAllowed i stem) (end_of i) from gs
+long_enough : (i : InstructionParts) (stem : StemParts) (from : ℕ) (gs : List Log) → IsInstruction i
+    → from ≤ stem_length stem.samples → IsCutFrom (IsAllowed i stem) (end_of i) from gs
     → 500 * length gs + from ≤ stem_length stem.samples
 long_enough i stem from [] v le c = omega arith
 long_enough i stem from (g ∷ gs) v le c =
     let low = allowed_low i stem g v c.1 in
     let high : end_of i g ≤ stem_length stem.samples = end_within i stem g c.1 in
-    let rest : 500 * length gs + end_of i g ≤ stem_length stem.samples = long_enough i stem (end_of i g) gs v high c.2 in
+    let rest : 500 * length gs + end_of i g ≤ stem_length stem.samples =
+    long_enough i stem (end_of i g) gs v high c.2 in
     let starts : from ≤ g.start = c.0 in
     omega (arith, low.0)
 
 -- a cutting has at most 80 logs
-pub few_logs : (i : InstructionParts) (stem : StemParts) (gs : List Log) → IsInstruction i → IsStem stem → IsCutFrom (IsAllowed i stem) (end_of i) 0 gs → length gs ≤ 80
+pub few_logs : (i : InstructionParts) (stem : StemParts) (gs : List Log) → IsInstruction i → IsStem stem
+    → IsCutFrom (IsAllowed i stem) (end_of i) 0 gs → length gs ≤ 80
 few_logs i stem gs v s c =
     let h : 500 * length gs + 0 ≤ stem_length stem.samples = long_enough i stem 0 gs v (omega arith) c in
     omega (arith, s.samples_number)
@@ -47,21 +51,25 @@ is_class_same c d e =
 is_class_itself : (c : Class) → is_class c c ≡ true
 is_class_itself c =
     and_from ((c.assortment == c.assortment) && (c.row == c.row)) (c.column == c.column)
-    (and_from (c.assortment == c.assortment) (c.row == c.row) (eq-eqb c.assortment c.assortment refl) (eq-eqb c.row c.row refl))
+    (and_from (c.assortment == c.assortment) (c.row == c.row) (eq-eqb c.assortment c.assortment refl)
+    (eq-eqb c.row c.row refl))
     (eq-eqb c.column c.column refl)
 
 -- classes are compared by their places
-pub place_tells : (i : InstructionParts) (c d : Class) → IsClass i c → IsClass i d → (index_of i d == index_of i c) ≡ is_class c d
+pub place_tells : (i : InstructionParts) (c d : Class) → IsClass i c → IsClass i d
+    → (index_of i d == index_of i c) ≡ is_class c d
 place_tells i c d k l = elim (cases_eq (index_of i d) (index_of i c)) [
   | inl same ↦
       let one : d ≡ c = one_place i d c l k same in
       eq-eqb (index_of i d) (index_of i c) same ∙ sym (subst (λ x. is_class c x ≡ true) (sym one) (is_class_itself c))
   | inr other ↦
-      ne_eqb (index_of i d) (index_of i c) other ∙ sym (false_from_ne_true (is_class c d) (λ e. other (ap (λ x. index_of i x) (sym (is_class_same c d e)))))
+      ne_eqb (index_of i d) (index_of i c) other
+      ∙ sym (false_from_ne_true (is_class c d) (λ e. other (ap (λ x. index_of i x) (sym (is_class_same c d e)))))
 ]
 
 -- a class's logs are counted by their places
-pub tallied : (i : InstructionParts) (c : Class) (stem : StemParts) (from : ℕ) (gs : List Log) → IsInstruction i → IsClass i c → IsCutFrom (IsAllowed i stem) (end_of i) from gs
+pub tallied : (i : InstructionParts) (c : Class) (stem : StemParts) (from : ℕ) (gs : List Log) → IsInstruction i
+    → IsClass i c → IsCutFrom (IsAllowed i stem) (end_of i) from gs
     → count_by (λ p. p == index_of i c) (tally_of i stem gs) ≡ class_logs i c stem gs
 tallied i c stem from [] v k cut = refl
 tallied i c stem from (g ∷ gs) v k cut =
@@ -72,7 +80,8 @@ tallied i c stem from (g ∷ gs) v k cut =
     ∙ (λ j. cond (test j) 1 0 + rest j)
     ∙ sym (sum_by-cons (λ x. cond (is_class c (class_of i stem x)) 1 0) g gs)
 
-one_log : (i : InstructionParts) (c : Class) (stem : StemParts) (g : Log) → cond (is_class c (class_of i stem g)) 1 0 ≤ cond (g.assortment == c.assortment) 1 0
+one_log : (i : InstructionParts) (c : Class) (stem : StemParts) (g : Log)
+    → cond (is_class c (class_of i stem g)) 1 0 ≤ cond (g.assortment == c.assortment) 1 0
 one_log i c stem g = elim (cases_Bool (is_class c (class_of i stem g))) [
   | inl yes_ ↦
       let same : c ≡ class_of i stem g = is_class_same c (class_of i stem g) yes_ in
@@ -83,7 +92,8 @@ one_log i c stem g = elim (cases_Bool (is_class c (class_of i stem g))) [
 ]
 
 -- a class's logs are of its assortment
-pub class_logs-le : (i : InstructionParts) (c : Class) (stem : StemParts) (gs : List Log) → class_logs i c stem gs ≤ assortment_logs c.assortment gs
+pub class_logs-le : (i : InstructionParts) (c : Class) (stem : StemParts) (gs : List Log)
+    → class_logs i c stem gs ≤ assortment_logs c.assortment gs
 class_logs-le i c stem [] = omega arith
 class_logs-le i c stem (g ∷ gs) =
     omega (

@@ -9,17 +9,27 @@ use Rattle.buck_apt.specs.Instruction.{InstructionParts, AssortmentParts, classe
 use Rattle.buck_book.specs.Degree.{shared_of}
 
 step : (wanted cut : ℕ) (targets counts : List ℕ) (i : ℕ) → i < length targets → i < length counts
-    → shared_of wanted cut (take (suc i) targets) (take (suc i) counts) ≡ shared_of wanted cut (take i targets) (take i counts) + min (get_or targets i 0 * cut) (get_or counts i 0 * wanted)
+    → shared_of wanted cut (take (suc i) targets) (take (suc i) counts)
+    ≡ shared_of wanted cut (take i targets) (take i counts) + min (get_or targets i 0 * cut)
+    (get_or counts i 0 * wanted)
 step wanted cut [] counts i lt lu = absurd (omega (arith, lt))
 step wanted cut (t ∷ ts) [] i lt lu = absurd (omega (arith, lu))
-step wanted cut (t ∷ ts) (n ∷ ns) zero lt lu = omega (arith, sum_by-cons (λ (p : ℕ × ℕ). min (p.0 * cut) (p.1 * wanted)) (t, n) [])
+step wanted cut (t ∷ ts) (n ∷ ns) zero lt lu =
+    omega (arith, sum_by-cons (λ (p : ℕ × ℕ). min (p.0 * cut) (p.1 * wanted)) (t, n) [])
 step wanted cut (t ∷ ts) (n ∷ ns) (suc i) lt lu =
     let f = λ (p : ℕ × ℕ). min (p.0 * cut) (p.1 * wanted) in
-    omega (arith, sum_by-cons f (t, n) (zip (take (suc i) ts) (take (suc i) ns)), sum_by-cons f (t, n) (zip (take i ts) (take i ns)), step wanted cut ts ns i (omega (arith, lt)) (omega (arith, lu)))
+    omega (
+      arith,
+      sum_by-cons f (t, n) (zip (take (suc i) ts) (take (suc i) ns)),
+      sum_by-cons f (t, n) (zip (take i ts) (take i ns)),
+      step wanted cut ts ns i (omega (arith, lt)) (omega (arith, lu)),
+    )
 
 -- one class more
 pub shared_more : (wanted cut : ℕ) (targets counts : List ℕ) (i : ℕ) → i < length targets → i < length counts
-    → shared_of wanted cut (take (i + 1) targets) (take (i + 1) counts) ≡ shared_of wanted cut (take i targets) (take i counts) + min (get_or targets i 0 * cut) (get_or counts i 0 * wanted)
+    → shared_of wanted cut (take (i + 1) targets) (take (i + 1) counts)
+    ≡ shared_of wanted cut (take i targets) (take i counts) + min (get_or targets i 0 * cut)
+    (get_or counts i 0 * wanted)
 shared_more wanted cut targets counts i lt lu = rw add-one (step wanted cut targets counts i lt lu)
 
 -- all classes together have at most the whole
@@ -27,20 +37,34 @@ pub shared_low : (wanted cut : ℕ) (targets counts : List ℕ) → shared_of wa
 shared_low wanted cut [] counts = omega arith
 shared_low wanted cut (t ∷ ts) [] = omega arith
 shared_low wanted cut (t ∷ ts) (n ∷ ns) =
-    let whole : sum (t ∷ ts) * cut ≡ t * cut + sum ts * cut = ap (λ k. k * cut) (sum_by-cons (λ x. x) t ts) ∙ add-mul t (sum ts) cut in
+    let whole : sum (t ∷ ts) * cut ≡ t * cut + sum ts * cut = ap (λ k. k * cut) (sum_by-cons (λ x. x) t ts)
+    ∙ add-mul t (sum ts) cut in
     let first : min (t * cut) (n * wanted) ≤ t * cut = min-le_left (t * cut) (n * wanted) in
-    omega (arith, sum_by-cons (λ (p : ℕ × ℕ). min (p.0 * cut) (p.1 * wanted)) (t, n) (zip ts ns), first, shared_low wanted cut ts ns, whole)
+    omega (
+      arith,
+      sum_by-cons (λ (p : ℕ × ℕ). min (p.0 * cut) (p.1 * wanted)) (t, n) (zip ts ns),
+      first,
+      shared_low wanted cut ts ns,
+      whole,
+    )
 
 -- so the degree is at most 10,000
-pub degree_low : (targets counts : List ℕ) → shared_of (sum targets) (sum counts) targets counts * 10000 / (sum targets * sum counts) ≤ 10000
-degree_low targets counts = div-le_of_le-mul (sum targets * sum counts) (mul-le-mul (shared_low (sum targets) (sum counts) targets counts) (omega arith))
+pub degree_low : (targets counts : List ℕ)
+    → shared_of (sum targets) (sum counts) targets counts * 10000 / (sum targets * sum counts) ≤ 10000
+degree_low targets counts =
+    div-le_of_le-mul (sum targets * sum counts)
+    (mul-le-mul (shared_low (sum targets) (sum counts) targets counts) (omega arith))
 
 -- what was read of a list of assortments
-pub stands : (xs ys : List AssortmentParts) (at : ℕ) (a : AssortmentParts) → xs ≡ ys → at < length ys → a ≡ get_or xs at a → slice_get ys at ≡ Some a
-stands xs ys at a same lt is = rw same at (slice_get_read xs (length xs) at a refl (omega (arith, lt, ap (λ (l : List AssortmentParts). length l) same)) is)
+pub stands : (xs ys : List AssortmentParts) (at : ℕ) (a : AssortmentParts) → xs ≡ ys → at < length ys
+    → a ≡ get_or xs at a → slice_get ys at ≡ Some a
+stands xs ys at a same lt is =
+    rw same at
+    (slice_get_read xs (length xs) at a refl (omega (arith, lt, ap (λ (l : List AssortmentParts). length l) same)) is)
 
 -- the place of an assortment's first class
-pub first_class : (i : InstructionParts) (at : ℕ) (a : AssortmentParts) → slice_get i.assortments at ≡ Some a → index_of i (record { assortment = at; row = 0; column = 0 }) ≡ classes_before i at
+pub first_class : (i : InstructionParts) (at : ℕ) (a : AssortmentParts) → slice_get i.assortments at ≡ Some a
+    → index_of i (record { assortment = at; row = 0; column = 0 }) ≡ classes_before i at
 first_class i at a there =
     let before = classes_before i at in
     let none : before + (0 * length a.lengths + 0) ≡ before = omega arith in

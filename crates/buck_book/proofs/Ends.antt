@@ -14,8 +14,10 @@ pub true_false : true ≡ false → ⊥
 true_false e = absurd (cc)
 
 -- the first postings and the next one
-pub take_one_more : {X : Type 0} (xs : List X) (k : ℕ) (x : X) → slice_get xs k ≡ Some x → take (k + 1) xs ≡ take k xs ++ x ∷ []
-take_one_more xs k x at = take_more xs k x (slice_get_within xs k x at) ∙ ap (λ y. take k xs ++ y ∷ []) (get_or_from_slice_get xs k x x at)
+pub take_one_more : {X : Type 0} (xs : List X) (k : ℕ) (x : X) → slice_get xs k ≡ Some x
+    → take (k + 1) xs ≡ take k xs ++ x ∷ []
+take_one_more xs k x at = take_more xs k x (slice_get_within xs k x at)
+    ∙ ap (λ y. take k xs ++ y ∷ []) (get_or_from_slice_get xs k x x at)
 
 module _ (p n : ℕ) (x : Posting) (xs : List Posting) where
   pub ends_yes : is_end p n x ≡ true → ends_from p n (x ∷ xs) ≡ 1 + ends_from p 0 xs
@@ -30,7 +32,8 @@ module _ (p n : ℕ) (x : Posting) (xs : List Posting) where
   pub cuts_no : is_end p n x ≡ false → cuts_from p n (x ∷ xs) ≡ cuts_from p (n + 1) xs
   cuts_no e = ap (λ b. cond b (cuts_from p 0 xs) (cuts_from p (n + 1) xs)) e
 
-pub ends-append : (p n : ℕ) (xs ys : List Posting) → ends_from p n (xs ++ ys) ≡ ends_from p n xs + ends_from p (cuts_from p n xs) ys
+pub ends-append : (p n : ℕ) (xs ys : List Posting)
+    → ends_from p n (xs ++ ys) ≡ ends_from p n xs + ends_from p (cuts_from p n xs) ys
 ends-append p n [] ys = omega arith
 ends-append p n (x ∷ xs) ys = elim (cases_Bool (is_end p n x)) [
   | inl yes_ ↦
@@ -47,18 +50,22 @@ ends-append p n (x ∷ xs) ys = elim (cases_Bool (is_end p n x)) [
 pub cuts-append : (p n : ℕ) (xs ys : List Posting) → cuts_from p n (xs ++ ys) ≡ cuts_from p (cuts_from p n xs) ys
 cuts-append p n [] ys = refl
 cuts-append p n (x ∷ xs) ys = elim (cases_Bool (is_end p n x)) [
-  | inl yes_ ↦ cuts_yes p n x (xs ++ ys) yes_ ∙ cuts-append p 0 xs ys ∙ ap (λ k. cuts_from p k ys) (sym (cuts_yes p n x xs yes_))
-  | inr no_ ↦ cuts_no p n x (xs ++ ys) no_ ∙ cuts-append p (n + 1) xs ys ∙ ap (λ k. cuts_from p k ys) (sym (cuts_no p n x xs no_))
+  | inl yes_ ↦ cuts_yes p n x (xs ++ ys) yes_ ∙ cuts-append p 0 xs ys
+      ∙ ap (λ k. cuts_from p k ys) (sym (cuts_yes p n x xs yes_))
+  | inr no_ ↦ cuts_no p n x (xs ++ ys) no_ ∙ cuts-append p (n + 1) xs ys
+      ∙ ap (λ k. cuts_from p k ys) (sym (cuts_no p n x xs no_))
 ]
 
 module _ (i : InstructionParts) (ps : List Posting) (x : Posting) where
   pub ends_with_end : IsEnd i ps x → ends_of i (ps ++ x ∷ []) ≡ ends_of i ps + 1
-  ends_with_end e = ends-append i.period 0 ps (x ∷ []) ∙ ap (λ k. ends_of i ps + k) (ends_yes i.period (cuts_since_end i ps) x [] e)
+  ends_with_end e = ends-append i.period 0 ps (x ∷ [])
+      ∙ ap (λ k. ends_of i ps + k) (ends_yes i.period (cuts_since_end i ps) x [] e)
 
   pub ends_without : (IsEnd i ps x → ⊥) → ends_of i (ps ++ x ∷ []) ≡ ends_of i ps
   ends_without e =
       ends-append i.period 0 ps (x ∷ [])
-      ∙ ap (λ k. ends_of i ps + k) (ends_no i.period (cuts_since_end i ps) x [] (false_from_ne_true (is_end i.period (cuts_since_end i ps) x) e))
+      ∙ ap (λ k. ends_of i ps + k)
+      (ends_no i.period (cuts_since_end i ps) x [] (false_from_ne_true (is_end i.period (cuts_since_end i ps) x) e))
       ∙ omega arith
 
   pub cuts_with_end : IsEnd i ps x → cuts_since_end i (ps ++ x ∷ []) ≡ 0
@@ -79,12 +86,19 @@ module _ (i : InstructionParts) (before after : List Posting) (d : DemandParts) 
 
 -- fewer postings have no more ends
 pub ends_take-le : (i : InstructionParts) (ps : List Posting) (k : ℕ) → ends_of i (take k ps) ≤ ends_of i ps
-ends_take-le i ps k = omega (arith, ends-append i.period 0 (take k ps) (drop k ps), ap (λ xs. ends_of i xs) (take-append-drop k ps))
+ends_take-le i ps k =
+    omega (arith, ends-append i.period 0 (take k ps) (drop k ps), ap (λ xs. ends_of i xs) (take-append-drop k ps))
 
 -- an end within some postings is counted
-pub ends_past : (i : InstructionParts) (ps : List Posting) (k : ℕ) (x : Posting) → slice_get ps k ≡ Some x → IsEnd i (take k ps) x → ends_of i (take k ps) + 1 ≤ ends_of i ps
+pub ends_past : (i : InstructionParts) (ps : List Posting) (k : ℕ) (x : Posting) → slice_get ps k ≡ Some x
+    → IsEnd i (take k ps) x → ends_of i (take k ps) + 1 ≤ ends_of i ps
 ends_past i ps k x at e =
-    omega (arith, ends_take-le i ps (k + 1), ap (λ xs. ends_of i xs) (take_one_more ps k x at), ends_with_end i (take k ps) x e)
+    omega (
+      arith,
+      ends_take-le i ps (k + 1),
+      ap (λ xs. ends_of i xs) (take_one_more ps k x at),
+      ends_with_end i (take k ps) x e,
+    )
 
 pub ends-le : (p n : ℕ) (ps : List Posting) → ends_from p n ps ≤ length ps
 ends-le p n [] = omega arith
@@ -105,7 +119,8 @@ cuts_low p n (x ∷ xs) pos lt = elim (cases_Bool (is_end p n x)) [
   | inr no_ ↦ omega (arith, cuts_no p n x xs no_, cuts_low p (n + 1) xs pos (still_low p n x lt no_))
 ]
 
-pub targets-append : (ts : List ℕ) (xs ys : List Posting) → targets_after ts (xs ++ ys) ≡ targets_after (targets_after ts xs) ys
+pub targets-append : (ts : List ℕ) (xs ys : List Posting)
+    → targets_after ts (xs ++ ys) ≡ targets_after (targets_after ts xs) ys
 targets-append ts [] ys = refl
 targets-append ts (Cut e ∷ xs) ys = targets-append ts xs ys
 targets-append ts (Demand d ∷ xs) ys = targets-append d.targets xs ys

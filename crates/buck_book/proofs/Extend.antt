@@ -13,7 +13,8 @@ use Rattle.buck_book.specs.Book.{IsNext}
 use Rattle.buck_book.proofs.Ends.{ends_with_end, ends_without, ends_take-le, ends_past}
 
 -- an element of a list one longer
-pub slice_get-push : {X : Type 0} (xs : List X) (y x : X) (i : ℕ) → slice_get (xs ++ y ∷ []) i ≡ Some x → ((i < length xs) × (slice_get xs i ≡ Some x)) ⊎ ((i ≡ length xs) × (x ≡ y))
+pub slice_get-push : {X : Type 0} (xs : List X) (y x : X) (i : ℕ) → slice_get (xs ++ y ∷ []) i ≡ Some x
+    → ((i < length xs) × (slice_get xs i ≡ Some x)) ⊎ ((i ≡ length xs) × (x ≡ y))
 slice_get-push [] y x zero e = inr (refl, (cc))
 slice_get-push [] y x (suc i) e = absurd (cc)
 slice_get-push (z ∷ xs) y x zero e = inl (omega arith, e)
@@ -21,7 +22,8 @@ slice_get-push (z ∷ xs) y x (suc i) e =
     elim (slice_get-push xs y x i e) [ inl h ↦ inl (omega (arith, h.0), h.1) | inr h ↦ inr (ap suc h.0, h.1) ]
 
 -- an element of a shorter list
-pub slice_get-take : {X : Type 0} (xs : List X) (n i : ℕ) (x : X) → n ≤ length xs → slice_get (take n xs) i ≡ Some x → (i < n) × (slice_get xs i ≡ Some x)
+pub slice_get-take : {X : Type 0} (xs : List X) (n i : ℕ) (x : X) → n ≤ length xs → slice_get (take n xs) i ≡ Some x
+    → (i < n) × (slice_get xs i ≡ Some x)
 slice_get-take xs n i x le e =
     let within : i < length (take n xs) = slice_get_within (take n xs) i x e in
     let lt : i < n = omega (arith, length-take-le n xs le) in
@@ -29,7 +31,8 @@ slice_get-take xs n i x le e =
     (lt, slice_get-get_or xs i x (omega arith) ∙ ap Some is)
 
 -- a posting holds where the prices of its version are the same
-holds_same : (i : InstructionParts) (these those : List (List ℕ)) (x : Posting) → prices_at those (planned_version x) ≡ prices_at these (planned_version x) → Holds i these x → Holds i those x
+holds_same : (i : InstructionParts) (these those : List (List ℕ)) (x : Posting)
+    → prices_at those (planned_version x) ≡ prices_at these (planned_version x) → Holds i these x → Holds i those x
 holds_same i these those (Cut e) same h = (
   subst (λ prices. IsBest (sheet_of e.version i prices) e.stem e.logs) (sym same) h.0,
   subst (λ prices. e.worth ≡ cutting_worth (sheet_of e.version i prices) e.stem e.logs) (sym same) h.1,
@@ -52,53 +55,69 @@ version_within h k x l at =
     let w = (l.postings_follow k x at).version_in_force in
     (w, omega (arith, l.sheets_number, ends_take-le h.instruction h.postings k))
 
-ends_of_first : (i : InstructionParts) (ps : List Posting) (j k : ℕ) → j ≤ k → ends_of i (take j ps) ≤ ends_of i (take k ps)
+ends_of_first : (i : InstructionParts) (ps : List Posting) (j k : ℕ) → j ≤ k
+    → ends_of i (take j ps) ≤ ends_of i (take k ps)
 ends_of_first i ps j k le = omega (arith, ends_take-le i (take k ps) j, ap (λ xs. ends_of i xs) (take-take j k ps le))
 
 pub prefix : (h : HistoryParts) (k : ℕ) → IsLawful h → k ≤ length h.postings → IsLawful (first_of k h)
 prefix h k l le =
     let n : ℕ = ends_of h.instruction (take k h.postings) + 1 in
-    let number : length (take n h.sheets) ≡ n = length-take-le n h.sheets (omega (arith, l.sheets_number, ends_take-le h.instruction h.postings k)) in
+    let number : length (take n h.sheets) ≡ n =
+    length-take-le n h.sheets (omega (arith, l.sheets_number, ends_take-le h.instruction h.postings k)) in
     record {
       postings_follow = λ j x at.
           let here = slice_get-take h.postings k j x le at in
           let w = version_within h j x l here.1 in
-          let low : planned_version x < n = omega (arith, w.0, ends_of_first h.instruction h.postings j k (omega (arith, here.0))) in
+          let low : planned_version x < n =
+          omega (arith, w.0, ends_of_first h.instruction h.postings j k (omega (arith, here.0))) in
           rw (take-take j k h.postings (omega (arith, here.0)))
-          (follows_same h.instruction h.sheets (take n h.sheets) (take j h.postings) x (get_or-take n h.sheets (planned_version x) [] low) (l.postings_follow j x here.1));
+          (follows_same h.instruction h.sheets (take n h.sheets) (take j h.postings) x
+          (get_or-take n h.sheets (planned_version x) [] low) (l.postings_follow j x here.1));
       sheets_number = number;
       base_sheet = get_or-take n h.sheets 0 [] (omega arith) ∙ l.base_sheet;
       sheets_meet = λ j x at e.
           let here = slice_get-take h.postings k j x le at in
           let one : take j (take k h.postings) ≡ take j h.postings = take-take j k h.postings (omega (arith, here.0)) in
-          let two : take (j + 1) (take k h.postings) ≡ take (j + 1) h.postings = take-take (j + 1) k h.postings (omega (arith, here.0)) in
+          let two : take (j + 1) (take k h.postings) ≡ take (j + 1) h.postings =
+          take-take (j + 1) k h.postings (omega (arith, here.0)) in
           let e' : IsEnd h.instruction (take j h.postings) x = subst (λ xs. IsEnd h.instruction xs x) one e in
           let low : ends_of h.instruction (take j h.postings) + 1 < n =
-          omega (arith, ends_past h.instruction (take k h.postings) j x at e, ap (λ xs. ends_of h.instruction xs) one) in
-          rw (one, two, get_or-take n h.sheets (ends_of h.instruction (take j h.postings) + 1) [] low) (l.sheets_meet j x here.1 e');
+          omega (
+            arith,
+            ends_past h.instruction (take k h.postings) j x at e,
+            ap (λ xs. ends_of h.instruction xs) one,
+          ) in
+          rw (one, two, get_or-take n h.sheets (ends_of h.instruction (take j h.postings) + 1) [] low)
+          (l.sheets_meet j x here.1 e');
     }
 
 -- what a list of sheets says of an older version stays with more sheets
-pub prices_stay : (sheets : List (List ℕ)) (next : Option SheetParts) (v : ℕ) → v < length sheets → prices_at (sheets_with sheets next) v ≡ prices_at sheets v
+pub prices_stay : (sheets : List (List ℕ)) (next : Option SheetParts) (v : ℕ) → v < length sheets
+    → prices_at (sheets_with sheets next) v ≡ prices_at sheets v
 prices_stay sheets None v lt = refl
 prices_stay sheets (Some s) v lt = get_or_append_left sheets (s.prices ∷ []) [] v lt
 
 -- the next sheet, where there is one, is there as it should be
 record NextStands (h : HistoryParts) (x : Posting) (next : Option SheetParts) : Type 0 where
   number : length (sheets_with h.sheets next) ≡ ends_of h.instruction (h.postings ++ x ∷ []) + 1
-  meets : IsEnd h.instruction h.postings x → PricesMeet h.instruction (h.postings ++ x ∷ []) (prices_at (sheets_with h.sheets next) (ends_of h.instruction h.postings + 1))
+  meets : IsEnd h.instruction h.postings x
+      → PricesMeet h.instruction (h.postings ++ x ∷ [])
+      (prices_at (sheets_with h.sheets next) (ends_of h.instruction h.postings + 1))
 
-next_stands : (h : HistoryParts) (x : Posting) (next : Option SheetParts) → IsLawful h → IsNext h x next → NextStands h x next
+next_stands : (h : HistoryParts) (x : Posting) (next : Option SheetParts) → IsLawful h → IsNext h x next
+    → NextStands h x next
 next_stands h x None l n = record {
   number = l.sheets_number ∙ ap (λ k. k + 1) (sym (ends_without h.instruction h.postings x n));
   meets = λ e. absurd (n e);
 }
 next_stands h x (Some s) l n = record {
-  number = length_push h.sheets s.prices ∙ ap (λ k. k + 1) (l.sheets_number ∙ sym (ends_with_end h.instruction h.postings x n.0));
+  number = length_push h.sheets s.prices
+      ∙ ap (λ k. k + 1) (l.sheets_number ∙ sym (ends_with_end h.instruction h.postings x n.0));
   meets = λ e. rw (sym l.sheets_number, get_or_push h.sheets s.prices [] (length h.sheets) refl) n.1.prices_meet;
 }
 
-pub one_more : (h : HistoryParts) (x : Posting) (next : Option SheetParts) → IsLawful h → Follows h.instruction h.sheets h.postings x → IsNext h x next → IsLawful (history_with h x next)
+pub one_more : (h : HistoryParts) (x : Posting) (next : Option SheetParts) → IsLawful h
+    → Follows h.instruction h.sheets h.postings x → IsNext h x next → IsLawful (history_with h x next)
 one_more h x next l follows n =
     let i = h.instruction in
     let stands = next_stands h x next l n in
@@ -107,26 +126,39 @@ one_more h x next l follows n =
         | inl old ↦
             let w = version_within h k y l old.1 in
             rw (take-append-le k h.postings (x ∷ []) (omega (arith, old.0)))
-            (follows_same i h.sheets (sheets_with h.sheets next) (take k h.postings) y (prices_stay h.sheets next (planned_version y) w.1) (l.postings_follow k y old.1))
+            (follows_same i h.sheets (sheets_with h.sheets next) (take k h.postings) y
+            (prices_stay h.sheets next (planned_version y) w.1) (l.postings_follow k y old.1))
         | inr new ↦
             let w : planned_version x < length h.sheets = omega (arith, follows.version_in_force, l.sheets_number) in
-            let f : Follows i (sheets_with h.sheets next) h.postings x = follows_same i h.sheets (sheets_with h.sheets next) h.postings x (prices_stay h.sheets next (planned_version x) w) follows in
-            let g : Follows i (sheets_with h.sheets next) (take k h.postings) x = rw (take_all k h.postings (omega (arith, new.0))) f in
-            rw (take-append-le k h.postings (x ∷ []) (omega (arith, new.0))) (subst (λ y. Follows i (sheets_with h.sheets next) (take k h.postings) y) (sym new.1) g)
+            let f : Follows i (sheets_with h.sheets next) h.postings x =
+            follows_same i h.sheets (sheets_with h.sheets next) h.postings x
+            (prices_stay h.sheets next (planned_version x) w) follows in
+            let g : Follows i (sheets_with h.sheets next) (take k h.postings) x =
+            rw (take_all k h.postings (omega (arith, new.0))) f in
+            rw (take-append-le k h.postings (x ∷ []) (omega (arith, new.0)))
+            (subst (λ y. Follows i (sheets_with h.sheets next) (take k h.postings) y) (sym new.1) g)
       ];
       sheets_number = stands.number;
       base_sheet = prices_stay h.sheets next 0 (omega (arith, l.sheets_number)) ∙ l.base_sheet;
       sheets_meet = λ k y at e. elim (slice_get-push h.postings x y k at) [
         | inl old ↦
-            let before : take k (h.postings ++ x ∷ []) ≡ take k h.postings = take-append-le k h.postings (x ∷ []) (omega (arith, old.0)) in
-            let with_it : take (k + 1) (h.postings ++ x ∷ []) ≡ take (k + 1) h.postings = take-append-le (k + 1) h.postings (x ∷ []) (omega (arith, old.0)) in
+            let before : take k (h.postings ++ x ∷ []) ≡ take k h.postings =
+            take-append-le k h.postings (x ∷ []) (omega (arith, old.0)) in
+            let with_it : take (k + 1) (h.postings ++ x ∷ []) ≡ take (k + 1) h.postings =
+            take-append-le (k + 1) h.postings (x ∷ []) (omega (arith, old.0)) in
             let e' : IsEnd i (take k h.postings) y = subst (λ xs. IsEnd i xs y) before e in
-            let low : ends_of i (take k h.postings) + 1 < length h.sheets = omega (arith, l.sheets_number, ends_past i h.postings k y old.1 e') in
-            rw (before, with_it, prices_stay h.sheets next (ends_of i (take k h.postings) + 1) low) (l.sheets_meet k y old.1 e')
+            let low : ends_of i (take k h.postings) + 1 < length h.sheets =
+            omega (arith, l.sheets_number, ends_past i h.postings k y old.1 e') in
+            rw (before, with_it, prices_stay h.sheets next (ends_of i (take k h.postings) + 1) low)
+            (l.sheets_meet k y old.1 e')
         | inr new ↦
-            let before : take k (h.postings ++ x ∷ []) ≡ h.postings = take-append-le k h.postings (x ∷ []) (omega (arith, new.0)) ∙ take_all k h.postings (omega (arith, new.0)) in
-            let with_it : take (k + 1) (h.postings ++ x ∷ []) ≡ h.postings ++ x ∷ [] = take_all (k + 1) (h.postings ++ x ∷ []) (omega (arith, new.0, length_push h.postings x)) in
-            let e' : IsEnd i h.postings x = subst (λ z. IsEnd i h.postings z) new.1 (subst (λ xs. IsEnd i xs y) before e) in
+            let before : take k (h.postings ++ x ∷ []) ≡ h.postings =
+            take-append-le k h.postings (x ∷ []) (omega (arith, new.0))
+            ∙ take_all k h.postings (omega (arith, new.0)) in
+            let with_it : take (k + 1) (h.postings ++ x ∷ []) ≡ h.postings ++ x ∷ [] =
+            take_all (k + 1) (h.postings ++ x ∷ []) (omega (arith, new.0, length_push h.postings x)) in
+            let e' : IsEnd i h.postings x =
+            subst (λ z. IsEnd i h.postings z) new.1 (subst (λ xs. IsEnd i xs y) before e) in
             rw (before, with_it) (stands.meets e')
       ];
     }

@@ -12,7 +12,8 @@ use Rattle.buck_value.specs.declared.log.Log.{Log}
 use Rattle.buck_value.specs.Allowed.{class_of, class_in}
 
 -- the classes of an assortment come before those of a later one
-earlier : (xs : List AssortmentParts) (at later : ℕ) (a : AssortmentParts) → slice_get xs at ≡ Some a → at < later → later < length xs
+earlier : (xs : List AssortmentParts) (at later : ℕ) (a : AssortmentParts) → slice_get xs at ≡ Some a → at < later
+    → later < length xs
     → sum_by classes_of (take at xs) + classes_of a ≤ sum_by classes_of (take later xs)
 earlier xs at later a exists lt within =
     let shown : length (take later xs) ≡ later = length-take-le later xs (omega arith) in
@@ -21,28 +22,44 @@ earlier xs at later a exists lt within =
     rw (is, first) at (sum_by_more_le classes_of (take later xs) at a (omega arith))
 
 -- a class's place in its assortment
-pub inner_is : (i : InstructionParts) (c : Class) (k : IsClass i c) → index_of i c ≡ classes_before i c.assortment + (c.row * length k.assortment.lengths + c.column)
+pub inner_is : (i : InstructionParts) (c : Class) (k : IsClass i c)
+    → index_of i c ≡ classes_before i c.assortment + (c.row * length k.assortment.lengths + c.column)
 inner_is i c k = ap (λ o. classes_before i c.assortment + place_in o c.row c.column) k.exists
 
-pub inner_lt : (i : InstructionParts) (c : Class) (k : IsClass i c) → c.row * length k.assortment.lengths + c.column < classes_of k.assortment
-inner_lt i c k = rw (mul_comm (length k.assortment.diameters) (length k.assortment.lengths)) (mul-add-lt c.row (length k.assortment.lengths) c.column (length k.assortment.diameters) k.row k.column)
+pub inner_lt : (i : InstructionParts) (c : Class) (k : IsClass i c)
+    → c.row * length k.assortment.lengths + c.column < classes_of k.assortment
+inner_lt i c k =
+    rw (mul_comm (length k.assortment.diameters) (length k.assortment.lengths))
+    (mul-add-lt c.row (length k.assortment.lengths) c.column (length k.assortment.diameters) k.row k.column)
 
 -- a class of an earlier assortment has a lower place
-lower : (i : InstructionParts) (c d : Class) → IsClass i c → IsClass i d → c.assortment < d.assortment → index_of i c < index_of i d
+lower : (i : InstructionParts) (c d : Class) → IsClass i c → IsClass i d → c.assortment < d.assortment
+    → index_of i c < index_of i d
 lower i c d k l lt =
-    let within : d.assortment < length i.assortments = slice_get_within i.assortments d.assortment l.assortment l.exists in
-    omega (arith, inner_is i c k, inner_lt i c k, inner_is i d l, earlier i.assortments c.assortment d.assortment k.assortment k.exists lt within)
+    let within : d.assortment < length i.assortments =
+    slice_get_within i.assortments d.assortment l.assortment l.exists in
+    omega (
+      arith,
+      inner_is i c k,
+      inner_lt i c k,
+      inner_is i d l,
+      earlier i.assortments c.assortment d.assortment k.assortment k.exists lt within,
+    )
 
 class_same : (c d : Class) → c.assortment ≡ d.assortment → c.row ≡ d.row → c.column ≡ d.column → c ≡ d
 class_same c d a r o = λ j. record { assortment = a j; row = r j; column = o j }
 
-in_one : (i : InstructionParts) (c d : Class) (k : IsClass i c) (l : IsClass i d) → c.assortment ≡ d.assortment → index_of i c ≡ index_of i d → c ≡ d
+in_one : (i : InstructionParts) (c d : Class) (k : IsClass i c) (l : IsClass i d) → c.assortment ≡ d.assortment
+    → index_of i c ≡ index_of i d → c ≡ d
 in_one i c d k l same e =
-    let one : k.assortment ≡ l.assortment = same_Some k.assortment l.assortment (sym k.exists ∙ ap (λ a. slice_get i.assortments a) same ∙ l.exists) in
+    let one : k.assortment ≡ l.assortment =
+    same_Some k.assortment l.assortment (sym k.exists ∙ ap (λ a. slice_get i.assortments a) same ∙ l.exists) in
     let before : classes_before i c.assortment ≡ classes_before i d.assortment = ap (λ a. classes_before i a) same in
     let width : length k.assortment.lengths ≡ length l.assortment.lengths = ap (λ a. length a.lengths) one in
-    let inner : c.row * length k.assortment.lengths + c.column ≡ d.row * length l.assortment.lengths + d.column = omega (arith, inner_is i c k, inner_is i d l) in
-    let here : c.row * length l.assortment.lengths + c.column ≡ d.row * length l.assortment.lengths + d.column = rw width at inner in
+    let inner : c.row * length k.assortment.lengths + c.column ≡ d.row * length l.assortment.lengths + d.column =
+    omega (arith, inner_is i c k, inner_is i d l) in
+    let here : c.row * length l.assortment.lengths + c.column ≡ d.row * length l.assortment.lengths + d.column =
+    rw width at inner in
     let col : c.column < length l.assortment.lengths = rw width at k.column in
     let parts = same_from_place c.row c.column d.row d.column (length l.assortment.lengths) col l.column here in
     class_same c d same parts.0 parts.1
@@ -55,18 +72,23 @@ one_place i c d k l e = elim (cases_order c.assortment d.assortment) [
   | inr (inr gt) ↦ absurd (omega (arith, lower i d c l k gt))
 ]
 
-class_in_assortment : (o : Option AssortmentParts) (stem : StemParts) (g : Log) → (class_in o stem g).assortment ≡ g.assortment
+class_in_assortment : (o : Option AssortmentParts) (stem : StemParts) (g : Log)
+    → (class_in o stem g).assortment ≡ g.assortment
 class_in_assortment None stem g = refl
 class_in_assortment (Some a) stem g = refl
 
 -- a log's class is of its assortment
-pub class_of_assortment : (i : InstructionParts) (stem : StemParts) (g : Log) → (class_of i stem g).assortment ≡ g.assortment
+pub class_of_assortment : (i : InstructionParts) (stem : StemParts) (g : Log)
+    → (class_of i stem g).assortment ≡ g.assortment
 class_of_assortment i stem g = class_in_assortment (slice_get i.assortments g.assortment) stem g
 
 -- a class's place is below the number of classes
 pub place_lt : (i : InstructionParts) (c : Class) → IsClass i c → index_of i c < classes i
 place_lt i c k =
-    let within : c.assortment < length i.assortments = slice_get_within i.assortments c.assortment k.assortment k.exists in
-    let more : classes_before i c.assortment + classes_of (get_or i.assortments c.assortment k.assortment) ≤ classes i = sum_by_more_le classes_of i.assortments c.assortment k.assortment within in
-    let whole : classes_before i c.assortment + classes_of k.assortment ≤ classes i = rw (get_or_from_slice_get i.assortments c.assortment k.assortment k.assortment k.exists) at more in
+    let within : c.assortment < length i.assortments =
+    slice_get_within i.assortments c.assortment k.assortment k.exists in
+    let more : classes_before i c.assortment + classes_of (get_or i.assortments c.assortment k.assortment) ≤ classes i =
+    sum_by_more_le classes_of i.assortments c.assortment k.assortment within in
+    let whole : classes_before i c.assortment + classes_of k.assortment ≤ classes i =
+    rw (get_or_from_slice_get i.assortments c.assortment k.assortment k.assortment k.exists) at more in
     omega (arith, inner_is i c k, inner_lt i c k)

@@ -16,7 +16,8 @@ use Rattle.buck_book.proofs.Places.{one_place, place_lt, inner_is}
 use Rattle.buck_book.proofs.Standings.{one_assortment, standing_is}
 
 -- one class more
-pub met_more : (s : StandingsParts) (prices : List ℕ) (c : Class) (n : ℕ) (k : IsClass s.instruction c) → index_of s.instruction c ≡ n
+pub met_more : (s : StandingsParts) (prices : List ℕ) (c : Class) (n : ℕ) (k : IsClass s.instruction c)
+    → index_of s.instruction c ≡ n
     → Meets (standing_by s k.assortment c) (slice_index prices n)
     → AreMetBelow s prices n
     → AreMetBelow s prices (n + 1)
@@ -25,9 +26,11 @@ met_more s prices c n k place met below = λ d l lt. elim (cases_lt (index_of s.
   | inr new ↦ here d (one_place s.instruction c d k l (omega (arith, place))) l
 ]
   where
-    here : (d : Class) → c ≡ d → (l : IsClass s.instruction d) → Meets (standing_by s l.assortment d) (slice_index prices (index_of s.instruction d))
+    here : (d : Class) → c ≡ d → (l : IsClass s.instruction d)
+        → Meets (standing_by s l.assortment d) (slice_index prices (index_of s.instruction d))
     here d one =
-        subst (λ (x : Class). (l : IsClass s.instruction x) → Meets (standing_by s l.assortment x) (slice_index prices (index_of s.instruction x))) one
+        subst (λ (x : Class). (l : IsClass s.instruction x)
+        → Meets (standing_by s l.assortment x) (slice_index prices (index_of s.instruction x))) one
         (λ l.
         subst (λ q. Meets (standing_by s l.assortment c) (slice_index prices q)) (sym place)
         (subst (λ a. Meets (standing_by s a c) (slice_index prices n)) (one_assortment s.instruction c k l) met))
@@ -36,25 +39,34 @@ module _ (i : InstructionParts) (targets by_class by_assortment : List ℕ) (ps 
     (wanted : targets ≡ targets_of i ps) (counts : AreCounts i ps by_class by_assortment) where
   -- by running counts that are right, the prices of all classes keep the relation after the postings
   pub all_met : length prices ≡ classes i
-      → AreMetBelow (record { instruction = i; targets = targets; by_class = by_class; by_assortment = by_assortment }) prices (classes i)
+      → AreMetBelow (record { instruction = i; targets = targets; by_class = by_class; by_assortment = by_assortment })
+      prices (classes i)
       → PricesMeet i ps prices
   all_met all met = record {
     one_each = all;
     each_meets = λ c k.
-        subst (λ s. Meets s (slice_index prices (index_of i c))) (standing_is i targets by_class by_assortment ps c wanted counts k)
+        subst (λ s. Meets s (slice_index prices (index_of i c)))
+        (standing_is i targets by_class by_assortment ps c wanted counts k)
         (met c k (place_lt i c k));
   }
 
-  pub is_wrong : (at : ℕ) → IsFirstWrong (record { instruction = i; targets = targets; by_class = by_class; by_assortment = by_assortment }) prices at
+  pub is_wrong : (at : ℕ)
+      → IsFirstWrong (record { instruction = i; targets = targets; by_class = by_class; by_assortment = by_assortment })
+      prices at
       → IsWrongPrice i ps prices at
   is_wrong at w = record {
     class = w.class;
     exists = w.exists;
     place = w.place;
     wrong = λ m. w.wrong
-        (subst (λ q. Meets (standing_by (record { instruction = i; targets = targets; by_class = by_class; by_assortment = by_assortment }) w.exists.assortment w.class) (slice_index prices q)) w.place
-        (subst (λ s. Meets s (slice_index prices (index_of i w.class))) (sym (standing_is i targets by_class by_assortment ps w.class wanted counts w.exists)) m));
-    least = λ c k lt. subst (λ s. Meets s (slice_index prices (index_of i c))) (standing_is i targets by_class by_assortment ps c wanted counts k) (w.least c k lt);
+        (subst (λ q. Meets
+        (standing_by
+        (record { instruction = i; targets = targets; by_class = by_class; by_assortment = by_assortment })
+        w.exists.assortment w.class) (slice_index prices q)) w.place
+        (subst (λ s. Meets s (slice_index prices (index_of i w.class)))
+        (sym (standing_is i targets by_class by_assortment ps w.class wanted counts w.exists)) m));
+    least = λ c k lt. subst (λ s. Meets s (slice_index prices (index_of i c)))
+        (standing_is i targets by_class by_assortment ps c wanted counts k) (w.least c k lt);
   }
 
 -- what a fact about an option gives
@@ -70,10 +82,12 @@ weaken_none (Some x) f p = p
 pub record RowClass (i : InstructionParts) (a : AssortmentParts) (first : Class) (column : ℕ) : Type 0 where
   pub is_class : IsClass i (record { assortment = first.assortment; row = first.row; column = column })
   pub own : is_class.assortment ≡ a
-  pub place : index_of i (record { assortment = first.assortment; row = first.row; column = column }) ≡ index_of i first + column
+  pub place : index_of i (record { assortment = first.assortment; row = first.row; column = column })
+      ≡ index_of i first + column
   pub below : index_of i first + column < classes i
 
-pub in_row : (i : InstructionParts) (a : AssortmentParts) (first : Class) (column : ℕ) → IsClassOf i a first → first.column ≡ 0 → column < length a.lengths
+pub in_row : (i : InstructionParts) (a : AssortmentParts) (first : Class) (column : ℕ) → IsClassOf i a first
+    → first.column ≡ 0 → column < length a.lengths
     → RowClass i a first column
 in_row i a first column k start lt =
     let c : Class = record { assortment = first.assortment; row = first.row; column = column } in

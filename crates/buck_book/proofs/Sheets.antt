@@ -12,22 +12,26 @@ pub weaken_ok : {T E : Type 0} {P Q : T → Type 0} (r : Result T E) → ((x : T
 weaken_ok (Ok x) f p = f x p
 weaken_ok (Err e) f p = p
 
-pub length-sheets_from : (v : ℕ) (i : InstructionParts) (pss : List (List ℕ)) → length (sheets_from v i pss) ≡ length pss
+pub length-sheets_from : (v : ℕ) (i : InstructionParts) (pss : List (List ℕ))
+    → length (sheets_from v i pss) ≡ length pss
 length-sheets_from v i [] = refl
 length-sheets_from v i (ps ∷ pss) = ap suc (length-sheets_from (v + 1) i pss)
 
-pub get_or-sheets_from : (v : ℕ) (i : InstructionParts) (pss : List (List ℕ)) (k : ℕ) (d : SheetParts) → k < length pss → get_or (sheets_from v i pss) k d ≡ sheet_of (v + k) i (get_or pss k [])
+pub get_or-sheets_from : (v : ℕ) (i : InstructionParts) (pss : List (List ℕ)) (k : ℕ) (d : SheetParts) → k < length pss
+    → get_or (sheets_from v i pss) k d ≡ sheet_of (v + k) i (get_or pss k [])
 get_or-sheets_from v i [] k d lt = absurd (omega arith)
 get_or-sheets_from v i (ps ∷ pss) zero d lt = let e : v ≡ v + 0 = omega arith in ap (λ x. sheet_of x i ps) e
 get_or-sheets_from v i (ps ∷ pss) (suc k) d lt =
     let e : v + 1 + k ≡ v + suc k = omega arith in
     get_or-sheets_from (v + 1) i pss k d (omega arith) ∙ ap (λ x. sheet_of x i (get_or pss k [])) e
 
-pub sheets_from-append : (v : ℕ) (i : InstructionParts) (pss qss : List (List ℕ)) → sheets_from v i (pss ++ qss) ≡ sheets_from v i pss ++ sheets_from (v + length pss) i qss
+pub sheets_from-append : (v : ℕ) (i : InstructionParts) (pss qss : List (List ℕ))
+    → sheets_from v i (pss ++ qss) ≡ sheets_from v i pss ++ sheets_from (v + length pss) i qss
 sheets_from-append v i [] qss = let e : v ≡ v + 0 = omega arith in ap (λ x. sheets_from x i qss) e
 sheets_from-append v i (ps ∷ pss) qss =
     let e : v + 1 + length pss ≡ v + suc (length pss) = omega arith in
-    ap (λ xs. sheet_of v i ps ∷ xs) (sheets_from-append (v + 1) i pss qss ∙ ap (λ x. sheets_from (v + 1) i pss ++ sheets_from x i qss) e)
+    ap (λ xs. sheet_of v i ps ∷ xs)
+    (sheets_from-append (v + 1) i pss qss ∙ ap (λ x. sheets_from (v + 1) i pss ++ sheets_from x i qss) e)
 
 -- an instruction has at most 16,384 classes
 pub classes-le : (i : InstructionParts) → IsInstruction i → classes i ≤ 16384
@@ -37,4 +41,5 @@ classes-le i v =
     omega (arith, sum_by-le classes_of 1024 i.assortments each, v.assortments_number)
   where
     small : (a : AssortmentParts) → IsAssortment a → classes_of a ≤ 1024
-    small a w = let h : length a.diameters * length a.lengths ≤ 32 * length a.lengths = mul-le-mul_right (length a.lengths) w.rows.1 in omega (arith, w.columns)
+    small a w = let h : length a.diameters * length a.lengths ≤ 32 * length a.lengths =
+        mul-le-mul_right (length a.lengths) w.rows.1 in omega (arith, w.columns)

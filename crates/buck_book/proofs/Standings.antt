@@ -36,16 +36,22 @@ one_assortment i c k l = same_Some k.assortment l.assortment (sym k.exists ∙ l
 pub valid_of : (i : InstructionParts) (c : Class) → IsInstruction i → (k : IsClass i c) → IsAssortment k.assortment
 valid_of i c v k =
     let lt : c.assortment < length i.assortments = slice_get_within i.assortments c.assortment k.assortment k.exists in
-    subst IsAssortment (get_or_from_slice_get i.assortments c.assortment k.assortment k.assortment k.exists) (All-get_or IsAssortment i.assortments c.assortment k.assortment lt v.assortments_valid)
+    subst IsAssortment (get_or_from_slice_get i.assortments c.assortment k.assortment k.assortment k.exists)
+    (All-get_or IsAssortment i.assortments c.assortment k.assortment lt v.assortments_valid)
 
 -- how a class stands lies in range
-pub in_range : (i : InstructionParts) (c : Class) (targets : List ℕ) (count counts : ℕ) → IsInstruction i → AreTargets i targets → (k : IsClass i c) → count ≤ counts → counts ≤ 80000000
+pub in_range : (i : InstructionParts) (c : Class) (targets : List ℕ) (count counts : ℕ) → IsInstruction i
+    → AreTargets i targets → (k : IsClass i c) → count ≤ counts → counts ≤ 80000000
     → IsInRange (standing_at i k.assortment c targets count counts)
 in_range i c targets count counts v t k le low =
-    let there : c.assortment < length i.assortments = slice_get_within i.assortments c.assortment k.assortment k.exists in
-    let own : slice_index targets (classes_before i c.assortment + (c.row * length k.assortment.lengths + c.column)) ≤ targets_sum i k.assortment c.assortment targets =
-    target_within i c.assortment (c.row * length k.assortment.lengths + c.column) k.assortment targets t k.exists (inner_lt i c k) in
-    let own' : slice_index targets (index_of i c) ≤ targets_sum i k.assortment c.assortment targets = rw (inner_is i c k) own in
+    let there : c.assortment < length i.assortments =
+    slice_get_within i.assortments c.assortment k.assortment k.exists in
+    let own : slice_index targets (classes_before i c.assortment + (c.row * length k.assortment.lengths + c.column))
+    ≤ targets_sum i k.assortment c.assortment targets =
+    target_within i c.assortment (c.row * length k.assortment.lengths + c.column) k.assortment targets t k.exists
+    (inner_lt i c k) in
+    let own' : slice_index targets (index_of i c) ≤ targets_sum i k.assortment c.assortment targets =
+    rw (inner_is i c k) own in
     record {
       base = base_price-le i (index_of i c) v;
       limit = v.limit_range;
@@ -55,20 +61,35 @@ in_range i c targets count counts v t k le low =
       counts = low;
     }
 
-sum_same : (as_ : List AssortmentParts) → AllByRecursion IsAssortment as_ → sum_by (λ a. length a.prices) as_ ≡ sum_by classes_of as_
+sum_same : (as_ : List AssortmentParts) → AllByRecursion IsAssortment as_
+    → sum_by (λ a. length a.prices) as_ ≡ sum_by classes_of as_
 sum_same [] h = refl
-sum_same (a ∷ as_) h = omega (arith, h.0.prices_number, sum_same as_ h.1, sum_by-cons (λ a. length a.prices) a as_, sum_by-cons classes_of a as_)
+sum_same (a ∷ as_) h =
+    omega (
+      arith,
+      h.0.prices_number,
+      sum_same as_ h.1,
+      sum_by-cons (λ a. length a.prices) a as_,
+      sum_by-cons classes_of a as_,
+    )
 
 -- the base price of a class, by its place among all
-pub base_is : (i : InstructionParts) (c : Class) → IsInstruction i → (k : IsClass i c) → slice_index (base_prices i) (index_of i c) ≡ slice_index k.assortment.prices (c.row * length k.assortment.lengths + c.column)
+pub base_is : (i : InstructionParts) (c : Class) → IsInstruction i → (k : IsClass i c)
+    → slice_index (base_prices i) (index_of i c)
+    ≡ slice_index k.assortment.prices (c.row * length k.assortment.lengths + c.column)
 base_is i c v k =
     let lt : c.assortment < length i.assortments = slice_get_within i.assortments c.assortment k.assortment k.exists in
     let w : IsAssortment k.assortment = valid_of i c v k in
-    let here : k.assortment ≡ get_or i.assortments c.assortment k.assortment = sym (get_or_from_slice_get i.assortments c.assortment k.assortment k.assortment k.exists) in
+    let here : k.assortment ≡ get_or i.assortments c.assortment k.assortment =
+    sym (get_or_from_slice_get i.assortments c.assortment k.assortment k.assortment k.exists) in
     let before : classes_before i c.assortment ≡ length (flat_map (λ a. a.prices) (take c.assortment i.assortments)) =
-    sym (length-flat_map (λ a. a.prices) (take c.assortment i.assortments) ∙ sum_same (take c.assortment i.assortments) (recursion_from_All IsAssortment (take c.assortment i.assortments) (All-take IsAssortment c.assortment i.assortments v.assortments_valid))) in
+    sym (length-flat_map (λ a. a.prices) (take c.assortment i.assortments)
+    ∙ sum_same (take c.assortment i.assortments)
+    (recursion_from_All IsAssortment (take c.assortment i.assortments)
+    (All-take IsAssortment c.assortment i.assortments v.assortments_valid))) in
     ap (λ x. slice_index (base_prices i) x) (inner_is i c k)
-    ∙ base_at i c.assortment (c.row * length k.assortment.lengths + c.column) (classes_before i c.assortment) k.assortment lt here before (omega (arith, w.prices_number, inner_lt i c k))
+    ∙ base_at i c.assortment (c.row * length k.assortment.lengths + c.column) (classes_before i c.assortment)
+    k.assortment lt here before (omega (arith, w.prices_number, inner_lt i c k))
 
 -- a price in the relation lies within the span
 pub meets_within : (s : Standing) (price : ℕ) → Meets s price → IsInSpan s.limit s.base price
@@ -79,18 +100,21 @@ meets_within s price m = elim (cases_order (cut_share s) (wanted_share s)) [
 ]
 
 -- one price more
-pub priced_more : {F : Type 0} (g : Shared F (Bor Standing × Unit {0}) ℕ) (f : F) (s : StandingsParts) (prices : List ℕ) (c : Class) (price : ℕ)
+pub priced_more : {F : Type 0} (g : Shared F (Bor Standing × Unit {0}) ℕ) (f : F) (s : StandingsParts) (prices : List ℕ)
+    (c : Class) (price : ℕ)
     → (k : IsClass s.instruction c) → length prices ≡ index_of s.instruction c
     → IsAnswer g f (standing_by s k.assortment c) price
     → ArePriced g f s prices
     → ArePriced g f s (prices ++ price ∷ [])
 priced_more g f s prices c price k next answer priced =
     let i = s.instruction in
-    let last : get_or (prices ++ price ∷ []) (index_of i c) 0 ≡ price = get_or_push prices price 0 (index_of i c) next in
+    let last : get_or (prices ++ price ∷ []) (index_of i c) 0 ≡ price =
+    get_or_push prices price 0 (index_of i c) next in
     record {
       answered = λ d l lt. elim (cases_lt (index_of i d) (length prices)) [
         | inl old ↦
-            subst (λ p. IsAnswer g f (standing_by s l.assortment d) p) (sym (get_or_append_left prices (price ∷ []) 0 (index_of i d) old))
+            subst (λ p. IsAnswer g f (standing_by s l.assortment d) p)
+            (sym (get_or_append_left prices (price ∷ []) 0 (index_of i d) old))
             (priced.answered d l old)
         | inr new ↦
             let same : index_of i c ≡ index_of i d = omega (arith, length_push prices price) in
@@ -98,19 +122,27 @@ priced_more g f s prices c price k next answer priced =
             at_last d one l
       ];
       in_span = λ j lt. elim (cases_lt j (length prices)) [
-        | inl old ↦ subst (λ p. IsInSpan i.limit (slice_index (base_prices i) j) p) (sym (get_or_append_left prices (price ∷ []) 0 j old)) (priced.in_span j old)
+        | inl old ↦
+            subst (λ p. IsInSpan i.limit (slice_index (base_prices i) j) p)
+            (sym (get_or_append_left prices (price ∷ []) 0 j old)) (priced.in_span j old)
         | inr new ↦
             let same : index_of i c ≡ j = omega (arith, length_push prices price) in
-            let here : IsInSpan i.limit (slice_index (base_prices i) (index_of i c)) price = meets_within (standing_by s k.assortment c) price answer.met in
-            subst (λ x. IsPriceAt i (prices ++ price ∷ []) x) same (subst (λ p. IsInSpan i.limit (slice_index (base_prices i) (index_of i c)) p) (sym last) here)
+            let here : IsInSpan i.limit (slice_index (base_prices i) (index_of i c)) price =
+            meets_within (standing_by s k.assortment c) price answer.met in
+            subst (λ x. IsPriceAt i (prices ++ price ∷ []) x) same
+            (subst (λ p. IsInSpan i.limit (slice_index (base_prices i) (index_of i c)) p) (sym last) here)
       ];
     }
   where
-    at_last : (d : Class) → c ≡ d → (l : IsClass s.instruction d) → IsAnswer g f (standing_by s l.assortment d) (slice_index (prices ++ price ∷ []) (index_of s.instruction d))
+    at_last : (d : Class) → c ≡ d → (l : IsClass s.instruction d)
+        → IsAnswer g f (standing_by s l.assortment d) (slice_index (prices ++ price ∷ []) (index_of s.instruction d))
     at_last d one =
-        subst (λ (x : Class). (l : IsClass s.instruction x) → IsAnswer g f (standing_by s l.assortment x) (slice_index (prices ++ price ∷ []) (index_of s.instruction x))) one
+        subst (λ (x : Class). (l : IsClass s.instruction x)
+        → IsAnswer g f (standing_by s l.assortment x)
+        (slice_index (prices ++ price ∷ []) (index_of s.instruction x))) one
         (λ l.
-        subst (λ p. IsAnswer g f (standing_by s l.assortment c) p) (sym (get_or_push prices price 0 (index_of s.instruction c) next))
+        subst (λ p. IsAnswer g f (standing_by s l.assortment c) p)
+        (sym (get_or_push prices price 0 (index_of s.instruction c) next))
         (subst (λ a. IsAnswer g f (standing_by s a c) price) (one_assortment s.instruction c k l) answer))
 
 -- a price in the relation is at most twice the greatest base price
@@ -134,7 +166,8 @@ before_next i a at exists =
 
 -- a class has a target and a count of its own, and so has its assortment a count
 pub has_counts : (s : StandingsParts) (a : AssortmentParts) (c : Class) → IsClassOf s.instruction a c → CanPrice s
-    → (index_of s.instruction c < length s.by_class) × (c.assortment < length s.by_assortment) × (index_of s.instruction c < length s.targets)
+    → (index_of s.instruction c < length s.by_class) × (c.assortment < length s.by_assortment)
+    × (index_of s.instruction c < length s.targets)
 has_counts s a c k can = (
   omega (arith, place_lt s.instruction c (class_in s.instruction a c k), can.classes_number),
   omega (arith, slice_get_within s.instruction.assortments c.assortment a k.exists, can.assortments_number),
@@ -149,43 +182,56 @@ pub stands_by : (s : StandingsParts) (a : AssortmentParts) (c : Class) (base lim
     → targets ≡ targets_sum s.instruction a c.assortment s.targets
     → count ≡ slice_index s.by_class (index_of s.instruction c)
     → counts ≡ slice_index s.by_assortment c.assortment
-    → record { base = base; limit = limit; target = target; targets = targets; count = count; counts = counts } ≡ standing_by s a c
+    → record { base = base; limit = limit; target = target; targets = targets; count = count; counts = counts }
+    ≡ standing_by s a c
 stands_by s a c base limit target targets count counts b l t ts n ns =
     λ j. record { base = b j; limit = l j; target = t j; targets = ts j; count = n j; counts = ns j }
 
 -- by running counts that can be a history's, a class stands in range
-pub stands_in_range : (s : StandingsParts) (a : AssortmentParts) (c : Class) → IsClassOf s.instruction a c → CanPrice s → IsInRange (standing_by s a c)
+pub stands_in_range : (s : StandingsParts) (a : AssortmentParts) (c : Class) → IsClassOf s.instruction a c → CanPrice s
+    → IsInRange (standing_by s a c)
 stands_in_range s a c k can =
     let i = s.instruction in
     let l = class_in i a c k in
-    in_range i c s.targets (slice_index s.by_class (index_of i c)) (slice_index s.by_assortment c.assortment) can.valid can.targets l (can.class_within c l) (can.bounded c.assortment)
+    in_range i c s.targets (slice_index s.by_class (index_of i c)) (slice_index s.by_assortment c.assortment)
+    can.valid can.targets l (can.class_within c l) (can.bounded c.assortment)
 
 -- by running counts that are right, a class stands as it does after the postings
-pub standing_is : (i : InstructionParts) (targets by_class by_assortment : List ℕ) (ps : List Posting) (c : Class) → targets ≡ targets_of i ps → AreCounts i ps by_class by_assortment → (k : IsClass i c)
-    → standing_at i k.assortment c targets (slice_index by_class (index_of i c)) (slice_index by_assortment c.assortment) ≡ standing_of i k.assortment c ps
+pub standing_is : (i : InstructionParts) (targets by_class by_assortment : List ℕ) (ps : List Posting) (c : Class)
+    → targets ≡ targets_of i ps → AreCounts i ps by_class by_assortment → (k : IsClass i c)
+    → standing_at i k.assortment c targets (slice_index by_class (index_of i c))
+    (slice_index by_assortment c.assortment) ≡ standing_of i k.assortment c ps
 standing_is i targets by_class by_assortment ps c wanted counts k =
-    let there : c.assortment < length i.assortments = slice_get_within i.assortments c.assortment k.assortment k.exists in
+    let there : c.assortment < length i.assortments =
+    slice_get_within i.assortments c.assortment k.assortment k.exists in
     let own = counts.classes.each c k in
     let all = counts.assortment_counts c.assortment there in
     λ j. standing_at i k.assortment c (wanted j) (own j) (all j)
 
-module _ {F : Type 0} (g : Shared F (Bor Standing × Unit {0}) ℕ) (f : F) (i : InstructionParts) (targets by_class by_assortment : List ℕ) (ps : List Posting) (prices : List ℕ)
-    (wanted : targets ≡ targets_of i ps) (counts : AreCounts i ps by_class by_assortment) (all : length prices ≡ classes i)
-    (priced : ArePriced g f (record { instruction = i; targets = targets; by_class = by_class; by_assortment = by_assortment }) prices) where
-  pub prices_meet : PricesMeet i ps prices
-  prices_meet = record {
-    one_each = all;
-    each_meets = λ c k.
-        subst (λ s. Meets s (slice_index prices (index_of i c))) (standing_is i targets by_class by_assortment ps c wanted counts k)
-        (priced.answered c k (omega (arith, place_lt i c k))).met;
-  }
+module _ {F : Type 0} (g : Shared F (Bor Standing × Unit {0}) ℕ) (f : F) (i : InstructionParts)
+    (targets by_class by_assortment : List ℕ) (ps : List Posting) (prices : List ℕ)
+    (wanted : targets ≡ targets_of i ps) (counts : AreCounts i ps by_class by_assortment)
+    (all : length prices ≡ classes i)
+    (priced : ArePriced g f
+    (record { instruction = i; targets = targets; by_class = by_class; by_assortment = by_assortment }) prices)
+  where
+    pub prices_meet : PricesMeet i ps prices
+    prices_meet = record {
+      one_each = all;
+      each_meets = λ c k.
+          subst (λ s. Meets s (slice_index prices (index_of i c)))
+          (standing_is i targets by_class by_assortment ps c wanted counts k)
+          (priced.answered c k (omega (arith, place_lt i c k))).met;
+    }
 
-  pub are_answers : AreAnswers g f i ps prices
-  are_answers = λ c k.
-      subst (λ s. FnReturnsAt g f s (slice_index prices (index_of i c))) (standing_is i targets by_class by_assortment ps c wanted counts k)
-      (priced.answered c k (omega (arith, place_lt i c k))).given
+    pub are_answers : AreAnswers g f i ps prices
+    are_answers = λ c k.
+        subst (λ s. FnReturnsAt g f s (slice_index prices (index_of i c)))
+        (standing_is i targets by_class by_assortment ps c wanted counts k)
+        (priced.answered c k (omega (arith, place_lt i c k))).given
 
 -- prices within their spans, one for each class, make a sheet
-pub no_fault : (i : InstructionParts) (prices : List ℕ) (fault : SheetFault) → length prices ≡ classes i → ((k : ℕ) → k < length prices → IsPriceAt i prices k) → IsSheetFault i prices fault → ⊥
+pub no_fault : (i : InstructionParts) (prices : List ℕ) (fault : SheetFault) → length prices ≡ classes i
+    → ((k : ℕ) → k < length prices → IsPriceAt i prices k) → IsSheetFault i prices fault → ⊥
 no_fault i prices Count all inside e = e all
 no_fault i prices (Price at) all inside e = e.2 (inside at e.1)

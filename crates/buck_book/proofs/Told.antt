@@ -17,7 +17,8 @@ use Rattle.buck_book.proofs.Counting.{counts_more, counts_stay, low_more, can_pr
 use Rattle.buck_book.proofs.Ends.{ends-append, cuts-append, targets-append, ends-le, cuts_low}
 
 -- a looser bound
-at_most : (most more : ℕ) (by_class by_assortment : List ℕ) → most ≤ more → AreAtMost most by_class by_assortment → AreAtMost more by_class by_assortment
+at_most : (most more : ℕ) (by_class by_assortment : List ℕ) → most ≤ more → AreAtMost most by_class by_assortment
+    → AreAtMost more by_class by_assortment
 at_most most more by_class by_assortment le low = record {
   class_counts = λ j. omega (arith, low.class_counts j);
   assortment_counts = λ j. omega (arith, low.assortment_counts j);
@@ -28,47 +29,79 @@ module _ (i : InstructionParts) (ps : List Posting) (n : RunningParts) (t : Tell
   version_low = omega (arith, t.version_is, ends-le i.period 0 ps, t.few)
 
   pub cuts_few : n.cuts < 1000
-  cuts_few = omega (arith, t.cuts_are, cuts_low i.period 0 ps t.valid.period_range.0 t.valid.period_range.0, t.valid.period_range.1)
+  cuts_few =
+      omega (
+        arith,
+        t.cuts_are,
+        cuts_low i.period 0 ps t.valid.period_range.0 t.valid.period_range.0,
+        t.valid.period_range.1,
+      )
 
   pub counts_fit : AreAtMost 80000000 n.by_class n.by_assortment
   counts_fit = at_most (80 * length ps) 80000000 n.by_class n.by_assortment (omega (arith, t.few)) t.counts_low
 
-  pub prices_can : CanPrice (record { instruction = i; targets = n.targets; by_class = n.by_class; by_assortment = n.by_assortment })
+  pub prices_can : CanPrice
+      (record { instruction = i; targets = n.targets; by_class = n.by_class; by_assortment = n.by_assortment })
   prices_can = can_price i n.targets ps n.by_class n.by_assortment t.valid t.targets_valid t.counts_are counts_fit
 
   module _ (x : Posting) (few : length ps < 1000000) where
     few_then : length (ps ++ x ∷ []) ≤ 1000000
     few_then = omega (arith, few, length_push ps x)
 
-    low_then : (by_class by_assortment : List ℕ) → AreAtMost (80 * length ps + 80) by_class by_assortment → AreAtMost (80 * length (ps ++ x ∷ [])) by_class by_assortment
-    low_then by_class by_assortment low = at_most (80 * length ps + 80) (80 * length (ps ++ x ∷ [])) by_class by_assortment (omega (arith, length_push ps x)) low
+    low_then : (by_class by_assortment : List ℕ) → AreAtMost (80 * length ps + 80) by_class by_assortment
+        → AreAtMost (80 * length (ps ++ x ∷ [])) by_class by_assortment
+    low_then by_class by_assortment low =
+        at_most (80 * length ps + 80) (80 * length (ps ++ x ∷ [])) by_class by_assortment
+        (omega (arith, length_push ps x)) low
 
   pub tells_cut : (e : EntryParts) (by_class' by_assortment' : List ℕ) (cuts' version' : ℕ)
       → length ps < 1000000 → IsStem e.stem → IsCutFrom (IsAllowed i e.stem) (end_of i) 0 e.logs
       → AreGrown n.by_class (tally_of i e.stem e.logs) by_class' → AreGrownBy n.by_assortment e.logs by_assortment'
       → cuts' ≡ cond (n.cuts + 1 == i.period) 0 (n.cuts + 1)
       → version' ≡ n.version + cond (n.cuts + 1 == i.period) 1 0
-      → Tells i (ps ++ Cut e ∷ []) (record { targets = n.targets; cuts = cuts'; version = version'; by_class = by_class'; by_assortment = by_assortment' })
+      → Tells i (ps ++ Cut e ∷ [])
+      (record {
+        targets = n.targets;
+        cuts = cuts';
+        version = version';
+        by_class = by_class';
+        by_assortment =
+            by_assortment';
+      })
   tells_cut e by_class' by_assortment' cuts' version' few s cut classes_grown assortments_grown cut_is ended =
       let x : Posting = Cut e in
       let logs : length e.logs ≤ 80 = few_logs i e.stem e.logs t.valid s cut in
-      let places : length (tally_of i e.stem e.logs) ≤ 80 = omega (arith, logs, length-map e.logs (λ g. index_of i (class_of i e.stem g))) in
+      let places : length (tally_of i e.stem e.logs) ≤ 80 =
+      omega (arith, logs, length-map e.logs (λ g. index_of i (class_of i e.stem g))) in
       record {
         valid = t.valid;
         few = few_then x few;
         targets_are = t.targets_are ∙ sym (targets-append (opening_targets i) ps (x ∷ []));
         targets_valid = t.targets_valid;
-        cuts_are = cut_is ∙ ap (λ c. cond (c + 1 == i.period) 0 (c + 1)) t.cuts_are ∙ sym (cuts-append i.period 0 ps (x ∷ []));
-        version_is = ended ∙ (λ j. t.version_is j + cond (t.cuts_are j + 1 == i.period) 1 0) ∙ sym (ends-append i.period 0 ps (x ∷ []));
-        counts_are = counts_more i ps e n.by_class n.by_assortment (tally_of i e.stem e.logs) by_class' by_assortment' t.valid cut t.counts_are refl classes_grown assortments_grown;
+        cuts_are = cut_is ∙ ap (λ c. cond (c + 1 == i.period) 0 (c + 1)) t.cuts_are
+            ∙ sym (cuts-append i.period 0 ps (x ∷ []));
+        version_is = ended ∙ (λ j. t.version_is j + cond (t.cuts_are j + 1 == i.period) 1 0)
+            ∙ sym (ends-append i.period 0 ps (x ∷ []));
+        counts_are =
+            counts_more i ps e n.by_class n.by_assortment (tally_of i e.stem e.logs)
+            by_class' by_assortment' t.valid cut t.counts_are refl classes_grown assortments_grown;
         counts_low =
             low_then x few by_class' by_assortment'
-            (low_more (80 * length ps) 80 n.by_class n.by_assortment (tally_of i e.stem e.logs) by_class' by_assortment' e.logs t.counts_low places logs classes_grown assortments_grown);
+            (low_more (80 * length ps) 80 n.by_class n.by_assortment (tally_of i e.stem e.logs)
+            by_class' by_assortment' e.logs t.counts_low places logs classes_grown assortments_grown);
       }
 
   pub tells_demand : (d : DemandParts) (targets' : List ℕ) (version' : ℕ)
       → length ps < 1000000 → AreTargets i d.targets → d.targets ≡ targets' → version' ≡ n.version + 1
-      → Tells i (ps ++ Demand d ∷ []) (record { targets = targets'; cuts = 0; version = version'; by_class = n.by_class; by_assortment = n.by_assortment })
+      → Tells i (ps ++ Demand d ∷ [])
+      (record {
+        targets = targets';
+        cuts = 0;
+        version = version';
+        by_class = n.by_class;
+        by_assortment =
+            n.by_assortment;
+      })
   tells_demand d targets' version' few valid same ended =
       let x : Posting = Demand d in
       record {
@@ -79,14 +112,17 @@ module _ (i : InstructionParts) (ps : List Posting) (n : RunningParts) (t : Tell
         cuts_are = sym (cuts-append i.period 0 ps (x ∷ []));
         version_is = ended ∙ ap (λ v. v + 1) t.version_is ∙ sym (ends-append i.period 0 ps (x ∷ []));
         counts_are = counts_stay i ps d n.by_class n.by_assortment t.counts_are;
-        counts_low = low_then x few n.by_class n.by_assortment (at_most (80 * length ps) (80 * length ps + 80) n.by_class n.by_assortment (omega arith) t.counts_low);
+        counts_low =
+            low_then x few n.by_class n.by_assortment
+            (at_most (80 * length ps) (80 * length ps + 80) n.by_class n.by_assortment (omega arith) t.counts_low);
       }
 
 -- before the first posting
 pub tells_opening : (i : InstructionParts) (targets by_class by_assortment : List ℕ)
     → IsInstruction i → targets ≡ opening_targets i → AreTargets i targets
     → AreCounts i [] by_class by_assortment → AreAtMost 0 by_class by_assortment
-    → Tells i [] (record { targets = targets; cuts = 0; version = 0; by_class = by_class; by_assortment = by_assortment })
+    → Tells i []
+    (record { targets = targets; cuts = 0; version = 0; by_class = by_class; by_assortment = by_assortment })
 tells_opening i targets by_class by_assortment v wanted valid counts low = record {
   valid = v;
   few = omega arith;

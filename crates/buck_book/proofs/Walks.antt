@@ -11,14 +11,16 @@ use Rattle.buck_book.specs.inner.Running.{RunningParts, Tells, GoesOn, IsAfter}
 use Rattle.buck_book.specs.inner.Walk.{IsWalk}
 use Rattle.buck_book.proofs.Ends.{take_one_more}
 
-module _ (w : WalkParts) (n : RunningParts) (calls : ℕ → ℕ) (x : Posting) (k : IsWalk w n calls) (there : slice_get w.postings w.at ≡ Some x) where
+module _ (w : WalkParts) (n : RunningParts) (calls : ℕ → ℕ) (x : Posting) (k : IsWalk w n calls)
+    (there : slice_get w.postings w.at ≡ Some x) where
   few : length (passed w) < 1000000
   few = omega (arith, k.few, slice_get_within w.postings w.at x there, length-take-le w.at w.postings k.within)
 
   pub walk_goes_on : GoesOn w.instruction n
   walk_goes_on = (passed w, few, k.tells)
 
-  pub walk_more : (n' : RunningParts) (calls' : ℕ → ℕ) → IsAfter w.instruction n x n' → ((h : ℕ) → calls' h ≡ calls h + cond (harvester_of x == h) 1 0)
+  pub walk_more : (n' : RunningParts) (calls' : ℕ → ℕ) → IsAfter w.instruction n x n'
+      → ((h : ℕ) → calls' h ≡ calls h + cond (harvester_of x == h) 1 0)
       → IsWalk (walk_of w.instruction w.postings (w.at + 1)) n' calls'
   walk_more n' calls' told called =
       let longer : take (w.at + 1) w.postings ≡ passed w ++ x ∷ [] = take_one_more w.postings w.at x there in
@@ -28,5 +30,6 @@ module _ (w : WalkParts) (n : RunningParts) (calls : ℕ → ℕ) (x : Posting) 
         tells = subst (λ xs. Tells w.instruction xs n') (sym longer) (told (passed w) few k.tells);
         calls_are = λ h.
             called h ∙ ap (λ m. m + cond (harvester_of x == h) 1 0) (k.calls_are h)
-            ∙ sym (sum_by_push (λ y. cond (harvester_of y == h) 1 0) (passed w) x) ∙ ap (λ xs. calls_of h xs) (sym longer);
+            ∙ sym (sum_by_push (λ y. cond (harvester_of y == h) 1 0) (passed w) x)
+            ∙ ap (λ xs. calls_of h xs) (sym longer);
       }

@@ -11,13 +11,23 @@ use Rattle.buck_apt.specs.Instruction.{InstructionParts, AssortmentParts, IsInst
 use Rattle.buck_book.specs.Posting.{opening_targets}
 use Rattle.buck_book.specs.Targets.{AreTargets, IsLowSumAt, targets_sum}
 
-sum_same : (as_ : List AssortmentParts) → AllByRecursion IsAssortment as_ → sum_by (λ a. length a.targets) as_ ≡ sum_by classes_of as_
+sum_same : (as_ : List AssortmentParts) → AllByRecursion IsAssortment as_
+    → sum_by (λ a. length a.targets) as_ ≡ sum_by classes_of as_
 sum_same [] h = refl
-sum_same (a ∷ as_) h = omega (arith, h.0.targets_number, sum_same as_ h.1, sum_by-cons (λ a. length a.targets) a as_, sum_by-cons classes_of a as_)
+sum_same (a ∷ as_) h =
+    omega (
+      arith,
+      h.0.targets_number,
+      sum_same as_ h.1,
+      sum_by-cons (λ a. length a.targets) a as_,
+      sum_by-cons classes_of a as_,
+    )
 
-all_low : (as_ : List AssortmentParts) → AllByRecursion IsAssortment as_ → All (λ t. t ≤ 1000000) (flat_map (λ a. a.targets) as_)
+all_low : (as_ : List AssortmentParts) → AllByRecursion IsAssortment as_
+    → All (λ t. t ≤ 1000000) (flat_map (λ a. a.targets) as_)
 all_low [] h = λ k d lt. absurd (omega arith)
-all_low (a ∷ as_) h = All-append (λ t. t ≤ 1000000) a.targets (flat_map (λ a. a.targets) as_) h.0.targets_range (all_low as_ h.1)
+all_low (a ∷ as_) h =
+    All-append (λ t. t ≤ 1000000) a.targets (flat_map (λ a. a.targets) as_) h.0.targets_range (all_low as_ h.1)
 
 drop_past : (xs ys : List ℕ) (m : ℕ) → drop (length xs + m) (xs ++ ys) ≡ drop m ys
 drop_past [] ys m = ap (λ n. drop n ys) (let e : 0 + m ≡ m = omega arith in e)
@@ -26,28 +36,36 @@ drop_past (x ∷ xs) ys m =
     ap (λ n. drop n (x ∷ (xs ++ ys))) e ∙ drop_past xs ys m
 
 -- an assortment's part of the targets of all
-pub part_of : (as_ : List AssortmentParts) (at : ℕ) (a : AssortmentParts) → AllByRecursion IsAssortment as_ → slice_get as_ at ≡ Some a
+pub part_of : (as_ : List AssortmentParts) (at : ℕ) (a : AssortmentParts) → AllByRecursion IsAssortment as_
+    → slice_get as_ at ≡ Some a
     → take (classes_of a) (drop (sum_by classes_of (take at as_)) (flat_map (λ x. x.targets) as_)) ≡ a.targets
 part_of [] at a h e = absurd (none-some a e)
 part_of (b ∷ as_) zero a h e =
     let same : b ≡ a = same_Some b a e in
     let number : classes_of a ≡ length b.targets = ap classes_of (sym same) ∙ sym h.0.targets_number in
     let whole : take (classes_of a) (b.targets ++ flat_map (λ x. x.targets) as_) ≡ b.targets =
-    take-append-le (classes_of a) b.targets (flat_map (λ x. x.targets) as_) (omega (arith, number)) ∙ take_all (classes_of a) b.targets (omega (arith, number)) in
+    take-append-le (classes_of a) b.targets (flat_map (λ x. x.targets) as_) (omega (arith, number))
+    ∙ take_all (classes_of a) b.targets (omega (arith, number)) in
     whole ∙ ap (λ x. x.targets) same
 part_of (b ∷ as_) (suc at) a h e =
-    let before : sum_by classes_of (b ∷ take at as_) ≡ length b.targets + sum_by classes_of (take at as_) = sum_by-cons classes_of b (take at as_) ∙ ap (λ n. n + sum_by classes_of (take at as_)) (sym h.0.targets_number) in
+    let before : sum_by classes_of (b ∷ take at as_) ≡ length b.targets + sum_by classes_of (take at as_) =
+    sum_by-cons classes_of b (take at as_)
+    ∙ ap (λ n. n + sum_by classes_of (take at as_)) (sym h.0.targets_number) in
     ap (λ n. take (classes_of a) (drop n (b.targets ++ flat_map (λ x. x.targets) as_))) before
-    ∙ ap (λ xs. take (classes_of a) xs) (drop_past b.targets (flat_map (λ x. x.targets) as_) (sum_by classes_of (take at as_)))
+    ∙ ap (λ xs. take (classes_of a) xs)
+    (drop_past b.targets (flat_map (λ x. x.targets) as_) (sum_by classes_of (take at as_)))
     ∙ part_of as_ at a h.1 e
 
-valid_at : (i : InstructionParts) (at : ℕ) (a : AssortmentParts) → IsInstruction i → slice_get i.assortments at ≡ Some a → IsAssortment a
+valid_at : (i : InstructionParts) (at : ℕ) (a : AssortmentParts) → IsInstruction i → slice_get i.assortments at ≡ Some a
+    → IsAssortment a
 valid_at i at a v e =
-    subst IsAssortment (get_or_from_slice_get i.assortments at a a e) (All-get_or IsAssortment i.assortments at a (slice_get_within i.assortments at a e) v.assortments_valid)
+    subst IsAssortment (get_or_from_slice_get i.assortments at a a e)
+    (All-get_or IsAssortment i.assortments at a (slice_get_within i.assortments at a e) v.assortments_valid)
 
 pub opening_valid : (i : InstructionParts) → IsInstruction i → AreTargets i (opening_targets i)
 opening_valid i v =
-    let h : AllByRecursion IsAssortment i.assortments = recursion_from_All IsAssortment i.assortments v.assortments_valid in
+    let h : AllByRecursion IsAssortment i.assortments =
+    recursion_from_All IsAssortment i.assortments v.assortments_valid in
     record {
       one_each = length-flat_map (λ a. a.targets) i.assortments ∙ sum_same i.assortments h;
       low = λ k lt. all_low i.assortments h k 0 lt;
@@ -55,20 +73,24 @@ opening_valid i v =
     }
 
 -- where an assortment's classes end
-pub part_within : (i : InstructionParts) (at : ℕ) (a : AssortmentParts) → slice_get i.assortments at ≡ Some a → classes_before i at + classes_of a ≤ classes i
+pub part_within : (i : InstructionParts) (at : ℕ) (a : AssortmentParts) → slice_get i.assortments at ≡ Some a
+    → classes_before i at + classes_of a ≤ classes i
 part_within i at a e =
-    let more : classes_before i at + classes_of (get_or i.assortments at a) ≤ classes i = sum_by_more_le classes_of i.assortments at a (slice_get_within i.assortments at a e) in
+    let more : classes_before i at + classes_of (get_or i.assortments at a) ≤ classes i =
+    sum_by_more_le classes_of i.assortments at a (slice_get_within i.assortments at a e) in
     rw (get_or_from_slice_get i.assortments at a a e) at more
 
 -- a class's target is a part of what is wanted of its assortment
-pub target_within : (i : InstructionParts) (at j : ℕ) (a : AssortmentParts) (ts : List ℕ) → AreTargets i ts → slice_get i.assortments at ≡ Some a → j < classes_of a
+pub target_within : (i : InstructionParts) (at j : ℕ) (a : AssortmentParts) (ts : List ℕ) → AreTargets i ts
+    → slice_get i.assortments at ≡ Some a → j < classes_of a
     → slice_index ts (classes_before i at + j) ≤ targets_sum i a at ts
 target_within i at j a ts valid e lt =
     let part : List ℕ = drop (classes_before i at) ts in
     let number : length part ≡ length ts - classes_before i at = length-drop (classes_before i at) ts in
     let room : classes_of a ≤ length part = omega (arith, valid.one_each, part_within i at a e) in
     let shown : length (take (classes_of a) part) ≡ classes_of a = length-take-le (classes_of a) part room in
-    let is : get_or (take (classes_of a) part) j 0 ≡ get_or ts (classes_before i at + j) 0 = get_or-take (classes_of a) part j 0 lt ∙ get_or-drop (classes_before i at) ts j 0 in
+    let is : get_or (take (classes_of a) part) j 0 ≡ get_or ts (classes_before i at + j) 0 =
+    get_or-take (classes_of a) part j 0 lt ∙ get_or-drop (classes_before i at) ts j 0 in
     omega (arith, is, get_or-le-sum_by (λ x. x) (take (classes_of a) part) j 0 (omega arith))
 
 pub target_low : (i : InstructionParts) (k : ℕ) (ts : List ℕ) → AreTargets i ts → slice_index ts k ≤ 1000000
@@ -78,12 +100,14 @@ target_low i k ts valid = elim (cases_lt k (length ts)) [
 ]
 
 -- one assortment more whose targets are low together
-pub low_more : (i : InstructionParts) (ts : List ℕ) (at : ℕ) (a : AssortmentParts) → slice_get i.assortments at ≡ Some a → targets_sum i a at ts ≤ 1000000000
+pub low_more : (i : InstructionParts) (ts : List ℕ) (at : ℕ) (a : AssortmentParts) → slice_get i.assortments at ≡ Some a
+    → targets_sum i a at ts ≤ 1000000000
     → ((k : ℕ) → k < at → IsLowSumAt i ts k)
     → (k : ℕ) → k < at + 1 → IsLowSumAt i ts k
 low_more i ts at a e low before k lt = elim (cases_lt k at) [
   | inl earlier ↦ before k earlier
   | inr here ↦
       let is : at ≡ k = omega arith in
-      subst (λ n. IsLowSumAt i ts n) is (λ b f. subst (λ x. targets_sum i x at ts ≤ 1000000000) (same_Some a b (sym e ∙ f)) low)
+      subst (λ n. IsLowSumAt i ts n) is
+      (λ b f. subst (λ x. targets_sum i x at ts ≤ 1000000000) (same_Some a b (sym e ∙ f)) low)
 ]

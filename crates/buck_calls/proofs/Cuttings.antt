@@ -19,15 +19,23 @@ use Rattle.buck_calls.specs.Shown.{IsCutUnder, ShowsLog}
 pub few : (sheet : SheetParts) (e : EntryParts) → IsCutUnder sheet e → length e.logs ≤ 80
 few sheet e k = at_most_80 sheet e.stem e.logs k.sheet_valid k.stem_valid k.admissible
 
-pub allowed : (sheet : SheetParts) (e : EntryParts) → IsCutUnder sheet e → All (IsAllowed sheet.instruction e.stem) e.logs
+pub allowed : (sheet : SheetParts) (e : EntryParts) → IsCutUnder sheet e
+    → All (IsAllowed sheet.instruction e.stem) e.logs
 allowed sheet e k = each_allowed sheet.instruction e.stem 0 e.logs k.admissible
 
 -- what was cut is a cutting under the sheet that was in force
-pub cut_under : (rule : StoredRule) (harvester : ℕ) (stem : StemParts) (before after : HistoryParts) (entry : EntryParts) (sheet : SheetParts)
+pub cut_under : (rule : StoredRule) (harvester : ℕ) (stem : StemParts) (before after : HistoryParts)
+    (entry : EntryParts) (sheet : SheetParts)
     → HasCut rule harvester stem before after entry → sheet ≡ in_force before → IsCutUnder sheet entry
 cut_under rule harvester stem before after entry sheet k same =
-    subst (λ e. IsCutUnder sheet e) (sym k.entry_is) (subst (λ s. IsCutUnder s (entry_of before harvester k.plan)) (k.sheet_in_force ∙ sym same)
-    (record { sheet_valid = k.is_plan.sheet_valid; stem_valid = k.is_plan.stem_valid; admissible = k.is_plan.first_best.best.admissible }))
+    subst (λ e. IsCutUnder sheet e) (sym k.entry_is)
+    (subst (λ s. IsCutUnder s (entry_of before harvester k.plan)) (k.sheet_in_force ∙ sym same)
+    (record {
+      sheet_valid = k.is_plan.sheet_valid;
+      stem_valid = k.is_plan.stem_valid;
+      admissible =
+          k.is_plan.first_best.best.admissible;
+    }))
 
 -- the first n logs are shown
 abbrev pub AreShown : SheetParts → StemParts → List Log → ℕ → List CutLog → Type 0
@@ -38,11 +46,15 @@ before_or_last : (j k : ℕ) → j < k + 1 → (j < k) ⊎ (j ≡ k)
 before_or_last j k lt = grind (arith, lt)
 
 -- and one more
-pub shown_more : (sheet : SheetParts) (stem : StemParts) (logs : List Log) (out : List CutLog) (k : ℕ) (x : CutLog) (h : Log)
+pub shown_more : (sheet : SheetParts) (stem : StemParts) (logs : List Log) (out : List CutLog) (k : ℕ) (x : CutLog)
+    (h : Log)
     → k < length out → slice_get logs k ≡ Some h → ShowsLog sheet stem h x → AreShown sheet stem logs k out
     → AreShown sheet stem logs (k + 1) (set out k x)
 shown_more sheet stem logs out k x h lt at shows are = λ j g d less is. elim (before_or_last j k less) [
-  | inl before ↦ subst (λ y. ShowsLog sheet stem g y) (sym (get_or-set_other out k j x d (λ e. omega (arith, before, e)))) (are j g d before is)
+  | inl before ↦
+      subst (λ y. ShowsLog sheet stem g y) (sym (get_or-set_other out k j x d (λ e. omega (arith, before, e))))
+      (are j g d before is)
   | inr last ↦ subst (λ y. ShowsLog sheet stem g y) (sym (get_or-set_at out k j x d last lt))
-      (subst (λ l. ShowsLog sheet stem l x) (ap (λ o. unwrap_or o g) (sym at ∙ ap (λ i. slice_get logs i) (sym last) ∙ is)) shows)
+      (subst (λ l. ShowsLog sheet stem l x)
+      (ap (λ o. unwrap_or o g) (sym at ∙ ap (λ i. slice_get logs i) (sym last) ∙ is)) shows)
 ]

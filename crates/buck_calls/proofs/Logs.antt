@@ -11,19 +11,23 @@ use Rattle.buck_value.specs.Allowed.{IsAllowed, Allows, class_in, class_of, colu
 use Rattle.buck_value.proofs.Classes as classes
 
 -- the column is that of the definition
-pub column_is : (a : AssortmentParts) (l column : ℕ) → position (λ x. x == l) a.lengths ≡ Some column → column ≡ column_of a l
+pub column_is : (a : AssortmentParts) (l column : ℕ) → position (λ x. x == l) a.lengths ≡ Some column
+    → column ≡ column_of a l
 column_is a l column at = sym (classes.column_is a l column at)
 
 pub has_column : (a : AssortmentParts) (step l : ℕ) (stem : StemParts) (g : Log) → Allows step a stem g → l ≡ g.length
     → position (λ x. x == l) a.lengths ≡ None → ⊥
-has_column a step l stem g allows is at = classes.column_none a.lengths l at (subst (λ k. Contains a.lengths k) (sym is) allows.length_offered)
+has_column a step l stem g allows is at =
+    classes.column_none a.lengths l at (subst (λ k. Contains a.lengths k) (sym is) allows.length_offered)
 
 -- its place is small
-pub column_low : (a : AssortmentParts) (l column : ℕ) → IsAssortment a → position (λ x. x == l) a.lengths ≡ Some column → column < 32
+pub column_low : (a : AssortmentParts) (l column : ℕ) → IsAssortment a → position (λ x. x == l) a.lengths ≡ Some column
+    → column < 32
 column_low a l column valid at = omega (arith, valid.columns, (classes.column_some a.lengths l column at).0)
 
 -- the assortment of an allowed log, by its place
-pub its_place : (i : InstructionParts) (stem : StemParts) (g : Log) → IsAllowed i stem g → g.assortment < length i.assortments
+pub its_place : (i : InstructionParts) (stem : StemParts) (g : Log) → IsAllowed i stem g
+    → g.assortment < length i.assortments
 its_place i stem g k = slice_get_within i.assortments g.assortment k.assortment k.exists
 
 same_assortment : (i : InstructionParts) (stem : StemParts) (g : Log) (a d : AssortmentParts) → (k : IsAllowed i stem g)
@@ -43,8 +47,10 @@ pub class_is : (i : InstructionParts) (stem : StemParts) (g : Log) (a : Assortme
     → slice_get i.assortments g.assortment ≡ Some a → class ≡ class_in (Some a) stem g → class ≡ class_of i stem g
 class_is i stem g a class there is = is ∙ ap (λ o. class_in o stem g) (sym there)
 
-pub is_class : (i : InstructionParts) (stem : StemParts) (g : Log) (a : AssortmentParts) (class : Class) → IsInstruction i
-    → slice_get i.assortments g.assortment ≡ Some a → Allows i.«module» a stem g → class ≡ class_in (Some a) stem g → IsClass i class
+pub is_class : (i : InstructionParts) (stem : StemParts) (g : Log) (a : AssortmentParts) (class : Class)
+    → IsInstruction i
+    → slice_get i.assortments g.assortment ≡ Some a → Allows i.«module» a stem g → class ≡ class_in (Some a) stem g
+    → IsClass i class
 is_class i stem g a class valid there allows is =
     subst (λ c. IsClass i c) (sym (class_is i stem g a class there is))
     (classes.class_is_class i stem g valid (record { assortment = a; exists = there; allows = allows }))
@@ -54,11 +60,14 @@ pub low : (i : InstructionParts) (stem : StemParts) (g : Log) (a : AssortmentPar
     → slice_get i.assortments g.assortment ≡ Some a → Allows i.«module» a stem g
     → (g.length ≤ 30000) × (top_diameter stem g ≤ 2000)
 low i stem g a valid there allows =
-    let k = classes.allowed_low i stem g valid (record { assortment = a; exists = there; allows = allows }) in (k.1, k.2)
+    let k = classes.allowed_low i stem g valid (record { assortment = a; exists = there; allows = allows }) in
+    (k.1, k.2)
 
 -- what it is worth
-pub worth_is : (s : SheetParts) (stem : StemParts) (g : Log) (a : AssortmentParts) (class : Class) (kind price top cubic : ℕ)
-    → slice_get s.instruction.assortments g.assortment ≡ Some a → class ≡ class_of s.instruction stem g → kind ≡ a.price_kind
+pub worth_is : (s : SheetParts) (stem : StemParts) (g : Log) (a : AssortmentParts) (class : Class)
+    (kind price top cubic : ℕ)
+    → slice_get s.instruction.assortments g.assortment ≡ Some a → class ≡ class_of s.instruction stem g
+    → kind ≡ a.price_kind
     → price ≡ price_of s class → top ≡ top_diameter stem g → cubic ≡ volume top g.length
     → worth_at kind price cubic ≡ worth_of s stem g
 unfolding worth_of

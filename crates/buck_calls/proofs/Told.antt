@@ -11,7 +11,8 @@ pub told : (Refused : EngineFault → Type 0) (fault : EngineFault) (old new : L
     → Refused fault → Refused Memory
     → IsPutAs (fault_line fault) (status_of fault) old new written result ⊎ IsPutAs memory_line 3 old new written result
     → IsPut (IsToldOf Refused) old new written result
-told Refused fault old new written result r m (inl put) = (fault_line fault, status_of fault, (fault, r, refl, refl), put)
+told Refused fault old new written result r m (inl put) =
+    (fault_line fault, status_of fault, (fault, r, refl, refl), put)
 told Refused fault old new written result r m (inr put) = (memory_line, 3, (Memory, m, refl, refl), put)
 
 -- what is told of refusals is among what is told at all

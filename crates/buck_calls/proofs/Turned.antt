@@ -41,9 +41,11 @@ behind_nothing line status old new texts result none put =
     subst (λ n. IsPutAs line status old new n result) is put
 
 -- the fault's own line was put, or that of memory, with no journal before it
-pub turns_told : (rule : ℕ) (lengths bytes : List ℕ) (fault : EngineFault) (old new : List ℕ) (texts : Texts) (result : ℕ)
+pub turns_told : (rule : ℕ) (lengths bytes : List ℕ) (fault : EngineFault) (old new : List ℕ) (texts : Texts)
+    (result : ℕ)
     → AreUsed rule lengths bytes → AreRefused lengths bytes fault → texts.journal ≡ 0
-    → IsPutAs (fault_line fault) (status_of fault) old new texts.report result ⊎ IsPutAs memory_line 3 old new texts.report result
+    → IsPutAs (fault_line fault) (status_of fault) old new texts.report result
+    ⊎ IsPutAs memory_line 3 old new texts.report result
     → ArePut (IsTurned rule lengths bytes) old new texts result
 turns_told rule lengths bytes fault old new texts result used why none (inl put) = (
   [],

@@ -23,22 +23,27 @@ take_seam zero xs ys le = refl
 take_seam (suc k) [] ys le = absurd (omega arith)
 take_seam (suc k) (x ∷ xs) ys le = ap (λ (l : List StemParts). x ∷ l) (take_seam k xs ys (omega arith))
 
-get_seam : (k : ℕ) (xs : List StemParts) (y : StemParts) (ys : List StemParts) → k ≤ length xs → slice_get (take k xs ++ y ∷ ys) k ≡ Some y
+get_seam : (k : ℕ) (xs : List StemParts) (y : StemParts) (ys : List StemParts) → k ≤ length xs
+    → slice_get (take k xs ++ y ∷ ys) k ≡ Some y
 get_seam zero xs y ys le = refl
 get_seam (suc k) [] y ys le = absurd (omega arith)
 get_seam (suc k) (x ∷ xs) y ys le = get_seam k xs y ys (omega arith)
 
 -- up to k they are alike
-alike : (k : ℕ) (cut file rest : List StemParts) → k ≤ length file → cut ≡ take k file ++ rest → AreAlikeBefore (k + 1) cut file
+alike : (k : ℕ) (cut file rest : List StemParts) → k ≤ length file → cut ≡ take k file ++ rest
+    → AreAlikeBefore (k + 1) cut file
 alike k cut file rest le is =
     let back : k + 1 - 1 ≡ k = omega arith in
     (omega arith, rw (back, is) (take_seam k file rest le))
 
-so_long : (k : ℕ) (cut file rest : List StemParts) → k ≤ length file → cut ≡ take k file ++ rest → length cut ≡ k + length rest
-so_long k cut file rest le is = ap (λ (l : List StemParts). length l) is ∙ omega (arith, length-append (take k file) rest, length-take-le k file le)
+so_long : (k : ℕ) (cut file rest : List StemParts) → k ≤ length file → cut ≡ take k file ++ rest
+    → length cut ≡ k + length rest
+so_long k cut file rest le is = ap (λ (l : List StemParts). length l) is
+    ∙ omega (arith, length-append (take k file) rest, length-take-le k file le)
 
 -- both have another stem there
-pub differ_other : (h k : ℕ) (cut file rest : List StemParts) (x y : StemParts) → k < length file → cut ≡ take k file ++ x ∷ rest → y ≡ get_or file k y → x ≢ y
+pub differ_other : (h k : ℕ) (cut file rest : List StemParts) (x y : StemParts) → k < length file
+    → cut ≡ take k file ++ x ∷ rest → y ≡ get_or file k y → x ≢ y
     → DifferBy h cut file (Other h (k + 1))
 differ_other h k cut file rest x y lt is at ne =
     let back : k + 1 - 1 ≡ k = omega arith in
@@ -47,25 +52,32 @@ differ_other h k cut file rest x y lt is at ne =
       alike k cut file (x ∷ rest) le is,
       omega (arith, so_long k cut file (x ∷ rest) le is),
       omega (arith, lt),
-      rw back (λ e. ne (same_Some x y (sym (ap (λ (l : List StemParts). slice_get l k) is ∙ get_seam k file x rest le) ∙ e ∙ slice_get-get_or file k y lt ∙ ap Some (sym at)))),
+      rw back (λ e. ne
+          (same_Some x y
+          (sym (ap (λ (l : List StemParts). slice_get l k) is ∙ get_seam k file x rest le) ∙ e
+          ∙ slice_get-get_or file k y lt ∙ ap Some (sym at)))),
     )
 
 -- the cuts go on
-pub differ_surplus : (h k : ℕ) (cut file rest : List StemParts) (x : StemParts) → k ≤ length file → length file ≤ k → cut ≡ take k file ++ x ∷ rest
+pub differ_surplus : (h k : ℕ) (cut file rest : List StemParts) (x : StemParts) → k ≤ length file → length file ≤ k
+    → cut ≡ take k file ++ x ∷ rest
     → DifferBy h cut file (Surplus h (k + 1))
 differ_surplus h k cut file rest x le past is =
     (refl, alike k cut file (x ∷ rest) le is, omega (arith, so_long k cut file (x ∷ rest) le is), omega (arith, past))
 
 -- the file goes on
-pub differ_uncut : (h k : ℕ) (cut file : List StemParts) → k < length file → cut ≡ take k file ++ [] → DifferBy h cut file (Uncut h (k + 1))
+pub differ_uncut : (h k : ℕ) (cut file : List StemParts) → k < length file → cut ≡ take k file ++ []
+    → DifferBy h cut file (Uncut h (k + 1))
 differ_uncut h k cut file lt is =
     let le : k ≤ length file = omega (arith, lt) in
     (refl, alike k cut file [] le is, omega (arith, so_long k cut file [] le is), omega (arith, lt))
 
 -- one stem more is the same
-pub one_more : (k : ℕ) (cut file rest : List StemParts) (x : StemParts) → k < length file → cut ≡ take k file ++ x ∷ rest → x ≡ get_or file k x → cut ≡ take (k + 1) file ++ rest
+pub one_more : (k : ℕ) (cut file rest : List StemParts) (x : StemParts) → k < length file
+    → cut ≡ take k file ++ x ∷ rest → x ≡ get_or file k x → cut ≡ take (k + 1) file ++ rest
 one_more k cut file rest x lt is at =
-    is ∙ sym (append_assoc (take k file) (x ∷ []) rest) ∙ ap (λ (l : List StemParts). l ++ rest) (ap (λ y. take k file ++ y ∷ []) at ∙ sym (take_more file k x lt))
+    is ∙ sym (append_assoc (take k file) (x ∷ []) rest)
+    ∙ ap (λ (l : List StemParts). l ++ rest) (ap (λ y. take k file ++ y ∷ []) at ∙ sym (take_more file k x lt))
 
 -- and all are the same
 pub all_same : (k : ℕ) (cut file : List StemParts) → length file ≤ k → cut ≡ take k file ++ [] → cut ≡ file
@@ -76,19 +88,26 @@ all_same k cut file past is = is ∙ append_nil (take k file) ∙ take_all k fil
     append_nil (x ∷ xs) = ap (λ l. x ∷ l) (append_nil xs)
 
 -- what a harvester cut from posting i on
-module _ (h i k : ℕ) (ps : List Posting) (cut file : List StemParts) (so_far : cut ≡ take k file ++ stems_cut_in h (drop i ps)) where
-  next : (x : Posting) → i < length ps → x ≡ get_or ps i x → stems_cut_in h (drop i ps) ≡ option_to_list (stem_of_own h x) ++ stems_cut_in h (drop (i + 1) ps)
+module _ (h i k : ℕ) (ps : List Posting) (cut file : List StemParts)
+    (so_far : cut ≡ take k file ++ stems_cut_in h (drop i ps)) where
+  next : (x : Posting) → i < length ps → x ≡ get_or ps i x
+      → stems_cut_in h (drop i ps) ≡ option_to_list (stem_of_own h x) ++ stems_cut_in h (drop (i + 1) ps)
   next x lt at =
-      let here : drop i ps ≡ x ∷ drop (i + 1) ps = rw add-one (drop-cons ps i x lt) ∙ ap (λ z. z ∷ drop (i + 1) ps) (sym at) in
+      let here : drop i ps ≡ x ∷ drop (i + 1) ps = rw add-one (drop-cons ps i x lt)
+      ∙ ap (λ z. z ∷ drop (i + 1) ps) (sym at) in
       ap (stems_cut_in h) here ∙ flat_map-cons (λ y. option_to_list (stem_of_own h y)) x (drop (i + 1) ps)
 
-  pub own_some : (x : Posting) (s : StemParts) → i < length ps → x ≡ get_or ps i x → Some s ≡ stem_of_own h x → cut ≡ take k file ++ s ∷ stems_cut_in h (drop (i + 1) ps)
+  pub own_some : (x : Posting) (s : StemParts) → i < length ps → x ≡ get_or ps i x → Some s ≡ stem_of_own h x
+      → cut ≡ take k file ++ s ∷ stems_cut_in h (drop (i + 1) ps)
   own_some x s lt at own =
-      so_far ∙ ap (λ l. take k file ++ l) (next x lt at ∙ ap (λ o. option_to_list o ++ stems_cut_in h (drop (i + 1) ps)) (sym own))
+      so_far ∙ ap (λ l. take k file ++ l)
+      (next x lt at ∙ ap (λ o. option_to_list o ++ stems_cut_in h (drop (i + 1) ps)) (sym own))
 
-  pub own_none : (x : Posting) → i < length ps → x ≡ get_or ps i x → None ≡ stem_of_own h x → cut ≡ take k file ++ stems_cut_in h (drop (i + 1) ps)
+  pub own_none : (x : Posting) → i < length ps → x ≡ get_or ps i x → None ≡ stem_of_own h x
+      → cut ≡ take k file ++ stems_cut_in h (drop (i + 1) ps)
   own_none x lt at own =
-      so_far ∙ ap (λ l. take k file ++ l) (next x lt at ∙ ap (λ o. option_to_list o ++ stems_cut_in h (drop (i + 1) ps)) (sym own))
+      so_far ∙ ap (λ l. take k file ++ l)
+      (next x lt at ∙ ap (λ o. option_to_list o ++ stems_cut_in h (drop (i + 1) ps)) (sym own))
 
   pub own_past : length ps ≤ i → cut ≡ take k file ++ []
   own_past past = so_far ∙ ap (λ l. take k file ++ stems_cut_in h l) (drop_past i ps past)
@@ -107,7 +126,8 @@ not_own h (Cut e) lt = elim (cases_Bool (e.harvester == h)) [
 not_own h (Demand d) lt = refl
 
 -- whose number is greater than all has cut nothing
-pub cut_nothing : (h last : ℕ) (ps : List Posting) → ((i : ℕ) (d : Posting) → i < length ps → harvester_of (get_or ps i d) ≤ last) → last < h → stems_cut_in h ps ≡ []
+pub cut_nothing : (h last : ℕ) (ps : List Posting)
+    → ((i : ℕ) (d : Posting) → i < length ps → harvester_of (get_or ps i d) ≤ last) → last < h → stems_cut_in h ps ≡ []
 cut_nothing h last [] all lt = refl
 cut_nothing h last (x ∷ ps) all lt =
     flat_map-cons (λ y. option_to_list (stem_of_own h y)) x ps
@@ -116,17 +136,21 @@ cut_nothing h last (x ∷ ps) all lt =
 
 one_cut : (h at : ℕ) (x : Posting) (ps : List Posting) (b : _) → (harvester_of x == h) ≡ b
     → flat_map option_to_list (map (λ k. stem_cut k.entry) (replies_from h (at + 1) ps)) ≡ stems_cut_in h ps
-    → flat_map option_to_list (map (λ k. stem_cut k.entry) (replies_from h at (x ∷ ps))) ≡ option_to_list (stem_of_own h x) ++ stems_cut_in h ps
+    → flat_map option_to_list (map (λ k. stem_cut k.entry) (replies_from h at (x ∷ ps)))
+    ≡ option_to_list (stem_of_own h x) ++ stems_cut_in h ps
 one_cut h at (Cut e) ps true own rest = rw own (ap (λ l. e.stem ∷ l) rest)
 one_cut h at (Cut e) ps false own rest = rw own rest
 one_cut h at (Demand d) ps true own rest = rw own rest
 one_cut h at (Demand d) ps false own rest = rw own rest
 
-cut_from : (h at : ℕ) (ps : List Posting) → flat_map option_to_list (map (λ k. stem_cut k.entry) (replies_from h at ps)) ≡ stems_cut_in h ps
+cut_from : (h at : ℕ) (ps : List Posting)
+    → flat_map option_to_list (map (λ k. stem_cut k.entry) (replies_from h at ps)) ≡ stems_cut_in h ps
 cut_from h at [] = refl
 cut_from h at (x ∷ ps) =
-    one_cut h at x ps (harvester_of x == h) refl (cut_from h (at + 1) ps) ∙ sym (flat_map-cons (λ y. option_to_list (stem_of_own h y)) x ps)
+    one_cut h at x ps (harvester_of x == h) refl (cut_from h (at + 1) ps)
+    ∙ sym (flat_map-cons (λ y. option_to_list (stem_of_own h y)) x ps)
 
 -- what a harvester cut of a history
-pub cut_of_history : (h : ℕ) (history : HistoryParts) (ps : List Posting) → history.postings ≡ ps → stems_by h history ≡ stems_cut_in h ps
+pub cut_of_history : (h : ℕ) (history : HistoryParts) (ps : List Posting) → history.postings ≡ ps
+    → stems_by h history ≡ stems_cut_in h ps
 cut_of_history h history ps is = cut_from h 0 history.postings ∙ ap (stems_cut_in h) is

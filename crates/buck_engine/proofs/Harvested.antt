@@ -30,7 +30,10 @@ kept_as_owned (suc n) lists ps le are =
     let more = take-suc lists n [] (omega (arith, le)) in
     let sums = sum_by-append (λ (l : List Kept). length l) (take n lists) (get_or lists n [] ∷ []) in
     let so_far = kept_as_owned n lists ps (omega (arith, le)) (λ h pos low. are h pos (omega (arith, low))) in
-    let last : length (get_or lists n []) ≡ length (replies_from (suc n) 0 ps) = (let back : suc n - 1 ≡ n = omega arith in let e = ap (λ (l : List Kept). length l) (are (suc n) (omega arith) (omega arith)) in subst (λ (k : ℕ). length (get_or lists k []) ≡ length (replies_from (suc n) 0 ps)) back e) in
+    let last : length (get_or lists n []) ≡ length (replies_from (suc n) 0 ps) =
+    (let back : suc n - 1 ≡ n = omega arith in let e =
+    ap (λ (l : List Kept). length l) (are (suc n) (omega arith) (omega arith)) in
+    subst (λ (k : ℕ). length (get_or lists k []) ≡ length (replies_from (suc n) 0 ps)) back e) in
     ap (λ (l : List (List Kept)). sum_by length l) more ∙ sums ∙ (omega (arith, so_far, last))
 
 -- an element of a list that has one
@@ -39,14 +42,16 @@ first_of [] lt = absurd (omega (arith, lt))
 first_of (x ∷ xs) lt = x
 
 -- what a seat that had nothing has kept of a whole list
-whole_list : (stems : List StemParts) (before after : SeatParts) → before.kept ≡ [] → after.stopped ≡ None → HasRun stems before after → map (λ k. stem_cut k.entry) after.kept ≡ map Some stems
+whole_list : (stems : List StemParts) (before after : SeatParts) → before.kept ≡ [] → after.stopped ≡ None
+    → HasRun stems before after → map (λ k. stem_cut k.entry) after.kept ≡ map Some stems
 whole_list stems before after new stopped run =
     let cut = run.whole stopped in
     ap (map (λ (k : Kept). stem_cut k.entry)) (cut.kept.kept_are ∙ ap (λ (l : List Kept). l ++ cut.more) new)
     ∙ cut.each
     ∙ ap (map Some) (take_all (length stems) stems (omega arith))
 
-pub has_cut_lists : (i : InstructionParts) (f : FleetParts) (b : Board) (lists : List (Vec (Arc Stem Global) Global)) (before after : List SeatParts) (c : ClosedParts)
+pub has_cut_lists : (i : InstructionParts) (f : FleetParts) (b : Board) (lists : List (Vec (Arc Stem Global) Global))
+    (before after : List SeatParts) (c : ClosedParts)
     → f.instruction ≡ i
     → f.seats ≡ length lists
     → 0 < length lists
@@ -59,7 +64,8 @@ has_cut_lists i f b lists before after c same seats some opened run stopped (one
     let long : length before ≡ length lists = opened.number in
     let longer : length after ≡ length lists = run.number ∙ long in
     let number : length c.kept ≡ length lists = one.handed_out.number ∙ seats in
-    let replies : (h : ℕ) → 0 < h → h ≤ length lists → kept_by h c ≡ replies_of h c.history = λ h pos low. one.replies h pos (omega (arith, low, seats)) in
+    let replies : (h : ℕ) → 0 < h → h ≤ length lists → kept_by h c ≡ replies_of h c.history =
+    λ h pos low. one.replies h pos (omega (arith, low, seats)) in
     let d : SeatParts = first_of after (omega (arith, longer, some)) in
     record {
       same_instruction = one.same_instruction ∙ same;
@@ -69,14 +75,18 @@ has_cut_lists i f b lists before after c same seats some opened run stopped (one
           let new = opened.each k d lt in
           let has_run = run.runs k d (omega (arith, lt, long)) in
           let s = get_or after k d in
-          let kept_it : map (λ x. stem_cut x.entry) s.kept ≡ map Some (stems_at lists k) = whole_list (stems_at lists k) (get_or before k d) s new.nothing_kept (stopped k d (omega (arith, lt, longer))) has_run in
+          let kept_it : map (λ x. stem_cut x.entry) s.kept ≡ map Some (stems_at lists k) =
+          whole_list (stems_at lists k) (get_or before k d) s new.nothing_kept
+          (stopped k d (omega (arith, lt, longer))) has_run in
           let harvester : s.harvester ≡ k + 1 = has_run.beginning.1.kept.same_harvester ∙ new.harvester_is in
           let listed : kept_by s.harvester c ≡ s.kept = one.handed_out.lists k d (omega (arith, lt, longer)) in
           let listed_here : kept_by (k + 1) c ≡ s.kept = subst (λ (h : ℕ). kept_by h c ≡ s.kept) harvester listed in
-          let kept_here : replies_of (k + 1) c.history ≡ s.kept = sym (replies (k + 1) (omega arith) (omega (arith, lt))) ∙ listed_here in
+          let kept_here : replies_of (k + 1) c.history ≡ s.kept =
+          sym (replies (k + 1) (omega arith) (omega (arith, lt))) ∙ listed_here in
           ap (map (λ (x : Kept). stem_cut x.entry)) kept_here ∙ kept_it);
       nobody_else =
           let all : take (length lists) c.kept ≡ c.kept = take_all (length lists) c.kept (omega (arith, number)) in
           let sums = kept_as_owned (length lists) c.kept c.history.postings (omega (arith, number)) replies in
-          all_of_them (length lists) 0 c.history.postings (sym sums ∙ ap (λ (l : List (List Kept)). sum_by length l) all ∙ sym one.handed_out.total);
+          all_of_them (length lists) 0 c.history.postings
+          (sym sums ∙ ap (λ (l : List (List Kept)). sum_by length l) all ∙ sym one.handed_out.total);
     }

@@ -30,7 +30,8 @@ pub held_none : (x : HeldParts) → AreByRuleBelow x 0
 held_none x = λ c k lt. absurd (omega arith)
 
 -- one class more
-pub held_more : (x : HeldParts) (c : Class) (n : ℕ) (k : IsClass x.standings.instruction c) → index_of x.standings.instruction c ≡ n
+pub held_more : (x : HeldParts) (c : Class) (n : ℕ) (k : IsClass x.standings.instruction c)
+    → index_of x.standings.instruction c ≡ n
     → slice_index x.prices n ≡ given_by x c k
     → AreByRuleBelow x n
     → AreByRuleBelow x (n + 1)
@@ -39,16 +40,20 @@ held_more x c n k place right below = λ d l lt. elim (cases_lt (index_of x.stan
   | inr new ↦ here d (one_place x.standings.instruction c d k l (omega (arith, place))) l
 ]
   where
-    here : (d : Class) → c ≡ d → (l : IsClass x.standings.instruction d) → slice_index x.prices (index_of x.standings.instruction d) ≡ given_by x d l
+    here : (d : Class) → c ≡ d → (l : IsClass x.standings.instruction d)
+        → slice_index x.prices (index_of x.standings.instruction d) ≡ given_by x d l
     here d one =
-        subst (λ (y : Class). (l : IsClass x.standings.instruction y) → slice_index x.prices (index_of x.standings.instruction y) ≡ given_by x y l) one
-        (λ l. ap (λ p. slice_index x.prices p) place ∙ right ∙ ap (λ a. price_by x.rule (standing_by x.standings a c)) (one_assortment x.standings.instruction c k l))
+        subst (λ (y : Class). (l : IsClass x.standings.instruction y)
+        → slice_index x.prices (index_of x.standings.instruction y) ≡ given_by x y l) one
+        (λ l. ap (λ p. slice_index x.prices p) place ∙ right
+        ∙ ap (λ a. price_by x.rule (standing_by x.standings a c)) (one_assortment x.standings.instruction c k l))
 
 -- all classes
 pub held_all : (x : HeldParts) → AreByRuleBelow x (classes x.standings.instruction) → AreAllByRule x
 held_all x below = λ c k. below c k (place_lt x.standings.instruction c k)
 
-count_of-le : (i : InstructionParts) (c : Class) (ps : List Posting) → count_of i c ps ≤ assortment_count_of c.assortment ps
+count_of-le : (i : InstructionParts) (c : Class) (ps : List Posting)
+    → count_of i c ps ≤ assortment_count_of c.assortment ps
 count_of-le i c [] = omega arith
 count_of-le i c (x ∷ ps) =
     omega (
@@ -65,9 +70,15 @@ count_of-le i c (x ∷ ps) =
 
 -- what was wanted and cut at a place, and the prices there
 module _ (rule : NamedRule) (i : InstructionParts) (ps : List Posting) (prices targets by_class by_assortment : List ℕ)
-    (few : length ps ≤ 1000000) (wanted : targets ≡ targets_of i ps) (counts : AreClassCounts i ps by_class) (assorted : AreAssorted i ps by_assortment) where
+    (few : length ps ≤ 1000000) (wanted : targets ≡ targets_of i ps) (counts : AreClassCounts i ps by_class)
+    (assorted : AreAssorted i ps by_assortment) where
   abbrev pub held : HeldParts
-  held = record { rule = rule; prices = prices; standings = record { instruction = i; targets = targets; by_class = by_class; by_assortment = by_assortment } }
+  held = record {
+    rule = rule;
+    prices = prices;
+    standings =
+        record { instruction = i; targets = targets; by_class = by_class; by_assortment = by_assortment };
+  }
 
   are_counts : AreCounts i ps by_class by_assortment
   are_counts = record { classes = counts; assortments_number = assorted.number; assortment_counts = assorted.each }
@@ -80,7 +91,8 @@ module _ (rule : NamedRule) (i : InstructionParts) (ps : List Posting) (prices t
       classes_number = counts.one_each;
       assortments_number = assorted.number;
       class_within = λ c k.
-          let there : c.assortment < length i.assortments = slice_get_within i.assortments c.assortment k.assortment k.exists in
+          let there : c.assortment < length i.assortments =
+          slice_get_within i.assortments c.assortment k.assortment k.exists in
           omega (arith, counts.each c k, assorted.each c.assortment there, count_of-le i c ps);
       bounded = λ a. omega (arith, assorted.low a, few);
     };
@@ -123,8 +135,10 @@ logs_counted a (Cut e) = refl
 logs_counted a (Demand d) = refl
 
 -- one posting more
-pub assorted_more : (i : InstructionParts) (ps longer : List Posting) (x : Posting) (before after : List ℕ) → longer ≡ ps ++ x ∷ []
-    → AreAssorted i ps before → AreGrownBy before (logs_in x) after → length (logs_in x) ≤ 80 → AreAssorted i longer after
+pub assorted_more : (i : InstructionParts) (ps longer : List Posting) (x : Posting) (before after : List ℕ)
+    → longer ≡ ps ++ x ∷ []
+    → AreAssorted i ps before → AreGrownBy before (logs_in x) after → length (logs_in x) ≤ 80
+    → AreAssorted i longer after
 assorted_more i ps longer x before after is assorted grown few = subst (λ l. AreAssorted i l after) (sym is) (record {
   number = grown.number ∙ assorted.number;
   each = λ a lt.
@@ -132,7 +146,14 @@ assorted_more i ps longer x before after is assorted grown few = subst (λ l. Ar
       ∙ ap (λ n. n + assortment_logs a (logs_in x)) (assorted.each a lt)
       ∙ ap (λ n. assortment_count_of a ps + n) (logs_counted a x)
       ∙ sym (sum_by_push (λ y. assortment_logs_in a y) ps x);
-  low = λ a. omega (arith, grown.each a, assorted.low a, few, count_by-le-length (λ (g : Log). g.assortment == a) (logs_in x), length_push ps x);
+  low = λ a. omega (
+    arith,
+    grown.each a,
+    assorted.low a,
+    few,
+    count_by-le-length (λ (g : Log). g.assortment == a) (logs_in x),
+    length_push ps x,
+  );
 })
 
 -- what holds anyway

@@ -22,7 +22,8 @@ unfolding apt_with
 own_reads s own = rw own (fun_ext (λ bytes. own_put (apt_of bytes)))
 
 -- an instruction that was read has them put in
-pub says_with : (s : SettingsParts) (file : Option (List ℕ)) (own i : InstructionParts) → Says apt_of file (Ok own) → i ≡ with_settings s own
+pub says_with : (s : SettingsParts) (file : Option (List ℕ)) (own i : InstructionParts) → Says apt_of file (Ok own)
+    → i ≡ with_settings s own
     → Says (apt_with s) file (Ok i)
 unfolding apt_with
 says_with s None own i says same = tt

@@ -16,9 +16,12 @@ abbrev pub one_if : ℕ → Posting → ℕ
 one_if zero x = 0
 one_if (suc n) x = one_if n x + cond (harvester_of x == suc n) 1 0
 
-replies_one : (h p : ℕ) (x : Posting) (xs : List Posting) → length (replies_from h p (x ∷ xs)) ≡ cond (harvester_of x == h) 1 0 + length (replies_from h (p + 1) xs)
+replies_one : (h p : ℕ) (x : Posting) (xs : List Posting)
+    → length (replies_from h p (x ∷ xs)) ≡ cond (harvester_of x == h) 1 0 + length (replies_from h (p + 1) xs)
 replies_one h p x xs = by_test (harvester_of x == h) where
-  by_test : (b : Bool) → length (cond b ((record { position = p; entry = x }) ∷ replies_from h (p + 1) xs) (replies_from h (p + 1) xs)) ≡ cond b 1 0 + length (replies_from h (p + 1) xs)
+  by_test : (b : Bool)
+      → length (cond b ((record { position = p; entry = x }) ∷ replies_from h (p + 1) xs) (replies_from h (p + 1) xs))
+      ≡ cond b 1 0 + length (replies_from h (p + 1) xs)
   by_test true = omega arith
   by_test false = omega arith
 
@@ -68,8 +71,11 @@ one_of_them n x is = (
   ]),
 )
 
-pub all_of_them : (n p : ℕ) (xs : List Posting) → owned n p xs ≡ length xs → All (λ x. (0 < harvester_of x) × (harvester_of x ≤ n)) xs
+pub all_of_them : (n p : ℕ) (xs : List Posting) → owned n p xs ≡ length xs
+    → All (λ x. (0 < harvester_of x) × (harvester_of x ≤ n)) xs
 all_of_them n p [] is k d lt = absurd (omega (arith, lt))
-all_of_them n p (x ∷ xs) is zero d lt = one_of_them n x (omega (arith, is, owned_one n p x xs, one_if-low n x, owned-low n (p + 1) xs))
+all_of_them n p (x ∷ xs) is zero d lt =
+    one_of_them n x (omega (arith, is, owned_one n p x xs, one_if-low n x, owned-low n (p + 1) xs))
 all_of_them n p (x ∷ xs) is (suc k) d lt =
-    all_of_them n (p + 1) xs (omega (arith, is, owned_one n p x xs, one_if-low n x, owned-low n (p + 1) xs)) k d (omega (arith, lt))
+    all_of_them n (p + 1) xs (omega (arith, is, owned_one n p x xs, one_if-low n x, owned-low n (p + 1) xs)) k d
+    (omega (arith, lt))

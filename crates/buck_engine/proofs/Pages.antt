@@ -20,53 +20,67 @@ use Rattle.buck_engine.specs.text.Written.{IsWritten}
 use Rattle.buck_engine.specs.inner.View.{ShowsFault, ShowsHistory, WritesAs}
 
 -- a text that is UTF-8 is a page
-pub page_written : (old new : Option (List ℕ)) (text : List ℕ) (r : Result (Unit {0}) EngineFault) → IsUtf8 text → IsWritten old new text r
+pub page_written : (old new : Option (List ℕ)) (text : List ℕ) (r : Result (Unit {0}) EngineFault) → IsUtf8 text
+    → IsWritten old new text r
     → WritesAs (AppendsPage old new) old new r
 page_written old new text (Ok u) utf8 written = (text, utf8, written)
 page_written old new text (Err fault) utf8 (is, some) = inr (is, (text, some))
 
 -- any text is a table
-pub table_written : (old new : Option (List ℕ)) (text : List ℕ) (r : Result (Unit {0}) EngineFault) → IsWritten old new text r
+pub table_written : (old new : Option (List ℕ)) (text : List ℕ) (r : Result (Unit {0}) EngineFault)
+    → IsWritten old new text r
     → WritesAs (AppendsTable old new) old new r
 table_written old new text (Ok u) written = (text, written)
 table_written old new text (Err fault) (is, some) = inr (is, (text, some))
 
 -- what is shown of a lawful history
-pub lawful_shown : (Shown Left : Type 0) (h : HistoryParts) (old new : Option (List ℕ)) (r : Result (Unit {0}) EngineFault) → IsLawful h
+pub lawful_shown : (Shown Left : Type 0) (h : HistoryParts) (old new : Option (List ℕ))
+    (r : Result (Unit {0}) EngineFault) → IsLawful h
     → WritesAs Shown old new r → ShowsHistory Shown Left h old new r
 lawful_shown Shown Left h old new (Ok u) lawful shown = (lawful, shown)
 lawful_shown Shown Left h old new (Err fault) lawful fails = inl fails
 
 -- what is left of a history's first fault
-pub fault_shown : (Shown Left : Type 0) (h : HistoryParts) (old new : Option (List ℕ)) (why : ReplayFault) (fault : EngineFault) → IsFirstFault h why
+pub fault_shown : (Shown Left : Type 0) (h : HistoryParts) (old new : Option (List ℕ)) (why : ReplayFault)
+    (fault : EngineFault) → IsFirstFault h why
     → ShowsFault Left why old new fault → ShowsHistory Shown Left h old new (Err fault)
 fault_shown Shown Left h old new why fault first (inl (is, left)) = inr (why, is, first, left)
 fault_shown Shown Left h old new why fault first (inr fails) = inl fails
 
-kept : (reads : ReadsApt) (Shown Left : Type 0) (apt journal old : Option (List ℕ)) (fault : EngineFault) → IsReadFault apt journal fault
+kept : (reads : ReadsApt) (Shown Left : Type 0) (apt journal old : Option (List ℕ)) (fault : EngineFault)
+    → IsReadFault apt journal fault
     → ShowsAs reads Shown Left apt journal old old (Err fault)
 kept reads Shown Left apt journal old fault (inl (inl is)) =
-    subst (λ (f : EngineFault). ShowsAs reads Shown Left apt journal old old (Err f)) (sym is) (inl (inl refl), Keeps-refl old)
+    subst (λ (f : EngineFault). ShowsAs reads Shown Left apt journal old old (Err f)) (sym is)
+    (inl (inl refl), Keeps-refl old)
 kept reads Shown Left apt journal old fault (inl (inr (inl is))) =
-    subst (λ (f : EngineFault). ShowsAs reads Shown Left apt journal old old (Err f)) (sym is) (inl (inr (inl refl)), Keeps-refl old)
+    subst (λ (f : EngineFault). ShowsAs reads Shown Left apt journal old old (Err f)) (sym is)
+    (inl (inr (inl refl)), Keeps-refl old)
 kept reads Shown Left apt journal old fault (inl (inr (inr (why, is, says)))) =
-    subst (λ (f : EngineFault). ShowsAs reads Shown Left apt journal old old (Err f)) (sym is) (inl (inr (inr (why, refl, says))), Keeps-refl old)
+    subst (λ (f : EngineFault). ShowsAs reads Shown Left apt journal old old (Err f)) (sym is)
+    (inl (inr (inr (why, refl, says))), Keeps-refl old)
 kept reads Shown Left apt journal old fault (inr (ok, inl is)) =
-    subst (λ (f : EngineFault). ShowsAs reads Shown Left apt journal old old (Err f)) (sym is) (inr (ok, inl refl), Keeps-refl old)
+    subst (λ (f : EngineFault). ShowsAs reads Shown Left apt journal old old (Err f)) (sym is)
+    (inr (ok, inl refl), Keeps-refl old)
 kept reads Shown Left apt journal old fault (inr (ok, inr (inl is))) =
-    subst (λ (f : EngineFault). ShowsAs reads Shown Left apt journal old old (Err f)) (sym is) (inr (ok, inr (inl refl)), Keeps-refl old)
+    subst (λ (f : EngineFault). ShowsAs reads Shown Left apt journal old old (Err f)) (sym is)
+    (inr (ok, inr (inl refl)), Keeps-refl old)
 kept reads Shown Left apt journal old fault (inr (ok, inr (inr (why, is, says)))) =
-    subst (λ (f : EngineFault). ShowsAs reads Shown Left apt journal old old (Err f)) (sym is) (inr (ok, inr (inr (why, refl, says))), Keeps-refl old)
+    subst (λ (f : EngineFault). ShowsAs reads Shown Left apt journal old old (Err f)) (sym is)
+    (inr (ok, inr (inr (why, refl, says))), Keeps-refl old)
 
 -- nothing is written where a file has a fault
-pub nothing_shown : (reads : ReadsApt) (Shown Left : Type 0) (apt journal old : Option (List ℕ)) (fault : EngineFault) (r : Result (Unit {0}) EngineFault)
+pub nothing_shown : (reads : ReadsApt) (Shown Left : Type 0) (apt journal old : Option (List ℕ)) (fault : EngineFault)
+    (r : Result (Unit {0}) EngineFault)
     → IsErrAnd r (λ x. x ≡ fault) → IsReadFault apt journal fault → ShowsAs reads Shown Left apt journal old old r
 nothing_shown reads Shown Left apt journal old fault (Ok u) h a = absurd h
 nothing_shown reads Shown Left apt journal old fault (Err x) h a =
-    subst (λ (f : EngineFault). ShowsAs reads Shown Left apt journal old old (Err f)) (sym h) (kept reads Shown Left apt journal old fault a)
+    subst (λ (f : EngineFault). ShowsAs reads Shown Left apt journal old old (Err f)) (sym h)
+    (kept reads Shown Left apt journal old fault a)
 
 -- nor by a task, whatever it shows
-pub nothing_of_task : (reads : ReadsApt) (shown : Shown) (apt journal old : Option (List ℕ)) (fault : EngineFault) (r : Result (Unit {0}) EngineFault)
+pub nothing_of_task : (reads : ReadsApt) (shown : Shown) (apt journal old : Option (List ℕ)) (fault : EngineFault)
+    (r : Result (Unit {0}) EngineFault)
     → IsErrAnd r (λ x. x ≡ fault) → IsReadFault apt journal fault → Shows reads shown apt journal old old r
 nothing_of_task reads Page apt journal old fault r h a =
     nothing_shown reads (AppendsPage old old) (AppendsPage old old) apt journal old fault r h a
@@ -74,13 +88,15 @@ nothing_of_task reads (Table table) apt journal old fault r h a =
     nothing_shown reads (AppendsTable old old) (Keeps old old) apt journal old fault r h a
 
 -- what is shown of the history that the files have
-pub history_shown : (reads : ReadsApt) (Shown Left : Type 0) (apt journal old new : Option (List ℕ)) (i : InstructionParts) (j : JournalParts) (r : Result (Unit {0}) EngineFault)
+pub history_shown : (reads : ReadsApt) (Shown Left : Type 0) (apt journal old new : Option (List ℕ))
+    (i : InstructionParts) (j : JournalParts) (r : Result (Unit {0}) EngineFault)
     → Says reads apt (Ok i) → Says journal_of journal (Ok j) → ShowsHistory Shown Left (history_of i j) old new r
     → ShowsAs reads Shown Left apt journal old new r
 history_shown reads Shown Left apt journal old new i j (Ok u) a b (lawful, shown) =
     (record { instruction = i; read = j; apt_says = a; journal_says = b; holds = lawful }, shown)
 history_shown reads Shown Left apt journal old new i j (Err fault) a b (inl (inl (memory, same))) =
-    subst (λ (f : EngineFault). ShowsAs reads Shown Left apt journal old new (Err f)) (sym memory) (inl (inr (inl refl)), same)
+    subst (λ (f : EngineFault). ShowsAs reads Shown Left apt journal old new (Err f)) (sym memory)
+    (inl (inr (inl refl)), same)
 history_shown reads Shown Left apt journal old new i j (Err fault) a b (inl (inr (write, some))) =
     subst (λ (f : EngineFault). ShowsAs reads Shown Left apt journal old new (Err f)) (sym write) some
 history_shown reads Shown Left apt journal old new i j (Err fault) a b (inr (why, is, first, left)) =
@@ -88,7 +104,8 @@ history_shown reads Shown Left apt journal old new i j (Err fault) a b (inr (why
     (record { instruction = i; read = j; apt_says = a; journal_says = b; holds = first }, left)
 
 -- nothing is left of it
-pub nothing_left : (Shown : Type 0) (h : HistoryParts) (old : Option (List ℕ)) (fault : EngineFault) → IsUnlawful h fault
+pub nothing_left : (Shown : Type 0) (h : HistoryParts) (old : Option (List ℕ)) (fault : EngineFault)
+    → IsUnlawful h fault
     → ShowsHistory Shown (Keeps old old) h old old (Err fault)
 nothing_left Shown h old fault (inl memory) = inl (inl (memory, Keeps-refl old))
 nothing_left Shown h old fault (inr (why, is, first)) = inr (why, is, first, Keeps-refl old)

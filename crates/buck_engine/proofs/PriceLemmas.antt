@@ -30,10 +30,14 @@ pub countable : (i : InstructionParts) (sheets : List (List ℕ)) (x : Posting) 
 countable i sheets (Cut e) holds = holds.0.admissible
 countable i sheets (Demand d) holds = holds
 
-module _ (rule : NamedRule) (i : InstructionParts) (j : JournalParts) (at : ℕ) (prices targets by_class by_assortment : List ℕ)
+module _ (rule : NamedRule) (i : InstructionParts) (j : JournalParts) (at : ℕ)
+    (prices targets by_class by_assortment : List ℕ)
     (few : length (take at j.entries) ≤ 1000000) (are : prices ≡ prices_then (history_of i j) at)
-    (wanted : targets ≡ targets_of i (take at j.entries)) (counts : AreClassCounts i (take at j.entries) by_class) (assorted : AreAssorted i (take at j.entries) by_assortment) where
-  pub fault_there : (off : Off) → Begins (history_of i j) at → IsFirstOff (held rule i (take at j.entries) prices targets by_class by_assortment few wanted counts assorted) off
+    (wanted : targets ≡ targets_of i (take at j.entries)) (counts : AreClassCounts i (take at j.entries) by_class)
+    (assorted : AreAssorted i (take at j.entries) by_assortment) where
+  pub fault_there : (off : Off) → Begins (history_of i j) at
+      → IsFirstOff (held rule i (take at j.entries) prices targets by_class by_assortment few wanted counts assorted)
+      off
       → IsPriceFaultAt rule (history_of i j) at (Price (version_at (history_of i j) at) off.class off.price off.wanted)
   fault_there off begins first = record {
     begins = begins;
@@ -45,13 +49,17 @@ module _ (rule : NamedRule) (i : InstructionParts) (j : JournalParts) (at : ℕ)
     fault_is = refl;
   }
 
-  pub none_there : AreByRuleBelow (held rule i (take at j.entries) prices targets by_class by_assortment few wanted counts assorted) (classes i) → ArePricesAt rule (history_of i j) at
+  pub none_there : AreByRuleBelow
+      (held rule i (take at j.entries) prices targets by_class by_assortment few wanted counts assorted) (classes i)
+      → ArePricesAt rule (history_of i j) at
   none_there below begins c k =
       ap (λ ps. slice_index ps (index_of i c)) (sym are)
-      ∙ all_by_rule rule i (take at j.entries) prices targets by_class by_assortment few wanted counts assorted (held_all _ below) c k
+      ∙ all_by_rule rule i (take at j.entries) prices targets by_class by_assortment few wanted counts assorted
+      (held_all _ below) c k
 
 -- what is known at a place, of an instruction and a journal
-pub record Facts (i : InstructionParts) (j : JournalParts) (at : ℕ) (prices targets by_class by_assortment : List ℕ) : Type 0 where
+pub record Facts (i : InstructionParts) (j : JournalParts) (at : ℕ)
+    (prices targets by_class by_assortment : List ℕ) : Type 0 where
   pub valid : IsInstruction i
   pub few : length (take at j.entries) ≤ 1000000
   pub number : length prices ≡ classes i
@@ -62,22 +70,27 @@ pub record Facts (i : InstructionParts) (j : JournalParts) (at : ℕ) (prices ta
   pub assorted : AreAssorted i (take at j.entries) by_assortment
 
 pub facts : (w : WalkParts) (i : InstructionParts) (j : JournalParts) (prices targets by_class by_assortment : List ℕ)
-    → w.instruction ≡ i → w.postings ≡ j.entries → w.at ≤ length w.postings → length w.postings ≤ 1000000 → IsInstruction w.instruction
-    → length prices ≡ classes w.instruction → prices ≡ prices_then (history_of w.instruction j) w.at → targets ≡ targets_of w.instruction (passed w) → AreTargets w.instruction targets
-    → AreClassCounts w.instruction (passed w) by_class → AreAssorted i (passed w) by_assortment → Facts i j w.at prices targets by_class by_assortment
-facts w i j prices targets by_class by_assortment same own within few valid number are wanted tv counts assorted = record {
-  valid = rw same at valid;
-  few = omega (arith, length-take-le w.at j.entries (rw own at within), rw own at within, rw own at few);
-  number = rw same at number;
-  are = rw same at are;
-  wanted = rw (same, own) at wanted;
-  targets_valid = rw same at tv;
-  counts = rw (same, own) at counts;
-  assorted = rw own at assorted;
-}
+    → w.instruction ≡ i → w.postings ≡ j.entries → w.at ≤ length w.postings → length w.postings ≤ 1000000
+    → IsInstruction w.instruction
+    → length prices ≡ classes w.instruction → prices ≡ prices_then (history_of w.instruction j) w.at
+    → targets ≡ targets_of w.instruction (passed w) → AreTargets w.instruction targets
+    → AreClassCounts w.instruction (passed w) by_class → AreAssorted i (passed w) by_assortment
+    → Facts i j w.at prices targets by_class by_assortment
+facts w i j prices targets by_class by_assortment same own within few valid number are wanted tv counts assorted =
+    record {
+      valid = rw same at valid;
+      few = omega (arith, length-take-le w.at j.entries (rw own at within), rw own at within, rw own at few);
+      number = rw same at number;
+      are = rw same at are;
+      wanted = rw (same, own) at wanted;
+      targets_valid = rw same at tv;
+      counts = rw (same, own) at counts;
+      assorted = rw own at assorted;
+    }
 
 -- a place that a way has come to
-module _ (rule : NamedRule) (i : InstructionParts) (j : JournalParts) (w : WalkParts) (same : w ≡ walk_of i j.entries w.at) where
+module _ (rule : NamedRule) (i : InstructionParts) (j : JournalParts) (w : WalkParts)
+    (same : w ≡ walk_of i j.entries w.at) where
   there_is : (x : Option Posting) → x ≡ slice_get w.postings w.at → slice_get j.entries w.at ≡ x
   there_is x there = sym (there ∙ ap (λ (v : WalkParts). slice_get v.postings w.at) same)
 
@@ -85,24 +98,28 @@ module _ (rule : NamedRule) (i : InstructionParts) (j : JournalParts) (w : WalkP
   next_countable x l there = countable i j.sheets x (l.postings_follow w.at x (there_is (Some x) there)).holds
 
   -- all postings were passed
-  pub passed_all : ((k : ℕ) → k < w.at → ArePricesAt rule (history_of i j) k) → ArePricesAt rule (history_of i j) w.at → None ≡ slice_get w.postings w.at
+  pub passed_all : ((k : ℕ) → k < w.at → ArePricesAt rule (history_of i j) k) → ArePricesAt rule (history_of i j) w.at
+      → None ≡ slice_get w.postings w.at
       → FollowsRule rule (history_of i j)
   passed_all before here end at le = elim (cases_lt at w.at) [
     | inl old ↦ before at old
     | inr new ↦ elim (slice_get_cases j.entries w.at).1 [
       | inl more ↦ absurd (none-some more.0 (sym (there_is None end) ∙ more.2))
-      | inr past ↦ (let is : w.at ≡ at = omega (arith, new, past.0, le) in subst (ArePricesAt rule (history_of i j)) is here)
+      | inr past ↦
+          (let is : w.at ≡ at = omega (arith, new, past.0, le) in subst (ArePricesAt rule (history_of i j)) is here)
     ]
   ]
 
   -- one was passed
   pub passed_more : (v : WalkParts) → v ≡ walk_of w.instruction w.postings (w.at + 1)
-      → ((k : ℕ) → k < w.at → ArePricesAt rule (history_of i j) k) → ArePricesAt rule (history_of i j) w.at → (k : ℕ) → k < v.at → ArePricesAt rule (history_of i j) k
+      → ((k : ℕ) → k < w.at → ArePricesAt rule (history_of i j) k) → ArePricesAt rule (history_of i j) w.at → (k : ℕ)
+      → k < v.at → ArePricesAt rule (history_of i j) k
   passed_more v next before here k lt =
       let further : v.at ≡ w.at + 1 = ap (λ (x : WalkParts). x.at) next in
       elim (cases_lt k w.at) [
         | inl old ↦ before k old
-        | inr new ↦ (let is : w.at ≡ k = omega (arith, lt, new, further) in subst (ArePricesAt rule (history_of i j)) is here)
+        | inr new ↦
+            (let is : w.at ≡ k = omega (arith, lt, new, further) in subst (ArePricesAt rule (history_of i j)) is here)
       ]
 
   pub same_more : (v : WalkParts) → v ≡ walk_of w.instruction w.postings (w.at + 1) → v ≡ walk_of i j.entries v.at

@@ -19,11 +19,13 @@ use Rattle.buck_engine.specs.declared.fleet.serving.NamedRule.TheVariants.{Stead
 use Rattle.buck_engine.specs.tie.Ties.{ArePricesAt, FollowsRule, GivesBy, IsByRule, price_by}
 
 -- on target
-even : (cut wanted under over base : ℕ) → cut ≡ wanted → cond (nat_lt cut wanted) under (cond (nat_lt wanted cut) over base) ≡ base
+even : (cut wanted under over base : ℕ) → cut ≡ wanted
+    → cond (nat_lt cut wanted) under (cond (nat_lt wanted cut) over base) ≡ base
 even cut wanted under over base same =
     let not_under : nat_lt cut wanted ≡ false = grind (arith, nat_tests, same) in
     let not_over : nat_lt wanted cut ≡ false = grind (arith, nat_tests, same) in
-    ap (λ (b : Bool). cond b under (cond (nat_lt wanted cut) over base)) not_under ∙ ap (λ (b : Bool). cond b over base) not_over
+    ap (λ (b : Bool). cond b under (cond (nat_lt wanted cut) over base)) not_under
+    ∙ ap (λ (b : Bool). cond b over base) not_over
 
 no_shares : (s : Standing) → s.count ≡ 0 → s.counts ≡ 0 → cut_share s ≡ wanted_share s
 no_shares s none no_log =
@@ -38,17 +40,20 @@ nothing_cut Linear s none no_log = even (cut_share s) (wanted_share s) _ _ s.bas
 nothing_cut Step s none no_log = even (cut_share s) (wanted_share s) _ _ s.base (no_shares s none no_log)
 
 -- answers of such a closure
-by_rule : {F : Type 0} (g : Calls F) (f : F) (rule : NamedRule) (i : InstructionParts) (ps : List Posting) (prices : List ℕ)
+by_rule : {F : Type 0} (g : Calls F) (f : F) (rule : NamedRule) (i : InstructionParts) (ps : List Posting)
+    (prices : List ℕ)
     → GivesBy g f rule → AreAnswers g f i ps prices → (c : Class) (k : IsClass i c) → IsByRule rule i ps prices c k
 by_rule g f rule i ps prices gives answers = λ c k.
     let a = answers c k in gives.by_rule a.shown _ a.says.met ∙ ap (λ s. price_by rule s) a.shows
 
 -- the posting before a place where a period begins is an end
-last_is_end : (i : InstructionParts) (ps : List Posting) (n : ℕ) (x : Posting) → slice_get ps n ≡ Some x → cuts_since_end i (take (n + 1) ps) ≡ 0 → IsEnd i (take n ps) x
+last_is_end : (i : InstructionParts) (ps : List Posting) (n : ℕ) (x : Posting) → slice_get ps n ≡ Some x
+    → cuts_since_end i (take (n + 1) ps) ≡ 0 → IsEnd i (take n ps) x
 last_is_end i ps n x at none = elim (cases_Bool (is_end i.period (cuts_since_end i (take n ps)) x)) [
   | inl yes_ ↦ yes_
   | inr no_ ↦
-      let more : cuts_since_end i (take n ps ++ x ∷ []) ≡ cuts_since_end i (take n ps) + 1 = cuts_without i (take n ps) x (λ e. true_false (sym e ∙ no_)) in
+      let more : cuts_since_end i (take n ps ++ x ∷ []) ≡ cuts_since_end i (take n ps) + 1 =
+      cuts_without i (take n ps) x (λ e. true_false (sym e ∙ no_)) in
       absurd (omega (arith, none, ap (λ xs. cuts_since_end i xs) (take_one_more ps n x at), more))
 ]
 
@@ -58,7 +63,8 @@ there (x ∷ xs) zero lt = (x, refl)
 there (x ∷ xs) (suc n) lt = there xs n (omega (arith, lt))
 
 -- the prices of all sheets are what the rule gives
-pub follows_rule : {F : Type 0} (g : Calls F) (f : F) (rule : NamedRule) (h : HistoryParts) → GivesBy g f rule → IsLawful h → AreSheetsBy g f h → FollowsRule rule h
+pub follows_rule : {F : Type 0} (g : Calls F) (f : F) (rule : NamedRule) (h : HistoryParts) → GivesBy g f rule
+    → IsLawful h → AreSheetsBy g f h → FollowsRule rule h
 follows_rule g f rule h gives lawful by zero le = λ begins c k.
     ap (λ prices. slice_index prices (index_of h.instruction c)) lawful.base_sheet
     ∙ sym (nothing_cut rule (standing_of h.instruction k.assortment c []) refl refl)
@@ -66,7 +72,9 @@ follows_rule g f rule h gives lawful by (suc n) le = λ begins c k.
     let i = h.instruction in
     let last = there h.postings n (omega (arith, le)) in
     let next : suc n ≡ n + 1 = omega arith in
-    let end : IsEnd i (take n h.postings) last.0 = last_is_end i h.postings n last.0 last.1 (ap (λ m. cuts_since_end i (take m h.postings)) (sym next) ∙ begins) in
+    let end : IsEnd i (take n h.postings) last.0 =
+    last_is_end i h.postings n last.0 last.1 (ap (λ m. cuts_since_end i (take m h.postings)) (sym next) ∙ begins) in
     let version : version_at h (suc n) ≡ ends_of i (take n h.postings) + 1 =
-    ap (λ m. ends_of i (take m h.postings)) next ∙ ap (λ xs. ends_of i xs) (take_one_more h.postings n last.0 last.1) ∙ ends_with_end i (take n h.postings) last.0 end in
+    ap (λ m. ends_of i (take m h.postings)) next ∙ ap (λ xs. ends_of i xs) (take_one_more h.postings n last.0 last.1)
+    ∙ ends_with_end i (take n h.postings) last.0 end in
     rw (version, next) (by_rule g f rule i (take (n + 1) h.postings) _ gives (by.answers n last.0 last.1 end) c k)

@@ -18,12 +18,16 @@ use Rattle.std.proofs.lemmas.List.Elements.{All-append}
 use Rattle.std.proofs.lemmas.List.Sums.{sum_by-append}
 
 -- the logs of a cutting are allowed
-pub all_allowed : (Allowed : Log → Type 0) (ends : Log → ℕ) (from : ℕ) (gs : List Log) → IsCutFrom Allowed ends from gs → All Allowed gs
+pub all_allowed : (Allowed : Log → Type 0) (ends : Log → ℕ) (from : ℕ) (gs : List Log) → IsCutFrom Allowed ends from gs
+    → All Allowed gs
 all_allowed Allowed ends from [] h k d lt = absurd (omega (arith, lt))
 all_allowed Allowed ends from (g ∷ gs) (le, a, rest) zero d lt = a
-all_allowed Allowed ends from (g ∷ gs) (le, a, rest) (suc k) d lt = all_allowed Allowed ends (ends g) gs rest k d (omega (arith, lt))
+all_allowed Allowed ends from (g ∷ gs) (le, a, rest) (suc k) d lt =
+    all_allowed Allowed ends (ends g) gs rest k d (omega (arith, lt))
 
-lines-made : (sheet : SheetParts) (stem : StemParts) (logs : List Log) → stem_lines sheet (record { stem = stem; logs = logs }) ≡ stem_line stem (length logs) (cutting_worth sheet stem logs) ++ flat_map (log_line sheet stem) logs
+lines-made : (sheet : SheetParts) (stem : StemParts) (logs : List Log)
+    → stem_lines sheet (record { stem = stem; logs = logs })
+    ≡ stem_line stem (length logs) (cutting_worth sheet stem logs) ++ flat_map (log_line sheet stem) logs
 unfolding stem_lines
 lines-made sheet stem logs = refl
 
@@ -49,7 +53,17 @@ stem_put sheet stem logs worth old mid new b w p q = record {
 
 -- the text of no stem
 pub nothing_put : (sheet : SheetParts) → AreLines sheet [] [] 0 0
-nothing_put sheet = record { cuts = []; bucking = (refl, λ k d lt. absurd (omega (arith, lt))); lines = refl; logs_is = refl; worth_is = refl; logs_low = omega arith; worth_low = omega arith }
+nothing_put sheet =
+    record {
+      cuts = [];
+      bucking = (refl, λ k d lt. absurd (omega (arith, lt)));
+      lines = refl;
+      logs_is = refl;
+      worth_is =
+          refl;
+      logs_low = omega arith;
+      worth_low = omega arith;
+    }
 
 -- what holds of an element holds of the list of it alone
 all_one : {X : Type 0} (P : X → Type 0) (x : X) → P x → All P (x ∷ [])
@@ -67,12 +81,20 @@ both_put sheet stems more out new lines logs worth count value far next is =
     record {
       cuts = far.cuts ++ next.cuts;
       bucking = (
-        map-append (λ c. c.stem) far.cuts next.cuts ∙ ap (λ l. l ++ map (λ c. c.stem) next.cuts) far.bucking.0 ∙ ap (λ l. stems ++ l) next.bucking.0,
+        map-append (λ c. c.stem) far.cuts next.cuts ∙ ap (λ l. l ++ map (λ c. c.stem) next.cuts) far.bucking.0
+            ∙ ap (λ l. stems ++ l) next.bucking.0,
         All-append (λ c. IsFirstBest sheet c.stem c.logs) far.cuts next.cuts far.bucking.1 next.bucking.1,
       );
-      lines = is ∙ ap (λ l. l ++ lines) far.lines ∙ ap (λ l. flat_map (stem_lines sheet) far.cuts ++ l) next.lines ∙ sym (flat_map-append (stem_lines sheet) far.cuts next.cuts);
+      lines = is ∙ ap (λ l. l ++ lines) far.lines ∙ ap (λ l. flat_map (stem_lines sheet) far.cuts ++ l) next.lines
+          ∙ sym (flat_map-append (stem_lines sheet) far.cuts next.cuts);
       logs_is = omega (arith, far.logs_is, next.logs_is, sum_by-append (λ c. length c.logs) far.cuts next.cuts);
-      worth_is = omega (arith, far.worth_is, next.worth_is, sum_by-append (λ c. cutting_worth sheet c.stem c.logs) far.cuts next.cuts);
+      worth_is =
+          omega (
+            arith,
+            far.worth_is,
+            next.worth_is,
+            sum_by-append (λ c. cutting_worth sheet c.stem c.logs) far.cuts next.cuts,
+          );
       logs_low = omega (arith, far.logs_low, next.logs_low, all);
       worth_low = omega (arith, far.worth_low, next.worth_low, all);
     }
@@ -96,17 +118,20 @@ one_alone sheet stem out new count value put low high =
     }
 
 -- the lines of one stem more
-pub one_put : (sheet : SheetParts) (stems : List StemParts) (stem : StemParts) (out new : List ℕ) (logs worth count value : ℕ)
+pub one_put : (sheet : SheetParts) (stems : List StemParts) (stem : StemParts) (out new : List ℕ)
+    (logs worth count value : ℕ)
     → AreLines sheet stems out logs worth
     → IsPut sheet stem out new count value
     → count ≤ 18446744073709551616
     → value ≤ 18446744073709551616
     → AreLines sheet (stems ++ stem ∷ []) new (logs + count) (worth + value)
 one_put sheet stems stem out new logs worth count value far put low high =
-    both_put sheet stems (stem ∷ []) out new _ logs worth count value far (one_alone sheet stem out new count value put low high) put.lines
+    both_put sheet stems (stem ∷ []) out new _ logs worth count value far
+    (one_alone sheet stem out new count value put low high) put.lines
 
 -- the lines of the next run of so many stems
-pub part_put : (sheet : SheetParts) (stems part : List StemParts) (size k : ℕ) (out new lines : List ℕ) (logs worth count value : ℕ)
+pub part_put : (sheet : SheetParts) (stems part : List StemParts) (size k : ℕ) (out new lines : List ℕ)
+    (logs worth count value : ℕ)
     → AreLines sheet (take (k * size) stems) out logs worth
     → part ≡ take size (drop (k * size) stems)
     → AreLines sheet part lines count value
@@ -114,12 +139,14 @@ pub part_put : (sheet : SheetParts) (stems part : List StemParts) (size k : ℕ)
     → AreLines sheet (take ((k + 1) * size) stems) new (logs + count) (worth + value)
 part_put sheet stems part size k out new lines logs worth count value far is next more =
     let on : take ((k + 1) * size) stems ≡ take (k * size) stems ++ part =
-    ap (λ n. take n stems) (omega arith) ∙ take-add (k * size) size stems ∙ ap (λ l. take (k * size) stems ++ l) (sym is) in
+    ap (λ n. take n stems) (omega arith) ∙ take-add (k * size) size stems
+    ∙ ap (λ l. take (k * size) stems ++ l) (sym is) in
     subst (λ l. AreLines sheet l new (logs + count) (worth + value)) (sym on)
     (both_put sheet _ part out new lines logs worth count value far next more)
 
 -- what a thread gives for its run of stems
-pub part_made : (sheet : SheetParts) (stems part : List StemParts) (size start : ℕ) (found : Result Lines Memory) (lines : Lines)
+pub part_made : (sheet : SheetParts) (stems part : List StemParts) (size start : ℕ) (found : Result Lines Memory)
+    (lines : Lines)
     → IsChunk stems size start part
     → IfOk found (AreLinesOf sheet part)
     → found ≡ Ok lines
@@ -137,5 +164,6 @@ parts_low stems start size logs count low next =
     ap length (take-add start size stems) ∙ length-append _ _ in
     omega (arith, low, next, both, length-take (start + size) stems)
 
-pub one_taken : (xs : List StemParts) (i : ℕ) (x : StemParts) → i < length xs → x ≡ get_or xs i x → take (i + 1) xs ≡ take i xs ++ x ∷ []
+pub one_taken : (xs : List StemParts) (i : ℕ) (x : StemParts) → i < length xs → x ≡ get_or xs i x
+    → take (i + 1) xs ≡ take i xs ++ x ∷ []
 one_taken xs i x lt is = rw add-one (take-suc xs i x lt) ∙ ap (λ y. take i xs ++ y ∷ []) (sym is)

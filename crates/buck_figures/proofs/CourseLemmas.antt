@@ -26,7 +26,8 @@ use Rattle.buck_figures.specs.declared.course.Course.{Course}
 use Rattle.buck_figures.specs.declared.figures.Point.{Point}
 
 -- some postings of a way to which one may be added
-pub goes_on : (i : InstructionParts) (ps us : List Posting) (at : ℕ) (c : Course) → at < length ps → IsCourse i ps at us c → GoesOn i at c.account
+pub goes_on : (i : InstructionParts) (ps us : List Posting) (at : ℕ) (c : Course) → at < length ps
+    → IsCourse i ps at us c → GoesOn i at c.account
 goes_on i ps us at c lt course = record {
   postings = take at ps;
   unsteered = us;
@@ -36,7 +37,8 @@ goes_on i ps us at c lt course = record {
 }
 
 -- a way past one posting more
-pub one_further : (i : InstructionParts) (ps : List Posting) (at : ℕ) (x : Posting) (c d : Course) → slice_get ps at ≡ Some x → at < length ps
+pub one_further : (i : InstructionParts) (ps : List Posting) (at : ℕ) (x : Posting) (c d : Course)
+    → slice_get ps at ≡ Some x → at < length ps
     → d.walk ≡ walk_of i ps (at + 1)
     → ((qs us : List Posting) → length qs ≡ at → IsAccount i qs us c.account → IsAccountWith i qs us x d.account)
     → d.targets.value.items ≡ targets_after c.targets.value.items (x ∷ []) → IsCountable i x
@@ -59,27 +61,33 @@ one_further i ps at x c d there lt walk account targets countable us course =
       };
     }
   where
-    still_wanted : (i : InstructionParts) (x : Posting) (targets : List ℕ) → IsCountable i x → length targets ≡ classes i
+    still_wanted : (i : InstructionParts) (x : Posting) (targets : List ℕ) → IsCountable i x
+        → length targets ≡ classes i
         → length (targets_after targets (x ∷ [])) ≡ classes i
     still_wanted i (Cut e) targets countable before = before
     still_wanted i (Demand d) targets countable before = countable.one_each
 
 -- a way's own place
-pub has_course : (i : InstructionParts) (ps us : List Posting) (at : ℕ) (c : Course) → IsCourse i ps at us c → HasCourse c
+pub has_course : (i : InstructionParts) (ps us : List Posting) (at : ℕ) (c : Course) → IsCourse i ps at us c
+    → HasCourse c
 has_course i ps us at c course = record {
   unsteered = us;
   course = subst (λ (w : WalkParts). IsCourse w.instruction w.postings w.at us c) (sym course.walk) course;
 }
 
-pub further_from : (i : InstructionParts) (ps : List Posting) (at : ℕ) (c d : Course) → c.walk ≡ walk_of i ps at → IsFurther c (c.walk.at + 1) d
+pub further_from : (i : InstructionParts) (ps : List Posting) (at : ℕ) (c d : Course) → c.walk ≡ walk_of i ps at
+    → IsFurther c (c.walk.at + 1) d
     → (us : List Posting) → IsCourse i ps at us c → IsMore i ps (at + 1) us d
 further_from i ps at c d walk further =
-    subst (λ (w : WalkParts). (us : List Posting) → IsCourse w.instruction w.postings w.at us c → IsMore w.instruction w.postings (w.at + 1) us d) walk further
+    subst (λ (w : WalkParts). (us : List Posting) → IsCourse w.instruction w.postings w.at us c
+    → IsMore w.instruction w.postings (w.at + 1) us d) walk further
 
-pub further_to : (i : InstructionParts) (ps : List Posting) (at to : ℕ) (c d : Course) → c.walk ≡ walk_of i ps at → IsFurther c to d
+pub further_to : (i : InstructionParts) (ps : List Posting) (at to : ℕ) (c d : Course) → c.walk ≡ walk_of i ps at
+    → IsFurther c to d
     → (us : List Posting) → IsCourse i ps at us c → IsMore i ps to us d
 further_to i ps at to c d walk further =
-    subst (λ (w : WalkParts). (us : List Posting) → IsCourse w.instruction w.postings w.at us c → IsMore w.instruction w.postings to us d) walk further
+    subst (λ (w : WalkParts). (us : List Posting) → IsCourse w.instruction w.postings w.at us c
+    → IsMore w.instruction w.postings to us d) walk further
 
 -- a way on from a way
 pub further_on : (i : InstructionParts) (ps : List Posting) (from at to : ℕ) (c d e : Course)
@@ -89,10 +97,16 @@ pub further_on : (i : InstructionParts) (ps : List Posting) (from at to : ℕ) (
 further_on i ps from at to c d e first second us course =
     let m = first us course in
     let n = second (us ++ m.more) m.course in
-    record { more = m.more ++ n.more; course = subst (λ vs. IsCourse i ps to vs e) (append_assoc us m.more n.more) n.course }
+    record {
+      more = m.more ++ n.more;
+      course =
+          subst (λ vs. IsCourse i ps to vs e) (append_assoc us m.more n.more) n.course;
+    }
 
-no_further : (i : InstructionParts) (ps us : List Posting) (at : ℕ) (c : Course) → IsCourse i ps at us c → IsMore i ps at us c
-no_further i ps us at c course = record { more = []; course = subst (λ vs. IsCourse i ps at vs c) (sym (append_empty us)) course }
+no_further : (i : InstructionParts) (ps us : List Posting) (at : ℕ) (c : Course) → IsCourse i ps at us c
+    → IsMore i ps at us c
+no_further i ps us at c course =
+    record { more = []; course = subst (λ vs. IsCourse i ps at vs c) (sym (append_empty us)) course }
   where
     append_empty : (ps : List Posting) → ps ++ [] ≡ ps
     append_empty [] = refl
@@ -135,7 +149,8 @@ last_point n = elim (cases_lt 200 n) [
 ]
 
 -- the degrees at a point
-degrees_at : (i : InstructionParts) (ps cut : List Posting) (targets counts : List ℕ) (degrees : List (Option ℕ)) → targets ≡ targets_of i ps
+degrees_at : (i : InstructionParts) (ps cut : List Posting) (targets counts : List ℕ) (degrees : List (Option ℕ))
+    → targets ≡ targets_of i ps
     → AreClassCounts i cut counts → AreDegreesBy i targets counts degrees → AreDegrees i ps cut degrees
 degrees_at i ps cut targets counts degrees targets_are are by = record {
   counts = counts;
@@ -149,21 +164,31 @@ take_whole us n is = ap (λ m. take m us) (sym is) ∙ take-length us
 
 -- the point at which a way stands
 point_there : (i : InstructionParts) (ps us : List Posting) (before after demands : ℕ) (c : Course) (p : Point)
-    → IsCourse i ps after us c → IsPointOf c demands p → demands ≡ sum_by demands_in (take before ps) → IsPoint i ps us before after p
+    → IsCourse i ps after us c → IsPointOf c demands p → demands ≡ sum_by demands_in (take before ps)
+    → IsPoint i ps us before after p
 point_there i ps us before after demands c p course point told =
     let walk = course.walk in
     let number : length us ≡ after = course.account.are_unsteered.same_number ∙ length-take-le after ps course.within in
-    let total : c.account.tally.total.demands ≡ sum_by demands_in (take after ps) = course.account.tally.total.demands in
+    let total : c.account.tally.total.demands ≡ sum_by demands_in (take after ps) =
+    course.account.tally.total.demands in
     let as_cut : AreDegreesBy i c.targets.value.items c.account.tally.counts.items p.degrees.items =
-    subst (λ (w : WalkParts). AreDegreesBy w.instruction c.targets.value.items c.account.tally.counts.items p.degrees.items) walk point.degrees in
+    subst (λ (w : WalkParts). AreDegreesBy w.instruction c.targets.value.items c.account.tally.counts.items
+    p.degrees.items) walk point.degrees in
     let without : AreDegreesBy i c.targets.value.items c.account.tally.unsteered.items p.unsteered.items =
-    subst (λ (w : WalkParts). AreDegreesBy w.instruction c.targets.value.items c.account.tally.unsteered.items p.unsteered.items) walk point.unsteered in
+    subst (λ (w : WalkParts). AreDegreesBy w.instruction c.targets.value.items c.account.tally.unsteered.items
+    p.unsteered.items) walk point.unsteered in
     record {
       after = point.after ∙ ap (λ (w : WalkParts). w.at) walk;
       version = point.version ∙ ap (λ (w : WalkParts). ends_of w.instruction (passed w)) walk;
-      degrees = degrees_at i (take after ps) (take after ps) c.targets.value.items c.account.tally.counts.items p.degrees.items course.targets course.account.tally.counts as_cut;
-      unsteered = degrees_at i (take after ps) (take after us) c.targets.value.items c.account.tally.unsteered.items p.unsteered.items course.targets
-          (subst (λ vs. AreClassCounts i vs c.account.tally.unsteered.items) (sym (take_whole us after number)) course.account.tally.unsteered) without;
+      degrees =
+          degrees_at i (take after ps) (take after ps)
+          c.targets.value.items c.account.tally.counts.items p.degrees.items course.targets course.account.tally.counts
+          as_cut;
+      unsteered =
+          degrees_at i (take after ps) (take after us)
+          c.targets.value.items c.account.tally.unsteered.items p.unsteered.items course.targets
+          (subst (λ vs. AreClassCounts i vs c.account.tally.unsteered.items) (sym (take_whole us after number))
+          course.account.tally.unsteered) without;
       demand = subst (λ n. IsTrue p.demand ↔ (sum_by demands_in (take before ps) < n)) total
           (subst (λ n. IsTrue p.demand ↔ (n < c.account.tally.total.demands)) told point.demand);
     }
@@ -175,14 +200,18 @@ point_stays i ps us vs before after p le point = record {
   after = point.after;
   version = point.version;
   degrees = point.degrees;
-  unsteered = subst (λ cut. AreDegrees i (take after ps) cut p.unsteered.items) (sym (take-append-le after us vs le)) point.unsteered;
+  unsteered =
+      subst (λ cut. AreDegrees i (take after ps) cut p.unsteered.items) (sym (take-append-le after us vs le))
+      point.unsteered;
   demand = point.demand;
 }
 
 -- the curves with one point more
-pub curves_more : (i : InstructionParts) (ps : List Posting) (k demands : ℕ) (c d : Course) (points : List Point) (p : Point)
+pub curves_more : (i : InstructionParts) (ps : List Posting) (k demands : ℕ) (c d : Course) (points : List Point)
+    (p : Point)
     → AreCurves i ps k c points
-    → ((us : List Posting) → IsCourse i ps (point_after (length ps) k) us c → IsMore i ps (point_after (length ps) (k + 1)) us d)
+    → ((us : List Posting) → IsCourse i ps (point_after (length ps) k) us c
+    → IsMore i ps (point_after (length ps) (k + 1)) us d)
     → demands ≡ c.account.tally.total.demands → IsPointOf d demands p
     → AreCurves i ps (k + 1) d (points ++ p ∷ [])
 curves_more i ps k demands c d points p curves further told point =
@@ -190,7 +219,8 @@ curves_more i ps k demands c d points p curves further told point =
     let us = curves.unsteered in
     let m = further us curves.course in
     let at : ℕ = point_after n k in
-    let reached : length us ≡ at = curves.course.account.are_unsteered.same_number ∙ length-take-le at ps curves.course.within in
+    let reached : length us ≡ at = curves.course.account.are_unsteered.same_number
+    ∙ length-take-le at ps curves.course.within in
     record {
       unsteered = us ++ m.more;
       course = m.course;
@@ -204,7 +234,8 @@ curves_more i ps k demands c d points p curves further told point =
             let is : j ≡ k = h.0 ∙ curves.so_many in
             subst (λ (x : Point). IsPoint i ps (us ++ m.more) (point_after n j) (point_after n (j + 1)) x) (sym h.1)
             (subst (λ g. IsPoint i ps (us ++ m.more) (point_after n g) (point_after n (g + 1)) p) (sym is)
-            (point_there i ps (us ++ m.more) at (point_after n (k + 1)) demands d p m.course point (told ∙ curves.course.account.tally.total.demands)))
+            (point_there i ps (us ++ m.more) at (point_after n (k + 1)) demands d p m.course point
+            (told ∙ curves.course.account.tally.total.demands)))
       ];
     }
 

@@ -22,14 +22,16 @@ past (n ∷ ns) zero le = absurd (omega arith)
 past (n ∷ ns) (suc k) le = past ns k (omega arith)
 
 -- each is one of those before, or the last number
-low : (ns : List ℕ) (m k most : ℕ) → ((j : ℕ) → slice_index ns j ≤ most) → m ≤ most → slice_index (ns ++ m ∷ []) k ≤ most
+low : (ns : List ℕ) (m k most : ℕ) → ((j : ℕ) → slice_index ns j ≤ most) → m ≤ most
+    → slice_index (ns ++ m ∷ []) k ≤ most
 low [] m zero most all le = le
 low [] m (suc k) most all le = omega arith
 low (n ∷ ns) m zero most all le = all 0
 low (n ∷ ns) m (suc k) most all le = low ns m k most (λ j. all (suc j)) le
 
 -- no number is greater than the greatest
-most_of : (ns : List ℕ) (at : Option ℕ) (size : ℕ) → IsFirstGreatest ns at → IsSize ns at size → (j : ℕ) → slice_index ns j ≤ size
+most_of : (ns : List ℕ) (at : Option ℕ) (size : ℕ) → IsFirstGreatest ns at → IsSize ns at size → (j : ℕ)
+    → slice_index ns j ≤ size
 most_of ns None size first is j = omega (arith, first j, is)
 most_of ns (Some at) size first is j = omega (arith, first.1 j, is)
 
@@ -42,16 +44,19 @@ greater ns at m g is old lt =
     record {
       first = (
         omega (arith, last),
-        (λ k. let all : slice_index (ns ++ m ∷ []) k ≤ m = low ns m k m (λ j. omega (arith, most j)) (omega arith) in omega (arith, all, last)),
+        (λ k. let all : slice_index (ns ++ m ∷ []) k ≤ m = low ns m k m (λ j. omega (arith, most j)) (omega arith) in
+            omega (arith, all, last)),
         (λ k less. omega (arith, last, old_one ns m k (omega (arith, is)), most k)),
       );
       size = sym last;
     }
 
 -- one that isn't greater changes nothing
-pub not_greater : (ns : List ℕ) (m : ℕ) (at : Option ℕ) (size : ℕ) → IsFirstGreatest ns at → IsSize ns at size → m ≤ size
+pub not_greater : (ns : List ℕ) (m : ℕ) (at : Option ℕ) (size : ℕ) → IsFirstGreatest ns at → IsSize ns at size
+    → m ≤ size
     → IsFirstGreatest (ns ++ m ∷ []) at × IsSize (ns ++ m ∷ []) at size
-not_greater ns m None size first is le = ((λ k. omega (arith, low ns m k 0 (λ j. omega (arith, first j)) (omega (arith, is)))), is)
+not_greater ns m None size first is le =
+    ((λ k. omega (arith, low ns m k 0 (λ j. omega (arith, first j)) (omega (arith, is)))), is)
 not_greater ns m (Some at) size first is le =
     let within : at < length ns = inside ns at first.0 in
     let same : slice_index (ns ++ m ∷ []) at ≡ slice_index ns at = old_one ns m at within in (

@@ -18,7 +18,8 @@ use Rattle.buck_figures.specs.Shown.{IsShowable}
 use Rattle.buck_figures.specs.inner.Adding.{IsCuttable}
 use Rattle.buck_figures.specs.inner.Course.{ArePassable}
 
-passable_by : (i : InstructionParts) (sheets : List (List ℕ)) (x : Posting) → Holds i sheets x → IsCuttable i x × IsCountable i x
+passable_by : (i : InstructionParts) (sheets : List (List ℕ)) (x : Posting) → Holds i sheets x
+    → IsCuttable i x × IsCountable i x
 passable_by i sheets (Cut e) holds = (holds.0.admissible, holds.0.admissible)
 passable_by i sheets (Demand d) holds = (tt, holds)
 
@@ -34,7 +35,8 @@ module _ (i : InstructionParts) (j : JournalParts) (l : IsLawful (history_of i j
       let longer : take (k + 1) j.entries ≡ take k j.entries ++ x ∷ [] = take_one_more j.entries k x at in
       elim (cases_Bool (is_end i.period (cuts_since_end i (take k j.entries)) x)) [
         | inl yes_ ↦ (
-            let more : ends_of i (take (k + 1) j.entries) ≡ ends_of i (take k j.entries) + 1 = ap (λ ps. ends_of i ps) longer ∙ ends_with_end i (take k j.entries) x yes_ in
+            let more : ends_of i (take (k + 1) j.entries) ≡ ends_of i (take k j.entries) + 1 =
+            ap (λ ps. ends_of i ps) longer ∙ ends_with_end i (take k j.entries) x yes_ in
             ap (λ n. length (prices_at j.sheets n)) more ∙ (l.sheets_meet k x at yes_).one_each)
         | inr no_ ↦ (
             let same : ends_of i (take (k + 1) j.entries) ≡ ends_of i (take k j.entries) =
@@ -44,7 +46,8 @@ module _ (i : InstructionParts) (j : JournalParts) (l : IsLawful (history_of i j
 
   module _ (v : IsInstruction i) where
     -- each sheet that is in force somewhere has a price for each class
-    pub prices_number : (k : ℕ) → k ≤ length j.entries → length (prices_at j.sheets (ends_of i (take k j.entries))) ≡ classes i
+    pub prices_number : (k : ℕ) → k ≤ length j.entries
+        → length (prices_at j.sheets (ends_of i (take k j.entries))) ≡ classes i
     prices_number zero le = ap length l.base_sheet ∙ length-base_prices i v
     prices_number (suc k) le =
         let one : k + 1 ≡ suc k = omega arith in
@@ -67,7 +70,9 @@ module _ (i : InstructionParts) (j : JournalParts) (l : IsLawful (history_of i j
 
     -- each posting can be shown
     pub showable : All (λ x. IsShowable i j.sheets x) j.entries
-    showable = All-from_get_or (λ x. IsShowable i j.sheets x) j.entries none (λ k lt. showable_at k (get_or j.entries k none) (slice_get-get_or j.entries k none lt))
+    showable =
+        All-from_get_or (λ x. IsShowable i j.sheets x) j.entries none
+        (λ k lt. showable_at k (get_or j.entries k none) (slice_get-get_or j.entries k none lt))
       where
         none : Posting
         none = Demand (record { harvester = 0; number = 0; version = 0; targets = [] })

@@ -61,15 +61,27 @@ unsteered_more i ps us x u all one = record {
 }
 
 -- one log more
-pub wood_more : (s : SheetParts) (stem : StemParts) (logs : List Log) (i : ℕ) (g : Log) (w v x : Wood) → i < length logs → g ≡ get_or logs i g
+pub wood_more : (s : SheetParts) (stem : StemParts) (logs : List Log) (i : ℕ) (g : Log) (w v x : Wood) → i < length logs
+    → g ≡ get_or logs i g
     → IsWoodOf s stem (take i logs) w → IsWoodOf s stem (g ∷ []) v
-    → x.volume ≡ w.volume + v.volume → x.logged ≡ w.logged + v.logged → x.trim ≡ w.trim + v.trim → x.at_base ≡ w.at_base + v.at_base
+    → x.volume ≡ w.volume + v.volume → x.logged ≡ w.logged + v.logged → x.trim ≡ w.trim + v.trim
+    → x.at_base ≡ w.at_base + v.at_base
     → IsWoodOf s stem (take (i + 1) logs) x
 wood_more s stem logs i g w v x lt is a b volume logged trim at_base = record {
-  volume = omega (arith, volume, a.volume, b.volume, sum_by_more (log_volume stem) logs i g lt, ap (log_volume stem) is);
-  logged = omega (arith, logged, a.logged, b.logged, sum_by_more (λ (l : Log). l.length) logs i g lt, ap (λ (l : Log). l.length) is);
-  trim = omega (arith, trim, a.trim, b.trim, sum_by_more (trim_of s.instruction) logs i g lt, ap (trim_of s.instruction) is);
-  at_base = omega (arith, at_base, a.at_base, b.at_base, sum_by_more (worth_of s stem) logs i g lt, ap (worth_of s stem) is);
+  volume = omega
+      (arith, volume, a.volume, b.volume, sum_by_more (log_volume stem) logs i g lt, ap (log_volume stem) is);
+  logged = omega (
+    arith,
+    logged,
+    a.logged,
+    b.logged,
+    sum_by_more (λ (l : Log). l.length) logs i g lt,
+    ap (λ (l : Log). l.length) is,
+  );
+  trim = omega
+      (arith, trim, a.trim, b.trim, sum_by_more (trim_of s.instruction) logs i g lt, ap (trim_of s.instruction) is);
+  at_base =
+      omega (arith, at_base, a.at_base, b.at_base, sum_by_more (worth_of s stem) logs i g lt, ap (worth_of s stem) is);
 }
 
 -- the logs of an admissible cutting and their trim lie within their stem
@@ -90,14 +102,22 @@ passed_cut i e s logs best sheet same first worth sums =
     let u : EntryParts = record e { logs = logs; worth = best } in
     record {
       unsteered = Cut u;
-      is_unsteered = (refl, refl, subst (λ t. IsFirstBest t e.stem logs) same first, worth ∙ ap (λ t. cutting_worth t e.stem logs) same);
+      is_unsteered = (
+        refl,
+        refl,
+        subst (λ t. IsFirstBest t e.stem logs) same first,
+        worth
+            ∙ ap (λ t. cutting_worth t e.stem logs) same,
+      );
       logs_are = refl;
       sums = sums u refl;
     }
 
 -- one log more as it was cut
-pub pieces_more : (base : SheetParts) (prices : List ℕ) (stem : StemParts) (gs : List Log) (ps : List Piece) (g : Log) (p : Piece)
-    → ArePieces base prices stem gs ps → IsPiece base prices stem g p → ArePieces base prices stem (gs ++ g ∷ []) (ps ++ p ∷ [])
+pub pieces_more : (base : SheetParts) (prices : List ℕ) (stem : StemParts) (gs : List Log) (ps : List Piece) (g : Log)
+    (p : Piece)
+    → ArePieces base prices stem gs ps → IsPiece base prices stem g p
+    → ArePieces base prices stem (gs ++ g ∷ []) (ps ++ p ∷ [])
 pieces_more base prices stem gs ps g p all one = record {
   same_number = grind (arith, length-append, all.same_number);
   each = λ k a b ha hb.
@@ -108,12 +128,16 @@ pieces_more base prices stem gs ps g p all one = record {
         ]
         | inr h ↦ elim (slice_get-push ps p b k hb) [
           | inl w ↦ absurd (omega (arith, h.0, w.0, all.same_number))
-          | inr w ↦ subst (λ x. IsPiece base prices stem x b) (sym h.1) (subst (λ y. IsPiece base prices stem g y) (sym w.1) one)
+          | inr w ↦
+              subst (λ x. IsPiece base prices stem x b) (sym h.1)
+              (subst (λ y. IsPiece base prices stem g y) (sym w.1) one)
         ]
       ];
 }
 
 -- the logs of an admissible cutting of a posting's stem
-pub of_posting : (s : SheetParts) (e : EntryParts) (logs : List Log) → IsSheet s → IsStem e.stem → IsAdmissible s e.stem logs
+pub of_posting : (s : SheetParts) (e : EntryParts) (logs : List Log) → IsSheet s → IsStem e.stem
+    → IsAdmissible s e.stem logs
     → AreOfPosting s.instruction (Cut e) logs
-of_posting s e logs valid stem cut = (each_allowed s e.stem logs cut, few_logs s.instruction e.stem logs valid.valid stem cut)
+of_posting s e logs valid stem cut =
+    (each_allowed s e.stem logs cut, few_logs s.instruction e.stem logs valid.valid stem cut)

@@ -44,7 +44,8 @@ append_empty [] = refl
 append_empty (p ∷ ps) = ap (λ l. p ∷ l) (append_empty ps)
 
 -- a harvester's postings with one more of it, or of another
-own_more : (h : ℕ) (ps : List Posting) (x : Posting) → h ≡ harvester_of x → own_of h (ps ++ x ∷ []) ≡ own_of h ps ++ x ∷ []
+own_more : (h : ℕ) (ps : List Posting) (x : Posting) → h ≡ harvester_of x
+    → own_of h (ps ++ x ∷ []) ≡ own_of h ps ++ x ∷ []
 own_more h ps x is = elim (eqb_tells (harvester_of x) h) [
   | inl e ↦ filter-append (λ y. harvester_of y == h) ps (x ∷ []) ∙ ap (λ b. own_of h ps ++ cond b (x ∷ []) []) e.0
   | inr e ↦ absurd (e.1 (sym is))
@@ -53,7 +54,8 @@ own_more h ps x is = elim (eqb_tells (harvester_of x) h) [
 own_same : (h : ℕ) (ps : List Posting) (x : Posting) → h ≢ harvester_of x → own_of h (ps ++ x ∷ []) ≡ own_of h ps
 own_same h ps x ne = elim (eqb_tells (harvester_of x) h) [
   | inl e ↦ absurd (ne (sym e.1))
-  | inr e ↦ filter-append (λ y. harvester_of y == h) ps (x ∷ []) ∙ ap (λ b. own_of h ps ++ cond b (x ∷ []) []) e.0 ∙ append_empty (own_of h ps)
+  | inr e ↦ filter-append (λ y. harvester_of y == h) ps (x ∷ []) ∙ ap (λ b. own_of h ps ++ cond b (x ∷ []) []) e.0
+      ∙ append_empty (own_of h ps)
 ]
 
 -- the first place that passes with one posting more
@@ -67,7 +69,8 @@ first_from : (p : Posting → Bool) (n : ℕ) (ps : List Posting) (x : Posting)
 first_from p n [] x = ap (λ k. cond (p x) (Some k) None) (omega arith)
 first_from p n (y ∷ ps) x =
     let place : n + 1 + length ps ≡ n + length (y ∷ ps) = omega arith in
-    first_step (p y) n (position_from p (n + 1) (ps ++ x ∷ [])) (position_from p (n + 1) ps) (cond (p x) (Some (n + length (y ∷ ps))) None)
+    first_step (p y) n (position_from p (n + 1) (ps ++ x ∷ [])) (position_from p (n + 1) ps)
+    (cond (p x) (Some (n + length (y ∷ ps))) None)
     (first_from p (n + 1) ps x ∙ ap (λ k. option_or (position_from p (n + 1) ps) (cond (p x) (Some k) None)) place)
 
 first_more : (p : Posting → Bool) (ps : List Posting) (x : Posting)
@@ -94,7 +97,8 @@ no_cut h n (x ∷ ps) none = elim (cases_Bool (harvester_of x == h)) [
 ]
 
 -- the place of a posting of this harvester, if it is a cut
-place_of_own : (h at : ℕ) (x : Posting) → (harvester_of x == h) ≡ true → cond (is_cut_of h x) (Some at) None ≡ cut_place at x
+place_of_own : (h at : ℕ) (x : Posting) → (harvester_of x == h) ≡ true
+    → cond (is_cut_of h x) (Some at) None ≡ cut_place at x
 place_of_own h at (Cut e) own = ap (λ b. cond b (Some at) None) own
 place_of_own h at (Demand d) own = refl
 
@@ -102,13 +106,16 @@ or_none : (o : Option ℕ) → option_or o None ≡ o
 or_none None = refl
 or_none (Some n) = refl
 
-own_first : (h : ℕ) (ps : List Posting) (x : Posting) → h ≡ harvester_of x → position (is_cut_of h) (ps ++ x ∷ []) ≡ option_or (position (is_cut_of h) ps) (cut_place (length ps) x)
+own_first : (h : ℕ) (ps : List Posting) (x : Posting) → h ≡ harvester_of x
+    → position (is_cut_of h) (ps ++ x ∷ []) ≡ option_or (position (is_cut_of h) ps) (cut_place (length ps) x)
 own_first h ps x is = elim (eqb_tells (harvester_of x) h) [
-  | inl e ↦ first_more (is_cut_of h) ps x ∙ ap (option_or (position (is_cut_of h) ps)) (place_of_own h (length ps) x e.0)
+  | inl e ↦ first_more (is_cut_of h) ps x
+      ∙ ap (option_or (position (is_cut_of h) ps)) (place_of_own h (length ps) x e.0)
   | inr e ↦ absurd (e.1 (sym is))
 ]
 
-other_first : (h : ℕ) (ps : List Posting) (x : Posting) → h ≢ harvester_of x → position (is_cut_of h) (ps ++ x ∷ []) ≡ position (is_cut_of h) ps
+other_first : (h : ℕ) (ps : List Posting) (x : Posting) → h ≢ harvester_of x
+    → position (is_cut_of h) (ps ++ x ∷ []) ≡ position (is_cut_of h) ps
 other_first h ps x ne = elim (eqb_tells (harvester_of x) h) [
   | inl e ↦ absurd (ne (sym e.1))
   | inr e ↦
@@ -118,8 +125,10 @@ other_first h ps x ne = elim (eqb_tells (harvester_of x) h) [
 ]
 
 -- what is kept of the harvester of one posting more
-own_added : (i : InstructionParts) (h : ℕ) (ps us : List Posting) (x u : Posting) (one : Sums) (cut : Option ℕ) (before after : Option Own)
-    → cut ≡ cut_place (length ps) x → h ≡ harvester_of x → h ≡ harvester_of u → IsOwn i h ps us before → AreSums i (x ∷ []) (u ∷ []) one → IsAdded before h one cut after
+own_added : (i : InstructionParts) (h : ℕ) (ps us : List Posting) (x u : Posting) (one : Sums) (cut : Option ℕ)
+    (before after : Option Own)
+    → cut ≡ cut_place (length ps) x → h ≡ harvester_of x → h ≡ harvester_of u → IsOwn i h ps us before
+    → AreSums i (x ∷ []) (u ∷ []) one → IsAdded before h one cut after
     → IsOwn i h (ps ++ x ∷ []) (us ++ u ∷ []) after
 own_added i h ps us x u one cut before None place is is' own sums added = absurd added
 own_added i h ps us x u one cut None (Some o) place is is' own sums added =
@@ -132,15 +141,18 @@ own_added i h ps us x u one cut None (Some o) place is is' own sums added =
     )
 own_added i h ps us x u one cut (Some b) (Some o) place is is' own sums added = (
   added.0,
-  rw (own_more h ps x is, own_more h us u is') (sums_join i (own_of h ps) (x ∷ []) (own_of h us) (u ∷ []) b.sums one o.sums own.1 sums added.1),
-  added.2 ∙ ap (option_or b.first) place ∙ ap (λ o. option_or o (cut_place (length ps) x)) own.2 ∙ sym (own_first h ps x is),
+  rw (own_more h ps x is, own_more h us u is')
+      (sums_join i (own_of h ps) (x ∷ []) (own_of h us) (u ∷ []) b.sums one o.sums own.1 sums added.1),
+  added.2 ∙ ap (option_or b.first) place ∙ ap (λ o. option_or o (cut_place (length ps) x)) own.2
+      ∙ sym (own_first h ps x is),
 )
 
 -- and of the others
 own_kept : (i : InstructionParts) (h : ℕ) (ps us : List Posting) (x u : Posting) (o : Option Own)
     → h ≢ harvester_of x → h ≢ harvester_of u → IsOwn i h ps us o → IsOwn i h (ps ++ x ∷ []) (us ++ u ∷ []) o
 own_kept i h ps us x u None ne ne' own = (own_same h ps x ne ∙ own.0, own_same h us u ne' ∙ own.1)
-own_kept i h ps us x u (Some o) ne ne' own = (own.0, rw (own_same h ps x ne, own_same h us u ne') own.1, own.2 ∙ sym (other_first h ps x ne))
+own_kept i h ps us x u (Some o) ne ne' own =
+    (own.0, rw (own_same h ps x ne, own_same h us u ne') own.1, own.2 ∙ sym (other_first h ps x ne))
 
 -- the class counts with one posting more
 counted : (i : InstructionParts) (ps : List Posting) (x : Posting) (before after : List ℕ)
@@ -151,28 +163,35 @@ counted i ps (Cut e) before after counts more = record {
 }
 counted i ps (Demand d) before after counts more = record {
   one_each = ap length more ∙ counts.one_each;
-  each = λ c k. (let same : slice_index after (index_of i c) ≡ slice_index before (index_of i c) = ap (λ l. slice_index l (index_of i c)) more in
+  each = λ c k.
+      (let same : slice_index after (index_of i c) ≡ slice_index before (index_of i c) =
+      ap (λ l. slice_index l (index_of i c)) more in
       omega (arith, same, counts.each c k, sum_by_push (λ x. class_logs_in i c x) ps (Demand d)));
 }
 
 -- what is counted unsteered is the unsteered posting's
-unsteered_counts : (i : InstructionParts) (x u : Posting) (logs : List Log) (before after : List ℕ) → IsUnsteered i x u → logs ≡ logs_of u
+unsteered_counts : (i : InstructionParts) (x u : Posting) (logs : List Log) (before after : List ℕ) → IsUnsteered i x u
+    → logs ≡ logs_of u
     → AreCountsOn i x logs before after → AreCountsOn i u (logs_of u) before after
 unsteered_counts i (Cut e) (Cut u) logs before after is same counts =
-    subst (λ (t : StemParts). AreCountsWith i t u.logs before after) (sym is.1) (subst (λ l. AreCountsWith i e.stem l before after) same counts)
+    subst (λ (t : StemParts). AreCountsWith i t u.logs before after) (sym is.1)
+    (subst (λ l. AreCountsWith i e.stem l before after) same counts)
 unsteered_counts i (Demand d) (Demand u) logs before after is same counts = counts
 unsteered_counts i (Cut e) (Demand u) logs before after is same counts = absurd is
 unsteered_counts i (Demand d) (Cut u) logs before after is same counts = absurd is
 
 -- one posting more
-pub tally_more : (i : InstructionParts) (ps us : List Posting) (x : Posting) (at h : ℕ) (one : Sums) (logs : List Log) (cut : Option ℕ) (before after : Tally)
-    → length ps ≡ at → cut ≡ cut_place at x → h ≡ harvester_of x → IsTally i ps us before → IsPassed i x one logs → AreSumsTogether before.total one after.total
+pub tally_more : (i : InstructionParts) (ps us : List Posting) (x : Posting) (at h : ℕ) (one : Sums) (logs : List Log)
+    (cut : Option ℕ) (before after : Tally)
+    → length ps ≡ at → cut ≡ cut_place at x → h ≡ harvester_of x → IsTally i ps us before → IsPassed i x one logs
+    → AreSumsTogether before.total one after.total
     → IsAdded (get nat_cmp before.owns h) h one cut (get nat_cmp after.owns h)
     → ((k : ℕ) → k ≢ h → get nat_cmp after.owns k ≡ get nat_cmp before.owns k)
     → AreCountsOn i x (logs_of x) before.counts.items after.counts.items
     → AreCountsOn i x logs before.unsteered.items after.unsteered.items
     → IsTallyWith i ps us x one after
-tally_more i ps us x at h one logs cut before after number place is tally passed together added others counts unsteered =
+tally_more i ps us x at h one logs cut before after number place is tally passed together added others counts
+    unsteered =
     let u = passed.unsteered in
     let is' : h ≡ harvester_of u = is ∙ sym (same_harvester i x u passed.is_unsteered) in
     let there : cut ≡ cut_place (length ps) x = place ∙ ap (λ k. cut_place k x) (sym number) in
@@ -184,33 +203,49 @@ tally_more i ps us x at h one logs cut before after number place is tally passed
         total = sums_join i ps (x ∷ []) us (u ∷ []) before.total one after.total tally.total passed.sums together;
         owns = λ k. elim (eqb_tells k h) [
           | inl e ↦ subst (λ n. IsOwn i n (ps ++ x ∷ []) (us ++ u ∷ []) (get nat_cmp after.owns n)) (sym e.1)
-              (own_added i h ps us x u one cut (get nat_cmp before.owns h) (get nat_cmp after.owns h) there is is' (tally.owns h) passed.sums added)
+              (own_added i h ps us x u one cut (get nat_cmp before.owns h) (get nat_cmp after.owns h) there is is'
+              (tally.owns h) passed.sums added)
           | inr e ↦ subst (λ o. IsOwn i k (ps ++ x ∷ []) (us ++ u ∷ []) o) (sym (others k e.1))
-              (own_kept i k ps us x u (get nat_cmp before.owns k) (λ q. e.1 (q ∙ sym is)) (λ q. e.1 (q ∙ sym is')) (tally.owns k))
+              (own_kept i k ps us x u (get nat_cmp before.owns k) (λ q. e.1 (q ∙ sym is)) (λ q. e.1 (q ∙ sym is'))
+              (tally.owns k))
         ];
         counts = counted i ps x before.counts.items after.counts.items tally.counts counts;
         unsteered = counted i us u before.unsteered.items after.unsteered.items tally.unsteered
-            (unsteered_counts i x u logs before.unsteered.items after.unsteered.items passed.is_unsteered passed.logs_are unsteered);
+            (unsteered_counts i x u logs before.unsteered.items after.unsteered.items passed.is_unsteered
+            passed.logs_are unsteered);
       };
     }
 
 -- as few cuts and demands as postings
 few_cuts : (ps : List Posting) → (sum_by cuts_in ps ≤ length ps) × (sum_by demands_in ps ≤ length ps)
 few_cuts [] = (omega arith, omega arith)
-few_cuts (Cut e ∷ ps) = (omega (arith, (few_cuts ps).0, sum_by-cons cuts_in (Cut e) ps), omega (arith, (few_cuts ps).1, sum_by-cons demands_in (Cut e) ps))
-few_cuts (Demand d ∷ ps) = (omega (arith, (few_cuts ps).0, sum_by-cons cuts_in (Demand d) ps), omega (arith, (few_cuts ps).1, sum_by-cons demands_in (Demand d) ps))
+few_cuts (Cut e ∷ ps) = (
+  omega (arith, (few_cuts ps).0, sum_by-cons cuts_in (Cut e) ps),
+  omega (arith, (few_cuts ps).1, sum_by-cons demands_in (Cut e) ps),
+)
+few_cuts (Demand d ∷ ps) = (
+  omega (arith, (few_cuts ps).0, sum_by-cons cuts_in (Demand d) ps),
+  omega (arith, (few_cuts ps).1, sum_by-cons demands_in (Demand d) ps),
+)
 
 -- there is room for one more in all sums
-pub below_total : (i : InstructionParts) (ps us : List Posting) (t : Tally) → length ps < 1000000 → IsTally i ps us t → IsBelow t.total
+pub below_total : (i : InstructionParts) (ps us : List Posting) (t : Tally) → length ps < 1000000 → IsTally i ps us t
+    → IsBelow t.total
 below_total i ps us t few tally = record {
   stems = omega (arith, few, tally.total.stems, (few_cuts ps).0);
   demands = omega (arith, few, tally.total.demands, (few_cuts ps).1);
 }
 
-below_own : (i : InstructionParts) (h : ℕ) (ps us : List Posting) (o : Option Own) → length ps < 1000000 → IsOwn i h ps us o → IfSome o (λ w. IsBelow w.sums)
+below_own : (i : InstructionParts) (h : ℕ) (ps us : List Posting) (o : Option Own) → length ps < 1000000
+    → IsOwn i h ps us o → IfSome o (λ w. IsBelow w.sums)
 below_own i h ps us None few own = tt
 below_own i h ps us (Some o) few own =
-    let less : length (own_of h ps) ≤ length ps = omega (arith, length-filter (λ (x : Posting). harvester_of x == h) ps, count_by-le-length (λ (x : Posting). harvester_of x == h) ps) in
+    let less : length (own_of h ps) ≤ length ps =
+    omega (
+      arith,
+      length-filter (λ (x : Posting). harvester_of x == h) ps,
+      count_by-le-length (λ (x : Posting). harvester_of x == h) ps,
+    ) in
     record {
       stems = omega (arith, few, less, own.1.stems, (few_cuts (own_of h ps)).0);
       demands = omega (arith, few, less, own.1.demands, (few_cuts (own_of h ps)).1);
@@ -233,7 +268,8 @@ tally_none i t sums none counts unsteered = record {
     zeros : (l : List ℕ) → l ≡ replicate (classes i) 0 → AreClassCounts i [] l
     zeros l e = record {
       one_each = ap length e ∙ length-replicate (classes i) 0;
-      each = λ c k. ap (λ m. slice_index m (index_of i c)) e ∙ get_or-replicate (classes i) (index_of i c) 0 0 (place_lt i c k);
+      each = λ c k. ap (λ m. slice_index m (index_of i c)) e
+          ∙ get_or-replicate (classes i) (index_of i c) 0 0 (place_lt i c k);
     }
 
 -- no class has a log

@@ -44,7 +44,8 @@ seats_in h k (x ∷ xs) r lt le =
           omega arith)
     ]
 
-pub crew_of_new : (n : ℕ) (seats : List SeatParts) → length seats ≡ n → ((i : ℕ) (d : SeatParts) → i < n → (get_or seats i d).harvester ≡ i + 1) → IsCrew n seats
+pub crew_of_new : (n : ℕ) (seats : List SeatParts) → length seats ≡ n
+    → ((i : ℕ) (d : SeatParts) → i < n → (get_or seats i d).harvester ≡ i + 1) → IsCrew n seats
 crew_of_new n seats number each =
     let rising : Rising 0 seats = λ i d lt. each i d (omega arith) ∙ omega arith in
     record {
@@ -52,7 +53,9 @@ crew_of_new n seats number each =
       once = λ h pos le. seats_in h 0 seats rising pos (omega arith);
     }
 
-pub parts_same : (xs ys : List SeatParts) → length ys ≡ length xs → ((i : ℕ) (d : SeatParts) → i < length xs → (get_or ys i d).parts ≡ (get_or xs i d).parts) → parts_of ys ≡ parts_of xs
+pub parts_same : (xs ys : List SeatParts) → length ys ≡ length xs
+    → ((i : ℕ) (d : SeatParts) → i < length xs → (get_or ys i d).parts ≡ (get_or xs i d).parts)
+    → parts_of ys ≡ parts_of xs
 parts_same [] [] len e = refl
 parts_same [] (y ∷ ys) len e = absurd (omega arith)
 parts_same (x ∷ xs) [] len e = absurd (omega arith)
@@ -63,7 +66,9 @@ parts_same (x ∷ xs) (y ∷ ys) len e =
     let t = parts_same xs ys (omega arith) (λ i d lt. e (suc i) d (omega arith)) in
     omega arith
 
-seats_same : (h : ℕ) (xs ys : List SeatParts) → length ys ≡ length xs → ((i : ℕ) (d : SeatParts) → i < length xs → (get_or ys i d).harvester ≡ (get_or xs i d).harvester) → seats_of h ys ≡ seats_of h xs
+seats_same : (h : ℕ) (xs ys : List SeatParts) → length ys ≡ length xs
+    → ((i : ℕ) (d : SeatParts) → i < length xs → (get_or ys i d).harvester ≡ (get_or xs i d).harvester)
+    → seats_of h ys ≡ seats_of h xs
 seats_same h [] [] len e = refl
 seats_same h [] (y ∷ ys) len e = absurd (omega arith)
 seats_same h (x ∷ xs) [] len e = absurd (omega arith)
@@ -75,8 +80,11 @@ seats_same h (x ∷ xs) (y ∷ ys) len e =
     let t = seats_same h xs ys (omega arith) (λ i d lt. e (suc i) d (omega arith)) in
     omega arith
 
-pub crew_same : (n : ℕ) (xs ys : List SeatParts) → length ys ≡ length xs → ((i : ℕ) (d : SeatParts) → i < length xs → (get_or ys i d).harvester ≡ (get_or xs i d).harvester) → IsCrew n xs → IsCrew n ys
+pub crew_same : (n : ℕ) (xs ys : List SeatParts) → length ys ≡ length xs
+    → ((i : ℕ) (d : SeatParts) → i < length xs → (get_or ys i d).harvester ≡ (get_or xs i d).harvester) → IsCrew n xs
+    → IsCrew n ys
 crew_same n xs ys len e crew = record {
-  within = λ i d lt. (let w = crew.within i d (omega arith) in let is = e i d (omega arith) in (omega arith, omega arith));
+  within = λ i d lt.
+      (let w = crew.within i d (omega arith) in let is = e i d (omega arith) in (omega arith, omega arith));
   once = λ h pos le. seats_same h xs ys len e ∙ crew.once h pos le;
 }

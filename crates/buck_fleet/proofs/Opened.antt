@@ -10,7 +10,8 @@ use Rattle.buck_fleet.specs.Seat.{SeatParts}
 use Rattle.buck_fleet.specs.Crew.{parts_of, IsNew}
 
 -- what is true of all is true of the last one and of the others
-pub all_but_last : {A : Type 0} (P : A → Type 0) (all rest : List A) (x : A) → all ≡ rest ++ x ∷ [] → All P all → All P rest × P x
+pub all_but_last : {A : Type 0} (P : A → Type 0) (all rest : List A) (x : A) → all ≡ rest ++ x ∷ [] → All P all
+    → All P rest × P x
 all_but_last P all rest x is p =
     let p' : All P (rest ++ x ∷ []) = subst (λ (l : List _). All P l) is p in
     let n = length_push rest x in (
@@ -22,21 +23,30 @@ all_but_last P all rest x is p =
 abbrev pub AreNew : Board → List SeatParts → Type 0
 AreNew b seats = (i : ℕ) (d : SeatParts) → i < length seats → IsNew b i (get_or seats i d)
 
-pub is_new : (b : Board) (n : ℕ) (s : SeatParts) (h : ℕ) (p : BoardSeat) (parts : ℕ) → s ≡ record { harvester = h; place = p; kept = []; parts = parts; stopped = None } → h ≡ n + 1 → IsSeatOf b p → seen_by p ≡ 0 → IsNew b n s
-is_new b n s h p parts e eh of unseen = subst (IsNew b n) (sym e) (record { harvester_is = eh; nothing_kept = refl; nothing_seen = unseen; of_board = of })
+pub is_new : (b : Board) (n : ℕ) (s : SeatParts) (h : ℕ) (p : BoardSeat) (parts : ℕ)
+    → s ≡ record { harvester = h; place = p; kept = []; parts = parts; stopped = None } → h ≡ n + 1 → IsSeatOf b p
+    → seen_by p ≡ 0 → IsNew b n s
+is_new b n s h p parts e eh of unseen =
+    subst (IsNew b n) (sym e) (record { harvester_is = eh; nothing_kept = refl; nothing_seen = unseen; of_board = of })
 
-pub one_more_new : (b : Board) (seats after : List SeatParts) (s : SeatParts) → after ≡ seats ++ s ∷ [] → AreNew b seats → IsNew b (length seats) s → AreNew b after
+pub one_more_new : (b : Board) (seats after : List SeatParts) (s : SeatParts) → after ≡ seats ++ s ∷ [] → AreNew b seats
+    → IsNew b (length seats) s → AreNew b after
 one_more_new b seats after s is new one = subst (AreNew b) (sym is) (λ i d lt. (
     let n = length_push seats s in
     elim (split i (length seats) (omega arith)) [
       | inl less ↦ subst (IsNew b i) (sym (get_or_append_left seats (s ∷ []) d i less)) (new i d less)
-      | inr same ↦ subst (λ (k : ℕ). IsNew b k (get_or (seats ++ s ∷ []) k d)) (sym same) (subst (IsNew b (length seats)) (sym (get_or_push seats s d (length seats) refl)) one)
+      | inr same ↦
+          subst (λ (k : ℕ). IsNew b k (get_or (seats ++ s ∷ []) k d)) (sym same)
+          (subst (IsNew b (length seats)) (sym (get_or_push seats s d (length seats) refl)) one)
     ])) where
       split : (i n : ℕ) → i < n + 1 → (i < n) ⊎ (i ≡ n)
       split i n lt = grind arith
 
-pub one_more_parts : (seats after : List SeatParts) (s : SeatParts) → after ≡ seats ++ s ∷ [] → parts_of after ≡ parts_of seats + s.parts
-one_more_parts seats after s is = ap parts_of is ∙ sum_by-append (λ (x : SeatParts). x.parts) seats (s ∷ []) ∙ (omega arith)
+pub one_more_parts : (seats after : List SeatParts) (s : SeatParts) → after ≡ seats ++ s ∷ []
+    → parts_of after ≡ parts_of seats + s.parts
+one_more_parts seats after s is = ap parts_of is ∙ sum_by-append (λ (x : SeatParts). x.parts) seats (s ∷ [])
+    ∙ (omega arith)
 
-pub one_more_long : (seats after : List SeatParts) (s : SeatParts) → after ≡ seats ++ s ∷ [] → length after ≡ length seats + 1
+pub one_more_long : (seats after : List SeatParts) (s : SeatParts) → after ≡ seats ++ s ∷ []
+    → length after ≡ length seats + 1
 one_more_long seats after s is = ap (λ (l : List SeatParts). length l) is ∙ length_push seats s

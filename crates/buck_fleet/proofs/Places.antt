@@ -26,7 +26,8 @@ seats_of-append h xs ys = sum_by-append (λ (s : SeatParts). cond (s.harvester =
 pub seats_of-self : (s : SeatParts) → seats_of s.harvester (s ∷ []) ≡ 1
 seats_of-self s = rw (eq-eqb s.harvester s.harvester refl) refl
 
-not_at : (h : ℕ) (xs : List SeatParts) (k : ℕ) (d : SeatParts) → seats_of h xs ≡ 0 → k < length xs → (get_or xs k d).harvester ≢ h
+not_at : (h : ℕ) (xs : List SeatParts) (k : ℕ) (d : SeatParts) → seats_of h xs ≡ 0 → k < length xs
+    → (get_or xs k d).harvester ≢ h
 not_at h [] k d e lt = absurd (omega arith)
 not_at h (x ∷ xs) zero d e lt = λ is. (
     let a : seats_of h (x ∷ xs) ≡ seats_of h (x ∷ []) + seats_of h xs = seats_of-append h (x ∷ []) xs in
@@ -50,11 +51,13 @@ empty_at [] i e = refl
 empty_at (x ∷ xs) zero e = e 0 [] (omega arith)
 empty_at (x ∷ xs) (suc i) e = empty_at xs i (λ k d lt. e (suc k) d (omega arith))
 
-filled_more : (lists : List (List Kept)) (s : SeatParts) (done : List SeatParts) (k : ℕ) (d : SeatParts) → 0 < s.harvester → s.harvester - 1 < length lists → seats_of s.harvester done ≡ 0
+filled_more : (lists : List (List Kept)) (s : SeatParts) (done : List SeatParts) (k : ℕ) (d : SeatParts)
+    → 0 < s.harvester → s.harvester - 1 < length lists → seats_of s.harvester done ≡ 0
     → ((k' : ℕ) → k' < length done → 0 < (get_or done k' d).harvester)
     → ((k' : ℕ) → k' < length done → get_or lists ((get_or done k' d).harvester - 1) [] ≡ (get_or done k' d).kept)
     → k < length (s ∷ done)
-    → get_or (set lists (s.harvester - 1) s.kept) ((get_or (s ∷ done) k d).harvester - 1) [] ≡ (get_or (s ∷ done) k d).kept
+    → get_or (set lists (s.harvester - 1) s.kept) ((get_or (s ∷ done) k d).harvester - 1) []
+    ≡ (get_or (s ∷ done) k d).kept
 filled_more lists s done zero d pos room nil all_pos filled lt = get_or-set_same lists (s.harvester - 1) s.kept [] room
 filled_more lists s done (suc k) d pos room nil all_pos filled lt =
     let lt' : k < length done = omega arith in
@@ -74,21 +77,30 @@ places_none all lists empty = record {
   filled = λ k d lt. absurd (omega arith);
 }
 
-pub places_one : (all rest rest' : List SeatParts) (s : SeatParts) (lists : List (List Kept)) (parts amount : ℕ) → IsCrew (length lists) all → rest ≡ rest' ++ s ∷ [] → Places all rest lists parts amount
-    → (0 < s.harvester) × (s.harvester ≤ length lists) × Places all rest' (set lists (s.harvester - 1) s.kept) (parts + s.parts) (amount + length s.kept)
+pub places_one : (all rest rest' : List SeatParts) (s : SeatParts) (lists : List (List Kept)) (parts amount : ℕ)
+    → IsCrew (length lists) all → rest ≡ rest' ++ s ∷ [] → Places all rest lists parts amount
+    → (0 < s.harvester) × (s.harvester ≤ length lists)
+    × Places all rest' (set lists (s.harvester - 1) s.kept) (parts + s.parts) (amount + length s.kept)
 places_one all rest rest' s lists parts amount crew is p =
     let h = s.harvester in
-    let split' : all ≡ rest' ++ s ∷ p.done = p.split ∙ ap (λ (xs : List SeatParts). xs ++ p.done) is ∙ append_assoc rest' (s ∷ []) p.done in
-    let long : length all ≡ length rest' + (length p.done + 1) = ap (λ (xs : List SeatParts). length xs) split' ∙ length-append rest' (s ∷ p.done) ∙ ap (λ (n : ℕ). length rest' + n) (omega arith) in
-    let at_s : get_or all (length rest') s ≡ s = ap (λ (xs : List SeatParts). get_or xs (length rest') s) split' ∙ get_or-append_seam rest' s p.done s in
-    let within : (0 < h) × (h ≤ length lists) = subst (λ (x : SeatParts). (0 < x.harvester) × (x.harvester ≤ length lists)) at_s (crew.within (length rest') s (omega arith)) in
+    let split' : all ≡ rest' ++ s ∷ p.done = p.split ∙ ap (λ (xs : List SeatParts). xs ++ p.done) is
+    ∙ append_assoc rest' (s ∷ []) p.done in
+    let long : length all ≡ length rest' + (length p.done + 1) = ap (λ (xs : List SeatParts). length xs) split'
+    ∙ length-append rest' (s ∷ p.done) ∙ ap (λ (n : ℕ). length rest' + n) (omega arith) in
+    let at_s : get_or all (length rest') s ≡ s = ap (λ (xs : List SeatParts). get_or xs (length rest') s) split'
+    ∙ get_or-append_seam rest' s p.done s in
+    let within : (0 < h) × (h ≤ length lists) =
+    subst (λ (x : SeatParts). (0 < x.harvester) × (x.harvester ≤ length lists)) at_s
+    (crew.within (length rest') s (omega arith)) in
     let once : seats_of h all ≡ 1 = crew.once h within.0 within.1 in
-    let t1 : seats_of h all ≡ seats_of h rest' + seats_of h (s ∷ p.done) = ap (seats_of h) split' ∙ seats_of-append h rest' (s ∷ p.done) in
+    let t1 : seats_of h all ≡ seats_of h rest' + seats_of h (s ∷ p.done) = ap (seats_of h) split'
+    ∙ seats_of-append h rest' (s ∷ p.done) in
     let t2 : seats_of h (s ∷ p.done) ≡ seats_of h (s ∷ []) + seats_of h p.done = seats_of-append h (s ∷ []) p.done in
     let t3 : seats_of h (s ∷ []) ≡ 1 = seats_of-self s in
     let no_rest : seats_of h rest' ≡ 0 = omega (arith, once, t1, t2, t3) in
     let no_done : seats_of h p.done ≡ 0 = omega (arith, once, t1, t2, t3) in
-    let grow : (x : ℕ) → seats_of x rest ≡ seats_of x rest' + seats_of x (s ∷ []) = λ x. ap (seats_of x) is ∙ seats_of-append x rest' (s ∷ []) in
+    let grow : (x : ℕ) → seats_of x rest ≡ seats_of x rest' + seats_of x (s ∷ []) = λ x. ap (seats_of x) is
+    ∙ seats_of-append x rest' (s ∷ []) in
     let room : h - 1 < length lists = omega (arith, within.0, within.1) in
     let was : get_or lists (h - 1) [] ≡ [] = p.empty h within.0 (let g = grow h in omega (arith, g, t3)) in
     let summed = sum_by-set (λ (l : List Kept). length l) lists (h - 1) s.kept [] room in
@@ -98,17 +110,23 @@ places_one all rest rest' s lists parts amount crew is p =
       record {
         done = s ∷ p.done;
         split = split';
-        parts_are = (let a = sum_by-append (λ (x : SeatParts). x.parts) (s ∷ []) p.done in omega (arith, a, p.parts_are));
+        parts_are =
+            (let a = sum_by-append (λ (x : SeatParts). x.parts) (s ∷ []) p.done in omega (arith, a, p.parts_are));
         amount_is = omega (arith, summed, no_len, p.amount_is);
         empty = λ x pos some.
-            let ne : x ≢ h = λ e. (let z : seats_of h rest' ≡ seats_of x rest' = ap (λ (n : ℕ). seats_of n rest') (sym e) in omega (arith, z, some, no_rest)) in
+            let ne : x ≢ h =
+            λ e. (let z : seats_of h rest' ≡ seats_of x rest' = ap (λ (n : ℕ). seats_of n rest') (sym e) in
+            omega (arith, z, some, no_rest)) in
             let ne1 : x - 1 ≢ h - 1 = λ e. ne (omega (arith, e, pos, within.0)) in
             let g = grow x in
             get_or-set_other lists (h - 1) (x - 1) s.kept [] ne1 ∙ p.empty x pos (omega (arith, g, some));
         filled = λ k d lt. filled_more lists s p.done k d within.0 room no_done
             (λ k' lt'. (
-            let idx : get_or all (length rest + k') d ≡ get_or p.done k' d = ap (λ (xs : List SeatParts). get_or xs (length rest + k') d) p.split ∙ get_or-append-add rest p.done k' d in
-            let n : length all ≡ length rest + length p.done = ap (λ (xs : List SeatParts). length xs) p.split ∙ length-append rest p.done in
+            let idx : get_or all (length rest + k') d ≡ get_or p.done k' d =
+            ap (λ (xs : List SeatParts). get_or xs (length rest + k') d) p.split
+            ∙ get_or-append-add rest p.done k' d in
+            let n : length all ≡ length rest + length p.done = ap (λ (xs : List SeatParts). length xs) p.split
+            ∙ length-append rest p.done in
             let w = crew.within (length rest + k') d (omega (arith, n, lt')) in
             let v : 0 < (get_or p.done k' d).harvester = subst (λ (x : SeatParts). 0 < x.harvester) idx w.0 in v))
             (λ k' lt'. p.filled k' d lt') lt;

@@ -10,15 +10,18 @@ use Rattle.buck_fleet.specs.declared.seat.Kept.{Kept}
 use Rattle.buck_fleet.specs.Closed.{DifferFirstAt, replies_from}
 
 take_seam : (k : ℕ) (xs ys : List Kept) → k ≤ length xs → take k (take k xs ++ ys) ≡ take k xs
-take_seam k xs ys le = ap (λ (n : ℕ). take n (take k xs ++ ys)) (sym (length-take-le k xs le)) ∙ take-append_seam (take k xs) ys
+take_seam k xs ys le = ap (λ (n : ℕ). take n (take k xs ++ ys)) (sym (length-take-le k xs le))
+    ∙ take-append_seam (take k xs) ys
 
-get_seam : (k : ℕ) (xs : List Kept) (y : Kept) (ys : List Kept) → k ≤ length xs → slice_get (take k xs ++ y ∷ ys) k ≡ Some y
+get_seam : (k : ℕ) (xs : List Kept) (y : Kept) (ys : List Kept) → k ≤ length xs
+    → slice_get (take k xs ++ y ∷ ys) k ≡ Some y
 get_seam zero xs y ys le = refl
 get_seam (suc k) [] y ys le = absurd (omega arith)
 get_seam (suc k) (x ∷ xs) y ys le = get_seam k xs y ys (omega arith)
 
 -- up to k they are alike, and there the history goes on with a reply that isn't kept there
-pub differ_here : (k : ℕ) (kept replies : List Kept) (y : Kept) (ys : List Kept) → k ≤ length kept → replies ≡ take k kept ++ y ∷ ys → slice_get kept k ≢ Some y → DifferFirstAt (k + 1) kept replies
+pub differ_here : (k : ℕ) (kept replies : List Kept) (y : Kept) (ys : List Kept) → k ≤ length kept
+    → replies ≡ take k kept ++ y ∷ ys → slice_get kept k ≢ Some y → DifferFirstAt (k + 1) kept replies
 differ_here k kept replies y ys le is ne =
     let back : k + 1 - 1 ≡ k = omega arith in
     record {
@@ -28,39 +31,56 @@ differ_here k kept replies y ys le is ne =
     }
 
 -- up to k they are alike, and there the history has no more replies
-pub differ_end : (k : ℕ) (kept replies : List Kept) → k < length kept → replies ≡ take k kept ++ [] → DifferFirstAt (k + 1) kept replies
+pub differ_end : (k : ℕ) (kept replies : List Kept) → k < length kept → replies ≡ take k kept ++ []
+    → DifferFirstAt (k + 1) kept replies
 differ_end k kept replies lt is =
     let back : k + 1 - 1 ≡ k = omega arith in
-    let past : slice_get replies k ≡ None = ap (λ (l : List Kept). slice_get l k) is ∙ slice_get_past (take k kept ++ []) k (omega (arith, length-append (take k kept) [], length-take-le k kept (omega arith))) in
+    let past : slice_get replies k ≡ None = ap (λ (l : List Kept). slice_get l k) is
+    ∙ slice_get_past (take k kept ++ []) k
+    (omega (arith, length-append (take k kept) [], length-take-le k kept (omega arith))) in
     record {
       from_one = omega arith;
       like_before = rw (back, is) (sym (take_seam k kept [] (omega arith)));
-      unlike_there = rw back (λ e. elim ((slice_get_cases kept k).1) [ inl s ↦ none-some s.0 (sym past ∙ sym e ∙ s.2) | inr n ↦ absurd (omega (arith, n.0)) ]);
+      unlike_there =
+          rw back (λ e. elim ((slice_get_cases kept k).1)
+          [ inl s ↦ none-some s.0 (sym past ∙ sym e ∙ s.2) | inr n ↦ absurd (omega (arith, n.0)) ]);
     }
 
 -- a posting of the harvester is the next reply
-reply_at : (h i : ℕ) (entries : List Posting) (x : Posting) → i < length entries → x ≡ get_or entries i x → (harvester_of x == h) ≡ true
-    → replies_from h i (drop i entries) ≡ (record { position = i; entry = x }) ∷ replies_from h (i + 1) (drop (i + 1) entries)
+reply_at : (h i : ℕ) (entries : List Posting) (x : Posting) → i < length entries → x ≡ get_or entries i x
+    → (harvester_of x == h) ≡ true
+    → replies_from h i (drop i entries) ≡ (record { position = i; entry = x })
+    ∷ replies_from h (i + 1) (drop (i + 1) entries)
 reply_at h i entries x lt at own =
-    let here : drop i entries ≡ x ∷ drop (i + 1) entries = rw add-one (drop-cons entries i x lt) ∙ ap (λ (z : Posting). z ∷ drop (i + 1) entries) (sym at) in
-    let own' : replies_from h i (x ∷ drop (i + 1) entries) ≡ (record { position = i; entry = x }) ∷ replies_from h (i + 1) (drop (i + 1) entries) = rw own refl in
+    let here : drop i entries ≡ x ∷ drop (i + 1) entries = rw add-one (drop-cons entries i x lt)
+    ∙ ap (λ (z : Posting). z ∷ drop (i + 1) entries) (sym at) in
+    let own' : replies_from h i (x ∷ drop (i + 1) entries) ≡ (record { position = i; entry = x })
+    ∷ replies_from h (i + 1) (drop (i + 1) entries) = rw own refl in
     ap (λ (l : List Posting). replies_from h i l) here ∙ own'
 
 -- the kept list ends before the harvester's posting i
-pub kept_ends : (h k i : ℕ) (kept : List Kept) (entries : List Posting) (x : Posting) → replies_from h 0 entries ≡ take k kept ++ replies_from h i (drop i entries)
-    → k ≤ length kept → length kept ≤ k → i < length entries → x ≡ get_or entries i x → (harvester_of x == h) ≡ true → DifferFirstAt (k + 1) kept (replies_from h 0 entries)
+pub kept_ends : (h k i : ℕ) (kept : List Kept) (entries : List Posting) (x : Posting)
+    → replies_from h 0 entries ≡ take k kept ++ replies_from h i (drop i entries)
+    → k ≤ length kept → length kept ≤ k → i < length entries → x ≡ get_or entries i x → (harvester_of x == h) ≡ true
+    → DifferFirstAt (k + 1) kept (replies_from h 0 entries)
 kept_ends h k i kept entries x is le ge lt at own =
-    differ_here k kept _ _ _ le (is ∙ ap (λ (l : List Kept). take k kept ++ l) (reply_at h i entries x lt at own)) (λ e. none-some _ (sym (slice_get_past kept k ge) ∙ e))
+    differ_here k kept _ _ _ le (is ∙ ap (λ (l : List Kept). take k kept ++ l) (reply_at h i entries x lt at own))
+    (λ e. none-some _ (sym (slice_get_past kept k ge) ∙ e))
 
 -- another reply is kept than the harvester's posting i
-pub kept_other : (h k i : ℕ) (kept : List Kept) (entries : List Posting) (x : Posting) (y : Kept) → replies_from h 0 entries ≡ take k kept ++ replies_from h i (drop i entries)
-    → k < length kept → i < length entries → x ≡ get_or entries i x → (harvester_of x == h) ≡ true → y ≡ get_or kept k y → y ≢ record { position = i; entry = x }
+pub kept_other : (h k i : ℕ) (kept : List Kept) (entries : List Posting) (x : Posting) (y : Kept)
+    → replies_from h 0 entries ≡ take k kept ++ replies_from h i (drop i entries)
+    → k < length kept → i < length entries → x ≡ get_or entries i x → (harvester_of x == h) ≡ true → y ≡ get_or kept k y
+    → y ≢ record { position = i; entry = x }
     → DifferFirstAt (k + 1) kept (replies_from h 0 entries)
 kept_other h k i kept entries x y is lt_k lt at own at_k ne =
-    differ_here k kept _ _ _ (omega arith) (is ∙ ap (λ (l : List Kept). take k kept ++ l) (reply_at h i entries x lt at own))
+    differ_here k kept _ _ _ (omega arith)
+    (is ∙ ap (λ (l : List Kept). take k kept ++ l) (reply_at h i entries x lt at own))
     (λ e. ne (same_Some _ _ (ap Some at_k ∙ sym (slice_get-get_or kept k y lt_k) ∙ e)))
 
 -- more is kept than the harvester's postings
-pub kept_more : (h k i : ℕ) (kept : List Kept) (entries : List Posting) → replies_from h 0 entries ≡ take k kept ++ replies_from h i (drop i entries)
+pub kept_more : (h k i : ℕ) (kept : List Kept) (entries : List Posting)
+    → replies_from h 0 entries ≡ take k kept ++ replies_from h i (drop i entries)
     → k < length kept → length entries ≤ i → DifferFirstAt (k + 1) kept (replies_from h 0 entries)
-kept_more h k i kept entries is lt past = differ_end k kept _ lt (is ∙ ap (λ (l : List Posting). take k kept ++ replies_from h i l) (drop_all i entries past))
+kept_more h k i kept entries is lt past =
+    differ_end k kept _ lt (is ∙ ap (λ (l : List Posting). take k kept ++ replies_from h i l) (drop_all i entries past))

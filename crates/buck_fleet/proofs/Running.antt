@@ -12,25 +12,33 @@ use Rattle.buck_fleet.specs.Reply.{IsReplyFor, kept_of}
 use Rattle.buck_book.specs.Posting.{harvester_of}
 use Rattle.buck_fleet.specs.Run.{HasCut, IsFirstBestCut, stem_cut}
 
-pub got : {A : Type 0} (f : A → StemParts) (xs : List A) (n : ℕ) (x : A) → n < length xs → x ≡ get_or xs n x → slice_get (map f xs) n ≡ Some (f x)
+pub got : {A : Type 0} (f : A → StemParts) (xs : List A) (n : ℕ) (x : A) → n < length xs → x ≡ get_or xs n x
+    → slice_get (map f xs) n ≡ Some (f x)
 got f [] n x lt is = absurd (omega arith)
 got f (y ∷ ys) zero x lt is = ap (λ z. Some (f z)) (sym is)
 got f (y ∷ ys) (suc n) x lt is = got f ys n x (omega arith) is
 
-pub one_more_cut : (n : ℕ) (stems : List StemParts) (a b c : SeatParts) (r : Reply) (stem : StemParts) → HasCut n stems a b → IsReplyFor b c stem r → slice_get stems n ≡ Some stem → n < length stems → HasCut (n + 1) stems a c
+pub one_more_cut : (n : ℕ) (stems : List StemParts) (a b c : SeatParts) (r : Reply) (stem : StemParts)
+    → HasCut n stems a b → IsReplyFor b c stem r → slice_get stems n ≡ Some stem → n < length stems
+    → HasCut (n + 1) stems a c
 one_more_cut n stems a b c r stem cut reply at lt = record {
   more = cut.more ++ kept_of r ∷ [];
   kept = record {
     same_harvester = reply.kept.same_harvester ∙ cut.kept.same_harvester;
-    kept_are = reply.kept.kept_are ∙ ap (λ (l : List Kept). l ++ kept_of r ∷ []) cut.kept.kept_are ∙ append_assoc a.kept cut.more (kept_of r ∷ []);
+    kept_are = reply.kept.kept_are ∙ ap (λ (l : List Kept). l ++ kept_of r ∷ []) cut.kept.kept_are
+        ∙ append_assoc a.kept cut.more (kept_of r ∷ []);
     same_parts = reply.kept.same_parts ∙ cut.kept.same_parts;
     seen_rises = omega (arith, reply.kept.seen_rises, cut.kept.seen_rises);
   };
   within = omega arith;
-  each = map-append (λ (k : Kept). stem_cut k.entry) cut.more (kept_of r ∷ []) ∙ (λ t. cut.each t ++ Some (reply.same_stem t) ∷ [])
-      ∙ sym (map-append (λ (s : StemParts). Some s) (take n stems) (stem ∷ [])) ∙ ap (λ (l : List StemParts). map (λ (s : StemParts). Some s) l) (sym (take_one_more stems n stem at));
+  each = map-append (λ (k : Kept). stem_cut k.entry) cut.more (kept_of r ∷ [])
+      ∙ (λ t. cut.each t ++ Some (reply.same_stem t) ∷ [])
+      ∙ sym (map-append (λ (s : StemParts). Some s) (take n stems) (stem ∷ []))
+      ∙ ap (λ (l : List StemParts). map (λ (s : StemParts). Some s) l) (sym (take_one_more stems n stem at));
   own = All-append (λ (k : Kept). harvester_of k.entry ≡ a.harvester) cut.more (kept_of r ∷ []) cut.own
-      (All-cons (λ (k : Kept). harvester_of k.entry ≡ a.harvester) (kept_of r) [] (reply.own_harvester ∙ cut.kept.same_harvester) (λ i d lt. absurd (omega (arith, lt))));
+      (All-cons (λ (k : Kept). harvester_of k.entry ≡ a.harvester) (kept_of r) []
+      (reply.own_harvester ∙ cut.kept.same_harvester) (λ i d lt. absurd (omega (arith, lt))));
   best = All-append (λ (k : Kept). IsFirstBestCut k.entry) cut.more (kept_of r ∷ []) cut.best
-      (All-cons (λ (k : Kept). IsFirstBestCut k.entry) (kept_of r) [] reply.first_best (λ i d lt. absurd (omega (arith, lt))));
+      (All-cons (λ (k : Kept). IsFirstBestCut k.entry) (kept_of r) [] reply.first_best
+      (λ i d lt. absurd (omega (arith, lt))));
 }

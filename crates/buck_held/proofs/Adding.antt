@@ -21,7 +21,8 @@ Calls F = Shared F (Bor Standing × Unit {0}) ℕ
 
 -- answers of a closure that answers by a rule are the rule's prices
 by_answers : {F : Type 0} (g : Calls F) (f : F) (rule : StoredRule) → GivesBy g f rule
-    → (i : InstructionParts) (ps : List Posting) (prices : List ℕ) → AreAnswers g f i ps prices → ArePricesBy rule i ps prices
+    → (i : InstructionParts) (ps : List Posting) (prices : List ℕ) → AreAnswers g f i ps prices
+    → ArePricesBy rule i ps prices
 by_answers g f rule gives i ps prices answers = λ c k.
     let a = answers c k in gives.by_rule a.shown _ a.says.met ∙ ap (λ s. price_by rule s) a.shows
 
@@ -29,14 +30,16 @@ if_some : {A : Type 0} (P Q : A → Type 0) (o : Option A) → ((x : A) → P x 
 if_some P Q None f p = p
 if_some P Q (Some x) f p = f x p
 
-same_history : (h k : HistoryParts) → h.instruction ≡ k.instruction → h.sheets ≡ k.sheets → h.postings ≡ k.postings → h ≡ k
+same_history : (h k : HistoryParts) → h.instruction ≡ k.instruction → h.sheets ≡ k.sheets → h.postings ≡ k.postings
+    → h ≡ k
 same_history h k i s p = λ n. record { instruction = i n; sheets = s n; postings = p n }
 
 added : {F : Type 0} (g : Calls F) (f : F) (rule : StoredRule) → GivesBy g f rule
     → (before mid after : HistoryParts) (x : Posting) (next : Option SheetParts)
     → mid ≡ before → IsNext before x next
     → IfSome next (λ s. AreAnswers g f before.instruction (before.postings ++ x ∷ []) s.prices)
-    → after.instruction ≡ mid.instruction → after.sheets ≡ sheets_with mid.sheets next → after.postings ≡ mid.postings ++ x ∷ []
+    → after.instruction ≡ mid.instruction → after.sheets ≡ sheets_with mid.sheets next
+    → after.postings ≡ mid.postings ++ x ∷ []
     → HasAdded rule x before after
 added g f rule gives before mid after x next same is_next given instruction sheets postings = record {
   next = next;
@@ -51,15 +54,19 @@ added g f rule gives before mid after x next same is_next given instruction shee
 }
 
 -- a plan's commit
-pub has_cut : {F : Type 0} (g : Calls F) (rule : StoredRule) (b m a : BookParts F) (harvester : ℕ) (plan : PlanParts) (ready : ReadyParts) (entry : EntryParts)
-    → (0 < harvester) × (harvester ≤ 64) → GivesBy g b.rule rule → IsPlan plan → plan.sheet ≡ in_force b.history → SameContent b m → IsReadyFor m ready plan
+pub has_cut : {F : Type 0} (g : Calls F) (rule : StoredRule) (b m a : BookParts F) (harvester : ℕ) (plan : PlanParts)
+    (ready : ReadyParts) (entry : EntryParts)
+    → (0 < harvester) × (harvester ≤ 64) → GivesBy g b.rule rule → IsPlan plan → plan.sheet ≡ in_force b.history
+    → SameContent b m → IsReadyFor m ready plan
     → IfSome ready.next (λ s. AreAnswersWith g b.rule b.history plan s.prices)
     → entry ≡ entry_of m.history harvester plan
     → a.history.instruction ≡ m.history.instruction → a.history.sheets ≡ sheets_with m.history.sheets ready.next
     → a.history.postings ≡ m.history.postings ++ Cut entry ∷ []
     → HasCut rule harvester plan.stem b.history a.history entry
-has_cut g rule b m a harvester plan ready entry who gives is_plan in_force_is content is_ready given entry_is instruction sheets postings =
-    let e : entry ≡ entry_of b.history harvester plan = entry_is ∙ ap (λ h. entry_of h harvester plan) content.history in
+has_cut g rule b m a harvester plan ready entry who gives is_plan in_force_is content is_ready given entry_is
+    instruction sheets postings =
+    let e : entry ≡ entry_of b.history harvester plan = entry_is
+    ∙ ap (λ h. entry_of h harvester plan) content.history in
     record {
       who = who;
       plan = plan;
@@ -69,25 +76,32 @@ has_cut g rule b m a harvester plan ready entry who gives is_plan in_force_is co
       entry_is = e;
       added = added g b.rule rule gives b.history m.history a.history (Cut entry) ready.next content.history
           (subst (λ x. IsNext b.history (Cut x) ready.next) (sym e)
-          (subst (λ h. IsNext h (Cut (entry_of h harvester plan)) ready.next) content.history (is_ready.to_add.next_is harvester)))
-          (subst (λ x. IfSome ready.next (λ s. AreAnswers g b.rule b.history.instruction (b.history.postings ++ Cut x ∷ []) s.prices)) (sym e)
+          (subst (λ h. IsNext h (Cut (entry_of h harvester plan)) ready.next) content.history
+          (is_ready.to_add.next_is harvester)))
+          (subst (λ x. IfSome ready.next
+          (λ s. AreAnswers g b.rule b.history.instruction (b.history.postings ++ Cut x ∷ []) s.prices)) (sym e)
           (if_some (λ s. AreAnswersWith g b.rule b.history plan s.prices)
-          (λ s. AreAnswers g b.rule b.history.instruction (b.history.postings ++ Cut (entry_of b.history harvester plan) ∷ []) s.prices)
+          (λ s. AreAnswers g b.rule b.history.instruction
+          (b.history.postings ++ Cut (entry_of b.history harvester plan) ∷ []) s.prices)
           ready.next (λ s answers. answers harvester) given))
           instruction sheets postings;
     }
 
 -- a demand's commit
-pub has_retargeted : {F : Type 0} (g : Calls F) (rule : StoredRule) (b m a : BookParts F) (harvester : ℕ) (targets : List ℕ) (ready : ReadyDemandParts) (demand : DemandParts)
-    → (0 < harvester) × (harvester ≤ 64) → GivesBy g b.rule rule → SameContent b m → IsReadyDemand m ready → ready.targets ≡ targets
+pub has_retargeted : {F : Type 0} (g : Calls F) (rule : StoredRule) (b m a : BookParts F) (harvester : ℕ)
+    (targets : List ℕ) (ready : ReadyDemandParts) (demand : DemandParts)
+    → (0 < harvester) × (harvester ≤ 64) → GivesBy g b.rule rule → SameContent b m → IsReadyDemand m ready
+    → ready.targets ≡ targets
     → AreAnswersWithDemand g b.rule b.history targets ready.next.prices
     → demand ≡ demand_of m.history harvester ready.targets
     → a.history.instruction ≡ m.history.instruction → a.history.sheets ≡ m.history.sheets ++ ready.next.prices ∷ []
     → a.history.postings ≡ m.history.postings ++ Demand demand ∷ []
     → HasRetargeted rule harvester targets b.history a.history demand
-has_retargeted g rule b m a harvester targets ready demand who gives content is_ready targets_are given demand_is instruction sheets postings =
+has_retargeted g rule b m a harvester targets ready demand who gives content is_ready targets_are given demand_is
+    instruction sheets postings =
     let e : demand ≡ demand_of b.history harvester targets =
-    demand_is ∙ ap (λ h. demand_of h harvester ready.targets) content.history ∙ ap (λ ts. demand_of b.history harvester ts) targets_are in
+    demand_is ∙ ap (λ h. demand_of h harvester ready.targets) content.history
+    ∙ ap (λ ts. demand_of b.history harvester ts) targets_are in
     record {
       who = who;
       valid = subst (λ ts. AreTargets b.history.instruction ts) targets_are
@@ -96,7 +110,9 @@ has_retargeted g rule b m a harvester targets ready demand who gives content is_
       added = added g b.rule rule gives b.history m.history a.history (Demand demand) (Some ready.next) content.history
           (subst (λ x. IsNext b.history (Demand x) (Some ready.next)) (sym e)
           (subst (λ ts. IsNext b.history (Demand (demand_of b.history harvester ts)) (Some ready.next)) targets_are
-          (subst (λ h. IsNext h (Demand (demand_of h harvester ready.targets)) (Some ready.next)) content.history (is_ready.to_add.next_is harvester))))
-          (subst (λ x. AreAnswers g b.rule b.history.instruction (b.history.postings ++ Demand x ∷ []) ready.next.prices) (sym e) (given harvester))
+          (subst (λ h. IsNext h (Demand (demand_of h harvester ready.targets)) (Some ready.next)) content.history
+          (is_ready.to_add.next_is harvester))))
+          (subst (λ x. AreAnswers g b.rule b.history.instruction (b.history.postings ++ Demand x ∷ [])
+          ready.next.prices) (sym e) (given harvester))
           instruction sheets postings;
     }

@@ -126,7 +126,8 @@ tokens = ‵ (flft [] full_share) ⊛ ‵ (flft [] full_share) ⊛ ‵ ftrue
 module _ {M : Type 1} {𝓤 : Ura M} {𝓛 : Logic 𝓤} {K : Type 0} {Γ : List (Item 𝓤)} {G : Goal 𝓤 𝓛.H} where
   -- what such a call is handed: [the parameters; what it asks], beside what it asks of the lifetimes
   pub hands : K → {P Q : Item 𝓤}
-      → Step K 𝓛 (((tokens ⊛ P) ⊛ (raw (fact 𝓤 ([] ⊑ KeptArg.lives)) ⊛ raw (fact 𝓤 ([] ⊑ HeapArg.lives)) ⊛ Q)) ∷ Γ) G (P ∷ Q ∷ Γ) G
+      → Step K 𝓛 (((tokens ⊛ P) ⊛ (raw (fact 𝓤 ([] ⊑ KeptArg.lives)) ⊛ raw (fact 𝓤 ([] ⊑ HeapArg.lives)) ⊛ Q)) ∷ Γ) G
+      (P ∷ Q ∷ Γ) G
   hands t = step (λ rest.
       move t (1 ∷ []) $
       use0 𝓛 (raw (fact 𝓤 ([] ⊑ HeapArg.lives))) (fact_i 𝓤 ([] ⊑ HeapArg.lives) (emp 𝓤) (heap_lives [])) $ join t $

@@ -29,14 +29,17 @@ with_next h x (Some n) s k = record {
       (sym (get_or_append_left h.sheets (n.prices ∷ []) [] s.version k.there));
 }
 
-pub stays : (rule : StoredRule) (x : Posting) (before after : HistoryParts) (s : SheetParts) → HasAdded rule x before after
+pub stays : (rule : StoredRule) (x : Posting) (before after : HistoryParts) (s : SheetParts)
+    → HasAdded rule x before after
     → IsSheetOf before s → IsSheetOf after s
 stays rule x before after s added k =
     subst (λ h. IsSheetOf h s) (sym added.after_is) (with_next before x added.next s k)
 
 -- it stays so whether targets were put in force or refused
 pub stays_either : (rule : StoredRule) (harvester : ℕ) (targets : List ℕ) (before after : HistoryParts) (s : SheetParts)
-    (r : Result DemandParts DemandRefusal) → IsSheetOf before s → IfOk r (HasRetargeted rule harvester targets before after)
+    (r : Result DemandParts DemandRefusal) → IsSheetOf before s
+    → IfOk r (HasRetargeted rule harvester targets before after)
     → IfErr r (λ _. after ≡ before) → IsSheetOf after s
-stays_either rule harvester targets before after s (Ok d) k done left = stays rule (Demand d) before after s done.added k
+stays_either rule harvester targets before after s (Ok d) k done left =
+    stays rule (Demand d) before after s done.added k
 stays_either rule harvester targets before after s (Err why) k done left = subst (λ h. IsSheetOf h s) (sym left) k

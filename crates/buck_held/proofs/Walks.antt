@@ -61,8 +61,10 @@ pub handle_in : {M : Type 1} {𝓤 : Ura M} {𝓛 : Logic 𝓤} {K : Type 0} {Γ
     → K → (h : Handle.Denot)
     → Step K 𝓛 (‵ (Handle.own_val h (handle_vals h)) ∷ Γ) G (‵ (handle.the_heap h) ∷ Γ) G
 handle_in {𝓛 = 𝓛} t h = step (λ rest.
-    let Pointer = Struct (shape handle.the_type) in let made = Struct-Makes 𝓛 (shape handle.the_type) (rawptr_pure, tt) in
-    owned t Pointer (Is Pointer) made (h.at, tt) (handle_vals h) ((rawptr_vals h.at, tt), (refl, (refl, tt))) $ fjoin t $ rest)
+    let Pointer = Struct (shape handle.the_type) in let made =
+    Struct-Makes 𝓛 (shape handle.the_type) (rawptr_pure, tt) in
+    owned t Pointer (Is Pointer) made (h.at, tt) (handle_vals h) ((rawptr_vals h.at, tt), (refl, (refl, tt)))
+    $ fjoin t $ rest)
 
 -- the value that is there
 pub the_value : {X : Type 0} (held : Option X) → IsSome held → (x : X) × (held ≡ Some x)

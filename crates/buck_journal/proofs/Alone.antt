@@ -24,12 +24,14 @@ abbrev cuts : Result (List EntryParts) JournalFault → Result (List Posting) Jo
 cuts r = r >>= λ es. Ok (map Cut es)
 
 -- the same first step, and the same after it
-agree : {A : Type 0} (r : Result A JournalFault) (f : A → Result Posting JournalFault) (g : A → Result EntryParts JournalFault)
+agree : {A : Type 0} (r : Result A JournalFault) (f : A → Result Posting JournalFault)
+    (g : A → Result EntryParts JournalFault)
     → ((a : A) → f a ≡ cut (g a)) → (r >>= f) ≡ cut (r >>= g)
 agree (Ok a) f g h = h a
 agree (Err e) f g h = refl
 
-one_more : (r : Result Posting JournalFault) (q : Result EntryParts JournalFault) (rs : Result (List Posting) JournalFault)
+one_more : (r : Result Posting JournalFault) (q : Result EntryParts JournalFault)
+    (rs : Result (List Posting) JournalFault)
     (qs : Result (List EntryParts) JournalFault)
     → r ≡ cut q → rs ≡ cuts qs → (r >>= λ p. rs >>= λ ps. Ok (p ∷ ps)) ≡ cuts (q >>= λ e. qs >>= λ es. Ok (e ∷ es))
 one_more r (Ok e) rs (Ok es) is are = rw (is, are) refl
@@ -45,7 +47,8 @@ follows_alone place None h = refl
 follows_alone place (Some x) h = ap (λ b. check b (Shape place)) (begins_cut x (h x refl))
 
 -- one of two, by one test
-pick : {X Y : Type 0} (f : X → Y) (a b : Bool) (p q : Y) (r s : X) → a ≡ b → (b ≡ true → p ≡ f r) → (b ≡ false → q ≡ f s)
+pick : {X Y : Type 0} (f : X → Y) (a b : Bool) (p q : Y) (r s : X) → a ≡ b → (b ≡ true → p ≡ f r)
+    → (b ≡ false → q ≡ f s)
     → (if a then p else q) ≡ f (if b then r else s)
 pick f true true p q r s e h g = h refl
 pick f false false p q r s e h g = g refl
@@ -55,7 +58,8 @@ pick f false true p q r s e h g = cc
 abbrev parts : List (List ℕ) → List Posting → JournalParts
 parts sheets postings = record { sheets = sheets; entries = postings }
 
-whole : (c : Result (Unit {0}) JournalFault) (s t : Result (List (List ℕ)) JournalFault) (ps : Result (List Posting) JournalFault)
+whole : (c : Result (Unit {0}) JournalFault) (s t : Result (List (List ℕ)) JournalFault)
+    (ps : Result (List Posting) JournalFault)
     (es : Result (List EntryParts) JournalFault)
     → s ≡ t → ps ≡ cuts es
     → (c >>= λ _. s >>= λ sheets. ps >>= λ postings. Ok (parts sheets postings))
@@ -82,7 +86,8 @@ module _ (items : List ItemParts) (none : alone.HasNoDemand items) where
       agree (worth_at items (k + 5)) _ _ (λ worth.
       let e : k + 6 + 1 ≡ k + 7 = omega arith in
       let next : follows (k + 6 + 1) (slice_get items (k + 6)) ≡ alone.follows (k + 7) (slice_get items (k + 6)) =
-      ap (λ place. follows place (slice_get items (k + 6))) e ∙ follows_alone (k + 7) (slice_get items (k + 6)) (none (k + 6)) in
+      ap (λ place. follows place (slice_get items (k + 6))) e
+      ∙ follows_alone (k + 7) (slice_get items (k + 6)) (none (k + 6)) in
       ap (λ r. r >>= λ _. Ok (Cut (entry_of call stem logs worth))) next
       ∙ agree (alone.follows (k + 7) (slice_get items (k + 6))) (λ _. Ok (Cut (entry_of call stem logs worth)))
       (λ _. Ok (entry_of call stem logs worth)) (λ _. refl)))))
@@ -92,7 +97,8 @@ module _ (items : List ItemParts) (none : alone.HasNoDemand items) where
   unfolding posting_at
   posting_alone x k before h = rw h (cut_alone k before)
 
-  kind_alone : (k : ℕ) (x : ItemParts) (more : List ItemParts) → Stands items k (x ∷ more) → is_first x ≡ is_at (slot 981 1) x
+  kind_alone : (k : ℕ) (x : ItemParts) (more : List ItemParts) → Stands items k (x ∷ more)
+      → is_first x ≡ is_at (slot 981 1) x
   kind_alone k x more at = begins_cut x (none k x (first_stands items k (x ∷ more) at))
 
   postings_alone : (k before : ℕ) (rest : List ItemParts) → Stands items k rest
@@ -104,14 +110,18 @@ module _ (items : List ItemParts) (none : alone.HasNoDemand items) where
       pick cuts (is_first x) (is_at (slot 981 1) x) _ _ _ _ (kind_alone k x more at)
       (λ h. one_more _ _ _ _ (posting_alone x k before h) (later (before + 1))) (λ _. later before)
 
-  sheets_alone : (k : ℕ) (rest : List ItemParts) → Stands items k rest → sheets_from items k rest ≡ alone.sheets_from items k rest
+  sheets_alone : (k : ℕ) (rest : List ItemParts) → Stands items k rest
+      → sheets_from items k rest ≡ alone.sheets_from items k rest
   unfolding sheets_from alone.sheets_from
   sheets_alone k [] at = refl
   sheets_alone k (x ∷ more) at =
       pick (λ r. r) (is_first x) (is_at (slot 981 1) x) _ _ _ _ (kind_alone k x more at)
-      (λ _. refl) (λ _. ap (λ r. sheet_at items k >>= λ prices. r >>= λ sheets. Ok (prices ∷ sheets)) (sheets_alone (k + 1) more (next_stands items k x more at)))
+      (λ _. refl)
+      (λ _. ap (λ r. sheet_at items k >>= λ prices. r >>= λ sheets. Ok (prices ∷ sheets))
+      (sheets_alone (k + 1) more (next_stands items k x more at)))
 
   pub journal_alone : journal_in items ≡ alone.journal_in items
   unfolding journal_in alone.journal_in
   journal_alone =
-      whole (check (says_journal items) NotJournal) _ _ _ _ (sheets_alone 1 (drop 1 items) (stands_rest items)) (postings_alone 0 0 items (stands_all items))
+      whole (check (says_journal items) NotJournal) _ _ _ _ (sheets_alone 1 (drop 1 items) (stands_rest items))
+      (postings_alone 0 0 items (stands_all items))

@@ -28,7 +28,8 @@ no_sheet_fault h k (Outvalued at) right wrong = wrong
 no_sheet_fault h k Memory right wrong = wrong
 no_sheet_fault h k (Targets at) right wrong = wrong
 
-no_call_fault : (i : InstructionParts) (before : List Posting) (x : Posting) (k : ℕ) (fault : ReplayFault) → IsNumbered before x → IsOfVersion i before x → IsCallFault i before x k fault → ⊥
+no_call_fault : (i : InstructionParts) (before : List Posting) (x : Posting) (k : ℕ) (fault : ReplayFault)
+    → IsNumbered before x → IsOfVersion i before x → IsCallFault i before x k fault → ⊥
 no_call_fault i before x k (Sheet v) n o wrong = wrong
 no_call_fault i before x k (Price v c) n o wrong = wrong
 no_call_fault i before x k (Numbering at) n o wrong = wrong.1 n
@@ -39,14 +40,16 @@ no_call_fault i before x k (Outvalued at) n o wrong = wrong
 no_call_fault i before x k Memory n o wrong = wrong
 no_call_fault i before x k (Targets at) n o wrong = wrong
 
-no_content_fault : (s : SheetParts) (x : Posting) (k : ℕ) (fault : ReplayFault) → IsBestUnder s x → IsContentFault s x k fault → ⊥
+no_content_fault : (s : SheetParts) (x : Posting) (k : ℕ) (fault : ReplayFault) → IsBestUnder s x
+    → IsContentFault s x k fault → ⊥
 no_content_fault s (posting.Cut e) k (Sheet v) right wrong = wrong
 no_content_fault s (posting.Cut e) k (Price v c) right wrong = wrong
 no_content_fault s (posting.Cut e) k (Numbering at) right wrong = wrong
 no_content_fault s (posting.Cut e) k (Version at) right wrong = wrong
 no_content_fault s (posting.Cut e) k (Cutting at) right wrong = wrong.1 right.0.admissible
 no_content_fault s (posting.Cut e) k (Worth at) right wrong = wrong.2 right.1
-no_content_fault s (posting.Cut e) k (Outvalued at) right wrong = absurd (omega (arith, right.0.none_outvalues wrong.3.0 wrong.3.1, wrong.3.2))
+no_content_fault s (posting.Cut e) k (Outvalued at) right wrong =
+    absurd (omega (arith, right.0.none_outvalues wrong.3.0 wrong.3.1, wrong.3.2))
 no_content_fault s (posting.Cut e) k Memory right wrong = wrong
 no_content_fault s (posting.Cut e) k (Targets at) right wrong = wrong
 no_content_fault s (posting.Demand d) k (Sheet v) right wrong = wrong
@@ -59,7 +62,8 @@ no_content_fault s (posting.Demand d) k (Outvalued at) right wrong = wrong
 no_content_fault s (posting.Demand d) k Memory right wrong = wrong
 no_content_fault s (posting.Demand d) k (Targets at) right wrong = wrong.1 right
 
-no_number_fault : (sheets : List (List ℕ)) (last : ℕ) (fault : ReplayFault) → length sheets ≡ last + 1 → IsNumberFault sheets last fault → ⊥
+no_number_fault : (sheets : List (List ℕ)) (last : ℕ) (fault : ReplayFault) → length sheets ≡ last + 1
+    → IsNumberFault sheets last fault → ⊥
 no_number_fault sheets last (Sheet v) right (inl few) = absurd (omega (arith, few.0))
 no_number_fault sheets last (Sheet v) right (inr many) = absurd (omega (arith, many.0))
 no_number_fault sheets last (Price v c) right wrong = wrong
@@ -72,7 +76,8 @@ no_number_fault sheets last Memory right wrong = wrong
 no_number_fault sheets last (Targets at) right wrong = wrong
 
 -- what holds under the sheet of its version holds under the one in force
-holds_under : (i : InstructionParts) (sheets : List (List ℕ)) (v : ℕ) (x : Posting) → planned_version x ≡ v → Holds i sheets x → IsBestUnder (sheet_at i sheets v) x
+holds_under : (i : InstructionParts) (sheets : List (List ℕ)) (v : ℕ) (x : Posting) → planned_version x ≡ v
+    → Holds i sheets x → IsBestUnder (sheet_at i sheets v) x
 holds_under i sheets v (posting.Cut e) is holds = (
   subst (λ w. IsBest (sheet_at i sheets w) e.stem e.logs) is holds.0,
   subst (λ w. e.worth ≡ cutting_worth (sheet_at i sheets w) e.stem e.logs) is holds.1,
@@ -80,22 +85,31 @@ holds_under i sheets v (posting.Cut e) is holds = (
 holds_under i sheets v (posting.Demand d) is holds = holds
 
 module _ (h : HistoryParts) (v : IsInstruction h.instruction) (l : IsLawful h) where
-  after : (m : ℕ) (x : Posting) → slice_get h.postings m ≡ Some x → Begins h (m + 1) → PricesMeet h.instruction (take (m + 1) h.postings) (prices_then h (m + 1))
-  after m x at b = elim (cases_Bool (is_end h.instruction.period (cuts_since_end h.instruction (take m h.postings)) x)) [
-    | inl yes_ ↦
-        let version : version_at h (m + 1) ≡ version_at h m + 1 = ap (λ ps. ends_of h.instruction ps) (take_one_more h.postings m x at) ∙ ends_with_end h.instruction (take m h.postings) x yes_ in
-        subst (λ n. PricesMeet h.instruction (take (m + 1) h.postings) (prices_at h.sheets n)) (sym version) (l.sheets_meet m x at yes_)
-    | inr no_ ↦
-        let more : cuts_since_end h.instruction (take m h.postings ++ x ∷ []) ≡ cuts_since_end h.instruction (take m h.postings) + 1 =
-        cuts_without h.instruction (take m h.postings) x (λ e. true_false (sym e ∙ no_)) in
-        absurd (omega (arith, b, ap (λ ps. cuts_since_end h.instruction ps) (take_one_more h.postings m x at), more))
-  ]
+  after : (m : ℕ) (x : Posting) → slice_get h.postings m ≡ Some x → Begins h (m + 1)
+      → PricesMeet h.instruction (take (m + 1) h.postings) (prices_then h (m + 1))
+  after m x at b =
+      elim (cases_Bool (is_end h.instruction.period (cuts_since_end h.instruction (take m h.postings)) x)) [
+        | inl yes_ ↦
+            let version : version_at h (m + 1) ≡ version_at h m + 1 =
+            ap (λ ps. ends_of h.instruction ps) (take_one_more h.postings m x at)
+            ∙ ends_with_end h.instruction (take m h.postings) x yes_ in
+            subst (λ n. PricesMeet h.instruction (take (m + 1) h.postings) (prices_at h.sheets n)) (sym version)
+            (l.sheets_meet m x at yes_)
+        | inr no_ ↦
+            let more : cuts_since_end h.instruction (take m h.postings ++ x ∷ [])
+            ≡ cuts_since_end h.instruction (take m h.postings) + 1 =
+            cuts_without h.instruction (take m h.postings) x (λ e. true_false (sym e ∙ no_)) in
+            absurd (omega
+            (arith, b, ap (λ ps. cuts_since_end h.instruction ps) (take_one_more h.postings m x at), more))
+      ]
 
-  pub prices_right : (k : ℕ) → k ≤ length h.postings → Begins h k → PricesMeet h.instruction (take k h.postings) (prices_then h k)
+  pub prices_right : (k : ℕ) → k ≤ length h.postings → Begins h k
+      → PricesMeet h.instruction (take k h.postings) (prices_then h k)
   prices_right k le b = elim (cases_eq k 0) [
     | inl none ↦
         subst (λ n. PricesMeet h.instruction (take n h.postings) (prices_then h n)) (sym none)
-        (subst (λ prices. PricesMeet h.instruction [] prices) (sym l.base_sheet) (meets_from_alone h.instruction [] (base_prices h.instruction) v (base_meets h.instruction v)))
+        (subst (λ prices. PricesMeet h.instruction [] prices) (sym l.base_sheet)
+        (meets_from_alone h.instruction [] (base_prices h.instruction) v (base_meets h.instruction v)))
     | inr some ↦
         let before : k - 1 + 1 ≡ k = omega arith in
         elim (slice_get_cases h.postings (k - 1)).1 [
@@ -110,7 +124,8 @@ module _ (h : HistoryParts) (v : IsInstruction h.instruction) (l : IsLawful h) w
   sheet_right : (k : ℕ) → k ≤ length h.postings → Begins h k → IsSheetRight h k
   sheet_right k le b =
       let meets = prices_right k le b in
-      let there : version_at h k < length h.sheets = omega (arith, l.sheets_number, ends_take-le h.instruction h.postings k) in
+      let there : version_at h k < length h.sheets =
+      omega (arith, l.sheets_number, ends_take-le h.instruction h.postings k) in
       ((there, meets.one_each), meets)
 
   no_posting_fault : (k : ℕ) (x : Posting) (fault : ReplayFault) → slice_get h.postings k ≡ Some x
@@ -120,18 +135,23 @@ module _ (h : HistoryParts) (v : IsInstruction h.instruction) (l : IsLawful h) w
       no_call_fault h.instruction (take k h.postings) x k fault f.number_is_next f.version_in_force wrong
   no_posting_fault k x fault at (inr wrong) =
       let f = l.postings_follow k x at in
-      no_content_fault (sheet_at h.instruction h.sheets (version_at h k)) x k fault (holds_under h.instruction h.sheets (version_at h k) x f.version_in_force f.holds) wrong.2
+      no_content_fault (sheet_at h.instruction h.sheets (version_at h k)) x k fault
+      (holds_under h.instruction h.sheets (version_at h k) x f.version_in_force f.holds) wrong.2
 
   no_end_fault : (fault : ReplayFault) → IsFaultAtEnd h (length h.postings) fault → ⊥
   no_end_fault fault (inl wrong) =
       let number : length h.sheets ≡ version_at h (length h.postings) + 1 =
-      l.sheets_number ∙ ap (λ ps. ends_of h.instruction ps + 1) (sym (take_all (length h.postings) h.postings (omega arith))) in
+      l.sheets_number
+      ∙ ap (λ ps. ends_of h.instruction ps + 1) (sym (take_all (length h.postings) h.postings (omega arith))) in
       no_number_fault h.sheets (version_at h (length h.postings)) fault number wrong
-  no_end_fault fault (inr wrong) = no_sheet_fault h (length h.postings) fault (sheet_right (length h.postings) (omega arith) wrong.1) wrong.2
+  no_end_fault fault (inr wrong) =
+      no_sheet_fault h (length h.postings) fault (sheet_right (length h.postings) (omega arith) wrong.1) wrong.2
 
   pub no_first_fault : (fault : ReplayFault) → IsFirstFault h fault → ⊥
   no_first_fault fault (inl m) = elim m.wrong [
-    | inl sheet ↦ no_sheet_fault h m.at fault (sheet_right m.at (omega (arith, slice_get_within h.postings m.at m.next m.there)) sheet.0) sheet.1
+    | inl sheet ↦
+        no_sheet_fault h m.at fault
+        (sheet_right m.at (omega (arith, slice_get_within h.postings m.at m.next m.there)) sheet.0) sheet.1
     | inr posting ↦ no_posting_fault m.at m.next fault m.there posting.1
   ]
   no_first_fault fault (inr m) = no_end_fault fault m.wrong

@@ -35,7 +35,8 @@ get_dropped (suc n) (x ∷ xs) k =
     get_dropped n xs k ∙ ap (λ j. slice_get (x ∷ xs) j) on
 
 -- what stands in the first postings stands there in all
-got_taken : {X : Type 0} (n : ℕ) (xs : List X) (k : ℕ) (x : X) → slice_get (take n xs) k ≡ Some x → (k < n) × (slice_get xs k ≡ Some x)
+got_taken : {X : Type 0} (n : ℕ) (xs : List X) (k : ℕ) (x : X) → slice_get (take n xs) k ≡ Some x
+    → (k < n) × (slice_get xs k ≡ Some x)
 got_taken n xs k x at =
     let lt : k < n = omega (arith, slice_get_within (take n xs) k x at, length-take n xs) in
     (lt, sym (get_taken n xs k lt) ∙ at)
@@ -55,7 +56,8 @@ module _ (h : HistoryParts) where
             omega (arith, before.1),
             before.2,
             before.3
-                ∙ sym (version_stays h.instruction h.postings k there.0 there.2 (subst (λ n. cuts_since_end h.instruction (take n h.postings) ≢ 0) next some))
+                ∙ sym (version_stays h.instruction h.postings k there.0 there.2
+                (subst (λ n. cuts_since_end h.instruction (take n h.postings) ≢ 0) next some))
                 ∙ ap (λ n. version_at h n) (sym next),
           )
           | inr past ↦ absurd (omega (arith, past.0, le))
@@ -64,27 +66,33 @@ module _ (h : HistoryParts) where
   ]
 
   -- so the sheets of postings in order are there and right
-  priced_before : (k : ℕ) → k ≤ length h.postings → IsInOrderBefore h k → ArePriced h.instruction h.sheets (take k h.postings)
+  priced_before : (k : ℕ) → k ≤ length h.postings → IsInOrderBefore h k
+      → ArePriced h.instruction h.sheets (take k h.postings)
   priced_before k le before j x at =
       let got = got_taken k h.postings j x at in
       let from = opened j (omega (arith, got.0, le)) in
       let sheet = before.sheets from.0 (omega (arith, from.1, got.0)) from.2 in
-      let version : version_at h from.0 ≡ planned_version x = from.3 ∙ sym (before.postings j x got.0 got.1).of_version in
+      let version : version_at h from.0 ≡ planned_version x = from.3
+      ∙ sym (before.postings j x got.0 got.1).of_version in
       subst (λ v. IsPriced h.instruction h.sheets v) version (sheet.0.0, (take from.0 h.postings, sheet.1))
 
   -- a posting that is right, and isn't outvalued, may follow
-  follows : (before : List Posting) (x : Posting) → IsRightUnder (sheet_at h.instruction h.sheets (planned_version x)) before x
+  follows : (before : List Posting) (x : Posting)
+      → IsRightUnder (sheet_at h.instruction h.sheets (planned_version x)) before x
       → IsOutvalued (sheet_at h.instruction h.sheets (planned_version x)) x false
       → Follows h.instruction h.sheets before x
-  follows before x r none = record { number_is_next = r.numbered; version_in_force = r.of_version; holds = holds x r.holds none }
+  follows before x r none =
+      record { number_is_next = r.numbered; version_in_force = r.of_version; holds = holds x r.holds none }
     where
       holds : (y : Posting) → HoldsUnder (sheet_at h.instruction h.sheets (planned_version y)) y
           → IsOutvalued (sheet_at h.instruction h.sheets (planned_version y)) y false
           → Holds h.instruction h.sheets y
-      holds (Cut e) k most = (record { admissible = k.0; none_outvalues = λ others ok. omega (arith, most others ok, k.1) }, k.1)
+      holds (Cut e) k most =
+          (record { admissible = k.0; none_outvalues = λ others ok. omega (arith, most others ok, k.1) }, k.1)
       holds (Demand d) k most = k
 
-  pub right_before : (k : ℕ) → IsInOrderBefore h k → NoneOutvalued h.instruction h.sheets h.postings k → IsRightBefore h k
+  pub right_before : (k : ℕ) → IsInOrderBefore h k → NoneOutvalued h.instruction h.sheets h.postings k
+      → IsRightBefore h k
   right_before k before none = record {
     sheets = before.sheets;
     postings = λ j x lt at. follows (take j h.postings) x (before.postings j x lt at) (none j x lt at);
@@ -96,14 +104,16 @@ module _ (h : HistoryParts) where
     postings = λ i x lt at. before.postings i x (omega arith) at;
   }
 
-  outvalued_there : (at : ℕ) (x : Posting) → IsRightUnder (sheet_at h.instruction h.sheets (planned_version x)) (take at h.postings) x
+  outvalued_there : (at : ℕ) (x : Posting)
+      → IsRightUnder (sheet_at h.instruction h.sheets (planned_version x)) (take at h.postings) x
       → IsOutvalued (sheet_at h.instruction h.sheets (planned_version x)) x true
       → IsContentFault (sheet_at h.instruction h.sheets (planned_version x)) x at (Outvalued at)
   outvalued_there at (Cut e) r more = (refl, r.holds.0, r.holds.1, (more.0, more.1, omega (arith, more.2, r.holds.1)))
   outvalued_there at (Demand d) r more = absurd more
 
   -- the first posting in order that is outvalued has the first fault
-  pub first_is_met : (until at : ℕ) → IsInOrderBefore h until → at < until → IsFirstOutvalued h.instruction h.sheets h.postings at → IsFirstFault h (Outvalued at)
+  pub first_is_met : (until at : ℕ) → IsInOrderBefore h until → at < until
+      → IsFirstOutvalued h.instruction h.sheets h.postings at → IsFirstFault h (Outvalued at)
   first_is_met until at before lt first =
       let r = before.postings at first.next lt first.there in
       inl (record {
@@ -113,26 +123,38 @@ module _ (h : HistoryParts) where
         right = right_before at (in_order_less at until (omega arith) before) first.before;
         wrong = inr (
           before.sheets at lt,
-          subst (λ v. IsPostingFault (sheet_at h.instruction h.sheets v) (take at h.postings) first.next at (Outvalued at)) r.of_version
+          subst (λ v. IsPostingFault (sheet_at h.instruction h.sheets v) (take at h.postings) first.next at
+              (Outvalued at)) r.of_version
               (inr (r.numbered, r.of_version, outvalued_there at first.next r first.wrong)),
         );
       })
 
   -- where none is, the fault at which the walk stopped is the first
-  pub stop_is_met : (until : ℕ) (fault : ReplayFault) → IsInOrderBefore h until → NoneOutvalued h.instruction h.sheets h.postings until → IsStopped h until fault → IsFirstFault h fault
+  pub stop_is_met : (until : ℕ) (fault : ReplayFault) → IsInOrderBefore h until
+      → NoneOutvalued h.instruction h.sheets h.postings until → IsStopped h until fault → IsFirstFault h fault
   stop_is_met until fault before none (inl there) =
-      inl (record { at = until; next = there.0; there = there.1; right = right_before until before none; wrong = there.2 })
+      inl (record {
+        at = until;
+        next = there.0;
+        there = there.1;
+        right = right_before until before none;
+        wrong =
+            there.2;
+      })
   stop_is_met until fault before none (inr end) = inr (record {
     right = subst (λ n. IsRightBefore h n) end.0 (right_before until before none);
     wrong = subst (λ n. IsFaultAtEnd h n fault) end.0 end.1;
   })
 
   -- what was found among the postings in order, of all of them
-  none_taken : (until : ℕ) → until ≤ length h.postings → NoneOutvalued h.instruction h.sheets (take until h.postings) (length (take until h.postings))
+  none_taken : (until : ℕ) → until ≤ length h.postings
+      → NoneOutvalued h.instruction h.sheets (take until h.postings) (length (take until h.postings))
       → NoneOutvalued h.instruction h.sheets h.postings until
-  none_taken until le none j x lt at = none j x (omega (arith, lt, le, length-take until h.postings)) (get_taken until h.postings j lt ∙ at)
+  none_taken until le none j x lt at =
+      none j x (omega (arith, lt, le, length-take until h.postings)) (get_taken until h.postings j lt ∙ at)
 
-  first_taken : (until at : ℕ) → IsFirstOutvalued h.instruction h.sheets (take until h.postings) at → (at < until) × IsFirstOutvalued h.instruction h.sheets h.postings at
+  first_taken : (until at : ℕ) → IsFirstOutvalued h.instruction h.sheets (take until h.postings) at
+      → (at < until) × IsFirstOutvalued h.instruction h.sheets h.postings at
   first_taken until at first =
       let got = got_taken until h.postings at first.next first.there in (
         got.0,
@@ -156,12 +178,18 @@ module _ (h : HistoryParts) where
       → IsFound h.instruction h.sheets (take until h.postings) None
       → IsJudged h end
   judged_none until (Ok w) o none =
-      let all = o.ended in
-      (all.walked, lawful_when h all.valid (subst (λ n. IsRightBefore h n) all.all (right_before until o.right (none_taken until o.within none))) all.right)
-  judged_none until (Err fault) o none = λ told. stop_is_met until fault o.right (none_taken until o.within none) o.stopped
+      let all = o.ended in (
+        all.walked,
+        lawful_when h all.valid
+            (subst (λ n. IsRightBefore h n) all.all (right_before until o.right (none_taken until o.within none)))
+            all.right,
+      )
+  judged_none until (Err fault) o none =
+      λ told. stop_is_met until fault o.right (none_taken until o.within none) o.stopped
 
 -- the next posting isn't outvalued either
-pub none_more : (i : InstructionParts) (sheets : List (List ℕ)) (ps : List Posting) (at : ℕ) (x : Posting) (s : SheetParts) → slice_get ps at ≡ Some x
+pub none_more : (i : InstructionParts) (sheets : List (List ℕ)) (ps : List Posting) (at : ℕ) (x : Posting)
+    (s : SheetParts) → slice_get ps at ≡ Some x
     → NoneOutvalued i sheets ps at
     → s ≡ sheet_at i sheets (planned_version x)
     → IsOutvalued s x false
@@ -174,15 +202,18 @@ none_more i sheets ps at x s there none is less j y lt got = elim (cases_eq j at
 ]
 
 -- of runs of neighbours, so many each, those before a place were gone through, and the next is a part
-module _ (i : InstructionParts) (sheets : List (List ℕ)) (ps part : List Posting) (size start : ℕ) (is : IsChunk ps size start part) where
+module _ (i : InstructionParts) (sheets : List (List ℕ)) (ps part : List Posting) (size start : ℕ)
+    (is : IsChunk ps size start part) where
   get_part : (k : ℕ) → k < length part → slice_get part k ≡ slice_get ps (start + k)
   get_part k lt =
-      ap (λ xs. slice_get xs k) is.value ∙ get_taken size (drop start ps) k (omega (arith, lt, is.at_most_size)) ∙ get_dropped start ps k
+      ap (λ xs. slice_get xs k) is.value ∙ get_taken size (drop start ps) k (omega (arith, lt, is.at_most_size))
+      ∙ get_dropped start ps k
 
   pub part_priced : ArePriced i sheets ps → ArePriced i sheets part
   part_priced all k x at = all (start + k) x (sym (get_part k (slice_get_within part k x at)) ∙ at)
 
-  before_part : (k : ℕ) → k ≤ length part → NoneOutvalued i sheets ps start → NoneOutvalued i sheets part k → NoneOutvalued i sheets ps (start + k)
+  before_part : (k : ℕ) → k ≤ length part → NoneOutvalued i sheets ps start → NoneOutvalued i sheets part k
+      → NoneOutvalued i sheets ps (start + k)
   before_part k le old new j x lt at = elim (cases_lt j start) [
     | inl before ↦ old j x before at
     | inr past ↦ (
@@ -193,7 +224,8 @@ module _ (i : InstructionParts) (sheets : List (List ℕ)) (ps part : List Posti
         )
   ]
 
-  pub first_in_part : (at : ℕ) → NoneOutvalued i sheets ps start → IsFirstOutvalued i sheets part at → (start + at < length ps) × IsFirstOutvalued i sheets ps (start + at)
+  pub first_in_part : (at : ℕ) → NoneOutvalued i sheets ps start → IsFirstOutvalued i sheets part at
+      → (start + at < length ps) × IsFirstOutvalued i sheets ps (start + at)
   first_in_part at old first =
       let lt : at < length part = slice_get_within part at first.next first.there in (
         omega (arith, lt, is.in_bounds),
@@ -205,12 +237,14 @@ module _ (i : InstructionParts) (sheets : List (List ℕ)) (ps part : List Posti
         },
       )
 
-  pub none_in_part : NoneOutvalued i sheets ps start → NoneOutvalued i sheets part (length part) → NoneOutvalued i sheets ps (start + size)
+  pub none_in_part : NoneOutvalued i sheets ps start → NoneOutvalued i sheets part (length part)
+      → NoneOutvalued i sheets ps (start + size)
   none_in_part old new j x lt at = before_part (length part) (omega arith) old new j x
       (omega (arith, slice_get_within ps j x at, is.len, lt)) at
 
 -- what a thread found in its part
-pub part_found : (i : InstructionParts) (sheets : List (List ℕ)) (part : List Posting) (found : Result (Option ℕ) Memory) (first : Option ℕ)
+pub part_found : (i : InstructionParts) (sheets : List (List ℕ)) (part : List Posting)
+    (found : Result (Option ℕ) Memory) (first : Option ℕ)
     → IfOk found (IsFound i sheets part)
     → found ≡ Ok first
     → IsFound i sheets part first
@@ -223,4 +257,5 @@ pub ordered_priced : (i : InstructionParts) (jr : JournalParts) (sheets : List (
     → ArePriced i sheets ps
 ordered_priced i jr sheets same ps until end o part =
     subst (λ qs. ArePriced i sheets qs) (sym part)
-    (subst (λ ss. ArePriced i ss (take until jr.entries)) (sym same) (priced_before (history_of i jr) until o.within o.right))
+    (subst (λ ss. ArePriced i ss (take until jr.entries)) (sym same)
+    (priced_before (history_of i jr) until o.within o.right))

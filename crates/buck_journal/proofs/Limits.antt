@@ -28,7 +28,8 @@ first low s g more h =
     let q = both (within low STARTS.high s) (within GRADES.low GRADES.high g) p.0 in
     (within_ok low STARTS.high s q.0, within_ok GRADES.low GRADES.high g q.1, p.1)
 
-started : (low : ℕ) (ns : List ℕ) → are_zones low ns ≡ true → AllByRecursion (λ (z : ℕ × ℕ). z.0 ≤ STARTS.high) (zones_of ns)
+started : (low : ℕ) (ns : List ℕ) → are_zones low ns ≡ true
+    → AllByRecursion (λ (z : ℕ × ℕ). z.0 ≤ STARTS.high) (zones_of ns)
 started low [] h = tt
 started low (s ∷ []) h = tt
 started low (s ∷ g ∷ more) h = let p = first low s g more h in (p.0.1, started (s + 1) more p.2)
@@ -51,13 +52,18 @@ are_zones_ok ns few h = record {
   grades_range = All-from_recursion _ (zones_of ns) (graded 0 ns h);
 }
 
-pub are_samples_ok : (ns : List ℕ) → one_to MOST_SAMPLES (length ns) ≡ true → all_within SAMPLES.low SAMPLES.high ns ≡ true → AreSamples ns
+pub are_samples_ok : (ns : List ℕ) → one_to MOST_SAMPLES (length ns) ≡ true
+    → all_within SAMPLES.low SAMPLES.high ns ≡ true → AreSamples ns
 are_samples_ok ns counted h = record {
   samples_number = within_ok 1 MOST_SAMPLES (length ns) counted;
-  samples_range = λ k d lt. (within_ok SAMPLES.low SAMPLES.high (get_or ns k d) (AllPass-from_list_all (within SAMPLES.low SAMPLES.high) ns h k d lt)).1;
+  samples_range =
+      λ k d lt.
+      (within_ok SAMPLES.low SAMPLES.high (get_or ns k d)
+      (AllPass-from_list_all (within SAMPLES.low SAMPLES.high) ns h k d lt)).1;
 }
 
-pub is_stem_ok : (number species : ℕ) (samples : List ℕ) (zones : List (ℕ × ℕ)) → (SPECIES.low ≤ species) → (species ≤ SPECIES.high)
+pub is_stem_ok : (number species : ℕ) (samples : List ℕ) (zones : List (ℕ × ℕ)) → (SPECIES.low ≤ species)
+    → (species ≤ SPECIES.high)
     → AreSamples samples → AreZones zones → IsStem (stem_of number species samples zones)
 is_stem_ok number species samples zones low high s z = record {
   species = (low, high);

@@ -38,25 +38,36 @@ module _ (n : ℕ) (lt : n < 2 ^ 64) where
   digits k l = AllPass-from_list_all is_ascii_digit (decimal n) (digits_decimal numeral n lt) k 0 l
 
   ends_decimal : EndsDark (decimal n)
-  ends_decimal = (decimal_nonempty n lt, digit_dark (get_or (decimal n) (length (decimal n) - 1) 0) (digits (length (decimal n) - 1) (let pos = decimal_nonempty n lt in omega arith)))
+  ends_decimal = (
+    decimal_nonempty n lt,
+    digit_dark (get_or (decimal n) (length (decimal n) - 1) 0)
+        (digits (length (decimal n) - 1) (let pos = decimal_nonempty n lt in omega arith)),
+  )
 
   starts_decimal : StartsDark (decimal n)
   starts_decimal = (decimal_nonempty n lt, digit_dark (get_or (decimal n) 0 0) (digits 0 (decimal_nonempty n lt)))
 
   plain_decimal : All (λ b. is_tilde b ≡ false) (decimal n)
-  plain_decimal = λ k d l. digit_plain (get_or (decimal n) k d) (AllPass-from_list_all is_ascii_digit (decimal n) (digits_decimal numeral n lt) k d l)
+  plain_decimal =
+      λ k d l. digit_plain (get_or (decimal n) k d)
+      (AllPass-from_list_all is_ascii_digit (decimal n) (digits_decimal numeral n lt) k d l)
 
 ends_append : (xs zs : List ℕ) → EndsDark zs → EndsDark (xs ++ zs)
 ends_append xs zs h =
     let whole : length (xs ++ zs) ≡ length xs + length zs = length-append xs zs in
     let pos = h.0 in
-    let last : length (xs ++ zs) - 1 ≡ length xs + (length zs - 1) = omega arith in
-    (omega arith, ap (λ k. is_white (get_or (xs ++ zs) k 0)) last ∙ ap is_white (get_or-append-add xs zs (length zs - 1) 0) ∙ h.1)
+    let last : length (xs ++ zs) - 1 ≡ length xs + (length zs - 1) = omega arith in (
+      omega arith,
+      ap (λ k. is_white (get_or (xs ++ zs) k 0)) last
+          ∙ ap is_white (get_or-append-add xs zs (length zs - 1) 0) ∙ h.1,
+    )
 
 ends_spelled : (xs ns : List ℕ) → AllByRecursion (λ n. n < 2 ^ 64) ns → EndsDark xs → EndsDark (xs ++ spelled ns)
 ends_spelled xs [] h e = subst EndsDark (sym (append-nil xs)) e
 ends_spelled xs (n ∷ ns) h e =
-    let more : EndsDark ((xs ++ 32 ∷ decimal n) ++ spelled ns) = ends_spelled (xs ++ 32 ∷ decimal n) ns h.1 (ends_append xs (32 ∷ decimal n) (ends_append (32 ∷ []) (decimal n) (ends_decimal n h.0))) in
+    let more : EndsDark ((xs ++ 32 ∷ decimal n) ++ spelled ns) =
+    ends_spelled (xs ++ 32 ∷ decimal n) ns h.1
+    (ends_append xs (32 ∷ decimal n) (ends_append (32 ∷ []) (decimal n) (ends_decimal n h.0))) in
     subst EndsDark (append_assoc xs (32 ∷ decimal n) (spelled ns)) more
 
 starts_append : (xs zs : List ℕ) → StartsDark xs → StartsDark (xs ++ zs)
@@ -71,7 +82,8 @@ start_dark (x ∷ xs) h = rw h.1 refl
 end_dark : (xs : List ℕ) → EndsDark xs → trim_end xs ≡ xs
 unfolding trim_end
 end_dark xs h =
-    let none : suffix_len is_white xs ≡ length xs - length xs = suffix_len_is is_white xs (length xs) 0 (omega arith) (λ k ge lt. absurd (omega arith)) (λ pos. h.1) in
+    let none : suffix_len is_white xs ≡ length xs - length xs =
+    suffix_len_is is_white xs (length xs) 0 (omega arith) (λ k ge lt. absurd (omega arith)) (λ pos. h.1) in
     take_all (length xs - suffix_len is_white xs) xs (omega (arith, none))
 
 trim_dark : (xs : List ℕ) → StartsDark xs → EndsDark xs → trim xs ≡ xs
@@ -91,14 +103,17 @@ told (n ∷ ns) = decimal n ++ spelled ns
 told_trimmed : (ns : List ℕ) → AllByRecursion (λ n. n < 2 ^ 64) ns → trim (told ns) ≡ told ns
 unfolding told trim_start trim_end
 told_trimmed [] h = refl
-told_trimmed (n ∷ ns) h = trim_dark (decimal n ++ spelled ns) (starts_append (decimal n) (spelled ns) (starts_decimal n h.0)) (ends_spelled (decimal n) ns h.1 (ends_decimal n h.0))
+told_trimmed (n ∷ ns) h =
+    trim_dark (decimal n ++ spelled ns) (starts_append (decimal n) (spelled ns) (starts_decimal n h.0))
+    (ends_spelled (decimal n) ns h.1 (ends_decimal n h.0))
 
 told_words : (ns : List ℕ) → AllByRecursion (λ n. n < 2 ^ 64) ns → words (told ns) ≡ map decimal ns
 unfolding told
 told_words [] h = words-spelled [] h
 told_words (n ∷ ns) h =
     let own : trim_start (32 ∷ (decimal n ++ spelled ns)) ≡ decimal n ++ spelled ns =
-    start_white 32 (decimal n ++ spelled ns) refl ∙ start_dark (decimal n ++ spelled ns) (starts_append (decimal n) (spelled ns) (starts_decimal n h.0)) in
+    start_white 32 (decimal n ++ spelled ns) refl
+    ∙ start_dark (decimal n ++ spelled ns) (starts_append (decimal n) (spelled ns) (starts_decimal n h.0)) in
     ap words (sym own) ∙ words-trim_start (32 ∷ (decimal n ++ spelled ns)) ∙ words-spelled (n ∷ ns) h
 
 pub smaller : (ns : List ℕ) → AllByRecursion (λ n. n ≤ 4294967295) ns → AllByRecursion (λ n. n < 2 ^ 64) ns
@@ -111,12 +126,15 @@ numbers_by_words xs ys e = ap (λ ws. each_from (number_at_most 4294967295) 1 ws
 
 -- numbers after a head are read again
 pub numbers_told : (ns : List ℕ) → AllByRecursion (λ n. n ≤ 4294967295) ns → numbers_of (told ns) ≡ Ok ns
-numbers_told ns h = numbers_by_words (told ns) (spelled ns) (told_words ns (smaller ns h) ∙ sym (words-spelled ns (smaller ns h))) ∙ numbers_again ns h
+numbers_told ns h =
+    numbers_by_words (told ns) (spelled ns) (told_words ns (smaller ns h) ∙ sym (words-spelled ns (smaller ns h)))
+    ∙ numbers_again ns h
 
 -- one wide number after a head is read again
 pub worth_told : (n : ℕ) → n ≤ 18446744073709551615 → number_of 18446744073709551615 (told (n ∷ [])) ≡ Ok n
 unfolding number_of
-worth_told n le = rw (told_words (n ∷ []) (omega arith, tt), number-decimal 18446744073709551615 n le (omega arith)) refl
+worth_told n le =
+    rw (told_words (n ∷ []) (omega arith, tt), number-decimal 18446744073709551615 n le (omega arith)) refl
 
 -- the head of an item: three digits, a blank and one digit
 pub record Head : Type 0 where
@@ -175,13 +193,23 @@ item_of_piece l =
     let h = l.head in
     let tail : trim (after_word (h.a ∷ h.b ∷ h.c ∷ 32 ∷ h.k ∷ spelled l.numbers)) ≡ h.k ∷ spelled l.numbers =
     ap trim (after_of h (h.k ∷ spelled l.numbers))
-    ∙ trim_dark (h.k ∷ spelled l.numbers) (omega arith, h.dark.3) (ends_spelled (h.k ∷ []) l.numbers l.small (omega arith, h.dark.3)) in
-    rw (first_of h (h.k ∷ spelled l.numbers), h.number_is, tail, kind_word h l.numbers, h.kind_is, after_kind h l.numbers, told_trimmed l.numbers l.small) refl
+    ∙ trim_dark (h.k ∷ spelled l.numbers) (omega arith, h.dark.3)
+    (ends_spelled (h.k ∷ []) l.numbers l.small (omega arith, h.dark.3)) in
+    rw (
+      first_of h (h.k ∷ spelled l.numbers),
+      h.number_is,
+      tail,
+      kind_word h l.numbers,
+      h.kind_is,
+      after_kind h l.numbers,
+      told_trimmed l.numbers l.small,
+    ) refl
 
 plain_spelled : (ns : List ℕ) → AllByRecursion (λ n. n < 2 ^ 64) ns → All (λ b. is_tilde b ≡ false) (spelled ns)
 plain_spelled [] h = All-nil (λ b. is_tilde b ≡ false)
 plain_spelled (n ∷ ns) h =
-    All-cons (λ b. is_tilde b ≡ false) 32 (decimal n ++ spelled ns) refl (All-append (λ b. is_tilde b ≡ false) (decimal n) (spelled ns) (plain_decimal n h.0) (plain_spelled ns h.1))
+    All-cons (λ b. is_tilde b ≡ false) 32 (decimal n ++ spelled ns) refl
+    (All-append (λ b. is_tilde b ≡ false) (decimal n) (spelled ns) (plain_decimal n h.0) (plain_spelled ns h.1))
 
 plain_piece : (l : Line) → All (λ b. is_tilde b ≡ false) (piece_of l)
 plain_piece l =
@@ -202,7 +230,8 @@ piece_trimmed l =
 trim_white : (w : ℕ) (xs : List ℕ) → is_white w ≡ true → trim (w ∷ xs) ≡ trim xs
 trim_white w xs h = ap trim_end (start_white w xs h)
 
-filled_front : (word : List ℕ) (others : List (List ℕ)) → 0 < length word → filter is_filled (word ∷ others) ≡ word ∷ filter is_filled others
+filled_front : (word : List ℕ) (others : List (List ℕ)) → 0 < length word
+    → filter is_filled (word ∷ others) ≡ word ∷ filter is_filled others
 filled_front word others h = cond-true _ _ _ (lt-ltb _ _ h)
 
 trim_none : trim [] ≡ []
@@ -215,10 +244,15 @@ line_pieces [] = ap (λ t. filter is_filled (t ∷ [])) (trim_white 10 [] refl �
 line_pieces (l ∷ ls) =
     let rest : List ℕ = 10 ∷ flat_map text_of ls in
     let text : 10 ∷ flat_map text_of (l ∷ ls) ≡ (10 ∷ piece_of l) ++ 126 ∷ rest =
-    ap (λ t. 10 ∷ l.head.a ∷ l.head.b ∷ l.head.c ∷ 32 ∷ l.head.k ∷ t) (append_assoc (spelled l.numbers) (126 ∷ 10 ∷ []) (flat_map text_of ls)) in
+    ap (λ t. 10 ∷ l.head.a ∷ l.head.b ∷ l.head.c ∷ 32 ∷ l.head.k ∷ t)
+    (append_assoc (spelled l.numbers) (126 ∷ 10 ∷ []) (flat_map text_of ls)) in
     let split : slice_split is_tilde (10 ∷ flat_map text_of (l ∷ ls)) ≡ (10 ∷ piece_of l) ∷ slice_split is_tilde rest =
-    ap (slice_split is_tilde) text ∙ slice_split_at is_tilde (10 ∷ piece_of l) 126 rest (All-cons (λ b. is_tilde b ≡ false) 10 (piece_of l) refl (plain_piece l)) refl in
-    ap filled_parts split ∙ ap (λ xs. filter is_filled (xs ∷ map trim (slice_split is_tilde rest))) (trim_white 10 (piece_of l) refl ∙ piece_trimmed l)
+    ap (slice_split is_tilde) text
+    ∙ slice_split_at is_tilde (10 ∷ piece_of l) 126 rest
+    (All-cons (λ b. is_tilde b ≡ false) 10 (piece_of l) refl (plain_piece l)) refl in
+    ap filled_parts split
+    ∙ ap (λ xs. filter is_filled (xs ∷ map trim (slice_split is_tilde rest)))
+    (trim_white 10 (piece_of l) refl ∙ piece_trimmed l)
     ∙ filled_front (piece_of l) (map trim (slice_split is_tilde rest)) (omega arith)
     ∙ ap (λ xss. piece_of l ∷ xss) (line_pieces ls)
 
@@ -249,12 +283,14 @@ AllPass_head =
     (All-cons P 74 (codes "RN") refl (All-cons P 82 (codes "N") refl (All-cons P 78 [] refl (All-nil P)))))))
 
 -- the items of lines after the first, which says the kind of file
-pub items_again : (ls : List Line) → items_of (item_text (codes "1 2 JRN") [] ++ flat_map text_of ls) ≡ Ok (kind_item ∷ map item_at ls)
+pub items_again : (ls : List Line)
+    → items_of (item_text (codes "1 2 JRN") [] ++ flat_map text_of ls) ≡ Ok (kind_item ∷ map item_at ls)
 unfolding items_of each_from
 items_again ls =
     let rest : List ℕ = 10 ∷ flat_map text_of ls in
     let split : slice_split is_tilde (codes "1 2 JRN" ++ 126 ∷ rest) ≡ codes "1 2 JRN" ∷ slice_split is_tilde rest =
     slice_split_at is_tilde (codes "1 2 JRN") 126 rest (AllPass_head) refl in
     let parts : pieces (item_text (codes "1 2 JRN") [] ++ flat_map text_of ls) ≡ codes "1 2 JRN" ∷ map piece_of ls =
-    ap filled_parts split ∙ ap (λ xs. filter is_filled (xs ∷ map trim (slice_split is_tilde rest))) head_piece ∙ ap (λ xss. codes "1 2 JRN" ∷ xss) (line_pieces ls) in
+    ap filled_parts split ∙ ap (λ xs. filter is_filled (xs ∷ map trim (slice_split is_tilde rest))) head_piece
+    ∙ ap (λ xss. codes "1 2 JRN" ∷ xss) (line_pieces ls) in
     rw (parts, item_of_head, each_line 2 ls) refl

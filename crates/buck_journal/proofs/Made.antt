@@ -16,16 +16,19 @@ pushed_at : {X : Type 0} (xs : List X) (y : X) → slice_get (xs ++ y ∷ []) (l
 pushed_at [] y = refl
 pushed_at (x ∷ xs) y = pushed_at xs y
 
-pub one_made : (i : InstructionParts) (sheets : List (List ℕ)) (made : List SheetParts) (s : SheetParts) → AreMade i sheets made
+pub one_made : (i : InstructionParts) (sheets : List (List ℕ)) (made : List SheetParts) (s : SheetParts)
+    → AreMade i sheets made
     → s ≡ sheet_at i sheets (length made)
     → AreMade i sheets (made ++ s ∷ [])
 one_made i sheets made s are is version lt = elim (cases_eq version (length made)) [
-  | inl same ↦ ap (λ n. slice_get (made ++ s ∷ []) n) same ∙ pushed_at made s ∙ ap Some (is ∙ ap (λ n. sheet_at i sheets n) (sym same))
+  | inl same ↦ ap (λ n. slice_get (made ++ s ∷ []) n) same ∙ pushed_at made s
+      ∙ ap Some (is ∙ ap (λ n. sheet_at i sheets n) (sym same))
   | inr other ↦ kept_at made s (sheet_at i sheets version) version (are version (omega (arith, lt, length_push made s)))
 ]
 
 -- the same of a list of what the sheets stand in
-pub one_more : {A : Type 0} (f : A → SheetParts) (i : InstructionParts) (sheets : List (List ℕ)) (old new : List A) (x : A)
+pub one_more : {A : Type 0} (f : A → SheetParts) (i : InstructionParts) (sheets : List (List ℕ)) (old new : List A)
+    (x : A)
     → AreMade i sheets (map f old)
     → new ≡ old ++ x ∷ []
     → f x ≡ sheet_at i sheets (length (map f old))

@@ -48,7 +48,8 @@ contains_or (y ∷ ys) x = elim (cases_eq y x) [
 contains_of : (xs : List ℕ) (x : ℕ) → ((Contains xs x → ⊥) → ⊥) → Contains xs x
 contains_of xs x nn = elim (contains_or xs x) [ inl c ↦ c | inr none ↦ absurd (nn none) ]
 
-allows_of : (step : ℕ) (a : AssortmentParts) (stem : StemParts) (g : Log) → ((Allows step a stem g → ⊥) → ⊥) → Allows step a stem g
+allows_of : (step : ℕ) (a : AssortmentParts) (stem : StemParts) (g : Log) → ((Allows step a stem g → ⊥) → ⊥)
+    → Allows step a stem g
 allows_of step a stem g nn = record {
   species = eq_of _ _ (λ no_. nn (λ al. no_ al.species));
   on_module = eq_of _ _ (λ no_. nn (λ al. no_ al.on_module));
@@ -66,12 +67,16 @@ allowed_of i stem g nn = elim (slice_get_cases i.assortments g.assortment).1 [
     assortment = some.0;
     exists = some.2;
     allows = allows_of i.«module» some.0 stem g (λ no_. nn (λ al.
-        no_ (subst (λ a. Allows i.«module» a stem g) (same_Some al.assortment some.0 (sym al.exists ∙ some.2)) al.allows)));
+        no_ (subst (λ a. Allows i.«module» a stem g) (same_Some al.assortment some.0 (sym al.exists ∙ some.2))
+        al.allows)));
   }
-  | inr past ↦ absurd (nn (λ al. absurd (omega (arith, past.0, slice_get_within i.assortments g.assortment al.assortment al.exists))))
+  | inr past ↦
+      absurd (nn
+      (λ al. absurd (omega (arith, past.0, slice_get_within i.assortments g.assortment al.assortment al.exists))))
 ]
 
-cut_of : (i : InstructionParts) (stem : StemParts) (from : ℕ) (gs : List Log) → ((IsCutFrom (IsAllowed i stem) (end_of i) from gs → ⊥) → ⊥)
+cut_of : (i : InstructionParts) (stem : StemParts) (from : ℕ) (gs : List Log)
+    → ((IsCutFrom (IsAllowed i stem) (end_of i) from gs → ⊥) → ⊥)
     → IsCutFrom (IsAllowed i stem) (end_of i) from gs
 cut_of i stem from [] nn = tt
 cut_of i stem from (g ∷ gs) nn = (
@@ -95,16 +100,19 @@ meets_of s price nn = record {
 }
 
 -- what a posting says is right where no fault stands in it
-holds_of : (s : SheetParts) (x : Posting) (k : ℕ) → ((fault : ReplayFault) → IsContentFault s x k fault → ⊥) → IsBestUnder s x
+holds_of : (s : SheetParts) (x : Posting) (k : ℕ) → ((fault : ReplayFault) → IsContentFault s x k fault → ⊥)
+    → IsBestUnder s x
 holds_of s (posting.Cut e) k none =
-    let cut : IsAdmissible s e.stem e.logs = cut_of s.instruction e.stem 0 e.logs (λ no_. none (Cutting k) (refl, no_)) in
+    let cut : IsAdmissible s e.stem e.logs =
+    cut_of s.instruction e.stem 0 e.logs (λ no_. none (Cutting k) (refl, no_)) in
     let is : e.worth ≡ cutting_worth s e.stem e.logs = eq_of _ _ (λ no_. none (Worth k) (refl, cut, no_)) in (
       record {
         admissible = cut;
-        none_outvalues = λ others theirs. elim (cases_lt (cutting_worth s e.stem e.logs) (cutting_worth s e.stem others)) [
-          | inl more ↦ absurd (none (Outvalued k) (refl, cut, is, (others, theirs, more)))
-          | inr le ↦ omega arith
-        ];
+        none_outvalues =
+            λ others theirs. elim (cases_lt (cutting_worth s e.stem e.logs) (cutting_worth s e.stem others)) [
+              | inl more ↦ absurd (none (Outvalued k) (refl, cut, is, (others, theirs, more)))
+              | inr le ↦ omega arith
+            ];
       },
       is,
     )
@@ -112,7 +120,8 @@ holds_of s (posting.Demand d) k none = targets_of s.instruction d.targets (λ no
 
 module _ (h : HistoryParts) where
   sheet_of : (k : ℕ) → ((fault : ReplayFault) → IsSheetFault h k fault → ⊥) → IsSheetRight h k
-  sheet_of k none = (has, record { one_each = has.1; each_meets = λ c l. below (suc (index_of h.instruction c)) c l (omega arith) })
+  sheet_of k none =
+      (has, record { one_each = has.1; each_meets = λ c l. below (suc (index_of h.instruction c)) c l (omega arith) })
     where
       has : HasSheet h k
       has = (
@@ -120,10 +129,12 @@ module _ (h : HistoryParts) where
         eq_of _ _ (λ no_. none (Sheet (version_at h k)) (refl, λ has. no_ has.1)),
       )
 
-      below : (n : ℕ) (c : Class) (l : IsClass h.instruction c) → index_of h.instruction c < n → MeetsAfter h.instruction (take k h.postings) (prices_then h k) c l
+      below : (n : ℕ) (c : Class) (l : IsClass h.instruction c) → index_of h.instruction c < n
+          → MeetsAfter h.instruction (take k h.postings) (prices_then h k) c l
       below zero c l lt = absurd (omega arith)
       below (suc n) c l lt =
-          meets_of (standing_of h.instruction l.assortment c (take k h.postings)) (slice_index (prices_then h k) (index_of h.instruction c))
+          meets_of (standing_of h.instruction l.assortment c (take k h.postings))
+          (slice_index (prices_then h k) (index_of h.instruction c))
           (λ wrong. none (Price (version_at h k) (index_of h.instruction c)) (
             refl,
             has,
@@ -137,18 +148,21 @@ module _ (h : HistoryParts) where
           ))
 
   -- what holds under the sheet in force holds under the one of its version
-  holds_there : (k : ℕ) (x : Posting) → planned_version x ≡ version_at h k → IsBestUnder (sheet_then h k) x → Holds h.instruction h.sheets x
+  holds_there : (k : ℕ) (x : Posting) → planned_version x ≡ version_at h k → IsBestUnder (sheet_then h k) x
+      → Holds h.instruction h.sheets x
   holds_there k (posting.Cut e) is b = (
     subst (λ v. IsBest (sheet_at h.instruction h.sheets v) e.stem e.logs) (sym is) b.0,
     subst (λ v. e.worth ≡ cutting_worth (sheet_at h.instruction h.sheets v) e.stem e.logs) (sym is) b.1,
   )
   holds_there k (posting.Demand d) is b = b
 
-  follows_of : (k : ℕ) (x : Posting) → ((fault : ReplayFault) → IsPostingFault (sheet_then h k) (take k h.postings) x k fault → ⊥)
+  follows_of : (k : ℕ) (x : Posting)
+      → ((fault : ReplayFault) → IsPostingFault (sheet_then h k) (take k h.postings) x k fault → ⊥)
       → Follows h.instruction h.sheets (take k h.postings) x
   follows_of k x none =
       let n : IsNumbered (take k h.postings) x = eq_of _ _ (λ no_. none (Numbering k) (inl (refl, no_))) in
-      let o : IsOfVersion h.instruction (take k h.postings) x = eq_of _ _ (λ no_. none (Version k) (inl (refl, n, no_))) in
+      let o : IsOfVersion h.instruction (take k h.postings) x =
+      eq_of _ _ (λ no_. none (Version k) (inl (refl, n, no_))) in
       record {
         number_is_next = n;
         version_in_force = o;
@@ -177,10 +191,12 @@ module _ (h : HistoryParts) where
         follows : Follows h.instruction h.sheets (take k h.postings) x
         follows = follows_of k x (λ fault wrong. met fault (inr (sheet, wrong)))
 
-        last : (j : ℕ) (y : Posting) → j ≡ k → slice_get h.postings j ≡ Some y → Follows h.instruction h.sheets (take j h.postings) y
+        last : (j : ℕ) (y : Posting) → j ≡ k → slice_get h.postings j ≡ Some y
+            → Follows h.instruction h.sheets (take j h.postings) y
         last j y same there =
             let one : x ≡ y = same_Some x y (sym at ∙ ap (λ m. slice_get h.postings m) (sym same) ∙ there) in
-            subst (λ m. Follows h.instruction h.sheets (take m h.postings) y) (sym same) (subst (λ z. Follows h.instruction h.sheets (take k h.postings) z) one follows)
+            subst (λ m. Follows h.instruction h.sheets (take m h.postings) y) (sym same)
+            (subst (λ z. Follows h.instruction h.sheets (take k h.postings) z) one follows)
 
     right_to : (k : ℕ) → k ≤ length h.postings → IsRightBefore h k
     right_to zero le = record { sheets = λ j lt b. absurd (omega arith); postings = λ j x lt at. absurd (omega arith) }
@@ -195,10 +211,16 @@ module _ (h : HistoryParts) where
         let all : IsRightBefore h n = right_to n (omega arith) in
         let number : length h.sheets ≡ version_at h n + 1 = elim (cases_order (length h.sheets) (version_at h n + 1)) [
           | inl same ↦ same
-          | inr (inl few) ↦ absurd (none (Sheet (length h.sheets)) (inr (record { right = all; wrong = inl (inl (omega arith, refl)) })))
-          | inr (inr many) ↦ absurd (none (Sheet (version_at h n + 1)) (inr (record { right = all; wrong = inl (inr (omega arith, refl)) })))
+          | inr (inl few) ↦
+              absurd (none (Sheet (length h.sheets))
+              (inr (record { right = all; wrong = inl (inl (omega arith, refl)) })))
+          | inr (inr many) ↦
+              absurd (none (Sheet (version_at h n + 1))
+              (inr (record { right = all; wrong = inl (inr (omega arith, refl)) })))
         ] in
         lawful_when h v all (record {
           number = number;
-          last_sheet = λ b. sheet_of n (λ fault wrong. none fault (inr (record { right = all; wrong = inr (number, b, wrong) })));
+          last_sheet =
+              λ b. sheet_of n
+              (λ fault wrong. none fault (inr (record { right = all; wrong = inr (number, b, wrong) })));
         })

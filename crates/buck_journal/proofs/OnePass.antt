@@ -50,7 +50,8 @@ pub head_leads : (text ns left : List ℕ)
     → LeadsTo (slot 981 2) head_at text (get_or ns 0 0, get_or ns 1 0) left
 unfolding head_at numbers_at rest_at
 head_leads text ns left l number low high =
-    let range : within SPECIES.low SPECIES.high (get_or ns 1 0) ≡ true = and_from _ _ (le-leb _ _ low) (le-leb _ _ high) in
+    let range : within SPECIES.low SPECIES.high (get_or ns 1 0) ≡ true =
+    and_from _ _ (le-leb _ _ low) (le-leb _ _ high) in
     (l.0, λ items k there. rw (there, l.1, eq-eqb (length ns) 2 number, range) refl, l.2)
 
 pub samples_lead : (text t ns left : List ℕ)
@@ -311,7 +312,8 @@ postings_end text rest ps through end =
     (all.0, all.1, subst (AreReadAs all.0) (append-nil ps) all.2)
 
 -- at the end of a file, the items of all postings
-all_read : (items : List ItemParts) (ps : List Posting) → AreReadAs items ps → length ps ≤ 1000000 → ArePostings 0 items ps
+all_read : (items : List ItemParts) (ps : List Posting) → AreReadAs items ps → length ps ≤ 1000000
+    → ArePostings 0 items ps
 all_read items ps read few =
     subst (λ qs. ArePostings 0 items qs) (append-nil ps)
     (subst (λ xs. ArePostings 0 xs (ps ++ [])) (append-nil items)

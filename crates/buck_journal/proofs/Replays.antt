@@ -23,20 +23,24 @@ use Rattle.buck_journal.specs.judging.Replay.{version_at, Begins, IsSheetRight, 
 use Rattle.buck_journal.specs.inner.Replay.{sheet_then, IsRightUnder, AreRightUnder, IsMetUnder, IsInOrderBefore, IsMetInOrder, IfMet, IsEndRight}
 
 -- prices that keep the price relation somewhere make a sheet
-pub is_sheet : (i : InstructionParts) (ps : List Posting) (prices : List ℕ) (fault : SheetFault) → IsInstruction i → PricesMeet i ps prices → sheet.IsSheetFault i prices fault → ⊥
+pub is_sheet : (i : InstructionParts) (ps : List Posting) (prices : List ℕ) (fault : SheetFault) → IsInstruction i
+    → PricesMeet i ps prices → sheet.IsSheetFault i prices fault → ⊥
 is_sheet i ps prices fault v m wrong = no_fault i prices fault m.one_each (λ k lt. in_span k lt) wrong
   where
     in_span : (k : ℕ) → k < length prices → IsPriceAt i prices k
     in_span k lt =
         let w : ClassAt i k = class_at i k (omega (arith, m.one_each)) in
-        subst (λ n. IsPriceAt i prices n) w.place (meets_within (standing_of i w.is_class.assortment w.class ps) _ (m.each_meets w.class w.is_class))
+        subst (λ n. IsPriceAt i prices n) w.place
+        (meets_within (standing_of i w.is_class.assortment w.class ps) _ (m.each_meets w.class w.is_class))
 
 -- where no period begins after a posting, the version stays
-pub version_stays : (i : InstructionParts) (ps : List Posting) (k : ℕ) (x : Posting) → slice_get ps k ≡ Some x → cuts_since_end i (take (k + 1) ps) ≢ 0
+pub version_stays : (i : InstructionParts) (ps : List Posting) (k : ℕ) (x : Posting) → slice_get ps k ≡ Some x
+    → cuts_since_end i (take (k + 1) ps) ≢ 0
     → ends_of i (take (k + 1) ps) ≡ ends_of i (take k ps)
 version_stays i ps k x at goes_on =
     let longer : take (k + 1) ps ≡ take k ps ++ x ∷ [] = take_one_more ps k x at in
-    let no_end : IsEnd i (take k ps) x → ⊥ = λ e. goes_on (ap (λ xs. cuts_since_end i xs) longer ∙ cuts_with_end i (take k ps) x e) in
+    let no_end : IsEnd i (take k ps) x → ⊥ =
+    λ e. goes_on (ap (λ xs. cuts_since_end i xs) longer ∙ cuts_with_end i (take k ps) x e) in
     ap (λ xs. ends_of i xs) longer ∙ ends_without i (take k ps) x no_end
 
 -- a stretch of right postings, one longer
@@ -70,13 +74,15 @@ module _ (h : HistoryParts) (from : ℕ) where
   sheet_is : (v : ℕ) → v ≡ version_at h from → sheet_at h.instruction h.sheets v ≡ sheet_then h from
   sheet_is v e = ap (λ w. sheet_at h.instruction h.sheets w) e
 
-  follows_here : (j : ℕ) (x : Posting) → version_at h j ≡ version_at h from → IsRightUnder (sheet_then h from) (take j h.postings) x
+  follows_here : (j : ℕ) (x : Posting) → version_at h j ≡ version_at h from
+      → IsRightUnder (sheet_then h from) (take j h.postings) x
       → IsRightUnder (sheet_at h.instruction h.sheets (planned_version x)) (take j h.postings) x
   follows_here j x same r =
       subst (λ t. IsRightUnder t (take j h.postings) x) (sym (sheet_is (planned_version x) (r.of_version ∙ same))) r
 
   -- a stretch of right postings from a right sheet on
-  pub right_along : (to : ℕ) → IsInOrderBefore h from → IsSheetRight h from → AreRightUnder (sheet_then h from) h.postings from to → IsInOrderBefore h to
+  pub right_along : (to : ℕ) → IsInOrderBefore h from → IsSheetRight h from
+      → AreRightUnder (sheet_then h from) h.postings from to → IsInOrderBefore h to
   right_along to before sheet r = record {
     sheets = λ j lt b. elim (cases_lt j from) [
       | inl old ↦ before.sheets j old b
@@ -91,7 +97,8 @@ module _ (h : HistoryParts) (from : ℕ) where
     ];
   }
 
-  pub met_along : (at : ℕ) (fault : ReplayFault) → IsInOrderBefore h from → IsSheetRight h from → IsMetUnder (sheet_then h from) h.postings from at fault → IsMetInOrder h at fault
+  pub met_along : (at : ℕ) (fault : ReplayFault) → IsInOrderBefore h from → IsSheetRight h from
+      → IsMetUnder (sheet_then h from) h.postings from at fault → IsMetInOrder h at fault
   met_along at fault before sheet m = record {
     next = m.next;
     there = m.there;
@@ -101,23 +108,30 @@ module _ (h : HistoryParts) (from : ℕ) where
         | inl same ↦ subst (λ n. IsSheetRight h n) (sym same) sheet
         | inr other ↦ absurd (m.goes_on (let ge = m.past in omega arith) b)
       ]),
-      subst (λ t. IsPostingFault t (take at h.postings) m.next at fault) (sym (sheet_is (version_at h at) m.in_force)) m.wrong,
+      subst (λ t. IsPostingFault t (take at h.postings) m.next at fault) (sym (sheet_is (version_at h at) m.in_force))
+          m.wrong,
     );
   }
 
 -- all postings may follow, and all sheets are right
-pub lawful_when : (h : HistoryParts) → IsInstruction h.instruction → IsRightBefore h (length h.postings) → IsEndRight h (length h.postings) → IsLawful h
+pub lawful_when : (h : HistoryParts) → IsInstruction h.instruction → IsRightBefore h (length h.postings)
+    → IsEndRight h (length h.postings) → IsLawful h
 lawful_when h v before last =
     let i : InstructionParts = h.instruction in
-    let whole : take (length h.postings) h.postings ≡ h.postings = take_all (length h.postings) h.postings (omega arith) in
+    let whole : take (length h.postings) h.postings ≡ h.postings =
+    take_all (length h.postings) h.postings (omega arith) in
     record {
       postings_follow = λ k x at. before.postings k x (slice_get_within h.postings k x at) at;
       sheets_number = last.number ∙ ap (λ ps. ends_of i ps + 1) whole;
-      base_sheet = base_alone i (prices_at h.sheets 0) v (meets_to_alone i [] (prices_at h.sheets 0) v (right_at 0 (omega arith) refl).1);
+      base_sheet =
+          base_alone i (prices_at h.sheets 0) v
+          (meets_to_alone i [] (prices_at h.sheets 0) v (right_at 0 (omega arith) refl).1);
       sheets_meet = λ k x at e.
           let longer : take (k + 1) h.postings ≡ take k h.postings ++ x ∷ [] = take_one_more h.postings k x at in
-          let begins : cuts_since_end i (take (k + 1) h.postings) ≡ 0 = ap (λ ps. cuts_since_end i ps) longer ∙ cuts_with_end i (take k h.postings) x e in
-          let version : version_at h (k + 1) ≡ version_at h k + 1 = ap (λ ps. ends_of i ps) longer ∙ ends_with_end i (take k h.postings) x e in
+          let begins : cuts_since_end i (take (k + 1) h.postings) ≡ 0 = ap (λ ps. cuts_since_end i ps) longer
+          ∙ cuts_with_end i (take k h.postings) x e in
+          let version : version_at h (k + 1) ≡ version_at h k + 1 = ap (λ ps. ends_of i ps) longer
+          ∙ ends_with_end i (take k h.postings) x e in
           subst (λ n. PricesMeet i (take (k + 1) h.postings) (prices_at h.sheets n)) version
           (right_at (k + 1) (omega (arith, slice_get_within h.postings k x at)) begins).1;
     }
@@ -129,7 +143,8 @@ lawful_when h v before last =
     ]
 
 -- what a fact about how a walk stopped gives
-pub weaken_met : {T : Type 0} {P Q : ℕ → ReplayFault → Type 0} (r : Result T Stop) → ((at : ℕ) (fault : ReplayFault) → P at fault → Q at fault)
+pub weaken_met : {T : Type 0} {P Q : ℕ → ReplayFault → Type 0} (r : Result T Stop)
+    → ((at : ℕ) (fault : ReplayFault) → P at fault → Q at fault)
     → IfErr r (λ t. IfMet t P) → IfErr r (λ t. IfMet t Q)
 weaken_met (Ok x) f p = p
 weaken_met (Err stop.Memory) f p = tt
@@ -137,7 +152,8 @@ weaken_met (Err (stop.Fault at fault)) f p = f at fault p
 
 -- a posting is passed under a sheet
 module _ (s : SheetParts) (i : InstructionParts) (ps : List Posting) (from : ℕ) (w w' : WalkParts) (x : Posting)
-    (same : w ≡ walk_of i ps w.at) (further : w' ≡ walk_of w.instruction w.postings (w.at + 1)) (there : Some x ≡ slice_get w.postings w.at) where
+    (same : w ≡ walk_of i ps w.at) (further : w' ≡ walk_of w.instruction w.postings (w.at + 1))
+    (there : Some x ≡ slice_get w.postings w.at) where
   postings_are : w.postings ≡ ps
   postings_are = ap (λ (v : WalkParts). v.postings) same
 
@@ -156,9 +172,11 @@ module _ (s : SheetParts) (i : InstructionParts) (ps : List Posting) (from : ℕ
       → AreRightUnder s ps from w'.at
   right_next r version goes_on right =
       subst (λ n. AreRightUnder s ps from n) (sym at_next)
-      (right_more s ps from w.at x there' r version goes_on (subst (λ q. IsRightUnder s (take w.at q) x) postings_are right))
+      (right_more s ps from w.at x there' r version goes_on
+      (subst (λ q. IsRightUnder s (take w.at q) x) postings_are right))
 
-  pub goes_on_next : s.instruction ≡ i → (cuts_since_end w'.instruction (take w'.at w'.postings) ≡ 0 → ⊥) → cuts_since_end s.instruction (take w'.at ps) ≢ 0
+  pub goes_on_next : s.instruction ≡ i → (cuts_since_end w'.instruction (take w'.at w'.postings) ≡ 0 → ⊥)
+      → cuts_since_end s.instruction (take w'.at ps) ≢ 0
   goes_on_next own no_ e = no_ (sym (λ j. cuts_since_end (own' j) (take w'.at (postings' j))) ∙ e)
     where
       own' : s.instruction ≡ w'.instruction
@@ -167,21 +185,25 @@ module _ (s : SheetParts) (i : InstructionParts) (ps : List Posting) (from : ℕ
       postings' : ps ≡ w'.postings
       postings' = sym (ap (λ (v : WalkParts). v.postings) same_next)
 
-  pub version_next : cuts_since_end s.instruction (take w'.at ps) ≢ 0 → ends_of s.instruction (take w.at ps) ≡ s.version → ends_of s.instruction (take w'.at ps) ≡ s.version
+  pub version_next : cuts_since_end s.instruction (take w'.at ps) ≢ 0 → ends_of s.instruction (take w.at ps) ≡ s.version
+      → ends_of s.instruction (take w'.at ps) ≡ s.version
   version_next goes_on version =
       ap (λ n. ends_of s.instruction (take n ps)) at_next
-      ∙ version_stays s.instruction ps w.at x there' (subst (λ n. cuts_since_end s.instruction (take n ps) ≢ 0) at_next goes_on)
+      ∙ version_stays s.instruction ps w.at x there'
+      (subst (λ n. cuts_since_end s.instruction (take n ps) ≢ 0) at_next goes_on)
       ∙ version
 
 -- a sheet that isn't right is met at the posting that begins its period
-pub sheet_met : (h : HistoryParts) (from : ℕ) (fault : ReplayFault) → from < length h.postings → IsInOrderBefore h from → Begins h from → IsSheetFault h from fault → IsMetInOrder h from fault
+pub sheet_met : (h : HistoryParts) (from : ℕ) (fault : ReplayFault) → from < length h.postings → IsInOrderBefore h from
+    → Begins h from → IsSheetFault h from fault → IsMetInOrder h from fault
 sheet_met h from fault lt before b wrong = elim (slice_get_cases h.postings from).1 [
   | inl some ↦ record { next = some.0; there = some.2; right = before; wrong = inl (b, wrong) }
   | inr past ↦ absurd (omega (arith, past.0))
 ]
 
 -- so the walk stops with what the opening of a period stops with, or with what its postings stop with
-pub sheet_stopped : (h : HistoryParts) (from : ℕ) (t : Stop) → from < length h.postings → IsInOrderBefore h from → Begins h from
+pub sheet_stopped : (h : HistoryParts) (from : ℕ) (t : Stop) → from < length h.postings → IsInOrderBefore h from
+    → Begins h from
     → IfMet t (λ at fault. (at ≡ from) × IsSheetFault h from fault)
     → IfMet t (IsMetInOrder h)
 sheet_stopped h from stop.Memory lt before b wrong = tt

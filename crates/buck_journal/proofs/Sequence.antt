@@ -21,7 +21,8 @@ use Rattle.buck_journal.proofs.OnePass.{next_stands, first_stands}
 use Rattle.buck_journal.proofs.Alone.{stands_rest}
 
 -- a step that passed
-step_ok : {A B E : Type 0} (r : Result A E) (f : A → Result B E) (y : B) → (r >>= f) ≡ Ok y → (x : A) × (r ≡ Ok x) × (f x ≡ Ok y)
+step_ok : {A B E : Type 0} (r : Result A E) (f : A → Result B E) (y : B) → (r >>= f) ≡ Ok y
+    → (x : A) × (r ≡ Ok x) × (f x ≡ Ok y)
 step_ok (Ok x) f y h = (x, refl, h)
 step_ok (Err e) f y h = cc
 
@@ -56,7 +57,8 @@ other_kind number kind x other h =
     let is : x.kind ≡ kind = eqb-true x.kind kind p.1 in
     ands (x.number == 981) (x.number == 982) (x.kind == 1) (ne_eqb x.kind 1 (λ e. other (sym is ∙ e)))
 
-wanted_right : (b : Bool) (rest read : List ℕ) (fault : JournalFault) → (if b then Ok rest else Err fault) ≡ Ok read → b ≡ true
+wanted_right : (b : Bool) (rest read : List ℕ) (fault : JournalFault) → (if b then Ok rest else Err fault) ≡ Ok read
+    → b ≡ true
 wanted_right true rest read fault h = refl
 wanted_right false rest read fault h = cc
 
@@ -67,38 +69,46 @@ wanted_inside number kind items k place (Some x) read other at h =
     (x, at, other_kind number kind x other (wanted_right (is_at (slot number kind) x) x.rest read (Shape place) h))
 
 module _ (items : List ItemParts) (k : ℕ) where
-  rest_inside : (number kind : ℕ) (read : List ℕ) → (kind ≡ 1 → ⊥) → rest_at (slot number kind) items k ≡ Ok read → Inside items k
+  rest_inside : (number kind : ℕ) (read : List ℕ) → (kind ≡ 1 → ⊥) → rest_at (slot number kind) items k ≡ Ok read
+      → Inside items k
   unfolding rest_at
   rest_inside number kind read other h = wanted_inside number kind items k (k + 1) (slice_get items k) read other refl h
 
-  numbers_inside : (number kind : ℕ) (ns : List ℕ) → (kind ≡ 1 → ⊥) → numbers_at (slot number kind) items k ≡ Ok ns → Inside items k
+  numbers_inside : (number kind : ℕ) (ns : List ℕ) → (kind ≡ 1 → ⊥) → numbers_at (slot number kind) items k ≡ Ok ns
+      → Inside items k
   unfolding numbers_at
   numbers_inside number kind ns other h =
       let r = step_ok (rest_at (slot number kind) items k) _ ns h in rest_inside number kind r.0 other r.1
 
   head_inside : (head : ℕ × ℕ) → head_at items k ≡ Ok head → Inside items k
   unfolding head_at
-  head_inside head h = let r = step_ok (numbers_at (slot 981 2) items k) _ head h in numbers_inside 981 2 r.0 (λ e. omega arith) r.1
+  head_inside head h = let r = step_ok (numbers_at (slot 981 2) items k) _ head h in
+      numbers_inside 981 2 r.0 (λ e. omega arith) r.1
 
   samples_inside : (samples : List ℕ) → samples_at items k ≡ Ok samples → Inside items k
   unfolding samples_at
-  samples_inside samples h = let r = step_ok (numbers_at (slot 981 3) items k) _ samples h in numbers_inside 981 3 r.0 (λ e. omega arith) r.1
+  samples_inside samples h = let r = step_ok (numbers_at (slot 981 3) items k) _ samples h in
+      numbers_inside 981 3 r.0 (λ e. omega arith) r.1
 
   zones_inside : (zones : List (ℕ × ℕ)) → zones_at items k ≡ Ok zones → Inside items k
   unfolding zones_at
-  zones_inside zones h = let r = step_ok (numbers_at (slot 981 4) items k) _ zones h in numbers_inside 981 4 r.0 (λ e. omega arith) r.1
+  zones_inside zones h = let r = step_ok (numbers_at (slot 981 4) items k) _ zones h in
+      numbers_inside 981 4 r.0 (λ e. omega arith) r.1
 
   logs_inside : (logs : List Log) → logs_at items k ≡ Ok logs → Inside items k
   unfolding logs_at
-  logs_inside logs h = let r = step_ok (numbers_at (slot 981 5) items k) _ logs h in numbers_inside 981 5 r.0 (λ e. omega arith) r.1
+  logs_inside logs h = let r = step_ok (numbers_at (slot 981 5) items k) _ logs h in
+      numbers_inside 981 5 r.0 (λ e. omega arith) r.1
 
   worth_inside : (worth : ℕ) → worth_at items k ≡ Ok worth → Inside items k
   unfolding worth_at
-  worth_inside worth h = let r = step_ok (rest_at (slot 981 6) items k) _ worth h in rest_inside 981 6 r.0 (λ e. omega arith) r.1
+  worth_inside worth h = let r = step_ok (rest_at (slot 981 6) items k) _ worth h in
+      rest_inside 981 6 r.0 (λ e. omega arith) r.1
 
   targets_inside : (targets : List ℕ) → targets_at items k ≡ Ok targets → Inside items k
   unfolding targets_at
-  targets_inside targets h = let r = step_ok (numbers_at (slot 982 2) items k) _ targets h in numbers_inside 982 2 r.0 (λ e. omega arith) r.1
+  targets_inside targets h = let r = step_ok (numbers_at (slot 982 2) items k) _ targets h in
+      numbers_inside 982 2 r.0 (λ e. omega arith) r.1
 
 -- so many items are those of a posting that began before, and after them comes the next one, or the end
 abbrev Owes : ℕ → List ItemParts → Type 0
@@ -119,14 +129,16 @@ module _ (items : List ItemParts) where
       let same : x ≡ inside.0 = cc in
       (ap is_first same ∙ inside.2, later more (next_stands items k x more at))
 
-  owes_none : (k j : ℕ) (rest : List ItemParts) → j ≡ k → posting_follows items j ≡ Ok tt → Stands items k rest → Owes 0 rest
+  owes_none : (k j : ℕ) (rest : List ItemParts) → j ≡ k → posting_follows items j ≡ Ok tt → Stands items k rest
+      → Owes 0 rest
   unfolding posting_follows
   owes_none k j [] is h at = refl
   owes_none k j (x ∷ more) is h at =
       let here : slice_get items j ≡ Some x = ap (slice_get items) is ∙ first_stands items k (x ∷ more) at in
       check_ok (is_first x) (Shape (j + 1)) (sym (ap (follows (j + 1)) here) ∙ h)
 
-  cut_owes : (k before : ℕ) (p : Posting) (more : List ItemParts) → cut_at items k before ≡ Ok p → Stands items (k + 1) more
+  cut_owes : (k before : ℕ) (p : Posting) (more : List ItemParts) → cut_at items k before ≡ Ok p
+      → Stands items (k + 1) more
       → (number_of_items p ≡ 6) × Owes 5 more
   unfolding cut_at stem_at
   cut_owes k before p more h at =
@@ -147,7 +159,8 @@ module _ (items : List ItemParts) where
             owes_none (k + 1 + 1 + 1 + 1 + 1 + 1) (k + 6) m (omega arith) e.1 n))))),
       )
 
-  demand_owes : (k before : ℕ) (p : Posting) (more : List ItemParts) → demand_at items k before ≡ Ok p → Stands items (k + 1) more
+  demand_owes : (k before : ℕ) (p : Posting) (more : List ItemParts) → demand_at items k before ≡ Ok p
+      → Stands items (k + 1) more
       → (number_of_items p ≡ 2) × Owes 1 more
   unfolding demand_at
   demand_owes k before p more h at =
@@ -159,7 +172,8 @@ module _ (items : List ItemParts) where
             owes_none (k + 1 + 1) (k + 2) m (omega arith) c.1 n),
       )
 
-  posting_owes : (x : ItemParts) (k before : ℕ) (p : Posting) (more : List ItemParts) → posting_at x items k before ≡ Ok p
+  posting_owes : (x : ItemParts) (k before : ℕ) (p : Posting) (more : List ItemParts)
+      → posting_at x items k before ≡ Ok p
       → Stands items (k + 1) more → (n : ℕ) × (number_of_items p ≡ n + 1) × Owes n more
   unfolding posting_at
   posting_owes x k before p more h at = elim (cases_Bool (is_at (slot 981 1) x)) [
@@ -174,19 +188,22 @@ module _ (items : List ItemParts) where
   postings_counted k before (suc n) [] ps at o h = absurd o
   postings_counted k before (suc n) (x ∷ more) ps at o h =
       let later : length more ≡ n + sum_by number_of_items ps =
-      postings_counted (k + 1) before n more ps (next_stands items k x more at) o.1 (else_of (is_first x) _ _ _ o.0 h) in
+      postings_counted (k + 1) before n more ps (next_stands items k x more at) o.1
+      (else_of (is_first x) _ _ _ o.0 h) in
       omega arith
   postings_counted k before zero (x ∷ more) ps at o h =
       let a = step_ok (posting_at x items k before) _ ps (then_of (is_first x) _ _ _ o h) in
       let b = step_ok (postings_from items (k + 1) (before + 1) more) _ ps a.2 in
       let at' = next_stands items k x more at in
       let w = posting_owes x k before a.0 more a.1 at' in
-      let later : length more ≡ w.0 + sum_by number_of_items b.0 = postings_counted (k + 1) (before + 1) w.0 more b.0 at' w.2 b.1 in
+      let later : length more ≡ w.0 + sum_by number_of_items b.0 =
+      postings_counted (k + 1) (before + 1) w.0 more b.0 at' w.2 b.1 in
       let all : number_of_items a.0 + sum_by number_of_items b.0 ≡ sum_by number_of_items ps =
       sym (sum_by-cons number_of_items a.0 b.0) ∙ ap (λ qs. sum_by number_of_items qs) (ok_same (a.0 ∷ b.0) ps b.2) in
       omega (arith, all, later, w.1)
 
-  sheets_counted : (k before : ℕ) (rest : List ItemParts) (sheets : List (List ℕ)) (ps : List Posting) → Stands items k rest
+  sheets_counted : (k before : ℕ) (rest : List ItemParts) (sheets : List (List ℕ)) (ps : List Posting)
+      → Stands items k rest
       → sheets_from items k rest ≡ Ok sheets → postings_from items k before rest ≡ Ok ps
       → length rest ≡ length sheets + sum_by number_of_items ps
   unfolding sheets_from postings_from
@@ -197,14 +214,16 @@ module _ (items : List ItemParts) where
   sheets_counted k before (x ∷ more) sheets ps at s h = elim (cases_Bool (is_first x)) [
     | inl first ↦
         let few : 0 ≡ length sheets = ap (λ xs. length xs) (ok_same [] sheets (then_of (is_first x) _ _ _ first s)) in
-        let counted : suc (length more) ≡ 0 + sum_by number_of_items ps = postings_counted k before 0 (x ∷ more) ps at first h in
+        let counted : suc (length more) ≡ 0 + sum_by number_of_items ps =
+        postings_counted k before 0 (x ∷ more) ps at first h in
         omega arith
     | inr other ↦
         let a = step_ok (sheet_at items k) _ sheets (else_of (is_first x) _ _ _ other s) in
         let b = step_ok (sheets_from items (k + 1) more) _ sheets a.2 in
         let one : suc (length b.0) ≡ length sheets = ap (λ xs. length xs) (ok_same (a.0 ∷ b.0) sheets b.2) in
         let later : length more ≡ length b.0 + sum_by number_of_items ps =
-        sheets_counted (k + 1) before more b.0 ps (next_stands items k x more at) b.1 (else_of (is_first x) _ _ _ other h) in
+        sheets_counted (k + 1) before more b.0 ps (next_stands items k x more at) b.1
+        (else_of (is_first x) _ _ _ other h) in
         omega arith
   ]
 

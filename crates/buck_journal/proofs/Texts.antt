@@ -22,66 +22,194 @@ use Rattle.buck_journal.proofs.Again.{in_small, call_small, zones_small, logs_sm
 use Rattle.buck_journal.proofs.Stages.{journal_of_items}
 
 -- the numbers and kinds of heads
-numbers_are : (number_at_most 65535 (57 ∷ 55 ∷ 49 ∷ []) ≡ Some 971) × (number_at_most 65535 (57 ∷ 56 ∷ 49 ∷ []) ≡ Some 981) × (number_at_most 65535 (57 ∷ 56 ∷ 50 ∷ []) ≡ Some 982)
+numbers_are : (number_at_most 65535 (57 ∷ 55 ∷ 49 ∷ []) ≡ Some 971)
+    × (number_at_most 65535 (57 ∷ 56 ∷ 49 ∷ []) ≡ Some 981) × (number_at_most 65535 (57 ∷ 56 ∷ 50 ∷ []) ≡ Some 982)
 unfolding number_at_most
 numbers_are = (refl, refl, refl)
 
-kinds_are : (number_at_most 65535 (49 ∷ []) ≡ Some 1) × (number_at_most 65535 (50 ∷ []) ≡ Some 2) × (number_at_most 65535 (51 ∷ []) ≡ Some 3)
-    × (number_at_most 65535 (52 ∷ []) ≡ Some 4) × (number_at_most 65535 (53 ∷ []) ≡ Some 5) × (number_at_most 65535 (54 ∷ []) ≡ Some 6)
+kinds_are : (number_at_most 65535 (49 ∷ []) ≡ Some 1) × (number_at_most 65535 (50 ∷ []) ≡ Some 2)
+    × (number_at_most 65535 (51 ∷ []) ≡ Some 3)
+    × (number_at_most 65535 (52 ∷ []) ≡ Some 4) × (number_at_most 65535 (53 ∷ []) ≡ Some 5)
+    × (number_at_most 65535 (54 ∷ []) ≡ Some 6)
 unfolding number_at_most
 kinds_are = (refl, refl, refl, refl, refl, refl)
 
 abbrev head_971_1 : Head
-head_971_1 = record { a = 57; b = 55; c = 49; k = 49; number = 971; kind = 1; dark = (refl, refl, refl, refl); plain = (refl, refl, refl, refl); number_is = numbers_are.0; kind_is = kinds_are.0 }
+head_971_1 =
+    record {
+      a = 57;
+      b = 55;
+      c = 49;
+      k = 49;
+      number = 971;
+      kind = 1;
+      dark = (refl, refl, refl, refl);
+      plain =
+          (refl, refl, refl, refl);
+      number_is = numbers_are.0;
+      kind_is = kinds_are.0;
+    }
 
 abbrev head_981_1 : Head
-head_981_1 = record { a = 57; b = 56; c = 49; k = 49; number = 981; kind = 1; dark = (refl, refl, refl, refl); plain = (refl, refl, refl, refl); number_is = numbers_are.1; kind_is = kinds_are.0 }
+head_981_1 =
+    record {
+      a = 57;
+      b = 56;
+      c = 49;
+      k = 49;
+      number = 981;
+      kind = 1;
+      dark = (refl, refl, refl, refl);
+      plain =
+          (refl, refl, refl, refl);
+      number_is = numbers_are.1;
+      kind_is = kinds_are.0;
+    }
 
 abbrev head_981_2 : Head
-head_981_2 = record { a = 57; b = 56; c = 49; k = 50; number = 981; kind = 2; dark = (refl, refl, refl, refl); plain = (refl, refl, refl, refl); number_is = numbers_are.1; kind_is = kinds_are.1 }
+head_981_2 =
+    record {
+      a = 57;
+      b = 56;
+      c = 49;
+      k = 50;
+      number = 981;
+      kind = 2;
+      dark = (refl, refl, refl, refl);
+      plain =
+          (refl, refl, refl, refl);
+      number_is = numbers_are.1;
+      kind_is = kinds_are.1;
+    }
 
 abbrev head_981_3 : Head
-head_981_3 = record { a = 57; b = 56; c = 49; k = 51; number = 981; kind = 3; dark = (refl, refl, refl, refl); plain = (refl, refl, refl, refl); number_is = numbers_are.1; kind_is = kinds_are.2 }
+head_981_3 =
+    record {
+      a = 57;
+      b = 56;
+      c = 49;
+      k = 51;
+      number = 981;
+      kind = 3;
+      dark = (refl, refl, refl, refl);
+      plain =
+          (refl, refl, refl, refl);
+      number_is = numbers_are.1;
+      kind_is = kinds_are.2;
+    }
 
 abbrev head_981_4 : Head
-head_981_4 = record { a = 57; b = 56; c = 49; k = 52; number = 981; kind = 4; dark = (refl, refl, refl, refl); plain = (refl, refl, refl, refl); number_is = numbers_are.1; kind_is = kinds_are.3 }
+head_981_4 =
+    record {
+      a = 57;
+      b = 56;
+      c = 49;
+      k = 52;
+      number = 981;
+      kind = 4;
+      dark = (refl, refl, refl, refl);
+      plain =
+          (refl, refl, refl, refl);
+      number_is = numbers_are.1;
+      kind_is = kinds_are.3;
+    }
 
 abbrev head_981_5 : Head
-head_981_5 = record { a = 57; b = 56; c = 49; k = 53; number = 981; kind = 5; dark = (refl, refl, refl, refl); plain = (refl, refl, refl, refl); number_is = numbers_are.1; kind_is = kinds_are.4 }
+head_981_5 =
+    record {
+      a = 57;
+      b = 56;
+      c = 49;
+      k = 53;
+      number = 981;
+      kind = 5;
+      dark = (refl, refl, refl, refl);
+      plain =
+          (refl, refl, refl, refl);
+      number_is = numbers_are.1;
+      kind_is = kinds_are.4;
+    }
 
 abbrev head_981_6 : Head
-head_981_6 = record { a = 57; b = 56; c = 49; k = 54; number = 981; kind = 6; dark = (refl, refl, refl, refl); plain = (refl, refl, refl, refl); number_is = numbers_are.1; kind_is = kinds_are.5 }
+head_981_6 =
+    record {
+      a = 57;
+      b = 56;
+      c = 49;
+      k = 54;
+      number = 981;
+      kind = 6;
+      dark = (refl, refl, refl, refl);
+      plain =
+          (refl, refl, refl, refl);
+      number_is = numbers_are.1;
+      kind_is = kinds_are.5;
+    }
 
 abbrev head_982_1 : Head
-head_982_1 = record { a = 57; b = 56; c = 50; k = 49; number = 982; kind = 1; dark = (refl, refl, refl, refl); plain = (refl, refl, refl, refl); number_is = numbers_are.2; kind_is = kinds_are.0 }
+head_982_1 =
+    record {
+      a = 57;
+      b = 56;
+      c = 50;
+      k = 49;
+      number = 982;
+      kind = 1;
+      dark = (refl, refl, refl, refl);
+      plain =
+          (refl, refl, refl, refl);
+      number_is = numbers_are.2;
+      kind_is = kinds_are.0;
+    }
 
 abbrev head_982_2 : Head
-head_982_2 = record { a = 57; b = 56; c = 50; k = 50; number = 982; kind = 2; dark = (refl, refl, refl, refl); plain = (refl, refl, refl, refl); number_is = numbers_are.2; kind_is = kinds_are.1 }
+head_982_2 =
+    record {
+      a = 57;
+      b = 56;
+      c = 50;
+      k = 50;
+      number = 982;
+      kind = 2;
+      dark = (refl, refl, refl, refl);
+      plain =
+          (refl, refl, refl, refl);
+      number_is = numbers_are.2;
+      kind_is = kinds_are.1;
+    }
 
 abbrev line_of : (h : Head) (ns : List ℕ) → AllByRecursion (λ n. n < 2 ^ 64) ns → Line
 line_of h ns small = record { head = h; numbers = ns; small = small }
 
 abbrev sheet_lines : (pss : List (List ℕ)) → AllByRecursion AreSheetPrices pss → List Line
 sheet_lines [] r = []
-sheet_lines (prices ∷ pss) r = line_of head_971_1 prices (smaller prices (in_small 0 20000000 prices (omega arith) r.0.range)) ∷ sheet_lines pss r.1
+sheet_lines (prices ∷ pss) r =
+    line_of head_971_1 prices (smaller prices (in_small 0 20000000 prices (omega arith) r.0.range))
+    ∷ sheet_lines pss r.1
 
 species_small : (n : ℕ) → within SPECIES.low SPECIES.high n ≡ true → n < 2 ^ 64
 species_small n h = let le = within_ok SPECIES.low SPECIES.high n h in omega (arith, le.1)
 
 cut_lines : (e : EntryParts) → IsCutInRange e → List Line
 cut_lines e r =
-    line_of head_981_1 (e.harvester ∷ e.number ∷ e.version ∷ []) (smaller (e.harvester ∷ e.number ∷ e.version ∷ []) (call_small [] 0 (call_of_cut e) r.call))
-    ∷ line_of head_981_2 (e.stem.number ∷ e.stem.species ∷ []) ((let h = r.stem_number in omega arith), (species_small e.stem.species r.species, tt))
-    ∷ line_of head_981_3 e.stem.samples (smaller e.stem.samples (in_small SAMPLES.low SAMPLES.high e.stem.samples (omega arith) r.samples_range))
-    ∷ line_of head_981_4 (zone_numbers e.stem.zones) (smaller (zone_numbers e.stem.zones) (zones_small 0 e.stem.zones r.zones_range))
+    line_of head_981_1 (e.harvester ∷ e.number ∷ e.version ∷ [])
+    (smaller (e.harvester ∷ e.number ∷ e.version ∷ []) (call_small [] 0 (call_of_cut e) r.call))
+    ∷ line_of head_981_2 (e.stem.number ∷ e.stem.species ∷ [])
+    ((let h = r.stem_number in omega arith), (species_small e.stem.species r.species, tt))
+    ∷ line_of head_981_3 e.stem.samples
+    (smaller e.stem.samples (in_small SAMPLES.low SAMPLES.high e.stem.samples (omega arith) r.samples_range))
+    ∷ line_of head_981_4 (zone_numbers e.stem.zones)
+    (smaller (zone_numbers e.stem.zones) (zones_small 0 e.stem.zones r.zones_range))
     ∷ line_of head_981_5 (log_numbers e.logs) (smaller (log_numbers e.logs) (logs_small e.logs r.logs_range))
     ∷ line_of head_981_6 (e.worth ∷ []) ((let h = r.worth in omega arith), tt)
     ∷ []
 
 demand_lines : (d : DemandParts) → IsDemandInRange d → List Line
 demand_lines d r =
-    line_of head_982_1 (d.harvester ∷ d.number ∷ d.version ∷ []) (smaller (d.harvester ∷ d.number ∷ d.version ∷ []) (call_small [] 0 (call_of_demand d) r.call))
-    ∷ line_of head_982_2 d.targets (smaller d.targets (in_small TARGETS.low TARGETS.high d.targets (omega arith) r.targets_range))
+    line_of head_982_1 (d.harvester ∷ d.number ∷ d.version ∷ [])
+    (smaller (d.harvester ∷ d.number ∷ d.version ∷ []) (call_small [] 0 (call_of_demand d) r.call))
+    ∷ line_of head_982_2 d.targets
+    (smaller d.targets (in_small TARGETS.low TARGETS.high d.targets (omega arith) r.targets_range))
     ∷ []
 
 posting_lines : (ps : List Posting) → AllByRecursion IsInRange ps → List Line
@@ -90,7 +218,8 @@ posting_lines (Cut e ∷ ps) r = cut_lines e r.0 ++ posting_lines ps r.1
 posting_lines (Demand d ∷ ps) r = demand_lines d r.0 ++ posting_lines ps r.1
 
 -- their texts
-sheets_text : (pss : List (List ℕ)) (r : AllByRecursion AreSheetPrices pss) → flat_map text_of (sheet_lines pss r) ≡ flat_map sheet_text pss
+sheets_text : (pss : List (List ℕ)) (r : AllByRecursion AreSheetPrices pss)
+    → flat_map text_of (sheet_lines pss r) ≡ flat_map sheet_text pss
 sheets_text [] r = refl
 sheets_text (prices ∷ pss) r = ap (λ xs. sheet_text prices ++ xs) (sheets_text pss r.1)
 
@@ -103,30 +232,39 @@ six a b c d e f =
     ∙ sym (append_assoc (((a ++ b) ++ c) ++ d) e f)
 
 six_lines : (a b c d e f : Line)
-    → flat_map text_of (a ∷ b ∷ c ∷ d ∷ e ∷ f ∷ []) ≡ ((((text_of a ++ text_of b) ++ text_of c) ++ text_of d) ++ text_of e) ++ text_of f
+    → flat_map text_of (a ∷ b ∷ c ∷ d ∷ e ∷ f ∷ [])
+    ≡ ((((text_of a ++ text_of b) ++ text_of c) ++ text_of d) ++ text_of e) ++ text_of f
 six_lines a b c d e f = six (text_of a) (text_of b) (text_of c) (text_of d) (text_of e) (text_of f)
 
 cut_parts : (e : EntryParts) (r : IsCutInRange e) → flat_map text_of (cut_lines e r) ≡ cut_text e
 unfolding cut_lines cut_text
 cut_parts e r =
     six_lines
-    (line_of head_981_1 (e.harvester ∷ e.number ∷ e.version ∷ []) (smaller (e.harvester ∷ e.number ∷ e.version ∷ []) (call_small [] 0 (call_of_cut e) r.call)))
-    (line_of head_981_2 (e.stem.number ∷ e.stem.species ∷ []) ((let h = r.stem_number in omega arith), (species_small e.stem.species r.species, tt)))
-    (line_of head_981_3 e.stem.samples (smaller e.stem.samples (in_small SAMPLES.low SAMPLES.high e.stem.samples (omega arith) r.samples_range)))
-    (line_of head_981_4 (zone_numbers e.stem.zones) (smaller (zone_numbers e.stem.zones) (zones_small 0 e.stem.zones r.zones_range)))
+    (line_of head_981_1 (e.harvester ∷ e.number ∷ e.version ∷ [])
+    (smaller (e.harvester ∷ e.number ∷ e.version ∷ []) (call_small [] 0 (call_of_cut e) r.call)))
+    (line_of head_981_2 (e.stem.number ∷ e.stem.species ∷ [])
+    ((let h = r.stem_number in omega arith), (species_small e.stem.species r.species, tt)))
+    (line_of head_981_3 e.stem.samples
+    (smaller e.stem.samples (in_small SAMPLES.low SAMPLES.high e.stem.samples (omega arith) r.samples_range)))
+    (line_of head_981_4 (zone_numbers e.stem.zones)
+    (smaller (zone_numbers e.stem.zones) (zones_small 0 e.stem.zones r.zones_range)))
     (line_of head_981_5 (log_numbers e.logs) (smaller (log_numbers e.logs) (logs_small e.logs r.logs_range)))
     (line_of head_981_6 (e.worth ∷ []) ((let h = r.worth in omega arith), tt))
 
-cut_texts : (e : EntryParts) (r : IsCutInRange e) (more : List ℕ) → flat_map text_of (cut_lines e r) ++ more ≡ cut_text e ++ more
+cut_texts : (e : EntryParts) (r : IsCutInRange e) (more : List ℕ)
+    → flat_map text_of (cut_lines e r) ++ more ≡ cut_text e ++ more
 cut_texts e r more = ap (λ xs. xs ++ more) (cut_parts e r)
 
-demand_texts : (d : DemandParts) (r : IsDemandInRange d) (more : List ℕ) → flat_map text_of (demand_lines d r) ++ more ≡ demand_text d ++ more
+demand_texts : (d : DemandParts) (r : IsDemandInRange d) (more : List ℕ)
+    → flat_map text_of (demand_lines d r) ++ more ≡ demand_text d ++ more
 unfolding demand_lines demand_text
 demand_texts d r more =
     ap (λ xs. xs ++ more)
-    (ap (λ xs. item_text (codes "982 1") (d.harvester ∷ d.number ∷ d.version ∷ []) ++ xs) (append-nil (item_text (codes "982 2") d.targets)))
+    (ap (λ xs. item_text (codes "982 1") (d.harvester ∷ d.number ∷ d.version ∷ []) ++ xs)
+    (append-nil (item_text (codes "982 2") d.targets)))
 
-postings_text : (ps : List Posting) (r : AllByRecursion IsInRange ps) → flat_map text_of (posting_lines ps r) ≡ flat_map posting_text ps
+postings_text : (ps : List Posting) (r : AllByRecursion IsInRange ps)
+    → flat_map text_of (posting_lines ps r) ≡ flat_map posting_text ps
 unfolding posting_lines
 postings_text [] r = refl
 postings_text (Cut e ∷ ps) r =
@@ -139,37 +277,47 @@ postings_text (Demand d ∷ ps) r =
     ∙ demand_texts d r.0 (flat_map posting_text ps)
 
 -- their items
-sheets_items : (pss : List (List ℕ)) (r : AllByRecursion AreSheetPrices pss) → map item_at (sheet_lines pss r) ≡ map sheet_item pss
+sheets_items : (pss : List (List ℕ)) (r : AllByRecursion AreSheetPrices pss)
+    → map item_at (sheet_lines pss r) ≡ map sheet_item pss
 sheets_items [] r = refl
 sheets_items (prices ∷ pss) r = ap (λ xs. sheet_item prices ∷ xs) (sheets_items pss r.1)
 
-postings_items : (ps : List Posting) (r : AllByRecursion IsInRange ps) → map item_at (posting_lines ps r) ≡ flat_map posting_items ps
+postings_items : (ps : List Posting) (r : AllByRecursion IsInRange ps)
+    → map item_at (posting_lines ps r) ≡ flat_map posting_items ps
 unfolding posting_lines cut_lines demand_lines
 postings_items [] r = refl
 postings_items (Cut e ∷ ps) r = ap (λ xs. posting_items (Cut e) ++ xs) (postings_items ps r.1)
 postings_items (Demand d ∷ ps) r = ap (λ xs. posting_items (Demand d) ++ xs) (postings_items ps r.1)
 
-lines_of : (pss : List (List ℕ)) (ps : List Posting) → AllByRecursion AreSheetPrices pss → AllByRecursion IsInRange ps → List Line
+lines_of : (pss : List (List ℕ)) (ps : List Posting) → AllByRecursion AreSheetPrices pss → AllByRecursion IsInRange ps
+    → List Line
 lines_of pss ps r q = sheet_lines pss r ++ posting_lines ps q
 
-text_lines : (pss : List (List ℕ)) (ps : List Posting) (r : AllByRecursion AreSheetPrices pss) (q : AllByRecursion IsInRange ps)
+text_lines : (pss : List (List ℕ)) (ps : List Posting) (r : AllByRecursion AreSheetPrices pss)
+    (q : AllByRecursion IsInRange ps)
     → item_text (codes "1 2 JRN") [] ++ flat_map text_of (lines_of pss ps r q) ≡ journal_text pss ps
 unfolding lines_of journal_text
 text_lines pss ps r q =
     ap (λ xs. item_text (codes "1 2 JRN") [] ++ xs)
-    (flat_map-append text_of (sheet_lines pss r) (posting_lines ps q) ∙ (λ j. sheets_text pss r j ++ postings_text ps q j))
+    (flat_map-append text_of (sheet_lines pss r) (posting_lines ps q)
+    ∙ (λ j. sheets_text pss r j ++ postings_text ps q j))
 
-item_lines : (pss : List (List ℕ)) (ps : List Posting) (r : AllByRecursion AreSheetPrices pss) (q : AllByRecursion IsInRange ps)
+item_lines : (pss : List (List ℕ)) (ps : List Posting) (r : AllByRecursion AreSheetPrices pss)
+    (q : AllByRecursion IsInRange ps)
     → map item_at (lines_of pss ps r q) ≡ map sheet_item pss ++ flat_map posting_items ps
 unfolding lines_of
-item_lines pss ps r q = map-append item_at (sheet_lines pss r) (posting_lines ps q) ∙ (λ j. sheets_items pss r j ++ postings_items ps q j)
+item_lines pss ps r q = map-append item_at (sheet_lines pss r) (posting_lines ps q)
+    ∙ (λ j. sheets_items pss r j ++ postings_items ps q j)
 
 -- the journal of a journal's text is what was written
-pub read_again : (pss : List (List ℕ)) (ps : List Posting) → AreInRange pss ps → journal_of (journal_text pss ps) ≡ Ok (record { sheets = pss; entries = ps })
+pub read_again : (pss : List (List ℕ)) (ps : List Posting) → AreInRange pss ps
+    → journal_of (journal_text pss ps) ≡ Ok (record { sheets = pss; entries = ps })
 read_again pss ps range =
     let r : AllByRecursion AreSheetPrices pss = recursion_from_All AreSheetPrices pss range.sheets in
     let q : AllByRecursion IsInRange ps = recursion_from_All IsInRange ps range.postings in
     let items : items_of (journal_text pss ps) ≡ Ok (kind_item ∷ (map sheet_item pss ++ flat_map posting_items ps)) =
-    ap items_of (sym (text_lines pss ps r q)) ∙ items_again (lines_of pss ps r q) ∙ ap (λ xs. Ok (kind_item ∷ xs)) (item_lines pss ps r q) in
-    journal_of_items (journal_text pss ps) (kind_item ∷ (map sheet_item pss ++ flat_map posting_items ps)) (ap (with_fault fault.Head) items)
+    ap items_of (sym (text_lines pss ps r q)) ∙ items_again (lines_of pss ps r q)
+    ∙ ap (λ xs. Ok (kind_item ∷ xs)) (item_lines pss ps r q) in
+    journal_of_items (journal_text pss ps) (kind_item ∷ (map sheet_item pss ++ flat_map posting_items ps))
+    (ap (with_fault fault.Head) items)
     ∙ journal_again pss ps r q range.few

@@ -10,15 +10,20 @@ use Rattle.buck_journal.specs.reading.Journal.{is_zone, are_zones, is_log, are_l
 here : (xs : List ℕ) (i d : ℕ) → i < length xs → drop i xs ≡ get_or xs i d ∷ drop (i + 1) xs
 here xs i d lt = rw add-one (drop-cons xs i d lt)
 
-pub two : (xs : List ℕ) (i d : ℕ) → i + 1 < length xs → drop i xs ≡ get_or xs i d ∷ get_or xs (i + 1) d ∷ drop (i + 2) xs
+pub two : (xs : List ℕ) (i d : ℕ) → i + 1 < length xs
+    → drop i xs ≡ get_or xs i d ∷ get_or xs (i + 1) d ∷ drop (i + 2) xs
 two xs i d lt =
     let e : i + 1 + 1 ≡ i + 2 = omega arith in
-    here xs i d (omega arith) ∙ ap (λ more. get_or xs i d ∷ more) (here xs (i + 1) d lt ∙ ap (λ n. get_or xs (i + 1) d ∷ drop n xs) e)
+    here xs i d (omega arith)
+    ∙ ap (λ more. get_or xs i d ∷ more) (here xs (i + 1) d lt ∙ ap (λ n. get_or xs (i + 1) d ∷ drop n xs) e)
 
-pub three : (xs : List ℕ) (i d : ℕ) → i + 2 < length xs → drop i xs ≡ get_or xs i d ∷ get_or xs (i + 1) d ∷ get_or xs (i + 2) d ∷ drop (i + 3) xs
+pub three : (xs : List ℕ) (i d : ℕ) → i + 2 < length xs
+    → drop i xs ≡ get_or xs i d ∷ get_or xs (i + 1) d ∷ get_or xs (i + 2) d ∷ drop (i + 3) xs
 three xs i d lt =
     let e : i + 2 + 1 ≡ i + 3 = omega arith in
-    two xs i d (omega arith) ∙ ap (λ more. get_or xs i d ∷ get_or xs (i + 1) d ∷ more) (here xs (i + 2) d lt ∙ ap (λ n. get_or xs (i + 2) d ∷ drop n xs) e)
+    two xs i d (omega arith)
+    ∙ ap (λ more. get_or xs i d ∷ get_or xs (i + 1) d ∷ more)
+    (here xs (i + 2) d lt ∙ ap (λ n. get_or xs (i + 2) d ∷ drop n xs) e)
 
 -- no two are left, and no three
 pub no_zones : (low : ℕ) (xs : List ℕ) → length xs ≤ 1 → are_zones low xs ≡ true
@@ -44,11 +49,14 @@ no_log_parts (x ∷ y ∷ []) le = refl
 no_log_parts (x ∷ y ∷ z ∷ more) le = absurd (omega arith)
 
 -- the next two, and the next three
-pub zones_more : (low : ℕ) (xs : List ℕ) (i : ℕ) → i + 1 < length xs → is_zone low (get_or xs i 0) (get_or xs (i + 1) 0) ≡ true
+pub zones_more : (low : ℕ) (xs : List ℕ) (i : ℕ) → i + 1 < length xs
+    → is_zone low (get_or xs i 0) (get_or xs (i + 1) 0) ≡ true
     → are_zones low (drop i xs) ≡ are_zones (get_or xs i 0 + 1) (drop (i + 2) xs)
-zones_more low xs i lt h = ap (are_zones low) (two xs i 0 lt) ∙ ap (λ b. b && are_zones (get_or xs i 0 + 1) (drop (i + 2) xs)) h
+zones_more low xs i lt h = ap (are_zones low) (two xs i 0 lt)
+    ∙ ap (λ b. b && are_zones (get_or xs i 0 + 1) (drop (i + 2) xs)) h
 
-pub logs_more : (xs : List ℕ) (i : ℕ) → i + 2 < length xs → is_log (get_or xs i 0) (get_or xs (i + 1) 0) (get_or xs (i + 2) 0) ≡ true
+pub logs_more : (xs : List ℕ) (i : ℕ) → i + 2 < length xs
+    → is_log (get_or xs i 0) (get_or xs (i + 1) 0) (get_or xs (i + 2) 0) ≡ true
     → are_logs (drop i xs) ≡ are_logs (drop (i + 3) xs)
 logs_more xs i lt h = ap are_logs (three xs i 0 lt) ∙ ap (λ b. b && are_logs (drop (i + 3) xs)) h
 
@@ -56,14 +64,17 @@ logs_more xs i lt h = ap are_logs (three xs i 0 lt) ∙ ap (λ b. b && are_logs 
 pub zone_right : (low : ℕ) (xs : List ℕ) (i : ℕ) → i + 1 < length xs → are_zones low (drop i xs) ≡ true
     → (get_or xs (i + 1) 0 ≤ 8) × (are_zones (get_or xs i 0 + 1) (drop (i + 2) xs) ≡ true)
 zone_right low xs i lt h =
-    let p = both (is_zone low (get_or xs i 0) (get_or xs (i + 1) 0)) (are_zones (get_or xs i 0 + 1) (drop (i + 2) xs)) (sym (ap (are_zones low) (two xs i 0 lt)) ∙ h) in
+    let p = both (is_zone low (get_or xs i 0) (get_or xs (i + 1) 0)) (are_zones (get_or xs i 0 + 1) (drop (i + 2) xs))
+    (sym (ap (are_zones low) (two xs i 0 lt)) ∙ h) in
     let q = both (within low STARTS.high (get_or xs i 0)) (within GRADES.low GRADES.high (get_or xs (i + 1) 0)) p.0 in
     ((within_ok GRADES.low GRADES.high (get_or xs (i + 1) 0) q.1).1, p.1)
 
 pub log_right : (xs : List ℕ) (i : ℕ) → i + 2 < length xs → are_logs (drop i xs) ≡ true
     → (get_or xs (i + 2) 0 ≤ 15) × (are_logs (drop (i + 3) xs) ≡ true)
 log_right xs i lt h =
-    let p = both (is_log (get_or xs i 0) (get_or xs (i + 1) 0) (get_or xs (i + 2) 0)) (are_logs (drop (i + 3) xs)) (sym (ap are_logs (three xs i 0 lt)) ∙ h) in
-    let q = both (within STARTS.low STARTS.high (get_or xs i 0)) (within 0 LENGTHS.high (get_or xs (i + 1) 0) && within 0 15 (get_or xs (i + 2) 0)) p.0 in
+    let p = both (is_log (get_or xs i 0) (get_or xs (i + 1) 0) (get_or xs (i + 2) 0)) (are_logs (drop (i + 3) xs))
+    (sym (ap are_logs (three xs i 0 lt)) ∙ h) in
+    let q = both (within STARTS.low STARTS.high (get_or xs i 0))
+    (within 0 LENGTHS.high (get_or xs (i + 1) 0) && within 0 15 (get_or xs (i + 2) 0)) p.0 in
     let r = both (within 0 LENGTHS.high (get_or xs (i + 1) 0)) (within 0 15 (get_or xs (i + 2) 0)) q.1 in
     ((within_ok 0 15 (get_or xs (i + 2) 0) r.1).1, p.1)

@@ -39,7 +39,8 @@ use Rattle.buck_journal.specs.Ranges.{AreSheetPrices, IsCutInRange, IsDemandInRa
 use Rattle.buck_journal.proofs.Faults.{prices_right}
 
 one_element : {X : Type 0} (xs : List X) (k : ℕ) (c d : X) → k < length xs → get_or xs k c ≡ get_or xs k d
-one_element xs k c d lt = same_Some (get_or xs k c) (get_or xs k d) (sym (slice_get-get_or xs k c lt) ∙ slice_get-get_or xs k d lt)
+one_element xs k c d lt =
+    same_Some (get_or xs k c) (get_or xs k d) (sym (slice_get-get_or xs k c lt) ∙ slice_get-get_or xs k d lt)
 
 within_yes : (low high n : ℕ) → low ≤ n → n ≤ high → within low high n ≡ true
 within_yes low high n a b = and_from (nat_le low n) (nat_le n high) (le_yes low n a) (le_yes n high b)
@@ -49,60 +50,77 @@ within_yes low high n a b = and_from (nat_le low n) (nat_le n high) (le_yes low 
 
 all_within_yes : (high : ℕ) (ns : List ℕ) → AllByRecursion (λ n. n ≤ high) ns → all_within 0 high ns ≡ true
 all_within_yes high [] h = refl
-all_within_yes high (n ∷ ns) h = and_from (within 0 high n) (all_within 0 high ns) (within_yes 0 high n (omega arith) h.0) (all_within_yes high ns h.1)
+all_within_yes high (n ∷ ns) h =
+    and_from (within 0 high n) (all_within 0 high ns) (within_yes 0 high n (omega arith) h.0)
+    (all_within_yes high ns h.1)
 
 call_yes : (c : Call) → IsWithin 1 64 c.harvester → IsWithin 1 1000000 c.number → c.version ≤ 1000000 → is_call c ≡ true
 call_yes c h n v =
-    and_from (within 1 64 c.harvester) (within 1 1000000 c.number && nat_le c.version 1000000) (within_yes 1 64 c.harvester h.0 h.1)
-    (and_from (within 1 1000000 c.number) (nat_le c.version 1000000) (within_yes 1 1000000 c.number n.0 n.1) (let le = v in grind (arith, nat_tests)))
+    and_from (within 1 64 c.harvester) (within 1 1000000 c.number && nat_le c.version 1000000)
+    (within_yes 1 64 c.harvester h.0 h.1)
+    (and_from (within 1 1000000 c.number) (nat_le c.version 1000000) (within_yes 1 1000000 c.number n.0 n.1)
+    (let le = v in grind (arith, nat_tests)))
 
-zones_yes : (low : ℕ) (zones : List (ℕ × ℕ)) → IsRisingFrom low zones → AllByRecursion (λ z. z.0 ≤ STARTS.high) zones → AllByRecursion (λ z. IsGrade z.1) zones
+zones_yes : (low : ℕ) (zones : List (ℕ × ℕ)) → IsRisingFrom low zones → AllByRecursion (λ z. z.0 ≤ STARTS.high) zones
+    → AllByRecursion (λ z. IsGrade z.1) zones
     → are_zones low (zone_numbers zones) ≡ true
 zones_yes low [] rise starts grades = refl
 zones_yes low (z ∷ zs) rise starts grades =
     and_from (is_zone low z.0 z.1) (are_zones (z.0 + 1) (zone_numbers zs))
-    (and_from (within low STARTS.high z.0) (within GRADES.low GRADES.high z.1) (within_yes low STARTS.high z.0 rise.0 starts.0) (within_yes GRADES.low GRADES.high z.1 grades.0.0 grades.0.1))
+    (and_from (within low STARTS.high z.0) (within GRADES.low GRADES.high z.1)
+    (within_yes low STARTS.high z.0 rise.0 starts.0) (within_yes GRADES.low GRADES.high z.1 grades.0.0 grades.0.1))
     (zones_yes (z.0 + 1) zs rise.1 starts.1 grades.1)
 
-log_yes : (i : InstructionParts) (stem : StemParts) (g : Log) → IsInstruction i → IsStem stem → IsAllowed i stem g → is_log g.start g.length g.assortment ≡ true
+log_yes : (i : InstructionParts) (stem : StemParts) (g : Log) → IsInstruction i → IsStem stem → IsAllowed i stem g
+    → is_log g.start g.length g.assortment ≡ true
 log_yes i stem g v s a =
     let w = valid_of i stem g v a in
-    let long : g.length ≤ LENGTHS.high = (All-contains (λ l. IsWithin LENGTHS.low LENGTHS.high l) a.assortment.lengths g.length w.lengths_range a.allows.length_offered).1 in
+    let long : g.length ≤ LENGTHS.high =
+    (All-contains (λ l. IsWithin LENGTHS.low LENGTHS.high l)
+    a.assortment.lengths g.length w.lengths_range a.allows.length_offered).1 in
     let start : g.start ≤ STARTS.high = omega (arith, a.allows.within, s.samples_number.1) in
-    let which : g.assortment ≤ 15 = omega (arith, slice_get_within i.assortments g.assortment a.assortment a.exists, v.assortments_number.1) in
-    and_from (within STARTS.low STARTS.high g.start) (within 0 LENGTHS.high g.length && within 0 15 g.assortment) (within_yes STARTS.low STARTS.high g.start (omega arith) start)
-    (and_from (within 0 LENGTHS.high g.length) (within 0 15 g.assortment) (within_yes 0 LENGTHS.high g.length (omega arith) long) (within_yes 0 15 g.assortment (omega arith) which))
+    let which : g.assortment ≤ 15 =
+    omega (arith, slice_get_within i.assortments g.assortment a.assortment a.exists, v.assortments_number.1) in
+    and_from (within STARTS.low STARTS.high g.start) (within 0 LENGTHS.high g.length && within 0 15 g.assortment)
+    (within_yes STARTS.low STARTS.high g.start (omega arith) start)
+    (and_from (within 0 LENGTHS.high g.length) (within 0 15 g.assortment)
+    (within_yes 0 LENGTHS.high g.length (omega arith) long) (within_yes 0 15 g.assortment (omega arith) which))
 
-logs_yes : (i : InstructionParts) (stem : StemParts) (from : ℕ) (gs : List Log) → IsInstruction i → IsStem stem → IsCutFrom (IsAllowed i stem) (end_of i) from gs
+logs_yes : (i : InstructionParts) (stem : StemParts) (from : ℕ) (gs : List Log) → IsInstruction i → IsStem stem
+    → IsCutFrom (IsAllowed i stem) (end_of i) from gs
     → are_logs (log_numbers gs) ≡ true
 logs_yes i stem from [] v s cut = refl
 logs_yes i stem from (g ∷ gs) v s cut =
-    and_from (is_log g.start g.length g.assortment) (are_logs (log_numbers gs)) (log_yes i stem g v s cut.1) (logs_yes i stem (end_of i g) gs v s cut.2)
+    and_from (is_log g.start g.length g.assortment) (are_logs (log_numbers gs)) (log_yes i stem g v s cut.1)
+    (logs_yes i stem (end_of i g) gs v s cut.2)
 
 -- prices that keep the relation somewhere lie within their spans, and are low
-module _ (i : InstructionParts) (ps : List Posting) (prices : List ℕ) (v : IsInstruction i) (m : PricesMeet i ps prices) where
-  in_span : (k : ℕ) → k < length prices → IsPriceAt i prices k
-  in_span k lt =
-      let w : ClassAt i k = class_at i k (omega (arith, m.one_each)) in
-      subst (λ n. IsPriceAt i prices n) w.place (meets_within (standing_of i w.is_class.assortment w.class ps) _ (m.each_meets w.class w.is_class))
+module _ (i : InstructionParts) (ps : List Posting) (prices : List ℕ) (v : IsInstruction i) (m : PricesMeet i ps prices)
+  where
+    in_span : (k : ℕ) → k < length prices → IsPriceAt i prices k
+    in_span k lt =
+        let w : ClassAt i k = class_at i k (omega (arith, m.one_each)) in
+        subst (λ n. IsPriceAt i prices n) w.place
+        (meets_within (standing_of i w.is_class.assortment w.class ps) _ (m.each_meets w.class w.is_class))
 
-  low_price : (k : ℕ) → k < length prices → slice_index prices k ≤ 20000000
-  low_price k lt =
-      let base : ℕ = slice_index (base_prices i) k in
-      let le : base * i.limit ≤ base * 1000 = mul-le-mul_left base v.limit_range in
-      omega (arith, (in_span k lt).1, base_price-le i k v)
+    low_price : (k : ℕ) → k < length prices → slice_index prices k ≤ 20000000
+    low_price k lt =
+        let base : ℕ = slice_index (base_prices i) k in
+        let le : base * i.limit ≤ base * 1000 = mul-le-mul_left base v.limit_range in
+        omega (arith, (in_span k lt).1, base_price-le i k v)
 
-  prices_low : AllByRecursion (λ p. p ≤ 20000000) prices
-  prices_low = recursion_from_All (λ p. p ≤ 20000000) prices (λ k d lt. low_at k d lt)
-    where
-      low_at : (k d : ℕ) → k < length prices → get_or prices k d ≤ 20000000
-      low_at k d lt = subst (λ p. p ≤ 20000000) (one_element prices k 0 d lt) (low_price k lt)
+    prices_low : AllByRecursion (λ p. p ≤ 20000000) prices
+    prices_low = recursion_from_All (λ p. p ≤ 20000000) prices (λ k d lt. low_at k d lt)
+      where
+        low_at : (k d : ℕ) → k < length prices → get_or prices k d ≤ 20000000
+        low_at k d lt = subst (λ p. p ≤ 20000000) (one_element prices k 0 d lt) (low_price k lt)
 
-  sheet_prices : AreSheetPrices prices
-  sheet_prices = record { number = omega (arith, m.one_each, classes-le i v); range = all_within_yes 20000000 prices prices_low }
+    sheet_prices : AreSheetPrices prices
+    sheet_prices =
+        record { number = omega (arith, m.one_each, classes-le i v); range = all_within_yes 20000000 prices prices_low }
 
-  sheet_valid : (version : ℕ) → IsSheet (sheet_of version i prices)
-  sheet_valid version = record { valid = v; one_each = m.one_each; in_span = λ k lt. in_span k lt }
+    sheet_valid : (version : ℕ) → IsSheet (sheet_of version i prices)
+    sheet_valid version = record { valid = v; one_each = m.one_each; in_span = λ k lt. in_span k lt }
 
 module _ (h : HistoryParts) (v : IsInstruction h.instruction) (l : IsLawful h) where
   -- where the sheet of a version comes into force
@@ -121,20 +139,24 @@ module _ (h : HistoryParts) (v : IsInstruction h.instruction) (l : IsLawful h) w
         | inr less ↦
             let o = before (omega arith) in
             record { at = o.at; within_them = omega (arith, o.within_them); begins = o.begins; is = o.is }
-        | inl new ↦ elim (cases_Bool (is_end h.instruction.period (cuts_since_end h.instruction (take n h.postings)) x)) [
-          | inl yes_ ↦
-              let more : version_at h (n + 1) ≡ version_at h n + 1 = ap (λ ps. ends_of h.instruction ps) longer ∙ ends_with_end h.instruction (take n h.postings) x yes_ in
-              record {
-                at = n + 1;
-                within_them = omega arith;
-                begins = ap (λ ps. cuts_since_end h.instruction ps) longer ∙ cuts_with_end h.instruction (take n h.postings) x yes_;
-                is = omega (arith, more);
-              }
-          | inr no_ ↦
-              let same : version_at h (n + 1) ≡ version_at h n =
-              ap (λ ps. ends_of h.instruction ps) longer ∙ ends_without h.instruction (take n h.postings) x (λ e. true_false (sym e ∙ no_)) in
-              absurd (omega (arith, same))
-        ]
+        | inl new ↦
+            elim (cases_Bool (is_end h.instruction.period (cuts_since_end h.instruction (take n h.postings)) x)) [
+              | inl yes_ ↦
+                  let more : version_at h (n + 1) ≡ version_at h n + 1 = ap (λ ps. ends_of h.instruction ps) longer
+                  ∙ ends_with_end h.instruction (take n h.postings) x yes_ in
+                  record {
+                    at = n + 1;
+                    within_them = omega arith;
+                    begins = ap (λ ps. cuts_since_end h.instruction ps) longer
+                        ∙ cuts_with_end h.instruction (take n h.postings) x yes_;
+                    is = omega (arith, more);
+                  }
+              | inr no_ ↦
+                  let same : version_at h (n + 1) ≡ version_at h n =
+                  ap (λ ps. ends_of h.instruction ps) longer
+                  ∙ ends_without h.instruction (take n h.postings) x (λ e. true_false (sym e ∙ no_)) in
+                  absurd (omega (arith, same))
+            ]
       ]
 
   opened : (n version : ℕ) → n ≤ length h.postings → version ≤ version_at h n → Opened n version
@@ -144,18 +166,23 @@ module _ (h : HistoryParts) (v : IsInstruction h.instruction) (l : IsLawful h) w
       elim (slice_get_cases h.postings n).1 [
         | inl x ↦
             subst (λ m. Opened m version) one
-            (opened_next n version x.0 x.2 (subst (λ m. version ≤ version_at h m) (sym one) low) (λ less. opened n version (omega arith) less))
+            (opened_next n version x.0 x.2 (subst (λ m. version ≤ version_at h m) (sym one) low)
+            (λ less. opened n version (omega arith) less))
         | inr past ↦ absurd (omega (arith, past.0))
       ]
 
-  meets_there : (n version : ℕ) → n ≤ length h.postings → (o : Opened n version) → PricesMeet h.instruction (take o.at h.postings) (prices_at h.sheets version)
-  meets_there n version le o = subst (λ w. PricesMeet h.instruction (take o.at h.postings) (prices_at h.sheets w)) o.is (prices_right h v l o.at (omega (arith, o.within_them)) o.begins)
+  meets_there : (n version : ℕ) → n ≤ length h.postings → (o : Opened n version)
+      → PricesMeet h.instruction (take o.at h.postings) (prices_at h.sheets version)
+  meets_there n version le o =
+      subst (λ w. PricesMeet h.instruction (take o.at h.postings) (prices_at h.sheets w)) o.is
+      (prices_right h v l o.at (omega (arith, o.within_them)) o.begins)
 
   module _ (few : length h.postings ≤ 1000000) where
     passed_few : (k : ℕ) → k < length h.postings → length (take k h.postings) ≤ 999999
     passed_few k lt = omega (arith, length-take-le k h.postings (omega arith))
 
-    number_in : (k : ℕ) (x : Posting) → slice_get h.postings k ≡ Some x → IsWithin 1 1000000 (calls_of (harvester_of x) (take k h.postings) + 1)
+    number_in : (k : ℕ) (x : Posting) → slice_get h.postings k ≡ Some x
+        → IsWithin 1 1000000 (calls_of (harvester_of x) (take k h.postings) + 1)
     number_in k x at =
         let some = passed_few k (slice_get_within h.postings k x at) in
         (omega arith, omega (arith, calls-le (harvester_of x) (take k h.postings)))
@@ -171,14 +198,20 @@ module _ (h : HistoryParts) (v : IsInstruction h.instruction) (l : IsLawful h) w
         let f : Follows i h.sheets (take k h.postings) (Cut e) = l.postings_follow k (Cut e) at in
         let le : k ≤ length h.postings = omega (arith, slice_get_within h.postings k (Cut e) at) in
         let o : Opened k e.version = opened k e.version le (omega (arith, f.version_in_force)) in
-        let sheet : IsSheet (sheet_at i h.sheets e.version) = sheet_valid i (take o.at h.postings) (prices_at h.sheets e.version) v (meets_there k e.version le o) e.version in
+        let sheet : IsSheet (sheet_at i h.sheets e.version) =
+        sheet_valid i (take o.at h.postings) (prices_at h.sheets e.version) v (meets_there k e.version le o)
+        e.version in
         let s : IsStem e.stem = b.1 in
         record {
-          call = call_yes (call_of_cut e) b.0 (subst (λ n. IsWithin 1 1000000 n) (sym f.number_is_next) (number_in k (Cut e) at)) (omega (arith, f.version_in_force, version_in k (Cut e) at));
+          call = call_yes (call_of_cut e) b.0
+              (subst (λ n. IsWithin 1 1000000 n) (sym f.number_is_next) (number_in k (Cut e) at))
+              (omega (arith, f.version_in_force, version_in k (Cut e) at));
           stem_number = b.2;
           species = within_yes SPECIES.low SPECIES.high e.stem.species s.species.0 s.species.1;
           samples_number = within_yes 1 MOST_SAMPLES (length e.stem.samples) s.samples_number.0 s.samples_number.1;
-          samples_range = all_within_yes SAMPLES.high e.stem.samples (recursion_from_All (λ d. d ≤ SAMPLES.high) e.stem.samples s.samples_range);
+          samples_range =
+              all_within_yes SAMPLES.high e.stem.samples
+              (recursion_from_All (λ d. d ≤ SAMPLES.high) e.stem.samples s.samples_range);
           zones_number = s.zones_number;
           zones_range =
               zones_yes 0 e.stem.zones s.starts_rise
@@ -186,16 +219,26 @@ module _ (h : HistoryParts) (v : IsInstruction h.instruction) (l : IsLawful h) w
               (recursion_from_All (λ z. IsGrade z.1) e.stem.zones s.grades_range);
           logs_number = few_logs i e.stem e.logs v s f.holds.0.admissible;
           logs_range = logs_yes i e.stem 0 e.logs v s f.holds.0.admissible;
-          worth = omega (arith, f.holds.1, worth_bounded (sheet_at i h.sheets e.version) e.stem e.logs sheet s f.holds.0.admissible);
+          worth = omega (
+            arith,
+            f.holds.1,
+            worth_bounded (sheet_at i h.sheets e.version) e.stem e.logs sheet s f.holds.0.admissible,
+          );
         }
 
-    demand_in : (k : ℕ) (d : DemandParts) → slice_get h.postings k ≡ Some (Demand d) → IsOfBook (Demand d) → IsDemandInRange d
+    demand_in : (k : ℕ) (d : DemandParts) → slice_get h.postings k ≡ Some (Demand d) → IsOfBook (Demand d)
+        → IsDemandInRange d
     demand_in k d at b =
         let f : Follows h.instruction h.sheets (take k h.postings) (Demand d) = l.postings_follow k (Demand d) at in
         record {
-          call = call_yes (call_of_demand d) b (subst (λ n. IsWithin 1 1000000 n) (sym f.number_is_next) (number_in k (Demand d) at)) (omega (arith, f.version_in_force, version_in k (Demand d) at));
+          call = call_yes (call_of_demand d) b
+              (subst (λ n. IsWithin 1 1000000 n) (sym f.number_is_next) (number_in k (Demand d) at))
+              (omega (arith, f.version_in_force, version_in k (Demand d) at));
           targets_number = omega (arith, f.holds.one_each, classes-le h.instruction v);
-          targets_range = all_within_yes TARGETS.high d.targets (recursion_from_All (λ t. t ≤ TARGETS.high) d.targets (λ k c lt. subst (λ t. t ≤ TARGETS.high) (one_element d.targets k 0 c lt) (f.holds.low k lt)));
+          targets_range =
+              all_within_yes TARGETS.high d.targets
+              (recursion_from_All (λ t. t ≤ TARGETS.high) d.targets
+              (λ k c lt. subst (λ t. t ≤ TARGETS.high) (one_element d.targets k 0 c lt) (f.holds.low k lt)));
         }
 
     posting_in : (k : ℕ) (x : Posting) → slice_get h.postings k ≡ Some x → IsOfBook x → IsInRange x
@@ -205,11 +248,13 @@ module _ (h : HistoryParts) (v : IsInstruction h.instruction) (l : IsLawful h) w
     sheet_in : (k : ℕ) → k < length h.sheets → AreSheetPrices (prices_at h.sheets k)
     sheet_in k lt =
         let n : ℕ = length h.postings in
-        let whole : version_at h n ≡ ends_of h.instruction h.postings = ap (λ ps. ends_of h.instruction ps) (take_all n h.postings (omega arith)) in
+        let whole : version_at h n ≡ ends_of h.instruction h.postings =
+        ap (λ ps. ends_of h.instruction ps) (take_all n h.postings (omega arith)) in
         let o : Opened n k = opened n k (omega arith) (omega (arith, whole, l.sheets_number)) in
         sheet_prices h.instruction (take o.at h.postings) (prices_at h.sheets k) v (meets_there n k (omega arith) o)
 
-    pub in_range : ((k : ℕ) (x : Posting) → slice_get h.postings k ≡ Some x → IsOfBook x) → AreInRange h.sheets h.postings
+    pub in_range : ((k : ℕ) (x : Posting) → slice_get h.postings k ≡ Some x → IsOfBook x)
+        → AreInRange h.sheets h.postings
     in_range of_book = record {
       few = few;
       sheets = λ k d lt. subst AreSheetPrices (one_element h.sheets k [] d lt) (sheet_in k lt);

@@ -62,8 +62,10 @@ left_after : (input mid left : Option (List ℕ)) (lines : List (Option (List �
 left_after None mid left lines line end taken read = ([], tt)
 left_after (Some x) None left lines line end taken read = absurd taken
 left_after (Some x) (Some y) None lines line Feed taken read = absurd read
-left_after (Some x) (Some y) (Some z) lines line Feed taken read = (lines_of z, taken ∙ ap (λ (l : List (Option (List ℕ))). lines ++ l) read)
-left_after (Some x) (Some y) left lines line Input taken read = ([], taken ∙ ap (λ (l : List (Option (List ℕ))). lines ++ l) read)
+left_after (Some x) (Some y) (Some z) lines line Feed taken read =
+    (lines_of z, taken ∙ ap (λ (l : List (Option (List ℕ))). lines ++ l) read)
+left_after (Some x) (Some y) left lines line Input taken read =
+    ([], taken ∙ ap (λ (l : List (Option (List ℕ))). lines ++ l) read)
 
 kept_after : (a b c : Option (List ℕ)) (bs : List ℕ) → Appends a b bs → Keeps b c → Appends a c bs
 kept_after None b c bs p q = tt
@@ -73,7 +75,11 @@ kept_after (Some x) (Some y) (Some z) bs p q = q ∙ p
 
 -- all of an answer was written, and what follows was not
 pub all_said : (a b c : Option (List ℕ)) (text : List ℕ) → Appends a b text → Keeps b c → AppendsFirst a c text
-all_said a b c text p q = (length text, le_refl _, subst (Appends a c) (sym (take_all (length text) text (le_refl _))) (kept_after a b c text p q))
+all_said a b c text p q = (
+  length text,
+  le_refl _,
+  subst (Appends a c) (sym (take_all (length text) text (le_refl _))) (kept_after a b c text p q),
+)
 
 started_at : (input : Option (List ℕ)) → AreTaken input [] input
 started_at None = tt
@@ -81,7 +87,8 @@ started_at (Some x) = refl
 
 -- before the first line
 pub started : (h : HistoryParts) (input old : Option (List ℕ)) → IsAt h input input old old h
-started h input old = record { lines = []; text = []; answers = (refl, refl); taken = started_at input; written = Appends-nil old }
+started h input old =
+    record { lines = []; text = []; answers = (refl, refl); taken = started_at input; written = Appends-nil old }
 
 -- a line was answered, and more come
 pub stepped : (h now after : HistoryParts) (input mid left old was new : Option (List ℕ))
@@ -138,8 +145,13 @@ unsaid h now after input mid old was new at step =
     }
 
 pub stopped : (h now after : HistoryParts) (input mid left old was new : Option (List ℕ)) (fault : EngineFault)
-    → IsAt h input mid old was now → IsStep now mid left was new (Err fault) after → IsLiveRun h input old new (Err fault) after
+    → IsAt h input mid old was now → IsStep now mid left was new (Err fault) after
+    → IsLiveRun h input old new (Err fault) after
 stopped h now after input mid left old was new fault at step = elim step [
-  | inl reading ↦ inl (reading.0, subst (StoppedReading h input old new) (sym reading.1) (unread h now input mid old was new at reading.2))
+  | inl reading ↦
+      inl (
+        reading.0,
+        subst (StoppedReading h input old new) (sym reading.1) (unread h now input mid old was new at reading.2),
+      )
   | inr writing ↦ inr (writing.0, unsaid h now after input mid old was new at writing.1)
 ]

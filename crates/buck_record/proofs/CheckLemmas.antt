@@ -18,25 +18,32 @@ module _ {X E : Type 0} where
   each-nil f = refl
 
   -- an element that passes
-  pub each_more : (f : X → Result (Unit {0}) E) (xs : List X) (i : ℕ) (d : X) → i < length xs → f (get_or xs i d) ≡ Ok tt → each f (drop i xs) ≡ each f (drop (i + 1) xs)
-  each_more f xs i d lt h = ap (each f) (here xs i d lt) ∙ each-cons f _ _ ∙ ap (λ r. r >>= λ _. each f (drop (i + 1) xs)) h
+  pub each_more : (f : X → Result (Unit {0}) E) (xs : List X) (i : ℕ) (d : X) → i < length xs
+      → f (get_or xs i d) ≡ Ok tt → each f (drop i xs) ≡ each f (drop (i + 1) xs)
+  each_more f xs i d lt h = ap (each f) (here xs i d lt) ∙ each-cons f _ _
+      ∙ ap (λ r. r >>= λ _. each f (drop (i + 1) xs)) h
 
   -- an element that fails
-  pub each_stop : (f : X → Result (Unit {0}) E) (xs : List X) (i : ℕ) (d : X) (e : E) → i < length xs → f (get_or xs i d) ≡ Err e → each f (drop i xs) ≡ Err e
-  each_stop f xs i d e lt h = ap (each f) (here xs i d lt) ∙ each-cons f _ _ ∙ ap (λ r. r >>= λ _. each f (drop (i + 1) xs)) h
+  pub each_stop : (f : X → Result (Unit {0}) E) (xs : List X) (i : ℕ) (d : X) (e : E) → i < length xs
+      → f (get_or xs i d) ≡ Err e → each f (drop i xs) ≡ Err e
+  each_stop f xs i d e lt h = ap (each f) (here xs i d lt) ∙ each-cons f _ _
+      ∙ ap (λ r. r >>= λ _. each f (drop (i + 1) xs)) h
 
   -- no element is left
   pub each_end : (f : X → Result (Unit {0}) E) (xs : List X) (i : ℕ) → length xs ≤ i → each f (drop i xs) ≡ Ok tt
   each_end f xs i le = ap (each f) (drop_all i xs le) ∙ each-nil f
 
   -- the three goals of a loop over a list, from its invariant
-  pub goes_on : (f : X → Result (Unit {0}) E) (xs : List X) (i : ℕ) (x : X) → i < length xs → x ≡ get_or xs i x → f x ≡ Ok tt → each f (drop i xs) ≡ each f xs → each f (drop (i + 1) xs) ≡ each f xs
+  pub goes_on : (f : X → Result (Unit {0}) E) (xs : List X) (i : ℕ) (x : X) → i < length xs → x ≡ get_or xs i x
+      → f x ≡ Ok tt → each f (drop i xs) ≡ each f xs → each f (drop (i + 1) xs) ≡ each f xs
   goes_on f xs i x lt is h e = sym (each_more f xs i x lt (ap f (sym is) ∙ h)) ∙ e
 
-  pub stops : (f : X → Result (Unit {0}) E) (xs : List X) (i : ℕ) (x : X) (fault : E) → i < length xs → x ≡ get_or xs i x → f x ≡ Err fault → each f (drop i xs) ≡ each f xs → Err fault ≡ each f xs
+  pub stops : (f : X → Result (Unit {0}) E) (xs : List X) (i : ℕ) (x : X) (fault : E) → i < length xs
+      → x ≡ get_or xs i x → f x ≡ Err fault → each f (drop i xs) ≡ each f xs → Err fault ≡ each f xs
   stops f xs i x fault lt is h e = sym (each_stop f xs i x fault lt (ap f (sym is) ∙ h)) ∙ e
 
-  pub ends : (f : X → Result (Unit {0}) E) (xs : List X) (i : ℕ) → length xs ≤ i → each f (drop i xs) ≡ each f xs → Ok tt ≡ each f xs
+  pub ends : (f : X → Result (Unit {0}) E) (xs : List X) (i : ℕ) → length xs ≤ i → each f (drop i xs) ≡ each f xs
+      → Ok tt ≡ each f xs
   ends f xs i le e = sym (each_end f xs i le) ∙ e
 
   abbrev pub GoesOn : (Bor X → Result (Unit {0}) E → Type 0) → List X → ℕ → Type 0
@@ -55,23 +62,35 @@ module _ {X Y E : Type 0} (f : X → Result Y E) (xs : List X) where
   unfolding make_each
   make-nil = refl
 
-  regroup : (front : List Y) (y : Y) (read : Result (List Y) E) → after_front front (read >>= λ ys. Ok (y ∷ ys)) ≡ after_front (front ++ y ∷ []) read
+  regroup : (front : List Y) (y : Y) (read : Result (List Y) E)
+      → after_front front (read >>= λ ys. Ok (y ∷ ys)) ≡ after_front (front ++ y ∷ []) read
   regroup front y (Ok ys) = ap (λ zs. Ok zs) (simp append_assoc)
   regroup front y (Err e) = refl
 
-  pub make_goes_on : (front : List Y) (i : ℕ) (x : X) (y : Y) → i < length xs → x ≡ get_or xs i x → f x ≡ Ok y → after_front front (make_each f (drop i xs)) ≡ make_each f xs
+  pub make_goes_on : (front : List Y) (i : ℕ) (x : X) (y : Y) → i < length xs → x ≡ get_or xs i x → f x ≡ Ok y
+      → after_front front (make_each f (drop i xs)) ≡ make_each f xs
       → after_front (front ++ y ∷ []) (make_each f (drop (i + 1) xs)) ≡ make_each f xs
   make_goes_on front i x y lt is h e =
-      sym (ap (λ r. after_front front r) (ap (make_each f) (here xs i x lt) ∙ make-cons _ _ ∙ ap (λ r. r >>= λ z. make_each f (drop (i + 1) xs) >>= λ ys. Ok (z ∷ ys)) (ap f (sym is) ∙ h)) ∙ regroup front y _) ∙ e
+      sym (ap (λ r. after_front front r)
+      (ap (make_each f) (here xs i x lt) ∙ make-cons _ _
+      ∙ ap (λ r. r >>= λ z. make_each f (drop (i + 1) xs) >>= λ ys. Ok (z ∷ ys)) (ap f (sym is) ∙ h))
+      ∙ regroup front y _) ∙ e
 
-  pub make_stops : (front : List Y) (i : ℕ) (x : X) (fault : E) → i < length xs → x ≡ get_or xs i x → f x ≡ Err fault → after_front front (make_each f (drop i xs)) ≡ make_each f xs → make_each f xs ≡ Err fault
+  pub make_stops : (front : List Y) (i : ℕ) (x : X) (fault : E) → i < length xs → x ≡ get_or xs i x → f x ≡ Err fault
+      → after_front front (make_each f (drop i xs)) ≡ make_each f xs → make_each f xs ≡ Err fault
   make_stops front i x fault lt is h e =
-      sym e ∙ ap (λ r. after_front front r) (ap (make_each f) (here xs i x lt) ∙ make-cons _ _ ∙ ap (λ r. r >>= λ z. make_each f (drop (i + 1) xs) >>= λ ys. Ok (z ∷ ys)) (ap f (sym is) ∙ h))
+      sym e ∙ ap (λ r. after_front front r)
+      (ap (make_each f) (here xs i x lt) ∙ make-cons _ _
+      ∙ ap (λ r. r >>= λ z. make_each f (drop (i + 1) xs) >>= λ ys. Ok (z ∷ ys)) (ap f (sym is) ∙ h))
 
-  pub make_ends : (front : List Y) (i : ℕ) → length xs ≤ i → after_front front (make_each f (drop i xs)) ≡ make_each f xs → make_each f xs ≡ Ok front
-  make_ends front i le e = sym e ∙ ap (λ r. after_front front r) (ap (make_each f) (drop_all i xs le) ∙ make-nil) ∙ ap (λ ys. Ok ys) (append-nil front)
+  pub make_ends : (front : List Y) (i : ℕ) → length xs ≤ i
+      → after_front front (make_each f (drop i xs)) ≡ make_each f xs → make_each f xs ≡ Ok front
+  make_ends front i le e = sym e ∙ ap (λ r. after_front front r) (ap (make_each f) (drop_all i xs le) ∙ make-nil)
+      ∙ ap (λ ys. Ok ys) (append-nil front)
 
 -- the elements that were made, before those that are still to be made
-abbrev pub MakesSoFar : {A X Y E : Type 0} → (A → E → Type 0) → (Bor X → Result Y E → Type 0) → List X → List Y → ℕ → Type 0
+abbrev pub MakesSoFar : {A X Y E : Type 0} → (A → E → Type 0) → (Bor X → Result Y E → Type 0) → List X → List Y → ℕ
+    → Type 0
 MakesSoFar {A} {X} {Y} {E} gives post xs made i =
-    (memory : E) (f : X → Result Y E) → IsMemory gives memory → IsMaker memory post f → after_front made (make_each f (drop i xs)) ≡ make_each f xs
+    (memory : E) (f : X → Result Y E) → IsMemory gives memory → IsMaker memory post f
+    → after_front made (make_each f (drop i xs)) ≡ make_each f xs

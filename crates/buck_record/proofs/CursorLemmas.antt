@@ -14,7 +14,8 @@ use Rattle.buck_record.specs.bytes.Record.{item_of, is_tilde, filled_parts, piec
 use Rattle.buck_record.specs.pass.Cursor.{HasItems, Leads}
 use Rattle.buck_record.proofs.WhiteLemmas.{no_true}
 
-filled_parts-cons : (part : List ℕ) (parts : List (List ℕ)) → 0 < length (trim part) → filled_parts (part ∷ parts) ≡ trim part ∷ filled_parts parts
+filled_parts-cons : (part : List ℕ) (parts : List (List ℕ)) → 0 < length (trim part)
+    → filled_parts (part ∷ parts) ≡ trim part ∷ filled_parts parts
 filled_parts-cons part parts h = cond-true _ _ _ (lt-ltb _ _ h)
 
 filled-skip : (part : List ℕ) (parts : List (List ℕ))
@@ -81,7 +82,8 @@ pub record IsCut (text piece left : List ℕ) : Type 0 where
   pub trimmed : piece ≡ trim (before_first is_tilde text)
   pub after : left ≡ after_first is_tilde text
 
-pub is_cut : (text part piece left : List ℕ) → part ≡ before_first is_tilde text → left ≡ after_first is_tilde text → piece ≡ trim part → IsCut text piece left
+pub is_cut : (text part piece left : List ℕ) → part ≡ before_first is_tilde text → left ≡ after_first is_tilde text
+    → piece ≡ trim part → IsCut text piece left
 is_cut text part piece left is after cut = record { trimmed = cut ∙ ap trim is; after = after }
 
 -- what is left is shorter, where there is something
@@ -90,7 +92,8 @@ cut-shorter text piece left c some =
     rw c.after (omega (arith, some, length-drop (position_or_len is_tilde text + 1) text))
 
 -- the first part is a piece, or is left out
-pub cut-piece : (text piece left : List ℕ) → IsCut text piece left → 0 < length piece → pieces text ≡ piece ∷ pieces left
+pub cut-piece : (text piece left : List ℕ) → IsCut text piece left → 0 < length piece
+    → pieces text ≡ piece ∷ pieces left
 cut-piece text piece left c some =
     let full : 0 < length (trim (before_first is_tilde text)) = rw (← c.trimmed) some in
     first-part text
@@ -105,7 +108,8 @@ cut-none text piece left c none =
     ∙ ap pieces (sym c.after)
 
 -- the first item, and what is left after the tilde
-pub leads : (text piece left : List ℕ) (item : ItemParts) → IsCut text piece left → 0 < length piece → item_of piece ≡ Some item → Leads text item left
+pub leads : (text piece left : List ℕ) (item : ItemParts) → IsCut text piece left → 0 < length piece
+    → item_of piece ≡ Some item → Leads text item left
 leads text piece left item c some head =
     let full : 0 < length (trim (before_first is_tilde text)) = rw (← c.trimmed) some in
     let here = cut-piece text piece left c some in

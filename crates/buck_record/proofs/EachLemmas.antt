@@ -3,7 +3,8 @@ use Rattle.std.proofs.Common.{◌≡◌, ℕ, ◌+◌, List, [], ◌∷◌, ◌+
 use Rattle.std.proofs.lemmas.List.{append-nil}
 use Rattle.buck_record.specs.Reading.{with_front, each_from}
 
-regroup : {X E : Type 0} (front : List X) (x : X) (read : Result (List X) E) → with_front front (with_front (x ∷ []) read) ≡ with_front (front ++ x ∷ []) read
+regroup : {X E : Type 0} (front : List X) (x : X) (read : Result (List X) E)
+    → with_front front (with_front (x ∷ []) read) ≡ with_front (front ++ x ∷ []) read
 regroup front x (Ok xs) = ap (λ ys. Ok ys) (simp append_assoc)
 regroup front x (Err e) = refl
 
@@ -17,7 +18,8 @@ pub each_stop : {X Y : Type 0} (f : X → Option Y) (front : List Y) (k : ℕ) (
 unfolding each_from
 each_stop f front k x xs h = rw h refl
 
-pub each_done : {X Y : Type 0} (f : X → Option Y) (front : List Y) (k : ℕ) → with_front front (each_from f k []) ≡ Ok front
+pub each_done : {X Y : Type 0} (f : X → Option Y) (front : List Y) (k : ℕ)
+    → with_front front (each_from f k []) ≡ Ok front
 unfolding each_from
 each_done f front k = ap (λ ys. Ok ys) (append-nil front)
 

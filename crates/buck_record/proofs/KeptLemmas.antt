@@ -20,10 +20,12 @@ module _ (slots : List Slot) where
   at-start bytes = each_start _
 
   front-in : (held : List ItemParts) (item : ItemParts) (rest : Result (List ItemParts) ℕ) → is_in slots item ≡ true
-      → with_front held (only_in slots (with_front (item ∷ []) rest)) ≡ with_front (held ++ item ∷ []) (only_in slots rest)
+      → with_front held (only_in slots (with_front (item ∷ []) rest))
+      ≡ with_front (held ++ item ∷ []) (only_in slots rest)
   front-in held item (Ok items) h =
       let kept : filter (is_in slots) (item ∷ items) ≡ item ∷ filter (is_in slots) items = cond-true _ _ _ h in
-      ap (λ is. Ok (held ++ is)) kept ∙ ap (λ is. Ok is) (sym (append_assoc held (item ∷ []) (filter (is_in slots) items)))
+      ap (λ is. Ok (held ++ is)) kept
+      ∙ ap (λ is. Ok is) (sym (append_assoc held (item ∷ []) (filter (is_in slots) items)))
   front-in held item (Err e) h = refl
 
   front-out : (held : List ItemParts) (item : ItemParts) (rest : Result (List ItemParts) ℕ) → is_in slots item ≡ false
@@ -33,22 +35,29 @@ module _ (slots : List Slot) where
       ap (λ is. Ok (held ++ is)) left
   front-out held item (Err e) h = refl
 
-  next : (held : List ItemParts) (read : ℕ) (piece : List ℕ) (rest : List (List ℕ)) (item : ItemParts) → item_of piece ≡ Some item
-      → reads_at held read (piece ∷ rest) ≡ with_front held (only_in slots (with_front (item ∷ []) (each_from item_of (read + 1 + 1) rest)))
+  next : (held : List ItemParts) (read : ℕ) (piece : List ℕ) (rest : List (List ℕ)) (item : ItemParts)
+      → item_of piece ≡ Some item
+      → reads_at held read (piece ∷ rest)
+      ≡ with_front held (only_in slots (with_front (item ∷ []) (each_from item_of (read + 1 + 1) rest)))
   unfolding each_from
   next held read piece rest item e = rw e refl
 
   -- an item that is kept
-  pub at-more : (held : List ItemParts) (read : ℕ) (piece : List ℕ) (rest : List (List ℕ)) (item : ItemParts) → item_of piece ≡ Some item
+  pub at-more : (held : List ItemParts) (read : ℕ) (piece : List ℕ) (rest : List (List ℕ)) (item : ItemParts)
+      → item_of piece ≡ Some item
       → is_in slots item ≡ true → reads_at held read (piece ∷ rest) ≡ reads_at (held ++ item ∷ []) (read + 1) rest
-  at-more held read piece rest item e i = next held read piece rest item e ∙ front-in held item (each_from item_of (read + 1 + 1) rest) i
+  at-more held read piece rest item e i = next held read piece rest item e
+      ∙ front-in held item (each_from item_of (read + 1 + 1) rest) i
 
   -- an item that is left out
-  pub at-passed : (held : List ItemParts) (read : ℕ) (piece : List ℕ) (rest : List (List ℕ)) (item : ItemParts) → item_of piece ≡ Some item
+  pub at-passed : (held : List ItemParts) (read : ℕ) (piece : List ℕ) (rest : List (List ℕ)) (item : ItemParts)
+      → item_of piece ≡ Some item
       → is_in slots item ≡ false → reads_at held read (piece ∷ rest) ≡ reads_at held (read + 1) rest
-  at-passed held read piece rest item e i = next held read piece rest item e ∙ front-out held item (each_from item_of (read + 1 + 1) rest) i
+  at-passed held read piece rest item e i = next held read piece rest item e
+      ∙ front-out held item (each_from item_of (read + 1 + 1) rest) i
 
-  pub at-stop : (held : List ItemParts) (read : ℕ) (piece : List ℕ) (rest : List (List ℕ)) → item_of piece ≡ None → reads_at held read (piece ∷ rest) ≡ Err (read + 1)
+  pub at-stop : (held : List ItemParts) (read : ℕ) (piece : List ℕ) (rest : List (List ℕ)) → item_of piece ≡ None
+      → reads_at held read (piece ∷ rest) ≡ Err (read + 1)
   unfolding each_from
   at-stop held read piece rest e = rw e refl
 

@@ -22,12 +22,15 @@ and_parts true b h = (refl, h)
 and_parts false b h = absurd (false≢true h)
 
 -- it is digits, at least one, and at most `most`
-pub number-some : (most : ℕ) (word : List ℕ) → AreDigits word → 0 < length word → digits_value 10 word ≤ most → number_at_most most word ≡ Some (digits_value 10 word)
+pub number-some : (most : ℕ) (word : List ℕ) → AreDigits word → 0 < length word → digits_value 10 word ≤ most
+    → number_at_most most word ≡ Some (digits_value 10 word)
 unfolding number_at_most
-number-some most word digits filled small = cond-true _ _ _ (and_from _ _ (lt-ltb _ _ filled) (and_from _ _ digits (le-leb _ _ small)))
+number-some most word digits filled small =
+    cond-true _ _ _ (and_from _ _ (lt-ltb _ _ filled) (and_from _ _ digits (le-leb _ _ small)))
 
 -- it is no number where one of these fails
-pub number-none : (most : ℕ) (word : List ℕ) → (AreDigits word → 0 < length word → digits_value 10 word ≤ most → ⊥) → number_at_most most word ≡ None
+pub number-none : (most : ℕ) (word : List ℕ) → (AreDigits word → 0 < length word → digits_value 10 word ≤ most → ⊥)
+    → number_at_most most word ≡ None
 unfolding number_at_most
 number-none most word h =
     elim (cases_Bool (is_filled word && (list_all is_ascii_digit word && nat_le (digits_value 10 word) most))) [
@@ -39,28 +42,41 @@ number-none most word h =
     ]
 
 -- a byte is no digit
-pub number-not_digits : (most : ℕ) (word : List ℕ) (i : ℕ) → i < length word → is_ascii_digit (get_or word i 0) ≡ false → number_at_most most word ≡ None
+pub number-not_digits : (most : ℕ) (word : List ℕ) (i : ℕ) → i < length word → is_ascii_digit (get_or word i 0) ≡ false
+    → number_at_most most word ≡ None
 number-not_digits most word i inside fails =
     number-none most word (λ digits _ _. false≢true (sym (list_all_at is_ascii_digit word i 0 inside fails) ∙ digits))
 
 -- the digits up to a place stand for more than `most`
-pub number-too_large : (most : ℕ) (word : List ℕ) (i : ℕ) → i < length word → most < digits_value 10 (take i word) * 10 + digit_value (get_or word i 0) → number_at_most most word ≡ None
+pub number-too_large : (most : ℕ) (word : List ℕ) (i : ℕ) → i < length word
+    → most < digits_value 10 (take i word) * 10 + digit_value (get_or word i 0) → number_at_most most word ≡ None
 number-too_large most word i inside large =
-    number-none most word (λ _ _ small. absurd (omega (arith, small, large, digits_value_more 10 word i inside, digits_value-take-le 10 word (i + 1) (omega arith))))
+    number-none most word
+    (λ _ _ small. absurd
+    (omega (
+      arith,
+      small,
+      large,
+      digits_value_more 10 word i inside,
+      digits_value-take-le 10 word (i + 1) (omega arith),
+    )))
 
 -- one more digit
-pub digits-more : (word : List ℕ) (i : ℕ) → i < length word → AreDigits (take i word) → is_ascii_digit (get_or word i 0) ≡ true → AreDigits (take (i + 1) word)
+pub digits-more : (word : List ℕ) (i : ℕ) → i < length word → AreDigits (take i word)
+    → is_ascii_digit (get_or word i 0) ≡ true → AreDigits (take (i + 1) word)
 digits-more word i inside before here = list_all_more is_ascii_digit word i 0 inside ∙ and_from _ _ before here
 
 -- the digits up to the end, and what they stand for
-pub number-whole : (most : ℕ) (word : List ℕ) (i n : ℕ) → length word ≤ i → 0 < length word → AreDigits (take i word) → n ≡ digits_value 10 (take i word) → n ≤ most → number_at_most most word ≡ Some n
+pub number-whole : (most : ℕ) (word : List ℕ) (i n : ℕ) → length word ≤ i → 0 < length word → AreDigits (take i word)
+    → n ≡ digits_value 10 (take i word) → n ≤ most → number_at_most most word ≡ Some n
 number-whole most word i n end filled digits value small =
     let whole = take_all i word end in
     let v : n ≡ digits_value 10 word = value ∙ ap (digits_value 10) whole in
     number-some most word (subst AreDigits whole digits) filled (omega (arith, v, small)) ∙ ap Some (sym v)
 
 -- the digits up to the end stand for more than `most`
-pub number-above : (most : ℕ) (word : List ℕ) (i n : ℕ) → length word ≤ i → n ≡ digits_value 10 (take i word) → most < n → number_at_most most word ≡ None
+pub number-above : (most : ℕ) (word : List ℕ) (i n : ℕ) → length word ≤ i → n ≡ digits_value 10 (take i word) → most < n
+    → number_at_most most word ≡ None
 number-above most word i n end value large =
     let v : n ≡ digits_value 10 word = value ∙ ap (digits_value 10) (take_all i word end) in
     number-none most word (λ _ _ small. absurd (omega (arith, v, small, large)))

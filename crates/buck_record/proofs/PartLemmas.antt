@@ -12,7 +12,8 @@ use Rattle.buck_record.specs.bytes.Record.{item_of, is_tilde, filled_parts, piec
 use Rattle.buck_record.specs.pass.Cursor.{Joins}
 
 -- ---- the pieces
-onto : (x : ℕ) (parts more : List (List ℕ)) → 0 < length parts → onto_first x (parts ++ more) ≡ onto_first x parts ++ more
+onto : (x : ℕ) (parts more : List (List ℕ)) → 0 < length parts
+    → onto_first x (parts ++ more) ≡ onto_first x parts ++ more
 onto x [] more some = absurd (omega (arith, some))
 onto x (part ∷ parts) more some = refl
 

@@ -23,7 +23,8 @@ module _ {E : Type 0} where
   then_ok (Ok x) q h = (refl, h)
   then_ok (Err e) q h = cc
 
-  each_rec : {X : Type 0} (f : X → Result (Unit {0}) E) (xs : List X) → each f xs ≡ Ok tt → AllByRecursion (λ x. f x ≡ Ok tt) xs
+  each_rec : {X : Type 0} (f : X → Result (Unit {0}) E) (xs : List X) → each f xs ≡ Ok tt
+      → AllByRecursion (λ x. f x ≡ Ok tt) xs
   unfolding each
   each_rec f [] h = tt
   each_rec f (x ∷ xs) h = let p = then_ok (f x) (each f xs) h in (p.0, each_rec f xs p.1)
@@ -57,10 +58,12 @@ module _ {E : Type 0} (fault : ℕ → ℕ → E) where
   ranged item ns r h = let p = then_ok (all_in_range fault item ns) r h in (in_range_ok item ns p.0, p.1)
 
   -- numbers of which there are as many as there may be
-  pub counted_ok : (s : Slot) (most : ℕ) (ns : List ℕ) → counted_to fault s most ns ≡ Ok tt → (1 ≤ length ns) × (length ns ≤ most)
+  pub counted_ok : (s : Slot) (most : ℕ) (ns : List ℕ) → counted_to fault s most ns ≡ Ok tt
+      → (1 ≤ length ns) × (length ns ≤ most)
   counted_ok s most ns h = within_ok 1 most (length ns) (check_ok _ _ h)
 
   -- and what stands after them
-  pub counted : (s : Slot) (most : ℕ) (ns : List ℕ) (r : Result (Unit {0}) E) → (counted_to fault s most ns >>= λ _. r) ≡ Ok tt
+  pub counted : (s : Slot) (most : ℕ) (ns : List ℕ) (r : Result (Unit {0}) E)
+      → (counted_to fault s most ns >>= λ _. r) ≡ Ok tt
       → ((1 ≤ length ns) × (length ns ≤ most)) × (r ≡ Ok tt)
   counted s most ns r h = let p = then_ok (counted_to fault s most ns) r h in (counted_ok s most ns p.0, p.1)

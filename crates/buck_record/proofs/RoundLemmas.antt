@@ -19,19 +19,24 @@ use Rattle.buck_record.proofs.NumberLemmas.{numeral, number-some}
 pub number-decimal : (most n : ℕ) → n ≤ most → most < 2 ^ 64 → number_at_most most (decimal n) ≡ Some n
 number-decimal most n le bound =
     let value : digits_value 10 (decimal n) ≡ n = digits_value-decimal numeral n (omega arith) in
-    number-some most (decimal n) (digits_decimal numeral n (omega arith)) (decimal_nonempty n (omega arith)) (omega (arith, value)) ∙ ap (λ v. Some v) value
+    number-some most (decimal n) (digits_decimal numeral n (omega arith)) (decimal_nonempty n (omega arith))
+    (omega (arith, value)) ∙ ap (λ v. Some v) value
 
 digit_dark : (c : ℕ) → is_ascii_digit c ≡ true → is_white c ≡ false
 digit_dark c h = grind (arith, nat_tests)
 
 -- no white byte in digits
 dark : (n : ℕ) → n < 2 ^ 64 → All (λ b. is_white b ≡ false) (decimal n)
-dark n lt = λ k d l. digit_dark (get_or (decimal n) k d) (AllPass-from_list_all is_ascii_digit (decimal n) (digits_decimal numeral n lt) k d l)
+dark n lt =
+    λ k d l. digit_dark (get_or (decimal n) k d)
+    (AllPass-from_list_all is_ascii_digit (decimal n) (digits_decimal numeral n lt) k d l)
 
-filled-front : (word : List ℕ) (others : List (List ℕ)) → 0 < length word → filter is_filled (word ∷ others) ≡ word ∷ filter is_filled others
+filled-front : (word : List ℕ) (others : List (List ℕ)) → 0 < length word
+    → filter is_filled (word ∷ others) ≡ word ∷ filter is_filled others
 filled-front word others h = cond-true _ _ _ (lt-ltb _ _ h)
 
-split-spelled : (n : ℕ) (ns : List ℕ) → n < 2 ^ 64 → AllByRecursion (λ n. n < 2 ^ 64) ns → filter is_filled (slice_split is_white (decimal n ++ spelled ns)) ≡ decimal n ∷ map decimal ns
+split-spelled : (n : ℕ) (ns : List ℕ) → n < 2 ^ 64 → AllByRecursion (λ n. n < 2 ^ 64) ns
+    → filter is_filled (slice_split is_white (decimal n ++ spelled ns)) ≡ decimal n ∷ map decimal ns
 split-spelled n [] lt h =
     ap (λ bs. filter is_filled (slice_split is_white bs)) (append-nil (decimal n))
     ∙ ap (filter is_filled) (slice_split_none is_white (decimal n) (dark n lt))
@@ -46,7 +51,8 @@ unfolding words
 words-spelled [] h = refl
 words-spelled (n ∷ ns) h = split-spelled n ns h.0 h.1
 
-each-decimal : (most k : ℕ) (ns : List ℕ) → most < 2 ^ 64 → AllByRecursion (λ n. n ≤ most) ns → each_from (number_at_most most) k (map decimal ns) ≡ Ok ns
+each-decimal : (most k : ℕ) (ns : List ℕ) → most < 2 ^ 64 → AllByRecursion (λ n. n ≤ most) ns
+    → each_from (number_at_most most) k (map decimal ns) ≡ Ok ns
 unfolding each_from
 each-decimal most k [] bound h = refl
 each-decimal most k (n ∷ ns) bound h = rw (number-decimal most n h.0 bound, each-decimal most (k + 1) ns bound h.1) refl

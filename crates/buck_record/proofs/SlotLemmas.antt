@@ -27,13 +27,16 @@ keeps-more s t slots k item at =
 pub keeps-at : (slots : List Slot) (n : ℕ) (d : Slot) → n < length slots → Keeps (is_in slots) (get_or slots n d)
 keeps-at [] n d lt item at = absurd (omega arith)
 keeps-at (s ∷ slots) zero d lt item at = rw at refl
-keeps-at (s ∷ slots) (suc n) d lt item at = keeps-more s (get_or slots n d) slots (keeps-at slots n d (omega arith)) item at
+keeps-at (s ∷ slots) (suc n) d lt item at =
+    keeps-more s (get_or slots n d) slots (keeps-at slots n d (omega arith)) item at
 
 -- one item more
-count-cons : (s : Slot) (item : ItemParts) (items : List ItemParts) → count_in s (item ∷ items) ≡ cond (is_at s item) 1 0 + count_in s items
+count-cons : (s : Slot) (item : ItemParts) (items : List ItemParts)
+    → count_in s (item ∷ items) ≡ cond (is_at s item) 1 0 + count_in s items
 count-cons s item items = sum_by-cons (λ x. cond (is_at s x) 1 0) item items
 
-count-skip : (s : Slot) (item : ItemParts) (items : List ItemParts) → is_at s item ≡ false → count_in s (item ∷ items) ≡ count_in s items
+count-skip : (s : Slot) (item : ItemParts) (items : List ItemParts) → is_at s item ≡ false
+    → count_in s (item ∷ items) ≡ count_in s items
 count-skip s item items h =
     let none : cond {A = ℕ} (is_at s item) 1 0 ≡ 0 = ap (λ b. cond {A = ℕ} b 1 0) h in
     omega (arith, count-cons s item items, none)
@@ -92,23 +95,35 @@ module _ (p : ItemParts → Bool) where
   unfolding numbers_in
   numbers_kept fault s k items = rw (rest_kept s k items) refl
 
-  pub missing_kept : (slots : List Slot) → AllByRecursion (Keeps p) slots → (items : List ItemParts) → first_missing slots (filter p items) ≡ first_missing slots items
+  pub missing_kept : (slots : List Slot) → AllByRecursion (Keeps p) slots → (items : List ItemParts)
+      → first_missing slots (filter p items) ≡ first_missing slots items
   missing_kept [] k items = refl
   missing_kept (s ∷ slots) k items = rw (count_kept s k.0 items, missing_kept slots k.1 items) refl
 
-  pub twice_kept : (slots : List Slot) → AllByRecursion (Keeps p) slots → (items : List ItemParts) → first_twice slots (filter p items) ≡ first_twice slots items
+  pub twice_kept : (slots : List Slot) → AllByRecursion (Keeps p) slots → (items : List ItemParts)
+      → first_twice slots (filter p items) ≡ first_twice slots items
   twice_kept [] k items = refl
   twice_kept (s ∷ slots) k items = rw (count_kept s k.0 items, twice_kept slots k.1 items) refl
 
   -- the items before the first in a slot
-  before_kept : (s : Slot) → Keeps p s → (items : List ItemParts) → before_first (is_at s) (filter p items) ≡ filter p (before_first (is_at s) items)
+  before_kept : (s : Slot) → Keeps p s → (items : List ItemParts)
+      → before_first (is_at s) (filter p items) ≡ filter p (before_first (is_at s) items)
   before_kept s k [] = refl
   before_kept s k (item ∷ items) =
       elim (cases_Bool (is_at s item)) [
-        | inl at ↦ rw (kept item items (k item at), before-yes (is_at s) item (filter p items) at, before-yes (is_at s) item items at) refl
+        | inl at ↦
+            rw (
+              kept item items (k item at),
+              before-yes (is_at s) item (filter p items) at,
+              before-yes (is_at s) item items at,
+            ) refl
         | inr other ↦ elim (cases_Bool (p item)) [
           | inl h ↦
-              rw (kept item items h, before-no (is_at s) item (filter p items) other, before-no (is_at s) item items other)
+              rw (
+                kept item items h,
+                before-no (is_at s) item (filter p items) other,
+                before-no (is_at s) item items other,
+              )
               (ap (λ is. item ∷ is) (before_kept s k items) ∙ sym (kept item (before_first (is_at s) items) h))
           | inr h ↦
               rw (left item items h, before-no (is_at s) item items other)
@@ -116,36 +131,52 @@ module _ (p : ItemParts → Bool) where
         ]
       ]
 
-  none_of_kept : (members : List Slot) → AllByRecursion (Keeps p) members → (items : List ItemParts) → list_all (λ m. count_in m (filter p items) == 0) members ≡ list_all (λ m. count_in m items == 0) members
+  none_of_kept : (members : List Slot) → AllByRecursion (Keeps p) members → (items : List ItemParts)
+      → list_all (λ m. count_in m (filter p items) == 0) members ≡ list_all (λ m. count_in m items == 0) members
   none_of_kept [] ks items = refl
   none_of_kept (m ∷ members) ks items = rw (count_kept m ks.0 items, none_of_kept members ks.1 items) refl
 
-  pub strays_kept : (s : Slot) (members : List Slot) → Keeps p s → AllByRecursion (Keeps p) members → (items : List ItemParts) → has_no_strays s members (filter p items) ≡ has_no_strays s members items
+  pub strays_kept : (s : Slot) (members : List Slot) → Keeps p s → AllByRecursion (Keeps p) members
+      → (items : List ItemParts) → has_no_strays s members (filter p items) ≡ has_no_strays s members items
   strays_kept s members k ks items =
       ap (λ front. list_all (λ m. count_in m front == 0) members) (before_kept s k items)
       ∙ none_of_kept members ks (before_first (is_at s) items)
 
   -- the groups, each without what is left out
-  pub groups_kept : (s : Slot) → Keeps p s → (items : List ItemParts) → groups_of s (filter p items) ≡ map (filter p) (groups_of s items)
+  pub groups_kept : (s : Slot) → Keeps p s → (items : List ItemParts)
+      → groups_of s (filter p items) ≡ map (filter p) (groups_of s items)
   groups_kept s k [] = rw (groups-nil s) refl
   groups_kept s k (item ∷ items) =
       elim (cases_Bool (is_at s item)) [
         | inl at ↦
-            rw (kept item items (k item at), group-cons s item (filter p items) at, group-cons s item items at, before_kept s k items, groups_kept s k items)
-            (ap (λ group. group ∷ map (filter p) (groups_of s items)) (sym (kept item (before_first (is_at s) items) (k item at))))
+            rw (
+              kept item items (k item at),
+              group-cons s item (filter p items) at,
+              group-cons s item items at,
+              before_kept s k items,
+              groups_kept s k items,
+            )
+            (ap (λ group. group ∷ map (filter p) (groups_of s items))
+            (sym (kept item (before_first (is_at s) items) (k item at))))
         | inr other ↦ elim (cases_Bool (p item)) [
-          | inl h ↦ rw (kept item items h, group-skip s item (filter p items) other, group-skip s item items other) (groups_kept s k items)
+          | inl h ↦
+              rw (kept item items h, group-skip s item (filter p items) other, group-skip s item items other)
+              (groups_kept s k items)
           | inr h ↦ rw (left item items h, group-skip s item items other) (groups_kept s k items)
         ]
       ]
 
   module _ {E : Type 0} where
-    pub each_kept : (f : List ItemParts → Result (Unit {0}) E) → ((group : List ItemParts) → f (filter p group) ≡ f group) → (groups : List (List ItemParts)) → each f (map (filter p) groups) ≡ each f groups
+    pub each_kept : (f : List ItemParts → Result (Unit {0}) E)
+        → ((group : List ItemParts) → f (filter p group) ≡ f group) → (groups : List (List ItemParts))
+        → each f (map (filter p) groups) ≡ each f groups
     unfolding each
     each_kept f same [] = refl
     each_kept f same (group ∷ groups) = rw (same group, each_kept f same groups) refl
 
-    pub make_each_kept : {Y : Type 0} (f : List ItemParts → Result Y E) → ((group : List ItemParts) → f (filter p group) ≡ f group) → (groups : List (List ItemParts)) → make_each f (map (filter p) groups) ≡ make_each f groups
+    pub make_each_kept : {Y : Type 0} (f : List ItemParts → Result Y E)
+        → ((group : List ItemParts) → f (filter p group) ≡ f group) → (groups : List (List ItemParts))
+        → make_each f (map (filter p) groups) ≡ make_each f groups
     unfolding make_each
     make_each_kept f same [] = refl
     make_each_kept f same (group ∷ groups) = rw (same group, make_each_kept f same groups) refl

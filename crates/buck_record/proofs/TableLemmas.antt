@@ -25,11 +25,13 @@ module _ {X : Type 0} (p : X → Bool) (xs : List X) where
     | inr le ↦ omega (arith, bounded)
   ]
 
-pub group-cons : (slot : Slot) (x : ItemParts) (xs : List ItemParts) → is_at slot x ≡ true → groups_of slot (x ∷ xs) ≡ (x ∷ before_first (is_at slot) xs) ∷ groups_of slot xs
+pub group-cons : (slot : Slot) (x : ItemParts) (xs : List ItemParts) → is_at slot x ≡ true
+    → groups_of slot (x ∷ xs) ≡ (x ∷ before_first (is_at slot) xs) ∷ groups_of slot xs
 unfolding groups_of
 group-cons slot x xs h = cond-true _ _ _ h
 
-pub group-skip : (slot : Slot) (x : ItemParts) (xs : List ItemParts) → is_at slot x ≡ false → groups_of slot (x ∷ xs) ≡ groups_of slot xs
+pub group-skip : (slot : Slot) (x : ItemParts) (xs : List ItemParts) → is_at slot x ≡ false
+    → groups_of slot (x ∷ xs) ≡ groups_of slot xs
 unfolding groups_of
 group-skip slot x xs h = cond-false _ _ _ h
 
@@ -37,32 +39,39 @@ pub groups-nil : (slot : Slot) → groups_of slot [] ≡ []
 unfolding groups_of
 groups-nil slot = refl
 
-drop-here : (items : List ItemParts) (i : ℕ) (d : ItemParts) → i < length items → drop i items ≡ get_or items i d ∷ drop (i + 1) items
+drop-here : (items : List ItemParts) (i : ℕ) (d : ItemParts) → i < length items
+    → drop i items ≡ get_or items i d ∷ drop (i + 1) items
 drop-here items i d lt = rw add-one (drop-cons items i d lt)
 
 pub take-one_more : (n : ℕ) (x : ItemParts) (xs : List ItemParts) → take (1 + n) (x ∷ xs) ≡ x ∷ take n xs
 take-one_more n x xs = let e : 1 + n ≡ suc n = omega arith in rw e refl
 
-group-is : (slot : Slot) (x : ItemParts) (rest : List ItemParts) → take (1 + length (before_first (is_at slot) rest)) (x ∷ rest) ≡ x ∷ before_first (is_at slot) rest
+group-is : (slot : Slot) (x : ItemParts) (rest : List ItemParts)
+    → take (1 + length (before_first (is_at slot) rest)) (x ∷ rest) ≡ x ∷ before_first (is_at slot) rest
 group-is slot x rest =
-    let n : length (before_first (is_at slot) rest) ≡ position_or_len (is_at slot) rest = length-take-le _ rest (bounded (is_at slot) rest) in
+    let n : length (before_first (is_at slot) rest) ≡ position_or_len (is_at slot) rest =
+    length-take-le _ rest (bounded (is_at slot) rest) in
     take-one_more (length (before_first (is_at slot) rest)) x rest ∙ ap (λ k. x ∷ take k rest) n
 
 -- a group that begins at place i
-pub goes_on : (slot : Slot) (items : List ItemParts) (i : ℕ) (d : ItemParts) (before : List (List ItemParts)) (group : List ItemParts) (whole : List (List ItemParts)) → i < length items → is_at slot (get_or items i d) ≡ true
+pub goes_on : (slot : Slot) (items : List ItemParts) (i : ℕ) (d : ItemParts) (before : List (List ItemParts))
+    (group : List ItemParts) (whole : List (List ItemParts)) → i < length items → is_at slot (get_or items i d) ≡ true
     → group ≡ take (1 + length (before_first (is_at slot) (drop (i + 1) items))) (drop i items)
-    → before ++ groups_of slot (drop i items) ≡ whole → (before ++ group ∷ []) ++ groups_of slot (drop (i + 1) items) ≡ whole
+    → before ++ groups_of slot (drop i items) ≡ whole
+    → (before ++ group ∷ []) ++ groups_of slot (drop (i + 1) items) ≡ whole
 goes_on slot items i d before group whole lt h g e =
     let here = drop-here items i d lt in
     let x = get_or items i d in
     let rest = drop (i + 1) items in
-    let is : group ≡ x ∷ before_first (is_at slot) rest = g ∙ ap (take (1 + length (before_first (is_at slot) rest))) here ∙ group-is slot x rest in
+    let is : group ≡ x ∷ before_first (is_at slot) rest = g
+    ∙ ap (take (1 + length (before_first (is_at slot) rest))) here ∙ group-is slot x rest in
     append_assoc before (group ∷ []) (groups_of slot rest)
     ∙ ap (λ one. before ++ (one ∷ groups_of slot rest)) is
     ∙ ap (λ gs. before ++ gs) (sym (ap (groups_of slot) here ∙ group-cons slot x rest h))
     ∙ e
 
-pub passes_by : (slot : Slot) (items : List ItemParts) (i : ℕ) (d : ItemParts) → i < length items → is_at slot (get_or items i d) ≡ false
+pub passes_by : (slot : Slot) (items : List ItemParts) (i : ℕ) (d : ItemParts) → i < length items
+    → is_at slot (get_or items i d) ≡ false
     → groups_of slot (drop i items) ≡ groups_of slot (drop (i + 1) items)
 passes_by slot items i d lt h = ap (groups_of slot) (drop-here items i d lt) ∙ group-skip slot _ _ h
 

@@ -11,7 +11,8 @@ pub words-cons_white : (b : ℕ) (bs : List ℕ) → is_white b ≡ true → wor
 unfolding words
 words-cons_white b bs h = ap (filter is_filled) (slice_split-cons_yes is_white b bs h)
 
-prefix-white : (b : ℕ) (bs : List ℕ) → is_white b ≡ true → drop (prefix_len is_white (b ∷ bs)) (b ∷ bs) ≡ drop (prefix_len is_white bs) bs
+prefix-white : (b : ℕ) (bs : List ℕ) → is_white b ≡ true
+    → drop (prefix_len is_white (b ∷ bs)) (b ∷ bs) ≡ drop (prefix_len is_white bs) bs
 prefix-white b bs h = rw h (drop-one (prefix_len is_white bs))
   where
     drop-one : (n : ℕ) → drop (1 + n) (b ∷ bs) ≡ drop n bs
@@ -38,7 +39,8 @@ pub words-none : (bs : List ℕ) → length (trim_start bs) ≡ 0 → words bs �
 words-none bs h = sym (words-trim_start bs) ∙ ap words (empty (trim_start bs) h) ∙ words-nil
 
 module _ (p : ℕ → Bool) where
-  filled-front : (word : List ℕ) (others : List (List ℕ)) → 0 < length word → filter is_filled (word ∷ others) ≡ word ∷ filter is_filled others
+  filled-front : (word : List ℕ) (others : List (List ℕ)) → 0 < length word
+      → filter is_filled (word ∷ others) ≡ word ∷ filter is_filled others
   filled-front word others h = cond-true _ _ _ (lt-ltb _ _ h)
 
   some_bytes : (b : ℕ) (bs : List ℕ) → p b ≡ false → 0 < position_or_len p (b ∷ bs)
@@ -48,15 +50,19 @@ module _ (p : ℕ → Bool) where
   bounded text = prefix_len-le-length (λ x. not (p x)) text
 
   -- a text that begins with a byte that doesn't pass
-  pub split-first : (text : List ℕ) → 0 < position_or_len p text → filter is_filled (slice_split p text) ≡ before_first p text ∷ filter is_filled (slice_split p (after_first p text))
+  pub split-first : (text : List ℕ) → 0 < position_or_len p text
+      → filter is_filled (slice_split p text) ≡ before_first p text
+      ∷ filter is_filled (slice_split p (after_first p text))
   split-first text h =
       elim (cases_lt (position_or_len p text) (length text)) [
         | inl lt ↦
             rw (slice_split_first p text 0 lt)
-            (filled-front (before_first p text) (slice_split p (after_first p text)) (omega (arith, length-take-le (position_or_len p text) text (bounded text))))
+            (filled-front (before_first p text) (slice_split p (after_first p text))
+            (omega (arith, length-take-le (position_or_len p text) text (bounded text))))
         | inr le ↦
             let whole : position_or_len p text ≡ length text = omega (arith, bounded text) in
-            let front : before_first p text ≡ text = ap (λ n. take n text) whole ∙ take_all (length text) text (omega arith) in
+            let front : before_first p text ≡ text = ap (λ n. take n text) whole
+            ∙ take_all (length text) text (omega arith) in
             let after : after_first p text ≡ [] = drop_all (position_or_len p text + 1) text (omega arith) in
             ap (filter is_filled) (slice_split_none p text (λ k d lt. fails_before_first p text k d (omega arith)))
             ∙ filled-front text [] (omega arith)
@@ -68,22 +74,26 @@ trim_start-dark : (bs : List ℕ) → 0 < length (trim_start bs) → 0 < positio
 unfolding trim_start
 trim_start-dark [] h = absurd (omega arith)
 trim_start-dark (b ∷ bs) h =
-    elim (cases_Bool (is_white b)) as (λ _. 0 < position_or_len is_white (drop (prefix_len is_white (b ∷ bs)) (b ∷ bs))) [
+    elim (cases_Bool (is_white b))
+    as (λ _. 0 < position_or_len is_white (drop (prefix_len is_white (b ∷ bs)) (b ∷ bs))) [
       | inl white ↦ rw (prefix-white b bs white) (trim_start-dark bs (rw (prefix-white b bs white) at h))
       | inr dark ↦ rw dark (some_bytes is_white b bs dark)
     ]
 
-words-dark : (text : List ℕ) → 0 < position_or_len is_white text → words text ≡ first_word text ∷ words (after_word text)
+words-dark : (text : List ℕ) → 0 < position_or_len is_white text
+    → words text ≡ first_word text ∷ words (after_word text)
 unfolding words first_word after_word
 words-dark text h = split-first is_white text h
 
-pub words-first : (bs : List ℕ) → 0 < length (trim_start bs) → words bs ≡ first_word (trim_start bs) ∷ words (after_word (trim_start bs))
+pub words-first : (bs : List ℕ) → 0 < length (trim_start bs)
+    → words bs ≡ first_word (trim_start bs) ∷ words (after_word (trim_start bs))
 words-first bs h = sym (words-trim_start bs) ∙ words-dark (trim_start bs) (trim_start-dark bs h)
 
 pub words-none_left : (rest : List ℕ) → length rest ≡ 0 → words rest ≡ []
 words-none_left rest h = ap words (empty rest h) ∙ words-nil
 
-pub words-next : (text rest word after : List ℕ) → rest ≡ trim_start text → 0 < length rest → word ≡ first_word rest → after ≡ after_word rest → words text ≡ word ∷ words after
+pub words-next : (text rest word after : List ℕ) → rest ≡ trim_start text → 0 < length rest → word ≡ first_word rest
+    → after ≡ after_word rest → words text ≡ word ∷ words after
 words-next text rest word after r filled w a =
     rw (w, a, r) (words-first text (rw r at filled))
 
@@ -94,7 +104,11 @@ words-trimmed text rest r = ap words r ∙ words-trim_start text
 trim_start-word : (bs : List ℕ) → 0 < length (trim_start bs) → 0 < length (first_word (trim_start bs))
 unfolding first_word
 trim_start-word bs h =
-    omega (arith, trim_start-dark bs h, length-take-le (position_or_len is_white (trim_start bs)) (trim_start bs) (bounded is_white (trim_start bs)))
+    omega (
+      arith,
+      trim_start-dark bs h,
+      length-take-le (position_or_len is_white (trim_start bs)) (trim_start bs) (bounded is_white (trim_start bs)),
+    )
 
 pub word-trimmed : (text rest : List ℕ) → rest ≡ trim_start text → 0 < length rest → 0 < length (first_word rest)
 word-trimmed text rest r filled = rw r (trim_start-word text (rw r at filled))
@@ -104,13 +118,19 @@ word-dark : (text : List ℕ) → 0 < length (first_word text) → 0 < position_
 unfolding first_word
 word-dark text h = omega (arith, length-take-le (position_or_len is_white text) text (bounded is_white text))
 
-pub words-more : (text after : List ℕ) → 0 < length (first_word text) → after ≡ after_word text → words text ≡ first_word text ∷ words after
+pub words-more : (text after : List ℕ) → 0 < length (first_word text) → after ≡ after_word text
+    → words text ≡ first_word text ∷ words after
 words-more text after h a = words-dark text (word-dark text h) ∙ ap (λ bs. first_word text ∷ words bs) (sym a)
 
 after-shorter : (text : List ℕ) → 0 < length text → length (trim_start (after_word text)) < length text
 unfolding trim_start after_word
 after-shorter text h =
-    omega (arith, length-drop (prefix_len is_white (after_word text)) (after_word text), length-drop (position_or_len is_white text + 1) text)
+    omega (
+      arith,
+      length-drop (prefix_len is_white (after_word text)) (after_word text),
+      length-drop (position_or_len is_white text + 1) text,
+    )
 
-pub left-shorter : (text after rest : List ℕ) → 0 < length text → after ≡ after_word text → rest ≡ trim_start after → length rest < length text
+pub left-shorter : (text after rest : List ℕ) → 0 < length text → after ≡ after_word text → rest ≡ trim_start after
+    → length rest < length text
 left-shorter text after rest h a r = rw (r, a) (after-shorter text h)

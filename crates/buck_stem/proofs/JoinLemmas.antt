@@ -89,7 +89,8 @@ is-within : (low high n : ℕ) → low ≤ n → n ≤ high → within low high 
 is-within low high n l h = and_from _ _ (le-leb _ _ l) (le-leb _ _ h)
 
 module _ (n s : ℕ) (ns zs : List ℕ) (z : AreZones zs) where
-  plain-range : SPECIES.low ≤ s → s ≤ SPECIES.high → All (λ d. d ≤ SAMPLES.high) ns → draft_range (draft n s ns zs) ≡ Ok tt
+  plain-range : SPECIES.low ≤ s → s ≤ SPECIES.high → All (λ d. d ≤ SAMPLES.high) ns
+      → draft_range (draft n s ns zs) ≡ Ok tt
   unfolding draft_range
   plain-range low high thin =
       let species : all_within SPECIES.low SPECIES.high (s ∷ []) ≡ true =
@@ -107,7 +108,8 @@ module _ (n s : ℕ) (ns zs : List ℕ) (z : AreZones zs) where
   unfolding draft_count
   plain-count low high = rw (is-within 1 MOST_SAMPLES (length ns) low high, z.count) refl
 
-  pub plain-ready : SPECIES.low ≤ s → s ≤ SPECIES.high → All (λ d. d ≤ SAMPLES.high) ns → 1 ≤ length ns → length ns ≤ MOST_SAMPLES
+  pub plain-ready : SPECIES.low ≤ s → s ≤ SPECIES.high → All (λ d. d ≤ SAMPLES.high) ns → 1 ≤ length ns
+      → length ns ≤ MOST_SAMPLES
       → IsReadyDraft (draft n s ns zs)
   plain-ready low high thin some few = record {
     range = plain-range low high thin;

@@ -14,8 +14,10 @@ use Rattle.buck_stem.specs.declared.file.fault.StmFault.TheVariants.{Range, Coun
 use Rattle.buck_stem.specs.file.Stm.{checked, starts, grades, zones_of, draft_range, draft_order, draft_count, in_range, in_order, in_number, parts_of}
 use Rattle.buck_stem.specs.inner.Ready.{IsReadyDraft}
 
-pub first_within : (low high n : ℕ) (ns : List ℕ) → all_within low high (n ∷ ns) ≡ true → ((low ≤ n) × (n ≤ high)) × (all_within low high ns ≡ true)
-first_within low high n ns h = let p = both (within low high n) (all_within low high ns) h in (within_ok low high n p.0, p.1)
+pub first_within : (low high n : ℕ) (ns : List ℕ) → all_within low high (n ∷ ns) ≡ true
+    → ((low ≤ n) × (n ≤ high)) × (all_within low high ns ≡ true)
+first_within low high n ns h = let p = both (within low high n) (all_within low high ns) h in
+    (within_ok low high n p.0, p.1)
 
 -- zones of numbers whose odd places are starts and whose even places are grades
 half : (ns : List ℕ) → length (zones_of ns) * 2 ≤ length ns
@@ -23,25 +25,30 @@ half [] = omega arith
 half (s ∷ []) = omega arith
 half (s ∷ g ∷ more) = omega (arith, half more)
 
-started : (high : ℕ) (ns : List ℕ) → all_within 0 high (starts ns) ≡ true → AllByRecursion (λ (z : ℕ × ℕ). z.0 ≤ high) (zones_of ns)
+started : (high : ℕ) (ns : List ℕ) → all_within 0 high (starts ns) ≡ true
+    → AllByRecursion (λ (z : ℕ × ℕ). z.0 ≤ high) (zones_of ns)
 started high [] h = tt
 started high (s ∷ []) h = tt
 started high (s ∷ g ∷ more) h = let p = first_within 0 high s (starts more) h in (p.0.1, started high more p.1)
 
-graded : (ns : List ℕ) → all_within GRADES.low GRADES.high (grades ns) ≡ true → AllByRecursion (λ (z : ℕ × ℕ). IsGrade z.1) (zones_of ns)
+graded : (ns : List ℕ) → all_within GRADES.low GRADES.high (grades ns) ≡ true
+    → AllByRecursion (λ (z : ℕ × ℕ). IsGrade z.1) (zones_of ns)
 graded [] h = tt
 graded (s ∷ []) h = tt
 graded (s ∷ g ∷ more) h = let p = first_within GRADES.low GRADES.high g (grades more) h in (p.0, graded more p.1)
 
-risen : (low : ℕ) (ns : List ℕ) → ((n : ℕ) (more : List ℕ) → starts ns ≡ n ∷ more → low ≤ n) → is_rising (starts ns) ≡ true → IsRisingFrom low (zones_of ns)
+risen : (low : ℕ) (ns : List ℕ) → ((n : ℕ) (more : List ℕ) → starts ns ≡ n ∷ more → low ≤ n)
+    → is_rising (starts ns) ≡ true → IsRisingFrom low (zones_of ns)
 risen low [] first h = tt
 risen low (s ∷ []) first h = tt
 risen low (s ∷ g ∷ []) first h = (first s [] refl, tt)
 risen low (s ∷ g ∷ t ∷ []) first h = (first s (t ∷ []) refl, tt)
 risen low (s ∷ g ∷ t ∷ f ∷ more) first h =
     let p = both (nat_lt s t) (is_rising (t ∷ starts more)) h in
-    let above : s < t = ltb-true _ _ p.0 in
-    (first s (t ∷ starts more) refl, risen (s + 1) (t ∷ f ∷ more) (λ n rest e. let same : t ≡ n = cc in omega arith) p.1)
+    let above : s < t = ltb-true _ _ p.0 in (
+      first s (t ∷ starts more) refl,
+      risen (s + 1) (t ∷ f ∷ more) (λ n rest e. let same : t ≡ n = cc in omega arith) p.1,
+    )
 
 -- what the tests of a stem's numbers leave
 pub record AreInRange (d : Draft) : Type 0 where
@@ -93,7 +100,8 @@ is_stem d range order count =
       grades_range = All-from_recursion _ (zones_of d.zones) (graded d.zones r.grades);
     }
 
-pub parts_are : (d : Draft) → parts_of d ≡ stem_of (get_or d.number 0 0) (get_or d.species 0 0) d.samples (zones_of d.zones)
+pub parts_are : (d : Draft)
+    → parts_of d ≡ stem_of (get_or d.number 0 0) (get_or d.species 0 0) d.samples (zones_of d.zones)
 unfolding parts_of
 parts_are d = refl
 

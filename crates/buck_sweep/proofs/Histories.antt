@@ -32,12 +32,14 @@ text rule degrees least period limit versions at_base best volume =
     ++ codes "\n")))
 
 same_text : (rule : NamedRule) (degrees : List (Option ℕ)) (least : Option ℕ) (p p' l l' v v' a a' b b' w w' : ℕ)
-    → p ≡ p' → l ≡ l' → v ≡ v' → a ≡ a' → b ≡ b' → w ≡ w' → text rule degrees least p l v a b w ≡ text rule degrees least p' l' v' a' b' w'
+    → p ≡ p' → l ≡ l' → v ≡ v' → a ≡ a' → b ≡ b' → w ≡ w'
+    → text rule degrees least p l v a b w ≡ text rule degrees least p' l' v' a' b' w'
 same_text rule degrees least p p' l l' v v' a a' b b' w w' ep el ev ea eb ew =
     λ t. text rule degrees least (ep t) (el t) (ev t) (ea t) (eb t) (ew t)
 
 -- the line that is made of the figures of a journal says what it is to say of its history
-pub is_line : (rule : NamedRule) (i : InstructionParts) (j : JournalParts) (f : Figures) (line : List ℕ) → AreFigures i j f → IsLineBy rule f line
+pub is_line : (rule : NamedRule) (i : InstructionParts) (j : JournalParts) (f : Figures) (line : List ℕ)
+    → AreFigures i j f → IsLineBy rule f line
     → IsLine rule (history_of i j) line
 unfolding line_of
 is_line rule i j f line figures by = record {
@@ -50,7 +52,8 @@ is_line rule i j f line figures by = record {
     one_each = by.are_degrees.one_each ∙ ap (λ (x : InstructionParts). length x.assortments) figures.instruction;
     each = λ a d there.
         subst (λ (x : InstructionParts). IsDegreeBy x (targets_of i j.entries) f.counts.items a d) figures.instruction
-        (subst (λ (ts : List ℕ). IsDegreeBy f.instruction.now ts f.counts.items a d) figures.targets (by.are_degrees.each a d there));
+        (subst (λ (ts : List ℕ). IsDegreeBy f.instruction.now ts f.counts.items a d) figures.targets
+        (by.are_degrees.each a d there));
   };
   is_least = by.is_least;
   are_unsteered = figures.are_unsteered;
@@ -64,15 +67,19 @@ is_line rule i j f line figures by = record {
 }
 
 -- the same of a line that may be there
-pub if_line : {E : Type 0} (rule : NamedRule) (i : InstructionParts) (j : JournalParts) (f : Figures) (r : Result (Vec ℕ Global) E) → AreFigures i j f
+pub if_line : {E : Type 0} (rule : NamedRule) (i : InstructionParts) (j : JournalParts) (f : Figures)
+    (r : Result (Vec ℕ Global) E) → AreFigures i j f
     → IfOk r (λ line. IsLineBy rule f line.items) → IfOk r (λ line. IsLine rule (history_of i j) line.items)
 if_line rule i j f (Ok line) figures by = is_line rule i j f line.items figures by
 if_line rule i j f (Err e) figures by = tt
 
 -- what was cut by an instruction, in the history of a journal
-pub cut_is : {F : Type 0} (g : Calls F) (f : F) (rule : NamedRule) (lists : List (Vec (Arc Stem Global) Global)) (h : HistoryParts) (i : InstructionParts) (j : JournalParts)
-    → history_of h.instruction j ≡ h → h.instruction ≡ i → IsLawful h → length h.postings ≤ 1000000 → HasCutInTurn lists h
+pub cut_is : {F : Type 0} (g : Calls F) (f : F) (rule : NamedRule) (lists : List (Vec (Arc Stem Global) Global))
+    (h : HistoryParts) (i : InstructionParts) (j : JournalParts)
+    → history_of h.instruction j ≡ h → h.instruction ≡ i → IsLawful h → length h.postings ≤ 1000000
+    → HasCutInTurn lists h
     → GivesBy g f rule → AreSheetsBy g f h → HasCut rule lists (history_of i j)
 cut_is g f rule lists h i j is same lawful few cut gives by =
     subst (λ (x : InstructionParts). HasCut rule lists (history_of x j)) same
-    (subst (λ (x : HistoryParts). HasCut rule lists x) (sym is) (record { lawful = lawful; few = few; cut = cut; by_rule = follows_rule g f rule h gives lawful by }))
+    (subst (λ (x : HistoryParts). HasCut rule lists x) (sym is)
+    (record { lawful = lawful; few = few; cut = cut; by_rule = follows_rule g f rule h gives lawful by }))

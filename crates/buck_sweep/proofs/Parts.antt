@@ -12,13 +12,18 @@ use Rattle.buck_sweep.specs.Sweep.{AreLines}
 use Rattle.buck_sweep.specs.inner.Lines.{IsPart, IsRunLine, IsStop}
 
 -- the lines of a run of neighbours
-pub part_made : (i : InstructionParts) (lists : List (Vec (Arc Stem Global) Global)) (cs part : List Combination) (size start : ℕ) (found : Result (Vec ℕ Global) EngineFault) (text : Vec ℕ Global)
-    → IsChunk cs size start part → IsPart i lists part found → found ≡ Ok text → AreLines (IsRunLine i lists) (take size (drop start cs)) text.items
+pub part_made : (i : InstructionParts) (lists : List (Vec (Arc Stem Global) Global)) (cs part : List Combination)
+    (size start : ℕ) (found : Result (Vec ℕ Global) EngineFault) (text : Vec ℕ Global)
+    → IsChunk cs size start part → IsPart i lists part found → found ≡ Ok text
+    → AreLines (IsRunLine i lists) (take size (drop start cs)) text.items
 part_made i lists cs part size start found text is made same =
     subst (λ (l : List Combination). AreLines (IsRunLine i lists) l text.items) is.value
-    (subst (λ (r : Result (Vec ℕ Global) EngineFault). IfOk r (λ t. AreLines (IsRunLine i lists) part t.items)) same made.0)
+    (subst (λ (r : Result (Vec ℕ Global) EngineFault). IfOk r (λ t. AreLines (IsRunLine i lists) part t.items))
+    same made.0)
 
 -- or why there are none
-pub part_stopped : (i : InstructionParts) (lists : List (Vec (Arc Stem Global) Global)) (part : List Combination) (found : Result (Vec ℕ Global) EngineFault) (fault : EngineFault)
+pub part_stopped : (i : InstructionParts) (lists : List (Vec (Arc Stem Global) Global)) (part : List Combination)
+    (found : Result (Vec ℕ Global) EngineFault) (fault : EngineFault)
     → IsPart i lists part found → found ≡ Err fault → IsStop lists fault
-part_stopped i lists part found fault made same = subst (λ (r : Result (Vec ℕ Global) EngineFault). IfErr r (IsStop lists)) same made.1
+part_stopped i lists part found fault made same =
+    subst (λ (r : Result (Vec ℕ Global) EngineFault). IfErr r (IsStop lists)) same made.1

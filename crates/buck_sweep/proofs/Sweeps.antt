@@ -26,8 +26,10 @@ use Rattle.buck_sweep.specs.inner.Lines.{IsRunLine, IsStop, IsTableOf}
 use Rattle.buck_sweep.proofs.Tables.{lines_mapped}
 
 -- the line of a run over the lists that files have is a line over the files
-over : (apt : Option (List ℕ)) (stms : List (Option (List ℕ))) (i : InstructionParts) (lists : List (Vec (Arc Stem Global) Global)) (c : Combination) (line : List ℕ)
-    → Says apt_of apt (Ok i) → length lists ≡ length stms → AreListsOf (length stms) stms lists → IsRunLine i lists c line → IsLineOver apt stms c line
+over : (apt : Option (List ℕ)) (stms : List (Option (List ℕ))) (i : InstructionParts)
+    (lists : List (Vec (Arc Stem Global) Global)) (c : Combination) (line : List ℕ)
+    → Says apt_of apt (Ok i) → length lists ≡ length stms → AreListsOf (length stms) stms lists
+    → IsRunLine i lists c line → IsLineOver apt stms c line
 over apt stms i lists c line says long made run =
     let cut = run.has_cut.cut in
     record {
@@ -41,7 +43,9 @@ over apt stms i lists c line says long made run =
           stm_says = made k lt;
           are_cut = cut.stems k (omega (arith, lt, long));
         };
-        nobody_else = subst (λ (n : ℕ). All (λ x. (0 < harvester_of x) × (harvester_of x ≤ n)) run.history.postings) long cut.nobody_else;
+        nobody_else =
+            subst (λ (n : ℕ). All (λ x. (0 < harvester_of x) × (harvester_of x ≤ n)) run.history.postings)
+            long cut.nobody_else;
       };
       in_turn = cut.in_turn;
       by_rule = run.has_cut.by_rule;
@@ -49,7 +53,8 @@ over apt stms i lists c line says long made run =
     }
 
 -- what is answered to files that have an instruction and lists
-pub answered : (cs : List Combination) (apt : Option (List ℕ)) (stms : List (Option (List ℕ))) (n : ℕ) (i : InstructionParts) (lists : List (Vec (Arc Stem Global) Global)) (r : Result (Vec ℕ Global) EngineFault)
+pub answered : (cs : List Combination) (apt : Option (List ℕ)) (stms : List (Option (List ℕ))) (n : ℕ)
+    (i : InstructionParts) (lists : List (Vec (Arc Stem Global) Global)) (r : Result (Vec ℕ Global) EngineFault)
     → n ≡ length stms → Says apt_of apt (Ok i) → length lists ≡ n → AreListsOf n stms lists
     → IfOk r (λ text. IsTableOf i lists cs text.items) → IfErr r (IsStop lists) → AnswersSweep cs apt stms (listed r)
 answered cs apt stms n i lists (Ok text) same says long made of fault =
@@ -58,7 +63,9 @@ answered cs apt stms n i lists (Ok text) same says long made of fault =
       instruction = i;
       lines = of.lines;
       apt_says = says;
-      are_lines = lines_mapped (IsRunLine i lists) (IsLineOver apt stms) (λ c line. over apt stms i lists c line says (long ∙ same) all) cs of.lines of.are_lines;
+      are_lines =
+          lines_mapped (IsRunLine i lists) (IsLineOver apt stms)
+          (λ c line. over apt stms i lists c line says (long ∙ same) all) cs of.lines of.are_lines;
       text_is = of.text_is;
     }
 answered cs apt stms n i lists (Err e) same says long made of fault = (
@@ -67,21 +74,34 @@ answered cs apt stms n i lists (Err e) same says long made of fault = (
 )
 
 -- nothing is written where there is no table
-pub not_swept : (cs : List Combination) (apt : Option (List ℕ)) (stms : List (Option (List ℕ))) (old : Option (List ℕ)) (fault : EngineFault) (r : Result (Unit {0}) EngineFault)
-    → (AreNoSeats (length stms) → fault ≡ Seats) → IsErrAnd r (λ x. x ≡ fault) → AnswersSweep cs apt stms (Err fault) → IsSweepRun cs apt stms old old r
+pub not_swept : (cs : List Combination) (apt : Option (List ℕ)) (stms : List (Option (List ℕ))) (old : Option (List ℕ))
+    (fault : EngineFault) (r : Result (Unit {0}) EngineFault)
+    → (AreNoSeats (length stms) → fault ≡ Seats) → IsErrAnd r (λ x. x ≡ fault) → AnswersSweep cs apt stms (Err fault)
+    → IsSweepRun cs apt stms old old r
 not_swept cs apt stms old fault (Ok u) seats h a = absurd h
 not_swept cs apt stms old fault (Err x) seats h a =
     subst (λ (f : EngineFault). IsSweepRun cs apt stms old old (Err f)) (sym h)
     (record {
       seats = λ none. ap (λ (f : EngineFault). Err f) (seats none);
-      run = no_answer (AnswersSweep cs apt stms) (Appends old old) (AppendsSome old old) (Keeps old old) fault (fleet_fault apt stms fault a.0) a (Keeps-refl old);
+      run = no_answer (AnswersSweep cs apt stms) (Appends old old) (AppendsSome old old) (Keeps old old) fault
+          (fleet_fault apt stms fault a.0) a (Keeps-refl old);
     })
 
 -- a table was written, or some first bytes of it
-pub swept : (cs : List Combination) (apt : Option (List ℕ)) (stms : List (Option (List ℕ))) (old new : Option (List ℕ)) (text shown : List ℕ) (r : Result (Unit {0}) EngineFault)
-    → (AreNoSeats (length stms) → ⊥) → IsTable cs apt stms text → shown ≡ text → IsWritten old new shown r → IsSweepRun cs apt stms old new r
+pub swept : (cs : List Combination) (apt : Option (List ℕ)) (stms : List (Option (List ℕ))) (old new : Option (List ℕ))
+    (text shown : List ℕ) (r : Result (Unit {0}) EngineFault)
+    → (AreNoSeats (length stms) → ⊥) → IsTable cs apt stms text → shown ≡ text → IsWritten old new shown r
+    → IsSweepRun cs apt stms old new r
 swept cs apt stms old new text shown (Ok u) seats table is all =
-    record { seats = λ none. absurd (seats none); run = (text, table, subst (λ (t : List ℕ). Appends old new t) is all) }
+    record {
+      seats = λ none. absurd (seats none);
+      run =
+          (text, table, subst (λ (t : List ℕ). Appends old new t) is all);
+    }
 swept cs apt stms old new text shown (Err e) seats table is (write, some) =
     subst (λ (f : EngineFault). IsSweepRun cs apt stms old new (Err f)) (sym write)
-    (record { seats = λ none. absurd (seats none); run = (text, table, subst (λ (t : List ℕ). AppendsSome old new t) is some) })
+    (record {
+      seats = λ none. absurd (seats none);
+      run =
+          (text, table, subst (λ (t : List ℕ). AppendsSome old new t) is some);
+    })

@@ -8,36 +8,55 @@ use Rattle.buck_sweep.proofs.Heads.{one_taken}
 -- one line more
 pub lines_more : (IsOne : Combination → List ℕ → Type 0) (cs : List Combination) (c : Combination) (text line : List ℕ)
     → AreLines IsOne cs text → IsOne c line → AreLines IsOne (cs ++ c ∷ []) (text ++ line)
-lines_more IsOne [] c text line none one = (line, [], ap (λ (t : List ℕ). t ++ line) none ∙ sym (append-nil line), one, refl)
-lines_more IsOne (d ∷ cs) c text line (first, rest, is, said, more) one =
-    (first, rest ++ line, ap (λ (t : List ℕ). t ++ line) is ∙ append_assoc first rest line, said, lines_more IsOne cs c rest line more one)
+lines_more IsOne [] c text line none one =
+    (line, [], ap (λ (t : List ℕ). t ++ line) none ∙ sym (append-nil line), one, refl)
+lines_more IsOne (d ∷ cs) c text line (first, rest, is, said, more) one = (
+  first,
+  rest ++ line,
+  ap (λ (t : List ℕ). t ++ line) is ∙ append_assoc first rest line,
+  said,
+  lines_more IsOne cs c rest line more one,
+)
 
 -- what holds of each line
-pub lines_mapped : (P Q : Combination → List ℕ → Type 0) → ((c : Combination) (line : List ℕ) → P c line → Q c line) → (cs : List Combination) (text : List ℕ)
+pub lines_mapped : (P Q : Combination → List ℕ → Type 0) → ((c : Combination) (line : List ℕ) → P c line → Q c line)
+    → (cs : List Combination) (text : List ℕ)
     → AreLines P cs text → AreLines Q cs text
 lines_mapped P Q f [] text none = none
-lines_mapped P Q f (c ∷ cs) text (first, rest, is, said, more) = (first, rest, is, f c first said, lines_mapped P Q f cs rest more)
+lines_mapped P Q f (c ∷ cs) text (first, rest, is, said, more) =
+    (first, rest, is, f c first said, lines_mapped P Q f cs rest more)
 
 -- the line of the next one
-pub lines_taken : (IsOne : Combination → List ℕ → Type 0) (cs : List Combination) (k : ℕ) (c : Combination) (text line new : List ℕ) → k < length cs → c ≡ get_or cs k c
+pub lines_taken : (IsOne : Combination → List ℕ → Type 0) (cs : List Combination) (k : ℕ) (c : Combination)
+    (text line new : List ℕ) → k < length cs → c ≡ get_or cs k c
     → AreLines IsOne (take k cs) text → IsOne c line → new ≡ text ++ line → AreLines IsOne (take (k + 1) cs) new
 lines_taken IsOne cs k c text line new lt is so_far one e =
     subst (λ (t : List ℕ). AreLines IsOne (take (k + 1) cs) t) (sym e)
-    (subst (λ (ds : List Combination). AreLines IsOne ds (text ++ line)) (sym (one_taken cs k c lt is)) (lines_more IsOne (take k cs) c text line so_far one))
+    (subst (λ (ds : List Combination). AreLines IsOne ds (text ++ line)) (sym (one_taken cs k c lt is))
+    (lines_more IsOne (take k cs) c text line so_far one))
 
 -- the lines of some, and then of others
 pub lines_both : (IsOne : Combination → List ℕ → Type 0) (cs ds : List Combination) (text more : List ℕ)
     → AreLines IsOne cs text → AreLines IsOne ds more → AreLines IsOne (cs ++ ds) (text ++ more)
 lines_both IsOne [] ds text more none next = subst (λ (t : List ℕ). AreLines IsOne ds (t ++ more)) (sym none) next
-lines_both IsOne (c ∷ cs) ds text more (first, rest, is, said, others) next =
-    (first, rest ++ more, ap (λ (t : List ℕ). t ++ more) is ∙ append_assoc first rest more, said, lines_both IsOne cs ds rest more others next)
+lines_both IsOne (c ∷ cs) ds text more (first, rest, is, said, others) next = (
+  first,
+  rest ++ more,
+  ap (λ (t : List ℕ). t ++ more) is ∙ append_assoc first rest more,
+  said,
+  lines_both IsOne cs ds rest more others next,
+)
 
 -- of the next run of so many neighbours
-pub part_put : (IsOne : Combination → List ℕ → Type 0) (cs part : List Combination) (size k : ℕ) (text more new : List ℕ)
-    → AreLines IsOne (take (k * size) cs) text → part ≡ take size (drop (k * size) cs) → AreLines IsOne part more → new ≡ text ++ more
+pub part_put : (IsOne : Combination → List ℕ → Type 0) (cs part : List Combination) (size k : ℕ)
+    (text more new : List ℕ)
+    → AreLines IsOne (take (k * size) cs) text → part ≡ take size (drop (k * size) cs) → AreLines IsOne part more
+    → new ≡ text ++ more
     → AreLines IsOne (take ((k + 1) * size) cs) new
 part_put IsOne cs part size k text more new so_far is next e =
     let on : take ((k + 1) * size) cs ≡ take (k * size) cs ++ part =
-    ap (λ (n : ℕ). take n cs) (omega arith) ∙ take-add (k * size) size cs ∙ ap (λ (l : List Combination). take (k * size) cs ++ l) (sym is) in
+    ap (λ (n : ℕ). take n cs) (omega arith) ∙ take-add (k * size) size cs
+    ∙ ap (λ (l : List Combination). take (k * size) cs ++ l) (sym is) in
     subst (λ (t : List ℕ). AreLines IsOne (take ((k + 1) * size) cs) t) (sym e)
-    (subst (λ (l : List Combination). AreLines IsOne l (text ++ more)) (sym on) (lines_both IsOne (take (k * size) cs) part text more so_far next))
+    (subst (λ (l : List Combination). AreLines IsOne l (text ++ more)) (sym on)
+    (lines_both IsOne (take (k * size) cs) part text more so_far next))

@@ -29,19 +29,29 @@ use Rattle.buck_turn.specs.inner.Rounds.{turns_of, HasCutFirst, HasCutRounds, Is
 abbrev stems_from : ℕ → ℕ → List Posting → List (Option StemParts)
 stems_from h p ps = map (λ (x : Kept). stem_cut x.entry) (replies_from h p ps)
 
-more_stems : (h p : ℕ) (ps : List Posting) (x : Posting) → stems_from h p (ps ++ x ∷ []) ≡ stems_from h p ps ++ cond (harvester_of x == h) (stem_cut x ∷ []) []
+more_stems : (h p : ℕ) (ps : List Posting) (x : Posting)
+    → stems_from h p (ps ++ x ∷ []) ≡ stems_from h p ps ++ cond (harvester_of x == h) (stem_cut x ∷ []) []
 more_stems h p [] x = by_test (harvester_of x == h) where
-  by_test : (b : Bool) → map (λ (y : Kept). stem_cut y.entry) (cond b ((record { position = p; entry = x }) ∷ []) []) ≡ cond b (stem_cut x ∷ []) []
+  by_test : (b : Bool)
+      → map (λ (y : Kept). stem_cut y.entry) (cond b ((record { position = p; entry = x }) ∷ []) [])
+      ≡ cond b (stem_cut x ∷ []) []
   by_test true = refl
   by_test false = refl
 more_stems h p (y ∷ ps) x = by_test (more_stems h (p + 1) ps x) (harvester_of y == h) where
-  by_test : stems_from h (p + 1) (ps ++ x ∷ []) ≡ stems_from h (p + 1) ps ++ cond (harvester_of x == h) (stem_cut x ∷ []) []
-      → (b : Bool) → map (λ (z : Kept). stem_cut z.entry) (cond b ((record { position = p; entry = y }) ∷ replies_from h (p + 1) (ps ++ x ∷ [])) (replies_from h (p + 1) (ps ++ x ∷ [])))
-      ≡ map (λ (z : Kept). stem_cut z.entry) (cond b ((record { position = p; entry = y }) ∷ replies_from h (p + 1) ps) (replies_from h (p + 1) ps)) ++ cond (harvester_of x == h) (stem_cut x ∷ []) []
+  by_test : stems_from h (p + 1) (ps ++ x ∷ []) ≡ stems_from h (p + 1) ps
+      ++ cond (harvester_of x == h) (stem_cut x ∷ []) []
+      → (b : Bool)
+      → map (λ (z : Kept). stem_cut z.entry)
+      (cond b ((record { position = p; entry = y }) ∷ replies_from h (p + 1) (ps ++ x ∷ []))
+      (replies_from h (p + 1) (ps ++ x ∷ [])))
+      ≡ map (λ (z : Kept). stem_cut z.entry)
+      (cond b ((record { position = p; entry = y }) ∷ replies_from h (p + 1) ps) (replies_from h (p + 1) ps))
+      ++ cond (harvester_of x == h) (stem_cut x ∷ []) []
   by_test ih true = ap (λ (l : List (Option StemParts)). stem_cut y ∷ l) ih
   by_test ih false = ih
 
-more_calls : (h : ℕ) (ps : List Posting) (x : Posting) → calls_of h (ps ++ x ∷ []) ≡ calls_of h ps + cond (harvester_of x == h) 1 0
+more_calls : (h : ℕ) (ps : List Posting) (x : Posting)
+    → calls_of h (ps ++ x ∷ []) ≡ calls_of h ps + cond (harvester_of x == h) 1 0
 more_calls h ps x = sum_by_push (λ (y : Posting). cond (harvester_of y == h) 1 0) ps x
 
 -- the first elements of a list that has so many, and the next one
@@ -51,33 +61,42 @@ length_of_first [] (suc n) le = absurd (omega (arith, le))
 length_of_first (x ∷ xs) zero le = refl
 length_of_first (x ∷ xs) (suc n) le = ap suc (length_of_first xs n (omega (arith, le)))
 
-one_more : {A : Type 0} (xs : List A) (n : ℕ) (x : A) → n < length xs → x ≡ get_or xs n x → take (n + 1) xs ≡ take n xs ++ x ∷ []
+one_more : {A : Type 0} (xs : List A) (n : ℕ) (x : A) → n < length xs → x ≡ get_or xs n x
+    → take (n + 1) xs ≡ take n xs ++ x ∷ []
 one_more xs n x lt is =
     let next : n + 1 ≡ suc n = omega arith in
     ap (λ (k : ℕ). take k xs) next ∙ take-suc xs n x lt ∙ ap (λ (y : _). take n xs ++ y ∷ []) (sym is)
 
-all_with_last : {A : Type 0} (P : A → Type 0) (xs : List A) (z : A) → AllByRecursion P xs → P z → AllByRecursion P (xs ++ z ∷ [])
+all_with_last : {A : Type 0} (P : A → Type 0) (xs : List A) (z : A) → AllByRecursion P xs → P z
+    → AllByRecursion P (xs ++ z ∷ [])
 all_with_last P [] z all last = (last, tt)
 all_with_last P (x ∷ xs) z all last = (all.0, all_with_last P xs z all.1 last)
 
-all_of_weaker : {A : Type 0} (P Q : A → Type 0) → ((x : A) → P x → Q x) → (xs : List A) → AllByRecursion P xs → AllByRecursion Q xs
+all_of_weaker : {A : Type 0} (P Q : A → Type 0) → ((x : A) → P x → Q x) → (xs : List A) → AllByRecursion P xs
+    → AllByRecursion Q xs
 all_of_weaker P Q weaker [] all = tt
 all_of_weaker P Q weaker (x ∷ xs) all = (weaker x all.0, all_of_weaker P Q weaker xs all.1)
 
-in_turn_with_last : (ps : List Posting) (z : Posting) → AreInTurn ps → AllByRecursion (λ x. ComesBefore x z) ps → AreInTurn (ps ++ z ∷ [])
+in_turn_with_last : (ps : List Posting) (z : Posting) → AreInTurn ps → AllByRecursion (λ x. ComesBefore x z) ps
+    → AreInTurn (ps ++ z ∷ [])
 in_turn_with_last [] z are before = (tt, tt)
-in_turn_with_last (x ∷ ps) z are before = (all_with_last (ComesBefore x) ps z are.0 before.0, in_turn_with_last ps z are.1 before.1)
+in_turn_with_last (x ∷ ps) z are before =
+    (all_with_last (ComesBefore x) ps z are.0 before.0, in_turn_with_last ps z are.1 before.1)
 
 -- a harvester had its turn in this round, or not yet
 had_turn : (rounds k j : ℕ) → j < k → turns_of rounds k j ≡ rounds + 1
-had_turn rounds k j lt = (let yes : nat_lt j k ≡ true = grind (arith, nat_tests, lt) in ap (λ (b : Bool). cond b (rounds + 1) rounds) yes)
+had_turn rounds k j lt =
+    (let yes : nat_lt j k ≡ true = grind (arith, nat_tests, lt) in ap (λ (b : Bool). cond b (rounds + 1) rounds) yes)
 
 no_turn : (rounds k j : ℕ) → k ≤ j → turns_of rounds k j ≡ rounds
-no_turn rounds k j le = (let no_one : nat_lt j k ≡ false = grind (arith, nat_tests, le) in ap (λ (b : Bool). cond b (rounds + 1) rounds) no_one)
+no_turn rounds k j le =
+    (let no_one : nat_lt j k ≡ false = grind (arith, nat_tests, le) in
+    ap (λ (b : Bool). cond b (rounds + 1) rounds) no_one)
 
 -- its next stem, and another's
 cut_one_more : (n : ℕ) (stems : List StemParts) (h : ℕ) (ps : List Posting) (e : EntryParts) (stem : StemParts)
-    → n < length stems → stem ≡ get_or stems n stem → e.harvester ≡ h → e.stem ≡ stem → HasCutFirst n stems h ps → HasCutFirst (n + 1) stems h (ps ++ Cut e ∷ [])
+    → n < length stems → stem ≡ get_or stems n stem → e.harvester ≡ h → e.stem ≡ stem → HasCutFirst n stems h ps
+    → HasCutFirst (n + 1) stems h (ps ++ Cut e ∷ [])
 cut_one_more n stems h ps e stem lt at harvester same cut =
     let yes : (e.harvester == h) ≡ true = grind (arith, nat_tests, harvester) in
     let first = one_more stems n stem lt at in
@@ -90,19 +109,23 @@ cut_one_more n stems h ps e stem lt at harvester same cut =
           ∙ ap (map Some) (sym first);
       calls = more_calls h ps (Cut e)
           ∙ ap (λ (b : Bool). calls_of h ps + cond b 1 0) yes
-          ∙ (let a = length_of_first stems n (omega (arith, lt)) in let b = length_of_first stems (n + 1) (omega (arith, lt)) in omega (arith, a, b, cut.calls));
+          ∙ (let a = length_of_first stems n (omega (arith, lt)) in let b =
+          length_of_first stems (n + 1) (omega (arith, lt)) in omega (arith, a, b, cut.calls));
     }
 
-cut_by_another : (n : ℕ) (stems : List StemParts) (h : ℕ) (ps : List Posting) (x : Posting) → (harvester_of x == h) ≡ false → HasCutFirst n stems h ps → HasCutFirst n stems h (ps ++ x ∷ [])
+cut_by_another : (n : ℕ) (stems : List StemParts) (h : ℕ) (ps : List Posting) (x : Posting)
+    → (harvester_of x == h) ≡ false → HasCutFirst n stems h ps → HasCutFirst n stems h (ps ++ x ∷ [])
 cut_by_another n stems h ps x other cut = record {
-  stems_are = more_stems h 0 ps x ∙ ap (λ (b : Bool). stems_from h 0 ps ++ cond b (stem_cut x ∷ []) []) other ∙ append-nil (stems_from h 0 ps) ∙ cut.stems_are;
+  stems_are = more_stems h 0 ps x ∙ ap (λ (b : Bool). stems_from h 0 ps ++ cond b (stem_cut x ∷ []) []) other
+      ∙ append-nil (stems_from h 0 ps) ∙ cut.stems_are;
   calls = more_calls h ps x ∙ ap (λ (b : Bool). calls_of h ps + cond b 1 0) other ∙ (omega (arith, cut.calls));
 }
 
 three_ways : (j k : ℕ) → (j < k) ⊎ ((j ≡ k) ⊎ (k < j))
 three_ways j k = grind arith
 
-before_next : (rounds k : ℕ) (z : Posting) → number_of z ≡ rounds + 1 → harvester_of z ≡ k + 1 → (x : Posting) → IsWithinRound rounds k x → ComesBefore x z
+before_next : (rounds k : ℕ) (z : Posting) → number_of z ≡ rounds + 1 → harvester_of z ≡ k + 1 → (x : Posting)
+    → IsWithinRound rounds k x → ComesBefore x z
 before_next rounds k z number harvester x within = elim within [
   | inl less ↦ inl (omega (arith, less, number))
   | inr same ↦ inr (same.0 ∙ sym number, omega (arith, same.1, harvester))
@@ -127,31 +150,47 @@ nothing_cut lists = record {
 }
 
 -- the harvester at place k cuts its next stem
-pub turn_taken : (rounds k : ℕ) (lists : List (Vec (Arc Stem Global) Global)) (ps after : List Posting) (stem : StemParts)
+pub turn_taken : (rounds k : ℕ) (lists : List (Vec (Arc Stem Global) Global)) (ps after : List Posting)
+    (stem : StemParts)
     → k < length lists → rounds < length (stems_at lists k) → stem ≡ get_or (stems_at lists k) rounds stem
     → HasCutRounds rounds k lists ps → IsCutOf (k + 1) stem ps after → HasCutRounds rounds (k + 1) lists after
 turn_taken rounds k lists ps after stem lt long at so_far cut =
     let e = cut.entry in
-    let mine : HasCutFirst rounds (stems_at lists k) (k + 1) ps = subst (λ (n : ℕ). HasCutFirst n (stems_at lists k) (k + 1) ps) (no_turn rounds k k (omega arith)) (so_far.each k lt) in
-    let number : e.number ≡ rounds + 1 = (let a = length_of_first (stems_at lists k) rounds (omega (arith, long)) in omega (arith, cut.number_is_next, mine.calls, a)) in
+    let mine : HasCutFirst rounds (stems_at lists k) (k + 1) ps =
+    subst (λ (n : ℕ). HasCutFirst n (stems_at lists k) (k + 1) ps) (no_turn rounds k k (omega arith))
+    (so_far.each k lt) in
+    let number : e.number ≡ rounds + 1 =
+    (let a = length_of_first (stems_at lists k) rounds (omega (arith, long)) in
+    omega (arith, cut.number_is_next, mine.calls, a)) in
     subst (HasCutRounds rounds (k + 1) lists) (sym cut.added) (record {
       each = λ j low. elim (three_ways j k) [
         | inl less ↦ (
             let other : (e.harvester == j + 1) ≡ false = grind (arith, nat_tests, cut.same_harvester, less) in
-            let turns : turns_of rounds k j ≡ turns_of rounds (k + 1) j = had_turn rounds k j less ∙ sym (had_turn rounds (k + 1) j (omega (arith, less))) in
-            subst (λ (n : ℕ). HasCutFirst n (stems_at lists j) (j + 1) (ps ++ Cut e ∷ [])) turns (cut_by_another _ _ (j + 1) ps (Cut e) other (so_far.each j low)))
+            let turns : turns_of rounds k j ≡ turns_of rounds (k + 1) j = had_turn rounds k j less
+            ∙ sym (had_turn rounds (k + 1) j (omega (arith, less))) in
+            subst (λ (n : ℕ). HasCutFirst n (stems_at lists j) (j + 1) (ps ++ Cut e ∷ [])) turns
+            (cut_by_another _ _ (j + 1) ps (Cut e) other (so_far.each j low)))
         | inr (inl same) ↦ (
             let turns : rounds + 1 ≡ turns_of rounds (k + 1) k = sym (had_turn rounds (k + 1) k (omega arith)) in
-            let here : HasCutFirst (turns_of rounds (k + 1) k) (stems_at lists k) (k + 1) (ps ++ Cut e ∷ []) = subst (λ (n : ℕ). HasCutFirst n (stems_at lists k) (k + 1) (ps ++ Cut e ∷ [])) turns (cut_one_more rounds _ (k + 1) ps e stem long at cut.same_harvester cut.same_stem mine) in
-            subst (λ (i : ℕ). HasCutFirst (turns_of rounds (k + 1) i) (stems_at lists i) (i + 1) (ps ++ Cut e ∷ [])) (sym same) here)
+            let here : HasCutFirst (turns_of rounds (k + 1) k) (stems_at lists k) (k + 1) (ps ++ Cut e ∷ []) =
+            subst (λ (n : ℕ). HasCutFirst n (stems_at lists k) (k + 1) (ps ++ Cut e ∷ [])) turns
+            (cut_one_more rounds _ (k + 1) ps e stem long at cut.same_harvester cut.same_stem mine) in
+            subst (λ (i : ℕ). HasCutFirst (turns_of rounds (k + 1) i) (stems_at lists i) (i + 1) (ps ++ Cut e ∷ []))
+            (sym same) here)
         | inr (inr more) ↦ (
             let other : (e.harvester == j + 1) ≡ false = grind (arith, nat_tests, cut.same_harvester, more) in
-            let turns : turns_of rounds k j ≡ turns_of rounds (k + 1) j = no_turn rounds k j (omega (arith, more)) ∙ sym (no_turn rounds (k + 1) j (omega (arith, more))) in
-            subst (λ (n : ℕ). HasCutFirst n (stems_at lists j) (j + 1) (ps ++ Cut e ∷ [])) turns (cut_by_another _ _ (j + 1) ps (Cut e) other (so_far.each j low)))
+            let turns : turns_of rounds k j ≡ turns_of rounds (k + 1) j = no_turn rounds k j (omega (arith, more))
+            ∙ sym (no_turn rounds (k + 1) j (omega (arith, more))) in
+            subst (λ (n : ℕ). HasCutFirst n (stems_at lists j) (j + 1) (ps ++ Cut e ∷ [])) turns
+            (cut_by_another _ _ (j + 1) ps (Cut e) other (so_far.each j low)))
       ];
-      own = all_with_last _ ps (Cut e) so_far.own (omega (arith, cut.same_harvester), omega (arith, cut.same_harvester, lt));
-      in_turn = in_turn_with_last ps (Cut e) so_far.in_turn (all_of_weaker _ _ (before_next rounds k (Cut e) number cut.same_harvester) ps so_far.within);
-      within = all_with_last _ ps (Cut e) (all_of_weaker _ _ (within_next rounds k) ps so_far.within) (inr (number, omega (arith, cut.same_harvester)));
+      own = all_with_last _ ps (Cut e) so_far.own
+          (omega (arith, cut.same_harvester), omega (arith, cut.same_harvester, lt));
+      in_turn =
+          in_turn_with_last ps (Cut e) so_far.in_turn
+          (all_of_weaker _ _ (before_next rounds k (Cut e) number cut.same_harvester) ps so_far.within);
+      within = all_with_last _ ps (Cut e) (all_of_weaker _ _ (within_next rounds k) ps so_far.within)
+          (inr (number, omega (arith, cut.same_harvester)));
     })
 
 -- the harvester at place k has no stem left
@@ -159,9 +198,12 @@ pub turn_passed : (rounds k : ℕ) (lists : List (Vec (Arc Stem Global) Global))
     → length (stems_at lists k) ≤ rounds → HasCutRounds rounds k lists ps → HasCutRounds rounds (k + 1) lists ps
 turn_passed rounds k lists ps short so_far = record {
   each = λ j low. elim (three_ways j k) [
-    | inl less ↦ subst (λ (n : ℕ). HasCutFirst n (stems_at lists j) (j + 1) ps) (had_turn rounds k j less ∙ sym (had_turn rounds (k + 1) j (omega (arith, less)))) (so_far.each j low)
+    | inl less ↦
+        subst (λ (n : ℕ). HasCutFirst n (stems_at lists j) (j + 1) ps)
+        (had_turn rounds k j less ∙ sym (had_turn rounds (k + 1) j (omega (arith, less)))) (so_far.each j low)
     | inr (inl same) ↦ (
-        let few : length (stems_at lists j) ≤ rounds = subst (λ (i : ℕ). length (stems_at lists i) ≤ rounds) (sym same) short in
+        let few : length (stems_at lists j) ≤ rounds =
+        subst (λ (i : ℕ). length (stems_at lists i) ≤ rounds) (sym same) short in
         let all : take (turns_of rounds k j) (stems_at lists j) ≡ take (turns_of rounds (k + 1) j) (stems_at lists j) =
         ap (λ (n : ℕ). take n (stems_at lists j)) (no_turn rounds k j (omega (arith, same)))
         ∙ take_all rounds (stems_at lists j) few
@@ -171,7 +213,10 @@ turn_passed rounds k lists ps short so_far = record {
           stems_are = (so_far.each j low).stems_are ∙ ap (map Some) all;
           calls = (so_far.each j low).calls ∙ ap (λ (l : List StemParts). length l) all;
         })
-    | inr (inr more) ↦ subst (λ (n : ℕ). HasCutFirst n (stems_at lists j) (j + 1) ps) (no_turn rounds k j (omega (arith, more)) ∙ sym (no_turn rounds (k + 1) j (omega (arith, more)))) (so_far.each j low)
+    | inr (inr more) ↦
+        subst (λ (n : ℕ). HasCutFirst n (stems_at lists j) (j + 1) ps)
+        (no_turn rounds k j (omega (arith, more)) ∙ sym (no_turn rounds (k + 1) j (omega (arith, more))))
+        (so_far.each j low)
   ];
   own = so_far.own;
   in_turn = so_far.in_turn;
@@ -179,9 +224,11 @@ turn_passed rounds k lists ps short so_far = record {
 }
 
 -- all had their turn
-pub round_done : (rounds : ℕ) (lists : List (Vec (Arc Stem Global) Global)) (ps : List Posting) → HasCutRounds rounds (length lists) lists ps → HasCutRounds (rounds + 1) 0 lists ps
+pub round_done : (rounds : ℕ) (lists : List (Vec (Arc Stem Global) Global)) (ps : List Posting)
+    → HasCutRounds rounds (length lists) lists ps → HasCutRounds (rounds + 1) 0 lists ps
 round_done rounds lists ps done = record {
-  each = λ j low. subst (λ (n : ℕ). HasCutFirst n (stems_at lists j) (j + 1) ps) (had_turn rounds (length lists) j low ∙ sym (no_turn (rounds + 1) 0 j (omega arith))) (done.each j low);
+  each = λ j low. subst (λ (n : ℕ). HasCutFirst n (stems_at lists j) (j + 1) ps)
+      (had_turn rounds (length lists) j low ∙ sym (no_turn (rounds + 1) 0 j (omega arith))) (done.each j low);
   own = done.own;
   in_turn = done.in_turn;
   within = all_of_weaker _ _ later ps done.within;
@@ -193,37 +240,51 @@ round_done rounds lists ps done = record {
   ]
 
 -- no list is longer
-pub all_cut : (rounds : ℕ) (lists : List (Vec (Arc Stem Global) Global)) (h : HistoryParts) → ((k : ℕ) → k < length lists → length (stems_at lists k) ≤ rounds) → HasCutRounds rounds 0 lists h.postings → HasCutInTurn lists h
+pub all_cut : (rounds : ℕ) (lists : List (Vec (Arc Stem Global) Global)) (h : HistoryParts)
+    → ((k : ℕ) → k < length lists → length (stems_at lists k) ≤ rounds) → HasCutRounds rounds 0 lists h.postings
+    → HasCutInTurn lists h
 all_cut rounds lists h long done = record {
-  stems = λ k lt. (done.each k lt).stems_are ∙ ap (λ (n : ℕ). map Some (take n (stems_at lists k))) (no_turn rounds 0 k (omega arith)) ∙ ap (map Some) (take_all rounds (stems_at lists k) (long k lt));
+  stems = λ k lt. (done.each k lt).stems_are
+      ∙ ap (λ (n : ℕ). map Some (take n (stems_at lists k))) (no_turn rounds 0 k (omega arith))
+      ∙ ap (map Some) (take_all rounds (stems_at lists k) (long k lt));
   nobody_else = All-from_recursion _ h.postings done.own;
   in_turn = done.in_turn;
 }
 
 -- the stems of the list at a place, and the stem at a place of them
-list_at : (lists : List (Vec (Arc Stem Global) Global)) (k : ℕ) (list : Vec (Arc Stem Global) Global) → k < length lists → list ≡ get_or lists k list → stems_at lists k ≡ stems_of list.items
+list_at : (lists : List (Vec (Arc Stem Global) Global)) (k : ℕ) (list : Vec (Arc Stem Global) Global) → k < length lists
+    → list ≡ get_or lists k list → stems_at lists k ≡ stems_of list.items
 list_at [] k list lt is = absurd (omega (arith, lt))
 list_at (x ∷ xs) zero list lt is = ap (λ (v : Vec (Arc Stem Global) Global). stems_of v.items) (sym is)
 list_at (x ∷ xs) (suc k) list lt is = list_at xs k list (omega (arith, lt)) is
 
-stem_at : (list : List (Arc Stem Global)) (n : ℕ) (a : Arc Stem Global) → n < length list → a ≡ get_or list n a → arc_value a ≡ get_or (stems_of list) n (arc_value a)
-stem_at list n a lt is = ap (λ (b : Arc Stem Global). arc_value b) is ∙ sym (get_or-map arc_value list n a (arc_value a) lt)
+stem_at : (list : List (Arc Stem Global)) (n : ℕ) (a : Arc Stem Global) → n < length list → a ≡ get_or list n a
+    → arc_value a ≡ get_or (stems_of list) n (arc_value a)
+stem_at list n a lt is = ap (λ (b : Arc Stem Global). arc_value b) is
+    ∙ sym (get_or-map arc_value list n a (arc_value a) lt)
 
 -- the harvester at place k cuts the next stem of its list, or has none left
-pub turn_of : (rounds k : ℕ) (lists : List (Vec (Arc Stem Global) Global)) (ps after : List Posting) (list : Vec (Arc Stem Global) Global) (a : Arc Stem Global)
+pub turn_of : (rounds k : ℕ) (lists : List (Vec (Arc Stem Global) Global)) (ps after : List Posting)
+    (list : Vec (Arc Stem Global) Global) (a : Arc Stem Global)
     → k < length lists → list ≡ get_or lists k list → rounds < length list.items → a ≡ get_or list.items rounds a
     → HasCutRounds rounds k lists ps → IsCutOf (k + 1) (arc_value a) ps after → HasCutRounds rounds (k + 1) lists after
 turn_of rounds k lists ps after list a lt is long there so_far cut =
     let same = list_at lists k list lt is in
     turn_taken rounds k lists ps after (arc_value a) lt
-    (subst (λ (l : List StemParts). rounds < length l) (sym same) (omega (arith, long, length-map list.items arc_value)))
-    (subst (λ (l : List StemParts). arc_value a ≡ get_or l rounds (arc_value a)) (sym same) (stem_at list.items rounds a long there))
+    (subst (λ (l : List StemParts). rounds < length l) (sym same)
+    (omega (arith, long, length-map list.items arc_value)))
+    (subst (λ (l : List StemParts). arc_value a ≡ get_or l rounds (arc_value a)) (sym same)
+    (stem_at list.items rounds a long there))
     so_far cut
 
-pub no_turn_of : (rounds k : ℕ) (lists : List (Vec (Arc Stem Global) Global)) (ps : List Posting) (list : Vec (Arc Stem Global) Global)
-    → k < length lists → list ≡ get_or lists k list → length list.items ≤ rounds → HasCutRounds rounds k lists ps → HasCutRounds rounds (k + 1) lists ps
+pub no_turn_of : (rounds k : ℕ) (lists : List (Vec (Arc Stem Global) Global)) (ps : List Posting)
+    (list : Vec (Arc Stem Global) Global)
+    → k < length lists → list ≡ get_or lists k list → length list.items ≤ rounds → HasCutRounds rounds k lists ps
+    → HasCutRounds rounds (k + 1) lists ps
 no_turn_of rounds k lists ps list lt is short so_far =
-    turn_passed rounds k lists ps (subst (λ (l : List StemParts). length l ≤ rounds) (sym (list_at lists k list lt is)) (omega (arith, short, length-map list.items arc_value))) so_far
+    turn_passed rounds k lists ps
+    (subst (λ (l : List StemParts). length l ≤ rounds) (sym (list_at lists k list lt is))
+    (omega (arith, short, length-map list.items arc_value))) so_far
 
 pub longer : (lists : List (Vec (Arc Stem Global) Global)) (k most more : ℕ) (list : Vec (Arc Stem Global) Global)
     → k < length lists → list ≡ get_or lists k list → most ≤ more → length list.items ≤ more
@@ -231,6 +292,7 @@ pub longer : (lists : List (Vec (Arc Stem Global) Global)) (k most more : ℕ) (
 longer lists k most more list lt is le long so_far j low = elim (three_ways j k) [
   | inl less ↦ omega (arith, so_far j less, le)
   | inr (inl same) ↦ subst (λ (i : ℕ). length (stems_at lists i) ≤ more) (sym same)
-      (subst (λ (l : List StemParts). length l ≤ more) (sym (list_at lists k list lt is)) (omega (arith, long, length-map list.items arc_value)))
+      (subst (λ (l : List StemParts). length l ≤ more) (sym (list_at lists k list lt is))
+      (omega (arith, long, length-map list.items arc_value)))
   | inr (inr above) ↦ absurd (omega (arith, low, above))
 ]

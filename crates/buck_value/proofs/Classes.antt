@@ -30,11 +30,13 @@ column_none xs l e c = elim (cases_lt c.0 (position_or_len (λ x. x == l) xs)) [
   | inr past ↦
       let in_list : position_or_len (λ x. x == l) xs < length xs = omega arith in
       let test : nat_lt (position_or_len (λ x. x == l) xs) (length xs) ≡ true = grind (arith, nat_tests) in
-      none-some (position_or_len (λ x. x == l) xs) (sym e ∙ ap (λ b. cond b (Some (position_or_len (λ x. x == l) xs)) None) test)
+      none-some (position_or_len (λ x. x == l) xs)
+      (sym e ∙ ap (λ b. cond b (Some (position_or_len (λ x. x == l) xs)) None) test)
 ]
 
 -- the column by its place
-pub column_is : (a : AssortmentParts) (l column : ℕ) → position (λ x. x == l) a.lengths ≡ Some column → column_of a l ≡ column
+pub column_is : (a : AssortmentParts) (l column : ℕ) → position (λ x. x == l) a.lengths ≡ Some column
+    → column_of a l ≡ column
 column_is a l column at = ap (λ o. unwrap_or o 0) at
 
 -- a test that failed, over equal values
@@ -66,7 +68,8 @@ pub allows_by_tests : (step : ℕ) (a : AssortmentParts) (stem : StemParts) (log
     → price ≡ slice_index a.prices (row * length a.lengths + column)
     → price ≢ 0
     → Allows step a stem log
-allows_by_tests step a stem log column row price top species grid at within grades is_top low high is_row is_price priced =
+allows_by_tests step a stem log column row price top species grid at within grades is_top low high is_row is_price
+    priced =
     let place : row * length a.lengths + column ≡ class_place a stem log =
     rw (is_row, is_top, column_is a log.length column at) refl in
     record {
@@ -81,24 +84,35 @@ allows_by_tests step a stem log column row price top species grid at within grad
     }
 
 -- the assortment of an allowed log is valid
-pub valid_of : (i : InstructionParts) (stem : StemParts) (g : Log) → IsInstruction i → (a : IsAllowed i stem g) → IsAssortment a.assortment
+pub valid_of : (i : InstructionParts) (stem : StemParts) (g : Log) → IsInstruction i → (a : IsAllowed i stem g)
+    → IsAssortment a.assortment
 valid_of i stem g v a =
     let lt : g.assortment < length i.assortments = slice_get_within i.assortments g.assortment a.assortment a.exists in
-    subst IsAssortment (get_or_from_slice_get i.assortments g.assortment a.assortment a.assortment a.exists) (All-get_or IsAssortment i.assortments g.assortment a.assortment lt v.assortments_valid)
+    subst IsAssortment (get_or_from_slice_get i.assortments g.assortment a.assortment a.assortment a.exists)
+    (All-get_or IsAssortment i.assortments g.assortment a.assortment lt v.assortments_valid)
 
 -- a row of an assortment
 pub row_within : (a : AssortmentParts) (d : ℕ) → IsAssortment a → row_at a d < length a.diameters
 row_within a d v = omega (arith, row_counted a d v, count_by-le-length (λ limit. nat_le limit d) a.diameters, v.rows)
 
 -- the class of an allowed log is one of the instruction's
-pub class_is_class : (i : InstructionParts) (stem : StemParts) (g : Log) → IsInstruction i → IsAllowed i stem g → IsClass i (class_of i stem g)
+pub class_is_class : (i : InstructionParts) (stem : StemParts) (g : Log) → IsInstruction i → IsAllowed i stem g
+    → IsClass i (class_of i stem g)
 class_is_class i stem g v a =
     let valid : IsAssortment a.assortment = valid_of i stem g v a in
-    let column : column_of a.assortment g.length < length a.assortment.lengths = column_within a.assortment g.length a.allows.length_offered in
+    let column : column_of a.assortment g.length < length a.assortment.lengths =
+    column_within a.assortment g.length a.allows.length_offered in
     subst (λ o. IsClass i (class_in o stem g)) (sym a.exists)
-    (record { assortment = a.assortment; exists = a.exists; row = row_within a.assortment (top_diameter stem g) valid; column = column })
+    (record {
+      assortment = a.assortment;
+      exists = a.exists;
+      row =
+          row_within a.assortment (top_diameter stem g) valid;
+      column = column;
+    })
   where
-    column_cases : (xs : List ℕ) (l : ℕ) (o : Option ℕ) → position (λ x. x == l) xs ≡ o → Contains xs l → unwrap_or o 0 < length xs
+    column_cases : (xs : List ℕ) (l : ℕ) (o : Option ℕ) → position (λ x. x == l) xs ≡ o → Contains xs l
+        → unwrap_or o 0 < length xs
     column_cases xs l None e c = absurd (column_none xs l e c)
     column_cases xs l (Some k) e c = (column_some xs l k e).0
 
@@ -110,12 +124,15 @@ pub allowed_low : (i : InstructionParts) (stem : StemParts) (g : Log) → IsInst
     → (500 ≤ g.length) × (g.length ≤ 30000) × (top_diameter stem g ≤ 2000)
 allowed_low i stem g v a =
     let valid : IsAssortment a.assortment = valid_of i stem g v a in
-    let range : (500 ≤ g.length) × (g.length ≤ 30000) = All-contains (λ l. (500 ≤ l) × (l ≤ 30000)) a.assortment.lengths g.length valid.lengths_range a.allows.length_offered in
+    let range : (500 ≤ g.length) × (g.length ≤ 30000) =
+    All-contains (λ l. (500 ≤ l) × (l ≤ 30000))
+    a.assortment.lengths g.length valid.lengths_range a.allows.length_offered in
     let thin : top_diameter stem g < a.assortment.upper = a.allows.thin_enough in
     (range.0, range.1, omega (arith, valid.upper_range))
 
 -- the class of a log is of its assortment
-class_assortment : (o : Option AssortmentParts) (stem : StemParts) (g : Log) → (class_in o stem g).assortment ≡ g.assortment
+class_assortment : (o : Option AssortmentParts) (stem : StemParts) (g : Log)
+    → (class_in o stem g).assortment ≡ g.assortment
 class_assortment None stem g = refl
 class_assortment (Some a) stem g = refl
 
@@ -131,4 +148,5 @@ worth_by_class s stem g class top is_class is_top =
     ap (λ (k : Class). k.assortment) is_class ∙ class_assortment (slice_get all g.assortment) stem g in
     ap (λ a. worth_at (kind_in (slice_get all a)) (price_of s class) (volume top g.length)) place
     ∙ ap (λ k. worth_at (kind_in (slice_get all g.assortment)) (price_of s k) (volume top g.length)) is_class
-    ∙ ap (λ d. worth_at (kind_in (slice_get all g.assortment)) (price_of s (class_of s.instruction stem g)) (volume d g.length)) is_top
+    ∙ ap (λ d. worth_at (kind_in (slice_get all g.assortment)) (price_of s (class_of s.instruction stem g))
+    (volume d g.length)) is_top

@@ -35,13 +35,16 @@ pub has_wood : (q : ProfileParts) (stem : StemParts) (step i j : ℕ) (wood : Wo
     → IsStem q.stem → q.stem.species ≡ wood.species → IsMask q.stem.zones (i * q.«module») (j * q.«module») wood.grades
     → j * q.«module» + wood.trim ≤ stem_length q.stem.samples → HasWood stem step i j wood
 has_wood q stem step i j wood same valid species grades fits =
-    let here : HasWood q.stem q.«module» i j wood = record { valid = valid; species = species; grades = grades; within = fits } in
+    let here : HasWood q.stem q.«module» i j wood =
+    record { valid = valid; species = species; grades = grades; within = fits } in
     subst (λ r. HasWood r.stem r.«module» i j wood) same here
 
 -- a log from point to point has the wood there
 pub wood_there : (p : PreparedParts) (wood : Wood) (trim i j : ℕ) (g : Log)
     → HasWood p.stem p.sheet.instruction.«module» i j wood
-    → IsToTop p trim i j g → IsWood p.sheet.instruction.«module» wood (diameter_at p.stem.samples (j * p.sheet.instruction.«module»)) p.stem g
+    → IsToTop p trim i j g
+    → IsWood p.sheet.instruction.«module» wood (diameter_at p.stem.samples (j * p.sheet.instruction.«module»))
+    p.stem g
 wood_there p wood trim i j g has at =
     let step : ℕ = p.sheet.instruction.«module» in
     record {

@@ -13,9 +13,17 @@ use Rattle.buck_value.specs.Sheet.{SheetParts, IsSheet, base_prices, span, IsInS
 use Rattle.buck_value.specs.inner.Sheet.{IsFirstOutside}
 use Rattle.buck_value.specs.declared.fault.SheetFault.TheVariants.{Price}
 
-sum-same : (as_ : List AssortmentParts) → AllByRecursion IsAssortment as_ → sum_by (λ a. length a.prices) as_ ≡ sum_by classes_of as_
+sum-same : (as_ : List AssortmentParts) → AllByRecursion IsAssortment as_
+    → sum_by (λ a. length a.prices) as_ ≡ sum_by classes_of as_
 sum-same [] h = refl
-sum-same (a ∷ as_) h = omega (arith, h.0.prices_number, sum-same as_ h.1, sum_by-cons (λ a. length a.prices) a as_, sum_by-cons classes_of a as_)
+sum-same (a ∷ as_) h =
+    omega (
+      arith,
+      h.0.prices_number,
+      sum-same as_ h.1,
+      sum_by-cons (λ a. length a.prices) a as_,
+      sum_by-cons classes_of a as_,
+    )
 
 -- one base price for each class
 pub length-base_prices : (i : InstructionParts) → IsInstruction i → length (base_prices i) ≡ classes i
@@ -23,9 +31,11 @@ length-base_prices i v =
     length-flat_map (λ a. a.prices) i.assortments
     ∙ sum-same i.assortments (recursion_from_All IsAssortment i.assortments v.assortments_valid)
 
-all_low : (as_ : List AssortmentParts) → AllByRecursion IsAssortment as_ → All (λ p. p ≤ 10000000) (flat_map (λ a. a.prices) as_)
+all_low : (as_ : List AssortmentParts) → AllByRecursion IsAssortment as_
+    → All (λ p. p ≤ 10000000) (flat_map (λ a. a.prices) as_)
 all_low [] h = λ k d lt. absurd (omega arith)
-all_low (a ∷ as_) h = All-append (λ p. p ≤ 10000000) a.prices (flat_map (λ a. a.prices) as_) h.0.prices_range (all_low as_ h.1)
+all_low (a ∷ as_) h =
+    All-append (λ p. p ≤ 10000000) a.prices (flat_map (λ a. a.prices) as_) h.0.prices_range (all_low as_ h.1)
 
 pub base_price-le : (i : InstructionParts) (k : ℕ) → IsInstruction i → slice_index (base_prices i) k ≤ 10000000
 base_price-le i k v = elim (cases_lt k (length (base_prices i))) [
@@ -39,7 +49,13 @@ span-le limit base le = let h : base * limit ≤ base * 1000 = mul-le-mul_left b
 -- no price of a sheet is above 20,000,000
 pub price-le : (s : SheetParts) (k : ℕ) → IsSheet s → slice_index s.prices k ≤ 20000000
 price-le s k v = elim (cases_lt k (length s.prices)) [
-  | inl lt ↦ omega (arith, (v.in_span k lt).1, base_price-le s.instruction k v.valid, span-le s.instruction.limit (slice_index (base_prices s.instruction) k) v.valid.limit_range)
+  | inl lt ↦
+      omega (
+        arith,
+        (v.in_span k lt).1,
+        base_price-le s.instruction k v.valid,
+        span-le s.instruction.limit (slice_index (base_prices s.instruction) k) v.valid.limit_range,
+      )
   | inr ge ↦ omega (arith, get_or_past s.prices k 0 ge)
 ]
 
@@ -52,18 +68,22 @@ base_in_span i k = (omega arith, omega arith)
 
 -- the base price at place j of an assortment
 pub base_at : (i : InstructionParts) (n j before : ℕ) (a : AssortmentParts)
-    → n < length i.assortments → a ≡ get_or i.assortments n a → before ≡ length (flat_map (λ a. a.prices) (take n i.assortments))
+    → n < length i.assortments → a ≡ get_or i.assortments n a
+    → before ≡ length (flat_map (λ a. a.prices) (take n i.assortments))
     → j < length a.prices
     → slice_index (base_prices i) (before + j) ≡ slice_index a.prices j
 base_at i n j before a lt is place in_a =
-    rw place (get_or-flat_map (λ a. a.prices) i.assortments n j a 0 lt (subst (λ x. j < length x.prices) is in_a) ∙ ap (λ x. get_or x.prices j 0) (sym is))
+    rw place (get_or-flat_map (λ a. a.prices) i.assortments n j a 0 lt (subst (λ x. j < length x.prices) is in_a)
+    ∙ ap (λ x. get_or x.prices j 0) (sym is))
 
 -- going over the assortments: `before` classes are done, and the n-th assortment is next
 module _ (i : InstructionParts) (prices : List ℕ) (n before : ℕ) (a : AssortmentParts) where
-  module _ (valid : IsInstruction i) (lt : n < length i.assortments) (is : a ≡ get_or i.assortments n a) (place : before ≡ length (flat_map (λ x. x.prices) (take n i.assortments))) where
+  module _ (valid : IsInstruction i) (lt : n < length i.assortments) (is : a ≡ get_or i.assortments n a)
+      (place : before ≡ length (flat_map (λ x. x.prices) (take n i.assortments))) where
     pub room : before + length a.prices ≤ classes i
     room =
-        let h : length (flat_map (λ x. x.prices) (take n i.assortments)) + length (get_or i.assortments n a).prices ≤ length (base_prices i) =
+        let h : length (flat_map (λ x. x.prices) (take n i.assortments)) + length (get_or i.assortments n a).prices
+        ≤ length (base_prices i) =
         length-flat_map-take (λ x. x.prices) i.assortments n a lt in
         omega (arith, length-base_prices i valid, ap (λ x. length x.prices) is)
 
@@ -71,7 +91,8 @@ module _ (i : InstructionParts) (prices : List ℕ) (n before : ℕ) (a : Assort
     place_more =
         let more : take (n + 1) i.assortments ≡ take n i.assortments ++ a ∷ [] =
         take_more i.assortments n a lt ∙ ap (λ x. take n i.assortments ++ x ∷ []) (sym is) in
-        let joined : flat_map (λ x. x.prices) (take n i.assortments) ++ a.prices ≡ flat_map (λ x. x.prices) (take n i.assortments ++ a ∷ []) =
+        let joined : flat_map (λ x. x.prices) (take n i.assortments) ++ a.prices
+        ≡ flat_map (λ x. x.prices) (take n i.assortments ++ a ∷ []) =
         flat_map_more (λ x. x.prices) [] (take n i.assortments) a in
         rw (more, ← joined, length-append, ← place) refl
 
@@ -85,7 +106,8 @@ module _ (i : InstructionParts) (prices : List ℕ) (n before : ℕ) (a : Assort
           let in_a : j < length a.prices = omega arith in
           let at : before + j ≡ k = omega arith in
           subst (λ x. IsPriceAt i prices x) at
-          (subst (λ b. IsInSpan i.limit b (slice_index prices (before + j))) (sym (base_at i n j before a lt is place in_a)) (new j in_a))
+          (subst (λ b. IsInSpan i.limit b (slice_index prices (before + j)))
+          (sym (base_at i n j before a lt is place in_a)) (new j in_a))
     ]
 
     -- a price outside its span is the least such one
@@ -96,11 +118,14 @@ module _ (i : InstructionParts) (prices : List ℕ) (n before : ℕ) (a : Assort
     fault_at all old at f = (
       all,
       omega (arith, f.within, room),
-      λ inside. f.outside (subst (λ b. IsInSpan i.limit b (slice_index prices (before + at))) (base_at i n at before a lt is place f.within) inside),
+      λ inside. f.outside
+          (subst (λ b. IsInSpan i.limit b (slice_index prices (before + at)))
+          (base_at i n at before a lt is place f.within) inside),
       fault_first old at f,
     )
       where
-        fault_first : ((k : ℕ) → k < before → IsPriceAt i prices k) → (at : ℕ) → IsFirstOutside i.limit a.prices prices before at → (k : ℕ) → k < before + at → IsPriceAt i prices k
+        fault_first : ((k : ℕ) → k < before → IsPriceAt i prices k) → (at : ℕ)
+            → IsFirstOutside i.limit a.prices prices before at → (k : ℕ) → k < before + at → IsPriceAt i prices k
         fault_first old at f k lt_k = elim (cases_lt k before) [
           | inl early ↦ old k early
           | inr late ↦
@@ -109,7 +134,8 @@ module _ (i : InstructionParts) (prices : List ℕ) (n before : ℕ) (a : Assort
               let in_a : j < length a.prices = omega (arith, f.within) in
               let here : before + j ≡ k = omega arith in
               subst (λ x. IsPriceAt i prices x) here
-              (subst (λ b. IsInSpan i.limit b (slice_index prices (before + j))) (sym (base_at i n j before a lt is place in_a)) (f.first j done))
+              (subst (λ b. IsInSpan i.limit b (slice_index prices (before + j)))
+              (sym (base_at i n j before a lt is place in_a)) (f.first j done))
         ]
 
 -- all assortments are done
@@ -119,11 +145,13 @@ pub all_inside : (i : InstructionParts) (prices : List ℕ) (n before : ℕ) →
     → ((k : ℕ) → k < before → IsPriceAt i prices k)
     → (k : ℕ) → k < length prices → IsPriceAt i prices k
 all_inside i prices n before valid place past all old k lt =
-    let whole : before ≡ length (base_prices i) = place ∙ ap (λ xs. length (flat_map (λ x. x.prices) xs)) (take_all n i.assortments past) in
+    let whole : before ≡ length (base_prices i) = place
+    ∙ ap (λ xs. length (flat_map (λ x. x.prices) xs)) (take_all n i.assortments past) in
     old k (omega (arith, length-base_prices i valid))
 
 -- the base prices make a sheet
-pub base_sheet : (i : InstructionParts) (prices : List ℕ) → IsInstruction i → prices ≡ base_prices i → IsSheet (sheet_of 0 i prices)
+pub base_sheet : (i : InstructionParts) (prices : List ℕ) → IsInstruction i → prices ≡ base_prices i
+    → IsSheet (sheet_of 0 i prices)
 base_sheet i prices v is = record {
   valid = v;
   one_each = ap length is ∙ length-base_prices i v;

@@ -15,7 +15,8 @@ volume-le d l le =
     let b : d * d * l ≤ 4000000 * l = mul-le-mul_right l (omega arith) in
     omega arith
 
-worth_at-le : (kind price d l : ℕ) → price ≤ 20000000 → d ≤ 2000 → 500 ≤ l → worth_at kind price (volume d l) ≤ 70000000000 * l
+worth_at-le : (kind price d l : ℕ) → price ≤ 20000000 → d ≤ 2000 → 500 ≤ l
+    → worth_at kind price (volume d l) ≤ 70000000000 * l
 worth_at-le kind price d l p h low =
     elim (nat_eq kind 1) as (λ b. (if b then price * volume d l else price * 1000000) ≤ 70000000000 * l) [
       | true ↦
@@ -30,5 +31,7 @@ pub worth_low : (s : SheetParts) (stem : StemParts) (g : Log) → IsSheet s → 
 unfolding worth_of
 worth_low s stem g v a =
     let low = allowed_low s.instruction stem g v.valid a in
-    let price : price_of s (class_of s.instruction stem g) ≤ 20000000 = price-le s (index_of s.instruction (class_of s.instruction stem g)) v in
-    worth_at-le (kind_in (slice_get s.instruction.assortments g.assortment)) (price_of s (class_of s.instruction stem g)) (top_diameter stem g) g.length price low.2 low.0
+    let price : price_of s (class_of s.instruction stem g) ≤ 20000000 =
+    price-le s (index_of s.instruction (class_of s.instruction stem g)) v in
+    worth_at-le (kind_in (slice_get s.instruction.assortments g.assortment))
+    (price_of s (class_of s.instruction stem g)) (top_diameter stem g) g.length price low.2 low.0

@@ -34,7 +34,8 @@ none_reached d (x ∷ xs) h =
     reached_less d x xs (h 0 (omega arith)) ∙ none_reached d xs (λ k lt. h (suc k) (omega arith))
 
 -- all that follow a limit above d are above d too
-above_at : (d x : ℕ) (xs : List ℕ) → AllPairs (λ a b. a < b) (x ∷ xs) → d < x → (k : ℕ) → k < length (x ∷ xs) → d < get_or (x ∷ xs) k 0
+above_at : (d x : ℕ) (xs : List ℕ) → AllPairs (λ a b. a < b) (x ∷ xs) → d < x → (k : ℕ) → k < length (x ∷ xs)
+    → d < get_or (x ∷ xs) k 0
 above_at d x xs rise above zero lt = above
 above_at d x xs rise above (suc k) lt = (let h : x < get_or xs k 0 = rise 0 (suc k) 0 (omega arith) lt in omega arith)
 
@@ -42,7 +43,8 @@ above_at d x xs rise above (suc k) lt = (let h : x < get_or xs k 0 = rise 0 (suc
 abbrev StandsAt : ℕ → List ℕ → ℕ → Type 0
 StandsAt d xs k = (k < reached d xs → get_or xs k 0 ≤ d) × (reached d xs ≤ k → d < get_or xs k 0)
 
-one_more : (d x : ℕ) (xs : List ℕ) → x ≤ d → ((k : ℕ) → k < length xs → StandsAt d xs k) → (k : ℕ) → k < length (x ∷ xs) → StandsAt d (x ∷ xs) k
+one_more : (d x : ℕ) (xs : List ℕ) → x ≤ d → ((k : ℕ) → k < length xs → StandsAt d xs k) → (k : ℕ) → k < length (x ∷ xs)
+    → StandsAt d (x ∷ xs) k
 one_more d x xs le rest zero lt = (λ _. le, λ h. absurd (omega (arith, reached_more d x xs le)))
 one_more d x xs le rest (suc k) lt =
     let here : StandsAt d xs k = rest k (omega arith) in
@@ -66,7 +68,8 @@ none_last : (d : ℕ) (xs : List ℕ) → reached d xs ≡ 0 → last_position (
 none_last d [] e = refl
 none_last d (x ∷ xs) e = elim (cases_lt d x) [
   | inl above ↦
-      let rest : last_position (λ limit. nat_le limit d) xs ≡ None = none_last d xs (omega (arith, e, reached_less d x xs above)) in
+      let rest : last_position (λ limit. nat_le limit d) xs ≡ None =
+      none_last d xs (omega (arith, e, reached_less d x xs above)) in
       let test : nat_le x d ≡ false = grind (arith, nat_tests) in
       ap (λ o. or_first o (nat_le x d)) rest ∙ ap (or_first None) test
   | inr le ↦ absurd (omega (arith, e, reached_more d x xs le))
@@ -82,16 +85,19 @@ more_last d m x xs (suc k) is same test later =
     ap (λ o. or_first o (nat_le x d)) (later k is) ∙ ap Some (omega (arith, same))
 
 -- the last limit that is at most d stands at the place of their number, less one
-some_last : (d m : ℕ) (xs : List ℕ) → AllPairs (λ a b. a < b) xs → reached d xs ≡ suc m → last_position (λ limit. nat_le limit d) xs ≡ Some m
+some_last : (d m : ℕ) (xs : List ℕ) → AllPairs (λ a b. a < b) xs → reached d xs ≡ suc m
+    → last_position (λ limit. nat_le limit d) xs ≡ Some m
 some_last d m [] rise e = absurd (omega (arith, e))
 some_last d m (x ∷ xs) rise e = elim (cases_lt d x) [
   | inl above ↦ absurd (omega (arith, e, none_reached d (x ∷ xs) (above_at d x xs rise above)))
-  | inr le ↦ more_last d m x xs (reached d xs) refl (omega (arith, e, reached_more d x xs le)) (grind (arith, nat_tests))
+  | inr le ↦
+      more_last d m x xs (reached d xs) refl (omega (arith, e, reached_more d x xs le)) (grind (arith, nat_tests))
       (λ k is. some_last d k xs (tail_rises x xs rise) is)
 ]
 
 -- the row of a top diameter, counted: the limits rise
-pub row_counted : (a : AssortmentParts) (d : ℕ) → IsAssortment a → row_at a d ≡ count_by (λ limit. nat_le limit d) a.diameters - 1
+pub row_counted : (a : AssortmentParts) (d : ℕ) → IsAssortment a
+    → row_at a d ≡ count_by (λ limit. nat_le limit d) a.diameters - 1
 row_counted a d v = by_number (reached d a.diameters) refl
   where
     by_number : (n : ℕ) → reached d a.diameters ≡ n → row_at a d ≡ reached d a.diameters - 1
@@ -101,13 +107,16 @@ row_counted a d v = by_number (reached d a.diameters) refl
         ∙ omega (arith, is)
 
 -- the row of a top diameter is the last whose lower limit is at most it
-pub row_is_last : (a : AssortmentParts) (d : ℕ) → IsAssortment a → slice_index a.diameters 0 ≤ d → IsRow a d (row_at a d)
+pub row_is_last : (a : AssortmentParts) (d : ℕ) → IsAssortment a → slice_index a.diameters 0 ≤ d
+    → IsRow a d (row_at a d)
 row_is_last a d v low =
     let rise : AllPairs (λ x y. x < y) a.diameters = AllPairs-from_increasing a.diameters v.diameters_rise in
     let all : reached d a.diameters ≤ length a.diameters = count_by-le-length (λ limit. nat_le limit d) a.diameters in
     let some : 0 < reached d a.diameters = elim (cases_lt 0 (reached d a.diameters)) [
       | inl more ↦ more
-      | inr none ↦ absurd (let h : d < slice_index a.diameters 0 = (stands_at d a.diameters rise 0 (omega (arith, v.rows))).1 none in omega arith)
+      | inr none ↦
+          absurd (let h : d < slice_index a.diameters 0 =
+          (stands_at d a.diameters rise 0 (omega (arith, v.rows))).1 none in omega arith)
     ] in
     let counted : row_at a d ≡ reached d a.diameters - 1 = row_counted a d v in
     record {

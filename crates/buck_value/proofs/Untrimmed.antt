@@ -16,7 +16,8 @@ no_trim i at a none is =
     subst (λ (x : AssortmentParts). x.trim ≡ 0) (get_or_from_slice_get i.assortments at a a is)
     (All-get_or (λ (x : AssortmentParts). x.trim ≡ 0) i.assortments at a lt none)
 
-pub without_trim : (i : InstructionParts) (stem : StemParts) (g : Log) → IsAllowed i stem g → IsAllowedUntrimmed i stem g
+pub without_trim : (i : InstructionParts) (stem : StemParts) (g : Log) → IsAllowed i stem g
+    → IsAllowedUntrimmed i stem g
 without_trim i stem g a = record {
   assortment = a.assortment;
   exists = a.exists;
@@ -32,7 +33,8 @@ without_trim i stem g a = record {
   };
 }
 
-pub with_trim : (i : InstructionParts) (stem : StemParts) (g : Log) → HasNoTrim i → IsAllowedUntrimmed i stem g → IsAllowed i stem g
+pub with_trim : (i : InstructionParts) (stem : StemParts) (g : Log) → HasNoTrim i → IsAllowedUntrimmed i stem g
+    → IsAllowed i stem g
 with_trim i stem g none a = record {
   assortment = a.assortment;
   exists = a.exists;

@@ -16,36 +16,48 @@ pub record IsCommitted (s : HistoryParts) (x : Posting) (next : Option SheetPart
   pub sheets : s'.sheets ≡ sheets_with s.sheets next
   pub instruction : s'.instruction ≡ s.instruction
 
-committed : (s s' : HistoryParts) (x : Posting) (next : Option SheetParts) → IsCommitted s x next s' → s' ≡ history_with s x next
+committed : (s s' : HistoryParts) (x : Posting) (next : Option SheetParts) → IsCommitted s x next s'
+    → s' ≡ history_with s x next
 committed s s' x next c = λ j. record { instruction = c.instruction j; sheets = c.sheets j; postings = c.postings j }
 
 abbrev pub answered : List Harvester → ℕ → List Harvester
 answered xs h = slice_set xs (h - 1) (record { stage = Answered; seen = (is_at xs h).seen; stale = (is_at xs h).stale })
 
 -- a committed posting of h is added: s was m before the room was made
-pub posting_added : (s m s' : HistoryParts) (xs ys : List Harvester) (front h : ℕ) (x : HistoryParts → Posting) (y : Posting) (next : Option SheetParts)
+pub posting_added : (s m s' : HistoryParts) (xs ys : List Harvester) (front h : ℕ) (x : HistoryParts → Posting)
+    (y : Posting) (next : Option SheetParts)
     → m ≡ s → IsNext m (x m) next → y ≡ x m → IsCommitted m y next s' → ys ≡ answered xs h
     → Adds (world_of s front xs) h (x s) (world_of s' front ys)
 posting_added s m s' xs ys front h x y next same is_next is c now =
-    let after : s' ≡ history_with m (x m) next = committed m s' (x m) next (subst (λ (z : Posting). IsCommitted m z next s') is c) in
+    let after : s' ≡ history_with m (x m) next =
+    committed m s' (x m) next (subst (λ (z : Posting). IsCommitted m z next s') is c) in
     subst (λ (t : HistoryParts). Adds (world_of t front xs) h (x t) (world_of s' front ys)) same
     (next, is_next, λ j. record { history = after j; front = front; harvesters = now j })
 
 -- what was found at h's place, in a list that is xs
-pub found_planned : (xs ys : List Harvester) (h : ℕ) (x : Harvester) (p : PlanParts) → x ≡ is_at ys h → ys ≡ xs → x.stage ≡ Planned p → (is_at xs h).stage ≡ Planned p
-found_planned xs ys h x p at same is = ap (λ (zs : List Harvester). (is_at zs h).stage) (sym same) ∙ ap (λ (z : Harvester). z.stage) (sym at) ∙ is
+pub found_planned : (xs ys : List Harvester) (h : ℕ) (x : Harvester) (p : PlanParts) → x ≡ is_at ys h → ys ≡ xs
+    → x.stage ≡ Planned p → (is_at xs h).stage ≡ Planned p
+found_planned xs ys h x p at same is = ap (λ (zs : List Harvester). (is_at zs h).stage) (sym same)
+    ∙ ap (λ (z : Harvester). z.stage) (sym at) ∙ is
 
 -- a plan of the sheet in force was made under the version in force, and no other plan was
-pub version_is : (s m : HistoryParts) (v : ℕ) (p : PlanParts) → IsPlanUnder s v p → m ≡ s → p.sheet ≡ in_force m → v ≡ version_of s
+pub version_is : (s m : HistoryParts) (v : ℕ) (p : PlanParts) → IsPlanUnder s v p → m ≡ s → p.sheet ≡ in_force m
+    → v ≡ version_of s
 version_is s m v p under same in_force_is =
-    ap (λ (x : SheetParts). x.version) (sym under.sheet_is) ∙ ap (λ (x : SheetParts). x.version) in_force_is ∙ ap version_of same
+    ap (λ (x : SheetParts). x.version) (sym under.sheet_is) ∙ ap (λ (x : SheetParts). x.version) in_force_is
+    ∙ ap version_of same
 
-pub version_is_not : (s : HistoryParts) (v : ℕ) (p : PlanParts) → IsPlanUnder s v p → p.sheet ≢ in_force s → v ≢ version_of s
+pub version_is_not : (s : HistoryParts) (v : ℕ) (p : PlanParts) → IsPlanUnder s v p → p.sheet ≢ in_force s
+    → v ≢ version_of s
 version_is_not s v p under other e = other (under.sheet_is ∙ ap (λ (k : ℕ). sheet_at s.instruction s.sheets k) e)
 
 -- a try that was stale
-pub tried_stale : (s s' : HistoryParts) (xs ys : List Harvester) (front h : ℕ) (p : PlanParts) → s' ≡ s → IsPlanUnder s (is_at xs h).seen p → p.sheet ≢ in_force s
+pub tried_stale : (s s' : HistoryParts) (xs ys : List Harvester) (front h : ℕ) (p : PlanParts) → s' ≡ s
+    → IsPlanUnder s (is_at xs h).seen p → p.sheet ≢ in_force s
     → ys ≡ slice_set xs (h - 1) (record { stage = Idle; seen = (is_at xs h).seen; stale = (is_at xs h).stale + 1 })
     → Tries (world_of s front xs) h p (world_of s' front ys)
 tried_stale s s' xs ys front h p same under other now =
-    inr (version_is_not s (is_at xs h).seen p under other, λ j. record { history = same j; front = front; harvesters = now j })
+    inr (
+      version_is_not s (is_at xs h).seen p under other,
+      λ j. record { history = same j; front = front; harvesters = now j },
+    )

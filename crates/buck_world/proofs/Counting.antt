@@ -33,7 +33,9 @@ by_other h e n not = ap (λ (t : Bool). cond t n 0) (ne_eqb (harvester_of_event 
 
 -- one raise of the front, by 1 at most
 raise_is : (front version : ℕ) → front ≤ version → version ≤ front + 1 → one_if_more front version + front ≡ version
-raise_is front version a b = decided (λ (h : front < version). let e = one_more front version h in omega arith) (λ (h : front < version → ⊥). let e = none_more front version (omega arith) in omega arith) (dec_lt front version)
+raise_is front version a b =
+    decided (λ (h : front < version). let e = one_more front version h in omega arith)
+    (λ (h : front < version → ⊥). let e = none_more front version (omega arith) in omega arith) (dec_lt front version)
 
 front_kept : (w w' x : WorldParts) → w' ≡ x → x.front ≡ w.front → 0 + w.front ≡ w'.front
 front_kept w w' x e f = let g = ap (λ (y : WorldParts). y.front) e in omega arith
@@ -45,47 +47,64 @@ front_after w w' (Plan h stem) s (a, f) = front_kept w w' _ f.3 refl
 front_after w w' (Try h) s (a, f) = ⊎_elim (λ k. front_kept w w' _ k.1.2 refl) (λ k. front_kept w w' _ k.1 refl) f.2
 front_after w w' (Locked h stem) s (a, f) = front_kept w w' _ f.3.2 refl
 front_after w w' (Retarget h targets) s (a, f) = front_kept w w' _ f.1.2 refl
-front_after w w' (Raise h) s (a, f) = subst (λ (y : WorldParts). lift_at w (Raise h) y + w.front ≡ y.front) (sym f) (raise_is w.front (version_of w.history) s.world.front_low s.next)
+front_after w w' (Raise h) s (a, f) =
+    subst (λ (y : WorldParts). lift_at w (Raise h) y + w.front ≡ y.front) (sym f)
+    (raise_is w.front (version_of w.history) s.world.front_low s.next)
 front_after w w' (Leave h) s (a, f) = front_kept w w' _ f refl
 
-pub lifts_are_front : (w : WorldParts) (moves : List Move) → IsSound w → IsRun w moves → all_lifts w moves + w.front ≡ (last w moves).front
+pub lifts_are_front : (w : WorldParts) (moves : List Move) → IsSound w → IsRun w moves
+    → all_lifts w moves + w.front ≡ (last w moves).front
 lifts_are_front w [] s r = omega arith
 lifts_are_front w (m ∷ ms) s r =
-    let a = front_after w m.after m.event s r.0 in let b = lifts_are_front m.after ms (stays_sound w m.after m.event s r.0) r.1 in omega arith
+    let a = front_after w m.after m.event s r.0 in let b =
+    lifts_are_front m.after ms (stays_sound w m.after m.event s r.0) r.1 in omega arith
 
 -- only the event's harvester changes
-changed : (w w' : WorldParts) (e : Event) → IsSound w → Step w e w' → (x : Harvester) × (w'.harvesters ≡ set w.harvesters (harvester_of_event e - 1) x)
+changed : (w w' : WorldParts) (e : Event) → IsSound w → Step w e w'
+    → (x : Harvester) × (w'.harvesters ≡ set w.harvesters (harvester_of_event e - 1) x)
 changed w w' e s step = ⊎_elim
     (λ q. (q.now, ap (λ (z : WorldParts). z.harvesters) q.is))
-    (λ more. ⊎_elim (λ a. (_, ap (λ (z : WorldParts). z.harvesters) a.is)) (λ r. (_, ap (λ (z : WorldParts). z.harvesters) r.is)) more)
+    (λ more. ⊎_elim (λ a. (_, ap (λ (z : WorldParts). z.harvesters) a.is))
+    (λ r. (_, ap (λ (z : WorldParts). z.harvesters) r.is)) more)
     (move_of w w' e s step)
 
-pub foreign : (w w' : WorldParts) (e : Event) (g : ℕ) → IsSound w → Step w e w' → 1 ≤ g → g ≢ harvester_of_event e → at w' g ≡ at w g
+pub foreign : (w w' : WorldParts) (e : Event) (g : ℕ) → IsSound w → Step w e w' → 1 ≤ g → g ≢ harvester_of_event e
+    → at w' g ≡ at w g
 foreign w w' e g s step low other =
-    let c = changed w w' e s step in ap (λ (hs : List Harvester). get_or hs (g - 1) newcomer) c.1 ∙ elsewhere w.harvesters (harvester_of_event e) g c.0 newcomer (in_range w w' e step).0 low other
+    let c = changed w w' e s step in ap (λ (hs : List Harvester). get_or hs (g - 1) newcomer) c.1
+    ∙ elsewhere w.harvesters (harvester_of_event e) g c.0 newcomer (in_range w w' e step).0 low other
 
 -- k events of h so far: no more than the front, and while an attempt goes on no more than the version that it saw
 pub record IsWithin (w : WorldParts) (h k : ℕ) : Type 0 where
   pub front : k ≤ w.front
   pub seen : IsGoing (at w h).stage → k ≤ (at w h).seen
 
-pub at_here : (w w' x : WorldParts) (h : ℕ) (y : Harvester) → w' ≡ x → x.harvesters ≡ set w.harvesters (h - 1) y → IsHarvester w h → at w' h ≡ y
-at_here w w' x h y e f h_in = ap (λ (hs : List Harvester). get_or hs (h - 1) newcomer) (ap (λ (z : WorldParts). z.harvesters) e ∙ f) ∙ here w.harvesters h y newcomer h_in.0 h_in.1
+pub at_here : (w w' x : WorldParts) (h : ℕ) (y : Harvester) → w' ≡ x → x.harvesters ≡ set w.harvesters (h - 1) y
+    → IsHarvester w h → at w' h ≡ y
+at_here w w' x h y e f h_in =
+    ap (λ (hs : List Harvester). get_or hs (h - 1) newcomer) (ap (λ (z : WorldParts). z.harvesters) e ∙ f)
+    ∙ here w.harvesters h y newcomer h_in.0 h_in.1
 
-within_after : (w' : WorldParts) (h n front : ℕ) (y : Harvester) → at w' h ≡ y → w'.front ≡ front → n ≤ front → (IsGoing y.stage → n ≤ y.seen) → IsWithin w' h n
+within_after : (w' : WorldParts) (h n front : ℕ) (y : Harvester) → at w' h ≡ y → w'.front ≡ front → n ≤ front
+    → (IsGoing y.stage → n ≤ y.seen) → IsWithin w' h n
 within_after w' h n front y e f low going = record {
   front = omega arith;
   seen = λ g. subst (λ (z : Harvester). n ≤ z.seen) (sym e) (going (subst (λ (z : Harvester). IsGoing z.stage) e g));
 }
 
-own : (w w' : WorldParts) (e : Event) (n k : ℕ) → IsSound w → Step w e w' → IsFreshAt w e → IsWithin w (harvester_of_event e) k → n ≡ stale_at w e w' + lift_at w e w' + k → IsWithin w' (harvester_of_event e) n
+own : (w w' : WorldParts) (e : Event) (n k : ℕ) → IsSound w → Step w e w' → IsFreshAt w e
+    → IsWithin w (harvester_of_event e) k → n ≡ stale_at w e w' + lift_at w e w' + k
+    → IsWithin w' (harvester_of_event e) n
 own w w' (Read h v) n k s (a, f) fresh within e =
     let y : Harvester = record { stage = Reading; seen = v; stale = (at w h).stale } in let low = within.front in
-    within_after w' h n w.front y (at_here w w' _ h y f refl a.0) (ap (λ (z : WorldParts). z.front) f) (omega arith) (λ _. omega (arith, fresh))
+    within_after w' h n w.front y (at_here w w' _ h y f refl a.0) (ap (λ (z : WorldParts). z.front) f) (omega arith)
+    (λ _. omega (arith, fresh))
 own w w' (Plan h stem) n k s (a, (p, is_stem, under, f)) fresh within e =
-    let y : Harvester = record { stage = Planned p; seen = (at w h).seen; stale = (at w h).stale } in let low = within.front in
+    let y : Harvester = record { stage = Planned p; seen = (at w h).seen; stale = (at w h).stale } in let low =
+    within.front in
     let going : k ≤ (at w h).seen = within.seen (subst (λ (q : Stage). IsGoing q) (sym a.1) tt) in
-    within_after w' h n w.front y (at_here w w' _ h y f refl a.0) (ap (λ (z : WorldParts). z.front) f) (omega arith) (λ _. omega arith)
+    within_after w' h n w.front y (at_here w w' _ h y f refl a.0) (ap (λ (z : WorldParts). z.front) f) (omega arith)
+    (λ _. omega arith)
 own w w' (Try h) n k s (a, (p, is, t)) fresh within e = ⊎_elim
     (λ (c : ((at w h).seen ≡ version_of w.history) × Adds w h (Cut (entry_of w.history h p)) w').
     let y : Harvester = record { stage = Answered; seen = (at w h).seen; stale = (at w h).stale } in
@@ -94,7 +113,8 @@ own w w' (Try h) n k s (a, (p, is, t)) fresh within e = ⊎_elim
     let z : one_if_more (at w h).stale (at w' h).stale ≡ 0 = none_more (at w h).stale (at w' h).stale (omega arith) in
     let low = within.front in
     within_after w' h n w.front y now (ap (λ (z : WorldParts). z.front) c.1.2) (omega arith) (λ f. absurd f))
-    (λ (c : ((at w h).seen ≢ version_of w.history) × (w' ≡ with_harvester w h (record { stage = Idle; seen = (at w h).seen; stale = (at w h).stale + 1 }))).
+    (λ (c : ((at w h).seen ≢ version_of w.history)
+    × (w' ≡ with_harvester w h (record { stage = Idle; seen = (at w h).seen; stale = (at w h).stale + 1 }))).
     let y : Harvester = record { stage = Idle; seen = (at w h).seen; stale = (at w h).stale + 1 } in
     let now : at w' h ≡ y = at_here w w' (with_harvester w h y) h y c.1 refl a.0 in
     let more : (at w' h).stale ≡ (at w h).stale + 1 = ap (λ (z : Harvester). z.stale) now in
@@ -106,33 +126,45 @@ own w w' (Try h) n k s (a, (p, is, t)) fresh within e = ⊎_elim
     within_after w' h n w.front y now (ap (λ (z : WorldParts). z.front) c.1) (omega arith) (λ f. absurd f))
     t
 own w w' (Locked h stem) n k s (a, f) fresh within e =
-    let y : Harvester = record { stage = Answered; seen = (at w h).seen; stale = (at w h).stale } in let low = within.front in
-    within_after w' h n w.front y (at_here w w' _ h y f.3.2 refl a.0) (ap (λ (z : WorldParts). z.front) f.3.2) (omega arith) (λ g. absurd g)
+    let y : Harvester = record { stage = Answered; seen = (at w h).seen; stale = (at w h).stale } in let low =
+    within.front in
+    within_after w' h n w.front y (at_here w w' _ h y f.3.2 refl a.0) (ap (λ (z : WorldParts). z.front) f.3.2)
+    (omega arith) (λ g. absurd g)
 own w w' (Retarget h targets) n k s (a, f) fresh within e =
-    let y : Harvester = record { stage = Answered; seen = (at w h).seen; stale = (at w h).stale } in let low = within.front in
-    within_after w' h n w.front y (at_here w w' _ h y f.1.2 refl a.0) (ap (λ (z : WorldParts). z.front) f.1.2) (omega arith) (λ g. absurd g)
+    let y : Harvester = record { stage = Answered; seen = (at w h).seen; stale = (at w h).stale } in let low =
+    within.front in
+    within_after w' h n w.front y (at_here w w' _ h y f.1.2 refl a.0) (ap (λ (z : WorldParts). z.front) f.1.2)
+    (omega arith) (λ g. absurd g)
 own w w' (Raise h) n k s (a, f) fresh within e =
     let y : Harvester = record { stage = Idle; seen = version_of w.history; stale = 0 } in let low = within.front in
     let lift : lift_at w (Raise h) w' + w.front ≡ w'.front = front_after w w' (Raise h) s (a, f) in
     within_after w' h n w'.front y (at_here w w' _ h y f refl a.0) refl (omega arith) (λ g. absurd g)
 own w w' (Leave h) n k s (a, f) fresh within e =
     let y : Harvester = record { stage = Idle; seen = (at w h).seen; stale = 0 } in let low = within.front in
-    within_after w' h n w.front y (at_here w w' _ h y f refl a.0) (ap (λ (z : WorldParts). z.front) f) (omega arith) (λ g. absurd g)
+    within_after w' h n w.front y (at_here w w' _ h y f refl a.0) (ap (λ (z : WorldParts). z.front) f) (omega arith)
+    (λ g. absurd g)
 
 -- one more event
-within_step : (w w' : WorldParts) (e : Event) (h k : ℕ) → IsSound w → Step w e w' → IsFreshAt w e → 1 ≤ h → IsWithin w h k → IsWithin w' h (if_by h e (stale_at w e w') + if_by h e (lift_at w e w') + k)
+within_step : (w w' : WorldParts) (e : Event) (h k : ℕ) → IsSound w → Step w e w' → IsFreshAt w e → 1 ≤ h
+    → IsWithin w h k → IsWithin w' h (if_by h e (stale_at w e w') + if_by h e (lift_at w e w') + k)
 within_step w w' e h k s step fresh low within = decided
-    (λ (is : harvester_of_event e ≡ h). let a = by_self h e (stale_at w e w') is in let b = by_self h e (lift_at w e w') is in
+    (λ (is : harvester_of_event e ≡ h). let a = by_self h e (stale_at w e w') is in let b =
+    by_self h e (lift_at w e w') is in
     subst (λ (g : ℕ). IsWithin w' g (if_by h e (stale_at w e w') + if_by h e (lift_at w e w') + k)) is
     (own w w' e _ k s step fresh (subst (λ (g : ℕ). IsWithin w g k) (sym is) within) (omega arith)))
-    (λ (not : harvester_of_event e ≢ h). let a = by_other h e (stale_at w e w') not in let b = by_other h e (lift_at w e w') not in let f = front_after w w' e s step in let few = within.front in
-    within_after w' h _ w'.front (at w h) (foreign w w' e h s step low (λ q. not (sym q))) refl (omega arith) (λ g. let seen = within.seen g in omega arith))
+    (λ (not : harvester_of_event e ≢ h). let a = by_other h e (stale_at w e w') not in let b =
+    by_other h e (lift_at w e w') not in let f = front_after w w' e s step in let few = within.front in
+    within_after w' h _ w'.front (at w h) (foreign w w' e h s step low (λ q. not (sym q))) refl (omega arith)
+    (λ g. let seen = within.seen g in omega arith))
     (ℕ_discrete (harvester_of_event e) h)
 
-pub stale_and_lifts : (w : WorldParts) (moves : List Move) (h k : ℕ) → IsSound w → IsRun w moves → IsFresh w moves → 1 ≤ h → IsWithin w h k → stale_of h w moves + lifts_of h w moves + k ≤ (last w moves).front
+pub stale_and_lifts : (w : WorldParts) (moves : List Move) (h k : ℕ) → IsSound w → IsRun w moves → IsFresh w moves
+    → 1 ≤ h → IsWithin w h k → stale_of h w moves + lifts_of h w moves + k ≤ (last w moves).front
 stale_and_lifts w [] h k s r f low within = let a = within.front in omega arith
 stale_and_lifts w (m ∷ ms) h k s r f low within =
-    let rest = stale_and_lifts m.after ms h _ (stays_sound w m.after m.event s r.0) r.1 f.1 low (within_step w m.after m.event h k s r.0 f.0 low within) in omega arith
+    let rest =
+    stale_and_lifts m.after ms h _ (stays_sound w m.after m.event s r.0) r.1 f.1 low
+    (within_step w m.after m.event h k s r.0 f.0 low within) in omega arith
 
 -- sums over the harvesters from 1 to n
 sum_to : (ℕ → ℕ) → ℕ → ℕ
@@ -152,46 +184,64 @@ sum_to_zero (suc n) = let a = sum_to_zero n in omega arith
 sum_to_bound : (f : ℕ → ℕ) (n top : ℕ) → ((h : ℕ) → 1 ≤ h → h ≤ n → f h ≤ top) → sum_to f n ≤ n * top
 unfolding sum_to
 sum_to_bound f zero top low = omega arith
-sum_to_bound f (suc n) top low = let a = sum_to_bound f n top (λ h p q. low h p (omega arith)) in let b = low (suc n) (omega arith) (omega arith) in omega arith
+sum_to_bound f (suc n) top low = let a = sum_to_bound f n top (λ h p q. low h p (omega arith)) in let b =
+    low (suc n) (omega arith) (omega arith) in omega arith
 
 -- one harvester's event is counted once
 sum_to_past : (e : Event) (x n : ℕ) → n < harvester_of_event e → sum_to (λ h. if_by h e x) n ≡ 0
 unfolding sum_to
 sum_to_past e x zero past = refl
-sum_to_past e x (suc n) past = let a = sum_to_past e x n (omega arith) in let b = by_other (suc n) e x (λ q. omega arith) in omega arith
+sum_to_past e x (suc n) past = let a = sum_to_past e x n (omega arith) in let b =
+    by_other (suc n) e x (λ q. omega arith) in omega arith
 
-sum_to_one : (e : Event) (x n : ℕ) → 1 ≤ harvester_of_event e → harvester_of_event e ≤ n → sum_to (λ h. if_by h e x) n ≡ x
+sum_to_one : (e : Event) (x n : ℕ) → 1 ≤ harvester_of_event e → harvester_of_event e ≤ n
+    → sum_to (λ h. if_by h e x) n ≡ x
 unfolding sum_to
 sum_to_one e x zero low high = absurd (omega arith)
 sum_to_one e x (suc n) low high = decided
-    (λ (is : harvester_of_event e ≡ suc n). let a = sum_to_past e x n (omega arith) in let b = by_self (suc n) e x is in omega arith)
-    (λ (not : harvester_of_event e ≢ suc n). let a = sum_to_one e x n low (omega arith) in let b = by_other (suc n) e x not in omega arith)
+    (λ (is : harvester_of_event e ≡ suc n). let a = sum_to_past e x n (omega arith) in let b = by_self (suc n) e x is in
+    omega arith)
+    (λ (not : harvester_of_event e ≢ suc n). let a = sum_to_one e x n low (omega arith) in let b =
+    by_other (suc n) e x not in omega arith)
     (ℕ_discrete (harvester_of_event e) (suc n))
 
-sum_of_stale : (w : WorldParts) (moves : List Move) (n : ℕ) → IsSound w → length w.harvesters ≡ n → IsRun w moves → sum_to (λ h. stale_of h w moves) n ≡ all_stale w moves
+sum_of_stale : (w : WorldParts) (moves : List Move) (n : ℕ) → IsSound w → length w.harvesters ≡ n → IsRun w moves
+    → sum_to (λ h. stale_of h w moves) n ≡ all_stale w moves
 sum_of_stale w [] n s is r = sum_to_zero n
 sum_of_stale w (m ∷ ms) n s is r =
-    let e = m.event in let x = stale_at w e m.after in let h_in = in_range w m.after e r.0 in let high : harvester_of_event e ≤ length w.harvesters = h_in.1 in
-    let a = sum_to_plus (λ h. if_by h e x) (λ h. stale_of h m.after ms) n in let b = sum_to_one e x n h_in.0 (omega arith) in
-    let c = sum_of_stale m.after ms n (stays_sound w m.after e s r.0) ((same_number w m.after e s r.0).0 ∙ is) r.1 in a ∙ (omega (arith, b, c))
+    let e = m.event in let x = stale_at w e m.after in let h_in = in_range w m.after e r.0 in
+    let high : harvester_of_event e ≤ length w.harvesters = h_in.1 in
+    let a = sum_to_plus (λ h. if_by h e x) (λ h. stale_of h m.after ms) n in let b =
+    sum_to_one e x n h_in.0 (omega arith) in
+    let c = sum_of_stale m.after ms n (stays_sound w m.after e s r.0) ((same_number w m.after e s r.0).0 ∙ is) r.1 in a
+    ∙ (omega (arith, b, c))
 
-sum_of_lifts : (w : WorldParts) (moves : List Move) (n : ℕ) → IsSound w → length w.harvesters ≡ n → IsRun w moves → sum_to (λ h. lifts_of h w moves) n ≡ all_lifts w moves
+sum_of_lifts : (w : WorldParts) (moves : List Move) (n : ℕ) → IsSound w → length w.harvesters ≡ n → IsRun w moves
+    → sum_to (λ h. lifts_of h w moves) n ≡ all_lifts w moves
 sum_of_lifts w [] n s is r = sum_to_zero n
 sum_of_lifts w (m ∷ ms) n s is r =
-    let e = m.event in let x = lift_at w e m.after in let h_in = in_range w m.after e r.0 in let high : harvester_of_event e ≤ length w.harvesters = h_in.1 in
-    let a = sum_to_plus (λ h. if_by h e x) (λ h. lifts_of h m.after ms) n in let b = sum_to_one e x n h_in.0 (omega arith) in
-    let c = sum_of_lifts m.after ms n (stays_sound w m.after e s r.0) ((same_number w m.after e s r.0).0 ∙ is) r.1 in a ∙ (omega (arith, b, c))
+    let e = m.event in let x = lift_at w e m.after in let h_in = in_range w m.after e r.0 in
+    let high : harvester_of_event e ≤ length w.harvesters = h_in.1 in
+    let a = sum_to_plus (λ h. if_by h e x) (λ h. lifts_of h m.after ms) n in let b =
+    sum_to_one e x n h_in.0 (omega arith) in
+    let c = sum_of_lifts m.after ms n (stays_sound w m.after e s r.0) ((same_number w m.after e s r.0).0 ∙ is) r.1 in a
+    ∙ (omega (arith, b, c))
 
 fewer : (n stale front version : ℕ) → stale + front ≤ n * front → front ≤ version → stale ≤ (n - 1) * version
 fewer zero stale front version a b = omega arith
-fewer (suc n) stale front version a b = let c : n * front ≤ n * version = mul-le-mul_left n b in let d : suc n - 1 ≡ n = omega arith in
+fewer (suc n) stale front version a b = let c : n * front ≤ n * version = mul-le-mul_left n b in let d : suc n - 1 ≡ n =
+    omega arith in
     subst (λ (k : ℕ). stale ≤ k * version) (sym d) (omega arith)
 
-pub all_stale_within : (w : WorldParts) (moves : List Move) (n : ℕ) → IsSound w → length w.harvesters ≡ n → w.front ≡ 0 → IsRun w moves → IsFresh w moves → IsSound (last w moves)
+pub all_stale_within : (w : WorldParts) (moves : List Move) (n : ℕ) → IsSound w → length w.harvesters ≡ n → w.front ≡ 0
+    → IsRun w moves → IsFresh w moves → IsSound (last w moves)
     → all_stale w moves ≤ (n - 1) * version_of (last w moves).history
 all_stale_within w moves n s is none r f end =
     let a = sum_to_bound (λ h. stale_of h w moves + lifts_of h w moves) n (last w moves).front
-    (λ h low high. let b = stale_and_lifts w moves h 0 s r f low record { front = omega arith; seen = λ _. omega arith } in omega arith) in
-    let c = sum_to_plus (λ h. stale_of h w moves) (λ h. lifts_of h w moves) n in let d = sum_of_stale w moves n s is r in let l = sum_of_lifts w moves n s is r in
+    (λ h low high. let b =
+    stale_and_lifts w moves h 0 s r f low record { front = omega arith; seen = λ _. omega arith } in omega arith) in
+    let c = sum_to_plus (λ h. stale_of h w moves) (λ h. lifts_of h w moves) n in let d =
+    sum_of_stale w moves n s is r in let l = sum_of_lifts w moves n s is r in
     let g = lifts_are_front w moves s r in
-    fewer n (all_stale w moves) (last w moves).front (version_of (last w moves).history) (omega (arith, a, c, d, l, g)) end.world.front_low
+    fewer n (all_stale w moves) (last w moves).front (version_of (last w moves).history) (omega (arith, a, c, d, l, g))
+    end.world.front_low

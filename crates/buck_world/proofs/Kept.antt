@@ -24,7 +24,8 @@ use Rattle.buck_world.proofs.Sound.{stays_sound, opening_sound}
 
 -- the front is at most the version in force, which is at most the number of postings
 front_low : (w : WorldParts) → IsSound w → w.front ≤ length w.history.postings
-front_low w s = let a = s.world.front_low in let b = ends-le w.history.instruction.period 0 w.history.postings in omega arith
+front_low w s = let a = s.world.front_low in let b = ends-le w.history.instruction.period 0 w.history.postings in
+    omega arith
 
 keeps_all : {F : Type 0} (r : RuledWorld F) → IsSound r.world → IsInstruction r.world.history.instruction
     → length r.world.history.postings ≤ r.capacity → r.capacity ≤ 1000000 → length r.world.harvesters ≤ 64 → Keeps r
@@ -37,7 +38,9 @@ keeps_all r s valid within range few = record {
       bounded = let low = front_low r.world s in omega arith;
       newest = All-map (λ v. v ≤ r.world.front) (λ (x : Harvester). x.seen) r.world.harvesters
           (All-from_get_or (λ (x : Harvester). x.seen ≤ r.world.front) r.world.harvesters newcomer
-          (λ k low. let same : k + 1 - 1 ≡ k = omega arith in subst (λ (j : ℕ). (get_or r.world.harvesters j newcomer).seen ≤ r.world.front) same (s.world.fits (k + 1) (omega arith, omega arith)).seen));
+          (λ k low. let same : k + 1 - 1 ≡ k = omega arith in
+          subst (λ (j : ℕ). (get_or r.world.harvesters j newcomer).seen ≤ r.world.front) same
+          (s.world.fits (k + 1) (omega arith, omega arith)).seen));
     };
     within = within;
     capacity_range = range;
@@ -46,32 +49,50 @@ keeps_all r s valid within range few = record {
 }
 
 -- an event that adds nothing
-none_more : (n : ℕ) (w w' x : WorldParts) → w' ≡ x → x.history.postings ≡ w.history.postings → length w.history.postings ≤ n → length w'.history.postings ≤ n
-none_more n w w' x e f low = let g = ap (λ (y : WorldParts). length y.history.postings) e in let k = ap length f in omega arith
+none_more : (n : ℕ) (w w' x : WorldParts) → w' ≡ x → x.history.postings ≡ w.history.postings
+    → length w.history.postings ≤ n → length w'.history.postings ≤ n
+none_more n w w' x e f low = let g = ap (λ (y : WorldParts). length y.history.postings) e in let k = ap length f in
+    omega arith
 
-one_more : (n : ℕ) (w w' : WorldParts) (h : ℕ) (x : Posting) → Adds w h x w' → length w.history.postings < n → length w'.history.postings ≤ n
-one_more n w w' h x a low = let g = ap (λ (y : WorldParts). length y.history.postings) a.2 in let k = length_push w.history.postings x in omega arith
+one_more : (n : ℕ) (w w' : WorldParts) (h : ℕ) (x : Posting) → Adds w h x w' → length w.history.postings < n
+    → length w'.history.postings ≤ n
+one_more n w w' h x a low = let g = ap (λ (y : WorldParts). length y.history.postings) a.2 in let k =
+    length_push w.history.postings x in omega arith
 
-within_after : {F : Type 0} (r : RuledWorld F) (e : Event) (w' : WorldParts) → length r.world.history.postings ≤ r.capacity → Step r.world e w' → HasRoom r e → length w'.history.postings ≤ r.capacity
+within_after : {F : Type 0} (r : RuledWorld F) (e : Event) (w' : WorldParts)
+    → length r.world.history.postings ≤ r.capacity → Step r.world e w' → HasRoom r e
+    → length w'.history.postings ≤ r.capacity
 within_after r (Read h v) w' low (a, f) room = none_more r.capacity r.world w' _ f refl low
 within_after r (Plan h stem) w' low (a, f) room = none_more r.capacity r.world w' _ f.3 refl low
-within_after r (Try h) w' low (a, f) room = ⊎_elim (λ k. one_more r.capacity r.world w' h _ k.1 room) (λ k. none_more r.capacity r.world w' _ k.1 refl low) f.2
+within_after r (Try h) w' low (a, f) room =
+    ⊎_elim (λ k. one_more r.capacity r.world w' h _ k.1 room) (λ k. none_more r.capacity r.world w' _ k.1 refl low) f.2
 within_after r (Locked h stem) w' low (a, f) room = one_more r.capacity r.world w' h _ f.3 room
 within_after r (Retarget h targets) w' low (a, f) room = one_more r.capacity r.world w' h _ f.1 room.0
 within_after r (Raise h) w' low (a, f) room = none_more r.capacity r.world w' _ f refl low
 within_after r (Leave h) w' low (a, f) room = none_more r.capacity r.world w' _ f refl low
 
 -- neither the instruction nor the number of harvesters changes
-pub same_number : (w w' : WorldParts) (e : Event) → IsSound w → Step w e w' → (length w'.harvesters ≡ length w.harvesters) × (w'.history.instruction ≡ w.history.instruction)
+pub same_number : (w w' : WorldParts) (e : Event) → IsSound w → Step w e w'
+    → (length w'.harvesters ≡ length w.harvesters) × (w'.history.instruction ≡ w.history.instruction)
 same_number w w' e s step = ⊎_elim
-    (λ q. (ap (λ (y : WorldParts). length y.harvesters) q.is ∙ length-set w.harvesters _ q.now, ap (λ (y : WorldParts). y.history.instruction) q.is))
+    (λ q. (
+      ap (λ (y : WorldParts). length y.harvesters) q.is ∙ length-set w.harvesters _ q.now,
+      ap (λ (y : WorldParts). y.history.instruction) q.is,
+    ))
     (λ more. ⊎_elim
-    (λ a. (ap (λ (y : WorldParts). length y.harvesters) a.is ∙ length-set w.harvesters _ _, ap (λ (y : WorldParts). y.history.instruction) a.is))
-    (λ r. (ap (λ (y : WorldParts). length y.harvesters) r.is ∙ length-set w.harvesters _ _, ap (λ (y : WorldParts). y.history.instruction) r.is))
+    (λ a. (
+      ap (λ (y : WorldParts). length y.harvesters) a.is ∙ length-set w.harvesters _ _,
+      ap (λ (y : WorldParts). y.history.instruction) a.is,
+    ))
+    (λ r. (
+      ap (λ (y : WorldParts). length y.harvesters) r.is ∙ length-set w.harvesters _ _,
+      ap (λ (y : WorldParts). y.history.instruction) r.is,
+    ))
     more)
     (move_of w w' e s step)
 
-pub keeps_step : {F : Type 0} (r : RuledWorld F) (rule : F) (capacity : ℕ) (e : Event) (w' : WorldParts) → Keeps r → capacity ≡ r.capacity → Step r.world e w' → HasRoom r e
+pub keeps_step : {F : Type 0} (r : RuledWorld F) (rule : F) (capacity : ℕ) (e : Event) (w' : WorldParts) → Keeps r
+    → capacity ≡ r.capacity → Step r.world e w' → HasRoom r e
     → Keeps {F = F} record { rule = rule; capacity = capacity; world = w' }
 keeps_step r rule capacity e w' k same step room =
     let n = same_number r.world w' e k.sound step in
@@ -82,45 +103,64 @@ keeps_step r rule capacity e w' k same step room =
     keeps_all record { rule = rule; capacity = capacity; world = w' } (stays_sound r.world w' e k.sound step)
     (subst (λ (i : InstructionParts). IsInstruction i) (sym n.1) k.kept.valid) (omega arith) (omega arith) (omega arith)
 
-pub keeps_opening : {F : Type 0} (rule : F) (capacity : ℕ) (s : HistoryParts) (xs : List Harvester) (i : InstructionParts) (n : ℕ)
-    → s.instruction ≡ i → s.sheets ≡ base_prices i ∷ [] → s.postings ≡ [] → xs ≡ replicate n newcomer → IsInstruction s.instruction → capacity ≤ 1000000 → n ≤ 64
+pub keeps_opening : {F : Type 0} (rule : F) (capacity : ℕ) (s : HistoryParts) (xs : List Harvester)
+    (i : InstructionParts) (n : ℕ)
+    → s.instruction ≡ i → s.sheets ≡ base_prices i ∷ [] → s.postings ≡ [] → xs ≡ replicate n newcomer
+    → IsInstruction s.instruction → capacity ≤ 1000000 → n ≤ 64
     → Keeps {F = F} record { rule = rule; capacity = capacity; world = world_of s 0 xs }
 keeps_opening {F} rule capacity s xs i n same sheets none all valid range few =
     let l = length-replicate n newcomer in
-    let is : world_of s 0 xs ≡ opening i n = λ j. record { history = record { instruction = same j; sheets = sheets j; postings = none j }; front = 0; harvesters = all j } in
+    let is : world_of s 0 xs ≡ opening i n =
+    λ j. record {
+      history = record { instruction = same j; sheets = sheets j; postings = none j };
+      front =
+          0;
+      harvesters = all j;
+    } in
     subst (λ (w : WorldParts). Keeps {F = F} record { rule = rule; capacity = capacity; world = w }) (sym is)
-    (keeps_all record { rule = rule; capacity = capacity; world = opening i n } (opening_sound i n) (subst (λ (k : InstructionParts). IsInstruction k) same valid) (omega arith) range (omega arith))
+    (keeps_all record { rule = rule; capacity = capacity; world = opening i n } (opening_sound i n)
+    (subst (λ (k : InstructionParts). IsInstruction k) same valid) (omega arith) range (omega arith))
 
 -- r was d before it was opened
-pub keeps_same : {F : Type 0} (r d : RuledWorld F) (e : Event) (w' : WorldParts) → r ≡ d → Keeps r → Allowed d.world e → Follows r.world e w' → ((x : RuledWorld F) → HasRoom x e)
+pub keeps_same : {F : Type 0} (r d : RuledWorld F) (e : Event) (w' : WorldParts) → r ≡ d → Keeps r → Allowed d.world e
+    → Follows r.world e w' → ((x : RuledWorld F) → HasRoom x e)
     → Keeps {F = F} record { rule = r.rule; capacity = r.capacity; world = w' }
 keeps_same r d e w' is k allowed follows room =
     keeps_step r r.rule r.capacity e w' k refl (subst (λ x. Allowed x.world e) (sym is) allowed, follows) (room r)
 
 -- what an event that goes to the book leaves, be it refused or not
-module _ {F : Type 0} (r d : RuledWorld F) (e : Event) (rule : F) (capacity : ℕ) (s' : HistoryParts) (xs' : List Harvester) (is : r ≡ d) where
+module _ {F : Type 0} (r d : RuledWorld F) (e : Event) (rule : F) (capacity : ℕ) (s' : HistoryParts)
+    (xs' : List Harvester) (is : r ≡ d) where
   pub keeps_act : (result : Result (Unit {0}) StepFault) → Keeps r → Allowed d.world e → capacity ≡ r.capacity
-      → OnOk result ((front : ℕ) → Follows (world_of r.world.history front r.world.harvesters) e (world_of s' front xs')) → OnOk result (HasRoom r e)
+      → OnOk result
+      ((front : ℕ) → Follows (world_of r.world.history front r.world.harvesters) e (world_of s' front xs'))
+      → OnOk result (HasRoom r e)
       → OnErr result ((s' ≡ r.world.history) × (xs' ≡ r.world.harvesters))
       → Keeps {F = F} record { rule = rule; capacity = capacity; world = world_of s' r.world.front xs' }
   keeps_act (Ok x) k allowed same follows room left =
-      keeps_step r rule capacity e (world_of s' r.world.front xs') k same (subst (λ y. Allowed y.world e) (sym is) allowed, follows r.world.front) room
+      keeps_step r rule capacity e (world_of s' r.world.front xs') k same
+      (subst (λ y. Allowed y.world e) (sym is) allowed, follows r.world.front) room
   keeps_act (Err f) k allowed same follows room left =
-      let w_is : world_of s' r.world.front xs' ≡ r.world = λ j. record { history = left.0 j; front = r.world.front; harvesters = left.1 j } in
+      let w_is : world_of s' r.world.front xs' ≡ r.world =
+      λ j. record { history = left.0 j; front = r.world.front; harvesters = left.1 j } in
       let few = k.kept.harvesters_range in
       let range = k.kept.capacity_range in
       let within = k.kept.within in
       subst (λ (w : WorldParts). Keeps {F = F} record { rule = rule; capacity = capacity; world = w }) (sym w_is)
-      (keeps_all record { rule = rule; capacity = capacity; world = r.world } k.sound k.kept.valid (omega arith) (omega arith) few)
+      (keeps_all record { rule = rule; capacity = capacity; world = r.world } k.sound k.kept.valid (omega arith)
+      (omega arith) few)
 
   pub steps_act : (result : Result (Unit {0}) StepFault) → Allowed d.world e
-      → OnOk result ((front : ℕ) → Follows (world_of r.world.history front r.world.harvesters) e (world_of s' front xs'))
+      → OnOk result
+      ((front : ℕ) → Follows (world_of r.world.history front r.world.harvesters) e (world_of s' front xs'))
       → OnOk result (Step d.world e (world_of s' r.world.front xs'))
-  steps_act (Ok x) allowed follows = (allowed, subst (λ y. Follows y.world e (world_of s' r.world.front xs')) is (follows r.world.front))
+  steps_act (Ok x) allowed follows =
+      (allowed, subst (λ y. Follows y.world e (world_of s' r.world.front xs')) is (follows r.world.front))
   steps_act (Err f) allowed follows = tt
 
 -- one harvester was put at something
-pub set_is : (s : HistoryParts) (front h : ℕ) (xs ys : List Harvester) (x y : Harvester) → ys ≡ set xs (h - 1) x → x ≡ y → world_of s front ys ≡ with_harvester (world_of s front xs) h y
+pub set_is : (s : HistoryParts) (front h : ℕ) (xs ys : List Harvester) (x y : Harvester) → ys ≡ set xs (h - 1) x → x ≡ y
+    → world_of s front ys ≡ with_harvester (world_of s front xs) h y
 set_is s front h xs ys x y e same =
     let now : ys ≡ set xs (h - 1) y = e ∙ ap (λ (z : Harvester). set xs (h - 1) z) same in
     λ j. record { history = s; front = front; harvesters = now j }
@@ -131,6 +171,8 @@ pub raised_is : (s : HistoryParts) (front front' seen stale h : ℕ) (xs ys : Li
     → front' ≡ version_of s → seen ≡ version_of s → stale ≡ 0
     → world_of s front' ys ≡ with_front (world_of s front xs) h
 raised_is s front front' seen stale h xs ys x is e raised saw none =
-    let same : x ≡ record { stage = Idle; seen = version_of s; stale = 0 } = is ∙ (λ j. record { stage = Idle; seen = saw j; stale = none j }) in
-    let now : ys ≡ set xs (h - 1) (record { stage = Idle; seen = version_of s; stale = 0 }) = e ∙ ap (λ (y : Harvester). set xs (h - 1) y) same in
+    let same : x ≡ record { stage = Idle; seen = version_of s; stale = 0 } = is
+    ∙ (λ j. record { stage = Idle; seen = saw j; stale = none j }) in
+    let now : ys ≡ set xs (h - 1) (record { stage = Idle; seen = version_of s; stale = 0 }) = e
+    ∙ ap (λ (y : Harvester). set xs (h - 1) y) same in
     λ j. record { history = s; front = raised j; harvesters = now j }

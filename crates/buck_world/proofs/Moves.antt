@@ -49,14 +49,17 @@ abbrev pub IsMove : WorldParts → ℕ → WorldParts → Type 0
 IsMove w h w' = IsQuiet w h w' ⊎ IsAdded w h w' ⊎ IsRaised w h w'
 
 -- the entry of a plan under the sheet in force may follow
-entry_follows : (h : HistoryParts) (n : ℕ) (p : PlanParts) → IsPlanUnder h (version_of h) p → history.Follows h.instruction h.sheets h.postings (Cut (entry_of h n p))
+entry_follows : (h : HistoryParts) (n : ℕ) (p : PlanParts) → IsPlanUnder h (version_of h) p
+    → history.Follows h.instruction h.sheets h.postings (Cut (entry_of h n p))
 entry_follows h n p under =
     let k = under.planned in
-    let holds : IsBest p.sheet p.stem p.logs × (p.worth ≡ cutting_worth p.sheet p.stem p.logs) = (k.first_best.best, k.worth_is) in
+    let holds : IsBest p.sheet p.stem p.logs × (p.worth ≡ cutting_worth p.sheet p.stem p.logs) =
+    (k.first_best.best, k.worth_is) in
     record {
       number_is_next = refl;
       version_in_force = refl;
-      holds = subst (λ (s : SheetParts). IsBest s p.stem p.logs × (p.worth ≡ cutting_worth s p.stem p.logs)) under.sheet_is holds;
+      holds = subst (λ (s : SheetParts). IsBest s p.stem p.logs × (p.worth ≡ cutting_worth s p.stem p.logs))
+          under.sheet_is holds;
     }
 
 not_answered : (stage : Stage) → IsIdleOrReading stage → stage ≢ Answered
@@ -66,7 +69,8 @@ not_answered (Planned p) is e = absurd is
 not_answered Answered is e = absurd is
 
 -- nobody holds a plan
-no_plan : (w : WorldParts) (seen stale : ℕ) (stage : Stage) → ((p : PlanParts) → stage ≢ Planned p) → seen ≤ w.front → stale ≤ 3 → IsFit w.history w.front (record { stage = stage; seen = seen; stale = stale })
+no_plan : (w : WorldParts) (seen stale : ℕ) (stage : Stage) → ((p : PlanParts) → stage ≢ Planned p) → seen ≤ w.front
+    → stale ≤ 3 → IsFit w.history w.front (record { stage = stage; seen = seen; stale = stale })
 no_plan w seen stale stage none low few = record { plan = λ p e. absurd (none p e); seen = low; stale = few }
 
 going_of : (x : Stage) (p : PlanParts) → x ≡ Planned p → IsGoing x
@@ -105,13 +109,16 @@ move_of w w' (Try h) s (a, (p, is, t)) = let fit = s.world.fits h a.0 in ⊎_eli
       follows = entry_follows w.history h p (subst (λ (v : ℕ). IsPlanUnder w.history v p) k.0 (fit.plan p is));
       is_next = k.1.1;
     }))
-    (λ (k : ((at w h).seen ≢ version_of w.history) × (w' ≡ with_harvester w h (record { stage = Idle; seen = (at w h).seen; stale = (at w h).stale + 1 }))). inl record {
+    (λ (k : ((at w h).seen ≢ version_of w.history)
+    × (w' ≡ with_harvester w h (record { stage = Idle; seen = (at w h).seen; stale = (at w h).stale + 1 }))). inl
+    record {
       now = record { stage = Idle; seen = (at w h).seen; stale = (at w h).stale + 1 };
       is = k.1;
       before = a.2 h a.0;
       after = λ e. cc;
       no_less = le_refl (at w h).seen;
-      fit = let few = (s.placed h a.0).going (going_of (at w h).stage p is) in no_plan w (at w h).seen ((at w h).stale + 1) Idle (λ q e. cc) fit.seen (omega arith);
+      fit = let few = (s.placed h a.0).going (going_of (at w h).stage p is) in
+          no_plan w (at w h).seen ((at w h).stale + 1) Idle (λ q e. cc) fit.seen (omega arith);
       going = λ f. absurd f;
     })
     t

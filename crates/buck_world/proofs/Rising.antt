@@ -22,30 +22,46 @@ use Rattle.buck_world.proofs.Sound.{stays_sound, run_sound}
 use Rattle.buck_world.proofs.Kept.{same_number}
 use Rattle.buck_world.proofs.Counting.{at_here, foreign}
 
-seen_no_less : (w w' : WorldParts) (h : ℕ) (y : Harvester) → at w' h ≡ y → (at w h).seen ≤ y.seen → (at w h).seen ≤ (at w' h).seen
+seen_no_less : (w w' : WorldParts) (h : ℕ) (y : Harvester) → at w' h ≡ y → (at w h).seen ≤ y.seen
+    → (at w h).seen ≤ (at w' h).seen
 seen_no_less w w' h y e low = let f = ap (λ (z : Harvester). z.seen) e in omega arith
 
-own_no_less : (w w' : WorldParts) (e : Event) → IsSound w → Step w e w' → (at w (harvester_of_event e)).seen ≤ (at w' (harvester_of_event e)).seen
+own_no_less : (w w' : WorldParts) (e : Event) → IsSound w → Step w e w'
+    → (at w (harvester_of_event e)).seen ≤ (at w' (harvester_of_event e)).seen
 own_no_less w w' e s step =
     let h = harvester_of_event e in
     let h_in : IsHarvester w (harvester_of_event e) = in_range w w' e step in
     ⊎_elim
     (λ q. seen_no_less w w' h q.now (at_here w w' _ h q.now q.is refl h_in) q.no_less)
     (λ more. ⊎_elim
-    (λ a. seen_no_less w w' h (record { stage = Answered; seen = (at w (harvester_of_event e)).seen; stale = (at w (harvester_of_event e)).stale }) (at_here w w' _ h _ a.is refl h_in) (le_refl (at w (harvester_of_event e)).seen))
-    (λ r. seen_no_less w w' h (record { stage = Idle; seen = version_of w.history; stale = 0 }) (at_here w w' _ h _ r.is refl h_in) (le_trans (s.world.fits h h_in).seen s.world.front_low))
+    (λ a. seen_no_less w w' h
+    (record {
+      stage = Answered;
+      seen = (at w (harvester_of_event e)).seen;
+      stale =
+          (at w (harvester_of_event e)).stale;
+    }) (at_here w w' _ h _ a.is refl h_in)
+    (le_refl (at w (harvester_of_event e)).seen))
+    (λ r. seen_no_less w w' h (record { stage = Idle; seen = version_of w.history; stale = 0 })
+    (at_here w w' _ h _ r.is refl h_in) (le_trans (s.world.fits h h_in).seen s.world.front_low))
     more)
     (move_of w w' e s step)
 
-step_no_less : (w w' : WorldParts) (e : Event) (h : ℕ) → IsSound w → Step w e w' → 1 ≤ h → (at w h).seen ≤ (at w' h).seen
+step_no_less : (w w' : WorldParts) (e : Event) (h : ℕ) → IsSound w → Step w e w' → 1 ≤ h
+    → (at w h).seen ≤ (at w' h).seen
 step_no_less w w' e h s step low = decided
-    (λ (is : h ≡ harvester_of_event e). subst (λ (g : ℕ). (at w g).seen ≤ (at w' g).seen) (sym is) (own_no_less w w' e s step))
-    (λ (not : h ≢ harvester_of_event e). seen_no_less w w' h (at w h) (foreign w w' e h s step low not) (le_refl (at w h).seen))
+    (λ (is : h ≡ harvester_of_event e). subst (λ (g : ℕ). (at w g).seen ≤ (at w' g).seen) (sym is)
+    (own_no_less w w' e s step))
+    (λ (not : h ≢ harvester_of_event e). seen_no_less w w' h (at w h) (foreign w w' e h s step low not)
+    (le_refl (at w h).seen))
     (ℕ_discrete h (harvester_of_event e))
 
-run_no_less : (w : WorldParts) (moves : List Move) (h : ℕ) → IsSound w → IsRun w moves → 1 ≤ h → (at w h).seen ≤ (at (last w moves) h).seen
+run_no_less : (w : WorldParts) (moves : List Move) (h : ℕ) → IsSound w → IsRun w moves → 1 ≤ h
+    → (at w h).seen ≤ (at (last w moves) h).seen
 run_no_less w [] h s r low = le_refl (at w h).seen
-run_no_less w (m ∷ ms) h s r low = le_trans (step_no_less w m.after m.event h s r.0 low) (run_no_less m.after ms h (stays_sound w m.after m.event s r.0) r.1 low)
+run_no_less w (m ∷ ms) h s r low =
+    le_trans (step_no_less w m.after m.event h s r.0 low)
+    (run_no_less m.after ms h (stays_sound w m.after m.event s r.0) r.1 low)
 
 -- a run in two parts
 parts : (w : WorldParts) (xs ys : List Move) → IsRun w (xs ++ ys) → IsRun w xs × IsRun (last w xs) ys
@@ -53,28 +69,38 @@ parts w [] ys r = (tt, r)
 parts w (m ∷ ms) ys r = let p = parts m.after ms ys r.1 in ((r.0, p.0), p.1)
 
 pub reads_never_fall : (w : WorldParts) (before between after : List Move) (h v v' : ℕ) (x x' : WorldParts) → IsSound w
-    → IsRun w (before ++ (record { event = Read h v; after = x }) ∷ (between ++ (record { event = Read h v'; after = x' }) ∷ after)) → v ≤ v'
+    → IsRun w
+    (before ++ (record { event = Read h v; after = x })
+    ∷ (between ++ (record { event = Read h v'; after = x' }) ∷ after)) → v ≤ v'
 reads_never_fall w before between after h v v' x x' s r =
-    let p = parts w before ((record { event = Read h v; after = x }) ∷ (between ++ (record { event = Read h v'; after = x' }) ∷ after)) r in
+    let p = parts w before
+    ((record { event = Read h v; after = x }) ∷ (between ++ (record { event = Read h v'; after = x' }) ∷ after))
+    r in
     let u = last w before in let sound : IsSound u = run_sound w before s p.0 in
     let step : Step u (Read h v) x = p.1.0 in let h_in : IsHarvester u h = step.0.0 in
     let sound_x : IsSound x = stays_sound u x (Read h v) sound step in
     let q = parts x between ((record { event = Read h v'; after = x' }) ∷ after) p.1.1 in
-    let seen : at x h ≡ record { stage = Reading; seen = v; stale = (at u h).stale } = at_here u x _ h _ step.1 refl h_in in
+    let seen : at x h ≡ record { stage = Reading; seen = v; stale = (at u h).stale } =
+    at_here u x _ h _ step.1 refl h_in in
     let is : (at x h).seen ≡ v = ap (λ (z : Harvester). z.seen) seen in
     let up : (at x h).seen ≤ (at (last x between) h).seen = run_no_less x between h sound_x q.0 h_in.0 in
     let low : (at (last x between) h).seen ≤ v' = q.1.0.0.3 in omega arith
 
-pub reads_after_replies : (w : WorldParts) (before after : List Move) (h v k : ℕ) (x : WorldParts) (d : Posting) → IsSound w
-    → IsRun w (before ++ (record { event = Read h v; after = x }) ∷ after) → slice_get (last w before).history.postings k ≡ Some d → harvester_of d ≡ h → planned_version d ≤ v
+pub reads_after_replies : (w : WorldParts) (before after : List Move) (h v k : ℕ) (x : WorldParts) (d : Posting)
+    → IsSound w
+    → IsRun w (before ++ (record { event = Read h v; after = x }) ∷ after)
+    → slice_get (last w before).history.postings k ≡ Some d → harvester_of d ≡ h → planned_version d ≤ v
 reads_after_replies w before after h v k x d s r there by_h =
-    let p = parts w before ((record { event = Read h v; after = x }) ∷ after) r in let u = last w before in let sound : IsSound u = run_sound w before s p.0 in
-    let step : Step u (Read h v) x = p.1.0 in let h_in : IsHarvester u h = step.0.0 in let idle : (at u h).stage ≡ Idle = step.0.1 in
+    let p = parts w before ((record { event = Read h v; after = x }) ∷ after) r in let u = last w before in
+    let sound : IsSound u = run_sound w before s p.0 in
+    let step : Step u (Read h v) x = p.1.0 in let h_in : IsHarvester u h = step.0.0 in
+    let idle : (at u h).stage ≡ Idle = step.0.1 in
     le_trans ((sound.placed h h_in).replied (λ q. cc) k d there by_h) step.0.3
 
 -- a try with a plan of another sheet leaves the history
 pub no_old_plan : (w : WorldParts) (before after : List Move) (h : ℕ) (x : WorldParts) (p : PlanParts) → IsSound w
-    → IsRun w (before ++ (record { event = Try h; after = x }) ∷ after) → (at (last w before) h).stage ≡ Planned p → p.sheet ≢ in_force (last w before).history
+    → IsRun w (before ++ (record { event = Try h; after = x }) ∷ after) → (at (last w before) h).stage ≡ Planned p
+    → p.sheet ≢ in_force (last w before).history
     → x.history ≡ (last w before).history
 no_old_plan w before after h x p s r holds other =
     let t = parts w before ((record { event = Try h; after = x }) ∷ after) r in
@@ -85,34 +111,44 @@ no_old_plan w before after h x p s r holds other =
     ⊎_elim
     (λ (k : ((at u h).seen ≡ version_of u.history) × Adds u h (Cut (entry_of u.history h step.1.0)) x).
     absurd (other (under.sheet_is ∙ ap (λ (v : ℕ). sheet_at u.history.instruction u.history.sheets v) k.0)))
-    (λ (k : ((at u h).seen ≢ version_of u.history) × (x ≡ with_harvester u h (record { stage = Idle; seen = (at u h).seen; stale = (at u h).stale + 1 }))).
+    (λ (k : ((at u h).seen ≢ version_of u.history)
+    × (x ≡ with_harvester u h (record { stage = Idle; seen = (at u h).seen; stale = (at u h).stale + 1 }))).
     ap (λ (z : WorldParts). z.history) k.1)
     step.1.2
 
 -- what a step adds
-none_added : (w w' x : WorldParts) → w' ≡ x → x.history.postings ≡ w.history.postings → w'.history.postings ≡ w.history.postings ++ []
+none_added : (w w' x : WorldParts) → w' ≡ x → x.history.postings ≡ w.history.postings
+    → w'.history.postings ≡ w.history.postings ++ []
 none_added w w' x e f = ap (λ (z : WorldParts). z.history.postings) e ∙ f ∙ sym (append-nil w.history.postings)
 
-one_added : (w w' x : WorldParts) (ds : List Posting) → w' ≡ x → x.history.postings ≡ w.history.postings ++ ds → w'.history.postings ≡ w.history.postings ++ more_than w w'
+one_added : (w w' x : WorldParts) (ds : List Posting) → w' ≡ x → x.history.postings ≡ w.history.postings ++ ds
+    → w'.history.postings ≡ w.history.postings ++ more_than w w'
 one_added w w' x ds e f =
     let g : w'.history.postings ≡ w.history.postings ++ ds = ap (λ (z : WorldParts). z.history.postings) e ∙ f in
-    let k : more_than w w' ≡ ds = ap (λ (xs : List Posting). drop (length w.history.postings) xs) g ∙ drop-append_seam w.history.postings ds in
+    let k : more_than w w' ≡ ds = ap (λ (xs : List Posting). drop (length w.history.postings) xs) g
+    ∙ drop-append_seam w.history.postings ds in
     g ∙ ap (λ (ys : List Posting). w.history.postings ++ ys) (sym k)
 
 step_added : (w w' : WorldParts) (e : Event) → Step w e w' → w'.history.postings ≡ w.history.postings ++ added_at w e w'
 step_added w w' (Read h v) (a, f) = none_added w w' _ f refl
 step_added w w' (Plan h stem) (a, f) = none_added w w' _ f.3 refl
-step_added w w' (Try h) (a, f) = ⊎_elim (λ k. one_added w w' _ _ k.1.2 refl) (λ k. one_added w w' _ [] k.1 (sym (append-nil w.history.postings))) f.2
+step_added w w' (Try h) (a, f) =
+    ⊎_elim (λ k. one_added w w' _ _ k.1.2 refl) (λ k. one_added w w' _ [] k.1 (sym (append-nil w.history.postings))) f.2
 step_added w w' (Locked h stem) (a, f) = one_added w w' _ _ f.3.2 refl
 step_added w w' (Retarget h targets) (a, f) = one_added w w' _ _ f.1.2 refl
 step_added w w' (Raise h) (a, f) = none_added w w' _ f refl
 step_added w w' (Leave h) (a, f) = none_added w w' _ f refl
 
-pub run_added : (w : WorldParts) (moves : List Move) → IsRun w moves → (last w moves).history.postings ≡ w.history.postings ++ added w moves
+pub run_added : (w : WorldParts) (moves : List Move) → IsRun w moves
+    → (last w moves).history.postings ≡ w.history.postings ++ added w moves
 run_added w [] r = sym (append-nil w.history.postings)
-run_added w (m ∷ ms) r = run_added m.after ms r.1 ∙ ap (λ (xs : List Posting). xs ++ added m.after ms) (step_added w m.after m.event r.0) ∙ append_assoc w.history.postings (added_at w m.event m.after) (added m.after ms)
+run_added w (m ∷ ms) r = run_added m.after ms r.1
+    ∙ ap (λ (xs : List Posting). xs ++ added m.after ms) (step_added w m.after m.event r.0)
+    ∙ append_assoc w.history.postings (added_at w m.event m.after) (added m.after ms)
 
 -- the instruction stays
-pub run_instruction : (w : WorldParts) (moves : List Move) → IsSound w → IsRun w moves → (last w moves).history.instruction ≡ w.history.instruction
+pub run_instruction : (w : WorldParts) (moves : List Move) → IsSound w → IsRun w moves
+    → (last w moves).history.instruction ≡ w.history.instruction
 run_instruction w [] s r = refl
-run_instruction w (m ∷ ms) s r = run_instruction m.after ms (stays_sound w m.after m.event s r.0) r.1 ∙ (same_number w m.after m.event s r.0).1
+run_instruction w (m ∷ ms) s r = run_instruction m.after ms (stays_sound w m.after m.event s r.0) r.1
+    ∙ (same_number w m.after m.event s r.0).1

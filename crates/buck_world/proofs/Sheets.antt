@@ -6,7 +6,8 @@ use Rattle.buck_book.specs.History.{HistoryParts, IsLawful, version_of, sheet_at
 use Rattle.buck_book.specs.Book.{sheets_from}
 use Rattle.buck_book.proofs.Sheets.{length-sheets_from, get_or-sheets_from}
 
-module _ {X : Type 0} (value : X → SheetParts) (xs : List X) (h : HistoryParts) (is : map value xs ≡ sheets_from 0 h.instruction h.sheets) where
+module _ {X : Type 0} (value : X → SheetParts) (xs : List X) (h : HistoryParts)
+    (is : map value xs ≡ sheets_from 0 h.instruction h.sheets) where
   -- as many are shown as the history has
   pub shown_number : length xs ≡ length h.sheets
   shown_number = sym (length-map xs value) ∙ ap length is ∙ length-sheets_from 0 h.instruction h.sheets

@@ -21,7 +21,8 @@ use Rattle.buck_world.proofs.Lists.{decided, here, elsewhere, after_set}
 use Rattle.buck_world.proofs.Moves.{IsQuiet, IsAdded, IsRaised, move_of, in_range}
 
 -- a history one posting longer has as many sheets, or one more
-grown : (sheets : List (List ℕ)) (next : Option SheetParts) → (length sheets ≤ length (sheets_with sheets next)) × (length (sheets_with sheets next) ≤ length sheets + 1)
+grown : (sheets : List (List ℕ)) (next : Option SheetParts)
+    → (length sheets ≤ length (sheets_with sheets next)) × (length (sheets_with sheets next) ≤ length sheets + 1)
 grown sheets None = (omega arith, omega arith)
 grown sheets (Some s) = let e = length_push sheets s.prices in (omega arith, omega arith)
 
@@ -29,17 +30,26 @@ quiet_sound : (w w' : WorldParts) (h : ℕ) → IsSound w → IsHarvester w h �
 quiet_sound w w' h s h_in q = subst (λ (y : WorldParts). IsSound y) (sym q.is) record {
   world = record {
     lawful = k.lawful;
-    fits = after_set (λ g y. IsFit w.history w.front y) w.harvesters h q.now newcomer h_in.0 h_in.1 q.fit (λ g g_in other. k.fits g g_in);
-    one_answered = λ g j g_in j_in g_is j_is. k.one_answered g j (back_in g g_in) (back_in j j_in) (back g g_in g_is) (back j j_in j_is);
+    fits = after_set (λ g y. IsFit w.history w.front y) w.harvesters h q.now newcomer h_in.0 h_in.1 q.fit
+        (λ g g_in other. k.fits g g_in);
+    one_answered =
+        λ g j g_in j_in g_is j_is. k.one_answered g j (back_in g g_in) (back_in j j_in) (back g g_in g_is)
+        (back j j_in j_is);
     front_low = k.front_low;
     front_in_force = λ nobody. k.front_in_force (λ g g_in g_is. decided
         (λ (e : g ≡ h). q.before (subst (λ (j : ℕ). (at w j).stage ≡ Answered) e g_is))
-        (λ (n : g ≢ h). nobody g (forth_in g g_in) (subst (λ (y : Harvester). y.stage ≡ Answered) (sym (elsewhere w.harvesters h g q.now newcomer h_in.0 g_in.0 n)) g_is))
+        (λ (n : g ≢ h). nobody g (forth_in g g_in)
+        (subst (λ (y : Harvester). y.stage ≡ Answered)
+        (sym (elsewhere w.harvesters h g q.now newcomer h_in.0 g_in.0 n)) g_is))
         (ℕ_discrete g h));
   };
   next = s.next;
   placed = after_set (λ g y. IsPlaced w.history g y) w.harvesters h q.now newcomer h_in.0 h_in.1
-      record { going = q.going; replied = λ idle i e there by_h. le_trans ((s.placed h h_in).replied q.before i e there by_h) q.no_less }
+      record {
+        going = q.going;
+        replied =
+            λ idle i e there by_h. le_trans ((s.placed h h_in).replied q.before i e there by_h) q.no_less;
+      }
       (λ g g_in other. s.placed g g_in);
 }
   where
@@ -52,16 +62,22 @@ quiet_sound w w' h s h_in q = subst (λ (y : WorldParts). IsSound y) (sym q.is) 
     forth_in : (g : ℕ) → IsHarvester w g → IsHarvester (with_harvester w h q.now) g
     forth_in g t = (t.0, subst (λ (j : ℕ). g ≤ j) (sym (length-set w.harvesters (h - 1) q.now)) t.1)
 
-    back : (g : ℕ) → IsHarvester (with_harvester w h q.now) g → (at (with_harvester w h q.now) g).stage ≡ Answered → (at w g).stage ≡ Answered
+    back : (g : ℕ) → IsHarvester (with_harvester w h q.now) g → (at (with_harvester w h q.now) g).stage ≡ Answered
+        → (at w g).stage ≡ Answered
     back g g_in g_is = decided
-        (λ (e : g ≡ h). absurd (q.after (subst (λ (y : Harvester). y.stage ≡ Answered) (here w.harvesters h q.now newcomer h_in.0 h_in.1) (subst (λ (j : ℕ). (at (with_harvester w h q.now) j).stage ≡ Answered) e g_is))))
-        (λ (n : g ≢ h). subst (λ (y : Harvester). y.stage ≡ Answered) (elsewhere w.harvesters h g q.now newcomer h_in.0 g_in.0 n) g_is)
+        (λ (e : g ≡ h). absurd
+        (q.after (subst (λ (y : Harvester). y.stage ≡ Answered) (here w.harvesters h q.now newcomer h_in.0 h_in.1)
+        (subst (λ (j : ℕ). (at (with_harvester w h q.now) j).stage ≡ Answered) e g_is))))
+        (λ (n : g ≢ h). subst (λ (y : Harvester). y.stage ≡ Answered)
+        (elsewhere w.harvesters h g q.now newcomer h_in.0 g_in.0 n) g_is)
         (ℕ_discrete g h)
 
 -- a plan's sheet stays at its place
-under_after : (s : HistoryParts) (x : Posting) (next : Option SheetParts) (v : ℕ) (p : PlanParts) → v < length s.sheets → IsPlanUnder s v p → IsPlanUnder (history_with s x next) v p
+under_after : (s : HistoryParts) (x : Posting) (next : Option SheetParts) (v : ℕ) (p : PlanParts) → v < length s.sheets
+    → IsPlanUnder s v p → IsPlanUnder (history_with s x next) v p
 under_after s x next v p low under = record {
-  sheet_is = under.sheet_is ∙ ap (λ (prices : List ℕ). sheet_of v s.instruction prices) (sym (prices_stay s.sheets next v low));
+  sheet_is = under.sheet_is
+      ∙ ap (λ (prices : List ℕ). sheet_of v s.instruction prices) (sym (prices_stay s.sheets next v low));
   planned = under.planned;
 }
 
@@ -76,15 +92,20 @@ added_sound w w' h s h_in a = subst (λ (y : WorldParts). IsSound y) (sym a.is) 
     fits = after_set (λ g y. IsFit after w.front y) w.harvesters h x newcomer h_in.0 h_in.1
         (let fit = k.fits h h_in in record { plan = λ p e. absurd (cc); seen = fit.seen; stale = fit.stale })
         (λ g g_in other. let fit = k.fits g g_in in record {
-          plan = λ p e. under_after w.history a.posting a.next (at w g).seen p (seen_low w (at w g).seen s fit.seen) (fit.plan p e);
+          plan = λ p e. under_after w.history a.posting a.next (at w g).seen p (seen_low w (at w g).seen s fit.seen)
+              (fit.plan p e);
           seen = fit.seen;
           stale = fit.stale;
         });
     one_answered = λ g j g_in j_in g_is j_is. only g g_in g_is ∙ sym (only j j_in j_is);
-    front_low = let up = grown w.history.sheets a.next in let n = k.lawful.sheets_number in let m = lawful.sheets_number in omega arith;
-    front_in_force = λ none. absurd (none h (forth_in h h_in) (ap (λ (y : Harvester). y.stage) (here w.harvesters h x newcomer h_in.0 h_in.1)));
+    front_low = let up = grown w.history.sheets a.next in let n = k.lawful.sheets_number in let m =
+        lawful.sheets_number in omega arith;
+    front_in_force =
+        λ none. absurd
+        (none h (forth_in h h_in) (ap (λ (y : Harvester). y.stage) (here w.harvesters h x newcomer h_in.0 h_in.1)));
   };
-  next = let up = grown w.history.sheets a.next in let n = k.lawful.sheets_number in let m = lawful.sheets_number in omega arith;
+  next = let up = grown w.history.sheets a.next in let n = k.lawful.sheets_number in let m = lawful.sheets_number in
+      omega arith;
   placed = after_set (λ g y. IsPlaced after g y) w.harvesters h x newcomer h_in.0 h_in.1
       record { going = λ f. absurd f; replied = λ idle. absurd (idle refl) }
       (λ g g_in other. let placed = s.placed g g_in in record {
@@ -114,15 +135,18 @@ added_sound w w' h s h_in a = subst (λ (y : WorldParts). IsSound y) (sym a.is) 
     forth_in : (g : ℕ) → IsHarvester w g → (1 ≤ g) × (g ≤ length (set w.harvesters (h - 1) x))
     forth_in g t = (t.0, subst (λ (j : ℕ). g ≤ j) (sym (length-set w.harvesters (h - 1) x)) t.1)
 
-    only : (g : ℕ) → (1 ≤ g) × (g ≤ length (set w.harvesters (h - 1) x)) → (get_or (set w.harvesters (h - 1) x) (g - 1) newcomer).stage ≡ Answered → g ≡ h
+    only : (g : ℕ) → (1 ≤ g) × (g ≤ length (set w.harvesters (h - 1) x))
+        → (get_or (set w.harvesters (h - 1) x) (g - 1) newcomer).stage ≡ Answered → g ≡ h
     only g g_in g_is = decided (λ (e : g ≡ h). e)
         (λ (n : g ≢ h). absurd (a.nobody g (g_in.0, subst (λ (j : ℕ). g ≤ j) (length-set w.harvesters (h - 1) x) g_in.1)
         (subst (λ (y : Harvester). y.stage ≡ Answered) (elsewhere w.harvesters h g x newcomer h_in.0 g_in.0 n) g_is)))
         (ℕ_discrete g h)
 
 -- a posting's version is at most the version in force
-version_low : (w : WorldParts) → IsSound w → (i : ℕ) (p : Posting) → slice_get w.history.postings i ≡ Some p → planned_version p ≤ version_of w.history
-version_low w s i p there = let v = version_within w.history i p s.world.lawful there in let n = s.world.lawful.sheets_number in omega arith
+version_low : (w : WorldParts) → IsSound w → (i : ℕ) (p : Posting) → slice_get w.history.postings i ≡ Some p
+    → planned_version p ≤ version_of w.history
+version_low w s i p there = let v = version_within w.history i p s.world.lawful there in let n =
+    s.world.lawful.sheets_number in omega arith
 
 raised_sound : (w w' : WorldParts) (h : ℕ) → IsSound w → IsHarvester w h → IsRaised w h w' → IsSound w'
 raised_sound w w' h s h_in r = subst (λ (y : WorldParts). IsSound y) (sym r.is) record {
@@ -130,7 +154,8 @@ raised_sound w w' h s h_in r = subst (λ (y : WorldParts). IsSound y) (sym r.is)
     lawful = k.lawful;
     fits = after_set (λ g y. IsFit w.history (version_of w.history) y) w.harvesters h x newcomer h_in.0 h_in.1
         record { plan = λ p e. absurd (cc); seen = le_refl (version_of w.history); stale = omega arith }
-        (λ g g_in other. let fit = k.fits g g_in in record { plan = fit.plan; seen = le_trans fit.seen k.front_low; stale = fit.stale });
+        (λ g g_in other. let fit = k.fits g g_in in
+        record { plan = fit.plan; seen = le_trans fit.seen k.front_low; stale = fit.stale });
     one_answered = λ g j g_in j_in g_is j_is. absurd (nobody g g_in g_is);
     front_low = le_refl (version_of w.history);
     front_in_force = λ none. refl;
@@ -147,11 +172,16 @@ raised_sound w w' h s h_in r = subst (λ (y : WorldParts). IsSound y) (sym r.is)
     x : Harvester
     x = record { stage = Idle; seen = version_of w.history; stale = 0 }
 
-    nobody : (g : ℕ) → (1 ≤ g) × (g ≤ length (set w.harvesters (h - 1) x)) → (get_or (set w.harvesters (h - 1) x) (g - 1) newcomer).stage ≢ Answered
+    nobody : (g : ℕ) → (1 ≤ g) × (g ≤ length (set w.harvesters (h - 1) x))
+        → (get_or (set w.harvesters (h - 1) x) (g - 1) newcomer).stage ≢ Answered
     nobody g g_in g_is = decided
-        (λ (e : g ≡ h). let is : Idle ≡ Answered = subst (λ (y : Harvester). y.stage ≡ Answered) (here w.harvesters h x newcomer h_in.0 h_in.1) (subst (λ (j : ℕ). (get_or (set w.harvesters (h - 1) x) (j - 1) newcomer).stage ≡ Answered) e g_is) in cc)
-        (λ (n : g ≢ h). n (k.one_answered g h (g_in.0, subst (λ (j : ℕ). g ≤ j) (length-set w.harvesters (h - 1) x) g_in.1) h_in
-        (subst (λ (y : Harvester). y.stage ≡ Answered) (elsewhere w.harvesters h g x newcomer h_in.0 g_in.0 n) g_is) r.was))
+        (λ (e : g ≡ h). let is : Idle ≡ Answered =
+        subst (λ (y : Harvester). y.stage ≡ Answered) (here w.harvesters h x newcomer h_in.0 h_in.1)
+        (subst (λ (j : ℕ). (get_or (set w.harvesters (h - 1) x) (j - 1) newcomer).stage ≡ Answered) e g_is) in cc)
+        (λ (n : g ≢ h). n
+        (k.one_answered g h (g_in.0, subst (λ (j : ℕ). g ≤ j) (length-set w.harvesters (h - 1) x) g_in.1) h_in
+        (subst (λ (y : Harvester). y.stage ≡ Answered) (elsewhere w.harvesters h g x newcomer h_in.0 g_in.0 n) g_is)
+        r.was))
         (ℕ_discrete g h)
 
 pub stays_sound : (w w' : WorldParts) (e : Event) → IsSound w → Step w e w' → IsSound w'
@@ -173,7 +203,8 @@ opening_sound i n = record {
       base_sheet = refl;
       sheets_meet = λ k x there. absurd (cc);
     };
-    fits = λ h h_in. subst (λ (y : Harvester). IsFit (opening i n).history 0 y) (sym (idle h h_in)) record { plan = λ p e. absurd (cc); seen = omega arith; stale = omega arith };
+    fits = λ h h_in. subst (λ (y : Harvester). IsFit (opening i n).history 0 y) (sym (idle h h_in))
+        record { plan = λ p e. absurd (cc); seen = omega arith; stale = omega arith };
     one_answered = λ h g h_in g_in h_is g_is. absurd (never h h_in h_is);
     front_low = omega arith;
     front_in_force = λ _. refl;
@@ -186,7 +217,10 @@ opening_sound i n = record {
 }
   where
     idle : (h : ℕ) → IsHarvester (opening i n) h → get_or (replicate n newcomer) (h - 1) newcomer ≡ newcomer
-    idle h t = get_or-replicate n (h - 1) newcomer newcomer (let l = length-replicate n newcomer in let a = t.0 in let b = t.1 in omega arith)
+    idle h t =
+        get_or-replicate n (h - 1) newcomer newcomer
+        (let l = length-replicate n newcomer in let a = t.0 in let b = t.1 in omega arith)
 
     never : (h : ℕ) → IsHarvester (opening i n) h → (get_or (replicate n newcomer) (h - 1) newcomer).stage ≢ Answered
-    never h t is = let x = idle h t in let y : Idle ≡ Answered = subst (λ (z : Harvester). z.stage ≡ Answered) x is in cc
+    never h t is = let x = idle h t in let y : Idle ≡ Answered = subst (λ (z : Harvester). z.stage ≡ Answered) x is in
+        cc

@@ -81,6 +81,8 @@ not_without_a_free_log sheet stem logs g some same allowed =
     let first : IsFirstBest sheet stem [] = subst (λ x. IsFirstBest sheet stem x) same some in
     let best : IsBest sheet stem (g ∷ []) = record {
       admissible = alone sheet stem g allowed;
-      none_outvalues = λ others a. (let less : cutting_worth sheet stem others ≤ 0 = first.best.none_outvalues others a in omega (arith, less));
+      none_outvalues =
+          λ others a.
+          (let less : cutting_worth sheet stem others ≤ 0 = first.best.none_outvalues others a in omega (arith, less));
     } in
     first.first (g ∷ []) best (search rules)

@@ -18,13 +18,17 @@ place_of h k at (Cut e) (inr (begun, inr content)) = content.2.0
 place_of h k at (Demand d) (inr (begun, inl call)) = absurd call
 place_of h k at (Demand d) (inr (begun, inr content)) = absurd content.2
 
-pub not_later : (h : HistoryParts) (at first : ℕ) (e : EntryParts) (dearer : List Log) → slice_get h.postings first ≡ Some (Cut e)
+pub not_later : (h : HistoryParts) (at first : ℕ) (e : EntryParts) (dearer : List Log)
+    → slice_get h.postings first ≡ Some (Cut e)
     → IsAdmissible (sheet_at h.instruction h.sheets e.version) e.stem dearer
-    → cutting_worth (sheet_at h.instruction h.sheets e.version) e.stem e.logs < cutting_worth (sheet_at h.instruction h.sheets e.version) e.stem dearer
+    → cutting_worth (sheet_at h.instruction h.sheets e.version) e.stem e.logs
+    < cutting_worth (sheet_at h.instruction h.sheets e.version) e.stem dearer
     → IsFirstFault h (Outvalued at)
     → at ≤ first
 not_later h at first e dearer there ok more (inl m) = elim (cases_lt first m.at) [
-  | inl before ↦ absurd (omega (arith, (m.right.postings first (Cut e) before there).holds.0.none_outvalues dearer ok, more))
+  | inl before ↦
+      absurd (omega (arith, (m.right.postings first (Cut e) before there).holds.0.none_outvalues dearer ok, more))
   | inr past ↦ omega (arith, past, place_of h m.at at m.next m.wrong)
 ]
-not_later h at first e dearer there ok more (inr m) = elim m.wrong [ inl number ↦ absurd number | inr sheet ↦ absurd sheet.2 ]
+not_later h at first e dearer there ok more (inr m) =
+    elim m.wrong [ inl number ↦ absurd number | inr sheet ↦ absurd sheet.2 ]

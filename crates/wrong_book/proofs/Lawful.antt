@@ -37,15 +37,18 @@ pub of_one : (i : InstructionParts) (sheets : List (List ℕ)) (ps : List Postin
     → IsFirstFault (made i sheets ps) fault
     → IsFaultAt (made i sheets (x ∷ [])) 0 x fault ⊎ IsMetAtEnd (made i sheets (x ∷ [])) fault
 of_one i sheets ps x fault same found =
-    let there : IsFirstFault (made i sheets (x ∷ [])) fault = subst (λ xs. IsFirstFault (made i sheets xs) fault) same found in
+    let there : IsFirstFault (made i sheets (x ∷ [])) fault =
+    subst (λ xs. IsFirstFault (made i sheets xs) fault) same found in
     elim there [
       | inr end ↦ inr end
       | inl met ↦ (
           let low : met.at < 1 = slice_get_within (x ∷ []) met.at met.next met.there in
           let zero : met.at ≡ 0 = omega (arith, low) in
-          let first : slice_get (x ∷ []) 0 ≡ Some met.next = subst (λ k. slice_get (x ∷ []) k ≡ Some met.next) zero met.there in
+          let first : slice_get (x ∷ []) 0 ≡ Some met.next =
+          subst (λ k. slice_get (x ∷ []) k ≡ Some met.next) zero met.there in
           let next : met.next ≡ x = search (rules, first) in
-          let wrong : IsFaultAt (made i sheets (x ∷ [])) 0 met.next fault = subst (λ k. IsFaultAt (made i sheets (x ∷ [])) k met.next fault) zero met.wrong in
+          let wrong : IsFaultAt (made i sheets (x ∷ [])) 0 met.next fault =
+          subst (λ k. IsFaultAt (made i sheets (x ∷ [])) k met.next fault) zero met.wrong in
           inl (subst (λ y. IsFaultAt (made i sheets (x ∷ [])) 0 y fault) next wrong))
     ]
 
@@ -63,7 +66,8 @@ worth_of_admissible i sheets ps e at same found = elim (of_one i sheets ps (Cut 
 ]
 
 -- a fault of being outvalued: the worth is that of the logs
-pub outvalued_of_right_worth : (i : InstructionParts) (sheets : List (List ℕ)) (ps : List Posting) (e : EntryParts) (at : ℕ)
+pub outvalued_of_right_worth : (i : InstructionParts) (sheets : List (List ℕ)) (ps : List Posting) (e : EntryParts)
+    (at : ℕ)
     → ps ≡ Cut e ∷ []
     → IsFirstFault (made i sheets ps) (Outvalued at)
     → e.worth ≡ cutting_worth (sheet_at i sheets 0) e.stem e.logs
@@ -76,7 +80,8 @@ outvalued_of_right_worth i sheets ps e at same found = elim (of_one i sheets ps 
 ]
 
 -- a fault of its version: its number is the next one
-pub version_of_right_number : (i : InstructionParts) (sheets : List (List ℕ)) (ps : List Posting) (e : EntryParts) (at : ℕ)
+pub version_of_right_number : (i : InstructionParts) (sheets : List (List ℕ)) (ps : List Posting) (e : EntryParts)
+    (at : ℕ)
     → ps ≡ Cut e ∷ []
     → IsFirstFault (made i sheets ps) (Version at)
     → e.number ≡ 1
@@ -94,7 +99,8 @@ pub price_of_one_sheet : (i : InstructionParts) (sheets : List (List ℕ)) (ps :
     → IsFirstFault (made i sheets ps) (Price version class)
     → length sheets ≡ 1
 price_of_one_sheet i sheets ps version class same found =
-    let there : IsFirstFault (made i sheets []) (Price version class) = subst (λ xs. IsFirstFault (made i sheets xs) (Price version class)) same found in
+    let there : IsFirstFault (made i sheets []) (Price version class) =
+    subst (λ xs. IsFirstFault (made i sheets xs) (Price version class)) same found in
     elim there [
       | inl met ↦ (let low : met.at < 0 = slice_get_within [] met.at met.next met.there in absurd (omega (arith, low)))
       | inr end ↦ elim end.wrong [ inl number ↦ absurd number | inr sheet ↦ sheet.0 ]

@@ -7,7 +7,8 @@ use Rattle.buck_calls.specs.Pages.{IsListed}
 use Rattle.buck_calls.specs.Turns.{ArePut, AreUsed, IsTurned}
 use Rattle.wrong_calls.proofs.Fits.{own_status, never_of}
 
-listed_0 : (table : ℕ) (apt journal : List ℕ) → 3 < table → (text : List ℕ) (status : ℕ) → IsListed table apt journal text status
+listed_0 : (table : ℕ) (apt journal : List ℕ) → 3 < table → (text : List ℕ) (status : ℕ)
+    → IsListed table apt journal text status
     → status ≡ 0 → ⊥
 listed_0 table apt journal lt text status (inl misused) is = omega (arith, misused.2, is)
 listed_0 table apt journal lt text status (inr listed) is = omega (arith, listed.0, lt)
@@ -23,14 +24,16 @@ turned_0 : (rule : ℕ) (lengths bytes journal report : List ℕ) (status : ℕ)
 turned_0 rule lengths bytes journal report status never (inl misused) is = omega (arith, misused.3, is)
 turned_0 rule lengths bytes journal report status never (inr used) is = never used.0
 
-never_turned : (rule : ℕ) (lengths bytes old new : List ℕ) (texts : Texts) (result : ℕ) → (AreUsed rule lengths bytes → ⊥)
+never_turned : (rule : ℕ) (lengths bytes old new : List ℕ) (texts : Texts) (result : ℕ)
+    → (AreUsed rule lengths bytes → ⊥)
     → ArePut (IsTurned rule lengths bytes) old new texts result → result ≡ 0 → ⊥
 never_turned rule lengths bytes old new texts result never (journal, report, status, answer, told, put) is =
     turned_0 rule lengths bytes journal report status never answer
     (own_status (journal ++ report) status old new (texts.journal + texts.report) result (omega (arith, is)) put ∙ is)
 
 -- nothing is cut whose lengths aren't those of the bytes
-pub other_lengths : (rule : ℕ) (lengths bytes old new : List ℕ) (texts : Texts) (result : ℕ) → sum lengths ≢ length bytes
+pub other_lengths : (rule : ℕ) (lengths bytes old new : List ℕ) (texts : Texts) (result : ℕ)
+    → sum lengths ≢ length bytes
     → ArePut (IsTurned rule lengths bytes) old new texts result → result ≡ 0 → ⊥
 other_lengths rule lengths bytes old new texts result differ put is =
     never_turned rule lengths bytes old new texts result (λ used. differ used.2) put is

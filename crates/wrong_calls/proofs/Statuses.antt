@@ -44,15 +44,18 @@ never_0 Memory e = omega (arith, e)
 never_0 (Close fault) e = status_or_some 4 (close_numbers fault) (omega arith) e
 
 -- a file that is read has no fault of status 1
-file_never_1 : {V F : Type 0} (number : ℕ) (named : F → EngineFault) (reading : List ℕ → Result V F) (bytes : List ℕ) (v : V)
-    (fault : EngineFault) → reading bytes ≡ Ok v → IsFileFault number named reading (Some bytes) fault → status_of fault ≡ 1 → ⊥
+file_never_1 : {V F : Type 0} (number : ℕ) (named : F → EngineFault) (reading : List ℕ → Result V F) (bytes : List ℕ)
+    (v : V)
+    (fault : EngineFault) → reading bytes ≡ Ok v → IsFileFault number named reading (Some bytes) fault
+    → status_of fault ≡ 1 → ⊥
 file_never_1 number named reading bytes v fault ok (inl read) e =
     let is : 5 ≡ 1 = ap (λ f. status_of f) (sym read) ∙ e in omega (arith, is)
 file_never_1 number named reading bytes v fault ok (inr (inl memory)) e =
     let is : 3 ≡ 1 = ap (λ f. status_of f) (sym memory) ∙ e in omega (arith, is)
 file_never_1 number named reading bytes v fault ok (inr (inr why)) e = not_both (reading bytes) v why.0 ok why.2.1
 
-bucked_1 : (apt stm : List ℕ) (i : InstructionParts) (stems : List StemParts) → apt_of apt ≡ Ok i → stm_of stm ≡ Ok stems
+bucked_1 : (apt stm : List ℕ) (i : InstructionParts) (stems : List StemParts) → apt_of apt ≡ Ok i
+    → stm_of stm ≡ Ok stems
     → (text : List ℕ) (status : ℕ) → IsBucked apt stm text status → status ≡ 1 → ⊥
 bucked_1 apt stm i stems a b text status (inl done) is = omega (arith, done.1, is)
 bucked_1 apt stm i stems a b text status (inr (fault, inl why, text_is, status_is)) is =
@@ -62,7 +65,8 @@ bucked_1 apt stm i stems a b text status (inr (fault, inr why, text_is, status_i
 
 bucked_0 : (apt stm : List ℕ) (refused : AptFault) → apt_of apt ≡ Err refused
     → (text : List ℕ) (status : ℕ) → IsBucked apt stm text status → status ≡ 0 → ⊥
-bucked_0 apt stm refused a text status (inl done) is = not_both (apt_of apt) done.0.instruction refused done.0.apt_says.1 a
+bucked_0 apt stm refused a text status (inl done) is =
+    not_both (apt_of apt) done.0.instruction refused done.0.apt_says.1 a
 bucked_0 apt stm refused a text status (inr (fault, why, text_is, status_is)) is = never_0 fault (sym status_is ∙ is)
 
 -- two files that are read are never refused

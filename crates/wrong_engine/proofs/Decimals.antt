@@ -27,5 +27,6 @@ unfolding digits
 unlike e = let at : 49 ≡ 48 = ap (λ xs. slice_index_or xs 11 0) e in omega (arith, at)
 
 -- first bytes of the line of file 1 aren't that line
-pub not_of_file_0 : (items : List ℕ) → AppendsFirst (Some []) (Some items) (fault_line (Read 1)) → items ≡ line_of_file_0 → ⊥
+pub not_of_file_0 : (items : List ℕ) → AppendsFirst (Some []) (Some items) (fault_line (Read 1))
+    → items ≡ line_of_file_0 → ⊥
 not_of_file_0 items (k, le, is) e = unlike (taken_whole k (fault_line (Read 1)) line_of_file_0 long (sym is ∙ e))

@@ -23,18 +23,29 @@ replies_low : (h p : ℕ) (xs : List Posting) → length (replies_from h p xs) �
 replies_low h p [] = omega arith
 replies_low h p (x ∷ xs) = let rest = replies_low h (p + 1) xs in by_test (harvester_of x == h) rest where
   by_test : (b : Bool) → length (replies_from h (p + 1) xs) ≤ length xs
-      → length (cond b ((record { position = p; entry = x }) ∷ replies_from h (p + 1) xs) (replies_from h (p + 1) xs)) ≤ length (x ∷ xs)
+      → length (cond b ((record { position = p; entry = x }) ∷ replies_from h (p + 1) xs) (replies_from h (p + 1) xs))
+      ≤ length (x ∷ xs)
   by_test true rest = omega (arith, rest)
   by_test false rest = omega (arith, rest)
 
-too_many : (harvester : ℕ) (h : HistoryParts) (stems : List StemParts) → stems_cut_by harvester h ≡ map Some stems → length h.postings ≤ 1000000
+too_many : (harvester : ℕ) (h : HistoryParts) (stems : List StemParts) → stems_cut_by harvester h ≡ map Some stems
+    → length h.postings ≤ 1000000
     → 1000000 < length stems → ⊥
 too_many harvester h stems cut few many =
     let same : length (stems_cut_by harvester h) ≡ length (map Some stems) = ap (λ (l : List _). length l) cut in
-    omega (arith, same, length-map (replies_of harvester h) (λ k. stem_cut k.entry), length-map stems Some, replies_low harvester 0 h.postings, few, many)
+    omega (
+      arith,
+      same,
+      length-map (replies_of harvester h) (λ k. stem_cut k.entry),
+      length-map stems Some,
+      replies_low harvester 0 h.postings,
+      few,
+      many,
+    )
 
 -- a run over one file of them doesn't end well
-pub too_many_in_file : (reads : ReadsApt) (order : Order) (ByRule : HistoryParts → Type 0) (apt : Option (List ℕ)) (stm : List ℕ) (OfJournal : OfWriter) (old new : Option (List ℕ)) (r : Result (Unit {0}) EngineFault)
+pub too_many_in_file : (reads : ReadsApt) (order : Order) (ByRule : HistoryParts → Type 0) (apt : Option (List ℕ))
+    (stm : List ℕ) (OfJournal : OfWriter) (old new : Option (List ℕ)) (r : Result (Unit {0}) EngineFault)
     → ((stems : List StemParts) → stm_of stm ≡ Ok stems → 1000000 < length stems)
     → IsFleetRun reads order ByRule apt (Some stm ∷ []) OfJournal old new r → is_err r ≡ false → ⊥
 too_many_in_file reads order ByRule apt stm OfJournal old new (Ok u) many ran well =
@@ -44,15 +55,25 @@ too_many_in_file reads order ByRule apt stm OfJournal old new (Ok u) many ran we
 too_many_in_file reads order ByRule apt stm OfJournal old new (Err fault) many ran well = cc well
 
 -- few stems of one file aren't too many
-pub few_in_file : (reads : ReadsApt) (ByRule : HistoryParts → Type 0) (apt : Option (List ℕ)) (stm : List ℕ) (OfJournal : OfWriter) (old new : Option (List ℕ)) (r : Result (Unit {0}) EngineFault)
+pub few_in_file : (reads : ReadsApt) (ByRule : HistoryParts → Type 0) (apt : Option (List ℕ)) (stm : List ℕ)
+    (OfJournal : OfWriter) (old new : Option (List ℕ)) (r : Result (Unit {0}) EngineFault)
     → ((stems : List StemParts) → stm_of stm ≡ Ok stems → length stems ≤ 1000000)
     → IsFleetRun reads InTurn ByRule apt (Some stm ∷ []) OfJournal old new r → r ≡ Err Full → ⊥
 few_in_file reads ByRule apt stm OfJournal old new r few ran full =
-    one_file ((subst (λ (x : Result (Unit {0}) EngineFault). IsFleetRun reads InTurn ByRule apt (Some stm ∷ []) OfJournal old new x) full ran).run.0.1 refl) where
-      one_list : (lists : List (List StemParts)) → length lists ≡ 1 → sum_by (λ (l : List StemParts). length l) lists ≡ length (slice_index_or lists 0 [])
+    one_file ((subst
+    (λ (x : Result (Unit {0}) EngineFault). IsFleetRun reads InTurn ByRule apt (Some stm ∷ []) OfJournal old new x)
+    full ran).run.0.1 refl) where
+      one_list : (lists : List (List StemParts)) → length lists ≡ 1
+          → sum_by (λ (l : List StemParts). length l) lists ≡ length (slice_index_or lists 0 [])
       one_list [] n = absurd (omega (arith, n))
       one_list (x ∷ []) n = omega arith
       one_list (x ∷ y ∷ more) n = absurd (omega (arith, n))
 
       one_file : HaveTooMany (Some stm ∷ []) → ⊥
-      one_file t = omega (arith, t.many, one_list t.stems t.number, few (slice_index_or t.stems 0 []) (t.stms_say 0 (omega arith)).1)
+      one_file t =
+          omega (
+            arith,
+            t.many,
+            one_list t.stems t.number,
+            few (slice_index_or t.stems 0 []) (t.stms_say 0 (omega arith)).1,
+          )

@@ -29,11 +29,13 @@ taken_whole k xs ys same e =
     sym (take_all k xs (omega (arith, long))) ∙ e
 
 -- where the text of a journal was written, something was
-pub journal_written : (sheets : List (List ℕ)) (ps : List Posting) (old new : List ℕ) → new ≡ old ++ journal_text sheets ps
+pub journal_written : (sheets : List (List ℕ)) (ps : List Posting) (old new : List ℕ)
+    → new ≡ old ++ journal_text sheets ps
     → length new ≡ 0 → ⊥
 unfolding journal_text
 journal_written sheets ps old new e none =
-    let long : length new ≡ length old + length (journal_text sheets ps) = ap length e ∙ length-append old (journal_text sheets ps) in
+    let long : length new ≡ length old + length (journal_text sheets ps) = ap length e
+    ∙ length-append old (journal_text sheets ps) in
     let begins : 0 < length (journal_text sheets ps) = omega arith in
     omega (arith, long, begins)
 

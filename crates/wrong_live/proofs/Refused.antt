@@ -8,7 +8,10 @@ only_line : (before after : HistoryParts) (text : List ℕ) → AnswersAll befor
 only_line before after text (between, first, rest, one, last, is) = last.1 ∙ one.1
 
 -- the history is as before
-pub cut_off : (before after : HistoryParts) (old new : Option (List ℕ)) → IsLiveRun before (Some (codes "951 1 7")) old new (Ok tt) after → after ≡ before
+pub cut_off : (before after : HistoryParts) (old new : Option (List ℕ))
+    → IsLiveRun before (Some (codes "951 1 7")) old new (Ok tt) after → after ≡ before
 cut_off before after old new run =
     let answered = run.answered in
-    only_line before after run.text (subst (λ (lines : List (Option (List ℕ))). AnswersAll before lines run.text after) (sym (answered.read ∙ append-nil answered.lines)) answered.answers)
+    only_line before after run.text
+    (subst (λ (lines : List (Option (List ℕ))). AnswersAll before lines run.text after)
+    (sym (answered.read ∙ append-nil answered.lines)) answered.answers)

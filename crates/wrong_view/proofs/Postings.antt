@@ -55,14 +55,17 @@ pub two : (n : Posting → ℕ) (x y : Posting) → sum_by n (x ∷ y ∷ []) �
 two n x y = omega (arith, sum_by-cons n x (y ∷ []), sum_by-cons n y [])
 
 -- what was found stands there
-pub found_there : {X : Type 0} (held shown : List X) (k : ℕ) (p : X) → shown ≡ held → true ≡ nat_lt k (length shown) → p ≡ get_or shown k p
+pub found_there : {X : Type 0} (held shown : List X) (k : ℕ) (p : X) → shown ≡ held → true ≡ nat_lt k (length shown)
+    → p ≡ get_or shown k p
     → slice_get held k ≡ Some p
-found_there held shown k p same within is = rw (sym same) (slice_get_read shown (length shown) k p refl (ltb-true _ _ (sym within)) is)
+found_there held shown k p same within is =
+    rw (sym same) (slice_get_read shown (length shown) k p refl (ltb-true _ _ (sym within)) is)
 
 -- what a point says
 pub point_is : (i : InstructionParts) (j : JournalParts) (ps : List Posting) (f : Figures) (k before at : ℕ) (p : Point)
     → (figures : AreFigures i (journal_with j ps) f) → slice_get f.points.items k ≡ Some p
-    → point_after (length ps) k ≡ before → point_after (length ps) (k + 1) ≡ at → IsPoint i ps figures.without before at p
+    → point_after (length ps) k ≡ before → point_after (length ps) (k + 1) ≡ at
+    → IsPoint i ps figures.without before at p
 point_is i j ps f k before at p figures there is_before is_at =
     subst (λ b. IsPoint i ps figures.without b at p) is_before
     (subst (λ a. IsPoint i ps figures.without (point_after (length ps) k) a p) is_at (figures.points.each k p there))
@@ -78,17 +81,26 @@ best_of_one i d e (u ∷ Cut w ∷ []) out all =
     omega (arith, out.more, is.2.best.none_outvalues out.logs out.admissible, is.3, two worth_in u (Cut w))
 best_of_one i d e (u ∷ v ∷ w ∷ us) out all = absurd (omega (arith, all.same_number))
 
-pub outvalued : (i : InstructionParts) (j : JournalParts) (d : DemandParts) (e : EntryParts) (f : Figures) → IsOutvalued i e
+pub outvalued : (i : InstructionParts) (j : JournalParts) (d : DemandParts) (e : EntryParts) (f : Figures)
+    → IsOutvalued i e
     → AreFigures i (journal_with j (Demand d ∷ Cut e ∷ [])) f → f.total.at_base < f.total.best
 outvalued i j d e f out figures =
-    omega (arith, figures.total.at_base, figures.total.best, two (at_base_in i) (Demand d) (Cut e), best_of_one i d e figures.without out figures.are_unsteered)
+    omega (
+      arith,
+      figures.total.at_base,
+      figures.total.best,
+      two (at_base_in i) (Demand d) (Cut e),
+      best_of_one i d e figures.without out figures.are_unsteered,
+    )
 
 -- before anything was cut there is no degree
-none_at : (i : InstructionParts) (d : DemandParts) (counts : List ℕ) → AreClassCounts i (Demand d ∷ []) counts → (q : ℕ) → slice_index counts q ≡ 0
+none_at : (i : InstructionParts) (d : DemandParts) (counts : List ℕ) → AreClassCounts i (Demand d ∷ []) counts → (q : ℕ)
+    → slice_index counts q ≡ 0
 none_at i d counts are q = elim (cases_lt q (classes i)) [
   | inl lt ↦
       let c = class_at i q lt in
-      ap (λ k. slice_index counts k) (sym c.place) ∙ are.each c.class c.is_class ∙ one (λ x. class_logs_in i c.class x) (Demand d)
+      ap (λ k. slice_index counts k) (sym c.place) ∙ are.each c.class c.is_class
+      ∙ one (λ x. class_logs_in i c.class x) (Demand d)
   | inr le ↦ past counts q (omega (arith, le, are.one_each))
 ]
   where
@@ -104,7 +116,8 @@ nothing_of (suc n) = refl
 nothing : (n m : ℕ) (ns : List ℕ) → ((q : ℕ) → slice_index ns q ≡ 0) → sum (take n (drop m ns)) ≡ 0
 nothing zero zero ns none = refl
 nothing (suc n) zero [] none = refl
-nothing (suc n) zero (x ∷ ns) none = omega (arith, none 0, sum_by-cons (λ k. k) x (take n ns), nothing n zero ns (λ q. none (suc q)))
+nothing (suc n) zero (x ∷ ns) none =
+    omega (arith, none 0, sum_by-cons (λ k. k) x (take n ns), nothing n zero ns (λ q. none (suc q)))
 nothing n (suc m) [] none = nothing_of n
 nothing n (suc m) (x ∷ ns) none = nothing n m ns (λ q. none (suc q))
 
@@ -113,18 +126,22 @@ zero_whole wanted cut degree is =
     let zero : wanted * 0 ≡ 0 = omega arith in
     ap (λ k. cond (k == 0) None degree) (ap (λ k. wanted * k) is ∙ zero)
 
-pub no_degree : (i : InstructionParts) (d : DemandParts) (targets counts : List ℕ) (at : ℕ) (degree : Option ℕ) → AreClassCounts i (Demand d ∷ []) counts
+pub no_degree : (i : InstructionParts) (d : DemandParts) (targets counts : List ℕ) (at : ℕ) (degree : Option ℕ)
+    → AreClassCounts i (Demand d ∷ []) counts
     → IsDegreeBy i targets counts at degree → degree ≡ None
 no_degree i d targets counts at degree are is =
     let none : sum (part_of i is.assortment at counts) ≡ 0 = nothing _ _ counts (none_at i d counts are) in
-    is.degree_is ∙ zero_whole (sum (part_of i is.assortment at targets)) (sum (part_of i is.assortment at counts)) _ none
+    is.degree_is
+    ∙ zero_whole (sum (part_of i is.assortment at targets)) (sum (part_of i is.assortment at counts)) _ none
 
-pub none_first : (degrees : List (Option ℕ)) → ((d : Option ℕ) → slice_get degrees 0 ≡ Some d → d ≡ None) → get_or degrees 0 None ≡ None
+pub none_first : (degrees : List (Option ℕ)) → ((d : Option ℕ) → slice_get degrees 0 ≡ Some d → d ≡ None)
+    → get_or degrees 0 None ≡ None
 none_first [] none = refl
 none_first (d ∷ degrees) none = none d refl
 
 -- of two stems of one length the last isn't the longest
-pub not_last : (i : InstructionParts) (j : JournalParts) (f : Figures) (two : AreAsLong j.entries) (at : ℕ) → AreFigures i j f
+pub not_last : (i : InstructionParts) (j : JournalParts) (f : Figures) (two : AreAsLong j.entries) (at : ℕ)
+    → AreFigures i j f
     → f.longest ≡ Some at → at ≡ 1 → ⊥
 not_last i j f two at figures is last =
     let a = two.cuts.first in
@@ -143,7 +160,8 @@ no_cost i d (Cut w ∷ us) all k = absurd (all.each 0 (Demand d) (Cut w) refl re
 no_cost i d (Demand w ∷ us) all zero = refl
 no_cost i d (Demand w ∷ us) all (suc k) = refl
 
-none_greatest : (ns : List ℕ) (at : Option ℕ) → ((k : ℕ) → slice_index ns k ≡ 0) → IsFirstGreatest ns at → is_some at ≡ true → ⊥
+none_greatest : (ns : List ℕ) (at : Option ℕ) → ((k : ℕ) → slice_index ns k ≡ 0) → IsFirstGreatest ns at
+    → is_some at ≡ true → ⊥
 none_greatest ns None none first there = true_false (sym there)
 none_greatest ns (Some at) none first there = omega (arith, none at, first.0)
 
@@ -159,12 +177,15 @@ entry_in e None = e
 entry_in e (Some (Cut f)) = f
 entry_in e (Some (Demand d)) = e
 
-pub is_entry : (ps : List Posting) (d : DemandParts) (e f : EntryParts) → ps ≡ Demand d ∷ Cut e ∷ [] → slice_get ps 1 ≡ Some (as_posting f) → f ≡ e
+pub is_entry : (ps : List Posting) (d : DemandParts) (e f : EntryParts) → ps ≡ Demand d ∷ Cut e ∷ []
+    → slice_get ps 1 ≡ Some (as_posting f) → f ≡ e
 is_entry ps d e f same there = ap (entry_in f) (sym there ∙ ap (λ qs. slice_get qs 1) same)
 
 -- a log's price that was off its base
-pub off_base : (i : InstructionParts) (sheets : List (List ℕ)) (e : EntryParts) (c : Told) (p : Piece) → IsOffBase i sheets e
-    → IsCut (base_sheet i) (prices_at sheets e.version) e c → slice_get c.pieces.items 0 ≡ Some p → p.price ≢ p.base_price
+pub off_base : (i : InstructionParts) (sheets : List (List ℕ)) (e : EntryParts) (c : Told) (p : Piece)
+    → IsOffBase i sheets e
+    → IsCut (base_sheet i) (prices_at sheets e.version) e c → slice_get c.pieces.items 0 ≡ Some p
+    → p.price ≢ p.base_price
 off_base i sheets e c p off cut there same =
     let is = cut.pieces.each 0 off.log p (ap (λ gs. slice_get gs 0) off.only) there in
     let place : p.index ≡ index_of i (class_of i e.stem off.log) = is.index ∙ ap (λ k. index_of i k) is.class in

@@ -21,12 +21,14 @@ loop-place-preserved c =
       rows = λ a x d lt at has. elim (cases_lt a c.loop-place.place) [
         | inl before ↦ c.in_ok-push_limits.ensures.kept d (now.rows a x d before at has)
         | inr here ↦
-            c.in_ok-push_limits.ensures.rows d (subst (λ (z : AssortmentParts). Contains z.diameters d) (sym (same a x (omega arith) at)) has)
+            c.in_ok-push_limits.ensures.rows d
+            (subst (λ (z : AssortmentParts). Contains z.diameters d) (sym (same a x (omega arith) at)) has)
       ];
       uppers = λ a x lt at. elim (cases_lt a c.loop-place.place) [
         | inl before ↦ c.in_ok-push_limits.ensures.kept x.upper (now.uppers a x before at)
         | inr here ↦
-            subst (λ (z : AssortmentParts). Contains c.push_limits.new.limits.items z.upper) (same a x (omega arith) at) c.in_ok-push_limits.ensures.upper
+            subst (λ (z : AssortmentParts). Contains c.push_limits.new.limits.items z.upper) (same a x (omega arith) at)
+            c.in_ok-push_limits.ensures.upper
       ];
     }
 
@@ -40,8 +42,10 @@ returns c =
       high = c.in_ok-sort_once.ensures.kept 1504 c.loop-place.invariant.high;
       rows = λ a x d at has.
           c.in_ok-sort_once.ensures.kept d (
-          (c.loop-place.invariant.rows a x d (omega (arith, slice_get_within c.args.instruction.now.assortments a x at)) at has));
+          (c.loop-place.invariant.rows a x d (omega (arith, slice_get_within c.args.instruction.now.assortments a x at))
+          at has));
       uppers = λ a x at.
           c.in_ok-sort_once.ensures.kept x.upper (
-          (c.loop-place.invariant.uppers a x (omega (arith, slice_get_within c.args.instruction.now.assortments a x at)) at));
+          (c.loop-place.invariant.uppers a x (omega (arith, slice_get_within c.args.instruction.now.assortments a x at))
+          at));
     }

@@ -31,21 +31,27 @@ loop-place-preserved c =
           (λ k d lt.
           let x : AssortmentParts = c.index-all-place.result in
           let at : slice_get c.args.instruction.now.assortments c.loop-place.place ≡ Some x =
-          read_at c.args.instruction.now c.loop-place.place x c.assortments-all.result.now c.assortments-all.ensures.items
+          read_at c.args.instruction.now c.loop-place.place x c.assortments-all.result.now
+          c.assortments-all.ensures.items
           (omega (arith, ap length c.assortments-all.ensures.items)) c.index-all-place.is in
           let in_list : k < length x.lengths = omega (arith, ap length c.lengths.ensures.lengths) in
-          let same : get_or x.lengths k d ≡ get_or c.lengths.result.now k d = ap (λ (ls : List ℕ). get_or ls k d) (sym c.lengths.ensures.lengths) in
+          let same : get_or x.lengths k d ≡ get_or c.lengths.result.now k d =
+          ap (λ (ls : List ℕ). get_or ls k d) (sym c.lengths.ensures.lengths) in
           subst (λ n. (0 < n) × (n % c.args.instruction.now.«module» ≡ 0)) same (
             (let r = c.lengths.ensures.valid.lengths_range k d in_list in omega (arith, r.0)),
-            on_module c.args.instruction.now c.loop-place.place x (get_or x.lengths k d) c.assortments-all.ensures.valid at (Contains-get_or x.lengths k d in_list),
+            on_module c.args.instruction.now c.loop-place.place x (get_or x.lengths k d)
+                c.assortments-all.ensures.valid at (Contains-get_or x.lengths k d in_list),
           ))
           now.steps;
     }
 
 pub returns-clause-steps : goal.returns-clause-steps
 returns-clause-steps c =
-    λ k d lt. at_place (λ n. IsWhole c.args.instruction.now.«module» n) c.loop-place.codes.items (λ j within. c.loop-place.invariant.steps j 0 within)
-    (get_or c.sort_once.new.numbers.items k d) (c.in_ok-sort_once.ensures.none_new (get_or c.sort_once.new.numbers.items k d) (Contains-get_or c.sort_once.new.numbers.items k d lt))
+    λ k d lt. at_place (λ n. IsWhole c.args.instruction.now.«module» n) c.loop-place.codes.items
+    (λ j within. c.loop-place.invariant.steps j 0 within)
+    (get_or c.sort_once.new.numbers.items k d)
+    (c.in_ok-sort_once.ensures.none_new (get_or c.sort_once.new.numbers.items k d)
+    (Contains-get_or c.sort_once.new.numbers.items k d lt))
 
 pub returns-clause-codes : goal.returns-clause-codes
 returns-clause-codes c =

@@ -14,7 +14,9 @@ loop-length-preserved c = record {
       (c.loop-length.invariant.more k lt))
       (has_pushed _ _ _ refl));
   steps = λ step lengths all. rw c.in_ok-push.ensures.items
-      (All-push (λ n. IsWhole step n) _ _ (c.loop-length.invariant.steps step lengths all) (whole_code step c.args.assortment _ c.requires.assortment (lengths c.loop-length.length-index 0 c.loop-length-test.true)));
+      (All-push (λ n. IsWhole step n) _ _ (c.loop-length.invariant.steps step lengths all)
+      (whole_code step c.args.assortment _ c.requires.assortment
+      (lengths c.loop-length.length-index 0 c.loop-length-test.true)));
 }
 
 pub returns-clause-more : goal.returns-clause-more

@@ -17,9 +17,12 @@ returns c =
     let a = c.index-assortments-at.result in
     let there = stands _ _ _ _ c.assortments.ensures.items c.requires.exists c.index-assortments-at.is in
     let first = c.index-first.ensures.place ∙ first_class c.args.instruction.now c.args.at a there in
-    let number : c.index-first.result + c.classes-number.result - c.index-first.result ≡ classes_of a = omega (arith, c.classes-number.ensures.number) in
+    let number : c.index-first.result + c.classes-number.result - c.index-first.result ≡ classes_of a =
+    omega (arith, c.classes-number.ensures.number) in
     record {
       assortment = a;
       exists = there;
-      degree_is = c.degree_by.ensures ∙ (λ t. degree_of (take (number t) (drop (first t) c.args.targets.now)) (take (number t) (drop (first t) c.args.counts.now)));
+      degree_is = c.degree_by.ensures
+          ∙ (λ t. degree_of (take (number t) (drop (first t) c.args.targets.now))
+          (take (number t) (drop (first t) c.args.counts.now)));
     }

@@ -9,7 +9,17 @@ returns-clause-none c =
     let a = c.args.assortment.now in
     let s = c.args.standings.now in
     let rows : c.loop-row.row ≡ length a.diameters =
-    omega (arith, c.loop-row-test.false, c.loop-row.auto.row-end, ap (λ xs. length xs) c.diameters-row-end.ensures.limits) in
+    omega (
+      arith,
+      c.loop-row-test.false,
+      c.loop-row.auto.row-end,
+      ap (λ xs. length xs) c.diameters-row-end.ensures.limits,
+    ) in
     let all : c.args.before + c.loop-row.row * length a.lengths ≡ classes_before s.instruction (c.args.at + 1) =
-    omega (arith, c.requires.before, ap (λ r. r * length a.lengths) rows, before_next s.instruction a c.args.at c.requires.exists) in
+    omega (
+      arith,
+      c.requires.before,
+      ap (λ r. r * length a.lengths) rows,
+      before_next s.instruction a c.args.at c.requires.exists,
+    ) in
     subst (λ n. AreMetBelow s c.args.prices.now n) all c.loop-row.invariant

@@ -6,5 +6,7 @@ use Rattle.buck_calls.proofs.files.buckfleet_buck.Goals as goal
 
 pub returns-in-Err : goal.returns-in-Err
 returns-in-Err c =
-    or_told (λ (text : List ℕ) (status : ℕ). AnswersBuck (Some c.args.apt.now) (Some c.args.stm.now) (Ok text) × (status ≡ 0)) (λ (e : EngineFault). AnswersBuck (Some c.args.apt.now) (Some c.args.stm.now) (Err e)) _ _ _ _
-    (told (λ (e : EngineFault). AnswersBuck (Some c.args.apt.now) (Some c.args.stm.now) (Err e)) c.in-Err.fault _ _ _ _ c.in-Err.ensures.refused (inl (inr (inl refl))) c.put_fault.ensures)
+    or_told (λ (text : List ℕ) (status : ℕ). AnswersBuck (Some c.args.apt.now) (Some c.args.stm.now) (Ok text)
+    × (status ≡ 0)) (λ (e : EngineFault). AnswersBuck (Some c.args.apt.now) (Some c.args.stm.now) (Err e)) _ _ _ _
+    (told (λ (e : EngineFault). AnswersBuck (Some c.args.apt.now) (Some c.args.stm.now) (Err e))
+    c.in-Err.fault _ _ _ _ c.in-Err.ensures.refused (inl (inr (inl refl))) c.put_fault.ensures)

@@ -8,8 +8,10 @@ use Rattle.buck_calls.proofs.showing.show.Goals as goal
 pub returns : goal.returns
 returns c =
     let logs : c.as_slice-logs.result.now ≡ c.args.entry.now.logs =
-    c.as_slice-logs.ensures.value ∙ ap (λ (x : Cutting). x.logs.items) c.deref.ensures ∙ ap (λ (e : EntryParts). e.logs) c.entry.view_is in
-    let stem : c.deref-2.result.now ≡ c.args.entry.now.stem = c.deref-2.ensures ∙ ap (λ (e : EntryParts). e.stem) c.entry.view_is in
+    c.as_slice-logs.ensures.value ∙ ap (λ (x : Cutting). x.logs.items) c.deref.ensures
+    ∙ ap (λ (e : EntryParts). e.logs) c.entry.view_is in
+    let stem : c.deref-2.result.now ≡ c.args.entry.now.stem = c.deref-2.ensures
+    ∙ ap (λ (e : EntryParts). e.stem) c.entry.view_is in
     record {
       position_is = refl;
       number = ap (λ (e : EntryParts). e.number) c.entry.view_is;

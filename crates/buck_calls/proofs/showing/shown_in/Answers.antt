@@ -25,7 +25,8 @@ volume_of-requires-clause-length c =
 pub worth_of_piece-requires-clause-price : goal.worth_of_piece-requires-clause-price
 worth_of_piece-requires-clause-price c =
     rw c.price-price.ensures.price
-    (price-le c.args.sheet.now (index_of c.args.sheet.now.instruction c.class_in-class.result) c.instruction-valid.ensures.valid)
+    (price-le c.args.sheet.now (index_of c.args.sheet.now.instruction c.class_in-class.result)
+    c.instruction-valid.ensures.valid)
 
 pub worth_of_piece-requires-clause-cubic : goal.worth_of_piece-requires-clause-cubic
 worth_of_piece-requires-clause-cubic c =
@@ -39,7 +40,8 @@ returns c =
     let stem = c.args.stem.now in
     let log = c.args.log.now in
     let class = c.class_in-class.result in
-    let is = class_is sheet.instruction stem log c.args.assortment.now class c.requires.there c.class_in-class.ensures in
+    let is = class_is sheet.instruction stem log c.args.assortment.now class c.requires.there
+    c.class_in-class.ensures in
     record {
       start = refl;
       length_is = refl;
@@ -49,7 +51,8 @@ returns c =
       top = c.top_of-top.ensures;
       price = c.price-price.ensures.price ∙ ap (λ k. price_of sheet k) is;
       worth = c.worth_of_piece.ensures
-          ∙ worth_is sheet stem log c.args.assortment.now class c.price_kind.result c.price-price.result c.top_of-top.result
+          ∙ worth_is sheet stem log c.args.assortment.now class c.price_kind.result c.price-price.result
+          c.top_of-top.result
           c.volume_of.result c.requires.there is c.price_kind.ensures c.price-price.ensures.price c.top_of-top.ensures
           c.volume_of.ensures.value;
     }

@@ -7,13 +7,19 @@ use Rattle.buck_calls.proofs.turns.files_of.Goals as goal
 pub loop-length-init : goal.loop-length-init
 loop-length-init c = record {
   sums = c.requires;
-  sizes = ap (λ (fs : List (Bor (List ℕ))). map (λ (f : List ℕ). length f) (map (λ file. file.now) fs)) c.new-files.ensures.items;
-  bytes = ap (λ (fs : List (Bor (List ℕ))). concat (map (λ file. file.now) fs) ++ c.args.bytes.now) c.new-files.ensures.items;
+  sizes = ap (λ (fs : List (Bor (List ℕ))). map (λ (f : List ℕ). length f) (map (λ file. file.now) fs))
+      c.new-files.ensures.items;
+  bytes = ap (λ (fs : List (Bor (List ℕ))). concat (map (λ file. file.now) fs) ++ c.args.bytes.now)
+      c.new-files.ensures.items;
 }
 
 pub split_at-requires : goal.split_at-requires
 split_at-requires c =
-    omega (arith, c.loop-length.invariant.sums, sum_drop c.args.lengths.now c.loop-length.length-index 0 c.loop-length-test.true)
+    omega (
+      arith,
+      c.loop-length.invariant.sums,
+      sum_drop c.args.lengths.now c.loop-length.length-index 0 c.loop-length-test.true,
+    )
 
 pub loop-length-preserved : goal.loop-length-preserved
 loop-length-preserved c =
@@ -36,14 +42,20 @@ loop-length-preserved c =
       bytes = ap (λ fs. concat fs ++ c.split_at.result.1.now) now
           ∙ bytes_more files file c.loop-length.left.now c.split_at.result.1.now c.args.bytes.now
           (ap (λ xs. xs ++ c.split_at.result.1.now) c.split_at.ensures.front
-          ∙ ap (λ xs. take n c.loop-length.left.now ++ xs) c.split_at.ensures.back ∙ take-append-drop n c.loop-length.left.now)
+          ∙ ap (λ xs. take n c.loop-length.left.now ++ xs) c.split_at.ensures.back
+          ∙ take-append-drop n c.loop-length.left.now)
           c.loop-length.invariant.bytes;
     }
 
 pub returns : goal.returns
 returns c = (
-  c.loop-length.invariant.sizes ∙ take_all c.loop-length.length-index c.args.lengths.now (omega (arith, c.loop-length-test.false)),
+  c.loop-length.invariant.sizes
+      ∙ take_all c.loop-length.length-index c.args.lengths.now (omega (arith, c.loop-length-test.false)),
   bytes_all (map (λ (f : Bor (List ℕ)). f.now) c.loop-length.files.items) c.loop-length.left.now c.args.bytes.now
-      (omega (arith, c.loop-length.invariant.sums, sum_behind c.args.lengths.now c.loop-length.length-index (omega (arith, c.loop-length-test.false))))
+      (omega (
+        arith,
+        c.loop-length.invariant.sums,
+        sum_behind c.args.lengths.now c.loop-length.length-index (omega (arith, c.loop-length-test.false)),
+      ))
       c.loop-length.invariant.bytes,
 )

@@ -9,21 +9,35 @@ use Rattle.buck_figures.proofs.account.account_posting.Goals as goal
 pub add_posting-requires-clause-total : goal.add_posting-requires-clause-total
 add_posting-requires-clause-total c =
     let b = c.requires.before in
-    below_total c.args.planner.now.instruction b.postings b.unsteered c.args.account.now.tally (omega (arith, b.few, b.at_is)) b.account.tally
+    below_total c.args.planner.now.instruction b.postings b.unsteered c.args.account.now.tally
+    (omega (arith, b.few, b.at_is)) b.account.tally
 
 pub add_posting-requires-clause-owns : goal.add_posting-requires-clause-owns
 add_posting-requires-clause-owns c =
     let b = c.requires.before in
-    below_owns c.args.planner.now.instruction b.postings b.unsteered c.args.account.now.tally (omega (arith, b.few, b.at_is)) b.account.tally
+    below_owns c.args.planner.now.instruction b.postings b.unsteered c.args.account.now.tally
+    (omega (arith, b.few, b.at_is)) b.account.tally
 
 pub returns-clause-passed : goal.returns-clause-passed
 returns-clause-passed c = λ ps us is account.
     let i = c.args.planner.now.instruction in
     let shown : c.deref.result.now ≡ c.args.planner.now = search rules in
-    let parts : ArePartsOn c.args.planner.now c.args.posting.now c.args.account.now.parts.items c.add_parts.new.parts.items =
-    subst (λ (s : SheetParts). ArePartsOn s c.args.posting.now c.args.account.now.parts.items c.add_parts.new.parts.items) shown c.add_parts.ensures in
+    let parts : ArePartsOn c.args.planner.now c.args.posting.now c.args.account.now.parts.items
+    c.add_parts.new.parts.items =
+    subst (λ (s : SheetParts). ArePartsOn s c.args.posting.now c.args.account.now.parts.items
+    c.add_parts.new.parts.items) shown c.add_parts.ensures in
     let low = c.in_ok-sums.ensures.low (80 * length ps) account.counts_low account.unsteered_low in
-    account_more i c.args.planner.now ps us c.args.posting.now c.args.at c.cost.result c.in_ok-sums.sums c.args.account.now
-    (record { tally = c.add_posting.new.tally; parts = c.add_parts.new.parts; longest = c.with-account.result; dearest = c.with-account-2.result })
-    c.requires.base is account (c.in_ok-sums.ensures.added ps us is account.tally) low.0 low.1 c.in_ok-sums.ensures.own parts
-    (λ ns number old. subst (λ n. IsGreatest (ns ++ (n + c.in_ok-sums.sums.length) ∷ []) c.with-account.result) c.from.ensures (c.with-account.ensures ns number old)) c.cost.ensures (λ ns number old. c.with-account-2.ensures ns number old)
+    account_more i c.args.planner.now ps us c.args.posting.now c.args.at c.cost.result c.in_ok-sums.sums
+    c.args.account.now
+    (record {
+      tally = c.add_posting.new.tally;
+      parts = c.add_parts.new.parts;
+      longest = c.with-account.result;
+      dearest =
+          c.with-account-2.result;
+    })
+    c.requires.base is account (c.in_ok-sums.ensures.added ps us is account.tally)
+    low.0 low.1 c.in_ok-sums.ensures.own parts
+    (λ ns number old. subst (λ n. IsGreatest (ns ++ (n + c.in_ok-sums.sums.length) ∷ []) c.with-account.result)
+    c.from.ensures (c.with-account.ensures ns number old)) c.cost.ensures
+    (λ ns number old. c.with-account-2.ensures ns number old)

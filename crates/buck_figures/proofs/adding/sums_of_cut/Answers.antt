@@ -22,12 +22,18 @@ invariant_of-result c =
     let stem' : c.deref-3.result.now ≡ e.stem = search rules in
     let wood : IsWoodOf c.args.base.now e.stem e.logs c.wood_of-wood.result =
     subst (λ (gs : List Log). IsWoodOf c.args.base.now e.stem gs c.wood_of-wood.result) same
-    (subst (λ (t : StemParts). IsWoodOf c.args.base.now t c.as_slice-logs.result.now c.wood_of-wood.result) stem c.wood_of-wood.ensures.wood) in
+    (subst (λ (t : StemParts). IsWoodOf c.args.base.now t c.as_slice-logs.result.now c.wood_of-wood.result)
+    stem c.wood_of-wood.ensures.wood) in
     let whole = within_stem i e.stem 0 e.logs (omega arith) c.requires.admissible in
-    let long : c.length.result ≡ stem_length e.stem.samples = c.length.ensures.length ∙ ap (λ (t : StemParts). stem_length t.samples) stem' in
+    let long : c.length.result ≡ stem_length e.stem.samples = c.length.ensures.length
+    ∙ ap (λ (t : StemParts). stem_length t.samples) stem' in
     record {
       few = (omega arith, omega arith);
-      small_wood = (omega arith, omega (arith, c.wood_of-wood.ensures.thin, wood.logged, whole, long, c.from.ensures), omega (arith, c.from.ensures));
+      small_wood = (
+        omega arith,
+        omega (arith, c.wood_of-wood.ensures.thin, wood.logged, whole, long, c.from.ensures),
+        omega (arith, c.from.ensures),
+      );
       small_worth = (omega (arith, c.from-2.ensures), omega (arith, c.from-3.ensures));
       no_more_than_the_stems = omega (arith, wood.logged, wood.trim, whole, long, c.from.ensures);
       no_better_than_best = omega (arith, wood.at_base, c.requires.best, c.from-3.ensures);

@@ -12,28 +12,35 @@ pub index-index-requires : goal.index-index-requires
 index-index-requires c =
     let class : IsClass c.args.base.now.instruction c.in-Some.found.class =
     subst (λ k. IsClass c.args.base.now.instruction k) (sym c.in-Some.ensures.class)
-    (class_is_class c.args.base.now.instruction c.args.stem.now c.args.log.now c.log_valuation.ensures.valid.valid c.requires.allowed) in
+    (class_is_class c.args.base.now.instruction c.args.stem.now c.args.log.now c.log_valuation.ensures.valid.valid
+    c.requires.allowed) in
     let same : c.deref.result.now ≡ c.args.base.now.instruction = search rules in
     subst (λ (i : InstructionParts). IsClass i c.in-Some.found.class) (sym same) class
 
 pub volume_of-volume-requires-clause-diameter : goal.volume_of-volume-requires-clause-diameter
 volume_of-volume-requires-clause-diameter c =
-    let low = allowed_low c.args.base.now.instruction c.args.stem.now c.args.log.now c.log_valuation.ensures.valid.valid c.requires.allowed in
+    let low =
+    allowed_low c.args.base.now.instruction c.args.stem.now c.args.log.now c.log_valuation.ensures.valid.valid
+    c.requires.allowed in
     rw c.in-Some.ensures.top low.2
 
 pub volume_of-volume-requires-clause-length : goal.volume_of-volume-requires-clause-length
 volume_of-volume-requires-clause-length c =
-    (allowed_low c.args.base.now.instruction c.args.stem.now c.args.log.now c.log_valuation.ensures.valid.valid c.requires.allowed).1
+    (allowed_low c.args.base.now.instruction c.args.stem.now c.args.log.now c.log_valuation.ensures.valid.valid
+    c.requires.allowed).1
 
 pub worth_by-requires : goal.worth_by-requires
 worth_by-requires c =
-    let low = allowed_low c.args.base.now.instruction c.args.stem.now c.args.log.now c.log_valuation.ensures.valid.valid c.requires.allowed in
+    let low =
+    allowed_low c.args.base.now.instruction c.args.stem.now c.args.log.now c.log_valuation.ensures.valid.valid
+    c.requires.allowed in
     omega (arith, c.volume_of-volume.ensures.high, low.1)
 
 pub price-requires : goal.price-requires
 price-requires c =
     subst (λ k. IsClass c.args.base.now.instruction k) (sym c.in-Some.ensures.class)
-    (class_is_class c.args.base.now.instruction c.args.stem.now c.args.log.now c.log_valuation.ensures.valid.valid c.requires.allowed)
+    (class_is_class c.args.base.now.instruction c.args.stem.now c.args.log.now c.log_valuation.ensures.valid.valid
+    c.requires.allowed)
 
 pub returns : goal.returns
 returns c =
@@ -41,10 +48,13 @@ returns c =
     let same : c.deref.result.now ≡ i = search rules in
     let same' : c.deref-2.result.now ≡ i = search rules in
     let a : AssortmentParts = c.index-assortments-log.result in
-    let items : c.assortments.result.now ≡ i.assortments = c.assortments.ensures.items ∙ ap (λ (x : InstructionParts). x.assortments) same' in
-    let there_is : c.args.log.now.assortment < length i.assortments = slice_get_within i.assortments c.args.log.now.assortment _ c.requires.allowed.exists in
+    let items : c.assortments.result.now ≡ i.assortments = c.assortments.ensures.items
+    ∙ ap (λ (x : InstructionParts). x.assortments) same' in
+    let there_is : c.args.log.now.assortment < length i.assortments =
+    slice_get_within i.assortments c.args.log.now.assortment _ c.requires.allowed.exists in
     let there : slice_get i.assortments c.args.log.now.assortment ≡ Some a =
-    stands c.assortments.result.now i.assortments c.args.log.now.assortment a items there_is c.index-assortments-log.is in
+    stands c.assortments.result.now i.assortments c.args.log.now.assortment a items there_is
+    c.index-assortments-log.is in
     let kind : c.price_kind-kind.result ≡ kind_in (slice_get i.assortments c.args.log.now.assortment) =
     c.price_kind-kind.ensures ∙ sym (ap kind_in there) in
     record {
@@ -56,7 +66,8 @@ returns c =
       top = c.in-Some.ensures.top;
       volume = c.volume_of-volume.ensures.value ∙ ap (λ d. volume d c.args.log.now.length) c.in-Some.ensures.top;
       price = refl;
-      worth = c.worth_by.ensures ∙ ap (λ k. worth_at k (slice_index c.args.prices.now c.index-index.result) c.volume_of-volume.result) kind;
+      worth = c.worth_by.ensures
+          ∙ ap (λ k. worth_at k (slice_index c.args.prices.now c.index-index.result) c.volume_of-volume.result) kind;
       base_price = c.price.ensures.price;
       base_worth = c.in-Some.ensures.worth;
     }

@@ -13,4 +13,5 @@ loop-log-preserved c =
     let one : take (k + 1) c.args.logs.now ≡ take k c.args.logs.now ++ g ∷ [] =
     take_one_more c.args.logs.now k g (slice_get-get_or c.args.logs.now k none c.loop-log-test.true) in
     rw (one, c.in_ok-push.ensures.items)
-    (pieces_more c.args.base.now c.args.prices.now c.args.stem.now (take k c.args.logs.now) c.loop-log.pieces.items g c.piece_of.result c.loop-log.invariant c.piece_of.ensures)
+    (pieces_more c.args.base.now c.args.prices.now c.args.stem.now (take k c.args.logs.now)
+    c.loop-log.pieces.items g c.piece_of.result c.loop-log.invariant c.piece_of.ensures)

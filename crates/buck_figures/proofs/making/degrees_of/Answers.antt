@@ -15,6 +15,7 @@ loop-at-preserved c =
         | inl h ↦ c.loop-at.invariant.each a d h.1
         | inr h ↦
             subst (λ x. IsDegreeBy c.args.instruction.now c.args.targets.now c.args.counts.now a x) (sym h.1)
-            (subst (λ k. IsDegreeBy c.args.instruction.now c.args.targets.now c.args.counts.now k one) (sym (h.0 ∙ c.loop-at.invariant.number)) c.degree_at.ensures)
+            (subst (λ k. IsDegreeBy c.args.instruction.now c.args.targets.now c.args.counts.now k one)
+            (sym (h.0 ∙ c.loop-at.invariant.number)) c.degree_at.ensures)
       ];
     }

@@ -22,18 +22,26 @@ invariant_of-result c =
     let items : c.as_slice-postings.result.now ≡ ps = search rules in
     let sheets : map (λ (w : Vec ℕ Global). w.items) c.as_slice-sheets.result.now ≡ j.sheets = search rules in
     let curves : AreCurves i ps (min (length ps) 200) c.in_ok-course.course c.in_ok-course.points.items =
-    subst (λ qs. AreCurves i qs (min (length qs) 200) c.in_ok-course.course c.in_ok-course.points.items) items c.in_ok-course.ensures.curves in
+    subst (λ qs. AreCurves i qs (min (length qs) 200) c.in_ok-course.course c.in_ok-course.points.items)
+    items c.in_ok-course.ensures.curves in
     let end = last_point (length ps) in
     let account = at_end i ps curves.unsteered _ c.in_ok-course.course end curves.course in
-    let version : c.version-version.result ≡ ends_of i ps = c.version-version.ensures.version ∙ version_there i ps curves.unsteered _ c.in_ok-course.course end curves.course in
-    let prices = prices_in c.as_slice-sheets.result.now j.sheets c.version-version.result c.index-sheets-version.result sheets c.index-sheets-version.is
+    let version : c.version-version.result ≡ ends_of i ps = c.version-version.ensures.version
+    ∙ version_there i ps curves.unsteered _ c.in_ok-course.course end curves.course in
+    let prices =
+    prices_in c.as_slice-sheets.result.now j.sheets c.version-version.result c.index-sheets-version.result sheets
+    c.index-sheets-version.is
     (omega (arith, version, c.requires.lawful.sheets_number)) in
     let number = prices_number i j c.requires.lawful c.assortments-valid.ensures.valid (length ps) (omega arith) in
     record {
       counts_number = omega (arith, c.in_ok-course.course.account.tally.counts.ok, account.tally.counts.one_each);
-      unsteered_number = omega (arith, c.in_ok-course.course.account.tally.unsteered.ok, account.tally.unsteered.one_each);
+      unsteered_number =
+          omega (arith, c.in_ok-course.course.account.tally.unsteered.ok, account.tally.unsteered.one_each);
       targets_number = omega (arith, c.in_ok-course.course.targets.value.ok, curves.course.wanted);
-      prices_number = ap length (c.as_slice.ensures.value ∙ prices ∙ ap (λ v. prices_at j.sheets v) (version ∙ ap (λ qs. ends_of i qs) (sym (take-length ps)))) ∙ number;
+      prices_number =
+          ap length
+          (c.as_slice.ensures.value ∙ prices
+          ∙ ap (λ v. prices_at j.sheets v) (version ∙ ap (λ qs. ends_of i qs) (sym (take-length ps)))) ∙ number;
       assortments_number = omega (arith, c.in_ok-course.course.account.parts.ok, account.parts.one_each);
     }
 
@@ -45,10 +53,14 @@ returns-clause-figures c =
     let items : c.as_slice-postings.result.now ≡ ps = search rules in
     let sheets : map (λ (w : Vec ℕ Global). w.items) c.as_slice-sheets.result.now ≡ j.sheets = search rules in
     let curves : AreCurves i ps (min (length ps) 200) c.in_ok-course.course c.in_ok-course.points.items =
-    subst (λ qs. AreCurves i qs (min (length qs) 200) c.in_ok-course.course c.in_ok-course.points.items) items c.in_ok-course.ensures.curves in
+    subst (λ qs. AreCurves i qs (min (length qs) 200) c.in_ok-course.course c.in_ok-course.points.items)
+    items c.in_ok-course.ensures.curves in
     let end = last_point (length ps) in
-    let version : c.version-version.result ≡ ends_of i ps = c.version-version.ensures.version ∙ version_there i ps curves.unsteered _ c.in_ok-course.course end curves.course in
-    let prices = prices_in c.as_slice-sheets.result.now j.sheets c.version-version.result c.index-sheets-version.result sheets c.index-sheets-version.is
+    let version : c.version-version.result ≡ ends_of i ps = c.version-version.ensures.version
+    ∙ version_there i ps curves.unsteered _ c.in_ok-course.course end curves.course in
+    let prices =
+    prices_in c.as_slice-sheets.result.now j.sheets c.version-version.result c.index-sheets-version.result sheets
+    c.index-sheets-version.is
     (omega (arith, version, c.requires.lawful.sheets_number)) in
     figures_are i j c.in_ok-course.course c.in_ok-course.points.items _ curves refl sheets items refl refl refl
     (c.as_slice.ensures.value ∙ prices ∙ ap (λ v. prices_at j.sheets v) version) refl refl refl refl refl refl

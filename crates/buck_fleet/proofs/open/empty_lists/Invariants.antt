@@ -4,4 +4,5 @@ use Rattle.buck_fleet.specs.inner.Lists.{AreEmpty}
 use Rattle.buck_fleet.proofs.open.empty_lists.Given as goal
 
 abbrev pub invariant-loop : goal.invariant-loop
-invariant-loop l = (length l.lists.items ≡ l.counter) × (l.count ≤ vec_capacity l.lists) × AreEmpty (lists_of l.lists.items)
+invariant-loop l =
+    (length l.lists.items ≡ l.counter) × (l.count ≤ vec_capacity l.lists) × AreEmpty (lists_of l.lists.items)

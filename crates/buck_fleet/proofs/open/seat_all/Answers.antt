@@ -32,7 +32,15 @@ returns g c =
     let i = c.loop-harvester.invariant in
     let of = all_but_last (IsSeatOf c.args.board.now) _ _ _ c.in-Some-pop.ensures.items i.places_of in
     let unseen = all_but_last (λ s. seen_by s ≡ 0) _ _ _ c.in-Some-pop.ensures.items i.unseen in
-    let at : c.args.count ≡ length c.loop-harvester.seats.items + 1 = omega (arith, i.made, i.left, c.loop-harvester-test.false, c.loop-harvester.auto.harvester-end, c.requires.count.0) in
+    let at : c.args.count ≡ length c.loop-harvester.seats.items + 1 =
+    omega (
+      arith,
+      i.made,
+      i.left,
+      c.loop-harvester-test.false,
+      c.loop-harvester.auto.harvester-end,
+      c.requires.count.0,
+    ) in
     let made = is_new c.args.board.now _ _ _ _ _ c.make-2.ensures at of.1 unseen.1 in
     let parts = ap (λ (s : SeatParts). s.parts) c.make-2.ensures in
     let more = one_more_parts _ _ _ c.push_reserved-2.ensures.items in
@@ -42,5 +50,6 @@ returns g c =
       number = omega (arith, long, at);
       each = λ k d lt. new k d (omega (arith, lt, long, at));
       all_parts = omega (arith, more, parts, i.parts);
-      crew = crew_of_new c.args.count _ (omega (arith, long, at)) (λ k d lt. (new k d (omega (arith, lt, long, at))).harvester_is);
+      crew = crew_of_new c.args.count _ (omega (arith, long, at))
+          (λ k d lt. (new k d (omega (arith, lt, long, at))).harvester_is);
     }

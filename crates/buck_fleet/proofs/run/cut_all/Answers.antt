@@ -16,5 +16,6 @@ loop-stem-preserved g c =
     let len = length-map c.args.stems.now f in
     let at = got f c.args.stems.now c.loop-stem.stem-index c.stem-item.result lt c.stem-item.is in (
       c.in-Ok-cut.ensures.seat,
-      one_more_cut _ _ _ _ _ c.in-Ok-cut._reply _ c.loop-stem.invariant.1 c.in-Ok-cut.ensures.reply (at ∙ ap (λ (s : StemParts). Some s) (sym c.in-Ok.ensures.cases)) (omega (arith, lt, len)),
+      one_more_cut _ _ _ _ _ c.in-Ok-cut._reply _ c.loop-stem.invariant.1 c.in-Ok-cut.ensures.reply
+          (at ∙ ap (λ (s : StemParts). Some s) (sym c.in-Ok.ensures.cases)) (omega (arith, lt, len)),
     )

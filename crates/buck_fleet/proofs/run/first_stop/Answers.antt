@@ -12,9 +12,17 @@ loop-seat-preserved g c =
     let harvester = ap (λ (x : SeatParts). x.harvester) (sym c.seat.view_is) in
     let small : s.harvester ≤ 64 = omega (arith, harvester, c.seat.invariant.3) in
     elim c.match-seat.branch [
-      | in-None w ↦ moved _ _ _ _ _ _ w.lowest-is w.first-is (stays _ _ s _ _ lt c.seat-item.is small (λ _. stopped ∙ w.in-None.is) c.loop-seat.invariant)
-      | in-Some+then-seat-lowest w ↦ moved _ _ _ _ _ _ (w.lowest-is ∙ sym harvester) w.first-is (lower _ _ s _ _ _ lt c.seat-item.is (stopped ∙ w.in-Some.is) (omega (arith, harvester, w.if-seat-lowest.true)) c.loop-seat.invariant)
-      | in-Some+else-seat-lowest w ↦ moved _ _ _ _ _ _ w.lowest-is w.first-is (stays _ _ s _ _ lt c.seat-item.is small (λ below. absurd (omega (arith, below, harvester, w.if-seat-lowest.false))) c.loop-seat.invariant)
+      | in-None w ↦
+          moved _ _ _ _ _ _ w.lowest-is w.first-is
+          (stays _ _ s _ _ lt c.seat-item.is small (λ _. stopped ∙ w.in-None.is) c.loop-seat.invariant)
+      | in-Some+then-seat-lowest w ↦
+          moved _ _ _ _ _ _ (w.lowest-is ∙ sym harvester) w.first-is
+          (lower _ _ s _ _ _ lt c.seat-item.is (stopped ∙ w.in-Some.is)
+          (omega (arith, harvester, w.if-seat-lowest.true)) c.loop-seat.invariant)
+      | in-Some+else-seat-lowest w ↦
+          moved _ _ _ _ _ _ w.lowest-is w.first-is
+          (stays _ _ s _ _ lt c.seat-item.is small
+          (λ below. absurd (omega (arith, below, harvester, w.if-seat-lowest.false))) c.loop-seat.invariant)
     ]
 
 pub returns-clause-some : goal.returns-clause-some

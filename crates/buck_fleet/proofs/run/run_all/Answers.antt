@@ -8,7 +8,9 @@ returns-clause-run g c =
     record {
       number = number;
       of_fleet = λ k d lt. (c.run_each.ensures.each k d (omega (arith, lt, number))).0;
-      same_crew = λ n crew. crew_same n _ _ number (λ i d lt. (c.run_each.ensures.each i d lt).1.beginning.1.kept.same_harvester) crew;
+      same_crew =
+          λ n crew. crew_same n _ _ number
+          (λ i d lt. (c.run_each.ensures.each i d lt).1.beginning.1.kept.same_harvester) crew;
       same_parts = parts_same _ _ number (λ i d lt. (c.run_each.ensures.each i d lt).1.beginning.1.kept.same_parts);
       runs = λ i d lt. (c.run_each.ensures.each i d lt).1;
     }

@@ -9,9 +9,12 @@ returns-clause-cut g c =
     let content = c.in_ok-ready.ensures.content in
     let ready = c.in_ok-ready.ensures.ready in (
       below_as_before _ _ content ready.to_add.below,
-      cut_as_planned c.args.book.now.history c.prepared.new.book.history c.commit.new.self.history c.args.harvester c.args.stem
+      cut_as_planned c.args.book.now.history c.prepared.new.book.history c.commit.new.self.history c.args.harvester
+          c.args.stem
           c.in_ok-plan.plan c.in_ok-ready.ready.next c.in_ok-text.text.items
-          content.history c.in_ok-plan.ensures.stem c.in_ok-plan.ensures.sheet c.in_ok-plan.ensures.plan c.in_ok-text.ensures
+          content.history c.in_ok-plan.ensures.stem c.in_ok-plan.ensures.sheet c.in_ok-plan.ensures.plan
+          c.in_ok-text.ensures
           (ready.to_add.next_is c.args.harvester) c.commit.ensures.instruction c.commit.ensures.sheets
-          (c.commit.ensures.postings ∙ ap (λ (e : EntryParts). c.prepared.new.book.history.postings ++ Cut e ∷ []) c.commit.ensures.entry),
+          (c.commit.ensures.postings
+          ∙ ap (λ (e : EntryParts). c.prepared.new.book.history.postings ++ Cut e ∷ []) c.commit.ensures.entry),
     )

@@ -10,9 +10,12 @@ returns-in-Ok-clause-taken g c =
     let ready = c.in-Ok.ensures.ready in
     let targets : c.in-Ok.ready.targets ≡ c.args.targets = search rules in (
       below_as_before _ _ content ready.to_add.below,
-      inl (taken_as_prepared c.args.book.now.history c.prepare_demand.new.self.history c.commit_demand.new.self.history c.args.harvester c.args.targets
+      inl (taken_as_prepared c.args.book.now.history c.prepare_demand.new.self.history c.commit_demand.new.self.history
+          c.args.harvester c.args.targets
           c.in-Ok.ready.targets c.in-Ok.ready.next c.in_ok-text-in-Ok.text.items
           content.history targets ready.valid (c.in_ok-text-in-Ok.ensures c.args.targets)
           (ready.to_add.next_is c.args.harvester) c.commit_demand.ensures.instruction c.commit_demand.ensures.sheets
-          (c.commit_demand.ensures.postings ∙ ap (λ (d : DemandParts). c.prepare_demand.new.self.history.postings ++ Demand d ∷ []) c.commit_demand.ensures.demand)),
+          (c.commit_demand.ensures.postings
+          ∙ ap (λ (d : DemandParts). c.prepare_demand.new.self.history.postings ++ Demand d ∷ [])
+          c.commit_demand.ensures.demand)),
     )

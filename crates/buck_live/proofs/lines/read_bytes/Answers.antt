@@ -4,10 +4,12 @@ use Rattle.buck_live.proofs.LineLemmas.{feed_comes, input_ends, one_more}
 use Rattle.buck_live.proofs.lines.read_bytes.Goals as goal
 
 pub returns-in-Ok-None-clause-read : goal.returns-in-Ok-None-clause-read
-returns-in-Ok-None-clause-read g c = input_ends _ _ (g.R.Read.remaining c.next_byte.new.input) _ _ c.bytes.invariant.read (search rules)
+returns-in-Ok-None-clause-read g c =
+    input_ends _ _ (g.R.Read.remaining c.next_byte.new.input) _ _ c.bytes.invariant.read (search rules)
 
 pub returns-in-Ok-Some-eq10-clause-read : goal.returns-in-Ok-Some-eq10-clause-read
-returns-in-Ok-Some-eq10-clause-read g c = feed_comes _ _ (g.R.Read.remaining c.next_byte.new.input) _ _ c.bytes.invariant.read (search rules)
+returns-in-Ok-Some-eq10-clause-read g c =
+    feed_comes _ _ (g.R.Read.remaining c.next_byte.new.input) _ _ c.bytes.invariant.read (search rules)
 
 pub bytes-preserved : goal.bytes-preserved
 bytes-preserved g c =
@@ -19,5 +21,6 @@ bytes-preserved g c =
     record {
       capacity = search rules;
       read = subst (λ (held : List ℕ). HasRead old new held c.hold-fits.result) (sym c.hold-fits.ensures.held)
-          (subst (λ (fits : Bool). HasRead old new (held_with byte c.bytes.line.items) fits) (sym c.hold-fits.ensures.fits) more);
+          (subst (λ (fits : Bool). HasRead old new (held_with byte c.bytes.line.items) fits)
+          (sym c.hold-fits.ensures.fits) more);
     }

@@ -10,17 +10,22 @@ returns-in-Err-clause-run g c =
 
 pub returns-in-Ok-Input-clause-run : goal.returns-in-Ok-Input-clause-run
 returns-in-Ok-Input-clause-run g c =
-    ended _ _ c.answer_next.new.book.history _ (g.R.Read.remaining c.requests.input) (g.R.Read.remaining c.answer_next.new.input)
-    _ (g.W.Write.contents c.requests.out) (g.W.Write.contents c.answer_next.new.out) c.requests.invariant.at (search rules)
+    ended _ _ c.answer_next.new.book.history _ (g.R.Read.remaining c.requests.input)
+    (g.R.Read.remaining c.answer_next.new.input)
+    _ (g.W.Write.contents c.requests.out) (g.W.Write.contents c.answer_next.new.out) c.requests.invariant.at
+    (search rules)
 
 pub requests-preserved : goal.requests-preserved
 requests-preserved g c = record {
   rule = search rules;
   capacity = search rules;
   room = search rules;
-  at = stepped _ _ c.answer_next.new.book.history _ (g.R.Read.remaining c.requests.input) (g.R.Read.remaining c.answer_next.new.input)
-      _ (g.W.Write.contents c.requests.out) (g.W.Write.contents c.answer_next.new.out) c.requests.invariant.at (search rules);
+  at = stepped _ _ c.answer_next.new.book.history _ (g.R.Read.remaining c.requests.input)
+      (g.R.Read.remaining c.answer_next.new.input)
+      _ (g.W.Write.contents c.requests.out) (g.W.Write.contents c.answer_next.new.out) c.requests.invariant.at
+      (search rules);
 }
 
 pub returns-clause-run : goal.returns-clause-run
-returns-clause-run g c = inl (refl, unread _ _ _ (g.R.Read.remaining c.requests.input) _ _ _ c.requests.invariant.at (Keeps-refl _))
+returns-clause-run g c =
+    inl (refl, unread _ _ _ (g.R.Read.remaining c.requests.input) _ _ _ c.requests.invariant.at (Keeps-refl _))

@@ -8,9 +8,12 @@ returns-in_err-read_instruction g c =
       opened = Ok (c.in_ok-apt.apt, c.in_ok-apt.field-0-1.items);
       between = c.open_inputs.new.opener;
       answers = search rules;
-      runs = apt_refused g.O.Make.makes g.O.File.Read.remaining g.O.Made.Write.contents c.open_inputs.new.opener c.make_journal.new.maker c.args.task.now.settings _
-          (c.in_ok-apt.apt, c.in_ok-apt.field-0-1.items) c.in_ok-journal.journal (g.R.Read.remaining c.args.input.now) _ c.in_err-read_instruction.field-0.0 _
-          c.in_ok-journal.ensures c.from_residual-in_err-read_instruction.ensures.1 c.in_err-read_instruction.ensures.refused;
+      runs = apt_refused g.O.Make.makes g.O.File.Read.remaining g.O.Made.Write.contents c.open_inputs.new.opener
+          c.make_journal.new.maker c.args.task.now.settings _
+          (c.in_ok-apt.apt, c.in_ok-apt.field-0-1.items) c.in_ok-journal.journal (g.R.Read.remaining c.args.input.now)
+          _ c.in_err-read_instruction.field-0.0 _
+          c.in_ok-journal.ensures c.from_residual-in_err-read_instruction.ensures.1
+          c.in_err-read_instruction.ensures.refused;
     }
 
 pub returns : goal.returns
@@ -19,7 +22,9 @@ returns g c =
       opened = Ok (c.in_ok-apt.apt, c.in_ok-apt.field-0-1.items);
       between = c.open_inputs.new.opener;
       answers = search rules;
-      runs = files_answered g.O.Make.makes g.O.File.Read.remaining g.O.Made.Write.contents c.open_inputs.new.opener c.make_journal.new.maker c.args.task.now.settings _
-          (c.in_ok-apt.apt, c.in_ok-apt.field-0-1.items) c.in_ok-journal.journal (g.R.Read.remaining c.args.input.now) _ _ c.in_ok-read_instruction.field-0 c.with-instruction.result _
+      runs = files_answered g.O.Make.makes g.O.File.Read.remaining g.O.Made.Write.contents c.open_inputs.new.opener
+          c.make_journal.new.maker c.args.task.now.settings _
+          (c.in_ok-apt.apt, c.in_ok-apt.field-0-1.items) c.in_ok-journal.journal (g.R.Read.remaining c.args.input.now)
+          _ _ c.in_ok-read_instruction.field-0 c.with-instruction.result _
           c.in_ok-journal.ensures c.in_ok-read_instruction.ensures.ok c.with-instruction.ensures c.live_made.ensures;
     }

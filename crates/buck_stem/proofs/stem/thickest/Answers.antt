@@ -12,17 +12,20 @@ loop-sample-preserved c =
     elim c.if-thickest-sample.branch [
       | then-thickest-sample w ↦ record {
         bound = All-more (λ d. d ≤ c.if-thickest-sample.thickest) xs i 0 (omega (arith, c.loop-sample-test.true))
-            (λ k d lt. omega (arith, old.bound k d lt, w.if-thickest-sample.true, w.thickest-is)) (omega (arith, w.thickest-is));
+            (λ k d lt. omega (arith, old.bound k d lt, w.if-thickest-sample.true, w.thickest-is))
+            (omega (arith, w.thickest-is));
         least = λ most all. omega (arith, w.thickest-is, all i 0 (omega (arith, c.loop-sample-test.true)));
       }
       | else-thickest-sample w ↦ record {
         bound = All-more (λ d. d ≤ c.if-thickest-sample.thickest) xs i 0 (omega (arith, c.loop-sample-test.true))
-            (λ k d lt. omega (arith, old.bound k d lt, w.thickest-is)) (omega (arith, w.thickest-is, w.if-thickest-sample.false));
+            (λ k d lt. omega (arith, old.bound k d lt, w.thickest-is))
+            (omega (arith, w.thickest-is, w.if-thickest-sample.false));
         least = λ most all. omega (arith, w.thickest-is, old.least most all);
       }
     ]
 
 pub returns-clause-bound : goal.returns-clause-bound
 returns-clause-bound c =
-    subst (All (λ d. d ≤ c.loop-sample.thickest)) (take_all c.loop-sample.sample-index c.args.samples.now c.loop-sample-test.false)
+    subst (All (λ d. d ≤ c.loop-sample.thickest))
+    (take_all c.loop-sample.sample-index c.args.samples.now c.loop-sample-test.false)
     c.loop-sample.invariant.bound

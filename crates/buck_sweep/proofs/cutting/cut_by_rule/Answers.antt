@@ -6,4 +6,5 @@ pub returns-in_ok-journal_of-in-Ok-clause-ok : goal.returns-in_ok-journal_of-in-
 returns-in_ok-journal_of-in-Ok-clause-ok g c =
     let cut = c.in-Ok.ensures in
     let journal = c.in_ok-journal_of-in-Ok.ensures in
-    cut_is g.F.Fn c.args.rule c.args.named c.args.lists.now _ _ _ journal.history (search (rules, cut.instruction)) journal.lawful journal.few cut.cut c.requires.gives cut.given
+    cut_is g.F.Fn c.args.rule c.args.named c.args.lists.now _ _ _ journal.history (search (rules, cut.instruction))
+    journal.lawful journal.few cut.cut c.requires.gives cut.given

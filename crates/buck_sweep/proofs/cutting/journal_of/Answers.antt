@@ -6,4 +6,5 @@ pub returns-clause-history : goal.returns-clause-history
 returns-clause-history g c =
     let parts = c.into_parts-parts.ensures in
     history_same c.args.book.history _ _ _ refl
-    (c.in_ok-prices_of.ensures ∙ ap (map (λ a. a.value.prices)) c.as_slice.ensures.value ∙ prices_are (λ a. a.value) _ 0 _ _ parts.sheets) parts.entries
+    (c.in_ok-prices_of.ensures ∙ ap (map (λ a. a.value.prices)) c.as_slice.ensures.value
+    ∙ prices_are (λ a. a.value) _ 0 _ _ parts.sheets) parts.entries

@@ -13,18 +13,27 @@ loop-k-init g c = rw (c.new-text.ensures.items, zero-mul c.args.size) refl
 
 pub returns-in-Err-clause-stop : goal.returns-in-Err-clause-stop
 returns-in-Err-clause-stop g c =
-    let given = c.in_ok-parts.ensures.each c.loop-k.k c.index.result.now (omega (arith, c.loop-k-test.true, c.len-k-end.ensures)) in
+    let given =
+    c.in_ok-parts.ensures.each c.loop-k.k c.index.result.now
+    (omega (arith, c.loop-k-test.true, c.len-k-end.ensures)) in
     part_stopped _ _ _ _ _ given.1.call (sym c.index.ensures ∙ c.in-Err.is)
 
 pub loop-k-preserved : goal.loop-k-preserved
 loop-k-preserved g c =
-    let given = c.in_ok-parts.ensures.each c.loop-k.k c.index.result.now (omega (arith, c.loop-k-test.true, c.len-k-end.ensures)) in
-    let made = part_made _ _ c.args.combinations.now _ _ _ _ _ given.1.argument_is given.1.call (sym c.index.ensures ∙ c.in-Ok.is) in
+    let given =
+    c.in_ok-parts.ensures.each c.loop-k.k c.index.result.now
+    (omega (arith, c.loop-k-test.true, c.len-k-end.ensures)) in
+    let made =
+    part_made _ _ c.args.combinations.now _ _ _ _ _ given.1.argument_is given.1.call
+    (sym c.index.ensures ∙ c.in-Ok.is) in
     part_put _ c.args.combinations.now _ c.args.size c.loop-k.k _ _ _ c.loop-k.invariant refl made
     (c.in_ok-extend_from_slice-in-Ok.ensures.items ∙ ap (λ l. c.loop-k.text.items ++ l) c.as_slice.ensures.value)
 
 pub returns-clause-ok : goal.returns-clause-ok
 returns-clause-ok g c =
     let all : length c.args.combinations.now ≤ c.loop-k.k * c.args.size =
-    subst (λ (n : ℕ). length c.args.combinations.now ≤ n * c.args.size) (sym (c.in_ok-parts.ensures.len) ∙ omega (arith, c.loop-k-test.false)) (div_ceil_times (length c.args.combinations.now) c.args.size c.requires.size).0 in
-    subst (λ (cs : List Combination). AreLines (IsRunLine c.args.input.now.instruction c.args.input.now.lists.items) cs c.loop-k.text.items) (take_all _ _ all) c.loop-k.invariant
+    subst (λ (n : ℕ). length c.args.combinations.now ≤ n * c.args.size)
+    (sym (c.in_ok-parts.ensures.len) ∙ omega (arith, c.loop-k-test.false))
+    (div_ceil_times (length c.args.combinations.now) c.args.size c.requires.size).0 in
+    subst (λ (cs : List Combination). AreLines (IsRunLine c.args.input.now.instruction c.args.input.now.lists.items)
+    cs c.loop-k.text.items) (take_all _ _ all) c.loop-k.invariant

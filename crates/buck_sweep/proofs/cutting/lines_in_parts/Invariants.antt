@@ -4,4 +4,5 @@ use Rattle.buck_sweep.specs.inner.Lines.{IsRunLine}
 use Rattle.buck_sweep.proofs.cutting.lines_in_parts.Given as goal
 
 abbrev pub invariant-loop-k : goal.invariant-loop-k
-invariant-loop-k g l = AreLines (IsRunLine l.fn.input.instruction l.fn.input.lists.items) (take (l.k * l.size) l.combinations) l.text.items
+invariant-loop-k g l =
+    AreLines (IsRunLine l.fn.input.instruction l.fn.input.lists.items) (take (l.k * l.size) l.combinations) l.text.items

@@ -9,6 +9,8 @@ returns-clause-ok c =
     record {
       history = h;
       instruction = search rules;
-      has_cut = subst (λ ls. HasCut c.args.combination.now.rule ls h) c.as_slice-lists.ensures.value c.in_ok-journal.ensures.ok;
+      has_cut =
+          subst (λ ls. HasCut c.args.combination.now.rule ls h)
+          c.as_slice-lists.ensures.value c.in_ok-journal.ensures.ok;
       is_line = search rules;
     }

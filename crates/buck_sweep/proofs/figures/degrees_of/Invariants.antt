@@ -6,5 +6,6 @@ use Rattle.buck_sweep.proofs.figures.degrees_of.Given as goal
 abbrev pub invariant-loop-at : goal.invariant-loop-at
 invariant-loop-at l = record {
   number : length l.degrees.items ≡ l.at;
-  each : (a : ℕ) (d : Option ℕ) → slice_get l.degrees.items a ≡ Some d → IsDegreeBy l.instruction l.targets l.counts a d;
+  each : (a : ℕ) (d : Option ℕ) → slice_get l.degrees.items a ≡ Some d
+      → IsDegreeBy l.instruction l.targets l.counts a d;
 }

@@ -3,4 +3,5 @@ use Rattle.buck_sweep.proofs.figures.least_of.Goals as goal
 
 pub loop-degree-preserved : goal.loop-degree-preserved
 loop-degree-preserved c =
-    least_taken c.args.degrees.now c.loop-degree.degree-index _ c.loop-degree.least c.lesser-least.result c.loop-degree-test.true c.lesser-least.ensures c.loop-degree.invariant
+    least_taken c.args.degrees.now c.loop-degree.degree-index _ c.loop-degree.least c.lesser-least.result
+    c.loop-degree-test.true c.lesser-least.ensures c.loop-degree.invariant

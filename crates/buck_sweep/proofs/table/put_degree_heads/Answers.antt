@@ -8,7 +8,9 @@ loop-at-preserved c =
     let same = c.loop-at.invariant.1 in
     let xs = c.args.instruction.now.assortments in
     let long = ap (λ (l : List AssortmentParts). length l) same in (
-      head_more xs c.loop-at.at c.index-assortments-at.result c.args.out.now.items c.loop-at.out.items c.put_degree_head.new.out.items
-          (omega (arith, c.loop-at-test.true, long)) (rw same at c.index-assortments-at.is) c.loop-at.invariant.0 c.in_ok-put_degree_head.ensures,
+      head_more xs c.loop-at.at c.index-assortments-at.result c.args.out.now.items c.loop-at.out.items
+          c.put_degree_head.new.out.items
+          (omega (arith, c.loop-at-test.true, long)) (rw same at c.index-assortments-at.is)
+          c.loop-at.invariant.0 c.in_ok-put_degree_head.ensures,
       same,
     )

@@ -14,12 +14,14 @@ loop-round-init g c =
       instruction = search rules;
       capacity = search rules;
       given = none_given g.F.Fn _ _ none;
-      rounds = subst (λ (ps : List Posting). HasCutRounds 0 0 c.args.lists.now ps) (sym none) (nothing_cut c.args.lists.now);
+      rounds = subst (λ (ps : List Posting). HasCutRounds 0 0 c.args.lists.now ps) (sym none)
+          (nothing_cut c.args.lists.now);
       number = ap (λ (ps : List Posting). length ps) none ∙ sym (cut_first c.args.lists.now);
     }
 
 pub returns-clause-cut : goal.returns-clause-cut
-returns-clause-cut g c = all_cut c.loop-round.round c.args.lists.now c.loop-round.book.history (search rules) c.loop-round.invariant.rounds
+returns-clause-cut g c =
+    all_cut c.loop-round.round c.args.lists.now c.loop-round.book.history (search rules) c.loop-round.invariant.rounds
 
 pub returns-clause-number : goal.returns-clause-number
 returns-clause-number g c = c.loop-round.invariant.number ∙ cut_all c.loop-round.round c.args.lists.now (search rules)

@@ -9,5 +9,6 @@ returns-clause-rounds g c = round_done c.args.round c.args.lists.now c.loop-k.bo
 
 pub returns-clause-number : goal.returns-clause-number
 returns-clause-number g c =
-    let all : length c.loop-k.book.history.postings ≡ cut_in c.args.round (length c.args.lists.now) c.args.lists.now = search rules in
+    let all : length c.loop-k.book.history.postings ≡ cut_in c.args.round (length c.args.lists.now) c.args.lists.now =
+    search rules in
     all ∙ cut_round c.args.round c.args.lists.now

@@ -36,7 +36,8 @@ returns-then-price-eq0-clause-none c = λ step stem start w al.
     let g : Log = log_of start (slice_index a.lengths c.args.column) c.args.place in
     let column : column_of a g.length ≡ c.args.column =
     column_is a c.args.column c.diameters.ensures.valid c.requires.column in
-    let rows : row ≡ row_at a (top_diameter stem g) = row_is a step row stem c.args.wood c.args.diameter g c.row_of-row.ensures.row w in
+    let rows : row ≡ row_at a (top_diameter stem g) =
+    row_is a step row stem c.args.wood c.args.diameter g c.row_of-row.ensures.row w in
     let place : class_place a stem g ≡ row * length a.lengths + c.args.column =
     omega (arith, column, ap (λ r. r * length a.lengths) rows) in
     al.priced (ap (slice_index a.prices) place ∙ sym c.price.ensures ∙ c.if-price-eq0.true)
@@ -65,6 +66,7 @@ returns-clause-class c = λ step stem start w.
     let g : Log = log_of start (slice_index a.lengths c.args.column) c.args.place in
     let column : column_of a g.length ≡ c.args.column =
     column_is a c.args.column c.diameters.ensures.valid c.requires.column in
-    let rows : row ≡ row_at a (top_diameter stem g) = row_is a step row stem c.args.wood c.args.diameter g c.row_of-row.ensures.row w in
+    let rows : row ≡ row_at a (top_diameter stem g) =
+    row_is a step row stem c.args.wood c.args.diameter g c.row_of-row.ensures.row w in
     ap (λ r. make_class c.args.place r c.args.column) rows
     ∙ ap (make_class c.args.place (row_at a (top_diameter stem g))) (sym column)

@@ -8,18 +8,25 @@ pub first_outside_of-requires-clause-room : goal.first_outside_of-requires-claus
 first_outside_of-requires-clause-room c =
     let same = c.assortments-assortment-items.ensures.items in
     rw (c.prices-bases.ensures, c.requires)
-    (room c.args.instruction.now c.args.prices.now c.loop-assortment.assortment-index c.loop-assortment.before c.assortment-item.result
-    c.assortments-assortment-items.ensures.valid (rw same at c.loop-assortment-test.true) (rw same at c.assortment-item.is) (rw same at c.loop-assortment.invariant.place))
+    (room c.args.instruction.now c.args.prices.now c.loop-assortment.assortment-index c.loop-assortment.before
+    c.assortment-item.result
+    c.assortments-assortment-items.ensures.valid (rw same at c.loop-assortment-test.true)
+    (rw same at c.assortment-item.is) (rw same at c.loop-assortment.invariant.place))
 
 pub returns-in-Some-clause-found : goal.returns-in-Some-clause-found
 returns-in-Some-clause-found c =
     let same = c.assortments-assortment-items.ensures.items in
-    let found : IsFirstOutside c.limit-limit.result c.prices-bases.result.now c.args.prices.now c.loop-assortment.before c.in-Some.at = c.in-Some.ensures.found in
-    fault_at c.args.instruction.now c.args.prices.now c.loop-assortment.assortment-index c.loop-assortment.before c.assortment-item.result
-    c.assortments-assortment-items.ensures.valid (rw same at c.loop-assortment-test.true) (rw same at c.assortment-item.is) (rw same at c.loop-assortment.invariant.place)
+    let found : IsFirstOutside c.limit-limit.result c.prices-bases.result.now c.args.prices.now c.loop-assortment.before
+    c.in-Some.at = c.in-Some.ensures.found in
+    fault_at c.args.instruction.now c.args.prices.now c.loop-assortment.assortment-index c.loop-assortment.before
+    c.assortment-item.result
+    c.assortments-assortment-items.ensures.valid (rw same at c.loop-assortment-test.true)
+    (rw same at c.assortment-item.is) (rw same at c.loop-assortment.invariant.place)
     c.requires c.loop-assortment.invariant.inside c.in-Some.at
-    (subst (λ l. IsFirstOutside l c.assortment-item.result.prices c.args.prices.now c.loop-assortment.before c.in-Some.at) c.limit-limit.ensures.limit
-    (subst (λ b. IsFirstOutside c.limit-limit.result b c.args.prices.now c.loop-assortment.before c.in-Some.at) c.prices-bases.ensures found))
+    (subst (λ l. IsFirstOutside l c.assortment-item.result.prices c.args.prices.now c.loop-assortment.before
+    c.in-Some.at) c.limit-limit.ensures.limit
+    (subst (λ b. IsFirstOutside c.limit-limit.result b c.args.prices.now c.loop-assortment.before c.in-Some.at)
+    c.prices-bases.ensures found))
 
 pub loop-assortment-preserved : goal.loop-assortment-preserved
 loop-assortment-preserved c =
@@ -30,21 +37,29 @@ loop-assortment-preserved c =
     let a = c.assortment-item.result in
     let fits : (l : ℕ) → l ≡ i.limit → (bases : _) → bases ≡ a.prices
     → ((k : ℕ) → k < length bases → IsInSpan l (slice_index bases k) (slice_index c.args.prices.now (before + k)))
-    → (k : ℕ) → k < length a.prices → IsInSpan i.limit (slice_index a.prices k) (slice_index c.args.prices.now (before + k)) =
+    → (k : ℕ) → k < length a.prices
+    → IsInSpan i.limit (slice_index a.prices k) (slice_index c.args.prices.now (before + k)) =
     λ l el bases eb h. rw (← el, ← eb) h in
     record {
       place = rw (c.prices-bases.ensures, same)
-          (place_more i c.args.prices.now n before a c.assortments-assortment-items.ensures.valid (rw same at c.loop-assortment-test.true) (rw same at c.assortment-item.is) (rw same at c.loop-assortment.invariant.place));
+          (place_more i c.args.prices.now n before a c.assortments-assortment-items.ensures.valid
+          (rw same at c.loop-assortment-test.true) (rw same at c.assortment-item.is)
+          (rw same at c.loop-assortment.invariant.place));
       inside = rw c.prices-bases.ensures
-          (inside_more i c.args.prices.now n before a c.assortments-assortment-items.ensures.valid (rw same at c.loop-assortment-test.true) (rw same at c.assortment-item.is) (rw same at c.loop-assortment.invariant.place)
-          c.loop-assortment.invariant.inside (fits c.limit-limit.result c.limit-limit.ensures.limit c.prices-bases.result.now c.prices-bases.ensures c.in_default.ensures.none));
+          (inside_more i c.args.prices.now n before a c.assortments-assortment-items.ensures.valid
+          (rw same at c.loop-assortment-test.true) (rw same at c.assortment-item.is)
+          (rw same at c.loop-assortment.invariant.place)
+          c.loop-assortment.invariant.inside
+          (fits c.limit-limit.result c.limit-limit.ensures.limit c.prices-bases.result.now c.prices-bases.ensures
+          c.in_default.ensures.none));
     }
 
 pub returns-clause-none : goal.returns-clause-none
 returns-clause-none c =
     let same = c.assortments-assortment-items.ensures.items in
     all_inside c.args.instruction.now c.args.prices.now c.loop-assortment.assortment-index c.loop-assortment.before
-    c.assortments-assortment-items.ensures.valid (rw same at c.loop-assortment.invariant.place) (rw same at c.loop-assortment-test.false) c.requires c.loop-assortment.invariant.inside
+    c.assortments-assortment-items.ensures.valid (rw same at c.loop-assortment.invariant.place)
+    (rw same at c.loop-assortment-test.false) c.requires c.loop-assortment.invariant.inside
 
 pub overflow_add-before : goal.overflow_add-before
 overflow_add-before c =
@@ -54,19 +69,24 @@ overflow_add-before c =
       c.prices-bases.ensures,
       ap length c.prices-bases.ensures,
       c.requires,
-      room c.args.instruction.now c.args.prices.now c.loop-assortment.assortment-index c.loop-assortment.before c.assortment-item.result
-          c.assortments-assortment-items.ensures.valid (rw same at c.loop-assortment-test.true) (rw same at c.assortment-item.is) (rw same at c.loop-assortment.invariant.place),
+      room c.args.instruction.now c.args.prices.now c.loop-assortment.assortment-index c.loop-assortment.before
+          c.assortment-item.result
+          c.assortments-assortment-items.ensures.valid (rw same at c.loop-assortment-test.true)
+          (rw same at c.assortment-item.is) (rw same at c.loop-assortment.invariant.place),
     )
 
 pub overflow_add-result : goal.overflow_add-result
 overflow_add-result c =
     let same = c.assortments-assortment-items.ensures.items in
-    let found : IsFirstOutside c.limit-limit.result c.prices-bases.result.now c.args.prices.now c.loop-assortment.before c.in-Some.at = c.in-Some.ensures.found in
+    let found : IsFirstOutside c.limit-limit.result c.prices-bases.result.now c.args.prices.now c.loop-assortment.before
+    c.in-Some.at = c.in-Some.ensures.found in
     omega (
       arith,
       found.within,
       ap length c.prices-bases.ensures,
       c.requires,
-      room c.args.instruction.now c.args.prices.now c.loop-assortment.assortment-index c.loop-assortment.before c.assortment-item.result
-          c.assortments-assortment-items.ensures.valid (rw same at c.loop-assortment-test.true) (rw same at c.assortment-item.is) (rw same at c.loop-assortment.invariant.place),
+      room c.args.instruction.now c.args.prices.now c.loop-assortment.assortment-index c.loop-assortment.before
+          c.assortment-item.result
+          c.assortments-assortment-items.ensures.valid (rw same at c.loop-assortment-test.true)
+          (rw same at c.assortment-item.is) (rw same at c.loop-assortment.invariant.place),
     )

@@ -11,7 +11,8 @@ returns-clause-ok g c front =
     let added = c.commit-entry.ensures in (
       c.in_ok-plan.plan,
       c.in_ok-plan.ensures.stem,
-      subst (λ (v : ℕ). IsPlanUnder c.args.book.now.history v c.in_ok-plan.plan) c.version.ensures.version c.in_ok-plan.ensures.under,
+      subst (λ (v : ℕ). IsPlanUnder c.args.book.now.history v c.in_ok-plan.plan)
+          c.version.ensures.version c.in_ok-plan.ensures.under,
       posting_added c.args.book.now.history c.prepare.new.self.history _ c.args.harvesters.now.items _ front c.args.h
           (λ t. Cut (entry_of t c.args.h c.in_ok-plan.plan)) (Cut c.commit-entry.result) c.in-Ok.ready.next
           made.content.history (made.ready.to_add.next_is c.args.h) (ap Cut added.entry)

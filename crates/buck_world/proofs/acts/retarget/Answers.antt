@@ -15,9 +15,11 @@ returns-clause-ok g c front =
       subst (λ (s : HistoryParts). AreTargets s.instruction c.args.targets.now.value.items) same
           (subst (λ (ts : List ℕ). AreTargets m.instruction ts) made.targets made.ready.valid),
       posting_added c.args.book.now.history m _ c.args.harvesters.now.items _ front c.args.h
-          (λ t. Demand (demand_of t c.args.h c.args.targets.now.value.items)) (Demand c.commit_demand-demand.result) (Some c.in-Ok.ready.next)
+          (λ t. Demand (demand_of t c.args.h c.args.targets.now.value.items)) (Demand c.commit_demand-demand.result)
+          (Some c.in-Ok.ready.next)
           same
-          (subst (λ (ts : List ℕ). IsNext m (Demand (demand_of m c.args.h ts)) (Some c.in-Ok.ready.next)) made.targets (made.ready.to_add.next_is c.args.h))
+          (subst (λ (ts : List ℕ). IsNext m (Demand (demand_of m c.args.h ts)) (Some c.in-Ok.ready.next)) made.targets
+          (made.ready.to_add.next_is c.args.h))
           (ap Demand added.demand ∙ ap (λ (ts : List ℕ). Demand (demand_of m c.args.h ts)) made.targets)
           record { postings = added.postings; sheets = added.sheets; instruction = added.instruction }
           c.answer-stage.ensures.now,

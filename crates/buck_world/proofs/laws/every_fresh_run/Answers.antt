@@ -6,18 +6,22 @@ use Rattle.buck_world.proofs.Counting.{lifts_are_front, stale_and_lifts, all_sta
 use Rattle.buck_world.proofs.laws.every_fresh_run.Goals as goal
 
 pub returns-clause-lifts : goal.returns-clause-lifts
-returns-clause-lifts c i n moves r fresh = let a = lifts_are_front (opening i n) moves (opening_sound i n) r in omega arith
+returns-clause-lifts c i n moves r fresh = let a = lifts_are_front (opening i n) moves (opening_sound i n) r in
+    omega arith
 
 pub returns-clause-one_harvester : goal.returns-clause-one_harvester
 returns-clause-one_harvester c i n moves r fresh h low high =
-    let a = stale_and_lifts (opening i n) moves h 0 (opening_sound i n) r fresh low record { front = omega arith; seen = λ _. omega arith } in omega arith
+    let a = stale_and_lifts (opening i n) moves h 0 (opening_sound i n)
+    r fresh low record { front = omega arith; seen = λ _. omega arith } in omega arith
 
 pub returns-clause-others : goal.returns-clause-others
 returns-clause-others c i n moves r fresh h low high =
-    let a = stale_and_lifts (opening i n) moves h 0 (opening_sound i n) r fresh low record { front = omega arith; seen = λ _. omega arith } in
+    let a = stale_and_lifts (opening i n) moves h 0 (opening_sound i n)
+    r fresh low record { front = omega arith; seen = λ _. omega arith } in
     let b = lifts_are_front (opening i n) moves (opening_sound i n) r in omega arith
 
 pub returns-clause-all_stale : goal.returns-clause-all_stale
 returns-clause-all_stale c i n moves r fresh =
     let s = opening_sound i n in
-    all_stale_within (opening i n) moves n s (length-replicate n newcomer) refl r fresh (run_sound (opening i n) moves s r)
+    all_stale_within (opening i n) moves n s (length-replicate n newcomer) refl r fresh
+    (run_sound (opening i n) moves s r)

@@ -13,4 +13,5 @@ pub returns-clause-added : goal.returns-clause-added
 returns-clause-added c i n moves r = run_added (opening i n) moves r
 
 pub returns-clause-no_old_plan : goal.returns-clause-no_old_plan
-returns-clause-no_old_plan c i n before after h x p r holds other = no_old_plan (opening i n) before after h x p (opening_sound i n) r holds other
+returns-clause-no_old_plan c i n before after h x p r holds other =
+    no_old_plan (opening i n) before after h x p (opening_sound i n) r holds other

@@ -12,7 +12,8 @@ returns-then-is_answered c = (
       let high = c.loop-x-test.true in
       let same : c.loop-x.x-index + 1 - 1 ≡ c.loop-x.x-index = omega arith in
       let is = get_or_read c.args.harvesters.now c.loop-x.x-index c.x-item.result high c.x-item.is newcomer in
-      let answered : (get_or c.args.harvesters.now c.loop-x.x-index newcomer).stage ≡ Answered = ap (λ x. x.stage) (sym is) ∙ c.if-is_answered.ensures.0 refl in
+      let answered : (get_or c.args.harvesters.now c.loop-x.x-index newcomer).stage ≡ Answered =
+      ap (λ x. x.stage) (sym is) ∙ c.if-is_answered.ensures.0 refl in
       absurd (none (c.loop-x.x-index + 1) (low, omega arith)
       (subst (λ (k : ℕ). (get_or c.args.harvesters.now (k) newcomer).stage ≡ Answered) (sym same) answered)),
 )

@@ -11,7 +11,10 @@ written k new rest e = ap (λ (n : ℕ). take n (new ++ rest)) e ∙ take-append
 pub returns-clause-same_crew : goal.returns-clause-same_crew
 returns-clause-same_crew g c = λ n crew.
     let same = c.as_mut_slice.ensures.value in
-    let long : length c.as_mut_slice.result.now ≡ length c.args.seats.items = ap (λ (xs : List SeatParts). length xs) same in
-    let e : c.args.seats.len ≡ length c.play_all.new.seats = omega (arith, c.args.seats.ok, c.play_all.ensures.number, long) in
+    let long : length c.as_mut_slice.result.now ≡ length c.args.seats.items =
+    ap (λ (xs : List SeatParts). length xs) same in
+    let e : c.args.seats.len ≡ length c.play_all.new.seats =
+    omega (arith, c.args.seats.ok, c.play_all.ensures.number, long) in
     let before : IsCrew n c.as_mut_slice.result.now = subst (λ (xs : List SeatParts). IsCrew n xs) (sym same) crew in
-    subst (λ (xs : List SeatParts). IsCrew n xs) (sym (written _ c.play_all.new.seats _ e)) (c.play_all.ensures.same_crew n before)
+    subst (λ (xs : List SeatParts). IsCrew n xs) (sym (written _ c.play_all.new.seats _ e))
+    (c.play_all.ensures.same_crew n before)

@@ -6,4 +6,5 @@ pub prove-unreachable-requires : goal.prove-unreachable-requires
 prove-unreachable-requires c =
     let same : c.in_ok-after.after.logs.items ≡ c.in_ok-before.before.logs.items = search rules in
     let after : IsFirstBest c.args.sheet.value c.args.stem.now c.in_ok-after.after.logs.items = search rules in
-    c.requires c.in_ok-before.before.logs.items c.in_ok-before.ensures.first (subst (λ x. IsFirstBest c.args.sheet.value c.args.stem.now x) same after)
+    c.requires c.in_ok-before.before.logs.items c.in_ok-before.ensures.first
+    (subst (λ x. IsFirstBest c.args.sheet.value c.args.stem.now x) same after)

@@ -5,4 +5,5 @@ use Rattle.wrong_best.proofs.dp.wanted_species_left.Goals as goal
 pub prove-unreachable-requires : goal.prove-unreachable-requires
 prove-unreachable-requires c =
     let same : c.in_ok-cutting.cutting.logs.items ≡ [] = search rules in
-    not_empty c.args.planner.now c.args.stem.now c.in_ok-cutting.cutting.logs.items c.args.log.now c.in_ok-cutting.ensures.first same c.requires.allowed c.requires.dear
+    not_empty c.args.planner.now c.args.stem.now c.in_ok-cutting.cutting.logs.items c.args.log.now
+    c.in_ok-cutting.ensures.first same c.requires.allowed c.requires.dear

@@ -11,5 +11,6 @@ prove-unreachable-requires g c =
     let two : h.instruction.period ≡ 2 = search rules in
     let one : h.postings ≡ Demand c.commit_demand-demand.result ∷ [] = search rules in
     let none : c.in-Ok.ready.next ≡ None =
-    no_sheet h (Cut e) c.in-Ok.ready.next (c.in-Ok.ensures.ready.to_add.next_is 1) (no_end_after_demand h.instruction h.postings c.commit_demand-demand.result e two one) in
+    no_sheet h (Cut e) c.in-Ok.ready.next (c.in-Ok.ensures.ready.to_add.next_is 1)
+    (no_end_after_demand h.instruction h.postings c.commit_demand-demand.result e two one) in
     search rules

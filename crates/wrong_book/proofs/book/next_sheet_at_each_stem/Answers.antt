@@ -10,5 +10,6 @@ prove-unreachable-requires g c =
     let h = c.prepare.new.self.history in
     let x = Cut (entry_of h 1 c.args.plan.now) in
     let no_end : IsEnd h.instruction h.postings x → ⊥ = λ e. grind arith in
-    let none : c.in_ok-ready.ready.next ≡ None = no_sheet h x c.in_ok-ready.ready.next (c.in_ok-ready.ensures.ready.to_add.next_is 1) no_end in
+    let none : c.in_ok-ready.ready.next ≡ None =
+    no_sheet h x c.in_ok-ready.ready.next (c.in_ok-ready.ensures.ready.to_add.next_is 1) no_end in
     search rules

@@ -7,5 +7,6 @@ use Rattle.wrong_book.proofs.parts.last_part_dropped.Goals as goal
 pub prove-unreachable-requires : goal.prove-unreachable-requires
 prove-unreachable-requires g c =
     let lawful : IsLawful (history_of c.args.instruction.now.value c.args.journal.now) = search rules in
-    let follows = lawful.postings_follow (length c.args.journal.now.entries - 1) (Cut c.args.entry.now) c.requires.last in
+    let follows =
+    lawful.postings_follow (length c.args.journal.now.entries - 1) (Cut c.args.entry.now) c.requires.last in
     omega (arith, follows.holds.0.none_outvalues c.args.dearer.now.logs.items c.requires.admissible, c.requires.more)

@@ -8,4 +8,8 @@ pub prove-unreachable-requires : goal.prove-unreachable-requires
 prove-unreachable-requires g c =
     let h = history_of c.args.instruction.now.value c.args.journal.now in
     let first : IsFirstFault h (Outvalued c.in-Outvalued.at) = search rules in
-    omega (arith, not_later h c.in-Outvalued.at c.args.first c.args.entry.now c.args.dearer.now.logs.items c.requires.there c.requires.admissible c.requires.more first)
+    omega (
+      arith,
+      not_later h c.in-Outvalued.at c.args.first c.args.entry.now c.args.dearer.now.logs.items c.requires.there
+          c.requires.admissible c.requires.more first,
+    )

@@ -9,5 +9,7 @@ prove-unreachable-requires c =
     let i = c.args.instruction.now.value in
     let sheets = c.args.journal.now.sheets in
     let lawful : IsLawful (made i sheets c.args.journal.now.entries) = search rules in
-    let follows = second_follows i sheets (Demand c.args.demand.now) (Cut c.args.entry.now) [] (told i sheets _ _ c.requires.both lawful) in
+    let follows =
+    second_follows i sheets (Demand c.args.demand.now) (Cut c.args.entry.now) []
+    (told i sheets _ _ c.requires.both lawful) in
     omega (arith, follows.version_in_force, c.requires.version)

@@ -4,4 +4,5 @@ use Rattle.wrong_engine.proofs.fleets.too_many_stems_accepted.Goals as goal
 
 pub prove-unreachable-requires : goal.prove-unreachable-requires
 prove-unreachable-requires g c =
-    too_many_in_file _ _ _ _ _ _ _ _ _ c.requires.many c.run_fleet_files-right.ensures.run (sym c.is_err-is_refused.ensures.value ∙ c.if-prove.true)
+    too_many_in_file _ _ _ _ _ _ _ _ _ c.requires.many c.run_fleet_files-right.ensures.run
+    (sym c.is_err-is_refused.ensures.value ∙ c.if-prove.true)

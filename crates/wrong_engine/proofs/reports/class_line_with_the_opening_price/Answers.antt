@@ -8,4 +8,5 @@ pub prove-unreachable-requires : goal.prove-unreachable-requires
 prove-unreachable-requires c =
     let same : c.in-Ok.right.items ≡ c.args.wrong.now = search rules in
     let report : IsReport c.args.closed.now.history c.in-Ok.right.items = c.in-Ok.ensures in
-    unlike_middle _ _ _ _ _ _ report.text_is (c.requires.wrong report.counts report.are_counts) (c.requires.differ report.counts report.are_counts) same
+    unlike_middle _ _ _ _ _ _ report.text_is (c.requires.wrong report.counts report.are_counts)
+    (c.requires.differ report.counts report.are_counts) same

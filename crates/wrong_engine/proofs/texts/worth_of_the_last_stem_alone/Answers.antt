@@ -8,4 +8,5 @@ pub prove-unreachable-requires : goal.prove-unreachable-requires
 prove-unreachable-requires c =
     let same : c.in-Ok.right.items ≡ c.args.wrong.now = search rules in
     let text : IsBuckText c.args.instruction.now c.args.stems.now c.in-Ok.right.items = c.in-Ok.ensures in
-    unlike_back _ _ _ _ _ text.lines (c.requires.wrong text.cuts text.bucking) (c.requires.differ text.cuts text.bucking) same
+    unlike_back _ _ _ _ _ text.lines (c.requires.wrong text.cuts text.bucking)
+    (c.requires.differ text.cuts text.bucking) same

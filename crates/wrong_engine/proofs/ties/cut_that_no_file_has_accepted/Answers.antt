@@ -15,12 +15,16 @@ use Rattle.wrong_engine.proofs.ties.cut_that_no_file_has_accepted.Goals as goal
 
 no_file : (apt journal : List ℕ) (stm old new : Option (List ℕ)) (r : Result (Unit {0}) EngineFault) → is_err r ≡ false
     → WritesText (AnswersCheckWith apt_of None (Some apt) (Some journal) (stm ∷ [])) old new r
-    → ((i : InstructionParts) (j : JournalParts) → apt_of apt ≡ Ok i → journal_of journal ≡ Ok j → stems_by 2 (history_of i j) ≢ []) → ⊥
+    → ((i : InstructionParts) (j : JournalParts) → apt_of apt ≡ Ok i → journal_of journal ≡ Ok j
+    → stems_by 2 (history_of i j) ≢ []) → ⊥
 no_file apt journal stm old new (Ok u) e (text, of, written) cut =
     cut of.instruction of.read of.have.apt_says.1 of.have.journal_says.1
-    (of.answers.1.stems (omega (arith, of.have.number)) 2 (omega arith) ∙ get_or_past of.files 1 [] (omega (arith, of.have.number)))
+    (of.answers.1.stems (omega (arith, of.have.number)) 2 (omega arith)
+    ∙ get_or_past of.files 1 [] (omega (arith, of.have.number)))
 no_file apt journal stm old new (Err x) e run cut = true_false e
 
 pub prove-unreachable-requires : goal.prove-unreachable-requires
 prove-unreachable-requires c =
-    no_file c.args.apt.now c.args.journal.now (Some c.args.stm.now) (Some c.args.out.now.items) (Some c.run_check_with-right.new.writer.items) c.run_check_with-right.result (sym c.is_err-is_refused.ensures.value ∙ c.if-prove.true) c.run_check_with-right.ensures.run c.requires.cut
+    no_file c.args.apt.now c.args.journal.now (Some c.args.stm.now) (Some c.args.out.now.items)
+    (Some c.run_check_with-right.new.writer.items) c.run_check_with-right.result
+    (sym c.is_err-is_refused.ensures.value ∙ c.if-prove.true) c.run_check_with-right.ensures.run c.requires.cut

@@ -7,4 +7,6 @@ use Rattle.wrong_sweep.proofs.tables.greatest_degree_for_the_least.Goals as goal
 pub prove-unreachable-requires : goal.prove-unreachable-requires
 prove-unreachable-requires c =
     let same : c.run_sweep-outcome.new.out.items ≡ c.args.wrong.now = search rules in
-    without_wrong Step (HasGreatest Step) _ _ _ _ _ _ _ _ c.run_sweep-outcome.ensures.run c.new-right.ensures.items c.in-Ok.is c.requires.instead same (search rules)
+    without_wrong Step (HasGreatest Step)
+    _ _ _ _ _ _ _ _ c.run_sweep-outcome.ensures.run c.new-right.ensures.items c.in-Ok.is c.requires.instead same
+    (search rules)

@@ -6,4 +6,5 @@ use Rattle.wrong_sweep.proofs.tables.linear_rule_under_the_name_of_step.Goals as
 pub prove-unreachable-requires : goal.prove-unreachable-requires
 prove-unreachable-requires c =
     let same : c.run_sweep-outcome.new.out.items ≡ c.args.wrong.now = search rules in
-    without_line Step _ _ _ _ _ _ _ _ c.run_sweep-outcome.ensures.run c.new-right.ensures.items c.in-Ok.is c.requires.other same (search rules)
+    without_line Step _ _ _ _ _ _ _ _ c.run_sweep-outcome.ensures.run c.new-right.ensures.items c.in-Ok.is
+    c.requires.other same (search rules)

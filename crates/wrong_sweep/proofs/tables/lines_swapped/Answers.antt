@@ -6,4 +6,5 @@ use Rattle.wrong_sweep.proofs.tables.lines_swapped.Goals as goal
 pub prove-unreachable-requires : goal.prove-unreachable-requires
 prove-unreachable-requires c =
     let same : c.run_sweep-outcome.new.out.items ≡ c.args.wrong.now = search rules in
-    without_lines Steady Step _ _ _ _ _ _ _ _ c.run_sweep-outcome.ensures.run c.new-right.ensures.items c.in-Ok.is c.requires.other same (search rules)
+    without_lines Steady Step _ _ _ _ _ _ _ _ c.run_sweep-outcome.ensures.run c.new-right.ensures.items c.in-Ok.is
+    c.requires.other same (search rules)

@@ -9,13 +9,19 @@ pub prove-unreachable-requires : goal.prove-unreachable-requires
 prove-unreachable-requires c =
     let f = c.in-Ok.figures in
     let p = c.in-Some.point.now in
-    let there = found_there f.points.items c.deref.result.now 0 p c.deref.ensures.value c.in-Some.ensures.lookup.0 c.in-Some.ensures.lookup.1 in
+    let there =
+    found_there f.points.items c.deref.result.now 0 p c.deref.ensures.value c.in-Some.ensures.lookup.0
+    c.in-Some.ensures.lookup.1 in
     let i = c.args.instruction.now in
     let j = c.args.journal.now in
     let d = c.requires.after_a_demand.0 in
     let ps = Demand d ∷ Cut c.args.entry.now ∷ [] in
-    let is = point_is i j ps f 0 0 1 p (told i j ps f c.requires.after_a_demand.1 c.in-Ok.ensures.figures) there refl refl in
+    let is = point_is i j ps f 0 0 1 p (told i j ps f c.requires.after_a_demand.1 c.in-Ok.ensures.figures)
+    there refl refl in
     let none : get_or p.degrees.items 0 None ≡ None =
-    none_first p.degrees.items (λ g at. no_degree i d _ is.degrees.counts 0 g is.degrees.are_counts (is.degrees.each 0 g at)) in
-    let right : c.degree_in.result ≡ None = c.degree_in.ensures ∙ ap (λ gs. get_or gs 0 None) c.as_slice.ensures.value ∙ none in
-    told_false c.is_some-right.result (λ so. true_false (sym so ∙ c.is_some-right.ensures ∙ ap is_some right)) c.if-prove.true
+    none_first p.degrees.items
+    (λ g at. no_degree i d _ is.degrees.counts 0 g is.degrees.are_counts (is.degrees.each 0 g at)) in
+    let right : c.degree_in.result ≡ None = c.degree_in.ensures ∙ ap (λ gs. get_or gs 0 None) c.as_slice.ensures.value
+    ∙ none in
+    told_false c.is_some-right.result (λ so. true_false (sym so ∙ c.is_some-right.ensures ∙ ap is_some right))
+    c.if-prove.true

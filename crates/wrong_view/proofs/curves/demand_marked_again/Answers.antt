@@ -8,12 +8,15 @@ pub prove-unreachable-requires : goal.prove-unreachable-requires
 prove-unreachable-requires c =
     let f = c.in-Ok.figures in
     let p = c.in-Some.point.now in
-    let there = found_there f.points.items c.deref.result.now 1 p c.deref.ensures.value c.in-Some.ensures.lookup.0 c.in-Some.ensures.lookup.1 in
+    let there =
+    found_there f.points.items c.deref.result.now 1 p c.deref.ensures.value c.in-Some.ensures.lookup.0
+    c.in-Some.ensures.lookup.1 in
     let i = c.args.instruction.now in
     let j = c.args.journal.now in
     let d = c.requires.after_a_demand.0 in
     let ps = Demand d ∷ Cut c.args.entry.now ∷ [] in
-    let is = point_is i j ps f 1 1 2 p (told i j ps f c.requires.after_a_demand.1 c.in-Ok.ensures.figures) there refl refl in
+    let is = point_is i j ps f 1 1 2 p (told i j ps f c.requires.after_a_demand.1 c.in-Ok.ensures.figures)
+    there refl refl in
     let first = one demands_in (Demand d) in
     let both = two demands_in (Demand d) (Cut c.args.entry.now) in
     told_false p.demand (λ so. omega (arith, is.demand.0 so, first, both)) c.if-prove.true

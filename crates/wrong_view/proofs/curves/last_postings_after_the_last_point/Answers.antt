@@ -7,7 +7,9 @@ pub prove-unreachable-requires : goal.prove-unreachable-requires
 prove-unreachable-requires c =
     let f = c.in-Ok.figures in
     let p = c.in-Some.point.now in
-    let there = found_there f.points.items c.deref.result.now 199 p c.deref.ensures.value c.in-Some.ensures.lookup.0 c.in-Some.ensures.lookup.1 in
+    let there =
+    found_there f.points.items c.deref.result.now 199 p c.deref.ensures.value c.in-Some.ensures.lookup.0
+    c.in-Some.ensures.lookup.1 in
     let is = c.in-Ok.ensures.figures.points.each 199 p there in
     let end : point_after (length c.args.journal.now.entries) 200 ≡ 399 = ap (λ n. point_after n 200) c.requires.many in
     omega (arith, is.after, end, c.if-prove.true)

@@ -7,7 +7,9 @@ pub prove-unreachable-requires : goal.prove-unreachable-requires
 prove-unreachable-requires c =
     let f = c.in-Ok.figures in
     let p = c.in-Some.point.now in
-    let there = found_there f.points.items c.deref.result.now 0 p c.deref.ensures.value c.in-Some.ensures.lookup.0 c.in-Some.ensures.lookup.1 in
+    let there =
+    found_there f.points.items c.deref.result.now 0 p c.deref.ensures.value c.in-Some.ensures.lookup.0
+    c.in-Some.ensures.lookup.1 in
     let i = c.args.instruction.now in
     let j = c.args.journal.now in
     let ps = Demand c.args.demand.now ∷ [] in

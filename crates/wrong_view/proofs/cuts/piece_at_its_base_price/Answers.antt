@@ -16,10 +16,16 @@ prove-unreachable-requires c =
     let cut = c.in-Ok-Some.cut in
     let p = c.in-Some.piece.now in
     let told : IsToldAt c.args.planner.now sheets c.args.figures.now.postings.now 1 (Some cut) =
-    subst (λ (o : Option Told). IsToldAt c.args.planner.now sheets c.args.figures.now.postings.now 1 o) c.in-Ok-Some.field-0-is c.in-Ok-Some.ensures.told in
-    let there = found_there cut.pieces.items c.deref.result.now 0 p c.deref.ensures.value c.in-Some.ensures.lookup.0 c.in-Some.ensures.lookup.1 in
-    let same : cut.entry.now ≡ e = is_entry c.args.figures.now.postings.now c.requires.after_a_demand.0 e cut.entry.now c.requires.after_a_demand.1 told.1 in
+    subst (λ (o : Option Told). IsToldAt c.args.planner.now sheets c.args.figures.now.postings.now 1 o)
+    c.in-Ok-Some.field-0-is c.in-Ok-Some.ensures.told in
+    let there =
+    found_there cut.pieces.items c.deref.result.now 0 p c.deref.ensures.value c.in-Some.ensures.lookup.0
+    c.in-Some.ensures.lookup.1 in
+    let same : cut.entry.now ≡ e =
+    is_entry c.args.figures.now.postings.now c.requires.after_a_demand.0 e cut.entry.now c.requires.after_a_demand.1
+    told.1 in
     let is : IsCut (base_sheet i) (prices_at sheets e.version) e cut =
     subst (λ (x : EntryParts). IsCut (base_sheet i) (prices_at sheets x.version) x cut) same
-    (subst (λ (b : SheetParts). IsCut b (prices_at sheets cut.entry.now.version) cut.entry.now cut) c.requires.shown.base_is told.2) in
+    (subst (λ (b : SheetParts). IsCut b (prices_at sheets cut.entry.now.version) cut.entry.now cut)
+    c.requires.shown.base_is told.2) in
     off_base i sheets e cut p c.requires.off is there c.if-prove.true

@@ -12,7 +12,9 @@ prove-unreachable-requires c =
     let e = c.args.entry.now in
     let f = c.in-Ok.figures in
     let p = c.in-Some.part.now in
-    let there = found_there f.assortments.items c.deref.result.now 0 p c.deref.ensures.value c.in-Some.ensures.lookup.0 c.in-Some.ensures.lookup.1 in
+    let there =
+    found_there f.assortments.items c.deref.result.now 0 p c.deref.ensures.value c.in-Some.ensures.lookup.0
+    c.in-Some.ensures.lookup.1 in
     let is = told i j (Cut e ∷ []) f c.requires.only c.in-Ok.ensures.figures in
     omega (
       arith,

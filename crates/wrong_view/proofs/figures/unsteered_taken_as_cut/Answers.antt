@@ -9,5 +9,6 @@ prove-unreachable-requires c =
     let d = c.requires.after_a_demand.0 in
     let e = c.args.entry.now in
     let f = c.in-Ok.figures in
-    let less = outvalued i j d e f c.requires.outvalued (told i j _ f c.requires.after_a_demand.1 c.in-Ok.ensures.figures) in
+    let less =
+    outvalued i j d e f c.requires.outvalued (told i j _ f c.requires.after_a_demand.1 c.in-Ok.ensures.figures) in
     omega (arith, less, c.if-prove.true)

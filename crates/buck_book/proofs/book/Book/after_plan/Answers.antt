@@ -12,4 +12,5 @@ pub returns : goal.returns
 returns g c =
     let below = rw (sym c.self.view_is) at c.requires.below in
     let same = rw (sym c.self.view_is) at c.requires.in_force in
-    rw (sym c.self.view_is) (passed_cut _ _ _ _ c.self.invariant below c.args.plan.now _ _ same c.in_ok-after.ensures c.after_plan.ensures)
+    rw (sym c.self.view_is)
+    (passed_cut _ _ _ _ c.self.invariant below c.args.plan.now _ _ same c.in_ok-after.ensures c.after_plan.ensures)

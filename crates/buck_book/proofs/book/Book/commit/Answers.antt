@@ -19,9 +19,20 @@ invariant_of-self g c =
     let version = rw (sym c.self.view_is) at c.version-version.ensures.version in
     let made = c.into_entry-entry.ensures in
     let may = entry_follows _ c.args.harvester p made.best ready.sheet_in_force in
-    keeps_more _ _ _ _ _ _ _ (λ h. Cut (entry_of h c.args.harvester p)) _ c.args.ready.next _ _ _ _ _ c.self.invariant ready.to_add.below c.requires.harvester
-    may.0 may.1 (ready.to_add.next_is c.args.harvester) (entry_after _ _ _ _ _ ready.sheet_in_force c.after_plan.ensures)
-    (ap Cut (c.sharing.ensures ∙ made.entry ∙ (λ t. record { harvester = c.args.harvester; number = number t; stem = p.stem; version = version t; logs = p.logs; worth = p.worth })))
+    keeps_more _ _ _ _ _ _ _ (λ h. Cut (entry_of h c.args.harvester p))
+    _ c.args.ready.next _ _ _ _ _ c.self.invariant ready.to_add.below c.requires.harvester
+    may.0 may.1 (ready.to_add.next_is c.args.harvester)
+    (entry_after _ _ _ _ _ ready.sheet_in_force c.after_plan.ensures)
+    (ap Cut (c.sharing.ensures ∙ made.entry
+    ∙ (λ t. record {
+      harvester = c.args.harvester;
+      number = number t;
+      stem = p.stem;
+      version = version t;
+      logs =
+          p.logs;
+      worth = p.worth;
+    })))
     next c.add.ensures.calls c.add.ensures.postings c.add.ensures.sheets c.add.ensures.prices
 
 pub returns-clause-sheets : goal.returns-clause-sheets

@@ -14,8 +14,13 @@ invariant_of-self g c =
     let next = ap (λ (x : ReadyDemandParts). x.next) c.ready.view_is in
     let targets = ap (λ (x : ReadyDemandParts). x.targets) c.ready.view_is in
     let number = ap (λ n. n + 1) (rw (sym c.self.view_is) at c.calls-number.ensures) in
-    keeps_more _ _ _ _ _ _ _ (λ h. Demand (demand_of h c.args.harvester c.args.ready.targets)) _ (Some c.args.ready.next) _ _ _ _ _ c.self.invariant ready.to_add.below c.requires.harvester
-    (record { number_is_next = refl; version_in_force = refl; holds = ready.valid }) tt (ready.to_add.next_is c.args.harvester)
+    keeps_more _ _ _ _ _ _ _ (λ h. Demand (demand_of h c.args.harvester c.args.ready.targets)) _
+    (Some c.args.ready.next) _ _ _ _ _ c.self.invariant ready.to_add.below c.requires.harvester
+    (record { number_is_next = refl; version_in_force = refl; holds = ready.valid }) tt
+    (ready.to_add.next_is c.args.harvester)
     (c.after_demand.ensures _ _ (sym (c.ready.invariant.0 ∙ targets)) ready.valid)
-    (ap Demand (c.sharing.ensures ∙ demand_same _ _ refl number (rw (sym c.self.view_is) at c.version-version.ensures.version) (c.ready.invariant.1 ∙ targets)))
+    (ap Demand
+    (c.sharing.ensures
+    ∙ demand_same _ _ refl number (rw (sym c.self.view_is) at c.version-version.ensures.version)
+    (c.ready.invariant.1 ∙ targets)))
     (ap Some next) c.add.ensures.calls c.add.ensures.postings c.add.ensures.sheets c.add.ensures.prices

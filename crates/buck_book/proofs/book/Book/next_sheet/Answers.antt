@@ -4,7 +4,8 @@ use Rattle.buck_book.specs.Book.{entry_of}
 use Rattle.buck_book.proofs.book.Book.next_sheet.Goals as goal
 
 pub sheet_after-requires-clause-after : goal.sheet_after-requires-clause-after
-sheet_after-requires-clause-after g c = (Cut (entry_of c.args.self.now.history 0 c.args.plan.now), c.in_ok-after.ensures 0)
+sheet_after-requires-clause-after g c =
+    (Cut (entry_of c.args.self.now.history 0 c.args.plan.now), c.in_ok-after.ensures 0)
 
 pub returns-clause-next : goal.returns-clause-next
 returns-clause-next g c =

@@ -9,7 +9,8 @@ returns-clause-ready g c =
     let made = c.in_ok-ready.ensures in
     let room = c.in_ok-reserve.ensures in
     record {
-      to_add = ready_to_add _ _ (λ h harvester. Cut (entry_of h harvester c.args.plan.now)) _ c.reserve.ensures.content (search rules) made.next room.posting room.sheet;
+      to_add = ready_to_add _ _ (λ h harvester. Cut (entry_of h harvester c.args.plan.now)) _ c.reserve.ensures.content
+          (search rules) made.next room.posting room.sheet;
       sheet_in_force = search rules;
       same_stem = made.stem;
       same_logs = made.logs;

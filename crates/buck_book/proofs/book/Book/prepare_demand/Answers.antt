@@ -9,6 +9,9 @@ returns-clause-ready g c =
     let made = c.in_ok-ready.ensures in
     let room = c.in_ok-reserve.ensures in
     record {
-      to_add = rw made.targets (ready_to_add _ _ (λ h harvester. Demand (demand_of h harvester c.args.targets.now.value.items)) (Some c.in_ok-ready.ready.next) c.reserve.ensures.content (search rules) (λ harvester. (refl, made.next harvester)) room.posting room.sheet);
+      to_add = rw made.targets
+          (ready_to_add _ _ (λ h harvester. Demand (demand_of h harvester c.args.targets.now.value.items))
+          (Some c.in_ok-ready.ready.next) c.reserve.ensures.content (search rules)
+          (λ harvester. (refl, made.next harvester)) room.posting room.sheet);
       valid = search rules;
     }

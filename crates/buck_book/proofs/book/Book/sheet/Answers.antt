@@ -11,6 +11,7 @@ returns g c =
     let version = rw (sym c.self.view_is) at c.version.ensures.version in
     rw (sym c.self.view_is)
     (ap (λ a. a.value) c.index.ensures
-    ∙ sym (get_or-map (λ a. a.value) items c.version.result read read.value (omega (arith, version, in_sheets _ _ _ _ k, length-map items (λ a. a.value))))
+    ∙ sym (get_or-map (λ a. a.value) items c.version.result read read.value
+    (omega (arith, version, in_sheets _ _ _ _ k, length-map items (λ a. a.value))))
     ∙ ap (λ v. get_or (map (λ a. a.value) items) v read.value) version
     ∙ force_is _ _ _ _ read.value k)

@@ -9,7 +9,8 @@ use Rattle.buck_book.proofs.book.Book.sheet_after.Goals as goal
 pub invariant_of-standings : goal.invariant_of-standings
 invariant_of-standings g c =
     let same = c.deref.ensures ∙ ap (λ (b : BookParts g.row.F.Denot). b.history.instruction) c.self.view_is in
-    rw (same, c.targets.ensures, c.counts.ensures.classes, c.counts.ensures.assortments) (prices_can c.args.self.now.history.instruction _ c.args.after.now c.requires.after.1)
+    rw (same, c.targets.ensures, c.counts.ensures.classes, c.counts.ensures.assortments)
+    (prices_can c.args.self.now.history.instruction _ c.args.after.now c.requires.after.1)
 
 pub returns-clause-next : goal.returns-clause-next
 returns-clause-next g c =
@@ -17,7 +18,8 @@ returns-clause-next g c =
     let same = c.deref.ensures ∙ ap (λ (b : BookParts g.row.F.Denot). b.history.instruction) c.self.view_is in
     weaken_ok c.sheet_by.result
     (λ s made x told last. is_next_sheet g.F.Fn _ h x c.deref.result.now c.args.after.now s.value same
-    (rw (c.targets.ensures, c.counts.ensures.classes, c.counts.ensures.assortments, c.version.ensures) at made) told last)
+    (rw (c.targets.ensures, c.counts.ensures.classes, c.counts.ensures.assortments, c.version.ensures) at made)
+    told last)
     c.sheet_by.ensures
 
 pub returns-clause-given : goal.returns-clause-given

@@ -6,4 +6,9 @@ pub targets_sum-requires : goal.targets_sum-requires
 targets_sum-requires c =
     let exists = rw (sym c.self.view_is) at c.requires.exists in
     let before = rw (sym c.self.view_is) at c.requires.before in
-    omega (arith, before, part_within c.self.inside.instruction.now c.args.at c.args.assortment.now exists, c.self.invariant.targets.one_each)
+    omega (
+      arith,
+      before,
+      part_within c.self.inside.instruction.now c.args.at c.args.assortment.now exists,
+      c.self.invariant.targets.one_each,
+    )

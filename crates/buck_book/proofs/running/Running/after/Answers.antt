@@ -8,5 +8,8 @@ after_demand-requires c = version_low _ _ _ c.requires.before.2
 
 pub returns-in_ok-clone-in-Demand : goal.returns-in_ok-clone-in-Demand
 returns-in_ok-clone-in-Demand c =
-    let targets = ap (λ x. x.items) c.in_ok-clone-in-Demand.ensures.cases ∙ ap (λ (d : DemandParts). d.targets) c.demand.view_is in
-    rw c.in-Demand.is (c.after_demand.ensures c.args.sheet.now.instruction c.in-Demand.demand (sym targets) (rw c.in-Demand.is at c.requires.countable))
+    let targets = ap (λ x. x.items) c.in_ok-clone-in-Demand.ensures.cases
+    ∙ ap (λ (d : DemandParts). d.targets) c.demand.view_is in
+    rw c.in-Demand.is
+    (c.after_demand.ensures c.args.sheet.now.instruction c.in-Demand.demand (sym targets)
+    (rw c.in-Demand.is at c.requires.countable))

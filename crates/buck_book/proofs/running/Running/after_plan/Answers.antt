@@ -6,7 +6,11 @@ after_cut-requires c =
     let sheet = c.deref.ensures ∙ c.sheet.ensures in
     let stem = c.deref-2.ensures ∙ c.stem.ensures in
     let logs = c.as_slice.ensures.value ∙ ap (λ x. x.logs.items) c.deref-3.ensures ∙ c.cutting.ensures.logs in
-    record { before = rw sheet c.requires; cutting = rw (sheet, stem, logs) c.cutting.ensures.best.first_best.best.admissible }
+    record {
+      before = rw sheet c.requires;
+      cutting =
+          rw (sheet, stem, logs) c.cutting.ensures.best.first_best.best.admissible;
+    }
 
 pub returns : goal.returns
 returns c =

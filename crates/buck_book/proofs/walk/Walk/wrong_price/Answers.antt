@@ -5,7 +5,8 @@ use Rattle.buck_book.proofs.walk.Walk.wrong_price.Goals as goal
 
 pub invariant_of-standings : goal.invariant_of-standings
 invariant_of-standings c =
-    rw (c.targets.ensures, c.counts.ensures.classes, c.counts.ensures.assortments) (prices_can _ _ _ c.self.invariant.tells)
+    rw (c.targets.ensures, c.counts.ensures.classes, c.counts.ensures.assortments)
+    (prices_can _ _ _ c.self.invariant.tells)
 
 pub returns-clause-found : goal.returns-clause-found
 returns-clause-found c =
@@ -13,8 +14,10 @@ returns-clause-found c =
     let t = c.self.invariant.tells in
     rw (sym c.self.view_is)
     (weaken_some c.first_wrong.result
-    (λ at found. is_wrong w.instruction.now w.running.targets w.running.by_class w.running.by_assortment (take w.at w.postings.now) c.args.prices.now
-    t.targets_are t.counts_are at (rw (c.targets.ensures, c.counts.ensures.classes, c.counts.ensures.assortments) at found))
+    (λ at found. is_wrong w.instruction.now w.running.targets w.running.by_class w.running.by_assortment
+    (take w.at w.postings.now) c.args.prices.now
+    t.targets_are t.counts_are at
+    (rw (c.targets.ensures, c.counts.ensures.classes, c.counts.ensures.assortments) at found))
     c.first_wrong.ensures.found)
 
 pub returns-clause-none : goal.returns-clause-none
@@ -24,6 +27,8 @@ returns-clause-none c =
     let one_each = rw (sym c.self.view_is) at c.requires in
     rw (sym c.self.view_is)
     (weaken_none c.first_wrong.result
-    (λ met. all_met w.instruction.now w.running.targets w.running.by_class w.running.by_assortment (take w.at w.postings.now) c.args.prices.now
-    t.targets_are t.counts_are one_each (rw (c.targets.ensures, c.counts.ensures.classes, c.counts.ensures.assortments) at met))
+    (λ met. all_met w.instruction.now w.running.targets w.running.by_class w.running.by_assortment
+    (take w.at w.postings.now) c.args.prices.now
+    t.targets_are t.counts_are one_each
+    (rw (c.targets.ensures, c.counts.ensures.classes, c.counts.ensures.assortments) at met))
     c.first_wrong.ensures.none)

@@ -9,11 +9,17 @@ pub returns-in_err-closed-in-Some-clause-run : goal.returns-in_err-closed-in-Som
 returns-in_err-closed-in-Some-clause-run g c =
     let fault = c.in_err-closed-in-Some.ensures in
     let kept = g.J.Write.contents c.in-Some.journal.now in
-    rw c.in-Some.is (no_texts _ AtOnce (λ _. Unit {0}) _ _ (of_writer kept kept) _ _ _ (λ none. fault.seats (of_files g.R.Read.remaining c.args.stms.now none)) c.from_residual-in_err-closed-in-Some.ensures.1 fault.refused tt (Keeps-refl kept))
+    rw c.in-Some.is
+    (no_texts _ AtOnce (λ _. Unit {0}) _ _ (of_writer kept kept) _ _ _
+    (λ none. fault.seats (of_files g.R.Read.remaining c.args.stms.now none))
+    c.from_residual-in_err-closed-in-Some.ensures.1 fault.refused tt (Keeps-refl kept))
 
 pub returns-in_ok-closed-in-Some-clause-run : goal.returns-in_ok-closed-in-Some-clause-run
 returns-in_ok-closed-in-Some-clause-run g c =
     let cut = c.in_ok-closed-in-Some.ensures in
     let contents = g.J.Write.contents in
-    rw c.in-Some.is (texts_written _ AtOnce (λ _. Unit {0}) _ _ (of_writer (contents c.in-Some.journal.now) (contents c.write_journal_and_report.new.journal)) _ _ _ _ _
-    (λ none. cut.seats (of_files g.R.Read.remaining c.args.stms.now none)) cut.ok tt c.harvested_by-in-Some.ensures c.write_journal_and_report.ensures)
+    rw c.in-Some.is
+    (texts_written _ AtOnce (λ _. Unit {0}) _ _
+    (of_writer (contents c.in-Some.journal.now) (contents c.write_journal_and_report.new.journal)) _ _ _ _ _
+    (λ none. cut.seats (of_files g.R.Read.remaining c.args.stms.now none))
+    cut.ok tt c.harvested_by-in-Some.ensures c.write_journal_and_report.ensures)

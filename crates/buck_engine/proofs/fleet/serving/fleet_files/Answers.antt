@@ -18,10 +18,14 @@ returns-in_err-closed-in-AtOnce g c =
       between = c.open_inputs.new.opener;
       answers = search rules;
       runs = rw c.in-AtOnce.is
-          (not_harvested g.O.Make.makes held g.O.Made.Write.contents c.open_inputs.new.opener c.make_journal.new.maker (apt_with c.args.task.now.settings) AtOnce (FollowsRule c.args.task.now.rule) _ (c.in_ok-instruction.instruction, c.in_ok-instruction.stems.items) c.in_ok-journal.journal _ _ _ c.in_ok-journal.ensures
+          (not_harvested g.O.Make.makes held g.O.Made.Write.contents c.open_inputs.new.opener c.make_journal.new.maker
+          (apt_with c.args.task.now.settings) AtOnce (FollowsRule c.args.task.now.rule) _
+          (c.in_ok-instruction.instruction, c.in_ok-instruction.stems.items)
+          c.in_ok-journal.journal _ _ _ c.in_ok-journal.ensures
           (λ none. fault.ensures.seats (subst AreNoSeats (sym (ap (λ (l : List _). length l) same)) none))
           c.from_residual-in_err-closed-in-AtOnce.ensures.1
-          (subst (λ (l : List _). IsFleetFault (held c.in_ok-instruction.instruction) (map held l) fault.field-0.0) same fault.ensures.refused) tt);
+          (subst (λ (l : List _). IsFleetFault (held c.in_ok-instruction.instruction) (map held l) fault.field-0.0)
+          same fault.ensures.refused) tt);
     }
 
 pub returns-in-AtOnce : goal.returns-in-AtOnce
@@ -34,9 +38,13 @@ returns-in-AtOnce g c =
       between = c.open_inputs.new.opener;
       answers = search rules;
       runs = rw c.in-AtOnce.is
-          (harvest_written g.O.Make.makes held g.O.Made.Write.contents c.open_inputs.new.opener c.make_journal.new.maker (apt_with c.args.task.now.settings) AtOnce (FollowsRule c.args.task.now.rule) _ (c.in_ok-instruction.instruction, c.in_ok-instruction.stems.items) c.in_ok-journal.journal _ _ _ _ _ c.in_ok-journal.ensures
+          (harvest_written g.O.Make.makes held g.O.Made.Write.contents c.open_inputs.new.opener c.make_journal.new.maker
+          (apt_with c.args.task.now.settings) AtOnce (FollowsRule c.args.task.now.rule) _
+          (c.in_ok-instruction.instruction, c.in_ok-instruction.stems.items)
+          c.in_ok-journal.journal _ _ _ _ _ c.in_ok-journal.ensures
           (λ none. cut.ensures.seats (subst AreNoSeats (sym (ap (λ (l : List _). length l) same)) none))
-          (subst (λ (l : List _). IsHarvest (apt_with c.args.task.now.settings) (held c.in_ok-instruction.instruction) (map held l) cut.closed.history) same cut.ensures.ok)
+          (subst (λ (l : List _). IsHarvest (apt_with c.args.task.now.settings) (held c.in_ok-instruction.instruction)
+          (map held l) cut.closed.history) same cut.ensures.ok)
           tt c.harvested_by.ensures c.write_made.ensures);
     }
 
@@ -50,10 +58,14 @@ returns-in_err-turned-in-InTurn g c =
       between = c.open_inputs.new.opener;
       answers = search rules;
       runs = rw c.in-InTurn.is
-          (not_harvested g.O.Make.makes held g.O.Made.Write.contents c.open_inputs.new.opener c.make_journal.new.maker (apt_with c.args.task.now.settings) InTurn (FollowsRule c.args.task.now.rule) _ (c.in_ok-instruction.instruction, c.in_ok-instruction.stems.items) c.in_ok-journal.journal _ _ _ c.in_ok-journal.ensures
+          (not_harvested g.O.Make.makes held g.O.Made.Write.contents c.open_inputs.new.opener c.make_journal.new.maker
+          (apt_with c.args.task.now.settings) InTurn (FollowsRule c.args.task.now.rule) _
+          (c.in_ok-instruction.instruction, c.in_ok-instruction.stems.items)
+          c.in_ok-journal.journal _ _ _ c.in_ok-journal.ensures
           (λ none. fault.ensures.seats (subst AreNoSeats (sym (ap (λ (l : List _). length l) same)) none))
           c.from_residual-in_err-turned-in-InTurn.ensures.1
-          (subst (λ (l : List _). IsFleetFault (held c.in_ok-instruction.instruction) (map held l) fault.field-0.0) same fault.ensures.refused)
+          (subst (λ (l : List _). IsFleetFault (held c.in_ok-instruction.instruction) (map held l) fault.field-0.0)
+          same fault.ensures.refused)
           (subst (λ (l : List _). fault.field-0.0 ≡ Full → HaveTooMany (map held l)) same fault.ensures.full));
     }
 
@@ -67,8 +79,15 @@ returns g c =
       between = c.open_inputs.new.opener;
       answers = search rules;
       runs = rw c.in-InTurn.is
-          (harvest_written g.O.Make.makes held g.O.Made.Write.contents c.open_inputs.new.opener c.make_journal.new.maker (apt_with c.args.task.now.settings) InTurn (FollowsRule c.args.task.now.rule) _ (c.in_ok-instruction.instruction, c.in_ok-instruction.stems.items) c.in_ok-journal.journal _ _ _ _ _ c.in_ok-journal.ensures
+          (harvest_written g.O.Make.makes held g.O.Made.Write.contents c.open_inputs.new.opener c.make_journal.new.maker
+          (apt_with c.args.task.now.settings) InTurn (FollowsRule c.args.task.now.rule) _
+          (c.in_ok-instruction.instruction, c.in_ok-instruction.stems.items)
+          c.in_ok-journal.journal _ _ _ _ _ c.in_ok-journal.ensures
           (λ none. cut.ensures.seats (subst AreNoSeats (sym (ap (λ (l : List _). length l) same)) none))
-          (subst (λ (l : List _). IsHarvest (apt_with c.args.task.now.settings) (held c.in_ok-instruction.instruction) (map held l) cut.turned) same cut.ensures.ok)
-          (cut.ensures.in_turn, follows_rule g.F.Fn c.args.rule c.args.task.now.rule cut.turned c.requires.gives cut.ensures.ok.lawful cut.ensures.given) c.history.ensures c.write_made-in-InTurn.ensures);
+          (subst (λ (l : List _). IsHarvest (apt_with c.args.task.now.settings) (held c.in_ok-instruction.instruction)
+          (map held l) cut.turned) same cut.ensures.ok) (
+            cut.ensures.in_turn,
+            follows_rule g.F.Fn c.args.rule c.args.task.now.rule cut.turned c.requires.gives cut.ensures.ok.lawful
+                cut.ensures.given,
+          ) c.history.ensures c.write_made-in-InTurn.ensures);
     }

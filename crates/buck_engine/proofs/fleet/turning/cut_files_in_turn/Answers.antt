@@ -12,10 +12,13 @@ use Rattle.buck_engine.proofs.fleet.turning.cut_files_in_turn.Goals as goal
 pub returns-clause-refused : goal.returns-clause-refused
 returns-clause-refused g c =
     let read = c.in_ok-instruction.ensures in
-    cut_fault _ _ _ _ _ read.accepted (sym (length-map c.args.stms.now g.R.Read.remaining)) read.lists c.cut_lists.ensures.fault
+    cut_fault _ _ _ _ _ read.accepted (sym (length-map c.args.stms.now g.R.Read.remaining))
+    read.lists c.cut_lists.ensures.fault
 
 pub returns-clause-full : goal.returns-clause-full
 returns-clause-full g c =
     let read = c.in_ok-instruction.ensures in
-    too_many _ _ _ _ (read.number ∙ sym (length-map c.args.stms.now g.R.Read.remaining)) (sym (length-map c.args.stms.now g.R.Read.remaining)) read.lists
-    (subst (λ (l : List (Vec (Arc Stem Global) Global)). IfErr c.cut_lists.result (λ fault. fault ≡ Full → 1000000 < stems_in_all l)) c.as_slice-2.ensures.value c.cut_lists.ensures.full)
+    too_many _ _ _ _ (read.number ∙ sym (length-map c.args.stms.now g.R.Read.remaining))
+    (sym (length-map c.args.stms.now g.R.Read.remaining)) read.lists
+    (subst (λ (l : List (Vec (Arc Stem Global) Global)). IfErr c.cut_lists.result
+    (λ fault. fault ≡ Full → 1000000 < stems_in_all l)) c.as_slice-2.ensures.value c.cut_lists.ensures.full)

@@ -9,4 +9,5 @@ use Rattle.buck_engine.proofs.run.bucking.text_of_one.Goals as goal
 pub returns : goal.returns
 returns g c =
     bare_answer _ _ _ c.in_ok-input.ensures.whole c.in_ok-input.ensures.limit
-    (subst (λ (bytes : List ℕ). AnswersBytes (before_first is_bar bytes) (after_first is_bar bytes) (listed c.text_of_parts.result)) c.as_slice.ensures.value c.text_of_parts.ensures)
+    (subst (λ (bytes : List ℕ). AnswersBytes (before_first is_bar bytes) (after_first is_bar bytes)
+    (listed c.text_of_parts.result)) c.as_slice.ensures.value c.text_of_parts.ensures)

@@ -10,4 +10,5 @@ returns-in-Err g c =
     let h = history_of c.args.both.now.instruction.value c.args.both.now.journal in
     nothing_left (Unit {0}) h (g.W.Write.contents c.args.writer.now) c.unlawful.result
     (c.unlawful.ensures h
-    (subst (λ (r : Result (Unit {0}) ReplayFault). IfErr r (λ why. why ≢ Memory → IsFirstFault h why)) c.in-Err.is c.requires.refused))
+    (subst (λ (r : Result (Unit {0}) ReplayFault). IfErr r (λ why. why ≢ Memory → IsFirstFault h why))
+    c.in-Err.is c.requires.refused))

@@ -9,7 +9,9 @@ loop-at-preserved c =
     let e = c.args.ending.now in
     let xs = e.instruction.assortments in
     let long = ap (λ (l : List AssortmentParts). length l) same in (
-      assortment_more e xs c.loop-at.at c.index-assortments-at.result c.args.out.now.items c.loop-at.out.items c.put_assortment.new.out.items
-          (omega (arith, c.loop-at-test.true, long)) (rw same at c.index-assortments-at.is) c.loop-at.invariant.0 c.in_ok-put_assortment.ensures,
+      assortment_more e xs c.loop-at.at c.index-assortments-at.result c.args.out.now.items c.loop-at.out.items
+          c.put_assortment.new.out.items
+          (omega (arith, c.loop-at-test.true, long)) (rw same at c.index-assortments-at.is)
+          c.loop-at.invariant.0 c.in_ok-put_assortment.ensures,
       same,
     )

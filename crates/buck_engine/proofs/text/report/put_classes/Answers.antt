@@ -6,4 +6,5 @@ pub loop-row-preserved : goal.loop-row-preserved
 loop-row-preserved c =
     line_more
     (λ row. row_lines c.args.ending.now c.args.assortment.now c.args.at row)
-    c.loop-row.row c.args.out.now.items c.loop-row.out.items c.put_row.new.out.items c.loop-row.invariant c.in_ok-put_row.ensures
+    c.loop-row.row c.args.out.now.items c.loop-row.out.items c.put_row.new.out.items c.loop-row.invariant
+    c.in_ok-put_row.ensures

@@ -7,4 +7,6 @@ abbrev pub invariant-loop-column : goal.invariant-loop-column
 invariant-loop-column l =
     l.out.items
     ≡ l.initial.out.items
-    ++ flat_map (λ column. class_line l.ending l.assortment (record { assortment = l.first.assortment; row = l.first.row; column = column })) (range_with_len 0 l.column)
+    ++ flat_map
+    (λ column. class_line l.ending l.assortment
+    (record { assortment = l.first.assortment; row = l.first.row; column = column })) (range_with_len 0 l.column)

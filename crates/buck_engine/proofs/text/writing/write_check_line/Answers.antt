@@ -10,4 +10,5 @@ pub returns-in-Surplus : goal.returns-in-Surplus
 returns-in-Surplus g c = rw (c.in-Surplus.is, ← c.from-in-Surplus.ensures) c.write_line-in-Surplus.ensures
 
 pub returns-in-Price : goal.returns-in-Price
-returns-in-Price g c = rw (c.in-Price.is, ← c.from-in-Price.ensures, ← c.from-in-Price-2.ensures) c.write_line-in-Price.ensures
+returns-in-Price g c =
+    rw (c.in-Price.is, ← c.from-in-Price.ensures, ← c.from-in-Price-2.ensures) c.write_line-in-Price.ensures

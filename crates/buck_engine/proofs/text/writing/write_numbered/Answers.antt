@@ -18,7 +18,8 @@ returns-in_err-write_numbers g c =
     let filled : 0 < length found = grind (arith, common_steps, c.is_empty.ensures, c.if-is_empty.false) in
     told _ _ c.args.kind.now c.args.file.now _ found _ (c.as_slice-numbers.ensures ∙ c.numbers-numbers.ensures) filled
     (then_written _ _ _ c.args.kind.now _ _ c.in_ok-write_text.ensures
-    (stopped _ _ (spelled c.args.file.now) (line_of (codes " fault") found) _ _ c.from_residual-in_err-write_numbers.ensures.1 c.in_err-write_numbers.ensures))
+    (stopped _ _ (spelled c.args.file.now) (line_of (codes " fault") found)
+    _ _ c.from_residual-in_err-write_numbers.ensures.1 c.in_err-write_numbers.ensures))
 
 pub returns : goal.returns
 returns g c =
@@ -26,4 +27,5 @@ returns g c =
     let filled : 0 < length found = grind (arith, common_steps, c.is_empty.ensures, c.if-is_empty.false) in
     told _ _ c.args.kind.now c.args.file.now _ found _ (c.as_slice-numbers.ensures ∙ c.numbers-numbers.ensures) filled
     (then_written _ _ _ c.args.kind.now _ _ c.in_ok-write_text.ensures
-    (then_written _ _ _ (spelled c.args.file.now) (line_of (codes " fault") found) _ c.in_ok-write_numbers.ensures c.write_line.ensures))
+    (then_written _ _ _ (spelled c.args.file.now) (line_of (codes " fault") found)
+    _ c.in_ok-write_numbers.ensures c.write_line.ensures))

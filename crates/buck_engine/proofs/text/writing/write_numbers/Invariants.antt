@@ -4,4 +4,6 @@ use Rattle.buck_record.specs.writing.Written.{spelled}
 use Rattle.buck_engine.proofs.text.writing.write_numbers.Given as goal
 
 abbrev pub invariant-loop-number : goal.invariant-loop-number
-invariant-loop-number g l = Appends (g.W.Write.contents l.initial.writer) (g.W.Write.contents l.writer) (spelled (take l.number-index l.numbers))
+invariant-loop-number g l =
+    Appends (g.W.Write.contents l.initial.writer) (g.W.Write.contents l.writer)
+    (spelled (take l.number-index l.numbers))

@@ -6,6 +6,7 @@ pub loop-preserved : goal.loop-preserved
 loop-preserved g c =
     let text = c.args.text.now in
     let at = c.loop.at in (
-      rw (← taken text at c.in-Ok.count c.loop.invariant.1 c.in-Ok.ensures.bound) (Appends-trans _ _ _ _ _ c.loop.invariant.0 c.in-Ok.ensures.bytes),
+      rw (← taken text at c.in-Ok.count c.loop.invariant.1 c.in-Ok.ensures.bound)
+          (Appends-trans _ _ _ _ _ c.loop.invariant.0 c.in-Ok.ensures.bytes),
       fits text at c.in-Ok.count c.loop.invariant.1 c.in-Ok.ensures.bound,
     )

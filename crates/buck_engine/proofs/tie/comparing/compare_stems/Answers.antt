@@ -16,8 +16,10 @@ returns-in-Some-clause-found c = λ h is.
       harvester = who;
       from_one = omega arith;
       least = λ other pos low. cut_of_history other h ps is ∙ c.loop-at.invariant other pos (omega (arith, low));
-      differ = subst (λ (l : List StemParts). DifferBy who l (stems_of_file files who) c.in-Some.fault) (sym (cut_of_history who h ps is))
-          (subst (λ (l : List StemParts). DifferBy who (stems_cut_in who ps) l c.in-Some.fault) c.file_of.ensures c.in-Some.ensures.found);
+      differ = subst (λ (l : List StemParts). DifferBy who l (stems_of_file files who) c.in-Some.fault)
+          (sym (cut_of_history who h ps is))
+          (subst (λ (l : List StemParts). DifferBy who (stems_cut_in who ps) l c.in-Some.fault)
+          c.file_of.ensures c.in-Some.ensures.found);
     }
 
 pub returns-clause-none : goal.returns-clause-none
@@ -28,7 +30,9 @@ returns-clause-none c = λ h is who pos.
     cut_of_history who h ps is ∙ elim (cases_lt last who) [
       | inl beyond ↦
           let number : length files ≡ length c.args.files.now = length-map c.args.files.now _ in
-          let none : stems_of_file files who ≡ [] = get_or_past files (who - 1) [] (omega (arith, beyond, number, c.last_harvester-at-end.ensures.least, c.requires.few)) in
+          let none : stems_of_file files who ≡ [] =
+          get_or_past files (who - 1) []
+          (omega (arith, beyond, number, c.last_harvester-at-end.ensures.least, c.requires.few)) in
           cut_nothing who last ps c.last_harvester-at-end.ensures.all beyond ∙ sym none
       | inr within ↦ c.loop-at.invariant who pos (omega (arith, within, c.loop-at-test.false))
     ]

@@ -6,5 +6,6 @@ abbrev pub invariant-loop-posting : goal.invariant-loop-posting
 invariant-loop-posting l = record {
   few : l.cuts ≤ l.posting-index;
   within : l.cuts ≤ length l.file;
-  so_far : stems_cut_in l.harvester l.postings ≡ take l.cuts l.file ++ stems_cut_in l.harvester (drop l.posting-index l.postings);
+  so_far : stems_cut_in l.harvester l.postings ≡ take l.cuts l.file
+      ++ stems_cut_in l.harvester (drop l.posting-index l.postings);
 }

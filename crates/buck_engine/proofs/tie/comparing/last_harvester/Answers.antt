@@ -10,9 +10,12 @@ loop-posting-preserved c = record {
     | inl old ↦ omega (arith, c.loop-posting.invariant.all k d old, c.max-last.ensures)
     | inr new ↦
         let same : k ≡ c.loop-posting.posting-index = omega (arith, lt, new) in
-        let item = get_or_read c.args.postings.now c.loop-posting.posting-index c.posting-item.result c.loop-posting-test.true c.posting-item.is d in
+        let item =
+        get_or_read c.args.postings.now c.loop-posting.posting-index c.posting-item.result c.loop-posting-test.true
+        c.posting-item.is d in
         let here : harvester_of (get_or c.args.postings.now k d) ≡ c.harvester.result =
-        ap (λ n. harvester_of (get_or c.args.postings.now n d)) same ∙ ap harvester_of (sym item) ∙ sym c.harvester.ensures in
+        ap (λ n. harvester_of (get_or c.args.postings.now n d)) same ∙ ap harvester_of (sym item)
+        ∙ sym c.harvester.ensures in
         omega (arith, here, c.max-last.ensures)
   ];
   least = omega (arith, c.loop-posting.invariant.least, c.max-last.ensures);

@@ -10,8 +10,14 @@ add_logs-requires-clause-within c = λ k d lt.
 
 pub add_logs-requires-clause-low : goal.add_logs-requires-clause-low
 add_logs-requires-clause-low c = λ a.
-    omega (arith, c.requires.low a, few_logs c.args.instruction.now c.args.stem.now c.args.logs.now c.limit.ensures.valid c.length.ensures.valid c.requires.cutting)
+    omega (
+      arith,
+      c.requires.low a,
+      few_logs c.args.instruction.now c.args.stem.now c.args.logs.now c.limit.ensures.valid c.length.ensures.valid
+          c.requires.cutting,
+    )
 
 pub returns-clause-few : goal.returns-clause-few
 returns-clause-few c =
-    few_logs c.args.instruction.now c.args.stem.now c.args.logs.now c.limit.ensures.valid c.length.ensures.valid c.requires.cutting
+    few_logs c.args.instruction.now c.args.stem.now c.args.logs.now c.limit.ensures.valid c.length.ensures.valid
+    c.requires.cutting

@@ -13,12 +13,14 @@ returns-in_default-clause-none c =
     let j = c.args.journal.now in
     let w = c.loop-fault.walk in
     passed_all c.args.rule i j w c.loop-fault.invariant.same c.loop-fault.invariant.before
-    (subst (λ (x : InstructionParts). ArePricesAt c.args.rule (history_of x j) w.at) c.deref-in-loop-fault.ensures c.in-None.ensures.none) c.in_default.ensures.next
+    (subst (λ (x : InstructionParts). ArePricesAt c.args.rule (history_of x j) w.at)
+    c.deref-in-loop-fault.ensures c.in-None.ensures.none) c.in_default.ensures.next
 
 pub pass-requires-clause-countable : goal.pass-requires-clause-countable
 pass-requires-clause-countable c =
     subst (λ (x : InstructionParts). IsCountable x c.in-Some-next.posting.now) (sym c.deref-in-loop-fault-2.ensures)
-    (next_countable c.args.rule c.args.instruction.now.value c.args.journal.now c.loop-fault.walk c.loop-fault.invariant.same c.in-Some-next.posting.now c.requires.lawful c.in-Some-next.ensures.next)
+    (next_countable c.args.rule c.args.instruction.now.value c.args.journal.now c.loop-fault.walk
+    c.loop-fault.invariant.same c.in-Some-next.posting.now c.requires.lawful c.in-Some-next.ensures.next)
 
 pub loop-fault-preserved : goal.loop-fault-preserved
 loop-fault-preserved c =
@@ -31,8 +33,13 @@ loop-fault-preserved c =
     let further : w.at + 1 ≡ v.at = sym (ap (λ (x : WalkParts). x.at) next) in
     record {
       same = same_more c.args.rule i j w inv.same v next;
-      counts = subst (λ (x : InstructionParts). AreAssorted x (take v.at j.entries) c.pass.new.counts.items) c.deref-in-loop-fault-2.ensures
-          (subst (λ (x : WalkParts). AreAssorted c.deref-in-loop-fault-2.result.now (take v.at x.postings) c.pass.new.counts.items) inv.same
-          (subst (λ n. AreAssorted c.deref-in-loop-fault-2.result.now (take n w.postings) c.pass.new.counts.items) further c.in_ok-walk-2.ensures.counts));
-      before = passed_more c.args.rule i j w inv.same v next inv.before (subst (λ (x : InstructionParts). ArePricesAt c.args.rule (history_of x j) w.at) c.deref-in-loop-fault.ensures c.in-None.ensures.none);
+      counts = subst (λ (x : InstructionParts). AreAssorted x (take v.at j.entries) c.pass.new.counts.items)
+          c.deref-in-loop-fault-2.ensures
+          (subst (λ (x : WalkParts). AreAssorted c.deref-in-loop-fault-2.result.now (take v.at x.postings)
+          c.pass.new.counts.items) inv.same
+          (subst (λ n. AreAssorted c.deref-in-loop-fault-2.result.now (take n w.postings) c.pass.new.counts.items)
+          further c.in_ok-walk-2.ensures.counts));
+      before = passed_more c.args.rule i j w inv.same v next inv.before
+          (subst (λ (x : InstructionParts). ArePricesAt c.args.rule (history_of x j) w.at)
+          c.deref-in-loop-fault.ensures c.in-None.ensures.none);
     }

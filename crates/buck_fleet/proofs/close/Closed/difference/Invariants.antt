@@ -5,4 +5,5 @@ use Rattle.buck_fleet.specs.Closed.{lists_of}
 use Rattle.buck_fleet.proofs.close.Closed.difference.Given as goal
 
 abbrev pub invariant-loop-i : goal.invariant-loop-i
-invariant-loop-i l = (h : ℕ) → 0 < h → h ≤ l.i → slice_index_or (lists_of l.self-inside.kept.items) (h - 1) [] ≡ replies_from h 0 l.self-inside.entries.items
+invariant-loop-i l = (h : ℕ) → 0 < h → h ≤ l.i
+    → slice_index_or (lists_of l.self-inside.kept.items) (h - 1) [] ≡ replies_from h 0 l.self-inside.entries.items

@@ -13,6 +13,7 @@ returns c =
     let long = length-map items (λ a. a.value) in
     rw (sym c.self.view_is)
     (ap (λ a. a.value) c.index.ensures
-    ∙ sym (get_or-map (λ a. a.value) items (c.len.result - 1) read read.value (omega (arith, c.len.ensures, last.0, long)))
+    ∙ sym (get_or-map (λ a. a.value) items (c.len.result - 1) read read.value
+    (omega (arith, c.len.ensures, last.0, long)))
     ∙ ap (λ n. get_or sheets n read.value) (omega (arith, c.len.ensures, long))
     ∙ last.1)

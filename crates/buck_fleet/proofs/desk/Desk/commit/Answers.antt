@@ -12,13 +12,17 @@ returns-clause-ok g c =
     let same = c.prepare_cut.ensures.history in
     let harvester = ap (λ (s : SeatParts). s.harvester) c.seat.view_is in
     let added = c.add-posting.ensures in
-    let both : Cut c.in-Cut.entry ≡ Cut (entry_of c.prepare_cut.new.book.history c.seat.inside.harvester c.args.plan) = sym c.in-Cut.is ∙ added.posting in
-    let entry : c.in-Cut.entry ≡ entry_of c.prepare_cut.new.book.history c.seat.inside.harvester c.args.plan = cc both in
+    let both : Cut c.in-Cut.entry ≡ Cut (entry_of c.prepare_cut.new.book.history c.seat.inside.harvester c.args.plan) =
+    sym c.in-Cut.is ∙ added.posting in
+    let entry : c.in-Cut.entry ≡ entry_of c.prepare_cut.new.book.history c.seat.inside.harvester c.args.plan =
+    cc both in
     record {
       under = made.ready.sheet_in_force ∙ ap in_force same;
       planned = made.best;
       entry_is = entry ∙ (λ t. entry_of (same t) (harvester t) c.args.plan);
       added =
-          is_added _ c.prepare_cut.new.book _ _ _ _ _ _ _ _ same c.seat.view_is c.prepare_cut.ensures.kept c.in-Cut.is added.position added.postings added.instruction
-          record { same_harvester = refl; kept_are = added.kept; same_parts = added.parts; seen_rises = added.rises } added.seen;
+          is_added _ c.prepare_cut.new.book _ _ _ _ _ _ _ _ same c.seat.view_is c.prepare_cut.ensures.kept c.in-Cut.is
+          added.position added.postings added.instruction
+          record { same_harvester = refl; kept_are = added.kept; same_parts = added.parts; seen_rises = added.rises }
+          added.seen;
     }

@@ -11,12 +11,16 @@ returns-clause-ok g c =
     let same = c.prepare_targets.ensures.history in
     let harvester = ap (λ (s : SeatParts). s.harvester) c.seat.view_is in
     let added = c.add-posting.ensures in
-    let both : Demand c.in-Demand.demand ≡ Demand (demand_of c.prepare_targets.new.book.history c.seat.inside.harvester targets) =
+    let both : Demand c.in-Demand.demand
+    ≡ Demand (demand_of c.prepare_targets.new.book.history c.seat.inside.harvester targets) =
     sym c.in-Demand.is ∙ added.posting ∙ c.in_ok-made.ensures.posting c.seat.inside.harvester in
-    let demand : c.in-Demand.demand ≡ demand_of c.prepare_targets.new.book.history c.seat.inside.harvester targets = cc both in
+    let demand : c.in-Demand.demand ≡ demand_of c.prepare_targets.new.book.history c.seat.inside.harvester targets =
+    cc both in
     record {
       demand_is = demand ∙ (λ t. demand_of (same t) (harvester t) targets);
       added =
-          is_added _ c.prepare_targets.new.book _ _ _ _ _ _ _ _ same c.seat.view_is c.prepare_targets.ensures.kept c.in-Demand.is added.position added.postings added.instruction
-          record { same_harvester = refl; kept_are = added.kept; same_parts = added.parts; seen_rises = added.rises } added.seen;
+          is_added _ c.prepare_targets.new.book _ _ _ _ _ _ _ _ same c.seat.view_is c.prepare_targets.ensures.kept
+          c.in-Demand.is added.position added.postings added.instruction
+          record { same_harvester = refl; kept_are = added.kept; same_parts = added.parts; seen_rises = added.rises }
+          added.seen;
     }

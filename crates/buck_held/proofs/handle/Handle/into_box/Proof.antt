@@ -27,7 +27,8 @@ into_box_spec {M} 𝓤 𝓛 𝓜 𝓡 wired =
     let c = f.clauses 𝓛 𝓜.mem 𝓡.returns in let W = walk_of 𝓛 f.ended stayed c in
     let 𝓣 = tables 𝓤 𝓛.H 𝓜 𝓡 𝓡.env in let G = FromRaw 𝓤 𝓛 𝓜 𝓡 in
     let heap_is = passed 𝓡.env (code.calls-std_heap::GlobalAllocator::allocate 𝓡.env wired)
-    (code.calls-std_heap::GlobalAllocator::deallocate 𝓡.env wired) (code.calls-std_heap::GlobalAllocator::grow 𝓡.env wired)
+    (code.calls-std_heap::GlobalAllocator::deallocate 𝓡.env wired)
+    (code.calls-std_heap::GlobalAllocator::grow 𝓡.env wired)
     (code.calls-std_heap::GlobalAllocator::shrink 𝓡.env wired) M 𝓤 𝓛 𝓜 𝓡 in
     let heap_goes = heap_drop_met 𝓤 𝓛 𝓜 𝓡 (code.calls-buck_held::Destruct++none::drop 𝓡.env wired) in
     let called = met 𝓤 𝓛 𝓜 𝓡 (code.calls-std_alloc::boxed::Box::from_raw 𝓡.env wired)
@@ -54,7 +55,8 @@ into_box_spec {M} 𝓤 𝓛 𝓜 𝓡 wired =
       ),
       x,
     ) in
-    move ! (1 ∷ []) $ split ! $ move ! (1 ∷ []) $ feq_i ! _ (rawptr_vals h.at) _ refl $ join ! $ move ! (1 ∷ 0 ∷ []) $ join ! $
+    move ! (1 ∷ []) $ split ! $ move ! (1 ∷ []) $ feq_i ! _ (rawptr_vals h.at) _ refl $ join ! $ move ! (1 ∷ 0 ∷ [])
+    $ join ! $
     hands ! $ use1 𝓛 (raw (G.pre z)) (id⊢ 𝓤 _) $
     let stored = all_Typed 𝓛 (Handle ∷ Heap ∷ []) (handle_Lawful 𝓛, (heap_Laws.lawful 𝓛, tt)) a _ are in
     let typed = ((rawptr_Lawful 𝓛).typed h.at _ refl).0 in

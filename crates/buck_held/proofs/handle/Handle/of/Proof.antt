@@ -26,7 +26,8 @@ of_spec {M} 𝓤 𝓛 𝓜 𝓡 wired =
     let c = f.clauses 𝓛 𝓜.mem 𝓡.returns in let W = walk_of 𝓛 f.ended stayed c in
     let 𝓣 = tables 𝓤 𝓛.H 𝓜 𝓡 𝓡.env in let G = IntoRaw 𝓤 𝓛 𝓜 𝓡 in
     let heap_is = passed 𝓡.env (code.calls-std_heap::GlobalAllocator::allocate 𝓡.env wired)
-    (code.calls-std_heap::GlobalAllocator::deallocate 𝓡.env wired) (code.calls-std_heap::GlobalAllocator::grow 𝓡.env wired)
+    (code.calls-std_heap::GlobalAllocator::deallocate 𝓡.env wired)
+    (code.calls-std_heap::GlobalAllocator::grow 𝓡.env wired)
     (code.calls-std_heap::GlobalAllocator::shrink 𝓡.env wired) M 𝓤 𝓛 𝓜 𝓡 in
     let heap_goes = heap_drop_met 𝓤 𝓛 𝓜 𝓡 (code.calls-buck_held::Destruct++none::drop 𝓡.env wired) in
     let kept_goes = kept_drop_met 𝓤 𝓛 𝓜 𝓡 (code.calls-buck_held::buck_held++kept++Kept+Destruct::drop 𝓡.env wired) in
@@ -46,7 +47,8 @@ of_spec {M} 𝓤 𝓛 𝓜 𝓡 wired =
     sets ! (of_opd ! (get ! refl)) refl one.2 $
     calls_at ! (framed 𝓤 𝓛.H 𝓜 𝓣) G called z (and_then ! (get ! refl) (no_more !)) (λ v.
     use1 𝓛 (later (some (λ (p : Ptr). (tokens ⊛ ‵ (RawPtr.own_val p (v ∷ []))) ⊛
-    some (λ (ws : Lasts into_raw_ended z.0.0 z.0.3). ‵ (lasts into_raw_ended z.0.0 z.0.3 ws) ⊛ ‵ (boxed_at KeptArg p b.value))))) (id⊢ 𝓤 _) $
+    some (λ (ws : Lasts into_raw_ended z.0.0 z.0.3). ‵ (lasts into_raw_ended z.0.0 z.0.3 ws) ⊛ ‵
+    (boxed_at KeptArg p b.value))))) (id⊢ 𝓤 _) $
     await ! tt $ pick ! (λ p. split ! $ split ! $ drop ! $ feq_l ! (λ at. pick ! (λ _. split ! $ drop ! $
     let typed = ((rawptr_Lawful 𝓛).typed p _ refl).0 in lands_as ! (ap only at) refl typed $
     -- [the book's block]
@@ -54,7 +56,8 @@ of_spec {M} 𝓤 𝓛 𝓜 𝓡 wired =
     handle_in ! made $ peeks ! Handle _ (shows 𝓛 Handle) made (handle_vals made) (λ shown.
     -- Handle { at: at as *mut u8 }
     sets ! (of_opd ! (get ! refl)) refl typed $
-    sets ! (agg ! (and_then ! (get ! refl) (no_more !))) refl ((handle_Lawful 𝓛).typed made (handle_vals made) shown).0 $
+    sets ! (agg ! (and_then ! (get ! refl) (no_more !))) refl
+    ((handle_Lawful 𝓛).typed made (handle_vals made) shown).0 $
     returns ! (look_at ! 0 refl) $ free_all ! refl $
     suffices ! _ (ends_at 𝓛 f.ended stayed c y (handle_val made) made (tt, tt) (tt, tt)) $ says ! refl $
     nothing ! $ nothing ! $ join ! $ nothing ! $ done !)))))))

@@ -8,6 +8,7 @@ invariant_of-self c = (
   refl,
   stays_either c.self.inside.rule c.args.harvester c.args.targets.now.value.items c.in-Some.book.history
       c.retarget-book.result.0.history c.self.inside.planner c.retarget-book.result.1
-      (subst (λ o. IsSheetOf (book_in o).history c.self.inside.planner) (sym c.in-Some.ensures.value) c.self.invariant.1)
+      (subst (λ o. IsSheetOf (book_in o).history c.self.inside.planner) (sym c.in-Some.ensures.value)
+      c.self.invariant.1)
       c.retarget-book.ensures.retargeted c.retarget-book.ensures.left,
 )

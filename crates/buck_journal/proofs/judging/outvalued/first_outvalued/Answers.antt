@@ -14,8 +14,10 @@ loop-at-preserved c =
     let ps = c.args.postings.now in
     let x = c.index-postings-at.result in
     let s = c.turn_to.new.planner in
-    let is : s ≡ sheet_at i sheets (planned_version x) = c.in_ok-turn_to.ensures ∙ ap (λ v. sheet_at i sheets v) c.version_of-version-in-loop-at.ensures in
-    let kept : c.is_outvalued.new.planner ≡ sheet_at i sheets c.version_of-version-in-loop-at.result = c.is_outvalued.ensures.same ∙ c.in_ok-turn_to.ensures in
+    let is : s ≡ sheet_at i sheets (planned_version x) = c.in_ok-turn_to.ensures
+    ∙ ap (λ v. sheet_at i sheets v) c.version_of-version-in-loop-at.ensures in
+    let kept : c.is_outvalued.new.planner ≡ sheet_at i sheets c.version_of-version-in-loop-at.result =
+    c.is_outvalued.ensures.same ∙ c.in_ok-turn_to.ensures in
     record {
       none = none_more i sheets ps c.loop-at.at x s
           (slice_get_read ps (length ps) c.loop-at.at x refl (omega arith) c.index-postings-at.is)

@@ -12,12 +12,16 @@ loop-version-preserved c =
     let version = c.loop-version.version in
     let made = c.loop-version.made.items in
     let a = c.in_ok-shared.shared in
-    let count : length (map (λ b. b.value) made) ≡ version = length-map made (λ b. b.value) ∙ c.loop-version.invariant.count in
+    let count : length (map (λ b. b.value) made) ≡ version = length-map made (λ b. b.value)
+    ∙ c.loop-version.invariant.count in
     let prices = c.in_ok-prices.ensures.items ∙ c.in-Some.ensures.prices in
     let same : a.value ≡ sheet_at i sheets version =
-    c.in_ok-shared.ensures.ok ∙ c.in-Ok.ensures.made ∙ (λ j. sheet_of version (c.in_ok-clone.ensures.cases j) (prices j)) in
+    c.in_ok-shared.ensures.ok ∙ c.in-Ok.ensures.made
+    ∙ (λ j. sheet_of version (c.in_ok-clone.ensures.cases j) (prices j)) in
     record {
-      made = one_more (λ b. b.value) i sheets made c.push.new.self.items a c.loop-version.invariant.made c.in_ok-push.ensures.items
+      made = one_more (λ b. b.value)
+          i sheets made c.push.new.self.items a c.loop-version.invariant.made c.in_ok-push.ensures.items
           (same ∙ ap (λ n. sheet_at i sheets n) (sym count));
-      count = omega (arith, ap (λ xs. length xs) c.in_ok-push.ensures.items, length_push made a, c.loop-version.invariant.count);
+      count = omega
+          (arith, ap (λ xs. length xs) c.in_ok-push.ensures.items, length_push made a, c.loop-version.invariant.count);
     }

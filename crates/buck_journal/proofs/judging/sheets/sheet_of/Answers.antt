@@ -11,6 +11,7 @@ unreachable-requires-in-Err c =
     let prices = prices_at (map (λ v. v.items) c.args.sheets.now) c.args.version in
     let valid : IsInstruction i = subst IsInstruction c.deref.ensures c.limit-valid.ensures.valid in
     let wrong : IsSheetFault i c.in_ok-prices.prices.items c.in-Err.field-0 =
-    subst (λ j. IsSheetFault j c.in_ok-prices.prices.items c.in-Err.field-0) c.in_ok-clone.ensures.cases c.in-Err.ensures.refused in
+    subst (λ j. IsSheetFault j c.in_ok-prices.prices.items c.in-Err.field-0)
+    c.in_ok-clone.ensures.cases c.in-Err.ensures.refused in
     is_sheet i c.requires.1.0 prices c.in-Err.field-0 valid c.requires.1.1
     (subst (λ ps. IsSheetFault i ps c.in-Err.field-0) (c.in_ok-prices.ensures.items ∙ c.in-Some.ensures.prices) wrong)

@@ -8,7 +8,8 @@ pub returns-in_err-items : goal.returns-in_err-items
 returns-in_err-items c =
     let read = c.in_err-items.ensures Memory Head (λ a e made. search rules) (λ k e made. search rules) in
     let p = err_from_is_err_and c.from_residual.result c.from_residual.ensures.1 in
-    rw (p.1, p.2) (record { value = λ ne. journal_without_items c.args.bytes.now c.in_err-items.field-0.0 (read ne); few = tt })
+    rw (p.1, p.2)
+    (record { value = λ ne. journal_without_items c.args.bytes.now c.in_err-items.field-0.0 (read ne); few = tt })
 
 pub returns : goal.returns
 returns c =

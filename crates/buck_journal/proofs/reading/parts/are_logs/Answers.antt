@@ -6,7 +6,8 @@ pub loop-k-preserved : goal.loop-k-preserved
 loop-k-preserved c =
     let i : ℕ = 3 * c.loop-k.k in
     let next : 3 * (c.loop-k.k + 1) ≡ i + 3 = omega arith in
-    rw next (sym (logs_more c.args.numbers.now i (omega arith) (sym c.is_log.ensures ∙ c.if-not-is_log.false)) ∙ c.loop-k.invariant)
+    rw next (sym (logs_more c.args.numbers.now i (omega arith) (sym c.is_log.ensures ∙ c.if-not-is_log.false))
+    ∙ c.loop-k.invariant)
 
 pub returns : goal.returns
 returns c =

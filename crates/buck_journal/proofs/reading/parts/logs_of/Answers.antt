@@ -30,5 +30,6 @@ pub returns : goal.returns
 returns c =
     let i : ℕ = 3 * c.loop-k.k in
     sym (append-nil c.loop-k.logs.items)
-    ∙ ap (λ zs. c.loop-k.logs.items ++ zs) (sym (no_log_parts (drop i c.args.numbers.now) (omega (arith, length-drop i c.args.numbers.now))))
+    ∙ ap (λ zs. c.loop-k.logs.items ++ zs)
+    (sym (no_log_parts (drop i c.args.numbers.now) (omega (arith, length-drop i c.args.numbers.now))))
     ∙ c.loop-k.invariant.so_far

@@ -29,5 +29,6 @@ pub returns : goal.returns
 returns c =
     let i : ℕ = 2 * c.loop-k.k in
     sym (append-nil c.loop-k.zones.items)
-    ∙ ap (λ zs. c.loop-k.zones.items ++ zs) (sym (no_zone_parts (drop i c.args.numbers.now) (omega (arith, length-drop i c.args.numbers.now))))
+    ∙ ap (λ zs. c.loop-k.zones.items ++ zs)
+    (sym (no_zone_parts (drop i c.args.numbers.now) (omega (arith, length-drop i c.args.numbers.now))))
     ∙ c.loop-k.invariant.so_far

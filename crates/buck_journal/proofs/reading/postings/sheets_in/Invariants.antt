@@ -4,4 +4,6 @@ use Rattle.buck_journal.specs.reading.Journal.{sheets_from}
 use Rattle.buck_journal.proofs.reading.postings.sheets_in.Given as goal
 
 abbrev pub invariant-loop-k : goal.invariant-loop-k
-invariant-loop-k l = after_front (map (λ w. w.items) l.sheets.items) (sheets_from l.items l.k (drop l.k l.items)) ≡ sheets_from l.items 1 (drop 1 l.items)
+invariant-loop-k l =
+    after_front (map (λ w. w.items) l.sheets.items) (sheets_from l.items l.k (drop l.k l.items))
+    ≡ sheets_from l.items 1 (drop 1 l.items)

@@ -10,34 +10,42 @@ use Rattle.buck_record.proofs.bytes.digits.cut_number.Goals as goal
 pub returns-then-value-most-clause-value : goal.returns-then-value-most-clause-value
 returns-then-value-most-clause-value c =
     let digit : digit_value (get_or c.args.text.now c.loop-i.i 0) ≡ c.from.result = grind (arith, nat_tests) in
-    sym (cut-too_large c.args.text.now c.loop-i.i c.loop-i.invariant.digits c.args.most c.loop-i-test.true (sym c.if-is_ascii_digit.ensures.value) (omega arith))
+    sym (cut-too_large c.args.text.now c.loop-i.i c.loop-i.invariant.digits c.args.most c.loop-i-test.true
+    (sym c.if-is_ascii_digit.ensures.value) (omega arith))
 
 pub returns-then-is_white-clause-value : goal.returns-then-is_white-clause-value
 returns-then-is_white-clause-value c =
-    sym (cut-whole c.args.text.now c.loop-i.i c.loop-i.invariant.digits c.args.most c.loop-i.value (omega arith) c.requires.word (λ _. sym c.if-is_white.ensures) c.loop-i.invariant.value c.loop-i.invariant.small)
+    sym (cut-whole c.args.text.now c.loop-i.i c.loop-i.invariant.digits c.args.most c.loop-i.value (omega arith)
+    c.requires.word (λ _. sym c.if-is_white.ensures) c.loop-i.invariant.value c.loop-i.invariant.small)
 
 pub returns-then-is_white-clause-after : goal.returns-then-is_white-clause-after
 returns-then-is_white-clause-after c =
-    let after = after_is c.args.text.now c.loop-i.i c.loop-i.invariant.digits (omega arith) (λ _. sym c.if-is_white.ensures) in
+    let after =
+    after_is c.args.text.now c.loop-i.i c.loop-i.invariant.digits (omega arith) (λ _. sym c.if-is_white.ensures) in
     rw after (grind (arith, common_steps))
 
 pub returns-else-is_white-clause-value : goal.returns-else-is_white-clause-value
 returns-else-is_white-clause-value c =
-    sym (cut-not_digits c.args.text.now c.loop-i.i c.loop-i.invariant.digits c.args.most c.loop-i-test.true (sym c.if-is_ascii_digit.ensures.value) (sym c.if-is_white.ensures))
+    sym (cut-not_digits c.args.text.now c.loop-i.i c.loop-i.invariant.digits c.args.most c.loop-i-test.true
+    (sym c.if-is_ascii_digit.ensures.value) (sym c.if-is_white.ensures))
 
 pub loop-i-preserved : goal.loop-i-preserved
 loop-i-preserved c =
     let digit : digit_value (get_or c.args.text.now c.loop-i.i 0) ≡ c.from.result = grind (arith, nat_tests) in record {
-      digits = digits-more c.args.text.now c.loop-i.i c.loop-i-test.true c.loop-i.invariant.digits (sym c.if-is_ascii_digit.ensures.value);
-      value = omega (arith, digits_value_more 10 c.args.text.now c.loop-i.i c.loop-i-test.true, c.loop-i.invariant.value);
+      digits = digits-more c.args.text.now c.loop-i.i c.loop-i-test.true c.loop-i.invariant.digits
+          (sym c.if-is_ascii_digit.ensures.value);
+      value = omega
+          (arith, digits_value_more 10 c.args.text.now c.loop-i.i c.loop-i-test.true, c.loop-i.invariant.value);
       small = omega arith;
     }
 
 pub returns-clause-value : goal.returns-clause-value
 returns-clause-value c =
-    sym (cut-whole c.args.text.now c.loop-i.i c.loop-i.invariant.digits c.args.most c.loop-i.value (omega arith) c.requires.word (λ lt. absurd (omega arith)) c.loop-i.invariant.value c.loop-i.invariant.small)
+    sym (cut-whole c.args.text.now c.loop-i.i c.loop-i.invariant.digits c.args.most c.loop-i.value (omega arith)
+    c.requires.word (λ lt. absurd (omega arith)) c.loop-i.invariant.value c.loop-i.invariant.small)
 
 pub returns-clause-after : goal.returns-clause-after
 returns-clause-after c =
-    let after = after_is c.args.text.now c.loop-i.i c.loop-i.invariant.digits (omega arith) (λ lt. absurd (omega arith)) in
+    let after =
+    after_is c.args.text.now c.loop-i.i c.loop-i.invariant.digits (omega arith) (λ lt. absurd (omega arith)) in
     rw after (grind (arith, common_steps))

@@ -19,11 +19,15 @@ returns-in_default c = λ _.
     let rest = c.loop-rest.rest.now in
     let filled : 0 < length rest = grind (arith, common_steps, c.is_empty.ensures, c.loop-rest-test.true) in
     let counted : length held ≡ c.len.result = search rules in
-    ap (with_fault (λ k. Digits k)) (sym c.loop-rest.invariant.counted ∙ ap (counts_on held) (words-more rest _ (c.loop-rest.invariant.word filled) refl) ∙ counts-stop held (first_word rest) _ (sym c.in_default.ensures.value) ∙ ap (λ (n : ℕ). Err (n + 1)) counted)
+    ap (with_fault (λ k. Digits k))
+    (sym c.loop-rest.invariant.counted
+    ∙ ap (counts_on held) (words-more rest _ (c.loop-rest.invariant.word filled) refl)
+    ∙ counts-stop held (first_word rest) _ (sym c.in_default.ensures.value) ∙ ap (λ (n : ℕ). Err (n + 1)) counted)
 
 pub loop-rest-smaller : goal.loop-rest-smaller
 loop-rest-smaller c =
-    let filled : 0 < length c.loop-rest.rest.now = grind (arith, common_steps, c.is_empty.ensures, c.loop-rest-test.true) in
+    let filled : 0 < length c.loop-rest.rest.now =
+    grind (arith, common_steps, c.is_empty.ensures, c.loop-rest-test.true) in
     left-shorter c.loop-rest.rest.now _ _ filled c.in-Some.ensures.after c.trim_start-rest-in-loop-rest.ensures
 
 pub loop-rest-preserved : goal.loop-rest-preserved
@@ -34,7 +38,10 @@ loop-rest-preserved c =
     record {
       counted =
           rw (c.in_ok-push.ensures.items, words-trimmed _ _ c.trim_start-rest-in-loop-rest.ensures)
-          (sym (counts-more held (first_word rest) _ _ (sym c.in-Some.ensures.value)) ∙ ap (counts_on held) (sym (words-more rest _ (c.loop-rest.invariant.word filled) c.in-Some.ensures.after)) ∙ c.loop-rest.invariant.counted);
+          (sym (counts-more held (first_word rest) _ _ (sym c.in-Some.ensures.value))
+          ∙ ap (counts_on held)
+          (sym (words-more rest _ (c.loop-rest.invariant.word filled) c.in-Some.ensures.after))
+          ∙ c.loop-rest.invariant.counted);
       word = word-trimmed _ _ c.trim_start-rest-in-loop-rest.ensures;
     }
 
@@ -43,4 +50,5 @@ returns c =
     let held = c.loop-rest.held.items in
     let rest = c.loop-rest.rest.now in
     let empty : length rest ≡ 0 = grind (arith, common_steps, c.is_empty.ensures, c.loop-rest-test.false) in
-    ap (with_fault (λ k. Digits k)) (sym c.loop-rest.invariant.counted ∙ ap (counts_on held) (words-none_left rest empty) ∙ counts-done held)
+    ap (with_fault (λ k. Digits k))
+    (sym c.loop-rest.invariant.counted ∙ ap (counts_on held) (words-none_left rest empty) ∙ counts-done held)

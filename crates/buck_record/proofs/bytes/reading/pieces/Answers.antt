@@ -11,14 +11,19 @@ pub returns-in_default-read_piece : goal.returns-in_default-read_piece
 returns-in_default-read_piece c = λ _.
     let held = c.loop-piece.held.items in
     let counted : length held ≡ c.len.result = search rules in
-    ap (with_fault (λ k. Head k)) (sym c.loop-piece.invariant ∙ ap (reads_on held) c.in-Some.ensures.first ∙ stop held _ _ (sym c.in_default-read_piece.ensures) ∙ ap (λ (n : ℕ). Err (n + 1)) counted)
+    ap (with_fault (λ k. Head k))
+    (sym c.loop-piece.invariant ∙ ap (reads_on held) c.in-Some.ensures.first
+    ∙ stop held _ _ (sym c.in_default-read_piece.ensures) ∙ ap (λ (n : ℕ). Err (n + 1)) counted)
 
 pub loop-piece-preserved : goal.loop-piece-preserved
 loop-piece-preserved c =
     let held = c.loop-piece.held.items in
-    rw c.in_ok-push.ensures.items (sym (more held _ _ _ (sym c.in-Some-read_piece.ensures)) ∙ ap (reads_on held) (sym c.in-Some.ensures.first) ∙ c.loop-piece.invariant)
+    rw c.in_ok-push.ensures.items
+    (sym (more held _ _ _ (sym c.in-Some-read_piece.ensures)) ∙ ap (reads_on held) (sym c.in-Some.ensures.first)
+    ∙ c.loop-piece.invariant)
 
 pub returns : goal.returns
 returns c =
     let held = c.loop-piece.held.items in
-    ap (with_fault (λ k. Head k)) (sym c.loop-piece.invariant ∙ ap (reads_on held) c.in_default.ensures.none ∙ done held)
+    ap (with_fault (λ k. Head k))
+    (sym c.loop-piece.invariant ∙ ap (reads_on held) c.in_default.ensures.none ∙ done held)

@@ -16,7 +16,9 @@ returns-in_default-read_piece c = λ _.
     let slots = c.args.slots.now in
     let held = c.loop-piece.held.items in
     let read = c.loop-piece.read in
-    ap (with_fault (λ k. Head k)) (sym c.loop-piece.invariant.given ∙ ap (reads_at slots held read) c.in-Some.ensures.first ∙ at-stop slots held read _ _ (sym c.in_default-read_piece.ensures))
+    ap (with_fault (λ k. Head k))
+    (sym c.loop-piece.invariant.given ∙ ap (reads_at slots held read) c.in-Some.ensures.first
+    ∙ at-stop slots held read _ _ (sym c.in_default-read_piece.ensures))
 
 pub loop-piece-preserved-in_ok-push : goal.loop-piece-preserved-in_ok-push
 loop-piece-preserved-in_ok-push c =
@@ -25,7 +27,9 @@ loop-piece-preserved-in_ok-push c =
     let read = c.loop-piece.read in
     let inside : is_in slots c.in-Some-read_piece.item ≡ true = search rules in
     record {
-      given = rw c.in_ok-push.ensures.items (sym (at-more slots held read _ _ _ (sym c.in-Some-read_piece.ensures) inside) ∙ ap (reads_at slots held read) (sym c.in-Some.ensures.first) ∙ c.loop-piece.invariant.given);
+      given = rw c.in_ok-push.ensures.items
+          (sym (at-more slots held read _ _ _ (sym c.in-Some-read_piece.ensures) inside)
+          ∙ ap (reads_at slots held read) (sym c.in-Some.ensures.first) ∙ c.loop-piece.invariant.given);
       within = omega (arith, c.in-Some.ensures.shorter);
     }
 
@@ -36,7 +40,8 @@ loop-piece-preserved c =
     let read = c.loop-piece.read in
     let outside : is_in slots c.in-Some-read_piece.item ≡ false = search rules in
     record {
-      given = sym (at-passed slots held read _ _ _ (sym c.in-Some-read_piece.ensures) outside) ∙ ap (reads_at slots held read) (sym c.in-Some.ensures.first) ∙ c.loop-piece.invariant.given;
+      given = sym (at-passed slots held read _ _ _ (sym c.in-Some-read_piece.ensures) outside)
+          ∙ ap (reads_at slots held read) (sym c.in-Some.ensures.first) ∙ c.loop-piece.invariant.given;
       within = omega (arith, c.in-Some.ensures.shorter);
     }
 
@@ -45,4 +50,6 @@ returns c =
     let slots = c.args.slots.now in
     let held = c.loop-piece.held.items in
     let read = c.loop-piece.read in
-    ap (with_fault (λ k. Head k)) (sym c.loop-piece.invariant.given ∙ ap (reads_at slots held read) c.in_default.ensures.none ∙ at-done slots held read)
+    ap (with_fault (λ k. Head k))
+    (sym c.loop-piece.invariant.given ∙ ap (reads_at slots held read) c.in_default.ensures.none
+    ∙ at-done slots held read)

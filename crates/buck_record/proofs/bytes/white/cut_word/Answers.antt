@@ -14,8 +14,10 @@ returns-in-None-clause-after c = rw (word-none c.args.bytes.now (sym c.in-None.e
 
 pub returns-in-Some-clause-word : goal.returns-in-Some-clause-word
 unfolding first_word
-returns-in-Some-clause-word c = rw (word-found c.args.bytes.now c.in-Some.end (sym c.in-Some.ensures)) (grind (arith, common_steps))
+returns-in-Some-clause-word c =
+    rw (word-found c.args.bytes.now c.in-Some.end (sym c.in-Some.ensures)) (grind (arith, common_steps))
 
 pub returns-in-Some-clause-after : goal.returns-in-Some-clause-after
 unfolding after_word
-returns-in-Some-clause-after c = rw (word-found c.args.bytes.now c.in-Some.end (sym c.in-Some.ensures)) (grind (arith, common_steps))
+returns-in-Some-clause-after c =
+    rw (word-found c.args.bytes.now c.in-Some.end (sym c.in-Some.ensures)) (grind (arith, common_steps))

@@ -10,4 +10,5 @@ returns-in-None c = rw (trim_start-none c.args.bytes.now (sym c.in-None.ensures)
 
 pub returns-in-Some : goal.returns-in-Some
 unfolding trim_start
-returns-in-Some c = rw (trim_start-found c.args.bytes.now c.in-Some.first (sym c.in-Some.ensures)) (grind (arith, common_steps))
+returns-in-Some c =
+    rw (trim_start-found c.args.bytes.now c.in-Some.first (sym c.in-Some.ensures)) (grind (arith, common_steps))

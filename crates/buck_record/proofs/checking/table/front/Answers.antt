@@ -5,7 +5,11 @@ use Rattle.buck_record.proofs.TableLemmas.{place-some, place-none}
 use Rattle.buck_record.proofs.checking.table.front.Goals as goal
 
 pub returns-in-None : goal.returns-in-None
-returns-in-None c = rw (place-none (is_at c.args.slot) c.args.items.now (sym c.in-None.ensures)) (sym (take_all _ c.args.items.now (omega arith)))
+returns-in-None c =
+    rw (place-none (is_at c.args.slot) c.args.items.now (sym c.in-None.ensures))
+    (sym (take_all _ c.args.items.now (omega arith)))
 
 pub returns-in-Some : goal.returns-in-Some
-returns-in-Some c = rw (place-some (is_at c.args.slot) c.args.items.now c.in-Some.end (sym c.in-Some.ensures)) (grind (arith, common_steps))
+returns-in-Some c =
+    rw (place-some (is_at c.args.slot) c.args.items.now c.in-Some.end (sym c.in-Some.ensures))
+    (grind (arith, common_steps))

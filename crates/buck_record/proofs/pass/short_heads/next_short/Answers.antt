@@ -9,5 +9,6 @@ returns c =
     let passed : IsTrue c.ends_dark.result = search rules in
     let cut : piece ≡ trim c.cut_part.result.0.now =
     sym (c.ends_dark.ensures.same passed) ∙ ap trim_end c.trim_start-piece.ensures in
-    leads _ piece _ _ (is_cut _ _ piece _ c.cut_part.ensures.part c.cut_part.ensures.left cut) (c.ends_dark.ensures.some passed)
+    leads _ piece _ _ (is_cut _ _ piece _ c.cut_part.ensures.part c.cut_part.ensures.left cut)
+    (c.ends_dark.ensures.some passed)
     c.in-Some.ensures

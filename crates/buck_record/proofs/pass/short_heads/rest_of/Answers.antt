@@ -8,6 +8,7 @@ returns c =
     let tail : IsTrue c.is_trimmed.result = search rules in
     let last : IsTrue c.is_trimmed-2.result = search rules in
     short_item c.args.piece.now c.in-Some.tail.now rest c.in-Some.number c.in-Some-front_quick.kind
-    c.in-Some.ensures.front c.in-Some.ensures.small c.in-Some-front_quick.ensures.front c.in-Some-front_quick.ensures.small
+    c.in-Some.ensures.front c.in-Some.ensures.small c.in-Some-front_quick.ensures.front
+    c.in-Some-front_quick.ensures.small
     (c.is_trimmed.ensures tail) (c.is_trimmed-2.ensures last)
     ∙ ap₂ (λ n k. Some (record { number = n; kind = k; rest = rest })) c.if-number-slot.false c.if-kind-slot.false

@@ -8,7 +8,8 @@ of_parts-requires c =
     rw c.in-Some-3.is at c.in_ok-zones.ensures in
     let r = rw c.in-Some-2.is at c.in_ok-sampled.ensures in
     rw c.as_slice.ensures.value
-    (is_plain_stem c.in-Some.number c.in-Some-next_species.species c.next_samples.new.room.items _ c.in-Some-3.zones.items
+    (is_plain_stem c.in-Some.number c.in-Some-next_species.species c.next_samples.new.room.items _
+    c.in-Some-3.zones.items
     z.says c.in-Some-next_species.ensures.range r.range r.number)
 
 pub returns : goal.returns

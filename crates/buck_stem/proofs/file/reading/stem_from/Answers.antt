@@ -29,10 +29,26 @@ zones_of-requires c = rw c.as_slice-4.ensures (range_ok c.args.draft.now c.requi
 
 pub of_parts-requires : goal.of_parts-requires
 of_parts-requires c =
-    rw (c.as_slice-5.ensures.value, c.in_ok-samples.ensures, c.in_ok-zones.ensures, c.as_slice.ensures, c.as_slice-2.ensures, c.as_slice-3.ensures, c.as_slice-4.ensures)
+    rw (
+      c.as_slice-5.ensures.value,
+      c.in_ok-samples.ensures,
+      c.in_ok-zones.ensures,
+      c.as_slice.ensures,
+      c.as_slice-2.ensures,
+      c.as_slice-3.ensures,
+      c.as_slice-4.ensures,
+    )
     (is_stem c.args.draft.now c.requires.range c.requires.order c.requires.count)
 
 pub returns : goal.returns
 returns c =
     rw (parts_are c.args.draft.now)
-    (rw (c.as_slice-5.ensures.value, c.in_ok-samples.ensures, c.in_ok-zones.ensures, c.as_slice.ensures, c.as_slice-2.ensures, c.as_slice-3.ensures, c.as_slice-4.ensures) at c.of_parts.ensures)
+    (rw (
+      c.as_slice-5.ensures.value,
+      c.in_ok-samples.ensures,
+      c.in_ok-zones.ensures,
+      c.as_slice.ensures,
+      c.as_slice-2.ensures,
+      c.as_slice-3.ensures,
+      c.as_slice-4.ensures,
+    ) at c.of_parts.ensures)

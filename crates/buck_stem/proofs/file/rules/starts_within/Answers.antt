@@ -6,12 +6,14 @@ use Rattle.buck_stem.proofs.file.rules.starts_within.Goals as goal
 
 pub returns-then-not-is_within : goal.returns-then-not-is_within
 returns-then-not-is_within c =
-    sym (starts-stop c.args.slot.low c.args.slot.high c.args.zones.now (2 * c.loop-k.k) (omega arith) (sym c.is_within.ensures ∙ c.if-not-is_within.true))
+    sym (starts-stop c.args.slot.low c.args.slot.high c.args.zones.now (2 * c.loop-k.k) (omega arith)
+    (sym c.is_within.ensures ∙ c.if-not-is_within.true))
     ∙ c.loop-k.invariant
 
 pub loop-k-preserved : goal.loop-k-preserved
 loop-k-preserved c =
     let next : 2 * (c.loop-k.k + 1) ≡ 2 * c.loop-k.k + 2 = omega arith in
     ap (λ n. all_within c.args.slot.low c.args.slot.high (starts (drop n c.args.zones.now))) next
-    ∙ sym (starts-more c.args.slot.low c.args.slot.high c.args.zones.now (2 * c.loop-k.k) (omega arith) (sym c.is_within.ensures ∙ c.if-not-is_within.false))
+    ∙ sym (starts-more c.args.slot.low c.args.slot.high c.args.zones.now (2 * c.loop-k.k) (omega arith)
+    (sym c.is_within.ensures ∙ c.if-not-is_within.false))
     ∙ c.loop-k.invariant

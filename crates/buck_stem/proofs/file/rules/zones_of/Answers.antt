@@ -11,7 +11,9 @@ pub overflow_cast-numbers : goal.overflow_cast-numbers
 overflow_cast-numbers c =
     let i : ℕ = 2 * c.loop-k.k in
     let ns : List ℕ = c.args.numbers.now in
-    let grade = first_within GRADES.low GRADES.high (get_or ns (i + 1) 0) (grades (drop (i + 2) ns)) (sym (ap (all_within GRADES.low GRADES.high) (grades-at ns i 0 (omega arith))) ∙ c.loop-k.invariant.graded) in
+    let grade =
+    first_within GRADES.low GRADES.high (get_or ns (i + 1) 0) (grades (drop (i + 2) ns))
+    (sym (ap (all_within GRADES.low GRADES.high) (grades-at ns i 0 (omega arith))) ∙ c.loop-k.invariant.graded) in
     omega (arith, grade.0.1)
 
 pub loop-k-preserved : goal.loop-k-preserved
@@ -21,7 +23,9 @@ loop-k-preserved c =
     let next : 2 * (c.loop-k.k + 1) ≡ i + 2 = omega arith in
     let zone : ℕ × ℕ = (get_or ns i 0, get_or ns (i + 1) 0) in
     let lt : i + 1 < length ns = omega arith in
-    let rest = first_within GRADES.low GRADES.high (get_or ns (i + 1) 0) (grades (drop (i + 2) ns)) (sym (ap (all_within GRADES.low GRADES.high) (grades-at ns i 0 lt)) ∙ c.loop-k.invariant.graded) in
+    let rest =
+    first_within GRADES.low GRADES.high (get_or ns (i + 1) 0) (grades (drop (i + 2) ns))
+    (sym (ap (all_within GRADES.low GRADES.high) (grades-at ns i 0 lt)) ∙ c.loop-k.invariant.graded) in
     record {
       so_far = rw (c.in_ok-push.ensures.items, next)
           (append_assoc c.loop-k.zones.items (zone ∷ []) (zones_of (drop (i + 2) ns))

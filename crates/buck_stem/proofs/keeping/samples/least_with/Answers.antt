@@ -6,7 +6,8 @@ use Rattle.buck_stem.proofs.keeping.samples.least_with.Goals as goal
 
 pub loop-sample-preserved : goal.loop-sample-preserved
 loop-sample-preserved c = λ earlier is.
-    subst (λ m. IsLeastBefore (earlier ++ take (c.loop-sample.sample-index + 1) c.args.samples.now) m) (sym c.min-low.ensures)
+    subst (λ m. IsLeastBefore (earlier ++ take (c.loop-sample.sample-index + 1) c.args.samples.now) m)
+    (sym c.min-low.ensures)
     (lower_with earlier c.args.samples.now c.loop-sample.sample-index c.loop-sample.low _
     (omega (arith, c.loop-sample-test.true)) (search rules) (search rules) (c.loop-sample.invariant earlier is))
 

@@ -15,10 +15,14 @@ loop-k-preserved c =
     let pushed : c.deref.result.now ≡ list ++ low ∷ [] = c.deref.ensures.value ∙ c.in_ok-push.ensures.items in
     let within : 16 * k ≤ length samples = omega (arith, c.loop-k-test.true, count) in
     let is : end ≡ min (16 * k + 16) (length samples) = omega (arith, c.min-end.ensures, count) in
-    let with : (earlier : List ℕ) → IsLeastBefore earlier low → IsLeastBefore (earlier ++ take (end - 16 * k) (drop (16 * k) (list ++ low ∷ []))) next =
-    λ earlier before. subst (λ xs. IsLeastBefore (earlier ++ take (end - 16 * k) (drop (16 * k) xs)) next) pushed (c.least_with-low.ensures earlier before) in
-    let to : LowsTo samples (list ++ low ∷ []) (k + 1) next = lows_more samples list k end low next within is with c.loop-k.invariant.so_far in
+    let with : (earlier : List ℕ) → IsLeastBefore earlier low
+    → IsLeastBefore (earlier ++ take (end - 16 * k) (drop (16 * k) (list ++ low ∷ []))) next =
+    λ earlier before. subst (λ xs. IsLeastBefore (earlier ++ take (end - 16 * k) (drop (16 * k) xs)) next) pushed
+    (c.least_with-low.ensures earlier before) in
+    let to : LowsTo samples (list ++ low ∷ []) (k + 1) next =
+    lows_more samples list k end low next within is with c.loop-k.invariant.so_far in
     record {
-      small = next_small samples list (take (end - 16 * k) (drop (16 * k) (list ++ low ∷ []))) k low next within with c.loop-k.invariant.so_far;
+      small = next_small samples list (take (end - 16 * k) (drop (16 * k) (list ++ low ∷ [])))
+          k low next within with c.loop-k.invariant.so_far;
       so_far = subst (λ xs. LowsTo samples xs (k + 1) next) (sym c.in_ok-push.ensures.items) to;
     }

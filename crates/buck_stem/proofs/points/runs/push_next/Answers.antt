@@ -9,12 +9,17 @@ use Rattle.buck_stem.proofs.points.runs.push_next.Goals as goal
 pub returns-then-at-end-clause-right : goal.returns-then-at-end-clause-right
 returns-then-at-end-clause-right c =
     let fit : c.min-end.result ≤ c.grade_end.result / c.args.step = omega (arith, c.min-end.ensures) in
-    let scaled : c.min-end.result * c.args.step ≤ c.grade_end.result / c.args.step * c.args.step = mul-le-mul_right c.args.step fit in
-    let within : c.min-end.result * c.args.step ≤ c.grade_end.result = omega (arith, scaled, div-mul-le_self c.grade_end.result c.args.step) in
-    let bits = subst (λ n. (g : ℕ) → 1 ≤ g → (bit_at c.with_grade-mask.result (g - 1) ≡ 1) ↔ ((g ≡ n) ⊎ (bit_at 0 (g - 1) ≡ 1)))
+    let scaled : c.min-end.result * c.args.step ≤ c.grade_end.result / c.args.step * c.args.step =
+    mul-le-mul_right c.args.step fit in
+    let within : c.min-end.result * c.args.step ≤ c.grade_end.result =
+    omega (arith, scaled, div-mul-le_self c.grade_end.result c.args.step) in
+    let bits =
+    subst (λ n. (g : ℕ) → 1 ≤ g
+    → (bit_at c.with_grade-mask.result (g - 1) ≡ 1) ↔ ((g ≡ n) ⊎ (bit_at 0 (g - 1) ≡ 1)))
     c.grade_at.ensures.grade c.with_grade-mask.ensures in
     on_ok_weaker c.push_run.result (λ right. right c.args.stem.now.zones c.args.step c.requires.right
-    (λ k le lt. quiet_mask c.args.stem.now.zones c.args.step c.len-at.result c.min-end.result c.grade_end.result c.with_grade-mask.result k
+    (λ k le lt. quiet_mask c.args.stem.now.zones c.args.step c.len-at.result c.min-end.result c.grade_end.result
+    c.with_grade-mask.result k
     (omega arith) c.grade_end.ensures within bits (omega (arith, c.len-at.ensures)) lt)) c.push_run.ensures.right
 
 pub returns-clause-right : goal.returns-clause-right
@@ -22,5 +27,6 @@ returns-clause-right c =
     on_ok_weaker c.push_run-2.result (λ right. right c.args.stem.now.zones c.args.step c.requires.right
     (λ k le lt.
     let here : c.len-at.result ≡ k = omega (arith, c.len-at.ensures) in
-    subst (λ n. IsMask c.args.stem.now.zones (n * c.args.step) ((n + 1) * c.args.step) c.grades_between.result) here c.grades_between.ensures))
+    subst (λ n. IsMask c.args.stem.now.zones (n * c.args.step) ((n + 1) * c.args.step) c.grades_between.result)
+    here c.grades_between.ensures))
     c.push_run-2.ensures.right

@@ -15,5 +15,6 @@ loop-first-preserved c = record {
 
 pub returns : goal.returns
 returns c =
-    rows_more c.args.masks.now c.loop-first.between.items c.args.last c.requires.last (omega (arith, c.loop-first.invariant.number))
+    rows_more c.args.masks.now c.loop-first.between.items c.args.last c.requires.last
+    (omega (arith, c.loop-first.invariant.number))
     c.loop-first.invariant.rows (λ p lt le. c.loop-first.invariant.row p (omega arith) le)

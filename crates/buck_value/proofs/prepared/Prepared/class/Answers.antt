@@ -12,7 +12,8 @@ use Rattle.buck_value.specs.inner.Wood.{IsWood, IsToTop}
 use Rattle.buck_value.proofs.prepared.Prepared.class.Goals as goal
 
 -- the wood of a log, by the diameter that was read
-wood_is : (p : PreparedParts) (wood : Wood) (i j d : ℕ) (g : Log) → d ≡ diameter_at p.stem.samples (j * p.sheet.instruction.«module»)
+wood_is : (p : PreparedParts) (wood : Wood) (i j d : ℕ) (g : Log)
+    → d ≡ diameter_at p.stem.samples (j * p.sheet.instruction.«module»)
     → IsWood p.sheet.instruction.«module» wood (diameter_at p.stem.samples (j * p.sheet.instruction.«module»)) p.stem g
     → IsWood p.sheet.instruction.«module» wood d p.stem g
 wood_is p wood i j d g read is = subst (λ n. IsWood p.sheet.instruction.«module» wood n p.stem g) (sym read) is
@@ -69,7 +70,12 @@ returns-clause-allowed c =
     some_by _ _ c.class_of_wood.result
     (λ _ each.
     allowed c.args.self.now c.args.i c.top-top.result c.args.assortment c.args.column c.assortment-chosen.result.now
-    c.wood-wood.result c.diameter.result c.assortment-chosen.ensures.there (λ g to. wood_is c.args.self.now c.wood-wood.result c.args.i c.top-top.result c.diameter.result g c.diameter.ensures.diameter (c.wood-wood.ensures.wood g (subst (λ m. IsToTop c.args.self.now m c.args.i c.top-top.result g) (sym c.trim-trim.ensures.trim) to))) c.top-top.ensures.top each)
+    c.wood-wood.result c.diameter.result c.assortment-chosen.ensures.there
+    (λ g to. wood_is c.args.self.now c.wood-wood.result c.args.i c.top-top.result c.diameter.result g
+    c.diameter.ensures.diameter
+    (c.wood-wood.ensures.wood g
+    (subst (λ m. IsToTop c.args.self.now m c.args.i c.top-top.result g) (sym c.trim-trim.ensures.trim) to)))
+    c.top-top.ensures.top each)
     c.class_of_wood.ensures.allowed
 
 pub returns-clause-class : goal.returns-clause-class
@@ -77,7 +83,12 @@ returns-clause-class c =
     some_by _ _ c.class_of_wood.result
     (λ k each.
     class_is c.args.self.now c.args.i c.top-top.result c.args.assortment c.args.column c.assortment-chosen.result.now
-    c.wood-wood.result c.diameter.result c.assortment-chosen.ensures.there (λ g to. wood_is c.args.self.now c.wood-wood.result c.args.i c.top-top.result c.diameter.result g c.diameter.ensures.diameter (c.wood-wood.ensures.wood g (subst (λ m. IsToTop c.args.self.now m c.args.i c.top-top.result g) (sym c.trim-trim.ensures.trim) to))) c.top-top.ensures.top k each)
+    c.wood-wood.result c.diameter.result c.assortment-chosen.ensures.there
+    (λ g to. wood_is c.args.self.now c.wood-wood.result c.args.i c.top-top.result c.diameter.result g
+    c.diameter.ensures.diameter
+    (c.wood-wood.ensures.wood g
+    (subst (λ m. IsToTop c.args.self.now m c.args.i c.top-top.result g) (sym c.trim-trim.ensures.trim) to)))
+    c.top-top.ensures.top k each)
     c.class_of_wood.ensures.class
 
 pub returns-clause-none : goal.returns-clause-none
@@ -85,5 +96,10 @@ returns-clause-none c =
     none_by _ _ c.class_of_wood.result
     (λ each.
     not_allowed c.args.self.now c.args.i c.top-top.result c.args.assortment c.args.column c.assortment-chosen.result.now
-    c.wood-wood.result c.diameter.result c.assortment-chosen.ensures.there (λ g to. wood_is c.args.self.now c.wood-wood.result c.args.i c.top-top.result c.diameter.result g c.diameter.ensures.diameter (c.wood-wood.ensures.wood g (subst (λ m. IsToTop c.args.self.now m c.args.i c.top-top.result g) (sym c.trim-trim.ensures.trim) to))) c.top-top.ensures.top each)
+    c.wood-wood.result c.diameter.result c.assortment-chosen.ensures.there
+    (λ g to. wood_is c.args.self.now c.wood-wood.result c.args.i c.top-top.result c.diameter.result g
+    c.diameter.ensures.diameter
+    (c.wood-wood.ensures.wood g
+    (subst (λ m. IsToTop c.args.self.now m c.args.i c.top-top.result g) (sym c.trim-trim.ensures.trim) to)))
+    c.top-top.ensures.top each)
     c.class_of_wood.ensures.none

@@ -33,7 +33,9 @@ returns-in-Some-clause-worth c =
     c.diameter-top.ensures.diameter ∙ ap (diameter_at p.stem.samples) (sym c.top.ensures.top) in
     c.worth_in_class.ensures
     ∙ ap (λ (s : SheetParts).
-    worth_at (kind_in (slice_get s.instruction.assortments c.in-Some.class.assortment)) (price_of s c.in-Some.class) (volume c.diameter-top.result l)) sheet
+    worth_at (kind_in (slice_get s.instruction.assortments c.in-Some.class.assortment)) (price_of s c.in-Some.class)
+    (volume c.diameter-top.result l)) sheet
     ∙ ap (λ n.
-    worth_at (kind_in (slice_get p.sheet.instruction.assortments c.in-Some.class.assortment)) (price_of p.sheet c.in-Some.class) (volume c.diameter-top.result n)) long
+    worth_at (kind_in (slice_get p.sheet.instruction.assortments c.in-Some.class.assortment))
+    (price_of p.sheet c.in-Some.class) (volume c.diameter-top.result n)) long
     ∙ worth_by_class p.sheet p.stem g c.in-Some.class c.diameter-top.result c.in-Some.ensures.class top

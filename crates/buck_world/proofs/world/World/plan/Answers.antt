@@ -15,7 +15,8 @@ invariant_of-self g c =
       p,
       c.in_ok-plan.ensures.stem,
       subst (λ (z : Harvester). IsPlanUnder c.self.inside.book.history z.seen p) was c.in_ok-plan.ensures.under,
-      set_is c.self.inside.book.history c.self.inside.front c.args.h c.self.inside.harvesters.items c.set.new.harvesters.items _ _ c.set.ensures
+      set_is c.self.inside.book.history c.self.inside.front c.args.h c.self.inside.harvesters.items
+          c.set.new.harvesters.items _ _ c.set.ensures
           (ap (λ (z : Harvester). record { stage = Planned p; seen = z.seen; stale = z.stale }) was),
     )
     (λ x. tt)

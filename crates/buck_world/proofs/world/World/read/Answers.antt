@@ -8,6 +8,8 @@ use Rattle.buck_world.proofs.world.World.read.Goals as goal
 
 pub invariant_of-self : goal.invariant_of-self
 invariant_of-self g c = keeps_same _ _ (Read c.args.h c.args.version) _ c.self.view_is c.self.invariant c.requires
-    (set_is c.self.inside.book.history c.self.inside.front c.args.h c.self.inside.harvesters.items c.set.new.harvesters.items _ _ c.set.ensures
-    (ap (λ (z : Harvester). record { stage = Reading; seen = c.args.version; stale = z.stale }) (c.at.ensures ∙ ap (λ (ys : List Harvester). is_at ys c.args.h) c.as_slice.ensures.value)))
+    (set_is c.self.inside.book.history c.self.inside.front c.args.h c.self.inside.harvesters.items
+    c.set.new.harvesters.items _ _ c.set.ensures
+    (ap (λ (z : Harvester). record { stage = Reading; seen = c.args.version; stale = z.stale })
+    (c.at.ensures ∙ ap (λ (ys : List Harvester). is_at ys c.args.h) c.as_slice.ensures.value)))
     (λ x. tt)

@@ -5,11 +5,22 @@ use Rattle.buck_engine.proofs.fleet.turning.Turned.of.Goals as goal
 pub invariant_of-result : goal.invariant_of-result
 invariant_of-result g c =
     let parts = c.into_parts.ensures in
-    let same = history_same c.args.book.history _ _ _ parts.instruction (prices_are (λ a. a.value) _ _ _ _ parts.sheets) parts.entries in
-    let all = parts_out _ _ _ _ _ _ _ same (parts.kept.lawful, parts.sheets, parts.targets, parts.valid, parts.counts, omega (arith, parts.kept.within, parts.kept.capacity_range)) in
+    let same =
+    history_same c.args.book.history _ _ _ parts.instruction (prices_are (λ a. a.value) _ _ _ _ parts.sheets)
+    parts.entries in
+    let all =
+    parts_out _ _ _ _ _ _ _ same (
+      parts.kept.lawful,
+      parts.sheets,
+      parts.targets,
+      parts.valid,
+      parts.counts,
+      omega (arith, parts.kept.within, parts.kept.capacity_range),
+    ) in
     (all.0, all.1, all.2, all.3, all.4)
 
 pub returns : goal.returns
 returns g c =
     let parts = c.into_parts.ensures in
-    history_same c.args.book.history _ _ _ parts.instruction (prices_are (λ a. a.value) _ _ _ _ parts.sheets) parts.entries
+    history_same c.args.book.history _ _ _ parts.instruction (prices_are (λ a. a.value) _ _ _ _ parts.sheets)
+    parts.entries

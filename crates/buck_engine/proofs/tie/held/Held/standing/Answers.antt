@@ -33,8 +33,17 @@ returns-clause-standing c =
     let place = rw (sym c.self.view_is) at c.requires.place in
     let targets = rw (sym c.self.view_is) at c.requires.targets in
     let s = c.self.inside in
-    let here : StandingsParts = record { instruction = s.instruction.now; targets = s.targets.now; by_class = s.by_class.now; by_assortment = s.by_assortment.now } in
-    let base = base_is s.instruction.now c.args.class c.self.invariant.can.valid (class_in s.instruction.now c.args.assortment.now c.args.class class) in
+    let here : StandingsParts =
+    record {
+      instruction = s.instruction.now;
+      targets = s.targets.now;
+      by_class = s.by_class.now;
+      by_assortment =
+          s.by_assortment.now;
+    } in
+    let base =
+    base_is s.instruction.now c.args.class c.self.invariant.can.valid
+    (class_in s.instruction.now c.args.assortment.now c.args.class class) in
     rw (sym c.self.view_is)
     (stands_by here c.args.assortment.now c.args.class _ _ _ _ _ _
     (c.from.ensures ∙ c.price-base.ensures ∙ sym base)

@@ -8,6 +8,7 @@ pub returns-clause-high : goal.returns-clause-high
 returns-clause-high c = λ i within.
     let p : ProfileParts = profile_of c.self.inside.stem.now c.self.inside.step in
     let lt : i < points_of p = subst (λ (q : ProfileParts). i < points_of q) (sym c.self.view_is) within in
-    let value : slice_index c.as_slice.result.now i ≡ diameter_at c.self.inside.stem.now.samples (i * c.self.inside.step) =
+    let value : slice_index c.as_slice.result.now i
+    ≡ diameter_at c.self.inside.stem.now.samples (i * c.self.inside.step) =
     ap (λ xs. slice_index xs i) c.as_slice.ensures.value ∙ c.self.invariant.diameters_right i lt in
     omega (arith, value, diameter_at-le c.self.inside.stem.now (i * c.self.inside.step) c.self.invariant.valid)

@@ -8,27 +8,39 @@ use Rattle.buck_stem.proofs.points.profile.Profile.grades.Goals as goal
 pub returns : goal.returns
 returns c =
     let p : ProfileParts = profile_of c.self.inside.stem.now c.self.inside.step in
-    let lt : c.args.j < points_of p = subst (λ (q : ProfileParts). c.args.j < points_of q) (sym c.self.view_is) c.requires.1 in
+    let lt : c.args.j < points_of p =
+    subst (λ (q : ProfileParts). c.args.j < points_of q) (sym c.self.view_is) c.requires.1 in
     let masks : List ℕ = c.self.inside.lists.runs.masks.items in
     let run_of : List ℕ = c.self.inside.lists.runs.run_of.items in
     let between : List ℕ = c.self.inside.lists.between.items in
     let first : ℕ = get_or run_of c.args.i 0 in
     let last : ℕ = get_or run_of (c.args.j - 1) 0 in
     let here : c.args.j - 1 < length run_of = omega (arith, c.self.invariant.steps_number) in
-    let known : last < length masks = omega (arith, c.self.invariant.runs.masks_number, c.self.invariant.runs.known (c.args.j - 1) here) in
+    let known : last < length masks =
+    omega (arith, c.self.invariant.runs.masks_number, c.self.invariant.runs.known (c.args.j - 1) here) in
     let upto : first ≤ last = c.self.invariant.runs.rising c.args.i (c.args.j - 1) (omega arith) here in
-    let at_first : c.index.result.now ≡ first = c.index.ensures ∙ get_or_default run_of c.args.i c.index.result.now 0 (omega arith) in
-    let at_last : c.index-2.result.now ≡ last = c.index-2.ensures ∙ get_or_default run_of (c.args.j - 1) c.index-2.result.now 0 here in
+    let at_first : c.index.result.now ≡ first = c.index.ensures
+    ∙ get_or_default run_of c.args.i c.index.result.now 0 (omega arith) in
+    let at_last : c.index-2.result.now ≡ last = c.index-2.ensures
+    ∙ get_or_default run_of (c.args.j - 1) c.index-2.result.now 0 here in
     let count : c.len.result ≡ length masks = omega (arith, c.len.ensures) in
     let place : c.len.result * c.index-2.result.now + c.index.result.now ≡ length masks * last + first =
-    ap (λ n. n * c.index-2.result.now + c.index.result.now) count ∙ ap (λ n. length masks * n + c.index.result.now) at_last ∙ ap (λ n. length masks * last + n) at_first in
+    ap (λ n. n * c.index-2.result.now + c.index.result.now) count
+    ∙ ap (λ n. length masks * n + c.index.result.now) at_last ∙ ap (λ n. length masks * last + n) at_first in
     let below : length masks * last + first < length between =
-    omega (arith, c.self.invariant.rows.number, row_below (length masks) (length masks) last first (omega arith) known upto) in
+    omega (
+      arith,
+      c.self.invariant.rows.number,
+      row_below (length masks) (length masks) last first (omega arith) known upto,
+    ) in
     let value : c.index-3.result.now ≡ get_or between (length masks * last + first) 0 =
-    c.index-3.ensures ∙ ap (λ n. get_or between n c.index-3.result.now) place ∙ get_or_default between (length masks * last + first) c.index-3.result.now 0 below in
+    c.index-3.ensures ∙ ap (λ n. get_or between n c.index-3.result.now) place
+    ∙ get_or_default between (length masks * last + first) c.index-3.result.now 0 below in
     let end : c.args.j - 1 + 1 ≡ c.args.j = omega arith in
-    subst (λ (q : ProfileParts). IsMask q.stem.zones (c.args.i * q.«module») (c.args.j * q.«module») c.index-3.result.now) c.self.view_is
+    subst (λ (q : ProfileParts). IsMask q.stem.zones (c.args.i * q.«module») (c.args.j * q.«module»)
+    c.index-3.result.now) c.self.view_is
     (subst (λ j. IsMask p.stem.zones (c.args.i * p.«module») (j * p.«module») c.index-3.result.now) end
-    (union_is_mask p.stem.zones p.«module» c.self.inside.lists.runs.starts.items masks run_of c.self.invariant.runs c.args.i (c.args.j - 1) c.index-3.result.now
+    (union_is_mask p.stem.zones p.«module» c.self.inside.lists.runs.starts.items masks run_of c.self.invariant.runs
+    c.args.i (c.args.j - 1) c.index-3.result.now
     (omega (arith, c.self.invariant.module_range.0)) (omega arith) here
     (subst (λ m. IsUnion masks first last m) (sym value) (c.self.invariant.rows.right last known first upto))))

@@ -10,5 +10,6 @@ invariant_of-result c = record {
   diameters_right = c.in_ok-put_diameters.ensures.right;
   steps_number = c.in_ok-put_runs.ensures.number;
   runs = c.in_ok-put_runs.ensures.right;
-  rows = subst (λ (ms : List ℕ). AreRows ms (length ms) c.put_between.new.between.items) c.as_slice.ensures.value c.in_ok-put_between.ensures;
+  rows = subst (λ (ms : List ℕ). AreRows ms (length ms) c.put_between.new.between.items)
+      c.as_slice.ensures.value c.in_ok-put_between.ensures;
 }
