@@ -8,12 +8,15 @@ use crate::offers::sort_once;
 use buck_apt::{Assortment, Instruction};
 use std::alloc::{AllocError, Global};
 
+/// A limit above all diameters of a stem.
+pub const ABOVE_ALL: u32 = 1_504;
+
 /// The limits between which all diameters lie.
 fn outer_limits(alloc: Global) -> Result<Vec<u32>, AllocError>
     ensures low { IfOk result (λ limits. Contains limits.items 0) }
-    ensures high { IfOk result (λ limits. Contains limits.items 1504) }
+    ensures high { IfOk result (λ limits. Contains limits.items ABOVE_ALL) }
 {
-    Vec::from_slice(alloc, &[0, 1_504])
+    Vec::from_slice(alloc, &[0, ABOVE_ALL])
 }
 
 /// Puts the lower limits of an assortment's rows and its upper diameter to a list.
@@ -42,13 +45,13 @@ pub fn limits_of(alloc: Global, instruction: &Instruction) -> Result<Vec<u32>, A
 
 /// The band of a diameter: the place of the limit at which it starts.
 pub fn band_of(limits: &[u32], diameter: u32) -> usize
-    requires limits { (Contains limits.now 0) × (Contains limits.now 1504) }
+    requires limits { (Contains limits.now 0) × (Contains limits.now ABOVE_ALL) }
     requires rise { IsStrictlyIncreasing limits.now }
     requires diameter { diameter ≤ 1500 }
     ensures within { result + 1 < length limits.now }
     ensures from { slice_index limits.now result ≤ diameter }
     ensures past { diameter < slice_index limits.now (result + 1) }
-    ensures high { slice_index limits.now (result + 1) ≤ 1504 }
+    ensures high { slice_index limits.now (result + 1) ≤ ABOVE_ALL }
 {
     match limits.binary_search(&diameter) {
         Ok(place) => place,

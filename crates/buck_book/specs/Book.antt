@@ -13,6 +13,7 @@ use Rattle.buck_book.specs.Plan.{PlanParts}
 use Rattle.buck_book.specs.Targets.{AreTargets}
 use Rattle.buck_book.specs.Counts.{calls_of}
 use Rattle.buck_book.specs.History.{HistoryParts, IsLawful, IsEnd, IsNextSheet, sheet_at, version_of, in_force}
+use Rattle.buck_book.specs.declared.posting.TheConstants.{MOST_POSTINGS}
 
 pub record BookParts (F : Type 0) : Type 0 where
   pub rule : F  -- the closure
@@ -41,7 +42,7 @@ pub record IsBook {F : Type 0} (b : BookParts F) : Type 0 where
   pub harvesters : (k : ℕ) (x : Posting)
       → slice_get b.history.postings k ≡ Some x → IsWithin 1 64 (harvester_of x)
   pub within : length b.history.postings ≤ b.capacity
-  pub capacity_range : b.capacity ≤ 1000000
+  pub capacity_range : b.capacity ≤ MOST_POSTINGS
 
 -- the entry of a plan that a harvester commits next
 abbrev pub entry_of : HistoryParts → ℕ → PlanParts → EntryParts

@@ -3,17 +3,18 @@ use Rattle.std.specs.Prelude.{◌≡◌, ◌≢◌, ℕ, ◌<◌, ◌≤◌, Lis
 use Rattle.buck_apt.specs.Instruction.{InstructionParts, AssortmentParts, classes, classes_of, classes_before}
 use Rattle.buck_book.specs.declared.targets.TargetsFault.{TargetsFault}
 use Rattle.buck_book.specs.declared.targets.TargetsFault.TheVariants.{Count, Range, Sum}
+use Rattle.buck_apt.specs.declared.slots.TheConstants.{TARGETS, MOST_TARGETS_TOGETHER}
 
 -- what is wanted of the assortment at a place, over all its classes
 abbrev pub targets_sum : InstructionParts → AssortmentParts → ℕ → List ℕ → ℕ
 targets_sum i a at targets = sum (take (classes_of a) (drop (classes_before i at) targets))
 
 abbrev pub IsLowAt : List ℕ → ℕ → Type 0
-IsLowAt targets k = slice_index targets k ≤ 1000000
+IsLowAt targets k = slice_index targets k ≤ TARGETS.high
 
 abbrev pub IsLowSumAt : InstructionParts → List ℕ → ℕ → Type 0
 IsLowSumAt i targets at =
-    (a : AssortmentParts) → slice_get i.assortments at ≡ Some a → targets_sum i a at targets ≤ 1000000000
+    (a : AssortmentParts) → slice_get i.assortments at ≡ Some a → targets_sum i a at targets ≤ MOST_TARGETS_TOGETHER
 
 -- valid targets: one for each class, none too great, and no assortment's too great together
 pub record AreTargets (i : InstructionParts) (targets : List ℕ) : Type 0 where

@@ -13,6 +13,7 @@ ghost use Rattle.buck_book.specs.Book.{sheets_from, IsBook, entry_of, demand_of,
 ghost use Rattle.buck_book.specs.Refused.{IsFull, IsBelow, IsRefusal, IsDemandRefusal};
 ghost use Rattle.buck_book.specs.declared.posting.Posting.{Posting};
 ghost use Rattle.buck_book.specs.inner.Running.{IsPassed};
+ghost use Rattle.buck_book.specs.declared.posting.TheConstants.{MOST_POSTINGS};
 
 use crate::counts::zeros;
 use crate::demand::{DemandRefusal, ReadyDemand};
@@ -160,7 +161,7 @@ impl<F: Drop> Book<F> {
     /// The version in force: how many periods have ended, at most 1,000,000.
     pub fn version(&self) -> u32
         ensures version { result ≡ version_of self.now.history }
-        ensures small { result ≤ 1000000 }
+        ensures small { result ≤ MOST_POSTINGS }
     {
         self.running.version()
     }
@@ -394,7 +395,7 @@ impl<F: Fn(&Standing) -> u64> Book<F> {
         rule: Rule<F>,
         capacity: u32,
     ) -> Result<Book<F>, Memory>
-        requires { (0 < capacity) × (capacity ≤ 1000000) }
+        requires { (0 < capacity) × (capacity ≤ MOST_POSTINGS) }
         ensures rule { IfOk result (λ b. b.rule ≡ rule) }
         ensures instruction { IfOk result (λ b. b.history.instruction ≡ instruction.value) }
         ensures sheets { IfOk result (λ b. b.history.sheets ≡ base_prices instruction.value ∷ []) }

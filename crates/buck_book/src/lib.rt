@@ -22,7 +22,7 @@ pub use degree::degree_at;
 pub use demand::{DemandRefusal, ReadyDemand};
 pub use entry::Entry;
 pub use plan::Plan;
-pub use posting::{Demand, Posting};
+pub use posting::{Demand, MOST_POSTINGS, Posting};
 pub use ready::{Ready, Refusal};
 pub use targets::{TargetsFault, check_targets};
 pub use walk::Walk;

@@ -7,6 +7,10 @@ use buck_record::Memory;
 use std::marker::Model;
 use std::sync::Arc;
 
+/// How many postings a history may have: the greatest capacity of a book and of a fleet, and the greatest length of a
+/// journal.
+pub const MOST_POSTINGS: u32 = 1_000_000;
+
 /// New targets that come into force.
 #[derive(Drop)]
 pub struct Demand {

@@ -8,6 +8,7 @@ ghost use Rattle.buck_book.specs.Posting.{opening_targets};
 ghost use Rattle.buck_book.specs.Targets.{AreTargets};
 ghost use Rattle.buck_book.specs.Walk.{IsCountable};
 ghost use Rattle.buck_book.specs.inner.Running.{Tells, GoesOn, IsAfter};
+ghost use Rattle.buck_book.specs.declared.posting.TheConstants.{MOST_POSTINGS};
 
 use crate::counts::Counts;
 use crate::plan::Plan;
@@ -65,7 +66,7 @@ fn cuts_then(cuts: u32, period: u32) -> u32
 
 /// The version in force after one cut more.
 fn version_then(version: u32, cuts: u32, period: u32) -> u32
-    requires version { version ≤ 1000000 }
+    requires version { version ≤ MOST_POSTINGS }
     requires cuts { cuts < 1000 }
     ensures { result ≡ version + cond (cuts + 1 == period) 1 0 }
 {
@@ -173,7 +174,7 @@ impl Running {
 
     /// Adds a demand of these targets.
     pub fn after_demand(&mut self, targets: Arc<Vec<u32>>)
-        requires { self.old.version ≤ 1000000 }
+        requires { self.old.version ≤ MOST_POSTINGS }
         ensures { (i : InstructionParts) (d : DemandParts) → d.targets ≡ targets.value.items → AreTargets i d.targets
             → IsAfter i self.old (Posting.Demand d) self.new }
     {

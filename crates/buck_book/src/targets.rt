@@ -3,6 +3,7 @@ ghost use Rattle.std.specs.Prelude.{◌≡◌, ℕ, ◌+◌, ◌<◌, ◌≤◌,
 ghost use Rattle.buck_apt.specs.Instruction.{IsInstruction, classes, classes_of, classes_before};
 ghost use Rattle.buck_book.specs.Targets.{AreTargets, IsTargetsFault, IsLowAt, IsLowSumAt, targets_sum};
 
+use buck_apt::slots::{MOST_TARGETS_TOGETHER, TARGETS};
 use buck_apt::{Assortment, Instruction};
 use thiserror::Error;
 
@@ -29,7 +30,7 @@ fn first_above(targets: &[u32]) -> Option<usize>
     ensures none { IfNone result (EachIndex targets.now (λ k. IsLowAt targets.now k)) }
 {
     for at in 0..targets.len() {
-        if targets[at] > 1_000_000 {
+        if targets[at] > TARGETS.high {
             return Some(at);
         }
     }
@@ -70,7 +71,7 @@ fn first_sum_above(instruction: &Instruction, targets: &[u32]) -> Option<usize>
     let mut first = 0;
     for at in 0..assortments.len() {
         let assortment = &assortments[at];
-        if targets_sum(assortment, first, targets) > 1_000_000_000 {
+        if targets_sum(assortment, first, targets) > MOST_TARGETS_TOGETHER {
             return Some(at);
         }
         first += assortment.classes();

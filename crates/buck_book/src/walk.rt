@@ -8,6 +8,7 @@ ghost use Rattle.buck_book.specs.Counts.{AreClassCounts, calls_of};
 ghost use Rattle.buck_book.specs.History.{PricesMeet};
 ghost use Rattle.buck_book.specs.Walk.{walk_of, passed, IsWrongPrice, IsCountable};
 ghost use Rattle.buck_book.specs.inner.Walk.{calls_in, IsCalled};
+ghost use Rattle.buck_book.specs.declared.posting.TheConstants.{MOST_POSTINGS};
 
 use crate::posting::Posting;
 use crate::pricing::Standings;
@@ -73,7 +74,7 @@ impl<'a> Walk<'a> {
         instruction: &'a Instruction,
         postings: &'a [Posting],
     ) -> Result<Walk<'a>, Memory>
-        requires { length postings.now ≤ 1000000 }
+        requires { length postings.now ≤ MOST_POSTINGS }
         ensures { IfOk result (λ w. w ≡ walk_of instruction.now postings.now 0) }
     {
         Ok(Walk {
@@ -89,7 +90,7 @@ impl<'a> Walk<'a> {
     pub fn at(&self) -> usize
         ensures at { result ≡ self.now.at }
         ensures within { self.now.at ≤ length self.now.postings }
-        ensures few { length self.now.postings ≤ 1000000 }
+        ensures few { length self.now.postings ≤ MOST_POSTINGS }
     {
         self.at
     }
@@ -106,7 +107,7 @@ impl<'a> Walk<'a> {
     /// The version in force: how many ends were passed.
     pub fn version(&self) -> u32
         ensures version { result ≡ ends_of self.now.instruction (passed self.now) }
-        ensures small { result ≤ 1000000 }
+        ensures small { result ≤ MOST_POSTINGS }
     {
         self.running.version()
     }

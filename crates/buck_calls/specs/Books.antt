@@ -17,6 +17,7 @@ use Rattle.buck_held.specs.Felled.{stem_by, IsFellFault}
 use Rattle.buck_calls.specs.declared.book.Terms.{Terms}
 use Rattle.buck_calls.specs.declared.showing.Cut.{Cut}
 use Rattle.buck_calls.specs.Shown.{ShowsCut}
+use Rattle.buck_book.specs.declared.posting.TheConstants.{MOST_POSTINGS}
 
 -- the statuses of these calls that no outcome of the program has: the block holds no book; the numbers aren't what the
 -- header allows, or the block holds a book already; the book is at its capacity
@@ -35,9 +36,6 @@ refused = 1
 
 abbrev pub memory : ℕ
 memory = 3
-
-abbrev pub most_postings : ℕ
-most_postings = 1000000
 
 abbrev pub rule_of : ℕ → Option StoredRule
 rule_of n = if n == 0 then Some Steady else if n == 1 then Some Linear else if n == 2 then Some Step else None
@@ -60,7 +58,7 @@ IsOpenFault apt status =
 -- the block is free and the terms are allowed
 abbrev pub IsAllowed : Terms → Option KeptParts → Type 0
 IsAllowed terms old =
-    (old ≡ None) × (0 < terms.capacity) × (terms.capacity ≤ most_postings)
+    (old ≡ None) × (0 < terms.capacity) × (terms.capacity ≤ MOST_POSTINGS)
     × ((rule : StoredRule) × (rule_of terms.rule ≡ Some rule))
 
 -- an opening: misused where the block holds a book or the terms aren't allowed

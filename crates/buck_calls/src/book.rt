@@ -1,10 +1,10 @@
 //! The calls that C makes of a book that is kept in a block of its memory.
 ghost use Rattle.std.specs.Prelude.{◌≡◌, ◌<◌, ◌≤◌, ◌↔◌, Some, None, IfOk, IfErr, IsTrue, is_some, if◌then◌else◌};
-ghost use Rattle.buck_calls.specs.Books.{AnswersOpen, AnswersCut, AnswersRetarget, HasOpened, IsOpenFault, IsCallOf, closed, most_postings, rule_of, status_of_fell, status_of_demand};
+ghost use Rattle.buck_calls.specs.Books.{AnswersOpen, AnswersCut, AnswersRetarget, HasOpened, IsOpenFault, IsCallOf, closed, rule_of, status_of_fell, status_of_demand};
 
 use crate::showing::{Cut, show};
 use buck_apt::{AptFault, read_apt};
-use buck_book::DemandRefusal;
+use buck_book::{DemandRefusal, MOST_POSTINGS};
 use buck_held::{FellFault, Felled, Kept, Slot, StoredRule, Zone};
 use std::alloc::Global;
 use std::sync::Arc;
@@ -26,9 +26,6 @@ pub(crate) const MISUSED: u8 = 8;
 
 /// The status of a call of a book at its capacity.
 pub(crate) const FULL: u8 = 9;
-
-/// The most postings that a book may have.
-const MOST_POSTINGS: u32 = 1_000_000;
 
 /// What a book is opened with.
 #[repr(C)]
@@ -54,14 +51,14 @@ pub(crate) fn rule_of(number: u8) -> Option<StoredRule>
 
 /// Whether a book may have so many postings.
 fn is_capacity(capacity: u32) -> bool
-    ensures { IsTrue result ↔ ((0 < capacity) × (capacity ≤ most_postings)) }
+    ensures { IsTrue result ↔ ((0 < capacity) × (capacity ≤ MOST_POSTINGS)) }
 {
     0 < capacity && capacity <= MOST_POSTINGS
 }
 
 /// A book of an instruction file, with no posting; else the status of why there is none.
 fn opened(alloc: Global, apt: &[u8], rule: StoredRule, capacity: u32) -> Result<Box<Kept>, u8>
-    requires { (0 < capacity) × (capacity ≤ most_postings) }
+    requires { (0 < capacity) × (capacity ≤ MOST_POSTINGS) }
     ensures ok { IfOk result (λ kept. HasOpened apt.now rule capacity kept.value) }
     ensures refused { IfErr result (IsOpenFault apt.now) }
 {

@@ -13,6 +13,7 @@ ghost use Rattle.buck_dp.specs.declared.pricing.Ask.{Ask};
 ghost use Rattle.buck_dp.specs.declared.pricing.Quote.{Quote};
 ghost use Rattle.buck_dp.specs.declared.pricing.Term.{Term};
 ghost use Rattle.buck_dp.specs.declared.offering.Cell.{Cell};
+ghost use Rattle.buck_bid.specs.declared.limits.TheConstants.{ABOVE_ALL};
 
 use crate::index::{Head, Index, Key, Place};
 use crate::kinds::Group;
@@ -109,7 +110,7 @@ fn make_terms(
 ) -> Result<Place, Memory>
     requires menu { IsMenu market.sheet.now.instruction market.menu.now }
     requires band { band + 1 < length market.menu.now.limits.items }
-    requires high { slice_index market.menu.now.limits.items (band + 1) ≤ 1504 }
+    requires high { slice_index market.menu.now.limits.items (band + 1) ≤ ABOVE_ALL }
     ensures kept { (more : List (Option Term)) × (terms.new.items ≡ terms.old.items ++ more) }
     ensures terms { IfOk result (IsAt (TermsOf market.entry.sheet.now.instruction market.entry.menu.now) terms.new.items
         (record { takers = group.takers; at = band })) }
@@ -139,7 +140,7 @@ fn make_list(
     requires valid { IsSheet market.sheet.now }
     requires menu { IsMenu market.sheet.now.instruction market.menu.now }
     requires band { band + 1 < length market.menu.now.limits.items }
-    requires high { slice_index market.menu.now.limits.items (band + 1) ≤ 1504 }
+    requires high { slice_index market.menu.now.limits.items (band + 1) ≤ ABOVE_ALL }
     requires terms { AreTerms market.sheet.now.instruction (codes_in market.menu.now.offers.items)
         (ask_of market.menu.now (record { takers = group.takers; at = band })) (length market.menu.now.offers.items) terms.now }
     ensures kept { (more : List Quote) × (quotes.new.items ≡ quotes.old.items ++ more) }
@@ -219,7 +220,7 @@ impl Kept {
     fn terms(&mut self, market: Market<'_>, group: Group, band: usize) -> Result<Place, Memory>
         requires menu { IsMenu market.sheet.now.instruction market.menu.now }
         requires band { band + 1 < length market.menu.now.limits.items }
-        requires high { slice_index market.menu.now.limits.items (band + 1) ≤ 1504 }
+        requires high { slice_index market.menu.now.limits.items (band + 1) ≤ ABOVE_ALL }
         requires kept { AreKept market.sheet.now market.menu.now self.old }
         ensures kept { AreKept market.entry.sheet.now market.entry.menu.now self.new }
         ensures terms { IfOk result (IsAt (TermsOf market.entry.sheet.now.instruction market.entry.menu.now) self.new.terms.items
@@ -243,7 +244,7 @@ impl Kept {
         requires valid { IsSheet market.sheet.now }
         requires menu { IsMenu market.sheet.now.instruction market.menu.now }
         requires band { band + 1 < length market.menu.now.limits.items }
-        requires high { slice_index market.menu.now.limits.items (band + 1) ≤ 1504 }
+        requires high { slice_index market.menu.now.limits.items (band + 1) ≤ ABOVE_ALL }
         requires kept { AreKept market.sheet.now market.menu.now self.old }
         ensures kept { AreKept market.entry.sheet.now market.entry.menu.now self.new }
         ensures list { IfOk result (IsAt (ListOf market.entry.sheet.now market.entry.menu.now) self.new.quotes.items

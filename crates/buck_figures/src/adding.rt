@@ -10,6 +10,7 @@ ghost use Rattle.buck_figures.specs.inner.Counted.{AreOfPosting};
 ghost use Rattle.buck_figures.specs.Figures.{base_sheet};
 ghost use Rattle.buck_figures.specs.Sums.{AreSums};
 ghost use Rattle.buck_figures.specs.inner.Adding.{AreSumsTogether, IsCuttable, IsLow, IsPassed, IsWoodOf, logs_in_some, logs_of};
+ghost use Rattle.buck_book.specs.declared.posting.TheConstants.{MOST_POSTINGS};
 
 use crate::sums::Sums;
 use buck_book::{Entry, Posting};
@@ -40,8 +41,8 @@ impl Sums {
 
     /// What both come to together.
     pub(crate) fn plus(&self, other: &Sums) -> Sums
-        requires stems { self.now.stems + other.now.stems ≤ 1000000 }
-        requires demands { self.now.demands + other.now.demands ≤ 1000000 }
+        requires stems { self.now.stems + other.now.stems ≤ MOST_POSTINGS }
+        requires demands { self.now.demands + other.now.demands ≤ MOST_POSTINGS }
         ensures { AreSumsTogether self.now other.now result }
     {
         Sums {

@@ -3,6 +3,7 @@ ghost use Rattle.std.specs.Prelude.{◌≡◌, ◌+◌, ◌<◌, ◌≤◌, [], 
 ghost use Rattle.buck_book.specs.Posting.{opening_targets, targets_after};
 ghost use Rattle.buck_figures.specs.Figures.{base_sheet};
 ghost use Rattle.buck_figures.specs.inner.Course.{ArePassable, IsCourse, IsFurther, HasCourse};
+ghost use Rattle.buck_book.specs.declared.posting.TheConstants.{MOST_POSTINGS};
 
 use crate::account::{Account, account_posting, no_account};
 use buck_apt::Instruction;
@@ -51,7 +52,7 @@ pub(crate) fn begin<'a>(
     postings: &'a [Posting],
 ) -> Result<Course<'a>, Memory>
     requires instruction { planner.now.instruction ≡ instruction.now }
-    requires few { length postings.now ≤ 1000000 }
+    requires few { length postings.now ≤ MOST_POSTINGS }
     ensures { IfOk result (IsCourse instruction.now postings.now 0 []) }
 {
     let targets = opening_targets(alloc, instruction)?;

@@ -9,6 +9,7 @@ ghost use Rattle.buck_figures.specs.Points.{point_after};
 ghost use Rattle.buck_figures.specs.Shown.{AreFigures, IsShown};
 ghost use Rattle.buck_figures.specs.inner.Course.{ArePassable, HasCourse};
 ghost use Rattle.buck_figures.specs.inner.Making.{AreDegreesBy, IsPointOf, AreCurves};
+ghost use Rattle.buck_book.specs.declared.posting.TheConstants.{MOST_POSTINGS};
 
 use crate::course::{Course, begin, pass_until};
 use crate::figures::{Figures, Point};
@@ -24,7 +25,7 @@ pub const MOST_POINTS: usize = 200;
 
 /// How many of some postings come before the point of a number, from 1.
 fn point_after(postings: usize, number: usize) -> usize
-    requires { (postings ≤ 1000000) × (number ≤ 200) }
+    requires { (postings ≤ MOST_POSTINGS) × (number ≤ 200) }
     ensures { result ≡ point_after postings number }
 {
     if postings <= MOST_POINTS {
@@ -82,7 +83,7 @@ fn walk_all<'a>(
     postings: &'a [Posting],
 ) -> Result<(Course<'a>, Vec<Point>), Memory>
     requires base { planner.old ≡ base_sheet instruction.now }
-    requires few { length postings.now ≤ 1000000 }
+    requires few { length postings.now ≤ MOST_POSTINGS }
     requires passable { ArePassable instruction.now postings.now }
     ensures same { planner.new ≡ planner.old }
     ensures curves { IfOk result (λ r. AreCurves instruction.now postings.now (min (length postings.now) 200) r.0 r.1.items) }
@@ -110,7 +111,7 @@ pub fn figures_of<'a>(
     journal: &'a Journal,
 ) -> Result<Figures<'a>, Memory>
     requires base { planner.old ≡ base_sheet instruction.now }
-    requires few { length journal.now.entries ≤ 1000000 }
+    requires few { length journal.now.entries ≤ MOST_POSTINGS }
     requires lawful { IsLawful (history_of instruction.now journal.now) }
     ensures same { planner.new ≡ planner.old }
     ensures figures { IfOk result (AreFigures instruction.now journal.now) }

@@ -3,6 +3,7 @@ ghost use Rattle.std.specs.Prelude.{◌≡◌, ◌≢◌, ℕ, ◌+◌, ◌≤�
 ghost use Rattle.std.specs.Ordering.{nat_cmp};
 ghost use Rattle.std.specs.BTreeMap.{get};
 ghost use Rattle.buck_figures.specs.inner.Owned.{IsAdded};
+ghost use Rattle.buck_book.specs.declared.posting.TheConstants.{MOST_POSTINGS};
 
 use crate::sums::Sums;
 use buck_record::Memory;
@@ -20,7 +21,7 @@ pub struct Own {
 
 /// What a harvester's postings come to with one more, which is a cut at a place or a demand.
 fn own_with(before: Option<Own>, harvester: u32, sums: &Sums, cut: Option<usize>) -> Own
-    requires low { IfSome before (λ o. (o.sums.stems + sums.now.stems ≤ 1000000) × (o.sums.demands + sums.now.demands ≤ 1000000)) }
+    requires low { IfSome before (λ o. (o.sums.stems + sums.now.stems ≤ MOST_POSTINGS) × (o.sums.demands + sums.now.demands ≤ MOST_POSTINGS)) }
     ensures { IsAdded before harvester sums.now cut (Some result) }
 {
     match before {
@@ -51,7 +52,7 @@ pub fn add_own(
     sums: &Sums,
     cut: Option<usize>,
 ) -> Result<(), Memory>
-    requires low { IfSome (get nat_cmp owns.old harvester) (λ o. (o.sums.stems + sums.now.stems ≤ 1000000) × (o.sums.demands + sums.now.demands ≤ 1000000)) }
+    requires low { IfSome (get nat_cmp owns.old harvester) (λ o. (o.sums.stems + sums.now.stems ≤ MOST_POSTINGS) × (o.sums.demands + sums.now.demands ≤ MOST_POSTINGS)) }
     ensures own { OnOk result (IsAdded (get nat_cmp owns.old harvester) harvester sums.now cut (get nat_cmp owns.new harvester)) }
     ensures others { OnOk result ((h : ℕ) → h ≢ harvester → get nat_cmp owns.new h ≡ get nat_cmp owns.old h) }
 {

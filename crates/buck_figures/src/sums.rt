@@ -1,5 +1,6 @@
 //! What some postings come to.
 ghost use Rattle.std.specs.Prelude.{◌≡◌, ◌+◌, ◌*◌, ◌≤◌, ◌^◌};
+ghost use Rattle.buck_book.specs.declared.posting.TheConstants.{MOST_POSTINGS};
 
 /// What some postings come to. Worths are in millionths of the price unit.
 #[derive(Clone, Copy)]
@@ -21,7 +22,7 @@ pub struct Sums {
     pub at_base: u128,
     /// Of the best cuttings at base prices.
     pub best: u128,
-    ghost few: { (stems ≤ 1000000) × (demands ≤ 1000000) },
+    ghost few: { (stems ≤ MOST_POSTINGS) × (demands ≤ MOST_POSTINGS) },
     ghost small_wood: { (logs ≤ stems * 2 ^ 64) × (volume ≤ stems * 2 ^ 64) × (length ≤ stems * 2 ^ 64) },
     ghost small_worth: { (worth ≤ stems * 2 ^ 64) × (best ≤ stems * 2 ^ 64) },
     ghost no_more_than_the_stems: { logged + trim ≤ length },

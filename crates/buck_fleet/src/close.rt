@@ -10,6 +10,7 @@ ghost use Rattle.buck_fleet.specs.Crew.{IsCrew, parts_of};
 ghost use Rattle.buck_fleet.specs.Closed.{ClosedParts, kept_by, lists_of, replies_from, replies_of, IsHandedOut, IsOneHistory, IsCloseFault, DifferFirstAt};
 ghost use Rattle.buck_fleet.specs.Faults.{close_numbers};
 ghost use Rattle.buck_fleet.specs.inner.Lists.{AreEmpty};
+ghost use Rattle.buck_book.specs.declared.posting.TheConstants.{MOST_POSTINGS};
 
 use crate::desk::Desk;
 use crate::fleet::Fleet;
@@ -92,7 +93,7 @@ impl Model for Closed {
         × (c.targets.value.items ≡ targets_of c.instruction.value c.entries.items)
         × AreTargets c.instruction.value c.targets.value.items
         × AreClassCounts c.instruction.value c.entries.items c.counts.items
-        × (length c.entries.items ≤ 1000000) };
+        × (length c.entries.items ≤ MOST_POSTINGS) };
 }
 
 /// Puts each seat's kept list in its harvester's place, and takes its share in.
@@ -189,7 +190,7 @@ fn is_kept_as(kept: &Kept, position: usize, posting: &Posting) -> bool
 
 /// The first number at which a harvester's kept list and its postings of a history differ, from 1.
 fn first_difference(entries: &[Posting], kept: &[Kept], harvester: u32) -> Option<u32>
-    requires few { length entries.now ≤ 1000000 }
+    requires few { length entries.now ≤ MOST_POSTINGS }
     ensures none { IfNone result (kept.now ≡ replies_from harvester 0 entries.now) }
     ensures some { IfSome result (λ number. DifferFirstAt number kept.now (replies_from harvester 0 entries.now)) }
 {
@@ -239,7 +240,7 @@ impl Closed {
     pub fn entries(&self) -> &[Posting]
         ensures postings { result.now ≡ self.now.history.postings }
         ensures lawful { IsLawful self.now.history }
-        ensures few { length self.now.history.postings ≤ 1000000 }
+        ensures few { length self.now.history.postings ≤ MOST_POSTINGS }
     {
         self.entries.as_slice()
     }

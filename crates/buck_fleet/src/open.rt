@@ -11,7 +11,7 @@ use crate::fleet::Fleet;
 use crate::seat::{Kept, Seat};
 use buck_apt::Instruction;
 use buck_board::{Board, BoardSeat};
-use buck_book::Book;
+use buck_book::{Book, MOST_POSTINGS};
 use buck_record::Memory;
 use buck_rule::{Rule, Standing};
 use std::alloc::{AllocError, Global};
@@ -57,13 +57,13 @@ impl From<Memory> for OpenFault {
 
 /// Whether so many seats and postings may be.
 fn check_room(seats: u32, capacity: u32) -> Result<(), OpenFault>
-    ensures room { OnOk result ((0 < seats) × (seats ≤ 64) × (0 < capacity) × (capacity ≤ 1000000)) }
+    ensures room { OnOk result ((0 < seats) × (seats ≤ 64) × (0 < capacity) × (capacity ≤ MOST_POSTINGS)) }
     ensures fault { IfErr result (IsOpenFault seats capacity) }
 {
     if seats == 0 || seats > 64 {
         return Err(OpenFault::Seats);
     }
-    if capacity == 0 || capacity > 1_000_000 {
+    if capacity == 0 || capacity > MOST_POSTINGS {
         return Err(OpenFault::Capacity);
     }
     Ok(())
@@ -174,7 +174,7 @@ impl<F: Fn(&Standing) -> u64 + Drop, L: Ledger> Fleet<F, L> {
         capacity: u32,
     ) -> Result<(Fleet<F, L>, Vec<Seat<L>>), OpenFault>
         requires blank { (blank.name ≡ L.name) × (blank.parts ≡ L.parts) × (blank.parts ≡ 64) }
-        ensures room { IfOk result (λ _. (0 < seats) × (seats ≤ 64) × (0 < capacity) × (capacity ≤ 1000000)) }
+        ensures room { IfOk result (λ _. (0 < seats) × (seats ≤ 64) × (0 < capacity) × (capacity ≤ MOST_POSTINGS)) }
         ensures instruction { IfOk result (λ r. r.0.instruction ≡ instruction.value) }
         ensures number { IfOk result (λ r. r.0.seats ≡ seats) }
         ensures seats { IfOk result (λ r. AreOpened r.0.board seats r.1.items) }

@@ -2,6 +2,7 @@
 ghost use Rattle.std.specs.Prelude.{◌≡◌, ◌<◌, ◌≤◌, IfOk, IfErr, length};
 ghost use Rattle.buck_held.specs.Kept.{opened, HasCut, HasRetargeted, IsDemandRefused, SameTerms};
 ghost use Rattle.buck_held.specs.inner.Resting.{IsOpened};
+ghost use Rattle.buck_book.specs.declared.posting.TheConstants.{MOST_POSTINGS};
 
 use crate::cutting::{CutRefusal, Felled, cut, retarget};
 use crate::stored::StoredRule;
@@ -38,7 +39,7 @@ impl Model for Kept {
 
 /// A book that asks no rule until it has one, with the base sheet.
 fn resting(alloc: Global, instruction: Arc<Instruction>, capacity: u32) -> Result<Book<()>, Memory>
-    requires { (0 < capacity) × (capacity ≤ 1000000) }
+    requires { (0 < capacity) × (capacity ≤ MOST_POSTINGS) }
     ensures { IfOk result (λ b. IsOpened instruction.value capacity b) }
 {
     let rule = Rule::new(|s: &Standing| steady(s));
@@ -55,7 +56,7 @@ impl Kept {
         rule: StoredRule,
         capacity: u32,
     ) -> Result<Kept, Memory>
-        requires { (0 < capacity) × (capacity ≤ 1000000) }
+        requires { (0 < capacity) × (capacity ≤ MOST_POSTINGS) }
         ensures { IfOk result (λ k. k ≡ opened rule instruction.value capacity) }
     {
         let book = resting(alloc, instruction, capacity)?;

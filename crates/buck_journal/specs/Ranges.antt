@@ -11,11 +11,13 @@ use Rattle.buck_book.specs.Entry.{EntryParts, DemandParts}
 use Rattle.buck_journal.specs.declared.reading.call.Call.{Call}
 use Rattle.buck_journal.specs.reading.Journal.{is_call, are_zones, are_logs}
 use Rattle.buck_journal.specs.Written.{zone_numbers, log_numbers}
+use Rattle.buck_book.specs.declared.posting.TheConstants.{MOST_POSTINGS}
+use Rattle.buck_value.specs.declared.sheet.TheConstants.{HIGHEST_PRICE}
 
 -- the prices of a sheet
 pub record AreSheetPrices (prices : List ℕ) : Type 0 where
   pub number : length prices ≤ 16384
-  pub range : all_within 0 20000000 prices ≡ true
+  pub range : all_within 0 HIGHEST_PRICE prices ≡ true
 
 -- who posted, which of its harvester's calls it is, and the version
 abbrev pub call_of_cut : EntryParts → Call
@@ -47,7 +49,7 @@ IsInRange (Demand d) = IsDemandInRange d
 
 -- at most 1,000,000 postings, and all numbers in range
 pub record AreInRange (pss : List (List ℕ)) (ps : List Posting) : Type 0 where
-  pub few : length ps ≤ 1000000
+  pub few : length ps ≤ MOST_POSTINGS
   pub sheets : All AreSheetPrices pss
   pub postings : All IsInRange ps
 

@@ -11,6 +11,7 @@ ghost use Rattle.buck_journal.specs.reading.CutsAlone as alone;
 ghost use Rattle.buck_journal.specs.Ranges.{AreInRange, IsOfBook};
 ghost use Rattle.buck_journal.specs.judging.Replay.{IsFirstFault};
 ghost use Rattle.buck_journal.specs.Written.{journal_text};
+ghost use Rattle.buck_book.specs.declared.posting.TheConstants.{MOST_POSTINGS};
 
 /// The journal of a journal's text is what was written: the prices of the sheets, and the postings. There are at most
 /// 1,000,000 postings, and all numbers, and how many there are, lie within a journal's ranges, as a book's do.
@@ -39,7 +40,7 @@ pub fn cuts_alone_are_read_as_before()
 /// and its stems are valid, as they are in every book.
 pub fn histories_lie_in_range()
     ensures { (h : HistoryParts) → IsInstruction h.instruction → IsLawful h
-        → length h.postings ≤ 1000000
+        → length h.postings ≤ MOST_POSTINGS
         → ((k : ℕ) (x : Posting) → slice_get h.postings k ≡ Some x → IsOfBook x)
         → AreInRange h.sheets h.postings }
 {}

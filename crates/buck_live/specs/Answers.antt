@@ -24,10 +24,7 @@ use Rattle.buck_live.specs.Request.{request_of}
 use Rattle.buck_live.specs.declared.request.Asked.{Asked}
 use Rattle.buck_live.specs.declared.request.Asked.TheVariants.{Stem, Targets}
 use Rattle.buck_live.specs.declared.request.Request.{Request}
-
--- how many postings a history may have
-abbrev pub most_postings : ℕ
-most_postings = 1000000
+use Rattle.buck_book.specs.declared.posting.TheConstants.{MOST_POSTINGS}
 
 -- the history before any posting
 abbrev pub opening : InstructionParts → HistoryParts
@@ -87,8 +84,8 @@ SaysOnly words before text after = (text ≡ words) × (after ≡ before)
 -- what is answered to a request: that the history is full, or what is asked for
 abbrev pub AnswersRequest : HistoryParts → Request → List ℕ → HistoryParts → Type 0
 AnswersRequest before r text after =
-    ((length before.postings ≡ most_postings) × SaysOnly (fault_line Full) before text after)
-    ⊎ ((length before.postings < most_postings) × AnswersAsked before r.harvester r.asked text after)
+    ((length before.postings ≡ MOST_POSTINGS) × SaysOnly (fault_line Full) before text after)
+    ⊎ ((length before.postings < MOST_POSTINGS) × AnswersAsked before r.harvester r.asked text after)
 
 -- what is answered to a line by what it asks for: nothing to one that asks for nothing, and to one that is refused the
 -- line of its fault, as of a file with the number 1

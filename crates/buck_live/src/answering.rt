@@ -9,8 +9,9 @@ ghost use Rattle.buck_book.specs.Plan.{IsPlan};
 ghost use Rattle.buck_book.specs.declared.posting.Posting.TheVariants.{Demand};
 ghost use Rattle.buck_engine.specs.text.Bucking.{stem_lines};
 ghost use Rattle.buck_engine.specs.text.Report.{posting_line};
-ghost use Rattle.buck_live.specs.Answers.{AnswersLine, most_postings, targets_numbers};
+ghost use Rattle.buck_live.specs.Answers.{AnswersLine, targets_numbers};
 ghost use Rattle.buck_live.specs.inner.Answering.{AnswersCut, AnswersDemand, AnswersOne, IsCommitFault, told};
+ghost use Rattle.buck_book.specs.declared.posting.TheConstants.{MOST_POSTINGS};
 
 use crate::request::{Asked, Request, read_request};
 use buck_book::{Book, DemandRefusal, Plan, Ready, Refusal, TargetsFault};
@@ -159,7 +160,7 @@ fn answer_request<F: Fn(&Standing) -> u64 + Drop>(
     request: Request,
 ) -> Result<Vec<u8>, EngineFault>
     requires answers { Answers F.Fn book.old.rule }
-    requires capacity { book.old.capacity ≡ most_postings }
+    requires capacity { book.old.capacity ≡ MOST_POSTINGS }
     requires harvester { (0 < request.harvester) × (request.harvester ≤ 64) }
     ensures rule { book.new.rule ≡ book.old.rule }
     ensures capacity { book.new.capacity ≡ book.old.capacity }
@@ -180,7 +181,7 @@ pub(crate) fn answer<F: Fn(&Standing) -> u64 + Drop>(
     line: Option<&[u8]>,
 ) -> Result<Vec<u8>, EngineFault>
     requires answers { Answers F.Fn book.old.rule }
-    requires capacity { book.old.capacity ≡ most_postings }
+    requires capacity { book.old.capacity ≡ MOST_POSTINGS }
     ensures rule { book.new.rule ≡ book.old.rule }
     ensures capacity { book.new.capacity ≡ book.old.capacity }
     ensures answered { AnswersLine book.old.history (option_map (λ l. l.now) line.entry)

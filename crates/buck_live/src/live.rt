@@ -3,7 +3,7 @@ ghost use Rattle.std.specs.Prelude.{◌≡◌, ◌≤◌, IfOk, vec_capacity};
 ghost use Rattle.buck_rule.specs.Stored.{Answers};
 ghost use Rattle.buck_book.specs.Book.{IsBook};
 ghost use Rattle.buck_journal.specs.Written.{journal_text};
-ghost use Rattle.buck_live.specs.Answers.{most_postings, opening};
+ghost use Rattle.buck_live.specs.Answers.{opening};
 ghost use Rattle.buck_live.specs.Lines.{longest_line};
 ghost use Rattle.buck_live.specs.Live.{IsLiveRun};
 ghost use Rattle.buck_live.specs.inner.Answering.{told};
@@ -13,7 +13,7 @@ use crate::answering::answer;
 use crate::lines::{End, LONGEST, read_bytes, whole};
 use crate::replies::Replies;
 use buck_apt::Instruction;
-use buck_book::Book;
+use buck_book::{Book, MOST_POSTINGS};
 use buck_dp::Planner;
 use buck_engine::{EngineFault, write_fault, write_text};
 use buck_journal::journal_text;
@@ -23,9 +23,6 @@ use std::alloc::Global;
 use std::io;
 use std::marker::Model;
 use std::sync::Arc;
-
-/// The most postings that a book may have.
-const CAPACITY: u32 = 1_000_000;
 
 /// A book of one thread that answers requests as they come. Its history is lawful at every moment.
 #[derive(Drop)]
@@ -38,14 +35,14 @@ pub struct Live<F> {
 impl<F> Model for Live<F> {
     ghost use Rattle.std.specs.Prelude.{◌≡◌, ◌≤◌, vec_capacity};
     ghost use Rattle.buck_book.specs.Book.{BookParts};
-    ghost use Rattle.buck_live.specs.Answers.{most_postings};
+    ghost use Rattle.buck_book.specs.declared.posting.TheConstants.{MOST_POSTINGS};
     ghost use Rattle.buck_live.specs.Lines.{longest_line};
 
     ghost Value = { BookParts F };
 
     ghost view = { λ l. l.book };
 
-    ghost invariant = { λ l. (longest_line ≤ vec_capacity l.line) × (l.book.capacity ≡ most_postings) };
+    ghost invariant = { λ l. (longest_line ≤ vec_capacity l.line) × (l.book.capacity ≡ MOST_POSTINGS) };
 }
 
 /// Writes an answer: a text, or the line of a fault.
@@ -85,7 +82,7 @@ fn answer_next<F: Fn(&Standing) -> u64 + Drop, R: io::Read, W: Replies>(
     out: &mut W,
 ) -> Result<End, EngineFault>
     requires answers { Answers F.Fn book.old.rule }
-    requires capacity { book.old.capacity ≡ most_postings }
+    requires capacity { book.old.capacity ≡ MOST_POSTINGS }
     requires room { longest_line ≤ vec_capacity line.old }
     ensures rule { book.new.rule ≡ book.old.rule }
     ensures capacity { book.new.capacity ≡ book.old.capacity }
@@ -112,7 +109,7 @@ fn answer_all<F: Fn(&Standing) -> u64 + Drop, R: io::Read, W: Replies>(
     out: &mut W,
 ) -> Result<(), EngineFault>
     requires answers { Answers F.Fn book.old.rule }
-    requires capacity { book.old.capacity ≡ most_postings }
+    requires capacity { book.old.capacity ≡ MOST_POSTINGS }
     requires room { longest_line ≤ vec_capacity line.old }
     ensures rule { book.new.rule ≡ book.old.rule }
     ensures capacity { book.new.capacity ≡ book.old.capacity }
@@ -148,7 +145,7 @@ impl<F: Fn(&Standing) -> u64 + Drop> Live<F> {
         ensures rule { IfOk result (λ l. l.rule ≡ rule) }
         ensures history { IfOk result (λ l. l.history ≡ opening instruction.value) }
     {
-        let book = Book::open(alloc, instruction, rule, CAPACITY)?;
+        let book = Book::open(alloc, instruction, rule, MOST_POSTINGS)?;
         let planner = Planner::make(alloc, book.sheet().clone()?)?;
         let line = Vec::with_capacity(alloc, LONGEST)?;
         Ok(Live {

@@ -6,6 +6,7 @@ ghost use Rattle.buck_journal.specs.judging.Replay.{history_of};
 ghost use Rattle.buck_engine.specs.tie.Ties.{GivesBy};
 ghost use Rattle.buck_sweep.specs.inner.Lines.{HasCut, IsPart, IsRunLine, IsStop};
 ghost use Rattle.buck_sweep.specs.Sweep.{AreLines};
+ghost use Rattle.buck_book.specs.declared.posting.TheConstants.{MOST_POSTINGS};
 
 use crate::combination::Combination;
 use crate::figures::line_of;
@@ -39,7 +40,7 @@ fn prices_of(alloc: Global, sheets: &[Arc<Sheet>]) -> Result<Vec<Vec<u32>>, Memo
 fn journal_of<F: Drop>(alloc: Global, book: Book<F>) -> Result<Journal, Memory>
     ensures history { IfOk result (λ j. history_of book.history.instruction j ≡ book.history) }
     ensures lawful { IsLawful book.history }
-    ensures few { length book.history.postings ≤ 1000000 }
+    ensures few { length book.history.postings ≤ MOST_POSTINGS }
 {
     let parts = book.into_parts();
     Ok(Journal {

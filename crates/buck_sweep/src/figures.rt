@@ -7,6 +7,7 @@ ghost use Rattle.buck_journal.specs.judging.Replay.{history_of};
 ghost use Rattle.buck_figures.specs.Figures.{base_sheet};
 ghost use Rattle.buck_sweep.specs.Table.{IsLeast, IsLine, rate_of};
 ghost use Rattle.buck_sweep.specs.inner.Lines.{AreDegreesBy, IsLineBy, lesser, line_by};
+ghost use Rattle.buck_book.specs.declared.posting.TheConstants.{MOST_POSTINGS};
 
 use crate::table::put_cells;
 use buck_apt::Instruction;
@@ -146,7 +147,7 @@ pub(crate) fn line_of(
     instruction: &Arc<Instruction>,
     journal: &Journal,
 ) -> Result<Vec<u8>, Memory>
-    requires few { length journal.now.entries ≤ 1000000 }
+    requires few { length journal.now.entries ≤ MOST_POSTINGS }
     requires lawful { IsLawful (history_of instruction.now.value journal.now) }
     ensures { IfOk result (λ line. IsLine rule (history_of instruction.now.value journal.now) line.items) }
 {

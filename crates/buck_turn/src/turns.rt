@@ -8,7 +8,7 @@ ghost use Rattle.buck_turn.specs.Turn.{AreSheetsBy, HasCutInTurn, stems_in_all};
 ghost use Rattle.buck_turn.specs.inner.Rounds.{HasCutRounds, IsCutOf, cut_in};
 
 use buck_apt::Instruction;
-use buck_book::{Book, Plan, Refusal};
+use buck_book::{Book, MOST_POSTINGS, Plan, Refusal};
 use buck_dp::Planner;
 use buck_fleet::CutFault;
 use buck_record::Memory;
@@ -16,9 +16,6 @@ use buck_rule::{Rule, Standing};
 use buck_stem::Stem;
 use std::alloc::Global;
 use std::sync::Arc;
-
-/// The most postings that a book may have.
-const CAPACITY: u32 = 1_000_000;
 
 /// Plans a stem under the sheet in force.
 fn plan<F: Drop>(
@@ -79,7 +76,7 @@ fn turn<F: Fn(&Standing) -> u64 + Drop>(
 ) -> Result<(), CutFault>
     requires answers { Answers F.Fn book.old.rule }
     requires given { AreSheetsBy F.Fn book.old.rule book.old.history }
-    requires capacity { book.old.capacity ≡ 1000000 }
+    requires capacity { book.old.capacity ≡ MOST_POSTINGS }
     requires few { length lists.now ≤ 64 }
     requires place { place < length lists.now }
     requires rounds { HasCutRounds round place lists.now book.old.history.postings }
@@ -90,7 +87,7 @@ fn turn<F: Fn(&Standing) -> u64 + Drop>(
     ensures given { OnOk result (AreSheetsBy F.Fn book.new.rule book.new.history) }
     ensures rounds { OnOk result (HasCutRounds round (place + 1) lists.now book.new.history.postings) }
     ensures number { OnOk result (length book.new.history.postings ≡ cut_in round (place + 1) lists.now) }
-    ensures full { IfErr result (λ fault. fault ≡ Full → 1000000 < stems_in_all lists.now) }
+    ensures full { IfErr result (λ fault. fault ≡ Full → MOST_POSTINGS < stems_in_all lists.now) }
 {
     let list = &lists[place];
     if round >= list.len() {
@@ -110,7 +107,7 @@ fn cut_round<F: Fn(&Standing) -> u64 + Drop>(
 ) -> Result<(), CutFault>
     requires answers { Answers F.Fn book.old.rule }
     requires given { AreSheetsBy F.Fn book.old.rule book.old.history }
-    requires capacity { book.old.capacity ≡ 1000000 }
+    requires capacity { book.old.capacity ≡ MOST_POSTINGS }
     requires few { length lists.now ≤ 64 }
     requires rounds { HasCutRounds round 0 lists.now book.old.history.postings }
     requires number { length book.old.history.postings ≡ cut_in round 0 lists.now }
@@ -120,7 +117,7 @@ fn cut_round<F: Fn(&Standing) -> u64 + Drop>(
     ensures given { OnOk result (AreSheetsBy F.Fn book.new.rule book.new.history) }
     ensures rounds { OnOk result (HasCutRounds (round + 1) 0 lists.now book.new.history.postings) }
     ensures number { OnOk result (length book.new.history.postings ≡ cut_in (round + 1) 0 lists.now) }
-    ensures full { IfErr result (λ fault. fault ≡ Full → 1000000 < stems_in_all lists.now) }
+    ensures full { IfErr result (λ fault. fault ≡ Full → MOST_POSTINGS < stems_in_all lists.now) }
 {
     for k in 0..lists.len() {
         turn(alloc, book, planner, lists, round, k)?;
@@ -156,9 +153,9 @@ pub fn cut_in_turn<F: Fn(&Standing) -> u64 + Drop>(
     ensures cut { IfOk result (λ b. HasCutInTurn lists.now b.history) }
     ensures number { IfOk result (λ b. length b.history.postings ≡ stems_in_all lists.now) }
     ensures given { IfOk result (λ b. AreSheetsBy F.Fn rule b.history) }
-    ensures full { IfErr result (λ fault. fault ≡ Full → 1000000 < stems_in_all lists.now) }
+    ensures full { IfErr result (λ fault. fault ≡ Full → MOST_POSTINGS < stems_in_all lists.now) }
 {
-    let mut book = Book::open(alloc, instruction, rule, CAPACITY)?;
+    let mut book = Book::open(alloc, instruction, rule, MOST_POSTINGS)?;
     let mut planner = Planner::make(alloc, book.sheet().clone()?)?;
     for round in 0..longest(lists) {
         cut_round(alloc, &mut book, &mut planner, lists, round)?;

@@ -6,11 +6,12 @@ ghost use Rattle.buck_value.specs.declared.log.Log.{Log};
 ghost use Rattle.buck_value.specs.Sheet.{SheetParts, IsSheet};
 ghost use Rattle.buck_value.specs.Untrimmed.{HasNoTrim, IsAllowedUntrimmed};
 ghost use Rattle.buck_value.specs.Allowed.{IsAllowed, IsRow, top_diameter, row_at, class_of, worth_of};
+ghost use Rattle.buck_value.specs.declared.sheet.TheConstants.{HIGHEST_PRICE};
 
 /// No price of a sheet is above 20,000,000.
 #[tactic(auto, using(crate::proofs::Prices::prices_low))]
 pub fn prices_are_bounded()
-    ensures { (s : SheetParts) → IsSheet s → All (λ p. p ≤ 20000000) s.prices }
+    ensures { (s : SheetParts) → IsSheet s → All (λ p. p ≤ HIGHEST_PRICE) s.prices }
 {}
 
 /// An allowed log is 500 to 30,000 mm long, and its top diameter is at most 2,000 mm.

@@ -13,7 +13,7 @@ pub use buck_record::Memory;
 pub use fault::SheetFault;
 pub use log::Log;
 pub use prepared::Prepared;
-pub use sheet::Sheet;
+pub use sheet::{HIGHEST_PRICE, Sheet};
 pub use wood::{Wood, takes};
 pub use worth::{
     Valuation, class_of, column_of, log_valuation, log_worth, row_of, volume_of, worth_if_allowed,

@@ -12,6 +12,9 @@ use std::alloc::{AllocError, Global};
 use std::marker::Model;
 use std::sync::Arc;
 
+/// No price in force is above it: twice the highest base price.
+pub const HIGHEST_PRICE: u32 = 20_000_000;
+
 /// The prices in force from a version on: one for each class of the instruction, each within its span. The span of a
 /// class goes down and up from its base price by that price times the instruction's limit per mille, rounded down.
 #[derive(Drop)]

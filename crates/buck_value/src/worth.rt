@@ -11,6 +11,7 @@ ghost use Rattle.buck_stem.specs.Stem.{IsStem, stem_length, HasGradesOf};
 ghost use Rattle.buck_value.specs.Sheet.{IsSheet, price_of};
 ghost use Rattle.buck_value.specs.Allowed.{IsAllowed, Allows, log_of, top_of, top_diameter, row_at, class_in, class_of, kind_in, worth_of};
 ghost use Rattle.buck_value.specs.Volume.{volume, worth_at};
+ghost use Rattle.buck_value.specs.declared.sheet.TheConstants.{HIGHEST_PRICE};
 
 use crate::log::Log;
 use crate::sheet::Sheet;
@@ -31,7 +32,7 @@ pub fn volume_of(diameter: u32, length: u32) -> u64
 
 /// The worth of a piece in millionths of the price unit, by its price kind, its price and its volume in cm³.
 pub fn worth_of_piece(kind: u8, price: u32, cubic: u64) -> u64
-    requires price { price ≤ 20000000 }
+    requires price { price ≤ HIGHEST_PRICE }
     requires cubic { cubic ≤ 100000000 }
     ensures { result ≡ worth_at kind price cubic }
 {

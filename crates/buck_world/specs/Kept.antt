@@ -8,6 +8,7 @@ use Rattle.buck_world.specs.declared.stage.Stage.TheVariants.{Planned}
 use Rattle.buck_world.specs.declared.harvester.Harvester.{Harvester}
 use Rattle.buck_world.specs.World.{WorldParts, IsHarvester, at, IsAnswered, NobodyAnswered}
 use Rattle.buck_world.specs.Step.{IsPlanUnder}
+use Rattle.buck_book.specs.declared.posting.TheConstants.{MOST_POSTINGS}
 
 -- what is true of each harvester: the plan that it holds was made under the sheet of the version that it has seen, that
 -- version is at most the front, and it made at most three stale attempts
@@ -45,5 +46,5 @@ pub record IsKept {F : Type 0} (r : RuledWorld F) : Type 0 where
   pub world : IsWorld r.world
   pub front_rule : IsSeenUpTo r.world.front (all_seen r.world)
   pub within : length r.world.history.postings ≤ r.capacity
-  pub capacity_range : r.capacity ≤ 1000000
+  pub capacity_range : r.capacity ≤ MOST_POSTINGS
   pub harvesters_range : length r.world.harvesters ≤ 64

@@ -7,6 +7,7 @@ ghost use Rattle.buck_world.specs.Step.{IsIdleOrReading, Allowed, Step};
 ghost use Rattle.buck_world.specs.Kept.{IsKept};
 ghost use Rattle.buck_world.specs.Refused.{IsFull, MayAdd, HasRoom, IsRefusal};
 ghost use Rattle.buck_world.specs.inner.Sound.{Keeps};
+ghost use Rattle.buck_book.specs.declared.posting.TheConstants.{MOST_POSTINGS};
 
 use crate::event::Event;
 use crate::fault::StepFault;
@@ -281,7 +282,7 @@ impl<F: Fn(&Standing) -> u64 + Drop> World<F> {
         capacity: u32,
     ) -> Result<World<F>, Memory>
         requires harvesters { (1 ≤ harvesters) × (harvesters ≤ 64) }
-        requires capacity { (1 ≤ capacity) × (capacity ≤ 1000000) }
+        requires capacity { (1 ≤ capacity) × (capacity ≤ MOST_POSTINGS) }
         ensures rule { IfOk result (λ w. w.rule ≡ rule) }
         ensures capacity { IfOk result (λ w. w.capacity ≡ capacity) }
         ensures opening { IfOk result (λ w. w.world ≡ opening instruction.value harvesters) }

@@ -11,6 +11,7 @@ use Rattle.buck_book.specs.Targets.{AreTargets}
 use Rattle.buck_book.specs.Counts.{AreClassCounts, assortment_count_of, assortment_logs, calls_of}
 use Rattle.buck_book.specs.History.{HistoryParts}
 use Rattle.buck_book.specs.Book.{BookParts, IsBook, sheets_from}
+use Rattle.buck_book.specs.declared.posting.TheConstants.{MOST_POSTINGS}
 
 -- the running counts of classes and assortments are the counts of some postings
 pub record AreCounts (i : InstructionParts) (ps : List Posting) (by_class by_assortment : List ℕ) : Type 0 where
@@ -48,7 +49,7 @@ pub record RunningParts : Type 0 where
 -- it is what the history's definitions say of these postings
 pub record Tells (i : InstructionParts) (ps : List Posting) (n : RunningParts) : Type 0 where
   pub valid : IsInstruction i
-  pub few : length ps ≤ 1000000
+  pub few : length ps ≤ MOST_POSTINGS
   pub targets_are : n.targets ≡ targets_of i ps
   pub targets_valid : AreTargets i n.targets
   pub cuts_are : n.cuts ≡ cuts_since_end i ps
@@ -58,12 +59,12 @@ pub record Tells (i : InstructionParts) (ps : List Posting) (n : RunningParts) :
 
 -- some postings to which one may be added add up to it
 abbrev pub GoesOn : InstructionParts → RunningParts → Type 0
-GoesOn i n = (ps : List Posting) × (length ps < 1000000) × Tells i ps n
+GoesOn i n = (ps : List Posting) × (length ps < MOST_POSTINGS) × Tells i ps n
 
 -- with a posting more, some postings that added up to one thing add up to the other
 abbrev pub IsAfter : InstructionParts → RunningParts → Posting → RunningParts → Type 0
 IsAfter i before x after =
-    (ps : List Posting) → length ps < 1000000 → Tells i ps before → Tells i (ps ++ x ∷ []) after
+    (ps : List Posting) → length ps < MOST_POSTINGS → Tells i ps before → Tells i (ps ++ x ∷ []) after
 
 -- a history's postings with one more add up to it
 abbrev pub IsPassed : HistoryParts → Posting → RunningParts → Type 0

@@ -9,6 +9,7 @@ use Rattle.buck_book.specs.Counts.{calls_of}
 use Rattle.buck_book.specs.Walk.{WalkParts, passed}
 use Rattle.buck_book.specs.inner.Running.{RunningParts, Tells}
 use Rattle.buck_book.specs.inner.Pricing.{StandingsParts, standing_by}
+use Rattle.buck_book.specs.declared.posting.TheConstants.{MOST_POSTINGS}
 
 -- how many calls a harvester has
 abbrev pub calls_in : BTreeMap ℕ ℕ → ℕ → ℕ
@@ -20,7 +21,7 @@ IsCalled before harvester after = (h : ℕ) → calls_in after h ≡ calls_in be
 
 -- what is kept beside the place is what the postings that were passed say
 pub record IsWalk (w : WalkParts) (n : RunningParts) (calls : ℕ → ℕ) : Type 0 where
-  pub few : length w.postings ≤ 1000000
+  pub few : length w.postings ≤ MOST_POSTINGS
   pub within : w.at ≤ length w.postings
   pub tells : Tells w.instruction (passed w) n
   pub calls_are : (h : ℕ) → calls h ≡ calls_of h (passed w)

@@ -9,6 +9,7 @@ use Rattle.buck_dp.specs.declared.pricing.Term.{Term}
 use Rattle.buck_dp.specs.declared.pricing.Ask.{Ask}
 use Rattle.buck_dp.specs.inner.Bid.{BidParts, bid_of, IsAtMost}
 use Rattle.buck_dp.specs.inner.Cells.{IsTakersBid}
+use Rattle.buck_value.specs.declared.sheet.TheConstants.{HIGHEST_PRICE}
 
 -- what a quote bids for a log of a top diameter
 abbrev pub quote_bid : Quote → ℕ → BidParts
@@ -17,7 +18,7 @@ quote_bid q d = bid_of (worth_at q.kind q.price (volume d q.length)) q.rank
 -- a quote within the limits of an instruction
 pub record IsSmall (q : Quote) : Type 0 where
   pub length : q.length ≤ 30000
-  pub price : q.price ≤ 20000000
+  pub price : q.price ≤ HIGHEST_PRICE
   pub rank : q.rank < 1024
 
 -- the diameters of a band

@@ -22,6 +22,7 @@ use Rattle.buck_engine.specs.run.Reading.{IsAccepted, IsAptFault, IsStmFault, Re
 use Rattle.buck_engine.specs.fleet.Lent.{OfWriter}
 use Rattle.buck_engine.specs.text.Written.{AppendsSome, IsRun}
 use Rattle.buck_engine.specs.text.Report.{IsReport}
+use Rattle.buck_book.specs.declared.posting.TheConstants.{MOST_POSTINGS}
 
 -- the stem that each posting of a harvester cut, in their order; none in the place of a demand
 abbrev pub stems_cut_by : ℕ → HistoryParts → List (Option StemParts)
@@ -39,7 +40,7 @@ pub record IsHarvest (reads : ReadsApt) (apt : Option (List ℕ)) (stms : List (
     : Type 0 where
   pub instruction : Says reads apt (Ok h.instruction)
   pub lawful : IsLawful h
-  pub few : length h.postings ≤ 1000000
+  pub few : length h.postings ≤ MOST_POSTINGS
   pub stems : (k : ℕ) → k < length stms → CutsFile (k + 1) h (slice_index_or stms k None)
   pub nobody_else : All (λ x. (0 < harvester_of x) × (harvester_of x ≤ length stms)) h.postings
 
@@ -88,7 +89,7 @@ pub record HaveTooMany (stms : List (Option (List ℕ))) : Type 0 where
   pub stems : List (List StemParts)
   pub number : length stems ≡ length stms
   pub stms_say : (k : ℕ) → k < length stms → Says stm_of (slice_index_or stms k None) (Ok (slice_index_or stems k []))
-  pub many : 1000000 < sum_by (λ list. length list) stems
+  pub many : MOST_POSTINGS < sum_by (λ list. length list) stems
 
 -- where harvesters take turns, a history is full only where there are too many stems
 abbrev pub IsFullInOrder : Order → List (Option (List ℕ)) → EngineFault → Type 0

@@ -9,6 +9,7 @@ ghost use Rattle.buck_engine.specs.inner.Fleet.{HasCutLists};
 use crate::fault::EngineFault;
 use crate::fleet::onlooker::{Onlooker, Seen};
 use buck_apt::Instruction;
+use buck_book::MOST_POSTINGS;
 use buck_fleet::{Closed, Fleet, OpenFault, RunFault, Seat, run_fleet};
 use buck_rule::{Rule, Standing};
 use buck_stem::Stem;
@@ -19,7 +20,7 @@ use std::sync::{Arc, Wait};
 use std::thread::Threads;
 
 /// The most postings that a history may have.
-const CAPACITY: u32 = 1_000_000;
+const MOST_POSTINGS: u32 = 1_000_000;
 
 /// Closes a fleet.
 fn close<F: Drop, L: Ledger>(fleet: Fleet<F, L>, seats: Vec<Seat<L>>) -> Result<Closed, EngineFault>
@@ -27,7 +28,7 @@ fn close<F: Drop, L: Ledger>(fleet: Fleet<F, L>, seats: Vec<Seat<L>>) -> Result<
     requires parts { parts_of seats.items ≡ L.parts }
     requires few { fleet.seats ≤ 64 }
     ensures ok { IfOk result (λ closed. IsOneHistory fleet.instruction fleet.seats seats.items closed
-        × (length closed.history.postings ≤ 1000000)) }
+        × (length closed.history.postings ≤ MOST_POSTINGS)) }
     ensures fault { IfErr result IsCuttingFault }
 {
     match fleet.close(seats) {
@@ -78,7 +79,7 @@ fn cut_with<
         instruction,
         rule,
         number,
-        CAPACITY,
+        MOST_POSTINGS,
     ) {
         Ok(opened) => opened,
         Err(OpenFault::Memory) => return Err(EngineFault::Memory),

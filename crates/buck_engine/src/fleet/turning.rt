@@ -12,6 +12,7 @@ ghost use Rattle.buck_engine.specs.run.Reading.{IfStopped, apt_with};
 ghost use Rattle.buck_engine.specs.fleet.Lent.{of_lent};
 ghost use Rattle.buck_engine.specs.fleet.Running.{AreNoSeats, HaveTooMany, IsCuttingFault, IsFleetFault, IsFleetRun, IsHarvest};
 ghost use Rattle.buck_engine.specs.inner.Fleet.{HasCutLists};
+ghost use Rattle.buck_book.specs.declared.posting.TheConstants.{MOST_POSTINGS};
 
 use crate::fault::EngineFault;
 use crate::fleet::lists::{Input, number_of_stems, read_input_with};
@@ -113,7 +114,7 @@ fn cut_lists<F: Fn(&Standing) -> u64 + Drop>(
     ensures in_turn { IfOk result (λ turned. AreInTurn turned.postings) }
     ensures given { IfOk result (λ turned. AreSheetsBy F.Fn rule turned) }
     ensures fault { IfErr result IsCuttingFault }
-    ensures full { IfErr result (λ fault. fault ≡ Full → 1000000 < stems_in_all lists.now) }
+    ensures full { IfErr result (λ fault. fault ≡ Full → MOST_POSTINGS < stems_in_all lists.now) }
 {
     let instruction = Arc::new(alloc, instruction)?;
     match cut_in_turn(alloc, instruction, rule, lists) {

@@ -8,6 +8,7 @@ ghost use Rattle.buck_engine.specs.run.Checking.{IsJournalFault, IsUnlawful};
 ghost use Rattle.buck_engine.specs.run.Reading.{IfStopped, Says, apt_with};
 ghost use Rattle.buck_engine.specs.run.Viewing.{IsReadFault};
 ghost use Rattle.buck_engine.specs.inner.Reading.{AreRefused};
+ghost use Rattle.buck_book.specs.declared.posting.TheConstants.{MOST_POSTINGS};
 
 use crate::fault::EngineFault;
 use crate::run::reading::{read_file, read_instruction_with};
@@ -25,7 +26,7 @@ use std::thread::Threads;
 /// The journal of the bytes of file 1.
 fn journal_in(alloc: Global, bytes: &[u8]) -> Result<Journal, EngineFault>
     ensures ok { IfOk result (λ journal. journal_of bytes.now ≡ Ok journal) }
-    ensures few { IfOk result (λ journal. length journal.entries ≤ 1000000) }
+    ensures few { IfOk result (λ journal. length journal.entries ≤ MOST_POSTINGS) }
     ensures refused { IfErr result (AreRefused EngineFault.Journal journal_of bytes.now) }
 {
     match read_journal(alloc, bytes) {
@@ -43,7 +44,7 @@ fn journal_in_parts<T: Threads + Sync>(
     threads: usize,
 ) -> Result<Journal, EngineFault>
     ensures ok { IfOk result (λ journal. journal_of bytes.now ≡ Ok journal) }
-    ensures few { IfOk result (λ journal. length journal.entries ≤ 1000000) }
+    ensures few { IfOk result (λ journal. length journal.entries ≤ MOST_POSTINGS) }
     ensures refused { IfErr result (AreRefused EngineFault.Journal journal_of bytes.now) }
 {
     match read_journal_in_parts(rt, alloc, bytes, threads) {
@@ -59,7 +60,7 @@ pub(crate) fn read_postings<R: io::Read>(
     reader: &mut R,
 ) -> Result<Journal, EngineFault>
     ensures ok { IfOk result (λ journal. Says journal_of (R.remaining reader.old) (Ok journal)) }
-    ensures few { IfOk result (λ journal. length journal.entries ≤ 1000000) }
+    ensures few { IfOk result (λ journal. length journal.entries ≤ MOST_POSTINGS) }
     ensures refused { IfErr result (IsJournalFault (R.remaining reader.old)) }
 {
     let bytes = read_file(alloc, reader, 1)?;
@@ -74,7 +75,7 @@ pub(crate) fn read_postings_in_parts<T: Threads + Sync, R: io::Read>(
     reader: &mut R,
 ) -> Result<Journal, EngineFault>
     ensures ok { IfOk result (λ journal. Says journal_of (R.remaining reader.old) (Ok journal)) }
-    ensures few { IfOk result (λ journal. length journal.entries ≤ 1000000) }
+    ensures few { IfOk result (λ journal. length journal.entries ≤ MOST_POSTINGS) }
     ensures refused { IfErr result (IsJournalFault (R.remaining reader.old)) }
 {
     let bytes = read_file(alloc, reader, 1)?;
@@ -99,7 +100,7 @@ pub(crate) fn read_both<R: io::Read>(
     ensures instruction { IfOk result (λ both.
         Says (apt_with settings.now) (R.remaining apt.old) (Ok both.instruction.value)) }
     ensures journal { IfOk result (λ both. Says journal_of (R.remaining journal.old) (Ok both.journal)) }
-    ensures few { IfOk result (λ both. length both.journal.entries ≤ 1000000) }
+    ensures few { IfOk result (λ both. length both.journal.entries ≤ MOST_POSTINGS) }
     ensures refused { IfErr result (IsReadFault (R.remaining apt.old) (R.remaining journal.old)) }
     ensures order { IfErr result (IfStopped (λ last. last ≡ 0 → journal.new ≡ journal.old)) }
 {
@@ -119,7 +120,7 @@ pub(crate) fn read_own<R: io::Read>(
 ) -> Result<Both, EngineFault>
     ensures instruction { IfOk result (λ both. Says apt_of (R.remaining apt.old) (Ok both.instruction.value)) }
     ensures journal { IfOk result (λ both. Says journal_of (R.remaining journal.old) (Ok both.journal)) }
-    ensures few { IfOk result (λ both. length both.journal.entries ≤ 1000000) }
+    ensures few { IfOk result (λ both. length both.journal.entries ≤ MOST_POSTINGS) }
     ensures refused { IfErr result (IsReadFault (R.remaining apt.old) (R.remaining journal.old)) }
     ensures order { IfErr result (IfStopped (λ last. last ≡ 0 → journal.new ≡ journal.old)) }
 {
@@ -139,7 +140,7 @@ pub(crate) fn read_both_in_parts<T: Threads + Sync, R: io::Read>(
     ensures instruction { IfOk result (λ both.
         Says (apt_with settings.now) (R.remaining apt.old) (Ok both.instruction.value)) }
     ensures journal { IfOk result (λ both. Says journal_of (R.remaining journal.old) (Ok both.journal)) }
-    ensures few { IfOk result (λ both. length both.journal.entries ≤ 1000000) }
+    ensures few { IfOk result (λ both. length both.journal.entries ≤ MOST_POSTINGS) }
     ensures refused { IfErr result (IsReadFault (R.remaining apt.old) (R.remaining journal.old)) }
     ensures order { IfErr result (IfStopped (λ last. last ≡ 0 → journal.new ≡ journal.old)) }
 {
@@ -161,7 +162,7 @@ pub(crate) fn read_own_in_parts<T: Threads + Sync, R: io::Read>(
 ) -> Result<Both, EngineFault>
     ensures instruction { IfOk result (λ both. Says apt_of (R.remaining apt.old) (Ok both.instruction.value)) }
     ensures journal { IfOk result (λ both. Says journal_of (R.remaining journal.old) (Ok both.journal)) }
-    ensures few { IfOk result (λ both. length both.journal.entries ≤ 1000000) }
+    ensures few { IfOk result (λ both. length both.journal.entries ≤ MOST_POSTINGS) }
     ensures refused { IfErr result (IsReadFault (R.remaining apt.old) (R.remaining journal.old)) }
     ensures order { IfErr result (IfStopped (λ last. last ≡ 0 → journal.new ≡ journal.old)) }
 {
@@ -170,7 +171,7 @@ pub(crate) fn read_own_in_parts<T: Threads + Sync, R: io::Read>(
 
 /// Whether the journal is lawful for the instruction.
 pub(crate) fn replay_both(alloc: Global, both: &Both) -> Result<(), ReplayFault>
-    requires few { length both.now.journal.entries ≤ 1000000 }
+    requires few { length both.now.journal.entries ≤ MOST_POSTINGS }
     ensures lawful { OnOk result (IsLawful (history_of both.now.instruction.value both.now.journal)) }
     ensures refused { IfErr result (λ why.
         why ≢ ReplayFault.Memory → IsFirstFault (history_of both.now.instruction.value both.now.journal) why) }
@@ -185,7 +186,7 @@ pub(crate) fn replay_both_in_parts<T: Threads + Sync>(
     threads: Option<u8>,
     both: &Both,
 ) -> Result<(), ReplayFault>
-    requires few { length both.now.journal.entries ≤ 1000000 }
+    requires few { length both.now.journal.entries ≤ MOST_POSTINGS }
     ensures lawful { OnOk result (IsLawful (history_of both.now.instruction.value both.now.journal)) }
     ensures refused { IfErr result (λ why.
         why ≢ ReplayFault.Memory → IsFirstFault (history_of both.now.instruction.value both.now.journal) why) }

@@ -9,6 +9,7 @@ ghost use Rattle.buck_engine.specs.declared.fault.EngineFault.TheVariants.{Write
 ghost use Rattle.buck_engine.specs.run.Checking.{AnswersJournal, AnswersReplay, AnswersReport, IsJournalReport};
 ghost use Rattle.buck_engine.specs.run.Reading.{IfStopped, apt_with};
 ghost use Rattle.buck_engine.specs.text.Written.{WritesText};
+ghost use Rattle.buck_book.specs.declared.posting.TheConstants.{MOST_POSTINGS};
 
 use crate::fault::{EngineFault, TextFault};
 use crate::run::both::read_postings;
@@ -68,7 +69,7 @@ fn text_of_replay(
     instruction: &Arc<Instruction>,
     journal: &Journal,
 ) -> Result<Vec<u8>, EngineFault>
-    requires { length journal.now.entries ≤ 1000000 }
+    requires { length journal.now.entries ≤ MOST_POSTINGS }
     ensures { AnswersReplay IsJournalReport instruction.now.value journal.now (listed result) }
 {
     match replay_to_end(alloc, instruction, journal) {

@@ -8,6 +8,7 @@ ghost use Rattle.buck_journal.specs.judging.Replay.{history_of, IsFirstFault};
 ghost use Rattle.buck_engine.specs.run.Reading.{IfStopped};
 ghost use Rattle.buck_engine.specs.run.Viewing.{AppendsPage, AppendsTable, ShowsPage, ShowsTable};
 ghost use Rattle.buck_engine.specs.inner.View.{ShowsFault, ShowsHistory, WritesAs};
+ghost use Rattle.buck_book.specs.declared.posting.TheConstants.{MOST_POSTINGS};
 
 use crate::fault::EngineFault;
 use crate::run::both::{Both, read_own, replay_both, unlawful};
@@ -34,7 +35,7 @@ fn base_planner(alloc: Global, instruction: &Arc<Instruction>) -> Result<Planner
 
 /// The page of a lawful journal.
 fn page_of(alloc: Global, both: &Both, files: &Files<'_>) -> Result<String, Memory>
-    requires few { length both.now.journal.entries ≤ 1000000 }
+    requires few { length both.now.journal.entries ≤ MOST_POSTINGS }
     requires lawful { IsLawful (history_of both.now.instruction.value both.now.journal) }
 {
     let mut planner = base_planner(alloc, &both.instruction)?;
@@ -44,7 +45,7 @@ fn page_of(alloc: Global, both: &Both, files: &Files<'_>) -> Result<String, Memo
 
 /// A table of a lawful journal.
 fn table_in(alloc: Global, both: &Both, table: Table) -> Result<Vec<u8>, Memory>
-    requires few { length both.now.journal.entries ≤ 1000000 }
+    requires few { length both.now.journal.entries ≤ MOST_POSTINGS }
     requires lawful { IsLawful (history_of both.now.instruction.value both.now.journal) }
 {
     let mut planner = base_planner(alloc, &both.instruction)?;
@@ -88,7 +89,7 @@ pub(crate) fn show_both<W: io::Write>(
     files: &Files<'_>,
     writer: &mut W,
 ) -> Result<(), EngineFault>
-    requires few { length both.now.journal.entries ≤ 1000000 }
+    requires few { length both.now.journal.entries ≤ MOST_POSTINGS }
     requires lawful { OnOk replayed (IsLawful (history_of both.now.instruction.value both.now.journal)) }
     requires refused { IfErr replayed (λ why.
         why ≢ ReplayFault.Memory → IsFirstFault (history_of both.now.instruction.value both.now.journal) why) }
@@ -147,7 +148,7 @@ pub(crate) fn list_both<W: io::Write>(
     table: Table,
     writer: &mut W,
 ) -> Result<(), EngineFault>
-    requires few { length both.now.journal.entries ≤ 1000000 }
+    requires few { length both.now.journal.entries ≤ MOST_POSTINGS }
     requires lawful { OnOk replayed (IsLawful (history_of both.now.instruction.value both.now.journal)) }
     requires refused { IfErr replayed (λ why.
         why ≢ ReplayFault.Memory → IsFirstFault (history_of both.now.instruction.value both.now.journal) why) }

@@ -9,6 +9,7 @@ ghost use Rattle.buck_book.specs.inner.Running.{AreGrownBy};
 ghost use Rattle.buck_journal.specs.judging.Replay.{history_of, prices_then};
 ghost use Rattle.buck_engine.specs.tie.Ties.{ArePricesAt, FollowsRule, IsPriceFault, IsPriceFaultAt};
 ghost use Rattle.buck_engine.specs.inner.Tie.{AreAssorted, logs_in};
+ghost use Rattle.buck_book.specs.declared.posting.TheConstants.{MOST_POSTINGS};
 
 use crate::fleet::serving::NamedRule;
 use crate::tie::fault::CheckFault;
@@ -86,7 +87,7 @@ fn pass<'w>(
     requires next { slice_get walk.postings walk.at ≡ Some posting.now }
     requires instruction { walk.instruction ≡ instruction.now }
     requires base { base.now.instruction ≡ instruction.now }
-    requires few { length walk.postings ≤ 1000000 }
+    requires few { length walk.postings ≤ MOST_POSTINGS }
     requires countable { IsCountable instruction.now posting.now }
     requires counts { AreAssorted instruction.now (passed walk) counts.old.items }
     ensures walk { IfOk result (λ w. w ≡ walk_of walk.entry.instruction walk.entry.postings (walk.entry.at + 1)) }
@@ -158,7 +159,7 @@ pub(crate) fn compare_prices(
     instruction: &Arc<Instruction>,
     journal: &Journal,
 ) -> Result<Option<CheckFault>, Memory>
-    requires few { length journal.now.entries ≤ 1000000 }
+    requires few { length journal.now.entries ≤ MOST_POSTINGS }
     requires lawful { IsLawful (history_of instruction.now.value journal.now) }
     ensures none { IfOk result (λ found.
         IfNone found (FollowsRule rule (history_of instruction.now.value journal.now))) }

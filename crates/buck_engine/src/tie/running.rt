@@ -11,6 +11,7 @@ ghost use Rattle.buck_engine.specs.text.Written.{WritesText};
 ghost use Rattle.buck_engine.specs.tie.Answers.{AnswersCheckWith, AnswersTies, HaveRead};
 ghost use Rattle.buck_engine.specs.tie.Ties.{CutTheirFiles, FollowsRule, IsPriceFault, IsStemsFault, IsTied};
 ghost use Rattle.buck_engine.specs.inner.Tie.{IsTiedInputFault, IsUntiedFault, stems_in_lists};
+ghost use Rattle.buck_book.specs.declared.posting.TheConstants.{MOST_POSTINGS};
 
 use crate::fault::EngineFault;
 use crate::fleet::serving::NamedRule;
@@ -63,7 +64,7 @@ fn prices_fault(
     instruction: &Arc<Instruction>,
     journal: &Journal,
 ) -> Result<Option<CheckFault>, Memory>
-    requires few { length journal.now.entries ≤ 1000000 }
+    requires few { length journal.now.entries ≤ MOST_POSTINGS }
     requires lawful { IsLawful (history_of instruction.now.value journal.now) }
     ensures none { IfOk result (λ found. IfNone found
         (IfSome rule (λ r. FollowsRule r (history_of instruction.now.value journal.now)))) }
@@ -84,7 +85,7 @@ fn check_ties(
     journal: &Journal,
     files: &[Vec<Stem>],
 ) -> Result<(), EngineFault>
-    requires few { length journal.now.entries ≤ 1000000 }
+    requires few { length journal.now.entries ≤ MOST_POSTINGS }
     requires files { length files.now ≤ 64 }
     requires lawful { IsLawful (history_of instruction.now.value journal.now) }
     ensures tied { OnOk result (IsTied (stems_in_lists files.now) rule (history_of instruction.now.value journal.now)) }
@@ -119,7 +120,7 @@ pub(crate) fn read_tied<R: io::Read>(
 ) -> Result<Tied, EngineFault>
     ensures read { IfOk result (λ tied. HaveRead (apt_with settings.now) (R.remaining apt.old) (R.remaining journal.old)
         (map R.remaining stms.old) tied.both.instruction.value tied.both.journal (stems_in_lists tied.files.items)) }
-    ensures few { IfOk result (λ tied. length tied.both.journal.entries ≤ 1000000) }
+    ensures few { IfOk result (λ tied. length tied.both.journal.entries ≤ MOST_POSTINGS) }
     ensures files { IfOk result (λ tied. length tied.files.items ≤ 64) }
     ensures refused { IfErr result
         (IsTiedInputFault (R.remaining apt.old) (R.remaining journal.old) (map R.remaining stms.old)) }
@@ -150,7 +151,7 @@ pub(crate) fn read_tied_in_parts<T: Threads + Sync, R: io::Read>(
 ) -> Result<Tied, EngineFault>
     ensures read { IfOk result (λ tied. HaveRead (apt_with settings.now) (R.remaining apt.old) (R.remaining journal.old)
         (map R.remaining stms.old) tied.both.instruction.value tied.both.journal (stems_in_lists tied.files.items)) }
-    ensures few { IfOk result (λ tied. length tied.both.journal.entries ≤ 1000000) }
+    ensures few { IfOk result (λ tied. length tied.both.journal.entries ≤ MOST_POSTINGS) }
     ensures files { IfOk result (λ tied. length tied.files.items ≤ 64) }
     ensures refused { IfErr result
         (IsTiedInputFault (R.remaining apt.old) (R.remaining journal.old) (map R.remaining stms.old)) }
@@ -173,7 +174,7 @@ pub(crate) fn text_of_ties(
     tied: &Tied,
     replayed: Result<(), ReplayFault>,
 ) -> Result<Vec<u8>, EngineFault>
-    requires few { length tied.now.both.journal.entries ≤ 1000000 }
+    requires few { length tied.now.both.journal.entries ≤ MOST_POSTINGS }
     requires files { length tied.now.files.items ≤ 64 }
     requires lawful { OnOk replayed (IsLawful (history_of tied.now.both.instruction.value tied.now.both.journal)) }
     requires refused { IfErr replayed (λ why. why ≢ ReplayFault.Memory

@@ -9,6 +9,7 @@ use Rattle.buck_figures.specs.inner.Tally.{IsTally, AreAtMost}
 use Rattle.buck_figures.specs.inner.Assorted.{AreFew}
 use Rattle.buck_figures.specs.inner.Greatest.{IsGreatest}
 use Rattle.buck_figures.specs.declared.account.Account.{Account}
+use Rattle.buck_book.specs.declared.posting.TheConstants.{MOST_POSTINGS}
 
 -- what some postings, and the same unsteered, come to
 pub record IsAccount (i : InstructionParts) (ps us : List Posting) (a : Account) : Type 0 where
@@ -31,5 +32,5 @@ pub record GoesOn (i : InstructionParts) (at : ℕ) (a : Account) : Type 0 where
   pub postings : List Posting
   pub unsteered : List Posting
   pub at_is : length postings ≡ at
-  pub few : at < 1000000
+  pub few : at < MOST_POSTINGS
   pub account : IsAccount i postings unsteered a

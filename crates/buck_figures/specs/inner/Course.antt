@@ -7,6 +7,7 @@ use Rattle.buck_book.specs.Walk.{walk_of, IsCountable}
 use Rattle.buck_figures.specs.inner.Adding.{IsCuttable}
 use Rattle.buck_figures.specs.inner.Account.{IsAccount}
 use Rattle.buck_figures.specs.declared.course.Course.{Course}
+use Rattle.buck_book.specs.declared.posting.TheConstants.{MOST_POSTINGS}
 
 -- each posting can be passed
 abbrev pub ArePassable : InstructionParts → List Posting → Type 0
@@ -16,7 +17,7 @@ ArePassable i ps = (k : ℕ) (x : Posting) → slice_get ps k ≡ Some x → IsC
 pub record IsCourse (i : InstructionParts) (ps : List Posting) (at : ℕ) (us : List Posting) (c : Course) : Type 0 where
   pub walk : c.walk ≡ walk_of i ps at
   pub within : at ≤ length ps
-  pub few : length ps ≤ 1000000
+  pub few : length ps ≤ MOST_POSTINGS
   pub account : IsAccount i (take at ps) us c.account
   pub targets : c.targets.value.items ≡ targets_of i (take at ps)
   pub wanted : length c.targets.value.items ≡ classes i

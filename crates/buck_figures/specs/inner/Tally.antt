@@ -8,6 +8,7 @@ use Rattle.buck_figures.specs.Sums.{AreSums}
 use Rattle.buck_figures.specs.Owns.{AreOwns}
 use Rattle.buck_figures.specs.declared.sums.Sums.{Sums}
 use Rattle.buck_figures.specs.declared.tally.Tally.{Tally}
+use Rattle.buck_book.specs.declared.posting.TheConstants.{MOST_POSTINGS}
 
 -- the sums over some postings, and over the same unsteered: of all, and of each harvester's
 pub record IsTally (i : InstructionParts) (ps us : List Posting) (t : Tally) : Type 0 where
@@ -29,5 +30,5 @@ AreAtMost most counts = (p : ℕ) → slice_index counts p ≤ most
 
 -- there is room for one more
 pub record IsBelow (s : Sums) : Type 0 where
-  pub stems : s.stems < 1000000
-  pub demands : s.demands < 1000000
+  pub stems : s.stems < MOST_POSTINGS
+  pub demands : s.demands < MOST_POSTINGS

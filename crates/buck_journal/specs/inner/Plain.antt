@@ -10,6 +10,7 @@ use Rattle.buck_book.specs.declared.posting.Posting.{Posting}
 use Rattle.buck_journal.specs.declared.reading.call.Call.{Call}
 use Rattle.buck_journal.specs.declared.reading.fault.JournalFault.{JournalFault}
 use Rattle.buck_journal.specs.reading.Journal.{is_first, call_at, head_at, samples_at, zones_at, sheets_from, postings_from, journal_of}
+use Rattle.buck_book.specs.declared.posting.TheConstants.{MOST_POSTINGS}
 
 -- the text begins with an item of the slot that says these numbers, and `left` has the other items
 abbrev pub LeadsNumbers : Slot → List ℕ → List ℕ → List ℕ → Type 0
@@ -29,7 +30,7 @@ LeadsTo s read text x left = (t : List ℕ) × IsReadAs read (item_in s t) x × 
 abbrev pub LeadsCall : Slot → List ℕ → Call → List ℕ → Type 0
 LeadsCall s text c left =
     (t : List ℕ)
-    × ((before : ℕ) → before < 1000000 → IsReadAs (λ items k. call_at s items k before) (item_in s t) c)
+    × ((before : ℕ) → before < MOST_POSTINGS → IsReadAs (λ items k. call_at s items k before) (item_in s t) c)
     × Leads text (item_in s t) left
 
 -- the text begins with the three items of the stem, and `left` has the others
@@ -63,7 +64,7 @@ pub record AreParts (items : List ItemParts) (sheets : List (List ℕ)) (ps : Li
 abbrev pub AreReadAs : List ItemParts → List Posting → Type 0
 AreReadAs items ps =
     (before : ℕ) (more : List ItemParts) (others : List Posting)
-    → before + length ps ≤ 1000000 → ArePostings (before + length ps) more others
+    → before + length ps ≤ MOST_POSTINGS → ArePostings (before + length ps) more others
     → ArePostings before (items ++ more) (ps ++ others)
 
 -- the text begins with the items of the posting, and `left` has the others
@@ -92,5 +93,5 @@ LeadsSheets text sheets rest =
 -- whatever postings the rest has, if they aren't too many, the file has these sheets and them
 abbrev pub BeginsJournal : List ℕ → List (List ℕ) → List ℕ → Type 0
 BeginsJournal bytes sheets rest =
-    (ps : List Posting) → length ps ≤ 1000000 → HasPostings rest ps
+    (ps : List Posting) → length ps ≤ MOST_POSTINGS → HasPostings rest ps
     → journal_of bytes ≡ Ok (record { sheets = sheets; entries = ps })

@@ -42,6 +42,8 @@ use Rattle.buck_book.specs.Entry.{EntryParts, DemandParts}
 use Rattle.buck_journal.specs.declared.reading.call.Call.{Call}
 use Rattle.buck_journal.specs.declared.reading.fault.JournalFault.{JournalFault}
 use Rattle.buck_journal.specs.declared.reading.fault.JournalFault.TheVariants.{Head, NotJournal, Shape, Digits, Count, Range}
+use Rattle.buck_book.specs.declared.posting.TheConstants.{MOST_POSTINGS}
+use Rattle.buck_value.specs.declared.sheet.TheConstants.{HIGHEST_PRICE}
 
 pub record JournalParts : Type 0 where
   pub sheets : List (List ℕ)  -- the prices of each, by version
@@ -66,7 +68,7 @@ unfoldable pub sheet_at : List ItemParts → ℕ → Result (List ℕ) JournalFa
 sheet_at items k = do
   prices ← numbers_at (slot 971 1) items k
   _ ← check (nat_le (length prices) 16384) (Count (k + 1))
-  _ ← check (all_within 0 20000000 prices) (Range (k + 1))
+  _ ← check (all_within 0 HIGHEST_PRICE prices) (Range (k + 1))
   Ok prices
 
 abbrev pub call_of : List ℕ → Call
@@ -77,14 +79,14 @@ call_of numbers = record {
 }
 
 abbrev pub is_call : Call → Bool
-is_call c = within 1 64 c.harvester && (within 1 1000000 c.number && nat_le c.version 1000000)
+is_call c = within 1 64 c.harvester && (within 1 MOST_POSTINGS c.number && nat_le c.version MOST_POSTINGS)
 
 -- the item that begins a posting, which so many come before
 unfoldable pub call_at : Slot → List ItemParts → ℕ → ℕ → Result Call JournalFault
 call_at s items k before = do
   numbers ← numbers_at s items k
   _ ← check (length numbers == 3) (Count (k + 1))
-  _ ← check (nat_lt before 1000000) (Count (k + 1))
+  _ ← check (nat_lt before MOST_POSTINGS) (Count (k + 1))
   _ ← check (is_call (call_of numbers)) (Range (k + 1))
   Ok (call_of numbers)
 

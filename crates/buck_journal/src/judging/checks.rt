@@ -6,6 +6,7 @@ ghost use Rattle.buck_book.specs.Posting.{harvester_of, number_of, planned_versi
 ghost use Rattle.buck_book.specs.Walk.{passed};
 ghost use Rattle.buck_journal.specs.judging.Replay.{IsSheetFault, IsSheetRight, IsCutFault, IsDemandFault, IsContentFault, IsNumbered, IsOfVersion, IsCallFault, IsPostingFault, IsNumberFault, IsFaultAtEnd};
 ghost use Rattle.buck_journal.specs.inner.Replay.{along, sheet_then, HoldsUnder, IsRightUnder, IsEndRight, AreMade, IfMet};
+ghost use Rattle.buck_book.specs.declared.posting.TheConstants.{MOST_POSTINGS};
 
 use crate::judging::fault::ReplayFault;
 use crate::judging::sheets::{prices_of, shared_sheet};
@@ -158,7 +159,7 @@ pub(crate) fn check_posting(
 
 /// Checks the number of sheets, of which the last has this version.
 fn check_number(sheets: &[Vec<u32>], last: u32) -> Result<(), ReplayFault>
-    requires { last ≤ 1000000 }
+    requires { last ≤ MOST_POSTINGS }
     ensures right { OnOk result (length sheets.now ≡ last + 1) }
     ensures refused { IfErr result (λ e. IsNumberFault (map (λ v. v.items) sheets.now) last e) }
 {

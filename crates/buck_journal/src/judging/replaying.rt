@@ -6,6 +6,7 @@ ghost use Rattle.buck_book.specs.Walk.{walk_of, passed};
 ghost use Rattle.buck_journal.specs.judging.Replay.{history_of, Begins, IsPostingFault, IsFaultAtEnd, IsFirstFault};
 ghost use Rattle.buck_journal.specs.declared.judging.fault.ReplayFault.TheVariants.{Memory};
 ghost use Rattle.buck_journal.specs.inner.Replay.{along, AreMade, IsRightUnder, AreRightUnder, IsMetUnder, IsInOrderBefore, IsMetInOrder, IfMet, IsEnded, IsOrdered, IsFound, IsJudged};
+ghost use Rattle.buck_book.specs.declared.posting.TheConstants.{MOST_POSTINGS};
 
 use crate::judging::checks::{check_end, check_posting, opened_sheet};
 use crate::judging::fault::ReplayFault;
@@ -121,7 +122,7 @@ fn replay_all<'w>(
     made: &[Arc<Sheet>],
     postings: &'w [Posting],
 ) -> Result<Walk<'w>, Stop>
-    requires few { length postings.now ≤ 1000000 }
+    requires few { length postings.now ≤ MOST_POSTINGS }
     requires made { AreMade instruction.now.value (map (λ v. v.items) sheets.now) (map (λ a. a.value) made.now) }
     ensures right { OnOk result (IsInOrderBefore
         (along (walk_of instruction.now.value postings.now 0) sheets.now) (length postings.now)) }
@@ -162,7 +163,7 @@ fn walk_in_order<'w>(
     journal: &'w Journal,
     made: &[Arc<Sheet>],
 ) -> Result<Ordered<'w>, buck_record::Memory>
-    requires few { length journal.now.entries ≤ 1000000 }
+    requires few { length journal.now.entries ≤ MOST_POSTINGS }
     requires made { AreMade instruction.now.value journal.now.sheets (map (λ a. a.value) made.now) }
     ensures { IfOk result (λ o. IsOrdered (history_of instruction.now.value journal.now) o.until o.end) }
 {
@@ -203,7 +204,7 @@ pub fn replay_to_end<'w>(
     instruction: &'w Arc<Instruction>,
     journal: &'w Journal,
 ) -> Result<Walk<'w>, ReplayFault>
-    requires { length journal.now.entries ≤ 1000000 }
+    requires { length journal.now.entries ≤ MOST_POSTINGS }
     ensures end { IfOk result (λ w. w
         ≡ walk_of instruction.now.value journal.now.entries (length journal.now.entries)) }
     ensures lawful { OnOk result (IsLawful (history_of instruction.now.value journal.now)) }
@@ -228,7 +229,7 @@ pub fn replay(
     instruction: &Arc<Instruction>,
     journal: &Journal,
 ) -> Result<(), ReplayFault>
-    requires { length journal.now.entries ≤ 1000000 }
+    requires { length journal.now.entries ≤ MOST_POSTINGS }
     ensures lawful { OnOk result (IsLawful (history_of instruction.now.value journal.now)) }
     ensures refused { IfErr result (λ e.
         e ≢ Memory → IsFirstFault (history_of instruction.now.value journal.now) e) }
@@ -248,7 +249,7 @@ pub fn replay_in_parts<T: Threads + Sync>(
     journal: &Journal,
 ) -> Result<(), ReplayFault>
     requires threads { 0 < threads }
-    requires few { length journal.now.entries ≤ 1000000 }
+    requires few { length journal.now.entries ≤ MOST_POSTINGS }
     ensures lawful { OnOk result (IsLawful (history_of instruction.now.value journal.now)) }
     ensures refused { IfErr result (λ e.
         e ≢ Memory → IsFirstFault (history_of instruction.now.value journal.now) e) }

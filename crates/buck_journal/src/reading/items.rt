@@ -11,11 +11,12 @@ use crate::reading::call::Call;
 use crate::reading::fault::JournalFault;
 use crate::reading::slots::{DEMAND_TARGETS, HEAD, SHEET, WORTH};
 use buck_apt::slots::TARGETS;
+use buck_book::MOST_POSTINGS;
 use buck_record::check::check;
 use buck_record::rules::all_within;
 use buck_record::{Listed, Piece, RecordFault, Slot, numbers, wide};
 use buck_stem::slots::SPECIES;
-use buck_value::Log;
+use buck_value::{HIGHEST_PRICE, Log};
 use std::alloc::{AllocError, Global};
 
 /// Whether an item stands in a slot.
@@ -82,7 +83,7 @@ pub(crate) fn sheet_at<'a>(
     let prices = numbers_at(alloc, SHEET, items, k)?;
     check(prices.len() <= 16_384, JournalFault::Count { item: k + 1 })?;
     check(
-        all_within(0, 20_000_000, prices.as_slice()),
+        all_within(0, HIGHEST_PRICE, prices.as_slice()),
         JournalFault::Range { item: k + 1 },
     )?;
     Ok(prices)
@@ -126,8 +127,8 @@ pub(crate) fn is_call(call: Call) -> bool
     1 <= call.harvester
         && call.harvester <= 64
         && 1 <= call.number
-        && call.number <= 1_000_000
-        && call.version <= 1_000_000
+        && call.number <= MOST_POSTINGS
+        && call.version <= MOST_POSTINGS
 }
 
 /// What the first item of a posting says, which so many come before.
@@ -141,13 +142,13 @@ pub(crate) fn call_at<'a>(
 ) -> Result<Call, JournalFault>
     requires { k ≤ length items.now + 5 }
     ensures value { Gives Memory result (call_at slot items.now k before) }
-    ensures few { OnOk result (before < 1000000) }
+    ensures few { OnOk result (before < MOST_POSTINGS) }
 {
     let numbers = numbers_at(alloc, slot, items, k)?;
     if numbers.len() != 3 {
         return Err(JournalFault::Count { item: k + 1 });
     }
-    if before >= 1_000_000 {
+    if before >= MOST_POSTINGS as usize {
         return Err(JournalFault::Count { item: k + 1 });
     }
     let call = call_of(numbers.as_slice());

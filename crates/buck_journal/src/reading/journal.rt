@@ -3,6 +3,7 @@ ghost use Rattle.std.specs.Prelude.{◌≡◌, ◌≤◌, IfOk, length};
 ghost use Rattle.buck_record.specs.Reading.{Gives};
 ghost use Rattle.buck_journal.specs.declared.reading.fault.JournalFault.TheVariants.{Memory};
 ghost use Rattle.buck_journal.specs.reading.Journal.{says_journal, journal_in, journal_of};
+ghost use Rattle.buck_book.specs.declared.posting.TheConstants.{MOST_POSTINGS};
 
 use crate::reading::fault::{self, JournalFault};
 use crate::reading::items::is_at;
@@ -48,7 +49,7 @@ fn says_journal(items: &[Piece<'_>]) -> bool
 #[tactic(auto, unfolding(crate::specs::reading::Journal::journal_in))]
 fn journal_in<'a>(alloc: Global, items: &'a [Piece<'a>]) -> Result<Journal, JournalFault>
     ensures value { Gives Memory result (journal_in items.now) }
-    ensures few { IfOk result (λ journal. length journal.entries ≤ 1000000) }
+    ensures few { IfOk result (λ journal. length journal.entries ≤ MOST_POSTINGS) }
 {
     check(says_journal(items), JournalFault::NotJournal)?;
     let sheets = sheets_in(alloc, items)?;
@@ -59,7 +60,7 @@ fn journal_in<'a>(alloc: Global, items: &'a [Piece<'a>]) -> Result<Journal, Jour
 /// The journal of a file's bytes, or the first refusal that applies, by the list of the file's items.
 pub(crate) fn read_by_items(alloc: Global, bytes: &[u8]) -> Result<Journal, JournalFault>
     ensures value { Gives Memory result (journal_of bytes.now) }
-    ensures few { IfOk result (λ journal. length journal.entries ≤ 1000000) }
+    ensures few { IfOk result (λ journal. length journal.entries ≤ MOST_POSTINGS) }
 {
     let items = items_in(alloc, bytes, fault::head)?;
     journal_in(alloc, items.as_slice())
@@ -72,7 +73,7 @@ pub(crate) fn read_by_items(alloc: Global, bytes: &[u8]) -> Result<Journal, Jour
 /// one sequence, and none is skipped.
 pub fn read_journal(alloc: Global, bytes: &[u8]) -> Result<Journal, JournalFault>
     ensures value { Gives Memory result (journal_of bytes.now) }
-    ensures few { IfOk result (λ journal. length journal.entries ≤ 1000000) }
+    ensures few { IfOk result (λ journal. length journal.entries ≤ MOST_POSTINGS) }
 {
     match read_plain(alloc, bytes)? {
         Some(journal) => Ok(journal),

@@ -10,7 +10,7 @@ use crate::reading::fault::JournalFault;
 use crate::reading::journal::{Journal, read_by_items};
 use crate::reading::plain::{opened, postings_of};
 use crate::reading::slots::CUT;
-use buck_book::Posting;
+use buck_book::{MOST_POSTINGS, Posting};
 use buck_record::two_parts;
 use std::alloc::{AllocError, Global};
 use std::thread;
@@ -69,7 +69,7 @@ fn read_plain_in_parts<T: Threads + Sync>(
     threads: usize,
 ) -> Result<Option<Journal>, AllocError>
     ensures value { IfOk result (λ o. IfSome o (λ journal. journal_of bytes.now ≡ Ok journal)) }
-    ensures few { IfOk result (λ o. IfSome o (λ journal. length journal.entries ≤ 1000000)) }
+    ensures few { IfOk result (λ o. IfSome o (λ journal. length journal.entries ≤ MOST_POSTINGS)) }
 {
     let Some((sheets, rest)) = opened(alloc, bytes)? else {
         return Ok(None);
@@ -77,7 +77,7 @@ fn read_plain_in_parts<T: Threads + Sync>(
     let Some(entries) = postings_in_parts(rt, alloc, rest, threads)? else {
         return Ok(None);
     };
-    if entries.len() > 1_000_000 {
+    if entries.len() > MOST_POSTINGS as usize {
         return Ok(None);
     }
     Ok(Some(Journal { sheets, entries }))
@@ -93,7 +93,7 @@ pub fn read_journal_in_parts<T: Threads + Sync>(
     threads: usize,
 ) -> Result<Journal, JournalFault>
     ensures value { Gives Memory result (journal_of bytes.now) }
-    ensures few { IfOk result (λ journal. length journal.entries ≤ 1000000) }
+    ensures few { IfOk result (λ journal. length journal.entries ≤ MOST_POSTINGS) }
 {
     match read_plain_in_parts(rt, alloc, bytes, threads)? {
         Some(journal) => Ok(journal),

@@ -15,12 +15,12 @@ use crate::reading::slots::{
     CUT, CUT_SAMPLES, CUT_ZONES, DEMAND, DEMAND_TARGETS, HEAD, LOGS, SHEET, WORTH,
 };
 use buck_apt::slots::TARGETS;
-use buck_book::Posting;
+use buck_book::{MOST_POSTINGS, Posting};
 use buck_record::rules::{FILE, all_within, one_to};
 use buck_record::{Slot, append_numbers, is_done, next_quick, numbers_into, wide};
 use buck_stem::Stem;
 use buck_stem::slots::{MOST_SAMPLES, MOST_ZONES, SAMPLES, SPECIES};
-use buck_value::Log;
+use buck_value::{HIGHEST_PRICE, Log};
 use std::alloc::{AllocError, Global};
 
 /// Reads the numbers of the item that a text begins with, where that stands in this slot, into `room`; and what is left
@@ -310,7 +310,7 @@ fn next_sheet<'a>(
     if room.len() > 16_384 {
         return Ok(None);
     }
-    if !all_within(0, 20_000_000, room.as_slice()) {
+    if !all_within(0, HIGHEST_PRICE, room.as_slice()) {
         return Ok(None);
     }
     let prices = Vec::from_slice(alloc, room.as_slice())?;
@@ -359,7 +359,7 @@ pub(crate) fn opened<'a>(
 /// The journal of a file's bytes, where all of it is right; `None` says nothing of them.
 pub(crate) fn read_plain(alloc: Global, bytes: &[u8]) -> Result<Option<Journal>, AllocError>
     ensures value { IfOk result (λ o. IfSome o (λ journal. journal_of bytes.now ≡ Ok journal)) }
-    ensures few { IfOk result (λ o. IfSome o (λ journal. length journal.entries ≤ 1000000)) }
+    ensures few { IfOk result (λ o. IfSome o (λ journal. length journal.entries ≤ MOST_POSTINGS)) }
 {
     let Some((sheets, rest)) = opened(alloc, bytes)? else {
         return Ok(None);
@@ -367,7 +367,7 @@ pub(crate) fn read_plain(alloc: Global, bytes: &[u8]) -> Result<Option<Journal>,
     let Some(entries) = postings_of(alloc, rest)? else {
         return Ok(None);
     };
-    if entries.len() > 1_000_000 {
+    if entries.len() > MOST_POSTINGS as usize {
         return Ok(None);
     }
     Ok(Some(Journal { sheets, entries }))

@@ -4,6 +4,7 @@ ghost use Rattle.buck_record.specs.Reading.{Gives, listed};
 ghost use Rattle.buck_journal.specs.declared.reading.fault.JournalFault.TheVariants.{Memory};
 ghost use Rattle.buck_journal.specs.inner.Lists.{lists_in};
 ghost use Rattle.buck_journal.specs.reading.Journal.{is_first, posting_follows, entry_of, cut_at, demand_of, demand_at, posting_at, sheets_from, postings_from};
+ghost use Rattle.buck_book.specs.declared.posting.TheConstants.{MOST_POSTINGS};
 
 use crate::reading::call::Call;
 use crate::reading::fault::JournalFault;
@@ -70,7 +71,7 @@ fn cut_at<'a>(
 ) -> Result<Posting, JournalFault>
     requires { k < length items.now }
     ensures value { Gives Memory result (cut_at items.now k before) }
-    ensures few { OnOk result (before < 1000000) }
+    ensures few { OnOk result (before < MOST_POSTINGS) }
 {
     let call = call_at(alloc, CUT, items, k, before)?;
     let stem = stem_at(alloc, items, k + 1)?;
@@ -103,7 +104,7 @@ fn demand_at<'a>(
 ) -> Result<Posting, JournalFault>
     requires { k < length items.now }
     ensures value { Gives Memory result (demand_at items.now k before) }
-    ensures few { OnOk result (before < 1000000) }
+    ensures few { OnOk result (before < MOST_POSTINGS) }
 {
     let call = call_at(alloc, DEMAND, items, k, before)?;
     let targets = targets_at(alloc, items, k + 1)?;
@@ -122,7 +123,7 @@ fn posting_at<'a>(
 ) -> Result<Posting, JournalFault>
     requires { k < length items.now }
     ensures value { Gives Memory result (posting_at first.now items.now k before) }
-    ensures few { OnOk result (before < 1000000) }
+    ensures few { OnOk result (before < MOST_POSTINGS) }
 {
     if is_at(first, CUT) {
         cut_at(alloc, items, k, before)
@@ -155,7 +156,7 @@ pub(crate) fn postings_in<'a>(
     items: &'a [Piece<'a>],
 ) -> Result<Vec<Posting>, JournalFault>
     ensures value { Gives Memory (listed result) (postings_from items.now 0 0 items.now) }
-    ensures few { IfOk result (λ postings. length postings.items ≤ 1000000) }
+    ensures few { IfOk result (λ postings. length postings.items ≤ MOST_POSTINGS) }
 {
     let mut postings = Vec::new(alloc);
     for k in 0..items.len() {

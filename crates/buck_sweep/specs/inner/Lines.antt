@@ -19,6 +19,7 @@ use Rattle.buck_engine.specs.fleet.Running.{IsCuttingFault}
 use Rattle.buck_engine.specs.tie.Ties.{FollowsRule}
 use Rattle.buck_sweep.specs.Table.{IsLeast, IsLine, cells, head_line, rate_of}
 use Rattle.buck_sweep.specs.Sweep.{AreLines}
+use Rattle.buck_book.specs.declared.posting.TheConstants.{MOST_POSTINGS}
 
 -- the degree of each assortment, given what is wanted and what was cut of each class
 pub record AreDegreesBy (i : InstructionParts) (targets counts : List ℕ) (degrees : List (Option ℕ)) : Type 0 where
@@ -51,7 +52,7 @@ pub record IsLineBy (rule : NamedRule) (f : Figures) (line : List ℕ) : Type 0 
 -- a lawful history of at most 1,000,000 postings, in which lists were cut in turn by a rule
 pub record HasCut (rule : NamedRule) (lists : List (Vec (Arc Stem Global) Global)) (h : HistoryParts) : Type 0 where
   pub lawful : IsLawful h
-  pub few : length h.postings ≤ 1000000
+  pub few : length h.postings ≤ MOST_POSTINGS
   pub cut : HasCutInTurn lists h
   pub by_rule : FollowsRule rule h
 
@@ -65,7 +66,7 @@ pub record IsRunLine (i : InstructionParts) (lists : List (Vec (Arc Stem Global)
 
 -- why lists aren't cut: memory ran out, or they have too many stems
 abbrev pub IsStop : List (Vec (Arc Stem Global) Global) → EngineFault → Type 0
-IsStop lists fault = IsCuttingFault fault × (fault ≡ Full → 1000000 < stems_in_all lists)
+IsStop lists fault = IsCuttingFault fault × (fault ≡ Full → MOST_POSTINGS < stems_in_all lists)
 
 -- the lines of some combinations, or why there are none
 abbrev pub IsPart : InstructionParts → List (Vec (Arc Stem Global) Global) → List Combination
