@@ -24,7 +24,7 @@ pub(crate) fn all_above(lows: &[u32], highs: &[u32]) -> bool
 fn is_name_byte(b: u8) -> bool
     ensures { result ≡ is_name_byte b }
 {
-    32 <= b && b != 124 && b != 126 && b != 127
+    b' ' <= b && b != b'|' && b != b'~' && b != b'\x7f'
 }
 
 fn are_name_bytes(bytes: &[u8]) -> bool

@@ -24,7 +24,7 @@ impl fmt::Display for Calm {
         let c = self.0;
         let code = u32::from(c);
         match u8::try_from(code) {
-            Ok(byte) if byte < 32 || byte == 127 => write!(f, "{}", Coded(byte)),
+            Ok(byte) if byte < b' ' || byte == b'\x7f' => write!(f, "{}", Coded(byte)),
             Ok(byte) if 128 <= byte && byte < 160 => write!(f, "\\xc2{}", Coded(byte)),
             _ => write!(f, "{c}"),
         }

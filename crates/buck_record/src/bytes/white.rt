@@ -6,7 +6,7 @@ ghost use Rattle.buck_record.specs.bytes.White.{is_white, trim_start, trim_end, 
 pub(crate) fn is_white(byte: u8) -> bool
     ensures { result ≡ is_white byte }
 {
-    byte == 32 || byte == 9 || byte == 10 || byte == 13
+    byte == b' ' || byte == b'\t' || byte == b'\n' || byte == b'\r'
 }
 
 fn first_white(bytes: &[u8]) -> Option<usize>

@@ -13,7 +13,7 @@ fn digit_more(text: &[u8], at: usize, value: u16) -> Option<u16>
     ensures run { IfSome result (λ v. Run text.now (at + 1) v) }
     ensures small { IfSome result (λ v. v ≤ 10 * value + 9) }
 {
-    let digit = text[at].wrapping_sub(48);
+    let digit = text[at].wrapping_sub(b'0');
     if digit > 9 {
         return None;
     }
