@@ -6,12 +6,12 @@ ghost use Rattle.buck_calls.specs.States.{AnswersDegree, AnswersState, HasCounts
 ghost use Rattle.buck_calls.specs.Journals.{HasJournal};
 
 use buck_calls::{Cut, State, Terms};
-use buck_held::{Felled, Slot, Zone};
+use buck_held::{Block, Felled, Zone};
 use std::alloc::Global;
 
 /// [`buckfleet_open`](buck_calls::buckfleet_open), for C.
 #[unsafe(no_mangle)]
-pub extern "C" fn buckfleet_open(alloc: Global, book: &mut Slot, apt: &[u8], terms: &Terms) -> u8
+pub extern "C" fn buckfleet_open(alloc: Global, book: &mut Block, apt: &[u8], terms: &Terms) -> u8
     ensures { AnswersOpen apt.now terms.now book.old.handle.held book.new.handle.held result }
 {
     buck_calls::buckfleet_open(alloc, book, apt, terms)
@@ -19,7 +19,7 @@ pub extern "C" fn buckfleet_open(alloc: Global, book: &mut Slot, apt: &[u8], ter
 
 /// [`buckfleet_close`](buck_calls::buckfleet_close), for C.
 #[unsafe(no_mangle)]
-pub extern "C" fn buckfleet_close(alloc: Global, book: &mut Slot) -> u8
+pub extern "C" fn buckfleet_close(alloc: Global, book: &mut Block) -> u8
     ensures left { book.new.handle.held ≡ None }
     ensures status { result ≡ (if is_some book.old.handle.held then 0 else closed) }
 {
@@ -30,7 +30,7 @@ pub extern "C" fn buckfleet_close(alloc: Global, book: &mut Slot) -> u8
 #[unsafe(no_mangle)]
 pub extern "C" fn buckfleet_cut(
     alloc: Global,
-    book: &mut Slot,
+    book: &mut Block,
     felled: &Felled,
     samples: &[u16],
     zones: &[Zone],
@@ -46,7 +46,7 @@ pub extern "C" fn buckfleet_cut(
 #[unsafe(no_mangle)]
 pub extern "C" fn buckfleet_retarget(
     alloc: Global,
-    book: &mut Slot,
+    book: &mut Block,
     harvester: u32,
     targets: &[u32],
 ) -> u8
@@ -58,7 +58,7 @@ pub extern "C" fn buckfleet_retarget(
 
 /// [`buckfleet_state`](buck_calls::buckfleet_state), for C.
 #[unsafe(no_mangle)]
-pub extern "C" fn buckfleet_state(alloc: Global, book: &mut Slot, state: &mut State) -> u8
+pub extern "C" fn buckfleet_state(alloc: Global, book: &mut Block, state: &mut State) -> u8
     ensures same { book.new.handle.held ≡ book.old.handle.held }
     ensures state { AnswersState book.old.handle.held state.old state.new result }
 {
@@ -69,7 +69,7 @@ pub extern "C" fn buckfleet_state(alloc: Global, book: &mut Slot, state: &mut St
 #[unsafe(no_mangle)]
 pub extern "C" fn buckfleet_prices(
     alloc: Global,
-    book: &mut Slot,
+    book: &mut Block,
     out: &mut [u32],
     written: &mut usize,
 ) -> u8
@@ -83,7 +83,7 @@ pub extern "C" fn buckfleet_prices(
 #[unsafe(no_mangle)]
 pub extern "C" fn buckfleet_targets(
     alloc: Global,
-    book: &mut Slot,
+    book: &mut Block,
     out: &mut [u32],
     written: &mut usize,
 ) -> u8
@@ -97,7 +97,7 @@ pub extern "C" fn buckfleet_targets(
 #[unsafe(no_mangle)]
 pub extern "C" fn buckfleet_counts(
     alloc: Global,
-    book: &mut Slot,
+    book: &mut Block,
     out: &mut [u32],
     written: &mut usize,
 ) -> u8
@@ -111,7 +111,7 @@ pub extern "C" fn buckfleet_counts(
 #[unsafe(no_mangle)]
 pub extern "C" fn buckfleet_degree(
     alloc: Global,
-    book: &mut Slot,
+    book: &mut Block,
     assortment: u8,
     degree: &mut u32,
 ) -> u8
@@ -125,7 +125,7 @@ pub extern "C" fn buckfleet_degree(
 #[unsafe(no_mangle)]
 pub extern "C" fn buckfleet_journal(
     alloc: Global,
-    book: &mut Slot,
+    book: &mut Block,
     out: &mut [u8],
     written: &mut usize,
 ) -> u8

@@ -5,7 +5,7 @@ ghost use Rattle.buck_calls.specs.Books.{AnswersOpen, AnswersCut, AnswersRetarge
 use crate::showing::{Cut, show};
 use buck_apt::{AptFault, read_apt};
 use buck_book::{DemandRefusal, MOST_POSTINGS};
-use buck_held::{FellFault, Felled, Kept, Slot, StoredRule, Zone};
+use buck_held::{Block, FellFault, Felled, KeptBook, StoredRule, Zone};
 use std::alloc::Global;
 use std::sync::Arc;
 
@@ -57,7 +57,7 @@ fn is_capacity(capacity: u32) -> bool
 }
 
 /// A book of an instruction file, with no posting; else the status of why there is none.
-fn opened(alloc: Global, apt: &[u8], rule: StoredRule, capacity: u32) -> Result<Box<Kept>, u8>
+fn opened(alloc: Global, apt: &[u8], rule: StoredRule, capacity: u32) -> Result<Box<KeptBook>, u8>
     requires { (0 < capacity) × (capacity ≤ MOST_POSTINGS) }
     ensures ok { IfOk result (λ kept. HasOpened apt.now rule capacity kept.value) }
     ensures refused { IfErr result (IsOpenFault apt.now) }
@@ -70,7 +70,7 @@ fn opened(alloc: Global, apt: &[u8], rule: StoredRule, capacity: u32) -> Result<
     let Ok(instruction) = Arc::new(alloc, instruction) else {
         return Err(MEMORY);
     };
-    let Ok(kept) = Kept::open(alloc, instruction, rule, capacity) else {
+    let Ok(kept) = KeptBook::open(alloc, instruction, rule, capacity) else {
         return Err(MEMORY);
     };
     match Box::new(alloc, kept) {
@@ -82,7 +82,7 @@ fn opened(alloc: Global, apt: &[u8], rule: StoredRule, capacity: u32) -> Result<
 /// Opens a book in a block that holds none: with the instruction that an instruction file has, the base prices in force
 /// and no posting. The answer is 0, 1 where the file is refused, 3 where memory ran out, or 8 where the block holds a
 /// book or the terms aren't allowed.
-pub fn buckfleet_open(alloc: Global, book: &mut Slot, apt: &[u8], terms: &Terms) -> u8
+pub fn buckfleet_open(alloc: Global, book: &mut Block, apt: &[u8], terms: &Terms) -> u8
     ensures { AnswersOpen apt.now terms.now book.old.handle.held book.new.handle.held result }
 {
     if book.is_open() {
@@ -104,7 +104,7 @@ pub fn buckfleet_open(alloc: Global, book: &mut Slot, apt: &[u8], terms: &Terms)
 }
 
 /// Closes a book: all that it holds goes back. The answer is 0, or 7 where the block holds none.
-pub fn buckfleet_close(alloc: Global, book: &mut Slot) -> u8
+pub fn buckfleet_close(alloc: Global, book: &mut Block) -> u8
     ensures left { book.new.handle.held ≡ None }
     ensures status { result ≡ (if is_some book.old.handle.held then 0 else closed) }
 {
@@ -141,7 +141,7 @@ fn status_of_demand(fault: DemandRefusal) -> u8
 #[tactic(auto, using(crate::proofs::Cuttings::cut_under))]
 fn fell(
     alloc: Global,
-    kept: &mut Kept,
+    kept: &mut KeptBook,
     felled: &Felled,
     samples: &[u16],
     zones: &[Zone],
@@ -168,7 +168,7 @@ fn fell(
 /// where the book is at its capacity; but for 0 nothing is changed.
 pub fn buckfleet_cut(
     alloc: Global,
-    book: &mut Slot,
+    book: &mut Block,
     felled: &Felled,
     samples: &[u16],
     zones: &[Zone],
@@ -186,7 +186,7 @@ pub fn buckfleet_cut(
 }
 
 /// Puts targets in force in a book.
-fn retarget(alloc: Global, kept: &mut Kept, harvester: u32, targets: &[u32]) -> u8
+fn retarget(alloc: Global, kept: &mut KeptBook, harvester: u32, targets: &[u32]) -> u8
     ensures { AnswersRetarget harvester targets.now kept.old kept.new result }
 {
     if harvester == 0 {
@@ -210,7 +210,7 @@ fn retarget(alloc: Global, kept: &mut Kept, harvester: u32, targets: &[u32]) -> 
 /// Puts targets in force for a harvester, one for each class, assortment by assortment and row by row; a period ends
 /// with it. The answer is 0, 1 where the targets aren't valid, 3 where memory ran out, 7 where the block holds no book,
 /// 8 where the harvester isn't from 1 to 64, or 9 where the book is at its capacity; but for 0 nothing is changed.
-pub fn buckfleet_retarget(alloc: Global, book: &mut Slot, harvester: u32, targets: &[u32]) -> u8
+pub fn buckfleet_retarget(alloc: Global, book: &mut Block, harvester: u32, targets: &[u32]) -> u8
     ensures { IsCallOf (AnswersRetarget harvester targets.now) (Unit {0})
         book.old.handle.held book.new.handle.held result }
 {

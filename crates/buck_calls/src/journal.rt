@@ -9,7 +9,7 @@ use crate::book::{CLOSED, DONE};
 use crate::room::put;
 use crate::telling::put_memory;
 use buck_book::Book;
-use buck_held::{Kept, Slot};
+use buck_held::{Block, KeptBook};
 use buck_journal::journal_text;
 use buck_record::Memory;
 use std::alloc::Global;
@@ -23,7 +23,7 @@ fn text_of<F: Drop>(alloc: Global, book: &Book<F>) -> Result<Vec<u8>, Memory>
 }
 
 /// Puts the journal of a book in the caller's room.
-fn put_journal(alloc: Global, kept: &Kept, out: &mut [u8], written: &mut usize) -> u8
+fn put_journal(alloc: Global, kept: &KeptBook, out: &mut [u8], written: &mut usize) -> u8
     ensures { IsPut (HasJournal kept.now) out.old out.new written.new result }
 {
     match text_of(alloc, kept.book()) {
@@ -35,7 +35,7 @@ fn put_journal(alloc: Global, kept: &Kept, out: &mut [u8], written: &mut usize) 
 /// The journal of a book: the bytes of a file that `buckfleet_check` finds lawful. They go to the start of `out`, and
 /// their number to `written`. The answer is 0, 3 where memory ran out, 6 where there is too little room, or 7 where the
 /// block holds no book.
-pub fn buckfleet_journal(alloc: Global, book: &mut Slot, out: &mut [u8], written: &mut usize) -> u8
+pub fn buckfleet_journal(alloc: Global, book: &mut Block, out: &mut [u8], written: &mut usize) -> u8
     ensures same { book.new.handle.held ≡ book.old.handle.held }
     ensures put { IsPut (IsShownBy HasJournal book.old.handle.held) out.old out.new written.new result }
 {

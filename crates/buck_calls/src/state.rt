@@ -6,7 +6,7 @@ ghost use Rattle.buck_calls.specs.States.{AnswersDegree, AnswersState, HasCounts
 use crate::book::{CLOSED, DONE, MISUSED};
 use crate::room::put;
 use buck_book::degree_at;
-use buck_held::{Kept, Slot};
+use buck_held::{Block, KeptBook};
 use std::alloc::Global;
 
 /// A degree of apportionment that there isn't.
@@ -29,7 +29,7 @@ pub struct State {
 }
 
 /// How far a book is.
-fn state_of(kept: &Kept) -> State
+fn state_of(kept: &KeptBook) -> State
     ensures { IsStateOf kept.now result }
 {
     let book = kept.book();
@@ -44,7 +44,7 @@ fn state_of(kept: &Kept) -> State
 }
 
 /// How far a book is. The answer is 0, or 7 where the block holds none.
-pub fn buckfleet_state(alloc: Global, book: &mut Slot, state: &mut State) -> u8
+pub fn buckfleet_state(alloc: Global, book: &mut Block, state: &mut State) -> u8
     ensures same { book.new.handle.held ≡ book.old.handle.held }
     ensures state { AnswersState book.old.handle.held state.old state.new result }
 {
@@ -58,7 +58,7 @@ pub fn buckfleet_state(alloc: Global, book: &mut Slot, state: &mut State) -> u8
 
 /// The prices in force, one for each class, assortment by assortment and row by row. The answer is 0, 6 where there is
 /// too little room, or 7 where the block holds no book.
-pub fn buckfleet_prices(alloc: Global, book: &mut Slot, out: &mut [u32], written: &mut usize) -> u8
+pub fn buckfleet_prices(alloc: Global, book: &mut Block, out: &mut [u32], written: &mut usize) -> u8
     ensures same { book.new.handle.held ≡ book.old.handle.held }
     ensures put { IsPut (IsShownBy HasPrices book.old.handle.held) out.old out.new written.new result }
 {
@@ -71,7 +71,12 @@ pub fn buckfleet_prices(alloc: Global, book: &mut Slot, out: &mut [u32], written
 }
 
 /// The targets in force, in the same order, and in the same way.
-pub fn buckfleet_targets(alloc: Global, book: &mut Slot, out: &mut [u32], written: &mut usize) -> u8
+pub fn buckfleet_targets(
+    alloc: Global,
+    book: &mut Block,
+    out: &mut [u32],
+    written: &mut usize,
+) -> u8
     ensures same { book.new.handle.held ≡ book.old.handle.held }
     ensures put { IsPut (IsShownBy HasTargets book.old.handle.held) out.old out.new written.new result }
 {
@@ -84,7 +89,7 @@ pub fn buckfleet_targets(alloc: Global, book: &mut Slot, out: &mut [u32], writte
 }
 
 /// How many logs were cut in each class, in the same order, and in the same way.
-pub fn buckfleet_counts(alloc: Global, book: &mut Slot, out: &mut [u32], written: &mut usize) -> u8
+pub fn buckfleet_counts(alloc: Global, book: &mut Block, out: &mut [u32], written: &mut usize) -> u8
     ensures same { book.new.handle.held ≡ book.old.handle.held }
     ensures put { IsPut (IsShownBy HasCounts book.old.handle.held) out.old out.new written.new result }
 {
@@ -97,7 +102,7 @@ pub fn buckfleet_counts(alloc: Global, book: &mut Slot, out: &mut [u32], written
 }
 
 /// The degree of apportionment of an assortment.
-fn degree_of(kept: &Kept, assortment: u8, degree: &mut u32) -> u8
+fn degree_of(kept: &KeptBook, assortment: u8, degree: &mut u32) -> u8
     ensures { ShowsDegree assortment kept.now degree.old degree.new result }
 {
     let book = kept.book();
@@ -115,7 +120,7 @@ fn degree_of(kept: &Kept, assortment: u8, degree: &mut u32) -> u8
 /// The degree of apportionment of the assortment at a place, in ten-thousandths, or 4,294,967,295 where it has none.
 /// The answer is 0, 7 where the block holds no book, or 8 where there is no such assortment; but for 0 nothing is
 /// told.
-pub fn buckfleet_degree(alloc: Global, book: &mut Slot, assortment: u8, degree: &mut u32) -> u8
+pub fn buckfleet_degree(alloc: Global, book: &mut Block, assortment: u8, degree: &mut u32) -> u8
     ensures same { book.new.handle.held ≡ book.old.handle.held }
     ensures degree { AnswersDegree assortment book.old.handle.held degree.old degree.new result }
 {

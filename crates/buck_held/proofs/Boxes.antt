@@ -33,36 +33,36 @@ use Rattle.std.specs.contracts.boxed.Box as box
 use Rattle.std.specs.contracts.boxed.Box.from_raw as from_raw
 use Rattle.std.specs.contracts.boxed.Box.into_raw as into_raw
 use Rattle.buck_held.proofs.Destruct++none.drop.Code as no_drop
-use Rattle.buck_held.proofs.buck_held++kept++Kept+Destruct.drop.Met.{met}
-use Rattle.buck_held.proofs.buck_held++kept++Kept+Destruct.drop.Symbol as drop_symbol
-use Rattle.buck_held.proofs.kept.Kept.TheLaws as kept_laws
-use Rattle.buck_held.specs.contracts.buck_held++kept++Kept+Destruct.drop as drop
-use Rattle.buck_held.specs.contracts.kept.Kept as kept
+use Rattle.buck_held.proofs.buck_held++kept++KeptBook+Destruct.drop.Met.{met}
+use Rattle.buck_held.proofs.buck_held++kept++KeptBook+Destruct.drop.Symbol as drop_symbol
+use Rattle.buck_held.proofs.kept.KeptBook.TheLaws as kept_laws
+use Rattle.buck_held.specs.contracts.buck_held++kept++KeptBook+Destruct.drop as drop
+use Rattle.buck_held.specs.contracts.kept.KeptBook as kept
 
-abbrev pub Kept : RattleType
-Kept = kept.the_row
+abbrev pub KeptBook : RattleType
+KeptBook = kept.the_row
 
 abbrev pub Heap : RattleType
 Heap = heap.the_row
 
 abbrev pub Boxed : RattleType
-Boxed = box.the_row Kept Heap ghosts
+Boxed = box.the_row KeptBook Heap ghosts
 
 abbrev pub heap_Laws : Laws Heap
 heap_Laws = heap_laws.the_row_laws
 
 abbrev pub boxed_Laws : Laws Boxed
-boxed_Laws = box_laws.the_row_laws Kept Heap ghosts kept_laws.the_row_laws heap_Laws
+boxed_Laws = box_laws.the_row_laws KeptBook Heap ghosts kept_laws.the_row_laws heap_Laws
 
 -- the two types as a call passes them. Neither names a lifetime
 abbrev pub KeptArg : RattleType
-KeptArg = arg (bare (layout Kept)) no Kept
+KeptArg = arg (bare (layout KeptBook)) no KeptBook
 
 abbrev pub HeapArg : RattleType
 HeapArg = arg (bare (layout Heap)) no Heap
 
 abbrev pub kept_arg_Laws : Laws KeptArg
-kept_arg_Laws = arg_laws (bare (layout Kept)) no Kept kept_laws.the_row_laws refl
+kept_arg_Laws = arg_laws (bare (layout KeptBook)) no KeptBook kept_laws.the_row_laws refl
 
 abbrev pub heap_arg_Laws : Laws HeapArg
 heap_arg_Laws = arg_laws (bare (layout Heap)) no Heap heap_Laws refl
@@ -78,7 +78,7 @@ abbrev pub heap_drop : Dict
 heap_drop = impl ("buck_held::Destruct++none::drop" ∷ []) (tcons (layout HeapArg) tnil) dnil
 
 abbrev pub kept_drop : Dict
-kept_drop = impl ("buck_held::buck_held++kept++Kept+Destruct::drop" ∷ []) tnil dnil
+kept_drop = impl ("buck_held::buck_held++kept++KeptBook+Destruct::drop" ∷ []) tnil dnil
 
 module _ {M : Type 1} (𝓤 : Ura M) (𝓛 : Logic 𝓤) (𝓜 : Model 𝓤 𝓛.H) (𝓡 : Running 𝓤 𝓛.H 𝓜) where
   pub heap_drop_met : Wired 𝓡.env no_drop.code → Met 𝓛 𝓜 𝓡 𝓡.env HeapArg heap_drop

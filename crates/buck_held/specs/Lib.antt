@@ -1,4 +1,4 @@
 pub mod Kept
 pub mod Felled
-pub mod Slot
+pub mod Block
 pub mod inner

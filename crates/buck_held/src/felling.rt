@@ -4,7 +4,7 @@ ghost use Rattle.buck_held.specs.Kept.{HasCut, SameTerms};
 ghost use Rattle.buck_held.specs.Felled.{pair_of, stem_by, IsFellFault, IsStemFault};
 
 use crate::cutting::CutRefusal;
-use crate::kept::Kept;
+use crate::kept::KeptBook;
 use buck_book::Entry;
 use buck_stem::{Stem, StemFault};
 use std::alloc::{AllocError, Global};
@@ -87,8 +87,8 @@ fn stem_of(
     }
 }
 
-impl Kept {
-    /// Cuts a felled stem as [`cut`](Kept::cut) does: with its diameters in mm under bark, one per 100 mm from the
+impl KeptBook {
+    /// Cuts a felled stem as [`cut`](KeptBook::cut) does: with its diameters in mm under bark, one per 100 mm from the
     /// butt, and its zones. Refused as `Harvester` where that isn't from 1 to 64, else as `Stem` where the stem is
     /// outside the limits of a stem file, else as `Full` at the capacity, and as `Memory` where a growth was refused.
     pub fn fell(

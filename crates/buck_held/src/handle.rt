@@ -2,7 +2,7 @@
 ghost use Rattle.std.specs.Prelude.{◌≡◌, Some, None, IsSome, Option};
 ghost use Rattle.buck_held.specs.Kept.{KeptParts};
 
-use crate::kept::Kept;
+use crate::kept::KeptBook;
 use std::alloc::Global;
 use std::marker::Model;
 use std::ptr::null_mut;
@@ -17,7 +17,7 @@ pub struct Handle {
 }
 
 impl Model for Handle {
-    ghost use Rattle.buck_held.specs.Slot.{where_some, boxed_at};
+    ghost use Rattle.buck_held.specs.Block.{where_some, boxed_at};
     ghost use Rattle.buck_held.specs.contracts.kept.Kept.{the_row};
 
     ghost also_owns = { λ h. where_some (λ x. boxed_at the_row h.at x) h.held };
@@ -32,7 +32,7 @@ impl Handle {
     }
 
     /// One that owns a book.
-    pub(crate) fn of(book: Box<Kept>) -> Handle
+    pub(crate) fn of(book: Box<KeptBook>) -> Handle
         ensures { result.held ≡ Some book.value }
     {
         let at = Box::into_raw(book);
@@ -40,11 +40,11 @@ impl Handle {
     }
 
     /// The book that it owns.
-    pub(crate) fn into_box(self, alloc: Global) -> Box<Kept>
+    pub(crate) fn into_box(self, alloc: Global) -> Box<KeptBook>
         requires { IsSome self.held }
         ensures { self.held ≡ Some result.value }
     {
         let Handle { at } = self;
-        unsafe { Box::from_raw(alloc, at as *mut Kept) }
+        unsafe { Box::from_raw(alloc, at as *mut KeptBook) }
     }
 }

@@ -19,13 +19,13 @@ use std::sync::Arc;
 /// A book that rests between its calls, the planner of its next stem, and the name of its rule. The planner's sheet is
 /// the book's of the same version, which may be an earlier one than that in force.
 #[derive(Drop)]
-pub struct Kept {
+pub struct KeptBook {
     rule: StoredRule,
     book: Option<Book<()>>,
     planner: Planner,
 }
 
-impl Model for Kept {
+impl Model for KeptBook {
     ghost use Rattle.std.specs.Prelude.{IsSome};
     ghost use Rattle.buck_held.specs.Kept.{KeptParts};
     ghost use Rattle.buck_held.specs.inner.Resting.{IsSheetOf, book_in, kept_of};
@@ -47,7 +47,7 @@ fn resting(alloc: Global, instruction: Arc<Instruction>, capacity: u32) -> Resul
     Ok(book.with_rule(Rule::none()))
 }
 
-impl Kept {
+impl KeptBook {
     /// A book with no posting, which may have from 1 to 1,000,000. Refused as `Memory` alone.
     #[tactic(auto, using(crate::proofs::Sheets::in_force_is))]
     pub fn open(
@@ -55,14 +55,14 @@ impl Kept {
         instruction: Arc<Instruction>,
         rule: StoredRule,
         capacity: u32,
-    ) -> Result<Kept, Memory>
+    ) -> Result<KeptBook, Memory>
         requires { (0 < capacity) × (capacity ≤ MOST_POSTINGS) }
         ensures { IfOk result (λ k. k ≡ opened rule instruction.value capacity) }
     {
         let book = resting(alloc, instruction, capacity)?;
         let _lawful = book.entries();
         let planner = Planner::make(alloc, book.sheet().clone()?)?;
-        Ok(Kept {
+        Ok(KeptBook {
             rule,
             book: Some(book),
             planner,

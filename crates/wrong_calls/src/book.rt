@@ -5,11 +5,11 @@ use buck_calls::{
     Cut, State, Terms, buckfleet_close, buckfleet_counts, buckfleet_cut, buckfleet_open,
     buckfleet_prices, buckfleet_retarget, buckfleet_state,
 };
-use buck_held::{Felled, Slot, Zone};
+use buck_held::{Block, Felled, Zone};
 use std::alloc::Global;
 
 /// A book is opened in a block that holds one, whose memory is lost.
-pub fn opened_over_an_open_book(alloc: Global, book: &mut Slot, apt: &[u8], terms: &Terms)
+pub fn opened_over_an_open_book(alloc: Global, book: &mut Block, apt: &[u8], terms: &Terms)
     requires { IsSome book.old.handle.held }
 {
     let right = buckfleet_open(alloc, book, apt, terms);
@@ -18,7 +18,7 @@ pub fn opened_over_an_open_book(alloc: Global, book: &mut Slot, apt: &[u8], term
 }
 
 /// A book of no posting at all is opened.
-pub fn opened_without_room(alloc: Global, book: &mut Slot, apt: &[u8]) {
+pub fn opened_without_room(alloc: Global, book: &mut Block, apt: &[u8]) {
     let terms = Terms {
         capacity: 0,
         rule: 0,
@@ -31,7 +31,7 @@ pub fn opened_without_room(alloc: Global, book: &mut Slot, apt: &[u8]) {
 /// A stem is cut in a block that holds no book.
 pub fn cut_without_a_book(
     alloc: Global,
-    book: &mut Slot,
+    book: &mut Block,
     felled: &Felled,
     samples: &[u16],
     zones: &[Zone],
@@ -47,7 +47,7 @@ pub fn cut_without_a_book(
 /// A book that was cut in is not put back into its block.
 pub fn book_lost_by_a_cut(
     alloc: Global,
-    book: &mut Slot,
+    book: &mut Block,
     felled: &Felled,
     samples: &[u16],
     zones: &[Zone],
@@ -64,7 +64,7 @@ pub fn book_lost_by_a_cut(
 /// What is written of a cutting that was refused.
 pub fn refused_cut_shown(
     alloc: Global,
-    book: &mut Slot,
+    book: &mut Block,
     felled: &Felled,
     samples: &[u16],
     zones: &[Zone],
@@ -80,7 +80,7 @@ pub fn refused_cut_shown(
 /// The position that is told of a cutting is the one behind it: the postings are counted after the cut.
 pub fn position_one_off(
     alloc: Global,
-    book: &mut Slot,
+    book: &mut Block,
     felled: &Felled,
     samples: &[u16],
     zones: &[Zone],
@@ -97,14 +97,14 @@ pub fn position_one_off(
 }
 
 /// New targets are taken for harvester 65.
-pub fn targets_of_harvester_65(alloc: Global, book: &mut Slot, targets: &[u32]) {
+pub fn targets_of_harvester_65(alloc: Global, book: &mut Block, targets: &[u32]) {
     let right = buckfleet_retarget(alloc, book, 65, targets);
     let wrong = 0;
     prove!(right != wrong);
 }
 
 /// A book stays in its block when it was closed.
-pub fn closed_book_still_open(alloc: Global, book: &mut Slot) {
+pub fn closed_book_still_open(alloc: Global, book: &mut Block) {
     let _ = buckfleet_close(alloc, book);
     let right = book.is_open();
     let wrong = true;
@@ -112,7 +112,12 @@ pub fn closed_book_still_open(alloc: Global, book: &mut Slot) {
 }
 
 /// A book that was looked at is gone.
-pub fn looking_closes_the_book(alloc: Global, book: &mut Slot, out: &mut [u32], written: &mut usize)
+pub fn looking_closes_the_book(
+    alloc: Global,
+    book: &mut Block,
+    out: &mut [u32],
+    written: &mut usize,
+)
     requires { IsSome book.old.handle.held }
 {
     let _ = buckfleet_prices(alloc, book, out, written);
@@ -124,7 +129,7 @@ pub fn looking_closes_the_book(alloc: Global, book: &mut Slot, out: &mut [u32], 
 /// The number of counts that is told is one off.
 pub fn number_of_counts_one_off(
     alloc: Global,
-    book: &mut Slot,
+    book: &mut Block,
     out: &mut [u32],
     right: &mut usize,
     state: &mut State,

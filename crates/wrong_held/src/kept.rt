@@ -4,14 +4,14 @@ ghost use Rattle.buck_book.specs.History.{version_of};
 
 use buck_apt::Instruction;
 use buck_book::DemandRefusal;
-use buck_held::{CutRefusal, FellFault, Felled, Kept, StoredRule, Zone};
+use buck_held::{CutRefusal, FellFault, Felled, KeptBook, StoredRule, Zone};
 use buck_stem::Stem;
 use std::alloc::Global;
 use std::sync::Arc;
 
 /// A book is opened with a posting.
 pub fn opened_with_a_posting(alloc: Global, instruction: Arc<Instruction>, rule: StoredRule) {
-    if let Ok(kept) = Kept::open(alloc, instruction, rule, 8) {
+    if let Ok(kept) = KeptBook::open(alloc, instruction, rule, 8) {
         let right = kept.book().len();
         let wrong = 1;
         prove!(right != wrong);
@@ -27,14 +27,19 @@ pub fn opened_with_another_capacity(
 )
     requires { wrong ≢ 8 }
 {
-    if let Ok(kept) = Kept::open(alloc, instruction, rule, 8) {
+    if let Ok(kept) = KeptBook::open(alloc, instruction, rule, 8) {
         let right = kept.book().capacity();
         prove!(right != wrong);
     }
 }
 
 /// A cut that is refused leaves a posting in the book.
-pub fn refused_cut_changes_the_book(alloc: Global, kept: &mut Kept, harvester: u32, stem: Arc<Stem>)
+pub fn refused_cut_changes_the_book(
+    alloc: Global,
+    kept: &mut KeptBook,
+    harvester: u32,
+    stem: Arc<Stem>,
+)
     requires { (0 < harvester) × (harvester ≤ 64) }
 {
     let before = kept.book().len();
@@ -46,7 +51,7 @@ pub fn refused_cut_changes_the_book(alloc: Global, kept: &mut Kept, harvester: u
 }
 
 /// A cut that is done isn't added to the book.
-pub fn cut_not_added(alloc: Global, kept: &mut Kept, harvester: u32, stem: Arc<Stem>)
+pub fn cut_not_added(alloc: Global, kept: &mut KeptBook, harvester: u32, stem: Arc<Stem>)
     requires { (0 < harvester) × (harvester ≤ 64) }
 {
     let wrong = kept.book().len();
@@ -57,7 +62,7 @@ pub fn cut_not_added(alloc: Global, kept: &mut Kept, harvester: u32, stem: Arc<S
 }
 
 /// A stem of harvester 65 is cut, of whom there is none.
-pub fn harvester_65_let_by(alloc: Global, kept: &mut Kept, samples: &[u16], zones: &[Zone]) {
+pub fn harvester_65_let_by(alloc: Global, kept: &mut KeptBook, samples: &[u16], zones: &[Zone]) {
     let felled = Felled {
         harvester: 65,
         number: 1,
@@ -71,7 +76,7 @@ pub fn harvester_65_let_by(alloc: Global, kept: &mut Kept, samples: &[u16], zone
 /// The entry of a cut is another harvester's.
 pub fn cut_of_another_harvester(
     alloc: Global,
-    kept: &mut Kept,
+    kept: &mut KeptBook,
     harvester: u32,
     stem: Arc<Stem>,
     wrong: u32,
@@ -88,7 +93,7 @@ pub fn cut_of_another_harvester(
 /// The entry has the version that comes into force after the cut.
 pub fn cut_with_the_version_after_it(
     alloc: Global,
-    kept: &mut Kept,
+    kept: &mut KeptBook,
     harvester: u32,
     stem: Arc<Stem>,
 ) -> Result<(), CutRefusal>
@@ -104,7 +109,7 @@ pub fn cut_with_the_version_after_it(
 /// New targets don't end the period: the same version stays in force.
 pub fn retarget_without_end(
     alloc: Global,
-    kept: &mut Kept,
+    kept: &mut KeptBook,
     harvester: u32,
     targets: &Arc<Vec<u32>>,
 ) -> Result<(), DemandRefusal>
@@ -120,7 +125,7 @@ pub fn retarget_without_end(
 /// New targets that are refused are in force all the same.
 pub fn refused_targets_in_force(
     alloc: Global,
-    kept: &mut Kept,
+    kept: &mut KeptBook,
     harvester: u32,
     targets: &Arc<Vec<u32>>,
 )
@@ -136,7 +141,7 @@ pub fn refused_targets_in_force(
 /// A felled stem's diameters are dropped: it is cut as a stem of its zones alone.
 pub fn felled_stem_without_diameters(
     alloc: Global,
-    kept: &mut Kept,
+    kept: &mut KeptBook,
     felled: &Felled,
     samples: &[u16],
     zones: &[Zone],

@@ -5,5 +5,5 @@
 //! says where the wrong body would answer otherwise.
 #![tactic(auto)]
 
+pub mod block;
 pub mod kept;
-pub mod slot;

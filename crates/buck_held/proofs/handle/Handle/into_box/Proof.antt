@@ -6,14 +6,14 @@ use Rattle.buck_held.proofs.Walks.{enter, of_opd, stop, fld, no_more, and_then, 
 use Rattle.buck_held.proofs.Walks.{alloc_all, pass_all, free_all, look_at, get, get_in, sets, lands_last, env, full_share}
 use Rattle.buck_held.proofs.Walks.{calls_at_last, Stays, walk_of, says, stay_dropped, Goes-dropped, ends_at, the_value}
 use Rattle.buck_held.proofs.Walks.{rawptr_vals, rawptr_Lawful, Handle, handle_Lawful, handle_vals, handle_Tells}
-use Rattle.buck_held.proofs.Boxes.{Kept, Heap, Boxed, KeptArg, HeapArg, heap_Laws, boxed_Laws, kept_arg_Laws, heap_arg_Laws, heap_drop}
+use Rattle.buck_held.proofs.Boxes.{KeptBook, Heap, Boxed, KeptArg, HeapArg, heap_Laws, boxed_Laws, kept_arg_Laws, heap_arg_Laws, heap_drop}
 use Rattle.buck_held.proofs.Boxes.{heap_drop_met, FromRaw, from_raw_ended, tokens, hands}
 use contract.Running.{tables_of}
 use denote.Triple.Clauses.{Lasts, lasts}
 use Rattle.std.proofs.boxed.Box.from_raw.Met.{met}
 use Rattle.std.proofs.impls.GlobalAllocator.TheImpl.Met.{passed}
 use Rattle.std.specs.contracts.impls.GlobalAllocator.TheImpl.{ghosts, dict}
-use Rattle.buck_held.specs.Slot.{where_some, boxed_at}
+use Rattle.buck_held.specs.Block.{where_some, boxed_at}
 use Rattle.buck_held.specs.contracts.handle.Handle.into_box as f
 use Rattle.buck_held.proofs.handle.Handle.into_box.Statement.{statement}
 use Rattle.buck_held.proofs.handle.Handle.into_box.Code as code
@@ -43,7 +43,7 @@ into_box_spec {M} 𝓤 𝓛 𝓜 𝓡 wired =
     ∷ raw (fact 𝓤 (IsSome h.held)) ∷ []) ∵
     move ! (1 ∷ []) $ heard ! _ (λ is. let there = the_value h.held is in let x = there.0 in
     split ! $ drop ! $ split ! $ fsplit ! $ drop ! $
-    rewrite ! 0 (λ (held : Option Kept.Denot). ‵ (where_some (boxed_at Kept h.at) held)) there.1 refl $
+    rewrite ! 0 (λ (held : Option KeptBook.Denot). ‵ (where_some (boxed_at KeptBook h.at) held)) there.1 refl $
     -- [the book's block; the heap's handle]
     let z : G.Ghost = (
       (
@@ -63,7 +63,7 @@ into_box_spec {M} 𝓤 𝓛 𝓜 𝓡 wired =
     enter ! _ _ _ _ _ $ alloc_all ! (λ l. pass_all ! refl stored $
     -- let Handle { at } = self;
     sets ! (of_opd ! (get_in ! (fld ! refl (stop !)) (sub ! 0 refl (whole !)))) refl typed $
-    -- unsafe { Box::from_raw(alloc, at as *mut Kept) }
+    -- unsafe { Box::from_raw(alloc, at as *mut KeptBook) }
     first ! $ blocks ! $ sets ! (of_opd ! (get ! refl)) refl typed $
     calls_at_last ! (framed 𝓤 𝓛.H 𝓜 𝓣) G called z (and_then ! (get ! refl) (and_then ! (get ! refl) (no_more !))) (λ v.
     use1 𝓛 (later (some (λ (r : Boxed.Denot). (tokens ⊛ ‵ (Boxed.own_val r (v ∷ []))) ⊛

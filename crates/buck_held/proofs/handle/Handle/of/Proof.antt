@@ -12,7 +12,7 @@ use denote.Triple.Clauses.{Lasts, lasts}
 use Rattle.std.proofs.boxed.Box.into_raw.Met.{met}
 use Rattle.std.proofs.impls.GlobalAllocator.TheImpl.Met.{passed}
 use Rattle.std.specs.contracts.impls.GlobalAllocator.TheImpl.{ghosts, dict}
-use Rattle.buck_held.specs.Slot.{boxed_at}
+use Rattle.buck_held.specs.Block.{boxed_at}
 use Rattle.buck_held.specs.contracts.handle.Handle.of as f
 use Rattle.buck_held.proofs.handle.Handle.of.Statement.{statement}
 use Rattle.buck_held.proofs.handle.Handle.of.Code as code
@@ -30,7 +30,8 @@ of_spec {M} 𝓤 𝓛 𝓜 𝓡 wired =
     (code.calls-std_heap::GlobalAllocator::grow 𝓡.env wired)
     (code.calls-std_heap::GlobalAllocator::shrink 𝓡.env wired) M 𝓤 𝓛 𝓜 𝓡 in
     let heap_goes = heap_drop_met 𝓤 𝓛 𝓜 𝓡 (code.calls-buck_held::Destruct++none::drop 𝓡.env wired) in
-    let kept_goes = kept_drop_met 𝓤 𝓛 𝓜 𝓡 (code.calls-buck_held::buck_held++kept++Kept+Destruct::drop 𝓡.env wired) in
+    let kept_goes =
+    kept_drop_met 𝓤 𝓛 𝓜 𝓡 (code.calls-buck_held::buck_held++kept++KeptBook+Destruct::drop 𝓡.env wired) in
     let called = met 𝓤 𝓛 𝓜 𝓡 (code.calls-std_alloc::boxed::Box::into_raw 𝓡.env wired)
     KeptArg HeapArg kept_arg_Laws heap_arg_Laws ghosts dict heap_drop kept_drop heap_is heap_goes kept_goes in
     proved_at 𝓛 f.ended stayed c 𝓜 𝓡 (Goes-dropped 𝓛 0 (plain (λ _. Boxed)) yes (λ κs x w. refl), tt)

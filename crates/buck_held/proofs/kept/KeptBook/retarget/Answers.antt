@@ -1,7 +1,7 @@
 use Rattle.std.proofs.Common.{refl, sym, subst}
 use Rattle.buck_held.specs.inner.Resting.{IsSheetOf, book_in}
 use Rattle.buck_held.proofs.Sheets.{stays_either}
-use Rattle.buck_held.proofs.kept.Kept.retarget.Goals as goal
+use Rattle.buck_held.proofs.kept.KeptBook.retarget.Goals as goal
 
 pub invariant_of-self : goal.invariant_of-self
 invariant_of-self c = (

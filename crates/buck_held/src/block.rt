@@ -1,9 +1,9 @@
 //! The block of a caller's memory that a kept book is handed out in.
 ghost use Rattle.std.specs.Prelude.{◌≡◌, Some, None, IfSome, IfNone, IsTrue, ◌↔◌, IsSome};
-ghost use Rattle.buck_held.specs.Slot.{IsMarked};
+ghost use Rattle.buck_held.specs.Block.{IsMarked};
 
 use crate::handle::Handle;
-use crate::kept::Kept;
+use crate::kept::KeptBook;
 use std::alloc::Global;
 use std::mem::replace;
 
@@ -13,16 +13,16 @@ const MARK: u64 = 7_094_686_100_856_205_163;
 /// A block of a caller's memory, which holds a book or none. One of zeros holds none.
 #[repr(C)]
 #[derive(Drop)]
-pub struct Slot {
+pub struct Block {
     mark: u64,
     /// What it owns.
     pub handle: Handle,
     ghost marked: { IsMarked mark handle.held },
 }
 
-impl Slot {
+impl Block {
     /// Takes the book out, if there is one; the block then holds none.
-    pub fn take(&mut self, alloc: Global) -> Option<Box<Kept>>
+    pub fn take(&mut self, alloc: Global) -> Option<Box<KeptBook>>
         ensures some { IfSome result (λ book. self.old.handle.held ≡ Some book.value) }
         ensures none { IfNone result (self.old.handle.held ≡ None) }
         ensures left { self.new.handle.held ≡ None }
@@ -36,7 +36,7 @@ impl Slot {
     }
 
     /// Puts a book into a block that holds none.
-    pub fn put(&mut self, book: Box<Kept>)
+    pub fn put(&mut self, book: Box<KeptBook>)
         ensures { self.new.handle.held ≡ Some book.value }
     {
         self.handle = Handle::of(book);

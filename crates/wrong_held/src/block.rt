@@ -1,23 +1,23 @@
 //! Wrong answers of the block that a kept book is handed out in.
 ghost use Rattle.std.specs.Prelude.{◌≡◌, None, IsSome};
 
-use buck_held::{Kept, Slot};
+use buck_held::{Block, KeptBook};
 use std::alloc::Global;
 
 /// The book is taken out, and the block still says that it holds one.
-pub fn taken_book_stays_in_its_block(alloc: Global, slot: &mut Slot) -> Option<Box<Kept>> {
-    let book = slot.take(alloc);
-    let right = slot.is_open();
+pub fn taken_book_stays_in_its_block(alloc: Global, block: &mut Block) -> Option<Box<KeptBook>> {
+    let book = block.take(alloc);
+    let right = block.is_open();
     let wrong = true;
     prove!(right != wrong);
     book
 }
 
 /// A block that holds a book answers that it holds none.
-pub fn book_not_found_in_its_block(alloc: Global, slot: &mut Slot) -> Option<Box<Kept>>
-    requires { IsSome slot.old.handle.held }
+pub fn book_not_found_in_its_block(alloc: Global, block: &mut Block) -> Option<Box<KeptBook>>
+    requires { IsSome block.old.handle.held }
 {
-    let book = slot.take(alloc);
+    let book = block.take(alloc);
     let right = book.is_none();
     let wrong = true;
     prove!(right != wrong);
@@ -25,9 +25,9 @@ pub fn book_not_found_in_its_block(alloc: Global, slot: &mut Slot) -> Option<Box
 }
 
 /// A book that is put into a block isn't there.
-pub fn book_lost_on_its_way_in(slot: &mut Slot, book: Box<Kept>) {
-    slot.put(book);
-    let right = slot.is_open();
+pub fn book_lost_on_its_way_in(block: &mut Block, book: Box<KeptBook>) {
+    block.put(book);
+    let right = block.is_open();
     let wrong = false;
     prove!(right != wrong);
 }
