@@ -20,7 +20,7 @@ loop-at-preserved c =
     let low : targets_sum i a at ts ≤ 1000000000 =
     omega (
       arith,
-      c.if-targets_sum-gt1000000000.false,
+      c.if-targets_sum-gt-MOST_TARGETS_TOGETHER.false,
       c.targets_sum.ensures,
       ap (λ n. sum (take (classes_of a) (drop n ts))) c.loop-at.invariant.first,
     ) in

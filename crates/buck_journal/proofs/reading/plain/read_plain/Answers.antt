@@ -9,4 +9,4 @@ returns-clause-value c =
     let ps = c.in-Some-2.entries.items in
     let begun : BeginsJournal c.args.bytes.now sheets rest = rw c.in-Some.is at c.in_ok-sheets.ensures in
     let postings : HasPostings rest ps = rw c.in-Some-2.is at c.in_ok-entries.ensures in
-    begun ps (omega (arith, c.len.ensures, c.if-len-gt1000000.false)) postings
+    begun ps (omega (arith, c.len.ensures, c.if-len.false)) postings
