@@ -70,6 +70,7 @@ impl Model for Closed {
     ghost use Rattle.buck_book.specs.History.{IsLawful};
     ghost use Rattle.buck_book.specs.Book.{sheets_from};
     ghost use Rattle.buck_fleet.specs.Closed.{ClosedParts, lists_of};
+    ghost use Rattle.buck_book.specs.declared.posting.TheConstants.{MOST_POSTINGS};
 
     ghost Value = { ClosedParts };
 

@@ -18,7 +18,7 @@ pub struct Handle {
 
 impl Model for Handle {
     ghost use Rattle.buck_held.specs.Block.{where_some, boxed_at};
-    ghost use Rattle.buck_held.specs.contracts.kept.Kept.{the_row};
+    ghost use Rattle.buck_held.specs.contracts.kept.KeptBook.{the_row};
 
     ghost also_owns = { λ h. where_some (λ x. boxed_at the_row h.at x) h.held };
 }
