@@ -19,9 +19,6 @@ use std::sync::ledger::{Blank, Ledger};
 use std::sync::{Arc, Wait};
 use std::thread::Threads;
 
-/// The most postings that a history may have.
-const MOST_POSTINGS: u32 = 1_000_000;
-
 /// Closes a fleet.
 fn close<F: Drop, L: Ledger>(fleet: Fleet<F, L>, seats: Vec<Seat<L>>) -> Result<Closed, EngineFault>
     requires crew { IsCrew fleet.seats seats.items }
