@@ -4,7 +4,7 @@ use Rattle.std.specs.Option.{option_map}
 use Rattle.std.proofs.lemmas.Bool.{cases_Bool, cases_lt, cases_eq}
 use Rattle.std.proofs.lemmas.Nat.{div-mul-add, mod-mul-add, div-add-mod', div_below, mod_below}
 use Rattle.std.proofs.lemmas.Grind.{same_number_lists}
-use Rattle.std.proofs.lemmas.List.{get_or-take, get_or-drop, length-take-le}
+use Rattle.std.proofs.lemmas.List.{take-map, get_or-take, get_or-drop, length-take-le}
 use Rattle.std.proofs.lemmas.List.Elements.{recursion_from_All}
 use Rattle.std.proofs.lemmas.List.Sums.{sum_by-cons}
 use Rattle.std.proofs.lemmas.Option.{slice_get_within, slice_get-map, slice_get_cases, same_Some, none-some}
@@ -61,11 +61,6 @@ sum_of_cuts f (e ∷ es) = sum_by-cons f (Cut e) (map Cut es) ∙ ap (λ n. f (C
 targets_stay : (ts : List ℕ) (es : List EntryParts) → targets_after ts (map Cut es) ≡ ts
 targets_stay ts [] = refl
 targets_stay ts (e ∷ es) = targets_stay ts es
-
-take_cuts : (k : ℕ) (es : List EntryParts) → take k (map Cut es) ≡ map Cut (take k es)
-take_cuts zero es = refl
-take_cuts (suc k) [] = refl
-take_cuts (suc k) (e ∷ es) = ap (λ ps. Cut e ∷ ps) (take_cuts k es)
 
 -- a posting among cuts is a cut
 cut_at : (es : List EntryParts) (k : ℕ) (x : Posting) → slice_get (map Cut es) k ≡ Some x
@@ -239,14 +234,14 @@ module _ (i : InstructionParts) (sheets : List (List ℕ)) (es : List EntryParts
       ∙ ap (λ m. m % p) shown ∙ mod-mul-add w p (p - 1) (omega arith) in
       let is : IsEnd i (map Cut (take k es)) (Cut e) =
       eq-eqb (cuts_since_end i (map Cut (take k es)) + 1) p (omega (arith, cuts)) in
-      let is' : IsEnd i (take k (map Cut es)) (Cut e) = subst (λ ps. IsEnd i ps (Cut e)) (sym (take_cuts k es)) is in
-      let version : ends_of i (take k (map Cut es)) + 1 ≡ suc w = ap (λ ps. ends_of i ps + 1) (take_cuts k es)
+      let is' : IsEnd i (take k (map Cut es)) (Cut e) = subst (λ ps. IsEnd i ps (Cut e)) (sym (take-map Cut k es)) is in
+      let version : ends_of i (take k (map Cut es)) + 1 ≡ suc w = ap (λ ps. ends_of i ps + 1) (take-map Cut k es)
       ∙ omega (arith, ends) in
       let there : PricesMeet i (take (k + 1) (map Cut es)) (prices_at sheets (ends_of i (take k (map Cut es)) + 1)) =
       l.sheets_meet k (Cut e) (at_cut es k e at) is' in
       let here : PricesMeet i (map Cut (take (suc w * p) es)) (prices_at sheets (suc w)) =
       subst (λ n. PricesMeet i (map Cut (take n es)) (prices_at sheets (suc w))) next
-      (subst (λ ps. PricesMeet i ps (prices_at sheets (suc w))) (take_cuts (k + 1) es)
+      (subst (λ ps. PricesMeet i ps (prices_at sheets (suc w))) (take-map Cut (k + 1) es)
       (subst (λ n. PricesMeet i (take (k + 1) (map Cut es)) (prices_at sheets n)) version there)) in
       meets_to_alone i (take (suc w * p) es) (prices_at sheets (suc w)) v here
 
@@ -277,7 +272,8 @@ module _ (i : InstructionParts) (sheets : List (List ℕ)) (es : List EntryParts
     sheets_meet = sheets_alone l;
     entries_follow = λ k e at.
         follows_to_alone i sheets (take k es) e v
-        (subst (λ ps. Follows i sheets ps (Cut e)) (take_cuts k es) (l.postings_follow k (Cut e) (at_cut es k e at)));
+        (subst (λ ps. Follows i sheets ps (Cut e)) (take-map Cut k es)
+        (l.postings_follow k (Cut e) (at_cut es k e at)));
   }
 
   number_from_alone : alone.IsLawful i sheets es → length sheets ≡ ends_of i (map Cut es) + 1
@@ -292,7 +288,7 @@ module _ (i : InstructionParts) (sheets : List (List ℕ)) (es : List EntryParts
       let ends : ℕ = ends_of i (take k (map Cut es)) in
       let shown : length (take k es) ≡ k = length-take-le k es (let lt = slice_get_within es k e at in omega arith) in
       let all : ends * p + cuts_since_end i (take k (map Cut es)) ≡ k =
-      ap (λ ps. ends_of i ps * p + cuts_since_end i ps) (take_cuts k es) ∙ spread p 0 (take k es)
+      ap (λ ps. ends_of i ps * p + cuts_since_end i ps) (take-map Cut k es) ∙ spread p 0 (take k es)
       ∙ omega (arith, shown) in
       let full : cuts_since_end i (take k (map Cut es)) + 1 ≡ p =
       eqb-true (cuts_since_end i (take k (map Cut es)) + 1) p is in
@@ -302,7 +298,7 @@ module _ (i : InstructionParts) (sheets : List (List ℕ)) (es : List EntryParts
       let there : alone.PricesMeet i (take (k + 1) es) (prices_at sheets (ends + 1)) =
       subst (λ n. alone.PricesMeet i (take n es) (prices_at sheets (ends + 1))) next
       (l.sheets_meet (ends + 1) within) in
-      subst (λ ps. PricesMeet i ps (prices_at sheets (ends + 1))) (sym (take_cuts (k + 1) es))
+      subst (λ ps. PricesMeet i ps (prices_at sheets (ends + 1))) (sym (take-map Cut (k + 1) es))
       (meets_from_alone i (take (k + 1) es) (prices_at sheets (ends + 1)) v there)
 
   from_alone : alone.IsLawful i sheets es → IsLawful (alone.history_of i sheets es)
@@ -310,7 +306,7 @@ module _ (i : InstructionParts) (sheets : List (List ℕ)) (es : List EntryParts
     postings_follow = λ k x at.
         let c = cut_at es k x at in
         subst (λ y. Follows i sheets (take k (map Cut es)) y) (sym c.2)
-        (subst (λ ps. Follows i sheets ps (Cut c.0)) (sym (take_cuts k es))
+        (subst (λ ps. Follows i sheets ps (Cut c.0)) (sym (take-map Cut k es))
         (follows_from_alone i sheets (take k es) c.0 v (l.entries_follow k c.0 c.1)));
     sheets_number = number_from_alone l;
     base_sheet =

@@ -199,30 +199,31 @@ entry_after h harvester p n n' same told =
     subst (λ s. IsAfter s.instruction n (Cut (entry_of h harvester p)) n') same
     (told (entry_of h harvester p) refl refl)
 
--- what runs on in a book below its capacity, with a posting more
-module _ {F : Type 0} (b : BookParts F) (sheets : List SheetParts) (n : RunningParts) (calls : List ℕ)
-    (k : Keeps b sheets n calls) (below : length b.history.postings < b.capacity) where
-  pub goes_on : (p : PlanParts) → p.sheet ≡ in_force b.history → GoesOn p.sheet.instruction n
-  goes_on p same =
-      subst (λ s. GoesOn s.instruction n) (sym same)
-      (b.history.postings, omega (arith, below, k.is_book.capacity_range), k.tells)
+-- what runs on in a book below its capacity, with a posting more: d is the book as callers see it
+module _ {F : Type 0} (b d : BookParts F) (sheets : List SheetParts) (n : RunningParts) (calls : List ℕ) (view : b ≡ d)
+    (k : Keeps b sheets n calls) (below : length d.history.postings < d.capacity) where
+  few : length b.history.postings < 1000000
+  few = omega (arith, (rw (sym view) at below), k.is_book.capacity_range)
 
-  pub passed_cut : (p : PlanParts) (n₁ n' : RunningParts) → p.sheet ≡ in_force b.history → n₁ ≡ n
+  pub goes_on : (p : PlanParts) → p.sheet ≡ in_force d.history → GoesOn p.sheet.instruction n
+  goes_on p same = subst (λ s. GoesOn s.instruction n) (sym (rw (sym view) at same)) (b.history.postings, few, k.tells)
+
+  pub passed_cut : (p : PlanParts) (n₁ n' : RunningParts) → p.sheet ≡ in_force d.history → n₁ ≡ n
       → ((e : EntryParts) → e.stem ≡ p.stem → e.logs ≡ p.logs → IsAfter p.sheet.instruction n₁ (Cut e) n')
-      → (harvester : ℕ) → IsPassed b.history (Cut (entry_of b.history harvester p)) n'
+      → (harvester : ℕ) → IsPassed d.history (Cut (entry_of d.history harvester p)) n'
   passed_cut p n₁ n' same is told harvester =
-      entry_after b.history harvester p n₁ n' same told b.history.postings
-      (omega (arith, below, k.is_book.capacity_range))
-      (subst (λ m. Tells b.history.instruction b.history.postings m) (sym is) k.tells)
+      rw (sym view)
+      (entry_after b.history harvester p n₁ n' (rw (sym view) at same) told b.history.postings few
+      (subst (λ m. Tells b.history.instruction b.history.postings m) (sym is) k.tells))
 
-  pub passed_demand : (targets : List ℕ) (n₁ n' : RunningParts) → AreTargets b.history.instruction targets → n₁ ≡ n
-      → ((i : InstructionParts) (d : DemandParts) → d.targets ≡ targets → AreTargets i d.targets
-      → IsAfter i n₁ (Demand d) n')
-      → (harvester : ℕ) → IsPassed b.history (Demand (demand_of b.history harvester targets)) n'
+  pub passed_demand : (targets : List ℕ) (n₁ n' : RunningParts) → AreTargets d.history.instruction targets → n₁ ≡ n
+      → ((i : InstructionParts) (x : DemandParts) → x.targets ≡ targets → AreTargets i x.targets
+      → IsAfter i n₁ (Demand x) n')
+      → (harvester : ℕ) → IsPassed d.history (Demand (demand_of d.history harvester targets)) n'
   passed_demand targets n₁ n' valid is told harvester =
-      told b.history.instruction (demand_of b.history harvester targets) refl valid
-      b.history.postings (omega (arith, below, k.is_book.capacity_range))
-      (subst (λ m. Tells b.history.instruction b.history.postings m) (sym is) k.tells)
+      rw (sym view)
+      (told b.history.instruction (demand_of b.history harvester targets) refl (rw (sym view) at valid)
+      b.history.postings few (subst (λ m. Tells b.history.instruction b.history.postings m) (sym is) k.tells))
 
 -- a sheet of prices by what then runs on is the next sheet, and its prices are the closure's answers
 module _ {F : Type 0} (g : Shared F (Bor Standing × Unit {0}) ℕ) (f : F) (h : HistoryParts) (x : Posting)
@@ -292,28 +293,3 @@ ready_to_add a b x next same below is_next posting sheet = record {
   if_needed : {A : Type 0} (next : Option SheetParts) → A → MatchOption next (Unit {0}) (λ _. A)
   if_needed None room = tt
   if_needed (Some s) room = room
-
--- what a book keeps has no part of its rule
-pub keeps_by : {F G : Type 0} (rule : G) (b : BookParts F) (sheets : List SheetParts) (n : RunningParts)
-    (calls : List ℕ) → Keeps b sheets n calls
-    → Keeps (record {
-      rule = rule;
-      history = b.history;
-      capacity = b.capacity;
-      room = b.room;
-      sheet_room =
-          b.sheet_room;
-    }) sheets n calls
-keeps_by rule b sheets n calls k = record {
-  is_book = record {
-    valid = k.is_book.valid;
-    lawful = k.is_book.lawful;
-    firsts = k.is_book.firsts;
-    harvesters = k.is_book.harvesters;
-    within = k.is_book.within;
-    capacity_range = k.is_book.capacity_range;
-  };
-  sheets_are = k.sheets_are;
-  tells = k.tells;
-  calls_are = k.calls_are;
-}

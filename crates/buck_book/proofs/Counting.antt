@@ -2,7 +2,7 @@
 use Rattle.std.proofs.Common.{◌≡◌, ℕ, ◌+◌, ◌-◌, ◌<◌, ◌≤◌, ◌==◌, true, false, cond, List, [], ◌∷◌, ◌++◌, length, get_or, set, count_by, take, replicate, ◌^◌, sym, ◌∙◌, ap, inl, inr, arith, eq-eqb}
 use Rattle.std.proofs.lemmas.Bool.{ne_eqb, cases_eq, cases_lt}
 use Rattle.std.proofs.lemmas.List.{get_or-set_same, get_or-set_other, length-set, length-take-le, get_or_past, get_or-replicate, length-replicate}
-use Rattle.std.proofs.lemmas.List.Sums.{sum_by-cons, sum_by_push, count_by-le-length, count_by_more_yes, count_by_more_no}
+use Rattle.std.proofs.lemmas.List.Sums.{sum_by-le-sum_by, sum_by_push, count_by-le-length, count_by_more_yes, count_by_more_no}
 use Rattle.std.proofs.lemmas.Option.{slice_get_within}
 use Rattle.buck_apt.specs.declared.class.Class.{Class}
 use Rattle.buck_apt.specs.Instruction.{InstructionParts, IsInstruction, classes, index_of}
@@ -14,7 +14,7 @@ use Rattle.buck_book.specs.declared.posting.Posting.{Posting}
 use Rattle.buck_book.specs.declared.posting.Posting.TheVariants.{Cut, Demand}
 use Rattle.buck_book.specs.Posting.{harvester_of}
 use Rattle.buck_book.specs.Counts.{class_logs, assortment_logs, class_logs_in, assortment_logs_in, count_of, assortment_count_of, calls_of}
-use Rattle.buck_book.specs.inner.Running.{AreCounts, AreAtMost, AreCalls, AreGrown, AreGrownBy, tally_of}
+use Rattle.buck_book.specs.inner.Running.{AreCounts, AreAtMost, AreCalls, AreGrown, AreGrownBy, AreGrownAt, tally_of}
 use Rattle.buck_book.specs.Targets.{AreTargets}
 use Rattle.buck_book.specs.inner.Pricing.{CanPrice}
 use Rattle.buck_book.proofs.Cuts.{tallied, class_logs-le}
@@ -97,15 +97,8 @@ logs_in-le i c (Demand d) = omega arith
 
 count_of-le : (i : InstructionParts) (c : Class) (ps : List Posting)
     → count_of i c ps ≤ assortment_count_of c.assortment ps
-count_of-le i c [] = omega arith
-count_of-le i c (x ∷ ps) =
-    omega (
-      arith,
-      logs_in-le i c x,
-      count_of-le i c ps,
-      sum_by-cons (λ y. class_logs_in i c y) x ps,
-      sum_by-cons (λ y. assortment_logs_in c.assortment y) x ps,
-    )
+count_of-le i c ps =
+    sum_by-le-sum_by (λ x. class_logs_in i c x) (λ x. assortment_logs_in c.assortment x) ps (logs_in-le i c)
 
 -- by valid targets, and by counts that are right and low, prices can be made
 pub can_price : (i : InstructionParts) (targets : List ℕ) (ps : List Posting) (by_class by_assortment : List ℕ)
@@ -157,69 +150,46 @@ no_calls = record { number = length-replicate {A = ℕ} 64 0; each = λ k lt. ze
 pub calls-le : (h : ℕ) (ps : List Posting) → calls_of h ps ≤ length ps
 calls-le h ps = count_by-le-length (λ x. harvester_of x == h) ps
 
--- one place more
-pub grown_more : (before after places : List ℕ) (i p n : ℕ) → i < length places → p ≡ get_or places i 0
-    → p < length after → n ≡ get_or after p 0
-    → AreGrown before (take i places) after → AreGrown before (take (i + 1) places) (set after p (n + 1))
-grown_more before after places i p n lt is within value grown = record {
-  number = length-set after p (n + 1) ∙ grown.number;
-  each = λ k. elim (cases_eq k p) [
-    | inl same ↦
-        let test : (get_or places i 0 == k) ≡ true = eq-eqb (get_or places i 0) k (sym is ∙ sym same) in
-        let more : count_by (λ x. x == k) (take (i + 1) places) ≡ count_by (λ x. x == k) (take i places) + 1 =
-        count_by_more_yes (λ x. x == k) places i 0 lt test in
-        let here : get_or (set after p (n + 1)) k 0 ≡ n + 1 = ap (λ x. get_or (set after p (n + 1)) x 0) same
-        ∙ get_or-set_same after p (n + 1) 0 within in
-        let was : n ≡ get_or after k 0 = value ∙ ap (λ x. get_or after x 0) (sym same) in
-        omega (arith, grown.each k)
-    | inr other ↦
-        let test : (get_or places i 0 == k) ≡ false = ne_eqb (get_or places i 0) k (λ z. other (sym z ∙ sym is)) in
-        let more : count_by (λ x. x == k) (take (i + 1) places) ≡ count_by (λ x. x == k) (take i places) =
-        count_by_more_no (λ x. x == k) places i 0 lt test in
-        let here : get_or (set after p (n + 1)) k 0 ≡ get_or after k 0 = get_or-set_other after p k (n + 1) 0 other in
-        omega (arith, grown.each k)
-  ];
-}
+-- one thing more
+module _ {X : Type 0} (place : X → ℕ) (before after : List ℕ) (xs : List X) (i p n : ℕ) (d : X) (lt : i < length xs)
+    (value : n ≡ get_or after p 0) (grown : AreGrownAt place before (take i xs) after) where
+  pub grown_more : p ≡ place (get_or xs i d) → p < length after
+      → AreGrownAt place before (take (i + 1) xs) (set after p (n + 1))
+  grown_more is within = record {
+    number = length-set after p (n + 1) ∙ grown.number;
+    each = λ k. elim (cases_eq k p) [
+      | inl same ↦
+          let test : (place (get_or xs i d) == k) ≡ true = eq-eqb (place (get_or xs i d)) k (sym is ∙ sym same) in
+          let more : count_by (λ x. place x == k) (take (i + 1) xs) ≡ count_by (λ x. place x == k) (take i xs) + 1 =
+          count_by_more_yes (λ x. place x == k) xs i d lt test in
+          let here : get_or (set after p (n + 1)) k 0 ≡ n + 1 = ap (λ q. get_or (set after p (n + 1)) q 0) same
+          ∙ get_or-set_same after p (n + 1) 0 within in
+          let was : n ≡ get_or after k 0 = value ∙ ap (λ q. get_or after q 0) (sym same) in
+          omega (arith, grown.each k)
+      | inr other ↦
+          let test : (place (get_or xs i d) == k) ≡ false =
+          ne_eqb (place (get_or xs i d)) k (λ z. other (sym z ∙ sym is)) in
+          let more : count_by (λ x. place x == k) (take (i + 1) xs) ≡ count_by (λ x. place x == k) (take i xs) =
+          count_by_more_no (λ x. place x == k) xs i d lt test in
+          let here : get_or (set after p (n + 1)) k 0 ≡ get_or after k 0 = get_or-set_other after p k (n + 1) 0 other in
+          omega (arith, grown.each k)
+    ];
+  }
 
-pub grown_fits : (before after places : List ℕ) (i p n : ℕ) → i < length places → n ≡ get_or after p 0
-    → AreGrown before (take i places) after → get_or before p 0 + length places < 2 ^ 32 → n + 1 < 2 ^ 32
-grown_fits before after places i p n lt value grown low =
-    omega (arith, grown.each p, count_by-le-length (λ x. x == p) (take i places), length-take-le i places (omega arith))
+  pub grown_fits : get_or before p 0 + length xs < 2 ^ 32 → n + 1 < 2 ^ 32
+  grown_fits low =
+      omega (arith, grown.each p, count_by-le-length (λ x. place x == p) (take i xs), length-take-le i xs (omega arith))
 
 -- one log more
 pub grown_by_more : (before after : List ℕ) (logs : List Log) (i n : ℕ) (g : Log) → i < length logs
     → g ≡ get_or logs i g → g.assortment < length after → n ≡ get_or after g.assortment 0
     → AreGrownBy before (take i logs) after → AreGrownBy before (take (i + 1) logs) (set after g.assortment (n + 1))
-grown_by_more before after logs i n g lt is within value grown = record {
-  number = length-set after g.assortment (n + 1) ∙ grown.number;
-  each = λ a. elim (cases_eq a g.assortment) [
-    | inl same ↦
-        let test : ((get_or logs i g).assortment == a) ≡ true =
-        eq-eqb (get_or logs i g).assortment a (ap (λ x. x.assortment) (sym is) ∙ sym same) in
-        let more : assortment_logs a (take (i + 1) logs) ≡ assortment_logs a (take i logs) + 1 =
-        count_by_more_yes (λ (x : Log). x.assortment == a) logs i g lt test in
-        let here : get_or (set after g.assortment (n + 1)) a 0 ≡ n + 1 =
-        ap (λ x. get_or (set after g.assortment (n + 1)) x 0) same
-        ∙ get_or-set_same after g.assortment (n + 1) 0 within in
-        let was : n ≡ get_or after a 0 = value ∙ ap (λ x. get_or after x 0) (sym same) in
-        omega (arith, grown.each a)
-    | inr other ↦
-        let test : ((get_or logs i g).assortment == a) ≡ false =
-        ne_eqb (get_or logs i g).assortment a (λ z. other (sym z ∙ ap (λ x. x.assortment) (sym is))) in
-        let more : assortment_logs a (take (i + 1) logs) ≡ assortment_logs a (take i logs) =
-        count_by_more_no (λ (x : Log). x.assortment == a) logs i g lt test in
-        let here : get_or (set after g.assortment (n + 1)) a 0 ≡ get_or after a 0 =
-        get_or-set_other after g.assortment a (n + 1) 0 other in
-        omega (arith, grown.each a)
-  ];
-}
+grown_by_more before after logs i n g lt is within value grown =
+    grown_more (λ x. x.assortment) before after logs i g.assortment n g lt value grown
+    (ap (λ (x : Log). x.assortment) is) within
 
 pub grown_by_fits : (before after : List ℕ) (logs : List Log) (i a n : ℕ) → i < length logs → n ≡ get_or after a 0
     → AreGrownBy before (take i logs) after → get_or before a 0 + length logs < 2 ^ 32 → n + 1 < 2 ^ 32
 grown_by_fits before after logs i a n lt value grown low =
-    omega (
-      arith,
-      grown.each a,
-      count_by-le-length (λ (x : Log). x.assortment == a) (take i logs),
-      length-take-le i logs (omega arith),
-    )
+    grown_fits (λ x. x.assortment) before after logs i a n (record { start = 0; length = 0; assortment = 0 })
+    lt value grown low

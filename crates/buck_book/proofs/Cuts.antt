@@ -2,7 +2,7 @@
 use Rattle.std.proofs.Common.{◌≡◌, ℕ, ◌+◌, ◌*◌, ◌≤◌, ◌==◌, ◌&&◌, true, cond, List, [], ◌∷◌, All, length, count_by, refl, sym, ◌∙◌, ap, subst, inl, inr, arith, eqb-true, eq-eqb}
 use Rattle.std.proofs.lemmas.Bool.{and_parts, and_from, ne_eqb, cases_eq, false_from_ne_true, cases_Bool}
 use Rattle.std.proofs.lemmas.List.Elements.{All-nil, All-cons}
-use Rattle.std.proofs.lemmas.List.Sums.{sum_by-cons}
+use Rattle.std.proofs.lemmas.List.Sums.{sum_by-cons, sum_by-le-sum_by}
 use Rattle.buck_apt.specs.declared.class.Class.{Class}
 use Rattle.buck_apt.specs.Instruction.{InstructionParts, IsInstruction, IsClass, index_of}
 use Rattle.buck_stem.specs.Stem.{StemParts, IsStem, stem_length}
@@ -94,12 +94,6 @@ one_log i c stem g = elim (cases_Bool (is_class c (class_of i stem g))) [
 -- a class's logs are of its assortment
 pub class_logs-le : (i : InstructionParts) (c : Class) (stem : StemParts) (gs : List Log)
     → class_logs i c stem gs ≤ assortment_logs c.assortment gs
-class_logs-le i c stem [] = omega arith
-class_logs-le i c stem (g ∷ gs) =
-    omega (
-      arith,
-      one_log i c stem g,
-      class_logs-le i c stem gs,
-      sum_by-cons (λ x. cond (is_class c (class_of i stem x)) 1 0) g gs,
-      sum_by-cons (λ x. cond (x.assortment == c.assortment) 1 0) g gs,
-    )
+class_logs-le i c stem gs =
+    sum_by-le-sum_by (λ x. cond (is_class c (class_of i stem x)) 1 0) (λ x. cond (x.assortment == c.assortment) 1 0) gs
+    (one_log i c stem)

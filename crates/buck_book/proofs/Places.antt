@@ -10,6 +10,7 @@ use Rattle.buck_apt.specs.Instruction.{InstructionParts, AssortmentParts, IsClas
 use Rattle.buck_stem.specs.Stem.{StemParts}
 use Rattle.buck_value.specs.declared.log.Log.{Log}
 use Rattle.buck_value.specs.Allowed.{class_of, class_in}
+use Rattle.buck_book.proofs.Wanted.{part_within}
 
 -- the classes of an assortment come before those of a later one
 earlier : (xs : List AssortmentParts) (at later : ℕ) (a : AssortmentParts) → slice_get xs at ≡ Some a → at < later
@@ -84,11 +85,4 @@ class_of_assortment i stem g = class_in_assortment (slice_get i.assortments g.as
 
 -- a class's place is below the number of classes
 pub place_lt : (i : InstructionParts) (c : Class) → IsClass i c → index_of i c < classes i
-place_lt i c k =
-    let within : c.assortment < length i.assortments =
-    slice_get_within i.assortments c.assortment k.assortment k.exists in
-    let more : classes_before i c.assortment + classes_of (get_or i.assortments c.assortment k.assortment) ≤ classes i =
-    sum_by_more_le classes_of i.assortments c.assortment k.assortment within in
-    let whole : classes_before i c.assortment + classes_of k.assortment ≤ classes i =
-    rw (get_or_from_slice_get i.assortments c.assortment k.assortment k.assortment k.exists) at more in
-    omega (arith, inner_is i c k, inner_lt i c k)
+place_lt i c k = omega (arith, inner_is i c k, inner_lt i c k, part_within i c.assortment k.assortment k.exists)

@@ -1,6 +1,6 @@
 -- Prices in the relation, class by class.
 use Rattle.std.proofs.Common.{◌≡◌, ℕ, ◌+◌, ◌<◌, inl, inr, List, Option, Some, None, length, slice_index, refl, sym, subst, arith}
-use Rattle.std.specs.Prelude.{IfSome, IfNone}
+use Rattle.std.specs.Prelude.{IfNone}
 use Rattle.std.proofs.lemmas.Bool.{cases_lt}
 use Rattle.buck_apt.specs.declared.class.Class.{Class}
 use Rattle.buck_apt.specs.Instruction.{InstructionParts, AssortmentParts, IsClass, classes, index_of}
@@ -12,8 +12,8 @@ use Rattle.buck_book.specs.Walk.{IsWrongPrice}
 use Rattle.buck_book.specs.inner.Running.{AreCounts}
 use Rattle.buck_book.specs.inner.Pricing.{StandingsParts, IsClassOf, standing_by}
 use Rattle.buck_book.specs.inner.Walk.{AreMetBelow, IsFirstWrong}
-use Rattle.buck_book.proofs.Places.{one_place, place_lt, inner_is}
-use Rattle.buck_book.proofs.Standings.{one_assortment, standing_is}
+use Rattle.buck_book.proofs.Places.{place_lt, inner_is}
+use Rattle.buck_book.proofs.Standings.{at_place, standing_is}
 
 -- one class more
 pub met_more : (s : StandingsParts) (prices : List ℕ) (c : Class) (n : ℕ) (k : IsClass s.instruction c)
@@ -23,17 +23,10 @@ pub met_more : (s : StandingsParts) (prices : List ℕ) (c : Class) (n : ℕ) (k
     → AreMetBelow s prices (n + 1)
 met_more s prices c n k place met below = λ d l lt. elim (cases_lt (index_of s.instruction d) n) [
   | inl old ↦ below d l old
-  | inr new ↦ here d (one_place s.instruction c d k l (omega (arith, place))) l
+  | inr new ↦
+      at_place s.instruction (λ a x m. Meets (standing_by s a x) (slice_index prices m)) c d k l (omega (arith, place))
+      (subst (λ m. Meets (standing_by s k.assortment c) (slice_index prices m)) (sym place) met)
 ]
-  where
-    here : (d : Class) → c ≡ d → (l : IsClass s.instruction d)
-        → Meets (standing_by s l.assortment d) (slice_index prices (index_of s.instruction d))
-    here d one =
-        subst (λ (x : Class). (l : IsClass s.instruction x)
-        → Meets (standing_by s l.assortment x) (slice_index prices (index_of s.instruction x))) one
-        (λ l.
-        subst (λ q. Meets (standing_by s l.assortment c) (slice_index prices q)) (sym place)
-        (subst (λ a. Meets (standing_by s a c) (slice_index prices n)) (one_assortment s.instruction c k l) met))
 
 module _ (i : InstructionParts) (targets by_class by_assortment : List ℕ) (ps : List Posting) (prices : List ℕ)
     (wanted : targets ≡ targets_of i ps) (counts : AreCounts i ps by_class by_assortment) where
@@ -70,10 +63,6 @@ module _ (i : InstructionParts) (targets by_class by_assortment : List ℕ) (ps 
   }
 
 -- what a fact about an option gives
-pub weaken_some : {X : Type 0} {P Q : X → Type 0} (o : Option X) → ((x : X) → P x → Q x) → IfSome o P → IfSome o Q
-weaken_some None f p = p
-weaken_some (Some x) f p = f x p
-
 pub weaken_none : {X : Type 0} {P Q : Type 0} (o : Option X) → (P → Q) → IfNone o P → IfNone o Q
 weaken_none None f p = f p
 weaken_none (Some x) f p = p

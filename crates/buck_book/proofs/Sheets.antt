@@ -1,16 +1,10 @@
 -- The sheets of a book.
 use Rattle.std.proofs.Common.{◌≡◌, ℕ, zero, suc, ◌+◌, ◌*◌, ◌<◌, ◌≤◌, List, [], ◌∷◌, ◌++◌, All, length, get_or, refl, ◌∙◌, ap, arith, mul-le-mul_right}
-use Rattle.std.specs.Prelude.{Result, Ok, Err, IfOk}
 use Rattle.std.proofs.lemmas.List.Sums.{sum_by-le}
 use Rattle.std.proofs.lemmas.List.Elements.{All-weaker}
 use Rattle.buck_apt.specs.Instruction.{InstructionParts, AssortmentParts, IsInstruction, IsAssortment, classes, classes_of}
 use Rattle.buck_value.specs.Sheet.{SheetParts, sheet_of}
 use Rattle.buck_book.specs.Book.{sheets_from}
-
--- what a fact about each result gives
-pub weaken_ok : {T E : Type 0} {P Q : T → Type 0} (r : Result T E) → ((x : T) → P x → Q x) → IfOk r P → IfOk r Q
-weaken_ok (Ok x) f p = f x p
-weaken_ok (Err e) f p = p
 
 pub length-sheets_from : (v : ℕ) (i : InstructionParts) (pss : List (List ℕ))
     → length (sheets_from v i pss) ≡ length pss

@@ -1,11 +1,11 @@
 -- How classes stand, and the prices that are answered to that.
-use Rattle.std.proofs.Common.{◌≡◌, ℕ, ◌+◌, ◌*◌, ◌<◌, ◌≤◌, inl, inr, List, [], ◌∷◌, ◌++◌, length, take, get_or, slice_index, slice_get, Some, sum_by, refl, sym, ◌∙◌, ap, subst, arith, mul-le-mul_left}
-use Rattle.std.specs.List.{flat_map, AllByRecursion}
+use Rattle.std.proofs.Common.{◌≡◌, ℕ, ◌+◌, ◌*◌, ◌<◌, ◌≤◌, inl, inr, List, [], ◌∷◌, ◌++◌, length, take, get_or, slice_index, slice_get, Some, sym, ◌∙◌, ap, subst, arith, mul-le-mul_left}
+use Rattle.std.specs.List.{flat_map}
 use Rattle.std.proofs.lemmas.Bool.{cases_order, cases_lt}
 use Rattle.std.proofs.lemmas.List.{get_or_push, get_or_append_left, length_push}
 use Rattle.std.proofs.lemmas.List.Concat.{length-flat_map}
-use Rattle.std.proofs.lemmas.List.Sums.{sum_by-cons, sum_by_more}
-use Rattle.std.proofs.lemmas.List.Elements.{All-get_or, All-take, recursion_from_All}
+use Rattle.std.proofs.lemmas.List.Sums.{sum_by_more}
+use Rattle.std.proofs.lemmas.List.Elements.{All-take, recursion_from_All}
 use Rattle.std.proofs.lemmas.Option.{slice_get_within, get_or_from_slice_get, same_Some}
 use denote.Ref.{Bor}
 use denote.Param.Members.{Shared}
@@ -27,17 +27,19 @@ use Rattle.buck_book.specs.inner.Running.{AreCounts}
 use Rattle.buck_book.specs.inner.Pricing.{StandingsParts, CanPrice, IsClassOf, IsAnswer, ArePriced, standing_by}
 use Rattle.std.specs.Fn.{FnReturnsAt}
 use Rattle.buck_book.proofs.Places.{inner_is, inner_lt, one_place, place_lt}
-use Rattle.buck_book.proofs.Wanted.{target_within, target_low}
+use Rattle.buck_book.proofs.Wanted.{sum_same, valid_at, target_within, target_low}
 
 -- a class has one assortment
 pub one_assortment : (i : InstructionParts) (c : Class) (k l : IsClass i c) → k.assortment ≡ l.assortment
 one_assortment i c k l = same_Some k.assortment l.assortment (sym k.exists ∙ l.exists)
 
-pub valid_of : (i : InstructionParts) (c : Class) → IsInstruction i → (k : IsClass i c) → IsAssortment k.assortment
-valid_of i c v k =
-    let lt : c.assortment < length i.assortments = slice_get_within i.assortments c.assortment k.assortment k.exists in
-    subst IsAssortment (get_or_from_slice_get i.assortments c.assortment k.assortment k.assortment k.exists)
-    (All-get_or IsAssortment i.assortments c.assortment k.assortment lt v.assortments_valid)
+-- what holds of a class holds of each class at its place
+pub at_place : (i : InstructionParts) (P : AssortmentParts → Class → ℕ → Type 0) (c d : Class) (k : IsClass i c)
+    (l : IsClass i d) → index_of i c ≡ index_of i d
+    → P k.assortment c (index_of i c) → P l.assortment d (index_of i d)
+at_place i P c d k l same holds =
+    subst (λ (x : Class). (m : IsClass i x) → P m.assortment x (index_of i x)) (one_place i c d k l same)
+    (λ m. subst (λ a. P a c (index_of i c)) (one_assortment i c k m) holds) l
 
 -- how a class stands lies in range
 pub in_range : (i : InstructionParts) (c : Class) (targets : List ℕ) (count counts : ℕ) → IsInstruction i
@@ -61,30 +63,18 @@ in_range i c targets count counts v t k le low =
       counts = low;
     }
 
-sum_same : (as_ : List AssortmentParts) → AllByRecursion IsAssortment as_
-    → sum_by (λ a. length a.prices) as_ ≡ sum_by classes_of as_
-sum_same [] h = refl
-sum_same (a ∷ as_) h =
-    omega (
-      arith,
-      h.0.prices_number,
-      sum_same as_ h.1,
-      sum_by-cons (λ a. length a.prices) a as_,
-      sum_by-cons classes_of a as_,
-    )
-
 -- the base price of a class, by its place among all
 pub base_is : (i : InstructionParts) (c : Class) → IsInstruction i → (k : IsClass i c)
     → slice_index (base_prices i) (index_of i c)
     ≡ slice_index k.assortment.prices (c.row * length k.assortment.lengths + c.column)
 base_is i c v k =
     let lt : c.assortment < length i.assortments = slice_get_within i.assortments c.assortment k.assortment k.exists in
-    let w : IsAssortment k.assortment = valid_of i c v k in
+    let w : IsAssortment k.assortment = valid_at i c.assortment k.assortment v k.exists in
     let here : k.assortment ≡ get_or i.assortments c.assortment k.assortment =
     sym (get_or_from_slice_get i.assortments c.assortment k.assortment k.assortment k.exists) in
     let before : classes_before i c.assortment ≡ length (flat_map (λ a. a.prices) (take c.assortment i.assortments)) =
     sym (length-flat_map (λ a. a.prices) (take c.assortment i.assortments)
-    ∙ sum_same (take c.assortment i.assortments)
+    ∙ sum_same (λ a. a.prices) (λ a w. w.prices_number) (take c.assortment i.assortments)
     (recursion_from_All IsAssortment (take c.assortment i.assortments)
     (All-take IsAssortment c.assortment i.assortments v.assortments_valid))) in
     ap (λ x. slice_index (base_prices i) x) (inner_is i c k)
@@ -117,9 +107,9 @@ priced_more g f s prices c price k next answer priced =
             (sym (get_or_append_left prices (price ∷ []) 0 (index_of i d) old))
             (priced.answered d l old)
         | inr new ↦
-            let same : index_of i c ≡ index_of i d = omega (arith, length_push prices price) in
-            let one : c ≡ d = one_place i c d k l same in
-            at_last d one l
+            at_place i (λ a x n. IsAnswer g f (standing_by s a x) (slice_index (prices ++ price ∷ []) n)) c d k l
+            (omega (arith, length_push prices price))
+            (subst (λ p. IsAnswer g f (standing_by s k.assortment c) p) (sym last) answer)
       ];
       in_span = λ j lt. elim (cases_lt j (length prices)) [
         | inl old ↦
@@ -133,17 +123,6 @@ priced_more g f s prices c price k next answer priced =
             (subst (λ p. IsInSpan i.limit (slice_index (base_prices i) (index_of i c)) p) (sym last) here)
       ];
     }
-  where
-    at_last : (d : Class) → c ≡ d → (l : IsClass s.instruction d)
-        → IsAnswer g f (standing_by s l.assortment d) (slice_index (prices ++ price ∷ []) (index_of s.instruction d))
-    at_last d one =
-        subst (λ (x : Class). (l : IsClass s.instruction x)
-        → IsAnswer g f (standing_by s l.assortment x)
-        (slice_index (prices ++ price ∷ []) (index_of s.instruction x))) one
-        (λ l.
-        subst (λ p. IsAnswer g f (standing_by s l.assortment c) p)
-        (sym (get_or_push prices price 0 (index_of s.instruction c) next))
-        (subst (λ a. IsAnswer g f (standing_by s a c) price) (one_assortment s.instruction c k l) answer))
 
 -- a price in the relation is at most twice the greatest base price
 pub meets_low : (s : Standing) (price : ℕ) → IsInRange s → Meets s price → price ≤ 20000000

@@ -1,6 +1,8 @@
 -- The instruction's targets are valid, and what is wanted of an assortment is read from its part of all targets.
 use Rattle.std.proofs.Common.{◌≡◌, ℕ, zero, suc, ◌+◌, ◌<◌, ◌≤◌, ◌-◌, inl, inr, List, [], ◌∷◌, ◌++◌, All, length, take, drop, get_or, slice_index, slice_get, Some, sum, sum_by, refl, sym, ◌∙◌, ap, subst, arith}
 use Rattle.std.specs.List.{flat_map, AllByRecursion}
+use borrow.Author.Count.{below_more}
+use Rattle.std.proofs.Math.Seq.{drop-append-add}
 use Rattle.std.proofs.lemmas.Bool.{cases_lt}
 use Rattle.std.proofs.lemmas.List.{get_or-take, get_or-drop, length-take-le, length-drop, take-append-le, take_all, get_or_past}
 use Rattle.std.proofs.lemmas.List.Concat.{length-flat_map}
@@ -11,15 +13,16 @@ use Rattle.buck_apt.specs.Instruction.{InstructionParts, AssortmentParts, IsInst
 use Rattle.buck_book.specs.Posting.{opening_targets}
 use Rattle.buck_book.specs.Targets.{AreTargets, IsLowSumAt, targets_sum}
 
-sum_same : (as_ : List AssortmentParts) → AllByRecursion IsAssortment as_
-    → sum_by (λ a. length a.targets) as_ ≡ sum_by classes_of as_
-sum_same [] h = refl
-sum_same (a ∷ as_) h =
+pub sum_same : (f : AssortmentParts → List ℕ) → ((a : AssortmentParts) → IsAssortment a → length (f a) ≡ classes_of a)
+    → (as_ : List AssortmentParts) → AllByRecursion IsAssortment as_
+    → sum_by (λ a. length (f a)) as_ ≡ sum_by classes_of as_
+sum_same f one [] h = refl
+sum_same f one (a ∷ as_) h =
     omega (
       arith,
-      h.0.targets_number,
-      sum_same as_ h.1,
-      sum_by-cons (λ a. length a.targets) a as_,
+      one a h.0,
+      sum_same f one as_ h.1,
+      sum_by-cons (λ x. length (f x)) a as_,
       sum_by-cons classes_of a as_,
     )
 
@@ -28,12 +31,6 @@ all_low : (as_ : List AssortmentParts) → AllByRecursion IsAssortment as_
 all_low [] h = λ k d lt. absurd (omega arith)
 all_low (a ∷ as_) h =
     All-append (λ t. t ≤ 1000000) a.targets (flat_map (λ a. a.targets) as_) h.0.targets_range (all_low as_ h.1)
-
-drop_past : (xs ys : List ℕ) (m : ℕ) → drop (length xs + m) (xs ++ ys) ≡ drop m ys
-drop_past [] ys m = ap (λ n. drop n ys) (let e : 0 + m ≡ m = omega arith in e)
-drop_past (x ∷ xs) ys m =
-    let e : suc (length xs) + m ≡ suc (length xs + m) = omega arith in
-    ap (λ n. drop n (x ∷ (xs ++ ys))) e ∙ drop_past xs ys m
 
 -- an assortment's part of the targets of all
 pub part_of : (as_ : List AssortmentParts) (at : ℕ) (a : AssortmentParts) → AllByRecursion IsAssortment as_
@@ -53,11 +50,11 @@ part_of (b ∷ as_) (suc at) a h e =
     ∙ ap (λ n. n + sum_by classes_of (take at as_)) (sym h.0.targets_number) in
     ap (λ n. take (classes_of a) (drop n (b.targets ++ flat_map (λ x. x.targets) as_))) before
     ∙ ap (λ xs. take (classes_of a) xs)
-    (drop_past b.targets (flat_map (λ x. x.targets) as_) (sum_by classes_of (take at as_)))
+    (drop-append-add b.targets (flat_map (λ x. x.targets) as_) (sum_by classes_of (take at as_)))
     ∙ part_of as_ at a h.1 e
 
-valid_at : (i : InstructionParts) (at : ℕ) (a : AssortmentParts) → IsInstruction i → slice_get i.assortments at ≡ Some a
-    → IsAssortment a
+pub valid_at : (i : InstructionParts) (at : ℕ) (a : AssortmentParts) → IsInstruction i
+    → slice_get i.assortments at ≡ Some a → IsAssortment a
 valid_at i at a v e =
     subst IsAssortment (get_or_from_slice_get i.assortments at a a e)
     (All-get_or IsAssortment i.assortments at a (slice_get_within i.assortments at a e) v.assortments_valid)
@@ -67,7 +64,8 @@ opening_valid i v =
     let h : AllByRecursion IsAssortment i.assortments =
     recursion_from_All IsAssortment i.assortments v.assortments_valid in
     record {
-      one_each = length-flat_map (λ a. a.targets) i.assortments ∙ sum_same i.assortments h;
+      one_each = length-flat_map (λ a. a.targets) i.assortments
+          ∙ sum_same (λ a. a.targets) (λ a w. w.targets_number) i.assortments h;
       low = λ k lt. all_low i.assortments h k 0 lt;
       low_sums = λ at lt a e. omega (arith, ap sum (part_of i.assortments at a h e), (valid_at i at a v e).targets_sum);
     }
@@ -104,10 +102,6 @@ pub low_more : (i : InstructionParts) (ts : List ℕ) (at : ℕ) (a : Assortment
     → targets_sum i a at ts ≤ 1000000000
     → ((k : ℕ) → k < at → IsLowSumAt i ts k)
     → (k : ℕ) → k < at + 1 → IsLowSumAt i ts k
-low_more i ts at a e low before k lt = elim (cases_lt k at) [
-  | inl earlier ↦ before k earlier
-  | inr here ↦
-      let is : at ≡ k = omega arith in
-      subst (λ n. IsLowSumAt i ts n) is
-      (λ b f. subst (λ x. targets_sum i x at ts ≤ 1000000000) (same_Some a b (sym e ∙ f)) low)
-]
+low_more i ts at a e low before =
+    below_more (λ k. IsLowSumAt i ts k) at before
+    (λ b f. subst (λ x. targets_sum i x at ts ≤ 1000000000) (same_Some a b (sym e ∙ f)) low)

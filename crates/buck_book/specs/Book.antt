@@ -22,6 +22,15 @@ pub record BookParts (F : Type 0) : Type 0 where
   pub room : ℕ  -- how many postings it has memory for
   pub sheet_room : ℕ  -- how many sheets it has memory for
 
+abbrev pub book_of : {F : Type 0} → F → InstructionParts → List (List ℕ) → List Posting → ℕ → ℕ → ℕ → BookParts F
+book_of rule i sheets postings capacity room sheet_room = record {
+  rule = rule;
+  history = record { instruction = i; sheets = sheets; postings = postings };
+  capacity = capacity;
+  room = room;
+  sheet_room = sheet_room;
+}
+
 -- the sheets of these prices, from a version on
 abbrev pub sheets_from : ℕ → InstructionParts → List (List ℕ) → List SheetParts
 sheets_from version i [] = []

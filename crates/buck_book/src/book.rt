@@ -48,34 +48,18 @@ pub struct Book<F> {
 
 impl<F> Model for Book<F> {
     ghost use Rattle.std.specs.Prelude.{map, vec_capacity};
-    ghost use Rattle.buck_book.specs.Book.{BookParts};
+    ghost use Rattle.buck_book.specs.Book.{BookParts, book_of};
     ghost use Rattle.buck_book.specs.inner.Running.{Keeps};
 
     ghost Value = { BookParts F };
 
-    ghost view = { λ b. record {
-      rule = b.rule;
-      history = record {
-        instruction = b.instruction.value;
-        sheets = map (λ a. a.value.prices) b.sheets.items;
-        postings = b.postings.items;
-      };
-      capacity = b.capacity;
-      room = vec_capacity b.postings;
-      sheet_room = vec_capacity b.sheets;
-    } };
+    ghost view = { λ b. book_of b.rule b.instruction.value (map (λ a. a.value.prices) b.sheets.items)
+        b.postings.items b.capacity (vec_capacity b.postings) (vec_capacity b.sheets) };
 
-    ghost invariant = { λ b. Keeps (record {
-      rule = b.rule;
-      history = record {
-        instruction = b.instruction.value;
-        sheets = map (λ a. a.value.prices) b.sheets.items;
-        postings = b.postings.items;
-      };
-      capacity = b.capacity;
-      room = vec_capacity b.postings;
-      sheet_room = vec_capacity b.sheets;
-    }) (map (λ a. a.value) b.sheets.items) b.running b.calls.items };
+    ghost invariant = { λ b. Keeps
+        (book_of b.rule b.instruction.value (map (λ a. a.value.prices) b.sheets.items)
+        b.postings.items b.capacity (vec_capacity b.postings) (vec_capacity b.sheets))
+        (map (λ a. a.value) b.sheets.items) b.running b.calls.items };
 }
 
 /// What a book held: a lawful history, the targets in force at its end, and how many logs were cut in each class.
@@ -120,6 +104,7 @@ fn add_sheet(sheets: &mut Vec<Arc<Sheet>>, next: Option<Arc<Sheet>>)
 
 /// Adds a posting to a book's lists, its number to the calls, and the next sheet, if there is one, where there is memory
 /// for both.
+#[tactic(auto, using(crate::proofs::Books::values_added, crate::proofs::Books::prices_added))]
 fn add(
     calls: &mut Vec<u32>,
     postings: &mut Vec<Posting>,
@@ -159,6 +144,7 @@ impl<F: Drop> Book<F> {
     }
 
     /// The version in force: how many periods have ended, at most 1,000,000.
+    #[tactic(auto, using(crate::proofs::Told::version_low))]
     pub fn version(&self) -> u32
         ensures version { result ≡ version_of self.now.history }
         ensures small { result ≤ MOST_POSTINGS }
@@ -295,6 +281,7 @@ impl<F: Drop> Book<F> {
     }
 
     /// Whether one more cut ends a period.
+    #[tactic(auto, using(crate::proofs::Told::cuts_few))]
     fn is_period_end(&self) -> bool
         ensures { IsTrue result
             ↔ (cuts_since_end self.now.history.instruction self.now.history.postings + 1
@@ -441,30 +428,6 @@ impl<F: Fn(&Standing) -> u64> Book<F> {
         )
     }
 
-    /// What runs on after a plan's entry, whoever commits it.
-    fn after_plan(&self, alloc: Global, plan: &Plan) -> Result<Running, Memory>
-        requires below { length self.now.history.postings < self.now.capacity }
-        requires in_force { plan.now.sheet ≡ in_force self.now.history }
-        ensures { IfOk result (λ n. (harvester : ℕ) →
-            IsPassed self.now.history (Posting.Cut (entry_of self.now.history harvester plan.now)) n) }
-    {
-        let mut after = self.running.clone(alloc)?;
-        after.after_plan(plan);
-        Ok(after)
-    }
-
-    /// What runs on after a demand of valid targets, whoever commits it.
-    fn after_targets(&self, alloc: Global, targets: &Arc<Vec<u32>>) -> Result<Running, Memory>
-        requires below { length self.now.history.postings < self.now.capacity }
-        requires valid { AreTargets self.now.history.instruction targets.now.value.items }
-        ensures { IfOk result (λ n. (harvester : ℕ) → IsPassed self.now.history
-            (Posting.Demand (demand_of self.now.history harvester targets.now.value.items)) n) }
-    {
-        let mut after = self.running.clone(alloc)?;
-        after.after_demand(targets.clone()?);
-        Ok(after)
-    }
-
     /// The next sheet after a plan's entry, where that ends a period.
     fn next_sheet(&self, alloc: Global, plan: &Plan) -> Result<Option<Arc<Sheet>>, Memory>
         requires answers { Answers F.Fn self.now.rule }
@@ -478,48 +441,24 @@ impl<F: Fn(&Standing) -> u64> Book<F> {
         if !self.is_period_end() {
             return Ok(None);
         }
-        let after = self.after_plan(alloc, plan)?;
+        let mut after = self.running.clone(alloc)?;
+        after.after_plan(plan);
         Ok(Some(self.sheet_after(alloc, &after)?))
     }
 
-    /// All that the commit of a plan stores or hands out.
-    fn made_for(&self, alloc: Global, plan: &Plan) -> Result<Ready, Memory>
-        requires answers { Answers F.Fn self.now.rule }
-        requires below { length self.now.history.postings < self.now.capacity }
-        requires in_force { plan.now.sheet ≡ in_force self.now.history }
-        ensures stem { IfOk result (λ r. r.stem ≡ plan.now.stem) }
-        ensures logs { IfOk result (λ r. r.logs ≡ plan.now.logs) }
-        ensures next { IfOk result (λ r. (harvester : ℕ) → IsNext self.now.history
-            (Posting.Cut (entry_of self.now.history harvester plan.now)) r.next) }
-        ensures given { IfOk result (λ r. IfSome r.next (λ s.
-            AreAnswersWith F.Fn self.now.rule self.now.history plan.now s.prices)) }
-    {
-        Ok(Ready {
-            stem: plan.stem().clone()?,
-            cutting: plan.cutting().clone()?,
-            next: self.next_sheet(alloc, plan)?,
-        })
-    }
-
-    /// All that the commit of a demand of valid targets stores or hands out.
-    fn made_demand(&self, alloc: Global, targets: &Arc<Vec<u32>>) -> Result<ReadyDemand, Memory>
+    /// The next sheet after a demand of valid targets.
+    fn sheet_of_demand(&self, alloc: Global, targets: &Arc<Vec<u32>>) -> Result<Arc<Sheet>, Memory>
         requires answers { Answers F.Fn self.now.rule }
         requires below { length self.now.history.postings < self.now.capacity }
         requires valid { AreTargets self.now.history.instruction targets.now.value.items }
-        ensures targets { IfOk result (λ r. r.targets ≡ targets.now.value.items) }
-        ensures next { IfOk result (λ r. (harvester : ℕ) → IsNextSheet self.now.history
-            (Posting.Demand (demand_of self.now.history harvester targets.now.value.items)) r.next) }
-        ensures given { IfOk result (λ r.
-            AreAnswersWithDemand F.Fn self.now.rule self.now.history targets.now.value.items r.next.prices) }
+        ensures next { IfOk result (λ s. (harvester : ℕ) → IsNextSheet self.now.history
+            (Posting.Demand (demand_of self.now.history harvester targets.now.value.items)) s.value) }
+        ensures given { IfOk result (λ s.
+            AreAnswersWithDemand F.Fn self.now.rule self.now.history targets.now.value.items s.value.prices) }
     {
-        let after = self.after_targets(alloc, targets)?;
-        let next = self.sheet_after(alloc, &after)?;
-        Ok(ReadyDemand {
-            stored: targets.clone()?,
-            in_force: targets.clone()?,
-            answered: targets.clone()?,
-            next,
-        })
+        let mut after = self.running.clone(alloc)?;
+        after.after_demand(targets.clone()?);
+        self.sheet_after(alloc, &after)
     }
 
     /// Prepares the commit of a plan: makes all that the commit stores or hands out, with the next sheet where the
@@ -541,7 +480,12 @@ impl<F: Fn(&Standing) -> u64> Book<F> {
             let in_force = self.sheet().clone()?;
             return Err(Refusal::Stale { in_force });
         }
-        let ready = self.made_for(alloc, plan)?;
+        let next = self.next_sheet(alloc, plan)?;
+        let ready = Ready {
+            stem: plan.stem().clone()?,
+            cutting: plan.cutting().clone()?,
+            next,
+        };
         self.reserve()?;
         Ok(ready)
     }
@@ -570,7 +514,13 @@ impl<F: Fn(&Standing) -> u64> Book<F> {
             Err(fault) => return Err(DemandRefusal::Targets(fault)),
             Ok(()) => {}
         }
-        let ready = self.made_demand(alloc, targets)?;
+        let next = self.sheet_of_demand(alloc, targets)?;
+        let ready = ReadyDemand {
+            stored: targets.clone()?,
+            in_force: targets.clone()?,
+            answered: targets.clone()?,
+            next,
+        };
         self.reserve()?;
         Ok(ready)
     }

@@ -3,20 +3,8 @@ ghost use Rattle.std.specs.Prelude.{◌≡◌, ◌*◌, ◌<◌, ◌≤◌, ◌^
 ghost use Rattle.buck_apt.specs.Instruction.{classes};
 ghost use Rattle.buck_book.specs.Degree.{IsDegreeBy, degree_of, shared_of};
 
+use crate::targets::sum_of;
 use buck_apt::{Class, Instruction};
-
-/// All of some numbers together.
-fn sum_of(numbers: &[u32]) -> u128
-    requires few { length numbers.now ≤ 1024 }
-    ensures sum { result ≡ sum numbers.now }
-    ensures low { result ≤ 1024 * 2 ^ 32 }
-{
-    let mut all = 0;
-    for number in numbers {
-        all += u128::from(*number);
-    }
-    all
-}
 
 /// Over all classes, the lesser of what is wanted as a share of all wanted and what was cut as a share of all cut.
 fn shared(targets: &[u32], counts: &[u32], wanted: u128, cut: u128) -> u128
@@ -40,8 +28,8 @@ fn degree_by(targets: &[u32], counts: &[u32]) -> Option<u32>
     requires one_each { length counts.now ≡ length targets.now }
     ensures { result ≡ degree_of targets.now counts.now }
 {
-    let wanted = sum_of(targets);
-    let cut = sum_of(counts);
+    let wanted = u128::from(sum_of(targets));
+    let cut = u128::from(sum_of(counts));
     if wanted * cut == 0 {
         return None;
     }

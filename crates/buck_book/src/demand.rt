@@ -1,5 +1,6 @@
 //! Prepared demands, and why new targets are refused.
 ghost use Rattle.std.specs.Prelude.{◌≡◌};
+ghost use Rattle.buck_book.specs.declared.demand.DemandRefusal.TheVariants.{Memory};
 
 use crate::targets::TargetsFault;
 use buck_record::Memory;
@@ -54,9 +55,6 @@ pub enum DemandRefusal {
 }
 
 impl From<AllocError> for DemandRefusal {
-    ghost use Rattle.std.specs.Prelude.{◌≡◌};
-    ghost use Rattle.buck_book.specs.declared.demand.DemandRefusal.TheVariants.{Memory};
-
     ghost from_gives = { λ _ e. e ≡ Memory };
 
     fn from(_error: AllocError) -> DemandRefusal {
@@ -65,9 +63,6 @@ impl From<AllocError> for DemandRefusal {
 }
 
 impl From<Memory> for DemandRefusal {
-    ghost use Rattle.std.specs.Prelude.{◌≡◌};
-    ghost use Rattle.buck_book.specs.declared.demand.DemandRefusal.TheVariants.{Memory};
-
     ghost from_gives = { λ _ e. e ≡ Memory };
 
     fn from(_error: Memory) -> DemandRefusal {

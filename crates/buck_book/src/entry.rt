@@ -85,21 +85,11 @@ impl Entry {
     pub fn same(&self, other: &Entry) -> bool
         ensures { IsTrue result ↔ (self.now ≡ other.now) }
     {
-        if self.harvester != other.harvester {
-            return false;
-        }
-        if self.number != other.number {
-            return false;
-        }
-        if self.version != other.version {
-            return false;
-        }
-        if self.worth != other.worth {
-            return false;
-        }
-        if !self.stem.same(&other.stem) {
-            return false;
-        }
-        same_logs(self.cutting.logs.as_slice(), other.cutting.logs.as_slice())
+        self.harvester == other.harvester
+            && self.number == other.number
+            && self.version == other.version
+            && self.worth == other.worth
+            && self.stem.same(&other.stem)
+            && same_logs(self.cutting.logs.as_slice(), other.cutting.logs.as_slice())
     }
 }

@@ -17,6 +17,7 @@ pub fn prefix_is_lawful()
 
 /// A lawful history with one posting more that may follow, and with a next sheet where that posting is an end and there
 /// alone, is lawful.
+#[tactic(auto, using(crate::proofs::Extend::one_more))]
 pub fn one_more_is_lawful()
     ensures { (h : HistoryParts) (x : Posting) (next : Option SheetParts)
         → IsLawful h
@@ -41,6 +42,7 @@ pub fn lawful_of_cuts_alone()
 
 /// A demand is an end, and what comes after it goes on as a history of its own: the ends are those before it, itself, and
 /// those of what comes after, counted as from an opening.
+#[tactic(auto, using(crate::proofs::Ends::ends_around, crate::proofs::Ends::cuts_around))]
 pub fn ends_around_a_demand()
     ensures { (i : InstructionParts) (before after : List Posting) (d : DemandParts)
         → (ends_of i (before ++ Demand d ∷ after) ≡ ends_of i before + 1 + ends_of i after)

@@ -71,16 +71,10 @@ impl Demand {
     pub fn same(&self, other: &Demand) -> bool
         ensures { IsTrue result ↔ (self.now ≡ other.now) }
     {
-        if self.harvester != other.harvester {
-            return false;
-        }
-        if self.number != other.number {
-            return false;
-        }
-        if self.version != other.version {
-            return false;
-        }
-        self.targets.as_slice() == other.targets.as_slice()
+        self.harvester == other.harvester
+            && self.number == other.number
+            && self.version == other.version
+            && self.targets.as_slice() == other.targets.as_slice()
     }
 }
 

@@ -1,6 +1,7 @@
 //! Prepared commits, and why a plan is refused.
 ghost use Rattle.std.specs.Prelude.{◌≡◌};
 ghost use Rattle.std.specs.Option.{option_map};
+ghost use Rattle.buck_book.specs.declared.ready.Refusal.TheVariants.{Memory};
 
 use buck_dp::Cutting;
 use buck_record::Memory;
@@ -67,9 +68,6 @@ impl Debug for Refusal {
 }
 
 impl From<AllocError> for Refusal {
-    ghost use Rattle.std.specs.Prelude.{◌≡◌};
-    ghost use Rattle.buck_book.specs.declared.ready.Refusal.TheVariants.{Memory};
-
     ghost from_gives = { λ _ e. e ≡ Memory };
 
     fn from(_error: AllocError) -> Refusal {
@@ -78,9 +76,6 @@ impl From<AllocError> for Refusal {
 }
 
 impl From<Memory> for Refusal {
-    ghost use Rattle.std.specs.Prelude.{◌≡◌};
-    ghost use Rattle.buck_book.specs.declared.ready.Refusal.TheVariants.{Memory};
-
     ghost from_gives = { λ _ e. e ≡ Memory };
 
     fn from(_error: Memory) -> Refusal {

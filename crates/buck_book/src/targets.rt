@@ -1,5 +1,5 @@
 //! Which targets may come into force.
-ghost use Rattle.std.specs.Prelude.{◌≡◌, ℕ, ◌+◌, ◌<◌, ◌≤◌, IfSome, IfNone, IfErr, OnOk, EachIndex, length, take, drop, sum, slice_get, slice_index, Some};
+ghost use Rattle.std.specs.Prelude.{◌≡◌, ℕ, ◌+◌, ◌*◌, ◌<◌, ◌≤◌, ◌^◌, IfSome, IfNone, IfErr, OnOk, EachIndex, length, take, drop, sum, slice_get, slice_index, Some};
 ghost use Rattle.buck_apt.specs.Instruction.{IsInstruction, classes, classes_of, classes_before};
 ghost use Rattle.buck_book.specs.Targets.{AreTargets, IsTargetsFault, IsLowAt, IsLowSumAt, targets_sum};
 
@@ -37,10 +37,11 @@ fn first_above(targets: &[u32]) -> Option<usize>
     None
 }
 
-/// All of some targets together.
-fn sum_of(targets: &[u32]) -> u64
+/// All of some numbers together.
+pub fn sum_of(targets: &[u32]) -> u64
     requires few { length targets.now ≤ 1024 }
-    ensures { result ≡ sum targets.now }
+    ensures sum { result ≡ sum targets.now }
+    ensures low { result ≤ 1024 * 2 ^ 32 }
 {
     let mut all = 0;
     for target in targets {

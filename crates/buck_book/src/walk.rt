@@ -105,6 +105,7 @@ impl<'a> Walk<'a> {
     }
 
     /// The version in force: how many ends were passed.
+    #[tactic(auto, using(crate::proofs::Told::version_low))]
     pub fn version(&self) -> u32
         ensures version { result ≡ ends_of self.now.instruction (passed self.now) }
         ensures small { result ≤ MOST_POSTINGS }

@@ -1,9 +1,16 @@
 -- the seats of a new fleet, and the same seats after a run
-use Rattle.std.proofs.Common.{◌≡◌, ℕ, suc, ◌+◌, ◌<◌, ◌≤◌, ◌≢◌, ◌==◌, ◌⊎◌, inl, inr, cond, List, [], ◌∷◌, length, get_or, refl, ap, subst, ◌∙◌, arith}
-use Rattle.std.proofs.lemmas.List.Sums.{sum_by-append}
+use Rattle.std.proofs.Common.{◌≡◌, ℕ, suc, ◌+◌, ◌<◌, ◌≤◌, ◌≢◌, ◌==◌, ◌⊎◌, inl, inr, cond, List, [], ◌∷◌, length, get_or, refl, sym, ap, subst, ◌∙◌, arith}
+use Rattle.std.specs.List.{sum_by}
+use Rattle.std.proofs.lemmas.List.Sums.{sum_by-cons}
 use Rattle.std.proofs.lemmas.Bool.Decides.{nat_tests}
 use Rattle.buck_fleet.specs.Seat.{SeatParts}
 use Rattle.buck_fleet.specs.Crew.{seats_of, parts_of, IsCrew}
+use Rattle.buck_fleet.specs.Fleet.{FleetParts, IsSeatIn}
+use Rattle.buck_fleet.specs.Run.{HasRun, HaveRun, stems_at}
+use Rattle.std.specs.declared.sync.Arc.{Arc}
+use Rattle.std.specs.declared.vec.Vec.{Vec}
+use Rattle.std.specs.declared.alloc.Global.{Global}
+use Rattle.buck_stem.specs.declared.stem.Stem.{Stem}
 use Rattle.buck_fleet.proofs.Places.{seats_of-append, seats_of-self}
 
 seats_of-other : (h : ℕ) (s : SeatParts) → s.harvester ≢ h → seats_of h (s ∷ []) ≡ 0
@@ -53,32 +60,21 @@ crew_of_new n seats number each =
       once = λ h pos le. seats_in h 0 seats rising pos (omega arith);
     }
 
+-- sums over seats that are alike
+sums_same : (f : SeatParts → ℕ) (xs ys : List SeatParts) → length ys ≡ length xs
+    → ((i : ℕ) (d : SeatParts) → i < length xs → f (get_or ys i d) ≡ f (get_or xs i d)) → sum_by f ys ≡ sum_by f xs
+sums_same f [] [] len e = refl
+sums_same f [] (y ∷ ys) len e = absurd (omega arith)
+sums_same f (x ∷ xs) [] len e = absurd (omega arith)
+sums_same f (x ∷ xs) (y ∷ ys) len e =
+    let h : f y ≡ f x = e 0 x (omega arith) in
+    let t = sums_same f xs ys (omega arith) (λ i d lt. e (suc i) d (omega arith)) in
+    sum_by-cons f y ys ∙ (λ j. h j + t j) ∙ sym (sum_by-cons f x xs)
+
 pub parts_same : (xs ys : List SeatParts) → length ys ≡ length xs
     → ((i : ℕ) (d : SeatParts) → i < length xs → (get_or ys i d).parts ≡ (get_or xs i d).parts)
     → parts_of ys ≡ parts_of xs
-parts_same [] [] len e = refl
-parts_same [] (y ∷ ys) len e = absurd (omega arith)
-parts_same (x ∷ xs) [] len e = absurd (omega arith)
-parts_same (x ∷ xs) (y ∷ ys) len e =
-    let a = sum_by-append (λ (s : SeatParts). s.parts) (x ∷ []) xs in
-    let b = sum_by-append (λ (s : SeatParts). s.parts) (y ∷ []) ys in
-    let h : y.parts ≡ x.parts = e 0 x (omega arith) in
-    let t = parts_same xs ys (omega arith) (λ i d lt. e (suc i) d (omega arith)) in
-    omega arith
-
-seats_same : (h : ℕ) (xs ys : List SeatParts) → length ys ≡ length xs
-    → ((i : ℕ) (d : SeatParts) → i < length xs → (get_or ys i d).harvester ≡ (get_or xs i d).harvester)
-    → seats_of h ys ≡ seats_of h xs
-seats_same h [] [] len e = refl
-seats_same h [] (y ∷ ys) len e = absurd (omega arith)
-seats_same h (x ∷ xs) [] len e = absurd (omega arith)
-seats_same h (x ∷ xs) (y ∷ ys) len e =
-    let a = seats_of-append h (x ∷ []) xs in
-    let b = seats_of-append h (y ∷ []) ys in
-    let is : y.harvester ≡ x.harvester = e 0 x (omega arith) in
-    let one : seats_of h (y ∷ []) ≡ seats_of h (x ∷ []) = ap (λ (n : ℕ). 0 + cond (n == h) 1 0) is in
-    let t = seats_same h xs ys (omega arith) (λ i d lt. e (suc i) d (omega arith)) in
-    omega arith
+parts_same xs ys len e = sums_same (λ s. s.parts) xs ys len e
 
 pub crew_same : (n : ℕ) (xs ys : List SeatParts) → length ys ≡ length xs
     → ((i : ℕ) (d : SeatParts) → i < length xs → (get_or ys i d).harvester ≡ (get_or xs i d).harvester) → IsCrew n xs
@@ -86,5 +82,20 @@ pub crew_same : (n : ℕ) (xs ys : List SeatParts) → length ys ≡ length xs
 crew_same n xs ys len e crew = record {
   within = λ i d lt.
       (let w = crew.within i d (omega arith) in let is = e i d (omega arith) in (omega arith, omega arith));
-  once = λ h pos le. seats_same h xs ys len e ∙ crew.once h pos le;
+  once = λ h pos le. sums_same (λ s. cond (s.harvester == h) 1 0) xs ys len
+      (λ i d lt. ap (λ (n : ℕ). cond (n == h) 1 0) (e i d lt)) ∙ crew.once h pos le;
+}
+
+-- each seat has run
+pub have_run : (f : FleetParts) (lists : List (Vec (Arc Stem Global) Global)) (xs ys : List SeatParts)
+    → length ys ≡ length xs
+    → ((i : ℕ) (d : SeatParts) → i < length xs
+    → IsSeatIn f (get_or ys i d) × HasRun (stems_at lists i) (get_or xs i d) (get_or ys i d))
+    → HaveRun f lists xs ys
+have_run f lists xs ys number each = record {
+  number = number;
+  of_fleet = λ k d lt. (each k d (omega (arith, lt, number))).0;
+  same_crew = λ n crew. crew_same n xs ys number (λ i d lt. (each i d lt).1.beginning.1.kept.same_harvester) crew;
+  same_parts = parts_same xs ys number (λ i d lt. (each i d lt).1.beginning.1.kept.same_parts);
+  runs = λ i d lt. (each i d lt).1;
 }

@@ -1,6 +1,6 @@
 -- seats of a new fleet, one by one
 use Rattle.std.proofs.Common.{◌≡◌, ℕ, ◌+◌, ◌<◌, ◌⊎◌, inl, inr, List, [], ◌∷◌, ◌++◌, length, get_or, refl, sym, ap, subst, ◌∙◌, arith}
-use Rattle.std.specs.Prelude.{All, None}
+use Rattle.std.specs.Prelude.{None}
 use Rattle.std.proofs.lemmas.List.{get_or_append_left, get_or_push, length_push}
 use Rattle.std.proofs.lemmas.List.Sums.{sum_by-append}
 use Rattle.buck_board.specs.declared.board.Board.{Board}
@@ -8,16 +8,6 @@ use Rattle.buck_board.specs.declared.seat.BoardSeat.{BoardSeat}
 use Rattle.buck_board.specs.Board.{IsSeatOf, seen_by}
 use Rattle.buck_fleet.specs.Seat.{SeatParts}
 use Rattle.buck_fleet.specs.Crew.{parts_of, IsNew}
-
--- what is true of all is true of the last one and of the others
-pub all_but_last : {A : Type 0} (P : A → Type 0) (all rest : List A) (x : A) → all ≡ rest ++ x ∷ [] → All P all
-    → All P rest × P x
-all_but_last P all rest x is p =
-    let p' : All P (rest ++ x ∷ []) = subst (λ (l : List _). All P l) is p in
-    let n = length_push rest x in (
-      λ k d lt. subst P (get_or_append_left rest (x ∷ []) d k lt) (p' k d (omega arith)),
-      subst P (get_or_push rest x x (length rest) refl) (p' (length rest) x (omega arith)),
-    )
 
 -- all seats so far are new ones
 abbrev pub AreNew : Board → List SeatParts → Type 0

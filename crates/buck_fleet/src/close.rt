@@ -5,7 +5,7 @@ ghost use Rattle.buck_book.specs.Posting.{harvester_of, targets_of};
 ghost use Rattle.buck_book.specs.Targets.{AreTargets};
 ghost use Rattle.buck_book.specs.Counts.{AreClassCounts};
 ghost use Rattle.buck_book.specs.History.{IsLawful, in_force};
-ghost use Rattle.buck_book.specs.Book.{IsFirst, sheets_from};
+ghost use Rattle.buck_book.specs.Book.{sheets_from};
 ghost use Rattle.buck_fleet.specs.Crew.{IsCrew, parts_of};
 ghost use Rattle.buck_fleet.specs.Closed.{ClosedParts, kept_by, lists_of, replies_from, replies_of, IsHandedOut, IsOneHistory, IsCloseFault, DifferFirstAt};
 ghost use Rattle.buck_fleet.specs.Faults.{close_numbers};
@@ -16,7 +16,7 @@ use crate::desk::Desk;
 use crate::fleet::Fleet;
 use crate::seat::{Kept, Own, Seat};
 use buck_apt::Instruction;
-use buck_book::{Book, Parts, Posting};
+use buck_book::{Parts, Posting};
 use buck_record::{FaultNumbers, Numbered};
 use buck_value::Sheet;
 use std::marker::Model;
@@ -54,12 +54,8 @@ impl Numbered for CloseFault {
 /// What a fleet hands out when it is closed: a lawful history, and what each seat kept.
 #[derive(Drop)]
 pub struct Closed {
-    instruction: Arc<Instruction>,
-    sheets: Vec<Arc<Sheet>>,
-    entries: Vec<Posting>,
+    parts: Parts,
     kept: Vec<Vec<Kept>>,
-    targets: Arc<Vec<u32>>,
-    counts: Vec<u32>,
 }
 
 impl Model for Closed {
@@ -76,25 +72,25 @@ impl Model for Closed {
 
     ghost view = { λ c. record {
       history = record {
-        instruction = c.instruction.value;
-        sheets = map (λ a. a.value.prices) c.sheets.items;
-        postings = c.entries.items;
+        instruction = c.parts.instruction.value;
+        sheets = map (λ a. a.value.prices) c.parts.sheets.items;
+        postings = c.parts.entries.items;
       };
       kept = lists_of c.kept.items;
     } };
 
     ghost invariant = { λ c.
         IsLawful (record {
-          instruction = c.instruction.value;
-          sheets = map (λ a. a.value.prices) c.sheets.items;
-          postings = c.entries.items;
+          instruction = c.parts.instruction.value;
+          sheets = map (λ a. a.value.prices) c.parts.sheets.items;
+          postings = c.parts.entries.items;
         })
-        × (map (λ a. a.value) c.sheets.items
-        ≡ sheets_from 0 c.instruction.value (map (λ a. a.value.prices) c.sheets.items))
-        × (c.targets.value.items ≡ targets_of c.instruction.value c.entries.items)
-        × AreTargets c.instruction.value c.targets.value.items
-        × AreClassCounts c.instruction.value c.entries.items c.counts.items
-        × (length c.entries.items ≤ MOST_POSTINGS) };
+        × (map (λ a. a.value) c.parts.sheets.items
+        ≡ sheets_from 0 c.parts.instruction.value (map (λ a. a.value.prices) c.parts.sheets.items))
+        × (c.parts.targets.value.items ≡ targets_of c.parts.instruction.value c.parts.entries.items)
+        × AreTargets c.parts.instruction.value c.parts.targets.value.items
+        × AreClassCounts c.parts.instruction.value c.parts.entries.items c.parts.counts.items
+        × (length c.parts.entries.items ≤ MOST_POSTINGS) };
 }
 
 /// Puts each seat's kept list in its harvester's place, and takes its share in.
@@ -126,29 +122,6 @@ fn collect<L: Ledger>(seats: Vec<Seat<L>>, kept: &mut Vec<Vec<Kept>>, all: &mut 
     }
 }
 
-/// What is handed out of a book, beside the kept lists.
-fn hand_out<F: Drop>(book: Book<F>, kept: Vec<Vec<Kept>>) -> Closed
-    ensures history { result.history ≡ book.history }
-    ensures kept { result.kept ≡ lists_of kept.items }
-    ensures first_best { (k : ℕ) (x : Posting) → slice_get book.history.postings k ≡ Some x → IsFirst book.history x }
-{
-    let Parts {
-        instruction,
-        sheets,
-        entries,
-        targets,
-        counts,
-    } = book.into_parts();
-    Closed {
-        instruction,
-        sheets,
-        entries,
-        kept,
-        targets,
-        counts,
-    }
-}
-
 /// Takes all seats in, holds what they kept against the ledger's total, and hands all out.
 fn take_in<F: Drop, L: Ledger>(
     desk: Desk<F, L>,
@@ -169,7 +142,8 @@ fn take_in<F: Drop, L: Ledger>(
     let mut all = rest;
     collect(seats, &mut kept, &mut all);
     calls.audit(&mut all);
-    hand_out(book, kept)
+    let parts = book.into_parts();
+    Closed { parts, kept }
 }
 
 /// Whether a posting is a harvester's.
@@ -218,7 +192,7 @@ impl Closed {
     pub fn instruction(&self) -> &Arc<Instruction>
         ensures { result.now.value ≡ self.now.history.instruction }
     {
-        &self.instruction
+        &self.parts.instruction
     }
 
     /// The sheets, by version.
@@ -227,14 +201,14 @@ impl Closed {
             ≡ sheets_from 0 self.now.history.instruction self.now.history.sheets }
         ensures lawful { IsLawful self.now.history }
     {
-        self.sheets.as_slice()
+        self.parts.sheets.as_slice()
     }
 
     /// The sheet of the last version.
     pub fn last_sheet(&self) -> &Arc<Sheet>
         ensures { result.now.value ≡ in_force self.now.history }
     {
-        &self.sheets[self.sheets.len() - 1]
+        &self.parts.sheets[self.parts.sheets.len() - 1]
     }
 
     /// The postings, in the order of their commits, at most 1,000,000.
@@ -243,7 +217,7 @@ impl Closed {
         ensures lawful { IsLawful self.now.history }
         ensures few { length self.now.history.postings ≤ MOST_POSTINGS }
     {
-        self.entries.as_slice()
+        self.parts.entries.as_slice()
     }
 
     /// The targets in force at the end, class by class: those of the last demand, else the instruction's.
@@ -251,14 +225,14 @@ impl Closed {
         ensures targets { result.now ≡ targets_of self.now.history.instruction self.now.history.postings }
         ensures valid { AreTargets self.now.history.instruction result.now }
     {
-        self.targets.as_slice()
+        self.parts.targets.as_slice()
     }
 
     /// How many logs were cut in each class, in the same order.
     pub fn counts(&self) -> &[u32]
         ensures { AreClassCounts self.now.history.instruction self.now.history.postings result.now }
     {
-        self.counts.as_slice()
+        self.parts.counts.as_slice()
     }
 
     /// What each seat kept, by harvester.
@@ -277,7 +251,7 @@ impl Closed {
     {
         for (i, kept) in self.kept.iter().enumerate() {
             let harvester = i as u32 + 1;
-            match first_difference(self.entries.as_slice(), kept.as_slice(), harvester) {
+            match first_difference(self.parts.entries.as_slice(), kept.as_slice(), harvester) {
                 Some(number) => return Some(CloseFault::Calls { harvester, number }),
                 None => {}
             }
@@ -293,7 +267,7 @@ impl Closed {
             → kept_by h self.now ≡ replies_of h self.now.history) }
         ensures some { IfSome result (IsCloseFault instruction.now (length self.now.kept) self.now) }
     {
-        if !self.instruction.same(instruction) {
+        if !self.parts.instruction.same(instruction) {
             return Some(CloseFault::Instruction);
         }
         self.difference()

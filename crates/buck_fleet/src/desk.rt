@@ -4,8 +4,7 @@ ghost use Rattle.buck_rule.specs.Stored.{AllAnswer};
 ghost use Rattle.buck_board.specs.Board.{IsSeatOf, seen_by};
 ghost use Rattle.buck_book.specs.Plan.{IsPlan};
 ghost use Rattle.buck_book.specs.History.{version_of};
-ghost use Rattle.buck_book.specs.Book.{IsReadyFor, IsReadyDemand, demand_of};
-ghost use Rattle.buck_book.specs.Refused.{IsRefusal};
+ghost use Rattle.buck_book.specs.Book.{IsReadyFor, demand_of};
 ghost use Rattle.buck_book.specs.declared.posting.Posting.TheVariants as Posting;
 ghost use Rattle.buck_fleet.specs.inner.Desk.{with_one, IsMade, posting_of, IsPlanRefused, IsReplyAt, IsDemandReplyAt};
 
@@ -62,26 +61,8 @@ fn put_up<R: Wait>(
     }
 }
 
-/// Prepares the commit of a plan, and puts the next sheet up, where it ends a period.
-fn prepare_plan<R: Wait, F: Fn(&Standing) -> u64 + Drop>(
-    rt: &R,
-    alloc: Global,
-    book: &mut Book<F>,
-    board: &Board,
-    plan: &Plan,
-) -> Result<Ready, Refusal>
-    requires { AllAnswer F.Fn }
-    ensures history { book.new.history ≡ book.old.history }
-    ensures ready { IfOk result (λ r. IsReadyFor book.new r plan.now) }
-    ensures refused { IfErr result (IsRefusal book.old plan.now) }
-{
-    // Try, of a plan that is outdated: nothing is added.
-    let ready = book.prepare(alloc, plan)?;
-    put_up(rt, alloc, board, ready.next_sheet())?;
-    Ok(ready)
-}
-
-/// Makes all that the commit of a plan needs, the room in the seat's kept list first.
+/// Makes all that the commit of a plan needs, the room in the seat's kept list first, and puts the next sheet up, where
+/// it ends a period.
 fn prepare_cut<R: Wait, F: Fn(&Standing) -> u64 + Drop>(
     rt: &R,
     alloc: Global,
@@ -103,7 +84,9 @@ fn prepare_cut<R: Wait, F: Fn(&Standing) -> u64 + Drop>(
     kept.reserve(1)?;
     let stem = plan.stem().clone()?;
     let cutting = plan.cutting().clone()?;
-    let ready = prepare_plan(rt, alloc, book, board, plan)?;
+    // Try, of a plan that is outdated: nothing is added.
+    let ready = book.prepare(alloc, plan)?;
+    put_up(rt, alloc, board, ready.next_sheet())?;
     Ok(ReadyCut {
         ready,
         stem,
@@ -111,25 +94,7 @@ fn prepare_cut<R: Wait, F: Fn(&Standing) -> u64 + Drop>(
     })
 }
 
-/// Prepares the commit of new targets, and puts the next sheet up.
-fn prepare_demand<R: Wait, F: Fn(&Standing) -> u64 + Drop>(
-    rt: &R,
-    alloc: Global,
-    book: &mut Book<F>,
-    board: &Board,
-    targets: &Arc<Vec<u32>>,
-) -> Result<ReadyDemand, DemandRefusal>
-    requires { AllAnswer F.Fn }
-    ensures history { book.new.history ≡ book.old.history }
-    ensures ready { IfOk result (IsReadyDemand book.new) }
-    ensures targets { IfOk result (λ r. r.targets ≡ targets.now.value.items) }
-{
-    let ready = book.prepare_demand(alloc, targets)?;
-    put_up(rt, alloc, board, Some(ready.next_sheet()))?;
-    Ok(ready)
-}
-
-/// Makes all that the commit of new targets needs, the room in the seat's kept list first.
+/// Makes all that the commit of new targets needs, the room in the seat's kept list first, and puts the next sheet up.
 fn prepare_targets<R: Wait, F: Fn(&Standing) -> u64 + Drop>(
     rt: &R,
     alloc: Global,
@@ -149,7 +114,8 @@ fn prepare_targets<R: Wait, F: Fn(&Standing) -> u64 + Drop>(
 {
     kept.reserve(1)?;
     let copy = targets.clone()?;
-    let ready = prepare_demand(rt, alloc, book, board, targets)?;
+    let ready = book.prepare_demand(alloc, targets)?;
+    put_up(rt, alloc, board, Some(ready.next_sheet()))?;
     Ok(Made::Demand(ready, copy))
 }
 

@@ -1,5 +1,6 @@
 //! Why the calls of a seat are refused. The history and the kept list are then as before.
-ghost use Rattle.buck_fleet.specs.Refused.{GivesBack};
+ghost use Rattle.std.specs.Prelude.{◌≡◌};
+ghost use Rattle.buck_fleet.specs.Refused.{GivesBack, stop_of, retarget_fault_of};
 ghost use Rattle.buck_fleet.specs.inner.Desk.{HasOtherSheet};
 
 use buck_book::{DemandRefusal, Plan, Refusal, TargetsFault};
@@ -48,7 +49,6 @@ pub enum CutFault {
 }
 
 impl From<AllocError> for CutFault {
-    ghost use Rattle.std.specs.Prelude.{◌≡◌};
     ghost use Rattle.buck_fleet.specs.declared.fault.CutFault.TheVariants.{Memory};
 
     ghost from_gives = { λ _ e. e ≡ Memory };
@@ -59,7 +59,6 @@ impl From<AllocError> for CutFault {
 }
 
 impl From<Memory> for CutFault {
-    ghost use Rattle.std.specs.Prelude.{◌≡◌};
     ghost use Rattle.buck_fleet.specs.declared.fault.CutFault.TheVariants.{Memory};
 
     ghost from_gives = { λ _ e. e ≡ Memory };
@@ -81,9 +80,6 @@ pub enum RunFault {
 }
 
 impl From<CutFault> for RunFault {
-    ghost use Rattle.std.specs.Prelude.{◌≡◌};
-    ghost use Rattle.buck_fleet.specs.Refused.{stop_of};
-
     ghost from_gives = { λ it e. e ≡ stop_of it };
 
     fn from(fault: CutFault) -> RunFault {
@@ -109,7 +105,6 @@ pub enum RetargetFault {
 }
 
 impl From<AllocError> for RetargetFault {
-    ghost use Rattle.std.specs.Prelude.{◌≡◌};
     ghost use Rattle.buck_fleet.specs.declared.fault.RetargetFault.TheVariants.{Memory};
 
     ghost from_gives = { λ _ e. e ≡ Memory };
@@ -120,7 +115,6 @@ impl From<AllocError> for RetargetFault {
 }
 
 impl From<Memory> for RetargetFault {
-    ghost use Rattle.std.specs.Prelude.{◌≡◌};
     ghost use Rattle.buck_fleet.specs.declared.fault.RetargetFault.TheVariants.{Memory};
 
     ghost from_gives = { λ _ e. e ≡ Memory };
@@ -131,9 +125,6 @@ impl From<Memory> for RetargetFault {
 }
 
 impl From<DemandRefusal> for RetargetFault {
-    ghost use Rattle.std.specs.Prelude.{◌≡◌};
-    ghost use Rattle.buck_fleet.specs.Refused.{retarget_fault_of};
-
     ghost from_gives = { λ it e. e ≡ retarget_fault_of it };
 
     fn from(refusal: DemandRefusal) -> RetargetFault {

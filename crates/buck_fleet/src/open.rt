@@ -5,6 +5,7 @@ ghost use Rattle.buck_fleet.specs.Crew.{AreOpened};
 ghost use Rattle.buck_fleet.specs.Refused.{IsOpenFault};
 ghost use Rattle.buck_fleet.specs.Closed.{lists_of};
 ghost use Rattle.buck_fleet.specs.inner.Lists.{AreEmpty};
+ghost use Rattle.buck_fleet.specs.declared.open.OpenFault.TheVariants.{Memory};
 
 use crate::desk::Desk;
 use crate::fleet::Fleet;
@@ -34,9 +35,6 @@ pub enum OpenFault {
 }
 
 impl From<AllocError> for OpenFault {
-    ghost use Rattle.std.specs.Prelude.{◌≡◌};
-    ghost use Rattle.buck_fleet.specs.declared.open.OpenFault.TheVariants.{Memory};
-
     ghost from_gives = { λ _ e. e ≡ Memory };
 
     fn from(_error: AllocError) -> OpenFault {
@@ -45,9 +43,6 @@ impl From<AllocError> for OpenFault {
 }
 
 impl From<Memory> for OpenFault {
-    ghost use Rattle.std.specs.Prelude.{◌≡◌};
-    ghost use Rattle.buck_fleet.specs.declared.open.OpenFault.TheVariants.{Memory};
-
     ghost from_gives = { λ _ e. e ≡ Memory };
 
     fn from(_error: Memory) -> OpenFault {

@@ -80,10 +80,7 @@ fn run_each<
     requires answers { AllAnswer F.Fn }
     requires lists { length seats.old ≡ length lists.now }
     requires seats { All (IsSeatIn fleet.now) seats.old }
-    ensures number { length seats.new ≡ length seats.old }
-    ensures each { (i : ℕ) (d : SeatParts) → i < length seats.old
-        → IsSeatIn fleet.now (slice_index_or seats.new i d)
-        × HasRun (stems_at lists.now i) (slice_index_or seats.old i d) (slice_index_or seats.new i d) }
+    ensures { HaveRun fleet.now lists.now seats.old seats.new }
 {
     if seats.len() == 0 {
         return;
@@ -121,31 +118,6 @@ fn first_stop<L: Ledger>(seats: &[Seat<L>]) -> Option<RunFault>
     first
 }
 
-/// Cuts all lists, each in a thread of its own, and says what stopped the lowest harvester that was stopped.
-fn run_all<
-    F: Fn(&Standing) -> u64 + Drop + Send,
-    L: Ledger + Send + Sync,
-    R: Threads + Wait + Sync,
-    G: Gate + Sync,
->(
-    rt: &R,
-    alloc: Global,
-    fleet: &Fleet<F, L>,
-    seats: &mut [Seat<L>],
-    lists: &[Vec<Arc<Stem>>],
-    gate: &G,
-) -> Option<RunFault>
-    requires answers { AllAnswer F.Fn }
-    requires lists { length seats.old ≡ length lists.now }
-    requires seats { All (IsSeatIn fleet.now) seats.old }
-    ensures run { HaveRun fleet.now lists.now seats.old seats.new }
-    ensures none { IfNone result (All (λ s. s.stopped ≡ None) seats.new) }
-    ensures some { IfSome result (IsFirstStop seats.new) }
-{
-    run_each(rt, alloc, fleet, &mut *seats, lists, gate);
-    first_stop(&*seats)
-}
-
 /// Cuts one list of stems by each seat of a fleet, each in a thread of its own and in order. A harvester stops at its
 /// first fault, and the others go on. The seats come back in the order given, also where a growth was refused; of
 /// several faults that of the lowest harvester is answered.
@@ -171,7 +143,8 @@ pub fn run_fleet<
     ensures first { IfErr result (λ e. IsFirstStop e.1.items e.0) }
 {
     let mut seats = seats;
-    match run_all(rt, alloc, fleet, seats.as_mut_slice(), lists, gate) {
+    run_each(rt, alloc, fleet, seats.as_mut_slice(), lists, gate);
+    match first_stop(seats.as_slice()) {
         None => Ok(seats),
         Some(fault) => Err((fault, seats)),
     }

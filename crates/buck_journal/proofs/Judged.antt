@@ -1,24 +1,25 @@
 -- Postings in order of which the first that is outvalued is known: what comes of their history.
-use Rattle.std.proofs.Common.{◌≡◌, ◌≢◌, ℕ, zero, suc, ◌+◌, ◌<◌, ◌≤◌, inl, inr, true, false, List, [], ◌∷◌, length, take, drop, slice_get, Option, Some, None, refl, sym, ◌∙◌, ap, subst, arith}
+use Rattle.std.proofs.Common.{◌≡◌, ℕ, zero, suc, ◌+◌, ◌<◌, ◌≤◌, inl, inr, true, false, List, [], ◌∷◌, length, take, drop, slice_get, Option, Some, None, refl, sym, ◌∙◌, ap, subst, arith}
 use Rattle.std.specs.Prelude.{◌-◌, Result, Ok, Err, IfOk}
 use Rattle.std.specs.Fork.{IsChunk}
 use Rattle.std.proofs.lemmas.Bool.{cases_lt, cases_eq}
 use Rattle.std.proofs.lemmas.List.{length-take}
-use Rattle.std.proofs.lemmas.Option.{slice_get_within, slice_get_cases, same_Some}
+use Rattle.std.proofs.lemmas.Option.{slice_get_within, same_Some}
 use Rattle.buck_record.specs.declared.memory.Memory.{Memory}
 use Rattle.buck_apt.specs.Instruction.{InstructionParts}
 use Rattle.buck_value.specs.Sheet.{SheetParts}
 use Rattle.buck_book.specs.declared.posting.Posting.{Posting}
 use Rattle.buck_book.specs.declared.posting.Posting.TheVariants.{Cut, Demand}
-use Rattle.buck_book.specs.Posting.{planned_version, cuts_since_end}
+use Rattle.buck_book.specs.Posting.{planned_version}
 use Rattle.buck_book.specs.History.{HistoryParts, Follows, Holds, sheet_at}
 use Rattle.buck_book.specs.Walk.{WalkParts}
+use Rattle.buck_book.proofs.Extend.{slice_get-take}
 use Rattle.buck_journal.specs.declared.judging.fault.ReplayFault.{ReplayFault}
 use Rattle.buck_journal.specs.declared.judging.fault.ReplayFault.TheVariants.{Outvalued}
 use Rattle.buck_journal.specs.reading.Journal.{JournalParts}
-use Rattle.buck_journal.specs.judging.Replay.{history_of, version_at, Begins, IsRightBefore, IsContentFault, IsPostingFault, IsFaultAtEnd, IsFirstFault}
+use Rattle.buck_journal.specs.judging.Replay.{history_of, version_at, IsRightBefore, IsContentFault, IsPostingFault, IsFaultAtEnd, IsFirstFault}
 use Rattle.buck_journal.specs.inner.Replay.{HoldsUnder, IsRightUnder, IsInOrderBefore, IsStopped, IsOrdered, IsPriced, ArePriced, IsOutvalued, NoneOutvalued, IsFirstOutvalued, IsFound, IsJudged}
-use Rattle.buck_journal.proofs.Replays.{version_stays, lawful_when}
+use Rattle.buck_journal.proofs.Replays.{opened, lawful_when}
 
 -- what stands in the first postings, and in those from a place on
 pub get_taken : {X : Type 0} (n : ℕ) (xs : List X) (k : ℕ) → k < n → slice_get (take n xs) k ≡ slice_get xs k
@@ -34,47 +35,17 @@ get_dropped (suc n) (x ∷ xs) k =
     let on : suc (n + k) ≡ suc n + k = omega arith in
     get_dropped n xs k ∙ ap (λ j. slice_get (x ∷ xs) j) on
 
--- what stands in the first postings stands there in all
-got_taken : {X : Type 0} (n : ℕ) (xs : List X) (k : ℕ) (x : X) → slice_get (take n xs) k ≡ Some x
-    → (k < n) × (slice_get xs k ≡ Some x)
-got_taken n xs k x at =
-    let lt : k < n = omega (arith, slice_get_within (take n xs) k x at, length-take n xs) in
-    (lt, sym (get_taken n xs k lt) ∙ at)
-
 module _ (h : HistoryParts) where
-  -- the version of a place was the version of one where a period begins, that place or one before it
-  opened : (k : ℕ) → k ≤ length h.postings → (j : ℕ) × (j ≤ k) × Begins h j × (version_at h j ≡ version_at h k)
-  opened zero le = (zero, omega arith, refl, refl)
-  opened (suc k) le = elim (cases_eq (cuts_since_end h.instruction (take (suc k) h.postings)) 0) [
-    | inl none ↦ (suc k, omega arith, none, refl)
-    | inr some ↦ (
-        let before = opened k (omega (arith, le)) in
-        let next : suc k ≡ k + 1 = omega arith in
-        elim (slice_get_cases h.postings k).1 [
-          | inl there ↦ (
-            before.0,
-            omega (arith, before.1),
-            before.2,
-            before.3
-                ∙ sym (version_stays h.instruction h.postings k there.0 there.2
-                (subst (λ n. cuts_since_end h.instruction (take n h.postings) ≢ 0) next some))
-                ∙ ap (λ n. version_at h n) (sym next),
-          )
-          | inr past ↦ absurd (omega (arith, past.0, le))
-        ]
-        )
-  ]
-
-  -- so the sheets of postings in order are there and right
+  -- the sheets of postings in order are there and right
   priced_before : (k : ℕ) → k ≤ length h.postings → IsInOrderBefore h k
       → ArePriced h.instruction h.sheets (take k h.postings)
   priced_before k le before j x at =
-      let got = got_taken k h.postings j x at in
-      let from = opened j (omega (arith, got.0, le)) in
-      let sheet = before.sheets from.0 (omega (arith, from.1, got.0)) from.2 in
-      let version : version_at h from.0 ≡ planned_version x = from.3
+      let got = slice_get-take h.postings k j x le at in
+      let from = opened h j (version_at h j) (omega (arith, got.0, le)) (omega arith) in
+      let sheet = before.sheets from.at (omega (arith, from.within_them, got.0)) from.begins in
+      let version : version_at h from.at ≡ planned_version x = from.is
       ∙ sym (before.postings j x got.0 got.1).of_version in
-      subst (λ v. IsPriced h.instruction h.sheets v) version (sheet.0.0, (take from.0 h.postings, sheet.1))
+      subst (λ v. IsPriced h.instruction h.sheets v) version (sheet.0.0, (take from.at h.postings, sheet.1))
 
   -- a posting that is right, and isn't outvalued, may follow
   follows : (before : List Posting) (x : Posting)
@@ -153,10 +124,11 @@ module _ (h : HistoryParts) where
   none_taken until le none j x lt at =
       none j x (omega (arith, lt, le, length-take until h.postings)) (get_taken until h.postings j lt ∙ at)
 
-  first_taken : (until at : ℕ) → IsFirstOutvalued h.instruction h.sheets (take until h.postings) at
+  first_taken : (until at : ℕ) → until ≤ length h.postings
+      → IsFirstOutvalued h.instruction h.sheets (take until h.postings) at
       → (at < until) × IsFirstOutvalued h.instruction h.sheets h.postings at
-  first_taken until at first =
-      let got = got_taken until h.postings at first.next first.there in (
+  first_taken until at le first =
+      let got = slice_get-take h.postings until at first.next le first.there in (
         got.0,
         record {
           next = first.next;
@@ -171,7 +143,7 @@ module _ (h : HistoryParts) where
       → IsFound h.instruction h.sheets (take until h.postings) (Some at)
       → IsJudged h (Err (Outvalued at))
   judged_found until at end o first =
-      let all = first_taken until at first in
+      let all = first_taken until at o.within first in
       λ told. first_is_met until at o.right all.0 all.1
 
   pub judged_none : (until : ℕ) (end : Result WalkParts ReplayFault) → IsOrdered h until end

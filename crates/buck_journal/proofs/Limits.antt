@@ -28,28 +28,20 @@ first low s g more h =
     let q = both (within low STARTS.high s) (within GRADES.low GRADES.high g) p.0 in
     (within_ok low STARTS.high s q.0, within_ok GRADES.low GRADES.high g q.1, p.1)
 
-started : (low : ℕ) (ns : List ℕ) → are_zones low ns ≡ true
+fit : (low : ℕ) (ns : List ℕ) → are_zones low ns ≡ true
     → AllByRecursion (λ (z : ℕ × ℕ). z.0 ≤ STARTS.high) (zones_of ns)
-started low [] h = tt
-started low (s ∷ []) h = tt
-started low (s ∷ g ∷ more) h = let p = first low s g more h in (p.0.1, started (s + 1) more p.2)
-
-graded : (low : ℕ) (ns : List ℕ) → are_zones low ns ≡ true → AllByRecursion (λ (z : ℕ × ℕ). IsGrade z.1) (zones_of ns)
-graded low [] h = tt
-graded low (s ∷ []) h = tt
-graded low (s ∷ g ∷ more) h = let p = first low s g more h in (p.1, graded (s + 1) more p.2)
-
-risen : (low : ℕ) (ns : List ℕ) → are_zones low ns ≡ true → IsRisingFrom low (zones_of ns)
-risen low [] h = tt
-risen low (s ∷ []) h = tt
-risen low (s ∷ g ∷ more) h = let p = first low s g more h in (p.0.0, risen (s + 1) more p.2)
+    × AllByRecursion (λ (z : ℕ × ℕ). IsGrade z.1) (zones_of ns) × IsRisingFrom low (zones_of ns)
+fit low [] h = (tt, tt, tt)
+fit low (s ∷ []) h = (tt, tt, tt)
+fit low (s ∷ g ∷ more) h = let p = first low s g more h in let q = fit (s + 1) more p.2 in
+    ((p.0.1, q.0), (p.1, q.1), (p.0.0, q.2))
 
 pub are_zones_ok : (ns : List ℕ) → length ns ≤ 2 * MOST_ZONES → are_zones 0 ns ≡ true → AreZones (zones_of ns)
 are_zones_ok ns few h = record {
   zones_number = omega (arith, half ns, few);
-  starts_range = All-from_recursion _ (zones_of ns) (started 0 ns h);
-  starts_rise = risen 0 ns h;
-  grades_range = All-from_recursion _ (zones_of ns) (graded 0 ns h);
+  starts_range = All-from_recursion _ (zones_of ns) (fit 0 ns h).0;
+  starts_rise = (fit 0 ns h).2;
+  grades_range = All-from_recursion _ (zones_of ns) (fit 0 ns h).1;
 }
 
 pub are_samples_ok : (ns : List ℕ) → one_to MOST_SAMPLES (length ns) ≡ true

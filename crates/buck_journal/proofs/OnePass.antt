@@ -1,18 +1,16 @@
 -- A journal that is gone through item by item is read as what was found.
-use Rattle.std.proofs.Common.{◌≡◌, ℕ, suc, ◌+◌, ◌*◌, ◌%◌, ◌≤◌, true, List, [], ◌∷◌, ◌++◌, All, Ok, Err, Result, codes, length, slice_get, get_or, refl, sym, ap, ◌∙◌, subst, arith, append_assoc, eq-eqb}
+use Rattle.std.proofs.Common.{◌≡◌, ℕ, suc, ◌+◌, ◌*◌, ◌%◌, ◌<◌, ◌≤◌, true, false, List, [], ◌∷◌, ◌++◌, Some, Ok, Err, Result, codes, length, slice_get, get_or, refl, sym, ap, ◌∙◌, subst, arith, append_assoc, eq-eqb}
 use Rattle.std.specs.Str.{bytes_eq}
+use Rattle.std.specs.List.{AllByRecursion}
 use Rattle.std.proofs.lemmas.Bool.{le-leb, lt-ltb, and_from}
 use Rattle.std.proofs.lemmas.List.{append-nil, length-append}
-use Rattle.std.proofs.lemmas.List.Sums.{list_all-from_AllPass}
 use Rattle.buck_record.specs.Item.{ItemParts}
 use Rattle.buck_record.specs.declared.slot.Slot.{Slot}
-use Rattle.buck_record.specs.declared.fault.RecordFault.{RecordFault}
 use Rattle.buck_record.specs.Reading.{with_fault}
 use Rattle.buck_record.specs.bytes.Record.{items_of, numbers_of, number_of}
 use Rattle.buck_record.specs.checking.Table.{is_at}
 use Rattle.buck_record.specs.pass.Cursor.{HasItems, Joins, Leads, item_in}
 use Rattle.buck_record.specs.checking.Rules.{slot, file_slot, within, all_within, one_to}
-use Rattle.buck_apt.specs.declared.slots.TheConstants.{TARGETS}
 use Rattle.buck_stem.specs.declared.file.slots.TheConstants.{SPECIES, SAMPLES, MOST_SAMPLES, MOST_ZONES}
 use Rattle.buck_stem.specs.Stem.{StemParts}
 use Rattle.buck_stem.specs.file.Stm.{zones_of}
@@ -21,7 +19,7 @@ use Rattle.buck_book.specs.declared.posting.Posting.{Posting}
 use Rattle.buck_book.specs.declared.posting.Posting.TheVariants.{Cut, Demand}
 use Rattle.buck_journal.specs.declared.reading.call.Call.{Call}
 use Rattle.buck_journal.specs.declared.reading.fault.JournalFault.TheVariants.{Head}
-use Rattle.buck_journal.specs.reading.Journal.{rest_at, numbers_at, sheet_at, call_of, is_call, call_at, head_at, samples_at, are_zones, zones_at, stem_at, are_logs, logs_of, logs_at, worth_at, targets_at, follows, posting_follows, entry_of, cut_at, demand_of, demand_at, posting_at, sheets_from, postings_from, journal_in, journal_of}
+use Rattle.buck_journal.specs.reading.Journal.{rest_at, numbers_at, list_at, sheet_at, call_of, is_call, call_at, head_at, samples_at, are_zones, zones_at, stem_at, are_logs, logs_of, logs_at, worth_at, targets_at, is_first, follows, posting_follows, entry_of, cut_at, demand_of, demand_at, posting_at, sheets_from, postings_from, journal_in, journal_of}
 use Rattle.buck_journal.specs.inner.Plain.{LeadsNumbers, IsReadAs, LeadsTo, LeadsCall, LeadsStem, Stands, begins, ArePostings, AreParts, AreReadAs, LeadsPosting, LeadsPostings, HasPostings, LeadsSheets}
 use Rattle.buck_journal.proofs.Stages.{journal_of_items}
 
@@ -29,18 +27,46 @@ use Rattle.buck_journal.proofs.Stages.{journal_of_items}
 is_at_its_slot : (s : Slot) (t : List ℕ) → is_at s (item_in s t) ≡ true
 is_at_its_slot s t = and_from _ _ (eq-eqb s.number s.number refl) (eq-eqb s.kind s.kind refl)
 
-pub call_leads : (s : Slot) (text ns left : List ℕ)
-    → LeadsNumbers s text ns left
-    → length ns ≡ 3
-    → is_call (call_of ns) ≡ true
-    → LeadsCall s text (call_of ns) left
+pub call_read : (s : Slot) (t ns : List ℕ) → numbers_of t ≡ Ok ns → length ns ≡ 3 → is_call (call_of ns) ≡ true
+    → (before : ℕ) → before < 1000000 → IsReadAs (λ items k. call_at s items k before) (item_in s t) (call_of ns)
 unfolding call_at numbers_at rest_at
-call_leads s text ns left l number range = (
-  l.0,
-  λ before few items k there.
-      rw (there, is_at_its_slot s l.0, l.1, eq-eqb (length ns) 3 number, lt-ltb before 1000000 few, range) refl,
-  l.2,
-)
+call_read s t ns read number range before few = λ items k there.
+    rw (there, is_at_its_slot s t, read, eq-eqb (length ns) 3 number, lt-ltb before 1000000 few, range) refl
+
+pub list_read : (s : Slot) (low high : ℕ) (t ns : List ℕ) → numbers_of t ≡ Ok ns → length ns ≤ 16384
+    → all_within low high ns ≡ true
+    → IsReadAs (list_at s low high) (item_in s t) ns
+unfolding numbers_at rest_at
+list_read s low high t ns read few range = λ items k there.
+    rw (there, is_at_its_slot s t, read, le-leb (length ns) 16384 few, range) refl
+
+module _ (t ns : List ℕ) (read : numbers_of t ≡ Ok ns) where
+  pub head_read : length ns ≡ 2 → within SPECIES.low SPECIES.high (get_or ns 1 0) ≡ true
+      → IsReadAs head_at (item_in (slot 981 2) t) (get_or ns 0 0, get_or ns 1 0)
+  unfolding head_at numbers_at rest_at
+  head_read number range = λ items k there. rw (there, read, eq-eqb (length ns) 2 number, range) refl
+
+  pub samples_read : one_to MOST_SAMPLES (length ns) ≡ true → all_within SAMPLES.low SAMPLES.high ns ≡ true
+      → IsReadAs samples_at (item_in (slot 981 3) t) ns
+  unfolding samples_at numbers_at rest_at
+  samples_read number range = λ items k there. rw (there, read, number, range) refl
+
+  pub zones_read : length ns % 2 ≡ 0 → length ns ≤ 2 * MOST_ZONES → are_zones 0 ns ≡ true
+      → IsReadAs zones_at (item_in (slot 981 4) t) (zones_of ns)
+  unfolding zones_at numbers_at rest_at
+  zones_read even few range = λ items k there.
+      rw (there, read, eq-eqb (length ns % 2) 0 even, le-leb (length ns) (2 * MOST_ZONES) few, range) refl
+
+  pub logs_read : length ns % 3 ≡ 0 → length ns ≤ 240 → are_logs ns ≡ true
+      → IsReadAs logs_at (item_in (slot 981 5) t) (logs_of ns)
+  unfolding logs_at numbers_at rest_at
+  logs_read third few range = λ items k there.
+      rw (there, read, eq-eqb (length ns % 3) 0 third, le-leb (length ns) 240 few, range) refl
+
+pub worth_read : (t : List ℕ) (worth : ℕ) → number_of 18446744073709551615 t ≡ Ok worth
+    → IsReadAs worth_at (item_in (slot 981 6) t) worth
+unfolding worth_at rest_at
+worth_read t worth read = λ items k there. rw (there, read) refl
 
 pub head_leads : (text ns left : List ℕ)
     → LeadsNumbers (slot 981 2) text ns left
@@ -48,83 +74,19 @@ pub head_leads : (text ns left : List ℕ)
     → 1 ≤ get_or ns 1 0
     → get_or ns 1 0 ≤ SPECIES.high
     → LeadsTo (slot 981 2) head_at text (get_or ns 0 0, get_or ns 1 0) left
-unfolding head_at numbers_at rest_at
 head_leads text ns left l number low high =
-    let range : within SPECIES.low SPECIES.high (get_or ns 1 0) ≡ true =
-    and_from _ _ (le-leb _ _ low) (le-leb _ _ high) in
-    (l.0, λ items k there. rw (there, l.1, eq-eqb (length ns) 2 number, range) refl, l.2)
+    (l.0, head_read l.0 ns l.1 number (and_from _ _ (le-leb _ _ low) (le-leb _ _ high)), l.2)
 
-pub samples_lead : (text t ns left : List ℕ)
-    → Leads text (item_in (slot 981 3) t) left
-    → numbers_of t ≡ Ok ns
-    → one_to MOST_SAMPLES (length ns) ≡ true
-    → All (λ d. d ≤ SAMPLES.high) ns
-    → LeadsTo (slot 981 3) samples_at text ns left
-unfolding samples_at numbers_at rest_at
-samples_lead text t ns left first read number small =
-    let range : all_within SAMPLES.low SAMPLES.high ns ≡ true =
-    list_all-from_AllPass (within SAMPLES.low SAMPLES.high) ns
-    (λ j d lt. and_from _ _ (le-leb 0 (get_or ns j d) (omega arith)) (le-leb _ _ (small j d lt))) in
-    (t, λ items k there. rw (there, read, number, range) refl, first)
-
-pub zones_lead : (text ns left : List ℕ)
-    → LeadsNumbers (slot 981 4) text ns left
-    → length ns % 2 ≡ 0
-    → length ns ≤ 2 * MOST_ZONES
-    → are_zones 0 ns ≡ true
-    → LeadsTo (slot 981 4) zones_at text (zones_of ns) left
-unfolding zones_at numbers_at rest_at
-zones_lead text ns left l even few range = (
-  l.0,
-  λ items k there.
-      rw (there, l.1, eq-eqb (length ns % 2) 0 even, le-leb (length ns) (2 * MOST_ZONES) few, range) refl,
-  l.2,
-)
-
-pub logs_lead : (text ns left : List ℕ)
-    → LeadsNumbers (slot 981 5) text ns left
-    → length ns % 3 ≡ 0
-    → length ns ≤ 240
-    → are_logs ns ≡ true
-    → LeadsTo (slot 981 5) logs_at text (logs_of ns) left
-unfolding logs_at numbers_at rest_at
-logs_lead text ns left l third few range = (
-  l.0,
-  λ items k there.
-      rw (there, l.1, eq-eqb (length ns % 3) 0 third, le-leb (length ns) 240 few, range) refl,
-  l.2,
-)
-
-with-fault : {X : Type 0} (fault : ℕ → RecordFault) (r : Result X ℕ) (x : X)
-    → Ok x ≡ with_fault fault r → r ≡ Ok x
-with-fault fault (Ok y) x h = cc
-with-fault fault (Err e) x h = cc
-
-pub worth_leads : (text t left : List ℕ) (worth : ℕ) (fault : ℕ → RecordFault)
-    → Leads text (item_in (slot 981 6) t) left
-    → Ok worth ≡ with_fault fault (number_of 18446744073709551615 t)
-    → LeadsTo (slot 981 6) worth_at text worth left
-unfolding worth_at rest_at
-worth_leads text t left worth fault first read =
-    (t, λ items k there. rw (there, with-fault fault (number_of 18446744073709551615 t) worth read) refl, first)
-
-pub targets_lead : (text ns left : List ℕ)
-    → LeadsNumbers (slot 982 2) text ns left
+pub list_leads : (s : Slot) (low high : ℕ) (text ns left : List ℕ)
+    → LeadsNumbers s text ns left
     → length ns ≤ 16384
-    → all_within TARGETS.low TARGETS.high ns ≡ true
-    → LeadsTo (slot 982 2) targets_at text ns left
-unfolding targets_at numbers_at rest_at
-targets_lead text ns left l few range =
-    (l.0, λ items k there. rw (there, l.1, le-leb (length ns) 16384 few, range) refl, l.2)
+    → all_within low high ns ≡ true
+    → LeadsTo s (list_at s low high) text ns left
+list_leads s low high text ns left l few range = (l.0, list_read s low high l.0 ns l.1 few range, l.2)
 
-pub prices_lead : (text ns left : List ℕ)
-    → LeadsNumbers (slot 971 1) text ns left
-    → length ns ≤ 16384
-    → all_within 0 20000000 ns ≡ true
-    → LeadsTo (slot 971 1) sheet_at text ns left
-unfolding sheet_at numbers_at rest_at
-prices_lead text ns left l few range =
-    (l.0, λ items k there. rw (there, l.1, le-leb (length ns) 16384 few, range) refl, l.2)
+pub ok_of : {X E : Type 0} (fault : ℕ → E) (r : Result X ℕ) (x : X) → with_fault fault r ≡ Ok x → r ≡ Ok x
+ok_of fault (Ok y) x h = cc
+ok_of fault (Err e) x h = cc
 
 -- ---- what stands from a place on
 pub next_stands : (items : List ItemParts) (k : ℕ) (x : ItemParts) (rest : List ItemParts)
@@ -150,75 +112,111 @@ unfolding posting_follows
 goes_on all k items at h =
     ap (follows (k + 1)) (first_stands all k items at) ∙ then_follows (k + 1) items h
 
--- ---- a cut
-module _ (call head samples zones logs worth : List ℕ) (items : List ItemParts) where
-  abbrev cut_items : List ItemParts
-  cut_items =
-      item_in (slot 981 1) call
-      ∷ item_in (slot 981 2) head
-      ∷ item_in (slot 981 3) samples
-      ∷ item_in (slot 981 4) zones
-      ∷ item_in (slot 981 5) logs
-      ∷ item_in (slot 981 6) worth
-      ∷ items
+past : (all its items : List ItemParts) (k : ℕ) → Stands all k (its ++ items) → Stands all (k + length its) items
+past all [] items k at = subst (λ n. Stands all n items) (let e : k ≡ k + 0 = omega arith in e) at
+past all (x ∷ its) items k at =
+    subst (λ n. Stands all n items) (let e : k + 1 + length its ≡ k + suc (length its) = omega arith in e)
+    (past all its items (k + 1) (next_stands all k x (its ++ items) at))
 
-  past_cut : (all : List ItemParts) (k n : ℕ) → n ≡ k + 6 → Stands all k cut_items → Stands all n items
-  past_cut all k n is at = λ j.
-      ap (slice_get all) (let q : n + j ≡ k + suc (suc (suc (suc (suc (suc j))))) = omega (arith, is) in q)
-      ∙ at (suc (suc (suc (suc (suc (suc j))))))
+-- ---- a posting
+-- where its items stand before what follows, they are read as it: the first begins a posting, and no other does
+pub record IsReadWith (before : ℕ) (p : Posting) (first : ItemParts) (its : List ItemParts) : Type 0 where
+  pub begins_it : is_first first ≡ true
+  pub inner : AllByRecursion (λ x. is_first x ≡ false) its
+  pub read : (all items : List ItemParts) (k : ℕ)
+      → Stands all k (first ∷ its ++ items)
+      → posting_follows all (k + 1 + length its) ≡ Ok tt
+      → posting_at first all k before ≡ Ok p
 
-module _ (before : ℕ) (c : Call) (stem : StemParts) (cutting : List Log) (w : ℕ)
-    (call head samples zones logs worth : List ℕ) where
-  cut_read : (items all : List ItemParts) (k : ℕ)
-      → IsReadAs (λ items k. call_at (slot 981 1) items k before) (item_in (slot 981 1) call) c
-      → IsReadAs head_at (item_in (slot 981 2) head) (stem.number, stem.species)
-      → IsReadAs samples_at (item_in (slot 981 3) samples) stem.samples
-      → IsReadAs zones_at (item_in (slot 981 4) zones) stem.zones
-      → IsReadAs logs_at (item_in (slot 981 5) logs) cutting
-      → IsReadAs worth_at (item_in (slot 981 6) worth) w
-      → Stands all k (cut_items call head samples zones logs worth items)
-      → posting_follows all (k + 6) ≡ Ok tt
-      → cut_at all k before ≡ Ok (Cut (entry_of c stem cutting w))
-  unfolding cut_at stem_at
-  cut_read items all k r₁ r₂ r₃ r₄ r₅ r₆ at next =
+skipped : (all its items : List ItemParts) (k before : ℕ) → AllByRecursion (λ x. is_first x ≡ false) its
+    → postings_from all k before (its ++ items) ≡ postings_from all (k + length its) before items
+unfolding postings_from
+skipped all [] items k before h =
+    ap (λ n. postings_from all n before items) (let e : k ≡ k + 0 = omega arith in e)
+skipped all (x ∷ its) items k before h =
+    rw h.0
+    (skipped all its items (k + 1) before h.1
+    ∙ ap (λ n. postings_from all n before items) (let e : k + 1 + length its ≡ k + suc (length its) = omega arith in e))
+
+pub posting_postings : (before : ℕ) (p : Posting) (first : ItemParts) (its items : List ItemParts)
+    (others : List Posting)
+    → IsReadWith before p first its
+    → ArePostings (before + 1) items others
+    → ArePostings before (first ∷ its ++ items) (p ∷ others)
+unfolding postings_from
+posting_postings before p first its items others r more = record {
+  begin = r.begins_it;
+  read = λ all k at.
+      let later = past all its items (k + 1) (next_stands all k first (its ++ items) at) in
       rw (
-        r₁ all k (first_stands all k (cut_items call head samples zones logs worth items) at),
-        r₂ all (k + 1) (at 1),
-        r₃ all (k + 1 + 1) (ap (slice_get all) (let q : k + 1 + 1 ≡ k + 2 = omega arith in q) ∙ at 2),
-        r₄ all (k + 1 + 2) (ap (slice_get all) (let q : k + 1 + 2 ≡ k + 3 = omega arith in q) ∙ at 3),
-        r₅ all (k + 4) (at 4),
-        r₆ all (k + 5) (at 5),
-        next,
-      ) refl
+        r.begins_it,
+        r.read all items k at (goes_on all (k + 1 + length its) items later more.begin),
+        skipped all its items (k + 1) (before + 1) r.inner,
+        more.read all (k + 1 + length its) later,
+      ) refl;
+}
 
-  pub cut_postings : (items : List ItemParts) (others : List Posting)
+posting_leads : (p : Posting) (first : ItemParts) (its : List ItemParts) (text left : List ℕ)
+    → ((items : List ItemParts) → HasItems left items → HasItems text (first ∷ its ++ items))
+    → ((before : ℕ) → before < 1000000 → IsReadWith before p first its)
+    → LeadsPosting text p left
+posting_leads p first its text left joins r = λ items others h read. (
+  first ∷ its ++ items,
+  joins items h,
+  λ before more ps few after.
+      subst (λ xs. ArePostings before (first ∷ xs) (p ∷ others ++ ps)) (sym (append_assoc its items more))
+      (posting_postings before p first its (items ++ more) (others ++ ps) (r before (omega (arith, few)))
+      (read (before + 1) more ps (omega (arith, few))
+      (subst (λ n. ArePostings n more ps)
+      (let e : before + length (p ∷ others) ≡ before + 1 + length others = omega arith in e) after))),
+)
+
+module _ (before : ℕ) (c : Call) where
+  pub cut_read : (stem : StemParts) (cutting : List Log) (w : ℕ) (call head samples zones logs worth : List ℕ)
       → IsReadAs (λ items k. call_at (slot 981 1) items k before) (item_in (slot 981 1) call) c
       → IsReadAs head_at (item_in (slot 981 2) head) (stem.number, stem.species)
       → IsReadAs samples_at (item_in (slot 981 3) samples) stem.samples
       → IsReadAs zones_at (item_in (slot 981 4) zones) stem.zones
       → IsReadAs logs_at (item_in (slot 981 5) logs) cutting
       → IsReadAs worth_at (item_in (slot 981 6) worth) w
-      → ArePostings (before + 1) items others
-      → ArePostings before (cut_items call head samples zones logs worth items)
-      (Cut (entry_of c stem cutting w) ∷ others)
-  unfolding postings_from posting_at
-  cut_postings items others r₁ r₂ r₃ r₄ r₅ r₆ more = record {
-    begin = refl;
-    read = λ all k at.
-        let past = past_cut call head samples zones logs worth items all k in
+      → IsReadWith before (Cut (entry_of c stem cutting w)) (item_in (slot 981 1) call)
+      (item_in (slot 981 2) head ∷ item_in (slot 981 3) samples ∷ item_in (slot 981 4) zones
+      ∷ item_in (slot 981 5) logs ∷ item_in (slot 981 6) worth ∷ [])
+  unfolding posting_at cut_at stem_at
+  cut_read stem cutting w call head samples zones logs worth r₁ r₂ r₃ r₄ r₅ r₆ = record {
+    begins_it = refl;
+    inner = (refl, (refl, (refl, (refl, (refl, tt)))));
+    read = λ all items k at next.
+        let here : slice_get all k ≡ Some (item_in (slot 981 1) call) =
+        ap (slice_get all) (let q : k ≡ k + 0 = omega arith in q) ∙ at 0 in
         rw (
-          cut_read items all k r₁ r₂ r₃ r₄ r₅ r₆ at
-              (goes_on all (k + 6) items (past (k + 6) refl at) more.begin),
-          more.read all (k + 1 + 1 + 1 + 1 + 1 + 1) (past (k + 1 + 1 + 1 + 1 + 1 + 1) (omega arith) at),
+          r₁ all k here,
+          r₂ all (k + 1) (at 1),
+          r₃ all (k + 1 + 1) (ap (slice_get all) (let q : k + 1 + 1 ≡ k + 2 = omega arith in q) ∙ at 2),
+          r₄ all (k + 1 + 2) (ap (slice_get all) (let q : k + 1 + 2 ≡ k + 3 = omega arith in q) ∙ at 3),
+          r₅ all (k + 4) (at 4),
+          r₆ all (k + 5) (at 5),
+          ap (posting_follows all) (let q : k + 6 ≡ k + 1 + 5 = omega arith in q) ∙ next,
         ) refl;
   }
 
--- one more comes before the others
-one_before : (before : ℕ) (p : Posting) (others more : List Posting) (items : List ItemParts)
-    → ArePostings (before + length (p ∷ others)) items more → ArePostings (before + 1 + length others) items more
-one_before before p others more items h =
-    subst (λ n. ArePostings n items more)
-    (let e : before + length (p ∷ others) ≡ before + 1 + length others = omega arith in e) h
+  pub demand_read : (found call targets : List ℕ)
+      → IsReadAs (λ items k. call_at (slot 982 1) items k before) (item_in (slot 982 1) call) c
+      → IsReadAs targets_at (item_in (slot 982 2) targets) found
+      → IsReadWith before (Demand (demand_of c found)) (item_in (slot 982 1) call) (item_in (slot 982 2) targets ∷ [])
+  unfolding posting_at demand_at
+  demand_read found call targets r₁ r₂ = record {
+    begins_it = refl;
+    inner = (refl, tt);
+    read = λ all items k at next.
+        let here : slice_get all k ≡ Some (item_in (slot 982 1) call) =
+        ap (slice_get all) (let q : k ≡ k + 0 = omega arith in q) ∙ at 0 in
+        rw (
+          r₁ all k here,
+          r₂ all (k + 1) (at 1),
+          ap (posting_follows all) (let q : k + 2 ≡ k + 1 + 1 = omega arith in q) ∙ next,
+        ) refl;
+  }
 
 pub cut_leads : (c : Call) (stem : StemParts) (cutting : List Log) (w : ℕ)
     (text called felled logged left : List ℕ)
@@ -227,64 +225,20 @@ pub cut_leads : (c : Call) (stem : StemParts) (cutting : List Log) (w : ℕ)
     → LeadsTo (slot 981 5) logs_at felled cutting logged
     → LeadsTo (slot 981 6) worth_at logged w left
     → LeadsPosting text (Cut (entry_of c stem cutting w)) left
-cut_leads c stem cutting w text called felled logged left l s g v = λ items others h read. (
-  cut_items l.0 s.head.0 s.samples.0 s.zones.0 g.0 v.0 items,
-  l.2.next _ (s.head.2.next _ (s.samples.2.next _ (s.zones.2.next _ (g.2.next _ (v.2.next items h))))),
-  λ before more ps few after.
-      cut_postings before c stem cutting w l.0 s.head.0 s.samples.0 s.zones.0 g.0 v.0 (items ++ more) (others ++ ps)
-      (l.1 before (omega (arith, few))) s.head.1 s.samples.1 s.zones.1 g.1 v.1
-      (read (before + 1) more ps (omega (arith, few))
-      (one_before before (Cut (entry_of c stem cutting w)) others ps more after)),
-)
-
--- ---- a demand
-module _ (before : ℕ) (c : Call) (found call targets : List ℕ) where
-  abbrev demand_items : List ItemParts → List ItemParts
-  demand_items items = item_in (slot 982 1) call ∷ item_in (slot 982 2) targets ∷ items
-
-  past_demand : (items all : List ItemParts) (k n : ℕ)
-      → n ≡ k + 2 → Stands all k (demand_items items) → Stands all n items
-  past_demand items all k n is at = λ j.
-      ap (slice_get all) (let q : n + j ≡ k + suc (suc j) = omega (arith, is) in q) ∙ at (suc (suc j))
-
-  demand_read : (items all : List ItemParts) (k : ℕ)
-      → IsReadAs (λ items k. call_at (slot 982 1) items k before) (item_in (slot 982 1) call) c
-      → IsReadAs targets_at (item_in (slot 982 2) targets) found
-      → Stands all k (demand_items items)
-      → posting_follows all (k + 2) ≡ Ok tt
-      → demand_at all k before ≡ Ok (Demand (demand_of c found))
-  unfolding demand_at
-  demand_read items all k r₁ r₂ at next =
-      rw (r₁ all k (first_stands all k (demand_items items) at), r₂ all (k + 1) (at 1), next) refl
-
-  pub demand_postings : (items : List ItemParts) (others : List Posting)
-      → IsReadAs (λ items k. call_at (slot 982 1) items k before) (item_in (slot 982 1) call) c
-      → IsReadAs targets_at (item_in (slot 982 2) targets) found
-      → ArePostings (before + 1) items others
-      → ArePostings before (demand_items items) (Demand (demand_of c found) ∷ others)
-  unfolding postings_from posting_at
-  demand_postings items others r₁ r₂ more = record {
-    begin = refl;
-    read = λ all k at.
-        rw (
-          demand_read items all k r₁ r₂ at
-              (goes_on all (k + 2) items (past_demand items all k (k + 2) refl at) more.begin),
-          more.read all (k + 1 + 1) (past_demand items all k (k + 1 + 1) (omega arith) at),
-        ) refl;
-  }
+cut_leads c stem cutting w text called felled logged left l s g v =
+    posting_leads _ _ _ text left
+    (λ items h. l.2.next _ (s.head.2.next _ (s.samples.2.next _ (s.zones.2.next _ (g.2.next _ (v.2.next items h))))))
+    (λ before few.
+    cut_read before c stem cutting w l.0 s.head.0 s.samples.0 s.zones.0 g.0 v.0
+    (l.1 before few) s.head.1 s.samples.1 s.zones.1 g.1 v.1)
 
 pub demand_leads : (c : Call) (found text called left : List ℕ)
     → LeadsCall (slot 982 1) text c called
     → LeadsTo (slot 982 2) targets_at called found left
     → LeadsPosting text (Demand (demand_of c found)) left
-demand_leads c found text called left l t = λ items others h read. (
-  demand_items 0 c found l.0 t.0 items,
-  l.2.next _ (t.2.next items h),
-  λ before more ps few after.
-      demand_postings before c found l.0 t.0 (items ++ more) (others ++ ps) (l.1 before (omega (arith, few))) t.1
-      (read (before + 1) more ps (omega (arith, few))
-      (one_before before (Demand (demand_of c found)) others ps more after)),
-)
+demand_leads c found text called left l t =
+    posting_leads _ _ _ text left (λ items h. l.2.next _ (t.2.next items h))
+    (λ before few. demand_read before c found l.0 t.0 (l.1 before few) t.1)
 
 -- ---- posting after posting
 pub postings_start : (text : List ℕ) → LeadsPostings text [] text

@@ -1,8 +1,8 @@
 -- What a walk through a history shows of its order, and where each posting may follow and each sheet is right it is
 -- lawful.
-use Rattle.std.proofs.Common.{◌≡◌, ◌≢◌, ℕ, ◌+◌, ◌<◌, ◌≤◌, inl, inr, List, [], ◌∷◌, ◌++◌, length, take, slice_get, Some, refl, sym, ◌∙◌, ap, subst, arith}
+use Rattle.std.proofs.Common.{◌≡◌, ◌≢◌, ℕ, zero, suc, ◌+◌, ◌<◌, ◌≤◌, inl, inr, List, [], ◌∷◌, ◌++◌, length, take, slice_get, Some, refl, sym, ◌∙◌, ap, subst, arith}
 use Rattle.std.specs.Prelude.{Result, Ok, Err, IfErr}
-use Rattle.std.proofs.lemmas.Bool.{cases_lt, cases_eq}
+use Rattle.std.proofs.lemmas.Bool.{cases_Bool, cases_lt, cases_eq}
 use Rattle.std.proofs.lemmas.List.{take_all}
 use Rattle.std.proofs.lemmas.Option.{slice_get_within, slice_get_cases, same_Some}
 use Rattle.buck_apt.specs.Instruction.{InstructionParts, IsInstruction}
@@ -10,10 +10,10 @@ use Rattle.buck_value.specs.Sheet.{SheetParts, IsPriceAt}
 use Rattle.buck_value.specs.Sheet as sheet
 use Rattle.buck_value.specs.declared.fault.SheetFault.{SheetFault}
 use Rattle.buck_book.specs.declared.posting.Posting.{Posting}
-use Rattle.buck_book.specs.Posting.{planned_version, ends_of, cuts_since_end}
+use Rattle.buck_book.specs.Posting.{planned_version, is_end, ends_of, cuts_since_end}
 use Rattle.buck_book.specs.History.{HistoryParts, IsLawful, IsEnd, PricesMeet, standing_of, prices_at, sheet_at}
 use Rattle.buck_book.specs.Walk.{WalkParts, walk_of}
-use Rattle.buck_book.proofs.Ends.{take_one_more, ends_with_end, cuts_with_end, ends_without}
+use Rattle.buck_book.proofs.Ends.{true_false, take_one_more, ends_with_end, cuts_with_end, ends_without}
 use Rattle.buck_book.proofs.Standings.{meets_within, no_fault}
 use Rattle.buck_book.proofs.Alone.{ClassAt, class_at, base_alone, meets_to_alone}
 use Rattle.buck_journal.specs.declared.judging.fault.ReplayFault.{ReplayFault}
@@ -22,16 +22,17 @@ use Rattle.buck_journal.specs.declared.judging.stop.Stop.TheVariants as stop
 use Rattle.buck_journal.specs.judging.Replay.{version_at, Begins, IsSheetRight, IsSheetFault, IsRightBefore, IsPostingFault}
 use Rattle.buck_journal.specs.inner.Replay.{sheet_then, IsRightUnder, AreRightUnder, IsMetUnder, IsInOrderBefore, IsMetInOrder, IfMet, IsEndRight}
 
--- prices that keep the price relation somewhere make a sheet
+-- prices that keep the price relation somewhere lie within their spans, and make a sheet
+pub in_span : (i : InstructionParts) (ps : List Posting) (prices : List ℕ) → PricesMeet i ps prices → (k : ℕ)
+    → k < length prices → IsPriceAt i prices k
+in_span i ps prices m k lt =
+    let w : ClassAt i k = class_at i k (omega (arith, m.one_each)) in
+    subst (λ n. IsPriceAt i prices n) w.place
+    (meets_within (standing_of i w.is_class.assortment w.class ps) _ (m.each_meets w.class w.is_class))
+
 pub is_sheet : (i : InstructionParts) (ps : List Posting) (prices : List ℕ) (fault : SheetFault) → IsInstruction i
     → PricesMeet i ps prices → sheet.IsSheetFault i prices fault → ⊥
-is_sheet i ps prices fault v m wrong = no_fault i prices fault m.one_each (λ k lt. in_span k lt) wrong
-  where
-    in_span : (k : ℕ) → k < length prices → IsPriceAt i prices k
-    in_span k lt =
-        let w : ClassAt i k = class_at i k (omega (arith, m.one_each)) in
-        subst (λ n. IsPriceAt i prices n) w.place
-        (meets_within (standing_of i w.is_class.assortment w.class ps) _ (m.each_meets w.class w.is_class))
+is_sheet i ps prices fault v m wrong = no_fault i prices fault m.one_each (in_span i ps prices m) wrong
 
 -- where no period begins after a posting, the version stays
 pub version_stays : (i : InstructionParts) (ps : List Posting) (k : ℕ) (x : Posting) → slice_get ps k ≡ Some x
@@ -42,6 +43,55 @@ version_stays i ps k x at goes_on =
     let no_end : IsEnd i (take k ps) x → ⊥ =
     λ e. goes_on (ap (λ xs. cuts_since_end i xs) longer ∙ cuts_with_end i (take k ps) x e) in
     ap (λ xs. ends_of i xs) longer ∙ ends_without i (take k ps) x no_end
+
+module _ (h : HistoryParts) where
+  -- where the sheet of a version comes into force
+  pub record Opened (n version : ℕ) : Type 0 where
+    pub at : ℕ
+    pub within_them : at ≤ n
+    pub begins : Begins h at
+    pub is : version_at h at ≡ version
+
+  opened_next : (n version : ℕ) (x : Posting) → slice_get h.postings n ≡ Some x → version ≤ version_at h (n + 1)
+      → (version ≤ version_at h n → Opened n version)
+      → Opened (n + 1) version
+  opened_next n version x at low before =
+      let longer : take (n + 1) h.postings ≡ take n h.postings ++ x ∷ [] = take_one_more h.postings n x at in
+      elim (cases_lt (version_at h n) version) [
+        | inr less ↦
+            let o = before (omega arith) in
+            record { at = o.at; within_them = omega (arith, o.within_them); begins = o.begins; is = o.is }
+        | inl new ↦
+            elim (cases_Bool (is_end h.instruction.period (cuts_since_end h.instruction (take n h.postings)) x)) [
+              | inl yes_ ↦
+                  let more : version_at h (n + 1) ≡ version_at h n + 1 = ap (λ ps. ends_of h.instruction ps) longer
+                  ∙ ends_with_end h.instruction (take n h.postings) x yes_ in
+                  record {
+                    at = n + 1;
+                    within_them = omega arith;
+                    begins = ap (λ ps. cuts_since_end h.instruction ps) longer
+                        ∙ cuts_with_end h.instruction (take n h.postings) x yes_;
+                    is = omega (arith, more);
+                  }
+              | inr no_ ↦
+                  let same : version_at h (n + 1) ≡ version_at h n =
+                  ap (λ ps. ends_of h.instruction ps) longer
+                  ∙ ends_without h.instruction (take n h.postings) x (λ e. true_false (sym e ∙ no_)) in
+                  absurd (omega (arith, same))
+            ]
+      ]
+
+  pub opened : (n version : ℕ) → n ≤ length h.postings → version ≤ version_at h n → Opened n version
+  opened zero version le low = record { at = 0; within_them = omega arith; begins = refl; is = omega arith }
+  opened (suc n) version le low =
+      let one : n + 1 ≡ suc n = omega arith in
+      elim (slice_get_cases h.postings n).1 [
+        | inl x ↦
+            subst (λ m. Opened m version) one
+            (opened_next n version x.0 x.2 (subst (λ m. version ≤ version_at h m) (sym one) low)
+            (λ less. opened n version (omega arith) less))
+        | inr past ↦ absurd (omega (arith, past.0))
+      ]
 
 -- a stretch of right postings, one longer
 pub right_more : (s : SheetParts) (ps : List Posting) (from to : ℕ) (x : Posting) → slice_get ps to ≡ Some x

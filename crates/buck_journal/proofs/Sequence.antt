@@ -11,13 +11,12 @@ use Rattle.buck_record.specs.bytes.Record.{items_of}
 use Rattle.buck_record.specs.checking.Table.{is_at}
 use Rattle.buck_record.specs.checking.Rules.{slot, file_slot}
 use Rattle.buck_record.proofs.PassLemmas.{both, check_ok}
-use Rattle.buck_value.specs.declared.log.Log.{Log}
 use Rattle.buck_book.specs.declared.posting.Posting.{Posting}
 use Rattle.buck_journal.specs.declared.reading.fault.JournalFault.{JournalFault}
 use Rattle.buck_journal.specs.declared.reading.fault.JournalFault.TheVariants.{Head, NotJournal, Shape}
 use Rattle.buck_journal.specs.reading.Journal.{JournalParts, wanted, rest_at, numbers_at, sheet_at, call_at, head_at, samples_at, zones_at, stem_at, logs_at, worth_at, targets_at, is_first, follows, posting_follows, cut_at, demand_at, posting_at, sheets_from, postings_from, says_journal, journal_in, journal_of, number_of_items}
 use Rattle.buck_journal.specs.inner.Plain.{Stands, begins}
-use Rattle.buck_journal.proofs.OnePass.{next_stands, first_stands}
+use Rattle.buck_journal.proofs.OnePass.{ok_of, next_stands, first_stands}
 use Rattle.buck_journal.proofs.Alone.{stands_rest}
 
 -- a step that passed
@@ -28,10 +27,6 @@ step_ok (Err e) f y h = cc
 
 ok_same : {A E : Type 0} (x y : A) → (let left : Result A E = Ok x in left ≡ Ok y) → x ≡ y
 ok_same x y h = cc
-
-without_fault : {A E : Type 0} (fault : ℕ → E) (r : Result A ℕ) (x : A) → with_fault fault r ≡ Ok x → r ≡ Ok x
-without_fault fault (Ok y) x h = cc
-without_fault fault (Err e) x h = cc
 
 then_of : {A : Type 0} (b : Bool) (p q y : A) → b ≡ true → (if b then p else q) ≡ y → p ≡ y
 then_of true p q y is h = h
@@ -80,35 +75,15 @@ module _ (items : List ItemParts) (k : ℕ) where
   numbers_inside number kind ns other h =
       let r = step_ok (rest_at (slot number kind) items k) _ ns h in rest_inside number kind r.0 other r.1
 
-  head_inside : (head : ℕ × ℕ) → head_at items k ≡ Ok head → Inside items k
-  unfolding head_at
-  head_inside head h = let r = step_ok (numbers_at (slot 981 2) items k) _ head h in
-      numbers_inside 981 2 r.0 (λ e. omega arith) r.1
-
-  samples_inside : (samples : List ℕ) → samples_at items k ≡ Ok samples → Inside items k
-  unfolding samples_at
-  samples_inside samples h = let r = step_ok (numbers_at (slot 981 3) items k) _ samples h in
-      numbers_inside 981 3 r.0 (λ e. omega arith) r.1
-
-  zones_inside : (zones : List (ℕ × ℕ)) → zones_at items k ≡ Ok zones → Inside items k
-  unfolding zones_at
-  zones_inside zones h = let r = step_ok (numbers_at (slot 981 4) items k) _ zones h in
-      numbers_inside 981 4 r.0 (λ e. omega arith) r.1
-
-  logs_inside : (logs : List Log) → logs_at items k ≡ Ok logs → Inside items k
-  unfolding logs_at
-  logs_inside logs h = let r = step_ok (numbers_at (slot 981 5) items k) _ logs h in
-      numbers_inside 981 5 r.0 (λ e. omega arith) r.1
+  by_numbers : {A : Type 0} (number kind : ℕ) (f : List ℕ → Result A JournalFault) (x : A) → (kind ≡ 1 → ⊥)
+      → (numbers_at (slot number kind) items k >>= f) ≡ Ok x → Inside items k
+  by_numbers number kind f x other h = let r = step_ok (numbers_at (slot number kind) items k) f x h in
+      numbers_inside number kind r.0 other r.1
 
   worth_inside : (worth : ℕ) → worth_at items k ≡ Ok worth → Inside items k
   unfolding worth_at
   worth_inside worth h = let r = step_ok (rest_at (slot 981 6) items k) _ worth h in
       rest_inside 981 6 r.0 (λ e. omega arith) r.1
-
-  targets_inside : (targets : List ℕ) → targets_at items k ≡ Ok targets → Inside items k
-  unfolding targets_at
-  targets_inside targets h = let r = step_ok (numbers_at (slot 982 2) items k) _ targets h in
-      numbers_inside 982 2 r.0 (λ e. omega arith) r.1
 
 -- so many items are those of a posting that began before, and after them comes the next one, or the end
 abbrev Owes : ℕ → List ItemParts → Type 0
@@ -140,7 +115,7 @@ module _ (items : List ItemParts) where
   cut_owes : (k before : ℕ) (p : Posting) (more : List ItemParts) → cut_at items k before ≡ Ok p
       → Stands items (k + 1) more
       → (number_of_items p ≡ 6) × Owes 5 more
-  unfolding cut_at stem_at
+  unfolding cut_at stem_at head_at samples_at zones_at logs_at
   cut_owes k before p more h at =
       let a = step_ok (call_at (slot 981 1) items k before) _ p h in
       let b = step_ok (stem_at items (k + 1)) _ p a.2 in
@@ -151,10 +126,13 @@ module _ (items : List ItemParts) where
       let t = step_ok (samples_at items (k + 1 + 1)) _ b.0 s.2 in
       let u = step_ok (zones_at items (k + 1 + 2)) _ b.0 t.2 in (
         ap number_of_items (sym (ok_same _ p e.2)),
-        owes_one (k + 1) (k + 1) 4 more refl (head_inside items (k + 1) s.0 s.1) at (λ m n.
-            owes_one (k + 1 + 1) (k + 1 + 1) 3 m refl (samples_inside items (k + 1 + 1) t.0 t.1) n (λ m n.
-            owes_one (k + 1 + 1 + 1) (k + 1 + 2) 2 m (omega arith) (zones_inside items (k + 1 + 2) u.0 u.1) n (λ m n.
-            owes_one (k + 1 + 1 + 1 + 1) (k + 4) 1 m (omega arith) (logs_inside items (k + 4) c.0 c.1) n (λ m n.
+        owes_one (k + 1) (k + 1) 4 more refl (by_numbers items (k + 1) 981 2 _ s.0 (λ e. omega arith) s.1) at (λ m n.
+            owes_one (k + 1 + 1) (k + 1 + 1) 3 m refl (by_numbers items (k + 1 + 1) 981 3 _ t.0 (λ e. omega arith) t.1)
+            n (λ m n.
+            owes_one (k + 1 + 1 + 1) (k + 1 + 2) 2 m (omega arith)
+            (by_numbers items (k + 1 + 2) 981 4 _ u.0 (λ e. omega arith) u.1) n (λ m n.
+            owes_one (k + 1 + 1 + 1 + 1) (k + 4) 1 m (omega arith)
+            (by_numbers items (k + 4) 981 5 _ c.0 (λ e. omega arith) c.1) n (λ m n.
             owes_one (k + 1 + 1 + 1 + 1 + 1) (k + 5) 0 m (omega arith) (worth_inside items (k + 5) d.0 d.1) n (λ m n.
             owes_none (k + 1 + 1 + 1 + 1 + 1 + 1) (k + 6) m (omega arith) e.1 n))))),
       )
@@ -162,13 +140,13 @@ module _ (items : List ItemParts) where
   demand_owes : (k before : ℕ) (p : Posting) (more : List ItemParts) → demand_at items k before ≡ Ok p
       → Stands items (k + 1) more
       → (number_of_items p ≡ 2) × Owes 1 more
-  unfolding demand_at
+  unfolding demand_at targets_at
   demand_owes k before p more h at =
       let a = step_ok (call_at (slot 982 1) items k before) _ p h in
       let b = step_ok (targets_at items (k + 1)) _ p a.2 in
       let c = step_ok (posting_follows items (k + 2)) _ p b.2 in (
         ap number_of_items (sym (ok_same _ p c.2)),
-        owes_one (k + 1) (k + 1) 0 more refl (targets_inside items (k + 1) b.0 b.1) at (λ m n.
+        owes_one (k + 1) (k + 1) 0 more refl (by_numbers items (k + 1) 982 2 _ b.0 (λ e. omega arith) b.1) at (λ m n.
             owes_none (k + 1 + 1) (k + 2) m (omega arith) c.1 n),
       )
 
@@ -251,7 +229,7 @@ none_skipped bytes j h =
     let p = step_ok (postings_from a.0 0 0 a.0) _ j s.2 in
     let is : record { sheets = s.0; entries = p.0 } ≡ j = ok_same _ j p.2 in (
       a.0,
-      without_fault Head (items_of bytes) a.0 a.1,
+      ok_of Head (items_of bytes) a.0 a.1,
       subst (λ (x : JournalParts). length a.0 ≡ 1 + length x.sheets + sum_by number_of_items x.entries) is
           (file_counted a.0 s.0 p.0 (check_ok (says_journal a.0) NotJournal b.1) s.1 p.1),
     )

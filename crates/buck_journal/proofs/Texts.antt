@@ -1,5 +1,5 @@
 -- The text of a journal is read again.
-use Rattle.std.proofs.Common.{◌≡◌, ℕ, ◌<◌, ◌^◌, true, List, [], ◌∷◌, ◌++◌, Some, Ok, map, refl, sym, ap, ◌∙◌, arith, append_assoc, codes}
+use Rattle.std.proofs.Common.{◌≡◌, ℕ, ◌<◌, ◌^◌, true, false, List, [], ◌∷◌, ◌++◌, Some, Ok, map, refl, sym, ap, ◌∙◌, arith, append_assoc, codes}
 use Rattle.std.specs.List.{AllByRecursion, flat_map}
 use Rattle.std.proofs.lemmas.List.{map-append, append-nil}
 use Rattle.std.proofs.lemmas.Grind.{flat_map-append}
@@ -7,7 +7,8 @@ use Rattle.std.proofs.lemmas.List.Elements.{recursion_from_All}
 use Rattle.buck_record.specs.Reading.{with_fault}
 use Rattle.buck_record.specs.checking.Rules.{within}
 use Rattle.buck_record.proofs.PassLemmas.{within_ok}
-use Rattle.buck_record.specs.bytes.Record.{items_of, number_at_most}
+use Rattle.buck_record.specs.bytes.White.{is_white}
+use Rattle.buck_record.specs.bytes.Record.{items_of, number_at_most, is_tilde}
 use Rattle.buck_apt.specs.declared.slots.TheConstants.{TARGETS}
 use Rattle.buck_stem.specs.declared.file.slots.TheConstants.{SPECIES, SAMPLES}
 use Rattle.buck_book.specs.declared.posting.Posting.{Posting}
@@ -34,148 +35,23 @@ kinds_are : (number_at_most 65535 (49 ∷ []) ≡ Some 1) × (number_at_most 655
 unfolding number_at_most
 kinds_are = (refl, refl, refl, refl, refl, refl)
 
-abbrev head_971_1 : Head
-head_971_1 =
+-- the head of a number 9bc and a kind k, whose digits are these
+abbrev head : (b c k number kind : ℕ) → (is_white b ≡ false) × (is_white c ≡ false) × (is_white k ≡ false)
+    → (is_tilde b ≡ false) × (is_tilde c ≡ false) × (is_tilde k ≡ false)
+    → number_at_most 65535 (57 ∷ b ∷ c ∷ []) ≡ Some number → number_at_most 65535 (k ∷ []) ≡ Some kind → Head
+head b c k number kind dark plain n m =
     record {
       a = 57;
-      b = 55;
-      c = 49;
-      k = 49;
-      number = 971;
-      kind = 1;
-      dark = (refl, refl, refl, refl);
+      b = b;
+      c = c;
+      k = k;
+      number = number;
+      kind = kind;
+      dark = (refl, dark.0, dark.1, dark.2);
       plain =
-          (refl, refl, refl, refl);
-      number_is = numbers_are.0;
-      kind_is = kinds_are.0;
-    }
-
-abbrev head_981_1 : Head
-head_981_1 =
-    record {
-      a = 57;
-      b = 56;
-      c = 49;
-      k = 49;
-      number = 981;
-      kind = 1;
-      dark = (refl, refl, refl, refl);
-      plain =
-          (refl, refl, refl, refl);
-      number_is = numbers_are.1;
-      kind_is = kinds_are.0;
-    }
-
-abbrev head_981_2 : Head
-head_981_2 =
-    record {
-      a = 57;
-      b = 56;
-      c = 49;
-      k = 50;
-      number = 981;
-      kind = 2;
-      dark = (refl, refl, refl, refl);
-      plain =
-          (refl, refl, refl, refl);
-      number_is = numbers_are.1;
-      kind_is = kinds_are.1;
-    }
-
-abbrev head_981_3 : Head
-head_981_3 =
-    record {
-      a = 57;
-      b = 56;
-      c = 49;
-      k = 51;
-      number = 981;
-      kind = 3;
-      dark = (refl, refl, refl, refl);
-      plain =
-          (refl, refl, refl, refl);
-      number_is = numbers_are.1;
-      kind_is = kinds_are.2;
-    }
-
-abbrev head_981_4 : Head
-head_981_4 =
-    record {
-      a = 57;
-      b = 56;
-      c = 49;
-      k = 52;
-      number = 981;
-      kind = 4;
-      dark = (refl, refl, refl, refl);
-      plain =
-          (refl, refl, refl, refl);
-      number_is = numbers_are.1;
-      kind_is = kinds_are.3;
-    }
-
-abbrev head_981_5 : Head
-head_981_5 =
-    record {
-      a = 57;
-      b = 56;
-      c = 49;
-      k = 53;
-      number = 981;
-      kind = 5;
-      dark = (refl, refl, refl, refl);
-      plain =
-          (refl, refl, refl, refl);
-      number_is = numbers_are.1;
-      kind_is = kinds_are.4;
-    }
-
-abbrev head_981_6 : Head
-head_981_6 =
-    record {
-      a = 57;
-      b = 56;
-      c = 49;
-      k = 54;
-      number = 981;
-      kind = 6;
-      dark = (refl, refl, refl, refl);
-      plain =
-          (refl, refl, refl, refl);
-      number_is = numbers_are.1;
-      kind_is = kinds_are.5;
-    }
-
-abbrev head_982_1 : Head
-head_982_1 =
-    record {
-      a = 57;
-      b = 56;
-      c = 50;
-      k = 49;
-      number = 982;
-      kind = 1;
-      dark = (refl, refl, refl, refl);
-      plain =
-          (refl, refl, refl, refl);
-      number_is = numbers_are.2;
-      kind_is = kinds_are.0;
-    }
-
-abbrev head_982_2 : Head
-head_982_2 =
-    record {
-      a = 57;
-      b = 56;
-      c = 50;
-      k = 50;
-      number = 982;
-      kind = 2;
-      dark = (refl, refl, refl, refl);
-      plain =
-          (refl, refl, refl, refl);
-      number_is = numbers_are.2;
-      kind_is = kinds_are.1;
+          (refl, plain.0, plain.1, plain.2);
+      number_is = n;
+      kind_is = m;
     }
 
 abbrev line_of : (h : Head) (ns : List ℕ) → AllByRecursion (λ n. n < 2 ^ 64) ns → Line
@@ -184,31 +60,36 @@ line_of h ns small = record { head = h; numbers = ns; small = small }
 abbrev sheet_lines : (pss : List (List ℕ)) → AllByRecursion AreSheetPrices pss → List Line
 sheet_lines [] r = []
 sheet_lines (prices ∷ pss) r =
-    line_of head_971_1 prices (smaller prices (in_small 0 20000000 prices (omega arith) r.0.range))
-    ∷ sheet_lines pss r.1
+    line_of (head 55 49 49 971 1 (refl, refl, refl) (refl, refl, refl) numbers_are.0 kinds_are.0) prices
+    (smaller prices (in_small 0 20000000 prices (omega arith) r.0.range)) ∷ sheet_lines pss r.1
 
 species_small : (n : ℕ) → within SPECIES.low SPECIES.high n ≡ true → n < 2 ^ 64
 species_small n h = let le = within_ok SPECIES.low SPECIES.high n h in omega (arith, le.1)
 
 cut_lines : (e : EntryParts) → IsCutInRange e → List Line
 cut_lines e r =
-    line_of head_981_1 (e.harvester ∷ e.number ∷ e.version ∷ [])
-    (smaller (e.harvester ∷ e.number ∷ e.version ∷ []) (call_small [] 0 (call_of_cut e) r.call))
-    ∷ line_of head_981_2 (e.stem.number ∷ e.stem.species ∷ [])
+    line_of (head 56 49 49 981 1 (refl, refl, refl) (refl, refl, refl) numbers_are.1 kinds_are.0)
+    (e.harvester ∷ e.number ∷ e.version ∷ [])
+    (smaller (e.harvester ∷ e.number ∷ e.version ∷ []) (call_small (call_of_cut e) r.call))
+    ∷ line_of (head 56 49 50 981 2 (refl, refl, refl) (refl, refl, refl) numbers_are.1 kinds_are.1)
+    (e.stem.number ∷ e.stem.species ∷ [])
     ((let h = r.stem_number in omega arith), (species_small e.stem.species r.species, tt))
-    ∷ line_of head_981_3 e.stem.samples
+    ∷ line_of (head 56 49 51 981 3 (refl, refl, refl) (refl, refl, refl) numbers_are.1 kinds_are.2) e.stem.samples
     (smaller e.stem.samples (in_small SAMPLES.low SAMPLES.high e.stem.samples (omega arith) r.samples_range))
-    ∷ line_of head_981_4 (zone_numbers e.stem.zones)
-    (smaller (zone_numbers e.stem.zones) (zones_small 0 e.stem.zones r.zones_range))
-    ∷ line_of head_981_5 (log_numbers e.logs) (smaller (log_numbers e.logs) (logs_small e.logs r.logs_range))
-    ∷ line_of head_981_6 (e.worth ∷ []) ((let h = r.worth in omega arith), tt)
+    ∷ line_of (head 56 49 52 981 4 (refl, refl, refl) (refl, refl, refl) numbers_are.1 kinds_are.3)
+    (zone_numbers e.stem.zones) (smaller (zone_numbers e.stem.zones) (zones_small 0 e.stem.zones r.zones_range))
+    ∷ line_of (head 56 49 53 981 5 (refl, refl, refl) (refl, refl, refl) numbers_are.1 kinds_are.4) (log_numbers e.logs)
+    (smaller (log_numbers e.logs) (logs_small e.logs r.logs_range))
+    ∷ line_of (head 56 49 54 981 6 (refl, refl, refl) (refl, refl, refl) numbers_are.1 kinds_are.5) (e.worth ∷ [])
+    ((let h = r.worth in omega arith), tt)
     ∷ []
 
 demand_lines : (d : DemandParts) → IsDemandInRange d → List Line
 demand_lines d r =
-    line_of head_982_1 (d.harvester ∷ d.number ∷ d.version ∷ [])
-    (smaller (d.harvester ∷ d.number ∷ d.version ∷ []) (call_small [] 0 (call_of_demand d) r.call))
-    ∷ line_of head_982_2 d.targets
+    line_of (head 56 50 49 982 1 (refl, refl, refl) (refl, refl, refl) numbers_are.2 kinds_are.0)
+    (d.harvester ∷ d.number ∷ d.version ∷ [])
+    (smaller (d.harvester ∷ d.number ∷ d.version ∷ []) (call_small (call_of_demand d) r.call))
+    ∷ line_of (head 56 50 50 982 2 (refl, refl, refl) (refl, refl, refl) numbers_are.2 kinds_are.1) d.targets
     (smaller d.targets (in_small TARGETS.low TARGETS.high d.targets (omega arith) r.targets_range))
     ∷ []
 
@@ -224,32 +105,15 @@ sheets_text [] r = refl
 sheets_text (prices ∷ pss) r = ap (λ xs. sheet_text prices ++ xs) (sheets_text pss r.1)
 
 six : (a b c d e f : List ℕ) → a ++ (b ++ (c ++ (d ++ (e ++ (f ++ []))))) ≡ ((((a ++ b) ++ c) ++ d) ++ e) ++ f
-six a b c d e f =
-    ap (λ xs. a ++ (b ++ (c ++ (d ++ (e ++ xs))))) (append-nil f)
-    ∙ sym (append_assoc a b (c ++ (d ++ (e ++ f))))
-    ∙ sym (append_assoc (a ++ b) c (d ++ (e ++ f)))
-    ∙ sym (append_assoc ((a ++ b) ++ c) d (e ++ f))
-    ∙ sym (append_assoc (((a ++ b) ++ c) ++ d) e f)
-
-six_lines : (a b c d e f : Line)
-    → flat_map text_of (a ∷ b ∷ c ∷ d ∷ e ∷ f ∷ [])
-    ≡ ((((text_of a ++ text_of b) ++ text_of c) ++ text_of d) ++ text_of e) ++ text_of f
-six_lines a b c d e f = six (text_of a) (text_of b) (text_of c) (text_of d) (text_of e) (text_of f)
+six a b c d e f = simp (append_assoc, append-nil)
 
 cut_parts : (e : EntryParts) (r : IsCutInRange e) → flat_map text_of (cut_lines e r) ≡ cut_text e
 unfolding cut_lines cut_text
 cut_parts e r =
-    six_lines
-    (line_of head_981_1 (e.harvester ∷ e.number ∷ e.version ∷ [])
-    (smaller (e.harvester ∷ e.number ∷ e.version ∷ []) (call_small [] 0 (call_of_cut e) r.call)))
-    (line_of head_981_2 (e.stem.number ∷ e.stem.species ∷ [])
-    ((let h = r.stem_number in omega arith), (species_small e.stem.species r.species, tt)))
-    (line_of head_981_3 e.stem.samples
-    (smaller e.stem.samples (in_small SAMPLES.low SAMPLES.high e.stem.samples (omega arith) r.samples_range)))
-    (line_of head_981_4 (zone_numbers e.stem.zones)
-    (smaller (zone_numbers e.stem.zones) (zones_small 0 e.stem.zones r.zones_range)))
-    (line_of head_981_5 (log_numbers e.logs) (smaller (log_numbers e.logs) (logs_small e.logs r.logs_range)))
-    (line_of head_981_6 (e.worth ∷ []) ((let h = r.worth in omega arith), tt))
+    six (item_text (codes "981 1") (e.harvester ∷ e.number ∷ e.version ∷ []))
+    (item_text (codes "981 2") (e.stem.number ∷ e.stem.species ∷ [])) (item_text (codes "981 3") e.stem.samples)
+    (item_text (codes "981 4") (zone_numbers e.stem.zones)) (item_text (codes "981 5") (log_numbers e.logs))
+    (item_text (codes "981 6") (e.worth ∷ []))
 
 cut_texts : (e : EntryParts) (r : IsCutInRange e) (more : List ℕ)
     → flat_map text_of (cut_lines e r) ++ more ≡ cut_text e ++ more

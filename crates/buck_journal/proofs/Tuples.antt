@@ -1,5 +1,5 @@
 -- Numbers two and three at a time.
-use Rattle.std.proofs.Common.{◌≡◌, ℕ, ◌+◌, ◌<◌, ◌≤◌, ◌&&◌, true, false, List, [], ◌∷◌, length, drop, get_or, refl, sym, ap, ◌∙◌, arith, drop-cons, add-one}
+use Rattle.std.proofs.Common.{◌≡◌, ℕ, ◌+◌, ◌<◌, ◌≤◌, ◌&&◌, true, List, [], ◌∷◌, length, drop, get_or, refl, sym, ap, ◌∙◌, arith, drop-cons, add-one}
 use Rattle.buck_record.specs.checking.Rules.{within}
 use Rattle.buck_record.proofs.PassLemmas.{both, within_ok}
 use Rattle.buck_apt.specs.declared.slots.TheConstants.{LENGTHS}

@@ -1,19 +1,19 @@
 -- The numbers of a lawful history lie within a journal's ranges.
-use Rattle.std.proofs.Common.{◌≡◌, ℕ, zero, suc, ◌+◌, ◌*◌, ◌<◌, ◌≤◌, ◌&&◌, inl, inr, true, List, [], ◌∷◌, ◌++◌, length, take, get_or, slice_index, slice_get, Some, refl, sym, ◌∙◌, ap, subst, arith, mul-le-mul_left}
+use Rattle.std.proofs.Common.{◌≡◌, ℕ, ◌+◌, ◌*◌, ◌<◌, ◌≤◌, ◌&&◌, true, List, [], ◌∷◌, length, take, get_or, slice_index, slice_get, Some, refl, sym, ap, subst, arith, mul-le-mul_left}
 use Rattle.std.specs.Prelude.{nat_le}
 use Rattle.std.specs.List.{AllByRecursion}
-use Rattle.std.proofs.lemmas.Bool.{cases_Bool, cases_lt, and_from}
+use Rattle.std.proofs.lemmas.Bool.{and_from}
 use Rattle.std.proofs.lemmas.Bool.Decides.{nat_tests}
-use Rattle.std.proofs.lemmas.List.{take_all, length-take-le}
+use Rattle.std.proofs.lemmas.List.{take_all, length-take-le, get_or_default}
 use Rattle.std.proofs.lemmas.List.Elements.{recursion_from_All, All-contains}
-use Rattle.std.proofs.lemmas.Option.{slice_get_within, slice_get_cases, slice_get-get_or, same_Some}
+use Rattle.std.proofs.lemmas.Option.{slice_get_within, slice_get-get_or}
 use Rattle.buck_record.specs.checking.Rules.{within, all_within}
 use Rattle.buck_apt.specs.Instruction.{InstructionParts, IsInstruction, IsWithin}
 use Rattle.buck_apt.specs.declared.slots.TheConstants.{LENGTHS, TARGETS}
 use Rattle.buck_stem.specs.declared.file.slots.TheConstants.{SPECIES, SAMPLES, MOST_SAMPLES, STARTS, GRADES}
 use Rattle.buck_stem.specs.Stem.{StemParts, IsStem, IsGrade, IsRisingFrom}
 use Rattle.buck_value.specs.declared.log.Log.{Log}
-use Rattle.buck_value.specs.Sheet.{IsSheet, IsPriceAt, base_prices, sheet_of}
+use Rattle.buck_value.specs.Sheet.{IsSheet, base_prices, sheet_of}
 use Rattle.buck_value.specs.Allowed.{IsAllowed, end_of}
 use Rattle.buck_value.proofs.Prices.{base_price-le}
 use Rattle.buck_value.proofs.Classes.{valid_of}
@@ -22,25 +22,20 @@ use Rattle.buck_dp.proofs.Lists.{worth_bounded}
 use Rattle.buck_book.specs.declared.posting.Posting.{Posting}
 use Rattle.buck_book.specs.declared.posting.Posting.TheVariants.{Cut, Demand}
 use Rattle.buck_book.specs.Entry.{EntryParts, DemandParts}
-use Rattle.buck_book.specs.Posting.{harvester_of, is_end, ends_of, cuts_since_end}
+use Rattle.buck_book.specs.Posting.{harvester_of, ends_of}
 use Rattle.buck_book.specs.Counts.{calls_of}
-use Rattle.buck_book.specs.History.{HistoryParts, IsLawful, Follows, PricesMeet, standing_of, prices_at, sheet_at}
-use Rattle.buck_book.proofs.Ends.{true_false, take_one_more, ends_with_end, ends_without, cuts_with_end, ends-le}
+use Rattle.buck_book.specs.History.{HistoryParts, IsLawful, Follows, PricesMeet, prices_at, sheet_at}
+use Rattle.buck_book.proofs.Ends.{ends-le}
 use Rattle.buck_book.proofs.Counting.{calls-le}
 use Rattle.buck_book.proofs.Cuts.{few_logs}
 use Rattle.buck_book.proofs.Sheets.{classes-le}
-use Rattle.buck_book.proofs.Standings.{meets_within}
-use Rattle.buck_book.proofs.Alone.{ClassAt, class_at}
 use Rattle.buck_journal.specs.declared.reading.call.Call.{Call}
 use Rattle.buck_journal.specs.reading.Journal.{is_call, is_zone, are_zones, is_log, are_logs}
 use Rattle.buck_journal.specs.Written.{zone_numbers, log_numbers}
-use Rattle.buck_journal.specs.judging.Replay.{version_at, Begins}
+use Rattle.buck_journal.specs.judging.Replay.{version_at}
 use Rattle.buck_journal.specs.Ranges.{AreSheetPrices, IsCutInRange, IsDemandInRange, IsInRange, AreInRange, IsOfBook, call_of_cut, call_of_demand}
 use Rattle.buck_journal.proofs.Faults.{prices_right}
-
-one_element : {X : Type 0} (xs : List X) (k : ℕ) (c d : X) → k < length xs → get_or xs k c ≡ get_or xs k d
-one_element xs k c d lt =
-    same_Some (get_or xs k c) (get_or xs k d) (sym (slice_get-get_or xs k c lt) ∙ slice_get-get_or xs k d lt)
+use Rattle.buck_journal.proofs.Replays.{in_span, Opened, opened}
 
 within_yes : (low high n : ℕ) → low ≤ n → n ≤ high → within low high n ≡ true
 within_yes low high n a b = and_from (nat_le low n) (nat_le n high) (le_yes low n a) (le_yes n high b)
@@ -97,81 +92,27 @@ logs_yes i stem from (g ∷ gs) v s cut =
 -- prices that keep the relation somewhere lie within their spans, and are low
 module _ (i : InstructionParts) (ps : List Posting) (prices : List ℕ) (v : IsInstruction i) (m : PricesMeet i ps prices)
   where
-    in_span : (k : ℕ) → k < length prices → IsPriceAt i prices k
-    in_span k lt =
-        let w : ClassAt i k = class_at i k (omega (arith, m.one_each)) in
-        subst (λ n. IsPriceAt i prices n) w.place
-        (meets_within (standing_of i w.is_class.assortment w.class ps) _ (m.each_meets w.class w.is_class))
-
     low_price : (k : ℕ) → k < length prices → slice_index prices k ≤ 20000000
     low_price k lt =
         let base : ℕ = slice_index (base_prices i) k in
         let le : base * i.limit ≤ base * 1000 = mul-le-mul_left base v.limit_range in
-        omega (arith, (in_span k lt).1, base_price-le i k v)
+        omega (arith, (in_span i ps prices m k lt).1, base_price-le i k v)
 
     prices_low : AllByRecursion (λ p. p ≤ 20000000) prices
     prices_low = recursion_from_All (λ p. p ≤ 20000000) prices (λ k d lt. low_at k d lt)
       where
         low_at : (k d : ℕ) → k < length prices → get_or prices k d ≤ 20000000
-        low_at k d lt = subst (λ p. p ≤ 20000000) (one_element prices k 0 d lt) (low_price k lt)
+        low_at k d lt = subst (λ p. p ≤ 20000000) (get_or_default prices k 0 d lt) (low_price k lt)
 
     sheet_prices : AreSheetPrices prices
     sheet_prices =
         record { number = omega (arith, m.one_each, classes-le i v); range = all_within_yes 20000000 prices prices_low }
 
     sheet_valid : (version : ℕ) → IsSheet (sheet_of version i prices)
-    sheet_valid version = record { valid = v; one_each = m.one_each; in_span = λ k lt. in_span k lt }
+    sheet_valid version = record { valid = v; one_each = m.one_each; in_span = λ k lt. in_span i ps prices m k lt }
 
 module _ (h : HistoryParts) (v : IsInstruction h.instruction) (l : IsLawful h) where
-  -- where the sheet of a version comes into force
-  record Opened (n version : ℕ) : Type 0 where
-    at : ℕ
-    within_them : at ≤ n
-    begins : Begins h at
-    is : version_at h at ≡ version
-
-  opened_next : (n version : ℕ) (x : Posting) → slice_get h.postings n ≡ Some x → version ≤ version_at h (n + 1)
-      → (version ≤ version_at h n → Opened n version)
-      → Opened (n + 1) version
-  opened_next n version x at low before =
-      let longer : take (n + 1) h.postings ≡ take n h.postings ++ x ∷ [] = take_one_more h.postings n x at in
-      elim (cases_lt (version_at h n) version) [
-        | inr less ↦
-            let o = before (omega arith) in
-            record { at = o.at; within_them = omega (arith, o.within_them); begins = o.begins; is = o.is }
-        | inl new ↦
-            elim (cases_Bool (is_end h.instruction.period (cuts_since_end h.instruction (take n h.postings)) x)) [
-              | inl yes_ ↦
-                  let more : version_at h (n + 1) ≡ version_at h n + 1 = ap (λ ps. ends_of h.instruction ps) longer
-                  ∙ ends_with_end h.instruction (take n h.postings) x yes_ in
-                  record {
-                    at = n + 1;
-                    within_them = omega arith;
-                    begins = ap (λ ps. cuts_since_end h.instruction ps) longer
-                        ∙ cuts_with_end h.instruction (take n h.postings) x yes_;
-                    is = omega (arith, more);
-                  }
-              | inr no_ ↦
-                  let same : version_at h (n + 1) ≡ version_at h n =
-                  ap (λ ps. ends_of h.instruction ps) longer
-                  ∙ ends_without h.instruction (take n h.postings) x (λ e. true_false (sym e ∙ no_)) in
-                  absurd (omega (arith, same))
-            ]
-      ]
-
-  opened : (n version : ℕ) → n ≤ length h.postings → version ≤ version_at h n → Opened n version
-  opened zero version le low = record { at = 0; within_them = omega arith; begins = refl; is = omega arith }
-  opened (suc n) version le low =
-      let one : n + 1 ≡ suc n = omega arith in
-      elim (slice_get_cases h.postings n).1 [
-        | inl x ↦
-            subst (λ m. Opened m version) one
-            (opened_next n version x.0 x.2 (subst (λ m. version ≤ version_at h m) (sym one) low)
-            (λ less. opened n version (omega arith) less))
-        | inr past ↦ absurd (omega (arith, past.0))
-      ]
-
-  meets_there : (n version : ℕ) → n ≤ length h.postings → (o : Opened n version)
+  meets_there : (n version : ℕ) → n ≤ length h.postings → (o : Opened h n version)
       → PricesMeet h.instruction (take o.at h.postings) (prices_at h.sheets version)
   meets_there n version le o =
       subst (λ w. PricesMeet h.instruction (take o.at h.postings) (prices_at h.sheets w)) o.is
@@ -197,7 +138,7 @@ module _ (h : HistoryParts) (v : IsInstruction h.instruction) (l : IsLawful h) w
         let i : InstructionParts = h.instruction in
         let f : Follows i h.sheets (take k h.postings) (Cut e) = l.postings_follow k (Cut e) at in
         let le : k ≤ length h.postings = omega (arith, slice_get_within h.postings k (Cut e) at) in
-        let o : Opened k e.version = opened k e.version le (omega (arith, f.version_in_force)) in
+        let o : Opened h k e.version = opened h k e.version le (omega (arith, f.version_in_force)) in
         let sheet : IsSheet (sheet_at i h.sheets e.version) =
         sheet_valid i (take o.at h.postings) (prices_at h.sheets e.version) v (meets_there k e.version le o)
         e.version in
@@ -238,7 +179,7 @@ module _ (h : HistoryParts) (v : IsInstruction h.instruction) (l : IsLawful h) w
           targets_range =
               all_within_yes TARGETS.high d.targets
               (recursion_from_All (λ t. t ≤ TARGETS.high) d.targets
-              (λ k c lt. subst (λ t. t ≤ TARGETS.high) (one_element d.targets k 0 c lt) (f.holds.low k lt)));
+              (λ k c lt. subst (λ t. t ≤ TARGETS.high) (get_or_default d.targets k 0 c lt) (f.holds.low k lt)));
         }
 
     posting_in : (k : ℕ) (x : Posting) → slice_get h.postings k ≡ Some x → IsOfBook x → IsInRange x
@@ -250,14 +191,14 @@ module _ (h : HistoryParts) (v : IsInstruction h.instruction) (l : IsLawful h) w
         let n : ℕ = length h.postings in
         let whole : version_at h n ≡ ends_of h.instruction h.postings =
         ap (λ ps. ends_of h.instruction ps) (take_all n h.postings (omega arith)) in
-        let o : Opened n k = opened n k (omega arith) (omega (arith, whole, l.sheets_number)) in
+        let o : Opened h n k = opened h n k (omega arith) (omega (arith, whole, l.sheets_number)) in
         sheet_prices h.instruction (take o.at h.postings) (prices_at h.sheets k) v (meets_there n k (omega arith) o)
 
     pub in_range : ((k : ℕ) (x : Posting) → slice_get h.postings k ≡ Some x → IsOfBook x)
         → AreInRange h.sheets h.postings
     in_range of_book = record {
       few = few;
-      sheets = λ k d lt. subst AreSheetPrices (one_element h.sheets k [] d lt) (sheet_in k lt);
+      sheets = λ k d lt. subst AreSheetPrices (get_or_default h.sheets k [] d lt) (sheet_in k lt);
       postings = λ k d lt.
           let at = slice_get-get_or h.postings k d lt in
           posting_in k (get_or h.postings k d) at (of_book k (get_or h.postings k d) at);

@@ -15,6 +15,7 @@ ghost use Rattle.buck_book.specs.declared.posting.TheConstants.{MOST_POSTINGS};
 
 /// The journal of a journal's text is what was written: the prices of the sheets, and the postings. There are at most
 /// 1,000,000 postings, and all numbers, and how many there are, lie within a journal's ranges, as a book's do.
+#[tactic(auto, using(crate::proofs::Texts::read_again))]
 pub fn what_is_written_is_read()
     ensures { (sheets : List (List ℕ)) (postings : List Posting) → AreInRange sheets postings
         → journal_of (journal_text sheets postings)
@@ -23,6 +24,7 @@ pub fn what_is_written_is_read()
 
 /// No item of a journal is skipped: beside the kind of file there is one item for each sheet, and there are six for each
 /// cut and two for each demand.
+#[tactic(auto, using(crate::proofs::Sequence::none_skipped))]
 pub fn no_item_is_skipped()
     ensures { (bytes : List ℕ) (journal : JournalParts) → journal_of bytes ≡ Ok journal
         → (items : List ItemParts)
@@ -32,12 +34,14 @@ pub fn no_item_is_skipped()
 
 /// Where no item begins a demand, the items are read as in the words that know of no demand: the same journal, or the same
 /// refusal.
+#[tactic(auto, using(crate::proofs::Alone::journal_alone))]
 pub fn cuts_alone_are_read_as_before()
     ensures { (items : List ItemParts) → alone.HasNoDemand items → journal_in items ≡ alone.journal_in items }
 {}
 
 /// A lawful history of at most 1,000,000 postings lies within a journal's ranges, where its harvesters are from 1 to 64
 /// and its stems are valid, as they are in every book.
+#[tactic(auto, using(crate::proofs::Within::in_range))]
 pub fn histories_lie_in_range()
     ensures { (h : HistoryParts) → IsInstruction h.instruction → IsLawful h
         → length h.postings ≤ MOST_POSTINGS

@@ -1,21 +1,21 @@
 -- What is counted along runs.
-use Rattle.std.proofs.Common.{◌≡◌, ◌≢◌, ⊎_elim, ℕ, zero, suc, ◌+◌, ◌-◌, ◌*◌, ◌<◌, ◌≤◌, List, [], ◌∷◌, Bool, cond, length, get_or, set, sym, refl, ap, subst, ◌∙◌, eq-eqb, ne_eqb, lt-ltb, le-ltb, arith, mul-le-mul_left}
+use Rattle.std.proofs.Common.{◌≡◌, ◌≢◌, inl, ⊎_elim, ℕ, zero, suc, ◌+◌, ◌-◌, ◌*◌, ◌<◌, ◌≤◌, List, [], ◌∷◌, Bool, cond, length, get_or, set, sym, refl, ap, subst, ◌∙◌, eq-eqb, ne_eqb, lt-ltb, le-ltb, arith, mul-le-mul_left}
 use native.Mathlib.Decide.{ℕ_discrete, dec_lt}
 use Rattle.buck_book.specs.declared.posting.Posting.TheVariants.{Cut}
 use Rattle.buck_book.specs.History.{version_of}
 use Rattle.buck_book.specs.Book.{entry_of}
 use Rattle.buck_world.specs.declared.stage.Stage.{Stage}
-use Rattle.buck_world.specs.declared.stage.Stage.TheVariants.{Idle, Reading, Planned, Answered}
+use Rattle.buck_world.specs.declared.stage.Stage.TheVariants.{Idle}
 use Rattle.buck_world.specs.declared.harvester.Harvester.{Harvester}
 use Rattle.buck_world.specs.declared.event.Event.{Event}
 use Rattle.buck_world.specs.declared.event.Event.TheVariants.{Read, Plan, Try, Locked, Retarget, Raise, Leave}
-use Rattle.buck_world.specs.World.{WorldParts, newcomer, IsHarvester, at, with_harvester, with_posting}
+use Rattle.buck_world.specs.World.{WorldParts, newcomer, IsHarvester, at, with_harvester}
 use Rattle.buck_world.specs.Step.{Adds, Step}
 use Rattle.buck_world.specs.Run.{Move, IsRun, last, harvester_of_event}
 use Rattle.buck_world.specs.Counts.{IsFreshAt, IsFresh, one_if_more, lift_at, stale_at, if_by, all_lifts, lifts_of, all_stale, stale_of}
 use Rattle.buck_world.specs.inner.Sound.{IsGoing, IsSound}
 use Rattle.buck_world.proofs.Lists.{decided, here, elsewhere}
-use Rattle.buck_world.proofs.Moves.{move_of, in_range}
+use Rattle.buck_world.proofs.Moves.{move_of, is_in}
 use Rattle.buck_world.proofs.Sound.{stays_sound}
 use Rattle.buck_world.proofs.Kept.{same_number}
 
@@ -72,7 +72,7 @@ pub foreign : (w w' : WorldParts) (e : Event) (g : ℕ) → IsSound w → Step w
     → at w' g ≡ at w g
 foreign w w' e g s step low other =
     let c = changed w w' e s step in ap (λ (hs : List Harvester). get_or hs (g - 1) newcomer) c.1
-    ∙ elsewhere w.harvesters (harvester_of_event e) g c.0 newcomer (in_range w w' e step).0 low other
+    ∙ elsewhere w.harvesters (harvester_of_event e) g c.0 newcomer (is_in w e step.0).0 low other
 
 -- k events of h so far: no more than the front, and while an attempt goes on no more than the version that it saw
 pub record IsWithin (w : WorldParts) (h k : ℕ) : Type 0 where
@@ -85,64 +85,54 @@ at_here w w' x h y e f h_in =
     ap (λ (hs : List Harvester). get_or hs (h - 1) newcomer) (ap (λ (z : WorldParts). z.harvesters) e ∙ f)
     ∙ here w.harvesters h y newcomer h_in.0 h_in.1
 
-within_after : (w' : WorldParts) (h n front : ℕ) (y : Harvester) → at w' h ≡ y → w'.front ≡ front → n ≤ front
-    → (IsGoing y.stage → n ≤ y.seen) → IsWithin w' h n
-within_after w' h n front y e f low going = record {
-  front = omega arith;
+within_after : (w' : WorldParts) (h n : ℕ) (y : Harvester) → at w' h ≡ y → n ≤ w'.front → (IsGoing y.stage → n ≤ y.seen)
+    → IsWithin w' h n
+within_after w' h n y e low going = record {
+  front = low;
   seen = λ g. subst (λ (z : Harvester). n ≤ z.seen) (sym e) (going (subst (λ (z : Harvester). IsGoing z.stage) e g));
 }
+
+-- the event's harvester is put at y, and nothing is counted but a lift
+put : (w w' x : WorldParts) (e : Event) (n k : ℕ) (y : Harvester) → IsSound w → Step w e w' → w' ≡ x
+    → x.harvesters ≡ set w.harvesters (harvester_of_event e - 1) y
+    → IsWithin w (harvester_of_event e) k → n ≡ 0 + lift_at w e w' + k → (IsGoing y.stage → n ≤ y.seen)
+    → IsWithin w' (harvester_of_event e) n
+put w w' x e n k y s step is set within count going =
+    within_after w' (harvester_of_event e) n y (at_here w w' x (harvester_of_event e) y is set (is_in w e step.0))
+    (let f = front_after w w' e s step in let low = within.front in omega arith) going
 
 own : (w w' : WorldParts) (e : Event) (n k : ℕ) → IsSound w → Step w e w' → IsFreshAt w e
     → IsWithin w (harvester_of_event e) k → n ≡ stale_at w e w' + lift_at w e w' + k
     → IsWithin w' (harvester_of_event e) n
 own w w' (Read h v) n k s (a, f) fresh within e =
-    let y : Harvester = record { stage = Reading; seen = v; stale = (at w h).stale } in let low = within.front in
-    within_after w' h n w.front y (at_here w w' _ h y f refl a.0) (ap (λ (z : WorldParts). z.front) f) (omega arith)
-    (λ _. omega (arith, fresh))
-own w w' (Plan h stem) n k s (a, (p, is_stem, under, f)) fresh within e =
-    let y : Harvester = record { stage = Planned p; seen = (at w h).seen; stale = (at w h).stale } in let low =
-    within.front in
-    let going : k ≤ (at w h).seen = within.seen (subst (λ (q : Stage). IsGoing q) (sym a.1) tt) in
-    within_after w' h n w.front y (at_here w w' _ h y f refl a.0) (ap (λ (z : WorldParts). z.front) f) (omega arith)
-    (λ _. omega arith)
+    put w w' _ (Read h v) n k _ s (a, f) f refl within e (λ _. let low = within.front in omega (arith, fresh))
+own w w' (Plan h stem) n k s (a, f) fresh within e =
+    put w w' _ (Plan h stem) n k _ s (a, f) f.3 refl within e
+    (λ _. let low = within.seen (subst (λ (q : Stage). IsGoing q) (sym a.1) tt) in omega arith)
 own w w' (Try h) n k s (a, (p, is, t)) fresh within e = ⊎_elim
     (λ (c : ((at w h).seen ≡ version_of w.history) × Adds w h (Cut (entry_of w.history h p)) w').
-    let y : Harvester = record { stage = Answered; seen = (at w h).seen; stale = (at w h).stale } in
-    let now : at w' h ≡ y = at_here w w' (with_posting w h (Cut (entry_of w.history h p)) c.1.0) h y c.1.2 refl a.0 in
-    let same : (at w' h).stale ≡ (at w h).stale = ap (λ (z : Harvester). z.stale) now in
+    let same : (at w' h).stale ≡ (at w h).stale = ap (λ (z : Harvester). z.stale) (at_here w w' _ h _ c.1.2 refl a.0) in
     let z : one_if_more (at w h).stale (at w' h).stale ≡ 0 = none_more (at w h).stale (at w' h).stale (omega arith) in
-    let low = within.front in
-    within_after w' h n w.front y now (ap (λ (z : WorldParts). z.front) c.1.2) (omega arith) (λ f. absurd f))
+    put w w' _ (Try h) n k _ s (a, (p, is, inl c)) c.1.2 refl within (omega arith) (λ f. absurd f))
     (λ (c : ((at w h).seen ≢ version_of w.history)
     × (w' ≡ with_harvester w h (record { stage = Idle; seen = (at w h).seen; stale = (at w h).stale + 1 }))).
-    let y : Harvester = record { stage = Idle; seen = (at w h).seen; stale = (at w h).stale + 1 } in
-    let now : at w' h ≡ y = at_here w w' (with_harvester w h y) h y c.1 refl a.0 in
+    let now : at w' h ≡ record { stage = Idle; seen = (at w h).seen; stale = (at w h).stale + 1 } =
+    at_here w w' _ h _ c.1 refl a.0 in
     let more : (at w' h).stale ≡ (at w h).stale + 1 = ap (λ (z : Harvester). z.stale) now in
     let z : one_if_more (at w h).stale (at w' h).stale ≡ 1 = one_more (at w h).stale (at w' h).stale (omega arith) in
     let low : k ≤ (at w h).seen = within.seen (subst (λ (q : Stage). IsGoing q) (sym is) tt) in
     let seen : (at w h).seen ≤ w.front = (s.world.fits h a.0).seen in
     let still : w.front ≡ version_of w.history = s.world.front_in_force a.2 in
     let other : (at w h).seen ≢ version_of w.history = c.0 in
-    within_after w' h n w.front y now (ap (λ (z : WorldParts). z.front) c.1) (omega arith) (λ f. absurd f))
+    let front : w'.front ≡ w.front = ap (λ (z : WorldParts). z.front) c.1 in
+    within_after w' h n _ now (omega arith) (λ f. absurd f))
     t
 own w w' (Locked h stem) n k s (a, f) fresh within e =
-    let y : Harvester = record { stage = Answered; seen = (at w h).seen; stale = (at w h).stale } in let low =
-    within.front in
-    within_after w' h n w.front y (at_here w w' _ h y f.3.2 refl a.0) (ap (λ (z : WorldParts). z.front) f.3.2)
-    (omega arith) (λ g. absurd g)
+    put w w' _ (Locked h stem) n k _ s (a, f) f.3.2 refl within e (λ g. absurd g)
 own w w' (Retarget h targets) n k s (a, f) fresh within e =
-    let y : Harvester = record { stage = Answered; seen = (at w h).seen; stale = (at w h).stale } in let low =
-    within.front in
-    within_after w' h n w.front y (at_here w w' _ h y f.1.2 refl a.0) (ap (λ (z : WorldParts). z.front) f.1.2)
-    (omega arith) (λ g. absurd g)
-own w w' (Raise h) n k s (a, f) fresh within e =
-    let y : Harvester = record { stage = Idle; seen = version_of w.history; stale = 0 } in let low = within.front in
-    let lift : lift_at w (Raise h) w' + w.front ≡ w'.front = front_after w w' (Raise h) s (a, f) in
-    within_after w' h n w'.front y (at_here w w' _ h y f refl a.0) refl (omega arith) (λ g. absurd g)
-own w w' (Leave h) n k s (a, f) fresh within e =
-    let y : Harvester = record { stage = Idle; seen = (at w h).seen; stale = 0 } in let low = within.front in
-    within_after w' h n w.front y (at_here w w' _ h y f refl a.0) (ap (λ (z : WorldParts). z.front) f) (omega arith)
-    (λ g. absurd g)
+    put w w' _ (Retarget h targets) n k _ s (a, f) f.1.2 refl within e (λ g. absurd g)
+own w w' (Raise h) n k s (a, f) fresh within e = put w w' _ (Raise h) n k _ s (a, f) f refl within e (λ g. absurd g)
+own w w' (Leave h) n k s (a, f) fresh within e = put w w' _ (Leave h) n k _ s (a, f) f refl within e (λ g. absurd g)
 
 -- one more event
 within_step : (w w' : WorldParts) (e : Event) (h k : ℕ) → IsSound w → Step w e w' → IsFreshAt w e → 1 ≤ h
@@ -154,7 +144,7 @@ within_step w w' e h k s step fresh low within = decided
     (own w w' e _ k s step fresh (subst (λ (g : ℕ). IsWithin w g k) (sym is) within) (omega arith)))
     (λ (not : harvester_of_event e ≢ h). let a = by_other h e (stale_at w e w') not in let b =
     by_other h e (lift_at w e w') not in let f = front_after w w' e s step in let few = within.front in
-    within_after w' h _ w'.front (at w h) (foreign w w' e h s step low (λ q. not (sym q))) refl (omega arith)
+    within_after w' h _ (at w h) (foreign w w' e h s step low (λ q. not (sym q))) (omega arith)
     (λ g. let seen = within.seen g in omega arith))
     (ℕ_discrete (harvester_of_event e) h)
 
@@ -209,7 +199,7 @@ sum_of_stale : (w : WorldParts) (moves : List Move) (n : ℕ) → IsSound w → 
     → sum_to (λ h. stale_of h w moves) n ≡ all_stale w moves
 sum_of_stale w [] n s is r = sum_to_zero n
 sum_of_stale w (m ∷ ms) n s is r =
-    let e = m.event in let x = stale_at w e m.after in let h_in = in_range w m.after e r.0 in
+    let e = m.event in let x = stale_at w e m.after in let h_in = is_in w e r.0.0 in
     let high : harvester_of_event e ≤ length w.harvesters = h_in.1 in
     let a = sum_to_plus (λ h. if_by h e x) (λ h. stale_of h m.after ms) n in let b =
     sum_to_one e x n h_in.0 (omega arith) in
@@ -220,7 +210,7 @@ sum_of_lifts : (w : WorldParts) (moves : List Move) (n : ℕ) → IsSound w → 
     → sum_to (λ h. lifts_of h w moves) n ≡ all_lifts w moves
 sum_of_lifts w [] n s is r = sum_to_zero n
 sum_of_lifts w (m ∷ ms) n s is r =
-    let e = m.event in let x = lift_at w e m.after in let h_in = in_range w m.after e r.0 in
+    let e = m.event in let x = lift_at w e m.after in let h_in = is_in w e r.0.0 in
     let high : harvester_of_event e ≤ length w.harvesters = h_in.1 in
     let a = sum_to_plus (λ h. if_by h e x) (λ h. lifts_of h m.after ms) n in let b =
     sum_to_one e x n h_in.0 (omega arith) in

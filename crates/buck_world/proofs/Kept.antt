@@ -1,19 +1,18 @@
 -- Each event keeps what the type of worlds keeps.
-use Rattle.std.proofs.Common.{◌≡◌, ⊎_elim, ℕ, ◌+◌, ◌-◌, ◌<◌, ◌≤◌, List, [], ◌∷◌, length, length-set, get_or, set, replicate, sym, refl, ap, subst, ◌∙◌, arith}
+use Rattle.std.proofs.Common.{◌≡◌, ⊎_elim, ℕ, ◌+◌, ◌-◌, ◌<◌, ◌≤◌, List, [], ◌∷◌, length, length-set, get_or, replicate, sym, refl, ap, subst, ◌∙◌, arith}
 use Rattle.std.specs.Prelude.{Result, Ok, Err, OnOk, OnErr}
 use Rattle.std.proofs.lemmas.List.{length_push, length-replicate}
 use Rattle.std.proofs.lemmas.List.Elements.{All-map, All-from_get_or}
 use Rattle.buck_apt.specs.Instruction.{InstructionParts, IsInstruction}
 use Rattle.buck_value.specs.Sheet.{base_prices}
 use Rattle.buck_book.specs.declared.posting.Posting.{Posting}
-use Rattle.buck_book.specs.History.{HistoryParts, version_of}
+use Rattle.buck_book.specs.History.{HistoryParts}
 use Rattle.buck_book.proofs.Ends.{ends-le}
-use Rattle.buck_world.specs.declared.stage.Stage.TheVariants.{Idle}
 use Rattle.buck_world.specs.declared.harvester.Harvester.{Harvester}
 use Rattle.buck_world.specs.declared.event.Event.{Event}
 use Rattle.buck_world.specs.declared.event.Event.TheVariants.{Read, Plan, Try, Locked, Retarget, Raise, Leave}
 use Rattle.buck_world.specs.declared.fault.StepFault.{StepFault}
-use Rattle.buck_world.specs.World.{WorldParts, newcomer, opening, with_harvester, with_front}
+use Rattle.buck_world.specs.World.{WorldParts, newcomer, opening}
 use Rattle.buck_world.specs.Step.{Allowed, Adds, Follows, Step}
 use Rattle.buck_world.specs.Kept.{RuledWorld}
 use Rattle.buck_world.specs.Refused.{HasRoom}
@@ -121,58 +120,15 @@ keeps_opening {F} rule capacity s xs i n same sheets none all valid range few =
     (keeps_all record { rule = rule; capacity = capacity; world = opening i n } (opening_sound i n)
     (subst (λ (k : InstructionParts). IsInstruction k) same valid) (omega arith) range (omega arith))
 
--- r was d before it was opened
-pub keeps_same : {F : Type 0} (r d : RuledWorld F) (e : Event) (w' : WorldParts) → r ≡ d → Keeps r → Allowed d.world e
-    → Follows r.world e w' → ((x : RuledWorld F) → HasRoom x e)
-    → Keeps {F = F} record { rule = r.rule; capacity = r.capacity; world = w' }
-keeps_same r d e w' is k allowed follows room =
-    keeps_step r r.rule r.capacity e w' k refl (subst (λ x. Allowed x.world e) (sym is) allowed, follows) (room r)
-
--- what an event that goes to the book leaves, be it refused or not
-module _ {F : Type 0} (r d : RuledWorld F) (e : Event) (rule : F) (capacity : ℕ) (s' : HistoryParts)
-    (xs' : List Harvester) (is : r ≡ d) where
-  pub keeps_act : (result : Result (Unit {0}) StepFault) → Keeps r → Allowed d.world e → capacity ≡ r.capacity
-      → OnOk result
-      ((front : ℕ) → Follows (world_of r.world.history front r.world.harvesters) e (world_of s' front xs'))
-      → OnOk result (HasRoom r e)
-      → OnErr result ((s' ≡ r.world.history) × (xs' ≡ r.world.harvesters))
-      → Keeps {F = F} record { rule = rule; capacity = capacity; world = world_of s' r.world.front xs' }
-  keeps_act (Ok x) k allowed same follows room left =
-      keeps_step r rule capacity e (world_of s' r.world.front xs') k same
-      (subst (λ y. Allowed y.world e) (sym is) allowed, follows r.world.front) room
-  keeps_act (Err f) k allowed same follows room left =
-      let w_is : world_of s' r.world.front xs' ≡ r.world =
-      λ j. record { history = left.0 j; front = r.world.front; harvesters = left.1 j } in
-      let few = k.kept.harvesters_range in
-      let range = k.kept.capacity_range in
-      let within = k.kept.within in
-      subst (λ (w : WorldParts). Keeps {F = F} record { rule = rule; capacity = capacity; world = w }) (sym w_is)
-      (keeps_all record { rule = rule; capacity = capacity; world = r.world } k.sound k.kept.valid (omega arith)
-      (omega arith) few)
-
-  pub steps_act : (result : Result (Unit {0}) StepFault) → Allowed d.world e
-      → OnOk result
-      ((front : ℕ) → Follows (world_of r.world.history front r.world.harvesters) e (world_of s' front xs'))
-      → OnOk result (Step d.world e (world_of s' r.world.front xs'))
-  steps_act (Ok x) allowed follows =
-      (allowed, subst (λ y. Follows y.world e (world_of s' r.world.front xs')) is (follows r.world.front))
-  steps_act (Err f) allowed follows = tt
-
--- one harvester was put at something
-pub set_is : (s : HistoryParts) (front h : ℕ) (xs ys : List Harvester) (x y : Harvester) → ys ≡ set xs (h - 1) x → x ≡ y
-    → world_of s front ys ≡ with_harvester (world_of s front xs) h y
-set_is s front h xs ys x y e same =
-    let now : ys ≡ set xs (h - 1) y = e ∙ ap (λ (z : Harvester). set xs (h - 1) z) same in
-    λ j. record { history = s; front = front; harvesters = now j }
-
--- the front was raised
-pub raised_is : (s : HistoryParts) (front front' seen stale h : ℕ) (xs ys : List Harvester) (x : Harvester)
-    → x ≡ record { stage = Idle; seen = seen; stale = stale } → ys ≡ set xs (h - 1) x
-    → front' ≡ version_of s → seen ≡ version_of s → stale ≡ 0
-    → world_of s front' ys ≡ with_front (world_of s front xs) h
-raised_is s front front' seen stale h xs ys x is e raised saw none =
-    let same : x ≡ record { stage = Idle; seen = version_of s; stale = 0 } = is
-    ∙ (λ j. record { stage = Idle; seen = saw j; stale = none j }) in
-    let now : ys ≡ set xs (h - 1) (record { stage = Idle; seen = version_of s; stale = 0 }) = e
-    ∙ ap (λ (y : Harvester). set xs (h - 1) y) same in
-    λ j. record { history = s; front = raised j; harvesters = now j }
+-- what an allowed event leaves, be it refused or not
+pub keeps_act : {F : Type 0} (r : RuledWorld F) (e : Event) (rule : F) (capacity : ℕ) (w' : WorldParts)
+    (result : Result (Unit {0}) StepFault)
+    → Keeps r → Allowed r.world e → capacity ≡ r.capacity → OnOk result (Follows r.world e w')
+    → OnOk result (HasRoom r e) → OnErr result (w' ≡ r.world)
+    → Keeps {F = F} record { rule = rule; capacity = capacity; world = w' }
+keeps_act r e rule capacity w' (Ok x) k allowed same follows room left =
+    keeps_step r rule capacity e w' k same (allowed, follows) room
+keeps_act {F} r e rule capacity w' (Err f) k allowed same follows room left =
+    subst (λ (w : WorldParts). Keeps {F = F} record { rule = rule; capacity = capacity; world = w }) (sym left)
+    (keeps_all record { rule = rule; capacity = capacity; world = r.world } k.sound k.kept.valid
+    (let b = k.kept.within in omega arith) (let b = k.kept.capacity_range in omega arith) k.kept.harvesters_range)

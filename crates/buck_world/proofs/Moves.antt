@@ -15,7 +15,7 @@ use Rattle.buck_world.specs.declared.harvester.Harvester.{Harvester}
 use Rattle.buck_world.specs.declared.event.Event.{Event}
 use Rattle.buck_world.specs.declared.event.Event.TheVariants.{Read, Plan, Try, Locked, Retarget, Raise, Leave}
 use Rattle.buck_world.specs.World.{WorldParts, IsHarvester, at, IsAnswered, NobodyAnswered, with_harvester, with_posting, with_front}
-use Rattle.buck_world.specs.Step.{IsPlanUnder, Adds, Step, IsIdleOrReading}
+use Rattle.buck_world.specs.Step.{IsPlanUnder, Adds, Allowed, Step, IsIdleOrReading}
 use Rattle.buck_world.specs.Kept.{IsFit}
 use Rattle.buck_world.specs.Run.{harvester_of_event}
 use Rattle.buck_world.specs.inner.Sound.{IsGoing, IsSound}
@@ -151,11 +151,11 @@ move_of w w' (Leave h) s (a, f) = let fit = s.world.fits h a.0 in inl record {
   going = λ g. absurd g;
 }
 
-pub in_range : (w w' : WorldParts) (e : Event) → Step w e w' → IsHarvester w (harvester_of_event e)
-in_range w w' (Read h v) (a, f) = a.0
-in_range w w' (Plan h stem) (a, f) = a.0
-in_range w w' (Try h) (a, f) = a.0
-in_range w w' (Locked h stem) (a, f) = a.0
-in_range w w' (Retarget h targets) (a, f) = a.0
-in_range w w' (Raise h) (a, f) = a.0
-in_range w w' (Leave h) (a, f) = a.0
+pub is_in : (w : WorldParts) (e : Event) → Allowed w e → IsHarvester w (harvester_of_event e)
+is_in w (Read h v) a = a.0
+is_in w (Plan h stem) a = a.0
+is_in w (Try h) a = a.0
+is_in w (Locked h stem) a = a.0
+is_in w (Retarget h targets) a = a.0
+is_in w (Raise h) a = a.0
+is_in w (Leave h) a = a.0

@@ -17,7 +17,7 @@ use Rattle.buck_world.specs.Step.{IsPlanUnder, Adds, Step}
 use Rattle.buck_world.specs.Run.{Move, IsRun, last, harvester_of_event, more_than, added_at, added}
 use Rattle.buck_world.specs.inner.Sound.{IsSound}
 use Rattle.buck_world.proofs.Lists.{decided}
-use Rattle.buck_world.proofs.Moves.{move_of, in_range}
+use Rattle.buck_world.proofs.Moves.{move_of, is_in}
 use Rattle.buck_world.proofs.Sound.{stays_sound, run_sound}
 use Rattle.buck_world.proofs.Kept.{same_number}
 use Rattle.buck_world.proofs.Counting.{at_here, foreign}
@@ -30,7 +30,7 @@ own_no_less : (w w' : WorldParts) (e : Event) → IsSound w → Step w e w'
     → (at w (harvester_of_event e)).seen ≤ (at w' (harvester_of_event e)).seen
 own_no_less w w' e s step =
     let h = harvester_of_event e in
-    let h_in : IsHarvester w (harvester_of_event e) = in_range w w' e step in
+    let h_in : IsHarvester w (harvester_of_event e) = is_in w e step.0 in
     ⊎_elim
     (λ q. seen_no_less w w' h q.now (at_here w w' _ h q.now q.is refl h_in) q.no_less)
     (λ more. ⊎_elim

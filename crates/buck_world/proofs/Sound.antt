@@ -18,7 +18,7 @@ use Rattle.buck_world.specs.Kept.{IsFit, IsWorld}
 use Rattle.buck_world.specs.Run.{Move, IsRun, last, harvester_of_event}
 use Rattle.buck_world.specs.inner.Sound.{IsGoing, IsPlaced, IsSound}
 use Rattle.buck_world.proofs.Lists.{decided, here, elsewhere, after_set}
-use Rattle.buck_world.proofs.Moves.{IsQuiet, IsAdded, IsRaised, move_of, in_range}
+use Rattle.buck_world.proofs.Moves.{IsQuiet, IsAdded, IsRaised, move_of, is_in}
 
 -- a history one posting longer has as many sheets, or one more
 grown : (sheets : List (List ℕ)) (next : Option SheetParts)
@@ -185,7 +185,7 @@ raised_sound w w' h s h_in r = subst (λ (y : WorldParts). IsSound y) (sym r.is)
         (ℕ_discrete g h)
 
 pub stays_sound : (w w' : WorldParts) (e : Event) → IsSound w → Step w e w' → IsSound w'
-stays_sound w w' e s step = let h = harvester_of_event e in let h_in = in_range w w' e step in ⊎_elim
+stays_sound w w' e s step = let h = harvester_of_event e in let h_in = is_in w e step.0 in ⊎_elim
     (λ q. quiet_sound w w' h s h_in q)
     (λ more. ⊎_elim (λ a. added_sound w w' h s h_in a) (λ r. raised_sound w w' h s h_in r) more)
     (move_of w w' e s step)

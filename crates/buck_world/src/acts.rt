@@ -5,9 +5,12 @@ ghost use Rattle.buck_book.specs.History.{version_of, sheet_at, in_force};
 ghost use Rattle.buck_book.specs.Refused.{IsFull, IsBelow};
 ghost use Rattle.buck_book.specs.Targets.{AreTargets};
 ghost use Rattle.buck_world.specs.declared.event.Event.{Event};
-ghost use Rattle.buck_world.specs.Step.{IsPlanned, IsPlanUnder, Follows};
-ghost use Rattle.buck_world.specs.inner.Acts.{world_of, IsIn, is_at, HoldsPlan, IsPlanRefusal, IsTargetsRefusal};
+ghost use Rattle.buck_world.specs.Step.{IsPlanned, IsPlanUnder, Allowed, Follows};
+ghost use Rattle.buck_world.specs.Refused.{HasRoom, IsRefusal};
+ghost use Rattle.buck_world.specs.inner.Sound.{Keeps};
+ghost use Rattle.buck_world.specs.inner.Acts.{world_of, ruled, IsIn, is_at, HoldsPlan, IsPlanRefusal, IsTargetsRefusal};
 
+use crate::event::Event;
 use crate::fault::StepFault;
 use crate::harvester::Harvester;
 use crate::stage::Stage;
@@ -21,7 +24,7 @@ use std::alloc::Global;
 use std::sync::Arc;
 
 /// The sheet of a version up to the one in force.
-pub fn sheet_of<F: Drop>(book: &Book<F>, version: u32) -> &Arc<Sheet>
+fn sheet_of<F: Drop>(book: &Book<F>, version: u32) -> &Arc<Sheet>
     requires { version ≤ version_of book.now.history }
     ensures { result.now.value ≡ sheet_at book.now.history.instruction book.now.history.sheets version }
 {
@@ -29,7 +32,7 @@ pub fn sheet_of<F: Drop>(book: &Book<F>, version: u32) -> &Arc<Sheet>
 }
 
 /// A plan for a stem, under the sheet of a version up to the one in force.
-pub fn plan_under<F: Drop>(
+fn plan_under<F: Drop>(
     alloc: Global,
     book: &Book<F>,
     version: u32,
@@ -43,23 +46,8 @@ pub fn plan_under<F: Drop>(
     Plan::make(alloc, sheet, stem)
 }
 
-/// One more stale attempt of a harvester.
-fn add_stale(harvesters: &mut Vec<Harvester>, h: u32)
-    requires harvester { IsIn harvesters.old.items h }
-    requires stale { (is_at harvesters.old.items h).stale ≤ 3 }
-    ensures { harvesters.new.items ≡ slice_set harvesters.old.items (h - 1) (record {
-      stage = Stage.Idle;
-      seen = (is_at harvesters.old.items h).seen;
-      stale = (is_at harvesters.old.items h).stale + 1;
-    }) }
-{
-    let x = at(harvesters.as_slice(), h);
-    let x = idle(x.seen, x.stale + 1);
-    set(harvesters, h, x);
-}
-
 /// Try: the plan that a harvester holds is committed where its sheet is in force; else it was a stale attempt.
-pub fn try_plan<F: Fn(&Standing) -> u64 + Drop>(
+fn try_plan<F: Fn(&Standing) -> u64 + Drop>(
     alloc: Global,
     book: &mut Book<F>,
     harvesters: &mut Vec<Harvester>,
@@ -71,7 +59,7 @@ pub fn try_plan<F: Fn(&Standing) -> u64 + Drop>(
     requires planned { IsPlanned (is_at harvesters.old.items h).stage }
     requires holds { HoldsPlan book.old.history (is_at harvesters.old.items h) }
     requires stale { (is_at harvesters.old.items h).stale ≤ 3 }
-    ensures ok { OnOk result ((front : ℕ) →
+    ensures ok { (front : ℕ) → OnOk result (
         Follows (world_of book.old.history front harvesters.old.items) (Event.Try h)
         (world_of book.new.history front harvesters.new.items)) }
     ensures room { OnOk result (IsBelow book.old) }
@@ -90,7 +78,9 @@ pub fn try_plan<F: Fn(&Standing) -> u64 + Drop>(
         Err(Refusal::Full) => return Err(StepFault::Full),
         Err(Refusal::Memory) => return Err(StepFault::Memory),
         Err(Refusal::Stale { in_force: _ }) => {
-            add_stale(harvesters, h);
+            let x = at(harvesters.as_slice(), h);
+            let x = idle(x.seen, x.stale + 1);
+            set(harvesters, h, x);
             return Ok(());
         }
     };
@@ -102,7 +92,7 @@ pub fn try_plan<F: Fn(&Standing) -> u64 + Drop>(
 }
 
 /// Locked: a plan for a stem is made under the sheet in force, and committed.
-pub fn cut_locked<F: Fn(&Standing) -> u64 + Drop>(
+fn cut_locked<F: Fn(&Standing) -> u64 + Drop>(
     alloc: Global,
     book: &mut Book<F>,
     harvesters: &mut Vec<Harvester>,
@@ -112,7 +102,7 @@ pub fn cut_locked<F: Fn(&Standing) -> u64 + Drop>(
     requires answers { Answers F.Fn book.old.rule }
     requires harvester { IsIn harvesters.old.items h }
     requires few { h ≤ 64 }
-    ensures ok { OnOk result ((front : ℕ) →
+    ensures ok { (front : ℕ) → OnOk result (
         Follows (world_of book.old.history front harvesters.old.items) (Event.Locked h stem)
         (world_of book.new.history front harvesters.new.items)) }
     ensures room { OnOk result (IsBelow book.old) }
@@ -138,7 +128,7 @@ pub fn cut_locked<F: Fn(&Standing) -> u64 + Drop>(
 }
 
 /// Retarget: new targets are put in force.
-pub fn retarget<F: Fn(&Standing) -> u64 + Drop>(
+fn retarget<F: Fn(&Standing) -> u64 + Drop>(
     alloc: Global,
     book: &mut Book<F>,
     harvesters: &mut Vec<Harvester>,
@@ -148,7 +138,7 @@ pub fn retarget<F: Fn(&Standing) -> u64 + Drop>(
     requires answers { Answers F.Fn book.old.rule }
     requires harvester { IsIn harvesters.old.items h }
     requires few { h ≤ 64 }
-    ensures ok { OnOk result ((front : ℕ) →
+    ensures ok { (front : ℕ) → OnOk result (
         Follows (world_of book.old.history front harvesters.old.items) (Event.Retarget h targets.now)
         (world_of book.new.history front harvesters.new.items)) }
     ensures room { OnOk result
@@ -169,4 +159,71 @@ pub fn retarget<F: Fn(&Standing) -> u64 + Drop>(
     let _stage = answer(harvesters, h);
     let _demand = book.commit_demand(ready, h);
     Ok(())
+}
+
+/// What an allowed event does.
+pub fn act<F: Fn(&Standing) -> u64 + Drop>(
+    alloc: Global,
+    book: &mut Book<F>,
+    front: &mut u32,
+    harvesters: &mut Vec<Harvester>,
+    event: Event,
+) -> Result<(), StepFault>
+    requires answers { Answers F.Fn book.old.rule }
+    requires kept { Keeps (ruled book.old front.old harvesters.old.items) }
+    requires allowed { Allowed (world_of book.old.history front.old harvesters.old.items) event }
+    ensures ok { OnOk result (Follows (world_of book.old.history front.old harvesters.old.items) event
+        (world_of book.new.history front.new harvesters.new.items)) }
+    ensures room { OnOk result (HasRoom (ruled book.old front.old harvesters.old.items) event) }
+    ensures refused { IfErr result (IsRefusal (ruled book.old front.old harvesters.old.items) event) }
+    ensures left { OnErr result ((book.new.history ≡ book.old.history)
+        × (front.new ≡ front.old) × (harvesters.new.items ≡ harvesters.old.items)) }
+    ensures rule { book.new.rule ≡ book.old.rule }
+    ensures capacity { book.new.capacity ≡ book.old.capacity }
+    ensures number { vec_len harvesters.new ≡ vec_len harvesters.old }
+{
+    match event {
+        Event::Read {
+            harvester: h,
+            version,
+        } => {
+            let stale = at(harvesters.as_slice(), h).stale;
+            let x = Harvester {
+                stage: Stage::Reading,
+                seen: version,
+                stale,
+            };
+            set(harvesters, h, x);
+            Ok(())
+        }
+        Event::Plan { harvester: h, stem } => {
+            let x = at(harvesters.as_slice(), h);
+            let (seen, stale) = (x.seen, x.stale);
+            let plan = plan_under(alloc, book, seen, stem)?;
+            let x = Harvester {
+                stage: Stage::Planned(plan),
+                seen,
+                stale,
+            };
+            set(harvesters, h, x);
+            Ok(())
+        }
+        Event::Try { harvester: h } => try_plan(alloc, book, harvesters, h),
+        Event::Locked { harvester: h, stem } => cut_locked(alloc, book, harvesters, h, stem),
+        Event::Retarget {
+            harvester: h,
+            targets,
+        } => retarget(alloc, book, harvesters, h, &targets),
+        Event::Raise { harvester: h } => {
+            let version = book.version();
+            *front = version;
+            set(harvesters, h, idle(version, 0));
+            Ok(())
+        }
+        Event::Leave { harvester: h } => {
+            let seen = at(harvesters.as_slice(), h).seen;
+            set(harvesters, h, idle(seen, 0));
+            Ok(())
+        }
+    }
 }

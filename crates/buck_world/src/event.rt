@@ -1,4 +1,7 @@
 //! Events.
+ghost use Rattle.std.specs.Prelude.{◌≡◌};
+ghost use Rattle.buck_world.specs.Run.{harvester_of_event};
+
 use buck_stem::Stem;
 use std::sync::Arc;
 
@@ -38,4 +41,21 @@ pub enum Event {
     Leave {
         harvester: u32,
     },
+}
+
+impl Event {
+    /// Whose event it is.
+    pub(crate) fn harvester(&self) -> u32
+        ensures { result ≡ harvester_of_event self.now }
+    {
+        match self {
+            Event::Read { harvester, .. }
+            | Event::Plan { harvester, .. }
+            | Event::Try { harvester }
+            | Event::Locked { harvester, .. }
+            | Event::Retarget { harvester, .. }
+            | Event::Raise { harvester }
+            | Event::Leave { harvester } => *harvester,
+        }
+    }
 }

@@ -1,4 +1,7 @@
 //! Why an event is refused.
+ghost use Rattle.std.specs.Prelude.{◌≡◌};
+ghost use Rattle.buck_world.specs.declared.fault.StepFault.TheVariants.{Memory};
+
 use buck_book::{DemandRefusal, Refusal, TargetsFault};
 use buck_record::Memory;
 use std::alloc::AllocError;
@@ -23,9 +26,6 @@ pub enum StepFault {
 }
 
 impl From<AllocError> for StepFault {
-    ghost use Rattle.std.specs.Prelude.{◌≡◌};
-    ghost use Rattle.buck_world.specs.declared.fault.StepFault.TheVariants.{Memory};
-
     ghost from_gives = { λ _ e. e ≡ Memory };
 
     fn from(_error: AllocError) -> StepFault {
@@ -34,9 +34,6 @@ impl From<AllocError> for StepFault {
 }
 
 impl From<Memory> for StepFault {
-    ghost use Rattle.std.specs.Prelude.{◌≡◌};
-    ghost use Rattle.buck_world.specs.declared.fault.StepFault.TheVariants.{Memory};
-
     ghost from_gives = { λ _ e. e ≡ Memory };
 
     fn from(_error: Memory) -> StepFault {

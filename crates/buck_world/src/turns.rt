@@ -1,7 +1,6 @@
 //! What the harvesters are at, in a list from harvester 1 on: reading it, and changing one of them.
 ghost use Rattle.std.specs.Prelude.{◌≡◌, ◌≢◌, ◌↔◌, ℕ, ◌+◌, ◌-◌, ◌<◌, ◌≤◌, IsTrue, length, slice_index_or, slice_set, vec_len};
 ghost use Rattle.buck_world.specs.World.{newcomer};
-ghost use Rattle.buck_world.specs.Step.{IsPlanned, IsIdleOrReading};
 
 use crate::harvester::Harvester;
 use crate::stage::Stage;
@@ -56,39 +55,11 @@ pub fn answer(harvesters: &mut Vec<Harvester>, h: u32) -> Stage
     mem::replace(&mut place.stage, Stage::Answered)
 }
 
-/// Whether a stage is `Idle`.
-pub fn is_idle(stage: &Stage) -> bool
-    ensures { IsTrue result ↔ (stage.now ≡ Stage.Idle) }
-{
-    matches!(stage, Stage::Idle)
-}
-
-/// Whether a stage is `Reading`.
-pub fn is_reading(stage: &Stage) -> bool
-    ensures { IsTrue result ↔ (stage.now ≡ Stage.Reading) }
-{
-    matches!(stage, Stage::Reading)
-}
-
 /// Whether a stage is `Answered`.
 pub fn is_answered(stage: &Stage) -> bool
     ensures { IsTrue result ↔ (stage.now ≡ Stage.Answered) }
 {
     matches!(stage, Stage::Answered)
-}
-
-/// Whether a stage is `Planned`.
-pub fn is_planned(stage: &Stage) -> bool
-    ensures { IsTrue result ↔ IsPlanned stage.now }
-{
-    matches!(stage, Stage::Planned(_))
-}
-
-/// Whether a stage is `Idle` or `Reading`.
-pub fn is_idle_or_reading(stage: &Stage) -> bool
-    ensures { IsTrue result ↔ IsIdleOrReading stage.now }
-{
-    matches!(stage, Stage::Idle | Stage::Reading)
 }
 
 /// Whether nobody is answered.

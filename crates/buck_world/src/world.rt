@@ -2,18 +2,19 @@
 ghost use Rattle.std.specs.Prelude.{◌≡◌, ◌≢◌, ℕ, ◌+◌, ◌-◌, ◌<◌, ◌≤◌, ◌↔◌, IsTrue, IfOk, IfErr, OnOk, OnErr, length, replicate};
 ghost use Rattle.buck_rule.specs.Stored.{Answers};
 ghost use Rattle.buck_book.specs.History.{version_of};
-ghost use Rattle.buck_world.specs.World.{newcomer, opening, IsHarvester, at, NobodyAnswered};
-ghost use Rattle.buck_world.specs.Step.{IsIdleOrReading, Allowed, Step};
+ghost use Rattle.buck_world.specs.World.{newcomer, opening, IsHarvester, at};
+ghost use Rattle.buck_world.specs.Step.{Allowed, Step};
 ghost use Rattle.buck_world.specs.Kept.{IsKept};
 ghost use Rattle.buck_world.specs.Refused.{IsFull, MayAdd, HasRoom, IsRefusal};
 ghost use Rattle.buck_world.specs.inner.Sound.{Keeps};
 ghost use Rattle.buck_book.specs.declared.posting.TheConstants.{MOST_POSTINGS};
 
+use crate::acts::act;
 use crate::event::Event;
 use crate::fault::StepFault;
 use crate::harvester::Harvester;
 use crate::stage::Stage;
-use crate::{acts, turns};
+use crate::turns;
 use buck_apt::Instruction;
 use buck_book::{Book, Posting};
 use buck_record::Memory;
@@ -36,6 +37,7 @@ pub struct World<F> {
 
 impl<F> Model for World<F> {
     ghost use Rattle.buck_world.specs.Kept.{RuledWorld};
+    ghost use Rattle.buck_world.specs.inner.Acts.{ruled};
     ghost use Rattle.buck_world.specs.inner.Sound.{Keeps};
 
     ghost Value = { RuledWorld F };
@@ -46,11 +48,7 @@ impl<F> Model for World<F> {
       world = record { history = w.book.history; front = w.front; harvesters = w.harvesters.items };
     } };
 
-    ghost invariant = { λ w. Keeps (record {
-      rule = w.book.rule;
-      capacity = w.book.capacity;
-      world = record { history = w.book.history; front = w.front; harvesters = w.harvesters.items };
-    }) };
+    ghost invariant = { λ w. Keeps (ruled w.book w.front w.harvesters.items) };
 }
 
 /// So many harvesters that begin: idle, with version 0 seen and no stale attempt.
@@ -120,154 +118,31 @@ impl<F: Drop> World<F> {
         &turns::at(self.harvesters.as_slice(), harvester).stage
     }
 
-    /// Whether a read of this version is allowed.
-    fn may_read(&self, h: u32, version: u32) -> bool
-        ensures { IsTrue result ↔ Allowed self.now.world (Event.Read h version) }
-    {
-        if !turns::is_harvester(self.harvesters.as_slice(), h) {
-            return false;
-        }
-        let x = turns::at(self.harvesters.as_slice(), h);
-        turns::is_idle(&x.stage) && x.stale < 3 && x.seen <= version && version <= self.front
-    }
-
-    /// Whether a harvester may plan.
-    fn may_plan(&self, h: u32) -> bool
-        ensures { IsTrue result ↔ IsHarvester self.now.world h × ((at self.now.world h).stage ≡ Stage.Reading) }
-    {
-        if !turns::is_harvester(self.harvesters.as_slice(), h) {
-            return false;
-        }
-        turns::is_reading(&turns::at(self.harvesters.as_slice(), h).stage)
-    }
-
-    /// Whether a harvester may bring its plan to the book.
-    fn may_try(&self, h: u32) -> bool
-        ensures { IsTrue result ↔ Allowed self.now.world (Event.Try h) }
-    {
-        if !turns::is_harvester(self.harvesters.as_slice(), h) {
-            return false;
-        }
-        let x = turns::at(self.harvesters.as_slice(), h);
-        turns::is_planned(&x.stage) && turns::is_nobody_answered(self.harvesters.as_slice())
-    }
-
-    /// Whether a harvester may take the lock without a plan.
-    fn may_lock(&self, h: u32) -> bool
-        ensures { IsTrue result
-            ↔ IsHarvester self.now.world h
-            × IsIdleOrReading (at self.now.world h).stage
-            × NobodyAnswered self.now.world }
-    {
-        if !turns::is_harvester(self.harvesters.as_slice(), h) {
-            return false;
-        }
-        let is_nobody = turns::is_nobody_answered(self.harvesters.as_slice());
-        is_nobody && turns::is_idle_or_reading(&turns::at(self.harvesters.as_slice(), h).stage)
-    }
-
-    /// Whether a harvester may raise the front.
-    fn may_raise(&self, h: u32) -> bool
-        ensures { IsTrue result ↔ Allowed self.now.world (Event.Raise h) }
-    {
-        if !turns::is_harvester(self.harvesters.as_slice(), h) {
-            return false;
-        }
-        turns::is_answered(&turns::at(self.harvesters.as_slice(), h).stage)
-    }
-
-    /// Whether a harvester may leave its call.
-    fn may_leave(&self, h: u32) -> bool
-        ensures { IsTrue result ↔ Allowed self.now.world (Event.Leave h) }
-    {
-        if !turns::is_harvester(self.harvesters.as_slice(), h) {
-            return false;
-        }
-        let x = turns::at(self.harvesters.as_slice(), h);
-        !turns::is_answered(&x.stage)
-    }
-
     /// Whether an event is allowed.
     fn allows(&self, event: &Event) -> bool
         ensures { IsTrue result ↔ Allowed self.now.world event.now }
     {
-        match event {
-            Event::Read { harvester, version } => self.may_read(*harvester, *version),
-            Event::Plan { harvester, stem: _ } => self.may_plan(*harvester),
-            Event::Try { harvester } => self.may_try(*harvester),
-            Event::Locked { harvester, stem: _ } => self.may_lock(*harvester),
-            Event::Retarget {
-                harvester,
-                targets: _,
-            } => self.may_lock(*harvester),
-            Event::Raise { harvester } => self.may_raise(*harvester),
-            Event::Leave { harvester } => self.may_leave(*harvester),
+        let h = event.harvester();
+        if !turns::is_harvester(self.harvesters.as_slice(), h) {
+            return false;
         }
-    }
-
-    /// Read.
-    fn read(&mut self, h: u32, version: u32)
-        requires { Allowed self.old.world (Event.Read h version) }
-        ensures step { Step self.old.world (Event.Read h version) self.new.world }
-        ensures rule { self.new.rule ≡ self.old.rule }
-        ensures capacity { self.new.capacity ≡ self.old.capacity }
-        ensures harvesters { length self.new.world.harvesters ≡ length self.old.world.harvesters }
-    {
-        let stale = turns::at(self.harvesters.as_slice(), h).stale;
-        let x = Harvester {
-            stage: Stage::Reading,
-            seen: version,
-            stale,
-        };
-        turns::set(&mut self.harvesters, h, x);
-    }
-
-    /// Plan.
-    fn plan(&mut self, alloc: Global, h: u32, stem: Arc<Stem>) -> Result<(), Memory>
-        requires { Allowed self.old.world (Event.Plan h stem) }
-        ensures step { OnOk result (Step self.old.world (Event.Plan h stem) self.new.world) }
-        ensures left { OnErr result (self.new ≡ self.old) }
-        ensures rule { self.new.rule ≡ self.old.rule }
-        ensures capacity { self.new.capacity ≡ self.old.capacity }
-        ensures harvesters { length self.new.world.harvesters ≡ length self.old.world.harvesters }
-    {
         let x = turns::at(self.harvesters.as_slice(), h);
-        let (seen, stale) = (x.seen, x.stale);
-        let plan = acts::plan_under(alloc, &self.book, seen, stem)?;
-        let x = Harvester {
-            stage: Stage::Planned(plan),
-            seen,
-            stale,
-        };
-        turns::set(&mut self.harvesters, h, x);
-        Ok(())
-    }
-
-    /// Raise: the front becomes the version in force.
-    fn raise(&mut self, h: u32)
-        requires { Allowed self.old.world (Event.Raise h) }
-        ensures step { Step self.old.world (Event.Raise h) self.new.world }
-        ensures rule { self.new.rule ≡ self.old.rule }
-        ensures capacity { self.new.capacity ≡ self.old.capacity }
-        ensures harvesters { length self.new.world.harvesters ≡ length self.old.world.harvesters }
-    {
-        let version = self.version();
-        self.front = version;
-        let x = turns::idle(version, 0);
-        turns::set(&mut self.harvesters, h, x);
-    }
-
-    /// Leave.
-    fn leave(&mut self, h: u32)
-        requires { Allowed self.old.world (Event.Leave h) }
-        ensures step { Step self.old.world (Event.Leave h) self.new.world }
-        ensures rule { self.new.rule ≡ self.old.rule }
-        ensures capacity { self.new.capacity ≡ self.old.capacity }
-        ensures harvesters { length self.new.world.harvesters ≡ length self.old.world.harvesters }
-    {
-        let seen = turns::at(self.harvesters.as_slice(), h).seen;
-        let x = turns::idle(seen, 0);
-        turns::set(&mut self.harvesters, h, x);
+        let is_nobody = turns::is_nobody_answered(self.harvesters.as_slice());
+        match event {
+            Event::Read { version, .. } => {
+                matches!(x.stage, Stage::Idle)
+                    && x.stale < 3
+                    && x.seen <= *version
+                    && *version <= self.front
+            }
+            Event::Plan { .. } => matches!(x.stage, Stage::Reading),
+            Event::Try { .. } => matches!(x.stage, Stage::Planned(_)) && is_nobody,
+            Event::Locked { .. } | Event::Retarget { .. } => {
+                matches!(x.stage, Stage::Idle | Stage::Reading) && is_nobody
+            }
+            Event::Raise { .. } => turns::is_answered(&x.stage),
+            Event::Leave { .. } => !turns::is_answered(&x.stage),
+        }
     }
 }
 
@@ -296,49 +171,25 @@ impl<F: Fn(&Standing) -> u64 + Drop> World<F> {
         })
     }
 
-    /// Try, with the plan that the harvester holds.
-    fn try_plan(&mut self, alloc: Global, h: u32) -> Result<(), StepFault>
+    /// One event that is allowed.
+    fn follow(&mut self, alloc: Global, event: Event) -> Result<(), StepFault>
         requires answers { Answers F.Fn self.old.rule }
-        requires allowed { Allowed self.old.world (Event.Try h) }
-        ensures ok { OnOk result (Step self.old.world (Event.Try h) self.new.world) }
-        ensures room { OnOk result (HasRoom self.old (Event.Try h)) }
-        ensures refused { IfErr result (IsRefusal self.old (Event.Try h)) }
+        requires allowed { Allowed self.old.world event }
+        ensures ok { OnOk result (Step self.old.world event self.new.world) }
+        ensures room { OnOk result (HasRoom self.old event) }
+        ensures refused { IfErr result (IsRefusal self.old event) }
         ensures left { OnErr result (self.new ≡ self.old) }
         ensures rule { self.new.rule ≡ self.old.rule }
         ensures capacity { self.new.capacity ≡ self.old.capacity }
         ensures harvesters { length self.new.world.harvesters ≡ length self.old.world.harvesters }
     {
-        acts::try_plan(alloc, &mut self.book, &mut self.harvesters, h)
-    }
-
-    /// Locked.
-    fn cut_locked(&mut self, alloc: Global, h: u32, stem: Arc<Stem>) -> Result<(), StepFault>
-        requires answers { Answers F.Fn self.old.rule }
-        requires allowed { Allowed self.old.world (Event.Locked h stem) }
-        ensures ok { OnOk result (Step self.old.world (Event.Locked h stem) self.new.world) }
-        ensures room { OnOk result (HasRoom self.old (Event.Locked h stem)) }
-        ensures refused { IfErr result (IsRefusal self.old (Event.Locked h stem)) }
-        ensures left { OnErr result (self.new ≡ self.old) }
-        ensures rule { self.new.rule ≡ self.old.rule }
-        ensures capacity { self.new.capacity ≡ self.old.capacity }
-        ensures harvesters { length self.new.world.harvesters ≡ length self.old.world.harvesters }
-    {
-        acts::cut_locked(alloc, &mut self.book, &mut self.harvesters, h, stem)
-    }
-
-    /// Retarget.
-    fn retarget(&mut self, alloc: Global, h: u32, targets: &Arc<Vec<u32>>) -> Result<(), StepFault>
-        requires answers { Answers F.Fn self.old.rule }
-        requires allowed { Allowed self.old.world (Event.Retarget h targets.now) }
-        ensures ok { OnOk result (Step self.old.world (Event.Retarget h targets.now) self.new.world) }
-        ensures room { OnOk result (HasRoom self.old (Event.Retarget h targets.now)) }
-        ensures refused { IfErr result (IsRefusal self.old (Event.Retarget h targets.now)) }
-        ensures left { OnErr result (self.new ≡ self.old) }
-        ensures rule { self.new.rule ≡ self.old.rule }
-        ensures capacity { self.new.capacity ≡ self.old.capacity }
-        ensures harvesters { length self.new.world.harvesters ≡ length self.old.world.harvesters }
-    {
-        acts::retarget(alloc, &mut self.book, &mut self.harvesters, h, targets)
+        act(
+            alloc,
+            &mut self.book,
+            &mut self.front,
+            &mut self.harvesters,
+            event,
+        )
     }
 
     /// One event, where it is allowed: what follows is a world step. Else, and where it is refused otherwise, the world
@@ -361,26 +212,6 @@ impl<F: Fn(&Standing) -> u64 + Drop> World<F> {
         if !self.allows(&event) {
             return Err(StepFault::NotAllowed);
         }
-        match event {
-            Event::Read { harvester, version } => {
-                self.read(harvester, version);
-                Ok(())
-            }
-            Event::Plan { harvester, stem } => {
-                self.plan(alloc, harvester, stem)?;
-                Ok(())
-            }
-            Event::Try { harvester } => self.try_plan(alloc, harvester),
-            Event::Locked { harvester, stem } => self.cut_locked(alloc, harvester, stem),
-            Event::Retarget { harvester, targets } => self.retarget(alloc, harvester, &targets),
-            Event::Raise { harvester } => {
-                self.raise(harvester);
-                Ok(())
-            }
-            Event::Leave { harvester } => {
-                self.leave(harvester);
-                Ok(())
-            }
-        }
+        self.follow(alloc, event)
     }
 }

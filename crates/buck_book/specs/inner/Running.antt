@@ -8,7 +8,7 @@ use Rattle.buck_value.specs.Sheet.{SheetParts}
 use Rattle.buck_book.specs.declared.posting.Posting.{Posting}
 use Rattle.buck_book.specs.Posting.{targets_of, ends_of, cuts_since_end}
 use Rattle.buck_book.specs.Targets.{AreTargets}
-use Rattle.buck_book.specs.Counts.{AreClassCounts, assortment_count_of, assortment_logs, calls_of}
+use Rattle.buck_book.specs.Counts.{AreClassCounts, assortment_count_of, calls_of}
 use Rattle.buck_book.specs.History.{HistoryParts}
 use Rattle.buck_book.specs.Book.{BookParts, IsBook, sheets_from}
 use Rattle.buck_book.specs.declared.posting.TheConstants.{MOST_POSTINGS}
@@ -28,15 +28,17 @@ pub record AreAtMost (most : ℕ) (by_class by_assortment : List ℕ) : Type 0 w
 abbrev pub tally_of : InstructionParts → StemParts → List Log → List ℕ
 tally_of i stem logs = map (λ g. index_of i (class_of i stem g)) logs
 
--- each count grew by how often its place stands in a list
-pub record AreGrown (before places after : List ℕ) : Type 0 where
+-- each count grew by how many things of a list are at its place
+pub record AreGrownAt {X : Type 0} (place : X → ℕ) (before : List ℕ) (xs : List X) (after : List ℕ) : Type 0 where
   pub number : length after ≡ length before
-  pub each : (k : ℕ) → slice_index after k ≡ slice_index before k + count_by (λ p. p == k) places
+  pub each : (k : ℕ) → slice_index after k ≡ slice_index before k + count_by (λ x. place x == k) xs
 
--- each count grew by how many logs are of its assortment
-pub record AreGrownBy (before : List ℕ) (logs : List Log) (after : List ℕ) : Type 0 where
-  pub number : length after ≡ length before
-  pub each : (a : ℕ) → slice_index after a ≡ slice_index before a + assortment_logs a logs
+-- by how often its place stands in a list, and by how many logs are of its assortment
+abbrev pub AreGrown : List ℕ → List ℕ → List ℕ → Type 0
+AreGrown = AreGrownAt (λ p. p)
+
+abbrev pub AreGrownBy : List ℕ → List Log → List ℕ → Type 0
+AreGrownBy = AreGrownAt (λ g. g.assortment)
 
 -- what some postings add up to
 pub record RunningParts : Type 0 where

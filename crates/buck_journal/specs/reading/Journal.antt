@@ -64,12 +64,16 @@ numbers_at s items k = do
   rest ← rest_at s items k
   with_fault (λ _. Digits (k + 1)) (numbers_of rest)
 
+-- at most 16,384 numbers, each in a range
+abbrev pub list_at : Slot → ℕ → ℕ → List ItemParts → ℕ → Result (List ℕ) JournalFault
+list_at s low high items k = do
+  numbers ← numbers_at s items k
+  _ ← check (nat_le (length numbers) 16384) (Count (k + 1))
+  _ ← check (all_within low high numbers) (Range (k + 1))
+  Ok numbers
+
 unfoldable pub sheet_at : List ItemParts → ℕ → Result (List ℕ) JournalFault
-sheet_at items k = do
-  prices ← numbers_at (slot 971 1) items k
-  _ ← check (nat_le (length prices) 16384) (Count (k + 1))
-  _ ← check (all_within 0 HIGHEST_PRICE prices) (Range (k + 1))
-  Ok prices
+sheet_at items k = list_at (slot 971 1) 0 HIGHEST_PRICE items k
 
 abbrev pub call_of : List ℕ → Call
 call_of numbers = record {
@@ -157,11 +161,7 @@ worth_at items k = do
   with_fault (λ _. Digits (k + 1)) (number_of 18446744073709551615 rest)
 
 unfoldable pub targets_at : List ItemParts → ℕ → Result (List ℕ) JournalFault
-targets_at items k = do
-  targets ← numbers_at (slot 982 2) items k
-  _ ← check (nat_le (length targets) 16384) (Count (k + 1))
-  _ ← check (all_within TARGETS.low TARGETS.high targets) (Range (k + 1))
-  Ok targets
+targets_at items k = list_at (slot 982 2) TARGETS.low TARGETS.high items k
 
 -- the item begins a posting
 abbrev pub is_first : ItemParts → Bool

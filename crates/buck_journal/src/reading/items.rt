@@ -5,18 +5,17 @@ ghost use Rattle.buck_record.specs.checking.Rules.{slot, all_within};
 ghost use Rattle.buck_record.specs.Reading.{Gives, listed};
 ghost use Rattle.buck_stem.specs.file.Stm.{zones_of};
 ghost use Rattle.buck_journal.specs.declared.reading.fault.JournalFault.TheVariants.{Memory};
-ghost use Rattle.buck_journal.specs.reading.Journal.{rest_at, numbers_at, sheet_at, call_of, is_call, call_at, head_at, samples_at, are_zones, zones_at, are_logs, logs_of, logs_at, worth_at, targets_at};
+ghost use Rattle.buck_journal.specs.reading.Journal.{rest_at, numbers_at, list_at, call_of, is_call, call_at, head_at, samples_at, are_zones, zones_at, are_logs, logs_of, logs_at, worth_at};
 
 use crate::reading::call::Call;
 use crate::reading::fault::JournalFault;
-use crate::reading::slots::{DEMAND_TARGETS, HEAD, SHEET, WORTH};
-use buck_apt::slots::TARGETS;
+use crate::reading::slots::{HEAD, WORTH};
 use buck_book::MOST_POSTINGS;
 use buck_record::check::check;
 use buck_record::rules::all_within;
 use buck_record::{Listed, Piece, RecordFault, Slot, numbers, wide};
 use buck_stem::slots::SPECIES;
-use buck_value::{HIGHEST_PRICE, Log};
+use buck_value::Log;
 use std::alloc::{AllocError, Global};
 
 /// Whether an item stands in a slot.
@@ -70,42 +69,25 @@ pub(crate) fn worth_at<'a>(items: &'a [Piece<'a>], k: usize) -> Result<u64, Jour
     }
 }
 
-/// The prices of a sheet.
-#[tactic(auto, unfolding(crate::specs::reading::Journal::sheet_at))]
-pub(crate) fn sheet_at<'a>(
+/// The prices of a sheet, or the targets of a demand.
+pub(crate) fn list_at<'a>(
     alloc: Global,
+    slot: Slot,
+    low: u32,
+    high: u32,
     items: &'a [Piece<'a>],
     k: usize,
 ) -> Result<Listed<u32>, JournalFault>
     requires { k ≤ length items.now + 5 }
-    ensures { Gives Memory result (sheet_at items.now k) }
+    ensures { Gives Memory result (list_at slot low high items.now k) }
 {
-    let prices = numbers_at(alloc, SHEET, items, k)?;
-    check(prices.len() <= 16_384, JournalFault::Count { item: k + 1 })?;
+    let numbers = numbers_at(alloc, slot, items, k)?;
+    check(numbers.len() <= 16_384, JournalFault::Count { item: k + 1 })?;
     check(
-        all_within(0, HIGHEST_PRICE, prices.as_slice()),
+        all_within(low, high, numbers.as_slice()),
         JournalFault::Range { item: k + 1 },
     )?;
-    Ok(prices)
-}
-
-/// The targets of a demand.
-#[tactic(auto, unfolding(crate::specs::reading::Journal::targets_at))]
-pub(crate) fn targets_at<'a>(
-    alloc: Global,
-    items: &'a [Piece<'a>],
-    k: usize,
-) -> Result<Listed<u32>, JournalFault>
-    requires { k ≤ length items.now + 5 }
-    ensures { Gives Memory result (targets_at items.now k) }
-{
-    let targets = numbers_at(alloc, DEMAND_TARGETS, items, k)?;
-    check(targets.len() <= 16_384, JournalFault::Count { item: k + 1 })?;
-    check(
-        all_within(TARGETS.low, TARGETS.high, targets.as_slice()),
-        JournalFault::Range { item: k + 1 },
-    )?;
-    Ok(targets)
+    Ok(numbers)
 }
 
 /// What three numbers say.

@@ -2,7 +2,7 @@
 //! The numbers of an item, and the diameters of a stem, are read into rooms that are kept from item to item.
 ghost use Rattle.std.specs.Prelude.{◌≡◌, ◌≤◌, IfOk, IfSome, Ok, length, map};
 ghost use Rattle.buck_record.specs.checking.Rules.{slot};
-ghost use Rattle.buck_journal.specs.reading.Journal.{head_at, samples_at, zones_at, logs_at, worth_at, targets_at, sheet_at, journal_of};
+ghost use Rattle.buck_journal.specs.reading.Journal.{head_at, samples_at, zones_at, list_at, logs_at, worth_at, journal_of};
 ghost use Rattle.buck_journal.specs.inner.Limits.{AreSamples, AreZones};
 ghost use Rattle.buck_journal.specs.inner.Plain.{LeadsNumbers, LeadsTo, LeadsCall, LeadsStem, LeadsPosting, LeadsPostings, HasPostings, LeadsSheets, BeginsJournal};
 
@@ -218,26 +218,29 @@ fn next_cut<'a>(
     Ok(Some((cut, left)))
 }
 
-/// The targets of a demand, and what is left after them.
-#[tactic(auto, using(crate::proofs::OnePass::targets_lead))]
-fn next_targets<'a>(
+/// The prices of a sheet, or the targets of a demand, and what is left after them.
+#[tactic(auto, using(crate::proofs::OnePass::list_leads))]
+fn next_list<'a>(
     alloc: Global,
     room: &mut Vec<u32>,
+    slot: Slot,
+    low: u32,
+    high: u32,
     text: &'a [u8],
 ) -> Result<Option<(Vec<u32>, &'a [u8])>, AllocError>
-    ensures { IfOk result (λ o. IfSome o (λ w. LeadsTo (slot 982 2) targets_at text.now w.0.items w.1.now)) }
+    ensures { IfOk result (λ o. IfSome o (λ w. LeadsTo slot (list_at slot low high) text.now w.0.items w.1.now)) }
 {
-    let Some(left) = next_numbers(room, DEMAND_TARGETS, text)? else {
+    let Some(left) = next_numbers(room, slot, text)? else {
         return Ok(None);
     };
     if room.len() > 16_384 {
         return Ok(None);
     }
-    if !all_within(TARGETS.low, TARGETS.high, room.as_slice()) {
+    if !all_within(low, high, room.as_slice()) {
         return Ok(None);
     }
-    let targets = Vec::from_slice(alloc, room.as_slice())?;
-    Ok(Some((targets, left)))
+    let numbers = Vec::from_slice(alloc, room.as_slice())?;
+    Ok(Some((numbers, left)))
 }
 
 /// A demand, and what is left after its items.
@@ -251,7 +254,8 @@ fn next_demand<'a>(
     let Some((call, called)) = next_call(room, DEMAND, text)? else {
         return Ok(None);
     };
-    let Some((targets, left)) = next_targets(alloc, room, called)? else {
+    let (low, high) = (TARGETS.low, TARGETS.high);
+    let Some((targets, left)) = next_list(alloc, room, DEMAND_TARGETS, low, high, called)? else {
         return Ok(None);
     };
     let demand = demand_of(alloc, call, targets)?;
@@ -295,28 +299,6 @@ pub(crate) fn postings_of(alloc: Global, text: &[u8]) -> Result<Option<Vec<Posti
     Ok(None)
 }
 
-/// The prices of a sheet, and what is left after them.
-#[tactic(auto, using(crate::proofs::OnePass::prices_lead))]
-fn next_sheet<'a>(
-    alloc: Global,
-    room: &mut Vec<u32>,
-    text: &'a [u8],
-) -> Result<Option<(Vec<u32>, &'a [u8])>, AllocError>
-    ensures { IfOk result (λ o. IfSome o (λ w. LeadsTo (slot 971 1) sheet_at text.now w.0.items w.1.now)) }
-{
-    let Some(left) = next_numbers(room, SHEET, text)? else {
-        return Ok(None);
-    };
-    if room.len() > 16_384 {
-        return Ok(None);
-    }
-    if !all_within(0, HIGHEST_PRICE, room.as_slice()) {
-        return Ok(None);
-    }
-    let prices = Vec::from_slice(alloc, room.as_slice())?;
-    Ok(Some((prices, left)))
-}
-
 /// The sheets that a text begins with, and what is left after them.
 fn sheets_of<'a>(
     alloc: Global,
@@ -328,7 +310,7 @@ fn sheets_of<'a>(
     let mut sheets = Vec::new(alloc);
     let mut rest = text;
     for _ in 0..text.len() {
-        let Some((prices, left)) = next_sheet(alloc, room, rest)? else {
+        let Some((prices, left)) = next_list(alloc, room, SHEET, 0, HIGHEST_PRICE, rest)? else {
             return Ok((sheets, rest));
         };
         sheets.push(prices)?;

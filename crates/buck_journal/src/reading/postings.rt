@@ -8,15 +8,16 @@ ghost use Rattle.buck_book.specs.declared.posting.TheConstants.{MOST_POSTINGS};
 
 use crate::reading::call::Call;
 use crate::reading::fault::JournalFault;
-use crate::reading::items::{call_at, is_at, sheet_at, targets_at, worth_at};
+use crate::reading::items::{call_at, is_at, list_at, worth_at};
 use crate::reading::parts::{logs_at, stem_at};
-use crate::reading::slots::{CUT, DEMAND};
+use crate::reading::slots::{CUT, DEMAND, DEMAND_TARGETS, SHEET};
+use buck_apt::slots::TARGETS;
 use buck_book::{Demand, Entry, Posting};
 use buck_dp::Cutting;
 use buck_record::Piece;
 use buck_record::check::check;
 use buck_stem::Stem;
-use buck_value::Log;
+use buck_value::{HIGHEST_PRICE, Log};
 use std::alloc::{AllocError, Global};
 use std::sync::Arc;
 
@@ -95,7 +96,7 @@ pub(crate) fn demand_of(alloc: Global, call: Call, targets: Vec<u32>) -> Result<
 }
 
 /// A demand, which so many postings come before.
-#[tactic(auto, unfolding(crate::specs::reading::Journal::demand_at))]
+#[tactic(auto, unfolding(crate::specs::reading::Journal::demand_at, crate::specs::reading::Journal::targets_at))]
 fn demand_at<'a>(
     alloc: Global,
     items: &'a [Piece<'a>],
@@ -107,7 +108,8 @@ fn demand_at<'a>(
     ensures few { OnOk result (before < MOST_POSTINGS) }
 {
     let call = call_at(alloc, DEMAND, items, k, before)?;
-    let targets = targets_at(alloc, items, k + 1)?;
+    let (low, high) = (TARGETS.low, TARGETS.high);
+    let targets = list_at(alloc, DEMAND_TARGETS, low, high, items, k + 1)?;
     posting_follows(items, k + 2)?;
     Ok(demand_of(alloc, call, targets.into_vec())?)
 }
@@ -144,7 +146,7 @@ pub(crate) fn sheets_in<'a>(
         if is_first(&items[k]) {
             return Ok(sheets);
         }
-        let prices = sheet_at(alloc, items, k)?;
+        let prices = list_at(alloc, SHEET, 0, HIGHEST_PRICE, items, k)?;
         sheets.push(prices.into_vec())?;
     }
     Ok(sheets)

@@ -11,9 +11,13 @@ use Rattle.buck_world.specs.declared.fault.StepFault.{StepFault}
 use Rattle.buck_world.specs.declared.fault.StepFault.TheVariants.{NotAllowed, Full, Memory, Targets}
 use Rattle.buck_world.specs.World.{WorldParts, newcomer}
 use Rattle.buck_world.specs.Step.{IsPlanUnder}
+use Rattle.buck_world.specs.Kept.{RuledWorld}
 
 abbrev pub world_of : HistoryParts → ℕ → List Harvester → WorldParts
 world_of s front xs = record { history = s; front = front; harvesters = xs }
+
+abbrev pub ruled : {F : Type 0} → BookParts F → ℕ → List Harvester → RuledWorld F
+ruled b front xs = record { rule = b.rule; capacity = b.capacity; world = world_of b.history front xs }
 
 abbrev pub IsIn : List Harvester → ℕ → Type 0
 IsIn xs h = (1 ≤ h) × (h ≤ length xs)

@@ -16,7 +16,8 @@ overflow_add-index_mut c =
     let within : place < length c.loop-log.counts.items =
     omega (arith, c.place_of-place.ensures.within, c.requires.number, c.loop-log.invariant.number) in
     let fits : c.index_mut.result.now + 1 < 2 ^ 32 =
-    grown_fits c.args.counts.now.items c.loop-log.counts.items tally c.loop-log.log-index place c.index_mut.result.now
+    grown_fits (λ p. p)
+    c.args.counts.now.items c.loop-log.counts.items tally c.loop-log.log-index place c.index_mut.result.now 0
     (omega (arith, number, c.loop-log-test.true))
     (get_or_read c.loop-log.counts.items place c.index_mut.result.now within c.index_mut.ensures.value 0)
     c.loop-log.invariant (omega (arith, c.requires.low place, number)) in
@@ -34,7 +35,8 @@ loop-log-preserved c =
     let is = c.place_of-place.ensures.place
     ∙ sym (get_or-map (λ g. index_of i (class_of i c.args.stem.now g)) c.args.logs.now c.loop-log.log-index
     (record { start = 0; length = 0; assortment = 0 }) 0 c.loop-log-test.true) in
-    grown_more c.args.counts.now.items c.loop-log.counts.items tally c.loop-log.log-index place c.index_mut.result.now
-    (omega (arith, number, c.loop-log-test.true)) is within
+    grown_more (λ p. p)
+    c.args.counts.now.items c.loop-log.counts.items tally c.loop-log.log-index place c.index_mut.result.now 0
+    (omega (arith, number, c.loop-log-test.true))
     (get_or_read c.loop-log.counts.items place c.index_mut.result.now within c.index_mut.ensures.value 0)
-    c.loop-log.invariant
+    c.loop-log.invariant is within

@@ -1,13 +1,31 @@
-use Rattle.std.proofs.Common.{sym, ◌∙◌}
+use Rattle.std.proofs.Common.{refl, sym, ◌∙◌, arith}
 use Rattle.std.proofs.lemmas.List.{length-map}
 use Rattle.buck_fleet.specs.Closed.{lists_of}
-use Rattle.buck_fleet.proofs.Counted.{handed_out}
+use Rattle.buck_fleet.proofs.Counted.{prices_are, history_same, parts_out, handed_out}
 use Rattle.buck_fleet.proofs.close.take_in.Goals as goal
+
+pub invariant_of-result : goal.invariant_of-result
+invariant_of-result g c =
+    let parts = c.into_parts-parts.ensures in
+    let same =
+    history_same c.args.desk.book.history _ _ _ parts.instruction (prices_are (λ a. a.value) _ _ _ _ parts.sheets)
+    parts.entries in
+    parts_out _ _ _ _ _ _ _ same (
+      parts.kept.lawful,
+      parts.sheets,
+      parts.targets,
+      parts.valid,
+      parts.counts,
+      omega (arith, parts.kept.within, parts.kept.capacity_range),
+    )
 
 pub returns : goal.returns
 returns g c =
     let kept = c.collect.ensures in
-    let out = c.hand_out.ensures in
+    let parts = c.into_parts-parts.ensures in
+    let same =
+    history_same c.args.desk.book.history _ _ _ parts.instruction (prices_are (λ a. a.value) _ _ _ _ parts.sheets)
+    parts.entries in
     let total = c.args.desk.counted ∙ sym (c.audit.ensures.whole (kept.parts ∙ c.requires.parts)) ∙ kept.amount in
-    handed_out _ _ _ _ (lists_of c.collect.new.kept.items) out.history out.kept
-    (length-map c.collect.new.kept.items (λ v. v.items) ∙ kept.number) kept.lists total out.first_best
+    handed_out _ _ _ _ (lists_of c.collect.new.kept.items) same refl
+    (length-map c.collect.new.kept.items (λ v. v.items) ∙ kept.number) kept.lists total parts.kept.firsts

@@ -1,15 +1,17 @@
 use Rattle.std.proofs.Common.{◌≡◌, ◌+◌, arith, ap, sym, length}
+use Rattle.std.specs.Prelude.{Some}
+use Rattle.std.proofs.lemmas.List.Elements.{All-pop}
 use Rattle.buck_board.specs.Board.{IsSeatOf, seen_by}
 use Rattle.buck_fleet.specs.Seat.{SeatParts}
-use Rattle.buck_fleet.proofs.Opened.{all_but_last, is_new, one_more_new, one_more_parts, one_more_long}
+use Rattle.buck_fleet.proofs.Opened.{is_new, one_more_new, one_more_parts, one_more_long}
 use Rattle.buck_fleet.proofs.Crews.{crew_of_new}
 use Rattle.buck_fleet.proofs.open.seat_all.Goals as goal
 
 pub loop-harvester-preserved : goal.loop-harvester-preserved
 loop-harvester-preserved g c =
     let i = c.loop-harvester.invariant in
-    let of = all_but_last (IsSeatOf c.args.board.now) _ _ _ c.in-Some.ensures.items i.places_of in
-    let unseen = all_but_last (λ s. seen_by s ≡ 0) _ _ _ c.in-Some.ensures.items i.unseen in
+    let of = All-pop (IsSeatOf c.args.board.now) _ _ (Some c.in-Some.place) c.in-Some.ensures.items i.places_of in
+    let unseen = All-pop (λ s. seen_by s ≡ 0) _ _ (Some c.in-Some.place) c.in-Some.ensures.items i.unseen in
     let made = is_new c.args.board.now _ _ _ _ _ c.make.ensures (sym i.made) of.1 unseen.1 in
     let parts = ap (λ (s : SeatParts). s.parts) c.make.ensures in
     let more = one_more_parts _ _ _ c.push_reserved.ensures.items in
@@ -30,8 +32,9 @@ loop-harvester-preserved g c =
 pub returns : goal.returns
 returns g c =
     let i = c.loop-harvester.invariant in
-    let of = all_but_last (IsSeatOf c.args.board.now) _ _ _ c.in-Some-pop.ensures.items i.places_of in
-    let unseen = all_but_last (λ s. seen_by s ≡ 0) _ _ _ c.in-Some-pop.ensures.items i.unseen in
+    let of = All-pop (IsSeatOf c.args.board.now) _ _ (Some c.in-Some-pop.place)
+    c.in-Some-pop.ensures.items i.places_of in
+    let unseen = All-pop (λ s. seen_by s ≡ 0) _ _ (Some c.in-Some-pop.place) c.in-Some-pop.ensures.items i.unseen in
     let at : c.args.count ≡ length c.loop-harvester.seats.items + 1 =
     omega (
       arith,

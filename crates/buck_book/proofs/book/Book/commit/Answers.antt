@@ -7,8 +7,8 @@ use Rattle.buck_book.proofs.book.Book.commit.Goals as goal
 
 pub after_plan-requires : goal.after_plan-requires
 after_plan-requires g c =
-    let ready = rw (sym c.self.view_is) at c.requires.ready in
-    goes_on _ _ _ _ c.self.invariant ready.to_add.below c.args.plan ready.sheet_in_force
+    goes_on _ _ _ _ _ c.self.view_is c.self.invariant c.requires.ready.to_add.below c.args.plan
+    c.requires.ready.sheet_in_force
 
 pub invariant_of-self : goal.invariant_of-self
 invariant_of-self g c =

@@ -6,12 +6,11 @@ use Rattle.buck_book.proofs.book.Book.prepare.Goals as goal
 
 pub returns-clause-ready : goal.returns-clause-ready
 returns-clause-ready g c =
-    let made = c.in_ok-ready.ensures in
     let room = c.in_ok-reserve.ensures in
     record {
       to_add = ready_to_add _ _ (λ h harvester. Cut (entry_of h harvester c.args.plan.now)) _ c.reserve.ensures.content
-          (search rules) made.next room.posting room.sheet;
+          (search rules) c.in_ok-next.ensures.next room.posting room.sheet;
       sheet_in_force = search rules;
-      same_stem = made.stem;
-      same_logs = made.logs;
+      same_stem = search rules;
+      same_logs = search rules;
     }

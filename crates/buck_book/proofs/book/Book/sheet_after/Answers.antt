@@ -1,7 +1,7 @@
 use Rattle.std.proofs.Common.{◌++◌, ◌∷◌, [], ◌∙◌, ap, subst}
 use Rattle.buck_book.specs.Book.{BookParts}
 use Rattle.buck_book.specs.Pricing.{AreAnswers}
-use Rattle.buck_book.proofs.Sheets.{weaken_ok}
+use Rattle.std.proofs.lemmas.Result.{IfOk-weaker}
 use Rattle.buck_book.proofs.Told.{prices_can}
 use Rattle.buck_book.proofs.Books.{is_next_sheet, next_answers}
 use Rattle.buck_book.proofs.book.Book.sheet_after.Goals as goal
@@ -16,7 +16,7 @@ pub returns-clause-next : goal.returns-clause-next
 returns-clause-next g c =
     let h = c.args.self.now.history in
     let same = c.deref.ensures ∙ ap (λ (b : BookParts g.row.F.Denot). b.history.instruction) c.self.view_is in
-    weaken_ok c.sheet_by.result
+    IfOk-weaker c.sheet_by.result _ _
     (λ s made x told last. is_next_sheet g.F.Fn _ h x c.deref.result.now c.args.after.now s.value same
     (rw (c.targets.ensures, c.counts.ensures.classes, c.counts.ensures.assortments, c.version.ensures) at made)
     told last)
@@ -26,7 +26,7 @@ pub returns-clause-given : goal.returns-clause-given
 returns-clause-given g c =
     let h = c.args.self.now.history in
     let same = c.deref.ensures ∙ ap (λ (b : BookParts g.row.F.Denot). b.history.instruction) c.self.view_is in
-    weaken_ok c.sheet_by.result
+    IfOk-weaker c.sheet_by.result _ _
     (λ s made x told. subst (λ f. AreAnswers g.F.Fn f h.instruction (h.postings ++ x ∷ []) s.value.prices)
     (ap (λ (b : BookParts g.row.F.Denot). b.rule) c.self.view_is)
     (next_answers g.F.Fn _ h x c.deref.result.now c.args.after.now s.value same

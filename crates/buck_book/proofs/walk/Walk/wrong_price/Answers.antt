@@ -1,6 +1,7 @@
 use Rattle.std.proofs.Common.{take, sym}
+use Rattle.std.proofs.lemmas.Option.{IfSome_then}
 use Rattle.buck_book.proofs.Told.{prices_can}
-use Rattle.buck_book.proofs.Relations.{all_met, is_wrong, weaken_some, weaken_none}
+use Rattle.buck_book.proofs.Relations.{all_met, is_wrong, weaken_none}
 use Rattle.buck_book.proofs.walk.Walk.wrong_price.Goals as goal
 
 pub invariant_of-standings : goal.invariant_of-standings
@@ -13,12 +14,11 @@ returns-clause-found c =
     let w = c.self.inside in
     let t = c.self.invariant.tells in
     rw (sym c.self.view_is)
-    (weaken_some c.first_wrong.result
+    (IfSome_then c.first_wrong.result c.first_wrong.ensures.found
     (λ at found. is_wrong w.instruction.now w.running.targets w.running.by_class w.running.by_assortment
     (take w.at w.postings.now) c.args.prices.now
     t.targets_are t.counts_are at
-    (rw (c.targets.ensures, c.counts.ensures.classes, c.counts.ensures.assortments) at found))
-    c.first_wrong.ensures.found)
+    (rw (c.targets.ensures, c.counts.ensures.classes, c.counts.ensures.assortments) at found)))
 
 pub returns-clause-none : goal.returns-clause-none
 returns-clause-none c =

@@ -5,10 +5,11 @@ use Rattle.buck_fleet.proofs.close.Closed.last_sheet.Goals as goal
 
 pub returns : goal.returns
 returns c =
-    let items = c.self.inside.sheets.items in
+    let items = c.self.inside.parts.sheets.items in
     let read = c.index.result.now in
     let sheets = map (λ a. a.value) items in
-    let h = history_of c.self.inside.instruction.value (map (λ a. a.value.prices) items) c.self.inside.entries.items in
+    let h = history_of c.self.inside.parts.instruction.value (map (λ a. a.value.prices) items)
+    c.self.inside.parts.entries.items in
     let last = last_is h sheets read.value c.self.invariant.0 c.self.invariant.1 in
     let long = length-map items (λ a. a.value) in
     rw (sym c.self.view_is)

@@ -1,6 +1,6 @@
 use Rattle.std.proofs.Common.{◌∙◌, subst}
 use Rattle.std.proofs.lemmas.Result.{err_from_is_err_and}
-use Rattle.buck_book.proofs.Sheets.{weaken_ok}
+use Rattle.std.proofs.lemmas.Result.{IfOk-weaker}
 use Rattle.buck_journal.specs.inner.Replay.{along, AreRightUnder, IsMetUnder}
 use Rattle.buck_journal.proofs.Replays.{right_along, met_along, sheet_stopped, weaken_met}
 use Rattle.buck_journal.proofs.judging.replaying.replay_period.Goals as goal
@@ -17,7 +17,7 @@ pub returns-clause-right : goal.returns-clause-right
 returns-clause-right c =
     let a = c.args.walk in
     let h = along a c.args.sheets.now in
-    weaken_ok c.replay_under.result
+    IfOk-weaker c.replay_under.result _ _
     (λ w r. right_along h a.at w.at c.requires.right c.in_ok-sheet.ensures.right
     (subst (λ s. AreRightUnder s a.postings a.at w.at) (c.deref.ensures ∙ c.in_ok-sheet.ensures.sheet) r))
     c.replay_under.ensures.right

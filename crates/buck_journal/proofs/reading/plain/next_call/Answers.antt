@@ -1,7 +1,7 @@
 use Rattle.std.proofs.Common.{◌≡◌, true, length, sym, ap, ◌∙◌, subst, arith}
 use Rattle.buck_journal.specs.reading.Journal.{call_of, is_call}
 use Rattle.buck_journal.specs.inner.Plain.{LeadsNumbers, LeadsCall}
-use Rattle.buck_journal.proofs.OnePass.{call_leads}
+use Rattle.buck_journal.proofs.OnePass.{call_read}
 use Rattle.buck_journal.proofs.reading.plain.next_call.Goals as goal
 
 pub returns : goal.returns
@@ -14,4 +14,4 @@ returns c =
     let number : length ns ≡ 3 = omega (arith, c.len.ensures, c.if-len-ne3.false) in
     let is : c.call_of-call.result ≡ call_of ns = c.call_of-call.ensures ∙ ap call_of c.as_slice.ensures.value in
     let range : is_call (call_of ns) ≡ true = ap is_call (sym is) ∙ sym c.is_call.ensures ∙ c.if-not-is_call.false in
-    subst (λ call. LeadsCall s text call left) (sym is) (call_leads s text ns left l number range)
+    subst (λ call. LeadsCall s text call left) (sym is) (l.0, call_read s l.0 ns l.1 number range, l.2)

@@ -6,6 +6,7 @@ use Rattle.buck_journal.proofs.OnePass.{demand_leads}
 use Rattle.buck_journal.proofs.reading.plain.next_demand.Goals as goal
 
 pub returns : goal.returns
+unfolding targets_at
 returns c =
     let text = c.args.text.now in
     let call = c.in-Some.call in

@@ -2,7 +2,7 @@ use Rattle.std.proofs.Common.{rules, ◌≡◌, ◌%◌, ◌≤◌, true, length
 use Rattle.buck_record.specs.checking.Rules.{slot}
 use Rattle.buck_journal.specs.reading.Journal.{are_logs, logs_of, logs_at}
 use Rattle.buck_journal.specs.inner.Plain.{LeadsNumbers, LeadsTo}
-use Rattle.buck_journal.proofs.OnePass.{logs_lead}
+use Rattle.buck_journal.proofs.OnePass.{logs_read}
 use Rattle.buck_journal.proofs.reading.plain.next_logs.Goals as goal
 
 pub returns : goal.returns
@@ -14,4 +14,4 @@ returns c =
     let range : are_logs ns ≡ true = search (rules, arith) in
     let is : c.in_ok-logs.logs.items ≡ logs_of ns = search rules in
     subst (λ gs. LeadsTo (slot 981 5) logs_at c.args.text.now gs c.in-Some.left.now) (sym is)
-    (logs_lead c.args.text.now ns c.in-Some.left.now l third few range)
+    (l.0, logs_read l.0 ns l.1 third few range, l.2)

@@ -6,7 +6,7 @@ use Rattle.buck_journal.specs.reading.Journal.{are_zones, zones_at}
 use Rattle.buck_journal.specs.inner.Limits.{AreZones}
 use Rattle.buck_journal.specs.inner.Plain.{LeadsNumbers, LeadsTo}
 use Rattle.buck_journal.proofs.Limits.{are_zones_ok}
-use Rattle.buck_journal.proofs.OnePass.{zones_lead}
+use Rattle.buck_journal.proofs.OnePass.{zones_read}
 use Rattle.buck_journal.proofs.reading.plain.next_zones.Goals as goal
 
 pub returns-clause-leads : goal.returns-clause-leads
@@ -18,7 +18,7 @@ returns-clause-leads c =
     let range : are_zones 0 ns ≡ true = search (rules, arith) in
     let is : c.in_ok-zones.zones.items ≡ zones_of ns = search rules in
     subst (λ zs. LeadsTo (slot 981 4) zones_at c.args.text.now zs c.in-Some.left.now) (sym is)
-    (zones_lead c.args.text.now ns c.in-Some.left.now l even few range)
+    (l.0, zones_read l.0 ns l.1 even few range, l.2)
 
 pub returns-clause-valid : goal.returns-clause-valid
 returns-clause-valid c =

@@ -10,6 +10,7 @@ pub loop-init : goal.loop-init
 loop-init c = rw c.new-sheets.ensures.items (sheets_start c.args.text.now)
 
 pub loop-preserved : goal.loop-preserved
+unfolding sheet_at
 loop-preserved c =
     let rest = c.loop.rest.now in
     let left = c.in-Some.left.now in

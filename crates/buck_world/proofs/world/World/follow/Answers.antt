@@ -1,0 +1,13 @@
+use Rattle.std.proofs.Common.{sym}
+use Rattle.std.proofs.lemmas.Result.{on_err_weaker}
+use Rattle.buck_world.proofs.Kept.{keeps_act}
+use Rattle.buck_world.proofs.world.World.follow.Goals as goal
+
+pub invariant_of-self : goal.invariant_of-self
+invariant_of-self g c =
+    let left =
+    on_err_weaker c.act.result (λ l. (λ j. record { history = l.0 j; front = l.1 j; harvesters = l.2 j }))
+    c.act.ensures.left in
+    keeps_act _ c.args.event c.act.new.book.rule c.act.new.book.capacity _ c.act.result c.self.invariant
+    (rw (sym c.self.view_is) at c.requires.allowed)
+    c.act.ensures.capacity c.act.ensures.ok c.act.ensures.room left
