@@ -5,6 +5,7 @@ use Rattle.std.proofs.lemmas.Option.{same_Some}
 use Rattle.std.proofs.lemmas.List.{length-drop, length-take-le, get_or-drop, get_or-take, get_or_append_left, get_or-append_right}
 use Rattle.buck_dp.specs.declared.offering.Cell.{Cell}
 use Rattle.buck_dp.specs.inner.Bid.{BidParts, none, IsAtMost, IsGreater, plus}
+use Rattle.buck_dp.specs.inner.Cells.{IsPlaced}
 use Rattle.buck_dp.specs.inner.Logs.{bid_at}
 use Rattle.buck_dp.specs.inner.Rows.{IsNear, AreOffered, AreFit}
 use Rattle.buck_dp.proofs.BidLemmas.{IsAtMost-refl, IsAtMost-trans, greater_first, greater_second}
@@ -18,41 +19,32 @@ module _ (cells : List Cell) (top first stop n : ℕ) (low : stop ≤ top) (v u 
     | inr o ↦ absurd (omega (arith, o.3.1, o.4))
   ]
 
-  module _ (c : Cell) (w : List BidParts) (there : slice_get cells n ≡ Some c)
+  module _ (c : Cell) (w : List BidParts) (there : slice_get cells n ≡ Some c) (near : IsNear top first stop c)
       (number : length w ≡ length u)
-      (others : (i : ℕ) → (i + c.steps ≢ top) ⊎ (i < first) ⊎ (stop ≤ i) → bid_at w i ≡ bid_at u i)
-      (raised : (i : ℕ) → i + c.steps ≡ top → first ≤ i → i < stop
+      (others : (i : ℕ) → i + c.steps ≢ top → bid_at w i ≡ bid_at u i)
+      (raised : (i : ℕ) → i + c.steps ≡ top
       → IsGreater (bid_at u i) (plus c.bid (bid_at u (top + c.rise))) (bid_at w i)) where
     -- what a point has after a cell is offered: as before, or the greater of that and the offer
     which : (i : ℕ) → (bid_at w i ≡ bid_at u i)
-        ⊎ ((i + c.steps ≡ top) × IsNear top first stop c
-        × IsGreater (bid_at u i) (plus c.bid (bid_at u (top + c.rise))) (bid_at w i))
+        ⊎ ((i + c.steps ≡ top) × IsGreater (bid_at u i) (plus c.bid (bid_at u (top + c.rise))) (bid_at w i))
     which i = elim (cases_order (i + c.steps) top) [
-      | inl e ↦ elim (cases_lt i first) [
-        | inl far ↦ inl (others i (inr (inl far)))
-        | inr near ↦ elim (cases_lt i stop) [
-          | inl here ↦ inr (e, (omega arith, omega arith), raised i e near here)
-          | inr done ↦ inl (others i (inr (inr done)))
-        ]
-      ]
-      | inr o ↦ inl (others i (inl (λ e. elim o [ inl a ↦ omega arith | inr a ↦ omega arith ])))
+      | inl e ↦ inr (e, raised i e)
+      | inr o ↦ inl (others i (λ e. elim o [ inl a ↦ omega arith | inr a ↦ omega arith ]))
     ]
 
     more : (i : ℕ) → IsAtMost (bid_at u i) (bid_at w i)
     more i = elim (which i) [
       | inl e ↦ subst (λ x. IsAtMost (bid_at u i) x) (sym e) (IsAtMost-refl (bid_at u i))
-      | inr g ↦ greater_first (bid_at u i) (plus c.bid (bid_at u (top + c.rise))) (bid_at w i) g.2
+      | inr g ↦ greater_first (bid_at u i) (plus c.bid (bid_at u (top + c.rise))) (bid_at w i) g.1
     ]
 
     rest_same : bid_at u (top + c.rise) ≡ bid_at v (top + c.rise)
     rest_same = later_same (top + c.rise) (omega arith)
 
-    this_done : (i : ℕ) → i + c.steps ≡ top → IsNear top first stop c
-        → IsAtMost (plus c.bid (bid_at v (top + c.rise))) (bid_at w i)
-    this_done i e near =
+    this_done : (i : ℕ) → i + c.steps ≡ top → IsAtMost (plus c.bid (bid_at v (top + c.rise))) (bid_at w i)
+    this_done i e =
         subst (λ x. IsAtMost (plus c.bid x) (bid_at w i)) rest_same
-        (greater_second (bid_at u i) (plus c.bid (bid_at u (top + c.rise))) (bid_at w i)
-        (raised i e (omega (arith, near.0)) (omega (arith, near.1))))
+        (greater_second (bid_at u i) (plus c.bid (bid_at u (top + c.rise))) (bid_at w i) (raised i e))
 
     before_done : (k : ℕ) (d : Cell) → k < n → slice_get cells k ≡ Some d → IsNear top first stop d
         → (i : ℕ) → i + d.steps ≡ top → IsAtMost (plus d.bid (bid_at v (top + d.rise))) (bid_at w i)
@@ -65,37 +57,49 @@ module _ (cells : List Cell) (top first stop n : ℕ) (low : stop ≤ top) (v u 
     offered_more = record {
       number = number ∙ offered.number;
       kept = λ k. IsAtMost-trans (bid_at v k) (bid_at u k) (bid_at w k) (offered.kept k) (more k);
-      done = λ k d lt at near i is. elim (cases_lt k n) [
-        | inl before ↦ before_done k d before at near i is
+      done = λ k d lt at by i is. elim (cases_lt k n) [
+        | inl before ↦ before_done k d before at by i is
         | inr here ↦
             let same : c ≡ d =
             same_Some c d (sym there ∙ ap (λ x. slice_get cells x) (let e : n ≡ k = omega arith in e) ∙ at) in
-            subst (λ x. IsNear top first stop x → i + x.steps ≡ top
-            → IsAtMost (plus x.bid (bid_at v (top + x.rise))) (bid_at w i))
-            same (λ a b. this_done i b a) near is
+            subst (λ x. i + x.steps ≡ top → IsAtMost (plus x.bid (bid_at v (top + x.rise))) (bid_at w i)) same
+            (this_done i) is
       ];
       one = λ i. elim (which i) [
         | inl e ↦ elim (offered.one i) [
           | inl f ↦ inl (e ∙ f)
           | inr o ↦ inr (o.0, o.1, o.2, o.3, o.4, e ∙ o.5)
         ]
-        | inr g ↦ elim g.2 [
+        | inr g ↦ elim g.1 [
           | inl a ↦ elim (offered.one i) [
             | inl f ↦ inl (a.0 ∙ f)
             | inr o ↦ inr (o.0, o.1, o.2, o.3, o.4, a.0 ∙ o.5)
           ]
-          | inr a ↦ inr (n, c, there, g.1, g.0, a.0 ∙ ap (λ x. plus c.bid x) rest_same)
+          | inr a ↦ inr (n, c, there, near, g.0, a.0 ∙ ap (λ x. plus c.bid x) rest_same)
         ]
       ];
     }
+
+  -- where none of the other cells starts late enough, all are offered
+  pub offered_near : ((k : ℕ) (c : Cell) → n ≤ k → slice_get cells k ≡ Some c → top < c.steps + first)
+      → AreOffered cells top first stop (length cells) v u
+  offered_near long = record {
+    number = offered.number;
+    kept = offered.kept;
+    done = λ k c lt at near. elim (cases_lt k n) [
+      | inl before ↦ offered.done k c before at near
+      | inr after ↦ absurd (omega (arith, long k c after at, near.0))
+    ];
+    one = offered.one;
+  }
 
 -- A row whose cells all start at point `base` or later is offered to the points from there on alone.
 module _ (cells : List Cell) (top first stop far base : ℕ) (v : List BidParts)
     (is : base + far ≡ top) (begins : first ≤ base) (below : stop ≤ top) (inside : base ≤ length v)
     (late : (k : ℕ) (c : Cell) → slice_get cells k ≡ Some c → top < c.steps + stop)
-    (back : (k : ℕ) (c : Cell) → slice_get cells k ≡ Some c → c.back + c.steps ≡ far) where
+    (back : (k : ℕ) (c : Cell) → slice_get cells k ≡ Some c → IsPlaced far c) where
   near_all : (k : ℕ) (c : Cell) → slice_get cells k ≡ Some c → IsNear top first stop c
-  near_all k c at = (omega (arith, back k c at), late k c at)
+  near_all k c at = (omega (arith, (back k c at).0), late k c at)
 
   was_at : (k : ℕ) → bid_at (drop base v) k ≡ bid_at v (base + k)
   was_at k = get_or-drop base v k none
@@ -137,10 +141,11 @@ module _ (cells : List Cell) (top first stop far base : ℕ) (v : List BidParts)
             (subst (λ x. IsAtMost x (bid_at w (k - base))) (before_at k after) (offered.kept (k - base)))
       ];
       done = λ k c lt at near i sum.
-          subst (λ x. IsAtMost (plus c.bid (bid_at v (top + c.rise))) x) (sym (now_at i (omega (arith, back k c at))))
+          subst (λ x. IsAtMost (plus c.bid (bid_at v (top + c.rise))) x)
+          (sym (now_at i (omega (arith, (back k c at).0))))
           (subst (λ x. IsAtMost (plus c.bid x) (bid_at w (i - base))) (rest_at c.rise)
-          (offered.done k c lt at (omega (arith, back k c at), omega (arith, late k c at)) (i - base)
-          (omega (arith, back k c at))));
+          (offered.done k c lt at (omega (arith, (back k c at).0), omega (arith, late k c at)) (i - base)
+          (omega (arith, (back k c at).0))));
       one = λ i. elim (cases_lt i base) [
         | inl before ↦ inl (same_before i before)
         | inr after ↦ elim (offered.one (i - base)) [

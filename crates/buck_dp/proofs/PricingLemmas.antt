@@ -11,6 +11,7 @@ use Rattle.buck_bid.specs.declared.offers.Offer.{Offer}
 use Rattle.buck_bid.specs.Prices.{IsPricing, HasNoPrice}
 use Rattle.buck_bid.specs.Offers.{AreOffers, IsWhole, codes_in, code_of}
 use Rattle.buck_bid.specs.Quotes.{IsPricedAt, worth_for}
+use Rattle.buck_bid.proofs.ListLemmas.{in_order}
 use Rattle.buck_bid.proofs.OfferLemmas.{code_at, code_index, codes_number, whole_length}
 use Rattle.buck_dp.specs.inner.Points.{point_after}
 use Rattle.buck_dp.specs.declared.pricing.Quote.{Quote}
@@ -21,6 +22,20 @@ use Rattle.buck_dp.specs.inner.Takers.{IsTaker}
 use Rattle.buck_dp.specs.inner.Cells.{IsTakersBid}
 use Rattle.buck_dp.specs.inner.Quotes.{quote_bid, priced_at, IsAsked, IsQuoteOf, IsTermOf, HasNoBid}
 use Rattle.buck_dp.proofs.BidLemmas.{same_bid}
+
+-- a later offer is no shorter
+pub no_shorter : (i : InstructionParts) (offers : List Offer) (j k : ℕ) (a b : Offer) → AreOffers i offers → j ≤ k
+    → slice_get offers j ≡ Some a → slice_get offers k ≡ Some b → a.length ≤ b.length
+no_shorter i offers j k a b are le here there =
+    omega (
+      arith,
+      in_order (codes_in offers) are.codes.rise j k le
+          (omega (arith, codes_number offers, slice_get_within offers k b there)),
+      code_index offers j a here,
+      code_index offers k b there,
+      are.low j a here,
+      are.low k b there,
+    )
 
 module _ (s : SheetParts) (offers : List Offer) (ask : Ask) (place : ℕ) (o : Offer) (valid : IsSheet s)
     (are : AreOffers s.instruction offers)
@@ -120,6 +135,7 @@ module _ (s : SheetParts) (offers : List Offer) (ask : Ask) (place : ℕ) (o : O
               own = trim_at there.assortment there.exists;
             };
       };
+      rank = rank;
       only = λ steps trim d bid asked rank' b.
           let own = bid_own steps trim d bid rank' b in
           let worth : bid.worth ≡ (quote_bid q d).worth =

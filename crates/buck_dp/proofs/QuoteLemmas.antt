@@ -1,13 +1,16 @@
 -- Price lists that grow, and rows drawn from them.
-use Rattle.std.proofs.Common.{◌≡◌, ℕ, ◌+◌, ◌-◌, ◌*◌, ◌<◌, ◌⊎◌, inl, inr, List, [], ◌∷◌, ◌++◌, Option, IfSome, IfNone, length, length-append, slice_get, Some, None, refl, sym, subst, ap, ◌∙◌, append_assoc, arith}
+use Rattle.std.proofs.Common.{◌≡◌, ℕ, ◌+◌, ◌-◌, ◌*◌, ◌<◌, ◌≤◌, ◌⊎◌, inl, inr, List, [], ◌∷◌, ◌++◌, Option, IfSome, IfNone, length, length-append, take, get_or, slice_get, slice_set, suc, Some, None, refl, sym, subst, ap, ◌∙◌, append_assoc, arith, mul-le-mul_right, add-mul}
 use Rattle.std.proofs.lemmas.Bool.{cases_lt}
-use Rattle.std.proofs.lemmas.Option.{same_Some, slice_get_within}
+use Rattle.std.proofs.lemmas.Option.{none-some, same_Some, slice_get_within, slice_get-get_or, get_or_from_slice_get}
+use Rattle.std.specs.List.Sorted.{IsStrictlyIncreasing}
 use Rattle.buck_apt.specs.Instruction.{InstructionParts}
 use Rattle.buck_value.specs.Sheet.{SheetParts, IsSheet}
 use Rattle.buck_bid.specs.declared.offers.Offer.{Offer}
 use Rattle.buck_bid.specs.Offers.{codes_in, code_of}
 use Rattle.buck_bid.proofs.OfferLemmas.{codes_number}
-use Rattle.buck_bid.proofs.ListLemmas.{kept_at, pushed_at, push_each}
+use Rattle.std.proofs.Math.Seq.{take-suc, take-suc-set}
+use Rattle.std.proofs.lemmas.List.{get_or-append_right, set-append_right, take_all, length-set}
+use Rattle.buck_bid.proofs.ListLemmas.{kept_at, pushed_at, push_cases, push_each, in_order}
 use Rattle.buck_dp.specs.declared.offering.Cell.{Cell}
 use Rattle.buck_dp.specs.declared.offering.Reach.{Reach}
 use Rattle.buck_dp.specs.declared.pricing.Quote.{Quote}
@@ -16,126 +19,253 @@ use Rattle.buck_dp.specs.declared.pricing.Term.{Term}
 use Rattle.buck_dp.specs.declared.takers.Takers.{Takers}
 use Rattle.buck_dp.specs.inner.Bid.{BidParts, IsAtMost}
 use Rattle.buck_dp.specs.inner.Cells.{IsMet, IsTakersBid, IsReal, AreCells}
-use Rattle.buck_dp.specs.inner.Quotes.{quote_bid, IsSmall, IsAsked, IsQuote, IsQuoteOf, HasNoBid, IsOver, IsQuoted, IsTermOf, IsNoTerm, AreTerms, AreQuotes}
+use Rattle.buck_dp.specs.inner.Quotes.{quote_bid, IsSmall, IsAsked, IsQuote, IsQuoteOf, HasNoBid, IsOver, IsPut, IsQuoted, IsTermOf, IsNoTerm, AreTerms, Falls, AreQuotes}
 use Rattle.buck_dp.specs.inner.Drawn.{IsWithin, IsCutOff, cell_of, IsCellOf, IsDrawn}
 use Rattle.buck_dp.proofs.BidLemmas.{IsAtMost-refl, IsAtMost-trans, worth_at_most}
 use Rattle.buck_dp.proofs.Places.{after_in_order}
+
+-- with one more that has no higher number than any other
+falls_push : {X : Type 0} (of : X → ℕ) (xs : List X) (x : X) → Falls of xs
+    → ((j : ℕ) (a : X) → slice_get xs j ≡ Some a → of x ≤ of a) → Falls of (xs ++ x ∷ [])
+falls_push {X} of xs x was last j k a b le here there =
+    push_each (λ k (b : X). (j : ℕ) (a : X) → j ≤ k → slice_get (xs ++ x ∷ []) j ≡ Some a → of b ≤ of a) xs x
+    (λ k b at j a le here. push_each (λ j (a : X). j ≤ k → of b ≤ of a) xs x (λ j a at' le. was j k a b le at' at)
+    (λ le. absurd (omega (arith, slice_get_within xs k b at))) j a here le)
+    (λ j a le here. push_each (λ j (a : X). of x ≤ of a) xs x last (omega arith) j a here) k b there j a le here
 
 -- an offer for which nobody bids leaves a list right
 pub quotes_skip : (s : SheetParts) (codes : List ℕ) (ask : Ask) (n : ℕ) (list : List Quote) → HasNoBid s codes ask n
     → AreQuotes s codes ask n list → AreQuotes s codes ask (n + 1) list
 quotes_skip s codes ask n list none was = record {
   real = was.real;
+  early = λ k q at. omega (arith, was.early k q at);
+  order = was.order;
   met = λ steps trim d bid asked past b. elim (cases_lt 1023 (bid.rank + n)) [
     | inl before ↦ was.met steps trim d bid asked before b
     | inr at ↦ absurd (none steps trim d bid asked (omega arith) b)
   ];
 }
 
--- what is quoted stays so with one more
-quoted_more : (list : List Quote) (q : Quote) (d steps trim : ℕ) (bid : BidParts) → IsQuoted list d steps trim bid
-    → IsQuoted (list ++ q ∷ []) d steps trim bid
-quoted_more list q d steps trim bid i = record {
-  place = i.place;
-  quote = i.quote;
-  there = kept_at list q i.quote i.place i.there;
-  meets = i.meets;
-  trims = i.trims;
-}
+-- what a quote meets, one that is over it meets
+over_quoted : (list : List Quote) (k : ℕ) (p q : Quote) (thinnest d steps trim : ℕ) (bid : BidParts)
+    → slice_get list k ≡ Some p
+    → IsOver thinnest p q → thinnest ≤ d
+    → ((q.steps ≡ steps) × IsAtMost bid (quote_bid q d)) ⊎ ((q.steps < steps) × (bid.worth < (quote_bid q d).worth))
+    → q.trim ≤ trim → IsQuoted list d steps trim bid
+over_quoted list k p q thinnest d steps trim bid there over le meets trims =
+    let more = over.more d le in
+    record {
+      place = k;
+      quote = p;
+      there = there;
+      meets = elim meets [
+        | inl same ↦
+            let most = worth_at_most bid (quote_bid q d) same.1 in
+            elim (cases_lt p.steps steps) [
+              | inl less ↦ inr (less, omega (arith, most, more))
+              | inr even ↦ inl (omega (arith, even, over.steps, same.0), inl (omega (arith, most, more)))
+            ]
+        | inr less ↦ inr (omega (arith, over.steps, less.0), omega (arith, less.1, more))
+      ];
+      trims = omega (arith, over.trim, trims);
+    }
 
--- who leads a list: nobody, or one of its quotes
-abbrev pub IsLeader : List Quote → Quote → Type 0
-IsLeader list p = ((d : ℕ) → (quote_bid p d).worth ≡ 0) ⊎ ((k : ℕ) × (slice_get list k ≡ Some p))
+-- what is left of a list where a quote is put behind it: all but what the quote is over
+pub record IsCleared (thinnest : ℕ) (q : Quote) (list rest : List Quote) : Type 0 where
+  pub kept : (k : ℕ) (x : Quote) → slice_get rest k ≡ Some x → slice_get list k ≡ Some x
+  pub lost : (k : ℕ) (x : Quote) → slice_get list k ≡ Some x → (slice_get rest k ≡ Some x) ⊎ IsOver thinnest q x
 
-leader_more : (list : List Quote) (q p : Quote) → IsLeader list p → IsLeader (list ++ q ∷ []) p
-leader_more list q p (inl nobody) = inl nobody
-leader_more list q p (inr there) = inr (there.0, kept_at list q p there.0 there.1)
+-- who leads a list: nobody, or what it is over one of the list is over
+abbrev pub IsLeader : ℕ → List Quote → Quote → Type 0
+IsLeader thinnest list p = ((d : ℕ) → (quote_bid p d).worth ≡ 0)
+    ⊎ ((x : Quote) → IsOver thinnest p x → (k : ℕ) × (o : Quote) × (slice_get list k ≡ Some o) × IsOver thinnest o x)
 
--- the quote of an offer is put behind others
-pub quotes_push : (s : SheetParts) (codes : List ℕ) (ask : Ask) (n : ℕ) (list : List Quote) (q : Quote)
-    → IsQuoteOf s codes ask n q
-    → AreQuotes s codes ask n list → AreQuotes s codes ask (n + 1) (list ++ q ∷ [])
-quotes_push s codes ask n list q is was = record {
-  real = push_each (λ k x. IsQuote s codes ask x) list q was.real is.is;
-  met = λ steps trim d bid asked past b. elim (cases_lt 1023 (bid.rank + n)) [
-    | inl before ↦ quoted_more list q d steps trim bid (was.met steps trim d bid asked before b)
-    | inr at ↦
-        let o = is.only steps trim d bid asked (omega arith) b in
+module _ (s : SheetParts) (codes : List ℕ) (ask : Ask) (n : ℕ) (list : List Quote) (q : Quote)
+    (is : IsQuoteOf s codes ask n q)
+    (was : AreQuotes s codes ask n list) where
+  abbrev low : ℕ
+  low = ask.band.thinnest
+
+  -- the quote of an offer is left out, where one of the list is over it
+  quotes_cut : (p : Quote) → IsLeader low list p → IsOver low p q → AreQuotes s codes ask (n + 1) list
+  quotes_cut p leads over = record {
+    real = was.real;
+    early = λ k x at. omega (arith, was.early k x at);
+    order = was.order;
+    met = λ steps trim d bid asked past b. elim (cases_lt 1023 (bid.rank + n)) [
+      | inl before ↦ was.met steps trim d bid asked before b
+      | inr at ↦
+          let o = is.only steps trim d bid asked (omega arith) b in
+          elim leads [
+            | inl nobody ↦ absurd (omega (arith, nobody d, over.more d asked.0))
+            | inr there ↦
+                let t = there q over in
+                over_quoted list t.0 t.1 q low d steps trim bid t.2 t.3 asked.0
+                (inl (o.0, subst (λ x. IsAtMost bid x) o.2 (IsAtMost-refl bid))) (omega (arith, o.1))
+          ]
+    ];
+  }
+
+  module _ (rest : List Quote) (clear : IsCleared low q list rest) where
+    last_there : slice_get (rest ++ q ∷ []) (length rest) ≡ Some q
+    last_there = pushed_at rest q (length rest) refl
+
+    leader_more : (p : Quote) → IsLeader low list p → IsLeader low (rest ++ q ∷ []) p
+    leader_more p (inl nobody) = inl nobody
+    leader_more p (inr there) = inr (λ x over. let t = there x over in elim (clear.lost t.0 t.1 t.2) [
+      | inl at ↦ (t.0, t.1, kept_at rest q t.1 t.0 at, t.3)
+      | inr better ↦ (
+        length rest,
+        q,
+        last_there,
         record {
-          place = length list;
-          quote = q;
-          there = pushed_at list q (length list) refl;
-          meets = inl (o.0, subst (λ x. IsAtMost bid x) o.2 (IsAtMost-refl bid));
-          trims = omega (arith, o.1);
-        }
-  ];
-}
+          steps = omega (arith, better.steps, t.3.steps);
+          trim = omega (arith, better.trim, t.3.trim);
+          more = λ d le. omega (arith, better.more d le, t.3.more d le);
+        },
+      )
+    ])
 
--- the quote of an offer is left out, where one of the list is over it
-pub quotes_cut : (s : SheetParts) (codes : List ℕ) (ask : Ask) (n : ℕ) (list : List Quote) (p q : Quote)
-    → IsQuoteOf s codes ask n q
-    → IsLeader list p → IsOver ask.band.thinnest p q → AreQuotes s codes ask n list → AreQuotes s codes ask (n + 1) list
-quotes_cut s codes ask n list p q is leads over was = record {
-  real = was.real;
-  met = λ steps trim d bid asked past b. elim (cases_lt 1023 (bid.rank + n)) [
-    | inl before ↦ was.met steps trim d bid asked before b
-    | inr at ↦
-        let o = is.only steps trim d bid asked (omega arith) b in
-        let worth : bid.worth ≡ (quote_bid q d).worth = ap (λ x. x.worth) o.2 in
-        let more = over.more d asked.0 in
-        elim leads [
-          | inl nobody ↦ absurd (let none = nobody d in omega arith)
-          | inr there ↦ record {
-            place = there.0;
-            quote = p;
-            there = there.1;
-            meets = elim (cases_lt p.steps steps) [
-              | inl less ↦ inr (less, omega (arith, worth, more))
-              | inr same ↦ inl (omega (arith, same, over.steps, o.0), inl (omega (arith, worth, more)))
-            ];
-            trims = omega (arith, over.trim, o.1);
-          }
-        ]
-  ];
-}
+    -- or put behind what is left of it
+    quotes_push : AreQuotes s codes ask (n + 1) (rest ++ q ∷ [])
+    quotes_push = record {
+      real = push_each (λ k x. IsQuote s codes ask x) rest q (λ k x at. was.real k x (clear.kept k x at)) is.is;
+      early = push_each (λ k (x : Quote). 1023 < x.rank + (n + 1)) rest q
+          (λ k x at. omega (arith, was.early k x (clear.kept k x at)))
+          (omega (arith, is.rank));
+      order = falls_push (λ (x : Quote). x.rank) rest q
+          (λ j k a b le here there. was.order j k a b le (clear.kept j a here) (clear.kept k b there))
+          (λ j a at. omega (arith, was.early j a (clear.kept j a at), is.rank));
+      met = λ steps trim d bid asked past b. elim (cases_lt 1023 (bid.rank + n)) [
+        | inl before ↦
+            let i = was.met steps trim d bid asked before b in
+            elim (clear.lost i.place i.quote i.there) [
+              | inl at ↦
+                  record {
+                    place = i.place;
+                    quote = i.quote;
+                    there = kept_at rest q i.quote i.place at;
+                    meets = i.meets;
+                    trims = i.trims;
+                  }
+              | inr over ↦
+                  over_quoted (rest ++ q ∷ []) (length rest)
+                  q i.quote low d steps trim bid last_there over asked.0 i.meets i.trims
+            ]
+        | inr at ↦
+            let o = is.only steps trim d bid asked (omega arith) b in
+            record {
+              place = length rest;
+              quote = q;
+              there = last_there;
+              meets = inl (o.0, subst (λ x. IsAtMost bid x) o.2 (IsAtMost-refl bid));
+              trims = omega (arith, o.1);
+            }
+      ];
+    }
 
 -- a list is right so far, and who leads it stands there
 pub record IsListSoFar (s : SheetParts) (codes : List ℕ) (ask : Ask) (n : ℕ) (list : List Quote)
     (leader : Quote) : Type 0 where
   pub quotes : AreQuotes s codes ask n list
-  pub leads : IsLeader list leader
+  pub leads : IsLeader ask.band.thinnest list leader
   pub small : IsSmall leader
 
+-- so with nothing in it yet
+pub list_none : (s : SheetParts) (codes : List ℕ) (ask : Ask) → IsListSoFar s codes ask 0 []
+    (record { kind = 0; price = 0; rank = 0; length = 0; steps = 0; trim = 4294967295; rise = 0 })
+list_none s codes ask = record {
+  quotes = record {
+    real = λ k q at. absurd (none-some q at);
+    early = λ k q at. absurd (none-some q at);
+    order = λ j k a b le at. absurd (none-some a at);
+    met = λ steps trim d bid asked past b. absurd (omega (arith, past, b.bids.rank.high));
+  };
+  leads = inl (λ d. refl);
+  small = record { length = omega arith; price = omega arith; rank = omega arith };
+}
+
 -- so with one more, unless the leader is over it
-pub list_put : (s : SheetParts) (codes : List ℕ) (ask : Ask) (n : ℕ) (list new : List Quote) (p l q : Quote)
+pub list_cut : (s : SheetParts) (codes : List ℕ) (ask : Ask) (n : ℕ) (list : List Quote) (p l q : Quote)
     → IsQuoteOf s codes ask n q
-    → ((new ≡ list) × (l ≡ p) × IsOver ask.band.thinnest p q) ⊎ ((new ≡ list ++ q ∷ []) × ((l ≡ p) ⊎ (l ≡ q)))
-    → IsListSoFar s codes ask n list p → IsListSoFar s codes ask (n + 1) new l
-list_put s codes ask n list new p l q is put was = elim put [
-  | inl cut ↦
-      subst (λ (x : Quote). IsListSoFar s codes ask (n + 1) new x) (sym cut.1)
-      (subst (λ (xs : List Quote). IsListSoFar s codes ask (n + 1) xs p) (sym cut.0)
-      (record {
-        quotes = quotes_cut s codes ask n list p q is was.leads cut.2 was.quotes;
-        leads = was.leads;
-        small =
-            was.small;
-      }))
-  | inr more ↦
-      subst (λ (xs : List Quote). IsListSoFar s codes ask (n + 1) xs l) (sym more.0)
-      (elim more.1 [
-        | inl same ↦ subst (λ (x : Quote). IsListSoFar s codes ask (n + 1) (list ++ q ∷ []) x) (sym same) (record {
-          quotes = quotes_push s codes ask n list q is was.quotes;
-          leads = leader_more list q p was.leads;
-          small = was.small;
-        })
-        | inr lead ↦ subst (λ (x : Quote). IsListSoFar s codes ask (n + 1) (list ++ q ∷ []) x) (sym lead) (record {
-          quotes = quotes_push s codes ask n list q is was.quotes;
-          leads = inr (length list, pushed_at list q (length list) refl);
-          small = is.is.small;
-        })
-      ])
-]
+    → l ≡ p → IsOver ask.band.thinnest p q → IsListSoFar s codes ask n list p → IsListSoFar s codes ask (n + 1) list l
+list_cut s codes ask n list p l q is same over was =
+    rw same (record {
+      quotes = quotes_cut s codes ask n list q is was.quotes p was.leads over;
+      leads =
+          was.leads;
+      small = was.small;
+    })
+
+pub list_put : (s : SheetParts) (codes : List ℕ) (ask : Ask) (n : ℕ) (list rest : List Quote) (p l q : Quote)
+    → IsQuoteOf s codes ask n q
+    → IsCleared ask.band.thinnest q list rest → (l ≡ p) ⊎ (l ≡ q)
+    → IsListSoFar s codes ask n list p → IsListSoFar s codes ask (n + 1) (rest ++ q ∷ []) l
+list_put s codes ask n list rest p l q is clear lead was =
+    let new = quotes_push s codes ask n list q is was.quotes rest clear in
+    elim lead [
+      | inl same ↦
+          rw same (record {
+            quotes = new;
+            leads =
+                leader_more s codes ask n list q is was.quotes rest clear p was.leads;
+            small = was.small;
+          })
+      | inr own ↦ rw own (record {
+        quotes = new;
+        leads = inr (λ x over. (length rest, q, pushed_at rest q (length rest) refl, over));
+        small = is.is.small;
+      })
+    ]
+
+-- what stands behind a list stands in the one behind it
+pub behind_at : (start list : List Quote) (k : ℕ) (x : Quote) → length start ≤ k → slice_get (start ++ list) k ≡ Some x
+    → slice_get list (k - length start) ≡ Some x
+behind_at start list k x le at =
+    slice_get-get_or list (k - length start) x
+    (omega (arith, slice_get_within (start ++ list) k x at, length-append start list, le))
+    ∙ ap Some
+    (sym (get_or-append_right start list (length start) k x refl le)
+    ∙ get_or_from_slice_get (start ++ list) k x x at)
+
+-- a quote is put behind a list that stands behind others: what is left of the list
+put_after : (thinnest : ℕ) (q : Quote) (start list new : List Quote)
+    → IsPut thinnest q (length start) (start ++ list) new
+    → (rest : List Quote) × IsCleared thinnest q list rest × (new ≡ start ++ (rest ++ q ∷ []))
+put_after thinnest q start list new (inl pushed) =
+    (list, record { kept = λ k x at. at; lost = λ k x at. inl at }, pushed ∙ append_assoc start list (q ∷ []))
+put_after thinnest q start list new (inr (x, some, at, over, set)) =
+    let m : ℕ = length list - 1 in
+    let long = length-append start list in
+    let place : length (start ++ list) - 1 - length start ≡ m = omega (arith, long) in
+    let lt : m < length list = omega (arith, some, long) in
+    let last : get_or list m x ≡ x =
+    get_or_from_slice_get list m x x
+    (subst (λ i. slice_get list i ≡ Some x) place
+    (behind_at start list (length (start ++ list) - 1) x (omega (arith, some)) at)) in
+    let whole : take (suc m) list ≡ list = take_all (suc m) list (omega (arith, lt)) in
+    let is : list ≡ take m list ++ x ∷ [] = sym whole ∙ take-suc list m x lt ∙ ap (λ y. take m list ++ y ∷ []) last in
+    let now : slice_set list m q ≡ take m list ++ q ∷ [] =
+    sym (take_all (suc m) (slice_set list m q) (omega (arith, lt, length-set list m q))) ∙ take-suc-set list m q lt in (
+      take m list,
+      record {
+        kept = λ k y there. subst (λ ys. slice_get ys k ≡ Some y) (sym is) (kept_at (take m list) x y k there);
+        lost = λ k y there. elim (push_cases (take m list) x y k (subst (λ ys. slice_get ys k ≡ Some y) is there)) [
+          | inl old ↦ inl old
+          | inr end ↦ inr (subst (λ z. IsOver thinnest q z) end.1 over)
+        ];
+      },
+      set ∙ set-append_right start list (length start) (length (start ++ list) - 1) q refl (omega (arith, some))
+          ∙ ap (λ i. start ++ slice_set list i q) place ∙ ap (λ ys. start ++ ys) now,
+    )
+
+pub put_cleared : (thinnest : ℕ) (q : Quote) (from : ℕ) (start list old new : List Quote) → from ≡ length start
+    → old ≡ start ++ list
+    → IsPut thinnest q from old new
+    → (rest : List Quote) × IsCleared thinnest q list rest × (new ≡ start ++ (rest ++ q ∷ []))
+put_cleared thinnest q from start list old new begins is put =
+    put_after thinnest q start list new
+    (subst (λ xs. IsPut thinnest q (length start) xs new) is (subst (λ m. IsPut thinnest q m old new) begins put))
 
 -- a term is put behind others
 pub terms_put : (i : InstructionParts) (codes : List ℕ) (ask : Ask) (n : ℕ) (terms : List (Option Term))
@@ -179,6 +309,8 @@ module _ (quotes : List Quote) (d : ℕ) (reach : Reach) where
       met_next : (IsWithin reach q → IsMet row q.steps q.rise (quote_bid q d)) → IsDrawn quotes d reach (n + 1) row
       met_next met = record {
         real = was.real;
+        early = λ j k c x falls le. was.early j k c x falls (omega (arith, le));
+        order = was.order;
         met = λ k x lt there within. elim (cases_lt k n) [
           | inl before ↦ was.met k x before there within
           | inr here ↦
@@ -222,6 +354,13 @@ module _ (quotes : List Quote) (d : ℕ) (reach : Reach) where
       drawn_push c within is = record {
         real = push_each (λ k x. IsCellOf quotes d reach x) row c was.real
             (record { place = n; quote = q; there = at; within = within; is = is });
+        early = λ j k b x falls le here there.
+            push_each (λ j (b : Cell). x.rank ≤ b.bid.rank) row c
+            (λ j b here. was.early j k b x falls (omega (arith, le)) here there)
+            (omega (arith, falls n k q x (omega (arith, le)) at there, ap (λ (y : Cell). y.bid.rank) is)) j b here;
+        order = λ falls. falls_push (λ (y : Cell). y.bid.rank) row c (was.order falls)
+            (λ j a here. omega
+            (arith, was.early j n a q falls (omega arith) here at, ap (λ (y : Cell). y.bid.rank) is));
         met = λ k x lt there w. elim (cases_lt k n) [
           | inl before ↦ met_kept c x.steps x.rise (quote_bid x d) (was.met k x before there w)
           | inr here ↦
@@ -290,25 +429,58 @@ rank_offered s offers takers d steps trim bid b =
           b.bids.rank.at,
     )
 
+-- of two cells the one of the lower rank is for logs that are no shorter
+no_shorter : (s : SheetParts) (codes : List ℕ) (takers : Takers) (d : ℕ) (reach : Reach) (a b : Cell) → IsSheet s
+    → IsStrictlyIncreasing codes → IsReal s codes takers d reach a → IsReal s codes takers d reach b
+    → b.bid.rank ≤ a.bid.rank
+    → a.steps ≤ b.steps
+no_shorter s codes takers d reach a b valid rise x y le =
+    let m : ℕ = s.instruction.«module» in
+    let code : Cell → ℕ → ℕ = λ (c : Cell) n. code_of (c.steps * m) n in
+    let ra = x.is.bids.rank in
+    let rb = y.is.bids.rank in
+    let up : get_or codes (1023 - a.bid.rank) 0 ≤ get_or codes (1023 - b.bid.rank) 0 =
+    in_order codes rise (1023 - a.bid.rank) (1023 - b.bid.rank) (omega (arith, le))
+    (slice_get_within codes (1023 - b.bid.rank) (code b y.is.a) rb.at) in
+    let low : x.is.a < 16 =
+    omega (
+      arith,
+      slice_get_within s.instruction.assortments x.is.a x.is.assortment x.is.exists,
+      valid.valid.assortments_number,
+    ) in
+    let low' : y.is.a < 16 =
+    omega (
+      arith,
+      slice_get_within s.instruction.assortments y.is.a y.is.assortment y.is.exists,
+      valid.valid.assortments_number,
+    ) in
+    let long : a.steps * m ≤ b.steps * m = omega (
+      arith,
+      up,
+      low,
+      low',
+      get_or_from_slice_get codes (1023 - a.bid.rank) (code a x.is.a) 0 ra.at,
+      get_or_from_slice_get codes (1023 - b.bid.rank) (code b y.is.a) 0 rb.at,
+    ) in
+    elim (cases_lt b.steps a.steps) [
+      | inr le ↦ le
+      | inl less ↦ absurd (
+          let more : (b.steps + 1) * m ≤ a.steps * m = mul-le-mul_right m (omega (arith, less)) in
+          omega (arith, more, long, add-mul b.steps 1 m, valid.valid.module_range))
+    ]
+
 -- a row of a price list has the cells of its takers
 pub row_cells : (s : SheetParts) (codes : List ℕ) (ask : Ask) (n d : ℕ) (reach : Reach) (quotes : List Quote)
     (row : List Cell)
-    → IsSheet s → IsAsked ask d
+    → IsSheet s → IsStrictlyIncreasing codes → IsAsked ask d
     → ((steps trim : ℕ) (bid : BidParts) → IsTakersBid s codes ask.takers d steps trim bid → 1023 < bid.rank + n)
     → AreQuotes s codes ask n quotes → IsDrawn quotes d reach (length quotes) row
     → AreCells s codes ask.takers d reach row
-row_cells s codes ask n d reach quotes row valid asked all are drawn = record {
-  real = λ k c at.
-      let o = drawn.real k c at in
-      let q = are.real o.place o.quote o.there in
-      subst (λ x. IsReal s codes ask.takers d reach x) (sym o.is) (record {
-        trim = o.quote.trim;
-        is = q.bids d asked;
-        next = q.rise;
-        late = o.within.0;
-        back = omega (arith, o.within.1);
-        fits = o.within.2;
-      });
+row_cells s codes ask n d reach quotes row valid rise asked all are drawn = record {
+  order = λ j k a b le here there.
+      no_shorter s codes ask.takers d reach a b valid rise (real j a here) (real k b there)
+      (drawn.order are.order j k a b le here there);
+  real = real;
   met = λ steps trim bid past far room b.
       let i = are.met steps trim d bid asked (all steps trim bid b) b in
       let q = are.real i.place i.quote i.there in
@@ -361,3 +533,16 @@ row_cells s codes ask n d reach quotes row valid asked all are drawn = record {
         })
       ];
 }
+  where
+    real : (k : ℕ) (c : Cell) → slice_get row k ≡ Some c → IsReal s codes ask.takers d reach c
+    real k c at =
+        let o = drawn.real k c at in
+        let q = are.real o.place o.quote o.there in
+        subst (λ x. IsReal s codes ask.takers d reach x) (sym o.is) (record {
+          trim = o.quote.trim;
+          is = q.bids d asked;
+          next = q.rise;
+          late = o.within.0;
+          back = (omega (arith, o.within.1), refl);
+          fits = o.within.2;
+        })

@@ -28,13 +28,20 @@ pub(crate) fn end_of(sheet: &Sheet, stem: &Stem, log: &Log) -> u32
     log.start + log.length + all[log.assortment as usize].trim()
 }
 
+/// The first point at or after a place in mm.
+pub(crate) fn point_from(step: u32, place: u32) -> u32
+    requires step { (10 ≤ step) × (step ≤ 1000) }
+    requires place { place ≤ 40000 }
+    ensures { result ≡ point_after step place }
+{
+    (place + (step - 1)) / step
+}
+
 /// The first point at or after the end of an allowed log: the next log can start there.
 pub(crate) fn point_after(sheet: &Sheet, stem: &Stem, log: &Log) -> usize
     requires stem { IsStem stem.now }
     requires allowed { IsAllowed sheet.now.instruction stem.now log.now }
     ensures { result ≡ point_after sheet.now.instruction.module (end_of sheet.now.instruction log.now) }
 {
-    let step = module_of(sheet);
-    let end = end_of(sheet, stem, log);
-    ((end + (step - 1)) / step) as usize
+    point_from(module_of(sheet), end_of(sheet, stem, log)) as usize
 }

@@ -32,7 +32,7 @@ const TERMS: usize = 16_384;
 const QUOTES: usize = 16_384;
 
 /// So many cells are kept at most, and then all are dropped: 1.6 MB.
-const CELLS: usize = 65_536;
+const CELLS: usize = 49_152;
 
 /// So many diameters there are, from 0 to 1,500 mm.
 const DIAMETERS: usize = 1_501;
@@ -341,6 +341,7 @@ impl Kept {
         requires valid { IsSheet market.sheet.now }
         requires menu { IsMenu market.sheet.now.instruction market.menu.now }
         requires diameter { place.diameter ≤ 1500 }
+        requires far { place.reach.far ≤ 4294967295 }
         requires kept { AreKept market.sheet.now market.menu.now self.old }
         ensures kept { AreKept market.entry.sheet.now market.entry.menu.now self.new }
         ensures row { OnOk result (AreCells market.entry.sheet.now (codes_in market.entry.menu.now.offers.items) group.takers

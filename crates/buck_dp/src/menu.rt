@@ -3,6 +3,7 @@ ghost use Rattle.std.specs.Prelude.{◌≡◌, ℕ, ◌+◌, ◌*◌, ◌<◌, �
 ghost use Rattle.buck_apt.specs.Instruction.{AssortmentParts, InstructionParts};
 ghost use Rattle.buck_bid.specs.declared.offers.Offer.{Offer};
 ghost use Rattle.buck_bid.specs.Limits.{IsBandOf};
+ghost use Rattle.buck_bid.specs.Offers.{AreOffers};
 ghost use Rattle.buck_dp.specs.inner.Menu.{IsMenu};
 ghost use Rattle.buck_bid.specs.declared.limits.TheConstants.{ABOVE_ALL};
 
@@ -21,29 +22,29 @@ pub struct Menu {
     pub most_trim: u32,
 }
 
-/// How many whole steps go into the shortest offer; a great many where there is none.
+/// How many whole steps go into the shortest offer, which is the first; a great many where there is none.
 fn least_steps(offers: &[Offer], step: u32) -> usize
-    requires step { (10 ≤ step) × (step ≤ 1000) }
+    requires offers { (i : InstructionParts) × AreOffers i offers.now }
+    requires step { 10 ≤ step }
     ensures { (k : ℕ) (o : Offer) → slice_get offers.now k ≡ Some o → result * step ≤ o.length }
 {
-    let mut least = u32::MAX;
-    for offer in offers {
-        least = least.min(offer.length / step);
+    match offers.first() {
+        None => usize::MAX,
+        Some(offer) => (offer.length / step) as usize,
     }
-    least as usize
 }
 
-/// How many steps cover the longest offer; 0 where there is none.
+/// How many steps cover the longest offer, which is the last; 0 where there is none.
 fn most_steps(offers: &[Offer], step: u32) -> usize
-    requires step { (10 ≤ step) × (step ≤ 1000) }
-    ensures { (k : ℕ) (o : Offer) → slice_get offers.now k ≡ Some o → o.length ≤ result * step }
+    requires offers { (i : InstructionParts) × AreOffers i offers.now }
+    requires step { 10 ≤ step }
+    ensures long { (k : ℕ) (o : Offer) → slice_get offers.now k ≡ Some o → o.length ≤ result * step }
+    ensures few { result ≤ 4294967295 }
 {
-    let step = step as usize;
-    let mut most: usize = 0;
-    for offer in offers {
-        most = most.max((offer.length as usize + (step - 1)) / step);
+    match offers.last() {
+        None => 0,
+        Some(offer) => offer.length.div_ceil(step) as usize,
     }
-    most
 }
 
 /// The greatest trim of all assortments.

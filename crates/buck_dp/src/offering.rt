@@ -2,19 +2,21 @@
 ghost use Rattle.std.specs.Prelude.{◌≡◌, ◌≢◌, ℕ, ◌+◌, ◌<◌, ◌≤◌, ◌⊎◌, length, get_or, slice_get, Some};
 ghost use Rattle.buck_dp.specs.declared.offering.Cell.{Cell};
 ghost use Rattle.buck_dp.specs.inner.Bid.{bid_of, plus, IsGreater};
+ghost use Rattle.buck_dp.specs.inner.Cells.{AreByLength, IsPlaced};
 ghost use Rattle.buck_dp.specs.inner.Logs.{bid_at};
 ghost use Rattle.buck_dp.specs.inner.Rows.{IsNear, AreOffered, AreFit};
 
 use crate::bid::Bid;
 
-/// What a log brings that is so many steps long, and how many points after its top the next log can start. It starts
-/// `back` points after the first of those that its row reaches.
+/// What a log brings that is so many steps long, and how many points after its top the next log can start. Of the
+/// points that its row reaches it starts at `back`, and the next one can start at `next`.
 #[derive(Clone, Copy, Debug)]
 pub struct Cell {
     pub bid: Bid,
     pub steps: u32,
     pub rise: u32,
     pub back: usize,
+    pub next: usize,
 }
 
 /// Which logs with one top are meant: those longer than `past` steps and of at most `far`, with a trim in mm that is at
@@ -55,7 +57,7 @@ pub(crate) fn settle(values: &mut [Bid], choices: &mut [u32], point: usize)
 /// Offers a cell at the top `far` to the point where its log starts.
 #[inline(always)]
 fn offer_near(values: &mut [Bid], far: usize, cell: Cell)
-    requires near { (0 < cell.steps) × (cell.back + cell.steps ≡ far) }
+    requires near { (0 < cell.steps) × (cell.back + cell.steps ≡ far) × (cell.next ≡ far + cell.rise) }
     requires there { far + cell.rise < length values.old }
     requires even { (bid_at values.old (far + cell.rise)).rank ≡ 0 }
     requires low { cell.bid.worth + (bid_at values.old (far + cell.rise)).worth ≤ 4000000000000000 }
@@ -64,37 +66,15 @@ fn offer_near(values: &mut [Bid], far: usize, cell: Cell)
     ensures raised { (i : ℕ) → i + cell.steps ≡ far
         → IsGreater (bid_at values.old i) (plus cell.bid (bid_at values.old (far + cell.rise))) (bid_at values.new i) }
 {
-    let rest = values[far + cell.rise as usize];
+    let rest = values[cell.next];
     values[cell.back] = values[cell.back].max(cell.bid.plus(rest));
-}
-
-/// Offers a cell at a top to the point where its log starts, which is before `stop`, if it isn't before `first`.
-#[inline(always)]
-fn offer(values: &mut [Bid], top: usize, starts: Starts, cell: Cell)
-    requires order { (starts.first ≤ starts.stop) × (starts.stop ≤ top) }
-    requires late { top < cell.steps + starts.stop }
-    requires there { IsNear top starts.first starts.stop cell → top + cell.rise < length values.old }
-    requires even { IsNear top starts.first starts.stop cell → (bid_at values.old (top + cell.rise)).rank ≡ 0 }
-    requires low { IsNear top starts.first starts.stop cell
-        → cell.bid.worth + (bid_at values.old (top + cell.rise)).worth ≤ 4000000000000000 }
-    ensures number { length values.new ≡ length values.old }
-    ensures others { (i : ℕ) → (i + cell.steps ≢ top) ⊎ (i < starts.first) ⊎ (starts.stop ≤ i)
-        → bid_at values.new i ≡ bid_at values.old i }
-    ensures raised { (i : ℕ) → i + cell.steps ≡ top → starts.first ≤ i → i < starts.stop
-        → IsGreater (bid_at values.old i) (plus cell.bid (bid_at values.old (top + cell.rise))) (bid_at values.new i) }
-{
-    if cell.steps as usize > top - starts.first {
-        return;
-    }
-    let back = top - cell.steps as usize;
-    offer_near(values, top, Cell { back, ..cell });
 }
 
 /// Offers the cells of a row at the top `far` to the points where their logs start.
 fn offer_back(values: &mut [Bid], far: usize, row: &[Cell])
     requires fit { AreFit row.now far 0 far values.old }
     requires near { (k : ℕ) (c : Cell) → slice_get row.now k ≡ Some c → IsNear far 0 far c }
-    requires back { (k : ℕ) (c : Cell) → slice_get row.now k ≡ Some c → c.back + c.steps ≡ far }
+    requires back { (k : ℕ) (c : Cell) → slice_get row.now k ≡ Some c → IsPlaced far c }
     ensures { AreOffered row.now far 0 far (length row.now) values.old values.new }
 {
     for cell in row {
@@ -110,7 +90,7 @@ pub(crate) fn offer_whole(values: &mut [Bid], top: usize, starts: Starts, row: &
     requires inside { top ≤ length values.old }
     requires fit { AreFit row.now top starts.first starts.stop values.old }
     requires late { (k : ℕ) (c : Cell) → slice_get row.now k ≡ Some c → top < c.steps + starts.stop }
-    requires back { (k : ℕ) (c : Cell) → slice_get row.now k ≡ Some c → c.back + c.steps ≡ far }
+    requires back { (k : ℕ) (c : Cell) → slice_get row.now k ≡ Some c → IsPlaced far c }
     ensures { AreOffered row.now top starts.first starts.stop (length row.now) values.old values.new }
 {
     let (_, reached) = values.split_at_mut(top - far);
@@ -118,13 +98,28 @@ pub(crate) fn offer_whole(values: &mut [Bid], top: usize, starts: Starts, row: &
 }
 
 /// Offers the cells of a row at a top to those of these starts where their logs start, which are all before `stop`.
+/// Once a log is too long, those after it are too.
 pub(crate) fn offer_row(values: &mut [Bid], top: usize, starts: Starts, row: &[Cell])
     requires order { (starts.first ≤ starts.stop) × (starts.stop ≤ top) }
     requires fit { AreFit row.now top starts.first starts.stop values.old }
     requires late { (k : ℕ) (c : Cell) → slice_get row.now k ≡ Some c → top < c.steps + starts.stop }
+    requires rows { AreByLength row.now }
     ensures { AreOffered row.now top starts.first starts.stop (length row.now) values.old values.new }
 {
+    let most = top - starts.first;
     for cell in row {
-        offer(values, top, starts, *cell);
+        let steps = cell.steps as usize;
+        if steps > most {
+            return;
+        }
+        offer_near(
+            values,
+            top,
+            Cell {
+                back: top - steps,
+                next: top + cell.rise as usize,
+                ..*cell
+            },
+        );
     }
 }

@@ -7,9 +7,10 @@ ghost use Rattle.buck_bid.specs.Limits.{IsBandOf};
 ghost use Rattle.buck_bid.specs.Prices.{IsPricing, HasNoPrice};
 ghost use Rattle.buck_dp.specs.inner.Points.{point_after};
 ghost use Rattle.buck_dp.specs.inner.Takers.{IsTaker};
-ghost use Rattle.buck_dp.specs.inner.Quotes.{quote_bid, priced_at, IsSmall, IsOver, IsTermOf, IsNoTerm, AreTerms, AreQuotes};
+ghost use Rattle.buck_dp.specs.inner.Quotes.{quote_bid, priced_at, IsSmall, IsOver, IsPut, IsTermOf, IsNoTerm, AreTerms, AreQuotes};
 
 use crate::bid::Bid;
+use crate::ends::point_from;
 use crate::takers::Takers;
 use buck_apt::Instruction;
 use buck_bid::{Band, Offer, Pricing, pricing_of};
@@ -59,15 +60,6 @@ impl Quote {
     }
 }
 
-/// How many steps a trim reaches up, to the first point at or after its end.
-fn steps_after(step: u32, trim: u32) -> u32
-    requires step { (10 ≤ step) × (step ≤ 1000) }
-    requires trim { trim ≤ 200 }
-    ensures { result ≡ point_after step trim }
-{
-    (trim + (step - 1)) / step
-}
-
 impl Term {
     /// The quote under a sheet of the instruction.
     pub fn quote_under(self, sheet: &Sheet) -> Quote
@@ -109,7 +101,7 @@ fn term_of(instruction: &Instruction, offer: Offer, rank: u32, pricing: Pricing)
             length: offer.length,
             steps: offer.length / module,
             trim,
-            rise: steps_after(module, trim),
+            rise: point_from(module, trim),
         },
     }
 }
@@ -185,10 +177,11 @@ fn is_outbid(quote: Quote, other: Quote, thinnest: u32) -> bool
     area * price_per_area(quote) + u64::from(other.price) < area * price_per_area(other)
 }
 
-/// Puts a quote behind others, unless the one that leads these outbids it in its whole band. It leads then, where it can
-/// outbid others.
+/// Puts a quote behind others, of which those from a place on are its list's, unless the one that leads these outbids
+/// it in its whole band. It leads then, where it can outbid others. Where it outbids the last, it takes its place.
 fn put_quote(
     list: &mut Vec<Quote>,
+    from: usize,
     leader: &mut Quote,
     quote: Quote,
     thinnest: u32,
@@ -196,8 +189,9 @@ fn put_quote(
     requires small { IsSmall quote }
     requires leader { IsSmall leader.old }
     requires thinnest { thinnest ≤ 2000 }
+    requires list { (k : ℕ) (q : Quote) → from ≤ k → slice_get list.old.items k ≡ Some q → IsSmall q }
     ensures put { OnOk result (((list.new.items ≡ list.old.items) × (leader.new ≡ leader.old) × IsOver thinnest leader.old quote)
-        ⊎ ((list.new.items ≡ list.old.items ++ quote ∷ []) × ((leader.new ≡ leader.old) ⊎ (leader.new ≡ quote)))) }
+        ⊎ (IsPut thinnest quote from list.old.items list.new.items × ((leader.new ≡ leader.old) ⊎ (leader.new ≡ quote)))) }
     ensures left { IfErr result (λ _. list.new.items ≡ list.old.items) }
 {
     if is_outbid(quote, *leader, thinnest) {
@@ -206,12 +200,17 @@ fn put_quote(
     if quote.kind == 1 && quote.trim <= leader.trim {
         *leader = quote;
     }
+    let number = list.len();
+    if number > from && is_outbid(list[number - 1], quote, thinnest) {
+        list[number - 1] = quote;
+        return Ok(());
+    }
     list.push(quote)?;
     Ok(())
 }
 
 /// Puts a price list behind others: the quotes of some takers in a band, by their length, from their terms, without those
-/// that a shorter log outbids in the whole band.
+/// that one outbids in the whole band whose log is no longer.
 pub fn put_list(
     quotes: &mut Vec<Quote>,
     sheet: &Sheet,
@@ -225,6 +224,7 @@ pub fn put_list(
         × OnOk result ((codes : List ℕ) → AreTerms sheet.now.instruction codes ask (length terms.now) terms.now
         → AreQuotes sheet.now codes ask (length terms.now) list) }
 {
+    let from = quotes.as_slice().len();
     let mut leader = Quote {
         kind: 0,
         price: 0,
@@ -239,7 +239,7 @@ pub fn put_list(
             None => {}
             Some(term) => {
                 let quote = term.quote_under(sheet);
-                put_quote(quotes, &mut leader, quote, ask.band.thinnest)?;
+                put_quote(quotes, from, &mut leader, quote, ask.band.thinnest)?;
             }
         }
     }

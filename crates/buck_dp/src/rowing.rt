@@ -15,6 +15,7 @@ use std::alloc::AllocError;
 fn cell_at(quote: Quote, diameter: u32, reach: Reach) -> Option<Cell>
     requires small { IsSmall quote }
     requires diameter { diameter ≤ 1500 }
+    requires far { reach.far ≤ 4294967295 }
     ensures some { IfSome result (λ c. IsWithin reach quote × (c ≡ cell_of reach quote diameter)) }
     ensures none { IfNone result (IsWithin reach quote → ⊥) }
 {
@@ -32,6 +33,7 @@ fn cell_at(quote: Quote, diameter: u32, reach: Reach) -> Option<Cell>
         steps: quote.steps,
         rise: quote.rise,
         back: reach.far - quote.steps as usize,
+        next: reach.far + quote.rise as usize,
     })
 }
 
@@ -70,6 +72,7 @@ pub fn put_row(
 ) -> Result<(), AllocError>
     requires small { (k : ℕ) (q : Quote) → slice_get list.now k ≡ Some q → IsSmall q }
     requires diameter { diameter ≤ 1500 }
+    requires far { reach.far ≤ 4294967295 }
     ensures row { (row : List Cell) × (cells.new.items ≡ cells.old.items ++ row)
         × OnOk result (IsDrawn list.now diameter reach (length list.now) row) }
 {
@@ -78,6 +81,7 @@ pub fn put_row(
         steps: 0,
         rise: u32::MAX,
         back: 0,
+        next: 0,
     };
     for quote in list {
         if let Some(cell) = cell_at(*quote, diameter, reach) {

@@ -6,6 +6,7 @@ ghost use Rattle.buck_bid.specs.Offers.{codes_in};
 ghost use Rattle.buck_dp.specs.declared.offering.Cell.{Cell};
 ghost use Rattle.buck_dp.specs.inner.Points.{GroundParts, points_of, ground_with};
 ghost use Rattle.buck_dp.specs.inner.Bid.{BidParts, none};
+ghost use Rattle.buck_dp.specs.inner.Cells.{AreByLength, IsPlaced};
 ghost use Rattle.buck_dp.specs.inner.Logs.{IsLogAt, bid_at};
 ghost use Rattle.buck_dp.specs.inner.Rows.{IsPart};
 ghost use Rattle.buck_dp.specs.inner.Searched.{AreSearched, IsSearch};
@@ -64,6 +65,17 @@ fn put_all<T: Copy>(list: &mut Vec<T>, count: usize, one: T) -> Result<(), Alloc
     list.resize(count, one)
 }
 
+/// Makes places up to a last one, which holds 0. What the others hold is of no account.
+fn make_places(list: &mut Vec<u32>, last: usize) -> Result<(), AllocError>
+    requires { last ≤ 4001 }
+    ensures number { OnOk result (length list.new.items ≡ last + 1) }
+    ensures none { OnOk result ((k : ℕ) → last ≤ k → get_or list.new.items k 0 ≡ 0) }
+{
+    list.resize(last + 1, 0)?;
+    list[last] = 0;
+    Ok(())
+}
+
 /// How many points a stem has under a sheet, the butt among them.
 fn points_of(sheet: &Sheet, stem: &Stem) -> usize
     ensures number { result ≡ points_of (ground_with sheet.now stem.now []) }
@@ -91,7 +103,8 @@ fn settle_once(values: &mut [Bid], choices: &mut [u32], top: usize)
 fn offer_once(values: &mut [Bid], top: usize, starts: Starts, row: &[Cell], far: usize)
     requires order { (starts.first ≤ starts.stop) × (starts.stop ≤ top) }
     requires late { (k : ℕ) (c : Cell) → slice_get row.now k ≡ Some c → top < c.steps + starts.stop }
-    requires back { (k : ℕ) (c : Cell) → slice_get row.now k ≡ Some c → c.back + c.steps ≡ far }
+    requires back { (k : ℕ) (c : Cell) → slice_get row.now k ≡ Some c → IsPlaced far c }
+    requires rows { AreByLength row.now }
     requires ready { (p : GroundParts) × (choices : List ℕ) × IsSheet p.sheet × IsStem p.stem
         × AreSearched p values.old choices top starts.stop × IsPart p top starts.first starts.stop row.now }
     ensures number { length values.new ≡ length values.old }
@@ -120,7 +133,7 @@ impl<'a> Search<'a> {
     {
         let from = points_of(sheet, stem);
         put_all(&mut values, from + 1, Bid::none())?;
-        put_all(&mut choices, from + 1, 0)?;
+        make_places(&mut choices, from)?;
         Ok(Search {
             sheet,
             stem,
@@ -187,7 +200,8 @@ impl<'a> Search<'a> {
     pub fn offer_part(&mut self, first: usize, row: &[Cell], far: usize)
         requires order { first ≤ self.old.stop }
         requires late { (k : ℕ) (c : Cell) → slice_get row.now k ≡ Some c → self.old.from < c.steps + self.old.stop }
-        requires back { (k : ℕ) (c : Cell) → slice_get row.now k ≡ Some c → c.back + c.steps ≡ far }
+        requires back { (k : ℕ) (c : Cell) → slice_get row.now k ≡ Some c → IsPlaced far c }
+        requires rows { AreByLength row.now }
         requires part { IsPart self.old.ground self.old.from first self.old.stop row.now }
         ensures ground { self.new.ground ≡ self.old.ground }
         ensures from { self.new.from ≡ self.old.from }

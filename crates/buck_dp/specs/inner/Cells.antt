@@ -28,13 +28,17 @@ pub record IsTakersBid (s : SheetParts) (codes : List ℕ) (takers : Takers) (d 
   pub bids : IsBidOf s codes a (steps * s.instruction.«module») d bid
   pub own : assortment.trim ≡ trim
 
+-- a cell tells where its log and the next one start, from so far before its top on
+abbrev pub IsPlaced : ℕ → Cell → Type 0
+IsPlaced far c = (c.back + c.steps ≡ far) × (c.next ≡ far + c.rise)
+
 -- a cell is a taker's bid, within reach
 pub record IsReal (s : SheetParts) (codes : List ℕ) (takers : Takers) (d : ℕ) (reach : Reach) (c : Cell) : Type 0 where
   pub trim : ℕ
   pub is : IsTakersBid s codes takers d c.steps trim c.bid
   pub next : c.rise ≡ point_after s.instruction.«module» trim
   pub late : reach.past < c.steps
-  pub back : c.back + c.steps ≡ reach.far
+  pub back : IsPlaced reach.far c
   pub fits : trim ≤ reach.room
 
 -- a cell bids no less for logs as long, or more worth for shorter ones, and leaves no less
@@ -55,8 +59,14 @@ pub record IsOutbid (s : SheetParts) (codes : List ℕ) (takers : Takers) (d pas
   pub trims : less ≤ trim
   pub more : bid.worth < other.worth
 
--- each cell is a taker's bid, and each bid of a taker for logs within reach is met or outbid
+-- no cell is for shorter logs than one before it
+abbrev pub AreByLength : List Cell → Type 0
+AreByLength cells = (j k : ℕ) (a b : Cell) → j ≤ k → slice_get cells j ≡ Some a → slice_get cells k ≡ Some b
+    → a.steps ≤ b.steps
+
+-- by their length, each cell is a taker's bid, and each bid of a taker for logs within reach is met or outbid
 pub record AreCells (s : SheetParts) (codes : List ℕ) (takers : Takers) (d : ℕ) (reach : Reach) (cells : List Cell) : Type 0 where
+  pub order : AreByLength cells
   pub real : (k : ℕ) (c : Cell) → slice_get cells k ≡ Some c → IsReal s codes takers d reach c
   pub met : (steps trim : ℕ) (bid : BidParts) → reach.past < steps → steps ≤ reach.far → trim ≤ reach.room
       → IsTakersBid s codes takers d steps trim bid

@@ -1,9 +1,9 @@
 -- Rows that are drawn from price lists at one diameter.
-use Rattle.std.specs.Prelude.{◌≡◌, ℕ, ◌-◌, ◌<◌, ◌≤◌, List, slice_get, Some}
+use Rattle.std.specs.Prelude.{◌≡◌, ℕ, ◌+◌, ◌-◌, ◌<◌, ◌≤◌, List, slice_get, Some}
 use Rattle.buck_dp.specs.declared.offering.Cell.{Cell}
 use Rattle.buck_dp.specs.declared.offering.Reach.{Reach}
 use Rattle.buck_dp.specs.declared.pricing.Quote.{Quote}
-use Rattle.buck_dp.specs.inner.Quotes.{quote_bid}
+use Rattle.buck_dp.specs.inner.Quotes.{quote_bid, Falls}
 use Rattle.buck_dp.specs.inner.Cells.{IsMet}
 
 -- a quote is for logs within reach
@@ -12,7 +12,13 @@ IsWithin reach q = (reach.past < q.steps) × (q.steps ≤ reach.far) × (q.trim 
 
 -- the cell of a quote at a diameter
 abbrev pub cell_of : Reach → Quote → ℕ → Cell
-cell_of reach q d = record { bid = quote_bid q d; steps = q.steps; rise = q.rise; back = reach.far - q.steps }
+cell_of reach q d = record {
+  bid = quote_bid q d;
+  steps = q.steps;
+  rise = q.rise;
+  back = reach.far - q.steps;
+  next = reach.far + q.rise;
+}
 
 -- a cell bids more worth for logs that are no longer, and leaves no less
 abbrev pub IsCutOff : Cell → Cell → Type 0
@@ -26,8 +32,11 @@ pub record IsCellOf (quotes : List Quote) (d : ℕ) (reach : Reach) (c : Cell) :
   pub within : IsWithin reach quote
   pub is : c ≡ cell_of reach quote d
 
--- the cells of the first n quotes
+-- the cells of the first n quotes, in their order
 pub record IsDrawn (quotes : List Quote) (d : ℕ) (reach : Reach) (n : ℕ) (row : List Cell) : Type 0 where
   pub real : (k : ℕ) (c : Cell) → slice_get row k ≡ Some c → IsCellOf quotes d reach c
   pub met : (k : ℕ) (q : Quote) → k < n → slice_get quotes k ≡ Some q → IsWithin reach q
       → IsMet row q.steps q.rise (quote_bid q d)
+  pub early : (j k : ℕ) (c : Cell) (q : Quote) → Falls (λ (q : Quote). q.rank) quotes → n ≤ k
+      → slice_get row j ≡ Some c → slice_get quotes k ≡ Some q → q.rank ≤ c.bid.rank
+  pub order : Falls (λ (q : Quote). q.rank) quotes → Falls (λ (c : Cell). c.bid.rank) row

@@ -13,5 +13,6 @@ pub record IsMenu (i : InstructionParts) (m : Menu) : Type 0 where
       → m.least_steps * i.«module» ≤ slice_index (codes_in m.offers.items) k / 16
   pub long : (k : ℕ) → k < length (codes_in m.offers.items)
       → slice_index (codes_in m.offers.items) k / 16 ≤ m.most_steps * i.«module»
+  pub few : m.most_steps ≤ 4294967295
   pub trims : (a : ℕ) (x : AssortmentParts) → slice_get i.assortments a ≡ Some x → x.trim ≤ m.most_trim
   pub low : m.most_trim ≤ 200

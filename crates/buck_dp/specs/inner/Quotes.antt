@@ -1,5 +1,5 @@
 -- Price lists: what takers bid at each diameter of a band.
-use Rattle.std.specs.Prelude.{◌≡◌, ℕ, ◌+◌, ◌<◌, ◌≤◌, ◌⊎◌, List, Option, length, slice_get, slice_index, Some, None}
+use Rattle.std.specs.Prelude.{◌≡◌, ℕ, ◌+◌, ◌-◌, ◌<◌, ◌≤◌, ◌⊎◌, List, [], ◌∷◌, ◌++◌, Option, length, slice_get, slice_index, slice_set, Some, None}
 use Rattle.buck_apt.specs.Instruction.{InstructionParts, classes}
 use Rattle.buck_value.specs.Sheet.{SheetParts, IsSheet}
 use Rattle.buck_value.specs.Volume.{volume, worth_at}
@@ -34,6 +34,7 @@ pub record IsQuote (s : SheetParts) (codes : List ℕ) (ask : Ask) (q : Quote) :
 -- a quote is the one of the rank of an offer
 pub record IsQuoteOf (s : SheetParts) (codes : List ℕ) (ask : Ask) (place : ℕ) (q : Quote) : Type 0 where
   pub is : IsQuote s codes ask q
+  pub rank : q.rank + place ≡ 1023
   pub only : (steps trim d : ℕ) (bid : BidParts) → IsAsked ask d → bid.rank + place ≡ 1023
       → IsTakersBid s codes ask.takers d steps trim bid
       → (q.steps ≡ steps) × (q.trim ≡ trim) × (bid ≡ quote_bid q d)
@@ -77,6 +78,13 @@ pub record IsOver (thinnest : ℕ) (p q : Quote) : Type 0 where
   pub trim : p.trim ≤ q.trim
   pub more : (d : ℕ) → thinnest ≤ d → (quote_bid q d).worth < (quote_bid p d).worth
 
+-- a quote is put behind others, of which those from a place on are its list's, or in the place of the last of these, where
+-- it is over that
+abbrev pub IsPut : ℕ → Quote → ℕ → List Quote → List Quote → Type 0
+IsPut thinnest q from old new = (new ≡ old ++ q ∷ [])
+    ⊎ ((x : Quote) × (from < length old) × (slice_get old (length old - 1) ≡ Some x) × IsOver thinnest q x
+    × (new ≡ slice_set old (length old - 1) q))
+
 -- a quote bids no less for logs as long, or more worth for shorter ones, and takes no more trim
 pub record IsQuoted (quotes : List Quote) (d steps trim : ℕ) (bid : BidParts) : Type 0 where
   pub place : ℕ
@@ -86,8 +94,15 @@ pub record IsQuoted (quotes : List Quote) (d steps trim : ℕ) (bid : BidParts) 
       ⊎ ((quote.steps < steps) × (bid.worth < (quote_bid quote d).worth))
   pub trims : quote.trim ≤ trim
 
--- the quotes of the first n offers: each is a taker's bid, and each bid of a taker is met
+-- nothing in a list has a higher number than what stands before it
+abbrev pub Falls : {X : Type 0} → (X → ℕ) → List X → Type 0
+Falls {X} of xs = (j k : ℕ) (a b : X) → j ≤ k → slice_get xs j ≡ Some a → slice_get xs k ≡ Some b
+    → of b ≤ of a
+
+-- the quotes of the first n offers, in their order: each is a taker's bid, and each bid of a taker is met
 pub record AreQuotes (s : SheetParts) (codes : List ℕ) (ask : Ask) (n : ℕ) (quotes : List Quote) : Type 0 where
   pub real : (k : ℕ) (q : Quote) → slice_get quotes k ≡ Some q → IsQuote s codes ask q
+  pub early : (k : ℕ) (q : Quote) → slice_get quotes k ≡ Some q → 1023 < q.rank + n
+  pub order : Falls (λ (q : Quote). q.rank) quotes
   pub met : (steps trim d : ℕ) (bid : BidParts) → IsAsked ask d → 1023 < bid.rank + n
       → IsTakersBid s codes ask.takers d steps trim bid → IsQuoted quotes d steps trim bid

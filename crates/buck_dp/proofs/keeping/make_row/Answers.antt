@@ -27,7 +27,7 @@ returns-clause-row c =
     (all_same m c.all_logs.result c.all_logs.ensures.past c.all_logs.ensures.far c.all_logs.ensures.room)
     (subst (λ (t : Takers). AreCells s (codes_in m.offers.items) t d c.all_logs.result row.0) l.1
     (row_cells s (codes_in m.offers.items) l.0 (length m.offers.items)
-    d c.all_logs.result c.args.list.now row.0 c.requires.valid l.2
+    d c.all_logs.result c.args.list.now row.0 c.requires.valid c.requires.menu.offers.codes.rise l.2
     (λ steps trim bid b. rank_offered s m.offers.items l.0.takers d steps trim bid b) l.3 row.2)) in
     let from : ℕ = length c.as_slice-from.result.now in
     let past : ℕ = length c.as_slice.result.now in

@@ -1,4 +1,4 @@
-use Rattle.std.proofs.Common.{Some, inl, inr, ap, sym, ◌∙◌, arith}
+use Rattle.std.proofs.Common.{Some, ap, sym, ◌∙◌, arith}
 use Rattle.std.proofs.lemmas.Option.{slice_get-get_or}
 use Rattle.buck_dp.proofs.CellLemmas.{offered_more}
 use Rattle.buck_dp.proofs.offering.offer_back.Goals as goal
@@ -11,9 +11,5 @@ loop-cell-preserved c =
     ∙ ap Some (sym c.cell-item.is) in
     let near = c.requires.near c.loop-cell.cell-index c.cell-item.result there in
     offered_more c.args.row.now far 0 far c.loop-cell.cell-index (omega arith) c.args.values.now
-    c.loop-cell.values c.requires.fit c.loop-cell.invariant c.cell-item.result c.offer_near.new.values there o.number
-    (λ i which. elim which [
-      | inl other ↦ o.others i other
-      | inr out ↦ o.others i (λ e. elim out [ inl before ↦ omega (arith, near.0) | inr past ↦ omega (arith, near.1) ])
-    ])
-    (λ i e low high. o.raised i e)
+    c.loop-cell.values c.requires.fit c.loop-cell.invariant c.cell-item.result c.offer_near.new.values there near
+    o.number o.others o.raised

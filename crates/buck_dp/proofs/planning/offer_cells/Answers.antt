@@ -24,6 +24,9 @@ offer_part-requires-clause-late c k cell at =
 pub offer_part-requires-clause-back : goal.offer_part-requires-clause-back
 offer_part-requires-clause-back c k cell at = (c.requires.cells.real k cell at).back
 
+pub offer_part-requires-clause-rows : goal.offer_part-requires-clause-rows
+offer_part-requires-clause-rows c = c.requires.cells.order
+
 pub close_top-requires : goal.close_top-requires
 close_top-requires c =
     let new = c.offer_part.ensures in

@@ -5,7 +5,7 @@ use Rattle.buck_bid.specs.Offers.{codes_in}
 use Rattle.buck_dp.specs.inner.Points.{GroundParts}
 use Rattle.buck_dp.specs.declared.offering.Cell.{Cell}
 use Rattle.buck_dp.specs.declared.offering.Reach.{Reach}
-use Rattle.buck_dp.specs.inner.Cells.{AreCells}
+use Rattle.buck_dp.specs.inner.Cells.{AreByLength, AreCells}
 use Rattle.buck_dp.specs.inner.Rows.{IsPart}
 use Rattle.buck_dp.proofs.SiteLemmas.{known_of, point_reached, part_offered}
 use Rattle.buck_dp.proofs.planning.offer_part.Goals as goal
@@ -62,3 +62,7 @@ pub offer_part-requires-clause-back : goal.offer_part-requires-clause-back
 offer_part-requires-clause-back c k cell at =
     (c.in_ok-draw.ensures.row.real k cell
     (subst (λ (cs : List Cell). slice_get cs k ≡ Some cell) c.as_slice.ensures.value at)).back
+
+pub offer_part-requires-clause-rows : goal.offer_part-requires-clause-rows
+offer_part-requires-clause-rows c =
+    subst (λ (cs : List Cell). AreByLength cs) (sym c.as_slice.ensures.value) c.in_ok-draw.ensures.row.order

@@ -29,7 +29,8 @@ returns-clause-row c =
     row.0) c.deref.ensures.value row.2 in
     subst (λ (xs : List Cell). AreCells s (codes_in m.offers.items) c.args.group.takers d reach xs)
     (sym (row.1 ∙ ap (λ (xs : List Cell). xs ++ row.0) c.clear.ensures.items))
-    (row_cells s (codes_in m.offers.items) (ask_of m key) (length m.offers.items) d reach quotes row.0 c.requires.valid
+    (row_cells s (codes_in m.offers.items) (ask_of m key) (length m.offers.items)
+    d reach quotes row.0 c.requires.valid c.requires.menu.offers.codes.rise
     (c.band_of-band.ensures.from, c.band_of-band.ensures.past)
     (λ steps trim bid b. rank_offered s m.offers.items c.args.group.takers d steps trim bid b)
     c.in_ok-list.ensures.list.1 drawn)

@@ -31,8 +31,9 @@ returns c =
           (subst (λ xs. slice_get xs k ≡ Some o) (sym c.as_slice.ensures.value) at)));
       long = coded (λ n. n ≤ c.most_steps-most_steps.result * step) offers low
           (λ k o at. subst (λ m. o.length ≤ c.most_steps-most_steps.result * m) same
-          (c.most_steps-most_steps.ensures k o
+          (c.most_steps-most_steps.ensures.long k o
           (subst (λ xs. slice_get xs k ≡ Some o) (sym c.as_slice-2.ensures.value) at)));
+      few = c.most_steps-most_steps.ensures.few;
       trims = c.most_trim.ensures.each;
       low = c.most_trim.ensures.low;
     }

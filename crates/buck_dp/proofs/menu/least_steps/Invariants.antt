@@ -1,7 +1,0 @@
-use Rattle.std.proofs.Common.{◌≡◌, ℕ, ◌*◌, ◌<◌, ◌≤◌, slice_get, Some}
-use Rattle.buck_bid.specs.declared.offers.Offer.{Offer}
-use Rattle.buck_dp.proofs.menu.least_steps.Given as goal
-
-abbrev pub invariant-loop-offer : goal.invariant-loop-offer
-invariant-loop-offer l = (k : ℕ) (o : Offer) → k < l.offer-index → slice_get l.offers k ≡ Some o
-    → l.least * l.step ≤ o.length
