@@ -1,8 +1,8 @@
 //! Felled stems: their diameters and grades along the length, and the files that they are read from.
 #![tactic(auto)]
 
+mod body;
 mod file;
-mod keeping;
 mod points;
 mod same;
 mod stem;
