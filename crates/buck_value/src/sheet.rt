@@ -34,6 +34,20 @@ impl Model for Sheet {
     ghost invariant = { λ s. IsSheet (sheet_of s.version s.instruction.value s.prices.items) };
 }
 
+/// Whether two lists of prices are the same. All of them are looked at, since the compiler then takes several at once.
+fn are_same(one: &[u32], other: &[u32]) -> bool
+    ensures { IsTrue result ↔ (one.now ≡ other.now) }
+{
+    if one.len() != other.len() {
+        return false;
+    }
+    let mut same = true;
+    for i in 0..one.len() {
+        same &= one[i] == other[i];
+    }
+    same
+}
+
 /// The base prices, class by class.
 fn base_prices_of(alloc: Global, instruction: &Instruction) -> Result<Vec<u32>, AllocError>
     ensures prices { IfOk result (λ prices. prices.items ≡ base_prices instruction.now) }
@@ -133,7 +147,7 @@ impl Sheet {
         ensures { IsTrue result ↔ (self.now ≡ other.now) }
     {
         other.version == self.version
-            && self.prices == other.prices
+            && are_same(self.prices.as_slice(), other.prices.as_slice())
             && self.instruction.same(&other.instruction)
     }
 }
