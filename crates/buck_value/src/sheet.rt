@@ -6,7 +6,7 @@ ghost use Rattle.buck_value.specs.Sheet.{IsSheet, IsInSpan, IsPriceAt, IsSheetFa
 ghost use Rattle.buck_value.specs.inner.Sheet.{AreInSpanAfter, IsFirstOutside};
 
 use crate::fault::SheetFault;
-use buck_apt::{Assortment, Class, Instruction};
+use buck_apt::{Assortment, Class, Instruction, same_numbers};
 use buck_record::Memory;
 use std::alloc::{AllocError, Global};
 use std::marker::Model;
@@ -32,20 +32,6 @@ impl Model for Sheet {
     ghost view = { λ s. sheet_of s.version s.instruction.value s.prices.items };
 
     ghost invariant = { λ s. IsSheet (sheet_of s.version s.instruction.value s.prices.items) };
-}
-
-/// Whether two lists of prices are the same. All of them are looked at, since the compiler then takes several at once.
-fn are_same(one: &[u32], other: &[u32]) -> bool
-    ensures { IsTrue result ↔ (one.now ≡ other.now) }
-{
-    if one.len() != other.len() {
-        return false;
-    }
-    let mut same = true;
-    for i in 0..one.len() {
-        same &= one[i] == other[i];
-    }
-    same
 }
 
 /// The base prices, class by class.
@@ -147,7 +133,7 @@ impl Sheet {
         ensures { IsTrue result ↔ (self.now ≡ other.now) }
     {
         other.version == self.version
-            && are_same(self.prices.as_slice(), other.prices.as_slice())
+            && same_numbers(self.prices.as_slice(), other.prices.as_slice())
             && self.instruction.same(&other.instruction)
     }
 }

@@ -1,4 +1,4 @@
-use Rattle.std.proofs.Common.{rules, ℕ, List, take, subst, sym, ap, ◌∙◌, arith}
+use Rattle.std.proofs.Common.{rules, ℕ, List, take, subst, sym, ◌∙◌}
 use Rattle.buck_stem.specs.inner.Lows.{IsLeastBefore}
 use Rattle.buck_stem.proofs.Lows.{least_here}
 use Rattle.buck_stem.proofs.body.Body.least_to.Goals as goal
