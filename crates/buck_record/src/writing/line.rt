@@ -7,6 +7,16 @@ ghost use Rattle.buck_record.specs.writing.Written.{spelled};
 use crate::memory::Memory;
 use itoa::Buffer;
 
+/// Puts a number of one digit, after a blank: grades, rows and columns have one, and most stems so many logs.
+#[inline(always)]
+fn put_one(out: &mut Vec<u8>, number: u32) -> Result<(), Memory>
+    requires { number < 10 }
+    ensures { OnOk result (out.new.items ≡ out.old.items ++ (32 ∷ decimal number)) }
+{
+    out.extend_from_slice(&[b' ', b'0' + number as u8])?;
+    Ok(())
+}
+
 /// Puts a number of three digits, after a blank: most diameters in mm have three.
 #[inline(always)]
 fn put_three(out: &mut Vec<u8>, number: u32) -> Result<(), Memory>
@@ -41,6 +51,9 @@ fn put_any(out: &mut Vec<u8>, number: u128) -> Result<(), Memory>
 pub fn put_number(out: &mut Vec<u8>, number: u128) -> Result<(), Memory>
     ensures { OnOk result (out.new.items ≡ out.old.items ++ (32 ∷ decimal number)) }
 {
+    if number < 10 {
+        return put_one(out, number as u32);
+    }
     if 100 <= number && number < 1000 {
         return put_three(out, number as u32);
     }
