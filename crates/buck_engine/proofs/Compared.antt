@@ -14,7 +14,7 @@ use Rattle.buck_book.specs.Posting.{harvester_of}
 use Rattle.buck_book.specs.History.{HistoryParts}
 use Rattle.buck_fleet.specs.Run.{stem_cut}
 use Rattle.buck_fleet.specs.Closed.{replies_from}
-use Rattle.buck_engine.specs.declared.tie.fault.CheckFault.TheVariants.{Other, Uncut, Surplus}
+use Rattle.buck_engine.specs.declared.tie.fault.CheckFault.TheVariants.{Other}
 use Rattle.buck_engine.specs.tie.Ties.{AreAlikeBefore, DifferBy, stems_by}
 use Rattle.buck_engine.specs.inner.Tie.{stem_of_own, stems_cut_in}
 
@@ -57,20 +57,6 @@ differ_other h k cut file rest x y lt is at ne =
           (sym (ap (λ (l : List StemParts). slice_get l k) is ∙ get_seam k file x rest le) ∙ e
           ∙ slice_get-get_or file k y lt ∙ ap Some (sym at)))),
     )
-
--- the cuts go on
-pub differ_surplus : (h k : ℕ) (cut file rest : List StemParts) (x : StemParts) → k ≤ length file → length file ≤ k
-    → cut ≡ take k file ++ x ∷ rest
-    → DifferBy h cut file (Surplus h (k + 1))
-differ_surplus h k cut file rest x le past is =
-    (refl, alike k cut file (x ∷ rest) le is, omega (arith, so_long k cut file (x ∷ rest) le is), omega (arith, past))
-
--- the file goes on
-pub differ_uncut : (h k : ℕ) (cut file : List StemParts) → k < length file → cut ≡ take k file ++ []
-    → DifferBy h cut file (Uncut h (k + 1))
-differ_uncut h k cut file lt is =
-    let le : k ≤ length file = omega (arith, lt) in
-    (refl, alike k cut file [] le is, omega (arith, so_long k cut file [] le is), omega (arith, lt))
 
 -- one stem more is the same
 pub one_more : (k : ℕ) (cut file rest : List StemParts) (x : StemParts) → k < length file

@@ -1,9 +1,9 @@
 -- Prices that are held against a rule, class by class, and what was cut of each assortment.
-use Rattle.std.proofs.Common.{◌≡◌, ℕ, ◌+◌, ◌<◌, ◌≤◌, ◌==◌, inl, inr, List, [], ◌∷◌, ◌++◌, length, slice_index, replicate, get_or, refl, sym, ◌∙◌, ap, subst, arith}
+use Rattle.std.proofs.Common.{◌≡◌, ℕ, ◌+◌, ◌<◌, ◌≤◌, ◌==◌, inl, inr, List, [], ◌∷◌, ◌++◌, length, slice_index, refl, sym, ◌∙◌, ap, subst, arith}
 use Rattle.std.specs.Prelude.{Result, Ok, Err}
 use Rattle.std.specs.Result.{OnOk}
 use Rattle.std.proofs.lemmas.Bool.{cases_lt}
-use Rattle.std.proofs.lemmas.List.{get_or-replicate, get_or_past, length-replicate, length_push}
+use Rattle.std.proofs.lemmas.List.{length_push}
 use Rattle.std.proofs.lemmas.List.Sums.{sum_by-cons, sum_by_push, count_by-le-length}
 use Rattle.std.proofs.lemmas.Option.{slice_get_within}
 use Rattle.buck_apt.specs.declared.class.Class.{Class}
@@ -24,10 +24,6 @@ use Rattle.buck_engine.specs.declared.fleet.serving.NamedRule.{NamedRule}
 use Rattle.buck_engine.specs.declared.tie.held.Off.{Off}
 use Rattle.buck_engine.specs.tie.Ties.{IsByRule, IsOffRule, price_by}
 use Rattle.buck_engine.specs.inner.Tie.{AreAllByRule, AreAssorted, AreByRuleBelow, CanHold, HeldParts, IsFirstOff, given_by, logs_in}
-
--- no class has a place below 0
-pub held_none : (x : HeldParts) → AreByRuleBelow x 0
-held_none x = λ c k lt. absurd (omega arith)
 
 -- one class more
 pub held_more : (x : HeldParts) (c : Class) (n : ℕ) (k : IsClass x.standings.instruction c)
@@ -115,20 +111,6 @@ module _ (rule : NamedRule) (i : InstructionParts) (ps : List Posting) (prices t
     differ = o.differ;
     least = λ c k lt. o.least c k lt ∙ as_it_stands c k;
   }
-
--- before the first posting nothing was cut
-pub none_assorted : (i : InstructionParts) (n : ℕ) → n ≡ length i.assortments → AreAssorted i [] (replicate {A = ℕ} n 0)
-none_assorted i n is = record {
-  number = length-replicate {A = ℕ} n 0 ∙ is;
-  each = λ a lt. zero_at a;
-  low = λ a. omega (arith, zero_at a);
-}
-  where
-    zero_at : (a : ℕ) → get_or (replicate {A = ℕ} n 0) a 0 ≡ 0
-    zero_at a = elim (cases_lt a n) [
-      | inl lt ↦ get_or-replicate {A = ℕ} n a 0 0 lt
-      | inr ge ↦ get_or_past (replicate {A = ℕ} n 0) a 0 (omega (arith, length-replicate {A = ℕ} n 0))
-    ]
 
 logs_counted : (a : ℕ) (x : Posting) → assortment_logs a (logs_in x) ≡ assortment_logs_in a x
 logs_counted a (Cut e) = refl

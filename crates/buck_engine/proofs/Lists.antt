@@ -1,5 +1,5 @@
 -- Stem files that are read one after the other.
-use Rattle.std.proofs.Common.{◌≡◌, ℕ, zero, suc, ◌+◌, ◌<◌, ◌⊎◌, inl, inr, List, [], ◌∷◌, ◌++◌, length, map, drop, get_or, set, Option, None, Result, Ok, Err, refl, sym, ap, subst, ◌∙◌, arith, ◌≢◌}
+use Rattle.std.proofs.Common.{◌≡◌, ℕ, zero, suc, ◌+◌, ◌<◌, ◌⊎◌, inl, inr, List, [], ◌∷◌, ◌++◌, length, map, drop, get_or, set, Option, None, Result, Ok, Err, refl, sym, ap, subst, ◌∙◌, arith}
 use Rattle.std.specs.Result.{IfErr, IsErrAnd}
 use Rattle.std.specs.declared.sync.Arc.{Arc}
 use Rattle.std.specs.declared.vec.Vec.{Vec}
@@ -16,8 +16,8 @@ use Rattle.buck_stem.specs.file.Stm.{stm_of}
 use Rattle.buck_fleet.specs.Run.{stems_of, stems_at}
 use Rattle.buck_engine.specs.declared.fault.EngineFault.{EngineFault}
 use Rattle.buck_turn.specs.Turn.{stems_in_all}
-use Rattle.buck_engine.specs.declared.fault.EngineFault.TheVariants.{Apt, Full, Memory, Seats, Stm}
-use Rattle.buck_engine.specs.run.Reading.{IsAccepted, IsAptFault, IsFileFault, IsStmFault, Says}
+use Rattle.buck_engine.specs.declared.fault.EngineFault.TheVariants.{Full, Memory}
+use Rattle.buck_engine.specs.run.Reading.{IsAccepted, IsStmFault, Says}
 use Rattle.buck_engine.specs.fleet.Running.{AreListsOf, AreAccepted, HaveTooMany, IsCuttingFault, IsFleetFault, IsListFault}
 
 -- what stands at a place of what is left as it was
@@ -104,25 +104,6 @@ pub cut_fault : {X : Type 0} (apt : Option (List ℕ)) (stms : List (Option (Lis
 cut_fault apt stms lists n (Ok x) says all made fault = tt
 cut_fault apt stms lists n (Err e) says all made fault =
     inr (inr (says, inr (subst (λ (k : ℕ). AreAccepted k stms) all (accepted n stms lists made), fault)))
-
--- what is wrong with a file isn't that a history is full
-file_not_full : {V F : Type 0} (number : ℕ) (named : F → EngineFault) (reading : List ℕ → Result V F)
-    (file : Option (List ℕ)) (fault : EngineFault)
-    → ((why : F) → named why ≢ Full) → IsFileFault number named reading file fault → fault ≢ Full
-file_not_full number named reading file fault none (inl read) = λ e. absurd (cc (read, e))
-file_not_full number named reading file fault none (inr (inl memory)) = λ e. absurd (cc (memory, e))
-file_not_full number named reading file fault none (inr (inr (why, is, says))) = λ e. none why (sym is ∙ e)
-
-pub seats_not_full : (fault : EngineFault) → fault ≡ Seats → fault ≢ Full
-seats_not_full fault is = λ e. absurd (cc (is, e))
-
-pub apt_not_full : (apt : Option (List ℕ)) (fault : EngineFault) → IsAptFault apt fault → fault ≢ Full
-apt_not_full apt fault f = file_not_full 0 Apt apt_of apt fault (λ why e. absurd (cc e)) f
-
-pub list_not_full : (stms : List (Option (List ℕ))) (fault : EngineFault) → IsListFault stms fault → fault ≢ Full
-list_not_full stms fault f =
-    file_not_full (f.place + 1) (Stm (f.place + 1)) stm_of (slice_index_or stms f.place None) fault
-    (λ why e. absurd (cc e)) f.is_fault
 
 -- as many stems as their lists have
 stems_all : (lists : List (Vec (Arc Stem Global) Global))

@@ -8,10 +8,6 @@ use Rattle.buck_apt.specs.Settings.{SettingsParts, own_numbers, with_settings}
 use Rattle.buck_apt.specs.Apt.{apt_of}
 use Rattle.buck_engine.specs.run.Reading.{Says, apt_with}
 
-put_in : SettingsParts → Result InstructionParts AptFault → Result InstructionParts AptFault
-put_in settings (Ok own) = Ok (with_settings settings own)
-put_in settings (Err fault) = Err fault
-
 own_put : (r : Result InstructionParts AptFault) → (r >>= λ own. Ok (with_settings own_numbers own)) ≡ r
 own_put (Ok own) = refl
 own_put (Err fault) = refl

@@ -1,5 +1,5 @@
 -- A fleet whose files were opened.
-use Rattle.std.proofs.Common.{◌≡◌, ℕ, List, Option, Some, None, Result, Ok, Err, length, map, ap, subst, ◌∙◌}
+use Rattle.std.proofs.Common.{◌≡◌, ℕ, List, Option, Some, None, Result, Ok, length, map, subst}
 use Rattle.std.proofs.lemmas.List.{length-map}
 use Rattle.std.specs.Result.{IsErrAnd}
 use Rattle.std.proofs.KnownBytes.{Keeps-refl}
@@ -18,18 +18,6 @@ use Rattle.buck_engine.proofs.Runs.{no_texts, texts_written}
 pub of_files : {F : Type 0} (held : F → Option (List ℕ)) (files : List F) → AreNoSeats (length (map held files))
     → AreNoSeats (length files)
 of_files held files none = subst AreNoSeats (length-map files held) none
-
--- the journal's file can't be made
-pub not_made : {O F M : Type 0} (makes : O → List ℕ → Option M → O → Type 0) (held : F → Option (List ℕ))
-    (contents : M → Option (List ℕ))
-    (start end : O) (reads : ReadsApt) (order : Order) (ByRule : HistoryParts → Type 0) (journal : Option (List ℕ))
-    (files : F × List F) (old : Option (List ℕ)) (fault : EngineFault) (r : Result (Unit {0}) EngineFault)
-    → IsErrAnd r (λ x. x ≡ fault) → MakesJournal makes start end journal (Err fault)
-    → RunsInputs makes held contents start end reads order ByRule journal (Ok files) old old r
-not_made makes held contents start end reads order ByRule journal files old fault (Ok u) h m = absurd h
-not_made makes held contents start end reads order ByRule None files old fault (Err x) h m = absurd m
-not_made makes held contents start end reads order ByRule (Some name) files old fault (Err x) h m =
-    (None, m.1, (ap (λ (f : EngineFault). Err f) (h ∙ m.0), Keeps-refl old))
 
 -- there is no history
 pub not_harvested : {O F M : Type 0} (makes : O → List ℕ → Option M → O → Type 0) (held : F → Option (List ℕ))

@@ -26,7 +26,7 @@ use Rattle.buck_figures.specs.declared.account.Account.{Account}
 use Rattle.buck_figures.specs.inner.Adding.{IsWoodOf, logs_of}
 use Rattle.buck_figures.specs.inner.Counted.{AreOfPosting}
 use Rattle.buck_figures.specs.inner.Tally.{IsTallyWith, AreAtMost}
-use Rattle.buck_figures.specs.inner.Assorted.{AreNone, ArePartsWith, ArePartsOn, AreFew}
+use Rattle.buck_figures.specs.inner.Assorted.{ArePartsWith, ArePartsOn, AreFew}
 use Rattle.buck_figures.specs.inner.Greatest.{IsGreatest}
 use Rattle.buck_figures.specs.inner.Account.{IsAccount, IsAccountWith}
 use Rattle.buck_figures.proofs.SumLemmas.{unsteered_more}
@@ -255,14 +255,3 @@ account_more i s ps us x at cost one before after same is account one_more count
     costs_number i [] us e = refl
     costs_number i (p ∷ ps) [] e = absurd (omega (arith, e))
     costs_number i (p ∷ ps) (u ∷ us) e = ap suc (costs_number i ps us (omega (arith, e)))
-
--- what no posting comes to
-pub no_parts_are : (i : InstructionParts) (parts : List Part) → AreNone i parts → AreParts i [] parts × AreFew 0 parts
-no_parts_are i parts none = (
-  record {
-    one_each = none.one_each;
-    each = λ a p there. let no = none.each a p there in
-        record { logs = no.logs; volume = no.volume; at_base = no.at_base };
-  },
-  (λ a p there. omega (arith, (none.each a p there).logs)),
-)

@@ -1,5 +1,5 @@
 -- A way through the postings of a journal, and the points on it.
-use Rattle.std.proofs.Common.{◌≡◌, ℕ, ◌+◌, ◌*◌, ◌/◌, ◌<◌, ◌≤◌, ◌↔◌, cond, List, [], ◌∷◌, ◌++◌, length, take, refl, sym, subst, ap, ◌∙◌, inl, inr, arith, length-take-le, length-append, mul-le-mul_right}
+use Rattle.std.proofs.Common.{◌≡◌, ℕ, ◌+◌, ◌*◌, ◌/◌, ◌<◌, ◌≤◌, ◌↔◌, cond, List, [], ◌∷◌, ◌++◌, length, take, sym, subst, ap, ◌∙◌, inl, inr, arith, length-take-le, length-append, mul-le-mul_right}
 use Rattle.std.specs.Prelude.{slice_get, Option, Some, sum_by, min, IsTrue}
 use Rattle.std.proofs.lemmas.Bool.{cases_lt, le-leb, lt-leb}
 use Rattle.std.proofs.lemmas.Nat.{le-div}
@@ -20,7 +20,7 @@ use Rattle.buck_book.proofs.Extend.{slice_get-push}
 use Rattle.buck_figures.specs.Figures.{demands_in}
 use Rattle.buck_figures.specs.Points.{point_after, IsPoint, AreDegrees}
 use Rattle.buck_figures.specs.inner.Account.{IsAccount, IsAccountWith, GoesOn}
-use Rattle.buck_figures.specs.inner.Course.{IsCourse, IsMore, IsFurther, HasCourse}
+use Rattle.buck_figures.specs.inner.Course.{IsCourse, IsMore, IsFurther}
 use Rattle.buck_figures.specs.inner.Making.{AreDegreesBy, IsPointOf, AreCurves}
 use Rattle.buck_figures.specs.declared.course.Course.{Course}
 use Rattle.buck_figures.specs.declared.figures.Point.{Point}
@@ -67,14 +67,6 @@ one_further i ps at x c d there lt walk account targets countable us course =
     still_wanted i (Cut e) targets countable before = before
     still_wanted i (Demand d) targets countable before = countable.one_each
 
--- a way's own place
-pub has_course : (i : InstructionParts) (ps us : List Posting) (at : ℕ) (c : Course) → IsCourse i ps at us c
-    → HasCourse c
-has_course i ps us at c course = record {
-  unsteered = us;
-  course = subst (λ (w : WalkParts). IsCourse w.instruction w.postings w.at us c) (sym course.walk) course;
-}
-
 pub further_from : (i : InstructionParts) (ps : List Posting) (at : ℕ) (c d : Course) → c.walk ≡ walk_of i ps at
     → IsFurther c (c.walk.at + 1) d
     → (us : List Posting) → IsCourse i ps at us c → IsMore i ps (at + 1) us d
@@ -102,15 +94,6 @@ further_on i ps from at to c d e first second us course =
       course =
           subst (λ vs. IsCourse i ps to vs e) (append_assoc us m.more n.more) n.course;
     }
-
-no_further : (i : InstructionParts) (ps us : List Posting) (at : ℕ) (c : Course) → IsCourse i ps at us c
-    → IsMore i ps at us c
-no_further i ps us at c course =
-    record { more = []; course = subst (λ vs. IsCourse i ps at vs c) (sym (append_empty us)) course }
-  where
-    append_empty : (ps : List Posting) → ps ++ [] ≡ ps
-    append_empty [] = refl
-    append_empty (p ∷ ps) = ap (λ l. p ∷ l) (append_empty ps)
 
 -- the points come one after the other, and the last stands at the end
 point_few : (n k : ℕ) → n ≤ 200 → point_after n k ≡ k
@@ -238,21 +221,6 @@ curves_more i ps k demands c d points p curves further told point =
             (told ∙ curves.course.account.tally.total.demands)))
       ];
     }
-
--- no point yet
-pub no_curves : (i : InstructionParts) (ps : List Posting) (c : Course) → IsCourse i ps 0 [] c → AreCurves i ps 0 c []
-no_curves i ps c course = record {
-  unsteered = [];
-  course = subst (λ at. IsCourse i ps at [] c) (sym (first_point (length ps))) course;
-  so_many = refl;
-  points = λ k p there. absurd (nowhere k p there);
-}
-  where
-    first_point : (n : ℕ) → point_after n 0 ≡ 0
-    first_point n = elim (cases_lt 200 n) [
-      | inl many ↦ (let none : 0 * n ≡ 0 = omega arith in point_many n 0 many ∙ ap (λ m. m / 200) none)
-      | inr few ↦ point_few n 0 few
-    ]
 
     nowhere : (k : ℕ) (p : Point) → slice_get [] k ≡ Some p → ⊥
     nowhere k p there = let lt : k < 0 = slice_get_within [] k p there in omega (arith, lt)

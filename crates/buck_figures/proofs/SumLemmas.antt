@@ -1,7 +1,7 @@
 -- What postings come to, posting by posting.
-use Rattle.std.proofs.Common.{◌≡◌, ℕ, ◌+◌, ◌<◌, ◌≤◌, List, [], ◌∷◌, ◌++◌, length, refl, sym, subst, ap, ◌∙◌, inl, inr, get_or, take, arith, length-append}
+use Rattle.std.proofs.Common.{◌≡◌, ℕ, ◌+◌, ◌≤◌, List, [], ◌∷◌, ◌++◌, length, refl, sym, subst, ap, ◌∙◌, inl, inr, arith, length-append}
 use Rattle.std.specs.Prelude.{sum_by}
-use Rattle.std.proofs.lemmas.List.Sums.{sum_by-append, sum_by-cons, sum_by_more}
+use Rattle.std.proofs.lemmas.List.Sums.{sum_by-append, sum_by-cons}
 use Rattle.buck_apt.specs.Instruction.{InstructionParts}
 use Rattle.buck_book.specs.declared.posting.Posting.{Posting}
 use Rattle.buck_book.proofs.Extend.{slice_get-push}
@@ -10,21 +10,20 @@ use Rattle.buck_figures.specs.Figures.{cuts_in, demands_in, logs_in, volume_in, 
 use Rattle.buck_stem.specs.Stem.{StemParts, IsStem, stem_length}
 use Rattle.buck_value.specs.declared.log.Log.{Log}
 use Rattle.buck_value.specs.Sheet.{SheetParts, IsSheet}
-use Rattle.buck_value.specs.Allowed.{IsAllowed, end_of, trim_of, worth_of}
+use Rattle.buck_value.specs.Allowed.{IsAllowed, end_of, trim_of}
 use Rattle.buck_dp.specs.Cutting.{IsCutFrom}
 use Rattle.buck_dp.proofs.Bounds.{end_within}
-use Rattle.buck_figures.specs.Figures.{base_sheet, log_volume}
+use Rattle.buck_figures.specs.Figures.{base_sheet}
 use Rattle.buck_book.specs.Entry.{EntryParts}
 use Rattle.buck_book.specs.declared.posting.Posting.TheVariants.{Cut}
 use Rattle.buck_dp.specs.Best.{IsAdmissible, IsFirstBest, cutting_worth}
 use Rattle.buck_dp.proofs.Lists.{each_allowed}
 use Rattle.buck_book.proofs.Cuts.{few_logs}
 use Rattle.buck_figures.specs.inner.Counted.{AreOfPosting}
-use Rattle.buck_figures.specs.declared.adding.Wood.{Wood}
 use Rattle.buck_figures.specs.declared.figures.Piece.{Piece}
 use Rattle.buck_figures.specs.Pieces.{IsPiece, ArePieces}
 use Rattle.buck_figures.specs.Sums.{AreSums}
-use Rattle.buck_figures.specs.inner.Adding.{AreSumsTogether, IsPassed, IsWoodOf}
+use Rattle.buck_figures.specs.inner.Adding.{AreSumsTogether, IsPassed}
 
 -- the sums over two lists of postings
 pub sums_join : (i : InstructionParts) (ps qs us vs : List Posting) (a b s : Sums)
@@ -58,30 +57,6 @@ unsteered_more i ps us x u all one = record {
           | inr w ↦ subst (λ a. IsUnsteered i a v) (sym h.1) (subst (λ b. IsUnsteered i x b) (sym w.1) one)
         ]
       ];
-}
-
--- one log more
-pub wood_more : (s : SheetParts) (stem : StemParts) (logs : List Log) (i : ℕ) (g : Log) (w v x : Wood) → i < length logs
-    → g ≡ get_or logs i g
-    → IsWoodOf s stem (take i logs) w → IsWoodOf s stem (g ∷ []) v
-    → x.volume ≡ w.volume + v.volume → x.logged ≡ w.logged + v.logged → x.trim ≡ w.trim + v.trim
-    → x.at_base ≡ w.at_base + v.at_base
-    → IsWoodOf s stem (take (i + 1) logs) x
-wood_more s stem logs i g w v x lt is a b volume logged trim at_base = record {
-  volume = omega
-      (arith, volume, a.volume, b.volume, sum_by_more (log_volume stem) logs i g lt, ap (log_volume stem) is);
-  logged = omega (
-    arith,
-    logged,
-    a.logged,
-    b.logged,
-    sum_by_more (λ (l : Log). l.length) logs i g lt,
-    ap (λ (l : Log). l.length) is,
-  );
-  trim = omega
-      (arith, trim, a.trim, b.trim, sum_by_more (trim_of s.instruction) logs i g lt, ap (trim_of s.instruction) is);
-  at_base =
-      omega (arith, at_base, a.at_base, b.at_base, sum_by_more (worth_of s stem) logs i g lt, ap (worth_of s stem) is);
 }
 
 -- the logs of an admissible cutting and their trim lie within their stem

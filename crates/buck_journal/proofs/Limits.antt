@@ -1,18 +1,14 @@
 -- Numbers that passed the tests are within the limits of a stem.
-use Rattle.std.proofs.Common.{◌≡◌, ℕ, ◌+◌, ◌*◌, ◌≤◌, true, List, [], ◌∷◌, All, Some, Ok, length, get_or, slice_get, refl, arith}
+use Rattle.std.proofs.Common.{◌≡◌, ℕ, ◌+◌, ◌*◌, ◌≤◌, true, List, [], ◌∷◌, length, get_or, arith}
 use Rattle.std.specs.List.{AllByRecursion}
 use Rattle.std.proofs.lemmas.List.Elements.{All-from_recursion}
-use Rattle.std.proofs.lemmas.Bool.{le-leb, and_from}
-use Rattle.std.proofs.lemmas.List.Sums.{AllPass-from_list_all, list_all-from_AllPass}
-use Rattle.buck_record.specs.Item.{ItemParts}
-use Rattle.buck_record.specs.bytes.Record.{numbers_of}
-use Rattle.buck_record.specs.checking.Table.{is_at}
-use Rattle.buck_record.specs.checking.Rules.{slot, within, all_within, one_to}
+use Rattle.std.proofs.lemmas.List.Sums.{AllPass-from_list_all}
+use Rattle.buck_record.specs.checking.Rules.{within, all_within, one_to}
 use Rattle.buck_record.proofs.PassLemmas.{both, within_ok}
 use Rattle.buck_stem.specs.declared.file.slots.TheConstants.{SPECIES, SAMPLES, MOST_SAMPLES, STARTS, GRADES, MOST_ZONES}
 use Rattle.buck_stem.specs.Stem.{IsStem, IsGrade, IsRisingFrom, stem_of}
 use Rattle.buck_stem.specs.file.Stm.{zones_of}
-use Rattle.buck_journal.specs.reading.Journal.{rest_at, numbers_at, samples_at, is_zone, are_zones}
+use Rattle.buck_journal.specs.reading.Journal.{is_zone, are_zones}
 use Rattle.buck_journal.specs.inner.Limits.{AreSamples, AreZones}
 
 half : (ns : List ℕ) → length (zones_of ns) * 2 ≤ length ns
@@ -66,18 +62,3 @@ is_stem_ok number species samples zones low high s z = record {
   starts_rise = z.starts_rise;
   grades_range = z.grades_range;
 }
-
--- diameters of an item, each of which was seen to be small, are those that the journal says
-pub samples_ok : (items : List ItemParts) (k : ℕ) (item : ItemParts) (ns : List ℕ)
-    → slice_get items k ≡ Some item
-    → is_at (slot 981 3) item ≡ true
-    → numbers_of item.rest ≡ Ok ns
-    → All (λ d. d ≤ SAMPLES.high) ns
-    → one_to MOST_SAMPLES (length ns) ≡ true
-    → samples_at items k ≡ Ok ns
-unfolding samples_at numbers_at rest_at
-samples_ok items k item ns there at read small number =
-    let range : all_within SAMPLES.low SAMPLES.high ns ≡ true =
-    list_all-from_AllPass (within SAMPLES.low SAMPLES.high) ns
-    (λ j d lt. and_from _ _ (le-leb 0 (get_or ns j d) (omega arith)) (le-leb _ _ (small j d lt))) in
-    rw (there, at, read, number, range) refl
