@@ -1,24 +1,19 @@
--- Postings in order of which the first that is outvalued is known: what comes of their history.
-use Rattle.std.proofs.Common.{◌≡◌, ℕ, zero, suc, ◌+◌, ◌<◌, ◌≤◌, inl, inr, true, false, List, [], ◌∷◌, length, take, drop, slice_get, Option, Some, None, refl, sym, ◌∙◌, ap, subst, arith}
-use Rattle.std.specs.Prelude.{◌-◌, Result, Ok, Err, IfOk}
+-- Postings of which the first doubtful one is known: what comes of their history.
+use Rattle.std.proofs.Common.{◌≡◌, ◌≢◌, ℕ, zero, suc, ◌+◌, ◌<◌, ◌≤◌, inl, inr, true, false, List, [], ◌∷◌, length, take, drop, slice_get, Option, Some, None, refl, sym, ◌∙◌, ap, subst, arith}
+use Rattle.std.specs.Prelude.{◌-◌, Result, Ok, Err, IfOk, IfErr, OnOk}
 use Rattle.std.specs.Fork.{IsChunk}
+use Rattle.std.specs.Option.{is_some}
 use Rattle.std.proofs.lemmas.Bool.{cases_lt, cases_eq}
-use Rattle.std.proofs.lemmas.List.{length-take}
 use Rattle.std.proofs.lemmas.Option.{slice_get_within, same_Some}
-use Rattle.buck_record.specs.declared.memory.Memory.{Memory}
-use Rattle.buck_apt.specs.Instruction.{InstructionParts}
-use Rattle.buck_value.specs.Sheet.{SheetParts}
 use Rattle.buck_book.specs.declared.posting.Posting.{Posting}
 use Rattle.buck_book.specs.declared.posting.Posting.TheVariants.{Cut, Demand}
 use Rattle.buck_book.specs.Posting.{planned_version}
-use Rattle.buck_book.specs.History.{HistoryParts, Follows, Holds, sheet_at}
-use Rattle.buck_book.specs.Walk.{WalkParts}
-use Rattle.buck_book.proofs.Extend.{slice_get-take}
+use Rattle.buck_book.specs.History.{HistoryParts, IsLawful, Follows, Holds, sheet_at}
 use Rattle.buck_journal.specs.declared.judging.fault.ReplayFault.{ReplayFault}
-use Rattle.buck_journal.specs.declared.judging.fault.ReplayFault.TheVariants.{Outvalued}
-use Rattle.buck_journal.specs.reading.Journal.{JournalParts}
-use Rattle.buck_journal.specs.judging.Replay.{history_of, version_at, IsRightBefore, IsContentFault, IsPostingFault, IsFaultAtEnd, IsFirstFault}
-use Rattle.buck_journal.specs.inner.Replay.{HoldsUnder, IsRightUnder, IsInOrderBefore, IsStopped, IsOrdered, IsPriced, ArePriced, IsOutvalued, NoneOutvalued, IsFirstOutvalued, IsFound, IsJudged}
+use Rattle.buck_journal.specs.declared.judging.fault.ReplayFault.TheVariants.{Outvalued, Memory}
+use Rattle.buck_journal.specs.judging.Replay.{version_at, IsRightBefore, IsContentFault, IsPostingFault, IsFaultAtEnd, IsFirstFault}
+use Rattle.buck_journal.specs.inner.Sheets.{IsPriced}
+use Rattle.buck_journal.specs.inner.Replay.{HoldsUnder, IsRightUnder, IsInOrderBefore, IsStopped, IsOrdered, IsOutvalued, IsDoubtful, NoneDoubtful, IsFirstDoubtful, IsFound, AreSameBefore, IsJudged}
 use Rattle.buck_journal.proofs.Replays.{opened, lawful_when}
 
 -- what stands in the first postings, and in those from a place on
@@ -36,15 +31,25 @@ get_dropped (suc n) (x ∷ xs) k =
     get_dropped n xs k ∙ ap (λ j. slice_get (x ∷ xs) j) on
 
 module _ (h : HistoryParts) where
+  -- a doubtful posting in one list is one in another that is the same before some place behind it
+  first_same : (k : ℕ) (ps qs : List Posting) → AreSameBefore k ps qs → (at : ℕ) → at < k → IsFirstDoubtful h ps at
+      → IsFirstDoubtful h qs at
+  first_same k ps qs same at lt first = record {
+    next = first.next;
+    there = sym (same at lt) ∙ first.there;
+    wrong = first.wrong;
+    before = λ j x less is. first.before j x less (same j (omega (arith, less, lt)) ∙ is);
+  }
+
   -- the sheets of postings in order are there and right
-  priced_before : (k : ℕ) → k ≤ length h.postings → IsInOrderBefore h k
-      → ArePriced h.instruction h.sheets (take k h.postings)
-  priced_before k le before j x at =
-      let got = slice_get-take h.postings k j x le at in
-      let from = opened h j (version_at h j) (omega (arith, got.0, le)) (omega arith) in
-      let sheet = before.sheets from.at (omega (arith, from.within_them, got.0)) from.begins in
-      let version : version_at h from.at ≡ planned_version x = from.is
-      ∙ sym (before.postings j x got.0 got.1).of_version in
+  priced_before : (k : ℕ) → k ≤ length h.postings → IsInOrderBefore h k → (j : ℕ) (x : Posting)
+      → j < k
+      → slice_get h.postings j ≡ Some x
+      → IsPriced h.instruction h.sheets (planned_version x)
+  priced_before k le before j x lt at =
+      let from = opened h j (version_at h j) (omega (arith, lt, le)) (omega arith) in
+      let sheet = before.sheets from.at (omega (arith, from.within_them, lt)) from.begins in
+      let version : version_at h from.at ≡ planned_version x = from.is ∙ sym (before.postings j x lt at).of_version in
       subst (λ v. IsPriced h.instruction h.sheets v) version (sheet.0.0, (take from.at h.postings, sheet.1))
 
   -- a posting that is right, and isn't outvalued, may follow
@@ -62,7 +67,7 @@ module _ (h : HistoryParts) where
           (record { admissible = k.0; none_outvalues = λ others ok. omega (arith, most others ok, k.1) }, k.1)
       holds (Demand d) k most = k
 
-  pub right_before : (k : ℕ) → IsInOrderBefore h k → NoneOutvalued h.instruction h.sheets h.postings k
+  right_before : (k : ℕ) → IsInOrderBefore h k → NoneDoubtful h h.postings k
       → IsRightBefore h k
   right_before k before none = record {
     sheets = before.sheets;
@@ -82,11 +87,12 @@ module _ (h : HistoryParts) where
   outvalued_there at (Cut e) r more = (refl, r.holds.0, r.holds.1, (more.0, more.1, omega (arith, more.2, r.holds.1)))
   outvalued_there at (Demand d) r more = absurd more
 
-  -- the first posting in order that is outvalued has the first fault
-  pub first_is_met : (until at : ℕ) → IsInOrderBefore h until → at < until
-      → IsFirstOutvalued h.instruction h.sheets h.postings at → IsFirstFault h (Outvalued at)
-  first_is_met until at before lt first =
+  -- the first doubtful posting in order has the first fault
+  first_is_met : (until at : ℕ) → until ≤ length h.postings → IsInOrderBefore h until → at < until
+      → IsFirstDoubtful h h.postings at → IsFirstFault h (Outvalued at)
+  first_is_met until at le before lt first =
       let r = before.postings at first.next lt first.there in
+      let more = first.wrong (priced_before until le before at first.next lt first.there) in
       inl (record {
         at = at;
         next = first.next;
@@ -96,13 +102,13 @@ module _ (h : HistoryParts) where
           before.sheets at lt,
           subst (λ v. IsPostingFault (sheet_at h.instruction h.sheets v) (take at h.postings) first.next at
               (Outvalued at)) r.of_version
-              (inr (r.numbered, r.of_version, outvalued_there at first.next r first.wrong)),
+              (inr (r.numbered, r.of_version, outvalued_there at first.next r more)),
         );
       })
 
   -- where none is, the fault at which the walk stopped is the first
-  pub stop_is_met : (until : ℕ) (fault : ReplayFault) → IsInOrderBefore h until
-      → NoneOutvalued h.instruction h.sheets h.postings until → IsStopped h until fault → IsFirstFault h fault
+  stop_is_met : (until : ℕ) (fault : ReplayFault) → IsInOrderBefore h until
+      → NoneDoubtful h h.postings until → IsStopped h until fault → IsFirstFault h fault
   stop_is_met until fault before none (inl there) =
       inl (record {
         at = until;
@@ -117,75 +123,60 @@ module _ (h : HistoryParts) where
     wrong = subst (λ n. IsFaultAtEnd h n fault) end.0 end.1;
   })
 
-  -- what was found among the postings in order, of all of them
-  none_taken : (until : ℕ) → until ≤ length h.postings
-      → NoneOutvalued h.instruction h.sheets (take until h.postings) (length (take until h.postings))
-      → NoneOutvalued h.instruction h.sheets h.postings until
-  none_taken until le none j x lt at =
-      none j x (omega (arith, lt, le, length-take until h.postings)) (get_taken until h.postings j lt ∙ at)
+  -- what comes of a history, by what was found in postings that are its own up to there
+  module _ {W : Type 0} (until : ℕ) (ps : List Posting) (end : Result W ReplayFault) (o : IsOrdered h until end)
+      (same : AreSameBefore until ps h.postings) where
+    pub judged_found : (at : ℕ) → at < until → IsFound h ps (Some at) → IsFirstFault h (Outvalued at)
+    judged_found at lt first =
+        first_is_met until at o.within o.right lt (first_same until ps h.postings same at lt first)
 
-  first_taken : (until at : ℕ) → until ≤ length h.postings
-      → IsFirstOutvalued h.instruction h.sheets (take until h.postings) at
-      → (at < until) × IsFirstOutvalued h.instruction h.sheets h.postings at
-  first_taken until at le first =
-      let got = slice_get-take h.postings until at first.next le first.there in (
-        got.0,
-        record {
-          next = first.next;
-          there = got.1;
-          wrong = first.wrong;
-          before = λ j x lt is. first.before j x lt (get_taken until h.postings j (omega (arith, lt, got.0)) ∙ is);
-        },
-      )
+    judged_end : (e : Result W ReplayFault) → IsOrdered h until e → NoneDoubtful h h.postings until
+        → IsJudged h e
+    judged_end (Ok w) ok none =
+        let all = ok.ended in
+        lawful_when h all.valid (subst (λ n. IsRightBefore h n) all.all (right_before until ok.right none)) all.right
+    judged_end (Err fault) ok none = λ told. stop_is_met until fault ok.right none ok.stopped
 
-  -- what comes of a history
-  pub judged_found : (until at : ℕ) (end : Result WalkParts ReplayFault) → IsOrdered h until end
-      → IsFound h.instruction h.sheets (take until h.postings) (Some at)
-      → IsJudged h (Err (Outvalued at))
-  judged_found until at end o first =
-      let all = first_taken until at o.within first in
-      λ told. first_is_met until at o.right all.0 all.1
+    pub judged_none : IsFound h ps None → IsJudged h end
+    judged_none none =
+        judged_end end o
+        (λ j x lt at.
+        let there = same j lt ∙ at in
+        none j x (slice_get_within ps j x there) there)
 
-  pub judged_none : (until : ℕ) (end : Result WalkParts ReplayFault) → IsOrdered h until end
-      → IsFound h.instruction h.sheets (take until h.postings) None
-      → IsJudged h end
-  judged_none until (Ok w) o none =
-      let all = o.ended in (
-        all.walked,
-        lawful_when h all.valid
-            (subst (λ n. IsRightBefore h n) all.all (right_before until o.right (none_taken until o.within none)))
-            all.right,
-      )
-  judged_none until (Err fault) o none =
-      λ told. stop_is_met until fault o.right (none_taken until o.within none) o.stopped
+    pub judged_behind : (at : ℕ) → until ≤ at → IsFound h ps (Some at) → IsJudged h end
+    judged_behind at le first =
+        judged_end end o (λ j x lt is. first.before j x (omega (arith, lt, le)) (same j lt ∙ is))
 
--- the next posting isn't outvalued either
-pub none_more : (i : InstructionParts) (sheets : List (List ℕ)) (ps : List Posting) (at : ℕ) (x : Posting)
-    (s : SheetParts) → slice_get ps at ≡ Some x
-    → NoneOutvalued i sheets ps at
-    → s ≡ sheet_at i sheets (planned_version x)
-    → IsOutvalued s x false
-    → NoneOutvalued i sheets ps (at + 1)
-none_more i sheets ps at x s there none is less j y lt got = elim (cases_eq j at) [
-  | inl same ↦ subst (λ z. IsOutvalued (sheet_at i sheets (planned_version z)) z false)
-      (same_Some x y (sym there ∙ ap (λ n. slice_get ps n) (sym same) ∙ got))
-      (subst (λ t. IsOutvalued t x false) is less)
+-- what that is to a caller
+pub judged_cases : {W : Type 0} (h : HistoryParts) (r : Result W ReplayFault) → IsJudged h r
+    → OnOk r (IsLawful h) × IfErr r (λ e. e ≢ Memory → IsFirstFault h e)
+judged_cases h (Ok w) j = (j, tt)
+judged_cases h (Err e) j = (tt, j)
+
+-- the next posting isn't doubtful either
+pub none_more : (h : HistoryParts) (ps : List Posting) (at : ℕ) (x : Posting) → slice_get ps at ≡ Some x
+    → NoneDoubtful h ps at
+    → IsDoubtful h x false
+    → NoneDoubtful h ps (at + 1)
+none_more h ps at x there none more j y lt got = elim (cases_eq j at) [
+  | inl same ↦ subst (λ z. IsDoubtful h z false)
+      (same_Some x y (sym there ∙ ap (λ n. slice_get ps n) (sym same) ∙ got)) more
   | inr other ↦ none j y (omega arith) got
 ]
 
--- of runs of neighbours, so many each, those before a place were gone through, and the next is a part
-module _ (i : InstructionParts) (sheets : List (List ℕ)) (ps part : List Posting) (size start : ℕ)
-    (is : IsChunk ps size start part) where
-  get_part : (k : ℕ) → k < length part → slice_get part k ≡ slice_get ps (start + k)
-  get_part k lt =
-      ap (λ xs. slice_get xs k) is.value ∙ get_taken size (drop start ps) k (omega (arith, lt, is.at_most_size))
-      ∙ get_dropped start ps k
+-- what stands in a run of neighbours
+pub get_chunk : (ps part : List Posting) (size start : ℕ) → IsChunk ps size start part → (k : ℕ) → k < length part
+    → slice_get part k ≡ slice_get ps (start + k)
+get_chunk ps part size start is k lt =
+    ap (λ xs. slice_get xs k) is.value ∙ get_taken size (drop start ps) k (omega (arith, lt, is.at_most_size))
+    ∙ get_dropped start ps k
 
-  pub part_priced : ArePriced i sheets ps → ArePriced i sheets part
-  part_priced all k x at = all (start + k) x (sym (get_part k (slice_get_within part k x at)) ∙ at)
-
-  before_part : (k : ℕ) → k ≤ length part → NoneOutvalued i sheets ps start → NoneOutvalued i sheets part k
-      → NoneOutvalued i sheets ps (start + k)
+-- of postings those before a place were gone through, and a part begins there
+module _ (h : HistoryParts) (ps part : List Posting) (start : ℕ)
+    (get_part : (k : ℕ) → k < length part → slice_get part k ≡ slice_get ps (start + k)) where
+  before_part : (k : ℕ) → k ≤ length part → NoneDoubtful h ps start → NoneDoubtful h part k
+      → NoneDoubtful h ps (start + k)
   before_part k le old new j x lt at = elim (cases_lt j start) [
     | inl before ↦ old j x before at
     | inr past ↦ (
@@ -196,38 +187,67 @@ module _ (i : InstructionParts) (sheets : List (List ℕ)) (ps part : List Posti
         )
   ]
 
-  pub first_in_part : (at : ℕ) → NoneOutvalued i sheets ps start → IsFirstOutvalued i sheets part at
-      → (start + at < length ps) × IsFirstOutvalued i sheets ps (start + at)
+  pub first_in_part : (at : ℕ) → NoneDoubtful h ps start → IsFirstDoubtful h part at
+      → IsFirstDoubtful h ps (start + at)
   first_in_part at old first =
-      let lt : at < length part = slice_get_within part at first.next first.there in (
-        omega (arith, lt, is.in_bounds),
-        record {
-          next = first.next;
-          there = sym (get_part at lt) ∙ first.there;
-          wrong = first.wrong;
-          before = before_part at (omega (arith, lt)) old first.before;
-        },
-      )
+      let lt : at < length part = slice_get_within part at first.next first.there in
+      record {
+        next = first.next;
+        there = sym (get_part at lt) ∙ first.there;
+        wrong = first.wrong;
+        before = before_part at (omega (arith, lt)) old first.before;
+      }
 
-  pub none_in_part : NoneOutvalued i sheets ps start → NoneOutvalued i sheets part (length part)
-      → NoneOutvalued i sheets ps (start + size)
-  none_in_part old new j x lt at = before_part (length part) (omega arith) old new j x
-      (omega (arith, slice_get_within ps j x at, is.len, lt)) at
+  -- and where the part goes as far as a place, or to the end
+  pub none_in_part : (to : ℕ) → ((j : ℕ) → j < to → j < length ps → j < start + length part)
+      → NoneDoubtful h ps start → NoneDoubtful h part (length part)
+      → NoneDoubtful h ps to
+  none_in_part to far old new j x lt at = before_part (length part) (omega arith) old new j x
+      (far j lt (slice_get_within ps j x at)) at
 
--- what a thread found in its part
-pub part_found : (i : InstructionParts) (sheets : List (List ℕ)) (part : List Posting)
-    (found : Result (Option ℕ) Memory) (first : Option ℕ)
-    → IfOk found (IsFound i sheets part)
-    → found ≡ Ok first
-    → IsFound i sheets part first
-part_found i sheets part found first is same = subst (λ r. IfOk r (IsFound i sheets part)) same is
+-- what was found in postings, by what was found in the first of them and in the rest
+module _ (h : HistoryParts) (ps front rest : List Posting) (mid : ℕ) (front_is : front ≡ take mid ps)
+    (rest_is : rest ≡ drop mid ps) (front_length : length front ≡ mid)
+    (rest_length : length rest + mid ≡ length ps) where
+  get_front : AreSameBefore (length front) front ps
+  get_front k lt = ap (λ xs. slice_get xs k) front_is ∙ get_taken mid ps k (omega (arith, lt, front_length))
 
--- the sheets of a journal's postings in order are there and right, with its lists as code has them
-pub ordered_priced : (i : InstructionParts) (jr : JournalParts) (sheets : List (List ℕ)) → sheets ≡ jr.sheets
-    → (ps : List Posting) (until : ℕ) (end : Result WalkParts ReplayFault) → IsOrdered (history_of i jr) until end
-    → ps ≡ take until jr.entries
-    → ArePriced i sheets ps
-ordered_priced i jr sheets same ps until end o part =
-    subst (λ qs. ArePriced i sheets qs) (sym part)
-    (subst (λ ss. ArePriced i ss (take until jr.entries)) (sym same)
-    (priced_before (history_of i jr) until o.within o.right))
+  get_rest : (k : ℕ) → k < length rest → slice_get rest k ≡ slice_get ps (length front + k)
+  get_rest k lt =
+      ap (λ xs. slice_get xs k) rest_is ∙ get_dropped mid ps k ∙ ap (λ n. slice_get ps (n + k)) (sym front_length)
+
+  pub in_front : (found : Option ℕ) → true ≡ is_some found → IsFound h front found → IsFound h ps found
+  in_front None none first = absurd (cc)
+  in_front (Some at) some first =
+      first_same h (length front) front ps get_front at (slice_get_within front at first.next first.there) first
+
+  none_in_front : (found : Option ℕ) → false ≡ is_some found → IsFound h front found
+      → NoneDoubtful h ps (length front)
+  none_in_front None none old = λ j x lt at. old j x lt (get_front j lt ∙ at)
+  none_in_front (Some at) some first = absurd (cc)
+
+  pub in_rest : (found : Option ℕ) → false ≡ is_some found → IsFound h front found → (at : ℕ)
+      → IsFound h rest (Some at)
+      → IsFound h ps (Some (length front + at))
+  in_rest found none old at first =
+      first_in_part h ps rest (length front) get_rest at (none_in_front found none old) first
+
+  pub in_neither : (found : Option ℕ) → false ≡ is_some found → IsFound h front found → IsFound h rest None
+      → IsFound h ps None
+  in_neither found none old new =
+      none_in_part h ps rest (length front) get_rest (length ps)
+      (λ j lt within. omega (arith, lt, front_length, rest_length)) (none_in_front found none old) new
+
+  -- and a place in the rest is one that fits a number
+  pub in_bounds : (at : ℕ) → IsFound h rest (Some at) → length front + at < length ps
+  in_bounds at first =
+      omega (arith, slice_get_within rest at first.next first.there, front_length, rest_length)
+
+-- what a thread found
+pub told : {X E : Type 0} (P : X → Type 0) (r : Result X E) (x : X) → IfOk r P → r ≡ Ok x → P x
+told P r x ok same = subst (λ q. IfOk q P) same ok
+
+-- and what is known of what a walk ended with is known where that is the answer
+pub told_end : {X E : Type 0} (P : X → Type 0) (end r : Result X E) → IfOk end P → IfOk r (λ x. end ≡ Ok x) → IfOk r P
+told_end P end (Ok x) ok same = told P end x ok same
+told_end P end (Err e) ok same = tt

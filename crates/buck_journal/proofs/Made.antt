@@ -5,7 +5,7 @@ use Rattle.std.proofs.lemmas.List.{length_push, map-append}
 use Rattle.buck_apt.specs.Instruction.{InstructionParts}
 use Rattle.buck_value.specs.Sheet.{SheetParts}
 use Rattle.buck_book.specs.History.{sheet_at}
-use Rattle.buck_journal.specs.inner.Replay.{AreMade}
+use Rattle.buck_journal.specs.inner.Sheets.{AreMade}
 
 kept_at : {X : Type 0} (xs : List X) (y x : X) (k : ℕ) → slice_get xs k ≡ Some x → slice_get (xs ++ y ∷ []) k ≡ Some x
 kept_at [] y x k there = absurd (cc)

@@ -1,7 +1,7 @@
 -- What a walk through a history shows of its order, and where each posting may follow and each sheet is right it is
 -- lawful.
 use Rattle.std.proofs.Common.{◌≡◌, ◌≢◌, ℕ, zero, suc, ◌+◌, ◌<◌, ◌≤◌, inl, inr, List, [], ◌∷◌, ◌++◌, length, take, slice_get, Some, refl, sym, ◌∙◌, ap, subst, arith}
-use Rattle.std.specs.Prelude.{Result, Ok, Err, IfErr}
+use Rattle.std.specs.Prelude.{Result, Ok, Err, IfOk, IfErr, OnOk}
 use Rattle.std.proofs.lemmas.Bool.{cases_Bool, cases_lt, cases_eq}
 use Rattle.std.proofs.lemmas.List.{take_all}
 use Rattle.std.proofs.lemmas.Option.{slice_get_within, slice_get_cases, same_Some}
@@ -20,7 +20,7 @@ use Rattle.buck_journal.specs.declared.judging.fault.ReplayFault.{ReplayFault}
 use Rattle.buck_journal.specs.declared.judging.stop.Stop.{Stop}
 use Rattle.buck_journal.specs.declared.judging.stop.Stop.TheVariants as stop
 use Rattle.buck_journal.specs.judging.Replay.{version_at, Begins, IsSheetRight, IsSheetFault, IsRightBefore, IsPostingFault}
-use Rattle.buck_journal.specs.inner.Replay.{sheet_then, IsRightUnder, AreRightUnder, IsMetUnder, IsInOrderBefore, IsMetInOrder, IfMet, IsEndRight}
+use Rattle.buck_journal.specs.inner.Replay.{along, sheet_then, IsRightUnder, AreRightUnder, IsMetUnder, IsInOrderBefore, IsMetInOrder, IfMet, IsEndRight}
 
 -- prices that keep the price relation somewhere lie within their spans, and make a sheet
 pub in_span : (i : InstructionParts) (ps : List Posting) (prices : List ℕ) → PricesMeet i ps prices → (k : ℕ)
@@ -259,3 +259,15 @@ pub sheet_stopped : (h : HistoryParts) (from : ℕ) (t : Stop) → from < length
 sheet_stopped h from stop.Memory lt before b wrong = tt
 sheet_stopped h from (stop.Fault at fault) lt before b wrong =
     subst (λ n. IsMetInOrder h n fault) (sym wrong.0) (sheet_met h from fault lt before b wrong.1)
+
+-- all postings of a history were passed
+pub passed_all : {E : Type 0} (h : HistoryParts) (w : WalkParts) (r : Result WalkParts E)
+    → w ≡ walk_of h.instruction h.postings 0
+    → IfOk r (λ v. IsInOrderBefore (along w h.sheets) v.at)
+    → IfOk r (λ v. v ≡ walk_of w.instruction w.postings (length w.postings))
+    → OnOk r (IsInOrderBefore h (length h.postings))
+passed_all h w (Err e) same right end = tt
+passed_all h w (Ok v) same right end =
+    subst (λ n. IsInOrderBefore h n)
+    (ap (λ (u : WalkParts). u.at) end ∙ ap (λ (u : WalkParts). length u.postings) same)
+    (subst (λ u. IsInOrderBefore (along u h.sheets) v.at) same right)

@@ -1,7 +1,6 @@
 -- What holds while a journal is replayed: of its order, up to a place, and of which cuts are outvalued before there.
-use Rattle.std.specs.Prelude.{◌≡◌, ◌≢◌, ℕ, ◌+◌, ◌<◌, ◌≤◌, ◌⊎◌, Bool, true, false, List, length, map, take, slice_get, Option, Some, None, Result, Ok, Err, IfOk, IfErr}
-use Rattle.std.specs.declared.vec.Vec.{Vec}
-use Rattle.buck_apt.specs.Instruction.{InstructionParts, IsInstruction}
+use Rattle.std.specs.Prelude.{◌≡◌, ◌≢◌, ℕ, ◌+◌, ◌<◌, ◌≤◌, ◌⊎◌, Bool, true, false, List, length, take, slice_get, Option, Some, None, Result, Ok, Err, OnOk, IfErr}
+use Rattle.buck_apt.specs.Instruction.{IsInstruction}
 use Rattle.buck_value.specs.declared.log.Log.{Log}
 use Rattle.buck_value.specs.Sheet.{SheetParts}
 use Rattle.buck_dp.specs.Best.{IsAdmissible, IsBest, cutting_worth}
@@ -9,18 +8,18 @@ use Rattle.buck_book.specs.declared.posting.Posting.{Posting}
 use Rattle.buck_book.specs.declared.posting.Posting.TheVariants.{Cut, Demand}
 use Rattle.buck_book.specs.Posting.{planned_version, ends_of, cuts_since_end}
 use Rattle.buck_book.specs.Targets.{AreTargets}
-use Rattle.buck_book.specs.History.{HistoryParts, IsLawful, PricesMeet, prices_at, sheet_at}
-use Rattle.buck_book.specs.Walk.{WalkParts, walk_of}
+use Rattle.buck_book.specs.History.{HistoryParts, IsLawful, sheet_at}
+use Rattle.buck_book.specs.Walk.{WalkParts}
 use Rattle.buck_journal.specs.declared.judging.fault.ReplayFault.{ReplayFault}
 use Rattle.buck_journal.specs.declared.judging.fault.ReplayFault.TheVariants.{Memory}
 use Rattle.buck_journal.specs.declared.judging.stop.Stop.{Stop}
 use Rattle.buck_journal.specs.declared.judging.stop.Stop.TheVariants as stop
 use Rattle.buck_journal.specs.judging.Replay.{version_at, Begins, IsSheetRight, IsNumbered, IsOfVersion, IsPostingFault, IsFaultAt, IsFaultAtEnd, IsFirstFault}
+use Rattle.buck_journal.specs.inner.Sheets.{IsPriced}
 
 -- the history that a walk goes through, with the sheets of a journal
-abbrev pub along : {A : Type 0} → WalkParts → List (Vec ℕ A) → HistoryParts
-along w sheets =
-    record { instruction = w.instruction; sheets = map (λ v. v.items) sheets; postings = w.postings }
+abbrev pub along : WalkParts → List (List ℕ) → HistoryParts
+along w sheets = record { instruction = w.instruction; sheets = sheets; postings = w.postings }
 
 -- the sheet in force after the first k postings
 abbrev pub sheet_then : HistoryParts → ℕ → SheetParts
@@ -86,9 +85,8 @@ pub record IsEndRight (h : HistoryParts) (k : ℕ) : Type 0 where
   pub last_sheet : Begins h k → IsSheetRight h k
 
 -- the walk was ended: all is in order, and the end is right
-pub record IsEnded (h : HistoryParts) (until : ℕ) (end : WalkParts) : Type 0 where
+pub record IsEnded (h : HistoryParts) (until : ℕ) : Type 0 where
   pub all : until ≡ length h.postings
-  pub walked : end ≡ walk_of h.instruction h.postings (length h.postings)
   pub valid : IsInstruction h.instruction
   pub right : IsEndRight h (length h.postings)
 
@@ -99,26 +97,11 @@ IsStopped h until fault =
     ⊎ ((until ≡ length h.postings) × IsFaultAtEnd h until fault)
 
 -- up to a place all is in order, and this came of the walk there
-pub record IsOrdered (h : HistoryParts) (until : ℕ) (end : Result WalkParts ReplayFault) : Type 0 where
+pub record IsOrdered {W : Type 0} (h : HistoryParts) (until : ℕ) (end : Result W ReplayFault) : Type 0 where
   pub within : until ≤ length h.postings
   pub right : IsInOrderBefore h until
-  pub ended : IfOk end (IsEnded h until)
+  pub ended : OnOk end (IsEnded h until)
   pub stopped : IfErr end (IsStopped h until)
-
--- the prices of a version are there, and keep the price relation after some postings
-abbrev pub IsPriced : InstructionParts → List (List ℕ) → ℕ → Type 0
-IsPriced i sheets version =
-    (version < length sheets) × ((ps : List Posting) × PricesMeet i ps (prices_at sheets version))
-
--- so are those of the versions of postings
-abbrev pub ArePriced : InstructionParts → List (List ℕ) → List Posting → Type 0
-ArePriced i sheets ps =
-    (k : ℕ) (x : Posting) → slice_get ps k ≡ Some x → IsPriced i sheets (planned_version x)
-
--- the sheets of the first versions, in order
-abbrev pub AreMade : InstructionParts → List (List ℕ) → List SheetParts → Type 0
-AreMade i sheets made =
-    (version : ℕ) → version < length made → slice_get made version ≡ Some (sheet_at i sheets version)
 
 -- whether some admissible list of logs is worth more under a sheet than a cut says
 abbrev pub IsOutvalued : SheetParts → Posting → Bool → Type 0
@@ -129,28 +112,34 @@ IsOutvalued s (Cut e) false =
 IsOutvalued s (Demand d) true = ⊥
 IsOutvalued s (Demand d) false = Unit {0}
 
--- no posting before a place is outvalued under the sheet of its version
-abbrev pub NoneOutvalued : InstructionParts → List (List ℕ) → List Posting → ℕ → Type 0
-NoneOutvalued i sheets ps k =
-    (j : ℕ) (x : Posting)
-    → j < k
-    → slice_get ps j ≡ Some x
-    → IsOutvalued (sheet_at i sheets (planned_version x)) x false
+-- whether a posting is doubtful: outvalued under the sheet of its version, if there is one
+abbrev pub IsDoubtful : HistoryParts → Posting → Bool → Type 0
+IsDoubtful h x true =
+    IsPriced h.instruction h.sheets (planned_version x)
+    → IsOutvalued (sheet_at h.instruction h.sheets (planned_version x)) x true
+IsDoubtful h x false = IsOutvalued (sheet_at h.instruction h.sheets (planned_version x)) x false
+
+-- no posting before a place is
+abbrev pub NoneDoubtful : HistoryParts → List Posting → ℕ → Type 0
+NoneDoubtful h ps k = (j : ℕ) (x : Posting) → j < k → slice_get ps j ≡ Some x → IsDoubtful h x false
 
 -- the posting at a place is, and none before it
-pub record IsFirstOutvalued (i : InstructionParts) (sheets : List (List ℕ)) (ps : List Posting) (at : ℕ) : Type 0 where
+pub record IsFirstDoubtful (h : HistoryParts) (ps : List Posting) (at : ℕ) : Type 0 where
   pub next : Posting
   pub there : slice_get ps at ≡ Some next
-  pub wrong : IsOutvalued (sheet_at i sheets (planned_version next)) next true
-  pub before : NoneOutvalued i sheets ps at
+  pub wrong : IsDoubtful h next true
+  pub before : NoneDoubtful h ps at
 
--- the first place of postings that is outvalued, or that there is none
-abbrev pub IsFound : InstructionParts → List (List ℕ) → List Posting → Option ℕ → Type 0
-IsFound i sheets ps None = NoneOutvalued i sheets ps (length ps)
-IsFound i sheets ps (Some at) = IsFirstOutvalued i sheets ps at
+-- the first place of postings that is doubtful, or that there is none
+abbrev pub IsFound : HistoryParts → List Posting → Option ℕ → Type 0
+IsFound h ps None = NoneDoubtful h ps (length ps)
+IsFound h ps (Some at) = IsFirstDoubtful h ps at
 
--- what comes of a history: the walk to its end where it is lawful, else the first fault, unless memory was wanting
-abbrev pub IsJudged : HistoryParts → Result WalkParts ReplayFault → Type 0
-IsJudged h (Ok w) =
-    (w ≡ walk_of h.instruction h.postings (length h.postings)) × IsLawful h
+-- two lists have the same postings before a place
+abbrev pub AreSameBefore : ℕ → List Posting → List Posting → Type 0
+AreSameBefore k ps qs = (j : ℕ) → j < k → slice_get ps j ≡ slice_get qs j
+
+-- what comes of a history: it is lawful, or has a first fault, unless memory was wanting
+abbrev pub IsJudged : {W : Type 0} → HistoryParts → Result W ReplayFault → Type 0
+IsJudged h (Ok w) = IsLawful h
 IsJudged h (Err fault) = fault ≢ Memory → IsFirstFault h fault

@@ -1,15 +1,15 @@
 //! What a journal's sheets and postings have to be.
-ghost use Rattle.std.specs.Prelude.{◌≡◌, ◌+◌, ◌<◌, ◌≤◌, OnOk, IfOk, IfErr, length, map};
+ghost use Rattle.std.specs.Prelude.{◌≡◌, ◌+◌, ◌<◌, ◌≤◌, OnOk, IfOk, IfErr, length};
 ghost use Rattle.buck_dp.specs.Best.{IsAdmissible, cutting_worth};
 ghost use Rattle.buck_book.specs.Targets.{AreTargets};
 ghost use Rattle.buck_book.specs.Posting.{harvester_of, number_of, planned_version};
 ghost use Rattle.buck_book.specs.Walk.{passed};
 ghost use Rattle.buck_journal.specs.judging.Replay.{IsSheetFault, IsSheetRight, IsCutFault, IsDemandFault, IsContentFault, IsNumbered, IsOfVersion, IsCallFault, IsPostingFault, IsNumberFault, IsFaultAtEnd};
-ghost use Rattle.buck_journal.specs.inner.Replay.{along, sheet_then, HoldsUnder, IsRightUnder, IsEndRight, AreMade, IfMet};
+ghost use Rattle.buck_journal.specs.inner.Replay.{along, sheet_then, HoldsUnder, IsRightUnder, IsEndRight, IfMet};
 ghost use Rattle.buck_book.specs.declared.posting.TheConstants.{MOST_POSTINGS};
 
+use crate::judging::case::Case;
 use crate::judging::fault::ReplayFault;
-use crate::judging::sheets::{prices_of, shared_sheet};
 use crate::judging::stop::Stop;
 use buck_apt::Instruction;
 use buck_book::{Demand, Entry, Posting, Walk, check_targets};
@@ -19,21 +19,17 @@ use std::alloc::Global;
 use std::sync::Arc;
 
 /// Checks the prices of the sheet in force at a place.
-fn check_prices(
-    instruction: &Instruction,
-    sheets: &[Vec<u32>],
-    walk: &Walk<'_>,
-) -> Result<(), ReplayFault>
-    requires { walk.now.instruction ≡ instruction.now }
-    ensures right { OnOk result (IsSheetRight (along walk.now sheets.now) walk.now.at) }
+fn check_prices(case: &Case<'_, '_>, walk: &Walk<'_>) -> Result<(), ReplayFault>
+    requires { walk.now.instruction ≡ case.now.instruction }
+    ensures right { OnOk result (IsSheetRight (along walk.now case.now.sheets) walk.now.at) }
     ensures refused { IfErr result (λ fault.
-        IsSheetFault (along walk.now sheets.now) walk.now.at fault) }
+        IsSheetFault (along walk.now case.now.sheets) walk.now.at fault) }
 {
     let version = walk.version();
-    let Some(prices) = prices_of(sheets, version) else {
+    let Some(prices) = case.prices(version) else {
         return Err(ReplayFault::Sheet { version });
     };
-    if prices.len() != instruction.classes() {
+    if prices.len() != case.instruction().classes() {
         return Err(ReplayFault::Sheet { version });
     }
     match walk.wrong_price(prices) {
@@ -45,24 +41,22 @@ fn check_prices(
 /// The sheet in force at a place, where it is there and right.
 pub(crate) fn opened_sheet(
     alloc: Global,
-    instruction: &Arc<Instruction>,
-    sheets: &[Vec<u32>],
-    made: &[Arc<Sheet>],
+    case: &Case<'_, '_>,
     walk: &Walk<'_>,
 ) -> Result<Arc<Sheet>, Stop>
-    requires instruction { walk.now.instruction ≡ instruction.now.value }
-    requires made { AreMade instruction.now.value (map (λ v. v.items) sheets.now) (map (λ a. a.value) made.now) }
-    ensures right { OnOk result (IsSheetRight (along walk.now sheets.now) walk.now.at) }
-    ensures sheet { IfOk result (λ s. s.value ≡ sheet_then (along walk.now sheets.now) walk.now.at) }
+    requires { walk.now.instruction ≡ case.now.instruction }
+    ensures right { OnOk result (IsSheetRight (along walk.now case.now.sheets) walk.now.at) }
+    ensures sheet { IfOk result (λ s. s.value ≡ sheet_then (along walk.now case.now.sheets) walk.now.at) }
     ensures refused { IfErr result (λ s. IfMet s (λ at fault.
-        (at ≡ walk.now.at) × IsSheetFault (along walk.now sheets.now) walk.now.at fault)) }
+        (at ≡ walk.now.at) × IsSheetFault (along walk.now case.now.sheets) walk.now.at fault)) }
 {
-    match check_prices(instruction, sheets, walk) {
-        Ok(()) => Ok(shared_sheet(alloc, instruction, sheets, made, walk.version())?),
-        Err(fault) => Err(Stop::Fault {
-            at: walk.at(),
-            fault,
-        }),
+    if let Err(fault) = check_prices(case, walk) {
+        let at = walk.at();
+        return Err(Stop::Fault { at, fault });
+    }
+    match case.sheet(alloc, walk.version())? {
+        Some(sheet) => Ok(sheet),
+        None => unreachable!(),
     }
 }
 
@@ -158,35 +152,31 @@ pub(crate) fn check_posting(
 }
 
 /// Checks the number of sheets, of which the last has this version.
-fn check_number(sheets: &[Vec<u32>], last: u32) -> Result<(), ReplayFault>
+fn check_number(case: &Case<'_, '_>, last: u32) -> Result<(), ReplayFault>
     requires { last ≤ MOST_POSTINGS }
-    ensures right { OnOk result (length sheets.now ≡ last + 1) }
-    ensures refused { IfErr result (λ e. IsNumberFault (map (λ v. v.items) sheets.now) last e) }
+    ensures right { OnOk result (length case.now.sheets ≡ last + 1) }
+    ensures refused { IfErr result (λ e. IsNumberFault case.now.sheets last e) }
 {
     let wanted = last as usize + 1;
-    if sheets.len() < wanted {
-        let version = sheets.len() as u32;
+    if case.sheets() < wanted {
+        let version = case.sheets() as u32;
         return Err(ReplayFault::Sheet { version });
     }
-    if sheets.len() > wanted {
+    if case.sheets() > wanted {
         return Err(ReplayFault::Sheet { version: last + 1 });
     }
     Ok(())
 }
 
 /// Checks what there is after the last posting.
-pub(crate) fn check_end(
-    instruction: &Instruction,
-    sheets: &[Vec<u32>],
-    walk: &Walk<'_>,
-) -> Result<(), ReplayFault>
-    requires { walk.now.instruction ≡ instruction.now }
-    ensures right { OnOk result (IsEndRight (along walk.now sheets.now) walk.now.at) }
-    ensures refused { IfErr result (λ e. IsFaultAtEnd (along walk.now sheets.now) walk.now.at e) }
+pub(crate) fn check_end(case: &Case<'_, '_>, walk: &Walk<'_>) -> Result<(), ReplayFault>
+    requires { walk.now.instruction ≡ case.now.instruction }
+    ensures right { OnOk result (IsEndRight (along walk.now case.now.sheets) walk.now.at) }
+    ensures refused { IfErr result (λ e. IsFaultAtEnd (along walk.now case.now.sheets) walk.now.at e) }
 {
-    check_number(sheets, walk.version())?;
+    check_number(case, walk.version())?;
     if walk.begins_period() {
-        check_prices(instruction, sheets, walk)?;
+        check_prices(case, walk)?;
     }
     Ok(())
 }

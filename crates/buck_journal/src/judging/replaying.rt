@@ -1,16 +1,20 @@
 //! Whether a journal is lawful.
-ghost use Rattle.std.specs.Prelude.{◌≡◌, ◌≢◌, ◌+◌, ◌<◌, ◌≤◌, OnOk, IfOk, IfErr, length, map, take, slice_get, Some};
+ghost use Rattle.std.specs.Prelude.{◌≡◌, ◌≢◌, ◌+◌, ◌<◌, ◌≤◌, OnOk, IfOk, IfErr, List, length, map, slice_get, Some, Ok};
+ghost use Rattle.std.specs.Thread.{IsSync};
+ghost use Rattle.buck_book.specs.declared.posting.Posting.{Posting};
 ghost use Rattle.buck_book.specs.Posting.{ends_of, cuts_since_end};
 ghost use Rattle.buck_book.specs.History.{HistoryParts, IsLawful};
 ghost use Rattle.buck_book.specs.Walk.{walk_of, passed};
 ghost use Rattle.buck_journal.specs.judging.Replay.{history_of, Begins, IsPostingFault, IsFaultAtEnd, IsFirstFault};
 ghost use Rattle.buck_journal.specs.declared.judging.fault.ReplayFault.TheVariants.{Memory};
-ghost use Rattle.buck_journal.specs.inner.Replay.{along, AreMade, IsRightUnder, AreRightUnder, IsMetUnder, IsInOrderBefore, IsMetInOrder, IfMet, IsEnded, IsOrdered, IsFound, IsJudged};
+ghost use Rattle.buck_journal.specs.inner.Sheets.{AreMade};
+ghost use Rattle.buck_journal.specs.inner.Replay.{along, IsRightUnder, AreRightUnder, IsMetUnder, IsInOrderBefore, IsMetInOrder, IfMet, IsEnded, IsOrdered, IsFound, AreSameBefore, IsJudged};
 ghost use Rattle.buck_book.specs.declared.posting.TheConstants.{MOST_POSTINGS};
 
-use crate::judging::checks::{check_end, check_posting, opened_sheet};
+use crate::judging::case::Case;
+use crate::judging::checks::{check_end, check_posting, opened_sheet, version_of};
 use crate::judging::fault::ReplayFault;
-use crate::judging::outvalued::{first_outvalued, first_outvalued_in_parts};
+use crate::judging::outvalued::{first_by_size, first_doubtful};
 use crate::judging::sheets::first_sheets;
 use crate::judging::stop::Stop;
 use crate::reading::journal::Journal;
@@ -19,6 +23,7 @@ use buck_book::{Posting, Walk};
 use buck_value::Sheet;
 use std::alloc::Global;
 use std::sync::Arc;
+use std::thread;
 use std::thread::Threads;
 
 /// Passes a posting that may follow under the sheet in force.
@@ -67,111 +72,84 @@ fn replay_under<'w>(sheet: &Sheet, walk: Walk<'w>) -> Result<Walk<'w>, Stop>
 }
 
 /// Passes the postings of a period, from its first on.
-fn replay_period<'w>(
-    alloc: Global,
-    instruction: &Arc<Instruction>,
-    sheets: &[Vec<u32>],
-    made: &[Arc<Sheet>],
-    walk: Walk<'w>,
-) -> Result<Walk<'w>, Stop>
-    requires instruction { walk.instruction ≡ instruction.now.value }
-    requires made { AreMade instruction.now.value (map (λ v. v.items) sheets.now) (map (λ a. a.value) made.now) }
-    requires right { IsInOrderBefore (along walk sheets.now) walk.at }
-    requires begins { Begins (along walk sheets.now) walk.at }
+fn replay_period<'w>(alloc: Global, case: &Case<'_, '_>, walk: Walk<'w>) -> Result<Walk<'w>, Stop>
+    requires instruction { walk.instruction ≡ case.now.instruction }
+    requires right { IsInOrderBefore (along walk case.now.sheets) walk.at }
+    requires begins { Begins (along walk case.now.sheets) walk.at }
     requires more { walk.at < length walk.postings }
-    ensures right { IfOk result (λ w. IsInOrderBefore (along walk.entry sheets.now) w.at) }
+    ensures right { IfOk result (λ w. IsInOrderBefore (along walk.entry case.now.sheets) w.at) }
     ensures same { IfOk result (λ w. w ≡ walk_of walk.entry.instruction walk.entry.postings w.at) }
     ensures further { IfOk result (λ w. walk.entry.at < w.at) }
     ensures begins { IfOk result (λ w.
-        w.at < length w.postings → Begins (along w sheets.now) w.at) }
-    ensures refused { IfErr result (λ s. IfMet s (IsMetInOrder (along walk.entry sheets.now))) }
+        w.at < length w.postings → Begins (along w case.now.sheets) w.at) }
+    ensures refused { IfErr result (λ s. IfMet s (IsMetInOrder (along walk.entry case.now.sheets))) }
 {
-    let sheet = opened_sheet(alloc, instruction, sheets, made, &walk)?;
+    let sheet = opened_sheet(alloc, case, &walk)?;
     replay_under(&sheet, walk)
 }
 
 /// Passes the postings that are left, period by period.
-fn replay_periods<'w>(
-    alloc: Global,
-    instruction: &Arc<Instruction>,
-    sheets: &[Vec<u32>],
-    made: &[Arc<Sheet>],
-    walk: Walk<'w>,
-) -> Result<Walk<'w>, Stop>
-    requires instruction { walk.instruction ≡ instruction.now.value }
-    requires made { AreMade instruction.now.value (map (λ v. v.items) sheets.now) (map (λ a. a.value) made.now) }
-    requires right { IsInOrderBefore (along walk sheets.now) walk.at }
-    requires begins { Begins (along walk sheets.now) walk.at }
-    ensures right { IfOk result (λ w. IsInOrderBefore (along walk.entry sheets.now) w.at) }
+fn replay_periods<'w>(alloc: Global, case: &Case<'_, '_>, walk: Walk<'w>) -> Result<Walk<'w>, Stop>
+    requires instruction { walk.instruction ≡ case.now.instruction }
+    requires right { IsInOrderBefore (along walk case.now.sheets) walk.at }
+    requires begins { Begins (along walk case.now.sheets) walk.at }
+    ensures right { IfOk result (λ w. IsInOrderBefore (along walk.entry case.now.sheets) w.at) }
     ensures end { IfOk result (λ w. w
         ≡ walk_of walk.entry.instruction walk.entry.postings (length walk.entry.postings)) }
-    ensures refused { IfErr result (λ s. IfMet s (IsMetInOrder (along walk.entry sheets.now))) }
+    ensures refused { IfErr result (λ s. IfMet s (IsMetInOrder (along walk.entry case.now.sheets))) }
 {
     let mut walk = walk;
     while walk.next().is_some() {
-        walk = replay_period(alloc, instruction, sheets, made, walk)?;
+        walk = replay_period(alloc, case, walk)?;
     }
     Ok(walk)
 }
 
 /// Passes all postings, from the first on.
-fn replay_all<'w>(
-    alloc: Global,
-    instruction: &'w Arc<Instruction>,
-    sheets: &[Vec<u32>],
-    made: &[Arc<Sheet>],
-    postings: &'w [Posting],
-) -> Result<Walk<'w>, Stop>
-    requires few { length postings.now ≤ MOST_POSTINGS }
-    requires made { AreMade instruction.now.value (map (λ v. v.items) sheets.now) (map (λ a. a.value) made.now) }
-    ensures right { OnOk result (IsInOrderBefore
-        (along (walk_of instruction.now.value postings.now 0) sheets.now) (length postings.now)) }
-    ensures end { IfOk result (λ w. w ≡ walk_of instruction.now.value postings.now (length postings.now)) }
-    ensures refused { IfErr result (λ s. IfMet s
-        (IsMetInOrder (along (walk_of instruction.now.value postings.now 0) sheets.now))) }
+fn replay_all<'w>(alloc: Global, case: &Case<'w, '_>) -> Result<Walk<'w>, Stop>
+    requires { length case.now.postings ≤ MOST_POSTINGS }
+    ensures right { OnOk result (IsInOrderBefore case.now (length case.now.postings)) }
+    ensures end { IfOk result (λ w. w
+        ≡ walk_of case.now.instruction case.now.postings (length case.now.postings)) }
+    ensures refused { IfErr result (λ s. IfMet s (IsMetInOrder case.now)) }
 {
-    let walk = Walk::opening(alloc, instruction, postings)?;
-    replay_periods(alloc, instruction, sheets, made, walk)
+    let walk = Walk::opening(alloc, case.instruction(), case.postings())?;
+    replay_periods(alloc, case, walk)
 }
 
 /// The place after the last posting, where what stands there is right.
-fn ended<'w>(
-    instruction: &Instruction,
-    sheets: &[Vec<u32>],
-    walk: Walk<'w>,
-) -> Result<Walk<'w>, ReplayFault>
-    requires walk { walk ≡ walk_of instruction.now walk.postings (length walk.postings) }
-    ensures ended { IfOk result (IsEnded (along walk.entry sheets.now) walk.entry.at) }
-    ensures refused { IfErr result (IsFaultAtEnd (along walk.entry sheets.now) walk.entry.at) }
+fn ended<'w>(case: &Case<'_, '_>, walk: Walk<'w>) -> Result<Walk<'w>, ReplayFault>
+    requires { walk ≡ walk_of case.now.instruction walk.postings (length walk.postings) }
+    ensures ended { OnOk result (IsEnded (along walk.entry case.now.sheets) walk.entry.at) }
+    ensures same { IfOk result (λ w. w ≡ walk.entry) }
+    ensures refused { IfErr result (IsFaultAtEnd (along walk.entry case.now.sheets) walk.entry.at) }
 {
-    let _valid = instruction.limit();
-    check_end(instruction, sheets, &walk)?;
+    let _valid = case.instruction().limit();
+    check_end(case, &walk)?;
     Ok(walk)
 }
 
 /// How far a journal is in order, and what comes of it there where no cut before is outvalued.
 #[derive(Drop)]
-struct Ordered<'w> {
+struct Ordered<W> {
     until: usize,
-    end: Result<Walk<'w>, ReplayFault>,
+    end: Result<W, ReplayFault>,
 }
 
 /// Goes through a journal for all that hangs on its order, and leaves out what takes time: whether a cut is outvalued.
 fn walk_in_order<'w>(
     alloc: Global,
-    instruction: &'w Arc<Instruction>,
-    journal: &'w Journal,
-    made: &[Arc<Sheet>],
-) -> Result<Ordered<'w>, buck_record::Memory>
-    requires few { length journal.now.entries ≤ MOST_POSTINGS }
-    requires made { AreMade instruction.now.value journal.now.sheets (map (λ a. a.value) made.now) }
-    ensures { IfOk result (λ o. IsOrdered (history_of instruction.now.value journal.now) o.until o.end) }
+    case: &Case<'w, '_>,
+) -> Result<Ordered<Walk<'w>>, buck_record::Memory>
+    requires { length case.now.postings ≤ MOST_POSTINGS }
+    ensures ordered { IfOk result (λ o. IsOrdered case.now o.until o.end) }
+    ensures end { IfOk result (λ o. IfOk o.end (λ w. w
+        ≡ walk_of case.now.instruction case.now.postings (length case.now.postings))) }
 {
-    let sheets = journal.sheets.as_slice();
-    match replay_all(alloc, instruction, sheets, made, journal.entries.as_slice()) {
+    match replay_all(alloc, case) {
         Ok(walk) => Ok(Ordered {
             until: walk.at(),
-            end: ended(instruction, sheets, walk),
+            end: ended(case, walk),
         }),
         Err(Stop::Fault { at, fault }) => Ok(Ordered {
             until: at,
@@ -181,20 +159,23 @@ fn walk_in_order<'w>(
     }
 }
 
-/// What comes of a journal, by the first of the postings in order that is outvalued.
-fn judged<'w>(ordered: Ordered<'w>, outvalued: Option<usize>) -> Result<Walk<'w>, ReplayFault>
-    ensures { (h : HistoryParts)
-        → IsOrdered h ordered.entry.until ordered.entry.end
-        → IsFound h.instruction h.sheets (take ordered.entry.until h.postings) outvalued
+/// What comes of a journal, by the first doubtful one among postings that are its own as far as it is in order.
+fn judged<W: Drop>(ordered: Ordered<W>, doubtful: Option<usize>) -> Result<W, ReplayFault>
+    ensures judged { (h : HistoryParts) (ps : List Posting)
+        → IsOrdered h ordered.until ordered.end
+        → AreSameBefore ordered.until ps h.postings
+        → IsFound h ps doubtful
         → IsJudged h result }
+    ensures end { IfOk result (λ w. ordered.end ≡ Ok w) }
 {
-    match outvalued {
-        Some(at) => Err(ReplayFault::Outvalued { at }),
-        None => {
-            let Ordered { end, .. } = ordered;
-            end
-        }
+    let Ordered { until, end } = ordered;
+    let Some(at) = doubtful else {
+        return end;
+    };
+    if at >= until {
+        return end;
     }
+    Err(ReplayFault::Outvalued { at })
 }
 
 /// The place after the last posting of a journal of at most 1,000,000, where it is lawful for an instruction: what all
@@ -211,13 +192,11 @@ pub fn replay_to_end<'w>(
     ensures refused { IfErr result (λ e.
         e ≢ Memory → IsFirstFault (history_of instruction.now.value journal.now) e) }
 {
-    let sheets = journal.sheets.as_slice();
-    let kept = first_sheets(alloc, instruction, sheets)?;
-    let made = kept.as_slice();
-    let ordered = walk_in_order(alloc, instruction, journal, made)?;
-    let postings = &journal.entries.as_slice()[..ordered.until];
-    let outvalued = first_outvalued(alloc, instruction, sheets, made, postings)?;
-    judged(ordered, outvalued)
+    let made = first_sheets(alloc, instruction, journal.sheets.as_slice())?;
+    let case = Case::of(instruction, journal, made.as_slice());
+    let ordered = walk_in_order(alloc, &case)?;
+    let doubtful = first_doubtful(alloc, &case, &case.postings()[..ordered.until])?;
+    judged(ordered, doubtful)
 }
 
 /// Whether a journal of at most 1,000,000 postings is lawful for an instruction: each cutting is one that none
@@ -238,9 +217,95 @@ pub fn replay(
     Ok(())
 }
 
-/// [`replay`], for which it is found in at most so many threads at once which cut is outvalued: runs of neighbours, of
-/// which each thread takes one. The answer is that of [`replay`], whatever the number, or `Memory` where a growth was
-/// refused and no part before it has found one.
+/// Goes through a journal in order, and then looks for the first doubtful one of some postings.
+fn walk_and_search(
+    alloc: Global,
+    case: &Case<'_, '_>,
+    postings: &[Posting],
+) -> Result<(Ordered<()>, Option<usize>), buck_record::Memory>
+    requires { length case.now.postings ≤ MOST_POSTINGS }
+    ensures { IfOk result (λ both.
+        IsOrdered case.now both.0.until both.0.end × IsFound case.now postings.now both.1) }
+{
+    let Ordered { until, end } = walk_in_order(alloc, case)?;
+    let doubtful = first_doubtful(alloc, case, postings)?;
+    let end = match end {
+        Ok(_) => Ok(()),
+        Err(fault) => Err(fault),
+    };
+    Ok((Ordered { until, end }, doubtful))
+}
+
+/// The fewest postings that are worth a thread of their own.
+const FEWEST: usize = 64;
+
+/// Goes through a journal in order, and looks for the first doubtful one of its postings, in at most so many threads at
+/// once. One goes through the journal, which takes about a tenth of the time of a search of all, and then searches the
+/// first postings; the others search the rest, so many each.
+fn walk_beside_search<T: Threads + Sync>(
+    rt: &T,
+    alloc: Global,
+    threads: usize,
+    size: usize,
+    instruction: &Arc<Instruction>,
+    journal: &Journal,
+    made: &[Arc<Sheet>],
+) -> Result<(Ordered<()>, Option<usize>), buck_record::Memory>
+    requires threads { 0 < threads }
+    requires size { 0 < size }
+    requires few { length journal.now.entries ≤ MOST_POSTINGS }
+    requires made { AreMade instruction.now.value journal.now.sheets (map (λ a. a.value) made.now) }
+    ensures { IfOk result (λ both.
+        IsOrdered (history_of instruction.now.value journal.now) both.0.until both.0.end
+        × IsFound (history_of instruction.now.value journal.now) journal.now.entries both.1) }
+{
+    let postings = journal.entries.as_slice();
+    let others = size.saturating_mul(threads - 1);
+    let (front, rest) = postings.split_at(postings.len().saturating_sub(others));
+    let (first, later) = thread::join(
+        rt,
+        || -> Result<(Ordered<()>, Option<usize>), buck_record::Memory>
+            requires { (length journal.now.entries ≤ MOST_POSTINGS)
+                × AreMade instruction.now.value journal.now.sheets (map (λ a. a.value) made.now) }
+            ensures { IfOk result (λ both.
+                IsOrdered (history_of instruction.entry.now.value journal.entry.now) both.0.until both.0.end
+                × IsFound (history_of instruction.entry.now.value journal.entry.now) front.entry.now both.1) }
+        { walk_and_search(alloc, &Case::of(instruction, journal, made), front) },
+        || -> Result<Option<usize>, buck_record::Memory>
+            requires { IsSync T.row × (0 < size)
+                × AreMade instruction.now.value journal.now.sheets (map (λ a. a.value) made.now) }
+            ensures { IfOk result
+                (IsFound (history_of instruction.entry.now.value journal.entry.now) rest.entry.now) }
+        { first_by_size(rt, alloc, size, &Case::of(instruction, journal, made), rest) },
+    );
+    let (ordered, first) = first?;
+    if first.is_some() {
+        return Ok((ordered, first));
+    }
+    match later? {
+        Some(at) => Ok((ordered, Some(front.len() + at))),
+        None => Ok((ordered, None)),
+    }
+}
+
+/// Whether no posting has an earlier version than the one before, as in each lawful journal. It tells only which way is
+/// gone.
+fn never_go_back(postings: &[Posting]) -> bool {
+    let mut last = 0;
+    for posting in postings {
+        let version = version_of(posting);
+        if version < last {
+            return false;
+        }
+        last = version;
+    }
+    true
+}
+
+/// [`replay`] in at most so many threads at once. One goes through the postings in order, while the others look which
+/// cut is outvalued, each in a run of neighbours. The answer is that of [`replay`], whatever the number, or `Memory`
+/// where a growth was refused and no part before it has found one. A short journal is left to one thread, and so is one
+/// whose versions go back: a search beside the walk could turn its planner to another sheet at each of the postings.
 pub fn replay_in_parts<T: Threads + Sync>(
     rt: &T,
     alloc: Global,
@@ -254,20 +319,24 @@ pub fn replay_in_parts<T: Threads + Sync>(
     ensures refused { IfErr result (λ e.
         e ≢ Memory → IsFirstFault (history_of instruction.now.value journal.now) e) }
 {
-    let sheets = journal.sheets.as_slice();
-    let kept = first_sheets(alloc, instruction, sheets)?;
-    let made = kept.as_slice();
-    let ordered = walk_in_order(alloc, instruction, journal, made)?;
-    let postings = &journal.entries.as_slice()[..ordered.until];
-    let outvalued = first_outvalued_in_parts(
+    let count = journal.entries.len();
+    let size = count * 11 / 10 / threads + FEWEST;
+    if count <= size {
+        return replay(alloc, instruction, journal);
+    }
+    if !never_go_back(journal.entries.as_slice()) {
+        return replay(alloc, instruction, journal);
+    }
+    let made = first_sheets(alloc, instruction, journal.sheets.as_slice())?;
+    let made = made.as_slice();
+    let (ordered, doubtful) = walk_beside_search(
         rt,
         alloc,
         threads,
+        size,
         instruction,
-        sheets,
+        journal,
         made,
-        postings,
     )?;
-    let _ = judged(ordered, outvalued)?;
-    Ok(())
+    judged(ordered, doubtful)
 }

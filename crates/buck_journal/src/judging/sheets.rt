@@ -1,7 +1,7 @@
 //! The sheets of a journal's prices.
 ghost use Rattle.std.specs.Prelude.{◌≡◌, ◌<◌, ◌≤◌, IfOk, IfNone, IfSome, length, map};
 ghost use Rattle.buck_book.specs.History.{prices_at, sheet_at};
-ghost use Rattle.buck_journal.specs.inner.Replay.{IsPriced, AreMade};
+ghost use Rattle.buck_journal.specs.inner.Sheets.{AreMade, IsMissing};
 
 use buck_apt::Instruction;
 use buck_record::Memory;
@@ -23,25 +23,26 @@ pub(crate) fn prices_of<'a>(sheets: &'a [Vec<u32>], version: u32) -> Option<&'a 
     Some(sheets[at].as_slice())
 }
 
-/// The sheet of a version whose prices are there and right.
-fn sheet_of(
+/// The sheet of a version, if its prices are there and make one.
+pub(crate) fn new_sheet(
     alloc: Global,
     instruction: &Arc<Instruction>,
     sheets: &[Vec<u32>],
     version: u32,
-) -> Result<Sheet, Memory>
-    requires { IsPriced instruction.now.value (map (λ v. v.items) sheets.now) version }
-    ensures { IfOk result (λ s.
-        s ≡ sheet_at instruction.now.value (map (λ v. v.items) sheets.now) version) }
+) -> Result<Option<Arc<Sheet>>, Memory>
+    ensures sheet { IfOk result (λ o. IfSome o (λ s.
+        s.value ≡ sheet_at instruction.now.value (map (λ v. v.items) sheets.now) version)) }
+    ensures none { IfOk result (λ o. IfNone o
+        (IsMissing instruction.now.value (map (λ v. v.items) sheets.now) version)) }
 {
     let _valid = instruction.limit();
     let Some(prices) = prices_of(sheets, version) else {
-        unreachable!()
+        return Ok(None);
     };
     let prices = Vec::from_slice(alloc, prices)?;
     match Sheet::with_prices(instruction.clone()?, version, prices) {
-        Ok(sheet) => Ok(sheet),
-        Err(_) => unreachable!(),
+        Ok(sheet) => Ok(Some(Arc::new(alloc, sheet)?)),
+        Err(_) => Ok(None),
     }
 }
 
@@ -59,36 +60,10 @@ pub(crate) fn first_sheets(
 {
     let mut made = Vec::new(alloc);
     for version in 0..KEPT {
-        let Some(prices) = prices_of(sheets, version) else {
+        let Some(sheet) = new_sheet(alloc, instruction, sheets, version)? else {
             return Ok(made);
         };
-        let prices = Vec::from_slice(alloc, prices)?;
-        let Ok(sheet) = Sheet::with_prices(instruction.clone()?, version, prices) else {
-            return Ok(made);
-        };
-        let shared = Arc::new(alloc, sheet)?;
-        made.push(shared)?;
+        made.push(sheet)?;
     }
     Ok(made)
-}
-
-/// The sheet of a version whose prices are there and right: the one that was made, or, behind these, a new one.
-pub(crate) fn shared_sheet(
-    alloc: Global,
-    instruction: &Arc<Instruction>,
-    sheets: &[Vec<u32>],
-    made: &[Arc<Sheet>],
-    version: u32,
-) -> Result<Arc<Sheet>, Memory>
-    requires made { AreMade instruction.now.value (map (λ v. v.items) sheets.now) (map (λ a. a.value) made.now) }
-    requires priced { IsPriced instruction.now.value (map (λ v. v.items) sheets.now) version }
-    ensures { IfOk result (λ s.
-        s.value ≡ sheet_at instruction.now.value (map (λ v. v.items) sheets.now) version) }
-{
-    let at = version as usize;
-    if at < made.len() {
-        return Ok(made[at].clone()?);
-    }
-    let sheet = sheet_of(alloc, instruction, sheets, version)?;
-    Ok(Arc::new(alloc, sheet)?)
 }

@@ -1,16 +1,19 @@
-use Rattle.std.proofs.Common.{take, subst}
+use Rattle.std.proofs.Common.{subst, arith}
 use Rattle.buck_journal.specs.inner.Replay.{IsFound}
-use Rattle.buck_journal.proofs.Judged.{judged_found, judged_none}
+use Rattle.buck_journal.proofs.Judged.{judged_found, judged_none, judged_behind}
 use Rattle.buck_journal.proofs.judging.replaying.judged.Goals as goal
 
-pub returns-in-Some : goal.returns-in-Some
-returns-in-Some c = λ h o found.
-    let o' = c.args.ordered in
-    judged_found h o'.until c.in-Some.at o'.end o
-    (subst (λ q. IsFound h.instruction h.sheets (take o'.until h.postings) q) c.in-Some.is found)
+pub returns-in_default-clause-judged : goal.returns-in_default-clause-judged
+returns-in_default-clause-judged g c = λ h ps o same found.
+    judged_none h c.args.ordered.until ps c.args.ordered.end o same
+    (subst (λ q. IsFound h ps q) c.in_default.is found)
 
-pub returns : goal.returns
-returns c = λ h o found.
-    let o' = c.args.ordered in
-    judged_none h o'.until o'.end o
-    (subst (λ q. IsFound h.instruction h.sheets (take o'.until h.postings) q) c.in-None.is found)
+pub returns-then-at-until-clause-judged : goal.returns-then-at-until-clause-judged
+returns-then-at-until-clause-judged g c = λ h ps o same found.
+    judged_behind h c.args.ordered.until ps c.args.ordered.end o same c.in-Some.at (omega (arith, c.if-at-until.true))
+    (subst (λ q. IsFound h ps q) c.in-Some.is found)
+
+pub returns-clause-judged : goal.returns-clause-judged
+returns-clause-judged g c = λ h ps o same found told.
+    judged_found h c.args.ordered.until ps c.args.ordered.end o same c.in-Some.at (omega (arith, c.if-at-until.false))
+    (subst (λ q. IsFound h ps q) c.in-Some.is found)

@@ -7,8 +7,8 @@ use Rattle.buck_journal.proofs.judging.replaying.replay_periods.Given as goal
 abbrev pub invariant-loop-alloc : goal.invariant-loop-alloc
 invariant-loop-alloc l = record {
   same : l.walk ≡ walk_of l.fn.walk.instruction l.fn.walk.postings l.walk.at;
-  right : IsInOrderBefore (along l.fn.walk l.sheets) l.walk.at;
-  begins : l.walk.at < length l.fn.walk.postings → Begins (along l.fn.walk l.sheets) l.walk.at;
+  right : IsInOrderBefore (along l.fn.walk l.case.sheets) l.walk.at;
+  begins : l.walk.at < length l.fn.walk.postings → Begins (along l.fn.walk l.case.sheets) l.walk.at;
 }
 
 abbrev pub decreases-loop-alloc : goal.decreases-loop-alloc

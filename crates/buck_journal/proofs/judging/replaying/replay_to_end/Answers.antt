@@ -1,23 +1,31 @@
-use Rattle.std.proofs.Common.{map, take, sym, subst, ◌∙◌, ap}
-use Rattle.buck_journal.specs.reading.Journal.{JournalParts}
-use Rattle.buck_journal.specs.inner.Replay.{AreMade}
-use Rattle.buck_journal.proofs.Judged.{ordered_priced}
+use Rattle.std.proofs.Common.{◌≡◌, ◌∙◌, length, take, slice_get, ap, subst}
+use Rattle.std.specs.Prelude.{IfOk}
+use Rattle.buck_book.specs.Walk.{walk_of}
+use Rattle.buck_journal.specs.judging.Replay.{history_of}
+use Rattle.buck_journal.specs.inner.Replay.{IsJudged}
+use Rattle.buck_journal.proofs.Judged.{get_taken, judged_cases, told_end}
 use Rattle.buck_journal.proofs.judging.replaying.replay_to_end.Goals as goal
 
-pub walk_in_order-requires-clause-made : goal.walk_in_order-requires-clause-made
-walk_in_order-requires-clause-made c =
-    let i = c.args.instruction.now.value in
-    let sheets = ap (λ xs. map (λ v. v.items) xs) c.as_slice-sheets.ensures.value
-    ∙ ap (λ (j : JournalParts). j.sheets) c.journal.view_is in
-    subst (λ ms. AreMade i c.args.journal.now.sheets (map (λ a. a.value) ms)) (sym c.as_slice-made.ensures.value)
-    (subst (λ ss. AreMade i ss (map (λ a. a.value) c.in_ok-kept.kept.items)) sheets c.in_ok-kept.ensures)
+pub returns-clause-end : goal.returns-clause-end
+returns-clause-end c =
+    let case = c.of-case.result in
+    subst (λ h. IfOk c.judged.result (λ w. w ≡ walk_of h.instruction h.postings (length h.postings))) c.of-case.ensures
+    (told_end (λ w. w ≡ walk_of case.instruction case.postings (length case.postings)) c.in_ok-ordered.ordered.end
+    c.judged.result c.in_ok-ordered.ensures.end c.judged.ensures.end)
 
-pub first_outvalued-requires-clause-priced : goal.first_outvalued-requires-clause-priced
-first_outvalued-requires-clause-priced c =
-    let o = c.in_ok-ordered.ordered in
-    let sheets = ap (λ xs. map (λ v. v.items) xs) c.as_slice-sheets.ensures.value
-    ∙ ap (λ (j : JournalParts). j.sheets) c.journal.view_is in
-    let part =
-    ap (λ xs. take o.until xs)
-    (c.as_slice.ensures.value ∙ ap (λ (j : JournalParts). j.entries) c.journal.view_is) in
-    ordered_priced c.args.instruction.now.value c.args.journal.now _ sheets _ o.until o.end c.in_ok-ordered.ensures part
+whole : (c : goal.After-drop-made-2)
+    → IsJudged (history_of c.args.instruction.now.value c.args.journal.now) c.judged.result
+whole c =
+    let until = c.in_ok-ordered.ordered.until in
+    let ps = c.postings.result.now in
+    subst (λ h. IsJudged h c.judged.result) c.of-case.ensures
+    (c.judged.ensures.judged c.of-case.result (take until ps) c.in_ok-ordered.ensures.ordered
+    (λ j lt. get_taken until ps j lt ∙ ap (λ qs. slice_get qs j) c.postings.ensures) c.in_ok-doubtful.ensures)
+
+pub returns-clause-lawful : goal.returns-clause-lawful
+returns-clause-lawful c =
+    (judged_cases (history_of c.args.instruction.now.value c.args.journal.now) c.judged.result (whole c)).0
+
+pub returns-clause-refused : goal.returns-clause-refused
+returns-clause-refused c =
+    (judged_cases (history_of c.args.instruction.now.value c.args.journal.now) c.judged.result (whole c)).1

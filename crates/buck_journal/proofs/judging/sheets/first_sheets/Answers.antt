@@ -1,6 +1,6 @@
-use Rattle.std.proofs.Common.{◌≡◌, ◌∙◌, map, length, sym, ap, arith}
+use Rattle.std.proofs.Common.{◌≡◌, ◌∙◌, map, length, sym, ap, subst, arith}
+use Rattle.std.specs.Prelude.{IfSome}
 use Rattle.std.proofs.lemmas.List.{length-map, length_push}
-use Rattle.buck_value.specs.Sheet.{sheet_of}
 use Rattle.buck_book.specs.History.{sheet_at}
 use Rattle.buck_journal.proofs.Made.{one_more}
 use Rattle.buck_journal.proofs.judging.sheets.first_sheets.Goals as goal
@@ -11,13 +11,11 @@ loop-version-preserved c =
     let sheets = map (λ v. v.items) c.args.sheets.now in
     let version = c.loop-version.version in
     let made = c.loop-version.made.items in
-    let a = c.in_ok-shared.shared in
+    let a = c.in-Some.sheet in
     let count : length (map (λ b. b.value) made) ≡ version = length-map made (λ b. b.value)
     ∙ c.loop-version.invariant.count in
-    let prices = c.in_ok-prices.ensures.items ∙ c.in-Some.ensures.prices in
-    let same : a.value ≡ sheet_at i sheets version =
-    c.in_ok-shared.ensures.ok ∙ c.in-Ok.ensures.made
-    ∙ (λ j. sheet_of version (c.in_ok-clone.ensures.cases j) (prices j)) in
+    let same =
+    subst (λ o. IfSome o (λ t. t.value ≡ sheet_at i sheets version)) c.in-Some.is c.in_ok-sheet.ensures.sheet in
     record {
       made = one_more (λ b. b.value)
           i sheets made c.push.new.self.items a c.loop-version.invariant.made c.in_ok-push.ensures.items
