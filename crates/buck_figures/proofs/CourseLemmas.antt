@@ -3,7 +3,6 @@ use Rattle.std.proofs.Common.{◌≡◌, ℕ, ◌+◌, ◌*◌, ◌/◌, ◌<◌
 use Rattle.std.specs.Prelude.{slice_get, Option, Some, sum_by, min, IsTrue}
 use Rattle.std.proofs.lemmas.Bool.{cases_lt, le-leb, lt-leb}
 use Rattle.std.proofs.lemmas.Nat.{le-div}
-use Rattle.std.proofs.lemmas.Option.{slice_get_within}
 use Rattle.std.proofs.lemmas.List.{take-append-le}
 use Rattle.std.proofs.Math.Nat.{div-mul-le_self, mul-div_cancel_left}
 use Rattle.std.proofs.Math.Seq.{take-length}
@@ -221,6 +220,3 @@ curves_more i ps k demands c d points p curves further told point =
             (told ∙ curves.course.account.tally.total.demands)))
       ];
     }
-
-    nowhere : (k : ℕ) (p : Point) → slice_get [] k ≡ Some p → ⊥
-    nowhere k p there = let lt : k < 0 = slice_get_within [] k p there in omega (arith, lt)
