@@ -9,7 +9,6 @@ mod instruction;
 mod lines;
 mod reading;
 mod rules;
-mod same;
 mod settings;
 pub mod slots;
 
@@ -19,5 +18,4 @@ pub use class::Class;
 pub use fault::AptFault;
 pub use instruction::Instruction;
 pub use reading::read_apt;
-pub use same::same_numbers;
 pub use settings::Settings;

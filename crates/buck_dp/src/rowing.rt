@@ -1,5 +1,5 @@
 //! Rows: what the logs of some takers bid at one diameter.
-ghost use Rattle.std.specs.Prelude.{◌≡◌, ℕ, ◌+◌, ◌<◌, ◌≤◌, ◌⊎◌, ◌++◌, ◌∷◌, [], IsTrue, IfSome, IfNone, OnOk, List, length, slice_get, Some, vec_len, vec_capacity};
+ghost use Rattle.std.specs.Prelude.{◌≡◌, ℕ, ◌<◌, ◌≤◌, ◌⊎◌, ◌++◌, ◌∷◌, [], IsTrue, IfSome, IfNone, IfErr, OnOk, List, length, slice_get, Some};
 ghost use Rattle.buck_dp.specs.declared.offering.Cell.{Cell};
 ghost use Rattle.buck_dp.specs.declared.pricing.Quote.{Quote};
 ghost use Rattle.buck_dp.specs.inner.Quotes.{IsSmall};
@@ -45,22 +45,21 @@ fn is_cut_off(cell: &Cell, other: &Cell) -> bool
     other.steps <= cell.steps && other.rise <= cell.rise && cell.bid.worth() < other.bid.worth()
 }
 
-/// Puts a cell behind others, for which there is room, unless the best of them cuts it off. The best is the later one then, unless it leaves less.
+/// Puts a cell behind others, unless the best of them cuts it off. The best is the later one then, unless it leaves less.
 #[inline(always)]
-fn put_cell(cells: &mut Vec<Cell>, best: &mut Cell, cell: Cell)
-    requires room { vec_len cells.old < vec_capacity cells.old }
-    ensures put { ((cells.new.items ≡ cells.old.items) × (best.new ≡ best.old) × IsCutOff best.old cell)
-        ⊎ ((cells.new.items ≡ cells.old.items ++ cell ∷ []) × ((best.new ≡ best.old) ⊎ (best.new ≡ cell))) }
-    ensures one { vec_len cells.new ≤ vec_len cells.old + 1 }
-    ensures room { vec_capacity cells.new ≡ vec_capacity cells.old }
+fn put_cell(cells: &mut Vec<Cell>, best: &mut Cell, cell: Cell) -> Result<(), AllocError>
+    ensures put { OnOk result (((cells.new.items ≡ cells.old.items) × (best.new ≡ best.old) × IsCutOff best.old cell)
+        ⊎ ((cells.new.items ≡ cells.old.items ++ cell ∷ []) × ((best.new ≡ best.old) ⊎ (best.new ≡ cell)))) }
+    ensures left { IfErr result (λ _. cells.new.items ≡ cells.old.items) }
 {
     if is_cut_off(&cell, best) {
-        return;
+        return Ok(());
     }
     if cell.rise <= best.rise {
         *best = cell;
     }
-    cells.push_reserved(cell);
+    cells.push(cell)?;
+    Ok(())
 }
 
 /// Puts the cells of a price list at a diameter behind others, for the logs within reach. What a shorter log outbids is
@@ -77,8 +76,6 @@ pub fn put_row(
     ensures row { (row : List Cell) × (cells.new.items ≡ cells.old.items ++ row)
         × OnOk result (IsDrawn list.now diameter reach (length list.now) row) }
 {
-    // The room is made first, so that the loop calls nothing and keeps its numbers in registers.
-    cells.reserve(list.len())?;
     let mut best = Cell {
         bid: Bid::none(),
         steps: 0,
@@ -88,7 +85,7 @@ pub fn put_row(
     };
     for quote in list {
         if let Some(cell) = cell_at(*quote, diameter, reach) {
-            put_cell(cells, &mut best, cell);
+            put_cell(cells, &mut best, cell)?;
         }
     }
     Ok(())

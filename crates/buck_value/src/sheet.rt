@@ -6,7 +6,7 @@ ghost use Rattle.buck_value.specs.Sheet.{IsSheet, IsInSpan, IsPriceAt, IsSheetFa
 ghost use Rattle.buck_value.specs.inner.Sheet.{AreInSpanAfter, IsFirstOutside};
 
 use crate::fault::SheetFault;
-use buck_apt::{Assortment, Class, Instruction, same_numbers};
+use buck_apt::{Assortment, Class, Instruction};
 use buck_record::Memory;
 use std::alloc::{AllocError, Global};
 use std::marker::Model;
@@ -133,7 +133,7 @@ impl Sheet {
         ensures { IsTrue result ↔ (self.now ≡ other.now) }
     {
         other.version == self.version
-            && same_numbers(self.prices.as_slice(), other.prices.as_slice())
+            && self.prices == other.prices
             && self.instruction.same(&other.instruction)
     }
 }
