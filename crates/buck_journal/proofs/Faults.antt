@@ -4,8 +4,7 @@ use Rattle.std.proofs.lemmas.Bool.{cases_Bool, cases_eq}
 use Rattle.std.proofs.lemmas.List.{take_all}
 use Rattle.std.proofs.lemmas.Option.{slice_get_within, slice_get_cases}
 use Rattle.buck_apt.specs.Instruction.{InstructionParts, IsInstruction}
-use Rattle.buck_value.specs.Sheet.{SheetParts, base_prices}
-use Rattle.buck_dp.specs.Best.{IsBest, cutting_worth}
+use Rattle.buck_value.specs.Sheet.{base_prices}
 use Rattle.buck_book.specs.declared.posting.Posting.{Posting}
 use Rattle.buck_book.specs.declared.posting.Posting.TheVariants as posting
 use Rattle.buck_book.specs.Posting.{planned_version, is_end, ends_of, cuts_since_end}
@@ -13,76 +12,34 @@ use Rattle.buck_book.specs.History.{HistoryParts, IsLawful, Holds, PricesMeet, p
 use Rattle.buck_book.proofs.Ends.{true_false, take_one_more, ends_take-le, ends_with_end, cuts_without}
 use Rattle.buck_book.proofs.Alone.{base_meets, meets_from_alone}
 use Rattle.buck_journal.specs.declared.judging.fault.ReplayFault.{ReplayFault}
-use Rattle.buck_journal.specs.declared.judging.fault.ReplayFault.TheVariants.{Sheet, Price, Numbering, Version, Cutting, Worth, Outvalued, Memory, Targets}
+use Rattle.buck_journal.specs.declared.judging.fault.ReplayFault.TheVariants.{Sheet, Price, Numbering, Version, Cutting, Worth, Outvalued, Targets}
 use Rattle.buck_journal.specs.judging.Replay.{version_at, prices_then, Begins, IsSheetRight, IsSheetFault, IsCallFault, IsContentFault, IsPostingFault, IsNumberFault, IsFaultAtEnd, IsNumbered, IsOfVersion, IsFirstFault}
-use Rattle.buck_journal.specs.inner.Replay.{IsBestUnder}
 
 no_sheet_fault : (h : HistoryParts) (k : ℕ) (fault : ReplayFault) → IsSheetRight h k → IsSheetFault h k fault → ⊥
 no_sheet_fault h k (Sheet v) right wrong = wrong.1 right.0
 no_sheet_fault h k (Price v c) right wrong = wrong.2.wrong (right.1.each_meets wrong.2.class wrong.2.exists)
-no_sheet_fault h k (Numbering at) right wrong = wrong
-no_sheet_fault h k (Version at) right wrong = wrong
-no_sheet_fault h k (Cutting at) right wrong = wrong
-no_sheet_fault h k (Worth at) right wrong = wrong
-no_sheet_fault h k (Outvalued at) right wrong = wrong
-no_sheet_fault h k Memory right wrong = wrong
-no_sheet_fault h k (Targets at) right wrong = wrong
+no_sheet_fault h k other right wrong = wrong
 
 no_call_fault : (i : InstructionParts) (before : List Posting) (x : Posting) (k : ℕ) (fault : ReplayFault)
     → IsNumbered before x → IsOfVersion i before x → IsCallFault i before x k fault → ⊥
-no_call_fault i before x k (Sheet v) n o wrong = wrong
-no_call_fault i before x k (Price v c) n o wrong = wrong
 no_call_fault i before x k (Numbering at) n o wrong = wrong.1 n
 no_call_fault i before x k (Version at) n o wrong = wrong.2 o
-no_call_fault i before x k (Cutting at) n o wrong = wrong
-no_call_fault i before x k (Worth at) n o wrong = wrong
-no_call_fault i before x k (Outvalued at) n o wrong = wrong
-no_call_fault i before x k Memory n o wrong = wrong
-no_call_fault i before x k (Targets at) n o wrong = wrong
+no_call_fault i before x k other n o wrong = wrong
 
-no_content_fault : (s : SheetParts) (x : Posting) (k : ℕ) (fault : ReplayFault) → IsBestUnder s x
-    → IsContentFault s x k fault → ⊥
-no_content_fault s (posting.Cut e) k (Sheet v) right wrong = wrong
-no_content_fault s (posting.Cut e) k (Price v c) right wrong = wrong
-no_content_fault s (posting.Cut e) k (Numbering at) right wrong = wrong
-no_content_fault s (posting.Cut e) k (Version at) right wrong = wrong
-no_content_fault s (posting.Cut e) k (Cutting at) right wrong = wrong.1 right.0.admissible
-no_content_fault s (posting.Cut e) k (Worth at) right wrong = wrong.2 right.1
-no_content_fault s (posting.Cut e) k (Outvalued at) right wrong =
+no_content_fault : (i : InstructionParts) (sheets : List (List ℕ)) (x : Posting) (k : ℕ) (fault : ReplayFault)
+    → Holds i sheets x → IsContentFault (sheet_at i sheets (planned_version x)) x k fault → ⊥
+no_content_fault i sheets (posting.Cut e) k (Cutting at) right wrong = wrong.1 right.0.admissible
+no_content_fault i sheets (posting.Cut e) k (Worth at) right wrong = wrong.2 right.1
+no_content_fault i sheets (posting.Cut e) k (Outvalued at) right wrong =
     absurd (omega (arith, right.0.none_outvalues wrong.3.0 wrong.3.1, wrong.3.2))
-no_content_fault s (posting.Cut e) k Memory right wrong = wrong
-no_content_fault s (posting.Cut e) k (Targets at) right wrong = wrong
-no_content_fault s (posting.Demand d) k (Sheet v) right wrong = wrong
-no_content_fault s (posting.Demand d) k (Price v c) right wrong = wrong
-no_content_fault s (posting.Demand d) k (Numbering at) right wrong = wrong
-no_content_fault s (posting.Demand d) k (Version at) right wrong = wrong
-no_content_fault s (posting.Demand d) k (Cutting at) right wrong = wrong
-no_content_fault s (posting.Demand d) k (Worth at) right wrong = wrong
-no_content_fault s (posting.Demand d) k (Outvalued at) right wrong = wrong
-no_content_fault s (posting.Demand d) k Memory right wrong = wrong
-no_content_fault s (posting.Demand d) k (Targets at) right wrong = wrong.1 right
+no_content_fault i sheets (posting.Demand d) k (Targets at) right wrong = wrong.1 right
+no_content_fault i sheets x k other right wrong = wrong
 
 no_number_fault : (sheets : List (List ℕ)) (last : ℕ) (fault : ReplayFault) → length sheets ≡ last + 1
     → IsNumberFault sheets last fault → ⊥
 no_number_fault sheets last (Sheet v) right (inl few) = absurd (omega (arith, few.0))
 no_number_fault sheets last (Sheet v) right (inr many) = absurd (omega (arith, many.0))
-no_number_fault sheets last (Price v c) right wrong = wrong
-no_number_fault sheets last (Numbering at) right wrong = wrong
-no_number_fault sheets last (Version at) right wrong = wrong
-no_number_fault sheets last (Cutting at) right wrong = wrong
-no_number_fault sheets last (Worth at) right wrong = wrong
-no_number_fault sheets last (Outvalued at) right wrong = wrong
-no_number_fault sheets last Memory right wrong = wrong
-no_number_fault sheets last (Targets at) right wrong = wrong
-
--- what holds under the sheet of its version holds under the one in force
-holds_under : (i : InstructionParts) (sheets : List (List ℕ)) (v : ℕ) (x : Posting) → planned_version x ≡ v
-    → Holds i sheets x → IsBestUnder (sheet_at i sheets v) x
-holds_under i sheets v (posting.Cut e) is holds = (
-  subst (λ w. IsBest (sheet_at i sheets w) e.stem e.logs) is holds.0,
-  subst (λ w. e.worth ≡ cutting_worth (sheet_at i sheets w) e.stem e.logs) is holds.1,
-)
-holds_under i sheets v (posting.Demand d) is holds = holds
+no_number_fault sheets last other right wrong = wrong
 
 module _ (h : HistoryParts) (v : IsInstruction h.instruction) (l : IsLawful h) where
   after : (m : ℕ) (x : Posting) → slice_get h.postings m ≡ Some x → Begins h (m + 1)
@@ -135,8 +92,8 @@ module _ (h : HistoryParts) (v : IsInstruction h.instruction) (l : IsLawful h) w
       no_call_fault h.instruction (take k h.postings) x k fault f.number_is_next f.version_in_force wrong
   no_posting_fault k x fault at (inr wrong) =
       let f = l.postings_follow k x at in
-      no_content_fault (sheet_at h.instruction h.sheets (version_at h k)) x k fault
-      (holds_under h.instruction h.sheets (version_at h k) x f.version_in_force f.holds) wrong.2
+      no_content_fault h.instruction h.sheets x k fault f.holds
+      (subst (λ v. IsContentFault (sheet_at h.instruction h.sheets v) x k fault) (sym f.version_in_force) wrong.2)
 
   no_end_fault : (fault : ReplayFault) → IsFaultAtEnd h (length h.postings) fault → ⊥
   no_end_fault fault (inl wrong) =

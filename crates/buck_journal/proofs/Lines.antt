@@ -7,7 +7,7 @@ use Rattle.std.proofs.lemmas.Fmt.{digits_decimal, decimal_nonempty}
 use Rattle.std.proofs.lemmas.Bool.{cond-true, lt-ltb}
 use Rattle.std.proofs.lemmas.Bool.Decides.{nat_tests}
 use Rattle.std.proofs.lemmas.List.{append-nil, get_or-append-add, take_all, length-append}
-use Rattle.std.proofs.lemmas.List.Elements.{All-append, All-cons, All-nil}
+use Rattle.std.proofs.lemmas.List.Elements.{All-append, All-cons, All-nil, All-from_recursion}
 use Rattle.std.proofs.lemmas.List.Splits.{slice_split_at}
 use Rattle.std.proofs.lemmas.List.Sums.{AllPass-from_list_all, suffix_len_is}
 use Rattle.buck_record.specs.Item.{ItemParts}
@@ -23,6 +23,10 @@ use Rattle.buck_journal.specs.Written.{item_text}
 -- a text whose last byte isn't white, and one whose first isn't
 abbrev EndsDark : List ℕ → Type 0
 EndsDark xs = (0 < length xs) × (is_white (get_or xs (length xs - 1) 0) ≡ false)
+
+-- a byte that isn't a tilde
+abbrev IsPlain : ℕ → Type 0
+IsPlain b = is_tilde b ≡ false
 
 abbrev StartsDark : List ℕ → Type 0
 StartsDark xs = (0 < length xs) × (is_white (get_or xs 0 0) ≡ false)
@@ -47,7 +51,7 @@ module _ (n : ℕ) (lt : n < 2 ^ 64) where
   starts_decimal : StartsDark (decimal n)
   starts_decimal = (decimal_nonempty n lt, digit_dark (get_or (decimal n) 0 0) (digits 0 (decimal_nonempty n lt)))
 
-  plain_decimal : All (λ b. is_tilde b ≡ false) (decimal n)
+  plain_decimal : All IsPlain (decimal n)
   plain_decimal =
       λ k d l. digit_plain (get_or (decimal n) k d)
       (AllPass-from_list_all is_ascii_digit (decimal n) (digits_decimal numeral n lt) k d l)
@@ -205,22 +209,18 @@ item_of_piece l =
       told_trimmed l.numbers l.small,
     ) refl
 
-plain_spelled : (ns : List ℕ) → AllByRecursion (λ n. n < 2 ^ 64) ns → All (λ b. is_tilde b ≡ false) (spelled ns)
-plain_spelled [] h = All-nil (λ b. is_tilde b ≡ false)
+plain_spelled : (ns : List ℕ) → AllByRecursion (λ n. n < 2 ^ 64) ns → All IsPlain (spelled ns)
+plain_spelled [] h = All-nil IsPlain
 plain_spelled (n ∷ ns) h =
-    All-cons (λ b. is_tilde b ≡ false) 32 (decimal n ++ spelled ns) refl
-    (All-append (λ b. is_tilde b ≡ false) (decimal n) (spelled ns) (plain_decimal n h.0) (plain_spelled ns h.1))
+    All-cons IsPlain 32 (decimal n ++ spelled ns) refl
+    (All-append IsPlain (decimal n) (spelled ns) (plain_decimal n h.0) (plain_spelled ns h.1))
 
-plain_piece : (l : Line) → All (λ b. is_tilde b ≡ false) (piece_of l)
+plain_piece : (l : Line) → All IsPlain (piece_of l)
 plain_piece l =
     let p = l.head.plain in
-    let P : ℕ → Type 0 = λ b. is_tilde b ≡ false in
-    let h = l.head in
-    let last : List ℕ = spelled l.numbers in
-    All-cons P h.a (h.b ∷ h.c ∷ 32 ∷ h.k ∷ last) p.0
-    (All-cons P h.b (h.c ∷ 32 ∷ h.k ∷ last) p.1
-    (All-cons P h.c (32 ∷ h.k ∷ last) p.2
-    (All-cons P 32 (h.k ∷ last) refl (All-cons P h.k last p.3 (plain_spelled l.numbers l.small)))))
+    All-append IsPlain (bytes_of l.head) (spelled l.numbers)
+    (All-from_recursion IsPlain (bytes_of l.head) (p.0, (p.1, (p.2, (refl, (p.3, tt))))))
+    (plain_spelled l.numbers l.small)
 
 piece_trimmed : (l : Line) → trim (piece_of l) ≡ piece_of l
 piece_trimmed l =
@@ -249,7 +249,7 @@ line_pieces (l ∷ ls) =
     let split : slice_split is_tilde (10 ∷ flat_map text_of (l ∷ ls)) ≡ (10 ∷ piece_of l) ∷ slice_split is_tilde rest =
     ap (slice_split is_tilde) text
     ∙ slice_split_at is_tilde (10 ∷ piece_of l) 126 rest
-    (All-cons (λ b. is_tilde b ≡ false) 10 (piece_of l) refl (plain_piece l)) refl in
+    (All-cons IsPlain 10 (piece_of l) refl (plain_piece l)) refl in
     ap filled_parts split
     ∙ ap (λ xs. filter is_filled (xs ∷ map trim (slice_split is_tilde rest)))
     (trim_white 10 (piece_of l) refl ∙ piece_trimmed l)
@@ -273,14 +273,9 @@ item_of_head : item_of (codes "1 2 JRN") ≡ Some kind_item
 unfolding item_of first_word after_word trim_start trim_end number_at_most
 item_of_head = refl
 
-AllPass_head : All (λ b. is_tilde b ≡ false) (codes "1 2 JRN")
-AllPass_head =
-    let P : ℕ → Type 0 = λ b. is_tilde b ≡ false in
-    All-cons P 49 (codes " 2 JRN") refl
-    (All-cons P 32 (codes "2 JRN") refl
-    (All-cons P 50 (codes " JRN") refl
-    (All-cons P 32 (codes "JRN") refl
-    (All-cons P 74 (codes "RN") refl (All-cons P 82 (codes "N") refl (All-cons P 78 [] refl (All-nil P)))))))
+plain_head : All IsPlain (codes "1 2 JRN")
+plain_head =
+    All-from_recursion IsPlain (codes "1 2 JRN") (refl, (refl, (refl, (refl, (refl, (refl, (refl, tt)))))))
 
 -- the items of lines after the first, which says the kind of file
 pub items_again : (ls : List Line)
@@ -289,7 +284,7 @@ unfolding items_of each_from
 items_again ls =
     let rest : List ℕ = 10 ∷ flat_map text_of ls in
     let split : slice_split is_tilde (codes "1 2 JRN" ++ 126 ∷ rest) ≡ codes "1 2 JRN" ∷ slice_split is_tilde rest =
-    slice_split_at is_tilde (codes "1 2 JRN") 126 rest (AllPass_head) refl in
+    slice_split_at is_tilde (codes "1 2 JRN") 126 rest plain_head refl in
     let parts : pieces (item_text (codes "1 2 JRN") [] ++ flat_map text_of ls) ≡ codes "1 2 JRN" ∷ map piece_of ls =
     ap filled_parts split ∙ ap (λ xs. filter is_filled (xs ∷ map trim (slice_split is_tilde rest))) head_piece
     ∙ ap (λ xss. codes "1 2 JRN" ∷ xss) (line_pieces ls) in

@@ -13,7 +13,7 @@ use Rattle.buck_value.specs.declared.log.Log.{Log}
 use Rattle.buck_value.specs.Sheet.{SheetParts}
 use Rattle.buck_value.specs.Allowed.{IsAllowed, Allows, end_of}
 use Rattle.buck_dp.specs.Cutting.{IsCutFrom}
-use Rattle.buck_dp.specs.Best.{IsAdmissible, IsBest, cutting_worth}
+use Rattle.buck_dp.specs.Best.{IsAdmissible, cutting_worth}
 use Rattle.buck_book.specs.declared.posting.Posting.{Posting}
 use Rattle.buck_book.specs.declared.posting.Posting.TheVariants as posting
 use Rattle.buck_book.specs.Posting.{planned_version}
@@ -23,16 +23,20 @@ use Rattle.buck_book.specs.Walk.{MeetsAfter}
 use Rattle.buck_journal.specs.declared.judging.fault.ReplayFault.{ReplayFault}
 use Rattle.buck_journal.specs.declared.judging.fault.ReplayFault.TheVariants.{Sheet, Price, Numbering, Version, Cutting, Worth, Outvalued, Targets}
 use Rattle.buck_journal.specs.judging.Replay.{version_at, prices_then, Begins, HasSheet, IsSheetRight, IsSheetFault, IsContentFault, IsPostingFault, IsNumbered, IsOfVersion, IsFaultAt, IsRightBefore, IsFirstFault}
-use Rattle.buck_journal.specs.inner.Replay.{sheet_then, IsBestUnder}
+use Rattle.buck_journal.specs.inner.Replay.{sheet_then}
 use Rattle.buck_journal.proofs.Replays.{lawful_when}
 
-eq_of : (a b : ℕ) → ((a ≡ b → ⊥) → ⊥) → a ≡ b
+-- what can't fail holds
+abbrev Sure : Type 0 → Type 0
+Sure P = ((P → ⊥) → ⊥) → P
+
+eq_of : (a b : ℕ) → Sure (a ≡ b)
 eq_of a b nn = elim (cases_eq a b) [ inl e ↦ e | inr ne ↦ absurd (nn ne) ]
 
-le_of : (a b : ℕ) → ((a ≤ b → ⊥) → ⊥) → a ≤ b
+le_of : (a b : ℕ) → Sure (a ≤ b)
 le_of a b nn = elim (cases_lt b a) [ inl gt ↦ absurd (nn (λ le. absurd (omega arith))) | inr le ↦ omega arith ]
 
-lt_of : (a b : ℕ) → ((a < b → ⊥) → ⊥) → a < b
+lt_of : (a b : ℕ) → Sure (a < b)
 lt_of a b nn = elim (cases_lt a b) [ inl lt ↦ lt | inr ge ↦ absurd (nn (λ lt. absurd (omega arith))) ]
 
 contains_or : (xs : List ℕ) (x : ℕ) → Contains xs x ⊎ (Contains xs x → ⊥)
@@ -45,11 +49,10 @@ contains_or (y ∷ ys) x = elim (cases_eq y x) [
   ]
 ]
 
-contains_of : (xs : List ℕ) (x : ℕ) → ((Contains xs x → ⊥) → ⊥) → Contains xs x
+contains_of : (xs : List ℕ) (x : ℕ) → Sure (Contains xs x)
 contains_of xs x nn = elim (contains_or xs x) [ inl c ↦ c | inr none ↦ absurd (nn none) ]
 
-allows_of : (step : ℕ) (a : AssortmentParts) (stem : StemParts) (g : Log) → ((Allows step a stem g → ⊥) → ⊥)
-    → Allows step a stem g
+allows_of : (step : ℕ) (a : AssortmentParts) (stem : StemParts) (g : Log) → Sure (Allows step a stem g)
 allows_of step a stem g nn = record {
   species = eq_of _ _ (λ no_. nn (λ al. no_ al.species));
   on_module = eq_of _ _ (λ no_. nn (λ al. no_ al.on_module));
@@ -61,7 +64,7 @@ allows_of step a stem g nn = record {
   priced = λ z. nn (λ al. al.priced z);
 }
 
-allowed_of : (i : InstructionParts) (stem : StemParts) (g : Log) → ((IsAllowed i stem g → ⊥) → ⊥) → IsAllowed i stem g
+allowed_of : (i : InstructionParts) (stem : StemParts) (g : Log) → Sure (IsAllowed i stem g)
 allowed_of i stem g nn = elim (slice_get_cases i.assortments g.assortment).1 [
   | inl some ↦ record {
     assortment = some.0;
@@ -76,8 +79,7 @@ allowed_of i stem g nn = elim (slice_get_cases i.assortments g.assortment).1 [
 ]
 
 cut_of : (i : InstructionParts) (stem : StemParts) (from : ℕ) (gs : List Log)
-    → ((IsCutFrom (IsAllowed i stem) (end_of i) from gs → ⊥) → ⊥)
-    → IsCutFrom (IsAllowed i stem) (end_of i) from gs
+    → Sure (IsCutFrom (IsAllowed i stem) (end_of i) from gs)
 cut_of i stem from [] nn = tt
 cut_of i stem from (g ∷ gs) nn = (
   le_of _ _ (λ no_. nn (λ c. no_ c.0)),
@@ -85,14 +87,14 @@ cut_of i stem from (g ∷ gs) nn = (
   cut_of i stem (end_of i g) gs (λ no_. nn (λ c. no_ c.2)),
 )
 
-targets_of : (i : InstructionParts) (targets : List ℕ) → ((AreTargets i targets → ⊥) → ⊥) → AreTargets i targets
+targets_of : (i : InstructionParts) (targets : List ℕ) → Sure (AreTargets i targets)
 targets_of i targets nn = record {
   one_each = eq_of _ _ (λ no_. nn (λ t. no_ t.one_each));
   low = λ k lt. le_of _ _ (λ no_. nn (λ t. no_ (t.low k lt)));
   low_sums = λ at lt a exists. le_of _ _ (λ no_. nn (λ t. no_ (t.low_sums at lt a exists)));
 }
 
-meets_of : (s : Standing) (price : ℕ) → ((Meets s price → ⊥) → ⊥) → Meets s price
+meets_of : (s : Standing) (price : ℕ) → Sure (Meets s price)
 meets_of s price nn = record {
   even = λ e. eq_of _ _ (λ no_. nn (λ m. no_ (m.even e)));
   under = λ lt. (le_of _ _ (λ no_. nn (λ m. no_ (m.under lt).0)), le_of _ _ (λ no_. nn (λ m. no_ (m.under lt).1)));
@@ -100,11 +102,12 @@ meets_of s price nn = record {
 }
 
 -- what a posting says is right where no fault stands in it
-holds_of : (s : SheetParts) (x : Posting) (k : ℕ) → ((fault : ReplayFault) → IsContentFault s x k fault → ⊥)
-    → IsBestUnder s x
-holds_of s (posting.Cut e) k none =
-    let cut : IsAdmissible s e.stem e.logs =
-    cut_of s.instruction e.stem 0 e.logs (λ no_. none (Cutting k) (refl, no_)) in
+holds_of : (i : InstructionParts) (sheets : List (List ℕ)) (x : Posting) (k : ℕ)
+    → ((fault : ReplayFault) → IsContentFault (sheet_at i sheets (planned_version x)) x k fault → ⊥)
+    → Holds i sheets x
+holds_of i sheets (posting.Cut e) k none =
+    let s : SheetParts = sheet_at i sheets e.version in
+    let cut : IsAdmissible s e.stem e.logs = cut_of i e.stem 0 e.logs (λ no_. none (Cutting k) (refl, no_)) in
     let is : e.worth ≡ cutting_worth s e.stem e.logs = eq_of _ _ (λ no_. none (Worth k) (refl, cut, no_)) in (
       record {
         admissible = cut;
@@ -116,7 +119,7 @@ holds_of s (posting.Cut e) k none =
       },
       is,
     )
-holds_of s (posting.Demand d) k none = targets_of s.instruction d.targets (λ no_. none (Targets k) (refl, no_))
+holds_of i sheets (posting.Demand d) k none = targets_of i d.targets (λ no_. none (Targets k) (refl, no_))
 
 module _ (h : HistoryParts) where
   sheet_of : (k : ℕ) → ((fault : ReplayFault) → IsSheetFault h k fault → ⊥) → IsSheetRight h k
@@ -147,15 +150,6 @@ module _ (h : HistoryParts) where
             },
           ))
 
-  -- what holds under the sheet in force holds under the one of its version
-  holds_there : (k : ℕ) (x : Posting) → planned_version x ≡ version_at h k → IsBestUnder (sheet_then h k) x
-      → Holds h.instruction h.sheets x
-  holds_there k (posting.Cut e) is b = (
-    subst (λ v. IsBest (sheet_at h.instruction h.sheets v) e.stem e.logs) (sym is) b.0,
-    subst (λ v. e.worth ≡ cutting_worth (sheet_at h.instruction h.sheets v) e.stem e.logs) (sym is) b.1,
-  )
-  holds_there k (posting.Demand d) is b = b
-
   follows_of : (k : ℕ) (x : Posting)
       → ((fault : ReplayFault) → IsPostingFault (sheet_then h k) (take k h.postings) x k fault → ⊥)
       → Follows h.instruction h.sheets (take k h.postings) x
@@ -166,7 +160,9 @@ module _ (h : HistoryParts) where
       record {
         number_is_next = n;
         version_in_force = o;
-        holds = holds_there k x o (holds_of (sheet_then h k) x k (λ fault wrong. none fault (inr (n, o, wrong))));
+        holds = holds_of h.instruction h.sheets x k (λ fault wrong.
+            none fault
+            (inr (n, o, subst (λ v. IsContentFault (sheet_at h.instruction h.sheets v) x k fault) o wrong)));
       }
 
   module _ (none : (fault : ReplayFault) → IsFirstFault h fault → ⊥) where

@@ -3,7 +3,7 @@ use Rattle.std.specs.Prelude.{◌≡◌, ◌≢◌, ℕ, ◌+◌, ◌<◌, ◌�
 use Rattle.buck_apt.specs.Instruction.{IsInstruction}
 use Rattle.buck_value.specs.declared.log.Log.{Log}
 use Rattle.buck_value.specs.Sheet.{SheetParts}
-use Rattle.buck_dp.specs.Best.{IsAdmissible, IsBest, cutting_worth}
+use Rattle.buck_dp.specs.Best.{IsAdmissible, cutting_worth}
 use Rattle.buck_book.specs.declared.posting.Posting.{Posting}
 use Rattle.buck_book.specs.declared.posting.Posting.TheVariants.{Cut, Demand}
 use Rattle.buck_book.specs.Posting.{planned_version, ends_of, cuts_since_end}
@@ -29,11 +29,6 @@ sheet_then h k = sheet_at h.instruction h.sheets (version_at h k)
 abbrev pub HoldsUnder : SheetParts → Posting → Type 0
 HoldsUnder s (Cut e) = IsAdmissible s e.stem e.logs × (e.worth ≡ cutting_worth s e.stem e.logs)
 HoldsUnder s (Demand d) = AreTargets s.instruction d.targets
-
--- it says what is right under a sheet, and no other logs are worth more
-abbrev pub IsBestUnder : SheetParts → Posting → Type 0
-IsBestUnder s (Cut e) = IsBest s e.stem e.logs × (e.worth ≡ cutting_worth s e.stem e.logs)
-IsBestUnder s (Demand d) = AreTargets s.instruction d.targets
 
 -- it may follow some postings under the sheet in force
 pub record IsRightUnder (s : SheetParts) (before : List Posting) (x : Posting) : Type 0 where

@@ -1,12 +1,12 @@
 -- Journals of cuts alone, in which no item stands at 982 1: how their items are read in words that know of no demand.
 -- Only the law that both read the same leads here.
-use Rattle.std.specs.Prelude.{◌≡◌, ℕ, ◌+◌, false, List, [], ◌∷◌, drop, map, slice_get, Option, Some, None, Result, Ok, if◌then◌else◌}
+use Rattle.std.specs.Prelude.{◌≡◌, ℕ, ◌+◌, false, List, [], ◌∷◌, drop, slice_get, Option, Some, None, Result, Ok, if◌then◌else◌}
 use Rattle.buck_record.specs.Item.{ItemParts}
 use Rattle.buck_record.specs.checking.Table.{is_at}
 use Rattle.buck_record.specs.checking.Check.{◌>>=◌, check}
 use Rattle.buck_record.specs.checking.Rules.{slot}
+use Rattle.buck_book.specs.declared.posting.Posting.{Posting}
 use Rattle.buck_book.specs.declared.posting.Posting.TheVariants.{Cut}
-use Rattle.buck_book.specs.Entry.{EntryParts}
 use Rattle.buck_journal.specs.declared.reading.fault.JournalFault.{JournalFault}
 use Rattle.buck_journal.specs.declared.reading.fault.JournalFault.TheVariants.{NotJournal, Shape}
 use Rattle.buck_journal.specs.reading.Journal.{JournalParts, sheet_at, call_at, stem_at, logs_at, worth_at, entry_of, says_journal}
@@ -20,14 +20,14 @@ abbrev pub follows : ℕ → Option ItemParts → Result (Unit {0}) JournalFault
 follows place None = Ok tt
 follows place (Some item) = check (is_at (slot 981 1) item) (Shape place)
 
-unfoldable pub entry_at : List ItemParts → ℕ → ℕ → Result EntryParts JournalFault
-entry_at items k before = do
+unfoldable pub cut_at : List ItemParts → ℕ → ℕ → Result Posting JournalFault
+cut_at items k before = do
   call ← call_at (slot 981 1) items k before
   stem ← stem_at items (k + 1)
   logs ← logs_at items (k + 4)
   worth ← worth_at items (k + 5)
   _ ← follows (k + 7) (slice_get items (k + 6))
-  Ok (entry_of call stem logs worth)
+  Ok (Cut (entry_of call stem logs worth))
 
 -- the sheets of the items from place k on: one for each item up to the first that begins a cut
 unfoldable pub sheets_from : List ItemParts → ℕ → List ItemParts → Result (List (List ℕ)) JournalFault
@@ -36,18 +36,17 @@ sheets_from items k (item ∷ more) =
     if is_at (slot 981 1) item then Ok []
     else (sheet_at items k >>= λ prices. sheets_from items (k + 1) more >>= λ sheets. Ok (prices ∷ sheets))
 
--- the entries of the items from place k on, so many coming before: one for each item that begins a cut
-unfoldable pub entries_from : List ItemParts → ℕ → ℕ → List ItemParts → Result (List EntryParts) JournalFault
-entries_from items k before [] = Ok []
-entries_from items k before (item ∷ more) =
+-- the cuts of the items from place k on, so many coming before: one for each item that begins a cut
+unfoldable pub cuts_from : List ItemParts → ℕ → ℕ → List ItemParts → Result (List Posting) JournalFault
+cuts_from items k before [] = Ok []
+cuts_from items k before (item ∷ more) =
     if is_at (slot 981 1) item
-    then (entry_at items k before >>= λ entry.
-    entries_from items (k + 1) (before + 1) more >>= λ rest. Ok (entry ∷ rest))
-    else entries_from items (k + 1) before more
+    then (cut_at items k before >>= λ cut. cuts_from items (k + 1) (before + 1) more >>= λ rest. Ok (cut ∷ rest))
+    else cuts_from items (k + 1) before more
 
 unfoldable pub journal_in : List ItemParts → Result JournalParts JournalFault
 journal_in items = do
   _ ← check (says_journal items) NotJournal
   sheets ← sheets_from items 1 (drop 1 items)
-  entries ← entries_from items 0 0 items
-  Ok (record { sheets = sheets; entries = map Cut entries })
+  cuts ← cuts_from items 0 0 items
+  Ok (record { sheets = sheets; entries = cuts })
