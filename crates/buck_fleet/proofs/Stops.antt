@@ -1,6 +1,6 @@
 -- what stopped the lowest harvester among the first seats
 use Rattle.std.proofs.Common.{◌≡◌, ℕ, ◌+◌, ◌<◌, ◌≤◌, List, length, get_or, inl, inr, arith, refl, sym, ap, ◌∙◌, subst}
-use Rattle.std.specs.Prelude.{Option, None, Some, slice_get, slice_index_or, IfSome}
+use Rattle.std.specs.Prelude.{All, Option, None, Some, MatchOption, slice_get, slice_index_or, IfNone, IfSome}
 use Rattle.std.proofs.lemmas.Bool.{cases_lt}
 use Rattle.std.proofs.lemmas.List.{get_or_default}
 use Rattle.std.proofs.lemmas.Option.{slice_get_read}
@@ -11,17 +11,17 @@ use Rattle.buck_fleet.specs.Run.{IsFirstStop}
 abbrev pub AllBefore : (SeatParts → Type 0) → ℕ → List SeatParts → Type 0
 AllBefore p n seats = (k : ℕ) (d : SeatParts) → k < n → p (slice_index_or seats k d)
 
-pub record StopAmong (n : ℕ) (seats : List SeatParts) (harvester : ℕ) (fault : RunFault) : Type 0 where
-  pub place : ℕ
-  pub seat : SeatParts
-  pub is_there : slice_get seats place ≡ Some seat
-  pub own_harvester : seat.harvester ≡ harvester
-  pub stopped : seat.stopped ≡ Some fault
-  pub lowest : AllBefore (λ s. s.harvester < harvester → s.stopped ≡ None) n seats
+abbrev IsFreeBelow : ℕ → SeatParts → Type 0
+IsFreeBelow lowest s = (s.harvester ≤ 64) × (s.harvester < lowest → s.stopped ≡ None)
 
+-- none of the first n seats was stopped below the lowest harvester that was, which is 65 where none was
 abbrev pub IsStopSoFar : ℕ → List SeatParts → ℕ → Option RunFault → Type 0
-IsStopSoFar n seats lowest None = (lowest ≡ 65) × AllBefore (λ s. s.stopped ≡ None) n seats
-IsStopSoFar n seats lowest (Some fault) = StopAmong n seats lowest fault
+IsStopSoFar n seats lowest first =
+    AllBefore (IsFreeBelow lowest) n seats
+    × MatchOption first
+    (lowest ≡ 65)
+    (λ fault. (place : ℕ) × (seat : SeatParts) × (slice_get seats place ≡ Some seat)
+    × (seat.harvester ≡ lowest) × (seat.stopped ≡ Some fault))
 
 one_more : (p : SeatParts → Type 0) (n : ℕ) (seats : List SeatParts) (s : SeatParts) → n < length seats
     → s ≡ get_or seats n s → p s → AllBefore p n seats → AllBefore p (n + 1) seats
@@ -33,58 +33,39 @@ one_more p n seats s lt is ps before k d small =
           subst p (is ∙ get_or_default seats n s d lt ∙ ap (λ i. get_or seats i d) (sym same)) ps
     ]
 
--- one seat more, whose harvester isn't stopped or isn't lower
-pub stays : (n : ℕ) (seats : List SeatParts) (s : SeatParts) (lowest : ℕ) (first : Option RunFault) → n < length seats
-    → s ≡ get_or seats n s → s.harvester ≤ 64 → (s.harvester < lowest → s.stopped ≡ None)
-    → IsStopSoFar n seats lowest first → IsStopSoFar (n + 1) seats lowest first
-stays n seats s lowest None lt is small none so_far =
-    (so_far.0, one_more (λ x. x.stopped ≡ None) n seats s lt is (none (omega (arith, small, so_far.0))) so_far.1)
-stays n seats s lowest (Some fault) lt is small none so_far = record {
-  place = so_far.place;
-  seat = so_far.seat;
-  is_there = so_far.is_there;
-  own_harvester = so_far.own_harvester;
-  stopped = so_far.stopped;
-  lowest = one_more (λ x. x.harvester < lowest → x.stopped ≡ None) n seats s lt is none so_far.lowest;
-}
+module _ (n : ℕ) (seats : List SeatParts) (s : SeatParts) (lowest : ℕ) (first : Option RunFault) (lt : n < length seats)
+    (is : s ≡ get_or seats n s) (small : s.harvester ≤ 64) (so_far : IsStopSoFar n seats lowest first) where
+  -- one seat more, whose harvester isn't stopped or isn't lower
+  pub stays : (s.harvester < lowest → s.stopped ≡ None) → IsStopSoFar (n + 1) seats lowest first
+  stays none = (one_more (IsFreeBelow lowest) n seats s lt is (small, none) so_far.0, so_far.1)
 
-none_below : (n : ℕ) (seats : List SeatParts) (lowest harvester : ℕ) (first : Option RunFault) → harvester < lowest
-    → IsStopSoFar n seats lowest first → AllBefore (λ x. x.harvester < harvester → x.stopped ≡ None) n seats
-none_below n seats lowest harvester None lt so_far = λ k d small _. so_far.1 k d small
-none_below n seats lowest harvester (Some fault) lt so_far =
-    λ k d small below. so_far.lowest k d small (omega (arith, below, lt))
-
-pub lower : (n : ℕ) (seats : List SeatParts) (s : SeatParts) (lowest : ℕ) (first : Option RunFault) (fault : RunFault)
-    → n < length seats → s ≡ get_or seats n s → s.stopped ≡ Some fault → s.harvester < lowest
-    → IsStopSoFar n seats lowest first → IsStopSoFar (n + 1) seats s.harvester (Some fault)
-lower n seats s lowest first fault lt is stopped below so_far = record {
-  place = n;
-  seat = s;
-  is_there = slice_get_read seats (length seats) n s refl lt is;
-  own_harvester = refl;
-  stopped = stopped;
-  lowest = one_more (λ x. x.harvester < s.harvester → x.stopped ≡ None) n seats s lt is
-      (λ itself. absurd (omega (arith, itself))) (none_below n seats lowest s.harvester first below so_far);
-}
-
-first_of_all : (n : ℕ) (seats : List SeatParts) (lowest : ℕ) (fault : RunFault) → length seats ≤ n
-    → StopAmong n seats lowest fault → IsFirstStop seats fault
-first_of_all n seats lowest fault all so_far = record {
-  place = so_far.place;
-  seat = so_far.seat;
-  is_there = so_far.is_there;
-  stopped = so_far.stopped;
-  lowest = λ k d small below. so_far.lowest k d (omega (arith, small, all))
-      (omega (arith, below, so_far.own_harvester));
-}
+  pub lower : (fault : RunFault) → s.stopped ≡ Some fault → s.harvester < lowest
+      → IsStopSoFar (n + 1) seats s.harvester (Some fault)
+  lower fault stopped below = (
+    one_more (IsFreeBelow s.harvester) n seats s lt is (small, λ itself. absurd (omega (arith, itself)))
+        (λ k d less. let b = so_far.0 k d less in (b.0, λ under. b.1 (omega (arith, under, below)))),
+    (n, s, slice_get_read seats (length seats) n s refl lt is, refl, stopped),
+  )
 
 pub moved : (n : ℕ) (seats : List SeatParts) (lowest lowest_after : ℕ) (first first_after : Option RunFault)
     → lowest_after ≡ lowest → first_after ≡ first → IsStopSoFar n seats lowest first
     → IsStopSoFar n seats lowest_after first_after
-moved n seats lowest lowest_after first first_after l f so_far =
-    subst (λ x. IsStopSoFar n seats x first_after) (sym l) (subst (λ x. IsStopSoFar n seats lowest x) (sym f) so_far)
+moved n seats lowest lowest_after first first_after l f so_far = rw (l, f) so_far
+
+-- after all seats
+pub told_none : (n : ℕ) (seats : List SeatParts) (lowest : ℕ) (first : Option RunFault) → length seats ≤ n
+    → IsStopSoFar n seats lowest first → IfNone first (All (λ s. s.stopped ≡ None) seats)
+told_none n seats lowest None all so_far =
+    λ k d small. let b = so_far.0 k d (omega (arith, small, all)) in b.1 (omega (arith, b.0, so_far.1))
+told_none n seats lowest (Some fault) all so_far = tt
 
 pub told : (n : ℕ) (seats : List SeatParts) (lowest : ℕ) (first : Option RunFault) → length seats ≤ n
     → IsStopSoFar n seats lowest first → IfSome first (IsFirstStop seats)
 told n seats lowest None all so_far = tt
-told n seats lowest (Some fault) all so_far = first_of_all n seats lowest fault all so_far
+told n seats lowest (Some fault) all (before, (place, seat, there, own, stopped)) = record {
+  place = place;
+  seat = seat;
+  is_there = there;
+  stopped = stopped;
+  lowest = λ k d small under. (before k d (omega (arith, small, all))).1 (omega (arith, under, own));
+}

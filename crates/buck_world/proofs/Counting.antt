@@ -12,10 +12,10 @@ use Rattle.buck_world.specs.declared.event.Event.TheVariants.{Read, Plan, Try, L
 use Rattle.buck_world.specs.World.{WorldParts, newcomer, IsHarvester, at, with_harvester}
 use Rattle.buck_world.specs.Step.{Adds, Step}
 use Rattle.buck_world.specs.Run.{Move, IsRun, last, harvester_of_event}
-use Rattle.buck_world.specs.Counts.{IsFreshAt, IsFresh, one_if_more, lift_at, stale_at, if_by, all_lifts, lifts_of, all_stale, stale_of}
+use Rattle.buck_world.specs.Counts.{IsFreshAt, IsFresh, one_if_more, lift_at, stale_at, if_by, count_all, count_own, all_lifts, lifts_of, all_stale, stale_of}
 use Rattle.buck_world.specs.inner.Sound.{IsGoing, IsSound}
 use Rattle.buck_world.proofs.Lists.{decided, here, elsewhere}
-use Rattle.buck_world.proofs.Moves.{move_of, is_in}
+use Rattle.buck_world.proofs.Moves.{is_in, changed}
 use Rattle.buck_world.proofs.Sound.{stays_sound}
 use Rattle.buck_world.proofs.Kept.{same_number}
 
@@ -59,15 +59,7 @@ lifts_are_front w (m ∷ ms) s r =
     let a = front_after w m.after m.event s r.0 in let b =
     lifts_are_front m.after ms (stays_sound w m.after m.event s r.0) r.1 in omega arith
 
--- only the event's harvester changes
-changed : (w w' : WorldParts) (e : Event) → IsSound w → Step w e w'
-    → (x : Harvester) × (w'.harvesters ≡ set w.harvesters (harvester_of_event e - 1) x)
-changed w w' e s step = ⊎_elim
-    (λ q. (q.now, ap (λ (z : WorldParts). z.harvesters) q.is))
-    (λ more. ⊎_elim (λ a. (_, ap (λ (z : WorldParts). z.harvesters) a.is))
-    (λ r. (_, ap (λ (z : WorldParts). z.harvesters) r.is)) more)
-    (move_of w w' e s step)
-
+-- another harvester stays
 pub foreign : (w w' : WorldParts) (e : Event) (g : ℕ) → IsSound w → Step w e w' → 1 ≤ g → g ≢ harvester_of_event e
     → at w' g ≡ at w g
 foreign w w' e g s step low other =
@@ -195,27 +187,19 @@ sum_to_one e x (suc n) low high = decided
     by_other (suc n) e x not in omega arith)
     (ℕ_discrete (harvester_of_event e) (suc n))
 
-sum_of_stale : (w : WorldParts) (moves : List Move) (n : ℕ) → IsSound w → length w.harvesters ≡ n → IsRun w moves
-    → sum_to (λ h. stale_of h w moves) n ≡ all_stale w moves
-sum_of_stale w [] n s is r = sum_to_zero n
-sum_of_stale w (m ∷ ms) n s is r =
-    let e = m.event in let x = stale_at w e m.after in let h_in = is_in w e r.0.0 in
+sum_of_own : (count : WorldParts → Event → WorldParts → ℕ) (w : WorldParts) (moves : List Move) (n : ℕ) → IsSound w
+    → length w.harvesters ≡ n → IsRun w moves
+    → sum_to (λ h. count_own count h w moves) n ≡ count_all count w moves
+sum_of_own count w [] n s is r = sum_to_zero n
+sum_of_own count w (m ∷ ms) n s is r =
+    let e = m.event in
+    let x = count w e m.after in
+    let h_in = is_in w e r.0.0 in
     let high : harvester_of_event e ≤ length w.harvesters = h_in.1 in
-    let a = sum_to_plus (λ h. if_by h e x) (λ h. stale_of h m.after ms) n in let b =
-    sum_to_one e x n h_in.0 (omega arith) in
-    let c = sum_of_stale m.after ms n (stays_sound w m.after e s r.0) ((same_number w m.after e s r.0).0 ∙ is) r.1 in a
-    ∙ (omega (arith, b, c))
-
-sum_of_lifts : (w : WorldParts) (moves : List Move) (n : ℕ) → IsSound w → length w.harvesters ≡ n → IsRun w moves
-    → sum_to (λ h. lifts_of h w moves) n ≡ all_lifts w moves
-sum_of_lifts w [] n s is r = sum_to_zero n
-sum_of_lifts w (m ∷ ms) n s is r =
-    let e = m.event in let x = lift_at w e m.after in let h_in = is_in w e r.0.0 in
-    let high : harvester_of_event e ≤ length w.harvesters = h_in.1 in
-    let a = sum_to_plus (λ h. if_by h e x) (λ h. lifts_of h m.after ms) n in let b =
-    sum_to_one e x n h_in.0 (omega arith) in
-    let c = sum_of_lifts m.after ms n (stays_sound w m.after e s r.0) ((same_number w m.after e s r.0).0 ∙ is) r.1 in a
-    ∙ (omega (arith, b, c))
+    let b = sum_to_one e x n h_in.0 (omega arith) in
+    let same = (same_number w m.after e s r.0).0 ∙ is in
+    let c = sum_of_own count m.after ms n (stays_sound w m.after e s r.0) same r.1 in
+    sum_to_plus (λ h. if_by h e x) (λ h. count_own count h m.after ms) n ∙ omega (arith, b, c)
 
 fewer : (n stale front version : ℕ) → stale + front ≤ n * front → front ≤ version → stale ≤ (n - 1) * version
 fewer zero stale front version a b = omega arith
@@ -231,7 +215,7 @@ all_stale_within w moves n s is none r f end =
     (λ h low high. let b =
     stale_and_lifts w moves h 0 s r f low record { front = omega arith; seen = λ _. omega arith } in omega arith) in
     let c = sum_to_plus (λ h. stale_of h w moves) (λ h. lifts_of h w moves) n in let d =
-    sum_of_stale w moves n s is r in let l = sum_of_lifts w moves n s is r in
+    sum_of_own stale_at w moves n s is r in let l = sum_of_own lift_at w moves n s is r in
     let g = lifts_are_front w moves s r in
     fewer n (all_stale w moves) (last w moves).front (version_of (last w moves).history) (omega (arith, a, c, d, l, g))
     end.world.front_low

@@ -18,7 +18,7 @@ use Rattle.buck_world.specs.Kept.{RuledWorld}
 use Rattle.buck_world.specs.Refused.{HasRoom}
 use Rattle.buck_world.specs.inner.Sound.{IsSound, Keeps}
 use Rattle.buck_world.specs.inner.Acts.{world_of}
-use Rattle.buck_world.proofs.Moves.{move_of}
+use Rattle.buck_world.proofs.Moves.{changed}
 use Rattle.buck_world.proofs.Sound.{stays_sound, opening_sound}
 
 -- the front is at most the version in force, which is at most the number of postings
@@ -73,22 +73,8 @@ within_after r (Leave h) w' low (a, f) room = none_more r.capacity r.world w' _ 
 -- neither the instruction nor the number of harvesters changes
 pub same_number : (w w' : WorldParts) (e : Event) → IsSound w → Step w e w'
     → (length w'.harvesters ≡ length w.harvesters) × (w'.history.instruction ≡ w.history.instruction)
-same_number w w' e s step = ⊎_elim
-    (λ q. (
-      ap (λ (y : WorldParts). length y.harvesters) q.is ∙ length-set w.harvesters _ q.now,
-      ap (λ (y : WorldParts). y.history.instruction) q.is,
-    ))
-    (λ more. ⊎_elim
-    (λ a. (
-      ap (λ (y : WorldParts). length y.harvesters) a.is ∙ length-set w.harvesters _ _,
-      ap (λ (y : WorldParts). y.history.instruction) a.is,
-    ))
-    (λ r. (
-      ap (λ (y : WorldParts). length y.harvesters) r.is ∙ length-set w.harvesters _ _,
-      ap (λ (y : WorldParts). y.history.instruction) r.is,
-    ))
-    more)
-    (move_of w w' e s step)
+same_number w w' e s step =
+    let c = changed w w' e s step in (ap (λ xs. length xs) c.1 ∙ length-set w.harvesters _ c.0, c.2)
 
 pub keeps_step : {F : Type 0} (r : RuledWorld F) (rule : F) (capacity : ℕ) (e : Event) (w' : WorldParts) → Keeps r
     → capacity ≡ r.capacity → Step r.world e w' → HasRoom r e

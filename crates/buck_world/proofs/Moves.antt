@@ -1,5 +1,5 @@
 -- The three things that a step may do: one harvester alone changes, a posting is added, or the front is raised.
-use Rattle.std.proofs.Common.{◌≡◌, ◌≢◌, ◌⊎◌, inl, inr, ⊎_elim, ℕ, ◌+◌, ◌<◌, ◌≤◌, Option, sym, refl, subst, arith, le_refl}
+use Rattle.std.proofs.Common.{◌≡◌, ◌≢◌, ◌⊎◌, inl, inr, ⊎_elim, ℕ, ◌+◌, ◌<◌, ◌≤◌, ◌-◌, set, Option, sym, refl, ap, subst, arith, le_refl, le_trans}
 use Rattle.buck_value.specs.Sheet.{SheetParts}
 use Rattle.buck_dp.specs.Best.{IsBest, cutting_worth}
 use Rattle.buck_book.specs.declared.posting.Posting.{Posting}
@@ -153,9 +153,25 @@ move_of w w' (Leave h) s (a, f) = let fit = s.world.fits h a.0 in inl record {
 
 pub is_in : (w : WorldParts) (e : Event) → Allowed w e → IsHarvester w (harvester_of_event e)
 is_in w (Read h v) a = a.0
-is_in w (Plan h stem) a = a.0
-is_in w (Try h) a = a.0
-is_in w (Locked h stem) a = a.0
-is_in w (Retarget h targets) a = a.0
-is_in w (Raise h) a = a.0
-is_in w (Leave h) a = a.0
+is_in w other a = a.0
+
+-- the event's harvester alone changes, and has seen no less; the instruction stays
+abbrev pub IsChanged : WorldParts → ℕ → WorldParts → Type 0
+IsChanged w h w' =
+    (x : Harvester) × (w'.harvesters ≡ set w.harvesters (h - 1) x) × (w'.history.instruction ≡ w.history.instruction)
+    × ((at w h).seen ≤ x.seen)
+
+changed_by : (w w' : WorldParts) (h : ℕ) → IsSound w → IsHarvester w h → IsMove w h w' → IsChanged w h w'
+changed_by w w' h s h_in (inl q) =
+    (_, ap (λ z. z.harvesters) q.is, ap (λ z. z.history.instruction) q.is, q.no_less)
+changed_by w w' h s h_in (inr (inl a)) =
+    (_, ap (λ z. z.harvesters) a.is, ap (λ z. z.history.instruction) a.is, le_refl (at w h).seen)
+changed_by w w' h s h_in (inr (inr r)) = (
+  _,
+  ap (λ z. z.harvesters) r.is,
+  ap (λ z. z.history.instruction) r.is,
+  le_trans (s.world.fits h h_in).seen s.world.front_low,
+)
+
+pub changed : (w w' : WorldParts) (e : Event) → IsSound w → Step w e w' → IsChanged w (harvester_of_event e) w'
+changed w w' e s step = changed_by w w' (harvester_of_event e) s (is_in w e step.0) (move_of w w' e s step)

@@ -17,7 +17,7 @@ use Rattle.buck_world.specs.Step.{IsPlanUnder, Adds, Step}
 use Rattle.buck_world.specs.Run.{Move, IsRun, last, harvester_of_event, more_than, added_at, added}
 use Rattle.buck_world.specs.inner.Sound.{IsSound}
 use Rattle.buck_world.proofs.Lists.{decided}
-use Rattle.buck_world.proofs.Moves.{move_of, is_in}
+use Rattle.buck_world.proofs.Moves.{is_in, changed}
 use Rattle.buck_world.proofs.Sound.{stays_sound, run_sound}
 use Rattle.buck_world.proofs.Kept.{same_number}
 use Rattle.buck_world.proofs.Counting.{at_here, foreign}
@@ -30,22 +30,8 @@ own_no_less : (w w' : WorldParts) (e : Event) → IsSound w → Step w e w'
     → (at w (harvester_of_event e)).seen ≤ (at w' (harvester_of_event e)).seen
 own_no_less w w' e s step =
     let h = harvester_of_event e in
-    let h_in : IsHarvester w (harvester_of_event e) = is_in w e step.0 in
-    ⊎_elim
-    (λ q. seen_no_less w w' h q.now (at_here w w' _ h q.now q.is refl h_in) q.no_less)
-    (λ more. ⊎_elim
-    (λ a. seen_no_less w w' h
-    (record {
-      stage = Answered;
-      seen = (at w (harvester_of_event e)).seen;
-      stale =
-          (at w (harvester_of_event e)).stale;
-    }) (at_here w w' _ h _ a.is refl h_in)
-    (le_refl (at w (harvester_of_event e)).seen))
-    (λ r. seen_no_less w w' h (record { stage = Idle; seen = version_of w.history; stale = 0 })
-    (at_here w w' _ h _ r.is refl h_in) (le_trans (s.world.fits h h_in).seen s.world.front_low))
-    more)
-    (move_of w w' e s step)
+    let c = changed w w' e s step in
+    seen_no_less w w' h c.0 (at_here w w' w' h c.0 refl c.1 (is_in w e step.0)) c.3
 
 step_no_less : (w w' : WorldParts) (e : Event) (h : ℕ) → IsSound w → Step w e w' → 1 ≤ h
     → (at w h).seen ≤ (at w' h).seen

@@ -3,7 +3,7 @@ use Rattle.std.specs.Prelude.{◌≡◌, ◌<◌, length}
 use Rattle.buck_book.specs.declared.targets.TargetsFault.{TargetsFault}
 use Rattle.buck_book.specs.Targets.{AreTargets, IsTargetsFault}
 use Rattle.buck_world.specs.declared.event.Event.{Event}
-use Rattle.buck_world.specs.declared.event.Event.TheVariants.{Read, Plan, Try, Locked, Retarget, Raise, Leave}
+use Rattle.buck_world.specs.declared.event.Event.TheVariants.{Plan, Try, Locked, Retarget}
 use Rattle.buck_world.specs.declared.fault.StepFault.{StepFault}
 use Rattle.buck_world.specs.declared.fault.StepFault.TheVariants.{NotAllowed, Full, Memory, Targets}
 use Rattle.buck_world.specs.Step.{Allowed}
@@ -18,44 +18,28 @@ IsBelow r = length r.world.history.postings < r.capacity
 
 -- the events that may add a posting
 abbrev pub MayAdd : Event → Type 0
-MayAdd (Read h v) = ⊥
-MayAdd (Plan h stem) = ⊥
 MayAdd (Try h) = Unit {0}
 MayAdd (Locked h stem) = Unit {0}
 MayAdd (Retarget h targets) = Unit {0}
-MayAdd (Raise h) = ⊥
-MayAdd (Leave h) = ⊥
+MayAdd other = ⊥
 
 -- the history has room for what the event may add, and new targets are valid
 abbrev pub HasRoom : {F : Type 0} → RuledWorld F → Event → Type 0
-HasRoom r (Read h v) = Unit {0}
-HasRoom r (Plan h stem) = Unit {0}
 HasRoom r (Try h) = IsBelow r
 HasRoom r (Locked h stem) = IsBelow r
 HasRoom r (Retarget h targets) = IsBelow r × AreTargets r.world.history.instruction targets.value.items
-HasRoom r (Raise h) = Unit {0}
-HasRoom r (Leave h) = Unit {0}
+HasRoom r other = Unit {0}
 
 -- the events that take memory
 abbrev pub TakesMemory : Event → Type 0
-TakesMemory (Read h v) = ⊥
 TakesMemory (Plan h stem) = Unit {0}
-TakesMemory (Try h) = Unit {0}
-TakesMemory (Locked h stem) = Unit {0}
-TakesMemory (Retarget h targets) = Unit {0}
-TakesMemory (Raise h) = ⊥
-TakesMemory (Leave h) = ⊥
+TakesMemory other = MayAdd other
 
 -- new targets are refused below the capacity, with what is wrong with them
 abbrev pub HasTargetsFault : {F : Type 0} → RuledWorld F → Event → TargetsFault → Type 0
-HasTargetsFault r (Read h v) fault = ⊥
-HasTargetsFault r (Plan h stem) fault = ⊥
-HasTargetsFault r (Try h) fault = ⊥
-HasTargetsFault r (Locked h stem) fault = ⊥
 HasTargetsFault r (Retarget h targets) fault =
     IsBelow r × IsTargetsFault r.world.history.instruction targets.value.items fault
-HasTargetsFault r (Raise h) fault = ⊥
-HasTargetsFault r (Leave h) fault = ⊥
+HasTargetsFault r other fault = ⊥
 
 -- an event that isn't allowed is refused as `NotAllowed`; an allowed one that may add a posting is refused at the
 -- capacity as `Full`; below it targets that aren't valid are refused with what is wrong; else only memory may fail

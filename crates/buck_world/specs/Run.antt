@@ -37,13 +37,10 @@ more_than w w' = drop (length w.history.postings) w'.history.postings
 
 -- what a `Try`, a `Locked` or a `Retarget` added; no other event adds
 abbrev pub added_at : WorldParts → Event → WorldParts → List Posting
-added_at w (Read h v) w' = []
-added_at w (Plan h stem) w' = []
 added_at w (Try h) w' = more_than w w'
 added_at w (Locked h stem) w' = more_than w w'
 added_at w (Retarget h targets) w' = more_than w w'
-added_at w (Raise h) w' = []
-added_at w (Leave h) w' = []
+added_at w other w' = []
 
 -- what the events of a run added, in order
 abbrev pub added : WorldParts → List Move → List Posting

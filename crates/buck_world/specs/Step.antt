@@ -14,17 +14,14 @@ use Rattle.buck_world.specs.declared.event.Event.TheVariants.{Read, Plan, Try, L
 use Rattle.buck_world.specs.World.{WorldParts, IsHarvester, at, IsAnswered, NobodyAnswered, with_harvester, with_posting, with_front}
 
 abbrev pub IsPlanned : Stage → Type 0
-IsPlanned Idle = ⊥
-IsPlanned Reading = ⊥
 IsPlanned (Planned p) = Unit {0}
-IsPlanned Answered = ⊥
+IsPlanned other = ⊥
 
 -- a harvester that holds no plan and isn't answered
 abbrev pub IsIdleOrReading : Stage → Type 0
 IsIdleOrReading Idle = Unit {0}
 IsIdleOrReading Reading = Unit {0}
-IsIdleOrReading (Planned p) = ⊥
-IsIdleOrReading Answered = ⊥
+IsIdleOrReading other = ⊥
 
 -- where each event is allowed
 abbrev pub Allowed : WorldParts → Event → Type 0

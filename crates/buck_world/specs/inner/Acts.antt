@@ -31,10 +31,9 @@ HoldsPlan s x = (p : PlanParts) → x.stage ≡ Planned p → IsPlanUnder s x.se
 
 -- why a commit of a plan is refused
 abbrev pub IsPlanRefusal : {F : Type 0} → BookParts F → StepFault → Type 0
-IsPlanRefusal b NotAllowed = ⊥
 IsPlanRefusal b Full = IsFull b
 IsPlanRefusal b Memory = IsBelow b
-IsPlanRefusal b (Targets fault) = ⊥
+IsPlanRefusal b other = ⊥
 
 -- why new targets are refused
 abbrev pub IsTargetsRefusal : {F : Type 0} → BookParts F → List ℕ → StepFault → Type 0

@@ -11,10 +11,9 @@ use Rattle.buck_world.specs.Kept.{IsWorld, RuledWorld, IsKept}
 
 -- an attempt is going on
 abbrev pub IsGoing : Stage → Type 0
-IsGoing Idle = ⊥
 IsGoing Reading = Unit {0}
 IsGoing (Planned p) = Unit {0}
-IsGoing Answered = ⊥
+IsGoing other = ⊥
 
 -- harvester h has seen the versions of its own postings, unless it is answered; an attempt goes on only after fewer
 -- than three stale ones
