@@ -14,8 +14,8 @@ use Rattle.buck_book.specs.Targets.{AreTargets}
 use Rattle.buck_book.specs.History.{HistoryParts, IsLawful, Follows, IsEnd, IsNextSheet, sheets_with, history_with, version_of, in_force}
 use Rattle.buck_book.specs.Plan.{PlanParts, IsPlan}
 use Rattle.buck_book.specs.Pricing.{AreAnswers}
-use Rattle.buck_book.specs.Book.{BookParts, IsBook, IsFirst, IsNext, IsReadyToAdd, SameContent, sheets_from, entry_of, demand_of}
-use Rattle.buck_book.specs.inner.Running.{RunningParts, Keeps, Tells, GoesOn, IsAfter, IsPassed}
+use Rattle.buck_book.specs.Book.{BookParts, book_of, IsBook, IsFirst, IsNext, IsReadyToAdd, SameContent, sheets_from, entry_of, demand_of}
+use Rattle.buck_book.specs.inner.Running.{RunningParts, Keeps, Tells, GoesOn, IsAfter, IsPassed, standings_of}
 use Rattle.buck_book.specs.inner.Pricing.{ArePriced, IsPricedSheet}
 use Rattle.buck_rule.specs.declared.standing.Standing.{Standing}
 use denote.Ref.{Bor}
@@ -61,15 +61,7 @@ pub keeps_empty : {F : Type 0} (f : F) (i : InstructionParts) (pss : List (List 
     → capacity ≤ 1000000
     → ps ≡ [] → pss ≡ base_prices i ∷ [] → ts ≡ sheet_of 0 i (base_prices i) ∷ []
     → Tells i [] n → calls ≡ replicate {A = ℕ} 64 0
-    → Keeps (record {
-      rule = f;
-      history = record { instruction = i; sheets = pss; postings = ps };
-      capacity =
-          capacity;
-      room = room;
-      sheet_room = sheet_room;
-    })
-    ts n calls
+    → Keeps (book_of f i pss ps capacity room sheet_room) ts n calls
 keeps_empty f i pss ps ts n calls capacity room sheet_room le none priced sheeted told called =
     rw (none, priced) (record {
       is_book = record {
@@ -100,14 +92,8 @@ pub book_more : {F : Type 0} (b : BookParts F) (x : Posting) (next : Option Shee
     → IsBook b → Follows b.history.instruction b.history.sheets b.history.postings x → IsNext b.history x next
     → IsFirst b.history x → IsWithin 1 64 (harvester_of x)
     → length b.history.postings < b.capacity
-    → IsBook (record {
-      rule = b.rule;
-      history = history_with b.history x next;
-      capacity = b.capacity;
-      room =
-          room;
-      sheet_room = sheet_room;
-    })
+    → IsBook (book_of b.rule b.history.instruction (sheets_with b.history.sheets next) (b.history.postings ++ x ∷ [])
+    b.capacity room sheet_room)
 book_more b x next room sheet_room k follows n first in_range below = record {
   valid = k.valid;
   lawful = one_more b.history x next k.lawful follows n;
@@ -148,15 +134,7 @@ pub keeps_more : {F : Type 0} (b : BookParts F) (sheets sheets' : List SheetPart
     → y ≡ x b.history → added ≡ next → calls' ≡ set calls (harvester_of y - 1) (number_of y)
     → ps' ≡ b.history.postings ++ y ∷ []
     → sheets' ≡ sheets ++ option_to_list added → pss' ≡ sheets_with b.history.sheets added
-    → Keeps (record {
-      rule = b.rule;
-      history =
-          record { instruction = b.history.instruction; sheets = pss'; postings = ps' };
-      capacity = b.capacity;
-      room =
-          room;
-      sheet_room = sheet_room;
-    }) sheets' n' calls'
+    → Keeps (book_of b.rule b.history.instruction pss' ps' b.capacity room sheet_room) sheets' n' calls'
 keeps_more b sheets sheets' n n' calls calls' x y next added pss' ps' room sheet_room k below own follows first is_next
     told y_is added_is calls_are ps_are sheets_are pss_are =
     let z : Posting = x b.history in
@@ -229,39 +207,27 @@ module _ {F : Type 0} (b d : BookParts F) (sheets : List SheetParts) (n : Runnin
 module _ {F : Type 0} (g : Shared F (Bor Standing × Unit {0}) ℕ) (f : F) (h : HistoryParts) (x : Posting)
     (i : InstructionParts) (n : RunningParts) (s : SheetParts)
     (same : i ≡ h.instruction)
-    (sheet : IsPricedSheet g f
-    (record { instruction = i; targets = n.targets; by_class = n.by_class; by_assortment = n.by_assortment })
-    n.version s)
+    (sheet : IsPricedSheet g f (standings_of i n) n.version s)
     (told : IsPassed h x n) where
   all_here : length s.prices ≡ classes h.instruction
   all_here = sheet.one_each ∙ ap classes same
 
-  priced_here : ArePriced g f
-      (record {
-        instruction = h.instruction;
-        targets = n.targets;
-        by_class = n.by_class;
-        by_assortment =
-            n.by_assortment;
-      }) s.prices
-  priced_here =
-      subst (λ j. ArePriced g f
-      (record { instruction = j; targets = n.targets; by_class = n.by_class; by_assortment = n.by_assortment })
-      s.prices) same sheet.priced
+  priced_here : ArePriced g f (standings_of h.instruction n) s.prices
+  priced_here = subst (λ j. ArePriced g f (standings_of j n) s.prices) same sheet.priced
 
   pub is_next_sheet : IsEnd h.instruction h.postings x → IsNextSheet h x s
   is_next_sheet last = record {
     version_is_next = ap (λ y. y.version) sheet.made ∙ told.version_is ∙ ends_with_end h.instruction h.postings x last;
     same_instruction = ap (λ y. y.instruction) sheet.made ∙ same;
     prices_meet =
-        prices_meet g f h.instruction n.targets n.by_class n.by_assortment (h.postings ++ x ∷ [])
-        s.prices told.targets_are told.counts_are all_here priced_here;
+        prices_meet g f (standings_of h.instruction n) (h.postings ++ x ∷ []) s.prices told.targets_are told.counts_are
+        all_here priced_here;
   }
 
   pub next_answers : AreAnswers g f h.instruction (h.postings ++ x ∷ []) s.prices
   next_answers =
-      are_answers g f h.instruction n.targets n.by_class n.by_assortment (h.postings ++ x ∷ [])
-      s.prices told.targets_are told.counts_are all_here priced_here
+      are_answers g f (standings_of h.instruction n) (h.postings ++ x ∷ []) s.prices told.targets_are told.counts_are
+      all_here priced_here
 
 -- a sheet added to a list, as a list of values and of prices
 pub values_added : {X : Type 0} (val : X → SheetParts) (xs ys : List X) (next : Option X)

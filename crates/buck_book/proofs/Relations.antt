@@ -7,7 +7,7 @@ use Rattle.buck_apt.specs.Instruction.{InstructionParts, AssortmentParts, IsClas
 use Rattle.buck_rule.specs.Relation.{Meets}
 use Rattle.buck_book.specs.declared.posting.Posting.{Posting}
 use Rattle.buck_book.specs.Posting.{targets_of}
-use Rattle.buck_book.specs.History.{PricesMeet}
+use Rattle.buck_book.specs.History.{standing_of, PricesMeet}
 use Rattle.buck_book.specs.Walk.{IsWrongPrice}
 use Rattle.buck_book.specs.inner.Running.{AreCounts}
 use Rattle.buck_book.specs.inner.Pricing.{StandingsParts, IsClassOf, standing_by}
@@ -28,38 +28,31 @@ met_more s prices c n k place met below = λ d l lt. elim (cases_lt (index_of s.
       (subst (λ m. Meets (standing_by s k.assortment c) (slice_index prices m)) (sym place) met)
 ]
 
-module _ (i : InstructionParts) (targets by_class by_assortment : List ℕ) (ps : List Posting) (prices : List ℕ)
-    (wanted : targets ≡ targets_of i ps) (counts : AreCounts i ps by_class by_assortment) where
+module _ (s : StandingsParts) (ps : List Posting) (prices : List ℕ) (wanted : s.targets ≡ targets_of s.instruction ps)
+    (counts : AreCounts s.instruction ps s.by_class s.by_assortment) where
+  stands : (c : Class) (k : IsClass s.instruction c)
+      → standing_by s k.assortment c ≡ standing_of s.instruction k.assortment c ps
+  stands c k = standing_is s.instruction s.targets s.by_class s.by_assortment ps c wanted counts k
+
   -- by running counts that are right, the prices of all classes keep the relation after the postings
-  pub all_met : length prices ≡ classes i
-      → AreMetBelow (record { instruction = i; targets = targets; by_class = by_class; by_assortment = by_assortment })
-      prices (classes i)
-      → PricesMeet i ps prices
+  pub all_met : length prices ≡ classes s.instruction → AreMetBelow s prices (classes s.instruction)
+      → PricesMeet s.instruction ps prices
   all_met all met = record {
     one_each = all;
     each_meets = λ c k.
-        subst (λ s. Meets s (slice_index prices (index_of i c)))
-        (standing_is i targets by_class by_assortment ps c wanted counts k)
-        (met c k (place_lt i c k));
+        subst (λ x. Meets x (slice_index prices (index_of s.instruction c))) (stands c k)
+        (met c k (place_lt s.instruction c k));
   }
 
-  pub is_wrong : (at : ℕ)
-      → IsFirstWrong (record { instruction = i; targets = targets; by_class = by_class; by_assortment = by_assortment })
-      prices at
-      → IsWrongPrice i ps prices at
+  pub is_wrong : (at : ℕ) → IsFirstWrong s prices at → IsWrongPrice s.instruction ps prices at
   is_wrong at w = record {
     class = w.class;
     exists = w.exists;
     place = w.place;
     wrong = λ m. w.wrong
-        (subst (λ q. Meets
-        (standing_by
-        (record { instruction = i; targets = targets; by_class = by_class; by_assortment = by_assortment })
-        w.exists.assortment w.class) (slice_index prices q)) w.place
-        (subst (λ s. Meets s (slice_index prices (index_of i w.class)))
-        (sym (standing_is i targets by_class by_assortment ps w.class wanted counts w.exists)) m));
-    least = λ c k lt. subst (λ s. Meets s (slice_index prices (index_of i c)))
-        (standing_is i targets by_class by_assortment ps c wanted counts k) (w.least c k lt);
+        (subst (λ q. Meets (standing_by s w.exists.assortment w.class) (slice_index prices q)) w.place
+        (subst (λ x. Meets x (slice_index prices (index_of s.instruction w.class))) (sym (stands w.class w.exists)) m));
+    least = λ c k lt. subst (λ x. Meets x (slice_index prices (index_of s.instruction c))) (stands c k) (w.least c k lt);
   }
 
 -- what a fact about an option gives

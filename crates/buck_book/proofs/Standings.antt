@@ -25,7 +25,6 @@ use Rattle.buck_book.specs.History.{standing_at, standing_of, PricesMeet}
 use Rattle.buck_book.specs.Pricing.{AreAnswers}
 use Rattle.buck_book.specs.inner.Running.{AreCounts}
 use Rattle.buck_book.specs.inner.Pricing.{StandingsParts, CanPrice, IsClassOf, IsAnswer, ArePriced, standing_by}
-use Rattle.std.specs.Fn.{FnReturnsAt}
 use Rattle.buck_book.proofs.Places.{inner_is, inner_lt, one_place, place_lt}
 use Rattle.buck_book.proofs.Wanted.{sum_same, valid_at, target_within, target_low}
 
@@ -187,27 +186,22 @@ standing_is i targets by_class by_assortment ps c wanted counts k =
     let all = counts.assortment_counts c.assortment there in
     λ j. standing_at i k.assortment c (wanted j) (own j) (all j)
 
-module _ {F : Type 0} (g : Shared F (Bor Standing × Unit {0}) ℕ) (f : F) (i : InstructionParts)
-    (targets by_class by_assortment : List ℕ) (ps : List Posting) (prices : List ℕ)
-    (wanted : targets ≡ targets_of i ps) (counts : AreCounts i ps by_class by_assortment)
-    (all : length prices ≡ classes i)
-    (priced : ArePriced g f
-    (record { instruction = i; targets = targets; by_class = by_class; by_assortment = by_assortment }) prices)
-  where
-    pub prices_meet : PricesMeet i ps prices
-    prices_meet = record {
-      one_each = all;
-      each_meets = λ c k.
-          subst (λ s. Meets s (slice_index prices (index_of i c)))
-          (standing_is i targets by_class by_assortment ps c wanted counts k)
-          (priced.answered c k (omega (arith, place_lt i c k))).met;
-    }
+module _ {F : Type 0} (g : Shared F (Bor Standing × Unit {0}) ℕ) (f : F) (s : StandingsParts) (ps : List Posting)
+    (prices : List ℕ) (wanted : s.targets ≡ targets_of s.instruction ps)
+    (counts : AreCounts s.instruction ps s.by_class s.by_assortment) (all : length prices ≡ classes s.instruction)
+    (priced : ArePriced g f s prices) where
+  answers : (c : Class) (k : IsClass s.instruction c)
+      → IsAnswer g f (standing_of s.instruction k.assortment c ps) (slice_index prices (index_of s.instruction c))
+  answers c k =
+      subst (λ x. IsAnswer g f x (slice_index prices (index_of s.instruction c)))
+      (standing_is s.instruction s.targets s.by_class s.by_assortment ps c wanted counts k)
+      (priced.answered c k (omega (arith, place_lt s.instruction c k)))
 
-    pub are_answers : AreAnswers g f i ps prices
-    are_answers = λ c k.
-        subst (λ s. FnReturnsAt g f s (slice_index prices (index_of i c)))
-        (standing_is i targets by_class by_assortment ps c wanted counts k)
-        (priced.answered c k (omega (arith, place_lt i c k))).given
+  pub prices_meet : PricesMeet s.instruction ps prices
+  prices_meet = record { one_each = all; each_meets = λ c k. (answers c k).met }
+
+  pub are_answers : AreAnswers g f s.instruction ps prices
+  are_answers c k = (answers c k).given
 
 -- prices within their spans, one for each class, make a sheet
 pub no_fault : (i : InstructionParts) (prices : List ℕ) (fault : SheetFault) → length prices ≡ classes i

@@ -10,7 +10,7 @@ use Rattle.buck_book.specs.declared.posting.Posting.TheVariants.{Cut, Demand}
 use Rattle.buck_book.specs.Entry.{EntryParts, DemandParts}
 use Rattle.buck_book.specs.Posting.{opening_targets}
 use Rattle.buck_book.specs.Targets.{AreTargets}
-use Rattle.buck_book.specs.inner.Running.{RunningParts, Tells, AreCounts, AreAtMost, AreGrown, AreGrownBy, tally_of}
+use Rattle.buck_book.specs.inner.Running.{RunningParts, Tells, standings_of, AreCounts, AreAtMost, AreGrown, AreGrownBy, tally_of}
 use Rattle.buck_book.specs.inner.Pricing.{CanPrice}
 use Rattle.buck_book.proofs.Cuts.{few_logs}
 use Rattle.buck_book.proofs.Counting.{counts_more, counts_stay, low_more, can_price}
@@ -40,8 +40,7 @@ module _ (i : InstructionParts) (ps : List Posting) (n : RunningParts) (t : Tell
   pub counts_fit : AreAtMost 80000000 n.by_class n.by_assortment
   counts_fit = at_most (80 * length ps) 80000000 n.by_class n.by_assortment (omega (arith, t.few)) t.counts_low
 
-  pub prices_can : CanPrice
-      (record { instruction = i; targets = n.targets; by_class = n.by_class; by_assortment = n.by_assortment })
+  pub prices_can : CanPrice (standings_of i n)
   prices_can = can_price i n.targets ps n.by_class n.by_assortment t.valid t.targets_valid t.counts_are counts_fit
 
   module _ (x : Posting) (few : length ps < 1000000) where

@@ -11,6 +11,7 @@ use Rattle.buck_book.specs.Targets.{AreTargets}
 use Rattle.buck_book.specs.Counts.{AreClassCounts, assortment_count_of, calls_of}
 use Rattle.buck_book.specs.History.{HistoryParts}
 use Rattle.buck_book.specs.Book.{BookParts, IsBook, sheets_from}
+use Rattle.buck_book.specs.inner.Pricing.{StandingsParts}
 use Rattle.buck_book.specs.declared.posting.TheConstants.{MOST_POSTINGS}
 
 -- the running counts of classes and assortments are the counts of some postings
@@ -47,6 +48,15 @@ pub record RunningParts : Type 0 where
   pub version : ℕ  -- how many ends there were
   pub by_class : List ℕ
   pub by_assortment : List ℕ
+
+-- what prices are made by
+abbrev pub standings_of : InstructionParts → RunningParts → StandingsParts
+standings_of i n = record {
+  instruction = i;
+  targets = n.targets;
+  by_class = n.by_class;
+  by_assortment = n.by_assortment;
+}
 
 -- it is what the history's definitions say of these postings
 pub record Tells (i : InstructionParts) (ps : List Posting) (n : RunningParts) : Type 0 where

@@ -1,5 +1,6 @@
 use Rattle.std.proofs.Common.{take, sym}
 use Rattle.std.proofs.lemmas.Option.{IfSome_then}
+use Rattle.buck_book.specs.inner.Running.{standings_of}
 use Rattle.buck_book.proofs.Told.{prices_can}
 use Rattle.buck_book.proofs.Relations.{all_met, is_wrong, weaken_none}
 use Rattle.buck_book.proofs.walk.Walk.wrong_price.Goals as goal
@@ -15,8 +16,7 @@ returns-clause-found c =
     let t = c.self.invariant.tells in
     rw (sym c.self.view_is)
     (IfSome_then c.first_wrong.result c.first_wrong.ensures.found
-    (λ at found. is_wrong w.instruction.now w.running.targets w.running.by_class w.running.by_assortment
-    (take w.at w.postings.now) c.args.prices.now
+    (λ at found. is_wrong (standings_of w.instruction.now w.running) (take w.at w.postings.now) c.args.prices.now
     t.targets_are t.counts_are at
     (rw (c.targets.ensures, c.counts.ensures.classes, c.counts.ensures.assortments) at found)))
 
@@ -27,8 +27,7 @@ returns-clause-none c =
     let one_each = rw (sym c.self.view_is) at c.requires in
     rw (sym c.self.view_is)
     (weaken_none c.first_wrong.result
-    (λ met. all_met w.instruction.now w.running.targets w.running.by_class w.running.by_assortment
-    (take w.at w.postings.now) c.args.prices.now
+    (λ met. all_met (standings_of w.instruction.now w.running) (take w.at w.postings.now) c.args.prices.now
     t.targets_are t.counts_are one_each
     (rw (c.targets.ensures, c.counts.ensures.classes, c.counts.ensures.assortments) at met))
     c.first_wrong.ensures.none)
