@@ -59,14 +59,7 @@ module _ (i : InstructionParts) (ps : List Posting) (n : RunningParts) (t : Tell
       → cuts' ≡ cond (n.cuts + 1 == i.period) 0 (n.cuts + 1)
       → version' ≡ n.version + cond (n.cuts + 1 == i.period) 1 0
       → Tells i (ps ++ Cut e ∷ [])
-      (record {
-        targets = n.targets;
-        cuts = cuts';
-        version = version';
-        by_class = by_class';
-        by_assortment =
-            by_assortment';
-      })
+      (record n { cuts = cuts'; version = version'; by_class = by_class'; by_assortment = by_assortment' })
   tells_cut e by_class' by_assortment' cuts' version' few s cut classes_grown assortments_grown cut_is ended =
       let x : Posting = Cut e in
       let logs : length e.logs ≤ 80 = few_logs i e.stem e.logs t.valid s cut in
@@ -92,15 +85,7 @@ module _ (i : InstructionParts) (ps : List Posting) (n : RunningParts) (t : Tell
 
   pub tells_demand : (d : DemandParts) (targets' : List ℕ) (version' : ℕ)
       → length ps < 1000000 → AreTargets i d.targets → d.targets ≡ targets' → version' ≡ n.version + 1
-      → Tells i (ps ++ Demand d ∷ [])
-      (record {
-        targets = targets';
-        cuts = 0;
-        version = version';
-        by_class = n.by_class;
-        by_assortment =
-            n.by_assortment;
-      })
+      → Tells i (ps ++ Demand d ∷ []) (record n { targets = targets'; cuts = 0; version = version' })
   tells_demand d targets' version' few valid same ended =
       let x : Posting = Demand d in
       record {

@@ -39,26 +39,18 @@ NobodyAnswered w = (h : ℕ) → IsHarvester w h → IsAnswered w h → ⊥
 
 -- the world in which harvester h alone is at something else
 abbrev pub with_harvester : WorldParts → ℕ → Harvester → WorldParts
-with_harvester w h x = record {
-  history = w.history;
-  front = w.front;
-  harvesters = slice_set w.harvesters (h - 1) x;
-}
+with_harvester w h x = record w { harvesters = slice_set w.harvesters (h - 1) x }
 
 -- the world in which h's posting was added, with the next sheet where there is one, and the front not yet raised
 abbrev pub with_posting : WorldParts → ℕ → Posting → Option SheetParts → WorldParts
-with_posting w h x next = record {
+with_posting w h x next = record w {
   history = history_with w.history x next;
-  front = w.front;
-  harvesters = slice_set w.harvesters (h - 1)
-      (record { stage = Answered; seen = (at w h).seen; stale = (at w h).stale });
+  harvesters = slice_set w.harvesters (h - 1) (record (at w h) { stage = Answered });
 }
 
 -- the world in which h raised the front to the version in force
 abbrev pub with_front : WorldParts → ℕ → WorldParts
-with_front w h = record {
-  history = w.history;
+with_front w h = record w {
   front = version_of w.history;
-  harvesters = slice_set w.harvesters (h - 1)
-      (record { stage = Idle; seen = version_of w.history; stale = 0 });
+  harvesters = slice_set w.harvesters (h - 1) (record { stage = Idle; seen = version_of w.history; stale = 0 });
 }
