@@ -40,12 +40,7 @@ in_small low high (n ∷ ns) le h =
 
 pub call_small : (c : Call) → is_call c ≡ true
     → AllByRecursion (λ n. n ≤ 4294967295) (c.harvester ∷ c.number ∷ c.version ∷ [])
-call_small c h =
-    let p = both (within 1 64 c.harvester) (within 1 1000000 c.number && nat_le c.version 1000000) h in
-    let q = both (within 1 1000000 c.number) (nat_le c.version 1000000) p.1 in (
-      omega (arith, (within_ok 1 64 c.harvester p.0).1),
-      (omega (arith, (within_ok 1 1000000 c.number q.0).1), (version_small c.version q.1, tt)),
-    )
+call_small c h = (grind (arith, nat_tests), (grind (arith, nat_tests), (grind (arith, nat_tests), tt)))
 
 call_again : (s : Slot) (c : Call) → is_call c ≡ true → (before : ℕ) → before < 1000000
     → IsReadAs (λ items k. call_at s items k before) (item_in s (told (c.harvester ∷ c.number ∷ c.version ∷ []))) c

@@ -1,5 +1,6 @@
 -- Numbers two and three at a time.
 use Rattle.std.proofs.Common.{◌≡◌, ℕ, ◌+◌, ◌<◌, ◌≤◌, ◌&&◌, true, List, [], ◌∷◌, length, drop, get_or, refl, sym, ap, ◌∙◌, arith, drop-cons, add-one}
+use Rattle.std.proofs.lemmas.Bool.Decides.{nat_tests}
 use Rattle.buck_record.specs.checking.Rules.{within}
 use Rattle.buck_record.proofs.PassLemmas.{both, within_ok}
 use Rattle.buck_apt.specs.declared.slots.TheConstants.{LENGTHS}
@@ -66,15 +67,11 @@ pub zone_right : (low : ℕ) (xs : List ℕ) (i : ℕ) → i + 1 < length xs →
 zone_right low xs i lt h =
     let p = both (is_zone low (get_or xs i 0) (get_or xs (i + 1) 0)) (are_zones (get_or xs i 0 + 1) (drop (i + 2) xs))
     (sym (ap (are_zones low) (two xs i 0 lt)) ∙ h) in
-    let q = both (within low STARTS.high (get_or xs i 0)) (within GRADES.low GRADES.high (get_or xs (i + 1) 0)) p.0 in
-    ((within_ok GRADES.low GRADES.high (get_or xs (i + 1) 0) q.1).1, p.1)
+    let range = p.0 in (grind (arith, nat_tests), p.1)
 
 pub log_right : (xs : List ℕ) (i : ℕ) → i + 2 < length xs → are_logs (drop i xs) ≡ true
     → (get_or xs (i + 2) 0 ≤ 15) × (are_logs (drop (i + 3) xs) ≡ true)
 log_right xs i lt h =
     let p = both (is_log (get_or xs i 0) (get_or xs (i + 1) 0) (get_or xs (i + 2) 0)) (are_logs (drop (i + 3) xs))
     (sym (ap are_logs (three xs i 0 lt)) ∙ h) in
-    let q = both (within STARTS.low STARTS.high (get_or xs i 0))
-    (within 0 LENGTHS.high (get_or xs (i + 1) 0) && within 0 15 (get_or xs (i + 2) 0)) p.0 in
-    let r = both (within 0 LENGTHS.high (get_or xs (i + 1) 0)) (within 0 15 (get_or xs (i + 2) 0)) q.1 in
-    ((within_ok 0 15 (get_or xs (i + 2) 0) r.1).1, p.1)
+    let range = p.0 in (grind (arith, nat_tests), p.1)

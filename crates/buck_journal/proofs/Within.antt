@@ -38,10 +38,7 @@ use Rattle.buck_journal.proofs.Faults.{prices_right}
 use Rattle.buck_journal.proofs.Replays.{in_span, Opened, opened}
 
 within_yes : (low high n : ℕ) → low ≤ n → n ≤ high → within low high n ≡ true
-within_yes low high n a b = and_from (nat_le low n) (nat_le n high) (le_yes low n a) (le_yes n high b)
-  where
-    le_yes : (a b : ℕ) → a ≤ b → nat_le a b ≡ true
-    le_yes a b le = grind (arith, nat_tests)
+within_yes low high n a b = grind (arith, nat_tests)
 
 all_within_yes : (high : ℕ) (ns : List ℕ) → AllByRecursion (λ n. n ≤ high) ns → all_within 0 high ns ≡ true
 all_within_yes high [] h = refl
@@ -50,11 +47,7 @@ all_within_yes high (n ∷ ns) h =
     (all_within_yes high ns h.1)
 
 call_yes : (c : Call) → IsWithin 1 64 c.harvester → IsWithin 1 1000000 c.number → c.version ≤ 1000000 → is_call c ≡ true
-call_yes c h n v =
-    and_from (within 1 64 c.harvester) (within 1 1000000 c.number && nat_le c.version 1000000)
-    (within_yes 1 64 c.harvester h.0 h.1)
-    (and_from (within 1 1000000 c.number) (nat_le c.version 1000000) (within_yes 1 1000000 c.number n.0 n.1)
-    (let le = v in grind (arith, nat_tests)))
+call_yes c h n v = grind (arith, nat_tests)
 
 zones_yes : (low : ℕ) (zones : List (ℕ × ℕ)) → IsRisingFrom low zones → AllByRecursion (λ z. z.0 ≤ STARTS.high) zones
     → AllByRecursion (λ z. IsGrade z.1) zones
@@ -76,10 +69,7 @@ log_yes i stem g v s a =
     let start : g.start ≤ STARTS.high = omega (arith, a.allows.within, s.samples_number.1) in
     let which : g.assortment ≤ 15 =
     omega (arith, slice_get_within i.assortments g.assortment a.assortment a.exists, v.assortments_number.1) in
-    and_from (within STARTS.low STARTS.high g.start) (within 0 LENGTHS.high g.length && within 0 15 g.assortment)
-    (within_yes STARTS.low STARTS.high g.start (omega arith) start)
-    (and_from (within 0 LENGTHS.high g.length) (within 0 15 g.assortment)
-    (within_yes 0 LENGTHS.high g.length (omega arith) long) (within_yes 0 15 g.assortment (omega arith) which))
+    grind (arith, nat_tests)
 
 logs_yes : (i : InstructionParts) (stem : StemParts) (from : ℕ) (gs : List Log) → IsInstruction i → IsStem stem
     → IsCutFrom (IsAllowed i stem) (end_of i) from gs
