@@ -27,9 +27,6 @@ use Rattle.buck_journal.proofs.OnePass.{call_read, list_read, head_read, samples
 abbrev pub made : ℕ → ℕ → List ℕ → ItemParts
 made number kind ns = record { number = number; kind = kind; rest = told ns }
 
-version_small : (v : ℕ) → nat_le v 1000000 ≡ true → v ≤ 4294967295
-version_small v h = let le : v ≤ 1000000 = grind (arith, nat_tests) in omega arith
-
 -- numbers that are in range are small
 pub in_small : (low high : ℕ) (ns : List ℕ) → high ≤ 4294967295 → all_within low high ns ≡ true
     → AllByRecursion (λ n. n ≤ 4294967295) ns
@@ -67,10 +64,8 @@ pub zones_small : (low : ℕ) (zones : List (ℕ × ℕ)) → are_zones low (zon
 zones_small low [] h = tt
 zones_small low (z ∷ zs) h =
     let p = both (is_zone low z.0 z.1) (are_zones (z.0 + 1) (zone_numbers zs)) h in
-    let q = both (within low STARTS.high z.0) (within GRADES.low GRADES.high z.1) p.0 in (
-      omega (arith, (within_ok low STARTS.high z.0 q.0).1),
-      (omega (arith, (within_ok GRADES.low GRADES.high z.1 q.1).1), zones_small (z.0 + 1) zs p.1),
-    )
+    let range = p.0 in
+    (grind (arith, nat_tests), (grind (arith, nat_tests), zones_small (z.0 + 1) zs p.1))
 
 -- logs and their numbers
 pub logs_back : (logs : List Log) → logs_of (log_numbers logs) ≡ logs
@@ -86,15 +81,8 @@ pub logs_small : (logs : List Log) → are_logs (log_numbers logs) ≡ true
 logs_small [] h = tt
 logs_small (g ∷ gs) h =
     let p = both (is_log g.start g.length g.assortment) (are_logs (log_numbers gs)) h in
-    let q = both (within STARTS.low STARTS.high g.start) (within 0 LENGTHS.high g.length && within 0 15 g.assortment)
-    p.0 in
-    let r = both (within 0 LENGTHS.high g.length) (within 0 15 g.assortment) q.1 in (
-      omega (arith, (within_ok STARTS.low STARTS.high g.start q.0).1),
-      (
-        omega (arith, (within_ok 0 LENGTHS.high g.length r.0).1),
-        (omega (arith, (within_ok 0 15 g.assortment r.1).1), logs_small gs p.1),
-      ),
-    )
+    let range = p.0 in
+    (grind (arith, nat_tests), (grind (arith, nat_tests), (grind (arith, nat_tests), logs_small gs p.1)))
 
 zones_again : (zones : List (ℕ × ℕ)) → length zones ≤ MOST_ZONES → are_zones 0 (zone_numbers zones) ≡ true
     → IsReadAs zones_at (made 981 4 (zone_numbers zones)) zones

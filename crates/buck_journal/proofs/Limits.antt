@@ -1,6 +1,7 @@
 -- Numbers that passed the tests are within the limits of a stem.
 use Rattle.std.proofs.Common.{◌≡◌, ℕ, ◌+◌, ◌*◌, ◌≤◌, true, List, [], ◌∷◌, length, get_or, arith}
 use Rattle.std.specs.List.{AllByRecursion}
+use Rattle.std.proofs.lemmas.Bool.Decides.{nat_tests}
 use Rattle.std.proofs.lemmas.List.Elements.{All-from_recursion}
 use Rattle.std.proofs.lemmas.List.Sums.{AllPass-from_list_all}
 use Rattle.buck_record.specs.checking.Rules.{within, all_within, one_to}
@@ -16,21 +17,19 @@ half [] = omega arith
 half (s ∷ []) = omega arith
 half (s ∷ g ∷ more) = omega (arith, half more)
 
--- the first zone, and the rest
-first : (low s g : ℕ) (more : List ℕ) → are_zones low (s ∷ g ∷ more) ≡ true
-    → ((low ≤ s) × (s ≤ STARTS.high)) × ((GRADES.low ≤ g) × (g ≤ GRADES.high)) × (are_zones (s + 1) more ≡ true)
-first low s g more h =
-    let p = both (is_zone low s g) (are_zones (s + 1) more) h in
-    let q = both (within low STARTS.high s) (within GRADES.low GRADES.high g) p.0 in
-    (within_ok low STARTS.high s q.0, within_ok GRADES.low GRADES.high g q.1, p.1)
-
 fit : (low : ℕ) (ns : List ℕ) → are_zones low ns ≡ true
     → AllByRecursion (λ (z : ℕ × ℕ). z.0 ≤ STARTS.high) (zones_of ns)
     × AllByRecursion (λ (z : ℕ × ℕ). IsGrade z.1) (zones_of ns) × IsRisingFrom low (zones_of ns)
 fit low [] h = (tt, tt, tt)
 fit low (s ∷ []) h = (tt, tt, tt)
-fit low (s ∷ g ∷ more) h = let p = first low s g more h in let q = fit (s + 1) more p.2 in
-    ((p.0.1, q.0), (p.1, q.1), (p.0.0, q.2))
+fit low (s ∷ g ∷ more) h =
+    let p = both (is_zone low s g) (are_zones (s + 1) more) h in
+    let range = p.0 in
+    let rest = fit (s + 1) more p.1 in (
+      (grind (arith, nat_tests), rest.0),
+      ((grind (arith, nat_tests), grind (arith, nat_tests)), rest.1),
+      (grind (arith, nat_tests), rest.2),
+    )
 
 pub are_zones_ok : (ns : List ℕ) → length ns ≤ 2 * MOST_ZONES → are_zones 0 ns ≡ true → AreZones (zones_of ns)
 are_zones_ok ns few h = record {

@@ -42,9 +42,7 @@ within_yes low high n a b = grind (arith, nat_tests)
 
 all_within_yes : (high : ℕ) (ns : List ℕ) → AllByRecursion (λ n. n ≤ high) ns → all_within 0 high ns ≡ true
 all_within_yes high [] h = refl
-all_within_yes high (n ∷ ns) h =
-    and_from (within 0 high n) (all_within 0 high ns) (within_yes 0 high n (omega arith) h.0)
-    (all_within_yes high ns h.1)
+all_within_yes high (n ∷ ns) h = let rest = all_within_yes high ns h.1 in grind (arith, nat_tests)
 
 call_yes : (c : Call) → IsWithin 1 64 c.harvester → IsWithin 1 1000000 c.number → c.version ≤ 1000000 → is_call c ≡ true
 call_yes c h n v = grind (arith, nat_tests)
@@ -54,10 +52,7 @@ zones_yes : (low : ℕ) (zones : List (ℕ × ℕ)) → IsRisingFrom low zones �
     → are_zones low (zone_numbers zones) ≡ true
 zones_yes low [] rise starts grades = refl
 zones_yes low (z ∷ zs) rise starts grades =
-    and_from (is_zone low z.0 z.1) (are_zones (z.0 + 1) (zone_numbers zs))
-    (and_from (within low STARTS.high z.0) (within GRADES.low GRADES.high z.1)
-    (within_yes low STARTS.high z.0 rise.0 starts.0) (within_yes GRADES.low GRADES.high z.1 grades.0.0 grades.0.1))
-    (zones_yes (z.0 + 1) zs rise.1 starts.1 grades.1)
+    let rest = zones_yes (z.0 + 1) zs rise.1 starts.1 grades.1 in grind (arith, nat_tests)
 
 log_yes : (i : InstructionParts) (stem : StemParts) (g : Log) → IsInstruction i → IsStem stem → IsAllowed i stem g
     → is_log g.start g.length g.assortment ≡ true
@@ -76,8 +71,7 @@ logs_yes : (i : InstructionParts) (stem : StemParts) (from : ℕ) (gs : List Log
     → are_logs (log_numbers gs) ≡ true
 logs_yes i stem from [] v s cut = refl
 logs_yes i stem from (g ∷ gs) v s cut =
-    and_from (is_log g.start g.length g.assortment) (are_logs (log_numbers gs)) (log_yes i stem g v s cut.1)
-    (logs_yes i stem (end_of i g) gs v s cut.2)
+    and_from _ _ (log_yes i stem g v s cut.1) (logs_yes i stem (end_of i g) gs v s cut.2)
 
 -- prices that keep the relation somewhere lie within their spans, and are low
 module _ (i : InstructionParts) (ps : List Posting) (prices : List ℕ) (v : IsInstruction i) (m : PricesMeet i ps prices)
