@@ -1,5 +1,5 @@
 -- What holds of each world that a run reaches.
-use Rattle.std.proofs.Common.{◌≡◌, ◌≢◌, ⊎_elim, ℕ, ◌+◌, ◌-◌, ◌<◌, ◌≤◌, List, [], ◌∷◌, length, length-set, get_or, set, slice_get, replicate, Option, Some, None, sym, refl, ap, subst, ◌∙◌, arith, le_refl, le_trans}
+use Rattle.std.proofs.Common.{◌≡◌, ◌≢◌, ⊎_elim, inl, inr, ℕ, ◌+◌, ◌-◌, ◌<◌, ◌≤◌, List, [], ◌∷◌, length, length-set, get_or, set, slice_get, replicate, Option, Some, None, sym, refl, ap, subst, ◌∙◌, arith, le_refl, le_trans}
 use Rattle.std.proofs.lemmas.List.{get_or-replicate, length-replicate, length_push}
 use native.Mathlib.Decide.{ℕ_discrete}
 use Rattle.buck_apt.specs.Instruction.{InstructionParts}
@@ -17,7 +17,7 @@ use Rattle.buck_world.specs.Step.{IsPlanUnder, Step}
 use Rattle.buck_world.specs.Kept.{IsFit, IsWorld}
 use Rattle.buck_world.specs.Run.{Move, IsRun, last, harvester_of_event}
 use Rattle.buck_world.specs.inner.Sound.{IsGoing, IsPlaced, IsSound}
-use Rattle.buck_world.proofs.Lists.{decided, here, elsewhere, after_set}
+use Rattle.buck_world.proofs.Lists.{decided, here, elsewhere, each_of, after_set}
 use Rattle.buck_world.proofs.Moves.{IsQuiet, IsAdded, IsRaised, move_of, is_in}
 
 -- a history one posting longer has as many sheets, or one more
@@ -64,13 +64,10 @@ quiet_sound w w' h s h_in q = subst (λ (y : WorldParts). IsSound y) (sym q.is) 
 
     back : (g : ℕ) → IsHarvester (with_harvester w h q.now) g → (at (with_harvester w h q.now) g).stage ≡ Answered
         → (at w g).stage ≡ Answered
-    back g g_in g_is = decided
-        (λ (e : g ≡ h). absurd
-        (q.after (subst (λ (y : Harvester). y.stage ≡ Answered) (here w.harvesters h q.now newcomer h_in.0 h_in.1)
-        (subst (λ (j : ℕ). (at (with_harvester w h q.now) j).stage ≡ Answered) e g_is))))
-        (λ (n : g ≢ h). subst (λ (y : Harvester). y.stage ≡ Answered)
-        (elsewhere w.harvesters h g q.now newcomer h_in.0 g_in.0 n) g_is)
-        (ℕ_discrete g h)
+    back g g_in g_is = elim (each_of w.harvesters h q.now newcomer h_in.0 g g_in) [
+      | inl e ↦ absurd (q.after (rw (e, here w.harvesters h q.now newcomer h_in.0 h_in.1) at g_is))
+      | inr o ↦ rw o.2 at g_is
+    ]
 
 -- a plan's sheet stays at its place
 under_after : (s : HistoryParts) (x : Posting) (next : Option SheetParts) (v : ℕ) (p : PlanParts) → v < length s.sheets
@@ -137,10 +134,10 @@ added_sound w w' h s h_in a = subst (λ (y : WorldParts). IsSound y) (sym a.is) 
 
     only : (g : ℕ) → (1 ≤ g) × (g ≤ length (set w.harvesters (h - 1) x))
         → (get_or (set w.harvesters (h - 1) x) (g - 1) newcomer).stage ≡ Answered → g ≡ h
-    only g g_in g_is = decided (λ (e : g ≡ h). e)
-        (λ (n : g ≢ h). absurd (a.nobody g (g_in.0, subst (λ (j : ℕ). g ≤ j) (length-set w.harvesters (h - 1) x) g_in.1)
-        (subst (λ (y : Harvester). y.stage ≡ Answered) (elsewhere w.harvesters h g x newcomer h_in.0 g_in.0 n) g_is)))
-        (ℕ_discrete g h)
+    only g g_in g_is = elim (each_of w.harvesters h x newcomer h_in.0 g g_in) [
+      | inl e ↦ e
+      | inr o ↦ absurd (a.nobody g o.1 (rw o.2 at g_is))
+    ]
 
 -- a posting's version is at most the version in force
 version_low : (w : WorldParts) → IsSound w → (i : ℕ) (p : Posting) → slice_get w.history.postings i ≡ Some p
@@ -174,15 +171,12 @@ raised_sound w w' h s h_in r = subst (λ (y : WorldParts). IsSound y) (sym r.is)
 
     nobody : (g : ℕ) → (1 ≤ g) × (g ≤ length (set w.harvesters (h - 1) x))
         → (get_or (set w.harvesters (h - 1) x) (g - 1) newcomer).stage ≢ Answered
-    nobody g g_in g_is = decided
-        (λ (e : g ≡ h). let is : Idle ≡ Answered =
-        subst (λ (y : Harvester). y.stage ≡ Answered) (here w.harvesters h x newcomer h_in.0 h_in.1)
-        (subst (λ (j : ℕ). (get_or (set w.harvesters (h - 1) x) (j - 1) newcomer).stage ≡ Answered) e g_is) in cc)
-        (λ (n : g ≢ h). n
-        (k.one_answered g h (g_in.0, subst (λ (j : ℕ). g ≤ j) (length-set w.harvesters (h - 1) x) g_in.1) h_in
-        (subst (λ (y : Harvester). y.stage ≡ Answered) (elsewhere w.harvesters h g x newcomer h_in.0 g_in.0 n) g_is)
-        r.was))
-        (ℕ_discrete g h)
+    nobody g g_in g_is = elim (each_of w.harvesters h x newcomer h_in.0 g g_in) [
+      | inl e ↦
+          let is : Idle ≡ Answered = rw (e, here w.harvesters h x newcomer h_in.0 h_in.1) at g_is in
+          cc
+      | inr o ↦ o.0 (k.one_answered g h o.1 h_in (rw o.2 at g_is) r.was)
+    ]
 
 pub stays_sound : (w w' : WorldParts) (e : Event) → IsSound w → Step w e w' → IsSound w'
 stays_sound w w' e s step = let h = harvester_of_event e in let h_in = is_in w e step.0 in ⊎_elim

@@ -3,7 +3,7 @@ use Rattle.std.specs.Prelude.{◌≡◌, ◌≢◌, ℕ, ◌≤◌, List, [], �
 use Rattle.buck_book.specs.declared.posting.Posting.{Posting}
 use Rattle.buck_book.specs.declared.posting.Posting.TheVariants.{Cut, Demand}
 use Rattle.buck_book.specs.declared.ready.Refusal.{Refusal}
-use Rattle.buck_book.specs.declared.ready.Refusal.TheVariants.{Full, Stale, Memory}
+use Rattle.buck_book.specs.declared.ready.Refusal.TheVariants.{Stale}
 use Rattle.buck_book.specs.Plan.{PlanParts, IsPlan}
 use Rattle.buck_book.specs.History.{HistoryParts, in_force, version_of}
 use Rattle.buck_book.specs.Book.{BookParts, entry_of, demand_of, IsReadyFor, IsReadyDemand}
@@ -14,7 +14,7 @@ use Rattle.buck_fleet.specs.declared.seat.Reply.{Reply}
 use Rattle.buck_fleet.specs.declared.seat.DemandReply.{DemandReply}
 use Rattle.buck_fleet.specs.Seat.{SeatParts, KeepsOne, seen_of}
 use Rattle.buck_fleet.specs.declared.cut.Attempt.{Attempt}
-use Rattle.buck_fleet.specs.declared.cut.Attempt.TheVariants.{Done, Outdated, Refused}
+use Rattle.buck_fleet.specs.declared.cut.Attempt.TheVariants.{Done}
 use Rattle.buck_fleet.specs.declared.seat.Path.TheVariants.{Optimistic}
 use Rattle.buck_fleet.specs.Reply.{kept_of, kept_demand_of, IsReplyFor, IsOfPlan}
 
@@ -51,15 +51,13 @@ pub record IsReplyAt {F : Type 0} (before after : BookParts F) (seat_before seat
 
 -- a plan is stale where another sheet is in force
 abbrev pub HasOtherSheet : PlanParts → Refusal → Type 0
-HasOtherSheet p Full = Unit {0}
 HasOtherSheet p (Stale sheet) = sheet.value ≢ p.sheet
-HasOtherSheet p Memory = Unit {0}
+HasOtherSheet p other = Unit {0}
 
 -- the plan's own sheet wasn't in force then
 abbrev pub WasStale : HistoryParts → PlanParts → Refusal → Type 0
-WasStale h p Full = Unit {0}
 WasStale h p (Stale sheet) = p.sheet ≢ in_force h
-WasStale h p Memory = Unit {0}
+WasStale h p other = Unit {0}
 
 -- the plan wasn't committed
 pub record IsPlanRefused {F : Type 0} (before after : BookParts F) (p : PlanParts) (e : Refusal) : Type 0 where
@@ -77,5 +75,4 @@ pub record IsDemandReplyAt {F : Type 0} (before after : BookParts F) (seat_befor
 abbrev pub IsAttempt : SeatParts → SeatParts → PlanParts → ℕ → Attempt → Type 0
 IsAttempt before after p attempt (Done r) = IsReplyFor before after p.stem r × IsOfPlan p r.entry
     × (r.attempts ≡ attempt) × (r.path ≡ Optimistic)
-IsAttempt before after p attempt Outdated = after ≡ before
-IsAttempt before after p attempt (Refused fault) = after ≡ before
+IsAttempt before after p attempt other = after ≡ before
