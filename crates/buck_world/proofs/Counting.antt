@@ -1,6 +1,7 @@
 -- What is counted along runs.
-use Rattle.std.proofs.Common.{◌≡◌, ◌≢◌, inl, ⊎_elim, ℕ, zero, suc, ◌+◌, ◌-◌, ◌*◌, ◌<◌, ◌≤◌, List, [], ◌∷◌, Bool, cond, length, get_or, set, sym, refl, ap, subst, ◌∙◌, eq-eqb, ne_eqb, lt-ltb, le-ltb, arith, mul-le-mul_left}
-use native.Mathlib.Decide.{ℕ_discrete, dec_lt}
+use Rattle.std.proofs.Common.{◌≡◌, ◌≢◌, inl, ⊎_elim, inr, ℕ, zero, suc, ◌+◌, ◌-◌, ◌*◌, ◌<◌, ◌≤◌, List, [], ◌∷◌, Bool, cond, length, get_or, set, sym, refl, ap, subst, ◌∙◌, eq-eqb, ne_eqb, lt-ltb, le-ltb, arith, mul-le-mul_left}
+use Rattle.std.proofs.lemmas.Bool.{cases_eq}
+use Rattle.std.proofs.lemmas.Bool.Decides.{nat_tests}
 use Rattle.buck_book.specs.declared.posting.Posting.TheVariants.{Cut}
 use Rattle.buck_book.specs.History.{version_of}
 use Rattle.buck_book.specs.Book.{entry_of}
@@ -14,7 +15,7 @@ use Rattle.buck_world.specs.Step.{Adds, Step}
 use Rattle.buck_world.specs.Run.{Move, IsRun, last, harvester_of_event}
 use Rattle.buck_world.specs.Counts.{IsFreshAt, IsFresh, one_if_more, lift_at, stale_at, if_by, count_all, count_own, all_lifts, lifts_of, all_stale, stale_of}
 use Rattle.buck_world.specs.inner.Sound.{IsGoing, IsSound}
-use Rattle.buck_world.proofs.Lists.{decided, here, elsewhere}
+use Rattle.buck_world.proofs.Lists.{here, elsewhere}
 use Rattle.buck_world.proofs.Moves.{is_in, changed}
 use Rattle.buck_world.proofs.Sound.{stays_sound}
 use Rattle.buck_world.proofs.Kept.{same_number}
@@ -33,9 +34,7 @@ by_other h e n not = ap (λ (t : Bool). cond t n 0) (ne_eqb (harvester_of_event 
 
 -- one raise of the front, by 1 at most
 raise_is : (front version : ℕ) → front ≤ version → version ≤ front + 1 → one_if_more front version + front ≡ version
-raise_is front version a b =
-    decided (λ (h : front < version). let e = one_more front version h in omega arith)
-    (λ (h : front < version → ⊥). let e = none_more front version (omega arith) in omega arith) (dec_lt front version)
+raise_is front version a b = grind (arith, nat_tests)
 
 front_kept : (w w' x : WorldParts) → w' ≡ x → x.front ≡ w.front → 0 + w.front ≡ w'.front
 front_kept w w' x e f = let g = ap (λ (y : WorldParts). y.front) e in omega arith
@@ -129,16 +128,20 @@ own w w' (Leave h) n k s (a, f) fresh within e = put w w' _ (Leave h) n k _ s (a
 -- one more event
 within_step : (w w' : WorldParts) (e : Event) (h k : ℕ) → IsSound w → Step w e w' → IsFreshAt w e → 1 ≤ h
     → IsWithin w h k → IsWithin w' h (if_by h e (stale_at w e w') + if_by h e (lift_at w e w') + k)
-within_step w w' e h k s step fresh low within = decided
-    (λ (is : harvester_of_event e ≡ h). let a = by_self h e (stale_at w e w') is in let b =
-    by_self h e (lift_at w e w') is in
-    subst (λ (g : ℕ). IsWithin w' g (if_by h e (stale_at w e w') + if_by h e (lift_at w e w') + k)) is
-    (own w w' e _ k s step fresh (subst (λ (g : ℕ). IsWithin w g k) (sym is) within) (omega arith)))
-    (λ (not : harvester_of_event e ≢ h). let a = by_other h e (stale_at w e w') not in let b =
-    by_other h e (lift_at w e w') not in let f = front_after w w' e s step in let few = within.front in
-    within_after w' h _ (at w h) (foreign w w' e h s step low (λ q. not (sym q))) (omega arith)
-    (λ g. let seen = within.seen g in omega arith))
-    (ℕ_discrete (harvester_of_event e) h)
+within_step w w' e h k s step fresh low within = elim (cases_eq (harvester_of_event e) h) [
+  | inl is ↦
+      let a = by_self h e (stale_at w e w') is in
+      let b = by_self h e (lift_at w e w') is in
+      subst (λ g. IsWithin w' g (if_by h e (stale_at w e w') + if_by h e (lift_at w e w') + k)) is
+      (own w w' e _ k s step fresh (subst (λ g. IsWithin w g k) (sym is) within) (omega arith))
+  | inr not ↦
+      let a = by_other h e (stale_at w e w') not in
+      let b = by_other h e (lift_at w e w') not in
+      let f = front_after w w' e s step in
+      let few = within.front in
+      within_after w' h _ (at w h) (foreign w w' e h s step low (λ q. not (sym q))) (omega arith)
+      (λ g. let seen = within.seen g in omega arith)
+]
 
 pub stale_and_lifts : (w : WorldParts) (moves : List Move) (h k : ℕ) → IsSound w → IsRun w moves → IsFresh w moves
     → 1 ≤ h → IsWithin w h k → stale_of h w moves + lifts_of h w moves + k ≤ (last w moves).front
@@ -180,12 +183,10 @@ sum_to_one : (e : Event) (x n : ℕ) → 1 ≤ harvester_of_event e → harveste
     → sum_to (λ h. if_by h e x) n ≡ x
 unfolding sum_to
 sum_to_one e x zero low high = absurd (omega arith)
-sum_to_one e x (suc n) low high = decided
-    (λ (is : harvester_of_event e ≡ suc n). let a = sum_to_past e x n (omega arith) in let b = by_self (suc n) e x is in
-    omega arith)
-    (λ (not : harvester_of_event e ≢ suc n). let a = sum_to_one e x n low (omega arith) in let b =
-    by_other (suc n) e x not in omega arith)
-    (ℕ_discrete (harvester_of_event e) (suc n))
+sum_to_one e x (suc n) low high = elim (cases_eq (harvester_of_event e) (suc n)) [
+  | inl is ↦ let a = sum_to_past e x n (omega arith) in let b = by_self (suc n) e x is in omega arith
+  | inr not ↦ let a = sum_to_one e x n low (omega arith) in let b = by_other (suc n) e x not in omega arith
+]
 
 sum_of_own : (count : WorldParts → Event → WorldParts → ℕ) (w : WorldParts) (moves : List Move) (n : ℕ) → IsSound w
     → length w.harvesters ≡ n → IsRun w moves

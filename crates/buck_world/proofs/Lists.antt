@@ -3,10 +3,6 @@ use Rattle.std.proofs.Common.{◌≡◌, ◌≢◌, ◌⊎◌, inl, inr, ℕ, �
 use Rattle.std.proofs.lemmas.List.{get_or-set_same, get_or-set_other}
 use Rattle.std.proofs.lemmas.Bool.{cases_eq}
 
-pub decided : {P : Type 0} {Q : Type 0} → (P → Q) → ((P → ⊥) → Q) → Dec P → Q
-decided yes_case no_case (yes p) = yes_case p
-decided yes_case no_case (no n) = no_case n
-
 module _ {X : Type 0} where
   pub here : (xs : List X) (h : ℕ) (x d : X) → 1 ≤ h → h ≤ length xs → get_or (set xs (h - 1) x) (h - 1) d ≡ x
   here xs h x d low high = get_or-set_same xs (h - 1) x d (omega arith)

@@ -1,7 +1,7 @@
 -- What a harvester has seen never falls, and what is added along a run.
-use Rattle.std.proofs.Common.{◌≡◌, ◌≢◌, ⊎_elim, ℕ, ◌+◌, ◌≤◌, List, [], ◌∷◌, ◌++◌, length, drop, slice_get, Some, sym, refl, ap, subst, ◌∙◌, append_assoc, append-nil, arith, le_refl, le_trans}
+use Rattle.std.proofs.Common.{◌≡◌, ◌≢◌, ⊎_elim, inl, inr, ℕ, ◌+◌, ◌≤◌, List, [], ◌∷◌, ◌++◌, length, drop, slice_get, Some, sym, refl, ap, subst, ◌∙◌, append_assoc, append-nil, arith, le_refl, le_trans}
 use Rattle.std.proofs.Math.Seq.{drop-append_seam}
-use native.Mathlib.Decide.{ℕ_discrete}
+use Rattle.std.proofs.lemmas.Bool.{cases_eq}
 use Rattle.buck_book.specs.declared.posting.Posting.{Posting}
 use Rattle.buck_book.specs.declared.posting.Posting.TheVariants.{Cut}
 use Rattle.buck_book.specs.Posting.{harvester_of, planned_version}
@@ -16,7 +16,6 @@ use Rattle.buck_world.specs.World.{WorldParts, IsHarvester, at, with_harvester}
 use Rattle.buck_world.specs.Step.{IsPlanUnder, Adds, Step}
 use Rattle.buck_world.specs.Run.{Move, IsRun, last, harvester_of_event, more_than, added_at, added}
 use Rattle.buck_world.specs.inner.Sound.{IsSound}
-use Rattle.buck_world.proofs.Lists.{decided}
 use Rattle.buck_world.proofs.Moves.{is_in, changed}
 use Rattle.buck_world.proofs.Sound.{stays_sound, run_sound}
 use Rattle.buck_world.proofs.Kept.{same_number}
@@ -35,12 +34,10 @@ own_no_less w w' e s step =
 
 step_no_less : (w w' : WorldParts) (e : Event) (h : ℕ) → IsSound w → Step w e w' → 1 ≤ h
     → (at w h).seen ≤ (at w' h).seen
-step_no_less w w' e h s step low = decided
-    (λ (is : h ≡ harvester_of_event e). subst (λ (g : ℕ). (at w g).seen ≤ (at w' g).seen) (sym is)
-    (own_no_less w w' e s step))
-    (λ (not : h ≢ harvester_of_event e). seen_no_less w w' h (at w h) (foreign w w' e h s step low not)
-    (le_refl (at w h).seen))
-    (ℕ_discrete h (harvester_of_event e))
+step_no_less w w' e h s step low = elim (cases_eq h (harvester_of_event e)) [
+  | inl is ↦ subst (λ g. (at w g).seen ≤ (at w' g).seen) (sym is) (own_no_less w w' e s step)
+  | inr not ↦ seen_no_less w w' h (at w h) (foreign w w' e h s step low not) (le_refl (at w h).seen)
+]
 
 run_no_less : (w : WorldParts) (moves : List Move) (h : ℕ) → IsSound w → IsRun w moves → 1 ≤ h
     → (at w h).seen ≤ (at (last w moves) h).seen

@@ -1,7 +1,7 @@
 -- What holds of each world that a run reaches.
 use Rattle.std.proofs.Common.{◌≡◌, ◌≢◌, ⊎_elim, inl, inr, ℕ, ◌+◌, ◌-◌, ◌<◌, ◌≤◌, List, [], ◌∷◌, length, length-set, get_or, set, slice_get, replicate, Option, Some, None, sym, refl, ap, subst, ◌∙◌, arith, le_refl, le_trans}
 use Rattle.std.proofs.lemmas.List.{get_or-replicate, length-replicate, length_push}
-use native.Mathlib.Decide.{ℕ_discrete}
+use Rattle.std.proofs.lemmas.Bool.{cases_eq}
 use Rattle.buck_apt.specs.Instruction.{InstructionParts}
 use Rattle.buck_value.specs.Sheet.{SheetParts, sheet_of}
 use Rattle.buck_book.specs.declared.posting.Posting.{Posting}
@@ -17,7 +17,7 @@ use Rattle.buck_world.specs.Step.{IsPlanUnder, Step}
 use Rattle.buck_world.specs.Kept.{IsFit, IsWorld}
 use Rattle.buck_world.specs.Run.{Move, IsRun, last, harvester_of_event}
 use Rattle.buck_world.specs.inner.Sound.{IsGoing, IsPlaced, IsSound}
-use Rattle.buck_world.proofs.Lists.{decided, here, elsewhere, each_of, after_set}
+use Rattle.buck_world.proofs.Lists.{here, elsewhere, each_of, after_set}
 use Rattle.buck_world.proofs.Moves.{IsQuiet, IsAdded, IsRaised, move_of, is_in}
 
 -- a history one posting longer has as many sheets, or one more
@@ -36,12 +36,10 @@ quiet_sound w w' h s h_in q = subst (λ (y : WorldParts). IsSound y) (sym q.is) 
         λ g j g_in j_in g_is j_is. k.one_answered g j (back_in g g_in) (back_in j j_in) (back g g_in g_is)
         (back j j_in j_is);
     front_low = k.front_low;
-    front_in_force = λ nobody. k.front_in_force (λ g g_in g_is. decided
-        (λ (e : g ≡ h). q.before (subst (λ (j : ℕ). (at w j).stage ≡ Answered) e g_is))
-        (λ (n : g ≢ h). nobody g (forth_in g g_in)
-        (subst (λ (y : Harvester). y.stage ≡ Answered)
-        (sym (elsewhere w.harvesters h g q.now newcomer h_in.0 g_in.0 n)) g_is))
-        (ℕ_discrete g h));
+    front_in_force = λ nobody. k.front_in_force (λ g g_in g_is. elim (cases_eq g h) [
+      | inl e ↦ q.before (subst (λ j. (at w j).stage ≡ Answered) e g_is)
+      | inr n ↦ nobody g (forth_in g g_in) (rw (elsewhere w.harvesters h g q.now newcomer h_in.0 g_in.0 n) g_is)
+    ]);
   };
   next = s.next;
   placed = after_set (λ g y. IsPlaced w.history g y) w.harvesters h q.now newcomer h_in.0 h_in.1
