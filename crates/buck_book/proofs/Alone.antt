@@ -92,20 +92,7 @@ module _ (i : InstructionParts) (c : Class) (v : IsInstruction i) (k : IsClass i
   -- after cuts alone a class stands the same in both words
   same_standing : (es : List EntryParts)
       → standing_of i k.assortment c (map Cut es) ≡ alone.standing_of i k.assortment c es
-  same_standing es =
-      let stay : targets_of i (map Cut es) ≡ opening_targets i = targets_stay (opening_targets i) es in
-      let b : slice_index (base_prices i) (index_of i c)
-      ≡ slice_index k.assortment.prices (alone.place_in k.assortment c) = base_is i c v k in
-      let t : slice_index (targets_of i (map Cut es)) (index_of i c)
-      ≡ slice_index k.assortment.targets (alone.place_in k.assortment c) =
-      ap (λ ts. slice_index ts (index_of i c)) stay ∙ target_is in
-      let ts : targets_sum i k.assortment c.assortment (targets_of i (map Cut es)) ≡ sum k.assortment.targets =
-      ap (λ ts. targets_sum i k.assortment c.assortment ts) stay ∙ ap sum part in
-      let n : count_of i c (map Cut es) ≡ sum_by (λ e. class_logs i c e.stem e.logs) es =
-      sum_of_cuts (λ x. class_logs_in i c x) es in
-      let ns : assortment_count_of c.assortment (map Cut es) ≡ sum_by (λ e. assortment_logs c.assortment e.logs) es =
-      sum_of_cuts (λ x. assortment_logs_in c.assortment x) es in
-      λ j. record { base = b j; limit = i.limit; target = t j; targets = ts j; count = n j; counts = ns j }
+  same_standing es = grind (arith, targets_stay, base_is, target_is, part, sum_of_cuts)
 
 -- prices that keep the relation after cuts do so in words that know of no demand, and the other way round
 pub meets_to_alone : (i : InstructionParts) (es : List EntryParts) (prices : List ℕ) → IsInstruction i
@@ -118,23 +105,11 @@ meets_to_alone i es prices v m = record {
 
 pub meets_from_alone : (i : InstructionParts) (es : List EntryParts) (prices : List ℕ) → IsInstruction i
     → alone.PricesMeet i es prices → PricesMeet i (map Cut es) prices
-meets_from_alone i es prices v m = record {
-  one_each = m.one_each;
-  each_meets =
-      λ c k. subst (λ s. Meets s (slice_index prices (index_of i c))) (sym (same_standing i c v k es))
-      (m.each_meets c k);
-}
+meets_from_alone i es prices v m = grind (arith, same_standing)
 
 -- base prices keep the relation where nothing was cut
 pub base_meets : (i : InstructionParts) → IsInstruction i → alone.PricesMeet i [] (base_prices i)
-base_meets i v = record {
-  one_each = length-base_prices i v;
-  each_meets = λ c k. record {
-    even = λ e. base_is i c v k;
-    under = λ lt. absurd (omega arith);
-    over = λ lt. absurd (omega arith);
-  };
-}
+base_meets i v = grind (arith, length-base_prices, base_is)
 
 -- a place among all classes is one in some assortment
 record PlaceIn (as_ : List AssortmentParts) (q : ℕ) : Type 0 where
@@ -201,21 +176,10 @@ base_alone i prices v m =
 module _ (i : InstructionParts) (sheets : List (List ℕ)) (before : List EntryParts) (e : EntryParts)
     (v : IsInstruction i) where
   follows_to_alone : Follows i sheets (map Cut before) (Cut e) → alone.Follows i sheets before e
-  follows_to_alone f = record {
-    number_is_next = f.number_is_next
-        ∙ ap (λ n. n + 1) (sum_of_cuts (λ x. cond (harvester_of x == e.harvester) 1 0) before);
-    version_in_force = f.version_in_force ∙ (ends_alone i before v.period_range.0).0;
-    best = f.holds.0;
-    worth_is = f.holds.1;
-  }
+  follows_to_alone f = grind (arith, sum_of_cuts, ends_alone)
 
   follows_from_alone : alone.Follows i sheets before e → Follows i sheets (map Cut before) (Cut e)
-  follows_from_alone f = record {
-    number_is_next = f.number_is_next
-        ∙ ap (λ n. n + 1) (sym (sum_of_cuts (λ x. cond (harvester_of x == e.harvester) 1 0) before));
-    version_in_force = f.version_in_force ∙ sym (ends_alone i before v.period_range.0).0;
-    holds = (f.best, f.worth_is);
-  }
+  follows_from_alone f = grind (arith, sum_of_cuts, ends_alone)
 
 module _ (i : InstructionParts) (sheets : List (List ℕ)) (es : List EntryParts) (v : IsInstruction i) where
   -- the sheet of a version that comes after a full period

@@ -1,5 +1,6 @@
 -- What a book keeps, one posting on.
 use Rattle.std.proofs.Common.{◌≡◌, ℕ, ◌+◌, ◌-◌, ◌<◌, ◌≤◌, inl, inr, List, [], ◌∷◌, ◌++◌, Option, Some, None, MatchOption, length, map, set, replicate, get_or, append-nil, refl, sym, ◌∙◌, ap, subst, arith}
+use Rattle.std.proofs.lemmas.Grind.{common_steps}
 use Rattle.std.proofs.lemmas.List.{map-append, length_push}
 use Rattle.std.proofs.lemmas.Option.{none-some}
 use Rattle.std.specs.Option.{option_to_list, option_map}
@@ -40,21 +41,12 @@ in_sheets b sheets n calls k =
 -- the sheet at its place is the sheet in force
 pub force_is : {F : Type 0} (b : BookParts F) (sheets : List SheetParts) (n : RunningParts) (calls : List ℕ)
     (d : SheetParts) → Keeps b sheets n calls → get_or sheets (version_of b.history) d ≡ in_force b.history
-force_is b sheets n calls d k =
-    let lt : version_of b.history < length b.history.sheets = omega (arith, k.is_book.lawful.sheets_number) in
-    ap (λ xs. get_or xs (version_of b.history) d) k.sheets_are
-    ∙ get_or-sheets_from 0 b.history.instruction b.history.sheets (version_of b.history) d lt
-    ∙ ap (λ v. sheet_of v b.history.instruction (get_or b.history.sheets (version_of b.history) [])) (omega arith)
+force_is b sheets n calls d k = grind (arith, get_or-sheets_from)
 
 -- a history with no posting
 pub lawful_empty : (i : InstructionParts)
     → IsLawful (record { instruction = i; sheets = base_prices i ∷ []; postings = [] })
-lawful_empty i = record {
-  postings_follow = λ n x at. absurd (none-some x at);
-  sheets_number = refl;
-  base_sheet = refl;
-  sheets_meet = λ n x at e. absurd (none-some x at);
-}
+lawful_empty i = grind (arith, none-some)
 
 pub keeps_empty : {F : Type 0} (f : F) (i : InstructionParts) (pss : List (List ℕ)) (ps : List Posting)
     (ts : List SheetParts) (n : RunningParts) (calls : List ℕ) (capacity room sheet_room : ℕ)
@@ -63,19 +55,7 @@ pub keeps_empty : {F : Type 0} (f : F) (i : InstructionParts) (pss : List (List 
     → Tells i [] n → calls ≡ replicate {A = ℕ} 64 0
     → Keeps (book_of f i pss ps capacity room sheet_room) ts n calls
 keeps_empty f i pss ps ts n calls capacity room sheet_room le none priced sheeted told called =
-    rw (none, priced) (record {
-      is_book = record {
-        valid = told.valid;
-        lawful = lawful_empty i;
-        firsts = λ n x at. absurd (none-some x at);
-        harvesters = λ n x at. absurd (none-some x at);
-        within = omega arith;
-        capacity_range = le;
-      };
-      sheets_are = sheeted;
-      tells = told;
-      calls_are = rw called no_calls;
-    })
+    grind (arith, lawful_empty, none-some, no_calls)
 
 -- a cutting stays the first of the best with more sheets
 first_stays : (h : HistoryParts) (x y : Posting) (next : Option SheetParts) → planned_version y < length h.sheets
@@ -156,18 +136,7 @@ keeps_more b sheets sheets' n n' calls calls' x y next added pss' ps' room sheet
 pub entry_follows : (h : HistoryParts) (harvester : ℕ) (p : PlanParts) → IsPlan p → p.sheet ≡ in_force h
     → Follows h.instruction h.sheets h.postings (Cut (entry_of h harvester p))
     × IsFirst h (Cut (entry_of h harvester p))
-entry_follows h harvester p plan same = (
-  record {
-    number_is_next = refl;
-    version_in_force = refl;
-    holds = (
-      subst (λ s. IsBest s p.stem p.logs) same plan.first_best.best,
-      plan.worth_is
-          ∙ ap (λ s. cutting_worth s p.stem p.logs) same,
-    );
-  },
-  (plan.stem_valid, subst (λ s. IsFirstBest s p.stem p.logs) same plan.first_best),
-)
+entry_follows h harvester p plan same = grind (arith, common_steps)
 
 -- what runs on after it
 pub entry_after : (h : HistoryParts) (harvester : ℕ) (p : PlanParts) (n n' : RunningParts) → p.sheet ≡ in_force h

@@ -1,5 +1,6 @@
 -- Running counts of entries, one entry on.
 use Rattle.std.proofs.Common.{◌≡◌, ℕ, ◌+◌, ◌-◌, ◌<◌, ◌≤◌, ◌==◌, true, false, cond, List, [], ◌∷◌, ◌++◌, length, get_or, set, count_by, take, replicate, ◌^◌, sym, ◌∙◌, ap, inl, inr, arith, eq-eqb}
+use Rattle.std.proofs.lemmas.Grind.{common_steps}
 use Rattle.std.proofs.lemmas.Bool.{ne_eqb, cases_eq, cases_lt}
 use Rattle.std.proofs.lemmas.List.{get_or-set_same, get_or-set_other, length-set, length-take-le, get_or_past, get_or-replicate, length-replicate}
 use Rattle.std.proofs.lemmas.List.Sums.{sum_by-le-sum_by, sum_by_push, count_by-le-length, count_by_more_yes, count_by_more_no}
@@ -20,23 +21,15 @@ use Rattle.buck_book.specs.inner.Pricing.{CanPrice}
 use Rattle.buck_book.proofs.Cuts.{tallied, class_logs-le}
 
 zeros : (n k : ℕ) → get_or (replicate {A = ℕ} n 0) k 0 ≡ 0
-zeros n k = elim (cases_lt k n) [
-  | inl lt ↦ get_or-replicate {A = ℕ} n k 0 0 lt
-  | inr ge ↦ get_or_past (replicate {A = ℕ} n 0) k 0 (omega (arith, length-replicate {A = ℕ} n 0))
-]
+zeros n k = grind (arith, get_or-replicate, get_or_past, length-replicate)
 
 -- all counts are 0 before the first entry
 pub none_counted : (i : InstructionParts) (n m : ℕ) → n ≡ classes i → m ≡ length i.assortments
     → AreCounts i [] (replicate {A = ℕ} n 0) (replicate {A = ℕ} m 0)
-none_counted i n m e f = record {
-  classes = record { one_each = length-replicate {A = ℕ} n 0 ∙ e; each = λ c k. zeros n (index_of i c) };
-  assortments_number = length-replicate {A = ℕ} m 0 ∙ f;
-  assortment_counts = λ a lt. zeros m a;
-}
+none_counted i n m e f = grind (arith, length-replicate, zeros)
 
 pub none_low : (n m : ℕ) → AreAtMost 0 (replicate {A = ℕ} n 0) (replicate {A = ℕ} m 0)
-none_low n m =
-    record { class_counts = λ k. omega (arith, zeros n k); assortment_counts = λ k. omega (arith, zeros m k) }
+none_low n m = grind (arith, zeros)
 
 -- the counts after one cut more
 pub counts_more : (i : InstructionParts) (ps : List Posting) (e : EntryParts)
@@ -69,15 +62,7 @@ counts_more i ps e by_class by_assortment places by_class' by_assortment' v cut 
 pub counts_stay : (i : InstructionParts) (ps : List Posting) (d : DemandParts) (by_class by_assortment : List ℕ)
     → AreCounts i ps by_class by_assortment
     → AreCounts i (ps ++ Demand d ∷ []) by_class by_assortment
-counts_stay i ps d by_class by_assortment counts = record {
-  classes = record {
-    one_each = counts.classes.one_each;
-    each = λ c k. omega (arith, counts.classes.each c k, sum_by_push (λ x. class_logs_in i c x) ps (Demand d));
-  };
-  assortments_number = counts.assortments_number;
-  assortment_counts =
-      λ a lt. omega (arith, counts.assortment_counts a lt, sum_by_push (λ x. assortment_logs_in a x) ps (Demand d));
-}
+counts_stay i ps d by_class by_assortment counts = grind (arith, sum_by_push)
 
 -- counts grow by at most the logs of a cutting
 pub low_more : (most few : ℕ) (by_class by_assortment places by_class' by_assortment' : List ℕ) (logs : List Log)
@@ -85,11 +70,8 @@ pub low_more : (most few : ℕ) (by_class by_assortment places by_class' by_asso
     → length places ≤ few → length logs ≤ few
     → AreGrown by_class places by_class' → AreGrownBy by_assortment logs by_assortment'
     → AreAtMost (most + few) by_class' by_assortment'
-low_more most few by_class by_assortment places by_class' by_assortment' logs low p l cg ag = record {
-  class_counts = λ k. omega (arith, cg.each k, low.class_counts k, count_by-le-length (λ x. x == k) places);
-  assortment_counts =
-      λ a. omega (arith, ag.each a, low.assortment_counts a, count_by-le-length (λ (g : Log). g.assortment == a) logs);
-}
+low_more most few by_class by_assortment places by_class' by_assortment' logs low p l cg ag =
+    grind (arith, count_by-le-length)
 
 logs_in-le : (i : InstructionParts) (c : Class) (x : Posting) → class_logs_in i c x ≤ assortment_logs_in c.assortment x
 logs_in-le i c (Cut e) = class_logs-le i c e.stem e.logs
@@ -105,17 +87,7 @@ pub can_price : (i : InstructionParts) (targets : List ℕ) (ps : List Posting) 
     → IsInstruction i → AreTargets i targets → AreCounts i ps by_class by_assortment
     → AreAtMost 80000000 by_class by_assortment
     → CanPrice (record { instruction = i; targets = targets; by_class = by_class; by_assortment = by_assortment })
-can_price i targets ps by_class by_assortment v t counts low = record {
-  valid = v;
-  targets = t;
-  classes_number = counts.classes.one_each;
-  assortments_number = counts.assortments_number;
-  class_within = λ c k.
-      let there : c.assortment < length i.assortments =
-      slice_get_within i.assortments c.assortment k.assortment k.exists in
-      omega (arith, counts.classes.each c k, counts.assortment_counts c.assortment there, count_of-le i c ps);
-  bounded = low.assortment_counts;
-}
+can_price i targets ps by_class by_assortment v t counts low = grind (arith, slice_get_within, count_of-le)
 
 -- the numbers of calls after one posting more
 pub calls_more : (ps : List Posting) (x : Posting) (calls : List ℕ) (h number : ℕ)
@@ -155,30 +127,10 @@ module _ {X : Type 0} (place : X → ℕ) (before after : List ℕ) (xs : List X
     (value : n ≡ get_or after p 0) (grown : AreGrownAt place before (take i xs) after) where
   pub grown_more : p ≡ place (get_or xs i d) → p < length after
       → AreGrownAt place before (take (i + 1) xs) (set after p (n + 1))
-  grown_more is within = record {
-    number = length-set after p (n + 1) ∙ grown.number;
-    each = λ k. elim (cases_eq k p) [
-      | inl same ↦
-          let test : (place (get_or xs i d) == k) ≡ true = eq-eqb (place (get_or xs i d)) k (sym is ∙ sym same) in
-          let more : count_by (λ x. place x == k) (take (i + 1) xs) ≡ count_by (λ x. place x == k) (take i xs) + 1 =
-          count_by_more_yes (λ x. place x == k) xs i d lt test in
-          let here : get_or (set after p (n + 1)) k 0 ≡ n + 1 = ap (λ q. get_or (set after p (n + 1)) q 0) same
-          ∙ get_or-set_same after p (n + 1) 0 within in
-          let was : n ≡ get_or after k 0 = value ∙ ap (λ q. get_or after q 0) (sym same) in
-          omega (arith, grown.each k)
-      | inr other ↦
-          let test : (place (get_or xs i d) == k) ≡ false =
-          ne_eqb (place (get_or xs i d)) k (λ z. other (sym z ∙ sym is)) in
-          let more : count_by (λ x. place x == k) (take (i + 1) xs) ≡ count_by (λ x. place x == k) (take i xs) =
-          count_by_more_no (λ x. place x == k) xs i d lt test in
-          let here : get_or (set after p (n + 1)) k 0 ≡ get_or after k 0 = get_or-set_other after p k (n + 1) 0 other in
-          omega (arith, grown.each k)
-    ];
-  }
+  grown_more is within = grind (arith, common_steps)
 
   pub grown_fits : get_or before p 0 + length xs < 2 ^ 32 → n + 1 < 2 ^ 32
-  grown_fits low =
-      omega (arith, grown.each p, count_by-le-length (λ x. place x == p) (take i xs), length-take-le i xs (omega arith))
+  grown_fits low = grind (arith, count_by-le-length, length-take-le)
 
 -- one log more
 pub grown_by_more : (before after : List ℕ) (logs : List Log) (i n : ℕ) (g : Log) → i < length logs
@@ -190,6 +142,4 @@ grown_by_more before after logs i n g lt is within value grown =
 
 pub grown_by_fits : (before after : List ℕ) (logs : List Log) (i a n : ℕ) → i < length logs → n ≡ get_or after a 0
     → AreGrownBy before (take i logs) after → get_or before a 0 + length logs < 2 ^ 32 → n + 1 < 2 ^ 32
-grown_by_fits before after logs i a n lt value grown low =
-    grown_fits (λ x. x.assortment) before after logs i a n (record { start = 0; length = 0; assortment = 0 })
-    lt value grown low
+grown_by_fits before after logs i a n lt value grown low = grind (arith, common_steps)

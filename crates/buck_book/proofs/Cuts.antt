@@ -35,25 +35,13 @@ long_enough i stem from (g ∷ gs) v le c =
 -- a cutting has at most 80 logs
 pub few_logs : (i : InstructionParts) (stem : StemParts) (gs : List Log) → IsInstruction i → IsStem stem
     → IsCutFrom (IsAllowed i stem) (end_of i) 0 gs → length gs ≤ 80
-few_logs i stem gs v s c =
-    let h : 500 * length gs + 0 ≤ stem_length stem.samples = long_enough i stem 0 gs v (omega arith) c in
-    omega (arith, s.samples_number)
+few_logs i stem gs v s c = grind (arith, long_enough)
 
 is_class_same : (c d : Class) → is_class c d ≡ true → c ≡ d
-is_class_same c d e =
-    let outer = and_parts ((c.assortment == d.assortment) && (c.row == d.row)) (c.column == d.column) e in
-    let inner = and_parts (c.assortment == d.assortment) (c.row == d.row) outer.0 in
-    let a : c.assortment ≡ d.assortment = eqb-true c.assortment d.assortment inner.0 in
-    let r : c.row ≡ d.row = eqb-true c.row d.row inner.1 in
-    let o : c.column ≡ d.column = eqb-true c.column d.column outer.1 in
-    λ j. record { assortment = a j; row = r j; column = o j }
+is_class_same c d e = grind (arith, and_parts, eqb-true)
 
 is_class_itself : (c : Class) → is_class c c ≡ true
-is_class_itself c =
-    and_from ((c.assortment == c.assortment) && (c.row == c.row)) (c.column == c.column)
-    (and_from (c.assortment == c.assortment) (c.row == c.row) (eq-eqb c.assortment c.assortment refl)
-    (eq-eqb c.row c.row refl))
-    (eq-eqb c.column c.column refl)
+is_class_itself c = grind (arith, and_from, eq-eqb)
 
 -- classes are compared by their places
 pub place_tells : (i : InstructionParts) (c d : Class) → IsClass i c → IsClass i d
@@ -82,18 +70,9 @@ tallied i c stem from (g ∷ gs) v k cut =
 
 one_log : (i : InstructionParts) (c : Class) (stem : StemParts) (g : Log)
     → cond (is_class c (class_of i stem g)) 1 0 ≤ cond (g.assortment == c.assortment) 1 0
-one_log i c stem g = elim (cases_Bool (is_class c (class_of i stem g))) [
-  | inl yes_ ↦
-      let same : c ≡ class_of i stem g = is_class_same c (class_of i stem g) yes_ in
-      let a : g.assortment ≡ c.assortment = sym (class_of_assortment i stem g) ∙ sym (ap (λ x. x.assortment) same) in
-      let e : (g.assortment == c.assortment) ≡ true = eq-eqb g.assortment c.assortment a in
-      rw (yes_, e) (omega arith)
-  | inr no_ ↦ rw no_ (omega arith)
-]
+one_log i c stem g = grind (arith, is_class_same, class_of_assortment, eq-eqb)
 
 -- a class's logs are of its assortment
 pub class_logs-le : (i : InstructionParts) (c : Class) (stem : StemParts) (gs : List Log)
     → class_logs i c stem gs ≤ assortment_logs c.assortment gs
-class_logs-le i c stem gs =
-    sum_by-le-sum_by (λ x. cond (is_class c (class_of i stem x)) 1 0) (λ x. cond (x.assortment == c.assortment) 1 0) gs
-    (one_log i c stem)
+class_logs-le i c stem gs = grind (arith, sum_by-le-sum_by, one_log)

@@ -1,5 +1,6 @@
 -- Sums over the classes of an assortment.
 use Rattle.std.proofs.Common.{◌≡◌, ℕ, zero, suc, ◌+◌, ◌*◌, ◌/◌, ◌<◌, ◌≤◌, min, List, [], ◌∷◌, length, take, sum, get_or, refl, ap, ◌∙◌, arith, add-one}
+use Rattle.std.proofs.lemmas.Grind.{common_steps}
 use Rattle.std.specs.List.{zip}
 use Rattle.std.proofs.lemmas.List.Sums.{sum_by-cons}
 use Rattle.std.proofs.Math.Nat.{min-le_left, add-mul, mul-le-mul, div-le_of_le-mul}
@@ -65,7 +66,4 @@ stands xs ys at a same lt is =
 -- the place of an assortment's first class
 pub first_class : (i : InstructionParts) (at : ℕ) (a : AssortmentParts) → slice_get i.assortments at ≡ Some a
     → index_of i (record { assortment = at; row = 0; column = 0 }) ≡ classes_before i at
-first_class i at a there =
-    let before = classes_before i at in
-    let none : before + (0 * length a.lengths + 0) ≡ before = omega arith in
-    ap (λ (o : Option AssortmentParts). before + place_in o 0 0) there ∙ none
+first_class i at a there = grind (arith, common_steps)

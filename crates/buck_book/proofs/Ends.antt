@@ -58,8 +58,7 @@ cuts-append p n (x ∷ xs) ys = elim (cases_Bool (is_end p n x)) [
 
 module _ (i : InstructionParts) (ps : List Posting) (x : Posting) where
   pub ends_with_end : IsEnd i ps x → ends_of i (ps ++ x ∷ []) ≡ ends_of i ps + 1
-  ends_with_end e = ends-append i.period 0 ps (x ∷ [])
-      ∙ ap (λ k. ends_of i ps + k) (ends_yes i.period (cuts_since_end i ps) x [] e)
+  ends_with_end e = grind (arith, ends-append, ends_yes)
 
   pub ends_without : (IsEnd i ps x → ⊥) → ends_of i (ps ++ x ∷ []) ≡ ends_of i ps
   ends_without e =

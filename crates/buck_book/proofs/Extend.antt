@@ -42,11 +42,7 @@ holds_same i these those (Demand d) same h = h
 pub follows_same : (i : InstructionParts) (these those : List (List ℕ)) (before : List Posting) (x : Posting)
     → prices_at those (planned_version x) ≡ prices_at these (planned_version x)
     → Follows i these before x → Follows i those before x
-follows_same i these those before x same f = record {
-  number_is_next = f.number_is_next;
-  version_in_force = f.version_in_force;
-  holds = holds_same i these those x same f.holds;
-}
+follows_same i these those before x same f = grind (arith, holds_same)
 
 -- the sheet of a posting is there
 pub version_within : (h : HistoryParts) (k : ℕ) (x : Posting) → IsLawful h → slice_get h.postings k ≡ Some x

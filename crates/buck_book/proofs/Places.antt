@@ -67,11 +67,7 @@ in_one i c d k l same e =
 
 -- two classes of one place are one class
 pub one_place : (i : InstructionParts) (c d : Class) → IsClass i c → IsClass i d → index_of i c ≡ index_of i d → c ≡ d
-one_place i c d k l e = elim (cases_order c.assortment d.assortment) [
-  | inl same ↦ in_one i c d k l same e
-  | inr (inl lt) ↦ absurd (omega (arith, lower i c d k l lt))
-  | inr (inr gt) ↦ absurd (omega (arith, lower i d c l k gt))
-]
+one_place i c d k l e = grind (arith, in_one, lower)
 
 class_in_assortment : (o : Option AssortmentParts) (stem : StemParts) (g : Log)
     → (class_in o stem g).assortment ≡ g.assortment

@@ -37,12 +37,7 @@ module _ (s : StandingsParts) (ps : List Posting) (prices : List ℕ) (wanted : 
   -- by running counts that are right, the prices of all classes keep the relation after the postings
   pub all_met : length prices ≡ classes s.instruction → AreMetBelow s prices (classes s.instruction)
       → PricesMeet s.instruction ps prices
-  all_met all met = record {
-    one_each = all;
-    each_meets = λ c k.
-        subst (λ x. Meets x (slice_index prices (index_of s.instruction c))) (stands c k)
-        (met c k (place_lt s.instruction c k));
-  }
+  all_met all met = grind (arith, stands, place_lt)
 
   pub is_wrong : (at : ℕ) → IsFirstWrong s prices at → IsWrongPrice s.instruction ps prices at
   is_wrong at w = record {

@@ -1,5 +1,6 @@
 -- How classes stand, and the prices that are answered to that.
 use Rattle.std.proofs.Common.{◌≡◌, ℕ, ◌+◌, ◌*◌, ◌<◌, ◌≤◌, inl, inr, List, [], ◌∷◌, ◌++◌, length, take, get_or, slice_index, slice_get, Some, sym, ◌∙◌, ap, subst, arith, mul-le-mul_left}
+use Rattle.std.proofs.lemmas.Grind.{common_steps}
 use Rattle.std.specs.List.{flat_map}
 use Rattle.std.proofs.lemmas.Bool.{cases_order, cases_lt}
 use Rattle.std.proofs.lemmas.List.{get_or_push, get_or_append_left, length_push}
@@ -45,22 +46,7 @@ pub in_range : (i : InstructionParts) (c : Class) (targets : List ℕ) (count co
     → AreTargets i targets → (k : IsClass i c) → count ≤ counts → counts ≤ 80000000
     → IsInRange (standing_at i k.assortment c targets count counts)
 in_range i c targets count counts v t k le low =
-    let there : c.assortment < length i.assortments =
-    slice_get_within i.assortments c.assortment k.assortment k.exists in
-    let own : slice_index targets (classes_before i c.assortment + (c.row * length k.assortment.lengths + c.column))
-    ≤ targets_sum i k.assortment c.assortment targets =
-    target_within i c.assortment (c.row * length k.assortment.lengths + c.column) k.assortment targets t k.exists
-    (inner_lt i c k) in
-    let own' : slice_index targets (index_of i c) ≤ targets_sum i k.assortment c.assortment targets =
-    rw (inner_is i c k) own in
-    record {
-      base = base_price-le i (index_of i c) v;
-      limit = v.limit_range;
-      target = (target_low i (index_of i c) targets t, own');
-      targets = t.low_sums c.assortment there k.assortment k.exists;
-      count = le;
-      counts = low;
-    }
+    grind (arith, slice_get_within, target_within, inner_lt, inner_is, base_price-le, target_low)
 
 -- the base price of a class, by its place among all
 pub base_is : (i : InstructionParts) (c : Class) → IsInstruction i → (k : IsClass i c)
@@ -82,11 +68,7 @@ base_is i c v k =
 
 -- a price in the relation lies within the span
 pub meets_within : (s : Standing) (price : ℕ) → Meets s price → IsInSpan s.limit s.base price
-meets_within s price m = elim (cases_order (cut_share s) (wanted_share s)) [
-  | inl even ↦ let e : price ≡ s.base = m.even even in (omega arith, omega arith)
-  | inr (inl under) ↦ let e = m.under under in (omega (arith, e.0), omega (arith, e.1))
-  | inr (inr over) ↦ let e = m.over over in (omega (arith, e.0), omega (arith, e.1))
-]
+meets_within s price m = grind (arith, common_steps)
 
 -- one price more
 pub priced_more : {F : Type 0} (g : Shared F (Bor Standing × Unit {0}) ℕ) (f : F) (s : StandingsParts) (prices : List ℕ)
@@ -125,10 +107,7 @@ priced_more g f s prices c price k next answer priced =
 
 -- a price in the relation is at most twice the greatest base price
 pub meets_low : (s : Standing) (price : ℕ) → IsInRange s → Meets s price → price ≤ 20000000
-meets_low s price r m =
-    let w = meets_within s price m in
-    let h : s.base * s.limit ≤ s.base * 1000 = mul-le-mul_left s.base r.limit in
-    omega (arith, w.1, r.base)
+meets_low s price r m = grind (arith, meets_within, mul-le-mul_left)
 
 -- a class of an assortment is a class of the instruction
 abbrev pub class_in : (i : InstructionParts) (a : AssortmentParts) (c : Class) → IsClassOf i a c → IsClass i c
@@ -146,11 +125,7 @@ before_next i a at exists =
 pub has_counts : (s : StandingsParts) (a : AssortmentParts) (c : Class) → IsClassOf s.instruction a c → CanPrice s
     → (index_of s.instruction c < length s.by_class) × (c.assortment < length s.by_assortment)
     × (index_of s.instruction c < length s.targets)
-has_counts s a c k can = (
-  omega (arith, place_lt s.instruction c (class_in s.instruction a c k), can.classes_number),
-  omega (arith, slice_get_within s.instruction.assortments c.assortment a k.exists, can.assortments_number),
-  omega (arith, place_lt s.instruction c (class_in s.instruction a c k), can.targets.one_each),
-)
+has_counts s a c k can = grind (arith, place_lt, slice_get_within)
 
 -- how a class stands by what was read is how it stands
 pub stands_by : (s : StandingsParts) (a : AssortmentParts) (c : Class) (base limit target targets count counts : ℕ)
@@ -162,8 +137,7 @@ pub stands_by : (s : StandingsParts) (a : AssortmentParts) (c : Class) (base lim
     → counts ≡ slice_index s.by_assortment c.assortment
     → record { base = base; limit = limit; target = target; targets = targets; count = count; counts = counts }
     ≡ standing_by s a c
-stands_by s a c base limit target targets count counts b l t ts n ns =
-    λ j. record { base = b j; limit = l j; target = t j; targets = ts j; count = n j; counts = ns j }
+stands_by s a c base limit target targets count counts b l t ts n ns = cc
 
 -- by running counts that can be a history's, a class stands in range
 pub stands_in_range : (s : StandingsParts) (a : AssortmentParts) (c : Class) → IsClassOf s.instruction a c → CanPrice s
@@ -179,12 +153,7 @@ pub standing_is : (i : InstructionParts) (targets by_class by_assortment : List 
     → targets ≡ targets_of i ps → AreCounts i ps by_class by_assortment → (k : IsClass i c)
     → standing_at i k.assortment c targets (slice_index by_class (index_of i c))
     (slice_index by_assortment c.assortment) ≡ standing_of i k.assortment c ps
-standing_is i targets by_class by_assortment ps c wanted counts k =
-    let there : c.assortment < length i.assortments =
-    slice_get_within i.assortments c.assortment k.assortment k.exists in
-    let own = counts.classes.each c k in
-    let all = counts.assortment_counts c.assortment there in
-    λ j. standing_at i k.assortment c (wanted j) (own j) (all j)
+standing_is i targets by_class by_assortment ps c wanted counts k = grind (arith, slice_get_within)
 
 module _ {F : Type 0} (g : Shared F (Bor Standing × Unit {0}) ℕ) (f : F) (s : StandingsParts) (ps : List Posting)
     (prices : List ℕ) (wanted : s.targets ≡ targets_of s.instruction ps)

@@ -1,5 +1,6 @@
 -- What some postings add up to, one posting on.
 use Rattle.std.proofs.Common.{◌≡◌, ℕ, ◌+◌, ◌*◌, ◌<◌, ◌≤◌, ◌==◌, cond, List, [], ◌∷◌, ◌++◌, length, refl, sym, ◌∙◌, ap, subst, arith}
+use Rattle.std.proofs.lemmas.Grind.{common_steps}
 use Rattle.std.proofs.lemmas.List.{length-map, length_push}
 use Rattle.buck_apt.specs.Instruction.{InstructionParts, IsInstruction, index_of}
 use Rattle.buck_stem.specs.Stem.{IsStem}
@@ -19,10 +20,7 @@ use Rattle.buck_book.proofs.Ends.{ends-append, cuts-append, targets-append, ends
 -- a looser bound
 at_most : (most more : ℕ) (by_class by_assortment : List ℕ) → most ≤ more → AreAtMost most by_class by_assortment
     → AreAtMost more by_class by_assortment
-at_most most more by_class by_assortment le low = record {
-  class_counts = λ j. omega (arith, low.class_counts j);
-  assortment_counts = λ j. omega (arith, low.assortment_counts j);
-}
+at_most most more by_class by_assortment le low = grind (arith, common_steps)
 
 module _ (i : InstructionParts) (ps : List Posting) (n : RunningParts) (t : Tells i ps n) where
   pub version_low : n.version ≤ 1000000
@@ -107,13 +105,4 @@ pub tells_opening : (i : InstructionParts) (targets by_class by_assortment : Lis
     → AreCounts i [] by_class by_assortment → AreAtMost 0 by_class by_assortment
     → Tells i []
     (record { targets = targets; cuts = 0; version = 0; by_class = by_class; by_assortment = by_assortment })
-tells_opening i targets by_class by_assortment v wanted valid counts low = record {
-  valid = v;
-  few = omega arith;
-  targets_are = wanted;
-  targets_valid = valid;
-  cuts_are = refl;
-  version_is = refl;
-  counts_are = counts;
-  counts_low = low;
-}
+tells_opening i targets by_class by_assortment v wanted valid counts low = grind (arith, common_steps)

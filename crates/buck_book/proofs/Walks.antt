@@ -22,14 +22,4 @@ module _ (w : WalkParts) (n : RunningParts) (calls : ℕ → ℕ) (x : Posting) 
   pub walk_more : (n' : RunningParts) (calls' : ℕ → ℕ) → IsAfter w.instruction n x n'
       → ((h : ℕ) → calls' h ≡ calls h + cond (harvester_of x == h) 1 0)
       → IsWalk (walk_of w.instruction w.postings (w.at + 1)) n' calls'
-  walk_more n' calls' told called =
-      let longer : take (w.at + 1) w.postings ≡ passed w ++ x ∷ [] = take_one_more w.postings w.at x there in
-      record {
-        few = k.few;
-        within = omega (arith, slice_get_within w.postings w.at x there);
-        tells = subst (λ xs. Tells w.instruction xs n') (sym longer) (told (passed w) few k.tells);
-        calls_are = λ h.
-            called h ∙ ap (λ m. m + cond (harvester_of x == h) 1 0) (k.calls_are h)
-            ∙ sym (sum_by_push (λ y. cond (harvester_of y == h) 1 0) (passed w) x)
-            ∙ ap (λ xs. calls_of h xs) (sym longer);
-      }
+  walk_more n' calls' told called = grind (arith, take_one_more, few, slice_get_within, sum_by_push)

@@ -83,19 +83,10 @@ pub target_within : (i : InstructionParts) (at j : ℕ) (a : AssortmentParts) (t
     → slice_get i.assortments at ≡ Some a → j < classes_of a
     → slice_index ts (classes_before i at + j) ≤ targets_sum i a at ts
 target_within i at j a ts valid e lt =
-    let part : List ℕ = drop (classes_before i at) ts in
-    let number : length part ≡ length ts - classes_before i at = length-drop (classes_before i at) ts in
-    let room : classes_of a ≤ length part = omega (arith, valid.one_each, part_within i at a e) in
-    let shown : length (take (classes_of a) part) ≡ classes_of a = length-take-le (classes_of a) part room in
-    let is : get_or (take (classes_of a) part) j 0 ≡ get_or ts (classes_before i at + j) 0 =
-    get_or-take (classes_of a) part j 0 lt ∙ get_or-drop (classes_before i at) ts j 0 in
-    omega (arith, is, get_or-le-sum_by (λ x. x) (take (classes_of a) part) j 0 (omega arith))
+    grind (arith, length-drop, part_within, length-take-le, get_or-take, get_or-drop, get_or-le-sum_by)
 
 pub target_low : (i : InstructionParts) (k : ℕ) (ts : List ℕ) → AreTargets i ts → slice_index ts k ≤ 1000000
-target_low i k ts valid = elim (cases_lt k (length ts)) [
-  | inl lt ↦ valid.low k lt
-  | inr ge ↦ omega (arith, get_or_past ts k 0 ge)
-]
+target_low i k ts valid = grind (arith, get_or_past)
 
 -- one assortment more whose targets are low together
 pub low_more : (i : InstructionParts) (ts : List ℕ) (at : ℕ) (a : AssortmentParts) → slice_get i.assortments at ≡ Some a
