@@ -25,9 +25,7 @@ stands_rest (x ∷ xs) j = let e : 1 + j ≡ suc j = omega arith in ap (slice_ge
 module _ (items : List ItemParts) (none : alone.HasNoDemand items) where
   cut_alone : (k before : ℕ) → cut_at items k before ≡ alone.cut_at items k before
   unfolding cut_at alone.cut_at posting_follows
-  cut_alone k before =
-      let e : k + 6 + 1 ≡ k + 7 = omega arith in
-      rw (e, follows_alone (k + 7) (slice_get items (k + 6)) (none (k + 6))) refl
+  cut_alone k before = grind (arith, follows_alone)
 
   no_demand : (k : ℕ) (x : ItemParts) (more : List ItemParts) → Stands items k (x ∷ more) → is_at (slot 982 1) x ≡ false
   no_demand k x more at = none k x (first_stands items k (x ∷ more) at)

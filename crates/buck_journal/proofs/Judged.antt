@@ -1,5 +1,6 @@
 -- Postings of which the first doubtful one is known: what comes of their history.
 use Rattle.std.proofs.Common.{◌≡◌, ◌≢◌, ℕ, zero, suc, ◌+◌, ◌<◌, ◌≤◌, inl, inr, true, false, List, [], ◌∷◌, length, take, drop, slice_get, Option, Some, None, refl, sym, ◌∙◌, ap, subst, arith}
+use Rattle.std.proofs.lemmas.Grind.{common_steps}
 use Rattle.std.specs.Prelude.{◌-◌, Result, Ok, Err, IfOk, IfErr, OnOk}
 use Rattle.std.specs.Fork.{IsChunk}
 use Rattle.std.specs.Option.{is_some}
@@ -34,12 +35,7 @@ module _ (h : HistoryParts) where
   -- a doubtful posting in one list is one in another that is the same before some place behind it
   first_same : (k : ℕ) (ps qs : List Posting) → AreSameBefore k ps qs → (at : ℕ) → at < k → IsFirstDoubtful h ps at
       → IsFirstDoubtful h qs at
-  first_same k ps qs same at lt first = record {
-    next = first.next;
-    there = sym (same at lt) ∙ first.there;
-    wrong = first.wrong;
-    before = λ j x less is. first.before j x less (same j (omega (arith, less, lt)) ∙ is);
-  }
+  first_same k ps qs same at lt first = grind (arith, common_steps)
 
   -- the sheets of postings in order are there and right
   priced_before : (k : ℕ) → k ≤ length h.postings → IsInOrderBefore h k → (j : ℕ) (x : Posting)
@@ -138,11 +134,7 @@ module _ (h : HistoryParts) where
     judged_end (Err fault) ok none = λ told. stop_is_met until fault ok.right none ok.stopped
 
     pub judged_none : IsFound h ps None → IsJudged h end
-    judged_none none =
-        judged_end end o
-        (λ j x lt at.
-        let there = same j lt ∙ at in
-        none j x (slice_get_within ps j x there) there)
+    judged_none none = grind (arith, judged_end, slice_get_within)
 
     pub judged_behind : (at : ℕ) → until ≤ at → IsFound h ps (Some at) → IsJudged h end
     judged_behind at le first =
@@ -159,11 +151,7 @@ pub none_more : (h : HistoryParts) (ps : List Posting) (at : ℕ) (x : Posting) 
     → NoneDoubtful h ps at
     → IsDoubtful h x false
     → NoneDoubtful h ps (at + 1)
-none_more h ps at x there none more j y lt got = elim (cases_eq j at) [
-  | inl same ↦ subst (λ z. IsDoubtful h z false)
-      (same_Some x y (sym there ∙ ap (λ n. slice_get ps n) (sym same) ∙ got)) more
-  | inr other ↦ none j y (omega arith) got
-]
+none_more h ps at x there none more j y lt got = grind (arith, common_steps)
 
 -- what stands in a run of neighbours
 pub get_chunk : (ps part : List Posting) (size start : ℕ) → IsChunk ps size start part → (k : ℕ) → k < length part
@@ -202,8 +190,7 @@ module _ (h : HistoryParts) (ps part : List Posting) (start : ℕ)
   pub none_in_part : (to : ℕ) → ((j : ℕ) → j < to → j < length ps → j < start + length part)
       → NoneDoubtful h ps start → NoneDoubtful h part (length part)
       → NoneDoubtful h ps to
-  none_in_part to far old new j x lt at = before_part (length part) (omega arith) old new j x
-      (far j lt (slice_get_within ps j x at)) at
+  none_in_part to far old new j x lt at = grind (arith, before_part, slice_get_within)
 
 -- what was found in postings, by what was found in the first of them and in the rest
 module _ (h : HistoryParts) (ps front rest : List Posting) (mid : ℕ) (front_is : front ≡ take mid ps)

@@ -1,5 +1,6 @@
 -- Numbers that passed the tests are within the limits of a stem.
 use Rattle.std.proofs.Common.{◌≡◌, ℕ, ◌+◌, ◌*◌, ◌≤◌, true, List, [], ◌∷◌, length, get_or, arith}
+use Rattle.std.proofs.lemmas.Grind.{common_steps}
 use Rattle.std.specs.List.{AllByRecursion}
 use Rattle.std.proofs.lemmas.Bool.Decides.{nat_tests}
 use Rattle.std.proofs.lemmas.List.Elements.{All-from_recursion}
@@ -41,23 +42,9 @@ are_zones_ok ns few h = record {
 
 pub are_samples_ok : (ns : List ℕ) → one_to MOST_SAMPLES (length ns) ≡ true
     → all_within SAMPLES.low SAMPLES.high ns ≡ true → AreSamples ns
-are_samples_ok ns counted h = record {
-  samples_number = within_ok 1 MOST_SAMPLES (length ns) counted;
-  samples_range =
-      λ k d lt.
-      (within_ok SAMPLES.low SAMPLES.high (get_or ns k d)
-      (AllPass-from_list_all (within SAMPLES.low SAMPLES.high) ns h k d lt)).1;
-}
+are_samples_ok ns counted h = grind (arith, within_ok, AllPass-from_list_all)
 
 pub is_stem_ok : (number species : ℕ) (samples : List ℕ) (zones : List (ℕ × ℕ)) → (SPECIES.low ≤ species)
     → (species ≤ SPECIES.high)
     → AreSamples samples → AreZones zones → IsStem (stem_of number species samples zones)
-is_stem_ok number species samples zones low high s z = record {
-  species = (low, high);
-  samples_number = s.samples_number;
-  samples_range = s.samples_range;
-  zones_number = z.zones_number;
-  starts_range = z.starts_range;
-  starts_rise = z.starts_rise;
-  grades_range = z.grades_range;
-}
+is_stem_ok number species samples zones low high s z = grind (arith, common_steps)

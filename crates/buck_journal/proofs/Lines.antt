@@ -1,5 +1,6 @@
 -- Lines of a file as they are written, and the items that are read of them.
 use Rattle.std.proofs.Common.{◌≡◌, ℕ, suc, ◌+◌, ◌-◌, ◌<◌, ◌≤◌, ◌^◌, true, false, List, [], ◌∷◌, ◌++◌, All, Some, Ok, get_or, length, drop, filter, map, refl, sym, ap, ◌∙◌, subst, arith, append_assoc, codes}
+use Rattle.std.proofs.lemmas.Grind.{common_steps}
 use Rattle.std.specs.List.{slice_split, flat_map, AllByRecursion, suffix_len, prefix_len}
 use Rattle.std.specs.Char.{is_ascii_digit}
 use Rattle.std.specs.Fmt.{decimal}
@@ -42,11 +43,7 @@ module _ (n : ℕ) (lt : n < 2 ^ 64) where
   digits k l = AllPass-from_list_all is_ascii_digit (decimal n) (digits_decimal numeral n lt) k 0 l
 
   ends_decimal : EndsDark (decimal n)
-  ends_decimal = (
-    decimal_nonempty n lt,
-    digit_dark (get_or (decimal n) (length (decimal n) - 1) 0)
-        (digits (length (decimal n) - 1) (let pos = decimal_nonempty n lt in omega arith)),
-  )
+  ends_decimal = grind (arith, decimal_nonempty, digit_dark, digits)
 
   starts_decimal : StartsDark (decimal n)
   starts_decimal = (decimal_nonempty n lt, digit_dark (get_or (decimal n) 0 0) (digits 0 (decimal_nonempty n lt)))
@@ -57,14 +54,7 @@ module _ (n : ℕ) (lt : n < 2 ^ 64) where
       (AllPass-from_list_all is_ascii_digit (decimal n) (digits_decimal numeral n lt) k d l)
 
 ends_append : (xs zs : List ℕ) → EndsDark zs → EndsDark (xs ++ zs)
-ends_append xs zs h =
-    let whole : length (xs ++ zs) ≡ length xs + length zs = length-append xs zs in
-    let pos = h.0 in
-    let last : length (xs ++ zs) - 1 ≡ length xs + (length zs - 1) = omega arith in (
-      omega arith,
-      ap (λ k. is_white (get_or (xs ++ zs) k 0)) last
-          ∙ ap is_white (get_or-append-add xs zs (length zs - 1) 0) ∙ h.1,
-    )
+ends_append xs zs h = grind (arith, common_steps)
 
 ends_spelled : (xs ns : List ℕ) → AllByRecursion (λ n. n < 2 ^ 64) ns → EndsDark xs → EndsDark (xs ++ spelled ns)
 ends_spelled xs [] h e = subst EndsDark (sym (append-nil xs)) e
@@ -95,9 +85,7 @@ trim_dark xs s e = ap trim_end (start_dark xs s) ∙ end_dark xs e
 
 start_white : (w : ℕ) (xs : List ℕ) → is_white w ≡ true → trim_start (w ∷ xs) ≡ trim_start xs
 unfolding trim_start
-start_white w xs h =
-    let more : 1 + prefix_len is_white xs ≡ suc (prefix_len is_white xs) = omega arith in
-    rw h (ap (λ k. drop k (w ∷ xs)) more)
+start_white w xs h = grind (arith, common_steps)
 
 -- numbers as they stand after a head
 pub told : List ℕ → List ℕ
@@ -281,11 +269,4 @@ plain_head =
 pub items_again : (ls : List Line)
     → items_of (item_text (codes "1 2 JRN") [] ++ flat_map text_of ls) ≡ Ok (kind_item ∷ map item_at ls)
 unfolding items_of each_from
-items_again ls =
-    let rest : List ℕ = 10 ∷ flat_map text_of ls in
-    let split : slice_split is_tilde (codes "1 2 JRN" ++ 126 ∷ rest) ≡ codes "1 2 JRN" ∷ slice_split is_tilde rest =
-    slice_split_at is_tilde (codes "1 2 JRN") 126 rest plain_head refl in
-    let parts : pieces (item_text (codes "1 2 JRN") [] ++ flat_map text_of ls) ≡ codes "1 2 JRN" ∷ map piece_of ls =
-    ap filled_parts split ∙ ap (λ xs. filter is_filled (xs ∷ map trim (slice_split is_tilde rest))) head_piece
-    ∙ ap (λ xss. codes "1 2 JRN" ∷ xss) (line_pieces ls) in
-    rw (parts, item_of_head, each_line 2 ls) refl
+items_again ls = grind (arith, slice_split_at, plain_head, head_piece, line_pieces, item_of_head, each_line)

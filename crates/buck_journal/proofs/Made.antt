@@ -20,11 +20,7 @@ pub one_made : (i : InstructionParts) (sheets : List (List ℕ)) (made : List Sh
     → AreMade i sheets made
     → s ≡ sheet_at i sheets (length made)
     → AreMade i sheets (made ++ s ∷ [])
-one_made i sheets made s are is version lt = elim (cases_eq version (length made)) [
-  | inl same ↦ ap (λ n. slice_get (made ++ s ∷ []) n) same ∙ pushed_at made s
-      ∙ ap Some (is ∙ ap (λ n. sheet_at i sheets n) (sym same))
-  | inr other ↦ kept_at made s (sheet_at i sheets version) version (are version (omega (arith, lt, length_push made s)))
-]
+one_made i sheets made s are is version lt = grind (arith, pushed_at, kept_at, length_push)
 
 -- the same of a list of what the sheets stand in
 pub one_more : {A : Type 0} (f : A → SheetParts) (i : InstructionParts) (sheets : List (List ℕ)) (old new : List A)

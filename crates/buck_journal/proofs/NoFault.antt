@@ -88,18 +88,10 @@ cut_of i stem from (g ∷ gs) nn = (
 )
 
 targets_of : (i : InstructionParts) (targets : List ℕ) → Sure (AreTargets i targets)
-targets_of i targets nn = record {
-  one_each = eq_of _ _ (λ no_. nn (λ t. no_ t.one_each));
-  low = λ k lt. le_of _ _ (λ no_. nn (λ t. no_ (t.low k lt)));
-  low_sums = λ at lt a exists. le_of _ _ (λ no_. nn (λ t. no_ (t.low_sums at lt a exists)));
-}
+targets_of i targets nn = grind (arith, eq_of, le_of)
 
 meets_of : (s : Standing) (price : ℕ) → Sure (Meets s price)
-meets_of s price nn = record {
-  even = λ e. eq_of _ _ (λ no_. nn (λ m. no_ (m.even e)));
-  under = λ lt. (le_of _ _ (λ no_. nn (λ m. no_ (m.under lt).0)), le_of _ _ (λ no_. nn (λ m. no_ (m.under lt).1)));
-  over = λ lt. (le_of _ _ (λ no_. nn (λ m. no_ (m.over lt).0)), le_of _ _ (λ no_. nn (λ m. no_ (m.over lt).1)));
-}
+meets_of s price nn = grind (arith, eq_of, le_of)
 
 -- what a posting says is right where no fault stands in it
 holds_of : (i : InstructionParts) (sheets : List (List ℕ)) (x : Posting) (k : ℕ)

@@ -1,5 +1,6 @@
 -- A journal that is gone through item by item is read as what was found.
 use Rattle.std.proofs.Common.{◌≡◌, ℕ, suc, ◌+◌, ◌*◌, ◌%◌, ◌<◌, ◌≤◌, true, false, List, [], ◌∷◌, ◌++◌, Some, Ok, Err, Result, codes, length, slice_get, get_or, refl, sym, ap, ◌∙◌, subst, arith, append_assoc, eq-eqb}
+use Rattle.std.proofs.lemmas.Grind.{common_steps}
 use Rattle.std.specs.Str.{bytes_eq}
 use Rattle.std.specs.List.{AllByRecursion}
 use Rattle.std.proofs.lemmas.Bool.{le-leb, lt-ltb, and_from}
@@ -30,15 +31,13 @@ is_at_its_slot s t = and_from _ _ (eq-eqb s.number s.number refl) (eq-eqb s.kind
 pub call_read : (s : Slot) (t ns : List ℕ) → numbers_of t ≡ Ok ns → length ns ≡ 3 → is_call (call_of ns) ≡ true
     → (before : ℕ) → before < 1000000 → IsReadAs (λ items k. call_at s items k before) (item_in s t) (call_of ns)
 unfolding call_at numbers_at rest_at
-call_read s t ns read number range before few = λ items k there.
-    rw (there, is_at_its_slot s t, read, eq-eqb (length ns) 3 number, lt-ltb before 1000000 few, range) refl
+call_read s t ns read number range before few = grind (arith, common_steps)
 
 pub list_read : (s : Slot) (low high : ℕ) (t ns : List ℕ) → numbers_of t ≡ Ok ns → length ns ≤ 16384
     → all_within low high ns ≡ true
     → IsReadAs (list_at s low high) (item_in s t) ns
 unfolding numbers_at rest_at
-list_read s low high t ns read few range = λ items k there.
-    rw (there, is_at_its_slot s t, read, le-leb (length ns) 16384 few, range) refl
+list_read s low high t ns read few range = grind (arith, is_at_its_slot, read, le-leb)
 
 module _ (t ns : List ℕ) (read : numbers_of t ≡ Ok ns) where
   pub head_read : length ns ≡ 2 → within SPECIES.low SPECIES.high (get_or ns 1 0) ≡ true
@@ -54,14 +53,12 @@ module _ (t ns : List ℕ) (read : numbers_of t ≡ Ok ns) where
   pub zones_read : length ns % 2 ≡ 0 → length ns ≤ 2 * MOST_ZONES → are_zones 0 ns ≡ true
       → IsReadAs zones_at (item_in (slot 981 4) t) (zones_of ns)
   unfolding zones_at numbers_at rest_at
-  zones_read even few range = λ items k there.
-      rw (there, read, eq-eqb (length ns % 2) 0 even, le-leb (length ns) (2 * MOST_ZONES) few, range) refl
+  zones_read even few range = grind (arith, read, eq-eqb, le-leb)
 
   pub logs_read : length ns % 3 ≡ 0 → length ns ≤ 240 → are_logs ns ≡ true
       → IsReadAs logs_at (item_in (slot 981 5) t) (logs_of ns)
   unfolding logs_at numbers_at rest_at
-  logs_read third few range = λ items k there.
-      rw (there, read, eq-eqb (length ns % 3) 0 third, le-leb (length ns) 240 few, range) refl
+  logs_read third few range = grind (arith, read, eq-eqb, le-leb)
 
 pub worth_read : (t : List ℕ) (worth : ℕ) → number_of 18446744073709551615 t ≡ Ok worth
     → IsReadAs worth_at (item_in (slot 981 6) t) worth
@@ -97,9 +94,7 @@ next_stands items k x rest at j =
 
 pub first_stands : (items : List ItemParts) (k : ℕ) (rest : List ItemParts)
     → Stands items k rest → slice_get items k ≡ slice_get rest 0
-first_stands items k rest at =
-    let e : k ≡ k + 0 = omega arith in
-    ap (slice_get items) e ∙ at 0
+first_stands items k rest at = grind (arith, common_steps)
 
 then_follows : (place : ℕ) (items : List ItemParts)
     → begins items ≡ true → follows place (slice_get items 0) ≡ Ok tt
@@ -256,8 +251,7 @@ unfolding postings_from
 no_postings before = record { begin = refl; read = λ all k at. refl }
 
 nothing_read : AreReadAs [] []
-nothing_read = λ before more others few h.
-    subst (λ n. ArePostings n more others) (let e : before + 0 ≡ before = omega arith in e) h
+nothing_read = grind (arith, common_steps)
 
 pub postings_end : (text rest : List ℕ) (ps : List Posting)
     → LeadsPostings text ps rest → HasItems rest [] → HasPostings text ps
@@ -340,10 +334,7 @@ pub in_order : (kind : List ℕ) (items : List ItemParts) (pss : List (List ℕ)
     → AreParts items pss ps
     → journal_in (item_in file_slot kind ∷ items) ≡ Ok (record { sheets = pss; entries = ps })
 unfolding journal_in postings_from
-in_order kind items pss ps says p =
-    let all : List ItemParts = item_in file_slot kind ∷ items in
-    let at : Stands all 1 items = λ j. ap (slice_get all) (let q : 1 + j ≡ suc j = omega arith in q) in
-    rw (says, p.sheets_read all 1 at, p.postings_read all 1 at) refl
+in_order kind items pss ps says p = grind (arith, common_steps)
 
 -- A file that begins with the kind of file and the items of sheets, and goes on with those of postings, is read as
 -- these.

@@ -149,19 +149,7 @@ module _ (h : HistoryParts) (from : ℕ) where
 
   pub met_along : (at : ℕ) (fault : ReplayFault) → IsInOrderBefore h from → IsSheetRight h from
       → IsMetUnder (sheet_then h from) h.postings from at fault → IsMetInOrder h at fault
-  met_along at fault before sheet m = record {
-    next = m.next;
-    there = m.there;
-    right = right_along at before sheet m.right;
-    wrong = inr (
-      (λ b. elim (cases_eq at from) [
-        | inl same ↦ subst (λ n. IsSheetRight h n) (sym same) sheet
-        | inr other ↦ absurd (m.goes_on (let ge = m.past in omega arith) b)
-      ]),
-      subst (λ t. IsPostingFault t (take at h.postings) m.next at fault) (sym (sheet_is (version_at h at) m.in_force))
-          m.wrong,
-    );
-  }
+  met_along at fault before sheet m = grind (arith, right_along, at, sheet_is)
 
 -- all postings may follow, and all sheets are right
 pub lawful_when : (h : HistoryParts) → IsInstruction h.instruction → IsRightBefore h (length h.postings)

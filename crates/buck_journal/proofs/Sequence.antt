@@ -1,5 +1,6 @@
 -- How many items a journal has.
 use Rattle.std.proofs.Common.{◌≡◌, ℕ, zero, suc, ◌+◌, ◌&&◌, ◌||◌, ◌==◌, Bool, true, false, List, [], ◌∷◌, Option, Some, None, Result, Ok, Err, inl, inr, length, drop, slice_get, sum_by, refl, sym, ap, ◌∙◌, subst, arith, codes}
+use Rattle.std.proofs.lemmas.Grind.{common_steps}
 use Rattle.std.specs.Prelude.{if◌then◌else◌}
 use Rattle.std.specs.Str.{bytes_eq}
 use Rattle.std.proofs.lemmas.Bool.{eqb-true, ne_eqb, cases_Bool}
@@ -47,10 +48,7 @@ ands false true k h = h
 ands false false k h = refl
 
 other_kind : (number kind : ℕ) (x : ItemParts) → (kind ≡ 1 → ⊥) → is_at (slot number kind) x ≡ true → is_first x ≡ false
-other_kind number kind x other h =
-    let p = both (x.number == number) (x.kind == kind) h in
-    let is : x.kind ≡ kind = eqb-true x.kind kind p.1 in
-    ands (x.number == 981) (x.number == 982) (x.kind == 1) (ne_eqb x.kind 1 (λ e. other (sym is ∙ e)))
+other_kind number kind x other h = grind (arith, common_steps)
 
 wanted_right : (b : Bool) (rest read : List ℕ) (fault : JournalFault) → (if b then Ok rest else Err fault) ≡ Ok read
     → b ≡ true
@@ -72,18 +70,15 @@ module _ (items : List ItemParts) (k : ℕ) where
   numbers_inside : (number kind : ℕ) (ns : List ℕ) → (kind ≡ 1 → ⊥) → numbers_at (slot number kind) items k ≡ Ok ns
       → Inside items k
   unfolding numbers_at
-  numbers_inside number kind ns other h =
-      let r = step_ok (rest_at (slot number kind) items k) _ ns h in rest_inside number kind r.0 other r.1
+  numbers_inside number kind ns other h = grind (arith, step_ok, rest_inside)
 
   by_numbers : {A : Type 0} (number kind : ℕ) (f : List ℕ → Result A JournalFault) (x : A) → (kind ≡ 1 → ⊥)
       → (numbers_at (slot number kind) items k >>= f) ≡ Ok x → Inside items k
-  by_numbers number kind f x other h = let r = step_ok (numbers_at (slot number kind) items k) f x h in
-      numbers_inside number kind r.0 other r.1
+  by_numbers number kind f x other h = grind (arith, step_ok, numbers_inside)
 
   worth_inside : (worth : ℕ) → worth_at items k ≡ Ok worth → Inside items k
   unfolding worth_at
-  worth_inside worth h = let r = step_ok (rest_at (slot 981 6) items k) _ worth h in
-      rest_inside 981 6 r.0 (λ e. omega arith) r.1
+  worth_inside worth h = grind (arith, step_ok, rest_inside)
 
 -- so many items are those of a posting that began before, and after them comes the next one, or the end
 abbrev Owes : ℕ → List ItemParts → Type 0
@@ -222,14 +217,4 @@ pub none_skipped : (bytes : List ℕ) (j : JournalParts) → journal_of bytes �
     × (items_of bytes ≡ Ok items)
     × (length items ≡ 1 + length j.sheets + sum_by number_of_items j.entries)
 unfolding journal_of journal_in
-none_skipped bytes j h =
-    let a = step_ok (with_fault Head (items_of bytes)) _ j h in
-    let b = step_ok (check (says_journal a.0) NotJournal) _ j a.2 in
-    let s = step_ok (sheets_from a.0 1 (drop 1 a.0)) _ j b.2 in
-    let p = step_ok (postings_from a.0 0 0 a.0) _ j s.2 in
-    let is : record { sheets = s.0; entries = p.0 } ≡ j = ok_same _ j p.2 in (
-      a.0,
-      ok_of Head (items_of bytes) a.0 a.1,
-      subst (λ (x : JournalParts). length a.0 ≡ 1 + length x.sheets + sum_by number_of_items x.entries) is
-          (file_counted a.0 s.0 p.0 (check_ok (says_journal a.0) NotJournal b.1) s.1 p.1),
-    )
+none_skipped bytes j h = grind (arith, step_ok, ok_same, ok_of, file_counted, check_ok)

@@ -170,8 +170,7 @@ item_lines : (pss : List (List ℕ)) (ps : List Posting) (r : AllByRecursion Are
     (q : AllByRecursion IsInRange ps)
     → map item_at (lines_of pss ps r q) ≡ map sheet_item pss ++ flat_map posting_items ps
 unfolding lines_of
-item_lines pss ps r q = map-append item_at (sheet_lines pss r) (posting_lines ps q)
-    ∙ (λ j. sheets_items pss r j ++ postings_items ps q j)
+item_lines pss ps r q = grind (arith, map-append, item_at, posting_lines, sheets_items, postings_items)
 
 -- the journal of a journal's text is what was written
 pub read_again : (pss : List (List ℕ)) (ps : List Posting) → AreInRange pss ps

@@ -13,18 +13,11 @@ here xs i d lt = rw add-one (drop-cons xs i d lt)
 
 pub two : (xs : List ℕ) (i d : ℕ) → i + 1 < length xs
     → drop i xs ≡ get_or xs i d ∷ get_or xs (i + 1) d ∷ drop (i + 2) xs
-two xs i d lt =
-    let e : i + 1 + 1 ≡ i + 2 = omega arith in
-    here xs i d (omega arith)
-    ∙ ap (λ more. get_or xs i d ∷ more) (here xs (i + 1) d lt ∙ ap (λ n. get_or xs (i + 1) d ∷ drop n xs) e)
+two xs i d lt = grind (arith, here)
 
 pub three : (xs : List ℕ) (i d : ℕ) → i + 2 < length xs
     → drop i xs ≡ get_or xs i d ∷ get_or xs (i + 1) d ∷ get_or xs (i + 2) d ∷ drop (i + 3) xs
-three xs i d lt =
-    let e : i + 2 + 1 ≡ i + 3 = omega arith in
-    two xs i d (omega arith)
-    ∙ ap (λ more. get_or xs i d ∷ get_or xs (i + 1) d ∷ more)
-    (here xs (i + 2) d lt ∙ ap (λ n. get_or xs (i + 2) d ∷ drop n xs) e)
+three xs i d lt = grind (arith, two, here)
 
 -- no two are left, and no three
 pub no_zones : (low : ℕ) (xs : List ℕ) → length xs ≤ 1 → are_zones low xs ≡ true
@@ -53,8 +46,7 @@ no_log_parts (x ∷ y ∷ z ∷ more) le = absurd (omega arith)
 pub zones_more : (low : ℕ) (xs : List ℕ) (i : ℕ) → i + 1 < length xs
     → is_zone low (get_or xs i 0) (get_or xs (i + 1) 0) ≡ true
     → are_zones low (drop i xs) ≡ are_zones (get_or xs i 0 + 1) (drop (i + 2) xs)
-zones_more low xs i lt h = ap (are_zones low) (two xs i 0 lt)
-    ∙ ap (λ b. b && are_zones (get_or xs i 0 + 1) (drop (i + 2) xs)) h
+zones_more low xs i lt h = grind (arith, two)
 
 pub logs_more : (xs : List ℕ) (i : ℕ) → i + 2 < length xs
     → is_log (get_or xs i 0) (get_or xs (i + 1) 0) (get_or xs (i + 2) 0) ≡ true

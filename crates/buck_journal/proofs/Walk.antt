@@ -1,5 +1,5 @@
 -- Going over the items of a journal, as the loops do.
-use Rattle.std.proofs.Common.{◌≡◌, ℕ, ◌+◌, ◌<◌, ◌≤◌, true, false, List, [], ◌∷◌, ◌++◌, Result, Ok, Err, length, map, drop, get_or, refl, sym, ap, ◌∙◌, drop-cons, add-one, append_assoc}
+use Rattle.std.proofs.Common.{◌≡◌, ℕ, ◌+◌, ◌<◌, ◌≤◌, true, false, List, [], ◌∷◌, ◌++◌, Result, Ok, Err, length, map, drop, get_or, refl, sym, ap, ◌∙◌, drop-cons, add-one, append_assoc, arith}
 use Rattle.std.proofs.lemmas.List.{drop_all, append-nil}
 use Rattle.buck_record.specs.Item.{ItemParts}
 use Rattle.buck_record.specs.checking.Check.{◌>>=◌}
@@ -25,8 +25,7 @@ module _ {X : Type 0} (made : List X) (rest all : Result (List X) JournalFault) 
     module _ (r : Result X JournalFault) (later : Result (List X) JournalFault)
         (is : rest ≡ (r >>= λ x. later >>= λ xs. Ok (x ∷ xs))) where
       pub goes_on : (x : X) → r ≡ Ok x → after_front (made ++ x ∷ []) later ≡ all
-      goes_on x e = sym (regroup made x later)
-          ∙ ap (after_front made) (sym (is ∙ ap (λ q. q >>= λ x. later >>= λ xs. Ok (x ∷ xs)) e)) ∙ so_far
+      goes_on x e = grind (arith, regroup, after_front)
 
       pub gives_up : (fault : JournalFault) → r ≡ Err fault → all ≡ Err fault
       gives_up fault e = sym so_far ∙ ap (after_front made) (is ∙ ap (λ q. q >>= λ x. later >>= λ xs. Ok (x ∷ xs)) e)

@@ -89,8 +89,7 @@ module _ (i : InstructionParts) (ps : List Posting) (prices : List ℕ) (v : IsI
         low_at k d lt = subst (λ p. p ≤ 20000000) (get_or_default prices k 0 d lt) (low_price k lt)
 
     sheet_prices : AreSheetPrices prices
-    sheet_prices =
-        record { number = omega (arith, m.one_each, classes-le i v); range = all_within_yes 20000000 prices prices_low }
+    sheet_prices = grind (arith, classes-le, all_within_yes, prices_low)
 
     sheet_valid : (version : ℕ) → IsSheet (sheet_of version i prices)
     sheet_valid version = record { valid = v; one_each = m.one_each; in_span = λ k lt. in_span i ps prices m k lt }
@@ -113,9 +112,7 @@ module _ (h : HistoryParts) (v : IsInstruction h.instruction) (l : IsLawful h) w
         (omega arith, omega (arith, calls-le (harvester_of x) (take k h.postings)))
 
     version_in : (k : ℕ) (x : Posting) → slice_get h.postings k ≡ Some x → version_at h k ≤ 1000000
-    version_in k x at =
-        let some = passed_few k (slice_get_within h.postings k x at) in
-        omega (arith, ends-le h.instruction.period 0 (take k h.postings))
+    version_in k x at = grind (arith, passed_few, slice_get_within, ends-le)
 
     cut_in : (k : ℕ) (e : EntryParts) → slice_get h.postings k ≡ Some (Cut e) → IsOfBook (Cut e) → IsCutInRange e
     cut_in k e at b =
