@@ -1,5 +1,6 @@
 -- what a closed fleet hands out of its book
 use Rattle.std.proofs.Common.{◌≡◌, ℕ, ◌+◌, ◌-◌, ◌<◌, ◌≤◌, List, [], ◌∷◌, length, get_or, refl, sym, ap, subst, ◌∙◌, map, arith}
+use Rattle.std.proofs.lemmas.Grind.{common_steps}
 use Rattle.std.specs.Prelude.{All, slice_index_or, slice_get, Some}
 use Rattle.std.specs.List.{sum_by}
 use Rattle.buck_apt.specs.Instruction.{InstructionParts}
@@ -58,16 +59,7 @@ pub handed_out : (n : ℕ) (seats : List SeatParts) (c : ClosedParts) (h : Histo
     → c.history ≡ h → c.kept ≡ lists → length lists ≡ n
     → All (λ s. slice_index_or lists (s.harvester - 1) [] ≡ s.kept) seats → length h.postings ≡ sum_by length lists
     → ((k : ℕ) (x : Posting) → slice_get h.postings k ≡ Some x → IsFirst h x) → IsHandedOut n seats c
-handed_out n seats c h lists eh ek len all total firsts = record {
-  lists = subst (λ (ls : List (List Kept)). All (λ s. slice_index_or ls (s.harvester - 1) [] ≡ s.kept) seats) (sym ek)
-      all;
-  number = ap (λ (ls : List (List Kept)). length ls) ek ∙ len;
-  total = ap (λ (x : HistoryParts). length x.postings) eh ∙ total
-      ∙ ap (λ (ls : List (List Kept)). sum_by length ls) (sym ek);
-  first_best =
-      subst (λ (x : HistoryParts). (k : ℕ) (p : Posting) → slice_get x.postings k ≡ Some p → IsFirst x p) (sym eh)
-      firsts;
-}
+handed_out n seats c h lists eh ek len all total firsts = grind (arith, common_steps)
 
 pub fault_at : (i j : InstructionParts) (n m : ℕ) (c : ClosedParts) (f : CloseFault) → i ≡ j → n ≡ m
     → IsCloseFault i n c f → IsCloseFault j m c f
@@ -78,14 +70,4 @@ fault_at i j n m c f ei en h =
 pub last_is : (h : HistoryParts) (sheets : List SheetParts) (d : SheetParts) → IsLawful h
     → sheets ≡ sheets_from 0 h.instruction h.sheets
     → (0 < length sheets) × (get_or sheets (length sheets - 1) d ≡ in_force h)
-last_is h sheets d lawful e =
-    let long : length sheets ≡ version_of h + 1 = ap (λ (l : List SheetParts). length l) e
-    ∙ length-sheets_from 0 h.instruction h.sheets ∙ lawful.sheets_number in
-    let at : length sheets - 1 ≡ version_of h = omega (arith, long) in
-    let lt : version_of h < length h.sheets = omega (arith, lawful.sheets_number) in
-    let none : 0 + version_of h ≡ version_of h = omega arith in (
-      omega (arith, long),
-      ap (λ (n : ℕ). get_or sheets n d) at ∙ ap (λ (l : List SheetParts). get_or l (version_of h) d) e
-          ∙ get_or-sheets_from 0 h.instruction h.sheets (version_of h) d lt
-          ∙ ap (λ (n : ℕ). sheet_of n h.instruction (get_or h.sheets (version_of h) [])) none,
-    )
+last_is h sheets d lawful e = grind (arith, length-sheets_from, get_or-sheets_from)

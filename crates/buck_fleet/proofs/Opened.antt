@@ -1,5 +1,6 @@
 -- seats of a new fleet, one by one
 use Rattle.std.proofs.Common.{◌≡◌, ℕ, ◌+◌, ◌<◌, ◌⊎◌, inl, inr, List, [], ◌∷◌, ◌++◌, length, get_or, refl, sym, ap, subst, ◌∙◌, arith}
+use Rattle.std.proofs.lemmas.Grind.{common_steps}
 use Rattle.std.specs.Prelude.{None}
 use Rattle.std.proofs.lemmas.List.{get_or_append_left, get_or_push, length_push}
 use Rattle.std.proofs.lemmas.List.Sums.{sum_by-append}
@@ -16,8 +17,7 @@ AreNew b seats = (i : ℕ) (d : SeatParts) → i < length seats → IsNew b i (g
 pub is_new : (b : Board) (n : ℕ) (s : SeatParts) (h : ℕ) (p : BoardSeat) (parts : ℕ)
     → s ≡ record { harvester = h; place = p; kept = []; parts = parts; stopped = None } → h ≡ n + 1 → IsSeatOf b p
     → seen_by p ≡ 0 → IsNew b n s
-is_new b n s h p parts e eh of unseen =
-    subst (IsNew b n) (sym e) (record { harvester_is = eh; nothing_kept = refl; nothing_seen = unseen; of_board = of })
+is_new b n s h p parts e eh of unseen = grind (arith, common_steps)
 
 pub one_more_new : (b : Board) (seats after : List SeatParts) (s : SeatParts) → after ≡ seats ++ s ∷ [] → AreNew b seats
     → IsNew b (length seats) s → AreNew b after
@@ -34,8 +34,7 @@ one_more_new b seats after s is new one = subst (AreNew b) (sym is) (λ i d lt. 
 
 pub one_more_parts : (seats after : List SeatParts) (s : SeatParts) → after ≡ seats ++ s ∷ []
     → parts_of after ≡ parts_of seats + s.parts
-one_more_parts seats after s is = ap parts_of is ∙ sum_by-append (λ (x : SeatParts). x.parts) seats (s ∷ [])
-    ∙ (omega arith)
+one_more_parts seats after s is = grind (arith, sum_by-append)
 
 pub one_more_long : (seats after : List SeatParts) (s : SeatParts) → after ≡ seats ++ s ∷ []
     → length after ≡ length seats + 1

@@ -1,5 +1,6 @@
 -- where two lists of replies differ
 use Rattle.std.proofs.Common.{◌≡◌, ◌≢◌, ℕ, zero, suc, ◌+◌, ◌-◌, ◌<◌, ◌≤◌, List, [], ◌∷◌, ◌++◌, length, take, drop, get_or, true, ◌==◌, inl, inr, drop-cons, add-one, refl, sym, ap, ◌∙◌, arith}
+use Rattle.std.proofs.lemmas.Grind.{common_steps}
 use Rattle.std.specs.Prelude.{slice_get, Some, None}
 use Rattle.std.proofs.Math.Seq.{take-append_seam}
 use Rattle.std.proofs.lemmas.List.{drop_all, length-append, length-take-le}
@@ -10,8 +11,7 @@ use Rattle.buck_fleet.specs.declared.seat.Kept.{Kept}
 use Rattle.buck_fleet.specs.Closed.{DifferFirstAt, replies_from}
 
 take_seam : (k : ℕ) (xs ys : List Kept) → k ≤ length xs → take k (take k xs ++ ys) ≡ take k xs
-take_seam k xs ys le = ap (λ (n : ℕ). take n (take k xs ++ ys)) (sym (length-take-le k xs le))
-    ∙ take-append_seam (take k xs) ys
+take_seam k xs ys le = grind (arith, common_steps)
 
 get_seam : (k : ℕ) (xs : List Kept) (y : Kept) (ys : List Kept) → k ≤ length xs
     → slice_get (take k xs ++ y ∷ ys) k ≡ Some y
@@ -22,13 +22,7 @@ get_seam (suc k) (x ∷ xs) y ys le = get_seam k xs y ys (omega arith)
 -- up to k they are alike, and there the history goes on with a reply that isn't kept there
 pub differ_here : (k : ℕ) (kept replies : List Kept) (y : Kept) (ys : List Kept) → k ≤ length kept
     → replies ≡ take k kept ++ y ∷ ys → slice_get kept k ≢ Some y → DifferFirstAt (k + 1) kept replies
-differ_here k kept replies y ys le is ne =
-    let back : k + 1 - 1 ≡ k = omega arith in
-    record {
-      from_one = omega arith;
-      like_before = rw (back, is) (sym (take_seam k kept (y ∷ ys) le));
-      unlike_there = rw back (λ e. ne (e ∙ ap (λ (l : List Kept). slice_get l k) is ∙ get_seam k kept y ys le));
-    }
+differ_here k kept replies y ys le is ne = grind (arith, take_seam, get_seam)
 
 -- up to k they are alike, and there the history has no more replies
 pub differ_end : (k : ℕ) (kept replies : List Kept) → k < length kept → replies ≡ take k kept ++ []
@@ -51,12 +45,7 @@ reply_at : (h i : ℕ) (entries : List Posting) (x : Posting) → i < length ent
     → (harvester_of x == h) ≡ true
     → replies_from h i (drop i entries) ≡ (record { position = i; entry = x })
     ∷ replies_from h (i + 1) (drop (i + 1) entries)
-reply_at h i entries x lt at own =
-    let here : drop i entries ≡ x ∷ drop (i + 1) entries = rw add-one (drop-cons entries i x lt)
-    ∙ ap (λ (z : Posting). z ∷ drop (i + 1) entries) (sym at) in
-    let own' : replies_from h i (x ∷ drop (i + 1) entries) ≡ (record { position = i; entry = x })
-    ∷ replies_from h (i + 1) (drop (i + 1) entries) = rw own refl in
-    ap (λ (l : List Posting). replies_from h i l) here ∙ own'
+reply_at h i entries x lt at own = grind (arith, add-one, drop-cons)
 
 -- the kept list ends before the harvester's posting i
 pub kept_ends : (h k i : ℕ) (kept : List Kept) (entries : List Posting) (x : Posting)

@@ -25,13 +25,7 @@ IsStopSoFar n seats lowest first =
 
 one_more : (p : SeatParts → Type 0) (n : ℕ) (seats : List SeatParts) (s : SeatParts) → n < length seats
     → s ≡ get_or seats n s → p s → AllBefore p n seats → AllBefore p (n + 1) seats
-one_more p n seats s lt is ps before k d small =
-    elim (cases_lt k n) [
-      | inl less ↦ before k d less
-      | inr more ↦
-          let same : k ≡ n = omega (arith, small, more) in
-          subst p (is ∙ get_or_default seats n s d lt ∙ ap (λ i. get_or seats i d) (sym same)) ps
-    ]
+one_more p n seats s lt is ps before k d small = grind (arith, get_or_default)
 
 module _ (n : ℕ) (seats : List SeatParts) (s : SeatParts) (lowest : ℕ) (first : Option RunFault) (lt : n < length seats)
     (is : s ≡ get_or seats n s) (small : s.harvester ≤ 64) (so_far : IsStopSoFar n seats lowest first) where

@@ -1,5 +1,5 @@
 -- What a commit of the book leaves, as the world sees it.
-use Rattle.std.proofs.Common.{◌≡◌, ◌≢◌, inr, ℕ, ◌+◌, ◌-◌, List, [], ◌∷◌, ◌++◌, slice_set, Option, sym, ap, subst, ◌∙◌}
+use Rattle.std.proofs.Common.{◌≡◌, ◌≢◌, inr, ℕ, ◌+◌, ◌-◌, List, [], ◌∷◌, ◌++◌, slice_set, Option, sym, ap, subst, ◌∙◌, arith}
 use Rattle.buck_value.specs.Sheet.{SheetParts}
 use Rattle.buck_book.specs.declared.posting.Posting.{Posting}
 use Rattle.buck_book.specs.Plan.{PlanParts}
@@ -28,17 +28,12 @@ pub posting_added : (s m s' : HistoryParts) (xs ys : List Harvester) (front h : 
     (y : Posting) (next : Option SheetParts)
     → m ≡ s → IsNext m (x m) next → y ≡ x m → IsCommitted m y next s' → ys ≡ answered xs h
     → Adds (world_of s front xs) h (x s) (world_of s' front ys)
-posting_added s m s' xs ys front h x y next same is_next is c now =
-    let after : s' ≡ history_with m (x m) next =
-    committed m s' (x m) next (subst (λ (z : Posting). IsCommitted m z next s') is c) in
-    subst (λ (t : HistoryParts). Adds (world_of t front xs) h (x t) (world_of s' front ys)) same
-    (next, is_next, λ j. record { history = after j; front = front; harvesters = now j })
+posting_added s m s' xs ys front h x y next same is_next is c now = grind (arith, committed)
 
 -- what was found at h's place, in a list that is xs
 pub found_planned : (xs ys : List Harvester) (h : ℕ) (x : Harvester) (p : PlanParts) → x ≡ is_at ys h → ys ≡ xs
     → x.stage ≡ Planned p → (is_at xs h).stage ≡ Planned p
-found_planned xs ys h x p at same is = ap (λ (zs : List Harvester). (is_at zs h).stage) (sym same)
-    ∙ ap (λ (z : Harvester). z.stage) (sym at) ∙ is
+found_planned xs ys h x p at same is = cc
 
 -- a plan of the sheet in force was made under the version in force, and no other plan was
 pub version_is : (s m : HistoryParts) (v : ℕ) (p : PlanParts) → IsPlanUnder s v p → m ≡ s → p.sheet ≡ in_force m
@@ -56,8 +51,4 @@ pub tried_stale : (s s' : HistoryParts) (xs ys : List Harvester) (front h : ℕ)
     → IsPlanUnder s (is_at xs h).seen p → p.sheet ≢ in_force s
     → ys ≡ slice_set xs (h - 1) (record { stage = Idle; seen = (is_at xs h).seen; stale = (is_at xs h).stale + 1 })
     → Tries (world_of s front xs) h p (world_of s' front ys)
-tried_stale s s' xs ys front h p same under other now =
-    inr (
-      version_is_not s (is_at xs h).seen p under other,
-      λ j. record { history = same j; front = front; harvesters = now j },
-    )
+tried_stale s s' xs ys front h p same under other now = grind (arith, version_is_not)

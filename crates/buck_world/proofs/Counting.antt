@@ -1,5 +1,6 @@
 -- What is counted along runs.
 use Rattle.std.proofs.Common.{◌≡◌, ◌≢◌, inl, ⊎_elim, inr, ℕ, zero, suc, ◌+◌, ◌-◌, ◌*◌, ◌<◌, ◌≤◌, List, [], ◌∷◌, Bool, cond, length, get_or, set, sym, refl, ap, subst, ◌∙◌, eq-eqb, ne_eqb, lt-ltb, le-ltb, arith, mul-le-mul_left}
+use Rattle.std.proofs.lemmas.Grind.{common_steps}
 use Rattle.std.proofs.lemmas.Bool.{cases_eq}
 use Rattle.std.proofs.lemmas.Bool.Decides.{nat_tests}
 use Rattle.buck_book.specs.declared.posting.Posting.TheVariants.{Cut}
@@ -61,9 +62,7 @@ lifts_are_front w (m ∷ ms) s r =
 -- another harvester stays
 pub foreign : (w w' : WorldParts) (e : Event) (g : ℕ) → IsSound w → Step w e w' → 1 ≤ g → g ≢ harvester_of_event e
     → at w' g ≡ at w g
-foreign w w' e g s step low other =
-    let c = changed w w' e s step in ap (λ (hs : List Harvester). get_or hs (g - 1) newcomer) c.1
-    ∙ elsewhere w.harvesters (harvester_of_event e) g c.0 newcomer (is_in w e step.0).0 low other
+foreign w w' e g s step low other = grind (arith, changed, elsewhere, is_in)
 
 -- k events of h so far: no more than the front, and while an attempt goes on no more than the version that it saw
 pub record IsWithin (w : WorldParts) (h k : ℕ) : Type 0 where
@@ -78,19 +77,14 @@ at_here w w' x h y e f h_in =
 
 within_after : (w' : WorldParts) (h n : ℕ) (y : Harvester) → at w' h ≡ y → n ≤ w'.front → (IsGoing y.stage → n ≤ y.seen)
     → IsWithin w' h n
-within_after w' h n y e low going = record {
-  front = low;
-  seen = λ g. subst (λ (z : Harvester). n ≤ z.seen) (sym e) (going (subst (λ (z : Harvester). IsGoing z.stage) e g));
-}
+within_after w' h n y e low going = grind (arith, common_steps)
 
 -- the event's harvester is put at y, and nothing is counted but a lift
 put : (w w' x : WorldParts) (e : Event) (n k : ℕ) (y : Harvester) → IsSound w → Step w e w' → w' ≡ x
     → x.harvesters ≡ set w.harvesters (harvester_of_event e - 1) y
     → IsWithin w (harvester_of_event e) k → n ≡ 0 + lift_at w e w' + k → (IsGoing y.stage → n ≤ y.seen)
     → IsWithin w' (harvester_of_event e) n
-put w w' x e n k y s step is set within count going =
-    within_after w' (harvester_of_event e) n y (at_here w w' x (harvester_of_event e) y is set (is_in w e step.0))
-    (let f = front_after w w' e s step in let low = within.front in omega arith) going
+put w w' x e n k y s step is set within count going = grind (arith, common_steps)
 
 own : (w w' : WorldParts) (e : Event) (n k : ℕ) → IsSound w → Step w e w' → IsFreshAt w e
     → IsWithin w (harvester_of_event e) k → n ≡ stale_at w e w' + lift_at w e w' + k
@@ -128,20 +122,7 @@ own w w' (Leave h) n k s (a, f) fresh within e = put w w' _ (Leave h) n k _ s (a
 -- one more event
 within_step : (w w' : WorldParts) (e : Event) (h k : ℕ) → IsSound w → Step w e w' → IsFreshAt w e → 1 ≤ h
     → IsWithin w h k → IsWithin w' h (if_by h e (stale_at w e w') + if_by h e (lift_at w e w') + k)
-within_step w w' e h k s step fresh low within = elim (cases_eq (harvester_of_event e) h) [
-  | inl is ↦
-      let a = by_self h e (stale_at w e w') is in
-      let b = by_self h e (lift_at w e w') is in
-      subst (λ g. IsWithin w' g (if_by h e (stale_at w e w') + if_by h e (lift_at w e w') + k)) is
-      (own w w' e _ k s step fresh (subst (λ g. IsWithin w g k) (sym is) within) (omega arith))
-  | inr not ↦
-      let a = by_other h e (stale_at w e w') not in
-      let b = by_other h e (lift_at w e w') not in
-      let f = front_after w w' e s step in
-      let few = within.front in
-      within_after w' h _ (at w h) (foreign w w' e h s step low (λ q. not (sym q))) (omega arith)
-      (λ g. let seen = within.seen g in omega arith)
-]
+within_step w w' e h k s step fresh low within = grind (arith, common_steps)
 
 pub stale_and_lifts : (w : WorldParts) (moves : List Move) (h k : ℕ) → IsSound w → IsRun w moves → IsFresh w moves
     → 1 ≤ h → IsWithin w h k → stale_of h w moves + lifts_of h w moves + k ≤ (last w moves).front

@@ -1,5 +1,6 @@
 -- Each event keeps what the type of worlds keeps.
 use Rattle.std.proofs.Common.{◌≡◌, ⊎_elim, ℕ, ◌+◌, ◌-◌, ◌<◌, ◌≤◌, List, [], ◌∷◌, length, length-set, get_or, replicate, sym, refl, ap, subst, ◌∙◌, arith}
+use Rattle.std.proofs.lemmas.Grind.{common_steps}
 use Rattle.std.specs.Prelude.{Result, Ok, Err, OnOk, OnErr}
 use Rattle.std.proofs.lemmas.List.{length_push, length-replicate}
 use Rattle.std.proofs.lemmas.List.Elements.{All-map, All-from_get_or}
@@ -23,8 +24,7 @@ use Rattle.buck_world.proofs.Sound.{stays_sound, opening_sound}
 
 -- the front is at most the version in force, which is at most the number of postings
 front_low : (w : WorldParts) → IsSound w → w.front ≤ length w.history.postings
-front_low w s = let a = s.world.front_low in let b = ends-le w.history.instruction.period 0 w.history.postings in
-    omega arith
+front_low w s = grind (arith, ends-le)
 
 keeps_all : {F : Type 0} (r : RuledWorld F) → IsSound r.world → IsInstruction r.world.history.instruction
     → length r.world.history.postings ≤ r.capacity → r.capacity ≤ 1000000 → length r.world.harvesters ≤ 64 → Keeps r
@@ -50,13 +50,11 @@ keeps_all r s valid within range few = record {
 -- an event that adds nothing
 none_more : (n : ℕ) (w w' x : WorldParts) → w' ≡ x → x.history.postings ≡ w.history.postings
     → length w.history.postings ≤ n → length w'.history.postings ≤ n
-none_more n w w' x e f low = let g = ap (λ (y : WorldParts). length y.history.postings) e in let k = ap length f in
-    omega arith
+none_more n w w' x e f low = grind (arith, common_steps)
 
 one_more : (n : ℕ) (w w' : WorldParts) (h : ℕ) (x : Posting) → Adds w h x w' → length w.history.postings < n
     → length w'.history.postings ≤ n
-one_more n w w' h x a low = let g = ap (λ (y : WorldParts). length y.history.postings) a.2 in let k =
-    length_push w.history.postings x in omega arith
+one_more n w w' h x a low = grind (arith, length_push)
 
 within_after : {F : Type 0} (r : RuledWorld F) (e : Event) (w' : WorldParts)
     → length r.world.history.postings ≤ r.capacity → Step r.world e w' → HasRoom r e
@@ -73,8 +71,7 @@ within_after r (Leave h) w' low (a, f) room = none_more r.capacity r.world w' _ 
 -- neither the instruction nor the number of harvesters changes
 pub same_number : (w w' : WorldParts) (e : Event) → IsSound w → Step w e w'
     → (length w'.harvesters ≡ length w.harvesters) × (w'.history.instruction ≡ w.history.instruction)
-same_number w w' e s step =
-    let c = changed w w' e s step in (ap (λ xs. length xs) c.1 ∙ length-set w.harvesters _ c.0, c.2)
+same_number w w' e s step = grind (arith, changed, length-set)
 
 pub keeps_step : {F : Type 0} (r : RuledWorld F) (rule : F) (capacity : ℕ) (e : Event) (w' : WorldParts) → Keeps r
     → capacity ≡ r.capacity → Step r.world e w' → HasRoom r e

@@ -15,17 +15,10 @@ module _ {X : Type 0} where
   pub each_of : (xs : List X) (h : ℕ) (x d : X) → 1 ≤ h → (g : ℕ) → (1 ≤ g) × (g ≤ length (set xs (h - 1) x))
       → (g ≡ h)
       ⊎ ((g ≢ h) × ((1 ≤ g) × (g ≤ length xs)) × (get_or (set xs (h - 1) x) (g - 1) d ≡ get_or xs (g - 1) d))
-  each_of xs h x d low g g_in = elim (cases_eq g h) [
-    | inl e ↦ inl e
-    | inr n ↦
-        inr (n, (g_in.0, omega (arith, g_in.1, length-set xs (h - 1) x)), elsewhere xs h g x d low g_in.0 n)
-  ]
+  each_of xs h x d low g g_in = grind (arith, length-set, elsewhere)
 
   -- what holds of each, and of the new one, holds of each after the change
   pub after_set : (P : ℕ → X → Type 0) (xs : List X) (h : ℕ) (x d : X) → 1 ≤ h → h ≤ length xs → P h x
       → ((g : ℕ) → (1 ≤ g) × (g ≤ length xs) → g ≢ h → P g (get_or xs (g - 1) d))
       → (g : ℕ) → (1 ≤ g) × (g ≤ length (set xs (h - 1) x)) → P g (get_or (set xs (h - 1) x) (g - 1) d)
-  after_set P xs h x d low high new old g g_in = elim (each_of xs h x d low g g_in) [
-    | inl e ↦ rw (e, here xs h x d low high) new
-    | inr o ↦ rw o.2 (old g o.1 o.0)
-  ]
+  after_set P xs h x d low high new old g g_in = grind (arith, each_of, here)

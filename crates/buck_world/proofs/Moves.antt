@@ -1,5 +1,6 @@
 -- The three things that a step may do: one harvester alone changes, a posting is added, or the front is raised.
 use Rattle.std.proofs.Common.{◌≡◌, ◌≢◌, ◌⊎◌, inl, inr, ⊎_elim, ℕ, ◌+◌, ◌<◌, ◌≤◌, ◌-◌, set, Option, sym, refl, ap, subst, arith, le_refl, le_trans}
+use Rattle.std.proofs.lemmas.Grind.{common_steps}
 use Rattle.buck_value.specs.Sheet.{SheetParts}
 use Rattle.buck_dp.specs.Best.{IsBest, cutting_worth}
 use Rattle.buck_book.specs.declared.posting.Posting.{Posting}
@@ -51,16 +52,7 @@ IsMove w h w' = IsQuiet w h w' ⊎ IsAdded w h w' ⊎ IsRaised w h w'
 -- the entry of a plan under the sheet in force may follow
 entry_follows : (h : HistoryParts) (n : ℕ) (p : PlanParts) → IsPlanUnder h (version_of h) p
     → history.Follows h.instruction h.sheets h.postings (Cut (entry_of h n p))
-entry_follows h n p under =
-    let k = under.planned in
-    let holds : IsBest p.sheet p.stem p.logs × (p.worth ≡ cutting_worth p.sheet p.stem p.logs) =
-    (k.first_best.best, k.worth_is) in
-    record {
-      number_is_next = refl;
-      version_in_force = refl;
-      holds = subst (λ (s : SheetParts). IsBest s p.stem p.logs × (p.worth ≡ cutting_worth s p.stem p.logs))
-          under.sheet_is holds;
-    }
+entry_follows h n p under = grind (arith, common_steps)
 
 not_answered : (stage : Stage) → IsIdleOrReading stage → stage ≢ Answered
 not_answered Idle is e = absurd (cc)

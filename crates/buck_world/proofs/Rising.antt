@@ -1,5 +1,6 @@
 -- What a harvester has seen never falls, and what is added along a run.
 use Rattle.std.proofs.Common.{◌≡◌, ◌≢◌, ⊎_elim, inl, inr, ℕ, ◌+◌, ◌≤◌, List, [], ◌∷◌, ◌++◌, length, drop, slice_get, Some, sym, refl, ap, subst, ◌∙◌, append_assoc, append-nil, arith, le_refl, le_trans}
+use Rattle.std.proofs.lemmas.Grind.{common_steps}
 use Rattle.std.proofs.Math.Seq.{drop-append_seam}
 use Rattle.std.proofs.lemmas.Bool.{cases_eq}
 use Rattle.buck_book.specs.declared.posting.Posting.{Posting}
@@ -27,10 +28,7 @@ seen_no_less w w' h y e low = let f = ap (λ (z : Harvester). z.seen) e in omega
 
 own_no_less : (w w' : WorldParts) (e : Event) → IsSound w → Step w e w'
     → (at w (harvester_of_event e)).seen ≤ (at w' (harvester_of_event e)).seen
-own_no_less w w' e s step =
-    let h = harvester_of_event e in
-    let c = changed w w' e s step in
-    seen_no_less w w' h c.0 (at_here w w' w' h c.0 refl c.1 (is_in w e step.0)) c.3
+own_no_less w w' e s step = grind (arith, common_steps)
 
 step_no_less : (w w' : WorldParts) (e : Event) (h : ℕ) → IsSound w → Step w e w' → 1 ≤ h
     → (at w h).seen ≤ (at w' h).seen
@@ -106,11 +104,7 @@ none_added w w' x e f = ap (λ (z : WorldParts). z.history.postings) e ∙ f ∙
 
 one_added : (w w' x : WorldParts) (ds : List Posting) → w' ≡ x → x.history.postings ≡ w.history.postings ++ ds
     → w'.history.postings ≡ w.history.postings ++ more_than w w'
-one_added w w' x ds e f =
-    let g : w'.history.postings ≡ w.history.postings ++ ds = ap (λ (z : WorldParts). z.history.postings) e ∙ f in
-    let k : more_than w w' ≡ ds = ap (λ (xs : List Posting). drop (length w.history.postings) xs) g
-    ∙ drop-append_seam w.history.postings ds in
-    g ∙ ap (λ (ys : List Posting). w.history.postings ++ ys) (sym k)
+one_added w w' x ds e f = grind (arith, drop-append_seam)
 
 step_added : (w w' : WorldParts) (e : Event) → Step w e w' → w'.history.postings ≡ w.history.postings ++ added_at w e w'
 step_added w w' (Read h v) (a, f) = none_added w w' _ f refl

@@ -70,11 +70,7 @@ quiet_sound w w' h s h_in q = subst (λ (y : WorldParts). IsSound y) (sym q.is) 
 -- a plan's sheet stays at its place
 under_after : (s : HistoryParts) (x : Posting) (next : Option SheetParts) (v : ℕ) (p : PlanParts) → v < length s.sheets
     → IsPlanUnder s v p → IsPlanUnder (history_with s x next) v p
-under_after s x next v p low under = record {
-  sheet_is = under.sheet_is
-      ∙ ap (λ (prices : List ℕ). sheet_of v s.instruction prices) (sym (prices_stay s.sheets next v low));
-  planned = under.planned;
-}
+under_after s x next v p low under = grind (arith, prices_stay)
 
 -- a version that was seen has a sheet
 seen_low : (w : WorldParts) (v : ℕ) → IsSound w → v ≤ w.front → v < length w.history.sheets
