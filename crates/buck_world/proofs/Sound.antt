@@ -62,10 +62,7 @@ quiet_sound w w' h s h_in q = subst (λ (y : WorldParts). IsSound y) (sym q.is) 
 
     back : (g : ℕ) → IsHarvester (with_harvester w h q.now) g → (at (with_harvester w h q.now) g).stage ≡ Answered
         → (at w g).stage ≡ Answered
-    back g g_in g_is = elim (each_of w.harvesters h q.now newcomer h_in.0 g g_in) [
-      | inl e ↦ absurd (q.after (rw (e, here w.harvesters h q.now newcomer h_in.0 h_in.1) at g_is))
-      | inr o ↦ rw o.2 at g_is
-    ]
+    back g g_in g_is = grind (arith, each_of, here)
 
 -- a plan's sheet stays at its place
 under_after : (s : HistoryParts) (x : Posting) (next : Option SheetParts) (v : ℕ) (p : PlanParts) → v < length s.sheets
@@ -128,10 +125,7 @@ added_sound w w' h s h_in a = subst (λ (y : WorldParts). IsSound y) (sym a.is) 
 
     only : (g : ℕ) → (1 ≤ g) × (g ≤ length (set w.harvesters (h - 1) x))
         → (get_or (set w.harvesters (h - 1) x) (g - 1) newcomer).stage ≡ Answered → g ≡ h
-    only g g_in g_is = elim (each_of w.harvesters h x newcomer h_in.0 g g_in) [
-      | inl e ↦ e
-      | inr o ↦ absurd (a.nobody g o.1 (rw o.2 at g_is))
-    ]
+    only g g_in g_is = grind (arith, each_of)
 
 -- a posting's version is at most the version in force
 version_low : (w : WorldParts) → IsSound w → (i : ℕ) (p : Posting) → slice_get w.history.postings i ≡ Some p
@@ -165,12 +159,7 @@ raised_sound w w' h s h_in r = subst (λ (y : WorldParts). IsSound y) (sym r.is)
 
     nobody : (g : ℕ) → (1 ≤ g) × (g ≤ length (set w.harvesters (h - 1) x))
         → (get_or (set w.harvesters (h - 1) x) (g - 1) newcomer).stage ≢ Answered
-    nobody g g_in g_is = elim (each_of w.harvesters h x newcomer h_in.0 g g_in) [
-      | inl e ↦
-          let is : Idle ≡ Answered = rw (e, here w.harvesters h x newcomer h_in.0 h_in.1) at g_is in
-          cc
-      | inr o ↦ o.0 (k.one_answered g h o.1 h_in (rw o.2 at g_is) r.was)
-    ]
+    nobody g g_in g_is = grind (arith, each_of, here)
 
 pub stays_sound : (w w' : WorldParts) (e : Event) → IsSound w → Step w e w' → IsSound w'
 stays_sound w w' e s step = let h = harvester_of_event e in let h_in = is_in w e step.0 in ⊎_elim
@@ -205,10 +194,7 @@ opening_sound i n = record {
 }
   where
     idle : (h : ℕ) → IsHarvester (opening i n) h → get_or (replicate n newcomer) (h - 1) newcomer ≡ newcomer
-    idle h t =
-        get_or-replicate n (h - 1) newcomer newcomer
-        (let l = length-replicate n newcomer in let a = t.0 in let b = t.1 in omega arith)
+    idle h t = grind (arith, get_or-replicate, length-replicate)
 
     never : (h : ℕ) → IsHarvester (opening i n) h → (get_or (replicate n newcomer) (h - 1) newcomer).stage ≢ Answered
-    never h t is = let x = idle h t in let y : Idle ≡ Answered = subst (λ (z : Harvester). z.stage ≡ Answered) x is in
-        cc
+    never h t is = grind (arith, idle)
