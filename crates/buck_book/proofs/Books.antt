@@ -60,12 +60,7 @@ keeps_empty f i pss ps ts n calls capacity room sheet_room le none priced sheete
 -- a cutting stays the first of the best with more sheets
 first_stays : (h : HistoryParts) (x y : Posting) (next : Option SheetParts) → planned_version y < length h.sheets
     → IsFirst h y → IsFirst (history_with h x next) y
-first_stays h x (Cut e) next lt f = (
-  f.0,
-  subst (λ prices. IsFirstBest (sheet_of e.version h.instruction prices) e.stem e.logs)
-      (sym (prices_stay h.sheets next e.version lt)) f.1,
-)
-first_stays h x (Demand d) next lt f = f
+first_stays h x y next lt f = grind (arith, prices_stay)
 
 -- a book is one with a posting more that may follow
 pub book_more : {F : Type 0} (b : BookParts F) (x : Posting) (next : Option SheetParts) (room sheet_room : ℕ)
@@ -96,13 +91,7 @@ book_more b x next room sheet_room k follows n first in_range below = record {
 pub sheets_after : (h : HistoryParts) (x : Posting) (ts : List SheetParts) (next : Option SheetParts) → IsLawful h
     → ts ≡ sheets_from 0 h.instruction h.sheets → IsNext h x next
     → ts ++ option_to_list next ≡ sheets_from 0 h.instruction (sheets_with h.sheets next)
-sheets_after h x ts None l are n = append-nil ts ∙ are
-sheets_after h x ts (Some s) l are n =
-    let at : s.version ≡ 0 + length h.sheets = omega (arith, n.1.version_is_next, l.sheets_number) in
-    let instruction = n.1.same_instruction in
-    let is : s ≡ sheet_of (0 + length h.sheets) h.instruction s.prices =
-    λ j. record { version = at j; instruction = instruction j; prices = s.prices } in
-    (λ j. are j ++ is j ∷ []) ∙ sym (sheets_from-append 0 h.instruction h.sheets (s.prices ∷ []))
+sheets_after h x ts next l are n = grind (arith, append-nil, sheets_from-append)
 
 -- what is kept after a posting more, of what then stands in the book's lists
 pub keeps_more : {F : Type 0} (b : BookParts F) (sheets sheets' : List SheetParts) (n n' : RunningParts)

@@ -35,26 +35,13 @@ module _ (p n : ℕ) (x : Posting) (xs : List Posting) where
 pub ends-append : (p n : ℕ) (xs ys : List Posting)
     → ends_from p n (xs ++ ys) ≡ ends_from p n xs + ends_from p (cuts_from p n xs) ys
 ends-append p n [] ys = omega arith
-ends-append p n (x ∷ xs) ys = elim (cases_Bool (is_end p n x)) [
-  | inl yes_ ↦
-      ends_yes p n x (xs ++ ys) yes_
-      ∙ ap (λ k. 1 + k) (ends-append p 0 xs ys)
-      ∙ omega arith
-      ∙ (λ j. sym (ends_yes p n x xs yes_) j + ends_from p (sym (cuts_yes p n x xs yes_) j) ys)
-  | inr no_ ↦
-      ends_no p n x (xs ++ ys) no_
-      ∙ ends-append p (n + 1) xs ys
-      ∙ (λ j. sym (ends_no p n x xs no_) j + ends_from p (sym (cuts_no p n x xs no_) j) ys)
-]
+ends-append p n (x ∷ xs) ys =
+    grind (arith, ends_yes, ends_no, cuts_yes, cuts_no, (ends-append p 0 xs ys), (ends-append p (n + 1) xs ys))
 
 pub cuts-append : (p n : ℕ) (xs ys : List Posting) → cuts_from p n (xs ++ ys) ≡ cuts_from p (cuts_from p n xs) ys
 cuts-append p n [] ys = refl
-cuts-append p n (x ∷ xs) ys = elim (cases_Bool (is_end p n x)) [
-  | inl yes_ ↦ cuts_yes p n x (xs ++ ys) yes_ ∙ cuts-append p 0 xs ys
-      ∙ ap (λ k. cuts_from p k ys) (sym (cuts_yes p n x xs yes_))
-  | inr no_ ↦ cuts_no p n x (xs ++ ys) no_ ∙ cuts-append p (n + 1) xs ys
-      ∙ ap (λ k. cuts_from p k ys) (sym (cuts_no p n x xs no_))
-]
+cuts-append p n (x ∷ xs) ys =
+    grind (arith, cuts_yes, cuts_no, (cuts-append p 0 xs ys), (cuts-append p (n + 1) xs ys))
 
 module _ (i : InstructionParts) (ps : List Posting) (x : Posting) where
   pub ends_with_end : IsEnd i ps x → ends_of i (ps ++ x ∷ []) ≡ ends_of i ps + 1
@@ -101,10 +88,7 @@ ends_past i ps k x at e =
 
 pub ends-le : (p n : ℕ) (ps : List Posting) → ends_from p n ps ≤ length ps
 ends-le p n [] = omega arith
-ends-le p n (x ∷ xs) = elim (cases_Bool (is_end p n x)) [
-  | inl yes_ ↦ omega (arith, ends_yes p n x xs yes_, ends-le p 0 xs)
-  | inr no_ ↦ omega (arith, ends_no p n x xs no_, ends-le p (n + 1) xs)
-]
+ends-le p n (x ∷ xs) = grind (arith, ends_yes, ends_no, (ends-le p 0 xs), (ends-le p (n + 1) xs))
 
 still_low : (p n : ℕ) (x : Posting) → n < p → is_end p n x ≡ false → n + 1 < p
 still_low p n (Cut e) lt no_ = let ne : n + 1 ≢ p = λ z. true_false (sym (eq-eqb (n + 1) p z) ∙ no_) in omega arith

@@ -1,5 +1,6 @@
 -- Prefixes of lawful histories, and lawful histories one posting longer.
 use Rattle.std.proofs.Common.{◌≡◌, ℕ, zero, suc, ◌+◌, ◌<◌, ◌≤◌, ◌⊎◌, inl, inr, List, [], ◌∷◌, ◌++◌, length, take, get_or, slice_get, Option, Some, None, refl, sym, ap, subst, ◌∙◌, arith}
+use Rattle.std.proofs.lemmas.Grind.{common_steps}
 use Rattle.std.proofs.lemmas.List.{take_all, take-append-le, take-take, length-take-le, length_push, get_or-take, get_or_append_left, get_or_push}
 use Rattle.std.proofs.lemmas.Option.{slice_get_within, slice_get-get_or, get_or_from_slice_get}
 use Rattle.buck_apt.specs.Instruction.{InstructionParts}
@@ -18,8 +19,7 @@ pub slice_get-push : {X : Type 0} (xs : List X) (y x : X) (i : ℕ) → slice_ge
 slice_get-push [] y x zero e = inr (refl, (cc))
 slice_get-push [] y x (suc i) e = absurd (cc)
 slice_get-push (z ∷ xs) y x zero e = inl (omega arith, e)
-slice_get-push (z ∷ xs) y x (suc i) e =
-    elim (slice_get-push xs y x i e) [ inl h ↦ inl (omega (arith, h.0), h.1) | inr h ↦ inr (ap suc h.0, h.1) ]
+slice_get-push (z ∷ xs) y x (suc i) e = grind (arith, (slice_get-push xs y x i e))
 
 -- an element of a shorter list
 pub slice_get-take : {X : Type 0} (xs : List X) (n i : ℕ) (x : X) → n ≤ length xs → slice_get (take n xs) i ≡ Some x
@@ -33,11 +33,7 @@ slice_get-take xs n i x le e =
 -- a posting holds where the prices of its version are the same
 holds_same : (i : InstructionParts) (these those : List (List ℕ)) (x : Posting)
     → prices_at those (planned_version x) ≡ prices_at these (planned_version x) → Holds i these x → Holds i those x
-holds_same i these those (Cut e) same h = (
-  subst (λ prices. IsBest (sheet_of e.version i prices) e.stem e.logs) (sym same) h.0,
-  subst (λ prices. e.worth ≡ cutting_worth (sheet_of e.version i prices) e.stem e.logs) (sym same) h.1,
-)
-holds_same i these those (Demand d) same h = h
+holds_same i these those x same h = grind (arith, common_steps)
 
 pub follows_same : (i : InstructionParts) (these those : List (List ℕ)) (before : List Posting) (x : Posting)
     → prices_at those (planned_version x) ≡ prices_at these (planned_version x)
@@ -102,15 +98,7 @@ record NextStands (h : HistoryParts) (x : Posting) (next : Option SheetParts) : 
 
 next_stands : (h : HistoryParts) (x : Posting) (next : Option SheetParts) → IsLawful h → IsNext h x next
     → NextStands h x next
-next_stands h x None l n = record {
-  number = l.sheets_number ∙ ap (λ k. k + 1) (sym (ends_without h.instruction h.postings x n));
-  meets = λ e. absurd (n e);
-}
-next_stands h x (Some s) l n = record {
-  number = length_push h.sheets s.prices
-      ∙ ap (λ k. k + 1) (l.sheets_number ∙ sym (ends_with_end h.instruction h.postings x n.0));
-  meets = λ e. rw (sym l.sheets_number, get_or_push h.sheets s.prices [] (length h.sheets) refl) n.1.prices_meet;
-}
+next_stands h x next l n = grind (arith, ends_without, length_push, ends_with_end, get_or_push)
 
 pub one_more : (h : HistoryParts) (x : Posting) (next : Option SheetParts) → IsLawful h
     → Follows h.instruction h.sheets h.postings x → IsNext h x next → IsLawful (history_with h x next)

@@ -15,9 +15,7 @@ pub get_or-sheets_from : (v : ℕ) (i : InstructionParts) (pss : List (List ℕ)
     → get_or (sheets_from v i pss) k d ≡ sheet_of (v + k) i (get_or pss k [])
 get_or-sheets_from v i [] k d lt = absurd (omega arith)
 get_or-sheets_from v i (ps ∷ pss) zero d lt = let e : v ≡ v + 0 = omega arith in ap (λ x. sheet_of x i ps) e
-get_or-sheets_from v i (ps ∷ pss) (suc k) d lt =
-    let e : v + 1 + k ≡ v + suc k = omega arith in
-    get_or-sheets_from (v + 1) i pss k d (omega arith) ∙ ap (λ x. sheet_of x i (get_or pss k [])) e
+get_or-sheets_from v i (ps ∷ pss) (suc k) d lt = grind (arith, (get_or-sheets_from (v + 1) i pss k d (omega arith)))
 
 pub sheets_from-append : (v : ℕ) (i : InstructionParts) (pss qss : List (List ℕ))
     → sheets_from v i (pss ++ qss) ≡ sheets_from v i pss ++ sheets_from (v + length pss) i qss

@@ -42,15 +42,7 @@ front_kept w w' x e f = let g = ap (λ (y : WorldParts). y.front) e in omega ari
 
 -- a lift makes the front greater by 1, and nothing else changes it
 pub front_after : (w w' : WorldParts) (e : Event) → IsSound w → Step w e w' → lift_at w e w' + w.front ≡ w'.front
-front_after w w' (Read h v) s (a, f) = front_kept w w' _ f refl
-front_after w w' (Plan h stem) s (a, f) = front_kept w w' _ f.3 refl
-front_after w w' (Try h) s (a, f) = ⊎_elim (λ k. front_kept w w' _ k.1.2 refl) (λ k. front_kept w w' _ k.1 refl) f.2
-front_after w w' (Locked h stem) s (a, f) = front_kept w w' _ f.3.2 refl
-front_after w w' (Retarget h targets) s (a, f) = front_kept w w' _ f.1.2 refl
-front_after w w' (Raise h) s (a, f) =
-    subst (λ (y : WorldParts). lift_at w (Raise h) y + w.front ≡ y.front) (sym f)
-    (raise_is w.front (version_of w.history) s.world.front_low s.next)
-front_after w w' (Leave h) s (a, f) = front_kept w w' _ f refl
+front_after w w' e s step = grind (arith, raise_is)
 
 pub lifts_are_front : (w : WorldParts) (moves : List Move) → IsSound w → IsRun w moves
     → all_lifts w moves + w.front ≡ (last w moves).front
@@ -89,35 +81,7 @@ put w w' x e n k y s step is set within count going = grind (arith, common_steps
 own : (w w' : WorldParts) (e : Event) (n k : ℕ) → IsSound w → Step w e w' → IsFreshAt w e
     → IsWithin w (harvester_of_event e) k → n ≡ stale_at w e w' + lift_at w e w' + k
     → IsWithin w' (harvester_of_event e) n
-own w w' (Read h v) n k s (a, f) fresh within e =
-    put w w' _ (Read h v) n k _ s (a, f) f refl within e (λ _. let low = within.front in omega (arith, fresh))
-own w w' (Plan h stem) n k s (a, f) fresh within e =
-    put w w' _ (Plan h stem) n k _ s (a, f) f.3 refl within e
-    (λ _. let low = within.seen (subst (λ (q : Stage). IsGoing q) (sym a.1) tt) in omega arith)
-own w w' (Try h) n k s (a, (p, is, t)) fresh within e = ⊎_elim
-    (λ (c : ((at w h).seen ≡ version_of w.history) × Adds w h (Cut (entry_of w.history h p)) w').
-    let same : (at w' h).stale ≡ (at w h).stale = ap (λ (z : Harvester). z.stale) (at_here w w' _ h _ c.1.2 refl a.0) in
-    let z : one_if_more (at w h).stale (at w' h).stale ≡ 0 = none_more (at w h).stale (at w' h).stale (omega arith) in
-    put w w' _ (Try h) n k _ s (a, (p, is, inl c)) c.1.2 refl within (omega arith) (λ f. absurd f))
-    (λ (c : ((at w h).seen ≢ version_of w.history)
-    × (w' ≡ with_harvester w h (record { stage = Idle; seen = (at w h).seen; stale = (at w h).stale + 1 }))).
-    let now : at w' h ≡ record { stage = Idle; seen = (at w h).seen; stale = (at w h).stale + 1 } =
-    at_here w w' _ h _ c.1 refl a.0 in
-    let more : (at w' h).stale ≡ (at w h).stale + 1 = ap (λ (z : Harvester). z.stale) now in
-    let z : one_if_more (at w h).stale (at w' h).stale ≡ 1 = one_more (at w h).stale (at w' h).stale (omega arith) in
-    let low : k ≤ (at w h).seen = within.seen (subst (λ (q : Stage). IsGoing q) (sym is) tt) in
-    let seen : (at w h).seen ≤ w.front = (s.world.fits h a.0).seen in
-    let still : w.front ≡ version_of w.history = s.world.front_in_force a.2 in
-    let other : (at w h).seen ≢ version_of w.history = c.0 in
-    let front : w'.front ≡ w.front = ap (λ (z : WorldParts). z.front) c.1 in
-    within_after w' h n _ now (omega arith) (λ f. absurd f))
-    t
-own w w' (Locked h stem) n k s (a, f) fresh within e =
-    put w w' _ (Locked h stem) n k _ s (a, f) f.3.2 refl within e (λ g. absurd g)
-own w w' (Retarget h targets) n k s (a, f) fresh within e =
-    put w w' _ (Retarget h targets) n k _ s (a, f) f.1.2 refl within e (λ g. absurd g)
-own w w' (Raise h) n k s (a, f) fresh within e = put w w' _ (Raise h) n k _ s (a, f) f refl within e (λ g. absurd g)
-own w w' (Leave h) n k s (a, f) fresh within e = put w w' _ (Leave h) n k _ s (a, f) f refl within e (λ g. absurd g)
+own w w' e n k s step fresh within is = grind (arith, front_after, here)
 
 -- one more event
 within_step : (w w' : WorldParts) (e : Event) (h k : ℕ) → IsSound w → Step w e w' → IsFreshAt w e → 1 ≤ h

@@ -59,14 +59,7 @@ one_more n w w' h x a low = grind (arith, length_push)
 within_after : {F : Type 0} (r : RuledWorld F) (e : Event) (w' : WorldParts)
     → length r.world.history.postings ≤ r.capacity → Step r.world e w' → HasRoom r e
     → length w'.history.postings ≤ r.capacity
-within_after r (Read h v) w' low (a, f) room = none_more r.capacity r.world w' _ f refl low
-within_after r (Plan h stem) w' low (a, f) room = none_more r.capacity r.world w' _ f.3 refl low
-within_after r (Try h) w' low (a, f) room =
-    ⊎_elim (λ k. one_more r.capacity r.world w' h _ k.1 room) (λ k. none_more r.capacity r.world w' _ k.1 refl low) f.2
-within_after r (Locked h stem) w' low (a, f) room = one_more r.capacity r.world w' h _ f.3 room
-within_after r (Retarget h targets) w' low (a, f) room = one_more r.capacity r.world w' h _ f.1 room.0
-within_after r (Raise h) w' low (a, f) room = none_more r.capacity r.world w' _ f refl low
-within_after r (Leave h) w' low (a, f) room = none_more r.capacity r.world w' _ f refl low
+within_after r e w' low step room = grind (arith, length_push)
 
 -- neither the instruction nor the number of harvesters changes
 pub same_number : (w w' : WorldParts) (e : Event) → IsSound w → Step w e w'

@@ -172,29 +172,4 @@ run_sound w [] s r = s
 run_sound w (m ∷ ms) s r = run_sound m.after ms (stays_sound w m.after m.event s r.0) r.1
 
 pub opening_sound : (i : InstructionParts) (n : ℕ) → IsSound (opening i n)
-opening_sound i n = record {
-  world = record {
-    lawful = record {
-      postings_follow = λ k x there. absurd (cc);
-      sheets_number = refl;
-      base_sheet = refl;
-      sheets_meet = λ k x there. absurd (cc);
-    };
-    fits = λ h h_in. subst (λ (y : Harvester). IsFit (opening i n).history 0 y) (sym (idle h h_in))
-        record { plan = λ p e. absurd (cc); seen = omega arith; stale = omega arith };
-    one_answered = λ h g h_in g_in h_is g_is. absurd (never h h_in h_is);
-    front_low = omega arith;
-    front_in_force = λ _. refl;
-  };
-  next = omega arith;
-  placed = λ h h_in. record {
-    going = λ f. absurd (subst (λ (y : Harvester). IsGoing y.stage) (idle h h_in) f);
-    replied = λ idle i p there. absurd (cc);
-  };
-}
-  where
-    idle : (h : ℕ) → IsHarvester (opening i n) h → get_or (replicate n newcomer) (h - 1) newcomer ≡ newcomer
-    idle h t = grind (arith, get_or-replicate, length-replicate)
-
-    never : (h : ℕ) → IsHarvester (opening i n) h → (get_or (replicate n newcomer) (h - 1) newcomer).stage ≢ Answered
-    never h t is = grind (arith, idle)
+opening_sound i n = grind (arith, get_or-replicate, length-replicate)

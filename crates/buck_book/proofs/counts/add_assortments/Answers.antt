@@ -1,16 +1,12 @@
 use Rattle.std.proofs.Common.{◌<◌, ◌+◌, ◌^◌, get_or, length, arith}
+use Rattle.std.proofs.lemmas.Grind.{common_steps}
 use Rattle.std.proofs.lemmas.List.{get_or_read, get_or_default}
 use Rattle.buck_value.specs.declared.log.Log.{Log}
 use Rattle.buck_book.proofs.Counting.{grown_by_more, grown_by_fits}
 use Rattle.buck_book.proofs.counts.add_assortments.Goals as goal
 
 pub index_mut-requires : goal.index_mut-requires
-index_mut-requires c =
-    omega (
-      arith,
-      c.requires.within c.loop-log.log-index (record { start = 0; length = 0; assortment = 0 }) c.loop-log-test.true,
-      c.loop-log.invariant.number,
-    )
+index_mut-requires c = grind (arith, common_steps)
 
 pub overflow_add-index_mut : goal.overflow_add-index_mut
 overflow_add-index_mut c =

@@ -1,10 +1,6 @@
-use Rattle.std.proofs.Common.{◌∙◌}
+use Rattle.std.proofs.Common.{◌∙◌, arith}
 use Rattle.buck_value.proofs.Classes.{class_is_class}
 use Rattle.buck_book.proofs.counts.place_of.Goals as goal
 
 pub index-requires : goal.index-requires
-index-requires c =
-    let same = c.deref.ensures ∙ c.instruction.ensures.instruction in
-    rw (same, c.in-Some.ensures.class)
-    (class_is_class c.args.sheet.now.instruction c.args.stem.now c.args.log.now c.instruction.ensures.valid.valid
-    c.requires)
+index-requires c = grind (arith, class_is_class)

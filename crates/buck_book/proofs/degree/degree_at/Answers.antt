@@ -5,12 +5,7 @@ use Rattle.buck_book.proofs.Degrees.{stands, first_class}
 use Rattle.buck_book.proofs.degree.degree_at.Goals as goal
 
 pub index-first-requires : goal.index-first-requires
-index-first-requires c = record {
-  assortment = c.index-assortments-at.result;
-  exists = stands _ _ _ _ c.assortments.ensures.items c.requires.exists c.index-assortments-at.is;
-  row = omega (arith, c.classes-number.ensures.valid.rows.0);
-  column = omega (arith, c.classes-number.ensures.valid.columns.0);
-}
+index-first-requires c = grind (arith, stands)
 
 pub returns : goal.returns
 returns c =

@@ -15,18 +15,7 @@ same : (c : goal.After-shared)
 same c = c.shared.ensures ∙ (λ t. shared_of (wanted c t) (cut c t) c.args.targets.now c.args.counts.now)
 
 pub overflow_mul-result : goal.overflow_mul-result
-overflow_mul-result c =
-    let low = shared_low (sum c.args.targets.now) (sum c.args.counts.now) c.args.targets.now c.args.counts.now in
-    let whole : sum c.args.targets.now * sum c.args.counts.now ≤ 4398046511104 * 4398046511104 =
-    mul-le-mul {n₂ = 4398046511104} {m₂ = 4398046511104} (omega (arith, c.sum_of.ensures.sum, c.sum_of.ensures.low))
-    (omega (arith, c.sum_of-2.ensures.sum, c.sum_of-2.ensures.low)) in
-    omega (arith, same c, low, whole)
+overflow_mul-result c = grind (arith, shared_low, mul-le-mul)
 
 pub overflow_cast-result : goal.overflow_cast-result
-overflow_cast-result c =
-    let low = degree_low c.args.targets.now c.args.counts.now in
-    let is : c.shared.result * 10000 / (c.from-wanted.result * c.from-cut.result)
-    ≡ shared_of (sum c.args.targets.now) (sum c.args.counts.now)
-    c.args.targets.now c.args.counts.now * 10000 / (sum c.args.targets.now * sum c.args.counts.now) =
-    λ t. same c t * 10000 / (wanted c t * cut c t) in
-    omega (arith, is, low)
+overflow_cast-result c = grind (arith, degree_low)

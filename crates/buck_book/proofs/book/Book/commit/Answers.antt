@@ -1,4 +1,5 @@
-use Rattle.std.proofs.Common.{◌+◌, sym, ◌∙◌, ap}
+use Rattle.std.proofs.Common.{◌+◌, sym, ◌∙◌, ap, arith}
+use Rattle.std.proofs.lemmas.Grind.{common_steps}
 use Rattle.buck_book.specs.declared.posting.Posting.TheVariants.{Cut}
 use Rattle.buck_book.specs.Book.{ReadyParts, entry_of}
 use Rattle.buck_book.specs.History.{sheets_with}
@@ -6,9 +7,7 @@ use Rattle.buck_book.proofs.Books.{goes_on, keeps_more, entry_follows, entry_aft
 use Rattle.buck_book.proofs.book.Book.commit.Goals as goal
 
 pub after_plan-requires : goal.after_plan-requires
-after_plan-requires g c =
-    goes_on _ _ _ _ _ c.self.view_is c.self.invariant c.requires.ready.to_add.below c.args.plan
-    c.requires.ready.sheet_in_force
+after_plan-requires g c = grind (arith, goes_on)
 
 pub invariant_of-self : goal.invariant_of-self
 invariant_of-self g c =
@@ -36,6 +35,4 @@ invariant_of-self g c =
     next c.add.ensures.calls c.add.ensures.postings c.add.ensures.sheets c.add.ensures.prices
 
 pub returns-clause-sheets : goal.returns-clause-sheets
-returns-clause-sheets g c =
-    let next = ap (λ (x : ReadyParts). x.next) c.ready.view_is in
-    c.add.ensures.prices ∙ (λ t. sheets_with (c.self.view_is t).history.sheets (next t))
+returns-clause-sheets g c = grind (arith, common_steps)

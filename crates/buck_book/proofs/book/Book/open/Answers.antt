@@ -1,4 +1,5 @@
-use Rattle.std.proofs.Common.{◌≡◌, ◌∷◌, [], ◌∙◌, ap, subst}
+use Rattle.std.proofs.Common.{◌≡◌, ◌∷◌, [], ◌∙◌, ap, subst, arith}
+use Rattle.std.proofs.lemmas.Grind.{common_steps}
 use Rattle.buck_value.specs.Sheet.{base_prices, sheet_of}
 use Rattle.buck_book.specs.inner.Running.{Tells}
 use Rattle.buck_book.proofs.Books.{keeps_empty}
@@ -14,6 +15,4 @@ invariant_of-result g c =
     (subst (λ i. Tells i [] c.in_ok-running.running) c.deref.ensures c.in_ok-running.ensures) c.in_ok-calls.ensures
 
 pub returns-clause-sheets : goal.returns-clause-sheets
-returns-clause-sheets g c =
-    let same : c.in_ok-clone.field-0.value ≡ c.args.instruction.value = c.in_ok-clone.ensures.cases in
-    c.in_ok-sheets.ensures.prices ∙ ap (λ i. base_prices i ∷ []) same
+returns-clause-sheets g c = grind (arith, common_steps)

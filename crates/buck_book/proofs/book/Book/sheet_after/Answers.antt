@@ -1,4 +1,4 @@
-use Rattle.std.proofs.Common.{◌++◌, ◌∷◌, [], ◌∙◌, ap, subst}
+use Rattle.std.proofs.Common.{◌++◌, ◌∷◌, [], ◌∙◌, ap, subst, arith}
 use Rattle.buck_book.specs.Book.{BookParts}
 use Rattle.buck_book.specs.Pricing.{AreAnswers}
 use Rattle.std.proofs.lemmas.Result.{IfOk-weaker}
@@ -7,10 +7,7 @@ use Rattle.buck_book.proofs.Books.{is_next_sheet, next_answers}
 use Rattle.buck_book.proofs.book.Book.sheet_after.Goals as goal
 
 pub invariant_of-standings : goal.invariant_of-standings
-invariant_of-standings g c =
-    let same = c.deref.ensures ∙ ap (λ (b : BookParts g.row.F.Denot). b.history.instruction) c.self.view_is in
-    rw (same, c.targets.ensures, c.counts.ensures.classes, c.counts.ensures.assortments)
-    (prices_can c.args.self.now.history.instruction _ c.args.after.now c.requires.after.1)
+invariant_of-standings g c = grind (arith, prices_can)
 
 pub returns-clause-next : goal.returns-clause-next
 returns-clause-next g c =
@@ -23,12 +20,4 @@ returns-clause-next g c =
     c.sheet_by.ensures
 
 pub returns-clause-given : goal.returns-clause-given
-returns-clause-given g c =
-    let h = c.args.self.now.history in
-    let same = c.deref.ensures ∙ ap (λ (b : BookParts g.row.F.Denot). b.history.instruction) c.self.view_is in
-    IfOk-weaker c.sheet_by.result _ _
-    (λ s made x told. subst (λ f. AreAnswers g.F.Fn f h.instruction (h.postings ++ x ∷ []) s.value.prices)
-    (ap (λ (b : BookParts g.row.F.Denot). b.rule) c.self.view_is)
-    (next_answers g.F.Fn _ h x c.deref.result.now c.args.after.now s.value same
-    (rw (c.targets.ensures, c.counts.ensures.classes, c.counts.ensures.assortments, c.version.ensures) at made) told))
-    c.sheet_by.ensures
+returns-clause-given g c = grind (arith, next_answers)

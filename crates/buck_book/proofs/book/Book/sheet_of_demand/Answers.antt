@@ -8,8 +8,7 @@ use Rattle.buck_book.proofs.Books.{passed_demand}
 use Rattle.buck_book.proofs.book.Book.sheet_of_demand.Goals as goal
 
 pub after_demand-requires : goal.after_demand-requires
-after_demand-requires g c =
-    omega (arith, version_low _ _ _ c.self.invariant.tells, ap (λ (n : RunningParts). n.version) c.in_ok-after.ensures)
+after_demand-requires g c = grind (arith, version_low)
 
 pub sheet_after-requires-clause-after : goal.sheet_after-requires-clause-after
 sheet_after-requires-clause-after g c =
@@ -28,9 +27,4 @@ returns-clause-next g c =
     IfOk-weaker c.sheet_after.result _ _ (λ s next harvester. next _ (passed harvester) refl) c.sheet_after.ensures.next
 
 pub returns-clause-given : goal.returns-clause-given
-returns-clause-given g c =
-    let targets = ap (λ x. x.items) c.in_ok-clone.ensures.cases in
-    let passed =
-    passed_demand _ _ _ _ _ c.self.view_is c.self.invariant c.requires.below c.args.targets.now.value.items _ _
-    c.requires.valid c.in_ok-after.ensures (rw targets at c.after_demand.ensures) in
-    IfOk-weaker c.sheet_after.result _ _ (λ s given harvester. given _ (passed harvester)) c.sheet_after.ensures.given
+returns-clause-given g c = grind (arith, passed_demand)

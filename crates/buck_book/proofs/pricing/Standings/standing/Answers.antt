@@ -6,33 +6,16 @@ use Rattle.buck_book.proofs.Standings.{class_in, has_counts, stands_by, stands_i
 use Rattle.buck_book.proofs.pricing.Standings.standing.Goals as goal
 
 pub bounds-self-inside-place : goal.bounds-self-inside-place
-bounds-self-inside-place c =
-    let class = rw (sym c.self.view_is) at c.requires.class in
-    let place = rw (sym c.self.view_is) at c.requires.place in
-    omega (arith, place, (has_counts _ c.args.assortment.now c.args.class class c.self.invariant).2)
+bounds-self-inside-place c = grind (arith, has_counts)
 
 pub offset_bounds-self-inside-place : goal.offset_bounds-self-inside-place
 offset_bounds-self-inside-place c = omega (arith, bounds-self-inside-place c, c.self.told.1)
 
 pub index-requires : goal.index-requires
-index-requires c =
-    let class = rw (sym c.self.view_is) at c.requires.class in
-    let place = rw (sym c.self.view_is) at c.requires.place in
-    omega (
-      arith,
-      place,
-      (has_counts _ c.args.assortment.now c.args.class class c.self.invariant).0,
-      c.self.inside.counts.now.by_class.ok.0,
-    )
+index-requires c = grind (arith, has_counts)
 
 pub index-requires-2 : goal.index-requires-2
-index-requires-2 c =
-    let class = rw (sym c.self.view_is) at c.requires.class in
-    omega (
-      arith,
-      (has_counts _ c.args.assortment.now c.args.class class c.self.invariant).1,
-      c.self.inside.counts.now.by_assortment.ok.0,
-    )
+index-requires-2 c = grind (arith, has_counts)
 
 pub returns-clause-standing : goal.returns-clause-standing
 returns-clause-standing c =

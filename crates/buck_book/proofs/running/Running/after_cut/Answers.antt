@@ -1,29 +1,17 @@
-use Rattle.std.proofs.Common.{◌+◌, ◌==◌, cond, sym, ◌∙◌, ap, subst}
+use Rattle.std.proofs.Common.{◌+◌, ◌==◌, cond, sym, ◌∙◌, ap, subst, arith}
 use Rattle.buck_book.specs.inner.Running.{Tells}
 use Rattle.buck_book.proofs.Cuts.{few_logs, each_allowed}
 use Rattle.buck_book.proofs.Told.{version_low, cuts_few, counts_fit, tells_cut}
 use Rattle.buck_book.proofs.running.Running.after_cut.Goals as goal
 
 pub add-requires : goal.add-requires
-add-requires c =
-    let before = rw (sym c.self.view_is) at c.requires.before in
-    let i = c.args.sheet.now.instruction in
-    let t = before.2 in
-    record {
-      allowed = each_allowed i c.args.stem.now 0 c.args.logs.now c.requires.cutting;
-      classes = t.counts_are.classes.one_each;
-      assortments = t.counts_are.assortments_number;
-      low = counts_fit i before.0 _ t;
-      few = few_logs i c.args.stem.now c.args.logs.now t.valid c.length.ensures.valid c.requires.cutting;
-    }
+add-requires c = grind (arith, each_allowed, counts_fit, few_logs)
 
 pub version_then-self-inside-requires-clause-version : goal.version_then-self-inside-requires-clause-version
-version_then-self-inside-requires-clause-version c = let before = rw (sym c.self.view_is) at c.requires.before in
-    version_low _ _ _ before.2
+version_then-self-inside-requires-clause-version c = grind (arith, version_low)
 
 pub version_then-self-inside-requires-clause-cuts : goal.version_then-self-inside-requires-clause-cuts
-version_then-self-inside-requires-clause-cuts c = let before = rw (sym c.self.view_is) at c.requires.before in
-    cuts_few _ _ _ before.2
+version_then-self-inside-requires-clause-cuts c = grind (arith, cuts_few)
 
 pub cuts_then-self-inside-requires : goal.cuts_then-self-inside-requires
 cuts_then-self-inside-requires c = let before = rw (sym c.self.view_is) at c.requires.before in cuts_few _ _ _ before.2

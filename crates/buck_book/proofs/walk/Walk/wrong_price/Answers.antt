@@ -1,4 +1,4 @@
-use Rattle.std.proofs.Common.{take, sym}
+use Rattle.std.proofs.Common.{take, sym, arith}
 use Rattle.std.proofs.lemmas.Option.{IfSome_then}
 use Rattle.buck_book.specs.inner.Running.{standings_of}
 use Rattle.buck_book.proofs.Told.{prices_can}
@@ -6,9 +6,7 @@ use Rattle.buck_book.proofs.Relations.{all_met, is_wrong, weaken_none}
 use Rattle.buck_book.proofs.walk.Walk.wrong_price.Goals as goal
 
 pub invariant_of-standings : goal.invariant_of-standings
-invariant_of-standings c =
-    rw (c.targets.ensures, c.counts.ensures.classes, c.counts.ensures.assortments)
-    (prices_can _ _ _ c.self.invariant.tells)
+invariant_of-standings c = grind (arith, prices_can)
 
 pub returns-clause-found : goal.returns-clause-found
 returns-clause-found c =
