@@ -41,12 +41,6 @@ else_of false p q y is h = h
 abbrev Inside : List ItemParts → ℕ → Type 0
 Inside items k = (x : ItemParts) × (slice_get items k ≡ Some x) × (is_first x ≡ false)
 
-ands : (a b k : Bool) → k ≡ false → ((a && k) || (b && k)) ≡ false
-ands true true k h = rw h refl
-ands true false k h = rw h refl
-ands false true k h = h
-ands false false k h = refl
-
 other_kind : (number kind : ℕ) (x : ItemParts) → (kind ≡ 1 → ⊥) → is_at (slot number kind) x ≡ true → is_first x ≡ false
 other_kind number kind x other h = grind (arith, common_steps)
 

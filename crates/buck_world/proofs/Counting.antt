@@ -21,12 +21,6 @@ use Rattle.buck_world.proofs.Moves.{is_in, changed}
 use Rattle.buck_world.proofs.Sound.{stays_sound}
 use Rattle.buck_world.proofs.Kept.{same_number}
 
-one_more : (a b : ℕ) → a < b → one_if_more a b ≡ 1
-one_more a b h = ap (λ (t : Bool). cond t 1 0) (lt-ltb a b h)
-
-none_more : (a b : ℕ) → b ≤ a → one_if_more a b ≡ 0
-none_more a b h = ap (λ (t : Bool). cond t 1 0) (le-ltb a b h)
-
 by_self : (h : ℕ) (e : Event) (n : ℕ) → harvester_of_event e ≡ h → if_by h e n ≡ n
 by_self h e n is = ap (λ (t : Bool). cond t n 0) (eq-eqb (harvester_of_event e) h is)
 
@@ -36,9 +30,6 @@ by_other h e n not = ap (λ (t : Bool). cond t n 0) (ne_eqb (harvester_of_event 
 -- one raise of the front, by 1 at most
 raise_is : (front version : ℕ) → front ≤ version → version ≤ front + 1 → one_if_more front version + front ≡ version
 raise_is front version a b = grind (arith, nat_tests)
-
-front_kept : (w w' x : WorldParts) → w' ≡ x → x.front ≡ w.front → 0 + w.front ≡ w'.front
-front_kept w w' x e f = let g = ap (λ (y : WorldParts). y.front) e in omega arith
 
 -- a lift makes the front greater by 1, and nothing else changes it
 pub front_after : (w w' : WorldParts) (e : Event) → IsSound w → Step w e w' → lift_at w e w' + w.front ≡ w'.front
@@ -66,22 +57,6 @@ pub at_here : (w w' x : WorldParts) (h : ℕ) (y : Harvester) → w' ≡ x → x
 at_here w w' x h y e f h_in =
     ap (λ (hs : List Harvester). get_or hs (h - 1) newcomer) (ap (λ (z : WorldParts). z.harvesters) e ∙ f)
     ∙ here w.harvesters h y newcomer h_in.0 h_in.1
-
-within_after : (w' : WorldParts) (h n : ℕ) (y : Harvester) → at w' h ≡ y → n ≤ w'.front → (IsGoing y.stage → n ≤ y.seen)
-    → IsWithin w' h n
-within_after w' h n y e low going = grind (arith, common_steps)
-
--- the event's harvester is put at y, and nothing is counted but a lift
-put : (w w' x : WorldParts) (e : Event) (n k : ℕ) (y : Harvester) → IsSound w → Step w e w' → w' ≡ x
-    → x.harvesters ≡ set w.harvesters (harvester_of_event e - 1) y
-    → IsWithin w (harvester_of_event e) k → n ≡ 0 + lift_at w e w' + k → (IsGoing y.stage → n ≤ y.seen)
-    → IsWithin w' (harvester_of_event e) n
-put w w' x e n k y s step is set within count going = grind (arith, common_steps)
-
-own : (w w' : WorldParts) (e : Event) (n k : ℕ) → IsSound w → Step w e w' → IsFreshAt w e
-    → IsWithin w (harvester_of_event e) k → n ≡ stale_at w e w' + lift_at w e w' + k
-    → IsWithin w' (harvester_of_event e) n
-own w w' e n k s step fresh within is = grind (arith, front_after, here)
 
 -- one more event
 within_step : (w w' : WorldParts) (e : Event) (h k : ℕ) → IsSound w → Step w e w' → IsFreshAt w e → 1 ≤ h

@@ -47,15 +47,6 @@ keeps_all r s valid within range few = record {
   };
 }
 
--- an event that adds nothing
-none_more : (n : ℕ) (w w' x : WorldParts) → w' ≡ x → x.history.postings ≡ w.history.postings
-    → length w.history.postings ≤ n → length w'.history.postings ≤ n
-none_more n w w' x e f low = grind (arith, common_steps)
-
-one_more : (n : ℕ) (w w' : WorldParts) (h : ℕ) (x : Posting) → Adds w h x w' → length w.history.postings < n
-    → length w'.history.postings ≤ n
-one_more n w w' h x a low = grind (arith, length_push)
-
 within_after : {F : Type 0} (r : RuledWorld F) (e : Event) (w' : WorldParts)
     → length r.world.history.postings ≤ r.capacity → Step r.world e w' → HasRoom r e
     → length w'.history.postings ≤ r.capacity

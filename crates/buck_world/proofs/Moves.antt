@@ -54,12 +54,6 @@ entry_follows : (h : HistoryParts) (n : ℕ) (p : PlanParts) → IsPlanUnder h (
     → history.Follows h.instruction h.sheets h.postings (Cut (entry_of h n p))
 entry_follows h n p under = grind (arith, common_steps)
 
-not_answered : (stage : Stage) → IsIdleOrReading stage → stage ≢ Answered
-not_answered Idle is e = absurd (cc)
-not_answered Reading is e = absurd (cc)
-not_answered (Planned p) is e = absurd is
-not_answered Answered is e = absurd is
-
 -- nobody holds a plan
 no_plan : (w : WorldParts) (seen stale : ℕ) (stage : Stage) → ((p : PlanParts) → stage ≢ Planned p) → seen ≤ w.front
     → stale ≤ 3 → IsFit w.history w.front (record { stage = stage; seen = seen; stale = stale })

@@ -114,9 +114,6 @@ added_sound w w' h s h_in a = subst (λ (y : WorldParts). IsSound y) (sym a.is) 
     lawful : IsLawful after
     lawful = one_more w.history a.posting a.next k.lawful a.follows a.is_next
 
-    still : w.front ≡ version_of w.history
-    still = k.front_in_force a.nobody
-
     x : Harvester
     x = record { stage = Answered; seen = (at w h).seen; stale = (at w h).stale }
 
