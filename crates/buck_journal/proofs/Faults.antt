@@ -1,5 +1,6 @@
 -- A history in which a fault stands isn't lawful.
 use Rattle.std.proofs.Common.{◌≡◌, ℕ, ◌+◌, ◌-◌, ◌<◌, ◌≤◌, inl, inr, List, [], ◌∷◌, ◌++◌, length, take, slice_get, Some, sym, ◌∙◌, ap, subst, arith}
+use Rattle.std.proofs.lemmas.Grind.{common_steps}
 use Rattle.std.proofs.lemmas.Bool.{cases_Bool, cases_eq}
 use Rattle.std.proofs.lemmas.List.{take_all}
 use Rattle.std.proofs.lemmas.Option.{slice_get_within, slice_get_cases}
@@ -16,30 +17,19 @@ use Rattle.buck_journal.specs.declared.judging.fault.ReplayFault.TheVariants.{Sh
 use Rattle.buck_journal.specs.judging.Replay.{version_at, prices_then, Begins, IsSheetRight, IsSheetFault, IsCallFault, IsContentFault, IsPostingFault, IsNumberFault, IsFaultAtEnd, IsNumbered, IsOfVersion, IsFirstFault}
 
 no_sheet_fault : (h : HistoryParts) (k : ℕ) (fault : ReplayFault) → IsSheetRight h k → IsSheetFault h k fault → ⊥
-no_sheet_fault h k (Sheet v) right wrong = wrong.1 right.0
-no_sheet_fault h k (Price v c) right wrong = wrong.2.wrong (right.1.each_meets wrong.2.class wrong.2.exists)
-no_sheet_fault h k other right wrong = wrong
+no_sheet_fault h k fault right wrong = grind (arith, common_steps)
 
 no_call_fault : (i : InstructionParts) (before : List Posting) (x : Posting) (k : ℕ) (fault : ReplayFault)
     → IsNumbered before x → IsOfVersion i before x → IsCallFault i before x k fault → ⊥
-no_call_fault i before x k (Numbering at) n o wrong = wrong.1 n
-no_call_fault i before x k (Version at) n o wrong = wrong.2 o
-no_call_fault i before x k other n o wrong = wrong
+no_call_fault i before x k fault n o wrong = grind (arith, common_steps)
 
 no_content_fault : (i : InstructionParts) (sheets : List (List ℕ)) (x : Posting) (k : ℕ) (fault : ReplayFault)
     → Holds i sheets x → IsContentFault (sheet_at i sheets (planned_version x)) x k fault → ⊥
-no_content_fault i sheets (posting.Cut e) k (Cutting at) right wrong = wrong.1 right.0.admissible
-no_content_fault i sheets (posting.Cut e) k (Worth at) right wrong = wrong.2 right.1
-no_content_fault i sheets (posting.Cut e) k (Outvalued at) right wrong =
-    absurd (omega (arith, right.0.none_outvalues wrong.3.0 wrong.3.1, wrong.3.2))
-no_content_fault i sheets (posting.Demand d) k (Targets at) right wrong = wrong.1 right
-no_content_fault i sheets x k other right wrong = wrong
+no_content_fault i sheets x k fault right wrong = grind (arith, common_steps)
 
 no_number_fault : (sheets : List (List ℕ)) (last : ℕ) (fault : ReplayFault) → length sheets ≡ last + 1
     → IsNumberFault sheets last fault → ⊥
-no_number_fault sheets last (Sheet v) right (inl few) = absurd (omega (arith, few.0))
-no_number_fault sheets last (Sheet v) right (inr many) = absurd (omega (arith, many.0))
-no_number_fault sheets last other right wrong = wrong
+no_number_fault sheets last fault right v4 = grind (arith, common_steps)
 
 module _ (h : HistoryParts) (v : IsInstruction h.instruction) (l : IsLawful h) where
   after : (m : ℕ) (x : Posting) → slice_get h.postings m ≡ Some x → Begins h (m + 1)
@@ -87,28 +77,11 @@ module _ (h : HistoryParts) (v : IsInstruction h.instruction) (l : IsLawful h) w
 
   no_posting_fault : (k : ℕ) (x : Posting) (fault : ReplayFault) → slice_get h.postings k ≡ Some x
       → IsPostingFault (sheet_at h.instruction h.sheets (version_at h k)) (take k h.postings) x k fault → ⊥
-  no_posting_fault k x fault at (inl wrong) =
-      let f = l.postings_follow k x at in
-      no_call_fault h.instruction (take k h.postings) x k fault f.number_is_next f.version_in_force wrong
-  no_posting_fault k x fault at (inr wrong) =
-      let f = l.postings_follow k x at in
-      no_content_fault h.instruction h.sheets x k fault f.holds
-      (subst (λ v. IsContentFault (sheet_at h.instruction h.sheets v) x k fault) (sym f.version_in_force) wrong.2)
+  no_posting_fault k x fault at v4 = grind (arith, no_call_fault, no_content_fault)
 
   no_end_fault : (fault : ReplayFault) → IsFaultAtEnd h (length h.postings) fault → ⊥
-  no_end_fault fault (inl wrong) =
-      let number : length h.sheets ≡ version_at h (length h.postings) + 1 =
-      l.sheets_number
-      ∙ ap (λ ps. ends_of h.instruction ps + 1) (sym (take_all (length h.postings) h.postings (omega arith))) in
-      no_number_fault h.sheets (version_at h (length h.postings)) fault number wrong
-  no_end_fault fault (inr wrong) =
-      no_sheet_fault h (length h.postings) fault (sheet_right (length h.postings) (omega arith) wrong.1) wrong.2
+  no_end_fault fault v1 = grind (arith, take_all, no_number_fault, no_sheet_fault, sheet_right)
 
   pub no_first_fault : (fault : ReplayFault) → IsFirstFault h fault → ⊥
-  no_first_fault fault (inl m) = elim m.wrong [
-    | inl sheet ↦
-        no_sheet_fault h m.at fault
-        (sheet_right m.at (omega (arith, slice_get_within h.postings m.at m.next m.there)) sheet.0) sheet.1
-    | inr posting ↦ no_posting_fault m.at m.next fault m.there posting.1
-  ]
-  no_first_fault fault (inr m) = no_end_fault fault m.wrong
+  no_first_fault fault v1 =
+      grind (arith, no_sheet_fault, sheet_right, slice_get_within, no_posting_fault, no_end_fault)

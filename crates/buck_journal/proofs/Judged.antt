@@ -27,9 +27,7 @@ get_taken (suc n) (x ∷ xs) (suc k) lt = get_taken n xs k (omega (arith, lt))
 pub get_dropped : {X : Type 0} (n : ℕ) (xs : List X) (k : ℕ) → slice_get (drop n xs) k ≡ slice_get xs (n + k)
 get_dropped zero xs k = ap (λ j. slice_get xs j) (omega arith)
 get_dropped (suc n) [] k = refl
-get_dropped (suc n) (x ∷ xs) k =
-    let on : suc (n + k) ≡ suc n + k = omega arith in
-    get_dropped n xs k ∙ ap (λ j. slice_get (x ∷ xs) j) on
+get_dropped (suc n) (x ∷ xs) k = grind (arith, (get_dropped n xs k))
 
 module _ (h : HistoryParts) where
   -- a doubtful posting in one list is one in another that is the same before some place behind it
@@ -105,19 +103,7 @@ module _ (h : HistoryParts) where
   -- where none is, the fault at which the walk stopped is the first
   stop_is_met : (until : ℕ) (fault : ReplayFault) → IsInOrderBefore h until
       → NoneDoubtful h h.postings until → IsStopped h until fault → IsFirstFault h fault
-  stop_is_met until fault before none (inl there) =
-      inl (record {
-        at = until;
-        next = there.0;
-        there = there.1;
-        right = right_before until before none;
-        wrong =
-            there.2;
-      })
-  stop_is_met until fault before none (inr end) = inr (record {
-    right = subst (λ n. IsRightBefore h n) end.0 (right_before until before none);
-    wrong = subst (λ n. IsFaultAtEnd h n fault) end.0 end.1;
-  })
+  stop_is_met until fault before none v4 = grind (arith, right_before)
 
   -- what comes of a history, by what was found in postings that are its own up to there
   module _ {W : Type 0} (until : ℕ) (ps : List Posting) (end : Result W ReplayFault) (o : IsOrdered h until end)
@@ -204,9 +190,7 @@ module _ (h : HistoryParts) (ps front rest : List Posting) (mid : ℕ) (front_is
       ap (λ xs. slice_get xs k) rest_is ∙ get_dropped mid ps k ∙ ap (λ n. slice_get ps (n + k)) (sym front_length)
 
   pub in_front : (found : Option ℕ) → true ≡ is_some found → IsFound h front found → IsFound h ps found
-  in_front None none first = absurd (cc)
-  in_front (Some at) some first =
-      first_same h (length front) front ps get_front at (slice_get_within front at first.next first.there) first
+  in_front found none first = grind (arith, first_same, get_front, slice_get_within)
 
   none_in_front : (found : Option ℕ) → false ≡ is_some found → IsFound h front found
       → NoneDoubtful h ps (length front)

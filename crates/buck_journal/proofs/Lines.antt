@@ -94,10 +94,7 @@ told (n ∷ ns) = decimal n ++ spelled ns
 
 told_trimmed : (ns : List ℕ) → AllByRecursion (λ n. n < 2 ^ 64) ns → trim (told ns) ≡ told ns
 unfolding told trim_start trim_end
-told_trimmed [] h = refl
-told_trimmed (n ∷ ns) h =
-    trim_dark (decimal n ++ spelled ns) (starts_append (decimal n) (spelled ns) (starts_decimal n h.0))
-    (ends_spelled (decimal n) ns h.1 (ends_decimal n h.0))
+told_trimmed ns h = grind (arith, trim_dark, starts_append, starts_decimal, ends_spelled, ends_decimal)
 
 told_words : (ns : List ℕ) → AllByRecursion (λ n. n < 2 ^ 64) ns → words (told ns) ≡ map decimal ns
 unfolding told

@@ -110,8 +110,7 @@ goes_on all k items at h =
 past : (all its items : List ItemParts) (k : ℕ) → Stands all k (its ++ items) → Stands all (k + length its) items
 past all [] items k at = subst (λ n. Stands all n items) (let e : k ≡ k + 0 = omega arith in e) at
 past all (x ∷ its) items k at =
-    subst (λ n. Stands all n items) (let e : k + 1 + length its ≡ k + suc (length its) = omega arith in e)
-    (past all its items (k + 1) (next_stands all k x (its ++ items) at))
+    grind (arith, next_stands, (past all its items (k + 1) (next_stands all k x (its ++ items) at)))
 
 -- ---- a posting
 -- where its items stand before what follows, they are read as it: the first begins a posting, and no other does

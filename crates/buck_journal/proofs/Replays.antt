@@ -1,6 +1,7 @@
 -- What a walk through a history shows of its order, and where each posting may follow and each sheet is right it is
 -- lawful.
 use Rattle.std.proofs.Common.{◌≡◌, ◌≢◌, ℕ, zero, suc, ◌+◌, ◌<◌, ◌≤◌, inl, inr, List, [], ◌∷◌, ◌++◌, length, take, slice_get, Some, refl, sym, ◌∙◌, ap, subst, arith}
+use Rattle.std.proofs.lemmas.Grind.{common_steps}
 use Rattle.std.specs.Prelude.{Result, Ok, Err, IfOk, IfErr, OnOk}
 use Rattle.std.proofs.lemmas.Bool.{cases_Bool, cases_lt, cases_eq}
 use Rattle.std.proofs.lemmas.List.{take_all}
@@ -184,9 +185,7 @@ lawful_when h v before last =
 pub weaken_met : {T : Type 0} {P Q : ℕ → ReplayFault → Type 0} (r : Result T Stop)
     → ((at : ℕ) (fault : ReplayFault) → P at fault → Q at fault)
     → IfErr r (λ t. IfMet t P) → IfErr r (λ t. IfMet t Q)
-weaken_met (Ok x) f p = p
-weaken_met (Err stop.Memory) f p = tt
-weaken_met (Err (stop.Fault at fault)) f p = f at fault p
+weaken_met r f p = grind (arith, common_steps)
 
 -- a posting is passed under a sheet
 module _ (s : SheetParts) (i : InstructionParts) (ps : List Posting) (from : ℕ) (w w' : WalkParts) (x : Posting)
@@ -244,9 +243,7 @@ pub sheet_stopped : (h : HistoryParts) (from : ℕ) (t : Stop) → from < length
     → Begins h from
     → IfMet t (λ at fault. (at ≡ from) × IsSheetFault h from fault)
     → IfMet t (IsMetInOrder h)
-sheet_stopped h from stop.Memory lt before b wrong = tt
-sheet_stopped h from (stop.Fault at fault) lt before b wrong =
-    subst (λ n. IsMetInOrder h n fault) (sym wrong.0) (sheet_met h from fault lt before b wrong.1)
+sheet_stopped h from t lt before b wrong = grind (arith, sheet_met)
 
 -- all postings of a history were passed
 pub passed_all : {E : Type 0} (h : HistoryParts) (w : WalkParts) (r : Result WalkParts E)

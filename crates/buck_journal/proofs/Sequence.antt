@@ -51,9 +51,7 @@ wanted_right false rest read fault h = cc
 
 wanted_inside : (number kind : ℕ) (items : List ItemParts) (k place : ℕ) (o : Option ItemParts) (read : List ℕ)
     → (kind ≡ 1 → ⊥) → slice_get items k ≡ o → wanted (slot number kind) place o ≡ Ok read → Inside items k
-wanted_inside number kind items k place None read other at h = cc
-wanted_inside number kind items k place (Some x) read other at h =
-    (x, at, other_kind number kind x other (wanted_right (is_at (slot number kind) x) x.rest read (Shape place) h))
+wanted_inside number kind items k place o read other at h = grind (arith, other_kind, wanted_right)
 
 module _ (items : List ItemParts) (k : ℕ) where
   rest_inside : (number kind : ℕ) (read : List ℕ) → (kind ≡ 1 → ⊥) → rest_at (slot number kind) items k ≡ Ok read
@@ -198,13 +196,7 @@ file_counted : (items : List ItemParts) (sheets : List (List ℕ)) (ps : List Po
     → sheets_from items 1 (drop 1 items) ≡ Ok sheets → postings_from items 0 0 items ≡ Ok ps
     → length items ≡ 1 + length sheets + sum_by number_of_items ps
 unfolding postings_from
-file_counted [] sheets ps says s h = cc
-file_counted (x ∷ xs) sheets ps says s h =
-    let kind = both (is_at file_slot x) (bytes_eq x.rest (codes "JRN")) says in
-    let other = other_kind 1 2 x (λ e. omega arith) kind.0 in
-    let later : length xs ≡ length sheets + sum_by number_of_items ps =
-    sheets_counted (x ∷ xs) 1 0 xs sheets ps (stands_rest (x ∷ xs)) s (else_of (is_first x) _ _ _ other h) in
-    omega arith
+file_counted items sheets ps says s h = grind (arith, both, other_kind, sheets_counted, stands_rest, else_of)
 
 pub none_skipped : (bytes : List ℕ) (j : JournalParts) → journal_of bytes ≡ Ok j
     → (items : List ItemParts)

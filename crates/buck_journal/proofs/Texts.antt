@@ -132,13 +132,9 @@ postings_text : (ps : List Posting) (r : AllByRecursion IsInRange ps)
 unfolding posting_lines
 postings_text [] r = refl
 postings_text (Cut e ∷ ps) r =
-    flat_map-append text_of (cut_lines e r.0) (posting_lines ps r.1)
-    ∙ ap (λ xs. flat_map text_of (cut_lines e r.0) ++ xs) (postings_text ps r.1)
-    ∙ cut_texts e r.0 (flat_map posting_text ps)
+    grind (arith, flat_map-append, text_of, cut_lines, posting_lines, cut_texts, (postings_text ps r.1))
 postings_text (Demand d ∷ ps) r =
-    flat_map-append text_of (demand_lines d r.0) (posting_lines ps r.1)
-    ∙ ap (λ xs. flat_map text_of (demand_lines d r.0) ++ xs) (postings_text ps r.1)
-    ∙ demand_texts d r.0 (flat_map posting_text ps)
+    grind (arith, flat_map-append, text_of, demand_lines, posting_lines, demand_texts, (postings_text ps r.1))
 
 -- their items
 sheets_items : (pss : List (List ℕ)) (r : AllByRecursion AreSheetPrices pss)

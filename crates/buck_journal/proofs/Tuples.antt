@@ -1,5 +1,6 @@
 -- Numbers two and three at a time.
 use Rattle.std.proofs.Common.{◌≡◌, ℕ, ◌+◌, ◌<◌, ◌≤◌, ◌&&◌, true, List, [], ◌∷◌, length, drop, get_or, refl, sym, ap, ◌∙◌, arith, drop-cons, add-one}
+use Rattle.std.proofs.lemmas.Grind.{common_steps}
 use Rattle.std.proofs.lemmas.Bool.Decides.{nat_tests}
 use Rattle.buck_record.specs.checking.Rules.{within}
 use Rattle.buck_record.proofs.PassLemmas.{both, within_ok}
@@ -21,26 +22,16 @@ three xs i d lt = grind (arith, two, here)
 
 -- no two are left, and no three
 pub no_zones : (low : ℕ) (xs : List ℕ) → length xs ≤ 1 → are_zones low xs ≡ true
-no_zones low [] le = refl
-no_zones low (x ∷ []) le = refl
-no_zones low (x ∷ y ∷ more) le = absurd (omega arith)
+no_zones low xs le = grind (arith, common_steps)
 
 pub no_zone_parts : (xs : List ℕ) → length xs ≤ 1 → zones_of xs ≡ []
-no_zone_parts [] le = refl
-no_zone_parts (x ∷ []) le = refl
-no_zone_parts (x ∷ y ∷ more) le = absurd (omega arith)
+no_zone_parts xs le = grind (arith, common_steps)
 
 pub no_logs : (xs : List ℕ) → length xs ≤ 2 → are_logs xs ≡ true
-no_logs [] le = refl
-no_logs (x ∷ []) le = refl
-no_logs (x ∷ y ∷ []) le = refl
-no_logs (x ∷ y ∷ z ∷ more) le = absurd (omega arith)
+no_logs xs le = grind (arith, common_steps)
 
 pub no_log_parts : (xs : List ℕ) → length xs ≤ 2 → logs_of xs ≡ []
-no_log_parts [] le = refl
-no_log_parts (x ∷ []) le = refl
-no_log_parts (x ∷ y ∷ []) le = refl
-no_log_parts (x ∷ y ∷ z ∷ more) le = absurd (omega arith)
+no_log_parts xs le = grind (arith, common_steps)
 
 -- the next two, and the next three
 pub zones_more : (low : ℕ) (xs : List ℕ) (i : ℕ) → i + 1 < length xs

@@ -5,17 +5,7 @@ use Rattle.buck_journal.proofs.Judged.{told, get_chunk, first_in_part, none_in_p
 use Rattle.buck_journal.proofs.judging.outvalued.first_by_size.Goals as goal
 
 pub returns-in-Some : goal.returns-in-Some
-returns-in-Some g c =
-    let h = c.args.case.now in
-    let ps = c.args.postings.now in
-    let start = c.loop-k.k * c.args.size in
-    let given =
-    c.in_ok-found.ensures.each c.loop-k.k c.index.result.now
-    (omega (arith, c.loop-k-test.true, c.len-k-end.ensures)) in
-    let part = given.1.argument.now in
-    let found =
-    told (IsFound h part) _ (Some c.in-Some.at) given.1.call (sym c.index.ensures ∙ c.in-Ok.is ∙ ap Ok c.in-Some.is) in
-    first_in_part h ps part start (get_chunk ps part c.args.size start given.1.argument_is) _ c.loop-k.invariant found
+returns-in-Some g c = grind (arith, told, first_in_part, get_chunk)
 
 pub loop-k-preserved : goal.loop-k-preserved
 loop-k-preserved g c =

@@ -9,11 +9,7 @@ returns-in_default-clause-judged g c = λ h ps o same found.
     (subst (λ q. IsFound h ps q) c.in_default.is found)
 
 pub returns-then-at-until-clause-judged : goal.returns-then-at-until-clause-judged
-returns-then-at-until-clause-judged g c = λ h ps o same found.
-    judged_behind h c.args.ordered.until ps c.args.ordered.end o same c.in-Some.at (omega (arith, c.if-at-until.true))
-    (subst (λ q. IsFound h ps q) c.in-Some.is found)
+returns-then-at-until-clause-judged g c = grind (arith, judged_behind)
 
 pub returns-clause-judged : goal.returns-clause-judged
-returns-clause-judged g c = λ h ps o same found told.
-    judged_found h c.args.ordered.until ps c.args.ordered.end o same c.in-Some.at (omega (arith, c.if-at-until.false))
-    (subst (λ q. IsFound h ps q) c.in-Some.is found)
+returns-clause-judged g c = grind (arith, judged_found)

@@ -1,4 +1,4 @@
-use Rattle.std.proofs.Common.{◌≡◌, ◌∙◌, length, take, slice_get, ap, subst}
+use Rattle.std.proofs.Common.{◌≡◌, ◌∙◌, length, take, slice_get, ap, subst, arith}
 use Rattle.std.specs.Prelude.{IfOk}
 use Rattle.buck_book.specs.Walk.{walk_of}
 use Rattle.buck_journal.specs.judging.Replay.{history_of}
@@ -7,11 +7,7 @@ use Rattle.buck_journal.proofs.Judged.{get_taken, judged_cases, told_end}
 use Rattle.buck_journal.proofs.judging.replaying.replay_to_end.Goals as goal
 
 pub returns-clause-end : goal.returns-clause-end
-returns-clause-end c =
-    let case = c.of-case.result in
-    subst (λ h. IfOk c.judged.result (λ w. w ≡ walk_of h.instruction h.postings (length h.postings))) c.of-case.ensures
-    (told_end (λ w. w ≡ walk_of case.instruction case.postings (length case.postings)) c.in_ok-ordered.ordered.end
-    c.judged.result c.in_ok-ordered.ensures.end c.judged.ensures.end)
+returns-clause-end c = grind (arith, told_end)
 
 whole : (c : goal.After-drop-made-2)
     → IsJudged (history_of c.args.instruction.now.value c.args.journal.now) c.judged.result

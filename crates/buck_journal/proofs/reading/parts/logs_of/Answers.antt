@@ -6,10 +6,7 @@ use Rattle.buck_journal.proofs.Tuples.{three, log_right, no_log_parts}
 use Rattle.buck_journal.proofs.reading.parts.logs_of.Goals as goal
 
 pub overflow_cast-numbers : goal.overflow_cast-numbers
-overflow_cast-numbers c =
-    let i : ℕ = 3 * c.loop-k.k in
-    let right = log_right c.args.numbers.now i (omega arith) c.loop-k.invariant.right in
-    omega (arith, right.0)
+overflow_cast-numbers c = grind (arith, log_right)
 
 pub loop-k-preserved : goal.loop-k-preserved
 loop-k-preserved c =

@@ -5,10 +5,7 @@ use Rattle.buck_journal.proofs.Tuples.{two, zone_right, no_zone_parts}
 use Rattle.buck_journal.proofs.reading.parts.zones_of.Goals as goal
 
 pub overflow_cast-numbers : goal.overflow_cast-numbers
-overflow_cast-numbers c =
-    let i : ℕ = 2 * c.loop-k.k in
-    let right = zone_right c.loop-k.invariant.right.0 c.args.numbers.now i (omega arith) c.loop-k.invariant.right.1 in
-    omega (arith, right.0)
+overflow_cast-numbers c = grind (arith, zone_right)
 
 pub loop-k-preserved : goal.loop-k-preserved
 loop-k-preserved c =

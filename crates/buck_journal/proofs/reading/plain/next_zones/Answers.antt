@@ -10,20 +10,7 @@ use Rattle.buck_journal.proofs.OnePass.{zones_read}
 use Rattle.buck_journal.proofs.reading.plain.next_zones.Goals as goal
 
 pub returns-clause-leads : goal.returns-clause-leads
-returns-clause-leads c =
-    let ns = c.next_numbers.new.room.items in
-    let l : LeadsNumbers (slot 981 4) c.args.text.now ns c.in-Some.left.now = rw c.in-Some.is at c.in_ok-left.ensures in
-    let even : length ns % 2 ≡ 0 = search (rules, arith) in
-    let few : length ns ≤ 2 * MOST_ZONES = search (rules, arith) in
-    let range : are_zones 0 ns ≡ true = search (rules, arith) in
-    let is : c.in_ok-zones.zones.items ≡ zones_of ns = search rules in
-    subst (λ zs. LeadsTo (slot 981 4) zones_at c.args.text.now zs c.in-Some.left.now) (sym is)
-    (l.0, zones_read l.0 ns l.1 even few range, l.2)
+returns-clause-leads c = grind (arith, zones_read)
 
 pub returns-clause-valid : goal.returns-clause-valid
-returns-clause-valid c =
-    let ns = c.next_numbers.new.room.items in
-    let few : length ns ≤ 2 * MOST_ZONES = search (rules, arith) in
-    let range : are_zones 0 ns ≡ true = search (rules, arith) in
-    let is : c.in_ok-zones.zones.items ≡ zones_of ns = search rules in
-    subst AreZones (sym is) (are_zones_ok ns few range)
+returns-clause-valid c = grind (arith, are_zones_ok)
