@@ -39,8 +39,7 @@ pub lifts_are_front : (w : WorldParts) (moves : List Move) → IsSound w → IsR
     → all_lifts w moves + w.front ≡ (last w moves).front
 lifts_are_front w [] s r = omega arith
 lifts_are_front w (m ∷ ms) s r =
-    let a = front_after w m.after m.event s r.0 in let b =
-    lifts_are_front m.after ms (stays_sound w m.after m.event s r.0) r.1 in omega arith
+    grind (arith, front_after, (lifts_are_front m.after ms (stays_sound w m.after m.event s r.0) r.1))
 
 -- another harvester stays
 pub foreign : (w w' : WorldParts) (e : Event) (g : ℕ) → IsSound w → Step w e w' → 1 ≤ g → g ≢ harvester_of_event e
@@ -89,15 +88,14 @@ sum_to_zero (suc n) = let a = sum_to_zero n in omega arith
 sum_to_bound : (f : ℕ → ℕ) (n top : ℕ) → ((h : ℕ) → 1 ≤ h → h ≤ n → f h ≤ top) → sum_to f n ≤ n * top
 unfolding sum_to
 sum_to_bound f zero top low = omega arith
-sum_to_bound f (suc n) top low = let a = sum_to_bound f n top (λ h p q. low h p (omega arith)) in let b =
-    low (suc n) (omega arith) (omega arith) in omega arith
+sum_to_bound f (suc n) top low =
+    omega (arith, sum_to_bound f n top (λ h p q. low h p (omega arith)), low (suc n) (omega arith) (omega arith))
 
 -- one harvester's event is counted once
 sum_to_past : (e : Event) (x n : ℕ) → n < harvester_of_event e → sum_to (λ h. if_by h e x) n ≡ 0
 unfolding sum_to
 sum_to_past e x zero past = refl
-sum_to_past e x (suc n) past = let a = sum_to_past e x n (omega arith) in let b =
-    by_other (suc n) e x (λ q. omega arith) in omega arith
+sum_to_past e x (suc n) past = grind (arith, by_other, (sum_to_past e x n (omega arith)))
 
 sum_to_one : (e : Event) (x n : ℕ) → 1 ≤ harvester_of_event e → harvester_of_event e ≤ n
     → sum_to (λ h. if_by h e x) n ≡ x

@@ -148,16 +148,7 @@ IsChanged w h w' =
     × ((at w h).seen ≤ x.seen)
 
 changed_by : (w w' : WorldParts) (h : ℕ) → IsSound w → IsHarvester w h → IsMove w h w' → IsChanged w h w'
-changed_by w w' h s h_in (inl q) =
-    (_, ap (λ z. z.harvesters) q.is, ap (λ z. z.history.instruction) q.is, q.no_less)
-changed_by w w' h s h_in (inr (inl a)) =
-    (_, ap (λ z. z.harvesters) a.is, ap (λ z. z.history.instruction) a.is, le_refl (at w h).seen)
-changed_by w w' h s h_in (inr (inr r)) = (
-  _,
-  ap (λ z. z.harvesters) r.is,
-  ap (λ z. z.history.instruction) r.is,
-  le_trans (s.world.fits h h_in).seen s.world.front_low,
-)
+changed_by w w' h s h_in v5 = grind (arith, common_steps)
 
 pub changed : (w w' : WorldParts) (e : Event) → IsSound w → Step w e w' → IsChanged w (harvester_of_event e) w'
 changed w w' e s step = changed_by w w' (harvester_of_event e) s (is_in w e step.0) (move_of w w' e s step)

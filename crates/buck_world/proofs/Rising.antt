@@ -41,8 +41,7 @@ run_no_less : (w : WorldParts) (moves : List Move) (h : ℕ) → IsSound w → I
     → (at w h).seen ≤ (at (last w moves) h).seen
 run_no_less w [] h s r low = le_refl (at w h).seen
 run_no_less w (m ∷ ms) h s r low =
-    le_trans (step_no_less w m.after m.event h s r.0 low)
-    (run_no_less m.after ms h (stays_sound w m.after m.event s r.0) r.1 low)
+    grind (arith, step_no_less, stays_sound, (run_no_less m.after ms h (stays_sound w m.after m.event s r.0) r.1 low))
 
 -- a run in two parts
 parts : (w : WorldParts) (xs ys : List Move) → IsRun w (xs ++ ys) → IsRun w xs × IsRun (last w xs) ys
@@ -97,24 +96,8 @@ no_old_plan w before after h x p s r holds other =
     ap (λ (z : WorldParts). z.history) k.1)
     step.1.2
 
--- what a step adds
-none_added : (w w' x : WorldParts) → w' ≡ x → x.history.postings ≡ w.history.postings
-    → w'.history.postings ≡ w.history.postings ++ []
-none_added w w' x e f = ap (λ (z : WorldParts). z.history.postings) e ∙ f ∙ sym (append-nil w.history.postings)
-
-one_added : (w w' x : WorldParts) (ds : List Posting) → w' ≡ x → x.history.postings ≡ w.history.postings ++ ds
-    → w'.history.postings ≡ w.history.postings ++ more_than w w'
-one_added w w' x ds e f = grind (arith, drop-append_seam)
-
 step_added : (w w' : WorldParts) (e : Event) → Step w e w' → w'.history.postings ≡ w.history.postings ++ added_at w e w'
-step_added w w' (Read h v) (a, f) = none_added w w' _ f refl
-step_added w w' (Plan h stem) (a, f) = none_added w w' _ f.3 refl
-step_added w w' (Try h) (a, f) =
-    ⊎_elim (λ k. one_added w w' _ _ k.1.2 refl) (λ k. one_added w w' _ [] k.1 (sym (append-nil w.history.postings))) f.2
-step_added w w' (Locked h stem) (a, f) = one_added w w' _ _ f.3.2 refl
-step_added w w' (Retarget h targets) (a, f) = one_added w w' _ _ f.1.2 refl
-step_added w w' (Raise h) (a, f) = none_added w w' _ f refl
-step_added w w' (Leave h) (a, f) = none_added w w' _ f refl
+step_added w w' e v3 = grind (arith, common_steps)
 
 pub run_added : (w : WorldParts) (moves : List Move) → IsRun w moves
     → (last w moves).history.postings ≡ w.history.postings ++ added w moves

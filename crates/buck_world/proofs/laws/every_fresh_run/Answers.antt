@@ -1,4 +1,4 @@
-use Rattle.std.proofs.Common.{refl, arith}
+use Rattle.std.proofs.Common.{refl, arith, rules}
 use Rattle.std.proofs.lemmas.List.{length-replicate}
 use Rattle.buck_world.specs.World.{opening, newcomer}
 use Rattle.buck_world.proofs.Sound.{run_sound, opening_sound}
@@ -22,6 +22,4 @@ returns-clause-others c i n moves r fresh h low high =
 
 pub returns-clause-all_stale : goal.returns-clause-all_stale
 returns-clause-all_stale c i n moves r fresh =
-    let s = opening_sound i n in
-    all_stale_within (opening i n) moves n s (length-replicate n newcomer) refl r fresh
-    (run_sound (opening i n) moves s r)
+    search (rules, opening_sound, all_stale_within, length-replicate, run_sound)

@@ -1,3 +1,4 @@
+use Rattle.std.proofs.Common.{arith, rules}
 use Rattle.buck_world.specs.World.{opening}
 use Rattle.buck_world.proofs.Sound.{run_sound, opening_sound}
 use Rattle.buck_world.proofs.Rising.{run_added, run_instruction, no_old_plan}
@@ -13,5 +14,4 @@ pub returns-clause-added : goal.returns-clause-added
 returns-clause-added c i n moves r = run_added (opening i n) moves r
 
 pub returns-clause-no_old_plan : goal.returns-clause-no_old_plan
-returns-clause-no_old_plan c i n before after h x p r holds other =
-    no_old_plan (opening i n) before after h x p (opening_sound i n) r holds other
+returns-clause-no_old_plan c i n before after h x p r holds other = search (rules, no_old_plan, opening_sound)
