@@ -1,5 +1,6 @@
 -- kept lists that are put in their places, one by one
 use Rattle.std.proofs.Common.{◌≡◌, ℕ, zero, suc, ◌+◌, ◌-◌, ◌<◌, ◌≤◌, ◌≢◌, ◌==◌, List, [], ◌∷◌, ◌++◌, length, get_or, set, refl, sym, ap, subst, ◌∙◌, arith, length-append, append-nil, append_assoc, cond}
+use Rattle.std.proofs.lemmas.Grind.{common_steps}
 use Rattle.std.proofs.Math.Seq.{get_or-append_seam}
 use Rattle.std.specs.Prelude.{All, slice_index_or}
 use Rattle.std.specs.List.{sum_by}
@@ -26,17 +27,6 @@ seats_of-append h xs ys = sum_by-append (λ (s : SeatParts). cond (s.harvester =
 pub seats_of-self : (s : SeatParts) → seats_of s.harvester (s ∷ []) ≡ 1
 seats_of-self s = rw (eq-eqb s.harvester s.harvester refl) refl
 
-not_at : (h : ℕ) (xs : List SeatParts) (k : ℕ) (d : SeatParts) → seats_of h xs ≡ 0 → k < length xs
-    → (get_or xs k d).harvester ≢ h
-not_at h [] k d e lt = absurd (omega arith)
-not_at h (x ∷ xs) zero d e lt = λ is. (
-    let a : seats_of h (x ∷ xs) ≡ seats_of h (x ∷ []) + seats_of h xs = seats_of-append h (x ∷ []) xs in
-    let b : seats_of h (x ∷ []) ≡ 1 = subst (λ (n : ℕ). seats_of n (x ∷ []) ≡ 1) is (seats_of-self x) in
-    omega arith)
-not_at h (x ∷ xs) (suc k) d e lt =
-    let a : seats_of h (x ∷ xs) ≡ seats_of h (x ∷ []) + seats_of h xs = seats_of-append h (x ∷ []) xs in
-    not_at h xs k d (omega arith) (omega arith)
-
 none : (lists : List (List Kept)) → AreEmpty lists → sum_by length lists ≡ 0
 none [] e = refl
 none (x ∷ xs) e =
@@ -58,13 +48,7 @@ filled_more : (lists : List (List Kept)) (s : SeatParts) (done : List SeatParts)
     → k < length (s ∷ done)
     → get_or (set lists (s.harvester - 1) s.kept) ((get_or (s ∷ done) k d).harvester - 1) []
     ≡ (get_or (s ∷ done) k d).kept
-filled_more lists s done zero d pos room nil all_pos filled lt = get_or-set_same lists (s.harvester - 1) s.kept [] room
-filled_more lists s done (suc k) d pos room nil all_pos filled lt =
-    let lt' : k < length done = omega arith in
-    let ne : (get_or done k d).harvester ≢ s.harvester = not_at s.harvester done k d nil lt' in
-    let p = all_pos k lt' in
-    let ne1 : (get_or done k d).harvester - 1 ≢ s.harvester - 1 = λ e. ne (omega (arith, e, p, pos)) in
-    get_or-set_other lists (s.harvester - 1) ((get_or done k d).harvester - 1) s.kept [] ne1 ∙ filled k lt'
+filled_more lists s done k d pos room nil all_pos filled lt = grind (arith, common_steps)
 
 -- at the beginning
 pub places_none : (all : List SeatParts) (lists : List (List Kept)) → AreEmpty lists → Places all all lists 0 0

@@ -1,5 +1,6 @@
 -- what stopped the lowest harvester among the first seats
 use Rattle.std.proofs.Common.{◌≡◌, ℕ, ◌+◌, ◌<◌, ◌≤◌, List, length, get_or, inl, inr, arith, refl, sym, ap, ◌∙◌, subst}
+use Rattle.std.proofs.lemmas.Grind.{common_steps}
 use Rattle.std.specs.Prelude.{All, Option, None, Some, MatchOption, slice_get, slice_index_or, IfNone, IfSome}
 use Rattle.std.proofs.lemmas.Bool.{cases_lt}
 use Rattle.std.proofs.lemmas.List.{get_or_default}
@@ -49,9 +50,7 @@ moved n seats lowest lowest_after first first_after l f so_far = rw (l, f) so_fa
 -- after all seats
 pub told_none : (n : ℕ) (seats : List SeatParts) (lowest : ℕ) (first : Option RunFault) → length seats ≤ n
     → IsStopSoFar n seats lowest first → IfNone first (All (λ s. s.stopped ≡ None) seats)
-told_none n seats lowest None all so_far =
-    λ k d small. let b = so_far.0 k d (omega (arith, small, all)) in b.1 (omega (arith, b.0, so_far.1))
-told_none n seats lowest (Some fault) all so_far = tt
+told_none n seats lowest first all so_far = grind (arith, common_steps)
 
 pub told : (n : ℕ) (seats : List SeatParts) (lowest : ℕ) (first : Option RunFault) → length seats ≤ n
     → IsStopSoFar n seats lowest first → IfSome first (IsFirstStop seats)

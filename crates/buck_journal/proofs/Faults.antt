@@ -29,7 +29,7 @@ no_content_fault i sheets x k fault right wrong = grind (arith, common_steps)
 
 no_number_fault : (sheets : List (List ℕ)) (last : ℕ) (fault : ReplayFault) → length sheets ≡ last + 1
     → IsNumberFault sheets last fault → ⊥
-no_number_fault sheets last fault right v4 = grind (arith, common_steps)
+no_number_fault sheets last fault right wrong = grind (arith, common_steps)
 
 module _ (h : HistoryParts) (v : IsInstruction h.instruction) (l : IsLawful h) where
   after : (m : ℕ) (x : Posting) → slice_get h.postings m ≡ Some x → Begins h (m + 1)
@@ -77,10 +77,10 @@ module _ (h : HistoryParts) (v : IsInstruction h.instruction) (l : IsLawful h) w
 
   no_posting_fault : (k : ℕ) (x : Posting) (fault : ReplayFault) → slice_get h.postings k ≡ Some x
       → IsPostingFault (sheet_at h.instruction h.sheets (version_at h k)) (take k h.postings) x k fault → ⊥
-  no_posting_fault k x fault at v4 = grind (arith, no_call_fault, no_content_fault)
+  no_posting_fault k x fault at wrong = grind (arith, no_call_fault, no_content_fault)
 
   no_end_fault : (fault : ReplayFault) → IsFaultAtEnd h (length h.postings) fault → ⊥
-  no_end_fault fault v1 = grind (arith, take_all, no_number_fault, no_sheet_fault, sheet_right)
+  no_end_fault fault wrong = grind (arith, take_all, no_number_fault, no_sheet_fault, sheet_right)
 
   pub no_first_fault : (fault : ReplayFault) → IsFirstFault h fault → ⊥
   no_first_fault fault v1 =

@@ -103,7 +103,7 @@ module _ (h : HistoryParts) where
   -- where none is, the fault at which the walk stopped is the first
   stop_is_met : (until : ℕ) (fault : ReplayFault) → IsInOrderBefore h until
       → NoneDoubtful h h.postings until → IsStopped h until fault → IsFirstFault h fault
-  stop_is_met until fault before none v4 = grind (arith, right_before)
+  stop_is_met until fault before none stopped = grind (arith, right_before)
 
   -- what comes of a history, by what was found in postings that are its own up to there
   module _ {W : Type 0} (until : ℕ) (ps : List Posting) (end : Result W ReplayFault) (o : IsOrdered h until end)

@@ -148,7 +148,7 @@ IsChanged w h w' =
     × ((at w h).seen ≤ x.seen)
 
 changed_by : (w w' : WorldParts) (h : ℕ) → IsSound w → IsHarvester w h → IsMove w h w' → IsChanged w h w'
-changed_by w w' h s h_in v5 = grind (arith, common_steps)
+changed_by w w' h s h_in move = grind (arith, common_steps)
 
 pub changed : (w w' : WorldParts) (e : Event) → IsSound w → Step w e w' → IsChanged w (harvester_of_event e) w'
 changed w w' e s step = changed_by w w' (harvester_of_event e) s (is_in w e step.0) (move_of w w' e s step)

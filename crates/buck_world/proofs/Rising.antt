@@ -97,7 +97,7 @@ no_old_plan w before after h x p s r holds other =
     step.1.2
 
 step_added : (w w' : WorldParts) (e : Event) → Step w e w' → w'.history.postings ≡ w.history.postings ++ added_at w e w'
-step_added w w' e v3 = grind (arith, common_steps)
+step_added w w' e step = grind (arith, common_steps)
 
 pub run_added : (w : WorldParts) (moves : List Move) → IsRun w moves
     → (last w moves).history.postings ≡ w.history.postings ++ added w moves

@@ -16,6 +16,4 @@ returns-then-not-is_kept_as-clause-some c =
     c.index-kept-k.is (λ e. grind (arith, c.is_kept_as.ensures, c.if-not-is_kept_as.true, e))
 
 pub returns-then-k-kept-2-clause-some : goal.returns-then-k-kept-2-clause-some
-returns-then-k-kept-2-clause-some c =
-    kept_more _ _ c.loop-i.i _ _ c.loop-i.invariant.2 (omega (arith, c.if-k-kept-2.true))
-    (omega (arith, c.loop-i-test.false))
+returns-then-k-kept-2-clause-some c = grind (arith, kept_more)
