@@ -24,6 +24,7 @@ pub fn zeros(alloc: Global, number: usize) -> Result<Vec<u32>, AllocError>
 }
 
 /// The place of the class of an allowed log.
+#[tactic(auto, using(buck_value::proofs::Classes::class_is_class))]
 fn place_of(sheet: &Sheet, stem: &Stem, log: &Log) -> usize
     requires { IsAllowed sheet.now.instruction stem.now log.now }
     ensures place { result ≡ index_of sheet.now.instruction (class_of sheet.now.instruction stem.now log.now) }

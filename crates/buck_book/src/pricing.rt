@@ -46,6 +46,7 @@ impl<'a> Model for Standings<'a> {
 
 impl<'a> Standings<'a> {
     /// What is wanted of the assortment at a place, given the classes before it.
+    #[tactic(auto, using(crate::proofs::Wanted::part_within))]
     pub fn targets_sum(&self, assortment: &Assortment, at: u8, before: usize) -> u64
         requires exists { slice_get self.now.instruction.assortments at ≡ Some assortment.now }
         requires before { before ≡ classes_before self.now.instruction at }
@@ -144,6 +145,7 @@ fn add_row<F: Fn(&Standing) -> u64>(
 }
 
 /// Adds the prices of an assortment's classes, row by row.
+#[tactic(auto, using(crate::proofs::Standings::before_next))]
 fn add_assortment<F: Fn(&Standing) -> u64>(
     prices: &mut Vec<u32>,
     rule: &Rule<F>,
