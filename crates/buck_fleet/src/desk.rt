@@ -184,6 +184,7 @@ impl<F: Drop, L: Ledger> Desk<F, L> {
 impl<F: Fn(&Standing) -> u64 + Drop, L: Ledger> Desk<F, L> {
     /// Commits a plan for a seat, if its sheet is in force: adds its entry to the history and to the seat's kept list,
     /// and raises the front to the version in force.
+    #[tactic(auto, using(crate::proofs::Keeping::is_added))]
     pub fn commit<R: Wait>(
         &mut self,
         rt: &R,
@@ -221,6 +222,7 @@ impl<F: Fn(&Standing) -> u64 + Drop, L: Ledger> Desk<F, L> {
 
     /// Puts new targets in force for a seat: adds the demand to the history and to the seat's kept list, and raises the
     /// front to the version in force.
+    #[tactic(auto, using(crate::proofs::Keeping::is_added))]
     pub fn retarget<R: Wait>(
         &mut self,
         rt: &R,

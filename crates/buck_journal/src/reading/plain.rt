@@ -181,6 +181,7 @@ fn next_logs<'a>(
 }
 
 /// The worth of a cutting, and what is left after it.
+#[tactic(auto, using(crate::proofs::OnePass::worth_read, crate::proofs::OnePass::ok_of))]
 fn next_worth(text: &[u8]) -> Option<(u64, &[u8])>
     ensures { IfSome result (λ w. LeadsTo (slot 981 6) worth_at text.now w.0 w.1.now) }
 {
