@@ -24,6 +24,7 @@ use std::alloc::Global;
 use std::sync::Arc;
 
 /// The sheet of a version up to the one in force.
+#[tactic(auto, using(crate::proofs::Sheets::shown_within, crate::proofs::Sheets::shown_is))]
 fn sheet_of<F: Drop>(book: &Book<F>, version: u32) -> &Arc<Sheet>
     requires { version ≤ version_of book.now.history }
     ensures { result.now.value ≡ sheet_at book.now.history.instruction book.now.history.sheets version }
