@@ -69,11 +69,7 @@ module _ (h : HistoryParts) (v : IsInstruction h.instruction) (l : IsLawful h) w
 
   -- where a period of a lawful history begins, its sheet is right
   sheet_right : (k : ℕ) → k ≤ length h.postings → Begins h k → IsSheetRight h k
-  sheet_right k le b =
-      let meets = prices_right k le b in
-      let there : version_at h k < length h.sheets =
-      omega (arith, l.sheets_number, ends_take-le h.instruction h.postings k) in
-      ((there, meets.one_each), meets)
+  sheet_right k le b = grind (arith, common_steps, prices_right, ends_take-le)
 
   no_posting_fault : (k : ℕ) (x : Posting) (fault : ReplayFault) → slice_get h.postings k ≡ Some x
       → IsPostingFault (sheet_at h.instruction h.sheets (version_at h k)) (take k h.postings) x k fault → ⊥

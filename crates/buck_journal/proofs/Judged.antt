@@ -1,5 +1,5 @@
 -- Postings of which the first doubtful one is known: what comes of their history.
-use Rattle.std.proofs.Common.{◌≡◌, ◌≢◌, ℕ, zero, suc, ◌+◌, ◌<◌, ◌≤◌, inl, inr, true, false, List, [], ◌∷◌, length, take, drop, slice_get, Option, Some, None, refl, sym, ◌∙◌, ap, subst, arith}
+use Rattle.std.proofs.Common.{◌≡◌, ◌≢◌, ℕ, zero, suc, ◌+◌, ◌<◌, ◌≤◌, inl, inr, true, false, List, [], ◌∷◌, length, take, drop, slice_get, Option, Some, None, refl, sym, ◌∙◌, ap, subst, arith, rules}
 use Rattle.std.proofs.lemmas.Grind.{common_steps}
 use Rattle.std.specs.Prelude.{◌-◌, Result, Ok, Err, IfOk, IfErr, OnOk}
 use Rattle.std.specs.Fork.{IsChunk}
@@ -142,9 +142,7 @@ none_more h ps at x there none more j y lt got = grind (arith, common_steps)
 -- what stands in a run of neighbours
 pub get_chunk : (ps part : List Posting) (size start : ℕ) → IsChunk ps size start part → (k : ℕ) → k < length part
     → slice_get part k ≡ slice_get ps (start + k)
-get_chunk ps part size start is k lt =
-    ap (λ xs. slice_get xs k) is.value ∙ get_taken size (drop start ps) k (omega (arith, lt, is.at_most_size))
-    ∙ get_dropped start ps k
+get_chunk ps part size start is k lt = search (rules, get_taken, get_dropped)
 
 -- of postings those before a place were gone through, and a part begins there
 module _ (h : HistoryParts) (ps part : List Posting) (start : ℕ)

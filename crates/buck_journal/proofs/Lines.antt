@@ -1,5 +1,5 @@
 -- Lines of a file as they are written, and the items that are read of them.
-use Rattle.std.proofs.Common.{◌≡◌, ℕ, suc, ◌+◌, ◌-◌, ◌<◌, ◌≤◌, ◌^◌, true, false, List, [], ◌∷◌, ◌++◌, All, Some, Ok, get_or, length, drop, filter, map, refl, sym, ap, ◌∙◌, subst, arith, append_assoc, codes}
+use Rattle.std.proofs.Common.{◌≡◌, ℕ, suc, ◌+◌, ◌-◌, ◌<◌, ◌≤◌, ◌^◌, true, false, List, [], ◌∷◌, ◌++◌, All, Some, Ok, get_or, length, drop, filter, map, refl, sym, ap, ◌∙◌, subst, arith, append_assoc, codes, rules}
 use Rattle.std.proofs.lemmas.Grind.{common_steps}
 use Rattle.std.specs.List.{slice_split, flat_map, AllByRecursion, suffix_len, prefix_len}
 use Rattle.std.specs.Char.{is_ascii_digit}
@@ -49,9 +49,7 @@ module _ (n : ℕ) (lt : n < 2 ^ 64) where
   starts_decimal = (decimal_nonempty n lt, digit_dark (get_or (decimal n) 0 0) (digits 0 (decimal_nonempty n lt)))
 
   plain_decimal : All IsPlain (decimal n)
-  plain_decimal =
-      λ k d l. digit_plain (get_or (decimal n) k d)
-      (AllPass-from_list_all is_ascii_digit (decimal n) (digits_decimal numeral n lt) k d l)
+  plain_decimal  = grind (arith, common_steps, digit_plain, digits_decimal, numeral)
 
 ends_append : (xs zs : List ℕ) → EndsDark zs → EndsDark (xs ++ zs)
 ends_append xs zs h = grind (arith, common_steps)
@@ -75,10 +73,7 @@ start_dark (x ∷ xs) h = rw h.1 refl
 
 end_dark : (xs : List ℕ) → EndsDark xs → trim_end xs ≡ xs
 unfolding trim_end
-end_dark xs h =
-    let none : suffix_len is_white xs ≡ length xs - length xs =
-    suffix_len_is is_white xs (length xs) 0 (omega arith) (λ k ge lt. absurd (omega arith)) (λ pos. h.1) in
-    take_all (length xs - suffix_len is_white xs) xs (omega (arith, none))
+end_dark xs h = search (rules, suffix_len_is, take_all)
 
 trim_dark : (xs : List ℕ) → StartsDark xs → EndsDark xs → trim xs ≡ xs
 trim_dark xs s e = ap trim_end (start_dark xs s) ∙ end_dark xs e
@@ -115,9 +110,7 @@ numbers_by_words xs ys e = ap (λ ws. each_from (number_at_most 4294967295) 1 ws
 
 -- numbers after a head are read again
 pub numbers_told : (ns : List ℕ) → AllByRecursion (λ n. n ≤ 4294967295) ns → numbers_of (told ns) ≡ Ok ns
-numbers_told ns h =
-    numbers_by_words (told ns) (spelled ns) (told_words ns (smaller ns h) ∙ sym (words-spelled ns (smaller ns h)))
-    ∙ numbers_again ns h
+numbers_told ns h = search (rules, numbers_by_words, told, told_words, smaller, words-spelled, numbers_again)
 
 -- one wide number after a head is read again
 pub worth_told : (n : ℕ) → n ≤ 18446744073709551615 → number_of 18446744073709551615 (told (n ∷ [])) ≡ Ok n
@@ -201,11 +194,7 @@ plain_spelled (n ∷ ns) h =
     (All-append IsPlain (decimal n) (spelled ns) (plain_decimal n h.0) (plain_spelled ns h.1))
 
 plain_piece : (l : Line) → All IsPlain (piece_of l)
-plain_piece l =
-    let p = l.head.plain in
-    All-append IsPlain (bytes_of l.head) (spelled l.numbers)
-    (All-from_recursion IsPlain (bytes_of l.head) (p.0, (p.1, (p.2, (refl, (p.3, tt))))))
-    (plain_spelled l.numbers l.small)
+plain_piece l = search (rules, plain_spelled)
 
 piece_trimmed : (l : Line) → trim (piece_of l) ≡ piece_of l
 piece_trimmed l =

@@ -1,6 +1,6 @@
 -- What a walk through a history shows of its order, and where each posting may follow and each sheet is right it is
 -- lawful.
-use Rattle.std.proofs.Common.{◌≡◌, ◌≢◌, ℕ, zero, suc, ◌+◌, ◌<◌, ◌≤◌, inl, inr, List, [], ◌∷◌, ◌++◌, length, take, slice_get, Some, refl, sym, ◌∙◌, ap, subst, arith}
+use Rattle.std.proofs.Common.{◌≡◌, ◌≢◌, ℕ, zero, suc, ◌+◌, ◌<◌, ◌≤◌, inl, inr, List, [], ◌∷◌, ◌++◌, length, take, slice_get, Some, refl, sym, ◌∙◌, ap, subst, arith, rules}
 use Rattle.std.proofs.lemmas.Grind.{common_steps}
 use Rattle.std.specs.Prelude.{Result, Ok, Err, IfOk, IfErr, OnOk}
 use Rattle.std.proofs.lemmas.Bool.{cases_Bool, cases_lt, cases_eq}
@@ -224,11 +224,7 @@ module _ (s : SheetParts) (i : InstructionParts) (ps : List Posting) (from : ℕ
 
   pub version_next : cuts_since_end s.instruction (take w'.at ps) ≢ 0 → ends_of s.instruction (take w.at ps) ≡ s.version
       → ends_of s.instruction (take w'.at ps) ≡ s.version
-  version_next goes_on version =
-      ap (λ n. ends_of s.instruction (take n ps)) at_next
-      ∙ version_stays s.instruction ps w.at x there'
-      (subst (λ n. cuts_since_end s.instruction (take n ps) ≢ 0) at_next goes_on)
-      ∙ version
+  version_next goes_on version = search (rules, at_next, version_stays, there')
 
 -- a sheet that isn't right is met at the posting that begins its period
 pub sheet_met : (h : HistoryParts) (from : ℕ) (fault : ReplayFault) → from < length h.postings → IsInOrderBefore h from

@@ -1,5 +1,5 @@
 -- The text of a journal is read again.
-use Rattle.std.proofs.Common.{◌≡◌, ℕ, ◌<◌, ◌^◌, true, false, List, [], ◌∷◌, ◌++◌, Some, Ok, map, refl, sym, ap, ◌∙◌, arith, append_assoc, codes}
+use Rattle.std.proofs.Common.{◌≡◌, ℕ, ◌<◌, ◌^◌, true, false, List, [], ◌∷◌, ◌++◌, Some, Ok, map, refl, sym, ap, ◌∙◌, arith, append_assoc, codes, rules}
 use Rattle.std.specs.List.{AllByRecursion, flat_map}
 use Rattle.std.proofs.lemmas.List.{map-append, append-nil}
 use Rattle.std.proofs.lemmas.Grind.{flat_map-append}
@@ -109,11 +109,7 @@ six a b c d e f = simp (append_assoc, append-nil)
 
 cut_parts : (e : EntryParts) (r : IsCutInRange e) → flat_map text_of (cut_lines e r) ≡ cut_text e
 unfolding cut_lines cut_text
-cut_parts e r =
-    six (item_text (codes "981 1") (e.harvester ∷ e.number ∷ e.version ∷ []))
-    (item_text (codes "981 2") (e.stem.number ∷ e.stem.species ∷ [])) (item_text (codes "981 3") e.stem.samples)
-    (item_text (codes "981 4") (zone_numbers e.stem.zones)) (item_text (codes "981 5") (log_numbers e.logs))
-    (item_text (codes "981 6") (e.worth ∷ []))
+cut_parts e r = search (rules, six)
 
 cut_texts : (e : EntryParts) (r : IsCutInRange e) (more : List ℕ)
     → flat_map text_of (cut_lines e r) ++ more ≡ cut_text e ++ more
@@ -122,10 +118,7 @@ cut_texts e r more = ap (λ xs. xs ++ more) (cut_parts e r)
 demand_texts : (d : DemandParts) (r : IsDemandInRange d) (more : List ℕ)
     → flat_map text_of (demand_lines d r) ++ more ≡ demand_text d ++ more
 unfolding demand_lines demand_text
-demand_texts d r more =
-    ap (λ xs. xs ++ more)
-    (ap (λ xs. item_text (codes "982 1") (d.harvester ∷ d.number ∷ d.version ∷ []) ++ xs)
-    (append-nil (item_text (codes "982 2") d.targets)))
+demand_texts d r more = search (rules, append-nil)
 
 postings_text : (ps : List Posting) (r : AllByRecursion IsInRange ps)
     → flat_map text_of (posting_lines ps r) ≡ flat_map posting_text ps
@@ -157,10 +150,7 @@ text_lines : (pss : List (List ℕ)) (ps : List Posting) (r : AllByRecursion Are
     (q : AllByRecursion IsInRange ps)
     → item_text (codes "1 2 JRN") [] ++ flat_map text_of (lines_of pss ps r q) ≡ journal_text pss ps
 unfolding lines_of journal_text
-text_lines pss ps r q =
-    ap (λ xs. item_text (codes "1 2 JRN") [] ++ xs)
-    (flat_map-append text_of (sheet_lines pss r) (posting_lines ps q)
-    ∙ (λ j. sheets_text pss r j ++ postings_text ps q j))
+text_lines pss ps r q = search (rules, flat_map-append, text_of, posting_lines, sheets_text, postings_text)
 
 item_lines : (pss : List (List ℕ)) (ps : List Posting) (r : AllByRecursion AreSheetPrices pss)
     (q : AllByRecursion IsInRange ps)

@@ -1,5 +1,6 @@
 -- The numbers of a lawful history lie within a journal's ranges.
-use Rattle.std.proofs.Common.{◌≡◌, ℕ, ◌+◌, ◌*◌, ◌<◌, ◌≤◌, ◌&&◌, true, List, [], ◌∷◌, length, take, get_or, slice_index, slice_get, Some, refl, sym, ap, subst, arith, mul-le-mul_left}
+use Rattle.std.proofs.Common.{◌≡◌, ℕ, ◌+◌, ◌*◌, ◌<◌, ◌≤◌, ◌&&◌, true, List, [], ◌∷◌, length, take, get_or, slice_index, slice_get, Some, refl, sym, ap, subst, arith, mul-le-mul_left, rules}
+use Rattle.std.proofs.lemmas.Grind.{common_steps}
 use Rattle.std.specs.Prelude.{nat_le}
 use Rattle.std.specs.List.{AllByRecursion}
 use Rattle.std.proofs.lemmas.Bool.{and_from}
@@ -97,9 +98,7 @@ module _ (i : InstructionParts) (ps : List Posting) (prices : List ℕ) (v : IsI
 module _ (h : HistoryParts) (v : IsInstruction h.instruction) (l : IsLawful h) where
   meets_there : (n version : ℕ) → n ≤ length h.postings → (o : Opened h n version)
       → PricesMeet h.instruction (take o.at h.postings) (prices_at h.sheets version)
-  meets_there n version le o =
-      subst (λ w. PricesMeet h.instruction (take o.at h.postings) (prices_at h.sheets w)) o.is
-      (prices_right h v l o.at (omega (arith, o.within_them)) o.begins)
+  meets_there n version le o = grind (arith, common_steps, prices_right)
 
   module _ (few : length h.postings ≤ 1000000) where
     passed_few : (k : ℕ) → k < length h.postings → length (take k h.postings) ≤ 999999
@@ -107,9 +106,7 @@ module _ (h : HistoryParts) (v : IsInstruction h.instruction) (l : IsLawful h) w
 
     number_in : (k : ℕ) (x : Posting) → slice_get h.postings k ≡ Some x
         → IsWithin 1 1000000 (calls_of (harvester_of x) (take k h.postings) + 1)
-    number_in k x at =
-        let some = passed_few k (slice_get_within h.postings k x at) in
-        (omega arith, omega (arith, calls-le (harvester_of x) (take k h.postings)))
+    number_in k x at = search (rules, passed_few, slice_get_within, calls-le)
 
     version_in : (k : ℕ) (x : Posting) → slice_get h.postings k ≡ Some x → version_at h k ≤ 1000000
     version_in k x at = grind (arith, passed_few, slice_get_within, ends-le)

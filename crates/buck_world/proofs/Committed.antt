@@ -1,5 +1,5 @@
 -- What a commit of the book leaves, as the world sees it.
-use Rattle.std.proofs.Common.{◌≡◌, ◌≢◌, inr, ℕ, ◌+◌, ◌-◌, List, [], ◌∷◌, ◌++◌, slice_set, Option, sym, ap, subst, ◌∙◌, arith}
+use Rattle.std.proofs.Common.{◌≡◌, ◌≢◌, inr, ℕ, ◌+◌, ◌-◌, List, [], ◌∷◌, ◌++◌, slice_set, Option, sym, ap, subst, ◌∙◌, arith, rules}
 use Rattle.buck_value.specs.Sheet.{SheetParts}
 use Rattle.buck_book.specs.declared.posting.Posting.{Posting}
 use Rattle.buck_book.specs.Plan.{PlanParts}
@@ -38,9 +38,7 @@ found_planned xs ys h x p at same is = cc
 -- a plan of the sheet in force was made under the version in force, and no other plan was
 pub version_is : (s m : HistoryParts) (v : ℕ) (p : PlanParts) → IsPlanUnder s v p → m ≡ s → p.sheet ≡ in_force m
     → v ≡ version_of s
-version_is s m v p under same in_force_is =
-    ap (λ (x : SheetParts). x.version) (sym under.sheet_is) ∙ ap (λ (x : SheetParts). x.version) in_force_is
-    ∙ ap version_of same
+version_is s m v p under same in_force_is = search (rules)
 
 pub version_is_not : (s : HistoryParts) (v : ℕ) (p : PlanParts) → IsPlanUnder s v p → p.sheet ≢ in_force s
     → v ≢ version_of s

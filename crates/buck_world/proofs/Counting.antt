@@ -1,5 +1,5 @@
 -- What is counted along runs.
-use Rattle.std.proofs.Common.{◌≡◌, ◌≢◌, inl, ⊎_elim, inr, ℕ, zero, suc, ◌+◌, ◌-◌, ◌*◌, ◌<◌, ◌≤◌, List, [], ◌∷◌, Bool, cond, length, get_or, set, sym, refl, ap, subst, ◌∙◌, eq-eqb, ne_eqb, lt-ltb, le-ltb, arith, mul-le-mul_left}
+use Rattle.std.proofs.Common.{◌≡◌, ◌≢◌, inl, ⊎_elim, inr, ℕ, zero, suc, ◌+◌, ◌-◌, ◌*◌, ◌<◌, ◌≤◌, List, [], ◌∷◌, Bool, cond, length, get_or, set, sym, refl, ap, subst, ◌∙◌, eq-eqb, ne_eqb, lt-ltb, le-ltb, arith, mul-le-mul_left, rules}
 use Rattle.std.proofs.lemmas.Grind.{common_steps}
 use Rattle.std.proofs.lemmas.Bool.{cases_eq}
 use Rattle.std.proofs.lemmas.Bool.Decides.{nat_tests}
@@ -53,9 +53,7 @@ pub record IsWithin (w : WorldParts) (h k : ℕ) : Type 0 where
 
 pub at_here : (w w' x : WorldParts) (h : ℕ) (y : Harvester) → w' ≡ x → x.harvesters ≡ set w.harvesters (h - 1) y
     → IsHarvester w h → at w' h ≡ y
-at_here w w' x h y e f h_in =
-    ap (λ (hs : List Harvester). get_or hs (h - 1) newcomer) (ap (λ (z : WorldParts). z.harvesters) e ∙ f)
-    ∙ here w.harvesters h y newcomer h_in.0 h_in.1
+at_here w w' x h y e f h_in = search (rules, here)
 
 -- one more event
 within_step : (w w' : WorldParts) (e : Event) (h k : ℕ) → IsSound w → Step w e w' → IsFreshAt w e → 1 ≤ h
