@@ -1,5 +1,5 @@
 -- Histories of cuts alone: their ends are the full periods, and two ways to say that one is lawful say the same.
-use Rattle.std.proofs.Common.{◌≡◌, ℕ, zero, suc, ◌+◌, ◌-◌, ◌*◌, ◌/◌, ◌%◌, ◌<◌, ◌≤◌, ◌==◌, ◌↔◌, cond, inl, inr, List, [], ◌∷◌, map, length, take, drop, slice_index, slice_get, Some, sum, sum_by, refl, sym, ◌∙◌, ap, subst, arith, eqb-true, eq-eqb, mul-le-mul_right, div-mul-le_self}
+use Rattle.std.proofs.Common.{◌≡◌, ℕ, zero, suc, ◌+◌, ◌-◌, ◌*◌, ◌/◌, ◌%◌, ◌<◌, ◌≤◌, ◌↔◌, inl, inr, List, [], ◌∷◌, map, length, take, drop, slice_index, slice_get, Some, sum_by, refl, sym, ◌∙◌, ap, subst, arith, eqb-true, eq-eqb, mul-le-mul_right, div-mul-le_self}
 use Rattle.std.specs.Option.{option_map}
 use Rattle.std.proofs.lemmas.Bool.{cases_Bool, cases_lt, cases_eq}
 use Rattle.std.proofs.lemmas.Nat.{div-mul-add, mod-mul-add, div-add-mod', div_below, mod_below}
@@ -16,9 +16,7 @@ use Rattle.buck_value.proofs.Prices.{length-base_prices}
 use Rattle.buck_book.specs.declared.posting.Posting.{Posting}
 use Rattle.buck_book.specs.declared.posting.Posting.TheVariants.{Cut}
 use Rattle.buck_book.specs.Entry.{EntryParts}
-use Rattle.buck_book.specs.Posting.{harvester_of, is_end, ends_from, cuts_from, ends_of, cuts_since_end, targets_after, targets_of, opening_targets}
-use Rattle.buck_book.specs.Targets.{targets_sum}
-use Rattle.buck_book.specs.Counts.{class_logs, assortment_logs, class_logs_in, assortment_logs_in, count_of, assortment_count_of}
+use Rattle.buck_book.specs.Posting.{is_end, ends_from, cuts_from, ends_of, cuts_since_end, targets_after, opening_targets}
 use Rattle.buck_book.specs.History.{IsLawful, Follows, IsEnd, PricesMeet, prices_at, standing_of}
 use Rattle.buck_book.specs.CutsAlone as alone
 use Rattle.buck_book.proofs.Ends.{ends_yes, ends_no, cuts_yes, cuts_no, cuts_low, ends_past}

@@ -1,9 +1,9 @@
 -- Running counts of entries, one entry on.
 use Rattle.std.proofs.Common.{◌≡◌, ℕ, ◌+◌, ◌-◌, ◌<◌, ◌≤◌, ◌==◌, true, false, cond, List, [], ◌∷◌, ◌++◌, length, get_or, set, count_by, take, replicate, ◌^◌, sym, ◌∙◌, ap, inl, inr, arith, eq-eqb}
 use Rattle.std.proofs.lemmas.Grind.{common_steps}
-use Rattle.std.proofs.lemmas.Bool.{ne_eqb, cases_eq, cases_lt}
+use Rattle.std.proofs.lemmas.Bool.{ne_eqb, cases_eq}
 use Rattle.std.proofs.lemmas.List.{get_or-set_same, get_or-set_other, length-set, length-take-le, get_or_past, get_or-replicate, length-replicate}
-use Rattle.std.proofs.lemmas.List.Sums.{sum_by-le-sum_by, sum_by_push, count_by-le-length, count_by_more_yes, count_by_more_no}
+use Rattle.std.proofs.lemmas.List.Sums.{sum_by-le-sum_by, sum_by_push, count_by-le-length}
 use Rattle.std.proofs.lemmas.Option.{slice_get_within}
 use Rattle.buck_apt.specs.declared.class.Class.{Class}
 use Rattle.buck_apt.specs.Instruction.{InstructionParts, IsInstruction, classes, index_of}

@@ -4,9 +4,9 @@ use Rattle.std.proofs.lemmas.Grind.{common_steps}
 use Rattle.std.specs.List.{zip}
 use Rattle.std.proofs.lemmas.List.Sums.{sum_by-cons}
 use Rattle.std.proofs.Math.Nat.{min-le_left, add-mul, mul-le-mul, div-le_of_le-mul}
-use Rattle.std.specs.Prelude.{slice_get, Some, Option}
+use Rattle.std.specs.Prelude.{slice_get, Some}
 use Rattle.std.proofs.lemmas.Option.{slice_get_read}
-use Rattle.buck_apt.specs.Instruction.{InstructionParts, AssortmentParts, classes_before, place_in, index_of}
+use Rattle.buck_apt.specs.Instruction.{InstructionParts, AssortmentParts, classes_before, index_of}
 use Rattle.buck_book.specs.Degree.{shared_of}
 
 step : (wanted cut : ℕ) (targets counts : List ℕ) (i : ℕ) → i < length targets → i < length counts

@@ -4,10 +4,8 @@ use Rattle.std.proofs.lemmas.Grind.{common_steps}
 use Rattle.std.proofs.lemmas.List.{take_all, take-append-le, take-take, length-take-le, length_push, get_or-take, get_or_append_left, get_or_push}
 use Rattle.std.proofs.lemmas.Option.{slice_get_within, slice_get-get_or, get_or_from_slice_get}
 use Rattle.buck_apt.specs.Instruction.{InstructionParts}
-use Rattle.buck_value.specs.Sheet.{SheetParts, sheet_of}
-use Rattle.buck_dp.specs.Best.{IsBest, cutting_worth}
+use Rattle.buck_value.specs.Sheet.{SheetParts}
 use Rattle.buck_book.specs.declared.posting.Posting.{Posting}
-use Rattle.buck_book.specs.declared.posting.Posting.TheVariants.{Cut, Demand}
 use Rattle.buck_book.specs.Posting.{ends_of, planned_version}
 use Rattle.buck_book.specs.History.{HistoryParts, IsLawful, Follows, Holds, IsEnd, PricesMeet, prices_at, sheets_with, history_with, first_of}
 use Rattle.buck_book.specs.Book.{IsNext}

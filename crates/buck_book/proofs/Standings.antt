@@ -2,7 +2,7 @@
 use Rattle.std.proofs.Common.{◌≡◌, ℕ, ◌+◌, ◌*◌, ◌<◌, ◌≤◌, inl, inr, List, [], ◌∷◌, ◌++◌, length, take, get_or, slice_index, slice_get, Some, sym, ◌∙◌, ap, subst, arith, mul-le-mul_left}
 use Rattle.std.proofs.lemmas.Grind.{common_steps}
 use Rattle.std.specs.List.{flat_map}
-use Rattle.std.proofs.lemmas.Bool.{cases_order, cases_lt}
+use Rattle.std.proofs.lemmas.Bool.{cases_lt}
 use Rattle.std.proofs.lemmas.List.{get_or_push, get_or_append_left, length_push}
 use Rattle.std.proofs.lemmas.List.Concat.{length-flat_map}
 use Rattle.std.proofs.lemmas.List.Sums.{sum_by_more}
@@ -13,7 +13,7 @@ use denote.Param.Members.{Shared}
 use Rattle.buck_apt.specs.declared.class.Class.{Class}
 use Rattle.buck_apt.specs.Instruction.{InstructionParts, AssortmentParts, IsInstruction, IsAssortment, IsClass, classes, classes_of, classes_before, index_of}
 use Rattle.buck_rule.specs.declared.standing.Standing.{Standing}
-use Rattle.buck_rule.specs.Standing.{IsInRange, cut_share, wanted_share}
+use Rattle.buck_rule.specs.Standing.{IsInRange}
 use Rattle.buck_rule.specs.Relation.{Meets}
 use Rattle.buck_value.specs.Sheet.{base_prices, IsPriceAt, IsInSpan, IsSheetFault}
 use Rattle.buck_value.specs.declared.fault.SheetFault.{SheetFault}

@@ -1,13 +1,12 @@
 -- What is kept along a way through postings, one posting on.
-use Rattle.std.proofs.Common.{◌≡◌, ℕ, ◌+◌, ◌<◌, ◌==◌, cond, [], ◌∷◌, ◌++◌, length, take, slice_get, Some, sym, ◌∙◌, ap, subst, arith}
+use Rattle.std.proofs.Common.{◌≡◌, ℕ, ◌+◌, ◌<◌, ◌==◌, cond, length, slice_get, Some, arith}
 use Rattle.std.proofs.lemmas.List.{length-take-le}
 use Rattle.std.proofs.lemmas.List.Sums.{sum_by_push}
 use Rattle.std.proofs.lemmas.Option.{slice_get_within}
 use Rattle.buck_book.specs.declared.posting.Posting.{Posting}
 use Rattle.buck_book.specs.Posting.{harvester_of}
-use Rattle.buck_book.specs.Counts.{calls_of}
 use Rattle.buck_book.specs.Walk.{WalkParts, walk_of, passed}
-use Rattle.buck_book.specs.inner.Running.{RunningParts, Tells, GoesOn, IsAfter}
+use Rattle.buck_book.specs.inner.Running.{RunningParts, GoesOn, IsAfter}
 use Rattle.buck_book.specs.inner.Walk.{IsWalk}
 use Rattle.buck_book.proofs.Ends.{take_one_more}
 

@@ -1,12 +1,10 @@
 -- what a commit under the lock tells the seat's caller
-use Rattle.std.proofs.Common.{◌≡◌, ℕ, ◌+◌, ◌≤◌, List, [], ◌∷◌, ◌++◌, refl, sym, ap, subst, ◌∙◌, arith}
+use Rattle.std.proofs.Common.{◌≡◌, ℕ, ◌+◌, ◌≤◌, List, [], ◌∷◌, ◌++◌, ap, arith}
 use Rattle.std.proofs.lemmas.Grind.{common_steps}
-use Rattle.buck_value.specs.Sheet.{SheetParts}
 use Rattle.buck_book.specs.declared.posting.Posting.{Posting}
 use Rattle.buck_book.specs.declared.posting.Posting.TheVariants.{Demand}
-use Rattle.buck_book.specs.Posting.{ends_of}
-use Rattle.buck_book.specs.Entry.{EntryParts, DemandParts}
-use Rattle.buck_book.specs.Plan.{PlanParts, IsPlan, plan_of}
+use Rattle.buck_book.specs.Entry.{DemandParts}
+use Rattle.buck_book.specs.Plan.{PlanParts}
 use Rattle.buck_book.specs.History.{HistoryParts, version_of}
 use Rattle.buck_book.specs.Book.{BookParts}
 use Rattle.buck_book.proofs.Ends.{ends-append, ends_with_end}
@@ -36,4 +34,16 @@ of_plan before after s s' p r at = grind (arith, common_steps)
 
 pub reply_to : {F : Type 0} (before after : BookParts F) (s s' : SeatParts) (targets : List ℕ) (r : DemandReply)
     → IsDemandReplyAt before after s s' targets r → IsReplyToTargets s s' targets r
-reply_to before after s s' targets r at = grind (arith, next)
+reply_to before after s s' targets r at =
+    let added = at.added in
+    record {
+      kept = added.kept;
+      own_harvester = ap (λ (d : DemandParts). d.harvester) at.demand_is;
+      same_targets = ap (λ (d : DemandParts). d.targets) at.demand_is;
+      seen = omega (
+        arith,
+        ap (λ (d : DemandParts). d.version) at.demand_is,
+        next before.history after.history _ added.postings_are added.same_instruction,
+        added.seen,
+      );
+    }

@@ -4,12 +4,12 @@ use Rattle.std.proofs.lemmas.Grind.{common_steps}
 use Rattle.std.specs.Prelude.{All, slice_index_or, slice_get, Some}
 use Rattle.std.specs.List.{sum_by}
 use Rattle.buck_apt.specs.Instruction.{InstructionParts}
-use Rattle.buck_value.specs.Sheet.{SheetParts, sheet_of}
+use Rattle.buck_value.specs.Sheet.{SheetParts}
 use Rattle.buck_book.specs.declared.posting.Posting.{Posting}
 use Rattle.buck_book.specs.Posting.{targets_of}
 use Rattle.buck_book.specs.Targets.{AreTargets}
 use Rattle.buck_book.specs.Counts.{AreClassCounts}
-use Rattle.buck_book.specs.History.{HistoryParts, IsLawful, version_of, in_force}
+use Rattle.buck_book.specs.History.{HistoryParts, IsLawful, in_force}
 use Rattle.buck_book.specs.Book.{IsFirst, sheets_from}
 use Rattle.buck_book.proofs.Sheets.{length-sheets_from, get_or-sheets_from}
 use Rattle.buck_fleet.specs.declared.close.CloseFault.{CloseFault}

@@ -222,7 +222,6 @@ impl<F: Fn(&Standing) -> u64 + Drop, L: Ledger> Desk<F, L> {
 
     /// Puts new targets in force for a seat: adds the demand to the history and to the seat's kept list, and raises the
     /// front to the version in force.
-    #[tactic(auto, using(crate::proofs::Keeping::is_added))]
     pub fn retarget<R: Wait>(
         &mut self,
         rt: &R,

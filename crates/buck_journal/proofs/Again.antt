@@ -1,6 +1,5 @@
 -- Items that were written are read again as what was written.
-use Rattle.std.proofs.Common.{◌≡◌, ℕ, ◌+◌, ◌*◌, ◌<◌, ◌≤◌, ◌&&◌, true, List, [], ◌∷◌, ◌++◌, Ok, length, map, refl, ap, subst, arith, codes}
-use Rattle.std.specs.Prelude.{nat_le}
+use Rattle.std.proofs.Common.{◌≡◌, ℕ, ◌+◌, ◌*◌, ◌<◌, ◌≤◌, true, List, [], ◌∷◌, ◌++◌, Ok, length, map, refl, ap, subst, arith, codes}
 use Rattle.std.specs.List.{AllByRecursion, flat_map}
 use Rattle.std.proofs.lemmas.Bool.Decides.{nat_tests}
 use Rattle.buck_record.specs.Item.{ItemParts}
@@ -8,8 +7,8 @@ use Rattle.buck_record.specs.declared.slot.Slot.{Slot}
 use Rattle.buck_record.specs.pass.Cursor.{item_in}
 use Rattle.buck_record.specs.checking.Rules.{slot, within, all_within}
 use Rattle.buck_record.proofs.PassLemmas.{both, within_ok}
-use Rattle.buck_apt.specs.declared.slots.TheConstants.{LENGTHS, TARGETS}
-use Rattle.buck_stem.specs.declared.file.slots.TheConstants.{SPECIES, SAMPLES, STARTS, GRADES, MOST_ZONES}
+use Rattle.buck_apt.specs.declared.slots.TheConstants.{TARGETS}
+use Rattle.buck_stem.specs.declared.file.slots.TheConstants.{SPECIES, SAMPLES, MOST_ZONES}
 use Rattle.buck_stem.specs.file.Stm.{zones_of}
 use Rattle.buck_value.specs.declared.log.Log.{Log}
 use Rattle.buck_book.specs.declared.posting.Posting.{Posting}

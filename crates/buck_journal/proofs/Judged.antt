@@ -4,15 +4,15 @@ use Rattle.std.proofs.lemmas.Grind.{common_steps}
 use Rattle.std.specs.Prelude.{◌-◌, Result, Ok, Err, IfOk, IfErr, OnOk}
 use Rattle.std.specs.Fork.{IsChunk}
 use Rattle.std.specs.Option.{is_some}
-use Rattle.std.proofs.lemmas.Bool.{cases_lt, cases_eq}
-use Rattle.std.proofs.lemmas.Option.{slice_get_within, same_Some}
+use Rattle.std.proofs.lemmas.Bool.{cases_lt}
+use Rattle.std.proofs.lemmas.Option.{slice_get_within}
 use Rattle.buck_book.specs.declared.posting.Posting.{Posting}
 use Rattle.buck_book.specs.declared.posting.Posting.TheVariants.{Cut, Demand}
 use Rattle.buck_book.specs.Posting.{planned_version}
 use Rattle.buck_book.specs.History.{HistoryParts, IsLawful, Follows, Holds, sheet_at}
 use Rattle.buck_journal.specs.declared.judging.fault.ReplayFault.{ReplayFault}
 use Rattle.buck_journal.specs.declared.judging.fault.ReplayFault.TheVariants.{Outvalued, Memory}
-use Rattle.buck_journal.specs.judging.Replay.{version_at, IsRightBefore, IsContentFault, IsPostingFault, IsFaultAtEnd, IsFirstFault}
+use Rattle.buck_journal.specs.judging.Replay.{version_at, IsRightBefore, IsContentFault, IsPostingFault, IsFirstFault}
 use Rattle.buck_journal.specs.inner.Sheets.{IsPriced}
 use Rattle.buck_journal.specs.inner.Replay.{HoldsUnder, IsRightUnder, IsInOrderBefore, IsStopped, IsOrdered, IsOutvalued, IsDoubtful, NoneDoubtful, IsFirstDoubtful, IsFound, AreSameBefore, IsJudged}
 use Rattle.buck_journal.proofs.Replays.{opened, lawful_when}

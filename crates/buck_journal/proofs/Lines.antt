@@ -1,20 +1,20 @@
 -- Lines of a file as they are written, and the items that are read of them.
-use Rattle.std.proofs.Common.{◌≡◌, ℕ, suc, ◌+◌, ◌-◌, ◌<◌, ◌≤◌, ◌^◌, true, false, List, [], ◌∷◌, ◌++◌, All, Some, Ok, get_or, length, drop, filter, map, refl, sym, ap, ◌∙◌, subst, arith, append_assoc, codes, rules}
+use Rattle.std.proofs.Common.{◌≡◌, ℕ, ◌+◌, ◌-◌, ◌<◌, ◌≤◌, ◌^◌, true, false, List, [], ◌∷◌, ◌++◌, All, Some, Ok, get_or, length, filter, map, refl, sym, ap, ◌∙◌, subst, arith, append_assoc, codes, rules}
 use Rattle.std.proofs.lemmas.Grind.{common_steps}
-use Rattle.std.specs.List.{slice_split, flat_map, AllByRecursion, suffix_len, prefix_len}
+use Rattle.std.specs.List.{slice_split, flat_map, AllByRecursion}
 use Rattle.std.specs.Char.{is_ascii_digit}
 use Rattle.std.specs.Fmt.{decimal}
 use Rattle.std.proofs.lemmas.Fmt.{digits_decimal, decimal_nonempty}
 use Rattle.std.proofs.lemmas.Bool.{cond-true, lt-ltb}
 use Rattle.std.proofs.lemmas.Bool.Decides.{nat_tests}
-use Rattle.std.proofs.lemmas.List.{append-nil, get_or-append-add, take_all, length-append}
+use Rattle.std.proofs.lemmas.List.{append-nil, take_all}
 use Rattle.std.proofs.lemmas.List.Elements.{All-append, All-cons, All-nil, All-from_recursion}
 use Rattle.std.proofs.lemmas.List.Splits.{slice_split_at}
 use Rattle.std.proofs.lemmas.List.Sums.{AllPass-from_list_all, suffix_len_is}
 use Rattle.buck_record.specs.Item.{ItemParts}
 use Rattle.buck_record.specs.bytes.White.{is_white, is_filled, trim, trim_start, trim_end, first_word, after_word, words}
 use Rattle.buck_record.specs.Reading.{each_from}
-use Rattle.buck_record.specs.bytes.Record.{number_at_most, is_tilde, filled_parts, pieces, item_of, items_of, numbers_of, number_of}
+use Rattle.buck_record.specs.bytes.Record.{number_at_most, is_tilde, filled_parts, item_of, items_of, numbers_of, number_of}
 use Rattle.buck_record.specs.writing.Written.{spelled}
 use Rattle.buck_record.proofs.NumberLemmas.{numeral}
 use Rattle.buck_record.proofs.RoundLemmas.{number-decimal, numbers_again, words-spelled}
@@ -49,7 +49,7 @@ module _ (n : ℕ) (lt : n < 2 ^ 64) where
   starts_decimal = (decimal_nonempty n lt, digit_dark (get_or (decimal n) 0 0) (digits 0 (decimal_nonempty n lt)))
 
   plain_decimal : All IsPlain (decimal n)
-  plain_decimal  = grind (arith, common_steps, digit_plain, digits_decimal, numeral)
+  plain_decimal = grind (arith, common_steps, digit_plain, digits_decimal, numeral)
 
 ends_append : (xs zs : List ℕ) → EndsDark zs → EndsDark (xs ++ zs)
 ends_append xs zs h = grind (arith, common_steps)

@@ -19,8 +19,7 @@ use Rattle.buck_book.proofs.Standings.{meets_within, no_fault}
 use Rattle.buck_book.proofs.Alone.{ClassAt, class_at, base_alone, meets_to_alone}
 use Rattle.buck_journal.specs.declared.judging.fault.ReplayFault.{ReplayFault}
 use Rattle.buck_journal.specs.declared.judging.stop.Stop.{Stop}
-use Rattle.buck_journal.specs.declared.judging.stop.Stop.TheVariants as stop
-use Rattle.buck_journal.specs.judging.Replay.{version_at, Begins, IsSheetRight, IsSheetFault, IsRightBefore, IsPostingFault}
+use Rattle.buck_journal.specs.judging.Replay.{version_at, Begins, IsSheetRight, IsSheetFault, IsRightBefore}
 use Rattle.buck_journal.specs.inner.Replay.{along, sheet_then, IsRightUnder, AreRightUnder, IsMetUnder, IsInOrderBefore, IsMetInOrder, IfMet, IsEndRight}
 
 -- prices that keep the price relation somewhere lie within their spans, and make a sheet

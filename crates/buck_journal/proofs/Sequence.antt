@@ -1,20 +1,18 @@
 -- How many items a journal has.
-use Rattle.std.proofs.Common.{◌≡◌, ℕ, zero, suc, ◌+◌, ◌&&◌, ◌||◌, ◌==◌, Bool, true, false, List, [], ◌∷◌, Option, Some, None, Result, Ok, Err, inl, inr, length, drop, slice_get, sum_by, refl, sym, ap, ◌∙◌, subst, arith, codes}
+use Rattle.std.proofs.Common.{◌≡◌, ℕ, zero, suc, ◌+◌, Bool, true, false, List, [], ◌∷◌, Option, Some, None, Result, Ok, Err, inl, inr, length, drop, slice_get, sum_by, refl, sym, ap, ◌∙◌, subst, arith}
 use Rattle.std.proofs.lemmas.Grind.{common_steps}
 use Rattle.std.specs.Prelude.{if◌then◌else◌}
-use Rattle.std.specs.Str.{bytes_eq}
-use Rattle.std.proofs.lemmas.Bool.{eqb-true, ne_eqb, cases_Bool}
+use Rattle.std.proofs.lemmas.Bool.{cases_Bool}
 use Rattle.std.proofs.lemmas.List.Sums.{sum_by-cons}
 use Rattle.buck_record.specs.Item.{ItemParts}
-use Rattle.buck_record.specs.checking.Check.{◌>>=◌, check}
-use Rattle.buck_record.specs.Reading.{with_fault}
+use Rattle.buck_record.specs.checking.Check.{◌>>=◌}
 use Rattle.buck_record.specs.bytes.Record.{items_of}
 use Rattle.buck_record.specs.checking.Table.{is_at}
-use Rattle.buck_record.specs.checking.Rules.{slot, file_slot}
+use Rattle.buck_record.specs.checking.Rules.{slot}
 use Rattle.buck_record.proofs.PassLemmas.{both, check_ok}
 use Rattle.buck_book.specs.declared.posting.Posting.{Posting}
 use Rattle.buck_journal.specs.declared.reading.fault.JournalFault.{JournalFault}
-use Rattle.buck_journal.specs.declared.reading.fault.JournalFault.TheVariants.{Head, NotJournal, Shape}
+use Rattle.buck_journal.specs.declared.reading.fault.JournalFault.TheVariants.{Shape}
 use Rattle.buck_journal.specs.reading.Journal.{JournalParts, wanted, rest_at, numbers_at, sheet_at, call_at, head_at, samples_at, zones_at, stem_at, logs_at, worth_at, targets_at, is_first, follows, posting_follows, cut_at, demand_at, posting_at, sheets_from, postings_from, says_journal, journal_in, journal_of, number_of_items}
 use Rattle.buck_journal.specs.inner.Plain.{Stands, begins}
 use Rattle.buck_journal.proofs.OnePass.{ok_of, next_stands, first_stands}

@@ -1,11 +1,8 @@
 -- Numbers two and three at a time.
-use Rattle.std.proofs.Common.{◌≡◌, ℕ, ◌+◌, ◌<◌, ◌≤◌, ◌&&◌, true, List, [], ◌∷◌, length, drop, get_or, refl, sym, ap, ◌∙◌, arith, drop-cons, add-one}
+use Rattle.std.proofs.Common.{◌≡◌, ℕ, ◌+◌, ◌<◌, ◌≤◌, ◌&&◌, true, List, [], ◌∷◌, length, drop, get_or, sym, ap, ◌∙◌, arith, drop-cons, add-one}
 use Rattle.std.proofs.lemmas.Grind.{common_steps}
 use Rattle.std.proofs.lemmas.Bool.Decides.{nat_tests}
-use Rattle.buck_record.specs.checking.Rules.{within}
-use Rattle.buck_record.proofs.PassLemmas.{both, within_ok}
-use Rattle.buck_apt.specs.declared.slots.TheConstants.{LENGTHS}
-use Rattle.buck_stem.specs.declared.file.slots.TheConstants.{STARTS, GRADES}
+use Rattle.buck_record.proofs.PassLemmas.{both}
 use Rattle.buck_stem.specs.file.Stm.{zones_of}
 use Rattle.buck_journal.specs.reading.Journal.{is_zone, are_zones, is_log, are_logs, logs_of}
 

@@ -1,5 +1,5 @@
 -- What a commit of the book leaves, as the world sees it.
-use Rattle.std.proofs.Common.{◌≡◌, ◌≢◌, inr, ℕ, ◌+◌, ◌-◌, List, [], ◌∷◌, ◌++◌, slice_set, Option, sym, ap, subst, ◌∙◌, arith, rules}
+use Rattle.std.proofs.Common.{◌≡◌, ◌≢◌, ℕ, ◌+◌, ◌-◌, List, [], ◌∷◌, ◌++◌, slice_set, Option, ap, ◌∙◌, arith, rules}
 use Rattle.buck_value.specs.Sheet.{SheetParts}
 use Rattle.buck_book.specs.declared.posting.Posting.{Posting}
 use Rattle.buck_book.specs.Plan.{PlanParts}

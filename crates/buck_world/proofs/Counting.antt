@@ -1,18 +1,13 @@
 -- What is counted along runs.
-use Rattle.std.proofs.Common.{◌≡◌, ◌≢◌, inl, ⊎_elim, inr, ℕ, zero, suc, ◌+◌, ◌-◌, ◌*◌, ◌<◌, ◌≤◌, List, [], ◌∷◌, Bool, cond, length, get_or, set, sym, refl, ap, subst, ◌∙◌, eq-eqb, ne_eqb, lt-ltb, le-ltb, arith, mul-le-mul_left, rules}
+use Rattle.std.proofs.Common.{◌≡◌, ◌≢◌, inl, inr, ℕ, zero, suc, ◌+◌, ◌-◌, ◌*◌, ◌<◌, ◌≤◌, List, [], ◌∷◌, Bool, cond, length, set, sym, refl, ap, subst, ◌∙◌, eq-eqb, ne_eqb, arith, mul-le-mul_left, rules}
 use Rattle.std.proofs.lemmas.Grind.{common_steps}
 use Rattle.std.proofs.lemmas.Bool.{cases_eq}
 use Rattle.std.proofs.lemmas.Bool.Decides.{nat_tests}
-use Rattle.buck_book.specs.declared.posting.Posting.TheVariants.{Cut}
 use Rattle.buck_book.specs.History.{version_of}
-use Rattle.buck_book.specs.Book.{entry_of}
-use Rattle.buck_world.specs.declared.stage.Stage.{Stage}
-use Rattle.buck_world.specs.declared.stage.Stage.TheVariants.{Idle}
 use Rattle.buck_world.specs.declared.harvester.Harvester.{Harvester}
 use Rattle.buck_world.specs.declared.event.Event.{Event}
-use Rattle.buck_world.specs.declared.event.Event.TheVariants.{Read, Plan, Try, Locked, Retarget, Raise, Leave}
-use Rattle.buck_world.specs.World.{WorldParts, newcomer, IsHarvester, at, with_harvester}
-use Rattle.buck_world.specs.Step.{Adds, Step}
+use Rattle.buck_world.specs.World.{WorldParts, IsHarvester, at}
+use Rattle.buck_world.specs.Step.{Step}
 use Rattle.buck_world.specs.Run.{Move, IsRun, last, harvester_of_event}
 use Rattle.buck_world.specs.Counts.{IsFreshAt, IsFresh, one_if_more, lift_at, stale_at, if_by, count_all, count_own, all_lifts, lifts_of, all_stale, stale_of}
 use Rattle.buck_world.specs.inner.Sound.{IsGoing, IsSound}

@@ -1,8 +1,7 @@
 -- The three things that a step may do: one harvester alone changes, a posting is added, or the front is raised.
-use Rattle.std.proofs.Common.{◌≡◌, ◌≢◌, ◌⊎◌, inl, inr, ⊎_elim, ℕ, ◌+◌, ◌<◌, ◌≤◌, ◌-◌, set, Option, sym, refl, ap, subst, arith, le_refl, le_trans}
+use Rattle.std.proofs.Common.{◌≡◌, ◌≢◌, ◌⊎◌, inl, inr, ⊎_elim, ℕ, ◌+◌, ◌<◌, ◌≤◌, ◌-◌, set, Option, sym, refl, subst, arith, le_refl}
 use Rattle.std.proofs.lemmas.Grind.{common_steps}
 use Rattle.buck_value.specs.Sheet.{SheetParts}
-use Rattle.buck_dp.specs.Best.{IsBest, cutting_worth}
 use Rattle.buck_book.specs.declared.posting.Posting.{Posting}
 use Rattle.buck_book.specs.declared.posting.Posting.TheVariants.{Cut, Demand}
 use Rattle.buck_book.specs.Posting.{harvester_of}
@@ -16,7 +15,7 @@ use Rattle.buck_world.specs.declared.harvester.Harvester.{Harvester}
 use Rattle.buck_world.specs.declared.event.Event.{Event}
 use Rattle.buck_world.specs.declared.event.Event.TheVariants.{Read, Plan, Try, Locked, Retarget, Raise, Leave}
 use Rattle.buck_world.specs.World.{WorldParts, IsHarvester, at, IsAnswered, NobodyAnswered, with_harvester, with_posting, with_front}
-use Rattle.buck_world.specs.Step.{IsPlanUnder, Adds, Allowed, Step, IsIdleOrReading}
+use Rattle.buck_world.specs.Step.{IsPlanUnder, Adds, Allowed, Step}
 use Rattle.buck_world.specs.Kept.{IsFit}
 use Rattle.buck_world.specs.Run.{harvester_of_event}
 use Rattle.buck_world.specs.inner.Sound.{IsGoing, IsSound}

@@ -1,7 +1,6 @@
 -- What a harvester has seen never falls, and what is added along a run.
-use Rattle.std.proofs.Common.{◌≡◌, ◌≢◌, ⊎_elim, inl, inr, ℕ, ◌+◌, ◌≤◌, List, [], ◌∷◌, ◌++◌, length, drop, slice_get, Some, sym, refl, ap, subst, ◌∙◌, append_assoc, append-nil, arith, le_refl, le_trans}
+use Rattle.std.proofs.Common.{◌≡◌, ◌≢◌, ⊎_elim, inl, inr, ℕ, ◌+◌, ◌≤◌, List, [], ◌∷◌, ◌++◌, slice_get, Some, sym, refl, ap, subst, ◌∙◌, append_assoc, append-nil, arith, le_refl, le_trans}
 use Rattle.std.proofs.lemmas.Grind.{common_steps}
-use Rattle.std.proofs.Math.Seq.{drop-append_seam}
 use Rattle.std.proofs.lemmas.Bool.{cases_eq}
 use Rattle.buck_book.specs.declared.posting.Posting.{Posting}
 use Rattle.buck_book.specs.declared.posting.Posting.TheVariants.{Cut}
@@ -9,15 +8,14 @@ use Rattle.buck_book.specs.Posting.{harvester_of, planned_version}
 use Rattle.buck_book.specs.Plan.{PlanParts}
 use Rattle.buck_book.specs.History.{version_of, in_force, sheet_at}
 use Rattle.buck_book.specs.Book.{entry_of}
-use Rattle.buck_world.specs.declared.stage.Stage.TheVariants.{Idle, Reading, Planned, Answered}
+use Rattle.buck_world.specs.declared.stage.Stage.TheVariants.{Idle, Reading, Planned}
 use Rattle.buck_world.specs.declared.harvester.Harvester.{Harvester}
 use Rattle.buck_world.specs.declared.event.Event.{Event}
-use Rattle.buck_world.specs.declared.event.Event.TheVariants.{Read, Plan, Try, Locked, Retarget, Raise, Leave}
+use Rattle.buck_world.specs.declared.event.Event.TheVariants.{Read, Try}
 use Rattle.buck_world.specs.World.{WorldParts, IsHarvester, at, with_harvester}
 use Rattle.buck_world.specs.Step.{IsPlanUnder, Adds, Step}
-use Rattle.buck_world.specs.Run.{Move, IsRun, last, harvester_of_event, more_than, added_at, added}
+use Rattle.buck_world.specs.Run.{Move, IsRun, last, harvester_of_event, added_at, added}
 use Rattle.buck_world.specs.inner.Sound.{IsSound}
-use Rattle.buck_world.proofs.Moves.{is_in, changed}
 use Rattle.buck_world.proofs.Sound.{stays_sound, run_sound}
 use Rattle.buck_world.proofs.Kept.{same_number}
 use Rattle.buck_world.proofs.Counting.{at_here, foreign}

@@ -1,9 +1,9 @@
 -- What holds of each world that a run reaches.
-use Rattle.std.proofs.Common.{◌≡◌, ◌≢◌, ⊎_elim, inl, inr, ℕ, ◌+◌, ◌-◌, ◌<◌, ◌≤◌, List, [], ◌∷◌, length, length-set, get_or, set, slice_get, replicate, Option, Some, None, sym, refl, ap, subst, ◌∙◌, arith, le_refl, le_trans}
+use Rattle.std.proofs.Common.{◌≡◌, ◌≢◌, ⊎_elim, inl, inr, ℕ, ◌+◌, ◌-◌, ◌<◌, ◌≤◌, List, [], ◌∷◌, length, length-set, get_or, set, slice_get, Option, Some, None, sym, refl, ap, subst, ◌∙◌, arith, le_refl, le_trans}
 use Rattle.std.proofs.lemmas.List.{get_or-replicate, length-replicate, length_push}
 use Rattle.std.proofs.lemmas.Bool.{cases_eq}
 use Rattle.buck_apt.specs.Instruction.{InstructionParts}
-use Rattle.buck_value.specs.Sheet.{SheetParts, sheet_of}
+use Rattle.buck_value.specs.Sheet.{SheetParts}
 use Rattle.buck_book.specs.declared.posting.Posting.{Posting}
 use Rattle.buck_book.specs.Posting.{harvester_of, planned_version}
 use Rattle.buck_book.specs.Plan.{PlanParts}
@@ -16,7 +16,7 @@ use Rattle.buck_world.specs.World.{WorldParts, newcomer, opening, IsHarvester, a
 use Rattle.buck_world.specs.Step.{IsPlanUnder, Step}
 use Rattle.buck_world.specs.Kept.{IsFit, IsWorld}
 use Rattle.buck_world.specs.Run.{Move, IsRun, last, harvester_of_event}
-use Rattle.buck_world.specs.inner.Sound.{IsGoing, IsPlaced, IsSound}
+use Rattle.buck_world.specs.inner.Sound.{IsPlaced, IsSound}
 use Rattle.buck_world.proofs.Lists.{here, elsewhere, each_of, after_set}
 use Rattle.buck_world.proofs.Moves.{IsQuiet, IsAdded, IsRaised, move_of, is_in}
 

@@ -8,7 +8,7 @@ use Rattle.buck_book.specs.Targets.{AreTargets}
 use Rattle.buck_book.specs.History.{HistoryParts, sheet_at, version_of}
 use Rattle.buck_book.specs.Book.{entry_of, demand_of, IsNext}
 use Rattle.buck_world.specs.declared.stage.Stage.{Stage}
-use Rattle.buck_world.specs.declared.stage.Stage.TheVariants.{Idle, Reading, Planned, Answered}
+use Rattle.buck_world.specs.declared.stage.Stage.TheVariants.{Idle, Reading, Planned}
 use Rattle.buck_world.specs.declared.event.Event.{Event}
 use Rattle.buck_world.specs.declared.event.Event.TheVariants.{Read, Plan, Try, Locked, Retarget, Raise, Leave}
 use Rattle.buck_world.specs.World.{WorldParts, IsHarvester, at, IsAnswered, NobodyAnswered, with_harvester, with_posting, with_front}

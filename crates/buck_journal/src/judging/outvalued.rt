@@ -74,10 +74,7 @@ fn is_doubtful(
 }
 
 /// The first of some postings that is doubtful, by its place: outvalued under the sheet of its version, or without one.
-#[tactic(
-    auto,
-    using(std::proofs::lemmas::Option::slice_get_read, crate::proofs::Judged::none_more)
-)]
+#[tactic(auto, using(std::proofs::lemmas::Option::slice_get_read, crate::proofs::Judged::none_more))]
 pub(crate) fn first_doubtful(
     alloc: Global,
     case: &Case<'_, '_>,

@@ -4,7 +4,7 @@ use Rattle.buck_book.specs.declared.posting.Posting.{Posting}
 use Rattle.buck_book.specs.Posting.{harvester_of, planned_version}
 use Rattle.buck_book.specs.History.{HistoryParts, version_of}
 use Rattle.buck_world.specs.declared.stage.Stage.{Stage}
-use Rattle.buck_world.specs.declared.stage.Stage.TheVariants.{Idle, Reading, Planned, Answered}
+use Rattle.buck_world.specs.declared.stage.Stage.TheVariants.{Reading, Planned, Answered}
 use Rattle.buck_world.specs.declared.harvester.Harvester.{Harvester}
 use Rattle.buck_world.specs.World.{WorldParts, IsHarvester, at}
 use Rattle.buck_world.specs.Kept.{IsWorld, RuledWorld, IsKept}

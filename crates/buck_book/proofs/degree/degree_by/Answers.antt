@@ -1,4 +1,4 @@
-use Rattle.std.proofs.Common.{◌≡◌, ◌*◌, ◌/◌, ◌≤◌, sum, ◌∙◌, arith}
+use Rattle.std.proofs.Common.{◌≡◌, sum, ◌∙◌, arith}
 use Rattle.std.proofs.Math.Nat.{mul-le-mul}
 use Rattle.buck_book.specs.Degree.{shared_of}
 use Rattle.buck_book.proofs.Degrees.{shared_low, degree_low}

@@ -1,7 +1,5 @@
-use Rattle.std.proofs.Common.{◌≡◌, ◌≤◌, sum, take, drop, slice_get, Some, sym, ◌∙◌, ap, arith}
+use Rattle.std.proofs.Common.{arith}
 use Rattle.std.proofs.lemmas.Option.{slice_get-get_or}
-use Rattle.buck_apt.specs.Instruction.{classes_of}
-use Rattle.buck_book.specs.Targets.{targets_sum}
 use Rattle.buck_book.proofs.Standings.{before_next}
 use Rattle.buck_book.proofs.Wanted.{low_more}
 use Rattle.buck_book.proofs.targets.first_sum_above.Goals as goal

@@ -1,6 +1,6 @@
-use Rattle.std.proofs.Common.{refl, arith, rules}
+use Rattle.std.proofs.Common.{arith, rules}
 use Rattle.std.proofs.lemmas.List.{length-replicate}
-use Rattle.buck_world.specs.World.{opening, newcomer}
+use Rattle.buck_world.specs.World.{opening}
 use Rattle.buck_world.proofs.Sound.{run_sound, opening_sound}
 use Rattle.buck_world.proofs.Counting.{lifts_are_front, stale_and_lifts, all_stale_within}
 use Rattle.buck_world.proofs.laws.every_fresh_run.Goals as goal

@@ -1,4 +1,4 @@
-use Rattle.std.proofs.Common.{arith, rules}
+use Rattle.std.proofs.Common.{rules}
 use Rattle.buck_world.specs.World.{opening}
 use Rattle.buck_world.proofs.Sound.{run_sound, opening_sound}
 use Rattle.buck_world.proofs.Rising.{run_added, run_instruction, no_old_plan}

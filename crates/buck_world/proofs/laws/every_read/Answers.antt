@@ -1,4 +1,3 @@
-use Rattle.std.proofs.Common.{arith, rules}
 use Rattle.buck_world.specs.World.{opening}
 use Rattle.buck_world.proofs.Sound.{opening_sound}
 use Rattle.buck_world.proofs.Rising.{reads_never_fall, reads_after_replies}

@@ -2,7 +2,6 @@ use Rattle.std.proofs.Common.{◌+◌, sym, ◌∙◌, ap, arith}
 use Rattle.std.proofs.lemmas.Grind.{common_steps}
 use Rattle.buck_book.specs.declared.posting.Posting.TheVariants.{Cut}
 use Rattle.buck_book.specs.Book.{ReadyParts, entry_of}
-use Rattle.buck_book.specs.History.{sheets_with}
 use Rattle.buck_book.proofs.Books.{goes_on, keeps_more, entry_follows, entry_after}
 use Rattle.buck_book.proofs.book.Book.commit.Goals as goal
 

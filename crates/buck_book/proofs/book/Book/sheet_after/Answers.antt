@@ -1,6 +1,5 @@
-use Rattle.std.proofs.Common.{◌++◌, ◌∷◌, [], ◌∙◌, ap, subst, arith}
+use Rattle.std.proofs.Common.{◌∙◌, ap, arith}
 use Rattle.buck_book.specs.Book.{BookParts}
-use Rattle.buck_book.specs.Pricing.{AreAnswers}
 use Rattle.std.proofs.lemmas.Result.{IfOk-weaker}
 use Rattle.buck_book.proofs.Told.{prices_can}
 use Rattle.buck_book.proofs.Books.{is_next_sheet, next_answers}

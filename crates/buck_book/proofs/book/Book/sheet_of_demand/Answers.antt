@@ -2,7 +2,6 @@ use Rattle.std.proofs.Common.{refl, ap, arith}
 use Rattle.std.proofs.lemmas.Result.{IfOk-weaker}
 use Rattle.buck_book.specs.declared.posting.Posting.TheVariants.{Demand}
 use Rattle.buck_book.specs.Book.{demand_of}
-use Rattle.buck_book.specs.inner.Running.{RunningParts}
 use Rattle.buck_book.proofs.Told.{version_low}
 use Rattle.buck_book.proofs.Books.{passed_demand}
 use Rattle.buck_book.proofs.book.Book.sheet_of_demand.Goals as goal

@@ -1,4 +1,4 @@
-use Rattle.std.proofs.Common.{length, ap, arith}
+use Rattle.std.proofs.Common.{arith}
 use Rattle.buck_book.proofs.Counting.{none_counted, none_low}
 use Rattle.buck_book.proofs.counts.Counts.none.Goals as goal
 

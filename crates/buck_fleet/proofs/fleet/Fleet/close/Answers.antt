@@ -1,7 +1,5 @@
-use Rattle.std.proofs.Common.{rules, ℕ, ap, subst, ◌∙◌, arith}
+use Rattle.std.proofs.Common.{rules, arith}
 use Rattle.std.proofs.lemmas.Grind.{common_steps}
-use Rattle.buck_fleet.specs.Fleet.{FleetParts}
-use Rattle.buck_fleet.specs.Closed.{IsHandedOut}
 use Rattle.buck_fleet.proofs.Counted.{fault_at}
 use Rattle.buck_fleet.proofs.fleet.Fleet.close.Goals as goal
 

@@ -1,4 +1,4 @@
-use Rattle.std.proofs.Common.{◌+◌, ◌*◌, ◌∙◌, Some, None, sym, ap, arith}
+use Rattle.std.proofs.Common.{◌+◌, ◌*◌, ◌∙◌, None, sym, ap, arith}
 use Rattle.std.specs.Prelude.{Ok}
 use Rattle.buck_journal.specs.inner.Replay.{IsFound}
 use Rattle.buck_journal.proofs.Judged.{told, get_chunk, first_in_part, none_in_part}

@@ -1,6 +1,4 @@
-use Rattle.std.proofs.Common.{◌≡◌, ◌∙◌, length, take, slice_get, ap, subst, arith}
-use Rattle.std.specs.Prelude.{IfOk}
-use Rattle.buck_book.specs.Walk.{walk_of}
+use Rattle.std.proofs.Common.{◌∙◌, take, slice_get, ap, subst, arith}
 use Rattle.buck_journal.specs.judging.Replay.{history_of}
 use Rattle.buck_journal.specs.inner.Replay.{IsJudged}
 use Rattle.buck_journal.proofs.Judged.{get_taken, judged_cases, told_end}

@@ -1,4 +1,4 @@
-use Rattle.std.proofs.Common.{◌+◌, ◌∙◌, Ok, Some, None, length, subst, ap, arith}
+use Rattle.std.proofs.Common.{◌∙◌, Ok, None, subst, ap, arith}
 use Rattle.buck_journal.specs.reading.Journal.{JournalParts}
 use Rattle.buck_journal.specs.judging.Replay.{history_of}
 use Rattle.buck_journal.specs.inner.Replay.{IsOrdered, IsFound}

@@ -1,9 +1,6 @@
-use Rattle.std.proofs.Common.{rules, ◌≡◌, ◌++◌, ◌≤◌, IsTrue, All, Ok, get_or, sym, ap, ◌∙◌, subst, arith}
+use Rattle.std.proofs.Common.{arith}
 use Rattle.std.proofs.lemmas.Bool.{le-leb, and_from}
 use Rattle.std.proofs.lemmas.List.Sums.{list_all-from_AllPass}
-use Rattle.buck_record.specs.bytes.Record.{numbers_of}
-use Rattle.buck_record.specs.checking.Rules.{within}
-use Rattle.buck_stem.specs.declared.file.slots.TheConstants.{SAMPLES}
 use Rattle.buck_journal.proofs.OnePass.{samples_read}
 use Rattle.buck_journal.proofs.reading.plain.next_samples.Goals as goal
 
