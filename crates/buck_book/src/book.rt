@@ -461,6 +461,26 @@ impl<F: Fn(&Standing) -> u64> Book<F> {
         self.sheet_after(alloc, &after)
     }
 
+    /// What the commit of a plan under the sheet in force stores or hands out. The room that it needs is made.
+    fn ready_for(&mut self, alloc: Global, plan: &Plan) -> Result<Ready, Memory>
+        requires answers { Answers F.Fn self.old.rule }
+        requires below { length self.old.history.postings < self.old.capacity }
+        requires in_force { plan.now.sheet ≡ in_force self.old.history }
+        ensures content { SameContent self.old self.new }
+        ensures ready { IfOk result (λ r. IsReadyFor self.new r plan.now) }
+        ensures given { IfOk result (λ r. IfSome r.next (λ s.
+            AreAnswersWith F.Fn self.old.rule self.old.history plan.now s.prices)) }
+    {
+        let next = self.next_sheet(alloc, plan)?;
+        let ready = Ready {
+            stem: plan.stem().clone()?,
+            cutting: plan.cutting().clone()?,
+            next,
+        };
+        self.reserve()?;
+        Ok(ready)
+    }
+
     /// Prepares the commit of a plan: makes all that the commit stores or hands out, with the next sheet where the
     /// plan's entry ends a period, and the room that it needs in the book's lists. The content stays as it was.
     /// Refused as `Full` at the capacity, else as `Stale` where the plan's sheet isn't the one in force, and as
@@ -480,14 +500,24 @@ impl<F: Fn(&Standing) -> u64> Book<F> {
             let in_force = self.sheet().clone()?;
             return Err(Refusal::Stale { in_force });
         }
-        let next = self.next_sheet(alloc, plan)?;
-        let ready = Ready {
-            stem: plan.stem().clone()?,
-            cutting: plan.cutting().clone()?,
-            next,
-        };
-        self.reserve()?;
-        Ok(ready)
+        Ok(self.ready_for(alloc, plan)?)
+    }
+
+    /// [`prepare`](Book::prepare) of a plan that is known to be under the sheet in force, as where nobody else commits:
+    /// no sheets are compared, and it is never `Stale`.
+    pub fn prepare_in_force(&mut self, alloc: Global, plan: &Plan) -> Result<Ready, Refusal>
+        requires answers { Answers F.Fn self.old.rule }
+        requires in_force { plan.now.sheet ≡ in_force self.old.history }
+        ensures content { SameContent self.old self.new }
+        ensures ready { IfOk result (λ r. IsReadyFor self.new r plan.now) }
+        ensures given { IfOk result (λ r. IfSome r.next (λ s.
+            AreAnswersWith F.Fn self.old.rule self.old.history plan.now s.prices)) }
+        ensures refused { IfErr result (IsRefusal self.old plan.now) }
+    {
+        if self.is_full() {
+            return Err(Refusal::Full);
+        }
+        Ok(self.ready_for(alloc, plan)?)
     }
 
     /// Prepares the commit of a demand: makes all that the commit stores or hands out, with the next sheet, and the

@@ -87,7 +87,7 @@ fn commit<F: Fn(&Standing) -> u64 + Drop>(
     ensures full { IfErr result (λ e. e ≡ CutRefusal.Full → IsFull book.old) }
 {
     let _best = plan.worth();
-    match book.prepare(alloc, &plan) {
+    match book.prepare_in_force(alloc, &plan) {
         Ok(ready) => Ok(book.commit(ready, harvester, plan)),
         Err(Refusal::Stale { .. }) => unreachable!(),
         Err(Refusal::Full) => Err(CutRefusal::Full),

@@ -66,7 +66,7 @@ fn prepared<F: Fn(&Standing) -> u64 + Drop>(
     ensures ready { IfOk result (λ r. IsReadyFor book.new r plan.now) }
     ensures refused { IfErr result (IsCommitFault book.old) }
 {
-    match book.prepare(alloc, plan) {
+    match book.prepare_in_force(alloc, plan) {
         Ok(ready) => Ok(ready),
         Err(Refusal::Stale { .. }) => unreachable!(),
         Err(Refusal::Full) => Err(EngineFault::Full),

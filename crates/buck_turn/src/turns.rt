@@ -53,7 +53,7 @@ fn cut<F: Fn(&Standing) -> u64 + Drop>(
 {
     let _lawful = book.entries();
     let plan = plan(alloc, book, planner, stem)?;
-    match book.prepare(alloc, &plan) {
+    match book.prepare_in_force(alloc, &plan) {
         Ok(ready) => {
             let _ = book.commit(ready, harvester, plan);
             Ok(())

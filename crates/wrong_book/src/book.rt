@@ -105,6 +105,16 @@ pub fn capacity_less_one<F: Drop>(book: &Book<F>)
     prove!(right != wrong);
 }
 
+/// A book that is given another rule begins anew.
+pub fn other_rule_begins_anew<F: Drop>(book: Book<F>)
+    requires { 0 < length book.history.postings }
+{
+    let changed = book.with_rule(Rule::none());
+    let right = changed.len();
+    let wrong = 0;
+    prove!(right != wrong);
+}
+
 /// The targets in force are those of the instruction, whatever was demanded.
 pub fn targets_of_the_opening<F: Drop>(book: &Book<F>, wrong: &[u32])
     requires wrong { wrong.now ≡ opening_targets book.now.history.instruction }
@@ -152,6 +162,52 @@ pub fn prepare_past_capacity<F: Fn(&Standing) -> u64 + Drop>(
     requires full { length book.old.history.postings ≡ book.old.capacity }
 {
     let right = book.prepare(alloc, plan).is_ok();
+    let wrong = true;
+    prove!(right != wrong);
+}
+
+/// A full book prepares one plan more, which is under the sheet in force.
+pub fn in_force_past_capacity<F: Fn(&Standing) -> u64 + Drop>(
+    alloc: Global,
+    book: &mut Book<F>,
+    plan: &Plan,
+)
+    requires answers { Answers F.Fn book.old.rule }
+    requires in_force { plan.now.sheet ≡ in_force book.old.history }
+    requires full { length book.old.history.postings ≡ book.old.capacity }
+{
+    let right = book.prepare_in_force(alloc, plan).is_ok();
+    let wrong = true;
+    prove!(right != wrong);
+}
+
+/// A plan that is under the sheet in force is refused as stale.
+pub fn in_force_is_stale<F: Fn(&Standing) -> u64 + Drop>(
+    alloc: Global,
+    book: &mut Book<F>,
+    plan: &Plan,
+)
+    requires answers { Answers F.Fn book.old.rule }
+    requires in_force { plan.now.sheet ≡ in_force book.old.history }
+{
+    let refused = book.prepare_in_force(alloc, plan);
+    let right = matches!(&refused, Err(Refusal::Stale { in_force: _ }));
+    let wrong = true;
+    prove!(right != wrong);
+}
+
+/// A book below its capacity refuses a plan under the sheet in force as full.
+pub fn in_force_full_below_the_capacity<F: Fn(&Standing) -> u64 + Drop>(
+    alloc: Global,
+    book: &mut Book<F>,
+    plan: &Plan,
+)
+    requires answers { Answers F.Fn book.old.rule }
+    requires in_force { plan.now.sheet ≡ in_force book.old.history }
+    requires below { length book.old.history.postings < book.old.capacity }
+{
+    let refused = book.prepare_in_force(alloc, plan);
+    let right = matches!(&refused, Err(Refusal::Full));
     let wrong = true;
     prove!(right != wrong);
 }

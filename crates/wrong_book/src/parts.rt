@@ -1,7 +1,8 @@
 //! Wrong answers of a replay in parts.
-ghost use Rattle.std.specs.Prelude.{◌≡◌, ◌-◌, ◌<◌, ◌≤◌, length, slice_get, Some};
+ghost use Rattle.std.specs.Prelude.{◌≡◌, ◌-◌, ◌<◌, ◌≤◌, length, slice_get, Some, take};
 ghost use Rattle.buck_dp.specs.Best.{IsAdmissible, cutting_worth};
 ghost use Rattle.buck_book.specs.History.{sheet_at};
+ghost use Rattle.buck_journal.specs.judging.Replay.{IsNumbered};
 
 use buck_apt::Instruction;
 use buck_book::{Entry, Posting};
@@ -57,6 +58,59 @@ pub fn later_part_told_first<T: Threads + Sync>(
         return;
     };
     let ReplayFault::Outvalued { at } = fault else {
+        return;
+    };
+    let is_wrong = at > first;
+    prove!(!is_wrong);
+}
+
+/// What the search found is told, whatever the way in order found: a cut that is outvalued, at a posting of a wrong
+/// number or behind it.
+pub fn outvalued_told_past_a_wrong_number<T: Threads + Sync>(
+    rt: &T,
+    alloc: Global,
+    instruction: &Arc<Instruction>,
+    journal: &Journal,
+    first: usize,
+    posting: &Posting,
+)
+    requires few { length journal.now.entries ≤ 1000000 }
+    requires there { slice_get journal.now.entries first ≡ Some posting.now }
+    requires wrong { IsNumbered (take first journal.now.entries) posting.now → ⊥ }
+{
+    let Err(fault) = replay_in_parts(rt, alloc, 2, instruction, journal) else {
+        return;
+    };
+    let ReplayFault::Outvalued { at } = fault else {
+        return;
+    };
+    let is_wrong = at >= first;
+    prove!(!is_wrong);
+}
+
+/// What the way in order found is told, whatever the search found: a wrong number behind a cut that is outvalued.
+pub fn wrong_number_told_past_an_outvalued_cut<T: Threads + Sync>(
+    rt: &T,
+    alloc: Global,
+    instruction: &Arc<Instruction>,
+    journal: &Journal,
+    first: usize,
+    entry: &Entry,
+    dearer: &Cutting,
+)
+    requires few { length journal.now.entries ≤ 1000000 }
+    requires there { slice_get journal.now.entries first ≡ Some (Posting.Cut entry.now) }
+    requires admissible { IsAdmissible
+        (sheet_at instruction.now.value journal.now.sheets entry.now.version) entry.now.stem dearer.now.logs.items }
+    requires more { cutting_worth (sheet_at instruction.now.value journal.now.sheets entry.now.version)
+        entry.now.stem entry.now.logs
+        < cutting_worth (sheet_at instruction.now.value journal.now.sheets entry.now.version)
+        entry.now.stem dearer.now.logs.items }
+{
+    let Err(fault) = replay_in_parts(rt, alloc, 2, instruction, journal) else {
+        return;
+    };
+    let ReplayFault::Numbering { at } = fault else {
         return;
     };
     let is_wrong = at > first;
