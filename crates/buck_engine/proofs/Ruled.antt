@@ -1,5 +1,5 @@
 -- Sheets whose prices are a closure's answers, where these are what a rule gives.
-use Rattle.std.proofs.Common.{◌≡◌, ℕ, zero, suc, Bool, true, false, cond, nat_lt, ◌+◌, ◌*◌, ◌<◌, ◌≤◌, inl, inr, List, [], ◌∷◌, ◌++◌, length, take, refl, sym, ap, subst, ◌∙◌, arith}
+use Rattle.std.proofs.Common.{◌≡◌, ℕ, zero, suc, Bool, false, cond, nat_lt, ◌+◌, ◌*◌, ◌<◌, inl, inr, List, [], ◌∷◌, ◌++◌, length, take, refl, sym, ap, ◌∙◌, arith}
 use Rattle.std.specs.Prelude.{slice_get, slice_index, Some}
 use Rattle.std.proofs.lemmas.Bool.{cases_Bool}
 use Rattle.std.proofs.lemmas.Bool.Decides.{nat_tests}
@@ -12,11 +12,11 @@ use Rattle.buck_book.specs.Posting.{is_end, ends_of, cuts_since_end}
 use Rattle.buck_book.specs.History.{HistoryParts, IsLawful, IsEnd, standing_of}
 use Rattle.buck_book.specs.Pricing.{Calls, AreAnswers}
 use Rattle.buck_book.proofs.Ends.{take_one_more, ends_with_end, cuts_without, true_false}
-use Rattle.buck_journal.specs.judging.Replay.{Begins, version_at, prices_then}
+use Rattle.buck_journal.specs.judging.Replay.{version_at}
 use Rattle.buck_turn.specs.Turn.{AreSheetsBy}
 use Rattle.buck_engine.specs.declared.fleet.serving.NamedRule.{NamedRule}
 use Rattle.buck_engine.specs.declared.fleet.serving.NamedRule.TheVariants.{Steady, Linear, Step}
-use Rattle.buck_engine.specs.tie.Ties.{ArePricesAt, FollowsRule, GivesBy, IsByRule, price_by}
+use Rattle.buck_engine.specs.tie.Ties.{FollowsRule, GivesBy, IsByRule, price_by}
 
 -- on target
 even : (cut wanted under over base : ℕ) → cut ≡ wanted

@@ -1,6 +1,6 @@
 -- A text that grows by a stem at a time.
-use Rattle.std.proofs.Common.{◌≡◌, ℕ, map, zero, suc, ◌+◌, ◌*◌, ◌≤◌, ◌<◌, List, [], ◌∷◌, ◌++◌, length, All, refl, sym, ap, ◌∙◌, arith, append_assoc, length-append, take, drop, get_or, add-one, subst, Result, Ok, IfOk}
-use Rattle.std.proofs.Math.Seq.{take-add, take-suc}
+use Rattle.std.proofs.Common.{◌≡◌, ℕ, map, zero, suc, ◌+◌, ◌*◌, ◌≤◌, ◌<◌, List, [], ◌∷◌, ◌++◌, length, All, refl, sym, ap, ◌∙◌, arith, append_assoc, length-append, take, drop, get_or, slice_index_or, add-one, subst, Result, Ok, IfOk}
+use Rattle.std.proofs.Math.Seq.{get_or-append_seam, take-add, take-suc}
 use Rattle.std.specs.Fork.{IsChunk}
 use Rattle.std.specs.List.{flat_map}
 use Rattle.buck_record.specs.declared.memory.Memory.{Memory}
@@ -10,7 +10,7 @@ use Rattle.buck_value.specs.Sheet.{SheetParts}
 use Rattle.buck_dp.specs.Cutting.{IsCutFrom}
 use Rattle.buck_engine.specs.inner.Text.{AreLines, AreLinesOf, IsPut}
 use Rattle.buck_engine.specs.declared.text.bucking.Lines.{Lines}
-use Rattle.buck_engine.specs.text.Bucking.{CutStem, IsBucking, stem_line, stem_lines, log_line, logs_of, worth_of_all}
+use Rattle.buck_engine.specs.text.Bucking.{CutStem, stem_line, stem_lines, log_line}
 use Rattle.buck_dp.specs.Best.{IsFirstBest, cutting_worth}
 use Rattle.std.proofs.lemmas.List.{append-nil, length-take, map-append}
 use Rattle.std.proofs.lemmas.List.Concat.{flat_map-append}
@@ -153,6 +153,14 @@ pub part_made : (sheet : SheetParts) (stems part : List StemParts) (size start :
     → AreLinesOf sheet (take size (drop start stems)) lines
 part_made sheet stems part size start found lines is made same =
     subst (λ l. AreLinesOf sheet l lines) is.value (subst (λ r. IfOk r (AreLinesOf sheet part)) same made)
+
+-- where an element stands
+pub stands_at : {X : Type 0} (ys : List X) (x : X) (zs all : List X) → all ≡ ys ++ x ∷ zs
+    → (length ys < length all) × (slice_index_or all (length ys) x ≡ x)
+stands_at ys x zs all is = (
+  omega (arith, ap length is, length-append ys (x ∷ zs)),
+  ap (λ l. slice_index_or l (length ys) x) is ∙ get_or-append_seam ys x zs x,
+)
 
 -- numbers of two runs of neighbours are low together
 pub parts_low : (stems : List StemParts) (start size logs count : ℕ)

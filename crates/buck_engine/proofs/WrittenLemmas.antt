@@ -3,7 +3,6 @@ use Rattle.std.proofs.Common.{◌≡◌, ℕ, Bool, true, false, ◌+◌, ◌-�
 use Rattle.std.proofs.lemmas.List.{take-append-le}
 use Rattle.std.proofs.lemmas.Grind.{flat_map-append}
 use Rattle.std.specs.List.{flat_map}
-use Rattle.std.specs.Fmt.{decimal}
 use Rattle.buck_record.specs.writing.Written.{spelled}
 use Rattle.buck_record.specs.writing.Line.{line_of}
 use Rattle.buck_engine.specs.Faults.{memory_line, numbered_line}
@@ -82,15 +81,16 @@ parts_at f xs i d lt =
     ∙ flat_map-append f (take i xs) (drop i xs)
     ∙ ap (λ l. flat_map f (take i xs) ++ flat_map f l) here
 
--- a number that could not be written
-pub number_stopped : (a b c : Option (List ℕ)) (ns : List ℕ) (i : ℕ) (f : EngineFault)
-    (r : Result (Unit {0}) EngineFault) → i < length ns
-    → IsErrAnd r (λ e. e ≡ f) → Appends a b (spelled (take i ns)) → IsWritten b c (32 ∷ decimal (get_or ns i 0)) (Err f)
-    → IsWritten a c (spelled ns) r
-number_stopped a b c ns i f r lt h p q =
-    subst (λ l. IsWritten a c l r) (sym (parts_at (λ n. 32 ∷ decimal n) ns i 0 lt))
-    (then_written a b c (spelled (take i ns)) _ r p
-    (stopped b c (32 ∷ decimal (get_or ns i 0)) (spelled (drop (i + 1) ns)) f r h q))
+-- one of many that could not be written
+pub part_stopped : {X : Type 0} (a b c : Option (List ℕ)) (text_of : X → List ℕ) (xs : List X) (i : ℕ) (d : X)
+    (f : EngineFault) (r : Result (Unit {0}) EngineFault) → i < length xs
+    → IsErrAnd r (λ e. e ≡ f) → Appends a b (flat_map text_of (take i xs))
+    → IsWritten b c (text_of (get_or xs i d)) (Err f)
+    → IsWritten a c (flat_map text_of xs) r
+part_stopped a b c text_of xs i d f r lt h p q =
+    subst (λ l. IsWritten a c l r) (sym (parts_at text_of xs i d lt))
+    (then_written a b c (flat_map text_of (take i xs)) _ r p
+    (stopped b c (text_of (get_or xs i d)) (flat_map text_of (drop (i + 1) xs)) f r h q))
 
 -- all of a text is the first bytes of it
 first_all : (a b : Option (List ℕ)) (text : List ℕ) → Appends a b text → AppendsFirst a b text

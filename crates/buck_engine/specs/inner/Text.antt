@@ -1,5 +1,6 @@
--- How a text grows by one stem.
-use Rattle.std.specs.Prelude.{◌≡◌, ◌++◌, ◌≤◌, ◌*◌, ℕ, List, length}
+-- How a text grows by one stem, and one that is in pieces.
+use Rattle.std.specs.Prelude.{◌≡◌, ◌++◌, ◌≤◌, ◌*◌, ℕ, List, length, Result, Ok, Err}
+use Rattle.std.specs.declared.vec.Vec.{Vec}
 use Rattle.std.specs.List.{flat_map}
 use Rattle.buck_stem.specs.Stem.{StemParts}
 use Rattle.buck_value.specs.declared.log.Log.{Log}
@@ -28,3 +29,12 @@ pub record AreLines (sheet : SheetParts) (stems : List StemParts) (text : List �
 
 abbrev pub AreLinesOf : SheetParts → List StemParts → Lines → Type 0
 AreLinesOf sheet stems l = AreLines sheet stems l.text.items l.logs l.worth
+
+-- pieces, one behind the other
+abbrev pub joined : {A : Type 0} → List (Vec ℕ A) → List ℕ
+joined pieces = flat_map (λ piece. piece.items) pieces
+
+-- the text that an answer has in pieces
+abbrev pub joined_in : {A B E : Type 0} → Result (Vec (Vec ℕ A) B) E → Result (List ℕ) E
+joined_in (Ok pieces) = Ok (joined pieces.items)
+joined_in (Err e) = Err e

@@ -1,12 +1,12 @@
 //! `run_buck_in_parts`: a bucking whose stems are read and cut in several threads at once.
 ghost use Rattle.std.specs.Prelude.{◌≡◌, ◌≢◌, ◌<◌, IfErr, Result};
-ghost use Rattle.buck_record.specs.Reading.{listed};
 ghost use Rattle.buck_engine.specs.declared.fault.EngineFault.{EngineFault};
 ghost use Rattle.buck_engine.specs.declared.fault.EngineFault.TheVariants.{Write};
 ghost use Rattle.buck_engine.specs.text.Written.{WritesText};
 ghost use Rattle.buck_engine.specs.run.Reading.{IfStopped};
 ghost use Rattle.buck_engine.specs.run.Bucking.{AnswersBuck};
 ghost use Rattle.buck_engine.specs.run.Serving.{RunsFiles, TellsOutcome, status_after};
+ghost use Rattle.buck_engine.specs.inner.Text.{joined_in};
 
 use crate::fault::EngineFault;
 use crate::run::opening::{Open, open_both};
@@ -14,7 +14,7 @@ use crate::run::reading::{read_instruction, read_stems_in_parts};
 use crate::run::serving::conclude;
 use crate::run::threads::number_of_threads;
 use crate::text::bucking::buck_text_in_parts;
-use crate::text::writing::write_text;
+use crate::text::writing::write_pieces;
 use std::alloc::Global;
 use std::io;
 use std::thread::Threads;
@@ -30,16 +30,17 @@ pub struct BuckTask<'a> {
     pub threads: Option<u8>,
 }
 
-/// The text of an instruction file and a stem file, whose stems are read and cut in at most so many threads at once.
+/// The text of an instruction file and a stem file in pieces, whose stems are read and cut in at most so many threads at
+/// once.
 fn text_in_parts<T: Threads + Sync, R: io::Read>(
     rt: &T,
     alloc: Global,
     threads: usize,
     apt: &mut R,
     stm: &mut R,
-) -> Result<Vec<u8>, EngineFault>
+) -> Result<Vec<Vec<u8>>, EngineFault>
     requires threads { 0 < threads }
-    ensures answer { AnswersBuck (R.remaining apt.old) (R.remaining stm.old) (listed result) }
+    ensures answer { AnswersBuck (R.remaining apt.old) (R.remaining stm.old) (joined_in result) }
     ensures order { IfErr result (IfStopped (λ last. last ≡ 0 → stm.new ≡ stm.old)) }
 {
     let instruction = read_instruction(alloc, apt)?;
@@ -67,8 +68,8 @@ pub fn run_buck_in_parts<T: Threads + Sync, R: io::Read, W: io::Write>(
     // Only a failed write touches the writer.
     ensures untouched { IfErr result (λ fault. fault ≢ Write → writer.new ≡ writer.old) }
 {
-    let text = text_in_parts(rt, alloc, number_of_threads(rt, threads), apt, stm)?;
-    write_text(writer, text.as_slice())
+    let pieces = text_in_parts(rt, alloc, number_of_threads(rt, threads), apt, stm)?;
+    write_pieces(writer, pieces.as_slice())
 }
 
 /// Opens both files by their names, the instruction file first, and then runs over them.

@@ -2,7 +2,7 @@
 ghost use Rattle.std.specs.Prelude.{◌≡◌, ◌++◌, ◌+◌, ◌<◌, ◌^◌, IfOk, OnOk, All};
 ghost use Rattle.std.specs.List.{flat_map};
 ghost use Rattle.buck_value.specs.Allowed.{IsAllowed};
-ghost use Rattle.buck_engine.specs.inner.Text.{AreLinesOf, IsPut};
+ghost use Rattle.buck_engine.specs.inner.Text.{AreLines, AreLinesOf, IsPut, joined};
 ghost use Rattle.buck_engine.specs.text.Bucking.{IsBuckText, IsTextUnder, base_sheet, log_line, named_line_of, stem_line, total_line};
 
 use crate::fault::TextFault;
@@ -173,47 +173,51 @@ fn shared_lines(alloc: Global, sheet: &Arc<Sheet>, stems: &[Stem]) -> Result<Lin
     lines_under(alloc, sheet.clone()?, stems)
 }
 
-/// Puts the lines of further stems behind these.
-fn put_lines(lines: &mut Lines, more: &Lines) -> Result<(), Memory>
-    requires logs { lines.old.logs + more.now.logs < 2 ^ 128 }
-    requires worth { lines.old.worth + more.now.worth < 2 ^ 128 }
-    ensures text { OnOk result (lines.new.text.items ≡ lines.old.text.items ++ more.now.text.items) }
-    ensures logs { OnOk result (lines.new.logs ≡ lines.old.logs + more.now.logs) }
-    ensures worth { OnOk result (lines.new.worth ≡ lines.old.worth + more.now.worth) }
+/// What was cut of runs of neighbours: the lines of each run, and how many logs there are and their worth together.
+#[derive(Drop)]
+struct Runs {
+    texts: Vec<Vec<u8>>,
+    logs: u128,
+    worth: u128,
+}
+
+/// Puts what was cut of the next run behind that of the runs before it.
+fn put_run(runs: &mut Runs, run: Lines) -> Result<(), Memory>
+    requires { (runs.old.logs + run.logs < 2 ^ 128) × (runs.old.worth + run.worth < 2 ^ 128) }
+    ensures texts { OnOk result (joined runs.new.texts.items ≡ joined runs.old.texts.items ++ run.text.items) }
+    ensures logs { OnOk result (runs.new.logs ≡ runs.old.logs + run.logs) }
+    ensures worth { OnOk result (runs.new.worth ≡ runs.old.worth + run.worth) }
 {
-    lines.text.extend_from_slice(more.text.as_slice())?;
-    lines.logs += more.logs;
-    lines.worth += more.worth;
+    runs.texts.push(run.text)?;
+    runs.logs += run.logs;
+    runs.worth += run.worth;
     Ok(())
 }
 
-/// Cuts stems under a sheet, each run of so many neighbours in a thread of its own, and puts their lines in order.
-fn lines_in_parts<T: Threads + Sync>(
+/// Cuts stems under a sheet, each run of so many neighbours in a thread of its own.
+fn runs_of<T: Threads + Sync>(
     rt: &T,
     alloc: Global,
     sheet: &Arc<Sheet>,
     stems: &[Stem],
     size: usize,
-) -> Result<Lines, Memory>
+) -> Result<Runs, Memory>
     requires size { 0 < size }
-    ensures { IfOk result (λ lines. AreLinesOf sheet.now.value stems.now lines) }
+    ensures { IfOk result (λ runs. AreLines sheet.now.value stems.now (joined runs.texts.items) runs.logs runs.worth) }
 {
     let cut = |_: usize, part: &[Stem]| -> Result<Lines, Memory>
         ensures { IfOk result (λ lines. AreLinesOf sheet.entry.now.value part.now lines) }
     { shared_lines(alloc, sheet, part) };
     let parts = thread::map_chunks(rt, alloc, stems, size, &cut)?;
-    let mut lines = Lines {
-        text: Vec::new(alloc),
+    let mut runs = Runs {
+        texts: Vec::new(alloc),
         logs: 0,
         worth: 0,
     };
-    for k in 0..parts.len() {
-        match &parts[k] {
-            Ok(part) => put_lines(&mut lines, part)?,
-            Err(_) => return Err(Memory),
-        }
+    for part in parts {
+        put_run(&mut runs, part?)?;
     }
-    Ok(lines)
+    Ok(runs)
 }
 
 /// The text of the stems in file order, each bucked under the base prices by the first of its best cuttings:
@@ -237,26 +241,39 @@ pub fn buck_text(
     Ok(text_under(alloc, sheet, stems)?)
 }
 
+/// The pieces of the text of stems that were cut in runs: their lines, and then the total.
+fn with_total(alloc: Global, runs: Runs, stems: usize) -> Result<Vec<Vec<u8>>, Memory>
+    ensures { IfOk result (λ pieces. joined pieces.items
+        ≡ joined runs.texts.items ++ total_line stems runs.logs runs.worth) }
+{
+    let Runs {
+        mut texts,
+        logs,
+        worth,
+    } = runs;
+    let mut total = Vec::new(alloc);
+    put_total(&mut total, stems, logs, worth)?;
+    texts.push(total)?;
+    Ok(texts)
+}
+
 /// The fewest stems that are worth a thread of their own.
 const FEWEST: usize = 64;
 
-/// The text of [`buck_text`], for which stems are cut in at most so many threads at once.
+/// The text of [`buck_text`], for which stems are cut in at most so many threads at once, in pieces: one for each
+/// thread, and last the total.
 pub(crate) fn buck_text_in_parts<T: Threads + Sync>(
     rt: &T,
     alloc: Global,
     instruction: &Instruction,
     stems: &[Stem],
     threads: usize,
-) -> Result<Vec<u8>, TextFault>
+) -> Result<Vec<Vec<u8>>, TextFault>
     requires threads { 0 < threads }
-    ensures { IfOk result (λ text. IsBuckText instruction.now stems.now text.items) }
+    ensures { IfOk result (λ pieces. IsBuckText instruction.now stems.now (joined pieces.items)) }
 {
     let sheet = base_sheet(alloc, instruction)?;
     let size = (stems.len() / threads).saturating_add(FEWEST);
-    // One part is what is cut in one thread: its lines needn't be copied.
-    if stems.len() <= size {
-        return Ok(text_under(alloc, sheet, stems)?);
-    }
-    let lines = lines_in_parts(rt, alloc, &sheet, stems, size)?;
-    Ok(text_of(lines, stems.len())?)
+    let runs = runs_of(rt, alloc, &sheet, stems, size)?;
+    Ok(with_total(alloc, runs, stems.len())?)
 }

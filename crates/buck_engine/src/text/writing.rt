@@ -6,6 +6,7 @@ ghost use Rattle.buck_record.specs.writing.Line.{line_of};
 ghost use Rattle.buck_engine.specs.Faults.{numbered_line, fault_line};
 ghost use Rattle.buck_engine.specs.tie.Told.{check_numbers};
 ghost use Rattle.buck_engine.specs.text.Written.{IsWritten, TellsWritten};
+ghost use Rattle.buck_engine.specs.inner.Text.{joined};
 
 use crate::fault::EngineFault;
 use crate::tie::fault::CheckFault;
@@ -32,6 +33,19 @@ pub fn write_text<W: io::Write>(writer: &mut W, text: &[u8]) -> Result<(), Engin
     } else {
         Err(EngineFault::Write)
     }
+}
+
+/// Writes the pieces of a text one after the other, or a prefix of the text where the writer fails or takes nothing.
+pub(crate) fn write_pieces<W: io::Write>(
+    writer: &mut W,
+    pieces: &[Vec<u8>],
+) -> Result<(), EngineFault>
+    ensures { IsWritten (W.contents writer.old) (W.contents writer.new) (joined pieces.now) result }
+{
+    for piece in pieces {
+        write_text(writer, piece.as_slice())?;
+    }
+    Ok(())
 }
 
 /// Writes a number in decimal, after a blank.
