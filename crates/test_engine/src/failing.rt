@@ -138,7 +138,7 @@ fn wrong_write<T: Threads + Wait + Sync>(
     alloc: Global,
     engine: Engine,
 ) -> Option<(usize, usize)> {
-    let [journal, text] = engine.texts();
+    let [journal, _] = engine.texts();
     for write in 1..calls_of(journal).saturating_add(1) {
         let lengths = [given_before(journal, write).len(), 0];
         for trouble in [Trouble::Fails(write), Trouble::Ends(write)] {
@@ -147,8 +147,12 @@ fn wrong_write<T: Threads + Wait + Sync>(
             }
         }
     }
-    for write in 1..calls_of(text).saturating_add(1) {
-        let lengths = [journal.len(), given_before(text, write).len()];
+    let [front, rest] = engine.pieces();
+    let calls = calls_of(front);
+    for write in 1..calls.saturating_add(calls_of(rest)).saturating_add(1) {
+        let later = given_before(rest, write.saturating_sub(calls)).len();
+        let length = given_before(front, write).len().saturating_add(later);
+        let lengths = [journal.len(), length];
         for trouble in [Trouble::Fails(write), Trouble::Ends(write)] {
             if !keeps(rt, alloc, engine, [Trouble::Nothing, trouble], lengths) {
                 return Some((1, write));

@@ -131,6 +131,17 @@ impl Engine {
         }
     }
 
+    /// The pieces of its text that its writer is given one after the other.
+    pub fn pieces(self) -> [&'static [u8]; 2] {
+        let [_, text] = self.texts();
+        let at = match self {
+            Engine::Parts => text.len().saturating_sub(b"TOTAL 2 2 314160000\n".len()),
+            _ => text.len(),
+        };
+        let at = at.min(text.len());
+        [&text[..at], &text[at..]]
+    }
+
     /// A run over these files, into these writers of the journal and the text.
     pub fn run<T: Threads + Wait + Sync>(
         self,
