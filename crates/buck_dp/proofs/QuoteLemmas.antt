@@ -18,10 +18,10 @@ use Rattle.buck_dp.specs.declared.pricing.Ask.{Ask}
 use Rattle.buck_dp.specs.declared.pricing.Term.{Term}
 use Rattle.buck_dp.specs.declared.takers.Takers.{Takers}
 use Rattle.buck_dp.specs.inner.Bid.{BidParts, IsAtMost}
-use Rattle.buck_dp.specs.inner.Cells.{IsMet, IsTakersBid, IsReal, AreCells}
+use Rattle.buck_dp.specs.inner.Cells.{IsTakersBid, IsReal, AreCells}
 use Rattle.buck_dp.specs.inner.Quotes.{quote_bid, IsSmall, IsAsked, IsQuote, IsQuoteOf, HasNoBid, IsOver, IsPut, IsQuoted, IsTermOf, IsNoTerm, AreTerms, Falls, AreQuotes}
-use Rattle.buck_dp.specs.inner.Drawn.{IsWithin, IsCutOff, cell_of, IsCellOf, IsDrawn}
-use Rattle.buck_dp.proofs.BidLemmas.{IsAtMost-refl, IsAtMost-trans, worth_at_most}
+use Rattle.buck_dp.specs.inner.Drawn.{IsWithin, cell_of, IsCellOf, IsDrawn}
+use Rattle.buck_dp.proofs.BidLemmas.{IsAtMost-refl, worth_at_most}
 use Rattle.buck_dp.proofs.Places.{after_in_order}
 
 -- with one more that has no higher number than any other
@@ -47,12 +47,12 @@ quotes_skip s codes ask n list none was = record {
 }
 
 -- what a quote meets, one that is over it meets
-over_quoted : (list : List Quote) (k : ℕ) (p q : Quote) (thinnest d steps trim : ℕ) (bid : BidParts)
+over_quoted : (list : List Quote) (k : ℕ) (p q : Quote) (ask : Ask) (d steps trim : ℕ) (bid : BidParts)
     → slice_get list k ≡ Some p
-    → IsOver thinnest p q → thinnest ≤ d
+    → IsOver ask p q → IsAsked ask d
     → ((q.steps ≡ steps) × IsAtMost bid (quote_bid q d)) ⊎ ((q.steps < steps) × (bid.worth < (quote_bid q d).worth))
     → q.trim ≤ trim → IsQuoted list d steps trim bid
-over_quoted list k p q thinnest d steps trim bid there over le meets trims =
+over_quoted list k p q ask d steps trim bid there over le meets trims =
     let more = over.more d le in
     record {
       place = k;
@@ -71,23 +71,20 @@ over_quoted list k p q thinnest d steps trim bid there over le meets trims =
     }
 
 -- what is left of a list where a quote is put behind it: all but what the quote is over
-pub record IsCleared (thinnest : ℕ) (q : Quote) (list rest : List Quote) : Type 0 where
+pub record IsCleared (ask : Ask) (q : Quote) (list rest : List Quote) : Type 0 where
   pub kept : (k : ℕ) (x : Quote) → slice_get rest k ≡ Some x → slice_get list k ≡ Some x
-  pub lost : (k : ℕ) (x : Quote) → slice_get list k ≡ Some x → (slice_get rest k ≡ Some x) ⊎ IsOver thinnest q x
+  pub lost : (k : ℕ) (x : Quote) → slice_get list k ≡ Some x → (slice_get rest k ≡ Some x) ⊎ IsOver ask q x
 
 -- who leads a list: nobody, or what it is over one of the list is over
-abbrev pub IsLeader : ℕ → List Quote → Quote → Type 0
-IsLeader thinnest list p = ((d : ℕ) → (quote_bid p d).worth ≡ 0)
-    ⊎ ((x : Quote) → IsOver thinnest p x → (k : ℕ) × (o : Quote) × (slice_get list k ≡ Some o) × IsOver thinnest o x)
+abbrev pub IsLeader : Ask → List Quote → Quote → Type 0
+IsLeader ask list p = ((d : ℕ) → (quote_bid p d).worth ≡ 0)
+    ⊎ ((x : Quote) → IsOver ask p x → (k : ℕ) × (o : Quote) × (slice_get list k ≡ Some o) × IsOver ask o x)
 
 module _ (s : SheetParts) (codes : List ℕ) (ask : Ask) (n : ℕ) (list : List Quote) (q : Quote)
     (is : IsQuoteOf s codes ask n q)
     (was : AreQuotes s codes ask n list) where
-  abbrev low : ℕ
-  low = ask.band.thinnest
-
   -- the quote of an offer is left out, where one of the list is over it
-  quotes_cut : (p : Quote) → IsLeader low list p → IsOver low p q → AreQuotes s codes ask (n + 1) list
+  quotes_cut : (p : Quote) → IsLeader ask list p → IsOver ask p q → AreQuotes s codes ask (n + 1) list
   quotes_cut p leads over = record {
     real = was.real;
     early = λ k x at. omega (arith, was.early k x at);
@@ -97,20 +94,20 @@ module _ (s : SheetParts) (codes : List ℕ) (ask : Ask) (n : ℕ) (list : List 
       | inr at ↦
           let o = is.only steps trim d bid asked (omega arith) b in
           elim leads [
-            | inl nobody ↦ absurd (omega (arith, nobody d, over.more d asked.0))
+            | inl nobody ↦ absurd (omega (arith, nobody d, over.more d asked))
             | inr there ↦
                 let t = there q over in
-                over_quoted list t.0 t.1 q low d steps trim bid t.2 t.3 asked.0
+                over_quoted list t.0 t.1 q ask d steps trim bid t.2 t.3 asked
                 (inl (o.0, subst (λ x. IsAtMost bid x) o.2 (IsAtMost-refl bid))) (omega (arith, o.1))
           ]
     ];
   }
 
-  module _ (rest : List Quote) (clear : IsCleared low q list rest) where
+  module _ (rest : List Quote) (clear : IsCleared ask q list rest) where
     last_there : slice_get (rest ++ q ∷ []) (length rest) ≡ Some q
     last_there = pushed_at rest q (length rest) refl
 
-    leader_more : (p : Quote) → IsLeader low list p → IsLeader low (rest ++ q ∷ []) p
+    leader_more : (p : Quote) → IsLeader ask list p → IsLeader ask (rest ++ q ∷ []) p
     leader_more p (inl nobody) = inl nobody
     leader_more p (inr there) = inr (λ x over. let t = there x over in elim (clear.lost t.0 t.1 t.2) [
       | inl at ↦ (t.0, t.1, kept_at rest q t.1 t.0 at, t.3)
@@ -150,7 +147,7 @@ module _ (s : SheetParts) (codes : List ℕ) (ask : Ask) (n : ℕ) (list : List 
                   }
               | inr over ↦
                   over_quoted (rest ++ q ∷ []) (length rest)
-                  q i.quote low d steps trim bid last_there over asked.0 i.meets i.trims
+                  q i.quote ask d steps trim bid last_there over asked i.meets i.trims
             ]
         | inr at ↦
             let o = is.only steps trim d bid asked (omega arith) b in
@@ -168,7 +165,7 @@ module _ (s : SheetParts) (codes : List ℕ) (ask : Ask) (n : ℕ) (list : List 
 pub record IsListSoFar (s : SheetParts) (codes : List ℕ) (ask : Ask) (n : ℕ) (list : List Quote)
     (leader : Quote) : Type 0 where
   pub quotes : AreQuotes s codes ask n list
-  pub leads : IsLeader ask.band.thinnest list leader
+  pub leads : IsLeader ask list leader
   pub small : IsSmall leader
 
 -- so with nothing in it yet
@@ -188,7 +185,7 @@ list_none s codes ask = record {
 -- so with one more, unless the leader is over it
 pub list_cut : (s : SheetParts) (codes : List ℕ) (ask : Ask) (n : ℕ) (list : List Quote) (p l q : Quote)
     → IsQuoteOf s codes ask n q
-    → l ≡ p → IsOver ask.band.thinnest p q → IsListSoFar s codes ask n list p → IsListSoFar s codes ask (n + 1) list l
+    → l ≡ p → IsOver ask p q → IsListSoFar s codes ask n list p → IsListSoFar s codes ask (n + 1) list l
 list_cut s codes ask n list p l q is same over was =
     rw same (record {
       quotes = quotes_cut s codes ask n list q is was.quotes p was.leads over;
@@ -199,7 +196,7 @@ list_cut s codes ask n list p l q is same over was =
 
 pub list_put : (s : SheetParts) (codes : List ℕ) (ask : Ask) (n : ℕ) (list rest : List Quote) (p l q : Quote)
     → IsQuoteOf s codes ask n q
-    → IsCleared ask.band.thinnest q list rest → (l ≡ p) ⊎ (l ≡ q)
+    → IsCleared ask q list rest → (l ≡ p) ⊎ (l ≡ q)
     → IsListSoFar s codes ask n list p → IsListSoFar s codes ask (n + 1) (rest ++ q ∷ []) l
 list_put s codes ask n list rest p l q is clear lead was =
     let new = quotes_push s codes ask n list q is was.quotes rest clear in
@@ -229,12 +226,12 @@ behind_at start list k x le at =
     ∙ get_or_from_slice_get (start ++ list) k x x at)
 
 -- a quote is put behind a list that stands behind others: what is left of the list
-put_after : (thinnest : ℕ) (q : Quote) (start list new : List Quote)
-    → IsPut thinnest q (length start) (start ++ list) new
-    → (rest : List Quote) × IsCleared thinnest q list rest × (new ≡ start ++ (rest ++ q ∷ []))
-put_after thinnest q start list new (inl pushed) =
+put_after : (ask : Ask) (q : Quote) (start list new : List Quote)
+    → IsPut ask q (length start) (start ++ list) new
+    → (rest : List Quote) × IsCleared ask q list rest × (new ≡ start ++ (rest ++ q ∷ []))
+put_after ask q start list new (inl pushed) =
     (list, record { kept = λ k x at. at; lost = λ k x at. inl at }, pushed ∙ append_assoc start list (q ∷ []))
-put_after thinnest q start list new (inr (x, some, at, over, set)) =
+put_after ask q start list new (inr (x, some, at, over, set)) =
     let m : ℕ = length list - 1 in
     let long = length-append start list in
     let place : length (start ++ list) - 1 - length start ≡ m = omega (arith, long) in
@@ -252,20 +249,20 @@ put_after thinnest q start list new (inr (x, some, at, over, set)) =
         kept = λ k y there. subst (λ ys. slice_get ys k ≡ Some y) (sym is) (kept_at (take m list) x y k there);
         lost = λ k y there. elim (push_cases (take m list) x y k (subst (λ ys. slice_get ys k ≡ Some y) is there)) [
           | inl old ↦ inl old
-          | inr end ↦ inr (subst (λ z. IsOver thinnest q z) end.1 over)
+          | inr end ↦ inr (subst (λ z. IsOver ask q z) end.1 over)
         ];
       },
       set ∙ set-append_right start list (length start) (length (start ++ list) - 1) q refl (omega (arith, some))
           ∙ ap (λ i. start ++ slice_set list i q) place ∙ ap (λ ys. start ++ ys) now,
     )
 
-pub put_cleared : (thinnest : ℕ) (q : Quote) (from : ℕ) (start list old new : List Quote) → from ≡ length start
+pub put_cleared : (ask : Ask) (q : Quote) (from : ℕ) (start list old new : List Quote) → from ≡ length start
     → old ≡ start ++ list
-    → IsPut thinnest q from old new
-    → (rest : List Quote) × IsCleared thinnest q list rest × (new ≡ start ++ (rest ++ q ∷ []))
-put_cleared thinnest q from start list old new begins is put =
-    put_after thinnest q start list new
-    (subst (λ xs. IsPut thinnest q (length start) xs new) is (subst (λ m. IsPut thinnest q m old new) begins put))
+    → IsPut ask q from old new
+    → (rest : List Quote) × IsCleared ask q list rest × (new ≡ start ++ (rest ++ q ∷ []))
+put_cleared ask q from start list old new begins is put =
+    put_after ask q start list new
+    (subst (λ xs. IsPut ask q (length start) xs new) is (subst (λ m. IsPut ask q m old new) begins put))
 
 -- a term is put behind others
 pub terms_put : (i : InstructionParts) (codes : List ℕ) (ask : Ask) (n : ℕ) (terms : List (Option Term))
@@ -290,132 +287,59 @@ terms_put i codes ask n terms term some none was =
     at_place k (Some t) at = (was.some k t at, tt)
     at_place k None at = (tt, was.none k at)
 
--- the best of a row: nothing, or one of its cells
-abbrev pub IsBest : List Cell → Cell → Type 0
-IsBest row best = (best.bid.worth ≡ 0) ⊎ ((k : ℕ) × (slice_get row k ≡ Some best))
+-- a row with the cells of no quotes
+pub drawn_none : (quotes : List Quote) (d : ℕ) (reach : Reach) → IsDrawn quotes d reach 0 []
+drawn_none quotes d reach = record {
+  real = λ k c at. absurd (none-some c at);
+  met = λ k q lt. absurd (omega (arith, lt));
+  early = λ j k c q falls le here. absurd (none-some c here);
+  order = λ falls j k a b le here. absurd (none-some a here);
+}
 
--- one of a row is one with one more
-pub best_more : (row : List Cell) (c best : Cell) → IsBest row best → IsBest (row ++ c ∷ []) best
-best_more row c best (inl none) = inl none
-best_more row c best (inr b) = inr (b.0, kept_at row c best b.0 b.1)
+module _ (quotes : List Quote) (d : ℕ) (reach : Reach) (n : ℕ) (row : List Cell) (q : Quote)
+    (at : slice_get quotes n ≡ Some q)
+    (was : IsDrawn quotes d reach n row) where
+  -- the quote at the next place
+  next_is : (k : ℕ) (x : Quote) → n ≤ k → k < n + 1 → slice_get quotes k ≡ Some x → q ≡ x
+  next_is k x le lt there =
+      same_Some q x (sym at ∙ ap (λ m. slice_get quotes m) (let e : n ≡ k = omega arith in e) ∙ there)
 
-pub best_new : (row : List Cell) (c : Cell) → IsBest (row ++ c ∷ []) c
-best_new row c = inr (length row, pushed_at row c (length row) refl)
+  -- a row with the cells of one quote more, which is not within reach
+  pub drawn_skip : (IsWithin reach q → ⊥) → IsDrawn quotes d reach (n + 1) row
+  drawn_skip out = record {
+    real = was.real;
+    early = λ j k c x falls le. was.early j k c x falls (omega (arith, le));
+    order = was.order;
+    met = λ k x lt there within. elim (cases_lt k n) [
+      | inl before ↦ was.met k x before there within
+      | inr here ↦ absurd (out (subst (λ y. IsWithin reach y) (sym (next_is k x here lt there)) within))
+    ];
+  }
 
-module _ (quotes : List Quote) (d : ℕ) (reach : Reach) where
-  module _ (n : ℕ) (row : List Cell) (q : Quote) (at : slice_get quotes n ≡ Some q) (was : IsDrawn quotes d reach n row)
-    where
-      -- a quote that is met leaves a row right
-      met_next : (IsWithin reach q → IsMet row q.steps q.rise (quote_bid q d)) → IsDrawn quotes d reach (n + 1) row
-      met_next met = record {
-        real = was.real;
-        early = λ j k c x falls le. was.early j k c x falls (omega (arith, le));
-        order = was.order;
-        met = λ k x lt there within. elim (cases_lt k n) [
-          | inl before ↦ was.met k x before there within
-          | inr here ↦
-              let same : q ≡ x =
-              same_Some q x (sym at ∙ ap (λ m. slice_get quotes m) (let e : n ≡ k = omega arith in e) ∙ there) in
-              subst (λ y. IsWithin reach y → IsMet row y.steps y.rise (quote_bid y d)) same met within
-        ];
-      }
-
-      pub drawn_skip : (IsWithin reach q → ⊥) → IsDrawn quotes d reach (n + 1) row
-      drawn_skip out = met_next (λ within. absurd (out within))
-
-      pub drawn_cut : (best : Cell) → IsBest row best → IsCutOff best (cell_of reach q d)
-          → IsDrawn quotes d reach (n + 1) row
-      drawn_cut best is cut = met_next (λ within. elim is [
-        | inl none ↦ absurd (omega (arith, cut.2))
-        | inr b ↦ record {
-          place = b.0;
-          cell = best;
-          there = b.1;
-          meets = elim (cases_lt best.steps q.steps) [
-            | inl less ↦ inr (less, cut.2)
-            | inr same ↦ inl (omega (arith, cut.0), inl cut.2)
-          ];
-          leaves = cut.1;
-        }
-      ])
-
-      met_kept : (c : Cell) (steps rise : ℕ) (bid : BidParts) → IsMet row steps rise bid
-          → IsMet (row ++ c ∷ []) steps rise bid
-      met_kept c steps rise bid m = record {
-        place = m.place;
-        cell = m.cell;
-        there = kept_at row c m.cell m.place m.there;
-        meets = m.meets;
-        leaves = m.leaves;
-      }
-
-      pub drawn_push : (c : Cell) → IsWithin reach q → c ≡ cell_of reach q d
-          → IsDrawn quotes d reach (n + 1) (row ++ c ∷ [])
-      drawn_push c within is = record {
+  -- or is
+  pub drawn_push : IsWithin reach q → IsDrawn quotes d reach (n + 1) (row ++ cell_of reach q d ∷ [])
+  drawn_push within =
+      let c : Cell = cell_of reach q d in
+      record {
         real = push_each (λ k x. IsCellOf quotes d reach x) row c was.real
-            (record { place = n; quote = q; there = at; within = within; is = is });
+            (record { place = n; quote = q; there = at; within = within; is = refl });
         early = λ j k b x falls le here there.
             push_each (λ j (b : Cell). x.rank ≤ b.bid.rank) row c
             (λ j b here. was.early j k b x falls (omega (arith, le)) here there)
-            (omega (arith, falls n k q x (omega (arith, le)) at there, ap (λ (y : Cell). y.bid.rank) is)) j b here;
+            (omega (arith, falls n k q x (omega (arith, le)) at there)) j b here;
         order = λ falls. falls_push (λ (y : Cell). y.bid.rank) row c (was.order falls)
-            (λ j a here. omega
-            (arith, was.early j n a q falls (omega arith) here at, ap (λ (y : Cell). y.bid.rank) is));
+            (λ j a here. omega (arith, was.early j n a q falls (omega arith) here at));
         met = λ k x lt there w. elim (cases_lt k n) [
-          | inl before ↦ met_kept c x.steps x.rise (quote_bid x d) (was.met k x before there w)
-          | inr here ↦
-              let same : q ≡ x =
-              same_Some q x (sym at ∙ ap (λ m. slice_get quotes m) (let e : n ≡ k = omega arith in e) ∙ there) in
-              subst (λ y. IsMet (row ++ c ∷ []) y.steps y.rise (quote_bid y d)) same
-              (record {
-                place = length row;
-                cell = c;
-                there = pushed_at row c (length row) refl;
-                meets = inl (
-                  ap (λ y. y.steps) is,
-                  subst (λ y. IsAtMost (quote_bid q d) y) (sym (ap (λ y. y.bid) is)) (IsAtMost-refl (quote_bid q d)),
-                );
-                leaves = omega (arith, ap (λ y. y.rise) is);
-              })
+          | inl before ↦
+              let m = was.met k x before there w in
+              (m.0, kept_at row c (cell_of reach x d) m.0 m.1)
+          | inr here ↦ (
+            length row,
+            pushed_at row c (length row) refl
+                ∙ ap (λ (y : Quote). Some (cell_of reach y d)) (next_is k x here lt there),
+          )
         ];
       }
-
--- the cells of the first n quotes stand behind others, and the best of them is known
-abbrev pub IsRowSoFar : List Quote → ℕ → Reach → ℕ → List Cell → List Cell → Cell → Type 0
-IsRowSoFar quotes d reach n start cells best =
-    (row : List Cell) × (cells ≡ start ++ row) × IsDrawn quotes d reach n row × IsBest row best
-
--- so with a quote more that is not within reach
-pub step_skip : (quotes : List Quote) (d : ℕ) (reach : Reach) (n : ℕ) (start cells : List Cell) (best : Cell)
-    (q : Quote)
-    → slice_get quotes n ≡ Some q → (IsWithin reach q → ⊥) → IsRowSoFar quotes d reach n start cells best
-    → IsRowSoFar quotes d reach (n + 1) start cells best
-step_skip quotes d reach n start cells best q at out was =
-    (was.0, was.1, drawn_skip quotes d reach n was.0 q at was.2 out, was.3)
-
--- and with one whose cell is put, unless the best cuts it off
-pub step_put : (quotes : List Quote) (d : ℕ) (reach : Reach) (n : ℕ) (start cells new : List Cell) (best b c : Cell)
-    (q : Quote)
-    → slice_get quotes n ≡ Some q → IsWithin reach q → c ≡ cell_of reach q d
-    → ((new ≡ cells) × (b ≡ best) × IsCutOff best c) ⊎ ((new ≡ cells ++ c ∷ []) × ((b ≡ best) ⊎ (b ≡ c)))
-    → IsRowSoFar quotes d reach n start cells best → IsRowSoFar quotes d reach (n + 1) start new b
-step_put quotes d reach n start cells new best b c q at within is put was = elim put [
-  | inl cut ↦ (
-    was.0,
-    cut.0 ∙ was.1,
-    drawn_cut quotes d reach n was.0 q at was.2 best was.3 (subst (λ x. IsCutOff best x) is cut.2),
-    subst (λ x. IsBest was.0 x) (sym cut.1) was.3,
-  )
-  | inr more ↦ (
-    was.0 ++ c ∷ [],
-    more.0 ∙ ap (λ xs. xs ++ c ∷ []) was.1 ∙ append_assoc start was.0 (c ∷ []),
-    drawn_push quotes d reach n was.0 q at was.2 c within is,
-    elim more.1 [
-      | inl same ↦ subst (λ x. IsBest (was.0 ++ c ∷ []) x) (sym same) (best_more was.0 c best was.3)
-      | inr new_best ↦ subst (λ x. IsBest (was.0 ++ c ∷ []) x) (sym new_best) (best_new was.0 c)
-    ],
-  )
-]
 
 -- each bid of a taker has the rank of an offer
 pub rank_offered : (s : SheetParts) (offers : List Offer) (takers : Takers) (d steps trim : ℕ) (bid : BidParts)
@@ -492,31 +416,12 @@ row_cells s codes ask n d reach quotes row valid rise asked all are drawn = reco
               omega (arith, i.trims),
             ) in
             inl (record {
-              place = m.place;
-              cell = m.cell;
-              there = m.there;
-              meets = elim m.meets [
-                | inl same ↦ elim i.meets [
-                  | inl x ↦
-                      inl (omega (arith, same.0, x.0), IsAtMost-trans bid (quote_bid i.quote d) m.cell.bid x.1 same.1)
-                  | inr x ↦
-                      inr (
-                        omega (arith, same.0, x.0),
-                        omega (arith, x.1, worth_at_most (quote_bid i.quote d) m.cell.bid same.1),
-                      )
-                ]
-                | inr less ↦ elim i.meets [
-                  | inl x ↦
-                      inr (
-                        omega (arith, less.0, x.0),
-                        omega (arith, less.1, worth_at_most bid (quote_bid i.quote d) x.1),
-                      )
-                  | inr x ↦ inr (omega (arith, less.0, x.0), omega (arith, less.1, x.1))
-                ]
-              ];
+              place = m.0;
+              cell = cell_of reach i.quote d;
+              there = m.1;
+              meets = i.meets;
               leaves = omega (
                 arith,
-                m.leaves,
                 q.rise,
                 after_in_order s.instruction.«module» i.quote.trim trim (omega (arith, valid.valid.module_range))
                     i.trims,

@@ -2,6 +2,8 @@
 //! from them.
 ghost use Rattle.std.specs.Prelude.{◌≡◌, ℕ, ◌+◌, ◌<◌, ◌≤◌, ◌⊎◌, ◌++◌, [], List, Option, IfOk, OnOk, length, slice_index};
 ghost use Rattle.buck_value.specs.Sheet.{SheetParts, IsSheet};
+ghost use Rattle.buck_apt.specs.Instruction.{InstructionParts};
+ghost use Rattle.buck_bid.specs.Limits.{AreLimits, IsBandOf};
 ghost use Rattle.buck_bid.specs.Offers.{codes_in};
 ghost use Rattle.buck_dp.specs.inner.Menu.{IsMenu};
 ghost use Rattle.buck_dp.specs.inner.Cells.{AreCells};
@@ -93,7 +95,10 @@ fn make_room<T: Copy>(items: &mut Vec<T>, heads: &mut Index, most: usize)
 /// What is asked for of a group in a band.
 fn ask_for(menu: &Menu, group: Group, band: usize) -> Ask
     requires band { band + 1 < length menu.now.limits.items }
-    ensures { result ≡ ask_of menu.now (record { takers = group.takers; at = band }) }
+    requires high { slice_index menu.now.limits.items (band + 1) ≤ ABOVE_ALL }
+    ensures ask { result ≡ ask_of menu.now (record { takers = group.takers; at = band }) }
+    ensures band { (i : InstructionParts) → AreLimits i menu.now.limits.items
+        → IsBandOf i result.band.thinnest result.band.past }
 {
     Ask {
         takers: group.takers,

@@ -52,7 +52,7 @@ impl Quote {
     #[inline(always)]
     pub fn bid(self, diameter: u32) -> Bid
         requires small { IsSmall self }
-        requires diameter { diameter ≤ 1500 }
+        requires diameter { diameter ≤ 2000 }
         ensures { result ≡ quote_bid self diameter }
     {
         let volume = volume_of(diameter, self.length);
@@ -152,56 +152,66 @@ fn price_per_area(quote: Quote) -> u64
     u64::from(quote.price) * u64::from(quote.length)
 }
 
-/// Whether another quote bids more worth at each diameter from the thinnest on, for logs that are no longer and with no
-/// more trim; both are priced per cubic metre. A whole volume may be less than the true one by one cubic centimetre,
-/// hence the price beside the product.
-fn is_outbid(quote: Quote, other: Quote, thinnest: u32) -> bool
+/// Whether another quote bids more worth at each diameter of a band. Of two that are priced per cubic metre a whole
+/// volume may be less than the true one by one cubic centimetre, hence the price beside the product.
+fn is_cheaper(quote: Quote, other: Quote, band: Band) -> bool
     requires small { IsSmall quote }
     requires other { IsSmall other }
-    requires thinnest { thinnest ≤ 2000 }
-    ensures { IsTrue result → IsOver thinnest other quote }
+    requires band { (band.thinnest < band.past) × (band.past ≤ 2001) }
+    ensures { IsTrue result → (d : ℕ) → band.thinnest ≤ d → d < band.past
+        → (quote_bid quote d).worth < (quote_bid other d).worth }
 {
-    if quote.kind != 1 {
-        return false;
+    if quote.kind == 1 {
+        if other.kind == 1 {
+            let area = volume_of(band.thinnest, 1);
+            let most = area * price_per_area(quote) + u64::from(other.price);
+            return most < area * price_per_area(other);
+        }
     }
-    if other.kind != 1 {
-        return false;
-    }
+    quote.bid(band.past - 1).worth() < other.bid(band.thinnest).worth()
+}
+
+/// Whether another quote bids more worth at each diameter of a band, for logs that are no longer and with no more trim.
+fn is_outbid(quote: Quote, other: Quote, ask: Ask) -> bool
+    requires small { IsSmall quote }
+    requires other { IsSmall other }
+    requires band { (ask.band.thinnest < ask.band.past) × (ask.band.past ≤ 2001) }
+    ensures { IsTrue result → IsOver ask other quote }
+{
     if other.steps > quote.steps {
         return false;
     }
     if other.trim > quote.trim {
         return false;
     }
-    let area = volume_of(thinnest, 1);
-    area * price_per_area(quote) + u64::from(other.price) < area * price_per_area(other)
+    is_cheaper(quote, other, ask.band)
 }
 
 /// Puts a quote behind others, of which those from a place on are its list's, unless the one that leads these outbids
-/// it in its whole band. It leads then, where it can outbid others. Where it outbids the last, it takes its place.
+/// it in its whole band. It leads then, unless it has more trim. Where it outbids the last, it takes its place.
 fn put_quote(
     list: &mut Vec<Quote>,
     from: usize,
     leader: &mut Quote,
     quote: Quote,
-    thinnest: u32,
+    ask: Ask,
 ) -> Result<(), AllocError>
     requires small { IsSmall quote }
     requires leader { IsSmall leader.old }
-    requires thinnest { thinnest ≤ 2000 }
+    requires band { (ask.band.thinnest < ask.band.past) × (ask.band.past ≤ 2001) }
     requires list { (k : ℕ) (q : Quote) → from ≤ k → slice_get list.old.items k ≡ Some q → IsSmall q }
-    ensures put { OnOk result (((list.new.items ≡ list.old.items) × (leader.new ≡ leader.old) × IsOver thinnest leader.old quote)
-        ⊎ (IsPut thinnest quote from list.old.items list.new.items × ((leader.new ≡ leader.old) ⊎ (leader.new ≡ quote)))) }
+    ensures put { OnOk result (((list.new.items ≡ list.old.items) × (leader.new ≡ leader.old) × IsOver ask leader.old quote)
+        ⊎ (IsPut ask quote from list.old.items list.new.items × ((leader.new ≡ leader.old) ⊎ (leader.new ≡ quote)))) }
     ensures left { IfErr result (λ _. list.new.items ≡ list.old.items) }
 {
-    if is_outbid(quote, *leader, thinnest) {
+    if is_outbid(quote, *leader, ask) {
         return Ok(());
     }
-    if quote.kind == 1 && quote.trim <= leader.trim {
+    if quote.trim <= leader.trim {
         *leader = quote;
     }
     let number = list.len();
-    if number > from && is_outbid(list[number - 1], quote, thinnest) {
+    if number > from && is_outbid(list[number - 1], quote, ask) {
         list[number - 1] = quote;
         return Ok(());
     }
@@ -218,7 +228,7 @@ pub fn put_list(
     ask: Ask,
 ) -> Result<(), AllocError>
     requires valid { IsSheet sheet.now }
-    requires thinnest { ask.band.thinnest ≤ 2000 }
+    requires band { (ask.band.thinnest < ask.band.past) × (ask.band.past ≤ 2001) }
     requires terms { (codes : List ℕ) × AreTerms sheet.now.instruction codes ask (length terms.now) terms.now }
     ensures { (list : List Quote) × (quotes.new.items ≡ quotes.old.items ++ list)
         × OnOk result ((codes : List ℕ) → AreTerms sheet.now.instruction codes ask (length terms.now) terms.now
@@ -239,7 +249,7 @@ pub fn put_list(
             None => {}
             Some(term) => {
                 let quote = term.quote_under(sheet);
-                put_quote(quotes, from, &mut leader, quote, ask.band.thinnest)?;
+                put_quote(quotes, from, &mut leader, quote, ask)?;
             }
         }
     }

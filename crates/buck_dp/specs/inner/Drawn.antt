@@ -4,7 +4,6 @@ use Rattle.buck_dp.specs.declared.offering.Cell.{Cell}
 use Rattle.buck_dp.specs.declared.offering.Reach.{Reach}
 use Rattle.buck_dp.specs.declared.pricing.Quote.{Quote}
 use Rattle.buck_dp.specs.inner.Quotes.{quote_bid, Falls}
-use Rattle.buck_dp.specs.inner.Cells.{IsMet}
 
 -- a quote is for logs within reach
 abbrev pub IsWithin : Reach → Quote → Type 0
@@ -20,10 +19,6 @@ cell_of reach q d = record {
   next = reach.far + q.rise;
 }
 
--- a cell bids more worth for logs that are no longer, and leaves no less
-abbrev pub IsCutOff : Cell → Cell → Type 0
-IsCutOff other cell = (other.steps ≤ cell.steps) × (other.rise ≤ cell.rise) × (cell.bid.worth < other.bid.worth)
-
 -- a cell is that of a quote
 pub record IsCellOf (quotes : List Quote) (d : ℕ) (reach : Reach) (c : Cell) : Type 0 where
   pub place : ℕ
@@ -36,7 +31,7 @@ pub record IsCellOf (quotes : List Quote) (d : ℕ) (reach : Reach) (c : Cell) :
 pub record IsDrawn (quotes : List Quote) (d : ℕ) (reach : Reach) (n : ℕ) (row : List Cell) : Type 0 where
   pub real : (k : ℕ) (c : Cell) → slice_get row k ≡ Some c → IsCellOf quotes d reach c
   pub met : (k : ℕ) (q : Quote) → k < n → slice_get quotes k ≡ Some q → IsWithin reach q
-      → IsMet row q.steps q.rise (quote_bid q d)
+      → (j : ℕ) × (slice_get row j ≡ Some (cell_of reach q d))
   pub early : (j k : ℕ) (c : Cell) (q : Quote) → Falls (λ (q : Quote). q.rank) quotes → n ≤ k
       → slice_get row j ≡ Some c → slice_get quotes k ≡ Some q → q.rank ≤ c.bid.rank
   pub order : Falls (λ (q : Quote). q.rank) quotes → Falls (λ (c : Cell). c.bid.rank) row

@@ -72,17 +72,17 @@ pub record AreTerms (i : InstructionParts) (codes : List ℕ) (ask : Ask) (n : �
   pub some : (k : ℕ) (t : Term) → slice_get terms k ≡ Some (Some t) → IsTermOf i codes ask k t
   pub none : (k : ℕ) → slice_get terms k ≡ Some None → IsNoTerm i codes ask k
 
--- a quote bids more worth than another at each diameter from one on, for logs that are no longer and with no more trim
-pub record IsOver (thinnest : ℕ) (p q : Quote) : Type 0 where
+-- a quote bids more worth than another at each diameter of a band, for logs that are no longer and with no more trim
+pub record IsOver (ask : Ask) (p q : Quote) : Type 0 where
   pub steps : p.steps ≤ q.steps
   pub trim : p.trim ≤ q.trim
-  pub more : (d : ℕ) → thinnest ≤ d → (quote_bid q d).worth < (quote_bid p d).worth
+  pub more : (d : ℕ) → IsAsked ask d → (quote_bid q d).worth < (quote_bid p d).worth
 
 -- a quote is put behind others, of which those from a place on are its list's, or in the place of the last of these, where
 -- it is over that
-abbrev pub IsPut : ℕ → Quote → ℕ → List Quote → List Quote → Type 0
-IsPut thinnest q from old new = (new ≡ old ++ q ∷ [])
-    ⊎ ((x : Quote) × (from < length old) × (slice_get old (length old - 1) ≡ Some x) × IsOver thinnest q x
+abbrev pub IsPut : Ask → Quote → ℕ → List Quote → List Quote → Type 0
+IsPut ask q from old new = (new ≡ old ++ q ∷ [])
+    ⊎ ((x : Quote) × (from < length old) × (slice_get old (length old - 1) ≡ Some x) × IsOver ask q x
     × (new ≡ slice_set old (length old - 1) q))
 
 -- a quote bids no less for logs as long, or more worth for shorter ones, and takes no more trim

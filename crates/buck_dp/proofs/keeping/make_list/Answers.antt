@@ -24,8 +24,13 @@ put_list-requires-clause-terms c = (
   codes_in c.args.market.menu.now.offers.items,
   asked c.args.market.sheet.now c.args.market.menu.now
       (record { takers = c.args.group.takers; at = c.args.band })
-      c.args.terms.now c.ask_for-ask.result c.ask_for-ask.ensures c.requires.terms,
+      c.args.terms.now c.ask_for-ask.result c.ask_for-ask.ensures.ask c.requires.terms,
 )
+
+pub put_list-requires-clause-band : goal.put_list-requires-clause-band
+put_list-requires-clause-band c =
+    let is = c.ask_for-ask.ensures.band c.args.market.sheet.now.instruction c.requires.menu.limits in
+    (is.order, is.high)
 
 pub returns-clause-list : goal.returns-clause-list
 returns-clause-list c =
@@ -37,8 +42,8 @@ returns-clause-list c =
     let new = c.in_ok-put_list.ensures in
     let are : AreQuotes s codes (ask_of m key) (length m.offers.items) new.0 =
     subst (λ (n : ℕ). AreQuotes s codes (ask_of m key) n new.0) c.requires.terms.number
-    (subst (λ (a : Ask). AreQuotes s codes a (length c.args.terms.now) new.0) c.ask_for-ask.ensures (new.2 codes
-    (asked s m key c.args.terms.now c.ask_for-ask.result c.ask_for-ask.ensures c.requires.terms))) in
+    (subst (λ (a : Ask). AreQuotes s codes a (length c.args.terms.now) new.0) c.ask_for-ask.ensures.ask (new.2 codes
+    (asked s m key c.args.terms.now c.ask_for-ask.result c.ask_for-ask.ensures.ask c.requires.terms))) in
     let from : ℕ = length c.as_slice-from.result.now in
     let past : ℕ = length c.as_slice.result.now in
     put_behind (ListOf s m) old new.0 c.put_list.new.quotes.items key from past new.1

@@ -3,7 +3,6 @@ use Rattle.buck_apt.specs.Instruction.{InstructionParts}
 use Rattle.buck_bid.specs.declared.offers.Offer.{Offer}
 use Rattle.buck_bid.specs.Limits.{IsBandOf}
 use Rattle.buck_bid.specs.Offers.{codes_in}
-use Rattle.buck_bid.proofs.LimitLemmas.{band_is}
 use Rattle.buck_dp.specs.declared.index.Key.{Key}
 use Rattle.buck_dp.specs.declared.pricing.Ask.{Ask}
 use Rattle.buck_dp.specs.declared.pricing.Term.{Term}
@@ -14,13 +13,9 @@ use Rattle.buck_dp.proofs.keeping.make_terms.Goals as goal
 
 pub put_terms-requires-clause-band : goal.put_terms-requires-clause-band
 put_terms-requires-clause-band c =
-    let i = c.args.market.sheet.now.instruction in
-    let limits : List ℕ = c.args.market.menu.now.limits.items in
-    let k : ℕ = c.args.band in
     subst (λ (j : InstructionParts). IsBandOf j c.ask_for-ask.result.band.thinnest c.ask_for-ask.result.band.past)
     (sym (c.deref.ensures ∙ c.instruction.ensures.instruction))
-    (subst (λ (a : Ask). IsBandOf i a.band.thinnest a.band.past) (sym c.ask_for-ask.ensures)
-    (band_is i limits k c.requires.menu.limits c.requires.band c.requires.high))
+    (c.ask_for-ask.ensures.band c.args.market.sheet.now.instruction c.requires.menu.limits)
 
 pub returns-clause-terms : goal.returns-clause-terms
 returns-clause-terms c =
@@ -30,7 +25,7 @@ returns-clause-terms c =
     let old : List (Option Term) = c.args.terms.now.items in
     let new = c.in_ok-put_terms.ensures in
     let are : AreTerms i (codes_in m.offers.items) (ask_of m key) (length m.offers.items) new.0 =
-    subst (λ (a : Ask). AreTerms i (codes_in m.offers.items) a (length m.offers.items) new.0) c.ask_for-ask.ensures
+    subst (λ (a : Ask). AreTerms i (codes_in m.offers.items) a (length m.offers.items) new.0) c.ask_for-ask.ensures.ask
     (subst (λ (os : List Offer). AreTerms i (codes_in os) c.ask_for-ask.result (length os) new.0)
     c.as_slice.ensures.value
     (subst (λ (j : InstructionParts). AreTerms j (codes_in c.as_slice.result.now) c.ask_for-ask.result

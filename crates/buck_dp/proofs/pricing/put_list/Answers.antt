@@ -72,7 +72,7 @@ loop-term-preserved c =
             )
             | inr put ↦
                 let left =
-                put_cleared c.args.ask.band.thinnest q (length c.as_slice-from.result.now)
+                put_cleared c.args.ask q (length c.as_slice-from.result.now)
                 c.args.quotes.now.items was.0 c.loop-term.quotes.items
                 w.put_quote.new.list.items (ap (λ (xs : List Quote). length xs) c.as_slice-from.ensures.value)
                 was.1 put.0 in (

@@ -1,28 +1,54 @@
-use Rattle.std.proofs.Common.{◌≡◌, get_or, slice_get, Some, arith}
+use Rattle.std.proofs.Common.{◌≡◌, List, ◌++◌, ◌∷◌, [], get_or, slice_get, Some, sym, ap, ◌∙◌, append_assoc, arith}
+use Rattle.std.proofs.lemmas.List.{append-nil}
 use Rattle.std.proofs.lemmas.Option.{slice_get-get_or}
+use Rattle.buck_dp.specs.declared.offering.Cell.{Cell}
 use Rattle.buck_dp.specs.declared.pricing.Quote.{Quote}
-use Rattle.buck_dp.proofs.QuoteLemmas.{step_skip, step_put}
-use Rattle.buck_dp.proofs.rowing.put_row.Goals.{in-Some+in_ok-put_cell, in_default}
+use Rattle.buck_dp.specs.inner.Drawn.{cell_of}
+use Rattle.buck_dp.proofs.QuoteLemmas.{drawn_none, drawn_skip, drawn_push}
+use Rattle.buck_dp.proofs.rowing.put_row.Goals.{in-Some, in_default}
 use Rattle.buck_dp.proofs.rowing.put_row.Goals as goal
 
 -- what `get_or` gives past the end
 abbrev blank : Quote
 blank = record { kind = 0; price = 0; rank = 0; length = 0; steps = 0; trim = 0; rise = 0 }
 
+pub loop-quote-init : goal.loop-quote-init
+loop-quote-init c = record {
+  room = omega (arith, c.in_ok-reserve.ensures.ok);
+  row = (
+    [],
+    c.reserve.ensures.items ∙ sym (append-nil c.args.cells.now.items),
+    drawn_none c.args.list.now c.args.diameter c.args.reach,
+  );
+}
+
+pub cell_at-requires-clause-small : goal.cell_at-requires-clause-small
+cell_at-requires-clause-small c =
+    let n = c.loop-quote.quote-index in
+    c.requires.small n (get_or c.args.list.now n blank)
+    (slice_get-get_or c.args.list.now n blank c.loop-quote-test.true)
+
 pub loop-quote-preserved : goal.loop-quote-preserved
 loop-quote-preserved c =
     let list = c.args.list.now in
     let n = c.loop-quote.quote-index in
     let q : Quote = get_or list n blank in
-    let at : slice_get list n ≡ Some q = slice_get-get_or list n blank (omega arith) in
+    let at : slice_get list n ≡ Some q = slice_get-get_or list n blank c.loop-quote-test.true in
+    let was = c.loop-quote.invariant.row in
     elim c.match-cell_at.branch [
-      | in-Some+in_ok-put_cell w ↦ rw (w.cells-is, w.best-is)
-          (step_put list c.args.diameter c.args.reach n c.args.cells.now.items c.loop-quote.cells.items
-          w.put_cell.new.cells.items
-          c.loop-quote.best w.put_cell.new.best w.in-Some.cell q at w.in-Some.ensures.some.0 w.in-Some.ensures.some.1
-          w.in_ok-put_cell.ensures.put c.loop-quote.invariant)
-      | in_default w ↦ rw (w.cells-is, w.best-is)
-          (step_skip list c.args.diameter c.args.reach n c.args.cells.now.items c.loop-quote.cells.items
-          c.loop-quote.best q at
-          w.in_default.ensures.none c.loop-quote.invariant)
+      | in-Some w ↦ rw w.cells-is (record {
+        room = omega (arith, c.loop-quote.invariant.room, w.push_reserved.ensures.len, w.push_reserved.ensures.capacity);
+        row = (
+          was.0 ++ cell_of c.args.reach q c.args.diameter ∷ [],
+          w.push_reserved.ensures.items
+              ∙ ap (λ (x : Cell). c.loop-quote.cells.items ++ x ∷ []) w.in-Some.ensures.some.1
+              ∙ ap (λ (xs : List Cell). xs ++ cell_of c.args.reach q c.args.diameter ∷ []) was.1
+              ∙ append_assoc c.args.cells.now.items was.0 (cell_of c.args.reach q c.args.diameter ∷ []),
+          drawn_push list c.args.diameter c.args.reach n was.0 q at was.2 w.in-Some.ensures.some.0,
+        );
+      })
+      | in_default w ↦ rw w.cells-is (record {
+        room = omega (arith, c.loop-quote.invariant.room);
+        row = (was.0, was.1, drawn_skip list c.args.diameter c.args.reach n was.0 q at was.2 w.in_default.ensures.none);
+      })
     ]
