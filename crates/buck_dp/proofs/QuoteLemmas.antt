@@ -19,7 +19,7 @@ use Rattle.buck_dp.specs.declared.pricing.Term.{Term}
 use Rattle.buck_dp.specs.declared.takers.Takers.{Takers}
 use Rattle.buck_dp.specs.inner.Bid.{BidParts, IsAtMost}
 use Rattle.buck_dp.specs.inner.Cells.{IsTakersBid, IsReal, AreCells}
-use Rattle.buck_dp.specs.inner.Quotes.{quote_bid, IsSmall, IsAsked, IsQuote, IsQuoteOf, HasNoBid, IsOver, IsPut, IsQuoted, IsTermOf, IsNoTerm, AreTerms, Falls, AreQuotes}
+use Rattle.buck_dp.specs.inner.Quotes.{quote_bid, IsAsked, IsQuote, IsQuoteOf, HasNoBid, IsOver, IsPut, IsQuoted, IsTermOf, IsNoTerm, AreTerms, Falls, AreQuotes}
 use Rattle.buck_dp.specs.inner.Drawn.{IsWithin, cell_of, IsCellOf, IsDrawn}
 use Rattle.buck_dp.proofs.BidLemmas.{IsAtMost-refl, worth_at_most}
 use Rattle.buck_dp.proofs.Places.{after_in_order}
@@ -166,7 +166,6 @@ pub record IsListSoFar (s : SheetParts) (codes : List ℕ) (ask : Ask) (n : ℕ)
     (leader : Quote) : Type 0 where
   pub quotes : AreQuotes s codes ask n list
   pub leads : IsLeader ask list leader
-  pub small : IsSmall leader
 
 -- so with nothing in it yet
 pub list_none : (s : SheetParts) (codes : List ℕ) (ask : Ask) → IsListSoFar s codes ask 0 []
@@ -179,7 +178,6 @@ list_none s codes ask = record {
     met = λ steps trim d bid asked past b. absurd (omega (arith, past, b.bids.rank.high));
   };
   leads = inl (λ d. refl);
-  small = record { length = omega arith; price = omega arith; rank = omega arith };
 }
 
 -- so with one more, unless the leader is over it
@@ -187,33 +185,19 @@ pub list_cut : (s : SheetParts) (codes : List ℕ) (ask : Ask) (n : ℕ) (list :
     → IsQuoteOf s codes ask n q
     → l ≡ p → IsOver ask p q → IsListSoFar s codes ask n list p → IsListSoFar s codes ask (n + 1) list l
 list_cut s codes ask n list p l q is same over was =
-    rw same (record {
-      quotes = quotes_cut s codes ask n list q is was.quotes p was.leads over;
-      leads =
-          was.leads;
-      small = was.small;
-    })
+    rw same (record { quotes = quotes_cut s codes ask n list q is was.quotes p was.leads over; leads = was.leads })
 
 pub list_put : (s : SheetParts) (codes : List ℕ) (ask : Ask) (n : ℕ) (list rest : List Quote) (p l q : Quote)
     → IsQuoteOf s codes ask n q
     → IsCleared ask q list rest → (l ≡ p) ⊎ (l ≡ q)
     → IsListSoFar s codes ask n list p → IsListSoFar s codes ask (n + 1) (rest ++ q ∷ []) l
-list_put s codes ask n list rest p l q is clear lead was =
-    let new = quotes_push s codes ask n list q is was.quotes rest clear in
-    elim lead [
-      | inl same ↦
-          rw same (record {
-            quotes = new;
-            leads =
-                leader_more s codes ask n list q is was.quotes rest clear p was.leads;
-            small = was.small;
-          })
-      | inr own ↦ rw own (record {
-        quotes = new;
-        leads = inr (λ x over. (length rest, q, pushed_at rest q (length rest) refl, over));
-        small = is.is.small;
-      })
-    ]
+list_put s codes ask n list rest p l q is clear lead was = record {
+  quotes = quotes_push s codes ask n list q is was.quotes rest clear;
+  leads = elim lead [
+    | inl same ↦ rw same (leader_more s codes ask n list q is was.quotes rest clear p was.leads)
+    | inr own ↦ rw own (inr (λ x over. (length rest, q, pushed_at rest q (length rest) refl, over)))
+  ];
+}
 
 -- what stands behind a list stands in the one behind it
 pub behind_at : (start list : List Quote) (k : ℕ) (x : Quote) → length start ≤ k → slice_get (start ++ list) k ≡ Some x

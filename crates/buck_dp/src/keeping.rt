@@ -21,7 +21,7 @@ use crate::index::{Head, Index, Key, Place};
 use crate::kinds::Group;
 use crate::menu::Menu;
 use crate::offering::{Cell, Reach};
-use crate::pricing::{Ask, Quote, Term, put_list, put_terms};
+use crate::pricing::{Ask, MOST_OFFERS, Quote, Term, put_list, put_terms};
 use crate::rowing::put_row;
 use buck_record::Memory;
 use buck_value::Sheet;
@@ -85,7 +85,7 @@ pub struct Kept {
 fn make_room<T: Copy>(items: &mut Vec<T>, heads: &mut Index, most: usize)
     ensures { ((items.new.items ≡ items.old.items) × (heads.new ≡ heads.old)) ⊎ (heads.new ≡ []) }
 {
-    let full = items.len() > most.saturating_sub(512) || heads.is_full();
+    let full = items.len() > most.saturating_sub(MOST_OFFERS) || heads.is_full();
     if full {
         items.clear();
         heads.clear();

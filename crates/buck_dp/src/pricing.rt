@@ -1,5 +1,5 @@
 //! Price lists: what the logs of some takers are bid by length and trim, at each diameter of a band.
-ghost use Rattle.std.specs.Prelude.{◌≡◌, ℕ, ◌+◌, ◌-◌, ◌*◌, ◌/◌, ◌<◌, ◌≤◌, ◌⊎◌, ◌++◌, ◌∷◌, [], IfErr, OnOk, IfSome, IfNone, IsTrue, List, Option, length, slice_get, slice_index};
+ghost use Rattle.std.specs.Prelude.{◌≡◌, ℕ, ◌+◌, ◌-◌, ◌*◌, ◌/◌, ◌<◌, ◌≤◌, ◌⊎◌, ◌++◌, ◌∷◌, [], IfErr, OnOk, IfSome, IfNone, IsTrue, List, Option, length, slice_get, slice_index, vec_len, vec_capacity};
 ghost use Rattle.buck_apt.specs.Instruction.{classes};
 ghost use Rattle.buck_value.specs.Sheet.{IsSheet};
 ghost use Rattle.buck_bid.specs.Offers.{codes_in, AreOffers};
@@ -7,7 +7,7 @@ ghost use Rattle.buck_bid.specs.Limits.{IsBandOf};
 ghost use Rattle.buck_bid.specs.Prices.{IsPricing, HasNoPrice};
 ghost use Rattle.buck_dp.specs.inner.Points.{point_after};
 ghost use Rattle.buck_dp.specs.inner.Takers.{IsTaker};
-ghost use Rattle.buck_dp.specs.inner.Quotes.{quote_bid, priced_at, IsSmall, IsOver, IsPut, IsTermOf, IsNoTerm, AreTerms, AreQuotes};
+ghost use Rattle.buck_dp.specs.inner.Quotes.{quote_bid, priced_at, IsSmall, IsOver, IsLeading, IsPut, IsTermOf, IsNoTerm, AreTerms, AreQuotes};
 
 use crate::bid::Bid;
 use crate::ends::point_from;
@@ -16,6 +16,9 @@ use buck_apt::Instruction;
 use buck_bid::{Band, Offer, Pricing, pricing_of};
 use buck_value::{Sheet, volume_of, worth_of_piece};
 use std::alloc::AllocError;
+
+/// No instruction offers more logs. Room for so many is made at once, so that a list or a row takes what it needs of it.
+pub const MOST_OFFERS: usize = 512;
 
 /// What an assortment bids for its logs of one length at each diameter of a band: a price per cubic metre or per piece,
 /// by the kind.
@@ -45,6 +48,14 @@ pub struct Ask {
 pub struct Term {
     pub class: usize,
     pub quote: Quote,
+}
+
+/// The quote that leads a price list, and a bar: of those per cubic metre, what has less than this in price by length is
+/// outbid.
+#[derive(Clone, Copy)]
+struct Leader {
+    quote: Quote,
+    bar: u64,
 }
 
 impl Quote {
@@ -187,36 +198,74 @@ fn is_outbid(quote: Quote, other: Quote, ask: Ask) -> bool
     is_cheaper(quote, other, ask.band)
 }
 
+/// A quote as a leader.
+fn leader_of(quote: Quote, ask: Ask) -> Leader
+    requires small { IsSmall quote }
+    requires band { (ask.band.thinnest < ask.band.past) × (ask.band.past ≤ 2001) }
+    ensures quote { result.quote ≡ quote }
+    ensures leads { IsLeading ask result }
+{
+    let area = volume_of(ask.band.thinnest, 1);
+    if area == 0 {
+        return Leader { quote, bar: 0 };
+    }
+    if quote.kind != 1 {
+        return Leader { quote, bar: 0 };
+    }
+    let most = area * price_per_area(quote);
+    Leader {
+        quote,
+        bar: most.saturating_sub(u64::from(quote.price)) / area,
+    }
+}
+
+/// Whether the quote of a term is below the bar of a leader, which outbids it then.
+#[inline(always)]
+fn is_led(term: &Term, sheet: &Sheet, leader: &Leader) -> bool
+    requires { term.now.class < classes sheet.now.instruction }
+    ensures { IsTrue result → (ask : Ask) → IsLeading ask leader.now
+        → IsOver ask leader.now.quote (priced_at term.now.quote (slice_index sheet.now.prices term.now.class)) }
+{
+    let price = sheet.prices()[term.class];
+    let quote = &term.quote;
+    if u64::from(price) * u64::from(quote.length) >= leader.bar {
+        return false;
+    }
+    if quote.kind != 1 {
+        return false;
+    }
+    if leader.quote.trim > quote.trim {
+        return false;
+    }
+    leader.quote.steps <= quote.steps
+}
+
 /// Puts a quote behind others, of which those from a place on are its list's, unless the one that leads these outbids
 /// it in its whole band. It leads then, unless it has more trim. Where it outbids the last, it takes its place.
-fn put_quote(
-    list: &mut Vec<Quote>,
-    from: usize,
-    leader: &mut Quote,
-    quote: Quote,
-    ask: Ask,
-) -> Result<(), AllocError>
+fn put_quote(list: &mut Vec<Quote>, from: usize, leader: &mut Leader, quote: Quote, ask: Ask)
+    requires room { vec_len list.old < vec_capacity list.old }
     requires small { IsSmall quote }
-    requires leader { IsSmall leader.old }
+    requires leader { IsLeading ask leader.old }
     requires band { (ask.band.thinnest < ask.band.past) × (ask.band.past ≤ 2001) }
     requires list { (k : ℕ) (q : Quote) → from ≤ k → slice_get list.old.items k ≡ Some q → IsSmall q }
-    ensures put { OnOk result (((list.new.items ≡ list.old.items) × (leader.new ≡ leader.old) × IsOver ask leader.old quote)
-        ⊎ (IsPut ask quote from list.old.items list.new.items × ((leader.new ≡ leader.old) ⊎ (leader.new ≡ quote)))) }
-    ensures left { IfErr result (λ _. list.new.items ≡ list.old.items) }
+    ensures put { ((list.new.items ≡ list.old.items) × (leader.new ≡ leader.old) × IsOver ask leader.old.quote quote)
+        ⊎ (IsPut ask quote from list.old.items list.new.items × ((leader.new ≡ leader.old) ⊎ (leader.new.quote ≡ quote))) }
+    ensures leader { IsLeading ask leader.new }
+    ensures number { vec_len list.new ≤ vec_len list.old + 1 }
+    ensures capacity { vec_capacity list.new ≡ vec_capacity list.old }
 {
-    if is_outbid(quote, *leader, ask) {
-        return Ok(());
+    if is_outbid(quote, leader.quote, ask) {
+        return;
     }
-    if quote.trim <= leader.trim {
-        *leader = quote;
+    if quote.trim <= leader.quote.trim {
+        *leader = leader_of(quote, ask);
     }
     let number = list.len();
     if number > from && is_outbid(list[number - 1], quote, ask) {
         list[number - 1] = quote;
-        return Ok(());
+        return;
     }
-    list.push(quote)?;
-    Ok(())
+    list.push_reserved(quote);
 }
 
 /// Puts a price list behind others: the quotes of some takers in a band, by their length, from their terms, without those
@@ -234,8 +283,9 @@ pub fn put_list(
         × OnOk result ((codes : List ℕ) → AreTerms sheet.now.instruction codes ask (length terms.now) terms.now
         → AreQuotes sheet.now codes ask (length terms.now) list) }
 {
+    quotes.reserve(terms.len().max(MOST_OFFERS))?;
     let from = quotes.as_slice().len();
-    let mut leader = Quote {
+    let nobody = Quote {
         kind: 0,
         price: 0,
         rank: 0,
@@ -244,12 +294,15 @@ pub fn put_list(
         trim: u32::MAX,
         rise: 0,
     };
+    let mut leader = leader_of(nobody, ask);
     for term in terms {
-        match *term {
+        match term {
             None => {}
             Some(term) => {
-                let quote = term.quote_under(sheet);
-                put_quote(quotes, from, &mut leader, quote, ask)?;
+                if !is_led(term, sheet, &leader) {
+                    let quote = term.quote_under(sheet);
+                    put_quote(quotes, from, &mut leader, quote, ask);
+                }
             }
         }
     }

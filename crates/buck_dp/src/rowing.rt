@@ -6,7 +6,7 @@ ghost use Rattle.buck_dp.specs.inner.Quotes.{IsSmall};
 ghost use Rattle.buck_dp.specs.inner.Drawn.{IsWithin, cell_of, IsDrawn};
 
 use crate::offering::{Cell, Reach};
-use crate::pricing::Quote;
+use crate::pricing::{MOST_OFFERS, Quote};
 use std::alloc::AllocError;
 
 /// The cell of a quote at a diameter, if its logs are within reach.
@@ -49,7 +49,7 @@ pub fn put_row(
     ensures row { (row : List Cell) × (cells.new.items ≡ cells.old.items ++ row)
         × OnOk result (IsDrawn list.now diameter reach (length list.now) row) }
 {
-    cells.reserve(list.len())?;
+    cells.reserve(list.len().max(MOST_OFFERS))?;
     for quote in list {
         if let Some(cell) = cell_at(*quote, diameter, reach) {
             cells.push_reserved(cell);

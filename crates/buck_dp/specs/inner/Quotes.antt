@@ -1,10 +1,11 @@
 -- Price lists: what takers bid at each diameter of a band.
-use Rattle.std.specs.Prelude.{◌≡◌, ℕ, ◌+◌, ◌-◌, ◌<◌, ◌≤◌, ◌⊎◌, List, [], ◌∷◌, ◌++◌, Option, length, slice_get, slice_index, slice_set, Some, None}
+use Rattle.std.specs.Prelude.{◌≡◌, ℕ, ◌+◌, ◌-◌, ◌*◌, ◌<◌, ◌≤◌, ◌⊎◌, List, [], ◌∷◌, ◌++◌, Option, length, slice_get, slice_index, slice_set, Some, None}
 use Rattle.buck_apt.specs.Instruction.{InstructionParts, classes}
 use Rattle.buck_value.specs.Sheet.{SheetParts, IsSheet}
 use Rattle.buck_value.specs.Volume.{volume, worth_at}
 use Rattle.buck_dp.specs.inner.Points.{point_after}
 use Rattle.buck_dp.specs.declared.pricing.Quote.{Quote}
+use Rattle.buck_dp.specs.declared.pricing.Leader.{Leader}
 use Rattle.buck_dp.specs.declared.pricing.Term.{Term}
 use Rattle.buck_dp.specs.declared.pricing.Ask.{Ask}
 use Rattle.buck_dp.specs.inner.Bid.{BidParts, bid_of, IsAtMost}
@@ -77,6 +78,12 @@ pub record IsOver (ask : Ask) (p q : Quote) : Type 0 where
   pub steps : p.steps ≤ q.steps
   pub trim : p.trim ≤ q.trim
   pub more : (d : ℕ) → IsAsked ask d → (quote_bid q d).worth < (quote_bid p d).worth
+
+-- a leader outbids what is below its bar
+pub record IsLeading (ask : Ask) (l : Leader) : Type 0 where
+  pub small : IsSmall l.quote
+  pub below : (q : Quote) → q.price * q.length < l.bar → q.kind ≡ 1 → l.quote.trim ≤ q.trim → l.quote.steps ≤ q.steps
+      → IsOver ask l.quote q
 
 -- a quote is put behind others, of which those from a place on are its list's, or in the place of the last of these, where
 -- it is over that
