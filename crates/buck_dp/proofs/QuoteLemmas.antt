@@ -181,11 +181,11 @@ list_none s codes ask = record {
 }
 
 -- so with one more, unless the leader is over it
-pub list_cut : (s : SheetParts) (codes : List ℕ) (ask : Ask) (n : ℕ) (list : List Quote) (p l q : Quote)
-    → IsQuoteOf s codes ask n q
-    → l ≡ p → IsOver ask p q → IsListSoFar s codes ask n list p → IsListSoFar s codes ask (n + 1) list l
-list_cut s codes ask n list p l q is same over was =
-    rw same (record { quotes = quotes_cut s codes ask n list q is was.quotes p was.leads over; leads = was.leads })
+pub list_cut : (s : SheetParts) (codes : List ℕ) (ask : Ask) (n : ℕ) (list : List Quote) (p q : Quote)
+    → IsQuoteOf s codes ask n q → IsOver ask p q → IsListSoFar s codes ask n list p
+    → IsListSoFar s codes ask (n + 1) list p
+list_cut s codes ask n list p q is over was =
+    record { quotes = quotes_cut s codes ask n list q is was.quotes p was.leads over; leads = was.leads }
 
 pub list_put : (s : SheetParts) (codes : List ℕ) (ask : Ask) (n : ℕ) (list rest : List Quote) (p l q : Quote)
     → IsQuoteOf s codes ask n q

@@ -50,12 +50,13 @@ pub struct Term {
     pub quote: Quote,
 }
 
-/// The quote that leads a price list, and a bar: of those per cubic metre, what has less than this in price by length is
-/// outbid.
+/// The quote that leads a price list. It outbids what is priced per cubic metre, where price by length is less than its
+/// bar, and what is priced per piece, where that is worth less than its least bid.
 #[derive(Clone, Copy)]
 struct Leader {
     quote: Quote,
     bar: u64,
+    least: u64,
 }
 
 impl Quote {
@@ -163,113 +164,89 @@ fn price_per_area(quote: Quote) -> u64
     u64::from(quote.price) * u64::from(quote.length)
 }
 
-/// Whether another quote bids more worth at each diameter of a band. Of two that are priced per cubic metre a whole
-/// volume may be less than the true one by one cubic centimetre, hence the price beside the product.
-fn is_cheaper(quote: Quote, other: Quote, band: Band) -> bool
-    requires small { IsSmall quote }
-    requires other { IsSmall other }
-    requires band { (band.thinnest < band.past) × (band.past ≤ 2001) }
-    ensures { IsTrue result → (d : ℕ) → band.thinnest ≤ d → d < band.past
-        → (quote_bid quote d).worth < (quote_bid other d).worth }
-{
-    if quote.kind == 1 {
-        if other.kind == 1 {
-            let area = volume_of(band.thinnest, 1);
-            let most = area * price_per_area(quote) + u64::from(other.price);
-            return most < area * price_per_area(other);
-        }
-    }
-    quote.bid(band.past - 1).worth() < other.bid(band.thinnest).worth()
-}
-
-/// Whether another quote bids more worth at each diameter of a band, for logs that are no longer and with no more trim.
-fn is_outbid(quote: Quote, other: Quote, ask: Ask) -> bool
-    requires small { IsSmall quote }
-    requires other { IsSmall other }
-    requires band { (ask.band.thinnest < ask.band.past) × (ask.band.past ≤ 2001) }
-    ensures { IsTrue result → IsOver ask other quote }
-{
-    if other.steps > quote.steps {
-        return false;
-    }
-    if other.trim > quote.trim {
-        return false;
-    }
-    is_cheaper(quote, other, ask.band)
-}
-
-/// A quote as a leader.
+/// A quote as a leader. A whole volume may be less than the true one by one cubic centimetre, hence the price that is
+/// taken off.
 fn leader_of(quote: Quote, ask: Ask) -> Leader
     requires small { IsSmall quote }
     requires band { (ask.band.thinnest < ask.band.past) × (ask.band.past ≤ 2001) }
     ensures quote { result.quote ≡ quote }
     ensures leads { IsLeading ask result }
 {
+    let least = quote.bid(ask.band.thinnest).worth();
+    if quote.kind != 1 {
+        let area = volume_of(ask.band.past - 1, 1) + 1;
+        return Leader {
+            quote,
+            bar: least / area,
+            least,
+        };
+    }
     let area = volume_of(ask.band.thinnest, 1);
     if area == 0 {
-        return Leader { quote, bar: 0 };
-    }
-    if quote.kind != 1 {
-        return Leader { quote, bar: 0 };
+        return Leader {
+            quote,
+            bar: 0,
+            least,
+        };
     }
     let most = area * price_per_area(quote);
     Leader {
         quote,
         bar: most.saturating_sub(u64::from(quote.price)) / area,
+        least,
     }
 }
 
-/// Whether the quote of a term is below the bar of a leader, which outbids it then.
+/// Whether a leader outbids a quote at another price.
 #[inline(always)]
-fn is_led(term: &Term, sheet: &Sheet, leader: &Leader) -> bool
-    requires { term.now.class < classes sheet.now.instruction }
+fn is_led(quote: &Quote, price: u32, leader: &Leader) -> bool
     ensures { IsTrue result → (ask : Ask) → IsLeading ask leader.now
-        → IsOver ask leader.now.quote (priced_at term.now.quote (slice_index sheet.now.prices term.now.class)) }
+        → IsOver ask leader.now.quote (priced_at quote.now price) }
 {
-    let price = sheet.prices()[term.class];
-    let quote = &term.quote;
-    if u64::from(price) * u64::from(quote.length) >= leader.bar {
-        return false;
-    }
-    if quote.kind != 1 {
-        return false;
-    }
     if leader.quote.trim > quote.trim {
         return false;
     }
-    leader.quote.steps <= quote.steps
+    if leader.quote.steps > quote.steps {
+        return false;
+    }
+    if quote.kind == 1 {
+        return u64::from(price) * u64::from(quote.length) < leader.bar;
+    }
+    u64::from(price) * 1_000_000 < leader.least
 }
 
-/// Puts a quote behind others, of which those from a place on are its list's, unless the one that leads these outbids
-/// it in its whole band. It leads then, unless it has more trim. Where it outbids the last, it takes its place.
+/// Puts a quote behind others, of which those from a place on are its list's. It leads these, unless it has more trim.
+/// Where it outbids the last, it takes its place.
 fn put_quote(list: &mut Vec<Quote>, from: usize, leader: &mut Leader, quote: Quote, ask: Ask)
     requires room { vec_len list.old < vec_capacity list.old }
     requires small { IsSmall quote }
     requires leader { IsLeading ask leader.old }
     requires band { (ask.band.thinnest < ask.band.past) × (ask.band.past ≤ 2001) }
-    requires list { (k : ℕ) (q : Quote) → from ≤ k → slice_get list.old.items k ≡ Some q → IsSmall q }
-    ensures put { ((list.new.items ≡ list.old.items) × (leader.new ≡ leader.old) × IsOver ask leader.old.quote quote)
-        ⊎ (IsPut ask quote from list.old.items list.new.items × ((leader.new ≡ leader.old) ⊎ (leader.new.quote ≡ quote))) }
+    ensures put { IsPut ask quote from list.old.items list.new.items }
+    ensures next { (leader.new ≡ leader.old) ⊎ (leader.new.quote ≡ quote) }
     ensures leader { IsLeading ask leader.new }
     ensures number { vec_len list.new ≤ vec_len list.old + 1 }
     ensures capacity { vec_capacity list.new ≡ vec_capacity list.old }
 {
-    if is_outbid(quote, leader.quote, ask) {
+    if quote.trim > leader.quote.trim {
+        list.push_reserved(quote);
         return;
     }
-    if quote.trim <= leader.quote.trim {
-        *leader = leader_of(quote, ask);
-    }
+    *leader = leader_of(quote, ask);
     let number = list.len();
-    if number > from && is_outbid(list[number - 1], quote, ask) {
-        list[number - 1] = quote;
-        return;
+    if number > from {
+        let last = list[number - 1];
+        if is_led(&last, last.price, leader) {
+            list[number - 1] = quote;
+            return;
+        }
     }
     list.push_reserved(quote);
 }
 
 /// Puts a price list behind others: the quotes of some takers in a band, by their length, from their terms, without those
 /// that one outbids in the whole band whose log is no longer.
+#[inline(never)]
 pub fn put_list(
     quotes: &mut Vec<Quote>,
     sheet: &Sheet,
@@ -295,11 +272,12 @@ pub fn put_list(
         rise: 0,
     };
     let mut leader = leader_of(nobody, ask);
+    let prices = sheet.prices();
     for term in terms {
         match term {
             None => {}
             Some(term) => {
-                if !is_led(term, sheet, &leader) {
+                if !is_led(&term.quote, prices[term.class], &leader) {
                     let quote = term.quote_under(sheet);
                     put_quote(quotes, from, &mut leader, quote, ask);
                 }

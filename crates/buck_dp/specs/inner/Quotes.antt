@@ -1,5 +1,5 @@
 -- Price lists: what takers bid at each diameter of a band.
-use Rattle.std.specs.Prelude.{◌≡◌, ℕ, ◌+◌, ◌-◌, ◌*◌, ◌<◌, ◌≤◌, ◌⊎◌, List, [], ◌∷◌, ◌++◌, Option, length, slice_get, slice_index, slice_set, Some, None}
+use Rattle.std.specs.Prelude.{◌≡◌, ◌≢◌, ℕ, ◌+◌, ◌-◌, ◌*◌, ◌<◌, ◌≤◌, ◌⊎◌, List, [], ◌∷◌, ◌++◌, Option, length, slice_get, slice_index, slice_set, Some, None}
 use Rattle.buck_apt.specs.Instruction.{InstructionParts, classes}
 use Rattle.buck_value.specs.Sheet.{SheetParts, IsSheet}
 use Rattle.buck_value.specs.Volume.{volume, worth_at}
@@ -79,11 +79,12 @@ pub record IsOver (ask : Ask) (p q : Quote) : Type 0 where
   pub trim : p.trim ≤ q.trim
   pub more : (d : ℕ) → IsAsked ask d → (quote_bid q d).worth < (quote_bid p d).worth
 
--- a leader outbids what is below its bar
+-- a leader outbids what is below its bar, or its least bid
 pub record IsLeading (ask : Ask) (l : Leader) : Type 0 where
-  pub small : IsSmall l.quote
-  pub below : (q : Quote) → q.price * q.length < l.bar → q.kind ≡ 1 → l.quote.trim ≤ q.trim → l.quote.steps ≤ q.steps
-      → IsOver ask l.quote q
+  pub below : (q : Quote) → q.kind ≡ 1 → q.price * q.length < l.bar → (d : ℕ) → IsAsked ask d
+      → (quote_bid q d).worth < (quote_bid l.quote d).worth
+  pub flat : (q : Quote) → q.kind ≢ 1 → q.price * 1000000 < l.least → (d : ℕ) → IsAsked ask d
+      → (quote_bid q d).worth < (quote_bid l.quote d).worth
 
 -- a quote is put behind others, of which those from a place on are its list's, or in the place of the last of these, where
 -- it is over that

@@ -1,4 +1,4 @@
-use Rattle.std.proofs.Common.{◌≡◌, ℕ, ◌-◌, List, [], ◌∷◌, ◌++◌, Option, Some, None, inl, inr, length, slice_get, slice_index, refl, sym, subst, ap, ◌∙◌, arith}
+use Rattle.std.proofs.Common.{◌≡◌, ℕ, List, [], ◌∷◌, ◌++◌, Option, Some, None, inl, inr, length, slice_get, slice_index, refl, sym, subst, ap, ◌∙◌, arith}
 use Rattle.std.proofs.lemmas.List.{append-nil}
 use Rattle.std.proofs.lemmas.Option.{slice_get-get_or}
 use Rattle.buck_value.specs.Sheet.{SheetParts, IsSheet}
@@ -6,8 +6,8 @@ use Rattle.buck_dp.specs.declared.pricing.Ask.{Ask}
 use Rattle.buck_dp.specs.declared.pricing.Leader.{Leader}
 use Rattle.buck_dp.specs.declared.pricing.Quote.{Quote}
 use Rattle.buck_dp.specs.declared.pricing.Term.{Term}
-use Rattle.buck_dp.specs.inner.Quotes.{priced_at, IsQuoteOf, AreTerms, AreQuotes}
-use Rattle.buck_dp.proofs.QuoteLemmas.{IsListSoFar, quotes_skip, list_none, list_cut, list_put, behind_at, put_cleared}
+use Rattle.buck_dp.specs.inner.Quotes.{priced_at, IsOver, IsQuoteOf, AreTerms, AreQuotes}
+use Rattle.buck_dp.proofs.QuoteLemmas.{IsListSoFar, quotes_skip, list_none, list_cut, list_put, put_cleared}
 use Rattle.buck_dp.proofs.pricing.put_list.Goals.{in-None, in-Some+else-not-is_led, in-Some+then-not-is_led}
 use Rattle.buck_dp.proofs.pricing.put_list.Goals as goal
 
@@ -32,13 +32,6 @@ loop-term-init c = record {
   );
 }
 
-pub is_led-requires : goal.is_led-requires
-is_led-requires c =
-    let n = c.loop-term.term-index in
-    (c.requires.terms.1.some n c.in-Some.term
-    (slice_get-get_or c.args.terms.now n None c.loop-term-test.true
-    ∙ ap (λ (x : Option Term). Some x) c.in-Some.is)).class
-
 pub quote_under-quote-requires : goal.quote_under-quote-requires
 quote_under-quote-requires c =
     let n = c.loop-term.term-index in
@@ -54,16 +47,6 @@ put_quote-requires-clause-small c =
     c.requires.terms.1
     (slice_get-get_or c.args.terms.now n None c.loop-term-test.true
     ∙ ap (λ (x : Option Term). Some x) c.in-Some.is)).is.small
-
-pub put_quote-requires-clause-list : goal.put_quote-requires-clause-list
-put_quote-requires-clause-list c k q le at =
-    let start : List Quote = c.args.quotes.now.items in
-    let was = c.loop-term.invariant.list in
-    let from : length c.as_slice-from.result.now ≡ length start =
-    ap (λ (xs : List Quote). length xs) (c.as_slice-from.ensures.value ∙ c.reserve.ensures.items) in
-    ((was.2 c.requires.terms.0 c.requires.terms.1).quotes.real (k - length start) q
-    (behind_at start was.0 k q (omega (arith, le, from)) (subst (λ (xs : List Quote). slice_get xs k ≡ Some q) was.1
-    at))).small
 
 pub loop-term-preserved : goal.loop-term-preserved
 loop-term-preserved c =
@@ -90,26 +73,22 @@ loop-term-preserved c =
               w.put_quote.ensures.capacity,
             );
             leads = w.put_quote.ensures.leader;
-            list = elim w.put_quote.ensures.put [
-              | inl cut ↦ (
-                was.0,
-                cut.0 ∙ was.1,
-                λ codes are. list_cut s codes ask n was.0 lead w.put_quote.new.leader.quote q (is codes are)
-                    (ap (λ (l : Leader). l.quote) cut.1) cut.2 (was.2 codes are),
-              )
-              | inr put ↦
-                  let left =
-                  put_cleared ask q (length c.as_slice-from.result.now) start was.0 c.loop-term.quotes.items
-                  w.put_quote.new.list.items
-                  (ap (λ (xs : List Quote). length xs) (c.as_slice-from.ensures.value ∙ c.reserve.ensures.items))
-                  was.1 put.0 in (
-                    left.0 ++ q ∷ [],
-                    left.2,
-                    λ codes are. list_put s codes ask n was.0 left.0 lead w.put_quote.new.leader.quote q (is codes are)
-                        left.1 (elim put.1 [ inl same ↦ inl (ap (λ (l : Leader). l.quote) same) | inr own ↦ inr own ])
-                        (was.2 codes are),
-                  )
-            ];
+            list =
+                let left =
+                put_cleared ask q (length c.as_slice-from.result.now) start was.0 c.loop-term.quotes.items
+                w.put_quote.new.list.items
+                (ap (λ (xs : List Quote). length xs) (c.as_slice-from.ensures.value ∙ c.reserve.ensures.items))
+                was.1 w.put_quote.ensures.put in (
+                  left.0 ++ q ∷ [],
+                  left.2,
+                  λ codes are. list_put s codes ask n was.0 left.0 lead w.put_quote.new.leader.quote q (is codes are)
+                      left.1
+                      (elim w.put_quote.ensures.next [
+                        | inl same ↦ inl (ap (λ (l : Leader). l.quote) same)
+                        | inr own ↦ inr own
+                      ])
+                      (was.2 codes are),
+                );
           })
       | in-Some+else-not-is_led w ↦ rw (w.quotes-is, w.leader-is) (record {
         room = omega (arith, c.loop-term.invariant.room);
@@ -117,12 +96,14 @@ loop-term-preserved c =
         list = (
           was.0,
           was.1,
-          λ codes are. list_cut s codes ask n was.0 lead lead
+          λ codes are. list_cut s codes ask n was.0 lead
               (priced_at w.in-Some.term.quote (slice_index s.prices w.in-Some.term.class))
               (quoted s codes ask c.args.terms.now n w.in-Some.term c.requires.valid are
               (item ∙ ap (λ (x : Option Term). Some x) w.in-Some.is))
-              refl
-              (w.is_led.ensures w.if-not-is_led.false ask c.loop-term.invariant.leads)
+              (subst (λ (xs : List ℕ).
+              IsOver ask lead (priced_at w.in-Some.term.quote (slice_index xs w.in-Some.term.class)))
+              c.prices-prices.ensures.prices
+              (w.is_led.ensures w.if-not-is_led.false ask c.loop-term.invariant.leads))
               (was.2 codes are),
         );
       })
