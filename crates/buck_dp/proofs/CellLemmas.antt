@@ -1,8 +1,9 @@
 -- Cells offered one after another.
-use Rattle.std.proofs.Common.{◌≡◌, ◌≢◌, ℕ, ◌+◌, ◌-◌, ◌<◌, ◌≤◌, ◌⊎◌, inl, inr, List, ◌++◌, take, drop, length, length-append, slice_get, Some, sym, subst, ap, ◌∙◌, arith}
+use Rattle.std.proofs.Common.{◌≡◌, ◌≢◌, ℕ, ◌+◌, ◌-◌, ◌<◌, ◌≤◌, ◌⊎◌, inl, inr, List, [], ◌∷◌, refl, ◌++◌, take, drop, length, length-append, slice_get, Some, sym, subst, ap, ◌∙◌, arith}
 use Rattle.std.proofs.lemmas.Bool.{cases_lt, cases_order}
 use Rattle.std.proofs.lemmas.Option.{same_Some}
 use Rattle.std.proofs.lemmas.List.{length-drop, length-take-le, get_or-drop, get_or-take, get_or_append_left, get_or-append_right}
+use Rattle.buck_bid.proofs.ListLemmas.{push_cases, kept_at}
 use Rattle.buck_dp.specs.declared.offering.Cell.{Cell}
 use Rattle.buck_dp.specs.inner.Bid.{BidParts, none, IsAtMost, IsGreater, plus}
 use Rattle.buck_dp.specs.inner.Cells.{IsPlaced}
@@ -11,7 +12,7 @@ use Rattle.buck_dp.specs.inner.Rows.{IsNear, AreOffered, AreFit}
 use Rattle.buck_dp.proofs.BidLemmas.{IsAtMost-refl, IsAtMost-trans, greater_first, greater_second}
 
 module _ (cells : List Cell) (top first stop n : ℕ) (low : stop ≤ top) (v u : List BidParts)
-    (fit : AreFit cells top first stop v) (offered : AreOffered cells top first stop n v u) where
+    (offered : AreOffered cells top first stop n v u) where
   -- from the top on nothing changes
   pub later_same : (k : ℕ) → top ≤ k → bid_at u k ≡ bid_at v k
   later_same k le = elim (offered.one k) [
@@ -92,6 +93,31 @@ module _ (cells : List Cell) (top first stop n : ℕ) (low : stop ≤ top) (v u 
     ];
     one = offered.one;
   }
+
+-- no cells are offered yet
+pub offered_none : (top first stop : ℕ) (v : List BidParts) → AreOffered [] top first stop 0 v v
+offered_none top first stop v = record {
+  number = refl;
+  kept = λ k. IsAtMost-refl (bid_at v k);
+  done = λ k c lt. absurd (omega (arith, lt));
+  one = λ i. inl refl;
+}
+
+-- what is offered of a row is offered of it with one cell more
+pub offered_behind : (row : List Cell) (c : Cell) (top first stop : ℕ) (v u : List BidParts)
+    → AreOffered row top first stop (length row) v u → AreOffered (row ++ c ∷ []) top first stop (length row) v u
+offered_behind row c top first stop v u offered = record {
+  number = offered.number;
+  kept = offered.kept;
+  done = λ k d lt at. elim (push_cases row c d k at) [
+    | inl old ↦ offered.done k d lt old
+    | inr end ↦ absurd (omega (arith, lt, end.0))
+  ];
+  one = λ i. elim (offered.one i) [
+    | inl same ↦ inl same
+    | inr o ↦ inr (o.0, o.1, kept_at row c o.1 o.0 o.2, o.3, o.4, o.5)
+  ];
+}
 
 -- A row whose cells all start at point `base` or later is offered to the points from there on alone.
 module _ (cells : List Cell) (top first stop far base : ℕ) (v : List BidParts)

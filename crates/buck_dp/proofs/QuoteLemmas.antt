@@ -1,5 +1,5 @@
 -- Price lists that grow, and rows drawn from them.
-use Rattle.std.proofs.Common.{◌≡◌, ℕ, ◌+◌, ◌-◌, ◌*◌, ◌<◌, ◌≤◌, ◌⊎◌, inl, inr, List, [], ◌∷◌, ◌++◌, Option, IfSome, IfNone, length, length-append, take, get_or, slice_get, slice_set, suc, Some, None, refl, sym, subst, ap, ◌∙◌, append_assoc, arith, mul-le-mul_right, add-mul}
+use Rattle.std.proofs.Common.{◌≡◌, ℕ, ◌+◌, ◌-◌, ◌*◌, ◌<◌, ◌≤◌, ◌⊎◌, inl, inr, List, [], ◌∷◌, ◌++◌, Option, IfSome, IfNone, length, length-append, take, get_or, slice_get, slice_set, zero, suc, Some, None, refl, sym, subst, ap, ◌∙◌, append_assoc, arith, mul-le-mul_right, add-mul}
 use Rattle.std.proofs.lemmas.Bool.{cases_lt}
 use Rattle.std.proofs.lemmas.Option.{none-some, same_Some, slice_get_within, slice_get-get_or, get_or_from_slice_get}
 use Rattle.std.specs.List.Sorted.{IsStrictlyIncreasing}
@@ -324,6 +324,38 @@ module _ (quotes : List Quote) (d : ℕ) (reach : Reach) (n : ℕ) (row : List C
           )
         ];
       }
+
+-- each list has its row
+pub drawn_all : (quotes : List Quote) (d : ℕ) (reach : Reach) → (row : List Cell)
+    × IsDrawn quotes d reach (length quotes) row
+drawn_all quotes d reach = up_to (length quotes) (omega arith)
+  where
+    blank : ℕ → Quote
+    blank n = record { kind = 0; price = 0; rank = 0; length = 0; steps = 0; trim = 0; rise = 0 }
+
+    within : (q : Quote) → IsWithin reach q ⊎ (IsWithin reach q → ⊥)
+    within q = elim (cases_lt reach.past q.steps) [
+      | inr short ↦ inr (λ w. omega (arith, short, w.0))
+      | inl long ↦ elim (cases_lt reach.far q.steps) [
+        | inl far ↦ inr (λ w. omega (arith, far, w.1))
+        | inr near ↦ elim (cases_lt reach.room q.trim) [
+          | inl wide ↦ inr (λ w. omega (arith, wide, w.2))
+          | inr fits ↦ inl (long, near, fits)
+        ]
+      ]
+    ]
+
+    up_to : (n : ℕ) → n ≤ length quotes → (row : List Cell) × IsDrawn quotes d reach n row
+    up_to zero le = ([], drawn_none quotes d reach)
+    up_to (suc n) le =
+        let was = up_to n (omega (arith, le)) in
+        let q : Quote = get_or quotes n (blank n) in
+        let at : slice_get quotes n ≡ Some q = slice_get-get_or quotes n (blank n) (omega (arith, le)) in
+        subst (λ (k : ℕ). (row : List Cell) × IsDrawn quotes d reach k row) (let e : n + 1 ≡ suc n = omega arith in e)
+        (elim (within q) [
+          | inl near ↦ (was.0 ++ cell_of reach q d ∷ [], drawn_push quotes d reach n was.0 q at was.1 near)
+          | inr out ↦ (was.0, drawn_skip quotes d reach n was.0 q at was.1 out)
+        ])
 
 -- each bid of a taker has the rank of an offer
 pub rank_offered : (s : SheetParts) (offers : List Offer) (takers : Takers) (d steps trim : ℕ) (bid : BidParts)

@@ -234,7 +234,7 @@ module _ (p : GroundParts) (valid : IsSheet p.sheet) (sound : IsStem p.stem) (v 
   module _ (w : List BidParts) (offered : AreOffered cells t first stop (length cells) v w) where
     -- settled values stay
     stays : (k : ℕ) → t ≤ k → bid_at w k ≡ bid_at v k
-    stays k le = later_same_of cells t first stop (length cells) below v w part_fits offered k le
+    stays k le = later_same_of cells t first stop (length cells) below v w offered k le
 
     -- what reached the values reaches them still
     reaches_still : (i : ℕ) (bid : BidParts) → Reaches v i bid → Reaches w i bid

@@ -56,13 +56,6 @@ pub(crate) fn all_logs(menu: &Menu) -> Reach
     }
 }
 
-/// A diameter of a stem, and the logs that are meant there.
-#[derive(Clone, Copy)]
-pub struct Spot {
-    pub diameter: u32,
-    pub reach: Reach,
-}
-
 /// A sheet, and what its instruction offers.
 #[derive(Clone, Copy)]
 pub struct Market<'a> {
@@ -245,7 +238,7 @@ impl Kept {
     }
 
     /// Where the price list of a group in a band stands. It is made where it isn't there.
-    fn list(&mut self, market: Market<'_>, group: Group, band: usize) -> Result<Place, Memory>
+    pub fn list(&mut self, market: Market<'_>, group: Group, band: usize) -> Result<Place, Memory>
         requires valid { IsSheet market.sheet.now }
         requires menu { IsMenu market.sheet.now.instruction market.menu.now }
         requires band { band + 1 < length market.menu.now.limits.items }
@@ -335,33 +328,13 @@ impl Kept {
         }
     }
 
-    /// Draws a row of a group at a diameter in the place of another, for the logs within reach. It isn't kept.
-    pub fn draw(
-        &mut self,
-        spare: &mut Vec<Cell>,
-        market: Market<'_>,
-        group: Group,
-        place: Spot,
-    ) -> Result<(), Memory>
-        requires valid { IsSheet market.sheet.now }
-        requires menu { IsMenu market.sheet.now.instruction market.menu.now }
-        requires diameter { place.diameter ≤ 1500 }
-        requires far { place.reach.far ≤ 4294967295 }
-        requires kept { AreKept market.sheet.now market.menu.now self.old }
-        ensures kept { AreKept market.entry.sheet.now market.entry.menu.now self.new }
-        ensures row { OnOk result (AreCells market.entry.sheet.now (codes_in market.entry.menu.now.offers.items) group.takers
-            place.diameter place.reach spare.new.items) }
+    /// The quotes at a place.
+    #[inline(always)]
+    pub fn quotes(&self, place: Place) -> &[Quote]
+        requires { IsPlaceIn self.now.quotes.items place }
+        ensures { result.now ≡ part_of self.now.quotes.items place }
     {
-        let band = market.menu.band_of(place.diameter);
-        let list = self.list(market, group, band)?;
-        spare.clear();
-        put_row(
-            spare,
-            &self.quotes[list.from..list.past],
-            place.diameter,
-            place.reach,
-        )?;
-        Ok(())
+        &self.quotes[place.from..place.past]
     }
 
     /// The cells at a place.

@@ -1,12 +1,17 @@
 //! What is done at one top: its value is settled, and its logs are offered to the points where they start.
-ghost use Rattle.std.specs.Prelude.{◌≡◌, ◌≢◌, ℕ, ◌+◌, ◌<◌, ◌≤◌, ◌⊎◌, length, get_or, slice_get, Some};
+ghost use Rattle.std.specs.Prelude.{◌≡◌, ◌≢◌, ℕ, ◌+◌, ◌<◌, ◌≤◌, ◌⊎◌, List, length, get_or, slice_get, Some};
 ghost use Rattle.buck_dp.specs.declared.offering.Cell.{Cell};
 ghost use Rattle.buck_dp.specs.inner.Bid.{bid_of, plus, IsGreater};
 ghost use Rattle.buck_dp.specs.inner.Cells.{AreByLength, IsPlaced};
 ghost use Rattle.buck_dp.specs.inner.Logs.{bid_at};
+ghost use Rattle.buck_dp.specs.declared.pricing.Quote.{Quote};
+ghost use Rattle.buck_dp.specs.inner.Drawn.{IsDrawn};
+ghost use Rattle.buck_dp.specs.inner.Quotes.{IsSmall};
 ghost use Rattle.buck_dp.specs.inner.Rows.{IsNear, AreOffered, AreFit};
 
 use crate::bid::Bid;
+use crate::pricing::Quote;
+use crate::rowing::cell_at;
 
 /// What a log brings that is so many steps long, and how many points after its top the next log can start. Of the
 /// points that its row reaches it starts at `back`, and the next one can start at `next`.
@@ -121,5 +126,22 @@ pub(crate) fn offer_row(values: &mut [Bid], top: usize, starts: Starts, row: &[C
                 ..*cell
             },
         );
+    }
+}
+
+/// Offers the logs of a price list with the top `reach.far` to the points where they start.
+pub(crate) fn offer_list(values: &mut [Bid], list: &[Quote], diameter: u32, reach: Reach)
+    requires small { (k : ℕ) (q : Quote) → slice_get list.now k ≡ Some q → IsSmall q }
+    requires diameter { diameter ≤ 1500 }
+    requires far { reach.far ≤ 4294967295 }
+    requires fit { (row : List Cell) × IsDrawn list.now diameter reach (length list.now) row
+        × AreFit row reach.far 0 reach.far values.old }
+    ensures { (row : List Cell) × IsDrawn list.now diameter reach (length list.now) row
+        × AreOffered row reach.far 0 reach.far (length row) values.old values.new }
+{
+    for quote in list {
+        if let Some(cell) = cell_at(*quote, diameter, reach) {
+            offer_near(values, reach.far, cell);
+        }
     }
 }

@@ -70,7 +70,7 @@ fn own_of(alloc: Global, sheet: &Sheet) -> Result<Own, Memory>
     let memo = Memo {
         kinds: Kinds::new(alloc),
         kept: Kept::new(alloc),
-        spare: Vec::new(alloc),
+        is_first: true,
         profile: ProfileLists::new(alloc),
         values: Vec::new(alloc),
         choices: Vec::new(alloc),
@@ -114,6 +114,7 @@ fn cut_wanted<'a>(
     let search = search_stem(alloc, site, memo)?;
     let logs = follow(alloc, sheet, stem, menu.offers.as_slice(), search.choices())?;
     let worth = search.worth();
+    memo.is_first = false;
     (memo.values, memo.choices) = search.into_lists();
     memo.profile = profile.into_lists();
     Ok((Cutting { logs }, worth))
@@ -152,6 +153,7 @@ fn turn_to(alloc: Global, own: &mut Own, from: &Sheet, to: &Sheet) -> Result<(),
 {
     if to.instruction().same(from.instruction()) {
         own.memo.kept.clear_prices();
+        own.memo.is_first = true;
         return Ok(());
     }
     *own = own_of(alloc, to)?;

@@ -11,7 +11,7 @@ ghost use Rattle.buck_dp.specs.inner.Site.{IsSite, IsMemoFor, IsDiameterAt, grou
 ghost use Rattle.buck_dp.specs.inner.Takers.{AreKnown};
 
 use crate::bid::Bid;
-use crate::keeping::{Kept, Market, Spot, all_logs};
+use crate::keeping::{Kept, Market, all_logs};
 use crate::kinds::{Group, Kinds};
 use crate::offering::{Cell, Reach};
 use crate::search::Search;
@@ -36,8 +36,8 @@ pub struct Site<'a> {
 pub struct Memo {
     pub kinds: Kinds,
     pub kept: Kept,
-    /// A row that isn't kept.
-    pub spare: Vec<Cell>,
+    /// Whether no stem was searched under the sheet.
+    pub is_first: bool,
     /// The lists of a plan. What they hold of the one before is of no account.
     pub profile: ProfileLists,
     pub values: Vec<Bid>,
@@ -225,7 +225,7 @@ fn offer_kept(
     Ok(())
 }
 
-/// Offers the logs with the top that was settled last that start in a part, from a row that is drawn for it alone.
+/// Offers the logs with the top that was settled last that start in a part, from a price list.
 fn offer_part(
     site: Site<'_>,
     memo: &mut Memo,
@@ -254,13 +254,10 @@ fn offer_part(
         far: top - part.first,
         room: left.min(site.market.menu.most_trim),
     };
-    memo.kept.draw(
-        &mut memo.spare,
-        site.market,
-        part.group,
-        Spot { diameter, reach },
-    )?;
-    search.offer_part(part.first, memo.spare.as_slice(), reach.far);
+    let band = site.market.menu.band_of(diameter);
+    let place = memo.kept.list(site.market, part.group, band)?;
+    let list = memo.kept.quotes(place);
+    search.offer_list(part.first, list, diameter, reach);
     Ok(())
 }
 
@@ -287,6 +284,19 @@ fn offer_rest(site: Site<'_>, memo: &mut Memo, search: &mut Search<'_>) -> Resul
     }
     search.close_top();
     Ok(())
+}
+
+/// Whether a row would serve one top of the first stem under a sheet: it isn't drawn then.
+#[inline(always)]
+fn is_alone(site: Site<'_>, memo: &Memo, top: usize) -> bool
+    requires site { IsSite site }
+    requires top { top < points_of (ground_of site) }
+{
+    if !memo.is_first || top == 0 {
+        return false;
+    }
+    let diameters = site.profile.diameters();
+    diameters[top - 1] != diameters[top]
 }
 
 /// Offers the logs with the top that was settled last, which is `last` or a later one and of which the nearest starts
@@ -322,7 +332,9 @@ fn offer_top(
         return Ok(());
     }
     if top < site.fit && near.low <= top {
-        return offer_kept(site, memo, search, near);
+        if !is_alone(site, memo, top) {
+            return offer_kept(site, memo, search, near);
+        }
     }
     offer_part(site, memo, search, near.part)?;
     offer_rest(site, memo, search)

@@ -11,7 +11,7 @@ use std::alloc::AllocError;
 
 /// The cell of a quote at a diameter, if its logs are within reach.
 #[inline(always)]
-fn cell_at(quote: Quote, diameter: u32, reach: Reach) -> Option<Cell>
+pub(crate) fn cell_at(quote: Quote, diameter: u32, reach: Reach) -> Option<Cell>
     requires small { IsSmall quote }
     requires diameter { diameter ≤ 1500 }
     requires far { reach.far ≤ 4294967295 }

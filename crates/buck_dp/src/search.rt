@@ -8,11 +8,15 @@ ghost use Rattle.buck_dp.specs.inner.Points.{GroundParts, points_of, ground_with
 ghost use Rattle.buck_dp.specs.inner.Bid.{BidParts, none};
 ghost use Rattle.buck_dp.specs.inner.Cells.{AreByLength, IsPlaced};
 ghost use Rattle.buck_dp.specs.inner.Logs.{IsLogAt, bid_at};
+ghost use Rattle.buck_dp.specs.declared.pricing.Quote.{Quote};
+ghost use Rattle.buck_dp.specs.inner.Drawn.{IsPartOf};
+ghost use Rattle.buck_dp.specs.inner.Quotes.{IsSmall};
 ghost use Rattle.buck_dp.specs.inner.Rows.{IsPart};
 ghost use Rattle.buck_dp.specs.inner.Searched.{AreSearched, IsSearch};
 
 use crate::bid::Bid;
-use crate::offering::{Cell, Starts, offer_row, offer_whole, settle};
+use crate::offering::{Cell, Reach, Starts, offer_list, offer_row, offer_whole, settle};
+use crate::pricing::Quote;
 use buck_bid::Offer;
 use buck_record::Memory;
 use buck_stem::Stem;
@@ -119,6 +123,25 @@ fn offer_once(values: &mut [Bid], top: usize, starts: Starts, row: &[Cell], far:
     offer_row(values, top, starts, row);
 }
 
+/// Offers the logs of a price list with one top, `reach.far` points behind the first start, that start in one part.
+fn offer_listed(values: &mut [Bid], starts: Starts, list: &[Quote], diameter: u32, reach: Reach)
+    requires order { (starts.first ≤ starts.stop) × (reach.past + starts.stop ≡ starts.first + reach.far) }
+    requires small { (k : ℕ) (q : Quote) → slice_get list.now k ≡ Some q → IsSmall q }
+    requires diameter { diameter ≤ 1500 }
+    requires far { reach.far ≤ 4294967295 }
+    requires ready { (p : GroundParts) × (choices : List ℕ) × IsSheet p.sheet × IsStem p.stem
+        × AreSearched p values.old choices (starts.first + reach.far) starts.stop
+        × IsPartOf p (starts.first + reach.far) starts.first starts.stop list.now diameter reach }
+    ensures number { length values.new ≡ length values.old }
+    ensures searched { (p : GroundParts) (choices : List ℕ) → IsSheet p.sheet → IsStem p.stem
+        → AreSearched p values.old choices (starts.first + reach.far) starts.stop
+        → IsPartOf p (starts.first + reach.far) starts.first starts.stop list.now diameter reach
+        → AreSearched p values.new choices (starts.first + reach.far) starts.first }
+{
+    let (_, reached) = values.split_at_mut(starts.first);
+    offer_list(reached, list, diameter, reach);
+}
+
 impl<'a> Search<'a> {
     /// A search at the top end of a stem, behind its last point. It takes lists of an earlier one, whatever they hold.
     pub fn start(
@@ -212,6 +235,26 @@ impl<'a> Search<'a> {
             stop: self.stop,
         };
         offer_once(self.values.as_mut_slice(), self.from, starts, row, far);
+        self.stop = first;
+    }
+
+    /// Offers the logs of a price list with the top that was settled last that start in a part more, from `first` on.
+    pub fn offer_list(&mut self, first: usize, list: &[Quote], diameter: u32, reach: Reach)
+        requires order { (first ≤ self.old.stop) × (reach.past + self.old.stop ≡ self.old.from) }
+        requires top { first + reach.far ≡ self.old.from }
+        requires small { (k : ℕ) (q : Quote) → slice_get list.now k ≡ Some q → IsSmall q }
+        requires diameter { diameter ≤ 1500 }
+        requires far { reach.far ≤ 4294967295 }
+        requires part { IsPartOf self.old.ground self.old.from first self.old.stop list.now diameter reach }
+        ensures ground { self.new.ground ≡ self.old.ground }
+        ensures from { self.new.from ≡ self.old.from }
+        ensures stop { self.new.stop ≡ first }
+    {
+        let starts = Starts {
+            first,
+            stop: self.stop,
+        };
+        offer_listed(self.values.as_mut_slice(), starts, list, diameter, reach);
         self.stop = first;
     }
 

@@ -1,9 +1,11 @@
 -- Rows that are drawn from price lists at one diameter.
-use Rattle.std.specs.Prelude.{◌≡◌, ℕ, ◌+◌, ◌-◌, ◌<◌, ◌≤◌, List, slice_get, Some}
+use Rattle.std.specs.Prelude.{◌≡◌, ℕ, ◌+◌, ◌-◌, ◌<◌, ◌≤◌, List, length, slice_get, Some}
 use Rattle.buck_dp.specs.declared.offering.Cell.{Cell}
 use Rattle.buck_dp.specs.declared.offering.Reach.{Reach}
 use Rattle.buck_dp.specs.declared.pricing.Quote.{Quote}
+use Rattle.buck_dp.specs.inner.Points.{GroundParts}
 use Rattle.buck_dp.specs.inner.Quotes.{quote_bid, Falls}
+use Rattle.buck_dp.specs.inner.Rows.{IsPart}
 
 -- a quote is for logs within reach
 abbrev pub IsWithin : Reach → Quote → Type 0
@@ -35,3 +37,8 @@ pub record IsDrawn (quotes : List Quote) (d : ℕ) (reach : Reach) (n : ℕ) (ro
   pub early : (j k : ℕ) (c : Cell) (q : Quote) → Falls (λ (q : Quote). q.rank) quotes → n ≤ k
       → slice_get row j ≡ Some c → slice_get quotes k ≡ Some q → q.rank ≤ c.bid.rank
   pub order : Falls (λ (q : Quote). q.rank) quotes → Falls (λ (c : Cell). c.bid.rank) row
+
+-- the row of a price list has the logs with one top that start in a part
+abbrev pub IsPartOf : GroundParts → ℕ → ℕ → ℕ → List Quote → ℕ → Reach → Type 0
+IsPartOf p top first stop quotes d reach = (row : List Cell) → IsDrawn quotes d reach (length quotes) row
+    → IsPart p top first stop row

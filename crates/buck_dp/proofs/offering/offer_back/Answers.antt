@@ -11,5 +11,5 @@ loop-cell-preserved c =
     ∙ ap Some (sym c.cell-item.is) in
     let near = c.requires.near c.loop-cell.cell-index c.cell-item.result there in
     offered_more c.args.row.now far 0 far c.loop-cell.cell-index (omega arith) c.args.values.now
-    c.loop-cell.values c.requires.fit c.loop-cell.invariant c.cell-item.result c.offer_near.new.values there near
+    c.loop-cell.values c.loop-cell.invariant c.cell-item.result c.offer_near.new.values there near
     o.number o.others o.raised

@@ -9,7 +9,7 @@ returns-then-steps-most c =
     let n = c.loop-cell.cell-index in
     let there = slice_get-get_or a.row.now n c.cell-item.result (omega arith) ∙ ap Some (sym c.cell-item.is) in
     offered_near a.row.now a.top a.starts.first a.starts.stop n c.requires.order.1 a.values.now c.loop-cell.values
-    c.requires.fit c.loop-cell.invariant
+    c.loop-cell.invariant
     (λ k cell le at. omega
     (arith, c.requires.rows n k c.cell-item.result cell le there at, c.if-steps-most.true, c.requires.order))
 
@@ -20,7 +20,7 @@ loop-cell-preserved c =
     let o = c.offer_near.ensures in
     let there = slice_get-get_or a.row.now n c.cell-item.result (omega arith) ∙ ap Some (sym c.cell-item.is) in
     offered_more a.row.now a.top a.starts.first a.starts.stop n c.requires.order.1 a.values.now c.loop-cell.values
-    c.requires.fit c.loop-cell.invariant
+    c.loop-cell.invariant
     c.cell-item.result c.offer_near.new.values there
     (omega (arith, c.if-steps-most.false, c.requires.order), c.requires.late n c.cell-item.result there)
     o.number o.others o.raised

@@ -1,17 +1,21 @@
-use Rattle.std.proofs.Common.{◌≡◌, ◌+◌, ◌-◌, ◌*◌, ◌≤◌, ◌⊎◌, inl, inr, ℕ, List, slice_get, slice_index, Some, sym, subst, ap, arith}
+use Rattle.std.proofs.Common.{◌≡◌, ◌+◌, ◌-◌, ◌*◌, ◌≤◌, ◌⊎◌, inl, inr, ℕ, List, length, slice_get, slice_index, Some, sym, subst, ap, arith}
 use Rattle.std.proofs.lemmas.Bool.{cases_lt}
 use Rattle.buck_stem.specs.Stem.{stem_length}
 use Rattle.buck_bid.specs.Offers.{codes_in}
 use Rattle.buck_dp.specs.inner.Points.{GroundParts}
-use Rattle.buck_dp.specs.declared.offering.Cell.{Cell}
 use Rattle.buck_dp.specs.declared.offering.Reach.{Reach}
-use Rattle.buck_dp.specs.inner.Cells.{AreByLength, AreCells}
+use Rattle.buck_dp.specs.inner.Cells.{AreCells}
 use Rattle.buck_dp.specs.inner.Rows.{IsPart}
+use Rattle.buck_dp.specs.declared.index.Key.{Key}
+use Rattle.buck_dp.specs.declared.pricing.Quote.{Quote}
+use Rattle.buck_dp.specs.inner.Kept.{ask_of}
+use Rattle.buck_dp.specs.inner.Quotes.{AreQuotes}
+use Rattle.buck_dp.proofs.QuoteLemmas.{row_cells, rank_offered}
 use Rattle.buck_dp.proofs.SiteLemmas.{known_of, point_reached, part_offered}
 use Rattle.buck_dp.proofs.planning.offer_part.Goals as goal
 
-pub offer_part-requires-clause-part : goal.offer_part-requires-clause-part
-offer_part-requires-clause-part c =
+pub offer_list-requires-clause-part : goal.offer_list-requires-clause-part
+offer_list-requires-clause-part c row drawn =
     let x = c.args.site in
     let s = x.market.sheet.now in
     let m = x.market.menu.now in
@@ -32,37 +36,34 @@ offer_part-requires-clause-part c =
       room =
           c.min.result;
     } in
-    let cells : AreCells s (codes_in m.offers.items) takers (slice_index ds t) reach c.as_slice.result.now =
-    subst (λ (cs : List Cell). AreCells s (codes_in m.offers.items) takers (slice_index ds t) reach cs)
-    (sym c.as_slice.ensures.value)
-    (subst (λ (n : ℕ). AreCells s (codes_in m.offers.items) takers (slice_index ds n) reach c.draw.new.spare.items)
-    c.from-top.ensures.value c.in_ok-draw.ensures.row) in
+    let key : Key = record { takers = takers; at = c.band_of-band.result } in
+    let quotes : List Quote = c.quotes-list.result.now in
+    let codes : List ℕ = codes_in m.offers.items in
+    let are : AreQuotes s codes (ask_of m key) (length m.offers.items) quotes =
+    subst (λ (qs : List Quote). AreQuotes s codes (ask_of m key) (length m.offers.items) qs) (sym c.quotes-list.ensures)
+    c.in_ok-place.ensures.list.1 in
+    let cells : AreCells s codes takers (slice_index ds t) reach row =
+    subst (λ (n : ℕ). AreCells s codes takers (slice_index ds n) reach row) c.from-top.ensures.value
+    (row_cells s codes (ask_of m key) (length m.offers.items) (slice_index ds c.from-top.result) reach quotes row
+    c.requires.site.valid c.requires.site.menu.offers.codes.rise
+    (c.band_of-band.ensures.from, c.band_of-band.ensures.past)
+    (λ steps trim bid b. rank_offered s m.offers.items takers (slice_index ds c.from-top.result) steps trim bid b)
+    are drawn) in
     let room : (c.min.result ≡ m.most_trim)
     ⊎ (stem_length x.stem.now.samples ≤ t * s.instruction.«module» + c.min.result) =
     elim (cases_lt left m.most_trim) [
       | inl less ↦ inr (omega (arith, c.min.ensures, less, c.left_behind-left.ensures, at))
       | inr more ↦ inl (omega (arith, c.min.ensures, more))
     ] in
-    subst (λ (g : GroundParts). IsPart g t first stop c.as_slice.result.now) (sym c.requires.ground)
-    (part_offered x c.requires.site ds t first stop takers reach c.as_slice.result.now
+    subst (λ (g : GroundParts). IsPart g t first stop row) (sym c.requires.ground)
+    (part_offered x c.requires.site ds t first stop takers reach row
     (known_of x.profile.now x.stem.now s.instruction.«module» ds c.requires.site.profile
     c.diameters-diameters.ensures.right)
     (omega (arith, below, c.from-top.ensures.value, c.stop-stop.ensures.value))
     (λ i e bid low log. omega (arith, below, c.from-top.ensures.value, c.requires.order)) c.requires.takers
     (omega (arith, c.min.ensures, c.left_behind-left.ensures, at, reached.0)) room cells)
 
-pub offer_part-requires-clause-late : goal.offer_part-requires-clause-late
-offer_part-requires-clause-late c k cell at =
-    let late =
-    (c.in_ok-draw.ensures.row.real k cell
-    (subst (λ (cs : List Cell). slice_get cs k ≡ Some cell) c.as_slice.ensures.value at)).late in
-    omega (arith, late, c.from-top.ensures.right.below, c.from-top.ensures.value, c.stop-stop.ensures.value)
-
-pub offer_part-requires-clause-back : goal.offer_part-requires-clause-back
-offer_part-requires-clause-back c k cell at =
-    (c.in_ok-draw.ensures.row.real k cell
-    (subst (λ (cs : List Cell). slice_get cs k ≡ Some cell) c.as_slice.ensures.value at)).back
-
-pub offer_part-requires-clause-rows : goal.offer_part-requires-clause-rows
-offer_part-requires-clause-rows c =
-    subst (λ (cs : List Cell). AreByLength cs) (sym c.as_slice.ensures.value) c.in_ok-draw.ensures.row.order
+pub offer_list-requires-clause-small : goal.offer_list-requires-clause-small
+offer_list-requires-clause-small c k q at =
+    (c.in_ok-place.ensures.list.1.real k q
+    (subst (λ (qs : List Quote). slice_get qs k ≡ Some q) c.quotes-list.ensures at)).small
