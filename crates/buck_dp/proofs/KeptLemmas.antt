@@ -9,14 +9,10 @@ use Rattle.buck_dp.specs.declared.index.Key.{Key}
 use Rattle.buck_dp.specs.declared.index.Place.{Place}
 use Rattle.buck_dp.specs.declared.index.Head.{Head}
 use Rattle.buck_dp.specs.declared.menu.Menu.{Menu}
-use Rattle.buck_dp.specs.declared.offering.Reach.{Reach}
 use Rattle.buck_dp.specs.declared.pricing.Term.{Term}
 use Rattle.buck_dp.specs.declared.keeping.Kept.{Kept}
 use Rattle.buck_dp.specs.inner.Index.{IsKeptAt, part_of}
-use Rattle.buck_dp.specs.inner.Kept.{all_of, IsAt, TermsOf, ListOf, RowOf, AreKept}
-
-abbrev make_reach : ℕ → ℕ → ℕ → Reach
-make_reach past far room = record { past = past; far = far; room = room }
+use Rattle.buck_dp.specs.inner.Kept.{IsAt, TermsOf, ListOf, RowOf, AreKept}
 
 -- what each head tells of its place
 abbrev pub Each : {X : Type 0} → (Key → List X → Type 0) → List Head → List X → Type 0
@@ -72,11 +68,6 @@ module _ {X : Type 0} (R : Key → List X → Type 0) where
   kept_push heads new xs h (inl is) right each =
       subst (λ (hs : List Head). Each R hs xs) (sym is) (push_each (λ n x. IsAt R xs x.key x.place) heads h each right)
   kept_push heads new xs h (inr is) right each = subst (λ (hs : List Head). Each R hs xs) (sym is) each
-
--- logs of each length and trim
-pub all_same : (m : Menu) (r : Reach) → r.past ≡ 0 → r.far ≡ m.most_steps → r.room ≡ m.most_trim → r ≡ all_of m
-all_same m r e f g =
-    ap (λ n. make_reach n r.far r.room) e ∙ ap (λ n. make_reach 0 n r.room) f ∙ ap (λ n. make_reach 0 m.most_steps n) g
 
 -- what is kept is right under another sheet of the instruction, once what hangs on prices is dropped
 pub prices_dropped : (s t : SheetParts) (m : Menu) (old new : Kept) → s.instruction ≡ t.instruction

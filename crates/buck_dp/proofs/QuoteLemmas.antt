@@ -325,14 +325,15 @@ module _ (quotes : List Quote) (d : ℕ) (reach : Reach) (n : ℕ) (row : List C
         ];
       }
 
+-- what `get_or` gives past the end of a list
+abbrev pub blank : Quote
+blank = record { kind = 0; price = 0; rank = 0; length = 0; steps = 0; trim = 0; rise = 0 }
+
 -- each list has its row
 pub drawn_all : (quotes : List Quote) (d : ℕ) (reach : Reach) → (row : List Cell)
     × IsDrawn quotes d reach (length quotes) row
 drawn_all quotes d reach = up_to (length quotes) (omega arith)
   where
-    blank : ℕ → Quote
-    blank n = record { kind = 0; price = 0; rank = 0; length = 0; steps = 0; trim = 0; rise = 0 }
-
     within : (q : Quote) → IsWithin reach q ⊎ (IsWithin reach q → ⊥)
     within q = elim (cases_lt reach.past q.steps) [
       | inr short ↦ inr (λ w. omega (arith, short, w.0))
@@ -349,8 +350,8 @@ drawn_all quotes d reach = up_to (length quotes) (omega arith)
     up_to zero le = ([], drawn_none quotes d reach)
     up_to (suc n) le =
         let was = up_to n (omega (arith, le)) in
-        let q : Quote = get_or quotes n (blank n) in
-        let at : slice_get quotes n ≡ Some q = slice_get-get_or quotes n (blank n) (omega (arith, le)) in
+        let q : Quote = get_or quotes n blank in
+        let at : slice_get quotes n ≡ Some q = slice_get-get_or quotes n blank (omega (arith, le)) in
         subst (λ (k : ℕ). (row : List Cell) × IsDrawn quotes d reach k row) (let e : n + 1 ≡ suc n = omega arith in e)
         (elim (within q) [
           | inl near ↦ (was.0 ++ cell_of reach q d ∷ [], drawn_push quotes d reach n was.0 q at was.1 near)

@@ -42,20 +42,6 @@ const DIAMETERS: usize = 1_501;
 /// So many places of bands are noted apart for each set of takers.
 const BANDS: usize = 512;
 
-/// Logs of each length and trim.
-#[inline(always)]
-pub(crate) fn all_logs(menu: &Menu) -> Reach
-    ensures past { result.past ≡ 0 }
-    ensures far { result.far ≡ menu.now.most_steps }
-    ensures room { result.room ≡ menu.now.most_trim }
-{
-    Reach {
-        past: 0,
-        far: menu.most_steps,
-        room: menu.most_trim,
-    }
-}
-
 /// A sheet, and what its instruction offers.
 #[derive(Clone, Copy)]
 pub struct Market<'a> {
@@ -172,7 +158,12 @@ fn make_row(
         (record { takers = group.takers; at = diameter })) }
 {
     let from = cells.as_slice().len();
-    put_row(cells, list, diameter, all_logs(market.menu))?;
+    let all = Reach {
+        past: 0,
+        far: market.menu.most_steps,
+        room: market.menu.most_trim,
+    };
+    put_row(cells, list, diameter, all)?;
     Ok(Place {
         from,
         past: cells.as_slice().len(),

@@ -11,7 +11,7 @@ ghost use Rattle.buck_dp.specs.inner.Site.{IsSite, IsMemoFor, IsDiameterAt, grou
 ghost use Rattle.buck_dp.specs.inner.Takers.{AreKnown};
 
 use crate::bid::Bid;
-use crate::keeping::{Kept, Market, all_logs};
+use crate::keeping::{Kept, Market};
 use crate::kinds::{Group, Kinds};
 use crate::offering::{Cell, Reach};
 use crate::search::Search;

@@ -2,11 +2,10 @@ use Rattle.std.proofs.Common.{ℕ, List, length, subst, ap}
 use Rattle.buck_bid.specs.Offers.{codes_in}
 use Rattle.buck_dp.specs.declared.index.Key.{Key}
 use Rattle.buck_dp.specs.declared.offering.Cell.{Cell}
-use Rattle.buck_dp.specs.declared.offering.Reach.{Reach}
 use Rattle.buck_dp.specs.declared.takers.Takers.{Takers}
 use Rattle.buck_dp.specs.inner.Cells.{AreCells}
 use Rattle.buck_dp.specs.inner.Kept.{all_of, RowOf}
-use Rattle.buck_dp.proofs.KeptLemmas.{put_behind, all_same}
+use Rattle.buck_dp.proofs.KeptLemmas.{put_behind}
 use Rattle.buck_dp.proofs.QuoteLemmas.{row_cells, rank_offered}
 use Rattle.buck_dp.proofs.keeping.make_row.Goals as goal
 
@@ -23,12 +22,10 @@ returns-clause-row c =
     let old : List Cell = c.args.cells.now.items in
     let row = c.in_ok-put_row.ensures.row in
     let cells : AreCells s (codes_in m.offers.items) c.args.group.takers d (all_of m) row.0 =
-    subst (λ (r : Reach). AreCells s (codes_in m.offers.items) c.args.group.takers d r row.0)
-    (all_same m c.all_logs.result c.all_logs.ensures.past c.all_logs.ensures.far c.all_logs.ensures.room)
-    (subst (λ (t : Takers). AreCells s (codes_in m.offers.items) t d c.all_logs.result row.0) l.1
+    subst (λ (t : Takers). AreCells s (codes_in m.offers.items) t d (all_of m) row.0) l.1
     (row_cells s (codes_in m.offers.items) l.0 (length m.offers.items)
-    d c.all_logs.result c.args.list.now row.0 c.requires.valid c.requires.menu.offers.codes.rise l.2
-    (λ steps trim bid b. rank_offered s m.offers.items l.0.takers d steps trim bid b) l.3 row.2)) in
+    d (all_of m) c.args.list.now row.0 c.requires.valid c.requires.menu.offers.codes.rise l.2
+    (λ steps trim bid b. rank_offered s m.offers.items l.0.takers d steps trim bid b) l.3 row.2) in
     let from : ℕ = length c.as_slice-from.result.now in
     let past : ℕ = length c.as_slice.result.now in
     put_behind (RowOf s m) old row.0 c.put_row.new.cells.items key from past row.1

@@ -6,13 +6,9 @@ use Rattle.buck_bid.proofs.ListLemmas.{pushed_at}
 use Rattle.buck_dp.specs.inner.Drawn.{cell_of, IsDrawn}
 use Rattle.buck_dp.specs.inner.Rows.{AreOffered}
 use Rattle.buck_dp.proofs.CellLemmas.{offered_none, offered_behind, offered_more}
-use Rattle.buck_dp.proofs.QuoteLemmas.{drawn_none, drawn_skip, drawn_push}
+use Rattle.buck_dp.proofs.QuoteLemmas.{blank, drawn_none, drawn_skip, drawn_push}
 use Rattle.buck_dp.proofs.offering.offer_list.Goals.{in-Some, in_default}
 use Rattle.buck_dp.proofs.offering.offer_list.Goals as goal
-
--- what `get_or` gives past the end
-abbrev blank : Quote
-blank = record { kind = 0; price = 0; rank = 0; length = 0; steps = 0; trim = 0; rise = 0 }
 
 pub loop-quote-init : goal.loop-quote-init
 loop-quote-init c = (

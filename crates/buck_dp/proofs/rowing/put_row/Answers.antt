@@ -4,13 +4,9 @@ use Rattle.std.proofs.lemmas.Option.{slice_get-get_or}
 use Rattle.buck_dp.specs.declared.offering.Cell.{Cell}
 use Rattle.buck_dp.specs.declared.pricing.Quote.{Quote}
 use Rattle.buck_dp.specs.inner.Drawn.{cell_of}
-use Rattle.buck_dp.proofs.QuoteLemmas.{drawn_none, drawn_skip, drawn_push}
+use Rattle.buck_dp.proofs.QuoteLemmas.{blank, drawn_none, drawn_skip, drawn_push}
 use Rattle.buck_dp.proofs.rowing.put_row.Goals.{in-Some, in_default}
 use Rattle.buck_dp.proofs.rowing.put_row.Goals as goal
-
--- what `get_or` gives past the end
-abbrev blank : Quote
-blank = record { kind = 0; price = 0; rank = 0; length = 0; steps = 0; trim = 0; rise = 0 }
 
 pub loop-quote-init : goal.loop-quote-init
 loop-quote-init c = record {
