@@ -71,36 +71,30 @@ fn make_room<T: Copy>(items: &mut Vec<T>, heads: &mut Index, most: usize)
     }
 }
 
-/// What is asked for of a group in a band.
-fn ask_for(menu: &Menu, group: Group, band: usize) -> Ask
-    requires band { band + 1 < length menu.now.limits.items }
-    requires high { slice_index menu.now.limits.items (band + 1) ≤ ABOVE_ALL }
-    ensures ask { result ≡ ask_of menu.now (record { takers = group.takers; at = band }) }
+/// What is asked for of some takers in a band.
+fn ask_for(menu: &Menu, key: Key) -> Ask
+    requires band { key.at + 1 < length menu.now.limits.items }
+    requires high { slice_index menu.now.limits.items (key.at + 1) ≤ ABOVE_ALL }
+    ensures ask { result ≡ ask_of menu.now key }
     ensures band { (i : InstructionParts) → AreLimits i menu.now.limits.items
         → IsBandOf i result.band.thinnest result.band.past }
 {
     Ask {
-        takers: group.takers,
-        band: menu.band_at(band),
+        takers: key.takers,
+        band: menu.band_at(key.at),
     }
 }
 
-/// Makes the terms of a group in a band.
-fn make_terms(
-    terms: &mut Vec<Option<Term>>,
-    market: Market<'_>,
-    group: Group,
-    band: usize,
-) -> Result<Place, Memory>
+/// Makes the terms of some takers in a band.
+fn make_terms(terms: &mut Vec<Option<Term>>, market: Market<'_>, key: Key) -> Result<Place, Memory>
     requires menu { IsMenu market.sheet.now.instruction market.menu.now }
-    requires band { band + 1 < length market.menu.now.limits.items }
-    requires high { slice_index market.menu.now.limits.items (band + 1) ≤ ABOVE_ALL }
+    requires band { key.at + 1 < length market.menu.now.limits.items }
+    requires high { slice_index market.menu.now.limits.items (key.at + 1) ≤ ABOVE_ALL }
     ensures kept { (more : List (Option Term)) × (terms.new.items ≡ terms.old.items ++ more) }
-    ensures terms { IfOk result (IsAt (TermsOf market.entry.sheet.now.instruction market.entry.menu.now) terms.new.items
-        (record { takers = group.takers; at = band })) }
+    ensures terms { IfOk result (IsAt (TermsOf market.entry.sheet.now.instruction market.entry.menu.now) terms.new.items key) }
 {
     let from = terms.as_slice().len();
-    let ask = ask_for(market.menu, group, band);
+    let ask = ask_for(market.menu, key);
     put_terms(
         terms,
         market.sheet.instruction(),
@@ -113,26 +107,24 @@ fn make_terms(
     })
 }
 
-/// Makes the price list of a group in a band from its terms.
+/// Makes the price list of some takers in a band from its terms.
 fn make_list(
     quotes: &mut Vec<Quote>,
     terms: &[Option<Term>],
     market: Market<'_>,
-    group: Group,
-    band: usize,
+    key: Key,
 ) -> Result<Place, Memory>
     requires valid { IsSheet market.sheet.now }
     requires menu { IsMenu market.sheet.now.instruction market.menu.now }
-    requires band { band + 1 < length market.menu.now.limits.items }
-    requires high { slice_index market.menu.now.limits.items (band + 1) ≤ ABOVE_ALL }
+    requires band { key.at + 1 < length market.menu.now.limits.items }
+    requires high { slice_index market.menu.now.limits.items (key.at + 1) ≤ ABOVE_ALL }
     requires terms { AreTerms market.sheet.now.instruction (codes_in market.menu.now.offers.items)
-        (ask_of market.menu.now (record { takers = group.takers; at = band })) (length market.menu.now.offers.items) terms.now }
+        (ask_of market.menu.now key) (length market.menu.now.offers.items) terms.now }
     ensures kept { (more : List Quote) × (quotes.new.items ≡ quotes.old.items ++ more) }
-    ensures list { IfOk result (IsAt (ListOf market.entry.sheet.now market.entry.menu.now) quotes.new.items
-        (record { takers = group.takers; at = band })) }
+    ensures list { IfOk result (IsAt (ListOf market.entry.sheet.now market.entry.menu.now) quotes.new.items key) }
 {
     let from = quotes.as_slice().len();
-    let ask = ask_for(market.menu, group, band);
+    let ask = ask_for(market.menu, key);
     put_list(quotes, market.sheet, terms, ask)?;
     Ok(Place {
         from,
@@ -224,7 +216,7 @@ impl Kept {
             return Ok(place);
         }
         make_room(&mut self.terms, &mut self.asked, TERMS);
-        let place = make_terms(&mut self.terms, market, group, band)?;
+        let place = make_terms(&mut self.terms, market, key)?;
         self.asked.keep(Head { key, place }, slot)
     }
 
@@ -253,8 +245,7 @@ impl Kept {
             &mut self.quotes,
             &self.terms[terms.from..terms.past],
             market,
-            group,
-            band,
+            key,
         )?;
         self.lists.keep(Head { key, place }, slot)
     }

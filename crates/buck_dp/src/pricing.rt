@@ -78,15 +78,9 @@ impl Term {
         requires { self.class < classes sheet.now.instruction }
         ensures { result ≡ priced_at self.quote (slice_index sheet.now.prices self.class) }
     {
-        let quote = self.quote;
         Quote {
-            kind: quote.kind,
             price: sheet.prices()[self.class],
-            rank: quote.rank,
-            length: quote.length,
-            steps: quote.steps,
-            trim: quote.trim,
-            rise: quote.rise,
+            ..self.quote
         }
     }
 }

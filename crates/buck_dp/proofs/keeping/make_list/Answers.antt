@@ -22,9 +22,7 @@ asked s m key terms ask is are =
 pub put_list-requires-clause-terms : goal.put_list-requires-clause-terms
 put_list-requires-clause-terms c = (
   codes_in c.args.market.menu.now.offers.items,
-  asked c.args.market.sheet.now c.args.market.menu.now
-      (record { takers = c.args.group.takers; at = c.args.band })
-      c.args.terms.now c.ask_for-ask.result c.ask_for-ask.ensures.ask c.requires.terms,
+  asked c.args.market.sheet.now c.args.market.menu.now c.args.key c.args.terms.now c.ask_for-ask.result c.ask_for-ask.ensures.ask c.requires.terms,
 )
 
 pub put_list-requires-clause-band : goal.put_list-requires-clause-band
@@ -37,7 +35,7 @@ returns-clause-list c =
     let s = c.args.market.sheet.now in
     let m = c.args.market.menu.now in
     let codes : List ℕ = codes_in m.offers.items in
-    let key : Key = record { takers = c.args.group.takers; at = c.args.band } in
+    let key : Key = c.args.key in
     let old : List Quote = c.args.quotes.now.items in
     let new = c.in_ok-put_list.ensures in
     let are : AreQuotes s codes (ask_of m key) (length m.offers.items) new.0 =

@@ -21,7 +21,7 @@ pub returns-clause-terms : goal.returns-clause-terms
 returns-clause-terms c =
     let i = c.args.market.sheet.now.instruction in
     let m = c.args.market.menu.now in
-    let key : Key = record { takers = c.args.group.takers; at = c.args.band } in
+    let key : Key = c.args.key in
     let old : List (Option Term) = c.args.terms.now.items in
     let new = c.in_ok-put_terms.ensures in
     let are : AreTerms i (codes_in m.offers.items) (ask_of m key) (length m.offers.items) new.0 =
