@@ -109,6 +109,7 @@ fn cut_wanted<'a>(
         stem,
         profile: &profile,
         fit: fit_of(sheet, stem, menu.most_trim),
+        is_first: memo.is_first,
     };
     make_room(memo);
     let search = search_stem(alloc, site, memo)?;

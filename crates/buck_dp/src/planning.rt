@@ -22,13 +22,15 @@ use buck_value::Sheet;
 use std::alloc::Global;
 use std::mem;
 
-/// A stem at its points, and the sheet under which it is cut. Each trim fits behind the tops before point `fit`.
+/// A stem at its points, the sheet under which it is cut, and whether it is the first stem under that. Each trim fits
+/// behind the tops before point `fit`.
 #[derive(Clone, Copy)]
 pub struct Site<'a> {
     pub market: Market<'a>,
     pub stem: &'a Stem,
     pub profile: &'a Profile<'a>,
     pub fit: usize,
+    pub is_first: bool,
 }
 
 /// What is kept from stem to stem.
@@ -288,11 +290,11 @@ fn offer_rest(site: Site<'_>, memo: &mut Memo, search: &mut Search<'_>) -> Resul
 
 /// Whether a row would serve one top of the first stem under a sheet: it isn't drawn then.
 #[inline(always)]
-fn is_alone(site: Site<'_>, memo: &Memo, top: usize) -> bool
+fn is_alone(site: Site<'_>, top: usize) -> bool
     requires site { IsSite site }
     requires top { top < points_of (ground_of site) }
 {
-    if !memo.is_first || top == 0 {
+    if !site.is_first || top == 0 {
         return false;
     }
     let diameters = site.profile.diameters();
@@ -332,7 +334,7 @@ fn offer_top(
         return Ok(());
     }
     if top < site.fit && near.low <= top {
-        if !is_alone(site, memo, top) {
+        if !is_alone(site, top) {
             return offer_kept(site, memo, search, near);
         }
     }
