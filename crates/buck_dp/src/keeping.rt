@@ -91,7 +91,8 @@ fn make_terms(terms: &mut Vec<Option<Term>>, market: Market<'_>, key: Key) -> Re
     requires band { key.at + 1 < length market.menu.now.limits.items }
     requires high { slice_index market.menu.now.limits.items (key.at + 1) ≤ ABOVE_ALL }
     ensures kept { (more : List (Option Term)) × (terms.new.items ≡ terms.old.items ++ more) }
-    ensures terms { IfOk result (IsAt (TermsOf market.entry.sheet.now.instruction market.entry.menu.now) terms.new.items key) }
+    ensures terms { IfOk result (IsAt (TermsOf market.entry.sheet.now.instruction market.entry.menu.now) terms.new.items
+        key) }
 {
     let from = terms.as_slice().len();
     let ask = ask_for(market.menu, key);

@@ -17,7 +17,7 @@ use buck_bid::{Band, Offer, Pricing, pricing_of};
 use buck_value::{Sheet, volume_of, worth_of_piece};
 use std::alloc::AllocError;
 
-/// No instruction offers more logs. Room for so many is made at once, so that a list or a row takes what it needs of it.
+/// No instruction offers more logs. Room for so many is made at once, of which a list or a row takes what it needs.
 pub const MOST_OFFERS: usize = 512;
 
 /// What an assortment bids for its logs of one length at each diameter of a band: a price per cubic metre or per piece,
@@ -238,8 +238,8 @@ fn put_quote(list: &mut Vec<Quote>, from: usize, leader: &mut Leader, quote: Quo
     list.push_reserved(quote);
 }
 
-/// Puts a price list behind others: the quotes of some takers in a band, by their length, from their terms, without those
-/// that one outbids in the whole band whose log is no longer.
+/// Puts a price list behind others: the quotes of some takers in a band, by their length, from their terms, without
+/// those that one outbids in the whole band whose log is no longer.
 #[inline(never)]
 pub fn put_list(
     quotes: &mut Vec<Quote>,
