@@ -22,8 +22,7 @@ put_run-requires g c =
     ∙ c.into_iter-part-iterator.ensures.into_iter_gives.0)) in
     let given = c.in_ok-parts.ensures.each (length c.loop-part.yielded) c.in-Some.part here.0 in
     let is : c.in-Some.part ≡ Ok c.in_ok-part.field-0 = search rules in
-    let part = part_made _ _ _ _ _ _ _ given.1.argument_is given.1.call (here.1 ∙ is) in
-    (
+    let part = part_made _ _ _ _ _ _ _ given.1.argument_is given.1.call (here.1 ∙ is) in (
       omega (arith, parts_low c.args.stems.now _ _ _ _ c.loop-part.invariant.put.logs_low part.logs_low),
       omega (arith, parts_low c.args.stems.now _ _ _ _ c.loop-part.invariant.put.worth_low part.worth_low),
     )
