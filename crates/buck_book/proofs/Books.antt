@@ -166,11 +166,8 @@ module _ {F : Type 0} (g : Shared F (Bor Standing × Unit {0}) ℕ) (f : F) (h :
     (same : i ≡ h.instruction)
     (sheet : IsPricedSheet g f (standings_of i n) n.version s)
     (told : IsPassed h x n) where
-  all_here : length s.prices ≡ classes h.instruction
-  all_here = sheet.one_each ∙ ap classes same
-
-  priced_here : ArePriced g f (standings_of h.instruction n) s.prices
-  priced_here = subst (λ j. ArePriced g f (standings_of j n) s.prices) same sheet.priced
+  priced_here : ArePriced g f (standings_of h.instruction n) s.prices (classes h.instruction)
+  priced_here = subst (λ j. ArePriced g f (standings_of j n) s.prices (classes j)) same sheet.priced
 
   pub is_next_sheet : IsEnd h.instruction h.postings x → IsNextSheet h x s
   is_next_sheet last = record {
@@ -178,13 +175,13 @@ module _ {F : Type 0} (g : Shared F (Bor Standing × Unit {0}) ℕ) (f : F) (h :
     same_instruction = ap (λ y. y.instruction) sheet.made ∙ same;
     prices_meet =
         prices_meet g f (standings_of h.instruction n) (h.postings ++ x ∷ []) s.prices told.targets_are told.counts_are
-        all_here priced_here;
+        priced_here;
   }
 
   pub next_answers : AreAnswers g f h.instruction (h.postings ++ x ∷ []) s.prices
   next_answers =
       are_answers g f (standings_of h.instruction n) (h.postings ++ x ∷ []) s.prices told.targets_are told.counts_are
-      all_here priced_here
+      priced_here
 
 -- a sheet added to a list, as a list of values and of prices
 pub values_added : {X : Type 0} (val : X → SheetParts) (xs ys : List X) (next : Option X)

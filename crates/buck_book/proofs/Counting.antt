@@ -1,8 +1,8 @@
 -- Running counts of entries, one entry on.
-use Rattle.std.proofs.Common.{◌≡◌, ℕ, ◌+◌, ◌-◌, ◌<◌, ◌≤◌, ◌==◌, true, false, cond, List, [], ◌∷◌, ◌++◌, length, get_or, set, count_by, take, replicate, ◌^◌, sym, ◌∙◌, ap, inl, inr, arith, eq-eqb}
+use Rattle.std.proofs.Common.{◌≡◌, ℕ, ◌+◌, ◌-◌, ◌<◌, ◌≤◌, ◌==◌, true, false, cond, List, [], ◌∷◌, ◌++◌, length, get_or, set, take, replicate, ◌^◌, sym, ◌∙◌, ap, inl, inr, arith, eq-eqb}
 use Rattle.std.proofs.lemmas.Grind.{common_steps}
 use Rattle.std.proofs.lemmas.Bool.{ne_eqb, cases_eq}
-use Rattle.std.proofs.lemmas.List.{get_or-set_same, get_or-set_other, length-set, length-take-le, get_or_past, get_or-replicate, length-replicate}
+use Rattle.std.proofs.lemmas.List.{get_or-set_same, get_or-set_other, length-set, get_or_past, get_or-replicate, length-replicate}
 use Rattle.std.proofs.lemmas.List.Sums.{sum_by-le-sum_by, sum_by_push, count_by-le-length}
 use Rattle.std.proofs.lemmas.Option.{slice_get_within}
 use Rattle.buck_apt.specs.declared.class.Class.{Class}
@@ -14,8 +14,8 @@ use Rattle.buck_book.specs.Entry.{EntryParts, DemandParts}
 use Rattle.buck_book.specs.declared.posting.Posting.{Posting}
 use Rattle.buck_book.specs.declared.posting.Posting.TheVariants.{Cut, Demand}
 use Rattle.buck_book.specs.Posting.{harvester_of}
-use Rattle.buck_book.specs.Counts.{class_logs, assortment_logs, class_logs_in, assortment_logs_in, count_of, assortment_count_of, calls_of}
-use Rattle.buck_book.specs.inner.Running.{AreCounts, AreAtMost, AreCalls, AreGrown, AreGrownBy, AreGrownAt, tally_of}
+use Rattle.buck_book.specs.Counts.{assortment_logs, class_logs_in, assortment_logs_in, count_of, assortment_count_of, calls_of}
+use Rattle.buck_book.specs.inner.Running.{AreCounts, AreAtMost, AreCalls, AreGrownBy, AreGrownAt, class_place}
 use Rattle.buck_book.specs.Targets.{AreTargets}
 use Rattle.buck_book.specs.inner.Pricing.{CanPrice}
 use Rattle.buck_book.proofs.Cuts.{tallied, class_logs-le}
@@ -33,22 +33,19 @@ none_low n m = grind (arith, zeros)
 
 -- the counts after one cut more
 pub counts_more : (i : InstructionParts) (ps : List Posting) (e : EntryParts)
-    (by_class by_assortment places by_class' by_assortment' : List ℕ)
+    (by_class by_assortment by_class' by_assortment' : List ℕ)
     → IsInstruction i
     → IsCutFrom (IsAllowed i e.stem) (end_of i) 0 e.logs
     → AreCounts i ps by_class by_assortment
-    → places ≡ tally_of i e.stem e.logs
-    → AreGrown by_class places by_class' → AreGrownBy by_assortment e.logs by_assortment'
+    → AreGrownAt (class_place i e.stem) by_class e.logs by_class' → AreGrownBy by_assortment e.logs by_assortment'
     → AreCounts i (ps ++ Cut e ∷ []) by_class' by_assortment'
-counts_more i ps e by_class by_assortment places by_class' by_assortment' v cut counts tally classes_grown
-    assortments_grown = record {
+counts_more i ps e by_class by_assortment by_class' by_assortment' v cut counts classes_grown assortments_grown =
+    record {
       classes = record {
         one_each = classes_grown.number ∙ counts.classes.one_each;
         each = λ c k.
-            let own : count_by (λ p. p == index_of i c) places ≡ class_logs i c e.stem e.logs =
-            ap (λ ps. count_by (λ p. p == index_of i c) ps) tally ∙ tallied i c e.stem 0 e.logs v k cut in
             classes_grown.each (index_of i c)
-            ∙ (λ j. counts.classes.each c k j + own j)
+            ∙ (λ j. counts.classes.each c k j + tallied i c e.stem 0 e.logs v k cut j)
             ∙ sym (sum_by_push (λ x. class_logs_in i c x) ps (Cut e));
       };
       assortments_number = assortments_grown.number ∙ counts.assortments_number;
@@ -65,12 +62,12 @@ pub counts_stay : (i : InstructionParts) (ps : List Posting) (d : DemandParts) (
 counts_stay i ps d by_class by_assortment counts = grind (arith, sum_by_push)
 
 -- counts grow by at most the logs of a cutting
-pub low_more : (most few : ℕ) (by_class by_assortment places by_class' by_assortment' : List ℕ) (logs : List Log)
-    → AreAtMost most by_class by_assortment
-    → length places ≤ few → length logs ≤ few
-    → AreGrown by_class places by_class' → AreGrownBy by_assortment logs by_assortment'
+pub low_more : (most few : ℕ) (place : Log → ℕ) (by_class by_assortment by_class' by_assortment' : List ℕ)
+    (logs : List Log)
+    → AreAtMost most by_class by_assortment → length logs ≤ few
+    → AreGrownAt place by_class logs by_class' → AreGrownBy by_assortment logs by_assortment'
     → AreAtMost (most + few) by_class' by_assortment'
-low_more most few by_class by_assortment places by_class' by_assortment' logs low p l cg ag =
+low_more most few place by_class by_assortment by_class' by_assortment' logs low few_ cg ag =
     grind (arith, count_by-le-length)
 
 logs_in-le : (i : InstructionParts) (c : Class) (x : Posting) → class_logs_in i c x ≤ assortment_logs_in c.assortment x
@@ -123,22 +120,19 @@ pub calls-le : (h : ℕ) (ps : List Posting) → calls_of h ps ≤ length ps
 calls-le h ps = count_by-le-length (λ x. harvester_of x == h) ps
 
 -- one thing more
-module _ {X : Type 0} (place : X → ℕ) (before after : List ℕ) (xs : List X) (i p n : ℕ) (d : X) (lt : i < length xs)
-    (value : n ≡ get_or after p 0) (grown : AreGrownAt place before (take i xs) after) where
-  pub grown_more : p ≡ place (get_or xs i d) → p < length after
-      → AreGrownAt place before (take (i + 1) xs) (set after p (n + 1))
-  grown_more is within = grind (arith, common_steps)
-
-  pub grown_fits : get_or before p 0 + length xs < 2 ^ 32 → n + 1 < 2 ^ 32
-  grown_fits low = grind (arith, count_by-le-length, length-take-le)
+pub grown_more : {X : Type 0} (place : X → ℕ) (before after : List ℕ) (xs : List X) (i p : ℕ) (d : X)
+    → i < length xs → p ≡ place (get_or xs i d) → p < length after → AreGrownAt place before (take i xs) after
+    → AreGrownAt place before (take (i + 1) xs) (set after p (get_or after p 0 + 1))
+grown_more place before after xs i p d lt is within grown = grind (arith, common_steps)
 
 -- one log more
 pub grown_by_more : (before after : List ℕ) (logs : List Log) (i n : ℕ) (g : Log) → i < length logs
     → g ≡ get_or logs i g → g.assortment < length after → n ≡ get_or after g.assortment 0
     → AreGrownBy before (take i logs) after → AreGrownBy before (take (i + 1) logs) (set after g.assortment (n + 1))
 grown_by_more before after logs i n g lt is within value grown =
-    grown_more (λ x. x.assortment) before after logs i g.assortment n g lt value grown
-    (ap (λ (x : Log). x.assortment) is) within
+    rw value
+    (grown_more (λ x. x.assortment) before after logs i g.assortment g lt (ap (λ (x : Log). x.assortment) is) within
+    grown)
 
 pub grown_by_fits : (before after : List ℕ) (logs : List Log) (i a n : ℕ) → i < length logs → n ≡ get_or after a 0
     → AreGrownBy before (take i logs) after → get_or before a 0 + length logs < 2 ^ 32 → n + 1 < 2 ^ 32

@@ -12,7 +12,7 @@ use Rattle.buck_value.proofs.Classes.{class_is_class, allowed_low}
 use Rattle.buck_dp.specs.Cutting.{IsCutFrom}
 use Rattle.buck_dp.proofs.Bounds.{end_within}
 use Rattle.buck_book.specs.Counts.{is_class, class_logs, assortment_logs}
-use Rattle.buck_book.specs.inner.Running.{tally_of}
+use Rattle.buck_book.specs.inner.Running.{class_place}
 use Rattle.buck_book.proofs.Places.{one_place, class_of_assortment}
 
 pub each_allowed : (i : InstructionParts) (stem : StemParts) (from : ℕ) (gs : List Log)
@@ -58,13 +58,13 @@ place_tells i c d k l = elim (cases_eq (index_of i d) (index_of i c)) [
 -- a class's logs are counted by their places
 pub tallied : (i : InstructionParts) (c : Class) (stem : StemParts) (from : ℕ) (gs : List Log) → IsInstruction i
     → IsClass i c → IsCutFrom (IsAllowed i stem) (end_of i) from gs
-    → count_by (λ p. p == index_of i c) (tally_of i stem gs) ≡ class_logs i c stem gs
+    → count_by (λ g. class_place i stem g == index_of i c) gs ≡ class_logs i c stem gs
 tallied i c stem from [] v k cut = refl
 tallied i c stem from (g ∷ gs) v k cut =
-    let d : Class = class_of i stem g in
-    let test : (index_of i d == index_of i c) ≡ is_class c d = place_tells i c d k (class_is_class i stem g v cut.1) in
+    let test : (class_place i stem g == index_of i c) ≡ is_class c (class_of i stem g) =
+    place_tells i c (class_of i stem g) k (class_is_class i stem g v cut.1) in
     let rest = tallied i c stem (end_of i g) gs v k cut.2 in
-    sum_by-cons (λ p. cond (p == index_of i c) 1 0) (index_of i d) (tally_of i stem gs)
+    sum_by-cons (λ x. cond (class_place i stem x == index_of i c) 1 0) g gs
     ∙ (λ j. cond (test j) 1 0 + rest j)
     ∙ sym (sum_by-cons (λ x. cond (is_class c (class_of i stem x)) 1 0) g gs)
 

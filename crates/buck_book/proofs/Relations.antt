@@ -10,10 +10,11 @@ use Rattle.buck_book.specs.Posting.{targets_of}
 use Rattle.buck_book.specs.History.{standing_of, PricesMeet}
 use Rattle.buck_book.specs.Walk.{IsWrongPrice}
 use Rattle.buck_book.specs.inner.Running.{AreCounts}
-use Rattle.buck_book.specs.inner.Pricing.{StandingsParts, IsClassOf, standing_by}
+use Rattle.buck_book.specs.declared.pricing.Section.{Section}
+use Rattle.buck_book.specs.inner.Pricing.{StandingsParts, IsSection, IsClassOf, class_at, row_start, standing_by}
 use Rattle.buck_book.specs.inner.Walk.{AreMetBelow, IsFirstWrong}
 use Rattle.buck_book.proofs.Places.{place_lt, inner_is}
-use Rattle.buck_book.proofs.Standings.{at_place, standing_is}
+use Rattle.buck_book.proofs.Standings.{at_place, standing_is, class_in, section_class, section_place}
 
 -- one class more
 pub met_more : (s : StandingsParts) (prices : List ℕ) (c : Class) (n : ℕ) (k : IsClass s.instruction c)
@@ -27,6 +28,32 @@ met_more s prices c n k place met below = λ d l lt. elim (cases_lt (index_of s.
       at_place s.instruction (λ a x m. Meets (standing_by s a x) (slice_index prices m)) c d k l (omega (arith, place))
       (subst (λ m. Meets (standing_by s k.assortment c) (slice_index prices m)) (sym place) met)
 ]
+
+-- a class of a section more
+module _ (s : StandingsParts) (prices : List ℕ) (x : Section) (row column : ℕ) (k : IsSection s x)
+    (r : row < length x.assortment.now.diameters) (c : column < x.columns)
+    (met : AreMetBelow s prices (row_start x row + column)) where
+  pub section_met : Meets (standing_by s x.assortment.now (class_at x.at row column))
+      (slice_index prices (row_start x row + column))
+      → AreMetBelow s prices (row_start x row + (column + 1))
+  section_met m =
+      let n : row_start x row + column + 1 ≡ row_start x row + (column + 1) = omega arith in
+      subst (λ p. AreMetBelow s prices p) n
+      (met_more s prices (class_at x.at row column) (row_start x row + column)
+      (class_in s.instruction x.assortment.now (class_at x.at row column) (section_class s x row column k r c))
+      (section_place s x row column k r c) m met)
+
+  pub section_wrong : (Meets (standing_by s x.assortment.now (class_at x.at row column))
+      (slice_index prices (row_start x row + column)) → ⊥)
+      → IsFirstWrong s prices (row_start x row + column)
+  section_wrong wrong =
+      record {
+        class = class_at x.at row column;
+        exists = class_in s.instruction x.assortment.now (class_at x.at row column) (section_class s x row column k r c);
+        place = section_place s x row column k r c;
+        wrong = wrong;
+        least = met;
+      }
 
 module _ (s : StandingsParts) (ps : List Posting) (prices : List ℕ) (wanted : s.targets ≡ targets_of s.instruction ps)
     (counts : AreCounts s.instruction ps s.by_class s.by_assortment) where

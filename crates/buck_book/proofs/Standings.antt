@@ -25,7 +25,8 @@ use Rattle.buck_book.specs.Targets.{AreTargets, targets_sum}
 use Rattle.buck_book.specs.History.{standing_at, standing_of, PricesMeet}
 use Rattle.buck_book.specs.Pricing.{AreAnswers}
 use Rattle.buck_book.specs.inner.Running.{AreCounts}
-use Rattle.buck_book.specs.inner.Pricing.{StandingsParts, CanPrice, IsClassOf, IsAnswer, ArePriced, standing_by}
+use Rattle.buck_book.specs.declared.pricing.Section.{Section}
+use Rattle.buck_book.specs.inner.Pricing.{StandingsParts, CanPrice, IsSection, IsClassOf, IsAnswer, ArePriced, class_at, row_start, standing_by}
 use Rattle.buck_book.proofs.Places.{inner_is, inner_lt, one_place, place_lt}
 use Rattle.buck_book.proofs.Wanted.{sum_same, valid_at, target_within, target_low}
 
@@ -72,32 +73,33 @@ meets_within s price m = grind (arith, common_steps)
 
 -- one price more
 pub priced_more : {F : Type 0} (g : Shared F (Bor Standing × Unit {0}) ℕ) (f : F) (s : StandingsParts) (prices : List ℕ)
-    (c : Class) (price : ℕ)
-    → (k : IsClass s.instruction c) → length prices ≡ index_of s.instruction c
+    (c : Class) (price n : ℕ)
+    → (k : IsClass s.instruction c) → index_of s.instruction c ≡ n
     → IsAnswer g f (standing_by s k.assortment c) price
-    → ArePriced g f s prices
-    → ArePriced g f s (prices ++ price ∷ [])
-priced_more g f s prices c price k next answer priced =
+    → ArePriced g f s prices n
+    → ArePriced g f s (prices ++ price ∷ []) (n + 1)
+priced_more g f s prices c price n k place answer priced =
     let i = s.instruction in
     let last : get_or (prices ++ price ∷ []) (index_of i c) 0 ≡ price =
-    get_or_push prices price 0 (index_of i c) next in
+    get_or_push prices price 0 (index_of i c) (priced.number_is ∙ sym place) in
     record {
-      answered = λ d l lt. elim (cases_lt (index_of i d) (length prices)) [
+      number_is = omega (arith, length_push prices price, priced.number_is);
+      answered = λ d l lt. elim (cases_lt (index_of i d) n) [
         | inl old ↦
             subst (λ p. IsAnswer g f (standing_by s l.assortment d) p)
-            (sym (get_or_append_left prices (price ∷ []) 0 (index_of i d) old))
+            (sym (get_or_append_left prices (price ∷ []) 0 (index_of i d) (omega (arith, priced.number_is))))
             (priced.answered d l old)
         | inr new ↦
             at_place i (λ a x n. IsAnswer g f (standing_by s a x) (slice_index (prices ++ price ∷ []) n)) c d k l
-            (omega (arith, length_push prices price))
+            (omega arith)
             (subst (λ p. IsAnswer g f (standing_by s k.assortment c) p) (sym last) answer)
       ];
-      in_span = λ j lt. elim (cases_lt j (length prices)) [
+      in_span = λ j lt. elim (cases_lt j n) [
         | inl old ↦
             subst (λ p. IsInSpan i.limit (slice_index (base_prices i) j) p)
-            (sym (get_or_append_left prices (price ∷ []) 0 j old)) (priced.in_span j old)
+            (sym (get_or_append_left prices (price ∷ []) 0 j (omega (arith, priced.number_is)))) (priced.in_span j old)
         | inr new ↦
-            let same : index_of i c ≡ j = omega (arith, length_push prices price) in
+            let same : index_of i c ≡ j = omega arith in
             let here : IsInSpan i.limit (slice_index (base_prices i) (index_of i c)) price =
             meets_within (standing_by s k.assortment c) price answer.met in
             subst (λ x. IsPriceAt i (prices ++ price ∷ []) x) same
@@ -112,14 +114,6 @@ meets_low s price r m = grind (arith, meets_within, mul-le-mul_left)
 -- a class of an assortment is a class of the instruction
 abbrev pub class_in : (i : InstructionParts) (a : AssortmentParts) (c : Class) → IsClassOf i a c → IsClass i c
 class_in i a c k = record { assortment = a; exists = k.exists; row = k.row; column = k.column }
-
--- the classes before the next assortment are those before this one, and its own
-pub before_next : (i : InstructionParts) (a : AssortmentParts) (at : ℕ) → slice_get i.assortments at ≡ Some a
-    → classes_before i (at + 1) ≡ classes_before i at + length a.diameters * length a.lengths
-before_next i a at exists =
-    let lt : at < length i.assortments = slice_get_within i.assortments at a exists in
-    sum_by_more classes_of i.assortments at a lt
-    ∙ ap (λ x. classes_before i at + classes_of x) (get_or_from_slice_get i.assortments at a a exists)
 
 -- a class has a target and a count of its own, and so has its assortment a count
 pub has_counts : (s : StandingsParts) (a : AssortmentParts) (c : Class) → IsClassOf s.instruction a c → CanPrice s
@@ -139,6 +133,64 @@ pub stands_by : (s : StandingsParts) (a : AssortmentParts) (c : Class) (base lim
     ≡ standing_by s a c
 stands_by s a c base limit target targets count counts b l t ts n ns = cc
 
+-- a class of a section
+module _ (s : StandingsParts) (x : Section) (row column : ℕ) (k : IsSection s x)
+    (r : row < length x.assortment.now.diameters) (c : column < x.columns) where
+  pub section_class : IsClassOf s.instruction x.assortment.now (class_at x.at row column)
+  section_class = record { exists = k.exists; row = r; column = omega (arith, k.columns_are) }
+
+  abbrev section_is : IsClass s.instruction (class_at x.at row column)
+  section_is = class_in s.instruction x.assortment.now (class_at x.at row column) section_class
+
+  pub section_place : index_of s.instruction (class_at x.at row column) ≡ row_start x row + column
+  section_place = grind (arith, inner_is s.instruction (class_at x.at row column) section_is)
+
+  pub section_below : row_start x row + column < classes s.instruction
+  section_below = omega (arith, section_place, place_lt s.instruction (class_at x.at row column) section_is)
+
+  -- it has a target and counts
+  module _ (can : CanPrice s) where
+    pub section_counts : (row_start x row + column < length s.by_class) × (x.at < length s.by_assortment)
+        × (row_start x row + column < length s.targets)
+    section_counts =
+        let counts = has_counts s x.assortment.now (class_at x.at row column) section_class can in
+        (omega (arith, counts.0, section_place), counts.1, omega (arith, counts.2, section_place))
+
+    -- how it stands by what was read is how it stands
+    pub section_stands : (base limit target count counts : ℕ)
+        → base ≡ slice_index x.assortment.now.prices (row * length x.assortment.now.lengths + column)
+        → limit ≡ s.instruction.limit
+        → target ≡ slice_index s.targets (row_start x row + column)
+        → count ≡ slice_index s.by_class (row_start x row + column)
+        → counts ≡ slice_index s.by_assortment x.at
+        → record { base = base; limit = limit; target = target; targets = x.targets; count = count; counts = counts }
+        ≡ standing_by s x.assortment.now (class_at x.at row column)
+    section_stands base limit target count counts b l t n ns =
+        stands_by s x.assortment.now (class_at x.at row column) base limit target x.targets count counts
+        (b ∙ sym (base_is s.instruction (class_at x.at row column) can.valid section_is))
+        l (t ∙ ap (λ p. slice_index s.targets p) (sym section_place)) k.targets_are
+        (n ∙ ap (λ p. slice_index s.by_class p) (sym section_place)) ns
+
+pub price_more : {F : Type 0} (g : Shared F (Bor Standing × Unit {0}) ℕ) (f : F) (s : StandingsParts) (x : Section)
+    (row column price : ℕ) (prices : List ℕ) → IsSection s x
+    → row < length x.assortment.now.diameters → column < x.columns
+    → IsAnswer g f (standing_by s x.assortment.now (class_at x.at row column)) price
+    → ArePriced g f s prices (row_start x row + column)
+    → ArePriced g f s (prices ++ price ∷ []) (row_start x row + (column + 1))
+price_more g f s x row column price prices k r c answer priced =
+    let n : row_start x row + column + 1 ≡ row_start x row + (column + 1) = omega arith in
+    subst (λ m. ArePriced g f s (prices ++ price ∷ []) m) n
+    (priced_more g f s prices (class_at x.at row column) price (row_start x row + column)
+    (section_is s x row column k r c) (section_place s x row column k r c) answer priced)
+
+-- the classes before the next assortment are those before this one, and its own
+pub before_next : (i : InstructionParts) (a : AssortmentParts) (at : ℕ) → slice_get i.assortments at ≡ Some a
+    → classes_before i (at + 1) ≡ classes_before i at + length a.diameters * length a.lengths
+before_next i a at exists =
+    let lt : at < length i.assortments = slice_get_within i.assortments at a exists in
+    sum_by_more classes_of i.assortments at a lt
+    ∙ ap (λ x. classes_before i at + classes_of x) (get_or_from_slice_get i.assortments at a a exists)
+
 -- by running counts that can be a history's, a class stands in range
 pub stands_in_range : (s : StandingsParts) (a : AssortmentParts) (c : Class) → IsClassOf s.instruction a c → CanPrice s
     → IsInRange (standing_by s a c)
@@ -157,8 +209,8 @@ standing_is i targets by_class by_assortment ps c wanted counts k = grind (arith
 
 module _ {F : Type 0} (g : Shared F (Bor Standing × Unit {0}) ℕ) (f : F) (s : StandingsParts) (ps : List Posting)
     (prices : List ℕ) (wanted : s.targets ≡ targets_of s.instruction ps)
-    (counts : AreCounts s.instruction ps s.by_class s.by_assortment) (all : length prices ≡ classes s.instruction)
-    (priced : ArePriced g f s prices) where
+    (counts : AreCounts s.instruction ps s.by_class s.by_assortment)
+    (priced : ArePriced g f s prices (classes s.instruction)) where
   answers : (c : Class) (k : IsClass s.instruction c)
       → IsAnswer g f (standing_of s.instruction k.assortment c ps) (slice_index prices (index_of s.instruction c))
   answers c k =
@@ -167,7 +219,7 @@ module _ {F : Type 0} (g : Shared F (Bor Standing × Unit {0}) ℕ) (f : F) (s :
       (priced.answered c k (omega (arith, place_lt s.instruction c k)))
 
   pub prices_meet : PricesMeet s.instruction ps prices
-  prices_meet = record { one_each = all; each_meets = λ c k. (answers c k).met }
+  prices_meet = record { one_each = priced.number_is; each_meets = λ c k. (answers c k).met }
 
   pub are_answers : AreAnswers g f s.instruction ps prices
   are_answers c k = (answers c k).given

@@ -1,17 +1,17 @@
 -- What some postings add up to, one posting on.
-use Rattle.std.proofs.Common.{◌≡◌, ℕ, ◌+◌, ◌*◌, ◌<◌, ◌≤◌, ◌==◌, cond, List, [], ◌∷◌, ◌++◌, length, refl, sym, ◌∙◌, ap, subst, arith}
+use Rattle.std.proofs.Common.{◌≡◌, ℕ, ◌+◌, ◌*◌, ◌<◌, ◌≤◌, ◌==◌, cond, List, [], ◌∷◌, ◌++◌, length, sym, ◌∙◌, ap, subst, arith}
 use Rattle.std.proofs.lemmas.Grind.{common_steps}
-use Rattle.std.proofs.lemmas.List.{length-map, length_push}
-use Rattle.buck_apt.specs.Instruction.{InstructionParts, IsInstruction, index_of}
+use Rattle.std.proofs.lemmas.List.{length_push}
+use Rattle.buck_apt.specs.Instruction.{InstructionParts, IsInstruction}
 use Rattle.buck_stem.specs.Stem.{IsStem}
-use Rattle.buck_value.specs.Allowed.{IsAllowed, class_of, end_of}
+use Rattle.buck_value.specs.Allowed.{IsAllowed, end_of}
 use Rattle.buck_dp.specs.Cutting.{IsCutFrom}
 use Rattle.buck_book.specs.declared.posting.Posting.{Posting}
 use Rattle.buck_book.specs.declared.posting.Posting.TheVariants.{Cut, Demand}
 use Rattle.buck_book.specs.Entry.{EntryParts, DemandParts}
 use Rattle.buck_book.specs.Posting.{opening_targets}
 use Rattle.buck_book.specs.Targets.{AreTargets}
-use Rattle.buck_book.specs.inner.Running.{RunningParts, Tells, standings_of, AreCounts, AreAtMost, AreGrown, AreGrownBy, tally_of}
+use Rattle.buck_book.specs.inner.Running.{RunningParts, Tells, standings_of, AreCounts, AreAtMost, AreGrownAt, AreGrownBy, class_place}
 use Rattle.buck_book.specs.inner.Pricing.{CanPrice}
 use Rattle.buck_book.proofs.Cuts.{few_logs}
 use Rattle.buck_book.proofs.Counting.{counts_more, counts_stay, low_more, can_price}
@@ -53,7 +53,8 @@ module _ (i : InstructionParts) (ps : List Posting) (n : RunningParts) (t : Tell
 
   pub tells_cut : (e : EntryParts) (by_class' by_assortment' : List ℕ) (cuts' version' : ℕ)
       → length ps < 1000000 → IsStem e.stem → IsCutFrom (IsAllowed i e.stem) (end_of i) 0 e.logs
-      → AreGrown n.by_class (tally_of i e.stem e.logs) by_class' → AreGrownBy n.by_assortment e.logs by_assortment'
+      → AreGrownAt (class_place i e.stem) n.by_class e.logs by_class'
+      → AreGrownBy n.by_assortment e.logs by_assortment'
       → cuts' ≡ cond (n.cuts + 1 == i.period) 0 (n.cuts + 1)
       → version' ≡ n.version + cond (n.cuts + 1 == i.period) 1 0
       → Tells i (ps ++ Cut e ∷ [])
@@ -61,8 +62,6 @@ module _ (i : InstructionParts) (ps : List Posting) (n : RunningParts) (t : Tell
   tells_cut e by_class' by_assortment' cuts' version' few s cut classes_grown assortments_grown cut_is ended =
       let x : Posting = Cut e in
       let logs : length e.logs ≤ 80 = few_logs i e.stem e.logs t.valid s cut in
-      let places : length (tally_of i e.stem e.logs) ≤ 80 =
-      omega (arith, logs, length-map e.logs (λ g. index_of i (class_of i e.stem g))) in
       record {
         valid = t.valid;
         few = few_then x few;
@@ -73,12 +72,12 @@ module _ (i : InstructionParts) (ps : List Posting) (n : RunningParts) (t : Tell
         version_is = ended ∙ (λ j. t.version_is j + cond (t.cuts_are j + 1 == i.period) 1 0)
             ∙ sym (ends-append i.period 0 ps (x ∷ []));
         counts_are =
-            counts_more i ps e n.by_class n.by_assortment (tally_of i e.stem e.logs)
-            by_class' by_assortment' t.valid cut t.counts_are refl classes_grown assortments_grown;
+            counts_more i ps e n.by_class n.by_assortment by_class' by_assortment' t.valid cut t.counts_are
+            classes_grown assortments_grown;
         counts_low =
             low_then x few by_class' by_assortment'
-            (low_more (80 * length ps) 80 n.by_class n.by_assortment (tally_of i e.stem e.logs)
-            by_class' by_assortment' e.logs t.counts_low places logs classes_grown assortments_grown);
+            (low_more (80 * length ps) 80 (class_place i e.stem) n.by_class n.by_assortment
+            by_class' by_assortment' e.logs t.counts_low logs classes_grown assortments_grown);
       }
 
   pub tells_demand : (d : DemandParts) (targets' : List ℕ) (version' : ℕ)

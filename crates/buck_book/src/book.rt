@@ -20,7 +20,7 @@ use crate::demand::{DemandRefusal, ReadyDemand};
 use crate::entry::Entry;
 use crate::plan::Plan;
 use crate::posting::{Demand, Posting};
-use crate::pricing::{Standings, sheet_by};
+use crate::pricing::sheet_by;
 use crate::ready::{Ready, Refusal};
 use crate::running::Running;
 use crate::targets::check_targets;
@@ -75,20 +75,6 @@ pub struct Parts {
     pub targets: Arc<Vec<u32>>,
     /// How many logs were cut in each class, in the same order.
     pub counts: Vec<u32>,
-}
-
-/// The base sheet alone.
-fn base_sheets(alloc: Global, instruction: Arc<Instruction>) -> Result<Vec<Arc<Sheet>>, Memory>
-    ensures sheets { IfOk result (λ sheets.
-        map (λ a. a.value) sheets.items
-        ≡ sheet_of 0 instruction.value (base_prices instruction.value) ∷ []) }
-    ensures prices { IfOk result (λ sheets.
-        map (λ a. a.value.prices) sheets.items ≡ base_prices instruction.value ∷ []) }
-{
-    let sheet = Arc::new(alloc, Sheet::base(alloc, instruction)?)?;
-    let mut sheets = Vec::with_capacity(alloc, 1)?;
-    sheets.push_reserved(sheet);
-    Ok(sheets)
 }
 
 /// Adds a sheet, if there is one, where there is memory for it.
@@ -181,14 +167,14 @@ impl<F: Drop> Book<F> {
         requires { IsClass self.now.history.instruction class }
         ensures { result ≡ count_of self.now.history.instruction class self.now.history.postings }
     {
-        self.running.counts().by_class[self.instruction.index(class)]
+        self.running.classes()[self.instruction.index(class)]
     }
 
     /// How many logs were cut in each class, assortment by assortment and row by row.
     pub fn counts(&self) -> &[u32]
         ensures { AreClassCounts self.now.history.instruction self.now.history.postings result.now }
     {
-        self.running.counts().by_class.as_slice()
+        self.running.classes()
     }
 
     /// How many postings are a harvester's, 1 to 64.
@@ -227,20 +213,11 @@ impl<F: Drop> Book<F> {
         ensures counts { AreClassCounts self.history.instruction self.history.postings result.counts.items }
         ensures kept { IsBook self }
     {
-        let Book {
-            rule: _,
-            instruction,
-            sheets,
-            postings,
-            running,
-            calls: _,
-            capacity: _,
-        } = self;
-        let (targets, counts) = running.into_parts();
+        let (targets, counts) = self.running.into_parts();
         Parts {
-            instruction,
-            sheets,
-            entries: postings,
+            instruction: self.instruction,
+            sheets: self.sheets,
+            entries: self.postings,
             targets,
             counts,
         }
@@ -252,23 +229,14 @@ impl<F: Drop> Book<F> {
         ensures history { result.history ≡ self.history }
         ensures capacity { result.capacity ≡ self.capacity }
     {
-        let Book {
-            rule: _,
-            instruction,
-            sheets,
-            postings,
-            running,
-            calls,
-            capacity,
-        } = self;
         Book {
             rule,
-            instruction,
-            sheets,
-            postings,
-            running,
-            calls,
-            capacity,
+            instruction: self.instruction,
+            sheets: self.sheets,
+            postings: self.postings,
+            running: self.running,
+            calls: self.calls,
+            capacity: self.capacity,
         }
     }
 
@@ -317,18 +285,13 @@ impl<F: Drop> Book<F> {
         let version = self.version();
         self.running.after_plan(&plan);
         let entry = plan.into_entry(harvester, number, version);
-        let Ready {
-            stem,
-            cutting,
-            next,
-        } = ready;
-        let stored = Posting::Cut(entry.sharing(stem, cutting));
+        let stored = Posting::Cut(entry.sharing(ready.stem, ready.cutting));
         add(
             &mut self.calls,
             &mut self.postings,
             &mut self.sheets,
             stored,
-            next,
+            ready.next,
         );
         entry
     }
@@ -347,21 +310,15 @@ impl<F: Drop> Book<F> {
     {
         let number = self.calls(harvester) + 1;
         let version = self.version();
-        let ReadyDemand {
-            stored,
-            in_force,
-            answered,
-            next,
-        } = ready;
-        self.running.after_demand(in_force);
+        self.running.after_demand(ready.in_force);
         let demand = Demand {
             harvester,
             number,
             version,
-            targets: answered,
+            targets: ready.answered,
         };
-        let stored = Posting::Demand(demand.sharing(stored));
-        let next = Some(next);
+        let stored = Posting::Demand(demand.sharing(ready.stored));
+        let next = Some(ready.next);
         add(
             &mut self.calls,
             &mut self.postings,
@@ -391,7 +348,9 @@ impl<F: Fn(&Standing) -> u64> Book<F> {
     {
         let running = Running::opening(alloc, &instruction)?;
         let calls = zeros(alloc, 64)?;
-        let sheets = base_sheets(alloc, instruction.clone()?)?;
+        let base = Arc::new(alloc, Sheet::base(alloc, instruction.clone()?)?)?;
+        let mut sheets = Vec::with_capacity(alloc, 1)?;
+        sheets.push_reserved(base);
         Ok(Book {
             rule,
             instruction,
@@ -414,11 +373,7 @@ impl<F: Fn(&Standing) -> u64> Book<F> {
         ensures given { IfOk result (λ s. (x : Posting) → IsPassed self.now.history x after.now
             → AreAnswers F.Fn self.now.rule self.now.history.instruction (self.now.history.postings ++ x ∷ []) s.value.prices) }
     {
-        let standings = Standings {
-            instruction: &self.instruction,
-            targets: after.targets(),
-            counts: after.counts(),
-        };
+        let standings = after.standings(&self.instruction);
         sheet_by(
             alloc,
             &self.rule,
@@ -441,44 +396,9 @@ impl<F: Fn(&Standing) -> u64> Book<F> {
         if !self.is_period_end() {
             return Ok(None);
         }
-        let mut after = self.running.clone(alloc)?;
+        let mut after = self.running.clone()?;
         after.after_plan(plan);
         Ok(Some(self.sheet_after(alloc, &after)?))
-    }
-
-    /// The next sheet after a demand of valid targets.
-    fn sheet_of_demand(&self, alloc: Global, targets: &Arc<Vec<u32>>) -> Result<Arc<Sheet>, Memory>
-        requires answers { Answers F.Fn self.now.rule }
-        requires below { length self.now.history.postings < self.now.capacity }
-        requires valid { AreTargets self.now.history.instruction targets.now.value.items }
-        ensures next { IfOk result (λ s. (harvester : ℕ) → IsNextSheet self.now.history
-            (Posting.Demand (demand_of self.now.history harvester targets.now.value.items)) s.value) }
-        ensures given { IfOk result (λ s.
-            AreAnswersWithDemand F.Fn self.now.rule self.now.history targets.now.value.items s.value.prices) }
-    {
-        let mut after = self.running.clone(alloc)?;
-        after.after_demand(targets.clone()?);
-        self.sheet_after(alloc, &after)
-    }
-
-    /// What the commit of a plan under the sheet in force stores or hands out. The room that it needs is made.
-    fn ready_for(&mut self, alloc: Global, plan: &Plan) -> Result<Ready, Memory>
-        requires answers { Answers F.Fn self.old.rule }
-        requires below { length self.old.history.postings < self.old.capacity }
-        requires in_force { plan.now.sheet ≡ in_force self.old.history }
-        ensures content { SameContent self.old self.new }
-        ensures ready { IfOk result (λ r. IsReadyFor self.new r plan.now) }
-        ensures given { IfOk result (λ r. IfSome r.next (λ s.
-            AreAnswersWith F.Fn self.old.rule self.old.history plan.now s.prices)) }
-    {
-        let next = self.next_sheet(alloc, plan)?;
-        let ready = Ready {
-            stem: plan.stem().clone()?,
-            cutting: plan.cutting().clone()?,
-            next,
-        };
-        self.reserve()?;
-        Ok(ready)
     }
 
     /// Prepares the commit of a plan: makes all that the commit stores or hands out, with the next sheet where the
@@ -500,7 +420,7 @@ impl<F: Fn(&Standing) -> u64> Book<F> {
             let in_force = self.sheet().clone()?;
             return Err(Refusal::Stale { in_force });
         }
-        Ok(self.ready_for(alloc, plan)?)
+        self.prepare_in_force(alloc, plan)
     }
 
     /// [`prepare`](Book::prepare) of a plan that is known to be under the sheet in force, as where nobody else commits:
@@ -517,7 +437,14 @@ impl<F: Fn(&Standing) -> u64> Book<F> {
         if self.is_full() {
             return Err(Refusal::Full);
         }
-        Ok(self.ready_for(alloc, plan)?)
+        let next = self.next_sheet(alloc, plan)?;
+        let ready = Ready {
+            stem: plan.stem().clone()?,
+            cutting: plan.cutting().clone()?,
+            next,
+        };
+        self.reserve()?;
+        Ok(ready)
     }
 
     /// Prepares the commit of a demand: makes all that the commit stores or hands out, with the next sheet, and the
@@ -544,12 +471,13 @@ impl<F: Fn(&Standing) -> u64> Book<F> {
             Err(fault) => return Err(DemandRefusal::Targets(fault)),
             Ok(()) => {}
         }
-        let next = self.sheet_of_demand(alloc, targets)?;
+        let mut after = self.running.clone()?;
+        after.after_demand(targets.clone()?);
         let ready = ReadyDemand {
             stored: targets.clone()?,
             in_force: targets.clone()?,
             answered: targets.clone()?,
-            next,
+            next: self.sheet_after(alloc, &after)?,
         };
         self.reserve()?;
         Ok(ready)

@@ -1,8 +1,8 @@
 //! Running counts of what was cut.
-ghost use Rattle.std.specs.Prelude.{◌≡◌, ℕ, ◌+◌, ◌<◌, ◌≤◌, ◌^◌, [], All, IfOk, length, slice_index, replicate};
+ghost use Rattle.std.specs.Prelude.{◌≡◌, ◌+◌, ◌<◌, ◌≤◌, ◌^◌, [], All, IfOk, length, slice_index, slice_set, replicate};
 ghost use Rattle.buck_apt.specs.Instruction.{IsInstruction, classes, index_of};
 ghost use Rattle.buck_value.specs.Allowed.{IsAllowed, class_of};
-ghost use Rattle.buck_book.specs.inner.Running.{AreCounts, AreAtMost, AreGrown, AreGrownBy, tally_of};
+ghost use Rattle.buck_book.specs.inner.Running.{AreCounts, AreAtMost, AreGrownAt, AreGrownBy, class_place};
 
 use buck_apt::Instruction;
 use buck_stem::Stem;
@@ -10,7 +10,7 @@ use buck_value::{Log, Sheet, class_of};
 use std::alloc::{AllocError, Global};
 
 /// How many logs were cut in each class, by its place in the instruction, and in each assortment.
-#[derive(Drop)]
+#[derive(Clone, Drop)]
 pub struct Counts {
     pub by_class: Vec<u32>,
     pub by_assortment: Vec<u32>,
@@ -36,28 +36,13 @@ fn place_of(sheet: &Sheet, stem: &Stem, log: &Log) -> usize
     }
 }
 
-/// Adds one to the count of the class of each log.
-fn add_classes(counts: &mut Vec<u32>, sheet: &Sheet, stem: &Stem, logs: &[Log])
-    requires allowed { All (IsAllowed sheet.now.instruction stem.now) logs.now }
-    requires number { length counts.old.items ≡ classes sheet.now.instruction }
-    requires low { (k : ℕ) → slice_index counts.old.items k + length logs.now < 2 ^ 32 }
-    ensures { AreGrown counts.old.items (tally_of sheet.now.instruction stem.now logs.now) counts.new.items }
+/// Adds one to the count at a place.
+fn add_one(counts: &mut Vec<u32>, place: usize)
+    requires within { place < length counts.old.items }
+    requires low { slice_index counts.old.items place + 1 < 2 ^ 32 }
+    ensures { counts.new.items ≡ slice_set counts.old.items place (slice_index counts.old.items place + 1) }
 {
-    for log in logs {
-        let place = place_of(sheet, stem, log);
-        counts[place] += 1;
-    }
-}
-
-/// Adds one to the count of the assortment of each log.
-fn add_assortments(counts: &mut Vec<u32>, logs: &[Log])
-    requires within { All (λ g. g.assortment < length counts.old.items) logs.now }
-    requires low { (a : ℕ) → slice_index counts.old.items a + length logs.now < 2 ^ 32 }
-    ensures { AreGrownBy counts.old.items logs.now counts.new.items }
-{
-    for log in logs {
-        counts[log.assortment as usize] += 1;
-    }
+    counts[place] += 1;
 }
 
 impl Counts {
@@ -76,30 +61,6 @@ impl Counts {
         })
     }
 
-    /// A second list of the same counts.
-    pub fn clone(&self, alloc: Global) -> Result<Counts, AllocError>
-        ensures classes { IfOk result (λ n. n.by_class.items ≡ self.now.by_class.items) }
-        ensures assortments { IfOk result (λ n. n.by_assortment.items ≡ self.now.by_assortment.items) }
-    {
-        let by_class = Vec::from_slice(alloc, self.by_class.as_slice())?;
-        let by_assortment = Vec::from_slice(alloc, self.by_assortment.as_slice())?;
-        Ok(Counts {
-            by_class,
-            by_assortment,
-        })
-    }
-
-    /// The counts of the classes; those of the assortments are let go.
-    pub fn into_classes(self) -> Vec<u32>
-        ensures { result.items ≡ self.by_class.items }
-    {
-        let Counts {
-            by_class,
-            by_assortment: _,
-        } = self;
-        by_class
-    }
-
     /// Counts the logs of a stem's cutting, each allowed under the sheet.
     pub fn add(&mut self, sheet: &Sheet, stem: &Stem, logs: &[Log])
         requires allowed { All (IsAllowed sheet.now.instruction stem.now) logs.now }
@@ -107,11 +68,13 @@ impl Counts {
         requires assortments { length self.old.by_assortment.items ≡ length sheet.now.instruction.assortments }
         requires low { AreAtMost 80000000 self.old.by_class.items self.old.by_assortment.items }
         requires few { length logs.now ≤ 80 }
-        ensures classes { AreGrown self.old.by_class.items (tally_of sheet.now.instruction stem.now logs.now)
+        ensures classes { AreGrownAt (class_place sheet.now.instruction stem.now) self.old.by_class.items logs.now
             self.new.by_class.items }
         ensures assortments { AreGrownBy self.old.by_assortment.items logs.now self.new.by_assortment.items }
     {
-        add_classes(&mut self.by_class, sheet, stem, logs);
-        add_assortments(&mut self.by_assortment, logs);
+        for log in logs {
+            add_one(&mut self.by_class, place_of(sheet, stem, log));
+            add_one(&mut self.by_assortment, log.assortment as usize);
+        }
     }
 }

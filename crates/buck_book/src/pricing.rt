@@ -4,11 +4,11 @@ ghost use Rattle.buck_apt.specs.Instruction.{classes, classes_before, index_of};
 ghost use Rattle.buck_rule.specs.Standing.{IsInRange};
 ghost use Rattle.buck_rule.specs.Stored.{Answers};
 ghost use Rattle.buck_book.specs.Targets.{targets_sum};
-ghost use Rattle.buck_book.specs.inner.Pricing.{CanPrice, IsClassOf, IsAnswer, ArePriced, IsPricedSheet, standing_by};
+ghost use Rattle.buck_book.specs.inner.Pricing.{CanPrice, IsSection, IsAnswer, ArePriced, IsPricedSheet, class_at, row_start, standing_by};
 
 use crate::counts::Counts;
 use crate::targets::targets_sum;
-use buck_apt::{Assortment, Class, Instruction};
+use buck_apt::{Assortment, Instruction};
 use buck_record::Memory;
 use buck_rule::{Rule, Standing};
 use buck_value::Sheet;
@@ -44,40 +44,55 @@ impl<'a> Model for Standings<'a> {
     }) };
 }
 
+/// The classes of an assortment: how many come before them, how many are in a row, and what is wanted of all together.
+#[derive(Clone, Copy)]
+pub struct Section<'a> {
+    pub assortment: &'a Assortment,
+    pub at: usize,
+    pub before: usize,
+    pub columns: usize,
+    pub targets: u64,
+}
+
 impl<'a> Standings<'a> {
-    /// What is wanted of the assortment at a place, given the classes before it.
+    /// The classes of the assortment at a place, given how many come before them.
     #[tactic(auto, using(crate::proofs::Wanted::part_within))]
-    pub fn targets_sum(&self, assortment: &Assortment, at: u8, before: usize) -> u64
-        requires exists { slice_get self.now.instruction.assortments at ≡ Some assortment.now }
+    pub fn section(&self, at: usize, before: usize) -> Section<'a>
+        requires exists { at < length self.now.instruction.assortments }
         requires before { before ≡ classes_before self.now.instruction at }
-        ensures { result ≡ targets_sum self.now.instruction assortment.now at self.now.targets }
+        ensures section { IsSection self.now result }
+        ensures at { result.at ≡ at }
     {
-        targets_sum(assortment, before, self.targets)
+        let assortment = &self.instruction.assortments()[at];
+        Section {
+            assortment,
+            at,
+            before,
+            columns: assortment.lengths().len(),
+            targets: targets_sum(assortment, before, self.targets),
+        }
     }
 
-    /// How a class of an assortment stands, given its place among all and what is wanted of the assortment.
-    pub fn standing(
-        &self,
-        assortment: &Assortment,
-        targets: u64,
-        class: Class,
-        place: usize,
-    ) -> Standing
-        requires class { IsClassOf self.now.instruction assortment.now class }
-        requires targets { targets ≡ targets_sum self.now.instruction assortment.now class.assortment self.now.targets }
-        requires place { place ≡ index_of self.now.instruction class }
-        ensures standing { result ≡ standing_by self.now assortment.now class }
+    /// How the class of a row and a column stands.
+    pub fn standing(&self, section: &Section, row: usize, column: usize) -> Standing
+        requires section { IsSection self.now section.now }
+        requires row { row < length section.now.assortment.now.diameters }
+        requires column { column < section.now.columns }
+        ensures standing { result
+            ≡ standing_by self.now section.now.assortment.now (class_at section.now.at row column) }
         ensures range { IsInRange result }
         ensures kept { CanPrice self.now }
     {
-        let base = assortment.price(class.row as usize, class.column as usize);
+        let base = u64::from(section.assortment.price(row, column));
+        let limit = u64::from(self.instruction.limit());
+        let place = section.before + row * section.columns + column;
         Standing {
-            base: u64::from(base),
-            limit: u64::from(self.instruction.limit()),
+            base,
+            limit,
             target: u64::from(self.targets[place]),
-            targets,
+            targets: section.targets,
             count: u64::from(self.counts.by_class[place]),
-            counts: u64::from(self.counts.by_assortment[class.assortment as usize]),
+            counts: u64::from(self.counts.by_assortment[section.at]),
         }
     }
 }
@@ -92,54 +107,23 @@ fn price_by<F: Fn(&Standing) -> u64>(rule: &Rule<F>, standing: &Standing) -> u32
     rule.answer(standing) as u32
 }
 
-/// Adds the price of the next class: the rule's answer to how that class stands.
-fn add_class<F: Fn(&Standing) -> u64>(
-    prices: &mut Vec<u32>,
-    rule: &Rule<F>,
-    standings: &Standings,
-    assortment: &Assortment,
-    targets: u64,
-    class: Class,
-) -> Result<(), AllocError>
-    requires answers { Answers F.Fn rule.now }
-    requires class { IsClassOf standings.now.instruction assortment.now class }
-    requires targets { targets
-        ≡ targets_sum standings.now.instruction assortment.now class.assortment standings.now.targets }
-    requires next { vec_len prices.old ≡ index_of standings.now.instruction class }
-    requires priced { ArePriced F.Fn rule.now standings.now prices.old.items }
-    ensures priced { OnOk result (ArePriced F.Fn rule.now standings.now prices.new.items) }
-    ensures more { OnOk result (vec_len prices.new ≡ vec_len prices.old + 1) }
-{
-    let standing = standings.standing(assortment, targets, class, prices.len());
-    prices.push(price_by(rule, &standing))?;
-    Ok(())
-}
-
-/// Adds the prices of a row of classes, from its first class on.
+/// Adds the prices of a row of classes: the rule's answers to how they stand.
 fn add_row<F: Fn(&Standing) -> u64>(
     prices: &mut Vec<u32>,
     rule: &Rule<F>,
     standings: &Standings,
-    assortment: &Assortment,
-    targets: u64,
-    first: Class,
+    section: &Section,
+    row: usize,
 ) -> Result<(), AllocError>
     requires answers { Answers F.Fn rule.now }
-    requires class { IsClassOf standings.now.instruction assortment.now first }
-    requires first { first.column ≡ 0 }
-    requires targets { targets
-        ≡ targets_sum standings.now.instruction assortment.now first.assortment standings.now.targets }
-    requires next { vec_len prices.old ≡ index_of standings.now.instruction first }
-    requires priced { ArePriced F.Fn rule.now standings.now prices.old.items }
-    ensures priced { OnOk result (ArePriced F.Fn rule.now standings.now prices.new.items) }
-    ensures more { OnOk result (vec_len prices.new ≡ vec_len prices.old + length assortment.now.lengths) }
+    requires section { IsSection standings.now section.now }
+    requires row { row < length section.now.assortment.now.diameters }
+    requires before { ArePriced F.Fn rule.now standings.now prices.old.items (row_start section.now row) }
+    ensures { OnOk result (ArePriced F.Fn rule.now standings.now prices.new.items (row_start section.now (row + 1))) }
 {
-    for column in 0..assortment.lengths().len() {
-        let class = Class {
-            column: column as u8,
-            ..first
-        };
-        add_class(prices, rule, standings, assortment, targets, class)?;
+    for column in 0..section.columns {
+        let standing = standings.standing(section, row, column);
+        prices.push(price_by(rule, &standing))?;
     }
     Ok(())
 }
@@ -150,24 +134,18 @@ fn add_assortment<F: Fn(&Standing) -> u64>(
     prices: &mut Vec<u32>,
     rule: &Rule<F>,
     standings: &Standings,
-    assortment: &Assortment,
-    at: u8,
+    at: usize,
 ) -> Result<(), AllocError>
     requires answers { Answers F.Fn rule.now }
-    requires exists { slice_get standings.now.instruction.assortments at ≡ Some assortment.now }
-    requires next { vec_len prices.old ≡ classes_before standings.now.instruction at }
-    requires priced { ArePriced F.Fn rule.now standings.now prices.old.items }
-    ensures priced { OnOk result (ArePriced F.Fn rule.now standings.now prices.new.items) }
-    ensures more { OnOk result (vec_len prices.new ≡ classes_before standings.now.instruction (at + 1)) }
+    requires exists { at < length standings.now.instruction.assortments }
+    requires before { ArePriced F.Fn rule.now standings.now prices.old.items
+        (classes_before standings.now.instruction at) }
+    ensures { OnOk result (ArePriced F.Fn rule.now standings.now prices.new.items
+        (classes_before standings.now.instruction (at + 1))) }
 {
-    let targets = standings.targets_sum(assortment, at, prices.len());
-    for row in 0..assortment.diameters().len() {
-        let first = Class {
-            assortment: at,
-            row: row as u8,
-            column: 0,
-        };
-        add_row(prices, rule, standings, assortment, targets, first)?;
+    let section = standings.section(at, prices.len());
+    for row in 0..section.assortment.diameters().len() {
+        add_row(prices, rule, standings, &section, row)?;
     }
     Ok(())
 }
@@ -178,15 +156,14 @@ pub fn prices_by<F: Fn(&Standing) -> u64>(
     rule: &Rule<F>,
     standings: &Standings,
 ) -> Result<Vec<u32>, AllocError>
-    requires answers { Answers F.Fn rule.now }
-    ensures priced { IfOk result (λ prices. ArePriced F.Fn rule.now standings.now prices.items) }
-    ensures one_each { IfOk result (λ prices. vec_len prices ≡ classes standings.now.instruction) }
+    requires { Answers F.Fn rule.now }
+    ensures { IfOk result (λ prices.
+        ArePriced F.Fn rule.now standings.now prices.items (classes standings.now.instruction)) }
 {
     let instruction = standings.instruction;
     let mut prices = Vec::with_capacity(alloc, instruction.classes())?;
-    let assortments = instruction.assortments();
-    for at in 0..assortments.len() {
-        add_assortment(&mut prices, rule, standings, &assortments[at], at as u8)?;
+    for at in 0..instruction.assortments().len() {
+        add_assortment(&mut prices, rule, standings, at)?;
     }
     Ok(prices)
 }

@@ -1,18 +1,20 @@
 //! What runs on along postings: a book and a walk hold one each.
-ghost use Rattle.std.specs.Prelude.{◌≡◌, ◌+◌, ◌<◌, ◌≤◌, ◌==◌, ◌↔◌, [], IsTrue, IfOk, OnOk, cond, length, slice_index};
+ghost use Rattle.std.specs.Prelude.{List, ◌≡◌, ◌+◌, ◌<◌, ◌≤◌, ◌==◌, ◌↔◌, [], IsTrue, IfOk, OnOk, cond, length, slice_index};
 ghost use Rattle.buck_apt.specs.Instruction.{InstructionParts, IsInstruction};
 ghost use Rattle.buck_value.specs.Allowed.{IsAllowed, end_of};
 ghost use Rattle.buck_dp.specs.Cutting.{IsCutFrom};
+ghost use Rattle.buck_book.specs.declared.posting.Posting.{Posting};
 ghost use Rattle.buck_book.specs.Entry.{EntryParts, DemandParts};
 ghost use Rattle.buck_book.specs.Posting.{opening_targets};
 ghost use Rattle.buck_book.specs.Targets.{AreTargets};
 ghost use Rattle.buck_book.specs.Walk.{IsCountable};
-ghost use Rattle.buck_book.specs.inner.Running.{Tells, GoesOn, IsAfter};
+ghost use Rattle.buck_book.specs.inner.Running.{Tells, GoesOn, IsAfter, standings_of};
 ghost use Rattle.buck_book.specs.declared.posting.TheConstants.{MOST_POSTINGS};
 
 use crate::counts::Counts;
 use crate::plan::Plan;
 use crate::posting::Posting;
+use crate::pricing::Standings;
 use buck_apt::Instruction;
 use buck_record::Memory;
 use buck_stem::Stem;
@@ -56,24 +58,16 @@ fn targets_at_opening(alloc: Global, instruction: &Instruction) -> Result<Vec<u3
     Ok(targets)
 }
 
-/// How many cuts came since the last end, after one cut more.
-fn cuts_then(cuts: u32, period: u32) -> u32
-    requires { cuts < 1000 }
-    ensures { result ≡ cond (cuts + 1 == period) 0 (cuts + 1) }
-{
-    if cuts + 1 == period { 0 } else { cuts + 1 }
-}
-
-/// The version in force after one cut more.
-fn version_then(version: u32, cuts: u32, period: u32) -> u32
-    requires version { version ≤ MOST_POSTINGS }
-    requires cuts { cuts < 1000 }
-    ensures { result ≡ version + cond (cuts + 1 == period) 1 0 }
+/// How many cuts came since the last end, and the version in force, after one cut more.
+fn cut_more(cuts: u32, version: u32, period: u32) -> (u32, u32)
+    requires { (cuts < 1000) × (version ≤ MOST_POSTINGS) }
+    ensures cuts { result.0 ≡ cond (cuts + 1 == period) 0 (cuts + 1) }
+    ensures version { result.1 ≡ version + cond (cuts + 1 == period) 1 0 }
 {
     if cuts + 1 == period {
-        version + 1
+        (0, version + 1)
     } else {
-        version
+        (cuts + 1, version)
     }
 }
 
@@ -93,15 +87,14 @@ impl Running {
     }
 
     /// A second one of the same value.
-    pub fn clone(&self, alloc: Global) -> Result<Running, Memory>
+    pub fn clone(&self) -> Result<Running, AllocError>
         ensures { IfOk result (λ n. n ≡ self.now) }
     {
-        let counts = self.counts.clone(alloc)?;
         Ok(Running {
             targets: self.targets.clone()?,
             cuts: self.cuts,
             version: self.version,
-            counts,
+            counts: self.counts.clone()?,
         })
     }
 
@@ -126,12 +119,24 @@ impl Running {
         self.version
     }
 
-    /// How many logs were cut.
-    pub fn counts(&self) -> &Counts
-        ensures classes { result.now.by_class.items ≡ self.now.by_class }
-        ensures assortments { result.now.by_assortment.items ≡ self.now.by_assortment }
+    /// How many logs were cut in each class.
+    pub fn classes(&self) -> &[u32]
+        ensures { result.now ≡ self.now.by_class }
     {
-        &self.counts
+        self.counts.by_class.as_slice()
+    }
+
+    /// How the classes of the instruction stand by it.
+    #[tactic(auto, using(crate::proofs::Told::prices_can))]
+    pub fn standings<'a>(&'a self, instruction: &'a Instruction) -> Standings<'a>
+        requires { (ps : List Posting) × Tells instruction.now ps self.now }
+        ensures { result ≡ standings_of instruction.now self.now }
+    {
+        Standings {
+            instruction,
+            targets: self.targets.as_slice(),
+            counts: &self.counts,
+        }
     }
 
     /// The targets in force, and how many logs were cut in each class.
@@ -139,15 +144,11 @@ impl Running {
         ensures targets { result.0.value.items ≡ self.targets }
         ensures counts { result.1.items ≡ self.by_class }
     {
-        let Running {
-            targets,
-            counts,
-            ..
-        } = self;
-        (targets, counts.into_classes())
+        (self.targets, self.counts.by_class)
     }
 
     /// Adds a cut: an admissible cutting of a stem. The sheet is any of the instruction.
+    #[tactic(auto, using(crate::proofs::Cuts::each_allowed, crate::proofs::Cuts::few_logs, crate::proofs::Told::version_low, crate::proofs::Told::cuts_few, crate::proofs::Told::counts_fit))]
     pub fn after_cut(&mut self, sheet: &Sheet, stem: &Stem, logs: &[Log])
         requires before { GoesOn sheet.now.instruction self.old }
         requires cutting { IsCutFrom (IsAllowed sheet.now.instruction stem.now) (end_of sheet.now.instruction) 0
@@ -159,8 +160,9 @@ impl Running {
         prove!(stem.length() <= 40_000);
         let period = sheet.instruction().period();
         self.counts.add(sheet, stem, logs);
-        self.version = version_then(self.version, self.cuts, period);
-        self.cuts = cuts_then(self.cuts, period);
+        let (cuts, version) = cut_more(self.cuts, self.version, period);
+        self.cuts = cuts;
+        self.version = version;
     }
 
     /// Adds the cut of a plan.

@@ -11,7 +11,6 @@ ghost use Rattle.buck_book.specs.inner.Walk.{calls_in, IsCalled};
 ghost use Rattle.buck_book.specs.declared.posting.TheConstants.{MOST_POSTINGS};
 
 use crate::posting::Posting;
-use crate::pricing::Standings;
 use crate::relation::first_wrong;
 use crate::running::Running;
 use buck_apt::Instruction;
@@ -41,13 +40,6 @@ impl<'a> Model for Walk<'a> {
     ghost view = { λ w. walk_of w.instruction.now w.postings.now w.at };
 
     ghost invariant = { λ w. IsWalk (walk_of w.instruction.now w.postings.now w.at) w.running (calls_in w.calls) };
-}
-
-/// No harvester has a call.
-fn no_calls(alloc: Global) -> BTreeMap<u32, u32>
-    ensures { (h : ℕ) → calls_in result h ≡ 0 }
-{
-    BTreeMap::new(alloc)
 }
 
 /// How many calls a harvester has.
@@ -82,7 +74,7 @@ impl<'a> Walk<'a> {
             postings,
             at: 0,
             running: Running::opening(alloc, instruction)?,
-            calls: no_calls(alloc),
+            calls: BTreeMap::new(alloc),
         })
     }
 
@@ -132,7 +124,7 @@ impl<'a> Walk<'a> {
     pub fn counts(&self) -> &[u32]
         ensures { AreClassCounts self.now.instruction (passed self.now) result.now }
     {
-        self.running.counts().by_class.as_slice()
+        self.running.classes()
     }
 
     /// The number that the next call of a harvester has.
@@ -151,12 +143,7 @@ impl<'a> Walk<'a> {
         ensures none { IfNone result
             (PricesMeet self.now.instruction (passed self.now) prices.now) }
     {
-        let standings = Standings {
-            instruction: self.instruction,
-            targets: self.running.targets(),
-            counts: self.running.counts(),
-        };
-        first_wrong(&standings, prices)
+        first_wrong(&self.running.standings(self.instruction), prices)
     }
 
     /// The place after the next posting, whose logs, if it is a cut, are an admissible cutting, and whose targets, if

@@ -1,14 +1,15 @@
 -- What holds while the prices of a next sheet are made.
-use Rattle.std.specs.Prelude.{◌≡◌, ℕ, ◌<◌, ◌≤◌, List, length, slice_index, slice_get, Some}
+use Rattle.std.specs.Prelude.{◌≡◌, ℕ, ◌+◌, ◌*◌, ◌<◌, ◌≤◌, List, length, slice_index, slice_get, Some}
 use Rattle.std.specs.Fn.{FnReturnsAt}
 use denote.Ref.{Bor}
 use denote.Param.Members.{Shared}
 use Rattle.buck_apt.specs.declared.class.Class.{Class}
-use Rattle.buck_apt.specs.Instruction.{InstructionParts, AssortmentParts, IsInstruction, IsClass, classes, index_of}
+use Rattle.buck_apt.specs.Instruction.{InstructionParts, AssortmentParts, IsInstruction, IsClass, classes, classes_before, index_of}
 use Rattle.buck_rule.specs.declared.standing.Standing.{Standing}
 use Rattle.buck_rule.specs.Relation.{Meets}
 use Rattle.buck_value.specs.Sheet.{SheetParts, sheet_of, IsPriceAt}
-use Rattle.buck_book.specs.Targets.{AreTargets}
+use Rattle.buck_book.specs.declared.pricing.Section.{Section}
+use Rattle.buck_book.specs.Targets.{AreTargets, targets_sum}
 use Rattle.buck_book.specs.History.{standing_at}
 
 -- what prices are made by: targets, and running counts
@@ -35,6 +36,22 @@ standing_by s a c =
     standing_at s.instruction a c s.targets
     (slice_index s.by_class (index_of s.instruction c)) (slice_index s.by_assortment c.assortment)
 
+-- the class of an assortment, a row and a column
+abbrev pub class_at : ℕ → ℕ → ℕ → Class
+class_at at row column = record { assortment = at; row = row; column = column }
+
+-- of an assortment of the instruction it is said how many classes come before, how many are in a row, and what is
+-- wanted of all of its own
+pub record IsSection (s : StandingsParts) (x : Section) : Type 0 where
+  pub exists : slice_get s.instruction.assortments x.at ≡ Some x.assortment.now
+  pub before_is : x.before ≡ classes_before s.instruction x.at
+  pub columns_are : x.columns ≡ length x.assortment.now.lengths
+  pub targets_are : x.targets ≡ targets_sum s.instruction x.assortment.now x.at s.targets
+
+-- how many classes come before a row
+abbrev pub row_start : Section → ℕ → ℕ
+row_start x row = x.before + row * x.columns
+
 -- the class is one of this assortment of the instruction
 pub record IsClassOf (i : InstructionParts) (a : AssortmentParts) (c : Class) : Type 0 where
   pub exists : slice_get i.assortments c.assortment ≡ Some a
@@ -47,16 +64,16 @@ pub record IsAnswer {F : Type 0} (g : Shared F (Bor Standing × Unit {0}) ℕ) (
   pub given : FnReturnsAt g f s price
   pub met : Meets s price
 
--- the first classes have prices: each is the closure's answer to its class's standing, within its span
+-- so many first classes have prices: each is the closure's answer to its class's standing, within its span
 pub record ArePriced {F : Type 0} (g : Shared F (Bor Standing × Unit {0}) ℕ) (f : F)
-    (s : StandingsParts) (prices : List ℕ) : Type 0 where
-  pub answered : (c : Class) (k : IsClass s.instruction c) → index_of s.instruction c < length prices
+    (s : StandingsParts) (prices : List ℕ) (number : ℕ) : Type 0 where
+  pub number_is : length prices ≡ number
+  pub answered : (c : Class) (k : IsClass s.instruction c) → index_of s.instruction c < number
       → IsAnswer g f (standing_by s k.assortment c) (slice_index prices (index_of s.instruction c))
-  pub in_span : (k : ℕ) → k < length prices → IsPriceAt s.instruction prices k
+  pub in_span : (k : ℕ) → k < number → IsPriceAt s.instruction prices k
 
 -- a sheet of a version, whose prices are answers to how the classes stand
 pub record IsPricedSheet {F : Type 0} (g : Shared F (Bor Standing × Unit {0}) ℕ) (f : F)
     (s : StandingsParts) (version : ℕ) (x : SheetParts) : Type 0 where
   pub made : x ≡ sheet_of version s.instruction x.prices
-  pub one_each : length x.prices ≡ classes s.instruction
-  pub priced : ArePriced g f s x.prices
+  pub priced : ArePriced g f s x.prices (classes s.instruction)

@@ -1,5 +1,5 @@
 -- What some postings add up to, and running counts.
-use Rattle.std.specs.Prelude.{◌≡◌, ℕ, ◌+◌, ◌*◌, ◌<◌, ◌≤◌, ◌==◌, List, [], ◌∷◌, ◌++◌, length, map, count_by, slice_index}
+use Rattle.std.specs.Prelude.{◌≡◌, ℕ, ◌+◌, ◌*◌, ◌<◌, ◌≤◌, ◌==◌, List, [], ◌∷◌, ◌++◌, length, count_by, slice_index}
 use Rattle.buck_apt.specs.Instruction.{InstructionParts, IsInstruction, index_of}
 use Rattle.buck_stem.specs.Stem.{StemParts}
 use Rattle.buck_value.specs.declared.log.Log.{Log}
@@ -25,19 +25,16 @@ pub record AreAtMost (most : ℕ) (by_class by_assortment : List ℕ) : Type 0 w
   pub class_counts : (k : ℕ) → slice_index by_class k ≤ most
   pub assortment_counts : (a : ℕ) → slice_index by_assortment a ≤ most
 
--- the place of each log's class
-abbrev pub tally_of : InstructionParts → StemParts → List Log → List ℕ
-tally_of i stem logs = map (λ g. index_of i (class_of i stem g)) logs
+-- the place of a log's class
+abbrev pub class_place : InstructionParts → StemParts → Log → ℕ
+class_place i stem g = index_of i (class_of i stem g)
 
 -- each count grew by how many things of a list are at its place
 pub record AreGrownAt {X : Type 0} (place : X → ℕ) (before : List ℕ) (xs : List X) (after : List ℕ) : Type 0 where
   pub number : length after ≡ length before
   pub each : (k : ℕ) → slice_index after k ≡ slice_index before k + count_by (λ x. place x == k) xs
 
--- by how often its place stands in a list, and by how many logs are of its assortment
-abbrev pub AreGrown : List ℕ → List ℕ → List ℕ → Type 0
-AreGrown = AreGrownAt (λ p. p)
-
+-- by how many logs are of its assortment
 abbrev pub AreGrownBy : List ℕ → List Log → List ℕ → Type 0
 AreGrownBy = AreGrownAt (λ g. g.assortment)
 

@@ -1,6 +1,7 @@
 use Rattle.std.proofs.Common.{◌+◌}
+use Rattle.buck_book.specs.inner.Pricing.{row_start}
 use Rattle.buck_book.specs.inner.Walk.{AreMetBelow}
 use Rattle.buck_book.proofs.relation.wrong_in_row.Given as goal
 
 abbrev pub invariant-loop-column : goal.invariant-loop-column
-invariant-loop-column l = AreMetBelow l.standings l.prices (l.place + l.column)
+invariant-loop-column l = AreMetBelow l.standings l.prices (row_start l.section l.row + l.column)

@@ -1,12 +1,8 @@
 use Rattle.std.proofs.Common.{◌∙◌, ap, arith}
 use Rattle.buck_book.specs.Book.{BookParts}
 use Rattle.std.proofs.lemmas.Result.{IfOk-weaker}
-use Rattle.buck_book.proofs.Told.{prices_can}
 use Rattle.buck_book.proofs.Books.{is_next_sheet, next_answers}
 use Rattle.buck_book.proofs.book.Book.sheet_after.Goals as goal
-
-pub invariant_of-standings : goal.invariant_of-standings
-invariant_of-standings g c = grind (arith, prices_can)
 
 pub returns-clause-next : goal.returns-clause-next
 returns-clause-next g c =
@@ -14,8 +10,7 @@ returns-clause-next g c =
     let same = c.deref.ensures ∙ ap (λ (b : BookParts g.row.F.Denot). b.history.instruction) c.self.view_is in
     IfOk-weaker c.sheet_by.result _ _
     (λ s made x told last. is_next_sheet g.F.Fn _ h x c.deref.result.now c.args.after.now s.value same
-    (rw (c.targets.ensures, c.counts.ensures.classes, c.counts.ensures.assortments, c.version.ensures) at made)
-    told last)
+    (rw (c.standings-standings.ensures, c.version.ensures) at made) told last)
     c.sheet_by.ensures
 
 pub returns-clause-given : goal.returns-clause-given

@@ -1,12 +1,8 @@
-use Rattle.std.proofs.Common.{take, sym, arith}
+use Rattle.std.proofs.Common.{take, sym}
 use Rattle.std.proofs.lemmas.Option.{IfSome_then}
 use Rattle.buck_book.specs.inner.Running.{standings_of}
-use Rattle.buck_book.proofs.Told.{prices_can}
 use Rattle.buck_book.proofs.Relations.{all_met, is_wrong, weaken_none}
 use Rattle.buck_book.proofs.walk.Walk.wrong_price.Goals as goal
-
-pub invariant_of-standings : goal.invariant_of-standings
-invariant_of-standings c = grind (arith, prices_can)
 
 pub returns-clause-found : goal.returns-clause-found
 returns-clause-found c =
@@ -15,8 +11,7 @@ returns-clause-found c =
     rw (sym c.self.view_is)
     (IfSome_then c.first_wrong.result c.first_wrong.ensures.found
     (λ at found. is_wrong (standings_of w.instruction.now w.running) (take w.at w.postings.now) c.args.prices.now
-    t.targets_are t.counts_are at
-    (rw (c.targets.ensures, c.counts.ensures.classes, c.counts.ensures.assortments) at found)))
+    t.targets_are t.counts_are at (rw c.standings.ensures at found)))
 
 pub returns-clause-none : goal.returns-clause-none
 returns-clause-none c =
@@ -26,6 +21,5 @@ returns-clause-none c =
     rw (sym c.self.view_is)
     (weaken_none c.first_wrong.result
     (λ met. all_met (standings_of w.instruction.now w.running) (take w.at w.postings.now) c.args.prices.now
-    t.targets_are t.counts_are one_each
-    (rw (c.targets.ensures, c.counts.ensures.classes, c.counts.ensures.assortments) at met))
+    t.targets_are t.counts_are one_each (rw c.standings.ensures at met))
     c.first_wrong.ensures.none)

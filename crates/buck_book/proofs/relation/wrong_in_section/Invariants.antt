@@ -1,0 +1,6 @@
+use Rattle.buck_book.specs.inner.Pricing.{row_start}
+use Rattle.buck_book.specs.inner.Walk.{AreMetBelow}
+use Rattle.buck_book.proofs.relation.wrong_in_section.Given as goal
+
+abbrev pub invariant-loop-row : goal.invariant-loop-row
+invariant-loop-row l = AreMetBelow l.standings l.prices (row_start l.section l.row)
