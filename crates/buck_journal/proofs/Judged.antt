@@ -117,7 +117,7 @@ module _ (h : HistoryParts) where
     judged_end (Ok w) ok none =
         let all = ok.ended in
         lawful_when h all.valid (subst (λ n. IsRightBefore h n) all.all (right_before until ok.right none)) all.right
-    judged_end (Err fault) ok none = λ told. stop_is_met until fault ok.right none ok.stopped
+    judged_end (Err fault) ok none = λ told. stop_is_met until fault ok.right none (ok.stopped told)
 
     pub judged_none : IsFound h ps None → IsJudged h end
     judged_none none = grind (arith, judged_end, slice_get_within)

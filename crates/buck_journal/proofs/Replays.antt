@@ -1,8 +1,6 @@
 -- What a walk through a history shows of its order, and where each posting may follow and each sheet is right it is
 -- lawful.
 use Rattle.std.proofs.Common.{◌≡◌, ◌≢◌, ℕ, zero, suc, ◌+◌, ◌<◌, ◌≤◌, inl, inr, List, [], ◌∷◌, ◌++◌, length, take, slice_get, Some, refl, sym, ◌∙◌, ap, subst, arith, rules}
-use Rattle.std.proofs.lemmas.Grind.{common_steps}
-use Rattle.std.specs.Prelude.{Result, Ok, Err, IfOk, IfErr, OnOk}
 use Rattle.std.proofs.lemmas.Bool.{cases_Bool, cases_lt, cases_eq}
 use Rattle.std.proofs.lemmas.List.{take_all}
 use Rattle.std.proofs.lemmas.Option.{slice_get_within, slice_get_cases, same_Some}
@@ -13,14 +11,16 @@ use Rattle.buck_value.specs.declared.fault.SheetFault.{SheetFault}
 use Rattle.buck_book.specs.declared.posting.Posting.{Posting}
 use Rattle.buck_book.specs.Posting.{planned_version, is_end, ends_of, cuts_since_end}
 use Rattle.buck_book.specs.History.{HistoryParts, IsLawful, IsEnd, PricesMeet, standing_of, prices_at, sheet_at}
+use Rattle.std.specs.Prelude.{Result, Ok, Err, None, IfOk, IfErr, OnOk}
+use Rattle.std.proofs.lemmas.Grind.{common_steps}
 use Rattle.buck_book.specs.Walk.{WalkParts, walk_of}
+use Rattle.buck_journal.specs.declared.judging.fault.ReplayFault.{ReplayFault}
+use Rattle.buck_journal.specs.declared.judging.fault.ReplayFault.TheVariants.{Memory}
 use Rattle.buck_book.proofs.Ends.{true_false, take_one_more, ends_with_end, cuts_with_end, ends_without}
 use Rattle.buck_book.proofs.Standings.{meets_within, no_fault}
 use Rattle.buck_book.proofs.Alone.{ClassAt, class_at, base_alone, meets_to_alone}
-use Rattle.buck_journal.specs.declared.judging.fault.ReplayFault.{ReplayFault}
-use Rattle.buck_journal.specs.declared.judging.stop.Stop.{Stop}
-use Rattle.buck_journal.specs.judging.Replay.{version_at, Begins, IsSheetRight, IsSheetFault, IsRightBefore}
-use Rattle.buck_journal.specs.inner.Replay.{along, sheet_then, IsRightUnder, AreRightUnder, IsMetUnder, IsInOrderBefore, IsMetInOrder, IfMet, IsEndRight}
+use Rattle.buck_journal.specs.judging.Replay.{version_at, Begins, IsSheetRight, IsFaultAt, IsFaultAtEnd, IsRightBefore}
+use Rattle.buck_journal.specs.inner.Replay.{along, sheet_then, IsRightUnder, IsPassed, IsInOrderBefore, IsEndRight, IsOrdered}
 
 -- prices that keep the price relation somewhere lie within their spans, and make a sheet
 pub in_span : (i : InstructionParts) (ps : List Posting) (prices : List ℕ) → PricesMeet i ps prices → (k : ℕ)
@@ -93,63 +93,93 @@ module _ (h : HistoryParts) where
         | inr past ↦ absurd (omega (arith, past.0))
       ]
 
--- a stretch of right postings, one longer
-pub right_more : (s : SheetParts) (ps : List Posting) (from to : ℕ) (x : Posting) → slice_get ps to ≡ Some x
-    → AreRightUnder s ps from to
-    → ends_of s.instruction (take to ps) ≡ s.version
-    → (from < to → cuts_since_end s.instruction (take to ps) ≢ 0)
-    → IsRightUnder s (take to ps) x
-    → AreRightUnder s ps from (to + 1)
-right_more s ps from to x at r version goes_on right = record {
-  postings = λ j y ge lt there. elim (cases_eq j to) [
+-- the next posting was passed
+pub one_passed : (h : HistoryParts) (k : ℕ) (x : Posting) → slice_get h.postings k ≡ Some x → IsInOrderBefore h k
+    → IsPassed h k x → IsInOrderBefore h (k + 1)
+one_passed h k x at before p = record {
+  sheets = λ j lt b. elim (cases_eq j k) [
+    | inl same ↦ subst (λ n. IsSheetRight h n) (sym same) (p.sheet (subst (λ n. Begins h n) same b))
+    | inr other ↦ before.sheets j (omega arith) b
+  ];
+  postings = λ j y lt there. elim (cases_eq j k) [
     | inl same ↦ last j y same there
-    | inr other ↦ r.postings j y ge (omega arith) there
-  ];
-  in_force = λ j ge lt. elim (cases_eq j to) [
-    | inl same ↦ ap (λ n. ends_of s.instruction (take n ps)) same ∙ version
-    | inr other ↦ r.in_force j ge (omega arith)
-  ];
-  inside = λ j gt lt. elim (cases_eq j to) [
-    | inl same ↦ λ none. goes_on (omega arith) (ap (λ n. cuts_since_end s.instruction (take n ps)) (sym same) ∙ none)
-    | inr other ↦ r.inside j gt (omega arith)
+    | inr other ↦ before.postings j y (omega arith) there
   ];
 }
   where
-    last : (j : ℕ) (y : Posting) → j ≡ to → slice_get ps j ≡ Some y → IsRightUnder s (take j ps) y
+    right : IsRightUnder (sheet_at h.instruction h.sheets (planned_version x)) (take k h.postings) x
+    right =
+        subst (λ v. IsRightUnder (sheet_at h.instruction h.sheets v) (take k h.postings) x) (sym p.posting.of_version)
+        p.posting
+
+    last : (j : ℕ) (y : Posting) → j ≡ k → slice_get h.postings j ≡ Some y
+        → IsRightUnder (sheet_at h.instruction h.sheets (planned_version y)) (take j h.postings) y
     last j y same there =
-        let one : x ≡ y = same_Some x y (sym at ∙ ap (λ n. slice_get ps n) (sym same) ∙ there) in
-        subst (λ n. IsRightUnder s (take n ps) y) (sym same) (subst (λ z. IsRightUnder s (take to ps) z) one right)
+        let one : x ≡ y = same_Some x y (sym at ∙ ap (λ n. slice_get h.postings n) (sym same) ∙ there) in
+        subst (λ n. IsRightUnder (sheet_at h.instruction h.sheets (planned_version y)) (take n h.postings) y) (sym same)
+        (subst (λ z. IsRightUnder (sheet_at h.instruction h.sheets (planned_version z)) (take k h.postings) z) one
+        right)
 
-module _ (h : HistoryParts) (from : ℕ) where
-  sheet_is : (v : ℕ) → v ≡ version_at h from → sheet_at h.instruction h.sheets v ≡ sheet_then h from
-  sheet_is v e = ap (λ w. sheet_at h.instruction h.sheets w) e
+-- and the sheet stays, where no period begins behind it
+pub sheet_stays : (h : HistoryParts) (k : ℕ) (x : Posting) (s : SheetParts) → slice_get h.postings k ≡ Some x
+    → s ≡ sheet_then h k → (Begins h (k + 1) → ⊥) → s ≡ sheet_then h (k + 1)
+sheet_stays h k x s at is goes_on =
+    is ∙ ap (λ v. sheet_at h.instruction h.sheets v) (sym (version_stays h.instruction h.postings k x at goes_on))
 
-  follows_here : (j : ℕ) (x : Posting) → version_at h j ≡ version_at h from
-      → IsRightUnder (sheet_then h from) (take j h.postings) x
-      → IsRightUnder (sheet_at h.instruction h.sheets (planned_version x)) (take j h.postings) x
-  follows_here j x same r =
-      subst (λ t. IsRightUnder t (take j h.postings) x) (sym (sheet_is (planned_version x) (r.of_version ∙ same))) r
+at_end : {X : Type 0} (xs : List X) (k : ℕ) → k ≤ length xs → None ≡ slice_get xs k → k ≡ length xs
+at_end xs k le none = grind (arith, slice_get_cases)
 
-  -- a stretch of right postings from a right sheet on
-  pub right_along : (to : ℕ) → IsInOrderBefore h from → IsSheetRight h from
-      → AreRightUnder (sheet_then h from) h.postings from to → IsInOrderBefore h to
-  right_along to before sheet r = record {
-    sheets = λ j lt b. elim (cases_lt j from) [
-      | inl old ↦ before.sheets j old b
-      | inr new ↦ elim (cases_eq j from) [
-        | inl same ↦ subst (λ n. IsSheetRight h n) (sym same) sheet
-        | inr other ↦ absurd (r.inside j (omega arith) lt b)
-      ]
-    ];
-    postings = λ j x lt at. elim (cases_lt j from) [
-      | inl old ↦ before.postings j x old at
-      | inr new ↦ follows_here j x (r.in_force j (omega arith) lt) (r.postings j x (omega arith) lt at)
-    ];
-  }
+-- the walk through a history, one further
+module _ (h : HistoryParts) (w : WalkParts) (same : w ≡ walk_of h.instruction h.postings w.at) where
+  pub along_is : along w h.sheets ≡ h
+  along_is = ap (λ (v : WalkParts). along v h.sheets) same
 
-  pub met_along : (at : ℕ) (fault : ReplayFault) → IsInOrderBefore h from → IsSheetRight h from
-      → IsMetUnder (sheet_then h from) h.postings from at fault → IsMetInOrder h at fault
-  met_along at fault before sheet m = grind (arith, right_along, at, sheet_is)
+  pub walk_on : (w' : WalkParts) (x : Posting) (s : SheetParts) → Some x ≡ slice_get w.postings w.at
+      → IsInOrderBefore (along w h.sheets) w.at
+      → IsPassed (along w h.sheets) w.at x
+      → w' ≡ walk_of w.instruction w.postings (w.at + 1)
+      → s ≡ sheet_then (along w h.sheets) w.at
+      → (w' ≡ walk_of h.instruction h.postings w'.at)
+      × IsInOrderBefore (along w' h.sheets) w'.at
+      × ((Begins (along w' h.sheets) w'.at → ⊥) → s ≡ sheet_then (along w' h.sheets) w'.at)
+  walk_on w' x s there before passed further is =
+      subst (λ (v : WalkParts). (v ≡ walk_of h.instruction h.postings v.at)
+      × IsInOrderBefore (along v h.sheets) v.at
+      × ((Begins (along v h.sheets) v.at → ⊥) → s ≡ sheet_then (along v h.sheets) v.at)) (sym further) (
+        ap (λ (v : WalkParts). walk_of v.instruction v.postings (w.at + 1)) same,
+        one_passed (along w h.sheets) w.at x (sym there) before passed,
+        sheet_stays (along w h.sheets) w.at x s (sym there) is,
+      )
+
+  pub walk_ends : {E : Type 0} (r : Result WalkParts E) → w.at ≤ length w.postings → None ≡ slice_get w.postings w.at
+      → IfOk r (λ v. v ≡ w) → IfOk r (λ v. v ≡ walk_of h.instruction h.postings (length h.postings))
+  walk_ends (Err e) le none is = tt
+  walk_ends (Ok v) le none is =
+      is ∙ same ∙ ap (λ n. walk_of h.instruction h.postings n)
+      (at_end w.postings w.at le none ∙ ap (λ (u : WalkParts). length u.postings) same)
+
+-- what comes of a walk: it has stopped at a posting, or behind the last
+pub stopped_at : (W : Type 0) (h : HistoryParts) (k : ℕ) (x : Posting) (fault : ReplayFault) → k ≤ length h.postings
+    → Some x ≡ slice_get h.postings k
+    → IsInOrderBefore h k
+    → (fault ≢ Memory → IsFaultAt h k x fault)
+    → IsOrdered {W = W} h k (Err fault)
+stopped_at W h k x fault le there before wrong =
+    record { within = le; right = before; ended = tt; stopped = λ told. inl (x, sym there, wrong told) }
+
+pub ended_at : {W : Type 0} (h : HistoryParts) (k : ℕ) (end : Result W ReplayFault) → k ≤ length h.postings
+    → None ≡ slice_get h.postings k
+    → IsInstruction h.instruction
+    → IsInOrderBefore h k
+    → OnOk end (IsEndRight h k)
+    → IfErr end (IsFaultAtEnd h k)
+    → IsOrdered h k end
+ended_at h k (Ok w) le none valid before right wrong =
+    let all = at_end h.postings k le none in
+    record { within = le; right = before; ended = record { all = all; valid = valid; right = subst (λ n. IsEndRight h n) all right }; stopped = tt }
+ended_at h k (Err e) le none valid before right wrong =
+    let all = at_end h.postings k le none in
+    record { within = le; right = before; ended = tt; stopped = λ told. inr (all, wrong) }
 
 -- all postings may follow, and all sheets are right
 pub lawful_when : (h : HistoryParts) → IsInstruction h.instruction → IsRightBefore h (length h.postings)
@@ -179,75 +209,3 @@ lawful_when h v before last =
       | inl same ↦ subst (λ n. IsSheetRight h n) (sym same) (last.last_sheet (subst (λ n. Begins h n) same b))
       | inr other ↦ before.sheets j (omega arith) b
     ]
-
--- what a fact about how a walk stopped gives
-pub weaken_met : {T : Type 0} {P Q : ℕ → ReplayFault → Type 0} (r : Result T Stop)
-    → ((at : ℕ) (fault : ReplayFault) → P at fault → Q at fault)
-    → IfErr r (λ t. IfMet t P) → IfErr r (λ t. IfMet t Q)
-weaken_met r f p = grind (arith, common_steps)
-
--- a posting is passed under a sheet
-module _ (s : SheetParts) (i : InstructionParts) (ps : List Posting) (from : ℕ) (w w' : WalkParts) (x : Posting)
-    (same : w ≡ walk_of i ps w.at) (further : w' ≡ walk_of w.instruction w.postings (w.at + 1))
-    (there : Some x ≡ slice_get w.postings w.at) where
-  postings_are : w.postings ≡ ps
-  postings_are = ap (λ (v : WalkParts). v.postings) same
-
-  there' : slice_get ps w.at ≡ Some x
-  there' = ap (λ q. slice_get q w.at) (sym postings_are) ∙ sym there
-
-  pub at_next : w'.at ≡ w.at + 1
-  at_next = ap (λ (v : WalkParts). v.at) further
-
-  pub same_next : w' ≡ walk_of i ps w'.at
-  same_next = further ∙ (λ j. walk_of (ap (λ (v : WalkParts). v.instruction) same j) (postings_are j) (sym at_next j))
-
-  pub right_next : AreRightUnder s ps from w.at → ends_of s.instruction (take w.at ps) ≡ s.version
-      → (from < w.at → cuts_since_end s.instruction (take w.at ps) ≢ 0)
-      → IsRightUnder s (take w.at w.postings) x
-      → AreRightUnder s ps from w'.at
-  right_next r version goes_on right =
-      subst (λ n. AreRightUnder s ps from n) (sym at_next)
-      (right_more s ps from w.at x there' r version goes_on
-      (subst (λ q. IsRightUnder s (take w.at q) x) postings_are right))
-
-  pub goes_on_next : s.instruction ≡ i → (cuts_since_end w'.instruction (take w'.at w'.postings) ≡ 0 → ⊥)
-      → cuts_since_end s.instruction (take w'.at ps) ≢ 0
-  goes_on_next own no_ e = no_ (sym (λ j. cuts_since_end (own' j) (take w'.at (postings' j))) ∙ e)
-    where
-      own' : s.instruction ≡ w'.instruction
-      own' = own ∙ sym (ap (λ (v : WalkParts). v.instruction) same_next)
-
-      postings' : ps ≡ w'.postings
-      postings' = sym (ap (λ (v : WalkParts). v.postings) same_next)
-
-  pub version_next : cuts_since_end s.instruction (take w'.at ps) ≢ 0 → ends_of s.instruction (take w.at ps) ≡ s.version
-      → ends_of s.instruction (take w'.at ps) ≡ s.version
-  version_next goes_on version = search (rules, at_next, version_stays, there')
-
--- a sheet that isn't right is met at the posting that begins its period
-pub sheet_met : (h : HistoryParts) (from : ℕ) (fault : ReplayFault) → from < length h.postings → IsInOrderBefore h from
-    → Begins h from → IsSheetFault h from fault → IsMetInOrder h from fault
-sheet_met h from fault lt before b wrong = elim (slice_get_cases h.postings from).1 [
-  | inl some ↦ record { next = some.0; there = some.2; right = before; wrong = inl (b, wrong) }
-  | inr past ↦ absurd (omega (arith, past.0))
-]
-
--- so the walk stops with what the opening of a period stops with, or with what its postings stop with
-pub sheet_stopped : (h : HistoryParts) (from : ℕ) (t : Stop) → from < length h.postings → IsInOrderBefore h from
-    → Begins h from
-    → IfMet t (λ at fault. (at ≡ from) × IsSheetFault h from fault)
-    → IfMet t (IsMetInOrder h)
-sheet_stopped h from t lt before b wrong = grind (arith, sheet_met)
-
--- all postings of a history were passed
-pub passed_all : {E : Type 0} (h : HistoryParts) (w : WalkParts) (r : Result WalkParts E)
-    → w ≡ walk_of h.instruction h.postings 0
-    → IfOk r (λ v. IsInOrderBefore (along w h.sheets) v.at)
-    → IfOk r (λ v. v ≡ walk_of w.instruction w.postings (length w.postings))
-    → OnOk r (IsInOrderBefore h (length h.postings))
-passed_all h w (Err e) same right end = tt
-passed_all h w (Ok v) same right end =
-    subst (λ n. IsInOrderBefore h n)
-    (ap (λ (u : WalkParts). u.at) end ∙ ap (λ (u : WalkParts). length u.postings) same)
-    (subst (λ u. IsInOrderBefore (along u h.sheets) v.at) same right)

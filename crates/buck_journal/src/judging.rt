@@ -5,4 +5,3 @@ pub(crate) mod fault;
 pub(crate) mod outvalued;
 pub(crate) mod replaying;
 pub(crate) mod sheets;
-pub(crate) mod stop;

@@ -6,15 +6,13 @@ use Rattle.buck_value.specs.Sheet.{SheetParts}
 use Rattle.buck_dp.specs.Best.{IsAdmissible, cutting_worth}
 use Rattle.buck_book.specs.declared.posting.Posting.{Posting}
 use Rattle.buck_book.specs.declared.posting.Posting.TheVariants.{Cut, Demand}
-use Rattle.buck_book.specs.Posting.{planned_version, ends_of, cuts_since_end}
+use Rattle.buck_book.specs.Posting.{planned_version}
 use Rattle.buck_book.specs.Targets.{AreTargets}
 use Rattle.buck_book.specs.History.{HistoryParts, IsLawful, sheet_at}
 use Rattle.buck_book.specs.Walk.{WalkParts}
 use Rattle.buck_journal.specs.declared.judging.fault.ReplayFault.{ReplayFault}
 use Rattle.buck_journal.specs.declared.judging.fault.ReplayFault.TheVariants.{Memory}
-use Rattle.buck_journal.specs.declared.judging.stop.Stop.{Stop}
-use Rattle.buck_journal.specs.declared.judging.stop.Stop.TheVariants as stop
-use Rattle.buck_journal.specs.judging.Replay.{version_at, Begins, IsSheetRight, IsNumbered, IsOfVersion, IsPostingFault, IsFaultAt, IsFaultAtEnd, IsFirstFault}
+use Rattle.buck_journal.specs.judging.Replay.{version_at, Begins, IsSheetRight, IsNumbered, IsOfVersion, IsFaultAt, IsFaultAtEnd, IsFirstFault}
 use Rattle.buck_journal.specs.inner.Sheets.{IsPriced}
 
 -- the history that a walk goes through, with the sheets of a journal
@@ -36,23 +34,6 @@ pub record IsRightUnder (s : SheetParts) (before : List Posting) (x : Posting) :
   pub of_version : IsOfVersion s.instruction before x
   pub holds : HoldsUnder s x
 
--- so may the postings of a stretch in which no other period begins
-pub record AreRightUnder (s : SheetParts) (ps : List Posting) (from to : ℕ) : Type 0 where
-  pub postings : (j : ℕ) (x : Posting)
-      → from ≤ j → j < to → slice_get ps j ≡ Some x → IsRightUnder s (take j ps) x
-  pub in_force : (j : ℕ) → from ≤ j → j < to → ends_of s.instruction (take j ps) ≡ s.version
-  pub inside : (j : ℕ) → from < j → j < to → cuts_since_end s.instruction (take j ps) ≢ 0
-
--- a posting of a stretch may not follow, and all before it may
-pub record IsMetUnder (s : SheetParts) (ps : List Posting) (from at : ℕ) (fault : ReplayFault) : Type 0 where
-  pub next : Posting
-  pub there : slice_get ps at ≡ Some next
-  pub past : from ≤ at
-  pub right : AreRightUnder s ps from at
-  pub in_force : ends_of s.instruction (take at ps) ≡ s.version
-  pub goes_on : from < at → cuts_since_end s.instruction (take at ps) ≢ 0
-  pub wrong : IsPostingFault s (take at ps) next at fault
-
 -- all is right before place k, but that other logs may be worth more than those of a cut: the sheet of each period that
 -- begins, and each posting under the sheet of its version
 pub record IsInOrderBefore (h : HistoryParts) (k : ℕ) : Type 0 where
@@ -62,17 +43,10 @@ pub record IsInOrderBefore (h : HistoryParts) (k : ℕ) : Type 0 where
       → slice_get h.postings j ≡ Some x
       → IsRightUnder (sheet_at h.instruction h.sheets (planned_version x)) (take j h.postings) x
 
--- the fault of a posting up to which all is in order
-pub record IsMetInOrder (h : HistoryParts) (at : ℕ) (fault : ReplayFault) : Type 0 where
-  pub next : Posting
-  pub there : slice_get h.postings at ≡ Some next
-  pub right : IsInOrderBefore h at
-  pub wrong : IsFaultAt h at next fault
-
--- what holds of the place and the fault that a walk stopped with, unless it was for want of memory
-abbrev pub IfMet : Stop → (ℕ → ReplayFault → Type 0) → Type 0
-IfMet stop.Memory P = Unit {0}
-IfMet (stop.Fault at fault) P = P at fault
+-- the posting at a place may follow there, and where a period begins there its sheet is right
+pub record IsPassed (h : HistoryParts) (at : ℕ) (x : Posting) : Type 0 where
+  pub sheet : Begins h at → IsSheetRight h at
+  pub posting : IsRightUnder (sheet_then h at) (take at h.postings) x
 
 -- after the last posting all is right
 pub record IsEndRight (h : HistoryParts) (k : ℕ) : Type 0 where
@@ -96,7 +70,7 @@ pub record IsOrdered {W : Type 0} (h : HistoryParts) (until : ℕ) (end : Result
   pub within : until ≤ length h.postings
   pub right : IsInOrderBefore h until
   pub ended : OnOk end (IsEnded h until)
-  pub stopped : IfErr end (IsStopped h until)
+  pub stopped : IfErr end (λ fault. fault ≢ Memory → IsStopped h until fault)
 
 -- whether some admissible list of logs is worth more under a sheet than a cut says
 abbrev pub IsOutvalued : SheetParts → Posting → Bool → Type 0

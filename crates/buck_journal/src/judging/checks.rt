@@ -1,19 +1,17 @@
 //! What a journal's sheets and postings have to be.
-ghost use Rattle.std.specs.Prelude.{◌≡◌, ◌+◌, ◌<◌, ◌≤◌, OnOk, IfOk, IfErr, length};
-ghost use Rattle.buck_dp.specs.Best.{IsAdmissible, cutting_worth};
-ghost use Rattle.buck_book.specs.Targets.{AreTargets};
+ghost use Rattle.std.specs.Prelude.{◌≡◌, ◌≢◌, ◌+◌, ◌<◌, ◌≤◌, OnOk, IfOk, IfErr, IfNone, IfSome, length};
 ghost use Rattle.buck_book.specs.Posting.{harvester_of, number_of, planned_version};
 ghost use Rattle.buck_book.specs.Walk.{passed};
-ghost use Rattle.buck_journal.specs.judging.Replay.{IsSheetFault, IsSheetRight, IsCutFault, IsDemandFault, IsContentFault, IsNumbered, IsOfVersion, IsCallFault, IsPostingFault, IsNumberFault, IsFaultAtEnd};
-ghost use Rattle.buck_journal.specs.inner.Replay.{along, sheet_then, HoldsUnder, IsRightUnder, IsEndRight, IfMet};
+ghost use Rattle.buck_journal.specs.judging.Replay.{Begins, IsSheetFault, IsSheetRight, IsContentFault, IsNumbered, IsOfVersion, IsCallFault, IsPostingFault, IsNumberFault, IsFaultAtEnd};
+ghost use Rattle.buck_journal.specs.declared.judging.fault.ReplayFault.TheVariants.{Memory};
+ghost use Rattle.buck_journal.specs.inner.Replay.{along, sheet_then, HoldsUnder, IsRightUnder, IsEndRight};
 ghost use Rattle.buck_book.specs.declared.posting.TheConstants.{MOST_POSTINGS};
 
 use crate::judging::case::Case;
 use crate::judging::fault::ReplayFault;
-use crate::judging::stop::Stop;
-use buck_apt::Instruction;
-use buck_book::{Demand, Entry, Posting, Walk, check_targets};
+use buck_book::{Posting, Walk, check_targets};
 use buck_dp::worth_if_admissible;
+use buck_record::check::check;
 use buck_value::Sheet;
 use std::alloc::Global;
 use std::sync::Arc;
@@ -39,51 +37,48 @@ fn check_prices(case: &Case<'_, '_>, walk: &Walk<'_>) -> Result<(), ReplayFault>
 }
 
 /// The sheet in force at a place, where it is there and right.
-pub(crate) fn opened_sheet(
+fn opened_sheet(
     alloc: Global,
     case: &Case<'_, '_>,
     walk: &Walk<'_>,
-) -> Result<Arc<Sheet>, Stop>
+) -> Result<Arc<Sheet>, ReplayFault>
     requires { walk.now.instruction ≡ case.now.instruction }
     ensures right { OnOk result (IsSheetRight (along walk.now case.now.sheets) walk.now.at) }
     ensures sheet { IfOk result (λ s. s.value ≡ sheet_then (along walk.now case.now.sheets) walk.now.at) }
-    ensures refused { IfErr result (λ s. IfMet s (λ at fault.
-        (at ≡ walk.now.at) × IsSheetFault (along walk.now case.now.sheets) walk.now.at fault)) }
+    ensures refused { IfErr result (λ fault.
+        fault ≢ Memory → IsSheetFault (along walk.now case.now.sheets) walk.now.at fault) }
 {
-    if let Err(fault) = check_prices(case, walk) {
-        let at = walk.at();
-        return Err(Stop::Fault { at, fault });
-    }
+    check_prices(case, walk)?;
     match case.sheet(alloc, walk.version())? {
         Some(sheet) => Ok(sheet),
         None => unreachable!(),
     }
 }
 
-/// Checks what a cut at a place says under a sheet, but for lists of logs that are worth more.
-fn check_cut(sheet: &Sheet, entry: &Entry, at: usize) -> Result<(), ReplayFault>
-    ensures admissible { OnOk result (IsAdmissible sheet.now entry.now.stem entry.now.logs) }
-    ensures worth { OnOk result
-        (entry.now.worth ≡ cutting_worth sheet.now entry.now.stem entry.now.logs) }
-    ensures refused { IfErr result (IsCutFault sheet.now entry.now at) }
+/// The sheet in force at a place: a right one, where a period begins there, and else the one that is kept.
+pub(crate) fn sheet_in_force(
+    alloc: Global,
+    case: &Case<'_, '_>,
+    walk: &Walk<'_>,
+    kept: Option<Arc<Sheet>>,
+) -> Result<Arc<Sheet>, ReplayFault>
+    requires instruction { walk.now.instruction ≡ case.now.instruction }
+    requires none { IfNone kept (Begins (along walk.now case.now.sheets) walk.now.at) }
+    requires kept { IfSome kept (λ s. (Begins (along walk.now case.now.sheets) walk.now.at → ⊥)
+        → s.value ≡ sheet_then (along walk.now case.now.sheets) walk.now.at) }
+    ensures right { OnOk result (Begins (along walk.now case.now.sheets) walk.now.at
+        → IsSheetRight (along walk.now case.now.sheets) walk.now.at) }
+    ensures sheet { IfOk result (λ s. s.value ≡ sheet_then (along walk.now case.now.sheets) walk.now.at) }
+    ensures refused { IfErr result (λ fault. fault ≢ Memory
+        → Begins (along walk.now case.now.sheets) walk.now.at
+        × IsSheetFault (along walk.now case.now.sheets) walk.now.at fault) }
 {
-    let Some(worth) = worth_if_admissible(sheet, &entry.stem, &entry.cutting) else {
-        return Err(ReplayFault::Cutting { at });
-    };
-    if worth != entry.worth {
-        return Err(ReplayFault::Worth { at });
+    if walk.begins_period() {
+        return opened_sheet(alloc, case, walk);
     }
-    Ok(())
-}
-
-/// Checks the targets of a demand at a place.
-fn check_demand(instruction: &Instruction, demand: &Demand, at: usize) -> Result<(), ReplayFault>
-    ensures valid { OnOk result (AreTargets instruction.now demand.now.targets) }
-    ensures refused { IfErr result (IsDemandFault instruction.now demand.now.targets at) }
-{
-    match check_targets(instruction, demand.targets.as_slice()) {
-        Ok(()) => Ok(()),
-        Err(_) => Err(ReplayFault::Targets { at }),
+    match kept {
+        Some(sheet) => Ok(sheet),
+        None => unreachable!(),
     }
 }
 
@@ -93,8 +88,18 @@ fn check_content(sheet: &Sheet, posting: &Posting, at: usize) -> Result<(), Repl
     ensures refused { IfErr result (IsContentFault sheet.now posting.now at) }
 {
     match posting {
-        Posting::Cut(entry) => check_cut(sheet, entry, at),
-        Posting::Demand(demand) => check_demand(sheet.instruction(), demand, at),
+        Posting::Cut(entry) => {
+            match worth_if_admissible(sheet, &entry.stem, &entry.cutting) {
+                Some(worth) => check(worth == entry.worth, ReplayFault::Worth { at }),
+                None => Err(ReplayFault::Cutting { at }),
+            }
+        }
+        Posting::Demand(demand) => {
+            match check_targets(sheet.instruction(), demand.targets.as_slice()) {
+                Ok(()) => Ok(()),
+                Err(_) => Err(ReplayFault::Targets { at }),
+            }
+        }
     }
 }
 
@@ -168,15 +173,16 @@ fn check_number(case: &Case<'_, '_>, last: u32) -> Result<(), ReplayFault>
     Ok(())
 }
 
-/// Checks what there is after the last posting.
-pub(crate) fn check_end(case: &Case<'_, '_>, walk: &Walk<'_>) -> Result<(), ReplayFault>
-    requires { walk.now.instruction ≡ case.now.instruction }
-    ensures right { OnOk result (IsEndRight (along walk.now case.now.sheets) walk.now.at) }
-    ensures refused { IfErr result (λ e. IsFaultAtEnd (along walk.now case.now.sheets) walk.now.at e) }
+/// The place after the last posting, where what stands there is right.
+pub(crate) fn check_end<'w>(case: &Case<'_, '_>, walk: Walk<'w>) -> Result<Walk<'w>, ReplayFault>
+    requires { walk.instruction ≡ case.now.instruction }
+    ensures right { OnOk result (IsEndRight (along walk.entry case.now.sheets) walk.entry.at) }
+    ensures same { IfOk result (λ w. w ≡ walk.entry) }
+    ensures refused { IfErr result (IsFaultAtEnd (along walk.entry case.now.sheets) walk.entry.at) }
 {
     check_number(case, walk.version())?;
     if walk.begins_period() {
-        check_prices(case, walk)?;
+        check_prices(case, &walk)?;
     }
-    Ok(())
+    Ok(walk)
 }

@@ -1,22 +1,20 @@
 //! Whether a journal is lawful.
-ghost use Rattle.std.specs.Prelude.{◌≡◌, ◌≢◌, ◌+◌, ◌<◌, ◌≤◌, OnOk, IfOk, IfErr, List, length, map, slice_get, Some, Ok};
+ghost use Rattle.std.specs.Prelude.{◌≡◌, ◌≢◌, ◌+◌, ◌<◌, ◌≤◌, OnOk, IfOk, IfErr, IfNone, IfSome, List, length, map, slice_get, Some, Ok};
 ghost use Rattle.std.specs.Thread.{IsSync};
 ghost use Rattle.buck_book.specs.declared.posting.Posting.{Posting};
-ghost use Rattle.buck_book.specs.Posting.{ends_of, cuts_since_end};
 ghost use Rattle.buck_book.specs.History.{HistoryParts, IsLawful};
-ghost use Rattle.buck_book.specs.Walk.{walk_of, passed};
-ghost use Rattle.buck_journal.specs.judging.Replay.{history_of, Begins, IsPostingFault, IsFaultAtEnd, IsFirstFault};
+ghost use Rattle.buck_book.specs.Walk.{walk_of};
+ghost use Rattle.buck_journal.specs.judging.Replay.{history_of, Begins, IsFaultAt, IsFirstFault};
 ghost use Rattle.buck_journal.specs.declared.judging.fault.ReplayFault.TheVariants.{Memory};
 ghost use Rattle.buck_journal.specs.inner.Sheets.{AreMade};
-ghost use Rattle.buck_journal.specs.inner.Replay.{along, IsRightUnder, AreRightUnder, IsMetUnder, IsInOrderBefore, IsMetInOrder, IfMet, IsEnded, IsOrdered, IsFound, AreSameBefore, IsJudged};
+ghost use Rattle.buck_journal.specs.inner.Replay.{along, sheet_then, IsPassed, IsOrdered, IsFound, AreSameBefore, IsJudged};
 ghost use Rattle.buck_book.specs.declared.posting.TheConstants.{MOST_POSTINGS};
 
 use crate::judging::case::Case;
-use crate::judging::checks::{check_end, check_posting, opened_sheet, version_of};
+use crate::judging::checks::{check_end, check_posting, sheet_in_force, version_of};
 use crate::judging::fault::ReplayFault;
 use crate::judging::outvalued::{first_by_size, first_doubtful};
 use crate::judging::sheets::first_sheets;
-use crate::judging::stop::Stop;
 use crate::reading::journal::Journal;
 use buck_apt::Instruction;
 use buck_book::{Posting, Walk};
@@ -26,107 +24,30 @@ use std::sync::Arc;
 use std::thread;
 use std::thread::Threads;
 
-/// Passes a posting that may follow under the sheet in force.
-fn replay_posting<'w>(sheet: &Sheet, walk: Walk<'w>, posting: &Posting) -> Result<Walk<'w>, Stop>
-    requires instruction { sheet.now.instruction ≡ walk.instruction }
+/// Passes the posting that is next; and the sheet that it was passed under.
+fn pass_next<'w>(
+    alloc: Global,
+    case: &Case<'_, '_>,
+    walk: Walk<'w>,
+    kept: Option<Arc<Sheet>>,
+    posting: &Posting,
+) -> Result<(Walk<'w>, Arc<Sheet>), ReplayFault>
+    requires instruction { walk.instruction ≡ case.now.instruction }
     requires next { slice_get walk.postings walk.at ≡ Some posting.now }
-    ensures right { OnOk result (IsRightUnder sheet.now (passed walk.entry) posting.now) }
+    requires none { IfNone kept (Begins (along walk case.now.sheets) walk.at) }
+    requires kept { IfSome kept (λ s. (Begins (along walk case.now.sheets) walk.at → ⊥)
+        → s.value ≡ sheet_then (along walk case.now.sheets) walk.at) }
+    ensures right { OnOk result (IsPassed (along walk.entry case.now.sheets) walk.entry.at posting.now) }
     ensures further { IfOk result (λ w.
-        w ≡ walk_of walk.entry.instruction walk.entry.postings (walk.entry.at + 1)) }
-    ensures refused { IfErr result (λ s. IfMet s (λ at fault.
-        (at ≡ walk.entry.at)
-        × IsPostingFault sheet.now (passed walk.entry) posting.now walk.entry.at fault)) }
+        w.0 ≡ walk_of walk.entry.instruction walk.entry.postings (walk.entry.at + 1)) }
+    ensures sheet { IfOk result (λ w. w.1.value ≡ sheet_then (along walk.entry case.now.sheets) walk.entry.at) }
+    ensures refused { IfErr result (λ fault. fault ≢ Memory
+        → IsFaultAt (along walk.entry case.now.sheets) walk.entry.at posting.now fault) }
 {
-    match check_posting(sheet, &walk, posting) {
-        Ok(()) => Ok(walk.pass(sheet, posting)?),
-        Err(fault) => Err(Stop::Fault {
-            at: walk.at(),
-            fault,
-        }),
-    }
-}
-
-/// Passes postings that may follow under the sheet in force, until a period begins or none is left.
-fn replay_under<'w>(sheet: &Sheet, walk: Walk<'w>) -> Result<Walk<'w>, Stop>
-    requires instruction { sheet.now.instruction ≡ walk.instruction }
-    requires version { ends_of sheet.now.instruction (passed walk) ≡ sheet.now.version }
-    requires more { walk.at < length walk.postings }
-    ensures right { IfOk result (λ w.
-        AreRightUnder sheet.now walk.entry.postings walk.entry.at w.at) }
-    ensures same { IfOk result (λ w. w ≡ walk_of walk.entry.instruction walk.entry.postings w.at) }
-    ensures further { IfOk result (λ w. walk.entry.at < w.at) }
-    ensures begins { IfOk result (λ w.
-        w.at < length w.postings → cuts_since_end w.instruction (passed w) ≡ 0) }
-    ensures refused { IfErr result (λ s. IfMet s (IsMetUnder sheet.now walk.entry.postings walk.entry.at)) }
-{
-    let mut walk = walk;
-    loop {
-        let Some(posting) = walk.next() else {
-            return Ok(walk);
-        };
-        walk = replay_posting(sheet, walk, posting)?;
-        if walk.begins_period() {
-            return Ok(walk);
-        }
-    }
-}
-
-/// Passes the postings of a period, from its first on.
-fn replay_period<'w>(alloc: Global, case: &Case<'_, '_>, walk: Walk<'w>) -> Result<Walk<'w>, Stop>
-    requires instruction { walk.instruction ≡ case.now.instruction }
-    requires right { IsInOrderBefore (along walk case.now.sheets) walk.at }
-    requires begins { Begins (along walk case.now.sheets) walk.at }
-    requires more { walk.at < length walk.postings }
-    ensures right { IfOk result (λ w. IsInOrderBefore (along walk.entry case.now.sheets) w.at) }
-    ensures same { IfOk result (λ w. w ≡ walk_of walk.entry.instruction walk.entry.postings w.at) }
-    ensures further { IfOk result (λ w. walk.entry.at < w.at) }
-    ensures begins { IfOk result (λ w.
-        w.at < length w.postings → Begins (along w case.now.sheets) w.at) }
-    ensures refused { IfErr result (λ s. IfMet s (IsMetInOrder (along walk.entry case.now.sheets))) }
-{
-    let sheet = opened_sheet(alloc, case, &walk)?;
-    replay_under(&sheet, walk)
-}
-
-/// Passes the postings that are left, period by period.
-fn replay_periods<'w>(alloc: Global, case: &Case<'_, '_>, walk: Walk<'w>) -> Result<Walk<'w>, Stop>
-    requires instruction { walk.instruction ≡ case.now.instruction }
-    requires right { IsInOrderBefore (along walk case.now.sheets) walk.at }
-    requires begins { Begins (along walk case.now.sheets) walk.at }
-    ensures right { IfOk result (λ w. IsInOrderBefore (along walk.entry case.now.sheets) w.at) }
-    ensures end { IfOk result (λ w. w
-        ≡ walk_of walk.entry.instruction walk.entry.postings (length walk.entry.postings)) }
-    ensures refused { IfErr result (λ s. IfMet s (IsMetInOrder (along walk.entry case.now.sheets))) }
-{
-    let mut walk = walk;
-    while walk.next().is_some() {
-        walk = replay_period(alloc, case, walk)?;
-    }
-    Ok(walk)
-}
-
-/// Passes all postings, from the first on.
-fn replay_all<'w>(alloc: Global, case: &Case<'w, '_>) -> Result<Walk<'w>, Stop>
-    requires { length case.now.postings ≤ MOST_POSTINGS }
-    ensures right { OnOk result (IsInOrderBefore case.now (length case.now.postings)) }
-    ensures end { IfOk result (λ w. w
-        ≡ walk_of case.now.instruction case.now.postings (length case.now.postings)) }
-    ensures refused { IfErr result (λ s. IfMet s (IsMetInOrder case.now)) }
-{
-    let walk = Walk::opening(alloc, case.instruction(), case.postings())?;
-    replay_periods(alloc, case, walk)
-}
-
-/// The place after the last posting, where what stands there is right.
-fn ended<'w>(case: &Case<'_, '_>, walk: Walk<'w>) -> Result<Walk<'w>, ReplayFault>
-    requires { walk ≡ walk_of case.now.instruction walk.postings (length walk.postings) }
-    ensures ended { OnOk result (IsEnded (along walk.entry case.now.sheets) walk.entry.at) }
-    ensures same { IfOk result (λ w. w ≡ walk.entry) }
-    ensures refused { IfErr result (IsFaultAtEnd (along walk.entry case.now.sheets) walk.entry.at) }
-{
-    let _valid = case.instruction().limit();
-    check_end(case, &walk)?;
-    Ok(walk)
+    let sheet = sheet_in_force(alloc, case, &walk, kept)?;
+    check_posting(&sheet, &walk, posting)?;
+    let walk = walk.pass(&sheet, posting)?;
+    Ok((walk, sheet))
 }
 
 /// How far a journal is in order, and what comes of it there where no cut before is outvalued.
@@ -146,16 +67,26 @@ fn walk_in_order<'w>(
     ensures end { IfOk result (λ o. IfOk o.end (λ w. w
         ≡ walk_of case.now.instruction case.now.postings (length case.now.postings))) }
 {
-    match replay_all(alloc, case) {
-        Ok(walk) => Ok(Ordered {
-            until: walk.at(),
-            end: ended(case, walk),
-        }),
-        Err(Stop::Fault { at, fault }) => Ok(Ordered {
-            until: at,
-            end: Err(fault),
-        }),
-        Err(Stop::Memory) => Err(buck_record::Memory),
+    let mut walk = Walk::opening(alloc, case.instruction(), case.postings())?;
+    let mut kept = None;
+    loop {
+        let until = walk.at();
+        let Some(posting) = walk.next() else {
+            return Ok(Ordered {
+                until,
+                end: check_end(case, walk),
+            });
+        };
+        match pass_next(alloc, case, walk, kept, posting) {
+            Ok((further, sheet)) => {
+                walk = further;
+                kept = Some(sheet);
+            }
+            Err(fault) => return Ok(Ordered {
+                until,
+                end: Err(fault),
+            }),
+        }
     }
 }
 
@@ -239,6 +170,15 @@ fn walk_and_search(
 /// The fewest postings that are worth a thread of their own.
 const FEWEST: usize = 64;
 
+/// How many postings a thread searches that doesn't go through the journal.
+fn size_of_part(count: usize, threads: usize) -> usize
+    requires threads { 0 < threads }
+    requires few { count ≤ MOST_POSTINGS }
+    ensures { 0 < result }
+{
+    count * 11 / 10 / threads + FEWEST
+}
+
 /// Goes through a journal in order, and looks for the first doubtful one of its postings, in at most so many threads at
 /// once. One goes through the journal, which takes about a tenth of the time of a search of all, and then searches the
 /// first postings; the others search the rest, so many each.
@@ -246,20 +186,19 @@ fn walk_beside_search<T: Threads + Sync>(
     rt: &T,
     alloc: Global,
     threads: usize,
-    size: usize,
     instruction: &Arc<Instruction>,
     journal: &Journal,
-    made: &[Arc<Sheet>],
 ) -> Result<(Ordered<()>, Option<usize>), buck_record::Memory>
     requires threads { 0 < threads }
-    requires size { 0 < size }
     requires few { length journal.now.entries ≤ MOST_POSTINGS }
-    requires made { AreMade instruction.now.value journal.now.sheets (map (λ a. a.value) made.now) }
     ensures { IfOk result (λ both.
         IsOrdered (history_of instruction.now.value journal.now) both.0.until both.0.end
         × IsFound (history_of instruction.now.value journal.now) journal.now.entries both.1) }
 {
+    let made = first_sheets(alloc, instruction, journal.sheets.as_slice())?;
+    let made = made.as_slice();
     let postings = journal.entries.as_slice();
+    let size = size_of_part(postings.len(), threads);
     let others = size.saturating_mul(threads - 1);
     let (front, rest) = postings.split_at(postings.len().saturating_sub(others));
     let (first, later) = thread::join(
@@ -320,23 +259,12 @@ pub fn replay_in_parts<T: Threads + Sync>(
         e ≢ Memory → IsFirstFault (history_of instruction.now.value journal.now) e) }
 {
     let count = journal.entries.len();
-    let size = count * 11 / 10 / threads + FEWEST;
-    if count <= size {
+    if count <= size_of_part(count, threads) {
         return replay(alloc, instruction, journal);
     }
     if !never_go_back(journal.entries.as_slice()) {
         return replay(alloc, instruction, journal);
     }
-    let made = first_sheets(alloc, instruction, journal.sheets.as_slice())?;
-    let made = made.as_slice();
-    let (ordered, doubtful) = walk_beside_search(
-        rt,
-        alloc,
-        threads,
-        size,
-        instruction,
-        journal,
-        made,
-    )?;
+    let (ordered, doubtful) = walk_beside_search(rt, alloc, threads, instruction, journal)?;
     judged(ordered, doubtful)
 }
