@@ -1,5 +1,5 @@
 -- The order of bids.
-use Rattle.std.proofs.Common.{◌≡◌, ◌≤◌, inl, inr, refl, sym, ◌∙◌, subst, ap, arith}
+use Rattle.std.proofs.Common.{◌≡◌, ◌≤◌, inl, inr, refl, sym, ◌∙◌, subst, ap, arith, rules}
 use Rattle.buck_dp.specs.inner.Bid.{BidParts, bid_of, IsAtMost, IsGreater, plus}
 
 pub IsAtMost-refl : (a : BidParts) → IsAtMost a a
@@ -29,11 +29,7 @@ greater_second a b c (inr g) = subst (λ x. IsAtMost b x) (sym g.0) (IsAtMost-re
 -- a bid that is no less, before what is worth no less
 pub plus_at_most : (a b x y : BidParts) → IsAtMost a b → x.worth ≤ y.worth → IsAtMost (plus a x) (plus b y)
 plus_at_most a b x y (inl p) le = inl (omega arith)
-plus_at_most a b x y (inr p) le = plus_same a b x y p.0 p.1 le
-  where
-    plus_same : (a b x y : BidParts) → a.worth ≡ b.worth → a.rank ≤ b.rank → x.worth ≤ y.worth
-        → IsAtMost (plus a x) (plus b y)
-    plus_same a b x y e r le = grind arith
+plus_at_most a b x y (inr p) le = search rules
 
 -- bids of as much worth and the same rank are the same
 pub same_bid : (a b : BidParts) → a.worth ≡ b.worth → a.rank ≡ b.rank → a ≡ b

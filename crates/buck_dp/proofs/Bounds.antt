@@ -1,5 +1,5 @@
 -- A log is worth at most 70,000,000,000 millionths for each millimetre, and so the worth of a cutting fits 64 bits.
-use Rattle.std.proofs.Common.{ℕ, ◌+◌, ◌*◌, ◌≤◌, List, sum_by, ap, arith}
+use Rattle.std.proofs.Common.{ℕ, ◌+◌, ◌*◌, ◌≤◌, List, sum_by, ap, arith, rules}
 use Rattle.buck_apt.specs.Instruction.{InstructionParts}
 use Rattle.buck_stem.specs.Stem.{StemParts, IsStem, stem_length}
 use Rattle.buck_value.specs.declared.log.Log.{Log}

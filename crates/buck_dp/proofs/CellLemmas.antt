@@ -1,5 +1,5 @@
 -- Cells offered one after another.
-use Rattle.std.proofs.Common.{◌≡◌, ◌≢◌, ℕ, ◌+◌, ◌-◌, ◌<◌, ◌≤◌, ◌⊎◌, inl, inr, List, [], ◌∷◌, refl, ◌++◌, take, drop, length, length-append, slice_get, Some, sym, subst, ap, ◌∙◌, arith}
+use Rattle.std.proofs.Common.{◌≡◌, ◌≢◌, ℕ, ◌+◌, ◌-◌, ◌<◌, ◌≤◌, ◌⊎◌, inl, inr, List, [], ◌∷◌, refl, ◌++◌, take, drop, length, length-append, slice_get, Some, sym, subst, ap, ◌∙◌, arith, rules}
 use Rattle.std.proofs.lemmas.Bool.{cases_lt, cases_order}
 use Rattle.std.proofs.lemmas.Option.{same_Some}
 use Rattle.std.proofs.lemmas.List.{length-drop, length-take-le, get_or-drop, get_or-take, get_or_append_left, get_or-append_right}
@@ -15,10 +15,7 @@ module _ (cells : List Cell) (top first stop n : ℕ) (low : stop ≤ top) (v u 
     (offered : AreOffered cells top first stop n v u) where
   -- from the top on nothing changes
   pub later_same : (k : ℕ) → top ≤ k → bid_at u k ≡ bid_at v k
-  later_same k le = elim (offered.one k) [
-    | inl e ↦ e
-    | inr o ↦ absurd (omega (arith, o.3.1, o.4))
-  ]
+  later_same k le = search rules
 
   module _ (c : Cell) (w : List BidParts) (there : slice_get cells n ≡ Some c) (near : IsNear top first stop c)
       (number : length w ≡ length u)
@@ -28,96 +25,38 @@ module _ (cells : List Cell) (top first stop n : ℕ) (low : stop ≤ top) (v u 
     -- what a point has after a cell is offered: as before, or the greater of that and the offer
     which : (i : ℕ) → (bid_at w i ≡ bid_at u i)
         ⊎ ((i + c.steps ≡ top) × IsGreater (bid_at u i) (plus c.bid (bid_at u (top + c.rise))) (bid_at w i))
-    which i = elim (cases_order (i + c.steps) top) [
-      | inl e ↦ inr (e, raised i e)
-      | inr o ↦ inl (others i (λ e. elim o [ inl a ↦ omega arith | inr a ↦ omega arith ]))
-    ]
+    which i = search (rules, cases_order)
 
     more : (i : ℕ) → IsAtMost (bid_at u i) (bid_at w i)
-    more i = elim (which i) [
-      | inl e ↦ subst (λ x. IsAtMost (bid_at u i) x) (sym e) (IsAtMost-refl (bid_at u i))
-      | inr g ↦ greater_first (bid_at u i) (plus c.bid (bid_at u (top + c.rise))) (bid_at w i) g.1
-    ]
+    more i = search (rules, which, IsAtMost-refl, greater_first)
 
     rest_same : bid_at u (top + c.rise) ≡ bid_at v (top + c.rise)
     rest_same = later_same (top + c.rise) (omega arith)
 
     this_done : (i : ℕ) → i + c.steps ≡ top → IsAtMost (plus c.bid (bid_at v (top + c.rise))) (bid_at w i)
-    this_done i e =
-        subst (λ x. IsAtMost (plus c.bid x) (bid_at w i)) rest_same
-        (greater_second (bid_at u i) (plus c.bid (bid_at u (top + c.rise))) (bid_at w i) (raised i e))
+    this_done i e = search (rules, rest_same, greater_second)
 
     before_done : (k : ℕ) (d : Cell) → k < n → slice_get cells k ≡ Some d → IsNear top first stop d
         → (i : ℕ) → i + d.steps ≡ top → IsAtMost (plus d.bid (bid_at v (top + d.rise))) (bid_at w i)
-    before_done k d lt at near i is =
-        IsAtMost-trans (plus d.bid (bid_at v (top + d.rise))) (bid_at u i) (bid_at w i)
-        (offered.done k d lt at near i is) (more i)
+    before_done k d lt at near i is = search (rules, IsAtMost-trans, more)
 
     -- one cell more is offered
     pub offered_more : AreOffered cells top first stop (n + 1) v w
-    offered_more = record {
-      number = number ∙ offered.number;
-      kept = λ k. IsAtMost-trans (bid_at v k) (bid_at u k) (bid_at w k) (offered.kept k) (more k);
-      done = λ k d lt at by i is. elim (cases_lt k n) [
-        | inl before ↦ before_done k d before at by i is
-        | inr here ↦
-            let same : c ≡ d =
-            same_Some c d (sym there ∙ ap (λ x. slice_get cells x) (let e : n ≡ k = omega arith in e) ∙ at) in
-            subst (λ x. i + x.steps ≡ top → IsAtMost (plus x.bid (bid_at v (top + x.rise))) (bid_at w i)) same
-            (this_done i) is
-      ];
-      one = λ i. elim (which i) [
-        | inl e ↦ elim (offered.one i) [
-          | inl f ↦ inl (e ∙ f)
-          | inr o ↦ inr (o.0, o.1, o.2, o.3, o.4, e ∙ o.5)
-        ]
-        | inr g ↦ elim g.1 [
-          | inl a ↦ elim (offered.one i) [
-            | inl f ↦ inl (a.0 ∙ f)
-            | inr o ↦ inr (o.0, o.1, o.2, o.3, o.4, a.0 ∙ o.5)
-          ]
-          | inr a ↦ inr (n, c, there, near, g.0, a.0 ∙ ap (λ x. plus c.bid x) rest_same)
-        ]
-      ];
-    }
+    offered_more = grind (arith, IsAtMost-trans, more, cases_lt, before_done, same_Some, this_done, which, rest_same)
 
   -- where none of the other cells starts late enough, all are offered
   pub offered_near : ((k : ℕ) (c : Cell) → n ≤ k → slice_get cells k ≡ Some c → top < c.steps + first)
       → AreOffered cells top first stop (length cells) v u
-  offered_near long = record {
-    number = offered.number;
-    kept = offered.kept;
-    done = λ k c lt at near. elim (cases_lt k n) [
-      | inl before ↦ offered.done k c before at near
-      | inr after ↦ absurd (omega (arith, long k c after at, near.0))
-    ];
-    one = offered.one;
-  }
+  offered_near long = search (rules, cases_lt)
 
 -- no cells are offered yet
 pub offered_none : (top first stop : ℕ) (v : List BidParts) → AreOffered [] top first stop 0 v v
-offered_none top first stop v = record {
-  number = refl;
-  kept = λ k. IsAtMost-refl (bid_at v k);
-  done = λ k c lt. absurd (omega (arith, lt));
-  one = λ i. inl refl;
-}
+offered_none top first stop v = search (rules, IsAtMost-refl)
 
 -- what is offered of a row is offered of it with one cell more
 pub offered_behind : (row : List Cell) (c : Cell) (top first stop : ℕ) (v u : List BidParts)
     → AreOffered row top first stop (length row) v u → AreOffered (row ++ c ∷ []) top first stop (length row) v u
-offered_behind row c top first stop v u offered = record {
-  number = offered.number;
-  kept = offered.kept;
-  done = λ k d lt at. elim (push_cases row c d k at) [
-    | inl old ↦ offered.done k d lt old
-    | inr end ↦ absurd (omega (arith, lt, end.0))
-  ];
-  one = λ i. elim (offered.one i) [
-    | inl same ↦ inl same
-    | inr o ↦ inr (o.0, o.1, kept_at row c o.1 o.0 o.2, o.3, o.4, o.5)
-  ];
-}
+offered_behind row c top first stop v u offered = search (rules, push_cases, kept_at)
 
 -- A row whose cells all start at point `base` or later is offered to the points from there on alone.
 module _ (cells : List Cell) (top first stop far base : ℕ) (v : List BidParts)
@@ -131,24 +70,15 @@ module _ (cells : List Cell) (top first stop far base : ℕ) (v : List BidParts)
   was_at k = get_or-drop base v k none
 
   rest_at : (rise : ℕ) → bid_at (drop base v) (far + rise) ≡ bid_at v (top + rise)
-  rest_at rise = was_at (far + rise)
-      ∙ ap (λ n. bid_at v n) (let e : base + (far + rise) ≡ top + rise = omega arith in e)
+  rest_at rise = search (rules, was_at)
 
   -- they can be offered there
   pub fits_back : AreFit cells top first stop v → AreFit cells far 0 far (drop base v)
-  fits_back fit = record {
-    there = λ k c at near. omega (arith, fit.there k c at (near_all k c at), length-drop base v);
-    even = λ k le. ap (λ b. b.rank) (was_at k) ∙ fit.even (base + k) (omega arith);
-    low = λ k c at near.
-        subst (λ (b : BidParts). c.bid.worth + b.worth ≤ 4000000000000000) (sym (rest_at c.rise))
-        (fit.low k c at (near_all k c at));
-  }
+  fits_back fit = search (rules, near_all, length-drop, was_at, rest_at)
 
   module _ (w : List BidParts) (offered : AreOffered cells far 0 far (length cells) (drop base v) w) where
     same_before : (k : ℕ) → k < base → bid_at (take base v ++ w) k ≡ bid_at v k
-    same_before k lt =
-        get_or_append_left (take base v) w none k (omega (arith, length-take-le base v inside))
-        ∙ get_or-take base v k none lt
+    same_before k lt = search (rules, get_or_append_left, length-take-le, get_or-take)
 
     now_at : (k : ℕ) → base ≤ k → bid_at (take base v ++ w) k ≡ bid_at w (k - base)
     now_at k le = get_or-append_right (take base v) w base k none (omega (arith, length-take-le base v inside)) le

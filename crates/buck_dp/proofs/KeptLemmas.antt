@@ -1,5 +1,5 @@
 -- Lists and rows that are kept.
-use Rattle.std.proofs.Common.{◌≡◌, ℕ, ◌+◌, ◌-◌, ◌⊎◌, inl, inr, List, [], ◌∷◌, ◌++◌, Option, length, length-append, take, drop, slice_get, Some, sym, subst, ap, ◌∙◌, arith}
+use Rattle.std.proofs.Common.{◌≡◌, ℕ, ◌+◌, ◌-◌, ◌⊎◌, inl, inr, List, [], ◌∷◌, ◌++◌, Option, length, length-append, take, drop, slice_get, Some, sym, subst, ap, ◌∙◌, arith, rules}
 use Rattle.std.proofs.lemmas.Option.{none-some}
 use Rattle.std.proofs.lemmas.List.{length-drop, drop_at, drop-append-le, take-append-le, take_all}
 use Rattle.buck_apt.specs.Instruction.{InstructionParts}
@@ -21,26 +21,13 @@ Each R heads xs = (n : ℕ) (h : Head) → slice_get heads n ≡ Some h → IsAt
 module _ {X : Type 0} (R : Key → List X → Type 0) where
   -- what stands at a place of a list, stands there when that grows
   more : (xs ys : List X) (key : Key) (place : Place) → IsAt R xs key place → IsAt R (xs ++ ys) key place
-  more xs ys key place is =
-      let n : ℕ = place.past - place.from in
-      let same : part_of (xs ++ ys) place ≡ part_of xs place =
-      ap (λ zs. take n zs) (drop-append-le place.from xs ys (omega (arith, is.0.0, is.0.1)))
-      ∙ take-append-le n (drop place.from xs) ys (omega (arith, is.0.1, length-drop place.from xs)) in
-      ((is.0.0, omega (arith, is.0.1, length-append xs ys)), subst (λ zs. R key zs) (sym same) is.1)
+  more xs ys key place is = search (rules, drop-append-le, take-append-le, length-drop, length-append)
 
   -- what is put behind a list stands there
   pub put_behind : (xs ys zs : List X) (key : Key) (from past : ℕ) → zs ≡ xs ++ ys → from ≡ length xs → past ≡ length zs
       → R key ys
       → IsAt R zs key (record { from = from; past = past })
-  put_behind xs ys zs key from past is at end right =
-      let whole : length zs ≡ length xs + length ys = ap (λ (vs : List X). length vs) is ∙ length-append xs ys in
-      let same : part_of (xs ++ ys) (record { from = from; past = past }) ≡ ys =
-      ap (λ vs. take (past - from) vs) (drop_at xs ys from (sym at))
-      ∙ take_all (past - from) ys (omega (arith, at, end, whole)) in (
-        (omega (arith, at, end, whole), omega (arith, end)),
-        subst (λ vs. R key (part_of vs (record { from = from; past = past }))) (sym is)
-            (subst (λ vs. R key vs) (sym same) right),
-      )
+  put_behind xs ys zs key from past is at end right = search (rules, length-append, drop_at, take_all)
 
   -- what is kept for a key
   pub kept_is : (heads : List Head) (xs : List X) (key : Key) (place : Place) → Each R heads xs

@@ -1,5 +1,5 @@
 -- That the logs of a cutting are allowed, how many there can be, and that one cutting alone is the first of the best.
-use Rattle.std.proofs.Common.{◌≡◌, ◌≢◌, ◌+◌, ◌*◌, ◌≤◌, ◌⊎◌, inl, inr, List, [], ◌∷◌, All, length, sum_by, refl, sym, subst, arith}
+use Rattle.std.proofs.Common.{◌≡◌, ◌≢◌, ◌+◌, ◌*◌, ◌≤◌, ◌⊎◌, inl, inr, List, [], ◌∷◌, All, length, sum_by, refl, sym, subst, arith, rules}
 use Rattle.std.proofs.lemmas.List.Sums.{sum_by-cons}
 use Rattle.std.proofs.lemmas.Bool.{cases_order}
 use Rattle.buck_stem.specs.Stem.{StemParts, IsStem, stem_length}
@@ -41,17 +41,7 @@ log_asym : (a b : Log) → IsLogBefore a b → IsLogBefore b a → ⊥
 log_asym a b p q = grind arith
 
 log_order : (a b : Log) → (a ≡ b) ⊎ (IsLogBefore a b ⊎ IsLogBefore b a)
-log_order a b =
-    elim (cases_order a.start b.start) [
-      | inr o ↦ elim o [ inl p ↦ inr (inl (inl p)) | inr p ↦ inr (inr (inl p)) ]
-      | inl p ↦ elim (cases_order a.length b.length) [
-        | inr o ↦ elim o [ inl q ↦ inr (inl (inr (p, inl q))) | inr q ↦ inr (inr (inr (sym p, inl q))) ]
-        | inl q ↦ elim (cases_order a.assortment b.assortment) [
-          | inr o ↦ elim o [ inl r ↦ inr (inl (inr (p, inr (q, r)))) | inr r ↦ inr (inr (inr (sym p, inr (sym q, r)))) ]
-          | inl r ↦ inl (same_log a b p q r)
-        ]
-      ]
-    ]
+log_order a b = search (rules, cases_order, same_log)
 
 same_lists : (g h : Log) (gs hs : List Log) → g ≡ h → gs ≡ hs → g ∷ gs ≡ h ∷ hs
 same_lists g h gs hs e f = cc
@@ -61,23 +51,15 @@ order : (gs hs : List Log) → (gs ≡ hs) ⊎ (IsBefore gs hs ⊎ IsBefore hs g
 order [] [] = inl refl
 order [] (h ∷ hs) = inr (inr tt)
 order (g ∷ gs) [] = inr (inl tt)
-order (g ∷ gs) (h ∷ hs) = elim (log_order g h) [
-  | inr o ↦ elim o [ inl p ↦ inr (inl (inl p)) | inr p ↦ inr (inr (inl p)) ]
-  | inl e ↦ elim (order gs hs) [
-    | inl f ↦ inl (same_lists g h gs hs e f)
-    | inr o ↦ elim o [ inl p ↦ inr (inl (inr (e, p))) | inr p ↦ inr (inr (inr (sym e, p))) ]
-  ]
-]
+order (g ∷ gs) (h ∷ hs) = search (rules, log_order, same_lists, (order gs hs))
 
 -- and not both
 asym : (gs hs : List Log) → IsBefore gs hs → IsBefore hs gs → ⊥
 asym [] hs p q = absurd p
 asym (g ∷ gs) [] p q = absurd q
 asym (g ∷ gs) (h ∷ hs) (inl p) (inl q) = log_asym g h p q
-asym (g ∷ gs) (h ∷ hs) (inl p) (inr q) =
-    (let r : IsLogBefore g g = subst (λ x. IsLogBefore g x) q.0 p in log_asym g g r r)
-asym (g ∷ gs) (h ∷ hs) (inr p) (inl q) =
-    (let r : IsLogBefore h h = subst (λ x. IsLogBefore h x) p.0 q in log_asym h h r r)
+asym (g ∷ gs) (h ∷ hs) (inl p) (inr q) = search (rules, log_asym)
+asym (g ∷ gs) (h ∷ hs) (inr p) (inl q) = search (rules, log_asym)
 asym (g ∷ gs) (h ∷ hs) (inr p) (inr q) = asym gs hs p.1 q.1
 
 others : (gs hs : List Log) → IsBefore gs hs → gs ≢ hs
@@ -85,10 +67,4 @@ others gs hs p e = (let r : IsBefore gs gs = subst (λ x. IsBefore gs x) (sym e)
 
 pub only_one : (sheet : SheetParts) (stem : StemParts) (gs hs : List Log) → IsFirstBest sheet stem gs
     → IsFirstBest sheet stem hs → gs ≡ hs
-only_one sheet stem gs hs a b = elim (order gs hs) [
-  | inl e ↦ e
-  | inr o ↦ elim o [
-    | inl p ↦ absurd (asym gs hs p (b.first gs a.best (others gs hs p)))
-    | inr p ↦ absurd (asym hs gs p (a.first hs b.best (others hs gs p)))
-  ]
-]
+only_one sheet stem gs hs a b = search (rules, order, asym, others)

@@ -1,5 +1,5 @@
 -- Logs of a stem as bids of its takers, and the other way.
-use Rattle.std.proofs.Common.{◌≡◌, ℕ, ◌+◌, ◌-◌, ◌*◌, ◌/◌, ◌%◌, ◌<◌, ◌≤◌, inl, inr, List, Option, Some, None, length, slice_get, slice_index, refl, sym, subst, ap, ◌∙◌, arith, add-mul, mul-le-mul_right}
+use Rattle.std.proofs.Common.{◌≡◌, ℕ, ◌+◌, ◌-◌, ◌*◌, ◌/◌, ◌%◌, ◌<◌, ◌≤◌, inl, inr, List, Option, Some, None, length, slice_get, slice_index, refl, sym, subst, ap, ◌∙◌, arith, add-mul, mul-le-mul_right, rules}
 use Rattle.std.proofs.lemmas.Bool.{cases_lt}
 use Rattle.std.proofs.lemmas.Option.{same_Some}
 use Rattle.std.proofs.Math.Nat.{mul-mod_left, div-mul-le_self, mul-add-div_right, lt-div-mul-add}
@@ -31,26 +31,15 @@ same_class (Some x) stem g = refl
 same_worth : (s : SheetParts) (stem : StemParts) (g : Log)
     → worth_of s stem g ≡ worth_for s g.assortment g.length (top_diameter stem g)
 unfolding worth_of
-same_worth s stem g =
-    ap (λ c. worth_at (kind_in (slice_get s.instruction.assortments g.assortment)) (price_of s c)
-    (volume (top_diameter stem g) g.length))
-    (same_class (slice_get s.instruction.assortments g.assortment) stem g)
+same_worth s stem g = search (rules, same_class)
 
 -- a point lies within the stem
 pub point_within : (m j length : ℕ) → j < length / m + 1 → j * m ≤ length
-point_within m j length lt =
-    (let le : j * m ≤ length / m * m = mul-le-mul_right m (omega arith) in omega (arith, div-mul-le_self length m))
+point_within m j length lt = search (rules, mul-le-mul_right, div-mul-le_self)
 
 -- what lies within the stem is a point
 pub point_there : (m j length : ℕ) → 0 < m → j * m ≤ length → j < length / m + 1
-point_there m j length pos le = elim (cases_lt j (length / m + 1)) [
-  | inl lt ↦ lt
-  | inr past ↦ absurd (
-      let far : (length / m + 1) * m ≤ j * m = mul-le-mul_right m past in
-      let t : length < length / m * m + m = lt-div-mul-add pos in
-      omega (arith, add-mul (length / m) 1 m)
-      )
-]
+point_there m j length pos le = search (rules, cases_lt, mul-le-mul_right, lt-div-mul-add, add-mul)
 
 -- the point after a trim behind a point
 pub after_trim : (m j trim : ℕ) → 0 < m → point_after m (j * m + trim) ≡ j + point_after m trim
@@ -77,9 +66,7 @@ module _ (p : GroundParts) (valid : IsSheet p.sheet) where
   -- where the point after a log lies
   end_is : (j : ℕ) (g : Log) → top_of g ≡ j * unit
       → point_after unit (end_of p.sheet.instruction g) ≡ j + point_after unit (trim_of p.sheet.instruction g)
-  end_is j g top =
-      ap (λ n. point_after unit (n + trim_of p.sheet.instruction g)) top
-      ∙ after_trim unit j (trim_of p.sheet.instruction g) pos
+  end_is j g top = search (rules, after_trim, pos)
 
   pub after_is : (i j e : ℕ) (bid : BidParts) → (l : IsLogAt p i j e bid)
       → e ≡ j + point_after unit (trim_of p.sheet.instruction l.log)
@@ -88,9 +75,7 @@ module _ (p : GroundParts) (valid : IsSheet p.sheet) where
   -- the point after the end of an allowed log is at most one past the last
   end_there : (g : Log) → IsAllowed p.sheet.instruction p.stem g
       → point_after unit (end_of p.sheet.instruction g) < ends_of p
-  end_there g a =
-      after_within unit (stem_length p.stem.samples) (end_of p.sheet.instruction g) pos
-      (end_within p.sheet.instruction p.stem g a)
+  end_there g a = search (rules, after_within, pos, end_within)
 
   -- an allowed log from a point, with its mark
   pub log_there : (i mark : ℕ) (g : Log) → g.start ≡ i * unit → IsAllowed p.sheet.instruction p.stem g
@@ -144,28 +129,12 @@ module _ (p : GroundParts) (valid : IsSheet p.sheet) where
   -- an allowed log is of an assortment that takes its wood
   pub log_takes : (i j e : ℕ) (bid : BidParts) → (l : IsLogAt p i j e bid)
       → Takes p.sheet p.stem (i * unit) (j * unit) (trim_of p.sheet.instruction l.log) l.log.assortment
-  log_takes i j e bid l =
-      let a = l.allowed in
-      record {
-        assortment = a.assortment;
-        exists = a.exists;
-        species = a.allows.species;
-        grades = rw (← l.start, ← l.top) a.allows.grades;
-        own = sym (own_trim l.log a);
-      }
+  log_takes i j e bid l = search (rules, own_trim)
 
   -- an assortment that takes some wood takes a part of it
   pub takes_less : (i k j trim a : ℕ) → i ≤ k → Takes p.sheet p.stem (i * unit) (j * unit) trim a
       → Takes p.sheet p.stem (k * unit) (j * unit) trim a
-  takes_less i k j trim a le takes = record {
-    assortment = takes.assortment;
-    exists = takes.exists;
-    species = takes.species;
-    grades = λ x low high.
-        let more : i * unit ≤ k * unit = mul-le-mul_right unit le in
-        takes.grades x (omega arith) high;
-    own = takes.own;
-  }
+  takes_less i k j trim a le takes = search (rules, mul-le-mul_right)
 
   module _ (diameters : List ℕ)
       (known : (j : ℕ) → j < points_of p → slice_index diameters j ≡ diameter_at p.stem.samples (j * unit)) where
@@ -173,29 +142,7 @@ module _ (p : GroundParts) (valid : IsSheet p.sheet) where
     pub log_quote : (i j e : ℕ) (bid : BidParts) → (l : IsLogAt p i j e bid)
         → IsBidOf p.sheet p.codes l.log.assortment ((j - i) * unit) (slice_index diameters j) bid
     log_quote i j e bid l =
-        let a = l.allowed in
-        let parts : (i + (j - i)) * unit ≡ i * unit + (j - i) * unit = add-mul i (j - i) unit in
-        let whole : i + (j - i) ≡ j = omega (arith, l.later) in
-        let both : j * unit ≡ i * unit + (j - i) * unit = rw whole at parts in
-        let long : l.log.length ≡ (j - i) * unit = omega (arith, l.start, l.top, both) in
-        let d : top_diameter p.stem l.log ≡ slice_index diameters j =
-        ap (λ x. diameter_at p.stem.samples x) l.top ∙ sym (known j l.within) in
-        subst (λ (n : ℕ). IsBidOf p.sheet p.codes l.log.assortment n (slice_index diameters j) bid) long
-        (subst (λ (n : ℕ). IsBidOf p.sheet p.codes l.log.assortment l.log.length n bid) d
-        (record {
-          at = record {
-            assortment = a.assortment;
-            exists = a.exists;
-            priced = record {
-              offered = a.allows.length_offered;
-              thick_enough = a.allows.thick_enough;
-              thin_enough = a.allows.thin_enough;
-              priced = a.allows.priced;
-            };
-          };
-          rank = record { high = l.rank.high; at = l.rank.at };
-          worth = l.worth ∙ same_worth p.sheet p.stem l.log;
-        }))
+        grind (arith, add-mul, same_worth, l.allowed, l.later, l.log.length, l.start, l.top, l.log)
 
     -- a bid of an assortment that takes the wood is that of an allowed log
     pub quote_log : (i j a steps trim : ℕ) (bid : BidParts) → i < j → j * unit + trim ≤ stem_length p.stem.samples

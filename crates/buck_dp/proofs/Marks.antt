@@ -1,5 +1,5 @@
 -- Codes and marks tell logs that start at one place apart, and put them in order.
-use Rattle.std.proofs.Common.{◌≡◌, ℕ, ◌-◌, ◌<◌, ◌⊎◌, inl, inr, List, length, get_or, slice_get, Some, sym, ◌∙◌, ap, arith}
+use Rattle.std.proofs.Common.{◌≡◌, ℕ, ◌-◌, ◌<◌, ◌⊎◌, inl, inr, List, length, get_or, slice_get, Some, sym, ◌∙◌, ap, arith, rules}
 use Rattle.std.proofs.lemmas.Bool.{cases_order}
 use Rattle.std.proofs.lemmas.Option.{slice_get-get_or, slice_get_within, get_or_from_slice_get}
 use Rattle.std.proofs.lemmas.List.Kept.{AllPairs-from_increasing}
@@ -17,17 +17,12 @@ code_parts l a k b low low' e = (omega arith, omega arith)
 
 -- the lower code is that of the shorter log, then of the lower assortment
 code_order : (l a k b : ℕ) → a < 16 → b < 16 → code_of l a < code_of k b → (l < k) ⊎ ((l ≡ k) × (a < b))
-code_order l a k b low low' lt = elim (cases_order l k) [
-  | inl e ↦ inr (e, omega arith)
-  | inr o ↦ elim o [ inl p ↦ inl p | inr p ↦ absurd (omega arith) ]
-]
+code_order l a k b low low' lt = search (rules, cases_order)
 
 -- the assortment of an allowed log is one of at most 16
 pub assortment_low : (i : InstructionParts) (stem : StemParts) (g : Log) → IsInstruction i → IsAllowed i stem g
     → g.assortment < 16
-assortment_low i stem g v a =
-    let lt : g.assortment < length i.assortments = slice_get_within i.assortments g.assortment a.assortment a.exists in
-    omega (arith, v.assortments_number)
+assortment_low i stem g v a = search (rules, slice_get_within)
 
 -- the place of a mark's code
 pub mark_place : (codes : List ℕ) (g : Log) (mark : ℕ) → HasMark codes g mark → 1023 - mark < length codes
@@ -82,8 +77,4 @@ pub marks_same : (codes : List ℕ) (g h : Log) (mark other : ℕ)
     → g.start ≡ h.start
     → g.assortment < 16 → h.assortment < 16
     → g ≡ h
-marks_same codes g h mark other m n same at low low' =
-    let e : code_of g.length g.assortment ≡ code_of h.length h.assortment =
-    sym (mark_code codes g mark m) ∙ ap (λ k. get_or codes (1023 - k) 0) same ∙ mark_code codes h other n in
-    let parts = code_parts g.length g.assortment h.length h.assortment low low' e in
-    same_log g h at parts.0 parts.1
+marks_same codes g h mark other m n same at low low' = search (rules, mark_code, code_parts, same_log)

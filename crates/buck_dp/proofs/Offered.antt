@@ -1,5 +1,5 @@
 -- What the logs of one point offer to its value.
-use Rattle.std.proofs.Common.{◌≡◌, ℕ, ◌+◌, ◌*◌, ◌<◌, ◌≤◌, List, [], ◌∷◌, get_or, sum_by, sym, subst, refl, arith}
+use Rattle.std.proofs.Common.{◌≡◌, ℕ, ◌+◌, ◌*◌, ◌<◌, ◌≤◌, List, [], ◌∷◌, get_or, sum_by, sym, subst, refl, arith, rules}
 use Rattle.std.proofs.lemmas.List.Sums.{sum_by-cons}
 use Rattle.buck_apt.specs.Instruction.{InstructionParts, IsInstruction}
 use Rattle.buck_value.specs.declared.log.Log.{Log}
@@ -30,9 +30,7 @@ IsCutAt p from gs = IsCutFrom (IsAllowed p.sheet.instruction p.stem) (end_of p.s
 -- what may be cut from a place on may be cut from an earlier one on
 pub cut_earlier : (p : GroundParts) (from next : ℕ) (gs : List Log) → from ≤ next → IsCutAt p next gs
     → IsCutAt p from gs
-cut_earlier p from next gs le c =
-    IsCutFrom-le (IsAllowed p.sheet.instruction p.stem) (end_of p.sheet.instruction) (worth_of p.sheet p.stem)
-    from next gs le c
+cut_earlier p from next gs le c = search (rules, IsCutFrom-le)
 
 -- what a list is worth
 abbrev pub sum_of : GroundParts → List Log → ℕ
@@ -54,25 +52,13 @@ module_pos i v = omega (arith, v.module_range)
 cut_after : (p : GroundParts) (x : ℕ) (gs : List Log) → IsSheet p.sheet → IsCutAt p x gs
     → IsCutAt p (point_after p.sheet.instruction.«module» x * p.sheet.instruction.«module») gs
 cut_after p x [] s c = tt
-cut_after p x (g ∷ gs) s c = (
-  start_after p.sheet.instruction.«module» x g.start (module_pos p.sheet.instruction s.valid) c.1.allows.on_module c.0,
-  c.1,
-  c.2,
-)
+cut_after p x (g ∷ gs) s c = search (rules, start_after, module_pos)
 
 -- so the best from the point after a log on is the best from its end on
 pub top_at_end : (p : GroundParts) (e : ℕ) (g : Log) (rest : List Log) → IsSheet p.sheet
     → point_after p.sheet.instruction.«module» (end_of p.sheet.instruction g) ≡ e
     → IsTopAt p (e * p.sheet.instruction.«module») rest → IsTopAt p (end_of p.sheet.instruction g) rest
-top_at_end p e g rest s ends top =
-    let m : ℕ = p.sheet.instruction.«module» in
-    let x : ℕ = end_of p.sheet.instruction g in
-    let there : IsTopAt p (point_after m x * m) rest = subst (λ n. IsTopAt p (n * m) rest) (sym ends) top in
-    record {
-      cut = cut_earlier p x (point_after m x * m) rest
-          (after_covers m x (module_pos p.sheet.instruction s.valid)) there.cut;
-      top = λ hs c. there.top hs (cut_after p x hs s c);
-    }
+top_at_end p e g rest s ends top = search (rules, cut_earlier, after_covers, module_pos, cut_after)
 
 -- a log brings no more than a value, together with the best after it and the log's mark
 pub record IsOffered (p : GroundParts) (value : BidParts) (g : Log) : Type 0 where

@@ -1,6 +1,6 @@
 -- The best cutting from each position on, over any rule of which logs are allowed, where a log ends and
 -- what it is worth.
-use Rattle.std.proofs.Common.{◌≡◌, ℕ, ◌+◌, ◌*◌, mul-le-mul_left, ◌≤◌, ◌⊎◌, inl, inr, List, [], ◌∷◌, sum_by, refl, sym, ◌∙◌, subst, arith}
+use Rattle.std.proofs.Common.{◌≡◌, ℕ, ◌+◌, ◌*◌, mul-le-mul_left, ◌≤◌, ◌⊎◌, inl, inr, List, [], ◌∷◌, sum_by, refl, sym, ◌∙◌, subst, arith, rules}
 use Rattle.std.proofs.lemmas.List.Sums.{sum_by-cons}
 use Rattle.buck_value.specs.declared.log.Log.{Log}
 use Rattle.buck_dp.specs.Order.{IsLogBefore}
@@ -28,8 +28,7 @@ IsAtOrBefore-trans [] [] cs p q = q
 IsAtOrBefore-trans [] (b ∷ bs) cs p q = absurd p
 IsAtOrBefore-trans (a ∷ as_) bs [] p q = tt
 IsAtOrBefore-trans (a ∷ as_) [] (c ∷ cs) p q = absurd q
-IsAtOrBefore-trans (a ∷ as_) (b ∷ bs) (c ∷ cs) p q =
-    along_trans a b c as_ bs cs (IsAtOrBefore-trans as_ bs cs) p q
+IsAtOrBefore-trans (a ∷ as_) (b ∷ bs) (c ∷ cs) p q = search (rules, along_trans, (IsAtOrBefore-trans as_ bs cs))
 
 -- what is no worse than a list that is no worse than another is no worse than that one
 pub IsNoWorse-trans : (worth_of : Log → ℕ) (fs gs hs : List Log) → IsNoWorse worth_of fs gs → IsNoWorse worth_of gs hs
@@ -52,8 +51,7 @@ IsNoWorse-refl worth_of gs = inr (refl, IsAtOrBefore-refl gs)
 pub IsNoWorse-cons : (worth_of : Log → ℕ) (g : Log) (gs hs : List Log) → IsNoWorse worth_of gs hs
     → IsNoWorse worth_of (g ∷ gs) (g ∷ hs)
 IsNoWorse-cons worth_of g gs hs (inl p) = inl (omega (arith, sum_by-cons worth_of g gs, sum_by-cons worth_of g hs))
-IsNoWorse-cons worth_of g gs hs (inr p) =
-    inr (omega (arith, sum_by-cons worth_of g gs, sum_by-cons worth_of g hs), inr (refl, p.1))
+IsNoWorse-cons worth_of g gs hs (inr p) = search (rules, sum_by-cons)
 
 -- the log of three numbers
 abbrev make_log : ℕ → ℕ → ℕ → Log
@@ -61,8 +59,7 @@ make_log x y z = record { start = x; length = y; assortment = z }
 
 -- logs of the same start, length and assortment are the same
 pub same_log : (a b : Log) → a.start ≡ b.start → a.length ≡ b.length → a.assortment ≡ b.assortment → a ≡ b
-same_log a b p q r =
-    let e : make_log a.start a.length a.assortment ≡ make_log b.start b.length b.assortment = cc in e
+same_log a b p q r = search rules
 
 module _ (Allowed : Log → Type 0) (end_of worth_of : Log → ℕ) where
   -- what may be cut from a place on may be cut from an earlier one on
@@ -79,10 +76,7 @@ module _ (Allowed : Log → Type 0) (end_of worth_of : Log → ℕ) where
 
   -- where nothing may begin, the best is the empty list
   pub nothing_top : (from : ℕ) → ((d : Log) → from ≤ d.start → Allowed d → ⊥) → IsTop Allowed end_of worth_of from []
-  nothing_top from none = record {
-    cut = tt;
-    top = λ hs c. nothing_covers from none hs c;
-  }
+  nothing_top from none = search (rules, nothing_covers)
 
   -- a best list begins with `g`: any best rest may follow it
   pub IsTop-rest : (from : ℕ) (g : Log) (gs rest : List Log)

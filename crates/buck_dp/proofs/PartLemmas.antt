@@ -1,5 +1,5 @@
 -- Cells of the takers of some wood are right for the starts in this wood.
-use Rattle.std.proofs.Common.{◌≡◌, ℕ, ◌+◌, ◌-◌, ◌*◌, ◌<◌, ◌≤◌, inl, inr, List, slice_get, slice_index, Some, sym, subst, arith}
+use Rattle.std.proofs.Common.{◌≡◌, ℕ, ◌+◌, ◌-◌, ◌*◌, ◌<◌, ◌≤◌, inl, inr, List, slice_get, slice_index, Some, sym, subst, arith, rules}
 use Rattle.std.proofs.lemmas.Bool.{cases_lt}
 use Rattle.buck_apt.specs.Instruction.{AssortmentParts}
 use Rattle.buck_stem.specs.Stem.{stem_length, diameter_at}

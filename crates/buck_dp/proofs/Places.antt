@@ -1,5 +1,5 @@
 -- Places on the stem, as multiples of a step.
-use Rattle.std.proofs.Common.{◌≡◌, ℕ, ◌+◌, ◌-◌, ◌*◌, ◌/◌, ◌%◌, ◌<◌, ◌≤◌, ◌⊎◌, inl, inr, arith, mul-le-mul_right}
+use Rattle.std.proofs.Common.{◌≡◌, ℕ, ◌+◌, ◌-◌, ◌*◌, ◌/◌, ◌%◌, ◌<◌, ◌≤◌, ◌⊎◌, inl, inr, arith, mul-le-mul_right, rules}
 use Rattle.std.proofs.lemmas.Bool.{cases_lt}
 use Rattle.std.proofs.Math.Nat.{lt-div-mul-add, div-mul-le_self}
 use Rattle.std.proofs.lemmas.Nat.{le-div}
@@ -18,40 +18,20 @@ past_top m total s pos le within = omega arith
 
 -- the point after a place is at or after it
 pub after_covers : (m x : ℕ) → 0 < m → x ≤ point_after m x * m
-after_covers m x pos =
-    let h : x + (m - 1) < (x + (m - 1)) / m * m + m = lt-div-mul-add pos in
-    omega arith
+after_covers m x pos = omega arith
 
 -- and less than a step after it
 pub after_near : (m x : ℕ) → 0 < m → point_after m x * m + 1 ≤ x + m
-after_near m x pos =
-    let h : (x + (m - 1)) / m * m ≤ x + (m - 1) = div-mul-le_self (x + (m - 1)) m in
-    omega arith
+after_near m x pos = omega arith
 
 -- a start at or after a place is at or after the point there
 pub start_after : (m x s : ℕ) → 0 < m → s % m ≡ 0 → x ≤ s → point_after m x * m ≤ s
-start_after m x s pos on le = elim (cases_lt (s / m) (point_after m x)) [
-  | inl past ↦ absurd (
-      let h : (s / m + 1) * m ≤ point_after m x * m = mul-le-mul_right m (omega arith) in
-      let n : point_after m x * m + 1 ≤ x + m = after_near m x pos in
-      omega arith
-      )
-  | inr low ↦ (let h : point_after m x * m ≤ (s / m) * m = mul-le-mul_right m low in omega arith)
-]
+start_after m x s pos on le = grind (arith, cases_lt, mul-le-mul_right, after_near)
 
 -- the point after a place within the length is at most one past the last
 pub after_within : (m total x : ℕ) → 0 < m → x ≤ total → point_after m x < total / m + 1 + 1
-after_within m total x pos le = elim (cases_lt (point_after m x) (total / m + 1 + 1)) [
-  | inl lt ↦ lt
-  | inr past ↦ absurd (
-      let h : (total / m + 1 + 1) * m ≤ point_after m x * m = mul-le-mul_right m past in
-      let n : point_after m x * m + 1 ≤ x + m = after_near m x pos in
-      let t : total < total / m * m + m = lt-div-mul-add pos in
-      omega arith
-      )
-]
+after_within m total x pos le = grind (arith, cases_lt, mul-le-mul_right, after_near, lt-div-mul-add)
 
 -- after a later place the point is no earlier
 pub after_in_order : (m a b : ℕ) → 0 < m → a ≤ b → point_after m a ≤ point_after m b
-after_in_order m a b pos le =
-    le-div (point_after m a) (b + (m - 1)) m pos (omega (arith, div-mul-le_self (a + (m - 1)) m))
+after_in_order m a b pos le = search (rules, le-div, div-mul-le_self)

@@ -1,5 +1,5 @@
 -- The quote of an offer.
-use Rattle.std.proofs.Common.{◌≡◌, ℕ, ◌+◌, ◌-◌, ◌*◌, ◌/◌, ◌<◌, ◌≤◌, IfSome, List, length, slice_get, slice_index, Some, refl, sym, subst, ap, ◌∙◌, arith}
+use Rattle.std.proofs.Common.{◌≡◌, ℕ, ◌+◌, ◌-◌, ◌*◌, ◌/◌, ◌<◌, ◌≤◌, IfSome, List, length, slice_get, slice_index, Some, refl, sym, subst, ap, ◌∙◌, arith, rules}
 use Rattle.std.proofs.Math.Nat.{mul-div_left}
 use Rattle.std.proofs.lemmas.Option.{same_Some, slice_get_within}
 use Rattle.buck_apt.specs.Instruction.{AssortmentParts, InstructionParts, classes}
@@ -26,16 +26,7 @@ use Rattle.buck_dp.proofs.BidLemmas.{same_bid}
 -- a later offer is no shorter
 pub no_shorter : (i : InstructionParts) (offers : List Offer) (j k : ℕ) (a b : Offer) → AreOffers i offers → j ≤ k
     → slice_get offers j ≡ Some a → slice_get offers k ≡ Some b → a.length ≤ b.length
-no_shorter i offers j k a b are le here there =
-    omega (
-      arith,
-      in_order (codes_in offers) are.codes.rise j k le
-          (omega (arith, codes_number offers, slice_get_within offers k b there)),
-      code_index offers j a here,
-      code_index offers k b there,
-      are.low j a here,
-      are.low k b there,
-    )
+no_shorter i offers j k a b are le here there = search (rules, in_order, codes_number, slice_get_within, code_index)
 
 module _ (s : SheetParts) (offers : List Offer) (ask : Ask) (place : ℕ) (o : Offer) (valid : IsSheet s)
     (are : AreOffers s.instruction offers)
@@ -50,20 +41,7 @@ module _ (s : SheetParts) (offers : List Offer) (ask : Ask) (place : ℕ) (o : O
   pub bid_own : (steps trim d : ℕ) (bid : BidParts) → bid.rank + place ≡ 1023
       → (b : IsTakersBid s (codes_in offers) ask.takers d steps trim bid)
       → (o.length ≡ steps * unit) × (o.assortment ≡ b.a)
-  bid_own steps trim d bid rank b =
-      let here : slice_get (codes_in offers) place ≡ Some (code_of (steps * unit) b.a) =
-      subst (λ k. slice_get (codes_in offers) k ≡ Some (code_of (steps * unit) b.a))
-      (let e : 1023 - bid.rank ≡ place = omega arith in e) b.bids.rank.at in
-      let same : code_of o.length o.assortment ≡ code_of (steps * unit) b.a =
-      same_Some (code_of o.length o.assortment) (code_of (steps * unit) b.a) (sym (code_at offers place o at) ∙ here) in
-      let low : o.assortment < 16 = are.low place o at in
-      let low' : b.a < 16 =
-      omega (
-        arith,
-        slice_get_within s.instruction.assortments b.a b.assortment b.exists,
-        valid.valid.assortments_number,
-      ) in
-      (omega arith, omega arith)
+  bid_own steps trim d bid rank b = search (rules, same_Some, code_at, slice_get_within)
 
   -- nobody bids for its logs where its assortment isn't among the takers
   pub no_taker : (IsTaker ask.takers o.assortment → ⊥) → HasNoBid s (codes_in offers) ask place
@@ -87,11 +65,7 @@ module _ (s : SheetParts) (offers : List Offer) (ask : Ask) (place : ℕ) (o : O
       (trim : IfSome (slice_get s.instruction.assortments o.assortment) (λ (x : AssortmentParts). x.trim ≡ q.trim))
       (rise : q.rise ≡ point_after unit q.trim) where
     whole : (o.length / unit * unit ≡ o.length) × (0 < o.length / unit)
-    whole =
-        let lt : place < length offers = slice_get_within offers place o at in
-        whole_length unit o.length o pos refl
-        (subst (IsWhole unit) (code_index offers place o at) (are.steps place 0 (omega (arith, codes_number offers))))
-        (are.low place o at)
+    whole = grind (arith, slice_get_within, whole_length, pos, code_index, codes_number)
 
     steps_long : q.steps * unit ≡ o.length
     steps_long = ap (λ n. n * unit) steps_is ∙ whole.0
@@ -101,13 +75,7 @@ module _ (s : SheetParts) (offers : List Offer) (ask : Ask) (place : ℕ) (o : O
 
     -- what a quote is worth at a diameter
     worth_is : (d : ℕ) → IsAsked ask d → worth_for s o.assortment o.length d ≡ (quote_bid q d).worth
-    worth_is d asked =
-        pricing.worth s d refl asked.0 asked.1
-        ∙ same p.kind q.kind (slice_index s.prices p.class) q.price (volume d o.length) (volume d q.length)
-        (sym kind) (sym price) (ap (λ n. volume d n) (sym long))
-      where
-        same : (k k' x x' v v' : ℕ) → k ≡ k' → x ≡ x' → v ≡ v' → worth_at k x v ≡ worth_at k' x' v'
-        same k k' x x' v v' e f g = rw (e, f, g) refl
+    worth_is d asked = search rules
 
     pub quote_right : IsQuoteOf s (codes_in offers) ask place q
     quote_right = record {

@@ -1,5 +1,5 @@
 -- Who takes the wood of a stem.
-use Rattle.std.proofs.Common.{◌≡◌, ℕ, ◌+◌, ◌*◌, ◌/◌, ◌<◌, ◌≤◌, ◌⊎◌, inl, inr, List, Contains, length, slice_index, refl, sym, subst, ◌∙◌, arith, mul-le-mul_left, mul-le-mul_right, add-mul}
+use Rattle.std.proofs.Common.{◌≡◌, ℕ, ◌+◌, ◌*◌, ◌/◌, ◌<◌, ◌≤◌, ◌⊎◌, inl, inr, List, Contains, length, slice_index, refl, sym, subst, ◌∙◌, arith, mul-le-mul_left, mul-le-mul_right, add-mul, rules}
 use Rattle.std.proofs.Math.Nat.{div-mul-le_self, lt-div-mul-add}
 use Rattle.std.proofs.lemmas.Bool.{cases_lt}
 use Rattle.buck_stem.specs.Stem.{StemParts, IsStem, IsGrade, grade_at, HasGrade, HasGradesOf, stem_length, diameter_at}
@@ -30,8 +30,7 @@ use Rattle.buck_dp.proofs.PartLemmas.{cells_part}
 pub mask_of : (q : ProfileParts) (stem : StemParts) (step i j mask : ℕ) → q ≡ profile_of stem step
     → IsMaskBetween q i j mask
     → IsMask stem.zones (i * step) (j * step) mask
-mask_of q stem step i j mask same is =
-    subst (λ (r : ProfileParts). IsMask r.stem.zones (i * r.«module») (j * r.«module») mask) same is
+mask_of q stem step i j mask same is = search rules
 
 module _ (p : GroundParts) where
   abbrev unit : ℕ
@@ -53,12 +52,7 @@ module _ (p : GroundParts) where
       → ((a : ℕ) → IsTaker takers a → ⊥) → k ≤ i
       → u ≤ t → IsLogAt p k t e bid → ⊥
   none_before i k u t e takers bid has none le up log =
-      let a = log.allowed in
-      let low : k * unit ≤ i * unit = mul-le-mul_right unit le in
-      let high : u * unit ≤ t * unit = mul-le-mul_right unit up in
-      let grades : HasGradesOf p.stem.zones (i * unit) (u * unit) a.assortment.grades =
-      (λ x from to. a.allows.grades x (omega (arith, log.start)) (omega (arith, log.top))) in
-      none log.log.assortment ((has log.log.assortment a.assortment a.exists).1 (a.allows.species, grades))
+      grind (arith, mul-le-mul_right, log.allowed, log.start, log.top, log.log.assortment)
 
   -- no log is longer than the longest
   pub too_long : (most k t e : ℕ) (bid : BidParts) → IsSheet p.sheet
@@ -149,19 +143,13 @@ module _ (p : GroundParts) where
 pub known_of : (q : ProfileParts) (stem : StemParts) (step : ℕ) (ds : List ℕ) → q ≡ profile_of stem step
     → ((j : ℕ) → j < grid.points_of q → slice_index ds j ≡ diameter_at q.stem.samples (j * q.«module»))
     → (j : ℕ) → j < grid.points_of (profile_of stem step) → slice_index ds j ≡ diameter_at stem.samples (j * step)
-known_of q stem step ds same known =
-    subst (λ (r : ProfileParts). (j : ℕ) → j < grid.points_of r
-    → slice_index ds j ≡ diameter_at r.stem.samples (j * r.«module»)) same known
+known_of q stem step ds same known = search rules
 
 module _ (x : Site) (is : IsSite x) where
   -- the length of the stem reaches each of its points, and these are few
   pub point_reached : (t : ℕ) → t < points_of (ground_of x)
       → (t * x.market.sheet.now.instruction.«module» ≤ stem_length x.stem.now.samples) × (t ≤ 4000)
-  point_reached t lt =
-      let m : ℕ = x.market.sheet.now.instruction.«module» in
-      let le : t * m ≤ stem_length x.stem.now.samples = point_within m t (stem_length x.stem.now.samples) lt in
-      let ten : t * 10 ≤ t * m = mul-le-mul_left t (let r = is.valid.valid.module_range in omega arith) in
-      (le, omega (arith, le, ten, is.sound.samples_number))
+  point_reached t lt = search (rules, point_within, mul-le-mul_left)
 
   -- cells of the takers of a part are a part
   pub part_offered : (ds : List ℕ) (t first stop : ℕ) (takers : Takers) (reach : Reach) (cells : List Cell)

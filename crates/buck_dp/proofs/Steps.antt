@@ -1,5 +1,5 @@
 -- Lengths in steps of the module.
-use Rattle.std.proofs.Common.{◌≡◌, ℕ, ◌*◌, ◌/◌, ◌%◌, ◌<◌, ap, inl, inr, arith, mul_comm}
+use Rattle.std.proofs.Common.{◌≡◌, ℕ, ◌*◌, ◌/◌, ◌%◌, ◌<◌, ap, inl, inr, arith, mul_comm, rules}
 use Rattle.std.proofs.Math.Nat.{div-add-mod}
 use Rattle.std.proofs.lemmas.Bool.{cases_lt}
 
@@ -9,9 +9,4 @@ whole_steps l step on = omega (arith, div-add-mod l step, mul_comm step (l / ste
 
 -- a length is at least one step
 pub one_step : (l step : ℕ) → 0 < l → l % step ≡ 0 → 0 < l / step
-one_step l step long on = elim (cases_lt 0 (l / step)) [
-  | inl lt ↦ lt
-  | inr le ↦
-      let none : l / step ≡ 0 = omega arith in
-      absurd (omega (arith, whole_steps l step on, ap (λ q. q * step) none))
-]
+one_step l step long on = search (rules, cases_lt, whole_steps)

@@ -1,5 +1,5 @@
 -- The search goes on by a top.
-use Rattle.std.proofs.Common.{◌≡◌, ◌≢◌, ℕ, zero, suc, ◌+◌, ◌-◌, ◌*◌, ◌/◌, ◌<◌, ◌≤◌, ◌⊎◌, inl, inr, List, ◌++◌, take, length, get_or, slice_get, Some, refl, sym, subst, ap, ◌∙◌, arith, mul-le-mul_right, add-mul}
+use Rattle.std.proofs.Common.{◌≡◌, ◌≢◌, ℕ, zero, suc, ◌+◌, ◌-◌, ◌*◌, ◌/◌, ◌<◌, ◌≤◌, ◌⊎◌, inl, inr, List, ◌++◌, take, length, get_or, slice_get, Some, refl, sym, subst, ap, ◌∙◌, arith, mul-le-mul_right, add-mul, rules}
 use Rattle.std.proofs.lemmas.Bool.{cases_lt, cases_order}
 use Rattle.std.proofs.lemmas.Option.{slice_get_within}
 use Rattle.buck_dp.specs.inner.Points.{GroundParts, ends_of}
@@ -21,9 +21,7 @@ falls_by : (p : GroundParts) (v : List BidParts) (ch : List ℕ) (s : ℕ) → (
     → (n k j : ℕ) → s ≤ k → k + n ≡ j → (bid_at v j).worth ≤ (bid_at v k).worth
 falls_by p v ch s settled zero k j le is = (let q : j ≡ k = omega arith in rw q (omega arith))
 falls_by p v ch s settled (suc n) k j le is =
-    let rest = falls_by p v ch s settled n (k + 1) j (omega arith) (omega arith) in
-    let here = (settled k le).falls in
-    omega arith
+    search (rules, (falls_by p v ch s settled n (k + 1) j (omega arith) (omega arith)))
 
 pub falls_to : (p : GroundParts) (v : List BidParts) (ch : List ℕ) (s k j : ℕ)
     → ((k : ℕ) → s ≤ k → IsSettled p v ch k) → s ≤ k → k ≤ j → (bid_at v j).worth ≤ (bid_at v k).worth
@@ -32,11 +30,7 @@ falls_to p v ch s k j settled low le = falls_by p v ch s settled (j - k) k j low
 -- no log bids more than its steps allow
 pub log_low : (p : GroundParts) (i j e : ℕ) (bid : BidParts) → IsSheet p.sheet → IsLogAt p i j e bid
     → bid.worth + 70000000000 * (i * p.sheet.instruction.«module») ≤ 70000000000 * (e * p.sheet.instruction.«module»)
-log_low p i j e bid s log =
-    let w = worth_low p.sheet p.stem log.log s log.allowed in
-    let le : j * p.sheet.instruction.«module» ≤ e * p.sheet.instruction.«module» =
-    mul-le-mul_right p.sheet.instruction.«module» log.order in
-    omega (arith, log.start, log.top, log.worth)
+log_low p i j e bid s log = search (rules, worth_low, mul-le-mul_right)
 
 -- a settled point stays so where nothing changes from there on
 settled_same : (p : GroundParts) (v w : List BidParts) (ch ci : List ℕ) (k : ℕ)
@@ -199,12 +193,7 @@ module _ (p : GroundParts) (valid : IsSheet p.sheet) (v w : List BidParts) (ch c
 
 -- what may lie behind the last point leaves little room
 ends_low : (p : GroundParts) → IsSheet p.sheet → IsStem p.stem → ends_of p * p.sheet.instruction.«module» ≤ 42000
-ends_low p s t =
-    let m : ℕ = p.sheet.instruction.«module» in
-    let n : ℕ = stem_length p.stem.samples in
-    let le : n / m * m ≤ n = div-mul-le_self n m in
-    let far : n ≤ 40000 = omega (arith, t.samples_number) in
-    omega (arith, s.valid.module_range, add-mul (n / m) 2 m)
+ends_low p s t = omega arith
 
 module _ (p : GroundParts) (valid : IsSheet p.sheet) (sound : IsStem p.stem) (v : List BidParts) (ch : List ℕ)
     (t first stop : ℕ) (cells : List Cell)
@@ -239,8 +228,7 @@ module _ (p : GroundParts) (valid : IsSheet p.sheet) (sound : IsStem p.stem) (v 
     -- what reached the values reaches them still
     reaches_still : (i : ℕ) (bid : BidParts) → Reaches v i bid → Reaches w i bid
     reaches_still i bid (inl at) = inl (IsAtMost-trans bid (bid_at v i) (bid_at w i) at (offered.kept i))
-    reaches_still i bid (inr o) =
-        inr (o.0, o.1, omega (arith, o.2, worth_at_most (bid_at v o.0) (bid_at w o.0) (offered.kept o.0)))
+    reaches_still i bid (inr o) = search (rules, worth_at_most)
 
     -- a log that a cell serves reaches the values
     reached_here : (i e : ℕ) (bid : BidParts) → IsServed cells t first stop i e bid

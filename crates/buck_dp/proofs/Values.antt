@@ -1,6 +1,6 @@
 -- Searched values give the best from each point on, and following their choices from the butt gives the first best
 -- cutting.
-use Rattle.std.proofs.Common.{◌≡◌, ℕ, zero, suc, ◌+◌, ◌-◌, ◌*◌, ◌<◌, ◌≤◌, inl, inr, List, [], ◌∷◌, ◌++◌, length, get_or, slice_index, append_assoc, refl, sym, ◌∙◌, subst, ap, arith, add-mul, mul-le-mul_right}
+use Rattle.std.proofs.Common.{◌≡◌, ℕ, zero, suc, ◌+◌, ◌-◌, ◌*◌, ◌<◌, ◌≤◌, inl, inr, List, [], ◌∷◌, ◌++◌, length, get_or, slice_index, append_assoc, refl, sym, ◌∙◌, subst, ap, arith, add-mul, mul-le-mul_right, rules}
 use Rattle.std.proofs.lemmas.Bool.{cases_lt}
 use Rattle.std.proofs.lemmas.List.{append-nil, get_or_past}
 use Rattle.std.proofs.lemmas.List.Sums.{sum_by-cons}
@@ -34,15 +34,7 @@ starts_before Allowed ends from g more (h ∷ hs) lt c = inl (inl (omega (arith,
 -- past the last point nothing can be cut
 nothing_past : (p : GroundParts) (n : ℕ) → points_of p ≤ n → IsSheet p.sheet
     → IsTopAt p (n * p.sheet.instruction.«module») []
-nothing_past p n past s =
-    let m : ℕ = p.sheet.instruction.«module» in
-    let pos : 0 < m = module_pos p.sheet.instruction s.valid in
-    nothing_top (IsAllowed p.sheet.instruction p.stem) (end_of p.sheet.instruction) (worth_of p.sheet p.stem) (n * m)
-    (λ d le a.
-    let within : end_of p.sheet.instruction d ≤ stem_length p.stem.samples =
-    end_within p.sheet.instruction p.stem d a in
-    let far : points_of p * m ≤ n * m = mul-le-mul_right m past in
-    past_top m (stem_length p.stem.samples) d.start pos (omega arith) (omega arith))
+nothing_past p n past s = search (rules, module_pos, nothing_top, end_within, mul-le-mul_right, past_top)
 
 module _ (p : GroundParts) (s : IsSheet p.sheet) (codes : AreCodes p.sheet.instruction p.codes) where
   abbrev unit : ℕ
@@ -70,16 +62,7 @@ module _ (p : GroundParts) (s : IsSheet p.sheet) (codes : AreCodes p.sheet.instr
   -- a list that starts before a place is no worse than those cut from there on that are worth no more
   no_worse_later : (from : ℕ) (g : Log) (more gs hs : List Log) → g.start < from → IsTopAt p from gs
       → sum_of p gs ≤ sum_of p (g ∷ more) → IsCutAt p from hs → IsNoWorseIn p (g ∷ more) hs
-  no_worse_later from g more gs hs lt t le c =
-      let first : IsNoWorseIn p (g ∷ more) gs = elim (cases_lt (sum_of p gs) (sum_of p (g ∷ more))) [
-        | inl less ↦ inl less
-        | inr same ↦
-            inr (
-              omega arith,
-              starts_before (IsAllowed p.sheet.instruction p.stem) (end_of p.sheet.instruction) from g more gs lt t.cut,
-            )
-      ] in
-      IsNoWorse-trans (worth_of p.sheet p.stem) (g ∷ more) gs hs first (t.top hs c)
+  no_worse_later from g more gs hs lt t le c = search (rules, cases_lt, sum_of, starts_before, IsNoWorse-trans)
 
   -- of the logs of one point that bring as much, the one of the highest mark is first
   no_worse_here : (mark : ℕ) (g d : Log) (more : List Log)
@@ -275,7 +258,4 @@ walk_end p n logs past s any = subst (λ gs. IsTopAt p 0 gs) (append-nil logs) (
 -- where no log is allowed, the first of the best cuttings is empty
 pub nothing_first : (sheet : SheetParts) (stem : StemParts) → ((g : Log) → IsAllowed sheet.instruction stem g → ⊥)
     → IsFirstBest sheet stem []
-nothing_first sheet stem none =
-    top_is_first_best sheet stem []
-    (nothing_top (IsAllowed sheet.instruction stem) (end_of sheet.instruction) (worth_of sheet stem) 0
-    (λ d le a. none d a))
+nothing_first sheet stem none = search (rules, top_is_first_best, nothing_top)

@@ -1,5 +1,5 @@
 -- Following the values from the butt.
-use Rattle.std.proofs.Common.{◌≡◌, ◌≢◌, ℕ, zero, suc, ◌<◌, inl, inr, List, [], ◌∷◌, ◌++◌, length, get_or, sum_by, refl, sym, arith}
+use Rattle.std.proofs.Common.{◌≡◌, ◌≢◌, ℕ, zero, suc, ◌<◌, inl, inr, List, [], ◌∷◌, ◌++◌, length, get_or, sum_by, refl, sym, arith, rules}
 use Rattle.buck_value.specs.declared.log.Log.{Log}
 use Rattle.buck_value.specs.Allowed.{IsAllowed, worth_of, end_of}
 use Rattle.buck_stem.specs.Stem.{StemParts}
@@ -30,26 +30,14 @@ module _ (sheet : SheetParts) (stem : StemParts) where
   pub top_is_first_best : (logs : List Log)
       → IsTop (IsAllowed sheet.instruction stem) (end_of sheet.instruction) (worth_of sheet stem) 0 logs
       → IsFirstBest sheet stem logs
-  top_is_first_best logs t = record {
-    best = record {
-      admissible = t.cut;
-      none_outvalues = λ others c. elim (t.top others c) [ inl p ↦ omega arith | inr p ↦ omega arith ];
-    };
-    first = λ others b other. elim (t.top others b.admissible) [
-      | inl p ↦ absurd (omega (arith, b.none_outvalues logs t.cut))
-      | inr p ↦ at_or_before_cases logs others p.1 other
-    ];
-  }
+  top_is_first_best logs t = search (rules, at_or_before_cases)
 
   -- two best lists are worth the same
   pub same_worth : (from : ℕ) (gs hs : List Log)
       → IsTop (IsAllowed sheet.instruction stem) (end_of sheet.instruction) (worth_of sheet stem) from gs
       → IsTop (IsAllowed sheet.instruction stem) (end_of sheet.instruction) (worth_of sheet stem) from hs
       → sum_by (worth_of sheet stem) gs ≡ sum_by (worth_of sheet stem) hs
-  same_worth from gs hs t u = elim (t.top hs u.cut) [
-    | inr p ↦ sym p.0
-    | inl p ↦ elim (u.top gs t.cut) [ inl q ↦ absurd (omega arith) | inr q ↦ q.0 ]
-  ]
+  same_worth from gs hs t u = omega arith
 
   -- each log of an admissible list is allowed
   pub cut_each : (from k : ℕ) (gs : List Log) (d : Log) → k < length gs
