@@ -90,32 +90,10 @@ module _ (cells : List Cell) (top first stop far base : ℕ) (v : List BidParts)
     offered_back = record {
       number = omega
           (arith, length-append (take base v) w, length-take-le base v inside, length-drop base v, offered.number);
-      kept = λ k. elim (cases_lt k base) [
-        | inl before ↦ subst (λ x. IsAtMost (bid_at v k) x) (sym (same_before k before)) (IsAtMost-refl (bid_at v k))
-        | inr after ↦
-            subst (λ x. IsAtMost (bid_at v k) x) (sym (now_at k after))
-            (subst (λ x. IsAtMost x (bid_at w (k - base))) (before_at k after) (offered.kept (k - base)))
-      ];
+      kept = search (rules, cases_lt, same_before, IsAtMost-refl, now_at, before_at);
       done = λ k c lt at near i sum.
           subst (λ x. IsAtMost (plus c.bid (bid_at v (top + c.rise))) x)
           (sym (now_at i (omega (arith, (back k c at).0))))
-          (subst (λ x. IsAtMost (plus c.bid x) (bid_at w (i - base))) (rest_at c.rise)
-          (offered.done k c lt at (omega (arith, (back k c at).0), omega (arith, late k c at)) (i - base)
-          (omega (arith, (back k c at).0))));
-      one = λ i. elim (cases_lt i base) [
-        | inl before ↦ inl (same_before i before)
-        | inr after ↦ elim (offered.one (i - base)) [
-          | inl same ↦ inl (now_at i after ∙ same ∙ before_at i after)
-          | inr o ↦
-              inr (
-                o.0,
-                o.1,
-                o.2,
-                near_all o.0 o.1 o.2,
-                omega (arith, o.4),
-                now_at i after ∙ o.5
-                    ∙ ap (λ x. plus o.1.bid x) (rest_at o.1.rise),
-              )
-        ]
-      ];
+          (search (rules, rest_at));
+      one = λ i. search (rules, cases_lt, same_before, now_at, before_at, near_all, rest_at);
     }

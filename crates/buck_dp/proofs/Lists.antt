@@ -26,12 +26,8 @@ pub at_most_80 : (sheet : SheetParts) (stem : StemParts) (logs : List Log) → I
 at_most_80 sheet stem logs s t c =
     let h : sum_by (λ _. 500) logs + 1 * 0 ≤ 1 * stem_length stem.samples =
     worth_within (IsAllowed sheet.instruction stem) (end_of sheet.instruction) (λ _. 500) 1 (stem_length stem.samples)
-    (λ d a. (
-      let low = allowed_low sheet.instruction stem d s.valid a in omega (arith, low.0),
-      end_within sheet.instruction stem d a,
-    )) 0 logs (omega arith) c in
-    let n : stem_length stem.samples ≤ 40000 = omega (arith, t.samples_number) in
-    omega (arith, sum_each_500 logs)
+    (grind (arith, allowed_low, end_within, sheet.instruction, s.valid)) 0 logs (omega arith) c in
+    search (rules, sum_each_500)
 
 pub worth_bounded : (sheet : SheetParts) (stem : StemParts) (logs : List Log) → IsSheet sheet → IsStem stem
     → IsAdmissible sheet stem logs → cutting_worth sheet stem logs ≤ 2800000000000000

@@ -84,9 +84,7 @@ module _ (p : GroundParts) (valid : IsSheet p.sheet) where
       × IsLogAt p i j (point_after unit (end_of p.sheet.instruction g)) (bid_of (worth_of p.sheet p.stem g) mark)
   log_there i mark g at a marked =
       let n : ℕ = g.length / unit in
-      let on : g.length % unit ≡ 0 =
-      on_module p.sheet.instruction g.assortment a.assortment g.length valid.valid a.exists
-      a.allows.length_offered in
+      let on : g.length % unit ≡ 0 = search (rules, on_module) in
       let low = allowed_low p.sheet.instruction p.stem g valid.valid a in
       let some : 0 < n = one_step g.length unit (omega (arith, low.0)) on in
       let top : top_of g ≡ (i + n) * unit = omega (arith, at, whole_steps g.length unit on, add-mul i n unit) in (
@@ -122,7 +120,7 @@ module _ (p : GroundParts) (valid : IsSheet p.sheet) where
   log_coded i j e bid l =
       let low : l.log.assortment < 16 = assortment_low p.sheet.instruction p.stem l.log valid.valid l.allowed in (
         1023 - bid.rank,
-        mark_place p.codes l.log bid.rank l.rank,
+        search (rules, mark_place),
         omega (arith, l.start, l.top, mark_code p.codes l.log bid.rank l.rank),
       )
 

@@ -44,15 +44,7 @@ pub mark_found : (i : InstructionParts) (stem : StemParts) (codes : List ℕ) (g
     → (mark : ℕ) × HasMark codes g mark
 mark_found i stem codes g c a =
     let found = c.whole g.assortment a.assortment g.length a.exists a.allows.length_offered in
-    let place : 1023 - (1023 - found.0) ≡ found.0 = omega (arith, found.1, c.few) in (
-      1023 - found.0,
-      record {
-        high = omega arith;
-        at = ap (λ k. slice_get codes k) place
-            ∙ slice_get-get_or codes found.0 (code_of g.length g.assortment) found.1
-            ∙ ap Some found.2;
-      },
-    )
+    let place : 1023 - (1023 - found.0) ≡ found.0 = omega (arith, found.1, c.few) in search (rules, slice_get-get_or)
 
 -- of two logs that start at one place, the one of the higher mark is before the other
 pub marks_before : (i : InstructionParts) (codes : List ℕ) (g h : Log) (mark less : ℕ)
@@ -64,11 +56,8 @@ pub marks_before : (i : InstructionParts) (codes : List ℕ) (g h : Log) (mark l
     → IsLogBefore g h
 marks_before i codes g h mark less c m n lt at low low' =
     let rise : get_or codes (1023 - mark) 0 < get_or codes (1023 - less) 0 =
-    AllPairs-from_increasing codes c.rise (1023 - mark) (1023 - less) 0
-    (omega (arith, m.high)) (mark_place codes h less n) in
-    let this : get_or codes (1023 - mark) 0 ≡ code_of g.length g.assortment = mark_code codes g mark m in
-    let that : get_or codes (1023 - less) 0 ≡ code_of h.length h.assortment = mark_code codes h less n in
-    inr (at, code_order g.length g.assortment h.length h.assortment low low' (omega arith))
+    search (rules, AllPairs-from_increasing, mark_place) in
+    search (rules, mark_code, code_order)
 
 -- and two logs of one mark are the same
 pub marks_same : (codes : List ℕ) (g h : Log) (mark other : ℕ)

@@ -85,8 +85,7 @@ module _ (Allowed : Log → Type 0) (end_of worth_of : Log → ℕ) where
       → IsTop Allowed end_of worth_of from (g ∷ rest)
   IsTop-rest from g gs rest t r = record {
     cut = (t.cut.0, t.cut.1, r.cut);
-    top = λ hs c. IsNoWorse-trans worth_of (g ∷ rest) (g ∷ gs) hs (IsNoWorse-cons worth_of g rest gs (r.top gs t.cut.2))
-        (t.top hs c);
+    top = search (rules, IsNoWorse-trans, IsNoWorse-cons);
   }
 
   -- worths are bounded by the length that is cut
@@ -97,7 +96,4 @@ module _ (Allowed : Log → Type 0) (end_of worth_of : Log → ℕ) where
   worth_within rate total bound from [] le c = omega (arith, mul-le-mul_left rate le)
   worth_within rate total bound from (g ∷ gs) le c =
       let b : (worth_of g + rate * g.start ≤ rate * end_of g) × (end_of g ≤ total) = bound g c.1 in
-      let h : sum_by worth_of gs + rate * end_of g ≤ rate * total =
-      worth_within rate total bound (end_of g) gs b.1 c.2 in
-      let k : rate * from ≤ rate * g.start = mul-le-mul_left rate c.0 in
-      omega (arith, sum_by-cons worth_of g gs)
+      search (rules, mul-le-mul_left, sum_by-cons, (worth_within rate total bound (end_of g) gs b.1 c.2))

@@ -37,8 +37,7 @@ module _ (p : GroundParts) (valid : IsSheet p.sheet) where
         → IsLogAt p k t (t + point_after unit trim) bid
     bid_log i k steps trim bid low high le is room b =
         let h = (here i low high b.a b.assortment b.exists).0 b.taker in
-        let takes : Takes p.sheet p.stem (i * unit) (t * unit) trim b.a =
-        record { assortment = b.assortment; exists = b.exists; species = h.0; grades = h.1; own = b.own } in
+        let takes : Takes p.sheet p.stem (i * unit) (t * unit) trim b.a = search rules in
         quote_log p valid diameters known k t b.a steps trim bid (omega (arith, b.some)) (omega arith) is
         (takes_less p valid i k t trim b.a le takes) b.bids
 
@@ -48,8 +47,7 @@ module _ (p : GroundParts) (valid : IsSheet p.sheet) where
         × IsTakersBid p.sheet p.codes takers (slice_index diameters t) (t - i) trim bid
     log_bid_of i e bid low high log =
         let trim : ℕ = trim_of p.sheet.instruction log.log in
-        let takes : Takes p.sheet p.stem (i * unit) (t * unit) trim log.log.assortment =
-        log_takes p valid i t e bid log in
+        let takes : Takes p.sheet p.stem (i * unit) (t * unit) trim log.log.assortment = search (rules, log_takes) in
         let fit : t * unit + trim ≤ stem_length p.stem.samples = log_fits p valid i t e bid log in
         let room : takes.assortment.trim ≤ reach.room =
         whole log.log.assortment takes.assortment takes.exists (omega (arith, fit, takes.own)) in (

@@ -106,13 +106,7 @@ module _ (s : SheetParts) (offers : List Offer) (ask : Ask) (place : ℕ) (o : O
       rank = rank;
       only = λ steps trim d bid asked rank' b.
           let own = bid_own steps trim d bid rank' b in
-          let worth : bid.worth ≡ (quote_bid q d).worth =
-          b.bids.worth ∙ ap (λ n. worth_for s b.a n d) (sym own.0) ∙ ap (λ a. worth_for s a o.length d) (sym own.1)
-          ∙ worth_is d asked in (
-            steps_is ∙ ap (λ n. n / unit) own.0 ∙ mul-div_left steps pos,
-            sym (trim_at b.assortment (ap (λ a. slice_get s.instruction.assortments a) own.1 ∙ b.exists)) ∙ b.own,
-            same_bid bid (quote_bid q d) worth (omega arith),
-          );
+          search (rules, worth_is, mul-div_left, pos, trim_at, same_bid);
     }
 
 -- the term of an offer is its quote under each sheet of the instruction
@@ -129,11 +123,9 @@ term_right i offers ask place o p t are at taker pricing short class kind rank l
   quotes = λ s valid is.
       quote_right s offers ask place o valid (subst (λ (j : InstructionParts). AreOffers j offers) (sym is) are) at p
       (priced_at t.quote (slice_index s.prices t.class)) taker
-      (subst (λ (j : InstructionParts). IsPricing j o.assortment o.length ask.band.thinnest ask.band.past p) (sym is)
-      pricing) short kind
+      (search rules) short kind
       (ap (λ n. slice_index s.prices n) class) (price-le s t.class valid) rank long
       (subst (λ (j : InstructionParts). t.quote.steps ≡ o.length / j.«module») (sym is) steps)
-      (subst (λ (j : InstructionParts). IfSome (slice_get j.assortments o.assortment)
-      (λ (x : AssortmentParts). x.trim ≡ t.quote.trim)) (sym is) trim)
+      (search rules)
       (subst (λ (j : InstructionParts). t.quote.rise ≡ point_after j.«module» t.quote.trim) (sym is) rise);
 }

@@ -1,5 +1,5 @@
 -- Price lists that grow, and rows drawn from them.
-use Rattle.std.proofs.Common.{◌≡◌, ℕ, ◌+◌, ◌-◌, ◌*◌, ◌<◌, ◌≤◌, ◌⊎◌, inl, inr, List, [], ◌∷◌, ◌++◌, Option, IfSome, IfNone, length, length-append, take, get_or, slice_get, slice_set, zero, suc, Some, None, refl, sym, subst, ap, ◌∙◌, append_assoc, arith, mul-le-mul_right, add-mul}
+use Rattle.std.proofs.Common.{◌≡◌, ℕ, ◌+◌, ◌-◌, ◌*◌, ◌<◌, ◌≤◌, ◌⊎◌, inl, inr, List, [], ◌∷◌, ◌++◌, Option, IfSome, IfNone, length, length-append, take, get_or, slice_get, slice_set, zero, suc, Some, None, refl, sym, subst, ap, ◌∙◌, append_assoc, arith, mul-le-mul_right, add-mul, rules}
 use Rattle.std.proofs.lemmas.Bool.{cases_lt}
 use Rattle.std.proofs.lemmas.Option.{none-some, same_Some, slice_get_within, slice_get-get_or, get_or_from_slice_get}
 use Rattle.std.specs.List.Sorted.{IsStrictlyIncreasing}
@@ -36,15 +36,7 @@ falls_push {X} of xs x was last j k a b le here there =
 -- an offer for which nobody bids leaves a list right
 pub quotes_skip : (s : SheetParts) (codes : List ℕ) (ask : Ask) (n : ℕ) (list : List Quote) → HasNoBid s codes ask n
     → AreQuotes s codes ask n list → AreQuotes s codes ask (n + 1) list
-quotes_skip s codes ask n list none was = record {
-  real = was.real;
-  early = λ k q at. omega (arith, was.early k q at);
-  order = was.order;
-  met = λ steps trim d bid asked past b. elim (cases_lt 1023 (bid.rank + n)) [
-    | inl before ↦ was.met steps trim d bid asked before b
-    | inr at ↦ absurd (none steps trim d bid asked (omega arith) b)
-  ];
-}
+quotes_skip s codes ask n list none was = grind (arith, cases_lt, was.real, was.early, was.order, was.met)
 
 -- what a quote meets, one that is over it meets
 over_quoted : (list : List Quote) (k : ℕ) (p q : Quote) (ask : Ask) (d steps trim : ℕ) (bid : BidParts)
@@ -52,23 +44,7 @@ over_quoted : (list : List Quote) (k : ℕ) (p q : Quote) (ask : Ask) (d steps t
     → IsOver ask p q → IsAsked ask d
     → ((q.steps ≡ steps) × IsAtMost bid (quote_bid q d)) ⊎ ((q.steps < steps) × (bid.worth < (quote_bid q d).worth))
     → q.trim ≤ trim → IsQuoted list d steps trim bid
-over_quoted list k p q ask d steps trim bid there over le meets trims =
-    let more = over.more d le in
-    record {
-      place = k;
-      quote = p;
-      there = there;
-      meets = elim meets [
-        | inl same ↦
-            let most = worth_at_most bid (quote_bid q d) same.1 in
-            elim (cases_lt p.steps steps) [
-              | inl less ↦ inr (less, omega (arith, most, more))
-              | inr even ↦ inl (omega (arith, even, over.steps, same.0), inl (omega (arith, most, more)))
-            ]
-        | inr less ↦ inr (omega (arith, over.steps, less.0), omega (arith, less.1, more))
-      ];
-      trims = omega (arith, over.trim, trims);
-    }
+over_quoted list k p q ask d steps trim bid there over le meets trims = search (rules, worth_at_most, cases_lt)
 
 -- what is left of a list where a quote is put behind it: all but what the quote is over
 pub record IsCleared (ask : Ask) (q : Quote) (list rest : List Quote) : Type 0 where
@@ -109,19 +85,7 @@ module _ (s : SheetParts) (codes : List ℕ) (ask : Ask) (n : ℕ) (list : List 
 
     leader_more : (p : Quote) → IsLeader ask list p → IsLeader ask (rest ++ q ∷ []) p
     leader_more p (inl nobody) = inl nobody
-    leader_more p (inr there) = inr (λ x over. let t = there x over in elim (clear.lost t.0 t.1 t.2) [
-      | inl at ↦ (t.0, t.1, kept_at rest q t.1 t.0 at, t.3)
-      | inr better ↦ (
-        length rest,
-        q,
-        last_there,
-        record {
-          steps = omega (arith, better.steps, t.3.steps);
-          trim = omega (arith, better.trim, t.3.trim);
-          more = λ d le. omega (arith, better.more d le, t.3.more d le);
-        },
-      )
-    ])
+    leader_more p (inr there) = inr (λ x over. let t = there x over in search (rules, kept_at, last_there))
 
     -- or put behind what is left of it
     quotes_push : AreQuotes s codes ask (n + 1) (rest ++ q ∷ [])
@@ -170,22 +134,13 @@ pub record IsListSoFar (s : SheetParts) (codes : List ℕ) (ask : Ask) (n : ℕ)
 -- so with nothing in it yet
 pub list_none : (s : SheetParts) (codes : List ℕ) (ask : Ask) → IsListSoFar s codes ask 0 []
     (record { kind = 0; price = 0; rank = 0; length = 0; steps = 0; trim = 4294967295; rise = 0 })
-list_none s codes ask = record {
-  quotes = record {
-    real = λ k q at. absurd (none-some q at);
-    early = λ k q at. absurd (none-some q at);
-    order = λ j k a b le at. absurd (none-some a at);
-    met = λ steps trim d bid asked past b. absurd (omega (arith, past, b.bids.rank.high));
-  };
-  leads = inl (λ d. refl);
-}
+list_none s codes ask = search (rules, none-some)
 
 -- so with one more, unless the leader is over it
 pub list_cut : (s : SheetParts) (codes : List ℕ) (ask : Ask) (n : ℕ) (list : List Quote) (p q : Quote)
     → IsQuoteOf s codes ask n q → IsOver ask p q → IsListSoFar s codes ask n list p
     → IsListSoFar s codes ask (n + 1) list p
-list_cut s codes ask n list p q is over was =
-    record { quotes = quotes_cut s codes ask n list q is was.quotes p was.leads over; leads = was.leads }
+list_cut s codes ask n list p q is over was = search (rules, quotes_cut)
 
 pub list_put : (s : SheetParts) (codes : List ℕ) (ask : Ask) (n : ℕ) (list rest : List Quote) (p l q : Quote)
     → IsQuoteOf s codes ask n q
@@ -213,8 +168,7 @@ behind_at start list k x le at =
 put_after : (ask : Ask) (q : Quote) (start list new : List Quote)
     → IsPut ask q (length start) (start ++ list) new
     → (rest : List Quote) × IsCleared ask q list rest × (new ≡ start ++ (rest ++ q ∷ []))
-put_after ask q start list new (inl pushed) =
-    (list, record { kept = λ k x at. at; lost = λ k x at. inl at }, pushed ∙ append_assoc start list (q ∷ []))
+put_after ask q start list new (inl pushed) = search (rules, append_assoc)
 put_after ask q start list new (inr (x, some, at, over, set)) =
     let m : ℕ = length list - 1 in
     let long = length-append start list in
@@ -273,32 +227,18 @@ terms_put i codes ask n terms term some none was =
 
 -- a row with the cells of no quotes
 pub drawn_none : (quotes : List Quote) (d : ℕ) (reach : Reach) → IsDrawn quotes d reach 0 []
-drawn_none quotes d reach = record {
-  real = λ k c at. absurd (none-some c at);
-  met = λ k q lt. absurd (omega (arith, lt));
-  early = λ j k c q falls le here. absurd (none-some c here);
-  order = λ falls j k a b le here. absurd (none-some a here);
-}
+drawn_none quotes d reach = search (rules, none-some)
 
 module _ (quotes : List Quote) (d : ℕ) (reach : Reach) (n : ℕ) (row : List Cell) (q : Quote)
     (at : slice_get quotes n ≡ Some q)
     (was : IsDrawn quotes d reach n row) where
   -- the quote at the next place
   next_is : (k : ℕ) (x : Quote) → n ≤ k → k < n + 1 → slice_get quotes k ≡ Some x → q ≡ x
-  next_is k x le lt there =
-      same_Some q x (sym at ∙ ap (λ m. slice_get quotes m) (let e : n ≡ k = omega arith in e) ∙ there)
+  next_is k x le lt there = search (rules, same_Some)
 
   -- a row with the cells of one quote more, which is not within reach
   pub drawn_skip : (IsWithin reach q → ⊥) → IsDrawn quotes d reach (n + 1) row
-  drawn_skip out = record {
-    real = was.real;
-    early = λ j k c x falls le. was.early j k c x falls (omega (arith, le));
-    order = was.order;
-    met = λ k x lt there within. elim (cases_lt k n) [
-      | inl before ↦ was.met k x before there within
-      | inr here ↦ absurd (out (subst (λ y. IsWithin reach y) (sym (next_is k x here lt there)) within))
-    ];
-  }
+  drawn_skip out = search (rules, cases_lt, next_is)
 
   -- or is
   pub drawn_push : IsWithin reach q → IsDrawn quotes d reach (n + 1) (row ++ cell_of reach q d ∷ [])
@@ -361,14 +301,7 @@ drawn_all quotes d reach = up_to (length quotes) (omega arith)
 -- each bid of a taker has the rank of an offer
 pub rank_offered : (s : SheetParts) (offers : List Offer) (takers : Takers) (d steps trim : ℕ) (bid : BidParts)
     → IsTakersBid s (codes_in offers) takers d steps trim bid → 1023 < bid.rank + length offers
-rank_offered s offers takers d steps trim bid b =
-    omega (
-      arith,
-      codes_number offers,
-      b.bids.rank.high,
-      slice_get_within (codes_in offers) (1023 - bid.rank) (code_of (steps * s.instruction.«module») b.a)
-          b.bids.rank.at,
-    )
+rank_offered s offers takers d steps trim bid b = search (rules, codes_number, slice_get_within)
 
 -- of two cells the one of the lower rank is for logs that are no shorter
 no_shorter : (s : SheetParts) (codes : List ℕ) (takers : Takers) (d : ℕ) (reach : Reach) (a b : Cell) → IsSheet s

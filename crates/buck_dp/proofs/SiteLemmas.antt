@@ -42,10 +42,7 @@ module _ (p : GroundParts) where
       → HasTakers p takers i t
   kind_takers i t kind takers sound species mask are = λ a x at.
       let both = are a x at in
-      let grades = mask_allows p.stem (i * unit) (t * unit) kind.grades x.grades sound mask in (
-        λ marked. (let w = both.0 marked in (w.0 ∙ species, grades.0 w.1)),
-        λ takes. both.1 (takes.0 ∙ sym species, grades.1 takes.1),
-      )
+      let grades = mask_allows p.stem (i * unit) (t * unit) kind.grades x.grades sound mask in search rules
 
   -- where nobody takes the wood from a start to a top, no log with that top or a later one starts there or before
   pub none_before : (i k u t e : ℕ) (takers : Takers) (bid : BidParts) → HasTakers p takers i u
@@ -165,10 +162,7 @@ module _ (x : Site) (is : IsSite x) where
       → IsPart (ground_of x) t first stop cells
   part_offered ds t first stop takers reach cells known past far here fits room are =
       cells_part (ground_of x) is.valid ds known t first stop takers reach cells past far here fits
-      (λ a y at le. elim room [
-        | inl most ↦ omega (arith, most, is.menu.trims a y at)
-        | inr left ↦ omega arith
-      ])
+      (search rules)
       are
 
   -- so are those of a row that is kept
@@ -183,6 +177,4 @@ module _ (x : Site) (is : IsSite x) where
         | inr le ↦ omega (arith, le)
         | inl lt ↦ absurd (too_long (ground_of x) x.market.menu.now.most_steps i t e bid is.valid is.menu.long lt log)
       ]) here (is.fit t fit) (inl refl)
-      (subst (λ (n : ℕ). AreCells x.market.sheet.now (codes_in x.market.menu.now.offers.items) takers n
-      (all_of x.market.menu.now) cells)
-      (sym at.is) are)
+      (search rules)

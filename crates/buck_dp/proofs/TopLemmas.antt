@@ -50,13 +50,7 @@ settled_same p v w ch ci k same choice was =
             | inl less ↦ inl (omega arith)
             | inr even ↦ inr (omega (arith, even.0), omega (arith, even.1))
           ];
-      one = elim was.one [
-        | inl skip ↦ inl (omega (arith, skip.0), omega (arith, skip.1))
-        | inr o ↦
-            let there : (bid_at w o.1).worth ≡ (bid_at v o.1).worth =
-            ap (λ b. b.worth) (same o.1 (omega (arith, o.3.later, o.3.order))) in
-            inr (o.0, o.1, o.2, o.3, omega (arith, o.4), choice ∙ o.5)
-      ];
+      one = search rules;
     }
 
 module _ (p : GroundParts) (valid : IsSheet p.sheet) (v w : List BidParts) (ch ci : List ℕ) (t : ℕ)
@@ -78,20 +72,15 @@ module _ (p : GroundParts) (valid : IsSheet p.sheet) (v w : List BidParts) (ch c
 
   worth_more : (k : ℕ) → (bid_at v k).worth ≤ (bid_at w k).worth
   worth_more k = elim (cases_order k t) [
-    | inl e ↦
-        subst (λ (n : ℕ). (bid_at v n).worth ≤ (bid_at w n).worth) (sym e)
-        (worth_at_most (bid_at v t) value (greater_first (bid_at v t) (bid_at v (t + 1)) value greater))
-    | inr o ↦
-        (let e : (bid_at w k).worth ≡ (bid_at v k).worth =
-        ap (λ b. b.worth) (others k (λ e. elim o [ inl a ↦ omega arith | inr a ↦ omega arith ])) in omega arith)
+    | inl e ↦ search (rules, worth_at_most, greater_first)
+    | inr o ↦ search rules
   ]
 
   -- the point itself
   here_settled : IsSettled p w ci t
   here_settled = record {
     even = even;
-    falls = (let e : (bid_at w (t + 1)).worth ≡ (bid_at v (t + 1)).worth =
-        ap (λ b. b.worth) (later_same (t + 1) (omega arith)) in omega (arith, next_less));
+    falls = search (rules, later_same, next_less);
     each = λ j e bid log.
         let same : bid_at w e ≡ bid_at v e = later_same e (omega (arith, log.later, log.order)) in
         subst (λ x. IsAtMost (plus bid x) value) (sym same)
@@ -105,8 +94,7 @@ module _ (p : GroundParts) (valid : IsSheet p.sheet) (v w : List BidParts) (ch c
               inl (omega (arith, o.2, next_less))
         ]);
     one =
-        let after : (bid_at w (t + 1)).worth ≡ (bid_at v (t + 1)).worth =
-        ap (λ b. b.worth) (later_same (t + 1) (omega arith)) in
+        let after : (bid_at w (t + 1)).worth ≡ (bid_at v (t + 1)).worth = search (rules, later_same) in
         elim greater [
           | inl g ↦
               let worth : (bid_at w t).worth ≡ (bid_at v t).worth = ap (λ b. b.worth) g.0 in
@@ -124,10 +112,7 @@ module _ (p : GroundParts) (valid : IsSheet p.sheet) (v w : List BidParts) (ch c
                     ap (λ b. b.worth) (later_same o.1 (omega (arith, o.4.later, o.4.order))) in
                     inr (o.0, o.1, o.2, o.4, omega arith, omega arith)
               ]
-          | inr g ↦
-              let worth : (bid_at w t).worth ≡ (bid_at v (t + 1)).worth = ap (λ b. b.worth) g.0 in
-              let rank : get_or ci t 0 ≡ (bid_at v (t + 1)).rank = ap (λ b. b.rank) g.0 in
-              inl (omega arith, rank ∙ (was.settled (t + 1) (omega arith)).even)
+          | inr g ↦ search rules
         ];
   }
 
@@ -136,10 +121,7 @@ module _ (p : GroundParts) (valid : IsSheet p.sheet) (v w : List BidParts) (ch c
       let m : ℕ = p.sheet.instruction.«module» in
       let up : t * m ≤ (t + 1) * m = mul-le-mul_right m (omega arith) in
       elim here_settled.one [
-        | inl skip ↦
-            let after : (bid_at w (t + 1)).worth ≡ (bid_at v (t + 1)).worth =
-            ap (λ b. b.worth) (later_same (t + 1) (omega arith)) in
-            omega (arith, skip.0, was.low (t + 1) (omega arith) was.within)
+        | inl skip ↦ search (rules, later_same)
         | inr o ↦
             let rest : (bid_at w o.1).worth ≡ (bid_at v o.1).worth =
             ap (λ b. b.worth) (later_same o.1 (omega (arith, o.3.later, o.3.order))) in
@@ -157,11 +139,7 @@ module _ (p : GroundParts) (valid : IsSheet p.sheet) (v w : List BidParts) (ch c
     number = number ∙ was.number;
     room = room ∙ was.room;
     within = omega (arith, was.within);
-    low = λ k le lt. elim (cases_lt t k) [
-      | inl later ↦
-          subst (λ b. IsLow p k b.worth) (sym (later_same k later)) (was.low k (omega arith) lt)
-      | inr here ↦ subst (λ n. IsLow p n (bid_at w n).worth) (let e : t ≡ k = omega arith in e) here_low
-    ];
+    low = search (rules, cases_lt, later_same, here_low);
     settled = λ k le. elim (cases_lt t k) [
       | inl later ↦
           settled_same p v w ch ci k (λ n far. later_same n (omega arith)) (other_choices k (λ e. omega arith))
@@ -176,19 +154,7 @@ module _ (p : GroundParts) (valid : IsSheet p.sheet) (v w : List BidParts) (ch c
           | inl at ↦ inl (subst (λ x. IsAtMost (plus bid (bid_at v e)) x) (sym (others i (λ e. omega arith))) at)
           | inr o ↦ inr (o.0, o.1, omega (arith, o.2, worth_more o.0))
         ]);
-    one = λ i lt. elim (was.one i (omega arith)) [
-      | inl nothing ↦ inl (others i (λ e. omega arith) ∙ nothing)
-      | inr o ↦
-          inr (
-            o.0,
-            o.1,
-            o.2,
-            omega (arith, o.3),
-            o.4,
-            others i (λ e. omega arith) ∙ o.5
-                ∙ ap (λ x. plus o.2 x) (sym (later_same o.1 (omega (arith, o.3, o.4.order)))),
-          )
-    ];
+    one = search (rules, later_same);
   }
 
 -- what may lie behind the last point leaves little room
@@ -259,9 +225,7 @@ module _ (p : GroundParts) (valid : IsSheet p.sheet) (sound : IsStem p.stem) (v 
         falls_to p v ch t b.next e was.settled b.log.order b.leaves in
         elim (reaches_still b.start (plus b.other (bid_at v b.next))
         (was.each b.start t b.next b.other b.log.later (inr (omega arith, b.later)) b.log)) [
-          | inl at ↦
-              let most = worth_at_most (plus b.other (bid_at v b.next)) (bid_at w b.start) at in
-              inr (b.start, omega (arith, b.later), omega (arith, b.more))
+          | inl at ↦ search (rules, worth_at_most)
           | inr o ↦ inr (o.0, omega (arith, b.later, o.1), omega (arith, b.more, o.2))
         ]
 
@@ -292,19 +256,7 @@ module _ (p : GroundParts) (valid : IsSheet p.sheet) (sound : IsStem p.stem) (v 
             ]
           ]);
       one = λ i lt. elim (offered.one i) [
-        | inl same ↦ elim (was.one i lt) [
-          | inl nothing ↦ inl (same ∙ nothing)
-          | inr o ↦
-              inr (
-                o.0,
-                o.1,
-                o.2,
-                o.3,
-                o.4,
-                same ∙ o.5
-                    ∙ ap (λ x. plus o.2 x) (sym (stays o.1 (omega (arith, o.3, o.4.order)))),
-              )
-        ]
+        | inl same ↦ search (rules, stays)
         | inr o ↦
             inr (
               t,

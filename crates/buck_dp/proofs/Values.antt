@@ -100,7 +100,7 @@ module _ (p : GroundParts) (s : IsSheet p.sheet) (codes : AreCodes p.sheet.instr
         → BestAt p v ch i
     best_skipped i lt after is =
         let b : BestAt p v ch (i + 1) = after (i + 1) (omega arith) (omega arith) in (
-          b.0,
+          search rules,
           record {
             top = record {
               cut = cut_earlier p (i * unit) ((i + 1) * unit) b.0 (omega (arith, add-mul i 1 unit)) b.1.top.cut;
@@ -159,7 +159,7 @@ module _ (p : GroundParts) (s : IsSheet p.sheet) (codes : AreCodes p.sheet.instr
     best_past =
         let nothing : bid_at v (ends_of p) ≡ none = get_or_past v (ends_of p) none (omega (arith, was.number)) in
         let choice : get_or ch (ends_of p) 0 ≡ 0 = get_or_past ch (ends_of p) 0 (omega (arith, was.room)) in (
-          [],
+          grind arith,
           record {
             top = nothing_past p (ends_of p) (omega arith) s;
             worth_is = ap (λ b. b.worth) nothing;
@@ -192,8 +192,7 @@ module _ (p : GroundParts) (s : IsSheet p.sheet) (codes : AreCodes p.sheet.instr
         let b : BestAt p v ch i = best_at i (omega arith) in
         any rest (record {
           cut = cut_earlier p (i * unit) ((i + 1) * unit) rest (omega (arith, add-mul i 1 unit)) top.cut;
-          top = λ hs c. IsNoWorse-trans (worth_of p.sheet p.stem) rest b.0 hs (top.top b.0 (b.1.later none))
-              (b.1.top.top hs c);
+          top = search (rules, IsNoWorse-trans);
         })
 
     -- a choice is a mark, and other than 0 that of a code
@@ -202,7 +201,7 @@ module _ (p : GroundParts) (s : IsSheet p.sheet) (codes : AreCodes p.sheet.instr
     choice_within i lt some =
         let b : BestAt p v ch i = best_at i (omega arith) in
         let first = b.1.here some in
-        (first.4.high, mark_place p.codes first.0 (get_or ch i 0) first.4)
+        search (rules, mark_place)
 
     -- the log of a choice is allowed and ends at a later point, and the best from there on may follow it
     pub walk_log : (i : ℕ) (g : Log) (logs : List Log) → i < ends_of p → 0 < get_or ch i 0
@@ -245,7 +244,7 @@ module _ (p : GroundParts) (s : IsSheet p.sheet) (codes : AreCodes p.sheet.instr
     walk_worth logs top =
         let b : BestAt p v ch 0 = best_at 0 (omega arith) in
         let e : 0 * unit ≡ 0 = omega arith in
-        b.1.worth_is ∙ same_worth p.sheet p.stem 0 b.0 logs (subst (λ x. IsTopAt p x b.0) e b.1.top) top
+        search (rules, same_worth)
 
 -- past the last point the logs so far are the best
 pub walk_end : (p : GroundParts) (n : ℕ) (logs : List Log)
