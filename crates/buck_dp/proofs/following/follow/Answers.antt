@@ -1,4 +1,4 @@
-use Rattle.std.proofs.Common.{◌≡◌, ◌*◌, ◌++◌, [], ◌∷◌, ℕ, List, arith, subst}
+use Rattle.std.proofs.Common.{◌≡◌, ◌*◌, ◌++◌, [], ◌∷◌, ℕ, List, arith, subst, rules}
 use Rattle.buck_value.specs.declared.log.Log.{Log}
 use Rattle.buck_dp.specs.inner.Points.{GroundParts, ground_with}
 use Rattle.buck_bid.specs.Offers.{codes_in}

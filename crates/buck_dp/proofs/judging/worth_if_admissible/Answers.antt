@@ -1,4 +1,4 @@
-use Rattle.std.proofs.Common.{◌≡◌, ◌+◌, ◌∷◌, drop, get_or, drop-cons, add-one, subst, sym, arith}
+use Rattle.std.proofs.Common.{◌≡◌, ◌+◌, ◌∷◌, drop, get_or, drop-cons, add-one, subst, sym, arith, rules}
 use Rattle.std.proofs.lemmas.List.Sums.{sum_by_more}
 use Rattle.buck_value.specs.declared.log.Log.{Log}
 use Rattle.buck_value.specs.Allowed.{IsAllowed, worth_of, end_of}
@@ -7,17 +7,7 @@ use Rattle.buck_dp.specs.Cutting.{IsCutFrom}
 use Rattle.buck_dp.proofs.judging.worth_if_admissible.Goals as goal
 
 pub overflow_add-total : goal.overflow_add-total
-overflow_add-total c =
-    let allowed = c.in-Some.ensures.allowed in
-    omega (
-      arith,
-      c.loop-log.invariant.few,
-      c.if-log-from.false,
-      c.in-Some.ensures.worth,
-      worth_low c.args.sheet.now c.args.stem.now _ c.in-Some.ensures.valid allowed,
-      allowed.allows.within,
-      c.in-Some.ensures.stem.samples_number,
-    )
+overflow_add-total c = search (rules, worth_low)
 
 pub loop-log-preserved : goal.loop-log-preserved
 loop-log-preserved c =

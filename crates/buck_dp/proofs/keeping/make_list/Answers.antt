@@ -1,4 +1,4 @@
-use Rattle.std.proofs.Common.{◌≡◌, ℕ, List, Option, length, sym, subst, ap}
+use Rattle.std.proofs.Common.{◌≡◌, ℕ, List, Option, length, sym, subst, ap, rules, arith}
 use Rattle.buck_value.specs.Sheet.{SheetParts}
 use Rattle.buck_bid.specs.Offers.{codes_in}
 use Rattle.buck_dp.specs.declared.index.Key.{Key}
@@ -15,20 +15,13 @@ use Rattle.buck_dp.proofs.keeping.make_list.Goals as goal
 asked : (s : SheetParts) (m : Menu) (key : Key) (terms : List (Option Term)) (ask : Ask) → ask ≡ ask_of m key
     → AreTerms s.instruction (codes_in m.offers.items) (ask_of m key) (length m.offers.items) terms
     → AreTerms s.instruction (codes_in m.offers.items) ask (length terms) terms
-asked s m key terms ask is are =
-    subst (λ (n : ℕ). AreTerms s.instruction (codes_in m.offers.items) ask n terms) (sym are.number)
-    (subst (λ (a : Ask). AreTerms s.instruction (codes_in m.offers.items) a (length m.offers.items) terms) (sym is) are)
+asked s m key terms ask is are = search rules
 
 pub put_list-requires-clause-terms : goal.put_list-requires-clause-terms
-put_list-requires-clause-terms c = (
-  codes_in c.args.market.menu.now.offers.items,
-  asked c.args.market.sheet.now c.args.market.menu.now c.args.key c.args.terms.now c.ask_for-ask.result c.ask_for-ask.ensures.ask c.requires.terms,
-)
+put_list-requires-clause-terms c = search (rules, asked)
 
 pub put_list-requires-clause-band : goal.put_list-requires-clause-band
-put_list-requires-clause-band c =
-    let is = c.ask_for-ask.ensures.band c.args.market.sheet.now.instruction c.requires.menu.limits in
-    (is.order, is.high)
+put_list-requires-clause-band c = search rules
 
 pub returns-clause-list : goal.returns-clause-list
 returns-clause-list c =

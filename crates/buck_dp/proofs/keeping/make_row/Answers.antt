@@ -1,4 +1,4 @@
-use Rattle.std.proofs.Common.{ℕ, List, length, subst, ap}
+use Rattle.std.proofs.Common.{ℕ, List, length, subst, ap, arith, rules}
 use Rattle.buck_bid.specs.Offers.{codes_in}
 use Rattle.buck_dp.specs.declared.index.Key.{Key}
 use Rattle.buck_dp.specs.declared.offering.Cell.{Cell}

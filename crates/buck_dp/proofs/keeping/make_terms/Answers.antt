@@ -1,4 +1,4 @@
-use Rattle.std.proofs.Common.{ℕ, List, Option, length, sym, subst, ap, ◌∙◌}
+use Rattle.std.proofs.Common.{ℕ, List, Option, length, sym, subst, ap, ◌∙◌, arith, rules}
 use Rattle.buck_apt.specs.Instruction.{InstructionParts}
 use Rattle.buck_bid.specs.declared.offers.Offer.{Offer}
 use Rattle.buck_bid.specs.Limits.{IsBandOf}

@@ -1,4 +1,4 @@
-use Rattle.std.proofs.Common.{◌-◌, ◌*◌, length, sym, ap, arith}
+use Rattle.std.proofs.Common.{◌-◌, ◌*◌, length, sym, ap, arith, rules}
 use Rattle.std.proofs.lemmas.Grind.{div_ceil_times}
 use Rattle.std.proofs.lemmas.Option.{slice_get_within}
 use Rattle.buck_dp.proofs.PricingLemmas.{no_shorter}

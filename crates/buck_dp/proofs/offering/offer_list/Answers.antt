@@ -1,4 +1,4 @@
-use Rattle.std.proofs.Common.{ℕ, List, ◌+◌, length, length-append, ◌≡◌, ◌++◌, ◌∷◌, [], get_or, slice_get, Some, refl, sym, subst, ap, arith}
+use Rattle.std.proofs.Common.{ℕ, List, ◌+◌, length, length-append, ◌≡◌, ◌++◌, ◌∷◌, [], get_or, slice_get, Some, refl, sym, subst, ap, arith, rules}
 use Rattle.std.proofs.lemmas.Option.{slice_get-get_or}
 use Rattle.buck_dp.specs.declared.offering.Cell.{Cell}
 use Rattle.buck_dp.specs.declared.pricing.Quote.{Quote}
@@ -11,11 +11,7 @@ use Rattle.buck_dp.proofs.offering.offer_list.Goals.{in-Some, in_default}
 use Rattle.buck_dp.proofs.offering.offer_list.Goals as goal
 
 pub loop-quote-init : goal.loop-quote-init
-loop-quote-init c = (
-  [],
-  drawn_none c.args.list.now c.args.diameter c.args.reach,
-  offered_none c.args.reach.far 0 c.args.reach.far c.args.values.now,
-)
+loop-quote-init c = search (rules, drawn_none, offered_none)
 
 pub loop-quote-preserved : goal.loop-quote-preserved
 loop-quote-preserved c =

@@ -1,16 +1,10 @@
-use Rattle.std.proofs.Common.{◌-◌, length, ◌++◌, sym, subst, arith}
+use Rattle.std.proofs.Common.{◌-◌, length, ◌++◌, sym, subst, arith, rules}
 use Rattle.buck_dp.specs.inner.Rows.{AreFit, AreOffered}
 use Rattle.buck_dp.proofs.CellLemmas.{fits_back, offered_back}
 use Rattle.buck_dp.proofs.offering.offer_whole.Goals as goal
 
 pub offer_back-requires-clause-fit : goal.offer_back-requires-clause-fit
-offer_back-requires-clause-fit c =
-    let a = c.args in
-    let r = c.requires in
-    subst (λ xs. AreFit a.row.now a.far 0 a.far xs) (sym c.split_at_mut-reached.ensures.back)
-    (fits_back a.row.now a.top a.starts.first a.starts.stop a.far (a.top - a.far) a.values.now (omega (arith, r.far))
-    (omega (arith, r.far))
-    r.order.1 (omega (arith, r.inside)) r.late r.back r.fit)
+offer_back-requires-clause-fit c = search (rules, fits_back)
 
 pub returns : goal.returns
 returns c =

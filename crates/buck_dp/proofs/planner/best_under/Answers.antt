@@ -1,4 +1,4 @@
-use Rattle.std.proofs.Common.{◌≡◌, ◌⊎◌, inl, inr, IsTrue, Bool, false, true≢false, sym, ◌∙◌}
+use Rattle.std.proofs.Common.{◌≡◌, ◌⊎◌, inl, inr, IsTrue, Bool, false, true≢false, sym, ◌∙◌, rules}
 use Rattle.buck_stem.specs.Stem.{StemParts}
 use Rattle.buck_value.specs.declared.log.Log.{Log}
 use Rattle.buck_value.specs.Sheet.{SheetParts}
@@ -14,8 +14,4 @@ unwanted sheet stem b no_one (inl yes_one) = absurd (true≢false (sym yes_one �
 unwanted sheet stem b no_one (inr none) = none
 
 pub returns-then-not-is_wanted-clause-first : goal.returns-then-not-is_wanted-clause-first
-returns-then-not-is_wanted-clause-first c =
-    let none =
-    unwanted c.args.sheet.now c.args.stem.now c.is_wanted.result c.if-not-is_wanted.true
-    c.is_wanted.ensures.wanted in
-    rw c.new.ensures.items (nothing_first c.args.sheet.now c.args.stem.now none)
+returns-then-not-is_wanted-clause-first c = search (rules, unwanted, nothing_first)

@@ -1,4 +1,4 @@
-use Rattle.std.proofs.Common.{◌≡◌, ◌<◌, List, length, slice_get, Some, inl, inr, sym, ◌∙◌, ap, arith}
+use Rattle.std.proofs.Common.{◌≡◌, ◌<◌, List, length, slice_get, Some, inl, inr, sym, ◌∙◌, ap, arith, rules}
 use Rattle.std.proofs.lemmas.Bool.{cases_lt}
 use Rattle.std.proofs.lemmas.Option.{same_Some, slice_get_within}
 use Rattle.buck_apt.specs.Instruction.{AssortmentParts}
@@ -25,11 +25,4 @@ loop-assortment-preserved c = λ k x lt at same. elim (cases_lt k c.loop-assortm
 
 pub returns-clause-wanted : goal.returns-clause-wanted
 returns-clause-wanted c =
-    let i = c.args.sheet.now.instruction in
-    let all : c.assortments-assortment-items.result.now ≡ i.assortments = cc in
-    inr (λ g a.
-    let within : g.assortment < length i.assortments =
-    slice_get_within i.assortments g.assortment a.assortment a.exists in
-    c.loop-assortment.invariant g.assortment a.assortment
-    (omega (arith, within, c.loop-assortment-test.false, ap (λ (xs : List AssortmentParts). length xs) all))
-    a.exists a.allows.species)
+    grind (arith, slice_get_within, c.args.sheet.now.instruction, c.assortments-assortment-items.result.now, c.loop-assortment.invariant, c.loop-assortment-test.false)

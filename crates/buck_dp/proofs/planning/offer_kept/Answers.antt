@@ -11,14 +11,7 @@ offer_cells-requires-clause-all c = c.requires.all c.args.search.now.from c.requ
 
 pub offer_cells-requires-clause-diameter : goal.offer_cells-requires-clause-diameter
 offer_cells-requires-clause-diameter c =
-    let x = c.args.site in
-    let ds : List ℕ = c.diameters-diameters.result.now in
-    record {
-      table = ds;
-      known = known_of x.profile.now x.stem.now x.market.sheet.now.instruction.«module» ds c.requires.site.profile
-          c.diameters-diameters.ensures.right;
-      is = ap (λ (n : ℕ). slice_index ds n) (sym c.from.ensures.value);
-    }
+    grind (arith, known_of, c.args.site, c.diameters-diameters.result.now, c.requires.site.profile, c.diameters-diameters.ensures.right, c.from.ensures.value)
 
 pub offer_cells-requires-in-loop-search-clause-takers :
     goal.offer_cells-requires-in-loop-search-clause-takers

@@ -1,4 +1,4 @@
-use Rattle.std.proofs.Common.{◌-◌, ℕ, subst, arith}
+use Rattle.std.proofs.Common.{◌-◌, ℕ, subst, arith, rules}
 use Rattle.buck_dp.specs.inner.Points.{GroundParts}
 use Rattle.buck_dp.specs.inner.Logs.{IsLogAt}
 use Rattle.buck_dp.specs.inner.Site.{ground_of}

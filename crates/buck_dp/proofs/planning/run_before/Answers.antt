@@ -1,4 +1,4 @@
-use Rattle.std.proofs.Common.{◌<◌, ℕ, sym, subst, arith}
+use Rattle.std.proofs.Common.{◌<◌, ℕ, sym, subst, arith, rules}
 use Rattle.buck_stem.specs.points.Profile.{ProfileParts}
 use Rattle.buck_stem.specs.points.Profile as grid
 use Rattle.buck_dp.specs.declared.takers.Kind.{Kind}

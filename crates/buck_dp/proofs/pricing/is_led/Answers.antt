@@ -1,4 +1,4 @@
-use Rattle.std.proofs.Common.{◌≡◌, ◌*◌, ◌∙◌, ap, arith}
+use Rattle.std.proofs.Common.{◌≡◌, ◌*◌, ◌∙◌, ap, arith, rules}
 use Rattle.std.proofs.lemmas.Bool.{ltb-true}
 use Rattle.buck_dp.specs.inner.Quotes.{priced_at}
 use Rattle.buck_dp.proofs.pricing.is_led.Goals as goal

@@ -1,4 +1,4 @@
-use Rattle.std.proofs.Common.{◌≡◌, ◌≢◌, ℕ, ◌+◌, ◌*◌, ◌-◌, ◌/◌, ◌<◌, ◌≤◌, ◌∙◌, ap, subst, arith}
+use Rattle.std.proofs.Common.{◌≡◌, ◌≢◌, ℕ, ◌+◌, ◌*◌, ◌-◌, ◌/◌, ◌<◌, ◌≤◌, ◌∙◌, ap, subst, arith, rules}
 use Rattle.buck_dp.specs.declared.pricing.Quote.{Quote}
 use Rattle.buck_dp.specs.inner.Bid.{BidParts}
 use Rattle.buck_dp.specs.inner.Quotes.{quote_bid}
@@ -12,25 +12,7 @@ flat_below p q thin d least bid is by le kind less =
     omega (arith, less, is, ap (λ (b : BidParts). b.worth) by, per_piece q d kind, worth_rises p thin d le)
 
 pub returns-then-quote-ne1-clause-leads : goal.returns-then-quote-ne1-clause-leads
-returns-then-quote-ne1-clause-leads c =
-    let p = c.args.quote in
-    let band = c.args.ask.band in
-    let least = c.worth-least.result in
-    record {
-      below = λ q kind low d asked.
-          let under : (quote_bid q d).worth < least =
-          under_least q d (band.past - 1) least kind (omega (arith, asked.1))
-          (subst (λ n. q.price * q.length < least / (n + 1)) c.volume_of-area.ensures.value low) in
-          omega (
-            arith,
-            under,
-            c.worth-least.ensures,
-            ap (λ (b : BidParts). b.worth) c.bid.ensures,
-            worth_rises p band.thinnest d asked.0,
-          );
-      flat = λ q kind low d asked.
-          flat_below p q band.thinnest d least c.bid.result c.worth-least.ensures c.bid.ensures asked.0 kind low;
-    }
+returns-then-quote-ne1-clause-leads c = search (rules, under_least, worth_rises, flat_below)
 
 pub returns-then-area-eq0-clause-leads : goal.returns-then-area-eq0-clause-leads
 returns-then-area-eq0-clause-leads c = record {

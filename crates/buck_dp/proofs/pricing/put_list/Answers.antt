@@ -1,4 +1,4 @@
-use Rattle.std.proofs.Common.{◌≡◌, ℕ, List, [], ◌∷◌, ◌++◌, Option, Some, None, inl, inr, length, slice_get, slice_index, refl, sym, subst, ap, ◌∙◌, arith}
+use Rattle.std.proofs.Common.{◌≡◌, ℕ, List, [], ◌∷◌, ◌++◌, Option, Some, None, inl, inr, length, slice_get, slice_index, refl, sym, subst, ap, ◌∙◌, arith, rules}
 use Rattle.std.proofs.lemmas.List.{append-nil}
 use Rattle.std.proofs.lemmas.Option.{slice_get-get_or}
 use Rattle.buck_value.specs.Sheet.{SheetParts, IsSheet}
@@ -33,20 +33,10 @@ loop-term-init c = record {
 }
 
 pub quote_under-quote-requires : goal.quote_under-quote-requires
-quote_under-quote-requires c =
-    let n = c.loop-term.term-index in
-    (c.requires.terms.1.some n c.in-Some.term
-    (slice_get-get_or c.args.terms.now n None c.loop-term-test.true
-    ∙ ap (λ (x : Option Term). Some x) c.in-Some.is)).class
+quote_under-quote-requires c = search (rules, slice_get-get_or)
 
 pub put_quote-requires-clause-small : goal.put_quote-requires-clause-small
-put_quote-requires-clause-small c =
-    let n = c.loop-term.term-index in
-    rw c.quote_under-quote.ensures
-    (quoted c.args.sheet.now c.requires.terms.0 c.args.ask c.args.terms.now n c.in-Some.term c.requires.valid
-    c.requires.terms.1
-    (slice_get-get_or c.args.terms.now n None c.loop-term-test.true
-    ∙ ap (λ (x : Option Term). Some x) c.in-Some.is)).is.small
+put_quote-requires-clause-small c = search (rules, quoted, slice_get-get_or)
 
 pub loop-term-preserved : goal.loop-term-preserved
 loop-term-preserved c =

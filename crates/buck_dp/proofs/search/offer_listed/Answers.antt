@@ -1,4 +1,4 @@
-use Rattle.std.proofs.Common.{◌≡◌, ◌+◌, ◌<◌, ◌≤◌, ℕ, drop, List, ◌++◌, length, slice_get, Some, refl, sym, subst, ap, arith}
+use Rattle.std.proofs.Common.{◌≡◌, ◌+◌, ◌<◌, ◌≤◌, ℕ, drop, List, ◌++◌, length, slice_get, Some, refl, sym, subst, ap, arith, rules}
 use Rattle.buck_dp.specs.declared.offering.Cell.{Cell}
 use Rattle.buck_dp.specs.declared.offering.Reach.{Reach}
 use Rattle.buck_dp.specs.declared.pricing.Quote.{Quote}
@@ -20,10 +20,7 @@ module _ (quotes : List Quote) (d : ℕ) (reach : Reach) (row : List Cell)
 
   back : (k : ℕ) (c : Cell) → slice_get row k ≡ Some c → IsPlaced reach.far c
   back k c at =
-      let o = drawn.real k c at in (
-        omega (arith, o.within, ap (λ (x : Cell). x.steps) o.is, ap (λ (x : Cell). x.back) o.is),
-        omega (arith, ap (λ (x : Cell). x.rise) o.is, ap (λ (x : Cell). x.next) o.is),
-      )
+      let o = drawn.real k c at in search rules
 
 pub offer_list-requires-clause-fit : goal.offer_list-requires-clause-fit
 offer_list-requires-clause-fit c =

@@ -1,9 +1,8 @@
+use Rattle.std.proofs.Common.{arith}
 use Rattle.buck_dp.specs.inner.Kept.{RowOf}
 use Rattle.buck_dp.proofs.KeptLemmas.{kept_is}
 use Rattle.buck_dp.proofs.keeping.Kept.row.Goals as goal
 
 pub returns-in-Some-clause-row : goal.returns-in-Some-clause-row
 returns-in-Some-clause-row c =
-    kept_is (RowOf c.args.market.sheet.now c.args.market.menu.now) c.args.self.now.rows c.args.self.now.cells.items
-    (record { takers = c.args.group.takers; at = c.args.diameter })
-    c.in-Some.place c.requires.kept.rows c.in-Some.ensures
+    grind (arith, kept_is, c.args.market.sheet.now, c.args.market.menu.now, c.args.self.now.rows, c.args.self.now.cells.items, c.args.group.takers, c.args.diameter)
