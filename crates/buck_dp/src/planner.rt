@@ -147,6 +147,7 @@ fn best_under(
 
 /// Makes what is kept for a sheet right for another one. What depends on the instruction alone stays where both have the
 /// same.
+#[tactic(auto, using(crate::proofs::KeptLemmas::prices_dropped))]
 fn turn_to(alloc: Global, own: &mut Own, from: &Sheet, to: &Sheet) -> Result<(), Memory>
     requires { IsReady from.now own.old.menu own.old.memo }
     ensures turned { OnOk result (IsReady to.now own.new.menu own.new.memo) }

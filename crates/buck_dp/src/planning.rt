@@ -159,6 +159,7 @@ fn near_part(site: Site<'_>, kinds: &mut Kinds, top: usize) -> Result<Near, Memo
 
 /// How many mm of a stem lie behind a top.
 #[inline(always)]
+#[tactic(auto, using(crate::proofs::SiteLemmas::point_reached))]
 fn left_behind(site: Site<'_>, top: usize) -> u32
     requires site { IsSite site }
     requires top { top < points_of (ground_of site) }

@@ -86,6 +86,7 @@ impl Term {
 }
 
 /// The term of an offer that is priced so.
+#[tactic(auto, using(buck_bid::proofs::ListLemmas::read_at))]
 fn term_of(instruction: &Instruction, offer: Offer, rank: u32, pricing: Pricing) -> Term
     requires assortment { offer.assortment < length instruction.now.assortments }
     ensures class { result.class ≡ pricing.class }

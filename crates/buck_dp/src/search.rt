@@ -104,6 +104,7 @@ fn settle_once(values: &mut [Bid], choices: &mut [u32], top: usize)
 }
 
 /// Offers the logs with a top that start in one part. The row reaches `far` points back.
+#[tactic(auto, using(crate::proofs::TopLemmas::part_fits, crate::proofs::TopLemmas::offered_part))]
 fn offer_once(values: &mut [Bid], top: usize, starts: Starts, row: &[Cell], far: usize)
     requires order { (starts.first ≤ starts.stop) × (starts.stop ≤ top) }
     requires late { (k : ℕ) (c : Cell) → slice_get row.now k ≡ Some c → top < c.steps + starts.stop }

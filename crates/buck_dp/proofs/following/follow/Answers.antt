@@ -44,7 +44,7 @@ loop-i-smaller c =
     let j = walk_log p c.requires.valid c.requires.offers.codes f.0 c.args.choices.now f.1 c.loop-i.i
     c.log_at-log.result c.loop-i.logs.items (omega (arith, f.1.room)) (omega arith) log.start log.code log.assortment
     c.loop-i.invariant.best in
-    omega (arith, j.1, j.2, j.3, c.point_after-i.ensures)
+    omega arith
 
 pub loop-i-preserved : goal.loop-i-preserved
 loop-i-preserved c =

@@ -25,12 +25,5 @@ loop-log-preserved c =
       );
       total = rw (c.loop-log.invariant.total, c.in-Some.ensures.worth)
           (sym (sum_by_more (worth_of c.args.sheet.now c.args.stem.now) logs i _ c.loop-log-test.true));
-      few = omega (
-        arith,
-        c.loop-log.invariant.few,
-        c.if-log-from.false,
-        c.in-Some.ensures.worth,
-        c.end_of-from.ensures.value,
-        worth_low c.args.sheet.now c.args.stem.now _ c.in-Some.ensures.valid c.in-Some.ensures.allowed,
-      );
+      few = omega (arith, c.loop-log.invariant.few, c.if-log-from.false, c.in-Some.ensures.worth, worth_low c.args.sheet.now c.args.stem.now _ c.in-Some.ensures.valid c.in-Some.ensures.allowed);
     }

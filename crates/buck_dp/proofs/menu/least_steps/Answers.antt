@@ -7,8 +7,4 @@ pub returns-in-Some : goal.returns-in-Some
 returns-in-Some c k o at =
     let r = c.requires.offers in
     let first = c.in-Some.offer.now in
-    omega (
-      arith,
-      div-mul-le_self first.length c.args.step,
-      no_shorter r.0 c.args.offers.now 0 k first o r.1 (omega arith) (sym c.in-Some.ensures.value) at,
-    )
+    omega (arith, no_shorter r.0 c.args.offers.now 0 k first o r.1 (omega arith) (sym c.in-Some.ensures.value) at)

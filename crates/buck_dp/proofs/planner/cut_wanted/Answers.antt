@@ -27,4 +27,4 @@ returns-clause-worth c = search (rules, walk_worth)
 
 pub returns-clause-high : goal.returns-clause-high
 returns-clause-high c =
-    grind (arith, sound, returns-clause-first, worth_bounded, returns-clause-worth, c.in_ok-logs.logs.items, c.args.stem.now, c.in_ok-profile.profile, c.in_ok-profile.ensures, c.profile.view_is, c.profile.invariant.valid)
+    grind (arith, sound, returns-clause-first, worth_bounded, returns-clause-worth)

@@ -14,7 +14,7 @@ loop-assortment-preserved c = λ k x lt at same. elim (cases_lt k c.loop-assortm
       let here : k ≡ c.loop-assortment.assortment-index = omega arith in
       let all : c.assortments-assortment-items.result.now ≡ i.assortments = cc in
       let within : c.loop-assortment.assortment-index < length i.assortments =
-      omega (arith, c.loop-assortment-test.true, ap (λ (xs : List AssortmentParts). length xs) all) in
+      omega (arith, ap (λ (xs : List AssortmentParts). length xs) all) in
       let there : slice_get i.assortments c.loop-assortment.assortment-index ≡ Some y =
       stands i c.loop-assortment.assortment-index y c.assortments-assortment-items.result.now all within
       c.assortment-item.is in
@@ -25,4 +25,4 @@ loop-assortment-preserved c = λ k x lt at same. elim (cases_lt k c.loop-assortm
 
 pub returns-clause-wanted : goal.returns-clause-wanted
 returns-clause-wanted c =
-    grind (arith, slice_get_within, c.args.sheet.now.instruction, c.assortments-assortment-items.result.now, c.loop-assortment.invariant, c.loop-assortment-test.false)
+    grind (arith, slice_get_within)

@@ -12,4 +12,4 @@ returns-clause-all c t from i e bid lt log =
     let menu = c.requires.site.menu in
     let reached = point_reached x c.requires.site t log.within in
     too_long (ground_of x) x.market.menu.now.most_steps i t e bid c.requires.site.valid menu.long
-    (omega (arith, from, lt, c.max.ensures, c.saturating_add-whole.ensures, reached.1)) log
+    (omega (arith, from)) log

@@ -11,7 +11,7 @@ offer_cells-requires-clause-all c = c.requires.all c.args.search.now.from c.requ
 
 pub offer_cells-requires-clause-diameter : goal.offer_cells-requires-clause-diameter
 offer_cells-requires-clause-diameter c =
-    grind (arith, known_of, c.args.site, c.diameters-diameters.result.now, c.requires.site.profile, c.diameters-diameters.ensures.right, c.from.ensures.value)
+    grind (arith, known_of)
 
 pub offer_cells-requires-in-loop-search-clause-takers :
     goal.offer_cells-requires-in-loop-search-clause-takers

@@ -52,16 +52,16 @@ offer_list-requires-clause-part c row drawn =
     let room : (c.min.result ≡ m.most_trim)
     ⊎ (stem_length x.stem.now.samples ≤ t * s.instruction.«module» + c.min.result) =
     elim (cases_lt left m.most_trim) [
-      | inl less ↦ inr (omega (arith, c.min.ensures, less, c.left_behind-left.ensures, at))
+      | inl less ↦ inr (omega (arith, less))
       | inr more ↦ inl (omega (arith, c.min.ensures, more))
     ] in
     subst (λ (g : GroundParts). IsPart g t first stop row) (sym c.requires.ground)
     (part_offered x c.requires.site ds t first stop takers reach row
     (known_of x.profile.now x.stem.now s.instruction.«module» ds c.requires.site.profile
     c.diameters-diameters.ensures.right)
-    (omega (arith, below, c.from-top.ensures.value, c.stop-stop.ensures.value))
-    (λ i e bid low log. omega (arith, below, c.from-top.ensures.value, c.requires.order)) c.requires.takers
-    (omega (arith, c.min.ensures, c.left_behind-left.ensures, at, reached.0)) room cells)
+    (omega (arith, below))
+    (λ i e bid low log. omega (arith, below)) c.requires.takers
+    (omega (arith, at)) room cells)
 
 pub offer_list-requires-clause-small : goal.offer_list-requires-clause-small
 offer_list-requires-clause-small c k q at =

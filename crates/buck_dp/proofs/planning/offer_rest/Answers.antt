@@ -40,6 +40,6 @@ close_top-requires-2 c =
     record {
       none = λ i e bid lt log.
           too_long p c.args.site.market.menu.now.most_steps i t e bid c.requires.site.valid menu.long
-          (omega (arith, lt, now.from, c.loop-site-test.false, c.saturating_sub-low.ensures, c.stop.ensures.value))
+          (omega (arith, lt))
           (subst (λ (g : GroundParts). IsLogAt g i t e bid) now.ground log);
     }

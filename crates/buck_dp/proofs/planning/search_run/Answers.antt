@@ -14,8 +14,8 @@ offer_top-requires-clause-takers c i t from to low high =
     let now = c.loop-near.invariant in
     near_takers (ground_of x) c.requires.site.sound run (c.args.search.now.from - 1) even.0
     (λ k from to. mask_of x.profile.now x.stem.now unit k (k + 1) even.0 c.requires.site.profile
-    (even.1 k from (omega (arith, to, order, c.from.ensures.value))))
+    (even.1 k from (omega (arith, to))))
     (omega (arith, c.requires.site.valid.valid.module_range))
     c.in_ok-near.near.part.first i t c.in_ok-near.near.part.group.takers
-    (omega (arith, from)) (omega (arith, to, c.settle_top.ensures.from, now.high)) (omega (arith, near.first))
+    (omega (arith, from)) (omega (arith, to)) (omega (arith, near.first))
     low high near.takers

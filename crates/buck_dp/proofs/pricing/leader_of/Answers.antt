@@ -9,10 +9,10 @@ use Rattle.buck_dp.proofs.pricing.leader_of.Goals as goal
 flat_below : (p q : Quote) (thin d least : ℕ) (bid : BidParts) → least ≡ bid.worth → bid ≡ quote_bid p thin → thin ≤ d
     → q.kind ≢ 1 → q.price * 1000000 < least → (quote_bid q d).worth < (quote_bid p d).worth
 flat_below p q thin d least bid is by le kind less =
-    omega (arith, less, is, ap (λ (b : BidParts). b.worth) by, per_piece q d kind, worth_rises p thin d le)
+    omega (arith, is, ap (λ (b : BidParts). b.worth) by, per_piece q d kind, worth_rises p thin d le)
 
 pub returns-then-quote-ne1-clause-leads : goal.returns-then-quote-ne1-clause-leads
-returns-then-quote-ne1-clause-leads c = search (rules, under_least, worth_rises, flat_below)
+returns-then-quote-ne1-clause-leads c = search (rules, under_least)
 
 pub returns-then-area-eq0-clause-leads : goal.returns-then-area-eq0-clause-leads
 returns-then-area-eq0-clause-leads c = record {

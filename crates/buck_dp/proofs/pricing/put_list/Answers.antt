@@ -56,12 +56,7 @@ loop-term-preserved c =
           (quoted s codes ask c.args.terms.now n w.in-Some.term c.requires.valid are
           (item ∙ ap (λ (x : Option Term). Some x) w.in-Some.is))) in
           record {
-            room = omega (
-              arith,
-              c.loop-term.invariant.room,
-              w.put_quote.ensures.number,
-              w.put_quote.ensures.capacity,
-            );
+            room = omega arith;
             leads = w.put_quote.ensures.leader;
             list =
                 let left =

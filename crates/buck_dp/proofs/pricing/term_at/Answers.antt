@@ -51,7 +51,7 @@ returns-in-Some-clause-some c =
     slice_get-get_or c.args.offers.now c.args.place blank c.requires.place in
     let q = c.term_of.ensures in
     let few : c.args.place < 512 =
-    omega (arith, c.requires.place, c.requires.offers.codes.few, codes_number c.args.offers.now) in
+    omega (arith, codes_number c.args.offers.now) in
     term_right c.args.instruction.now c.args.offers.now c.args.ask c.args.place o c.in-Some.pricing c.term_of.result
     c.requires.offers at
     (c.contains.ensures.0 c.if-not-contains.false) c.in-Some.ensures.pricing c.in-Some.ensures.length

@@ -16,4 +16,4 @@ cell_at-requires-clause-small c = search (rules, blank, slice_get-get_or)
 
 pub loop-quote-preserved : goal.loop-quote-preserved
 loop-quote-preserved c =
-    grind (arith, blank, slice_get-get_or, append_assoc, drawn_push, drawn_skip, c.args.list.now, c.loop-quote.quote-index, c.loop-quote-test.true, c.loop-quote.invariant.row, c.match-cell_at.branch, c.loop-quote.invariant.room)
+    grind (arith, blank, slice_get-get_or, append_assoc, drawn_push, drawn_skip)

@@ -16,7 +16,7 @@ module _ (quotes : List Quote) (d : ℕ) (reach : Reach) (row : List Cell)
       → top < c.steps + stop
   late top stop is k c at =
       let o = drawn.real k c at in
-      omega (arith, is, o.within, ap (λ (x : Cell). x.steps) o.is)
+      omega (arith, is, ap (λ (x : Cell). x.steps) o.is)
 
   back : (k : ℕ) (c : Cell) → slice_get row k ≡ Some c → IsPlaced reach.far c
   back k c at =

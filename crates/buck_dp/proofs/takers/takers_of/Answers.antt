@@ -9,7 +9,7 @@ use Rattle.buck_dp.proofs.takers.takers_of.Goals as goal
 
 pub loop-place-preserved : goal.loop-place-preserved
 loop-place-preserved c =
-    grind (arith, read_at, cases_lt, same_Some, c.loop-place.invariant, c.args.instruction.now, c.index-all-place.result, c.loop-place.place, c.assortments-all.result.now, c.assortments-all.ensures.items)
+    grind (arith, read_at)
 
 pub returns : goal.returns
 returns c a x at = search (rules, slice_get_within)

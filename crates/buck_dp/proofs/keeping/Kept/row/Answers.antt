@@ -5,4 +5,4 @@ use Rattle.buck_dp.proofs.keeping.Kept.row.Goals as goal
 
 pub returns-in-Some-clause-row : goal.returns-in-Some-clause-row
 returns-in-Some-clause-row c =
-    grind (arith, kept_is, c.args.market.sheet.now, c.args.market.menu.now, c.args.self.now.rows, c.args.self.now.cells.items, c.args.group.takers, c.args.diameter)
+    grind (arith, kept_is)
