@@ -1,11 +1,5 @@
 -- The band of a diameter, and what is the same within a band.
-use Rattle.std.proofs.Common.{◌≡◌, ℕ, ◌+◌, ◌-◌, ◌<◌, ◌≤◌, ◌⊎◌, List, Contains, length, get_or, slice_index, Result, Ok, Err, MatchResult, nat_cmp, sym, ◌∙◌, inl, inr, arith}
-use Rattle.std.proofs.lemmas.Bool.{cases_lt}
-use Rattle.std.proofs.lemmas.List.{get_or_default}
-use Rattle.std.proofs.lemmas.List.Sorted.{searched}
-use Rattle.std.specs.List.Sorted.{IsStrictlyIncreasing, IsBinarySearchResult}
-use Rattle.buck_apt.specs.Instruction.{InstructionParts}
-use Rattle.buck_bid.specs.Limits.{AreLimits, IsBandOf}
+use Rattle.buck_bid.proofs.Words.{◌≡◌, ℕ, ◌+◌, ◌-◌, ◌<◌, ◌≤◌, ◌⊎◌, List, Contains, length, get_or, slice_index, Result, Ok, Err, MatchResult, nat_cmp, sym, ◌∙◌, inl, inr, arith, cases_lt, get_or_default, searched, IsStrictlyIncreasing, IsBinarySearchResult, InstructionParts, AreLimits, IsBandOf}
 use Rattle.buck_bid.proofs.ListLemmas.{in_order}
 
 -- where a search among limits ends, in a band or one past it

@@ -1,12 +1,5 @@
 -- Lists that grow, and lists that rise.
-use Rattle.std.proofs.Common.{◌≡◌, ℕ, zero, suc, ◌+◌, ◌/◌, ◌%◌, ◌<◌, ◌≤◌, ◌⊎◌, List, [], ◌∷◌, ◌++◌, Contains, length, length-append, get_or, slice_get, slice_index, Some, refl, sym, ◌∙◌, ap, subst, inl, inr, arith}
-use Rattle.std.proofs.lemmas.Bool.{cases_lt}
-use Rattle.std.proofs.lemmas.Option.{none-some, same_Some, slice_get_within, slice_get_read, slice_get-get_or, get_or_from_slice_get}
-use Rattle.std.proofs.lemmas.List.{get_or_default, get_or_append_left, get_or_push}
-use Rattle.std.proofs.lemmas.List.Elements.{Contains-push, All-get_or}
-use Rattle.std.specs.List.Sorted.{IsStrictlyIncreasing}
-use Rattle.buck_bid.specs.Offers.{code_of, IsWhole}
-use Rattle.buck_apt.specs.Instruction.{AssortmentParts, IsAssortment, InstructionParts, IsInstruction, IsOnModule}
+use Rattle.buck_bid.proofs.Words.{◌≡◌, ℕ, zero, suc, ◌+◌, ◌/◌, ◌%◌, ◌<◌, ◌≤◌, ◌⊎◌, List, [], ◌∷◌, ◌++◌, Contains, length, length-append, get_or, slice_get, slice_index, Some, refl, sym, ◌∙◌, ap, subst, inl, inr, arith, cases_lt, none-some, same_Some, slice_get_within, slice_get_read, slice_get-get_or, get_or_from_slice_get, get_or_default, get_or_append_left, get_or_push, Contains-push, All-get_or, IsStrictlyIncreasing, code_of, IsWhole, AssortmentParts, IsAssortment, InstructionParts, IsInstruction, IsOnModule}
 
 -- what holds of each number so far, holds of one more
 pub each_more : (P : ℕ → Type 0) (n : ℕ) → ((k : ℕ) → k < n → P k) → P n → (k : ℕ) → k < n + 1 → P k

@@ -1,11 +1,5 @@
 -- The codes of offers.
-use Rattle.std.proofs.Common.{◌≡◌, ℕ, zero, suc, ◌*◌, ◌/◌, ◌%◌, ◌<◌, inl, inr, List, [], ◌∷◌, map, length, slice_get, slice_index, Some, sym, ◌∙◌, ap, subst, mul_comm, arith}
-use Rattle.std.proofs.Math.Nat.{div-add-mod}
-use Rattle.std.proofs.lemmas.Bool.{cases_lt}
-use Rattle.std.proofs.lemmas.Option.{none-some, same_Some, get_or_from_slice_get}
-use Rattle.std.proofs.lemmas.List.{length-map}
-use Rattle.buck_bid.specs.declared.offers.Offer.{Offer}
-use Rattle.buck_bid.specs.Offers.{code_of, codes_in, IsWhole}
+use Rattle.buck_bid.proofs.Words.{◌≡◌, ℕ, zero, suc, ◌*◌, ◌/◌, ◌%◌, ◌<◌, inl, inr, List, [], ◌∷◌, map, length, slice_get, slice_index, Some, sym, ◌∙◌, ap, subst, mul_comm, arith, div-add-mod, cases_lt, none-some, same_Some, get_or_from_slice_get, length-map, Offer, code_of, codes_in, IsWhole}
 
 -- what stands at a place of a list that is made from another
 mapped_at : {X : Type 0} (f : X → ℕ) (xs : List X) (k : ℕ) (x : X) → slice_get xs k ≡ Some x

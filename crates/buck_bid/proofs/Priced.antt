@@ -1,16 +1,5 @@
 -- Within a band an assortment's logs of one length have one class, and so one price.
-use Rattle.std.proofs.Common.{◌≡◌, ◌≢◌, ℕ, suc, ◌+◌, ◌*◌, ◌<◌, ◌≤◌, ◌⊎◌, ◌==◌, inl, inr, List, [], ◌∷◌, true, false, Contains, length, slice_get, slice_index, Option, Some, unwrap_or, nat_le, position, refl, sym, ◌∙◌, ap, subst, arith}
-use Rattle.std.proofs.lemmas.Bool.Decides.{nat_tests}
-use Rattle.std.proofs.lemmas.Option.{same_Some}
-use Rattle.std.proofs.lemmas.List.{get_or_default}
-use Rattle.buck_apt.specs.Instruction.{AssortmentParts, IsInstruction, IsAssortment, IsClass}
-use Rattle.buck_apt.specs.declared.class.Class.{Class}
-use Rattle.buck_value.specs.Sheet.{SheetParts, price_of}
-use Rattle.buck_value.specs.Volume.{volume, worth_at}
-use Rattle.buck_value.specs.Allowed.{last_position, row_at, column_of, kind_in}
-use Rattle.buck_value.proofs.Classes.{column_some, column_is, row_within}
-use Rattle.buck_bid.specs.Limits.{IsBand}
-use Rattle.buck_bid.specs.Quotes.{class_for, worth_for, IsPriced, IsPricedAt}
+use Rattle.buck_bid.proofs.Words.{◌≡◌, ◌≢◌, ℕ, suc, ◌+◌, ◌*◌, ◌<◌, ◌≤◌, ◌⊎◌, ◌==◌, inl, inr, List, [], ◌∷◌, true, false, Contains, length, slice_get, slice_index, Option, Some, unwrap_or, nat_le, position, refl, sym, ◌∙◌, ap, subst, arith, nat_tests, same_Some, get_or_default, AssortmentParts, IsInstruction, IsAssortment, IsClass, Class, SheetParts, price_of, volume, worth_at, last_position, row_at, column_of, kind_in, column_some, column_is, row_within, IsBand, class_for, worth_for, IsPriced, IsPricedAt}
 use Rattle.buck_bid.proofs.ListLemmas.{valid_at}
 
 -- where no limit lies between two diameters, the same limits are at most each

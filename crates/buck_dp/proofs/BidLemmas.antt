@@ -1,6 +1,5 @@
 -- The order of bids.
-use Rattle.std.proofs.Common.{◌≡◌, ◌≤◌, inl, inr, refl, sym, ◌∙◌, subst, ap, arith, rules}
-use Rattle.buck_dp.specs.inner.Bid.{BidParts, bid_of, IsAtMost, IsGreater, plus}
+use Rattle.buck_dp.proofs.Words.{◌≡◌, ◌≤◌, inl, inr, refl, sym, ◌∙◌, subst, ap, arith, rules, BidParts, bid_of, IsAtMost, IsGreater, plus}
 
 pub IsAtMost-refl : (a : BidParts) → IsAtMost a a
 IsAtMost-refl a = inr (refl, omega arith)

@@ -1,12 +1,5 @@
 -- A log is worth at most 70,000,000,000 millionths for each millimetre, and so the worth of a cutting fits 64 bits.
-use Rattle.std.proofs.Common.{ℕ, ◌+◌, ◌*◌, ◌≤◌, List, sum_by, ap, arith, rules}
-use Rattle.buck_apt.specs.Instruction.{InstructionParts}
-use Rattle.buck_stem.specs.Stem.{StemParts, IsStem, stem_length}
-use Rattle.buck_value.specs.declared.log.Log.{Log}
-use Rattle.buck_value.specs.Sheet.{SheetParts, IsSheet}
-use Rattle.buck_value.specs.Allowed.{IsAllowed, worth_of, end_of, trim_in}
-use Rattle.buck_value.proofs.Rates.{worth_low}
-use Rattle.buck_dp.specs.Cutting.{IsCutFrom}
+use Rattle.buck_dp.proofs.Words.{ℕ, ◌+◌, ◌*◌, ◌≤◌, List, sum_by, ap, arith, rules, InstructionParts, StemParts, IsStem, stem_length, Log, SheetParts, IsSheet, IsAllowed, worth_of, end_of, trim_in, worth_low, IsCutFrom}
 use Rattle.buck_dp.proofs.Optimal.{worth_within}
 
 -- an allowed log lies within its stem

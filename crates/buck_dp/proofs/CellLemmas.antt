@@ -1,14 +1,5 @@
 -- Cells offered one after another.
-use Rattle.std.proofs.Common.{◌≡◌, ◌≢◌, ℕ, ◌+◌, ◌-◌, ◌<◌, ◌≤◌, ◌⊎◌, inl, inr, List, [], ◌∷◌, refl, ◌++◌, take, drop, length, length-append, slice_get, Some, sym, subst, ap, ◌∙◌, arith, rules}
-use Rattle.std.proofs.lemmas.Bool.{cases_lt, cases_order}
-use Rattle.std.proofs.lemmas.Option.{same_Some}
-use Rattle.std.proofs.lemmas.List.{length-drop, length-take-le, get_or-drop, get_or-take, get_or_append_left, get_or-append_right}
-use Rattle.buck_bid.proofs.ListLemmas.{push_cases, kept_at}
-use Rattle.buck_dp.specs.declared.offering.Cell.{Cell}
-use Rattle.buck_dp.specs.inner.Bid.{BidParts, none, IsAtMost, IsGreater, plus}
-use Rattle.buck_dp.specs.inner.Cells.{IsPlaced}
-use Rattle.buck_dp.specs.inner.Logs.{bid_at}
-use Rattle.buck_dp.specs.inner.Rows.{IsNear, AreOffered, AreFit}
+use Rattle.buck_dp.proofs.Words.{◌≡◌, ◌≢◌, ℕ, ◌+◌, ◌-◌, ◌<◌, ◌≤◌, ◌⊎◌, inl, inr, List, [], ◌∷◌, refl, ◌++◌, take, drop, length, length-append, slice_get, Some, sym, subst, ap, ◌∙◌, arith, rules, cases_lt, cases_order, same_Some, length-drop, length-take-le, get_or-drop, get_or-take, get_or_append_left, get_or-append_right, push_cases, kept_at, Cell, BidParts, none, IsAtMost, IsGreater, plus, IsPlaced, bid_at, IsNear, AreOffered, AreFit}
 use Rattle.buck_dp.proofs.BidLemmas.{IsAtMost-refl, IsAtMost-trans, greater_first, greater_second}
 
 module _ (cells : List Cell) (top first stop n : ℕ) (low : stop ≤ top) (v u : List BidParts)

@@ -1,18 +1,5 @@
 -- Lists and rows that are kept.
-use Rattle.std.proofs.Common.{◌≡◌, ℕ, ◌+◌, ◌-◌, ◌⊎◌, inl, inr, List, [], ◌∷◌, ◌++◌, Option, length, length-append, take, drop, slice_get, Some, sym, subst, ap, ◌∙◌, arith, rules}
-use Rattle.std.proofs.lemmas.Option.{none-some}
-use Rattle.std.proofs.lemmas.List.{length-drop, drop_at, drop-append-le, take-append-le, take_all}
-use Rattle.buck_apt.specs.Instruction.{InstructionParts}
-use Rattle.buck_value.specs.Sheet.{SheetParts}
-use Rattle.buck_bid.proofs.ListLemmas.{push_each}
-use Rattle.buck_dp.specs.declared.index.Key.{Key}
-use Rattle.buck_dp.specs.declared.index.Place.{Place}
-use Rattle.buck_dp.specs.declared.index.Head.{Head}
-use Rattle.buck_dp.specs.declared.menu.Menu.{Menu}
-use Rattle.buck_dp.specs.declared.pricing.Term.{Term}
-use Rattle.buck_dp.specs.declared.keeping.Kept.{Kept}
-use Rattle.buck_dp.specs.inner.Index.{IsKeptAt, part_of}
-use Rattle.buck_dp.specs.inner.Kept.{IsAt, TermsOf, ListOf, RowOf, AreKept}
+use Rattle.buck_dp.proofs.Words.{◌≡◌, ℕ, ◌+◌, ◌-◌, ◌⊎◌, inl, inr, List, [], ◌∷◌, ◌++◌, Option, length, length-append, take, drop, slice_get, Some, sym, subst, ap, ◌∙◌, arith, rules, none-some, length-drop, drop_at, drop-append-le, take-append-le, take_all, InstructionParts, SheetParts, push_each, Key, Place, Head, Menu, Term, Kept, IsKeptAt, part_of, IsAt, TermsOf, ListOf, RowOf, AreKept}
 
 -- what each head tells of its place
 abbrev pub Each : {X : Type 0} → (Key → List X → Type 0) → List Head → List X → Type 0

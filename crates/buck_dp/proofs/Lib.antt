@@ -1,3 +1,4 @@
+pub mod Words
 pub mod Optimal
 pub mod Places
 pub mod Steps

@@ -1,14 +1,5 @@
 -- That the logs of a cutting are allowed, how many there can be, and that one cutting alone is the first of the best.
-use Rattle.std.proofs.Common.{◌≡◌, ◌≢◌, ◌+◌, ◌*◌, ◌≤◌, ◌⊎◌, inl, inr, List, [], ◌∷◌, All, length, sum_by, refl, sym, subst, arith, rules}
-use Rattle.std.proofs.lemmas.List.Sums.{sum_by-cons}
-use Rattle.std.proofs.lemmas.Bool.{cases_order}
-use Rattle.buck_stem.specs.Stem.{StemParts, IsStem, stem_length}
-use Rattle.buck_value.specs.declared.log.Log.{Log}
-use Rattle.buck_value.specs.Sheet.{SheetParts, IsSheet}
-use Rattle.buck_value.specs.Allowed.{IsAllowed, end_of}
-use Rattle.buck_value.proofs.Classes.{allowed_low}
-use Rattle.buck_dp.specs.Order.{IsLogBefore, IsBefore}
-use Rattle.buck_dp.specs.Best.{IsAdmissible, IsFirstBest, cutting_worth}
+use Rattle.buck_dp.proofs.Words.{◌≡◌, ◌≢◌, ◌+◌, ◌*◌, ◌≤◌, ◌⊎◌, inl, inr, List, [], ◌∷◌, All, length, sum_by, refl, sym, subst, arith, rules, sum_by-cons, cases_order, StemParts, IsStem, stem_length, Log, SheetParts, IsSheet, IsAllowed, end_of, allowed_low, IsLogBefore, IsBefore, IsAdmissible, IsFirstBest, cutting_worth}
 use Rattle.buck_dp.proofs.Bounds.{cut_worth-le, end_within}
 use Rattle.buck_dp.proofs.Optimal.{worth_within, same_log}
 use Rattle.buck_dp.proofs.Walk.{cut_each}

@@ -1,24 +1,7 @@
 -- Logs of a stem as bids of its takers, and the other way.
-use Rattle.std.proofs.Common.{◌≡◌, ℕ, ◌+◌, ◌-◌, ◌*◌, ◌/◌, ◌%◌, ◌<◌, ◌≤◌, inl, inr, List, Option, Some, None, length, slice_get, slice_index, refl, sym, subst, ap, ◌∙◌, arith, add-mul, mul-le-mul_right, rules}
-use Rattle.std.proofs.lemmas.Bool.{cases_lt}
-use Rattle.std.proofs.lemmas.Option.{same_Some}
-use Rattle.std.proofs.Math.Nat.{mul-mod_left, div-mul-le_self, mul-add-div_right, lt-div-mul-add}
-use Rattle.buck_apt.specs.Instruction.{AssortmentParts}
-use Rattle.buck_stem.specs.Stem.{StemParts, HasGradesOf, stem_length, diameter_at}
-use Rattle.buck_value.specs.declared.log.Log.{Log}
-use Rattle.buck_value.specs.Sheet.{SheetParts, IsSheet, price_of}
-use Rattle.buck_value.specs.Volume.{volume, worth_at}
-use Rattle.buck_value.specs.Allowed.{IsAllowed, log_of, top_of, end_of, trim_in, trim_of, top_diameter, class_in, kind_in, worth_of}
-use Rattle.buck_dp.specs.inner.Points.{GroundParts, points_of, ends_of, point_after}
-use Rattle.buck_bid.specs.Offers.{HasMark}
-use Rattle.buck_dp.specs.inner.Bid.{BidParts, bid_of}
-use Rattle.buck_dp.specs.inner.Logs.{IsLogAt}
-use Rattle.buck_dp.specs.inner.Cells.{IsBidOf}
+use Rattle.buck_dp.proofs.Words.{◌≡◌, ℕ, ◌+◌, ◌-◌, ◌*◌, ◌/◌, ◌%◌, ◌<◌, ◌≤◌, inl, inr, List, Option, Some, None, length, slice_get, slice_index, refl, sym, subst, ap, ◌∙◌, arith, add-mul, mul-le-mul_right, rules, cases_lt, same_Some, mul-mod_left, div-mul-le_self, mul-add-div_right, lt-div-mul-add, AssortmentParts, StemParts, HasGradesOf, stem_length, diameter_at, Log, SheetParts, IsSheet, price_of, volume, worth_at, IsAllowed, log_of, top_of, end_of, trim_in, trim_of, top_diameter, class_in, kind_in, worth_of, GroundParts, points_of, ends_of, point_after, HasMark, BidParts, bid_of, IsLogAt, IsBidOf, on_module, allowed_low, class_for, worth_for}
 use Rattle.buck_dp.proofs.Marks.{assortment_low, mark_place, mark_code}
-use Rattle.buck_bid.proofs.ListLemmas.{on_module}
 use Rattle.buck_dp.proofs.Steps.{whole_steps, one_step}
-use Rattle.buck_value.proofs.Classes.{allowed_low}
-use Rattle.buck_bid.specs.Quotes.{class_for, worth_for}
 use Rattle.buck_dp.proofs.Places.{after_within}
 use Rattle.buck_dp.proofs.Bounds.{end_within}
 

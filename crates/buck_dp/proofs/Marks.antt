@@ -1,14 +1,5 @@
 -- Codes and marks tell logs that start at one place apart, and put them in order.
-use Rattle.std.proofs.Common.{◌≡◌, ℕ, ◌-◌, ◌<◌, ◌⊎◌, inl, inr, List, length, get_or, slice_get, Some, sym, ◌∙◌, ap, arith, rules}
-use Rattle.std.proofs.lemmas.Bool.{cases_order}
-use Rattle.std.proofs.lemmas.Option.{slice_get-get_or, slice_get_within, get_or_from_slice_get}
-use Rattle.std.proofs.lemmas.List.Kept.{AllPairs-from_increasing}
-use Rattle.buck_apt.specs.Instruction.{InstructionParts, IsInstruction}
-use Rattle.buck_stem.specs.Stem.{StemParts}
-use Rattle.buck_value.specs.declared.log.Log.{Log}
-use Rattle.buck_value.specs.Allowed.{IsAllowed}
-use Rattle.buck_bid.specs.Offers.{AreCodes, HasMark, code_of}
-use Rattle.buck_dp.specs.Order.{IsLogBefore}
+use Rattle.buck_dp.proofs.Words.{◌≡◌, ℕ, ◌-◌, ◌<◌, ◌⊎◌, inl, inr, List, length, get_or, slice_get, Some, sym, ◌∙◌, ap, arith, rules, cases_order, slice_get-get_or, slice_get_within, get_or_from_slice_get, AllPairs-from_increasing, InstructionParts, IsInstruction, StemParts, Log, IsAllowed, AreCodes, HasMark, code_of, IsLogBefore}
 use Rattle.buck_dp.proofs.Optimal.{same_log}
 
 -- a code tells the length and the assortment

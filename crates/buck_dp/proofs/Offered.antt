@@ -1,18 +1,5 @@
 -- What the logs of one point offer to its value.
-use Rattle.std.proofs.Common.{◌≡◌, ℕ, ◌+◌, ◌*◌, ◌<◌, ◌≤◌, List, [], ◌∷◌, get_or, sum_by, sym, subst, refl, arith, rules}
-use Rattle.std.proofs.lemmas.List.Sums.{sum_by-cons}
-use Rattle.buck_apt.specs.Instruction.{InstructionParts, IsInstruction}
-use Rattle.buck_value.specs.declared.log.Log.{Log}
-use Rattle.buck_value.specs.Sheet.{IsSheet}
-use Rattle.buck_value.specs.Allowed.{IsAllowed, worth_of, end_of}
-use Rattle.buck_bid.specs.Offers.{AreCodes, HasMark}
-use Rattle.buck_dp.specs.Cutting.{IsCutFrom}
-use Rattle.buck_dp.specs.inner.Points.{GroundParts, ends_of, point_after}
-use Rattle.buck_dp.specs.inner.Bid.{BidParts, bid_of, IsAtMost}
-use Rattle.buck_dp.specs.inner.Logs.{bid_at}
-use Rattle.buck_dp.specs.inner.Searched.{IsSettled}
-use Rattle.buck_dp.specs.inner.Table.{IsTop, IsNoWorse}
-use Rattle.buck_dp.specs.inner.Values.{IsBestFrom}
+use Rattle.buck_dp.proofs.Words.{◌≡◌, ℕ, ◌+◌, ◌*◌, ◌<◌, ◌≤◌, List, [], ◌∷◌, get_or, sum_by, sym, subst, refl, arith, rules, sum_by-cons, InstructionParts, IsInstruction, Log, IsSheet, IsAllowed, worth_of, end_of, AreCodes, HasMark, IsCutFrom, GroundParts, ends_of, point_after, BidParts, bid_of, IsAtMost, bid_at, IsSettled, IsTop, IsNoWorse, IsBestFrom}
 use Rattle.buck_dp.proofs.Places.{after_covers, start_after}
 use Rattle.buck_dp.proofs.Marks.{mark_found}
 use Rattle.buck_dp.proofs.Optimal.{IsCutFrom-le}

@@ -1,11 +1,6 @@
 -- The best cutting from each position on, over any rule of which logs are allowed, where a log ends and
 -- what it is worth.
-use Rattle.std.proofs.Common.{◌≡◌, ℕ, ◌+◌, ◌*◌, mul-le-mul_left, ◌≤◌, ◌⊎◌, inl, inr, List, [], ◌∷◌, sum_by, refl, sym, ◌∙◌, subst, arith, rules}
-use Rattle.std.proofs.lemmas.List.Sums.{sum_by-cons}
-use Rattle.buck_value.specs.declared.log.Log.{Log}
-use Rattle.buck_dp.specs.Order.{IsLogBefore}
-use Rattle.buck_dp.specs.inner.Table.{IsAtOrBefore, IsNoWorse, IsTop}
-use Rattle.buck_dp.specs.Cutting.{IsCutFrom}
+use Rattle.buck_dp.proofs.Words.{◌≡◌, ℕ, ◌+◌, ◌*◌, mul-le-mul_left, ◌≤◌, ◌⊎◌, inl, inr, List, [], ◌∷◌, sum_by, refl, sym, ◌∙◌, subst, arith, rules, sum_by-cons, Log, IsLogBefore, IsAtOrBefore, IsNoWorse, IsTop, IsCutFrom}
 
 -- what is before a log that is before another is before that one
 IsLogBefore-trans : (a b c : Log) → IsLogBefore a b → IsLogBefore b c → IsLogBefore a c

@@ -1,21 +1,7 @@
 -- Cells of the takers of some wood are right for the starts in this wood.
-use Rattle.std.proofs.Common.{◌≡◌, ℕ, ◌+◌, ◌-◌, ◌*◌, ◌<◌, ◌≤◌, inl, inr, List, slice_get, slice_index, Some, sym, subst, arith, rules}
-use Rattle.std.proofs.lemmas.Bool.{cases_lt}
-use Rattle.buck_apt.specs.Instruction.{AssortmentParts}
-use Rattle.buck_stem.specs.Stem.{stem_length, diameter_at}
-use Rattle.buck_value.specs.Sheet.{IsSheet}
-use Rattle.buck_value.specs.Allowed.{trim_of}
-use Rattle.buck_dp.specs.inner.Points.{GroundParts, points_of, point_after}
+use Rattle.buck_dp.proofs.Words.{◌≡◌, ℕ, ◌+◌, ◌-◌, ◌*◌, ◌<◌, ◌≤◌, inl, inr, List, slice_get, slice_index, Some, sym, subst, arith, rules, cases_lt, AssortmentParts, stem_length, diameter_at, IsSheet, trim_of, GroundParts, points_of, point_after, Cell, BidParts, IsLogAt, IsPart, IsTakersBid, AreCells, HasTakers, Takers, Reach}
 use Rattle.buck_dp.proofs.Logs.{Takes, log_takes, takes_less, log_quote, quote_log, after_is, log_fits}
-use Rattle.buck_dp.specs.declared.offering.Cell.{Cell}
 use Rattle.buck_dp.proofs.Places.{after_in_order}
-use Rattle.buck_dp.specs.inner.Bid.{BidParts}
-use Rattle.buck_dp.specs.inner.Logs.{IsLogAt}
-use Rattle.buck_dp.specs.inner.Rows.{IsPart}
-use Rattle.buck_dp.specs.inner.Cells.{IsTakersBid, AreCells}
-use Rattle.buck_dp.specs.inner.Parts.{HasTakers}
-use Rattle.buck_dp.specs.declared.takers.Takers.{Takers}
-use Rattle.buck_dp.specs.declared.offering.Reach.{Reach}
 
 module _ (p : GroundParts) (valid : IsSheet p.sheet) where
   abbrev unit : ℕ

@@ -1,9 +1,5 @@
 -- Places on the stem, as multiples of a step.
-use Rattle.std.proofs.Common.{◌≡◌, ℕ, ◌+◌, ◌-◌, ◌*◌, ◌/◌, ◌%◌, ◌<◌, ◌≤◌, ◌⊎◌, inl, inr, arith, mul-le-mul_right, rules}
-use Rattle.std.proofs.lemmas.Bool.{cases_lt}
-use Rattle.std.proofs.Math.Nat.{lt-div-mul-add, div-mul-le_self}
-use Rattle.std.proofs.lemmas.Nat.{le-div}
-use Rattle.buck_dp.specs.inner.Points.{point_after}
+use Rattle.buck_dp.proofs.Words.{◌≡◌, ℕ, ◌+◌, ◌-◌, ◌*◌, ◌/◌, ◌%◌, ◌<◌, ◌≤◌, ◌⊎◌, inl, inr, arith, mul-le-mul_right, rules, cases_lt, lt-div-mul-add, div-mul-le_self, le-div, point_after}
 
 -- a start at or after a place is there, or a step later
 pub next_start : (m here s : ℕ) → 0 < m → here % m ≡ 0 → s % m ≡ 0 → here ≤ s → (s ≡ here) ⊎ (here + m ≤ s)

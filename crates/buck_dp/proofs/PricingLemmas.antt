@@ -1,26 +1,5 @@
 -- The quote of an offer.
-use Rattle.std.proofs.Common.{◌≡◌, ℕ, ◌+◌, ◌-◌, ◌*◌, ◌/◌, ◌<◌, ◌≤◌, IfSome, List, length, slice_get, slice_index, Some, refl, sym, subst, ap, ◌∙◌, arith, rules}
-use Rattle.std.proofs.Math.Nat.{mul-div_left}
-use Rattle.std.proofs.lemmas.Option.{same_Some, slice_get_within}
-use Rattle.buck_apt.specs.Instruction.{AssortmentParts, InstructionParts, classes}
-use Rattle.buck_value.specs.Sheet.{SheetParts, IsSheet}
-use Rattle.buck_value.specs.Volume.{volume, worth_at}
-use Rattle.buck_value.proofs.Prices.{price-le}
-use Rattle.buck_bid.specs.declared.prices.Pricing.{Pricing}
-use Rattle.buck_bid.specs.declared.offers.Offer.{Offer}
-use Rattle.buck_bid.specs.Prices.{IsPricing, HasNoPrice}
-use Rattle.buck_bid.specs.Offers.{AreOffers, IsWhole, codes_in, code_of}
-use Rattle.buck_bid.specs.Quotes.{IsPricedAt, worth_for}
-use Rattle.buck_bid.proofs.ListLemmas.{in_order}
-use Rattle.buck_bid.proofs.OfferLemmas.{code_at, code_index, codes_number, whole_length}
-use Rattle.buck_dp.specs.inner.Points.{point_after}
-use Rattle.buck_dp.specs.declared.pricing.Quote.{Quote}
-use Rattle.buck_dp.specs.declared.pricing.Ask.{Ask}
-use Rattle.buck_dp.specs.declared.pricing.Term.{Term}
-use Rattle.buck_dp.specs.inner.Bid.{BidParts}
-use Rattle.buck_dp.specs.inner.Takers.{IsTaker}
-use Rattle.buck_dp.specs.inner.Cells.{IsTakersBid}
-use Rattle.buck_dp.specs.inner.Quotes.{quote_bid, priced_at, IsAsked, IsQuoteOf, IsTermOf, HasNoBid}
+use Rattle.buck_dp.proofs.Words.{◌≡◌, ℕ, ◌+◌, ◌-◌, ◌*◌, ◌/◌, ◌<◌, ◌≤◌, IfSome, List, length, slice_get, slice_index, Some, refl, sym, subst, ap, ◌∙◌, arith, rules, mul-div_left, same_Some, slice_get_within, AssortmentParts, InstructionParts, classes, SheetParts, IsSheet, volume, worth_at, price-le, Pricing, Offer, IsPricing, HasNoPrice, AreOffers, IsWhole, codes_in, code_of, IsPricedAt, worth_for, in_order, code_at, code_index, codes_number, whole_length, point_after, Quote, Ask, Term, BidParts, IsTaker, IsTakersBid, quote_bid, priced_at, IsAsked, IsQuoteOf, IsTermOf, HasNoBid}
 use Rattle.buck_dp.proofs.BidLemmas.{same_bid}
 
 -- a later offer is no shorter

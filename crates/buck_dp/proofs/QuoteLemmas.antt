@@ -1,26 +1,5 @@
 -- Price lists that grow, and rows drawn from them.
-use Rattle.std.proofs.Common.{◌≡◌, ℕ, ◌+◌, ◌-◌, ◌*◌, ◌<◌, ◌≤◌, ◌⊎◌, inl, inr, List, [], ◌∷◌, ◌++◌, Option, IfSome, IfNone, length, length-append, take, get_or, slice_get, slice_set, zero, suc, Some, None, refl, sym, subst, ap, ◌∙◌, append_assoc, arith, mul-le-mul_right, add-mul, rules}
-use Rattle.std.proofs.lemmas.Bool.{cases_lt}
-use Rattle.std.proofs.lemmas.Option.{none-some, same_Some, slice_get_within, slice_get-get_or, get_or_from_slice_get}
-use Rattle.std.specs.List.Sorted.{IsStrictlyIncreasing}
-use Rattle.buck_apt.specs.Instruction.{InstructionParts}
-use Rattle.buck_value.specs.Sheet.{SheetParts, IsSheet}
-use Rattle.buck_bid.specs.declared.offers.Offer.{Offer}
-use Rattle.buck_bid.specs.Offers.{codes_in, code_of}
-use Rattle.buck_bid.proofs.OfferLemmas.{codes_number}
-use Rattle.std.proofs.Math.Seq.{take-suc, take-suc-set}
-use Rattle.std.proofs.lemmas.List.{get_or-append_right, set-append_right, take_all, length-set}
-use Rattle.buck_bid.proofs.ListLemmas.{kept_at, pushed_at, push_cases, push_each, in_order}
-use Rattle.buck_dp.specs.declared.offering.Cell.{Cell}
-use Rattle.buck_dp.specs.declared.offering.Reach.{Reach}
-use Rattle.buck_dp.specs.declared.pricing.Quote.{Quote}
-use Rattle.buck_dp.specs.declared.pricing.Ask.{Ask}
-use Rattle.buck_dp.specs.declared.pricing.Term.{Term}
-use Rattle.buck_dp.specs.declared.takers.Takers.{Takers}
-use Rattle.buck_dp.specs.inner.Bid.{BidParts, IsAtMost}
-use Rattle.buck_dp.specs.inner.Cells.{IsTakersBid, IsReal, AreCells}
-use Rattle.buck_dp.specs.inner.Quotes.{quote_bid, IsAsked, IsQuote, IsQuoteOf, HasNoBid, IsOver, IsPut, IsQuoted, IsTermOf, IsNoTerm, AreTerms, Falls, AreQuotes}
-use Rattle.buck_dp.specs.inner.Drawn.{IsWithin, cell_of, IsCellOf, IsDrawn}
+use Rattle.buck_dp.proofs.Words.{◌≡◌, ℕ, ◌+◌, ◌-◌, ◌*◌, ◌<◌, ◌≤◌, ◌⊎◌, inl, inr, List, [], ◌∷◌, ◌++◌, Option, IfSome, IfNone, length, length-append, take, get_or, slice_get, slice_set, zero, suc, Some, None, refl, sym, subst, ap, ◌∙◌, append_assoc, arith, mul-le-mul_right, add-mul, rules, cases_lt, none-some, same_Some, slice_get_within, slice_get-get_or, get_or_from_slice_get, IsStrictlyIncreasing, InstructionParts, SheetParts, IsSheet, Offer, codes_in, code_of, codes_number, take-suc, take-suc-set, get_or-append_right, set-append_right, take_all, length-set, kept_at, pushed_at, push_cases, push_each, in_order, Cell, Reach, Quote, Ask, Term, Takers, BidParts, IsAtMost, IsTakersBid, IsReal, AreCells, quote_bid, IsAsked, IsQuote, IsQuoteOf, HasNoBid, IsOver, IsPut, IsQuoted, IsTermOf, IsNoTerm, AreTerms, Falls, AreQuotes, IsWithin, cell_of, IsCellOf, IsDrawn}
 use Rattle.buck_dp.proofs.BidLemmas.{IsAtMost-refl, worth_at_most}
 use Rattle.buck_dp.proofs.Places.{after_in_order}
 

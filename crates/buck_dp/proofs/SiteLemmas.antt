@@ -1,29 +1,7 @@
 -- Who takes the wood of a stem.
-use Rattle.std.proofs.Common.{◌≡◌, ℕ, ◌+◌, ◌*◌, ◌/◌, ◌<◌, ◌≤◌, ◌⊎◌, inl, inr, List, Contains, length, slice_index, refl, sym, subst, ◌∙◌, arith, mul-le-mul_left, mul-le-mul_right, add-mul, rules}
-use Rattle.std.proofs.Math.Nat.{div-mul-le_self, lt-div-mul-add}
-use Rattle.std.proofs.lemmas.Bool.{cases_lt}
-use Rattle.buck_stem.specs.Stem.{StemParts, IsStem, IsGrade, grade_at, HasGrade, HasGradesOf, stem_length, diameter_at}
+use Rattle.buck_dp.proofs.Words.{◌≡◌, ℕ, ◌+◌, ◌*◌, ◌/◌, ◌<◌, ◌≤◌, ◌⊎◌, inl, inr, List, Contains, length, slice_index, refl, sym, subst, ◌∙◌, arith, mul-le-mul_left, mul-le-mul_right, add-mul, rules, div-mul-le_self, lt-div-mul-add, cases_lt, StemParts, IsStem, IsGrade, grade_at, HasGrade, HasGradesOf, stem_length, diameter_at, IsMask, IsMaskBetween, ProfileParts, profile_of, grade_at_is, mask_allows, IsSheet, codes_in, GroundParts, points_of, Takers, Kind, IsTaker, AreTakersOf, BidParts, IsLogAt, HasTakers, AreCells, IsPart, all_of, IsSite, IsDiameterAt, ground_of, Site, Cell, Reach}
 use Rattle.buck_stem.specs.points.Profile as grid
-use Rattle.buck_stem.specs.points.Profile.{IsMask, IsMaskBetween, ProfileParts, profile_of}
-use Rattle.buck_stem.proofs.Tables.{grade_at_is}
-use Rattle.buck_value.proofs.Grades.{mask_allows}
-use Rattle.buck_value.specs.Sheet.{IsSheet}
-use Rattle.buck_bid.specs.Offers.{codes_in}
-use Rattle.buck_dp.specs.inner.Points.{GroundParts, points_of}
 use Rattle.buck_dp.proofs.Logs.{log_coded, point_within}
-use Rattle.buck_dp.specs.declared.takers.Takers.{Takers}
-use Rattle.buck_dp.specs.declared.takers.Kind.{Kind}
-use Rattle.buck_dp.specs.inner.Takers.{IsTaker, AreTakersOf}
-use Rattle.buck_dp.specs.inner.Bid.{BidParts}
-use Rattle.buck_dp.specs.inner.Logs.{IsLogAt}
-use Rattle.buck_dp.specs.inner.Parts.{HasTakers}
-use Rattle.buck_dp.specs.inner.Cells.{AreCells}
-use Rattle.buck_dp.specs.inner.Rows.{IsPart}
-use Rattle.buck_dp.specs.inner.Kept.{all_of}
-use Rattle.buck_dp.specs.inner.Site.{IsSite, IsDiameterAt, ground_of}
-use Rattle.buck_dp.specs.declared.planning.Site.{Site}
-use Rattle.buck_dp.specs.declared.offering.Cell.{Cell}
-use Rattle.buck_dp.specs.declared.offering.Reach.{Reach}
 use Rattle.buck_dp.proofs.PartLemmas.{cells_part}
 
 -- a mask of a profile is one of its stem

@@ -1,7 +1,5 @@
 -- Lengths in steps of the module.
-use Rattle.std.proofs.Common.{◌≡◌, ℕ, ◌*◌, ◌/◌, ◌%◌, ◌<◌, ap, inl, inr, arith, mul_comm, rules}
-use Rattle.std.proofs.Math.Nat.{div-add-mod}
-use Rattle.std.proofs.lemmas.Bool.{cases_lt}
+use Rattle.buck_dp.proofs.Words.{◌≡◌, ℕ, ◌*◌, ◌/◌, ◌%◌, ◌<◌, ap, inl, inr, arith, mul_comm, rules, div-add-mod, cases_lt}
 
 -- a multiple of a step, in steps
 pub whole_steps : (l step : ℕ) → l % step ≡ 0 → l / step * step ≡ l

@@ -1,18 +1,5 @@
 -- The search goes on by a top.
-use Rattle.std.proofs.Common.{◌≡◌, ◌≢◌, ℕ, zero, suc, ◌+◌, ◌-◌, ◌*◌, ◌/◌, ◌<◌, ◌≤◌, ◌⊎◌, inl, inr, List, ◌++◌, take, length, get_or, slice_get, Some, refl, sym, subst, ap, ◌∙◌, arith, mul-le-mul_right, add-mul, rules}
-use Rattle.std.proofs.lemmas.Bool.{cases_lt, cases_order}
-use Rattle.std.proofs.lemmas.Option.{slice_get_within}
-use Rattle.buck_dp.specs.inner.Points.{GroundParts, ends_of}
-use Rattle.buck_value.specs.Sheet.{IsSheet}
-use Rattle.buck_value.proofs.Rates.{worth_low}
-use Rattle.buck_dp.specs.declared.offering.Cell.{Cell}
-use Rattle.buck_dp.specs.inner.Bid.{BidParts, bid_of, none, IsAtMost, IsGreater, plus}
-use Rattle.buck_dp.specs.inner.Logs.{IsLogAt, IsLow, bid_at}
-use Rattle.buck_dp.specs.inner.Rows.{IsNear, IsPart, IsServed, IsBeaten, AreOffered, AreFit}
-use Rattle.buck_dp.specs.inner.Searched.{IsSettled, Reaches, AreSearched}
-use Rattle.std.proofs.Math.Seq.{take-append_seam}
-use Rattle.buck_stem.specs.Stem.{IsStem, stem_length}
-use Rattle.std.proofs.Math.Nat.{div-mul-le_self}
+use Rattle.buck_dp.proofs.Words.{◌≡◌, ◌≢◌, ℕ, zero, suc, ◌+◌, ◌-◌, ◌*◌, ◌/◌, ◌<◌, ◌≤◌, ◌⊎◌, inl, inr, List, ◌++◌, take, length, get_or, slice_get, Some, refl, sym, subst, ap, ◌∙◌, arith, mul-le-mul_right, add-mul, rules, cases_lt, cases_order, slice_get_within, GroundParts, ends_of, IsSheet, worth_low, Cell, BidParts, bid_of, none, IsAtMost, IsGreater, plus, IsLogAt, IsLow, bid_at, IsNear, IsPart, IsServed, IsBeaten, AreOffered, AreFit, IsSettled, Reaches, AreSearched, take-append_seam, IsStem, stem_length, div-mul-le_self}
 use Rattle.buck_dp.proofs.CellLemmas.{later_same as later_same_of}
 use Rattle.buck_dp.proofs.BidLemmas.{IsAtMost-trans, worth_at_most, greater_first, greater_second, plus_at_most}
 

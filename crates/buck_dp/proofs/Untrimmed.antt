@@ -1,12 +1,5 @@
 -- Where each trim is 0, a cutting is admissible as if there were none.
-use Rattle.std.proofs.Common.{◌≡◌, ℕ, List, [], ◌∷◌, subst, sym, ap, arith, rules}
-use Rattle.buck_apt.specs.Instruction.{InstructionParts}
-use Rattle.buck_stem.specs.Stem.{StemParts}
-use Rattle.buck_value.specs.declared.log.Log.{Log}
-use Rattle.buck_value.specs.Allowed.{IsAllowed, top_of, trim_in, end_of}
-use Rattle.buck_value.specs.Untrimmed.{HasNoTrim, IsAllowedUntrimmed}
-use Rattle.buck_value.proofs.Untrimmed.{no_trim, without_trim, with_trim}
-use Rattle.buck_dp.specs.Cutting.{IsCutFrom}
+use Rattle.buck_dp.proofs.Words.{◌≡◌, ℕ, List, [], ◌∷◌, subst, sym, ap, arith, rules, InstructionParts, StemParts, Log, IsAllowed, top_of, trim_in, end_of, HasNoTrim, IsAllowedUntrimmed, no_trim, without_trim, with_trim, IsCutFrom}
 
 -- a log ends with its length
 ends_same : (i : InstructionParts) (stem : StemParts) (g : Log) → HasNoTrim i → IsAllowedUntrimmed i stem g

@@ -1,22 +1,6 @@
 -- Searched values give the best from each point on, and following their choices from the butt gives the first best
 -- cutting.
-use Rattle.std.proofs.Common.{◌≡◌, ℕ, zero, suc, ◌+◌, ◌-◌, ◌*◌, ◌<◌, ◌≤◌, inl, inr, List, [], ◌∷◌, ◌++◌, length, get_or, slice_index, append_assoc, refl, sym, ◌∙◌, subst, ap, arith, add-mul, mul-le-mul_right, rules}
-use Rattle.std.proofs.lemmas.Bool.{cases_lt}
-use Rattle.std.proofs.lemmas.List.{append-nil, get_or_past}
-use Rattle.std.proofs.lemmas.List.Sums.{sum_by-cons}
-use Rattle.std.proofs.Math.Nat.{mul-mod_left}
-use Rattle.buck_stem.specs.Stem.{StemParts, stem_length}
-use Rattle.buck_value.specs.declared.log.Log.{Log}
-use Rattle.buck_value.specs.Sheet.{SheetParts, IsSheet}
-use Rattle.buck_value.specs.Allowed.{IsAllowed, worth_of, end_of}
-use Rattle.buck_bid.specs.Offers.{AreCodes, HasMark, code_of}
-use Rattle.buck_dp.specs.Best.{IsFirstBest, cutting_worth}
-use Rattle.buck_dp.specs.Cutting.{IsCutFrom}
-use Rattle.buck_dp.specs.inner.Points.{GroundParts, points_of, ends_of, point_after}
-use Rattle.buck_dp.specs.inner.Bid.{BidParts, bid_of, none}
-use Rattle.buck_dp.specs.inner.Logs.{IsLogAt, bid_at}
-use Rattle.buck_dp.specs.inner.Searched.{AreSearched}
-use Rattle.buck_dp.specs.inner.Table.{IsTop, IsAtOrBefore}
+use Rattle.buck_dp.proofs.Words.{◌≡◌, ℕ, zero, suc, ◌+◌, ◌-◌, ◌*◌, ◌<◌, ◌≤◌, inl, inr, List, [], ◌∷◌, ◌++◌, length, get_or, slice_index, append_assoc, refl, sym, ◌∙◌, subst, ap, arith, add-mul, mul-le-mul_right, rules, cases_lt, append-nil, get_or_past, sum_by-cons, mul-mod_left, StemParts, stem_length, Log, SheetParts, IsSheet, IsAllowed, worth_of, end_of, AreCodes, HasMark, code_of, IsFirstBest, cutting_worth, IsCutFrom, GroundParts, points_of, ends_of, point_after, BidParts, bid_of, none, IsLogAt, bid_at, AreSearched, IsTop, IsAtOrBefore}
 use Rattle.buck_dp.proofs.Bounds.{end_within}
 use Rattle.buck_dp.proofs.Logs.{log_there}
 use Rattle.buck_dp.proofs.Marks.{assortment_low, mark_code, mark_high, mark_place, marks_before, marks_same, code_parts}

@@ -1,13 +1,5 @@
 -- Following the values from the butt.
-use Rattle.std.proofs.Common.{◌≡◌, ◌≢◌, ℕ, zero, suc, ◌<◌, inl, inr, List, [], ◌∷◌, ◌++◌, length, get_or, sum_by, refl, sym, arith, rules}
-use Rattle.buck_value.specs.declared.log.Log.{Log}
-use Rattle.buck_value.specs.Allowed.{IsAllowed, worth_of, end_of}
-use Rattle.buck_stem.specs.Stem.{StemParts}
-use Rattle.buck_value.specs.Sheet.{SheetParts}
-use Rattle.buck_dp.specs.Cutting.{IsCutFrom}
-use Rattle.buck_dp.specs.inner.Table.{IsTop, IsAtOrBefore}
-use Rattle.buck_dp.specs.Order.{IsBefore}
-use Rattle.buck_dp.specs.Best.{IsFirstBest}
+use Rattle.buck_dp.proofs.Words.{◌≡◌, ◌≢◌, ℕ, zero, suc, ◌<◌, inl, inr, List, [], ◌∷◌, ◌++◌, length, get_or, sum_by, refl, sym, arith, rules, Log, IsAllowed, worth_of, end_of, StemParts, SheetParts, IsCutFrom, IsTop, IsAtOrBefore, IsBefore, IsFirstBest}
 
 -- whatever best list goes on from `from`, the logs so far with it are the best
 abbrev pub AnyRest : SheetParts → StemParts → ℕ → List Log → Type 0

@@ -1,4 +1,4 @@
-use Rattle.std.proofs.Common.{Ok, Err}
+use Rattle.buck_bid.proofs.Words.{Ok, Err}
 use Rattle.buck_bid.proofs.LimitLemmas.{band_found}
 use Rattle.buck_bid.proofs.limits.band_of.Goals as goal
 

@@ -1,7 +1,4 @@
-use Rattle.std.proofs.Common.{◌≡◌, ℕ, Contains, length, slice_get, Some, arith, subst, sym, ap, ◌∙◌, inl, inr}
-use Rattle.std.proofs.lemmas.Bool.{cases_lt}
-use Rattle.std.proofs.lemmas.Option.{slice_get_within, same_Some}
-use Rattle.buck_apt.specs.Instruction.{AssortmentParts}
+use Rattle.buck_bid.proofs.Words.{◌≡◌, ℕ, Contains, length, slice_get, Some, arith, subst, sym, ap, ◌∙◌, inl, inr, cases_lt, slice_get_within, same_Some, AssortmentParts}
 use Rattle.buck_bid.proofs.ListLemmas.{read_at}
 use Rattle.buck_bid.proofs.limits.limits_of.Goals as goal
 

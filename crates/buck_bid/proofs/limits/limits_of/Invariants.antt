@@ -1,5 +1,4 @@
-use Rattle.std.proofs.Common.{◌≡◌, ℕ, ◌<◌, Contains, slice_get, Some}
-use Rattle.buck_apt.specs.Instruction.{AssortmentParts}
+use Rattle.buck_bid.proofs.Words.{◌≡◌, ℕ, ◌<◌, Contains, slice_get, Some, AssortmentParts}
 use Rattle.buck_bid.proofs.limits.limits_of.Given as goal
 
 abbrev pub invariant-loop-place : goal.invariant-loop-place

@@ -1,9 +1,4 @@
-use Rattle.std.proofs.Common.{◌≡◌, ℕ, ◌<◌, ◌≤◌, ◌%◌, Contains, length, get_or, slice_get, Some, arith, subst, sym, ap, inl, inr, List}
-use Rattle.std.proofs.lemmas.Bool.{cases_lt}
-use Rattle.std.proofs.lemmas.Option.{slice_get_within}
-use Rattle.std.proofs.lemmas.List.Elements.{Contains-get_or}
-use Rattle.buck_apt.specs.Instruction.{AssortmentParts}
-use Rattle.buck_bid.specs.Offers.{code_of, IsWhole}
+use Rattle.buck_bid.proofs.Words.{◌≡◌, ℕ, ◌<◌, ◌≤◌, ◌%◌, Contains, length, get_or, slice_get, Some, arith, subst, sym, ap, inl, inr, List, cases_lt, slice_get_within, Contains-get_or, AssortmentParts, code_of, IsWhole}
 use Rattle.buck_bid.proofs.ListLemmas.{lengths_at, at_place, read_at, on_module}
 use Rattle.buck_bid.proofs.offers.codes_of.Goals as goal
 

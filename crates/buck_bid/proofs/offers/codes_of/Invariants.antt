@@ -1,6 +1,4 @@
-use Rattle.std.proofs.Common.{◌≡◌, ℕ, ◌*◌, ◌<◌, ◌≤◌, All, Contains, length, slice_get, Some}
-use Rattle.buck_apt.specs.Instruction.{AssortmentParts}
-use Rattle.buck_bid.specs.Offers.{code_of, IsWhole}
+use Rattle.buck_bid.proofs.Words.{◌≡◌, ℕ, ◌*◌, ◌<◌, ◌≤◌, All, Contains, length, slice_get, Some, AssortmentParts, code_of, IsWhole}
 use Rattle.buck_bid.proofs.offers.codes_of.Given as goal
 
 abbrev pub invariant-loop-place : goal.invariant-loop-place

@@ -1,7 +1,4 @@
-use Rattle.std.proofs.Common.{◌≡◌, ℕ, ◌<◌, ◌++◌, List, All, [], ◌∷◌, take, take_all, length, sym, ◌∙◌, ap, subst, arith}
-use Rattle.std.proofs.lemmas.List.{map-append, take_more}
-use Rattle.buck_bid.specs.declared.offers.Offer.{Offer}
-use Rattle.buck_bid.specs.Offers.{code_of, codes_in, AreCodes, IsWhole}
+use Rattle.buck_bid.proofs.Words.{◌≡◌, ℕ, ◌<◌, ◌++◌, List, All, [], ◌∷◌, take, take_all, length, sym, ◌∙◌, ap, subst, arith, map-append, take_more, Offer, code_of, codes_in, AreCodes, IsWhole}
 use Rattle.buck_bid.proofs.ListLemmas.{push_each}
 use Rattle.buck_bid.proofs.offers.offers_of.Goals as goal
 

@@ -1,6 +1,4 @@
-use Rattle.std.proofs.Common.{◌≡◌, ℕ, ◌<◌, take, slice_get, Some}
-use Rattle.buck_bid.specs.declared.offers.Offer.{Offer}
-use Rattle.buck_bid.specs.Offers.{codes_in}
+use Rattle.buck_bid.proofs.Words.{◌≡◌, ℕ, ◌<◌, take, slice_get, Some, Offer, codes_in}
 use Rattle.buck_bid.proofs.offers.offers_of.Given as goal
 
 abbrev pub invariant-loop-code : goal.invariant-loop-code

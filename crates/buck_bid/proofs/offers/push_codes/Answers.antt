@@ -1,7 +1,4 @@
-use Rattle.std.proofs.Common.{Contains, slice_index, arith, refl}
-use Rattle.std.proofs.lemmas.Grind.{common_steps}
-use Rattle.std.proofs.lemmas.List.Elements.{Contains-append_left, All-push}
-use Rattle.buck_bid.specs.Offers.{code_of, IsWhole}
+use Rattle.buck_bid.proofs.Words.{Contains, slice_index, arith, refl, common_steps, Contains-append_left, All-push, code_of, IsWhole}
 use Rattle.buck_bid.proofs.ListLemmas.{each_more, has_pushed, at_place, whole_code}
 use Rattle.buck_bid.proofs.offers.push_codes.Goals as goal
 

@@ -1,5 +1,4 @@
-use Rattle.std.proofs.Common.{◌≡◌, ℕ, ◌+◌, ◌<◌, ◌%◌, All, Contains, length, slice_index}
-use Rattle.buck_bid.specs.Offers.{code_of, IsWhole}
+use Rattle.buck_bid.proofs.Words.{◌≡◌, ℕ, ◌+◌, ◌<◌, ◌%◌, All, Contains, length, slice_index, code_of, IsWhole}
 use Rattle.buck_bid.proofs.offers.push_codes.Given as goal
 
 abbrev pub invariant-loop-length : goal.invariant-loop-length

@@ -1,11 +1,4 @@
-use Rattle.std.proofs.Common.{◌≡◌, ℕ, ◌<◌, ◌≤◌, List, [], length, get_or, refl, slice_get, slice_index, position, ◌==◌, Some, sym, ◌∙◌, ap, subst, arith}
-use Rattle.std.proofs.lemmas.Option.{same_Some}
-use Rattle.buck_apt.specs.Instruction.{AssortmentParts, InstructionParts, IsInstruction, index_of}
-use Rattle.buck_value.specs.Allowed.{row_at}
-use Rattle.buck_value.specs.Sheet.{SheetParts}
-use Rattle.buck_value.proofs.Classes.{column_none}
-use Rattle.buck_bid.specs.Limits.{IsBand}
-use Rattle.buck_bid.specs.Quotes.{IsPriced, IsPricedAt}
+use Rattle.buck_bid.proofs.Words.{◌≡◌, ℕ, ◌<◌, ◌≤◌, List, [], length, get_or, refl, slice_get, slice_index, position, ◌==◌, Some, sym, ◌∙◌, ap, subst, arith, same_Some, AssortmentParts, InstructionParts, IsInstruction, index_of, row_at, SheetParts, column_none, IsBand, IsPriced, IsPricedAt}
 use Rattle.buck_bid.proofs.ListLemmas.{read_at}
 use Rattle.buck_bid.proofs.Priced.{IsFound, none_priced, each_priced, is_class, worth_is, length_low, thin_band}
 use Rattle.buck_bid.proofs.prices.pricing_of.Goals as goal

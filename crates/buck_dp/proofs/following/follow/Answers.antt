@@ -1,8 +1,4 @@
-use Rattle.std.proofs.Common.{◌≡◌, ◌*◌, ◌++◌, [], ◌∷◌, ℕ, List, arith, subst, rules}
-use Rattle.buck_value.specs.declared.log.Log.{Log}
-use Rattle.buck_dp.specs.inner.Points.{GroundParts, ground_with}
-use Rattle.buck_bid.specs.Offers.{codes_in}
-use Rattle.buck_bid.proofs.OfferLemmas.{codes_number}
+use Rattle.buck_dp.proofs.Words.{◌≡◌, ◌*◌, ◌++◌, [], ◌∷◌, ℕ, List, arith, subst, rules, Log, GroundParts, ground_with, codes_in, codes_number}
 use Rattle.buck_dp.proofs.Walk.{AnyRest}
 use Rattle.buck_dp.proofs.Values.{walk_skip, choice_within, walk_log, walk_end}
 use Rattle.buck_dp.proofs.following.follow.Goals as goal

@@ -1,6 +1,4 @@
-use Rattle.std.proofs.Common.{◌≤◌, ◌*◌, ◌-◌}
-use Rattle.buck_dp.specs.inner.Points.{ground_with, ends_of}
-use Rattle.buck_bid.specs.Offers.{codes_in}
+use Rattle.buck_dp.proofs.Words.{◌≤◌, ◌*◌, ◌-◌, ground_with, ends_of, codes_in}
 use Rattle.buck_dp.proofs.Walk.{AnyRest}
 use Rattle.buck_dp.proofs.following.follow.Given as goal
 

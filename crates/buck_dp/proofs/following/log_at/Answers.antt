@@ -1,7 +1,4 @@
-use Rattle.std.proofs.Common.{◌-◌, get_or, sym, rules}
-use Rattle.std.proofs.lemmas.Option.{slice_get-get_or}
-use Rattle.buck_bid.specs.declared.offers.Offer.{Offer}
-use Rattle.buck_bid.proofs.OfferLemmas.{code_index}
+use Rattle.buck_dp.proofs.Words.{◌-◌, get_or, sym, rules, slice_get-get_or, Offer, code_index}
 use Rattle.buck_dp.proofs.following.log_at.Goals as goal
 
 pub returns-clause-code : goal.returns-clause-code

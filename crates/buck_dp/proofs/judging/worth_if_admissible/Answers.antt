@@ -1,9 +1,4 @@
-use Rattle.std.proofs.Common.{◌≡◌, ◌+◌, ◌∷◌, drop, get_or, drop-cons, add-one, subst, sym, arith, rules}
-use Rattle.std.proofs.lemmas.List.Sums.{sum_by_more}
-use Rattle.buck_value.specs.declared.log.Log.{Log}
-use Rattle.buck_value.specs.Allowed.{IsAllowed, worth_of, end_of}
-use Rattle.buck_value.proofs.Rates.{worth_low}
-use Rattle.buck_dp.specs.Cutting.{IsCutFrom}
+use Rattle.buck_dp.proofs.Words.{◌≡◌, ◌+◌, ◌∷◌, drop, get_or, drop-cons, add-one, subst, sym, arith, rules, sum_by_more, Log, IsAllowed, worth_of, end_of, worth_low, IsCutFrom}
 use Rattle.buck_dp.proofs.judging.worth_if_admissible.Goals as goal
 
 pub overflow_add-total : goal.overflow_add-total

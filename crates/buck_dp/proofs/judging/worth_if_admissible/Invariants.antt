@@ -1,7 +1,4 @@
-use Rattle.std.proofs.Common.{take, drop, ◌≡◌, ◌≤◌, ◌*◌, ◌↔◌, sum_by}
-use Rattle.buck_value.specs.Allowed.{IsAllowed, worth_of, end_of}
-use Rattle.buck_dp.specs.Cutting.{IsCutFrom}
-use Rattle.buck_dp.specs.Best.{IsAdmissible}
+use Rattle.buck_dp.proofs.Words.{take, drop, ◌≡◌, ◌≤◌, ◌*◌, ◌↔◌, sum_by, IsAllowed, worth_of, end_of, IsCutFrom, IsAdmissible}
 use Rattle.buck_dp.proofs.judging.worth_if_admissible.Given as goal
 
 abbrev pub invariant-loop-log : goal.invariant-loop-log

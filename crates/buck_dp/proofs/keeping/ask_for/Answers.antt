@@ -1,4 +1,4 @@
-use Rattle.buck_bid.proofs.LimitLemmas.{band_is}
+use Rattle.buck_dp.proofs.Words.{band_is}
 use Rattle.buck_dp.proofs.keeping.ask_for.Goals as goal
 
 pub returns-clause-band : goal.returns-clause-band

@@ -1,13 +1,4 @@
-use Rattle.std.proofs.Common.{◌≡◌, ℕ, List, Option, length, sym, subst, ap, rules, arith}
-use Rattle.buck_value.specs.Sheet.{SheetParts}
-use Rattle.buck_bid.specs.Offers.{codes_in}
-use Rattle.buck_dp.specs.declared.index.Key.{Key}
-use Rattle.buck_dp.specs.declared.menu.Menu.{Menu}
-use Rattle.buck_dp.specs.declared.pricing.Ask.{Ask}
-use Rattle.buck_dp.specs.declared.pricing.Quote.{Quote}
-use Rattle.buck_dp.specs.declared.pricing.Term.{Term}
-use Rattle.buck_dp.specs.inner.Kept.{ask_of, ListOf}
-use Rattle.buck_dp.specs.inner.Quotes.{AreTerms, AreQuotes}
+use Rattle.buck_dp.proofs.Words.{◌≡◌, ℕ, List, Option, length, sym, subst, ap, rules, arith, SheetParts, codes_in, Key, Menu, Ask, Quote, Term, ask_of, ListOf, AreTerms, AreQuotes}
 use Rattle.buck_dp.proofs.KeptLemmas.{put_behind}
 use Rattle.buck_dp.proofs.keeping.make_list.Goals as goal
 

@@ -1,10 +1,4 @@
-use Rattle.std.proofs.Common.{ℕ, List, length, subst, ap, arith, rules}
-use Rattle.buck_bid.specs.Offers.{codes_in}
-use Rattle.buck_dp.specs.declared.index.Key.{Key}
-use Rattle.buck_dp.specs.declared.offering.Cell.{Cell}
-use Rattle.buck_dp.specs.declared.takers.Takers.{Takers}
-use Rattle.buck_dp.specs.inner.Cells.{AreCells}
-use Rattle.buck_dp.specs.inner.Kept.{all_of, RowOf}
+use Rattle.buck_dp.proofs.Words.{ℕ, List, length, subst, ap, arith, rules, codes_in, Key, Cell, Takers, AreCells, all_of, RowOf}
 use Rattle.buck_dp.proofs.KeptLemmas.{put_behind}
 use Rattle.buck_dp.proofs.QuoteLemmas.{row_cells, rank_offered}
 use Rattle.buck_dp.proofs.keeping.make_row.Goals as goal

@@ -1,13 +1,4 @@
-use Rattle.std.proofs.Common.{ℕ, List, Option, length, sym, subst, ap, ◌∙◌, arith, rules}
-use Rattle.buck_apt.specs.Instruction.{InstructionParts}
-use Rattle.buck_bid.specs.declared.offers.Offer.{Offer}
-use Rattle.buck_bid.specs.Limits.{IsBandOf}
-use Rattle.buck_bid.specs.Offers.{codes_in}
-use Rattle.buck_dp.specs.declared.index.Key.{Key}
-use Rattle.buck_dp.specs.declared.pricing.Ask.{Ask}
-use Rattle.buck_dp.specs.declared.pricing.Term.{Term}
-use Rattle.buck_dp.specs.inner.Kept.{ask_of, TermsOf}
-use Rattle.buck_dp.specs.inner.Quotes.{AreTerms}
+use Rattle.buck_dp.proofs.Words.{ℕ, List, Option, length, sym, subst, ap, ◌∙◌, arith, rules, InstructionParts, Offer, IsBandOf, codes_in, Key, Ask, Term, ask_of, TermsOf, AreTerms}
 use Rattle.buck_dp.proofs.KeptLemmas.{put_behind}
 use Rattle.buck_dp.proofs.keeping.make_terms.Goals as goal
 

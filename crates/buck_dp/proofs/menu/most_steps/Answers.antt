@@ -1,6 +1,4 @@
-use Rattle.std.proofs.Common.{◌-◌, ◌*◌, length, sym, ap, arith, rules}
-use Rattle.std.proofs.lemmas.Grind.{div_ceil_times}
-use Rattle.std.proofs.lemmas.Option.{slice_get_within}
+use Rattle.buck_dp.proofs.Words.{◌-◌, ◌*◌, length, sym, ap, arith, rules, div_ceil_times, slice_get_within}
 use Rattle.buck_dp.proofs.PricingLemmas.{no_shorter}
 use Rattle.buck_dp.proofs.menu.most_steps.Goals as goal
 

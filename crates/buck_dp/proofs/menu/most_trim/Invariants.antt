@@ -1,5 +1,4 @@
-use Rattle.std.proofs.Common.{◌≡◌, ℕ, ◌<◌, ◌≤◌, slice_get, Some}
-use Rattle.buck_apt.specs.Instruction.{AssortmentParts}
+use Rattle.buck_dp.proofs.Words.{◌≡◌, ℕ, ◌<◌, ◌≤◌, slice_get, Some, AssortmentParts}
 use Rattle.buck_dp.proofs.menu.most_trim.Given as goal
 
 abbrev pub invariant-loop-place : goal.invariant-loop-place

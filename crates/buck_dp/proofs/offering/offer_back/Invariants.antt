@@ -1,4 +1,4 @@
-use Rattle.buck_dp.specs.inner.Rows.{AreOffered}
+use Rattle.buck_dp.proofs.Words.{AreOffered}
 use Rattle.buck_dp.proofs.offering.offer_back.Given as goal
 
 abbrev pub invariant-loop-cell : goal.invariant-loop-cell

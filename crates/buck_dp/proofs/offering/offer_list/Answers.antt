@@ -1,10 +1,4 @@
-use Rattle.std.proofs.Common.{ℕ, List, ◌+◌, length, length-append, ◌≡◌, ◌++◌, ◌∷◌, [], get_or, slice_get, Some, refl, sym, subst, ap, arith, rules}
-use Rattle.std.proofs.lemmas.Option.{slice_get-get_or}
-use Rattle.buck_dp.specs.declared.offering.Cell.{Cell}
-use Rattle.buck_dp.specs.declared.pricing.Quote.{Quote}
-use Rattle.buck_bid.proofs.ListLemmas.{pushed_at}
-use Rattle.buck_dp.specs.inner.Drawn.{cell_of, IsDrawn}
-use Rattle.buck_dp.specs.inner.Rows.{AreOffered}
+use Rattle.buck_dp.proofs.Words.{ℕ, List, ◌+◌, length, length-append, ◌≡◌, ◌++◌, ◌∷◌, [], get_or, slice_get, Some, refl, sym, subst, ap, arith, rules, slice_get-get_or, Cell, Quote, pushed_at, cell_of, IsDrawn, AreOffered}
 use Rattle.buck_dp.proofs.CellLemmas.{offered_none, offered_behind, offered_more}
 use Rattle.buck_dp.proofs.QuoteLemmas.{blank, drawn_none, drawn_skip, drawn_push}
 use Rattle.buck_dp.proofs.offering.offer_list.Goals.{in-Some, in_default}

@@ -1,7 +1,4 @@
-use Rattle.std.proofs.Common.{List, length}
-use Rattle.buck_dp.specs.declared.offering.Cell.{Cell}
-use Rattle.buck_dp.specs.inner.Drawn.{IsDrawn}
-use Rattle.buck_dp.specs.inner.Rows.{AreOffered}
+use Rattle.buck_dp.proofs.Words.{List, length, Cell, IsDrawn, AreOffered}
 use Rattle.buck_dp.proofs.offering.offer_list.Given as goal
 
 abbrev pub invariant-loop-quote : goal.invariant-loop-quote

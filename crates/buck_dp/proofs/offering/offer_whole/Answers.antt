@@ -1,5 +1,4 @@
-use Rattle.std.proofs.Common.{◌-◌, length, ◌++◌, sym, subst, arith, rules}
-use Rattle.buck_dp.specs.inner.Rows.{AreFit, AreOffered}
+use Rattle.buck_dp.proofs.Words.{◌-◌, length, ◌++◌, sym, subst, arith, rules, AreFit, AreOffered}
 use Rattle.buck_dp.proofs.CellLemmas.{fits_back, offered_back}
 use Rattle.buck_dp.proofs.offering.offer_whole.Goals as goal
 

@@ -1,8 +1,4 @@
-use Rattle.std.proofs.Common.{◌≡◌, ◌⊎◌, inl, inr, IsTrue, Bool, false, true≢false, sym, ◌∙◌, rules}
-use Rattle.buck_stem.specs.Stem.{StemParts}
-use Rattle.buck_value.specs.declared.log.Log.{Log}
-use Rattle.buck_value.specs.Sheet.{SheetParts}
-use Rattle.buck_value.specs.Allowed.{IsAllowed}
+use Rattle.buck_dp.proofs.Words.{◌≡◌, ◌⊎◌, inl, inr, IsTrue, Bool, false, true≢false, sym, ◌∙◌, rules, StemParts, Log, SheetParts, IsAllowed}
 use Rattle.buck_dp.proofs.Values.{nothing_first}
 use Rattle.buck_dp.proofs.planner.best_under.Goals as goal
 

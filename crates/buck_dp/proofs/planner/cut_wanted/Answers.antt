@@ -1,13 +1,6 @@
-use Rattle.std.proofs.Common.{◌≡◌, ◌≤◌, ◌∙◌, ℕ, List, ap, subst, arith, rules}
-use Rattle.buck_stem.specs.Stem.{StemParts, IsStem}
-use Rattle.buck_stem.specs.points.Profile.{ProfileParts, profile_of}
-use Rattle.buck_value.specs.declared.log.Log.{Log}
-use Rattle.buck_bid.specs.Offers.{codes_in}
-use Rattle.buck_dp.specs.inner.Points.{GroundParts, ground_with}
-use Rattle.buck_dp.specs.Best.{IsFirstBest, cutting_worth}
+use Rattle.buck_dp.proofs.Words.{◌≡◌, ◌≤◌, ◌∙◌, ℕ, List, ap, subst, arith, rules, StemParts, IsStem, ProfileParts, profile_of, Log, codes_in, GroundParts, ground_with, IsFirstBest, cutting_worth, AreSearched}
 use Rattle.buck_dp.proofs.Lists.{worth_bounded}
 use Rattle.buck_dp.proofs.Walk.{top_is_first_best}
-use Rattle.buck_dp.specs.inner.Searched.{AreSearched}
 use Rattle.buck_dp.proofs.Values.{walk_worth}
 use Rattle.buck_dp.proofs.planner.cut_wanted.Goals as goal
 

@@ -1,8 +1,4 @@
-use Rattle.std.proofs.Common.{◌≡◌, ◌<◌, List, length, slice_get, Some, inl, inr, sym, ◌∙◌, ap, arith, rules}
-use Rattle.std.proofs.lemmas.Bool.{cases_lt}
-use Rattle.std.proofs.lemmas.Option.{same_Some, slice_get_within}
-use Rattle.buck_apt.specs.Instruction.{AssortmentParts}
-use Rattle.buck_value.proofs.Stands.{stands}
+use Rattle.buck_dp.proofs.Words.{◌≡◌, ◌<◌, List, length, slice_get, Some, inl, inr, sym, ◌∙◌, ap, arith, rules, cases_lt, same_Some, slice_get_within, AssortmentParts, stands}
 use Rattle.buck_dp.proofs.planner.is_wanted.Goals as goal
 
 pub loop-assortment-preserved : goal.loop-assortment-preserved

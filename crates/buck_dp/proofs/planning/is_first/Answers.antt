@@ -1,5 +1,4 @@
-use Rattle.std.proofs.Common.{◌-◌, ℕ, arith, rules}
-use Rattle.buck_dp.specs.inner.Site.{ground_of}
+use Rattle.buck_dp.proofs.Words.{◌-◌, ℕ, arith, rules, ground_of}
 use Rattle.buck_dp.proofs.SiteLemmas.{none_before}
 use Rattle.buck_dp.proofs.planning.is_first.Goals as goal
 

@@ -1,5 +1,4 @@
-use Rattle.std.proofs.Common.{arith, rules}
-use Rattle.buck_dp.specs.inner.Site.{ground_of}
+use Rattle.buck_dp.proofs.Words.{arith, rules, ground_of}
 use Rattle.buck_dp.proofs.SiteLemmas.{point_reached, too_long}
 use Rattle.buck_dp.proofs.planning.near_part.Goals as goal
 

@@ -1,8 +1,4 @@
-use Rattle.std.proofs.Common.{ℕ, sym, subst, arith, ◌∙◌, rules}
-use Rattle.buck_dp.specs.inner.Points.{GroundParts}
-use Rattle.buck_dp.specs.inner.Logs.{IsLogAt}
-use Rattle.buck_dp.specs.inner.Rows.{IsPart}
-use Rattle.buck_dp.specs.inner.Site.{ground_of}
+use Rattle.buck_dp.proofs.Words.{ℕ, sym, subst, arith, ◌∙◌, rules, GroundParts, IsLogAt, IsPart, ground_of}
 use Rattle.buck_dp.proofs.SiteLemmas.{row_offered}
 use Rattle.buck_dp.proofs.planning.offer_cells.Goals as goal
 

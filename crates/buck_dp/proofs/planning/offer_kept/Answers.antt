@@ -1,4 +1,4 @@
-use Rattle.std.proofs.Common.{◌≡◌, ◌-◌, ℕ, List, slice_index, sym, ap, ◌∙◌, arith}
+use Rattle.buck_dp.proofs.Words.{◌≡◌, ◌-◌, ℕ, List, slice_index, sym, ap, ◌∙◌, arith}
 use Rattle.buck_dp.proofs.SiteLemmas.{known_of}
 use Rattle.buck_dp.proofs.planning.offer_kept.Goals as goal
 

@@ -1,5 +1,4 @@
-use Rattle.std.proofs.Common.{◌≡◌, ◌≤◌}
-use Rattle.buck_dp.specs.inner.Site.{ground_of}
+use Rattle.buck_dp.proofs.Words.{◌≡◌, ◌≤◌, ground_of}
 use Rattle.buck_dp.proofs.planning.offer_kept.Given as goal
 
 abbrev pub invariant-loop-search : goal.invariant-loop-search

@@ -1,15 +1,4 @@
-use Rattle.std.proofs.Common.{◌≡◌, ◌+◌, ◌-◌, ◌*◌, ◌≤◌, ◌⊎◌, inl, inr, ℕ, List, length, slice_get, slice_index, Some, sym, subst, ap, arith, rules}
-use Rattle.std.proofs.lemmas.Bool.{cases_lt}
-use Rattle.buck_stem.specs.Stem.{stem_length}
-use Rattle.buck_bid.specs.Offers.{codes_in}
-use Rattle.buck_dp.specs.inner.Points.{GroundParts}
-use Rattle.buck_dp.specs.declared.offering.Reach.{Reach}
-use Rattle.buck_dp.specs.inner.Cells.{AreCells}
-use Rattle.buck_dp.specs.inner.Rows.{IsPart}
-use Rattle.buck_dp.specs.declared.index.Key.{Key}
-use Rattle.buck_dp.specs.declared.pricing.Quote.{Quote}
-use Rattle.buck_dp.specs.inner.Kept.{ask_of}
-use Rattle.buck_dp.specs.inner.Quotes.{AreQuotes}
+use Rattle.buck_dp.proofs.Words.{◌≡◌, ◌+◌, ◌-◌, ◌*◌, ◌≤◌, ◌⊎◌, inl, inr, ℕ, List, length, slice_get, slice_index, Some, sym, subst, ap, arith, rules, cases_lt, stem_length, codes_in, GroundParts, Reach, AreCells, IsPart, Key, Quote, ask_of, AreQuotes}
 use Rattle.buck_dp.proofs.QuoteLemmas.{row_cells, rank_offered}
 use Rattle.buck_dp.proofs.SiteLemmas.{known_of, point_reached, part_offered}
 use Rattle.buck_dp.proofs.planning.offer_part.Goals as goal

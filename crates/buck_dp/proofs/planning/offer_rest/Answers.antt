@@ -1,8 +1,4 @@
-use Rattle.std.proofs.Common.{◌-◌, ℕ, sym, subst, arith, rules}
-use Rattle.buck_dp.specs.inner.Points.{GroundParts}
-use Rattle.buck_dp.specs.inner.Logs.{IsLogAt}
-use Rattle.buck_dp.specs.inner.Parts.{HasTakers}
-use Rattle.buck_dp.specs.inner.Site.{ground_of}
+use Rattle.buck_dp.proofs.Words.{◌-◌, ℕ, sym, subst, arith, rules, GroundParts, IsLogAt, HasTakers, ground_of}
 use Rattle.buck_dp.proofs.SiteLemmas.{none_before, too_long}
 use Rattle.buck_dp.proofs.planning.offer_rest.Goals as goal
 

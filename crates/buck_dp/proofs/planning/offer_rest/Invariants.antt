@@ -1,5 +1,4 @@
-use Rattle.std.proofs.Common.{◌≡◌}
-use Rattle.buck_dp.specs.inner.Site.{IsMemoFor, ground_of}
+use Rattle.buck_dp.proofs.Words.{◌≡◌, IsMemoFor, ground_of}
 use Rattle.buck_dp.proofs.planning.offer_rest.Given as goal
 
 abbrev pub invariant-loop-site : goal.invariant-loop-site

@@ -1,7 +1,4 @@
-use Rattle.std.proofs.Common.{◌-◌, ℕ, subst, arith, rules}
-use Rattle.buck_dp.specs.inner.Points.{GroundParts}
-use Rattle.buck_dp.specs.inner.Logs.{IsLogAt}
-use Rattle.buck_dp.specs.inner.Site.{ground_of}
+use Rattle.buck_dp.proofs.Words.{◌-◌, ℕ, subst, arith, rules, GroundParts, IsLogAt, ground_of}
 use Rattle.buck_dp.proofs.SiteLemmas.{none_before, too_short}
 use Rattle.buck_dp.proofs.planning.offer_top.Goals as goal
 

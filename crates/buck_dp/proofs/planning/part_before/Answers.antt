@@ -1,6 +1,4 @@
-use Rattle.std.proofs.Common.{◌≡◌, inl, inr, sym, subst, arith, rules}
-use Rattle.std.specs.Int.{bit_at}
-use Rattle.std.proofs.lemmas.Bool.{cases_lt}
+use Rattle.buck_dp.proofs.Words.{◌≡◌, inl, inr, sym, subst, arith, rules, bit_at, cases_lt}
 use Rattle.buck_dp.proofs.planning.part_before.Goals as goal
 
 pub loop-part-preserved : goal.loop-part-preserved

@@ -1,7 +1,4 @@
-use Rattle.std.proofs.Common.{ℕ, ◌<◌, ◌≤◌}
-use Rattle.buck_dp.specs.inner.Parts.{HasTakers}
-use Rattle.buck_dp.specs.inner.Site.{ground_of}
-use Rattle.buck_dp.specs.inner.Takers.{AreKnown}
+use Rattle.buck_dp.proofs.Words.{ℕ, ◌<◌, ◌≤◌, HasTakers, ground_of, AreKnown}
 use Rattle.buck_dp.proofs.planning.part_before.Given as goal
 
 abbrev pub invariant-loop-part : goal.invariant-loop-part

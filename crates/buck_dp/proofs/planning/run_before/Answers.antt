@@ -1,8 +1,5 @@
-use Rattle.std.proofs.Common.{◌<◌, ℕ, sym, subst, arith, rules}
-use Rattle.buck_stem.specs.points.Profile.{ProfileParts}
+use Rattle.buck_dp.proofs.Words.{◌<◌, ℕ, sym, subst, arith, rules, ProfileParts, Kind, ground_of}
 use Rattle.buck_stem.specs.points.Profile as grid
-use Rattle.buck_dp.specs.declared.takers.Kind.{Kind}
-use Rattle.buck_dp.specs.inner.Site.{ground_of}
 use Rattle.buck_dp.proofs.SiteLemmas.{mask_of, kind_takers}
 use Rattle.buck_dp.proofs.planning.run_before.Goals as goal
 

@@ -1,5 +1,4 @@
-use Rattle.std.proofs.Common.{◌-◌, ◌+◌, ℕ, arith, rules}
-use Rattle.buck_dp.specs.inner.Site.{ground_of}
+use Rattle.buck_dp.proofs.Words.{◌-◌, ◌+◌, ℕ, arith, rules, ground_of}
 use Rattle.buck_dp.proofs.SiteLemmas.{mask_of, near_takers}
 use Rattle.buck_dp.proofs.planning.search_run.Goals as goal
 

@@ -1,5 +1,4 @@
-use Rattle.std.proofs.Common.{◌≡◌, ◌<◌, ◌≤◌}
-use Rattle.buck_dp.specs.inner.Site.{IsMemoFor, ground_of}
+use Rattle.buck_dp.proofs.Words.{◌≡◌, ◌<◌, ◌≤◌, IsMemoFor, ground_of}
 use Rattle.buck_dp.proofs.planning.search_run.Given as goal
 
 abbrev pub invariant-loop-near : goal.invariant-loop-near

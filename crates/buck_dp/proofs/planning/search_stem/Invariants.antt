@@ -1,6 +1,4 @@
-use Rattle.std.proofs.Common.{◌≡◌, ◌<◌, ◌≤◌}
-use Rattle.buck_dp.specs.inner.Points.{points_of}
-use Rattle.buck_dp.specs.inner.Site.{IsMemoFor, ground_of}
+use Rattle.buck_dp.proofs.Words.{◌≡◌, ◌<◌, ◌≤◌, points_of, IsMemoFor, ground_of}
 use Rattle.buck_dp.proofs.planning.search_stem.Given as goal
 
 abbrev pub invariant-loop-site : goal.invariant-loop-site

@@ -1,6 +1,4 @@
-use Rattle.std.proofs.Common.{◌≡◌, ◌*◌, ◌∙◌, ap, arith, rules}
-use Rattle.std.proofs.lemmas.Bool.{ltb-true}
-use Rattle.buck_dp.specs.inner.Quotes.{priced_at}
+use Rattle.buck_dp.proofs.Words.{◌≡◌, ◌*◌, ◌∙◌, ap, arith, rules, ltb-true, priced_at}
 use Rattle.buck_dp.proofs.pricing.is_led.Goals as goal
 
 pub returns-then-quote-eq1 : goal.returns-then-quote-eq1

@@ -1,7 +1,4 @@
-use Rattle.std.proofs.Common.{◌≡◌, ◌≢◌, ℕ, ◌+◌, ◌*◌, ◌-◌, ◌/◌, ◌<◌, ◌≤◌, ◌∙◌, ap, subst, arith, rules}
-use Rattle.buck_dp.specs.declared.pricing.Quote.{Quote}
-use Rattle.buck_dp.specs.inner.Bid.{BidParts}
-use Rattle.buck_dp.specs.inner.Quotes.{quote_bid}
+use Rattle.buck_dp.proofs.Words.{◌≡◌, ◌≢◌, ℕ, ◌+◌, ◌*◌, ◌-◌, ◌/◌, ◌<◌, ◌≤◌, ◌∙◌, ap, subst, arith, rules, Quote, BidParts, quote_bid}
 use Rattle.buck_dp.proofs.PruneLemmas.{quote_outbid, under_bar, under_least, per_piece, worth_rises}
 use Rattle.buck_dp.proofs.pricing.leader_of.Goals as goal
 

@@ -1,12 +1,4 @@
-use Rattle.std.proofs.Common.{◌≡◌, ℕ, List, [], ◌∷◌, ◌++◌, Option, Some, None, inl, inr, length, slice_get, slice_index, refl, sym, subst, ap, ◌∙◌, arith, rules}
-use Rattle.std.proofs.lemmas.List.{append-nil}
-use Rattle.std.proofs.lemmas.Option.{slice_get-get_or}
-use Rattle.buck_value.specs.Sheet.{SheetParts, IsSheet}
-use Rattle.buck_dp.specs.declared.pricing.Ask.{Ask}
-use Rattle.buck_dp.specs.declared.pricing.Leader.{Leader}
-use Rattle.buck_dp.specs.declared.pricing.Quote.{Quote}
-use Rattle.buck_dp.specs.declared.pricing.Term.{Term}
-use Rattle.buck_dp.specs.inner.Quotes.{priced_at, IsOver, IsQuoteOf, AreTerms, AreQuotes}
+use Rattle.buck_dp.proofs.Words.{◌≡◌, ℕ, List, [], ◌∷◌, ◌++◌, Option, Some, None, inl, inr, length, slice_get, slice_index, refl, sym, subst, ap, ◌∙◌, arith, rules, append-nil, slice_get-get_or, SheetParts, IsSheet, Ask, Leader, Quote, Term, priced_at, IsOver, IsQuoteOf, AreTerms, AreQuotes}
 use Rattle.buck_dp.proofs.QuoteLemmas.{IsListSoFar, quotes_skip, list_none, list_cut, list_put, put_cleared}
 use Rattle.buck_dp.proofs.pricing.put_list.Goals.{in-None, in-Some+else-not-is_led, in-Some+then-not-is_led}
 use Rattle.buck_dp.proofs.pricing.put_list.Goals as goal

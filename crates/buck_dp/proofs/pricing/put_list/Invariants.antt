@@ -1,6 +1,4 @@
-use Rattle.std.proofs.Common.{◌≡◌, ℕ, ◌+◌, ◌≤◌, List, ◌++◌, length, vec_len, vec_capacity}
-use Rattle.buck_dp.specs.declared.pricing.Quote.{Quote}
-use Rattle.buck_dp.specs.inner.Quotes.{IsLeading, AreTerms}
+use Rattle.buck_dp.proofs.Words.{◌≡◌, ℕ, ◌+◌, ◌≤◌, List, ◌++◌, length, vec_len, vec_capacity, Quote, IsLeading, AreTerms}
 use Rattle.buck_dp.proofs.QuoteLemmas.{IsListSoFar}
 use Rattle.buck_dp.proofs.pricing.put_list.Given as goal
 

@@ -1,6 +1,4 @@
-use Rattle.std.proofs.Common.{◌∷◌, [], ◌++◌, ◌∙◌, List, Option, ap, append_assoc, arith, rules}
-use Rattle.buck_bid.specs.Offers.{codes_in}
-use Rattle.buck_dp.specs.declared.pricing.Term.{Term}
+use Rattle.buck_dp.proofs.Words.{◌∷◌, [], ◌++◌, ◌∙◌, List, Option, ap, append_assoc, arith, rules, codes_in, Term}
 use Rattle.buck_dp.proofs.QuoteLemmas.{terms_put}
 use Rattle.buck_dp.proofs.pricing.put_terms.Goals as goal
 

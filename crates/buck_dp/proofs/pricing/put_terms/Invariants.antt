@@ -1,7 +1,4 @@
-use Rattle.std.proofs.Common.{◌≡◌, ◌++◌, List, Option}
-use Rattle.buck_bid.specs.Offers.{codes_in}
-use Rattle.buck_dp.specs.declared.pricing.Term.{Term}
-use Rattle.buck_dp.specs.inner.Quotes.{AreTerms}
+use Rattle.buck_dp.proofs.Words.{◌≡◌, ◌++◌, List, Option, codes_in, Term, AreTerms}
 use Rattle.buck_dp.proofs.pricing.put_terms.Given as goal
 
 abbrev pub invariant-loop-place : goal.invariant-loop-place

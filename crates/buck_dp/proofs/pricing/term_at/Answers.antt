@@ -1,11 +1,4 @@
-use Rattle.std.proofs.Common.{◌≡◌, ◌<◌, [], true≢false, get_or, slice_get, Some, refl, sym, subst, ◌∙◌, arith, rules}
-use Rattle.std.proofs.lemmas.Option.{slice_get-get_or, slice_get_within}
-use Rattle.buck_apt.specs.Instruction.{InstructionParts}
-use Rattle.buck_value.specs.Sheet.{sheet_of}
-use Rattle.buck_bid.specs.declared.offers.Offer.{Offer}
-use Rattle.buck_bid.specs.Offers.{AreOffers}
-use Rattle.buck_bid.specs.Prices.{HasNoPrice}
-use Rattle.buck_bid.proofs.OfferLemmas.{codes_number}
+use Rattle.buck_dp.proofs.Words.{◌≡◌, ◌<◌, [], true≢false, get_or, slice_get, Some, refl, sym, subst, ◌∙◌, arith, rules, slice_get-get_or, slice_get_within, InstructionParts, sheet_of, Offer, AreOffers, HasNoPrice, codes_number}
 use Rattle.buck_dp.proofs.PricingLemmas.{no_taker, no_price, term_right}
 use Rattle.buck_dp.proofs.pricing.term_at.Goals as goal
 

@@ -1,9 +1,4 @@
-use Rattle.std.proofs.Common.{◌≡◌, List, ◌++◌, ◌∷◌, [], get_or, slice_get, Some, sym, ap, ◌∙◌, append_assoc, arith, rules}
-use Rattle.std.proofs.lemmas.List.{append-nil}
-use Rattle.std.proofs.lemmas.Option.{slice_get-get_or}
-use Rattle.buck_dp.specs.declared.offering.Cell.{Cell}
-use Rattle.buck_dp.specs.declared.pricing.Quote.{Quote}
-use Rattle.buck_dp.specs.inner.Drawn.{cell_of}
+use Rattle.buck_dp.proofs.Words.{◌≡◌, List, ◌++◌, ◌∷◌, [], get_or, slice_get, Some, sym, ap, ◌∙◌, append_assoc, arith, rules, append-nil, slice_get-get_or, Cell, Quote, cell_of}
 use Rattle.buck_dp.proofs.QuoteLemmas.{blank, drawn_none, drawn_skip, drawn_push}
 use Rattle.buck_dp.proofs.rowing.put_row.Goals.{in-Some, in_default}
 use Rattle.buck_dp.proofs.rowing.put_row.Goals as goal

@@ -1,6 +1,4 @@
-use Rattle.std.proofs.Common.{◌≡◌, ◌+◌, ◌≤◌, List, ◌++◌, length, vec_len, vec_capacity}
-use Rattle.buck_dp.specs.declared.offering.Cell.{Cell}
-use Rattle.buck_dp.specs.inner.Drawn.{IsDrawn}
+use Rattle.buck_dp.proofs.Words.{◌≡◌, ◌+◌, ◌≤◌, List, ◌++◌, length, vec_len, vec_capacity, Cell, IsDrawn}
 use Rattle.buck_dp.proofs.rowing.put_row.Given as goal
 
 abbrev pub invariant-loop-quote : goal.invariant-loop-quote

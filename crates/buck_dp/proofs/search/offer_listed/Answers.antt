@@ -1,10 +1,4 @@
-use Rattle.std.proofs.Common.{◌≡◌, ◌+◌, ◌<◌, ◌≤◌, ℕ, drop, List, ◌++◌, length, slice_get, Some, refl, sym, subst, ap, arith, rules}
-use Rattle.buck_dp.specs.declared.offering.Cell.{Cell}
-use Rattle.buck_dp.specs.declared.offering.Reach.{Reach}
-use Rattle.buck_dp.specs.declared.pricing.Quote.{Quote}
-use Rattle.buck_dp.specs.inner.Cells.{IsPlaced}
-use Rattle.buck_dp.specs.inner.Drawn.{IsDrawn}
-use Rattle.buck_dp.specs.inner.Rows.{AreFit, AreOffered}
+use Rattle.buck_dp.proofs.Words.{◌≡◌, ◌+◌, ◌<◌, ◌≤◌, ℕ, drop, List, ◌++◌, length, slice_get, Some, refl, sym, subst, ap, arith, rules, Cell, Reach, Quote, IsPlaced, IsDrawn, AreFit, AreOffered}
 use Rattle.buck_dp.proofs.CellLemmas.{fits_back, offered_back}
 use Rattle.buck_dp.proofs.QuoteLemmas.{drawn_all}
 use Rattle.buck_dp.proofs.TopLemmas.{part_fits, offered_part}

@@ -1,4 +1,4 @@
-use Rattle.std.proofs.Common.{rules}
+use Rattle.buck_dp.proofs.Words.{rules}
 use Rattle.buck_dp.proofs.TopLemmas.{settled_more}
 use Rattle.buck_dp.proofs.search.settle_once.Goals as goal
 

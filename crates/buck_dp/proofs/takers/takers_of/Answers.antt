@@ -1,10 +1,4 @@
-use Rattle.std.proofs.Common.{◌≡◌, ◌↔◌, length, slice_get, Some, subst, sym, ◌∙◌, ap, inl, inr, arith, rules}
-use Rattle.std.specs.Int.{bit_at}
-use Rattle.std.proofs.lemmas.Bool.{cases_lt}
-use Rattle.std.proofs.lemmas.Option.{same_Some, slice_get_within}
-use Rattle.buck_apt.specs.Instruction.{AssortmentParts}
-use Rattle.buck_bid.proofs.ListLemmas.{read_at}
-use Rattle.buck_dp.specs.inner.Takers.{IsTakerOf}
+use Rattle.buck_dp.proofs.Words.{◌≡◌, ◌↔◌, length, slice_get, Some, subst, sym, ◌∙◌, ap, inl, inr, arith, rules, bit_at, cases_lt, same_Some, slice_get_within, AssortmentParts, read_at, IsTakerOf}
 use Rattle.buck_dp.proofs.takers.takers_of.Goals as goal
 
 pub loop-place-preserved : goal.loop-place-preserved

@@ -1,7 +1,4 @@
-use Rattle.std.proofs.Common.{◌≡◌, ℕ, ◌<◌, ◌≤◌, ◌↔◌, slice_get, Some}
-use Rattle.std.specs.Int.{bit_at}
-use Rattle.buck_apt.specs.Instruction.{AssortmentParts}
-use Rattle.buck_dp.specs.inner.Takers.{IsTaker, IsTakerOf}
+use Rattle.buck_dp.proofs.Words.{◌≡◌, ℕ, ◌<◌, ◌≤◌, ◌↔◌, slice_get, Some, bit_at, AssortmentParts, IsTaker, IsTakerOf}
 use Rattle.buck_dp.proofs.takers.takers_of.Given as goal
 
 abbrev pub invariant-loop-place : goal.invariant-loop-place

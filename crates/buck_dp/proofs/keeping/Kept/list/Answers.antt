@@ -1,6 +1,4 @@
-use Rattle.std.proofs.Common.{arith, rules}
-use Rattle.buck_dp.specs.declared.index.Head.{Head}
-use Rattle.buck_dp.specs.inner.Kept.{ListOf}
+use Rattle.buck_dp.proofs.Words.{arith, rules, Head, ListOf}
 use Rattle.buck_dp.proofs.KeptLemmas.{kept_is, kept_room, kept_push}
 use Rattle.buck_dp.proofs.keeping.Kept.list.Goals as goal
 

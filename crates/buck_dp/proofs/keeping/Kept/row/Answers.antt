@@ -1,5 +1,4 @@
-use Rattle.std.proofs.Common.{arith}
-use Rattle.buck_dp.specs.inner.Kept.{RowOf}
+use Rattle.buck_dp.proofs.Words.{arith, RowOf}
 use Rattle.buck_dp.proofs.KeptLemmas.{kept_is}
 use Rattle.buck_dp.proofs.keeping.Kept.row.Goals as goal
 

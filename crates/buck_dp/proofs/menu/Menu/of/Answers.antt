@@ -1,8 +1,4 @@
-use Rattle.std.proofs.Common.{◌≡◌, ℕ, ◌*◌, ◌/◌, ◌<◌, ◌≤◌, List, length, get_or, slice_get, slice_index, Some, sym, subst, arith, rules}
-use Rattle.std.proofs.lemmas.Option.{slice_get-get_or}
-use Rattle.buck_bid.specs.declared.offers.Offer.{Offer}
-use Rattle.buck_bid.specs.Offers.{codes_in}
-use Rattle.buck_bid.proofs.OfferLemmas.{code_index, codes_number}
+use Rattle.buck_dp.proofs.Words.{◌≡◌, ℕ, ◌*◌, ◌/◌, ◌<◌, ◌≤◌, List, length, get_or, slice_get, slice_index, Some, sym, subst, arith, rules, slice_get-get_or, Offer, codes_in, code_index, codes_number}
 use Rattle.buck_dp.proofs.menu.Menu.of.Goals as goal
 
 -- what holds of the length of each offer holds of that of each code

@@ -1,6 +1,4 @@
-use Rattle.std.proofs.Common.{sym, arith, rules}
-use Rattle.buck_bid.specs.Offers.{codes_in}
-use Rattle.buck_dp.specs.inner.Points.{GroundParts, ground_with}
+use Rattle.buck_dp.proofs.Words.{sym, arith, rules, codes_in, GroundParts, ground_with}
 use Rattle.buck_dp.proofs.TopLemmas.{offered_all}
 use Rattle.buck_dp.proofs.search.Search.close_top.Goals as goal
 

@@ -1,8 +1,4 @@
-use Rattle.std.proofs.Common.{◌≡◌, ℕ, ◌+◌, sym, arith, subst, drop, length, rules}
-use Rattle.buck_bid.specs.Offers.{codes_in}
-use Rattle.buck_dp.specs.inner.Drawn.{IsPartOf}
-use Rattle.buck_dp.specs.inner.Points.{GroundParts, ground_with}
-use Rattle.buck_dp.specs.inner.Searched.{AreSearched}
+use Rattle.buck_dp.proofs.Words.{◌≡◌, ℕ, ◌+◌, sym, arith, subst, drop, length, rules, codes_in, IsPartOf, GroundParts, ground_with, AreSearched}
 use Rattle.buck_dp.proofs.TopLemmas.{whole}
 use Rattle.buck_dp.proofs.search.Search.offer_list.Goals as goal
 

@@ -1,5 +1,4 @@
-use Rattle.std.proofs.Common.{w16, arith}
-use Rattle.std.proofs.lemmas.Nat.Bits.{bit_at_set_same, bit_at_set_other}
+use Rattle.buck_dp.proofs.Words.{w16, arith, bit_at_set_same, bit_at_set_other}
 use Rattle.buck_dp.proofs.takers.Takers.with.Goals as goal
 
 pub returns-clause-same : goal.returns-clause-same
