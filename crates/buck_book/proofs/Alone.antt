@@ -1,5 +1,5 @@
 -- Histories of cuts alone: their ends are the full periods, and two ways to say that one is lawful say the same.
-use Rattle.std.proofs.Common.{◌≡◌, ℕ, zero, suc, ◌+◌, ◌-◌, ◌*◌, ◌/◌, ◌%◌, ◌<◌, ◌≤◌, ◌↔◌, inl, inr, List, [], ◌∷◌, map, length, take, drop, slice_index, slice_get, Some, sum_by, refl, sym, ◌∙◌, ap, subst, arith, eqb-true, eq-eqb, mul-le-mul_right, div-mul-le_self}
+use Rattle.std.proofs.Common.{◌≡◌, ℕ, zero, suc, ◌+◌, ◌-◌, ◌*◌, ◌/◌, ◌%◌, ◌<◌, ◌≤◌, ◌↔◌, inl, inr, List, [], ◌∷◌, map, length, take, drop, slice_index, slice_get, Some, sum_by, refl, sym, ◌∙◌, ap, subst, arith, eqb-true, eq-eqb, mul-le-mul_right, div-mul-le_self, rules}
 use Rattle.std.specs.Option.{option_map}
 use Rattle.std.proofs.lemmas.Bool.{cases_Bool, cases_lt, cases_eq}
 use Rattle.std.proofs.lemmas.Nat.{div-mul-add, mod-mul-add, div-add-mod', div_below, mod_below}
@@ -16,7 +16,7 @@ use Rattle.buck_value.proofs.Prices.{length-base_prices}
 use Rattle.buck_book.specs.declared.posting.Posting.{Posting}
 use Rattle.buck_book.specs.declared.posting.Posting.TheVariants.{Cut}
 use Rattle.buck_book.specs.Entry.{EntryParts}
-use Rattle.buck_book.specs.Posting.{is_end, ends_from, cuts_from, ends_of, cuts_since_end, targets_after, opening_targets}
+use Rattle.buck_book.specs.Posting.{ends_from, cuts_from, ends_of, cuts_since_end, targets_after, opening_targets}
 use Rattle.buck_book.specs.History.{IsLawful, Follows, IsEnd, PricesMeet, prices_at, standing_of}
 use Rattle.buck_book.specs.CutsAlone as alone
 use Rattle.buck_book.proofs.Ends.{ends_yes, ends_no, cuts_yes, cuts_no, cuts_low, ends_past}
@@ -27,15 +27,7 @@ use Rattle.buck_book.proofs.Wanted.{part_of}
 -- the ends, each a full period, and the cuts since the last make up all entries
 spread : (p n : ℕ) (es : List EntryParts) → ends_from p n (map Cut es) * p + cuts_from p n (map Cut es) ≡ n + length es
 spread p n [] = omega arith
-spread p n (e ∷ es) = elim (cases_Bool (is_end p n (Cut e))) [
-  | inl yes_ ↦
-      let full : n + 1 ≡ p = eqb-true (n + 1) p yes_ in
-      (λ j. ends_yes p n (Cut e) (map Cut es) yes_ j * p + cuts_yes p n (Cut e) (map Cut es) yes_ j)
-      ∙ omega (arith, spread p 0 es)
-  | inr no_ ↦
-      (λ j. ends_no p n (Cut e) (map Cut es) no_ j * p + cuts_no p n (Cut e) (map Cut es) no_ j)
-      ∙ omega (arith, spread p (n + 1) es)
-]
+spread p n (e ∷ es) = search (rules, cases_Bool, eqb-true, ends_yes, cuts_yes, ends_no, cuts_no, (spread p 0 es), (spread p (n + 1) es))
 
 -- where no demand stands, the ends are the full periods
 pub ends_alone : (i : InstructionParts) (es : List EntryParts) → 0 < i.period
@@ -52,8 +44,7 @@ ends_alone i es pos =
 -- sums over postings that are cuts are sums over their entries
 sum_of_cuts : (f : Posting → ℕ) (es : List EntryParts) → sum_by f (map Cut es) ≡ sum_by (λ e. f (Cut e)) es
 sum_of_cuts f [] = refl
-sum_of_cuts f (e ∷ es) = sum_by-cons f (Cut e) (map Cut es) ∙ ap (λ n. f (Cut e) + n) (sum_of_cuts f es)
-    ∙ sym (sum_by-cons (λ x. f (Cut x)) e es)
+sum_of_cuts f (e ∷ es) = search (rules, sum_by-cons, (sum_of_cuts f es))
 
 -- cuts leave the targets as they are
 targets_stay : (ts : List ℕ) (es : List EntryParts) → targets_after ts (map Cut es) ≡ ts
@@ -74,18 +65,12 @@ at_cut es k e at = slice_get-map Cut es k ∙ ap (λ o. option_map Cut o) at
 module _ (i : InstructionParts) (c : Class) (v : IsInstruction i) (k : IsClass i c) where
   part : take (classes_of k.assortment) (drop (classes_before i c.assortment) (opening_targets i))
       ≡ k.assortment.targets
-  part = part_of i.assortments c.assortment k.assortment (recursion_from_All _ i.assortments v.assortments_valid)
-      k.exists
+  part = grind (arith, part_of, recursion_from_All)
 
   -- a class's target at the opening is read from its assortment
   target_is : slice_index (opening_targets i) (index_of i c)
       ≡ slice_index k.assortment.targets (alone.place_in k.assortment c)
-  target_is =
-      ap (λ n. slice_index (opening_targets i) n) (inner_is i c k)
-      ∙ sym (get_or-drop (classes_before i c.assortment) (opening_targets i) (alone.place_in k.assortment c) 0)
-      ∙ sym (get_or-take (classes_of k.assortment) (drop (classes_before i c.assortment) (opening_targets i))
-      (alone.place_in k.assortment c) 0 (inner_lt i c k))
-      ∙ ap (λ ts. slice_index ts (alone.place_in k.assortment c)) part
+  target_is = grind (arith, inner_is, get_or-drop, get_or-take, inner_lt, part)
 
   -- after cuts alone a class stands the same in both words
   same_standing : (es : List EntryParts)
@@ -124,7 +109,7 @@ place_of (a ∷ as_) q lt = elim (cases_lt q (classes_of a)) [
   | inl here ↦ record { at = 0; a = a; exists = refl; inner = q; within = here; is = omega arith }
   | inr past ↦
       let rest : PlaceIn as_ (q - classes_of a) =
-      place_of as_ (q - classes_of a) (omega (arith, sum_by-cons classes_of a as_)) in
+      grind (arith, sum_by-cons, (place_of as_ (q - classes_of a) (omega (arith, sum_by-cons classes_of a as_)))) in
       record {
         at = suc rest.at;
         a = rest.a;
@@ -145,10 +130,7 @@ pub class_at : (i : InstructionParts) (q : ℕ) → q < classes i → ClassAt i 
 class_at i q lt =
     let p : PlaceIn i.assortments q = place_of i.assortments q lt in
     let wide : ℕ = length p.a.lengths in
-    let pos : 0 < wide = elim (cases_eq wide 0) [
-      | inl none ↦ absurd (omega (arith, p.within, ap (λ w. length p.a.diameters * w) none))
-      | inr some ↦ omega arith
-    ] in
+    let pos : 0 < wide = search (rules, cases_eq) in
     let c : Class = record { assortment = p.at; row = p.inner / wide; column = p.inner % wide } in
     let k : IsClass i c = record {
       assortment = p.a;
@@ -165,11 +147,7 @@ base_alone i prices v m =
     same_number_lists prices (base_prices i) (m.one_each ∙ sym (length-base_prices i v))
     (λ q lt.
     let w : ClassAt i q = class_at i q (omega (arith, m.one_each)) in
-    let here : slice_index prices (index_of i w.class)
-    ≡ slice_index w.is_class.assortment.prices (alone.place_in w.is_class.assortment w.class) =
-    (m.each_meets w.class w.is_class).even (omega arith) in
-    subst (λ n. slice_index prices n ≡ slice_index (base_prices i) n) w.place
-    (here ∙ sym (base_is i w.class v w.is_class)))
+    search (rules, base_is))
 
 module _ (i : InstructionParts) (sheets : List (List ℕ)) (before : List EntryParts) (e : EntryParts)
     (v : IsInstruction i) where
@@ -271,14 +249,8 @@ module _ (i : InstructionParts) (sheets : List (List ℕ)) (es : List EntryParts
         (subst (λ ps. Follows i sheets ps (Cut c.0)) (sym (take-map Cut k es))
         (follows_from_alone i sheets (take k es) c.0 v (l.entries_follow k c.0 c.1)));
     sheets_number = number_from_alone l;
-    base_sheet =
-        let none : 0 * i.period ≡ 0 = omega arith in
-        base_alone i (prices_at sheets 0) v
-        (subst (λ n. alone.PricesMeet i (take n es) (prices_at sheets 0)) none
-        (l.sheets_meet 0 (omega (arith, l.sheets_number))));
-    sheets_meet = λ k x at is.
-        let c = cut_at es k x at in
-        sheets_from_alone l k c.0 c.1 (subst (λ y. IsEnd i (take k (map Cut es)) y) c.2 is);
+    base_sheet = search (rules, base_alone);
+    sheets_meet = grind (arith, cut_at, sheets_from_alone);
   }
 
 pub lawful_alone : (i : InstructionParts) (sheets : List (List ℕ)) (es : List EntryParts) → IsInstruction i

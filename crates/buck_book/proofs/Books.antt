@@ -4,7 +4,7 @@ use Rattle.std.proofs.lemmas.Grind.{common_steps}
 use Rattle.std.proofs.lemmas.List.{map-append, length_push}
 use Rattle.std.proofs.lemmas.Option.{none-some}
 use Rattle.std.specs.Option.{option_to_list, option_map}
-use Rattle.buck_apt.specs.Instruction.{InstructionParts, IsWithin, classes}
+use Rattle.buck_apt.specs.Instruction.{InstructionParts, IsWithin}
 use Rattle.buck_value.specs.Sheet.{SheetParts, sheet_of, base_prices}
 use Rattle.buck_book.specs.declared.posting.Posting.{Posting}
 use Rattle.buck_book.specs.declared.posting.Posting.TheVariants.{Cut, Demand}
@@ -13,17 +13,14 @@ use Rattle.buck_book.specs.Posting.{harvester_of, number_of, planned_version}
 use Rattle.buck_book.specs.Targets.{AreTargets}
 use Rattle.buck_book.specs.History.{HistoryParts, IsLawful, Follows, IsEnd, IsNextSheet, sheets_with, history_with, version_of, in_force}
 use Rattle.buck_book.specs.Plan.{PlanParts, IsPlan}
-use Rattle.buck_book.specs.Pricing.{AreAnswers}
 use Rattle.buck_book.specs.Book.{BookParts, book_of, IsBook, IsFirst, IsNext, IsReadyToAdd, SameContent, sheets_from, entry_of, demand_of}
-use Rattle.buck_book.specs.inner.Running.{RunningParts, Keeps, Tells, GoesOn, IsAfter, IsPassed, standings_of}
-use Rattle.buck_book.specs.inner.Pricing.{ArePriced, IsPricedSheet}
+use Rattle.buck_book.specs.inner.Running.{RunningParts, Keeps, Tells, GoesOn, IsAfter, IsSheetAfter}
 use Rattle.buck_rule.specs.declared.standing.Standing.{Standing}
 use denote.Ref.{Bor}
 use denote.Param.Members.{Shared}
 use Rattle.buck_book.proofs.Counting.{calls_more, no_calls}
 use Rattle.buck_book.proofs.Ends.{ends_with_end}
 use Rattle.buck_book.proofs.Extend.{slice_get-push, version_within, one_more, prices_stay}
-use Rattle.buck_book.proofs.Standings.{prices_meet, are_answers}
 use Rattle.buck_book.proofs.Sheets.{length-sheets_from, get_or-sheets_from, sheets_from-append}
 
 -- the version in force has a sheet
@@ -145,43 +142,25 @@ module _ {F : Type 0} (b d : BookParts F) (sheets : List SheetParts) (n : Runnin
 
   pub passed_cut : (p : PlanParts) (n₁ n' : RunningParts) → p.sheet ≡ in_force d.history → n₁ ≡ n
       → ((e : EntryParts) → e.stem ≡ p.stem → e.logs ≡ p.logs → IsAfter p.sheet.instruction n₁ (Cut e) n')
-      → (harvester : ℕ) → IsPassed d.history (Cut (entry_of d.history harvester p)) n'
+      → (harvester : ℕ) → Tells b.history.instruction (b.history.postings ++ Cut (entry_of b.history harvester p) ∷ []) n'
   passed_cut p n₁ n' same is told harvester =
-      rw (sym view)
-      (entry_after b.history harvester p n₁ n' (rw (sym view) at same) told b.history.postings few
-      (subst (λ m. Tells b.history.instruction b.history.postings m) (sym is) k.tells))
+      entry_after b.history harvester p n₁ n' (rw (sym view) at same) told b.history.postings few
+      (subst (λ m. Tells b.history.instruction b.history.postings m) (sym is) k.tells)
 
   pub passed_demand : (targets : List ℕ) (n₁ n' : RunningParts) → AreTargets d.history.instruction targets → n₁ ≡ n
       → ((i : InstructionParts) (x : DemandParts) → x.targets ≡ targets → AreTargets i x.targets
       → IsAfter i n₁ (Demand x) n')
-      → (harvester : ℕ) → IsPassed d.history (Demand (demand_of d.history harvester targets)) n'
+      → (harvester : ℕ)
+      → Tells b.history.instruction (b.history.postings ++ Demand (demand_of b.history harvester targets) ∷ []) n'
   passed_demand targets n₁ n' valid is told harvester =
-      rw (sym view)
-      (told b.history.instruction (demand_of b.history harvester targets) refl (rw (sym view) at valid)
-      b.history.postings few (subst (λ m. Tells b.history.instruction b.history.postings m) (sym is) k.tells))
+      told b.history.instruction (demand_of b.history harvester targets) refl (rw (sym view) at valid)
+      b.history.postings few (subst (λ m. Tells b.history.instruction b.history.postings m) (sym is) k.tells)
 
--- a sheet of prices by what then runs on is the next sheet, and its prices are the closure's answers
-module _ {F : Type 0} (g : Shared F (Bor Standing × Unit {0}) ℕ) (f : F) (h : HistoryParts) (x : Posting)
-    (i : InstructionParts) (n : RunningParts) (s : SheetParts)
-    (same : i ≡ h.instruction)
-    (sheet : IsPricedSheet g f (standings_of i n) n.version s)
-    (told : IsPassed h x n) where
-  priced_here : ArePriced g f (standings_of h.instruction n) s.prices (classes h.instruction)
-  priced_here = subst (λ j. ArePriced g f (standings_of j n) s.prices (classes j)) same sheet.priced
-
-  pub is_next_sheet : IsEnd h.instruction h.postings x → IsNextSheet h x s
-  is_next_sheet last = record {
-    version_is_next = ap (λ y. y.version) sheet.made ∙ told.version_is ∙ ends_with_end h.instruction h.postings x last;
-    same_instruction = ap (λ y. y.instruction) sheet.made ∙ same;
-    prices_meet =
-        prices_meet g f (standings_of h.instruction n) (h.postings ++ x ∷ []) s.prices told.targets_are told.counts_are
-        priced_here;
-  }
-
-  pub next_answers : AreAnswers g f h.instruction (h.postings ++ x ∷ []) s.prices
-  next_answers =
-      are_answers g f (standings_of h.instruction n) (h.postings ++ x ∷ []) s.prices told.targets_are told.counts_are
-      priced_here
+-- the sheet in force after an end is the next sheet
+pub is_next_sheet : {F : Type 0} (g : Shared F (Bor Standing × Unit {0}) ℕ) (f : F) (h : HistoryParts) (x : Posting)
+    (s : SheetParts) → IsSheetAfter g f h.instruction (h.postings ++ x ∷ []) s → IsEnd h.instruction h.postings x
+    → IsNextSheet h x s
+is_next_sheet g f h x s sheet last = grind (arith, ends_with_end)
 
 -- a sheet added to a list, as a list of values and of prices
 pub values_added : {X : Type 0} (val : X → SheetParts) (xs ys : List X) (next : Option X)

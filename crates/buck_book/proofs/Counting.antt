@@ -1,12 +1,12 @@
 -- Running counts of entries, one entry on.
-use Rattle.std.proofs.Common.{◌≡◌, ℕ, ◌+◌, ◌-◌, ◌<◌, ◌≤◌, ◌==◌, true, false, cond, List, [], ◌∷◌, ◌++◌, length, get_or, set, take, replicate, ◌^◌, sym, ◌∙◌, ap, inl, inr, arith, eq-eqb}
+use Rattle.std.proofs.Common.{◌≡◌, ℕ, ◌+◌, ◌-◌, ◌<◌, ◌≤◌, ◌==◌, true, cond, List, [], ◌∷◌, ◌++◌, length, get_or, set, take, replicate, ◌^◌, sym, ◌∙◌, ap, inl, inr, arith, eq-eqb, rules}
 use Rattle.std.proofs.lemmas.Grind.{common_steps}
 use Rattle.std.proofs.lemmas.Bool.{ne_eqb, cases_eq}
 use Rattle.std.proofs.lemmas.List.{get_or-set_same, get_or-set_other, length-set, get_or_past, get_or-replicate, length-replicate}
 use Rattle.std.proofs.lemmas.List.Sums.{sum_by-le-sum_by, sum_by_push, count_by-le-length}
 use Rattle.std.proofs.lemmas.Option.{slice_get_within}
 use Rattle.buck_apt.specs.declared.class.Class.{Class}
-use Rattle.buck_apt.specs.Instruction.{InstructionParts, IsInstruction, classes, index_of}
+use Rattle.buck_apt.specs.Instruction.{InstructionParts, IsInstruction, classes}
 use Rattle.buck_value.specs.declared.log.Log.{Log}
 use Rattle.buck_value.specs.Allowed.{IsAllowed, end_of}
 use Rattle.buck_dp.specs.Cutting.{IsCutFrom}
@@ -14,7 +14,7 @@ use Rattle.buck_book.specs.Entry.{EntryParts, DemandParts}
 use Rattle.buck_book.specs.declared.posting.Posting.{Posting}
 use Rattle.buck_book.specs.declared.posting.Posting.TheVariants.{Cut, Demand}
 use Rattle.buck_book.specs.Posting.{harvester_of}
-use Rattle.buck_book.specs.Counts.{assortment_logs, class_logs_in, assortment_logs_in, count_of, assortment_count_of, calls_of}
+use Rattle.buck_book.specs.Counts.{class_logs_in, assortment_logs_in, count_of, assortment_count_of, calls_of}
 use Rattle.buck_book.specs.inner.Running.{AreCounts, AreAtMost, AreCalls, AreGrownBy, AreGrownAt, class_place}
 use Rattle.buck_book.specs.Targets.{AreTargets}
 use Rattle.buck_book.specs.inner.Pricing.{CanPrice}
@@ -40,20 +40,7 @@ pub counts_more : (i : InstructionParts) (ps : List Posting) (e : EntryParts)
     → AreGrownAt (class_place i e.stem) by_class e.logs by_class' → AreGrownBy by_assortment e.logs by_assortment'
     → AreCounts i (ps ++ Cut e ∷ []) by_class' by_assortment'
 counts_more i ps e by_class by_assortment by_class' by_assortment' v cut counts classes_grown assortments_grown =
-    record {
-      classes = record {
-        one_each = classes_grown.number ∙ counts.classes.one_each;
-        each = λ c k.
-            classes_grown.each (index_of i c)
-            ∙ (λ j. counts.classes.each c k j + tallied i c e.stem 0 e.logs v k cut j)
-            ∙ sym (sum_by_push (λ x. class_logs_in i c x) ps (Cut e));
-      };
-      assortments_number = assortments_grown.number ∙ counts.assortments_number;
-      assortment_counts = λ a lt.
-          assortments_grown.each a
-          ∙ ap (λ n. n + assortment_logs a e.logs) (counts.assortment_counts a lt)
-          ∙ sym (sum_by_push (λ x. assortment_logs_in a x) ps (Cut e));
-    }
+    search (rules, tallied, sum_by_push)
 
 -- the counts stay after a demand
 pub counts_stay : (i : InstructionParts) (ps : List Posting) (d : DemandParts) (by_class by_assortment : List ℕ)
@@ -76,8 +63,7 @@ logs_in-le i c (Demand d) = omega arith
 
 count_of-le : (i : InstructionParts) (c : Class) (ps : List Posting)
     → count_of i c ps ≤ assortment_count_of c.assortment ps
-count_of-le i c ps =
-    sum_by-le-sum_by (λ x. class_logs_in i c x) (λ x. assortment_logs_in c.assortment x) ps (logs_in-le i c)
+count_of-le i c ps = search (rules, sum_by-le-sum_by, logs_in-le)
 
 -- by valid targets, and by counts that are right and low, prices can be made
 pub can_price : (i : InstructionParts) (targets : List ℕ) (ps : List Posting) (by_class by_assortment : List ℕ)
@@ -102,13 +88,7 @@ calls_more ps x calls h number are is pos most next = record {
         value ∙ next ∙ ap (λ y. calls_of y ps + 1) here
         ∙ sym (sum_by_push (λ y. cond (harvester_of y == k + 1) 1 0) ps x
         ∙ ap (λ b. calls_of (k + 1) ps + cond b 1 0) own)
-    | inr other ↦
-        let not_own : (harvester_of x == k + 1) ≡ false =
-        ne_eqb (harvester_of x) (k + 1) (λ z. other (omega (arith, is))) in
-        let plus : calls_of (k + 1) (ps ++ x ∷ []) ≡ calls_of (k + 1) ps + 0 =
-        sum_by_push (λ y. cond (harvester_of y == k + 1) 1 0) ps x
-        ∙ ap (λ b. calls_of (k + 1) ps + cond b 1 0) not_own in
-        get_or-set_other calls (h - 1) k number 0 other ∙ are.each k lt ∙ omega arith
+    | inr other ↦ search (rules, ne_eqb, sum_by_push, get_or-set_other)
   ];
 }
 

@@ -1,5 +1,5 @@
 -- The logs of an admissible cutting: each is allowed, and there are at most 80.
-use Rattle.std.proofs.Common.{◌≡◌, ℕ, ◌+◌, ◌*◌, ◌≤◌, ◌==◌, true, cond, List, [], ◌∷◌, All, length, count_by, refl, sym, ◌∙◌, ap, subst, inl, inr, arith, eqb-true, eq-eqb}
+use Rattle.std.proofs.Common.{◌≡◌, ℕ, ◌+◌, ◌*◌, ◌≤◌, ◌==◌, true, cond, List, [], ◌∷◌, All, length, count_by, refl, sym, ◌∙◌, inl, inr, arith, eqb-true, eq-eqb, rules}
 use Rattle.std.proofs.lemmas.Bool.{and_parts, and_from, ne_eqb, cases_eq, false_from_ne_true}
 use Rattle.std.proofs.lemmas.List.Elements.{All-nil, All-cons}
 use Rattle.std.proofs.lemmas.List.Sums.{sum_by-cons, sum_by-le-sum_by}
@@ -27,10 +27,7 @@ long_enough i stem from [] v le c = omega arith
 long_enough i stem from (g ∷ gs) v le c =
     let low = allowed_low i stem g v c.1 in
     let high : end_of i g ≤ stem_length stem.samples = end_within i stem g c.1 in
-    let rest : 500 * length gs + end_of i g ≤ stem_length stem.samples =
-    long_enough i stem (end_of i g) gs v high c.2 in
-    let starts : from ≤ g.start = c.0 in
-    omega (arith, low.0)
+    omega (arith, (long_enough i stem (end_of i g) gs v high c.2))
 
 -- a cutting has at most 80 logs
 pub few_logs : (i : InstructionParts) (stem : StemParts) (gs : List Log) → IsInstruction i → IsStem stem
@@ -49,10 +46,8 @@ pub place_tells : (i : InstructionParts) (c d : Class) → IsClass i c → IsCla
 place_tells i c d k l = elim (cases_eq (index_of i d) (index_of i c)) [
   | inl same ↦
       let one : d ≡ c = one_place i d c l k same in
-      eq-eqb (index_of i d) (index_of i c) same ∙ sym (subst (λ x. is_class c x ≡ true) (sym one) (is_class_itself c))
-  | inr other ↦
-      ne_eqb (index_of i d) (index_of i c) other
-      ∙ sym (false_from_ne_true (is_class c d) (λ e. other (ap (λ x. index_of i x) (sym (is_class_same c d e)))))
+      grind (arith, eq-eqb, is_class_itself)
+  | inr other ↦ grind (arith, ne_eqb, false_from_ne_true, is_class_same)
 ]
 
 -- a class's logs are counted by their places
@@ -62,7 +57,7 @@ pub tallied : (i : InstructionParts) (c : Class) (stem : StemParts) (from : ℕ)
 tallied i c stem from [] v k cut = refl
 tallied i c stem from (g ∷ gs) v k cut =
     let test : (class_place i stem g == index_of i c) ≡ is_class c (class_of i stem g) =
-    place_tells i c (class_of i stem g) k (class_is_class i stem g v cut.1) in
+    search (rules, place_tells, class_is_class) in
     let rest = tallied i c stem (end_of i g) gs v k cut.2 in
     sum_by-cons (λ x. cond (class_place i stem x == index_of i c) 1 0) g gs
     ∙ (λ j. cond (test j) 1 0 + rest j)

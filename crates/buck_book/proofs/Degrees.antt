@@ -1,7 +1,6 @@
 -- Sums over the classes of an assortment.
-use Rattle.std.proofs.Common.{◌≡◌, ℕ, zero, suc, ◌+◌, ◌*◌, ◌/◌, ◌<◌, ◌≤◌, min, List, [], ◌∷◌, length, take, sum, get_or, refl, ap, ◌∙◌, arith, add-one}
+use Rattle.std.proofs.Common.{◌≡◌, ℕ, zero, suc, ◌+◌, ◌*◌, ◌/◌, ◌<◌, ◌≤◌, min, List, [], ◌∷◌, length, take, sum, get_or, arith, add-one, rules}
 use Rattle.std.proofs.lemmas.Grind.{common_steps}
-use Rattle.std.specs.List.{zip}
 use Rattle.std.proofs.lemmas.List.Sums.{sum_by-cons}
 use Rattle.std.proofs.Math.Nat.{min-le_left, add-mul, mul-le-mul, div-le_of_le-mul}
 use Rattle.std.specs.Prelude.{slice_get, Some}
@@ -18,13 +17,7 @@ step wanted cut (t ∷ ts) [] i lt lu = absurd (omega (arith, lu))
 step wanted cut (t ∷ ts) (n ∷ ns) zero lt lu =
     omega (arith, sum_by-cons (λ (p : ℕ × ℕ). min (p.0 * cut) (p.1 * wanted)) (t, n) [])
 step wanted cut (t ∷ ts) (n ∷ ns) (suc i) lt lu =
-    let f = λ (p : ℕ × ℕ). min (p.0 * cut) (p.1 * wanted) in
-    omega (
-      arith,
-      sum_by-cons f (t, n) (zip (take (suc i) ts) (take (suc i) ns)),
-      sum_by-cons f (t, n) (zip (take i ts) (take i ns)),
-      step wanted cut ts ns i (omega (arith, lt)) (omega (arith, lu)),
-    )
+    search (rules, sum_by-cons, (step wanted cut ts ns i (omega (arith, lt)) (omega (arith, lu))))
 
 -- one class more
 pub shared_more : (wanted cut : ℕ) (targets counts : List ℕ) (i : ℕ) → i < length targets → i < length counts
@@ -38,30 +31,18 @@ pub shared_low : (wanted cut : ℕ) (targets counts : List ℕ) → shared_of wa
 shared_low wanted cut [] counts = omega arith
 shared_low wanted cut (t ∷ ts) [] = omega arith
 shared_low wanted cut (t ∷ ts) (n ∷ ns) =
-    let whole : sum (t ∷ ts) * cut ≡ t * cut + sum ts * cut = ap (λ k. k * cut) (sum_by-cons (λ x. x) t ts)
-    ∙ add-mul t (sum ts) cut in
-    let first : min (t * cut) (n * wanted) ≤ t * cut = min-le_left (t * cut) (n * wanted) in
-    omega (
-      arith,
-      sum_by-cons (λ (p : ℕ × ℕ). min (p.0 * cut) (p.1 * wanted)) (t, n) (zip ts ns),
-      first,
-      shared_low wanted cut ts ns,
-      whole,
-    )
+    let whole : sum (t ∷ ts) * cut ≡ t * cut + sum ts * cut = search (rules, sum_by-cons, add-mul) in
+    search (rules, min-le_left, sum_by-cons, (shared_low wanted cut ts ns))
 
 -- so the degree is at most 10,000
 pub degree_low : (targets counts : List ℕ)
     → shared_of (sum targets) (sum counts) targets counts * 10000 / (sum targets * sum counts) ≤ 10000
-degree_low targets counts =
-    div-le_of_le-mul (sum targets * sum counts)
-    (mul-le-mul (shared_low (sum targets) (sum counts) targets counts) (omega arith))
+degree_low targets counts = grind (arith, div-le_of_le-mul, mul-le-mul, shared_low)
 
 -- what was read of a list of assortments
 pub stands : (xs ys : List AssortmentParts) (at : ℕ) (a : AssortmentParts) → xs ≡ ys → at < length ys
     → a ≡ get_or xs at a → slice_get ys at ≡ Some a
-stands xs ys at a same lt is =
-    rw same at
-    (slice_get_read xs (length xs) at a refl (omega (arith, lt, ap (λ (l : List AssortmentParts). length l) same)) is)
+stands xs ys at a same lt is = grind (arith, slice_get_read)
 
 -- the place of an assortment's first class
 pub first_class : (i : InstructionParts) (at : ℕ) (a : AssortmentParts) → slice_get i.assortments at ≡ Some a

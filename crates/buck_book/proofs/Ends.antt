@@ -48,19 +48,13 @@ module _ (i : InstructionParts) (ps : List Posting) (x : Posting) where
   ends_with_end e = grind (arith, ends-append, ends_yes)
 
   pub ends_without : (IsEnd i ps x → ⊥) → ends_of i (ps ++ x ∷ []) ≡ ends_of i ps
-  ends_without e =
-      ends-append i.period 0 ps (x ∷ [])
-      ∙ ap (λ k. ends_of i ps + k)
-      (ends_no i.period (cuts_since_end i ps) x [] (false_from_ne_true (is_end i.period (cuts_since_end i ps) x) e))
-      ∙ omega arith
+  ends_without e = grind (arith, ends-append, ends_no, false_from_ne_true)
 
   pub cuts_with_end : IsEnd i ps x → cuts_since_end i (ps ++ x ∷ []) ≡ 0
   cuts_with_end e = cuts-append i.period 0 ps (x ∷ []) ∙ cuts_yes i.period (cuts_since_end i ps) x [] e
 
   pub cuts_without : (IsEnd i ps x → ⊥) → cuts_since_end i (ps ++ x ∷ []) ≡ cuts_since_end i ps + 1
-  cuts_without e =
-      cuts-append i.period 0 ps (x ∷ [])
-      ∙ cuts_no i.period (cuts_since_end i ps) x [] (false_from_ne_true (is_end i.period (cuts_since_end i ps) x) e)
+  cuts_without e = grind (arith, cuts-append, cuts_no, false_from_ne_true)
 
 -- the ends before a demand, the demand itself, and those of what comes after it as of a new history
 module _ (i : InstructionParts) (before after : List Posting) (d : DemandParts) where

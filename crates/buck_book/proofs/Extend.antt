@@ -1,5 +1,5 @@
 -- Prefixes of lawful histories, and lawful histories one posting longer.
-use Rattle.std.proofs.Common.{◌≡◌, ℕ, zero, suc, ◌+◌, ◌<◌, ◌≤◌, ◌⊎◌, inl, inr, List, [], ◌∷◌, ◌++◌, length, take, get_or, slice_get, Option, Some, None, refl, sym, ap, subst, ◌∙◌, arith}
+use Rattle.std.proofs.Common.{◌≡◌, ℕ, zero, suc, ◌+◌, ◌<◌, ◌≤◌, ◌⊎◌, inl, inr, List, [], ◌∷◌, ◌++◌, length, take, get_or, slice_get, Option, Some, None, refl, sym, ap, subst, ◌∙◌, arith, rules}
 use Rattle.std.proofs.lemmas.Grind.{common_steps}
 use Rattle.std.proofs.lemmas.List.{take_all, take-append-le, take-take, length-take-le, length_push, get_or-take, get_or_append_left, get_or_push}
 use Rattle.std.proofs.lemmas.Option.{slice_get_within, slice_get-get_or, get_or_from_slice_get}
@@ -26,7 +26,7 @@ slice_get-take xs n i x le e =
     let within : i < length (take n xs) = slice_get_within (take n xs) i x e in
     let lt : i < n = omega (arith, length-take-le n xs le) in
     let is : get_or xs i x ≡ x = sym (get_or-take n xs i x lt) ∙ get_or_from_slice_get (take n xs) i x x e in
-    (lt, slice_get-get_or xs i x (omega arith) ∙ ap Some is)
+    grind (arith, slice_get-get_or)
 
 -- a posting holds where the prices of its version are the same
 holds_same : (i : InstructionParts) (these those : List (List ℕ)) (x : Posting)
@@ -43,7 +43,7 @@ pub version_within : (h : HistoryParts) (k : ℕ) (x : Posting) → IsLawful h �
     → (planned_version x ≡ ends_of h.instruction (take k h.postings)) × (planned_version x < length h.sheets)
 version_within h k x l at =
     let w = (l.postings_follow k x at).version_in_force in
-    (w, omega (arith, l.sheets_number, ends_take-le h.instruction h.postings k))
+    search (rules, ends_take-le)
 
 ends_of_first : (i : InstructionParts) (ps : List Posting) (j k : ℕ) → j ≤ k
     → ends_of i (take j ps) ≤ ends_of i (take k ps)
@@ -52,8 +52,7 @@ ends_of_first i ps j k le = omega (arith, ends_take-le i (take k ps) j, ap (λ x
 pub prefix : (h : HistoryParts) (k : ℕ) → IsLawful h → k ≤ length h.postings → IsLawful (first_of k h)
 prefix h k l le =
     let n : ℕ = ends_of h.instruction (take k h.postings) + 1 in
-    let number : length (take n h.sheets) ≡ n =
-    length-take-le n h.sheets (omega (arith, l.sheets_number, ends_take-le h.instruction h.postings k)) in
+    let number : length (take n h.sheets) ≡ n = search (rules, length-take-le, ends_take-le) in
     record {
       postings_follow = λ j x at.
           let here = slice_get-take h.postings k j x le at in

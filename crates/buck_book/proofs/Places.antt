@@ -1,5 +1,5 @@
 -- Places of classes: one place, one class.
-use Rattle.std.proofs.Common.{◌≡◌, ℕ, ◌+◌, ◌*◌, ◌<◌, ◌≤◌, List, Option, Some, None, length, take, get_or, slice_get, sum_by, refl, sym, ◌∙◌, ap, arith, mul_comm}
+use Rattle.std.proofs.Common.{◌≡◌, ℕ, ◌+◌, ◌*◌, ◌<◌, ◌≤◌, List, Option, Some, None, length, take, get_or, slice_get, sum_by, refl, ◌∙◌, ap, arith, mul_comm, rules}
 use Rattle.std.proofs.lemmas.Nat.{same_from_place, mul-add-lt}
 use Rattle.std.proofs.lemmas.List.{take-take, get_or-take, length-take-le}
 use Rattle.std.proofs.lemmas.List.Sums.{sum_by_more_le}
@@ -19,7 +19,7 @@ earlier xs at later a exists lt within =
     let shown : length (take later xs) ≡ later = length-take-le later xs (omega arith) in
     let is : get_or (take later xs) at a ≡ a = get_or-take later xs at a lt ∙ get_or_from_slice_get xs at a a exists in
     let first : take at (take later xs) ≡ take at xs = take-take at later xs (omega arith) in
-    rw (is, first) at (sum_by_more_le classes_of (take later xs) at a (omega arith))
+    grind (arith, sum_by_more_le)
 
 -- a class's place in its assortment
 pub inner_is : (i : InstructionParts) (c : Class) (k : IsClass i c)
@@ -28,16 +28,13 @@ inner_is i c k = ap (λ o. classes_before i c.assortment + place_in o c.row c.co
 
 pub inner_lt : (i : InstructionParts) (c : Class) (k : IsClass i c)
     → c.row * length k.assortment.lengths + c.column < classes_of k.assortment
-inner_lt i c k =
-    rw (mul_comm (length k.assortment.diameters) (length k.assortment.lengths))
-    (mul-add-lt c.row (length k.assortment.lengths) c.column (length k.assortment.diameters) k.row k.column)
+inner_lt i c k = search (rules, mul_comm, mul-add-lt)
 
 -- a class of an earlier assortment has a lower place
 lower : (i : InstructionParts) (c d : Class) → IsClass i c → IsClass i d → c.assortment < d.assortment
     → index_of i c < index_of i d
 lower i c d k l lt =
-    let within : d.assortment < length i.assortments =
-    slice_get_within i.assortments d.assortment l.assortment l.exists in
+    let within : d.assortment < length i.assortments = search (rules, slice_get_within) in
     omega (
       arith,
       inner_is i c k,
@@ -52,8 +49,7 @@ class_same c d a r o = λ j. record { assortment = a j; row = r j; column = o j 
 in_one : (i : InstructionParts) (c d : Class) (k : IsClass i c) (l : IsClass i d) → c.assortment ≡ d.assortment
     → index_of i c ≡ index_of i d → c ≡ d
 in_one i c d k l same e =
-    let one : k.assortment ≡ l.assortment =
-    same_Some k.assortment l.assortment (sym k.exists ∙ ap (λ a. slice_get i.assortments a) same ∙ l.exists) in
+    let one : k.assortment ≡ l.assortment = search (rules, same_Some) in
     let before : classes_before i c.assortment ≡ classes_before i d.assortment = ap (λ a. classes_before i a) same in
     let width : length k.assortment.lengths ≡ length l.assortment.lengths = ap (λ a. length a.lengths) one in
     let inner : c.row * length k.assortment.lengths + c.column ≡ d.row * length l.assortment.lengths + d.column =

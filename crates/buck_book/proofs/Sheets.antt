@@ -1,5 +1,5 @@
 -- The sheets of a book.
-use Rattle.std.proofs.Common.{◌≡◌, ℕ, zero, suc, ◌+◌, ◌*◌, ◌<◌, ◌≤◌, List, [], ◌∷◌, ◌++◌, All, length, get_or, refl, ◌∙◌, ap, arith, mul-le-mul_right}
+use Rattle.std.proofs.Common.{◌≡◌, ℕ, zero, suc, ◌+◌, ◌*◌, ◌<◌, ◌≤◌, List, [], ◌∷◌, ◌++◌, All, length, get_or, refl, ap, arith, mul-le-mul_right}
 use Rattle.std.proofs.lemmas.List.Sums.{sum_by-le}
 use Rattle.std.proofs.lemmas.List.Elements.{All-weaker}
 use Rattle.buck_apt.specs.Instruction.{InstructionParts, AssortmentParts, IsInstruction, IsAssortment, classes, classes_of}
@@ -20,10 +20,7 @@ get_or-sheets_from v i (ps ∷ pss) (suc k) d lt = grind (arith, (get_or-sheets_
 pub sheets_from-append : (v : ℕ) (i : InstructionParts) (pss qss : List (List ℕ))
     → sheets_from v i (pss ++ qss) ≡ sheets_from v i pss ++ sheets_from (v + length pss) i qss
 sheets_from-append v i [] qss = let e : v ≡ v + 0 = omega arith in ap (λ x. sheets_from x i qss) e
-sheets_from-append v i (ps ∷ pss) qss =
-    let e : v + 1 + length pss ≡ v + suc (length pss) = omega arith in
-    ap (λ xs. sheet_of v i ps ∷ xs)
-    (sheets_from-append (v + 1) i pss qss ∙ ap (λ x. sheets_from (v + 1) i pss ++ sheets_from x i qss) e)
+sheets_from-append v i (ps ∷ pss) qss = grind (arith, (sheets_from-append (v + 1) i pss qss))
 
 -- an instruction has at most 16,384 classes
 pub classes-le : (i : InstructionParts) → IsInstruction i → classes i ≤ 16384

@@ -1,5 +1,5 @@
 -- How classes stand, and the prices that are answered to that.
-use Rattle.std.proofs.Common.{◌≡◌, ℕ, ◌+◌, ◌*◌, ◌<◌, ◌≤◌, inl, inr, List, [], ◌∷◌, ◌++◌, length, take, get_or, slice_index, slice_get, Some, sym, ◌∙◌, ap, subst, arith, mul-le-mul_left}
+use Rattle.std.proofs.Common.{◌≡◌, ℕ, ◌+◌, ◌*◌, ◌<◌, ◌≤◌, inl, inr, List, [], ◌∷◌, ◌++◌, length, take, get_or, slice_index, slice_get, Some, refl, sym, ◌∙◌, ap, subst, arith, mul-le-mul_left}
 use Rattle.std.proofs.lemmas.Grind.{common_steps}
 use Rattle.std.specs.List.{flat_map}
 use Rattle.std.proofs.lemmas.Bool.{cases_lt}
@@ -15,16 +15,15 @@ use Rattle.buck_apt.specs.Instruction.{InstructionParts, AssortmentParts, IsInst
 use Rattle.buck_rule.specs.declared.standing.Standing.{Standing}
 use Rattle.buck_rule.specs.Standing.{IsInRange}
 use Rattle.buck_rule.specs.Relation.{Meets}
-use Rattle.buck_value.specs.Sheet.{base_prices, IsPriceAt, IsInSpan, IsSheetFault}
+use Rattle.buck_value.specs.Sheet.{SheetParts, sheet_of, base_prices, IsPriceAt, IsInSpan, IsSheetFault}
 use Rattle.buck_value.specs.declared.fault.SheetFault.{SheetFault}
 use Rattle.buck_value.specs.declared.fault.SheetFault.TheVariants.{Count, Price}
 use Rattle.buck_value.proofs.Prices.{base_at, base_price-le}
 use Rattle.buck_book.specs.declared.posting.Posting.{Posting}
 use Rattle.buck_book.specs.Posting.{targets_of}
 use Rattle.buck_book.specs.Targets.{AreTargets, targets_sum}
-use Rattle.buck_book.specs.History.{standing_at, standing_of, PricesMeet}
-use Rattle.buck_book.specs.Pricing.{AreAnswers}
-use Rattle.buck_book.specs.inner.Running.{AreCounts}
+use Rattle.buck_book.specs.History.{standing_at, standing_of}
+use Rattle.buck_book.specs.inner.Running.{AreCounts, RunningParts, Tells, IsSheetAfter, standings_of}
 use Rattle.buck_book.specs.declared.pricing.Section.{Section}
 use Rattle.buck_book.specs.inner.Pricing.{StandingsParts, CanPrice, IsSection, IsClassOf, IsAnswer, ArePriced, class_at, row_start, standing_by}
 use Rattle.buck_book.proofs.Places.{inner_is, inner_lt, one_place, place_lt}
@@ -218,11 +217,18 @@ module _ {F : Type 0} (g : Shared F (Bor Standing × Unit {0}) ℕ) (f : F) (s :
       (standing_is s.instruction s.targets s.by_class s.by_assortment ps c wanted counts k)
       (priced.answered c k (omega (arith, place_lt s.instruction c k)))
 
-  pub prices_meet : PricesMeet s.instruction ps prices
-  prices_meet = record { one_each = priced.number_is; each_meets = λ c k. (answers c k).met }
-
-  pub are_answers : AreAnswers g f s.instruction ps prices
-  are_answers c k = (answers c k).given
+-- a sheet of prices by running counts that are right
+pub is_sheet : {F : Type 0} (g : Shared F (Bor Standing × Unit {0}) ℕ) (f : F) (i : InstructionParts) (ps : List Posting)
+    (n : RunningParts) (prices : List ℕ) (s : SheetParts) → Tells i ps n
+    → ArePriced g f (standings_of i n) prices (classes i) → s ≡ sheet_of n.version i prices → IsSheetAfter g f i ps s
+is_sheet g f i ps n prices s told priced made =
+    let answered = answers g f (standings_of i n) ps prices told.targets_are told.counts_are priced in
+    rw made (record {
+      version_is = told.version_is;
+      same_instruction = refl;
+      prices_meet = record { one_each = priced.number_is; each_meets = λ c k. (answered c k).met };
+      answers = λ c k. (answered c k).given;
+    })
 
 -- prices within their spans, one for each class, make a sheet
 pub no_fault : (i : InstructionParts) (prices : List ℕ) (fault : SheetFault) → length prices ≡ classes i

@@ -1,5 +1,5 @@
 -- What some postings add up to, one posting on.
-use Rattle.std.proofs.Common.{◌≡◌, ℕ, ◌+◌, ◌*◌, ◌<◌, ◌≤◌, ◌==◌, cond, List, [], ◌∷◌, ◌++◌, length, sym, ◌∙◌, ap, subst, arith}
+use Rattle.std.proofs.Common.{◌≡◌, ℕ, ◌+◌, ◌*◌, ◌<◌, ◌≤◌, ◌==◌, cond, List, [], ◌∷◌, ◌++◌, length, sym, ◌∙◌, ap, subst, arith, rules}
 use Rattle.std.proofs.lemmas.Grind.{common_steps}
 use Rattle.std.proofs.lemmas.List.{length_push}
 use Rattle.buck_apt.specs.Instruction.{InstructionParts, IsInstruction}
@@ -27,13 +27,7 @@ module _ (i : InstructionParts) (ps : List Posting) (n : RunningParts) (t : Tell
   version_low = omega (arith, t.version_is, ends-le i.period 0 ps, t.few)
 
   pub cuts_few : n.cuts < 1000
-  cuts_few =
-      omega (
-        arith,
-        t.cuts_are,
-        cuts_low i.period 0 ps t.valid.period_range.0 t.valid.period_range.0,
-        t.valid.period_range.1,
-      )
+  cuts_few = grind (arith, cuts_low)
 
   pub counts_fit : AreAtMost 80000000 n.by_class n.by_assortment
   counts_fit = at_most (80 * length ps) 80000000 n.by_class n.by_assortment (omega (arith, t.few)) t.counts_low
@@ -47,9 +41,7 @@ module _ (i : InstructionParts) (ps : List Posting) (n : RunningParts) (t : Tell
 
     low_then : (by_class by_assortment : List ℕ) → AreAtMost (80 * length ps + 80) by_class by_assortment
         → AreAtMost (80 * length (ps ++ x ∷ [])) by_class by_assortment
-    low_then by_class by_assortment low =
-        at_most (80 * length ps + 80) (80 * length (ps ++ x ∷ [])) by_class by_assortment
-        (omega (arith, length_push ps x)) low
+    low_then by_class by_assortment low = grind (arith, at_most, length_push)
 
   pub tells_cut : (e : EntryParts) (by_class' by_assortment' : List ℕ) (cuts' version' : ℕ)
       → length ps < 1000000 → IsStem e.stem → IsCutFrom (IsAllowed i e.stem) (end_of i) 0 e.logs
@@ -67,17 +59,10 @@ module _ (i : InstructionParts) (ps : List Posting) (n : RunningParts) (t : Tell
         few = few_then x few;
         targets_are = t.targets_are ∙ sym (targets-append (opening_targets i) ps (x ∷ []));
         targets_valid = t.targets_valid;
-        cuts_are = cut_is ∙ ap (λ c. cond (c + 1 == i.period) 0 (c + 1)) t.cuts_are
-            ∙ sym (cuts-append i.period 0 ps (x ∷ []));
-        version_is = ended ∙ (λ j. t.version_is j + cond (t.cuts_are j + 1 == i.period) 1 0)
-            ∙ sym (ends-append i.period 0 ps (x ∷ []));
-        counts_are =
-            counts_more i ps e n.by_class n.by_assortment by_class' by_assortment' t.valid cut t.counts_are
-            classes_grown assortments_grown;
-        counts_low =
-            low_then x few by_class' by_assortment'
-            (low_more (80 * length ps) 80 (class_place i e.stem) n.by_class n.by_assortment
-            by_class' by_assortment' e.logs t.counts_low logs classes_grown assortments_grown);
+        cuts_are = grind (arith, cuts-append);
+        version_is = grind (arith, ends-append);
+        counts_are = search (rules, counts_more);
+        counts_low = search (rules, low_then, low_more);
       }
 
   pub tells_demand : (d : DemandParts) (targets' : List ℕ) (version' : ℕ)
@@ -93,9 +78,7 @@ module _ (i : InstructionParts) (ps : List Posting) (n : RunningParts) (t : Tell
         cuts_are = sym (cuts-append i.period 0 ps (x ∷ []));
         version_is = ended ∙ ap (λ v. v + 1) t.version_is ∙ sym (ends-append i.period 0 ps (x ∷ []));
         counts_are = counts_stay i ps d n.by_class n.by_assortment t.counts_are;
-        counts_low =
-            low_then x few n.by_class n.by_assortment
-            (at_most (80 * length ps) (80 * length ps + 80) n.by_class n.by_assortment (omega arith) t.counts_low);
+        counts_low = grind (arith, low_then, at_most);
       }
 
 -- before the first posting

@@ -1,5 +1,5 @@
 -- The instruction's targets are valid, and what is wanted of an assortment is read from its part of all targets.
-use Rattle.std.proofs.Common.{◌≡◌, ℕ, zero, suc, ◌+◌, ◌<◌, ◌≤◌, List, [], ◌∷◌, ◌++◌, All, length, take, drop, get_or, slice_index, slice_get, Some, sum, sum_by, refl, sym, ◌∙◌, ap, subst, arith}
+use Rattle.std.proofs.Common.{◌≡◌, ℕ, zero, suc, ◌+◌, ◌<◌, ◌≤◌, List, [], ◌∷◌, All, length, take, drop, get_or, slice_index, slice_get, Some, sum, sum_by, refl, ◌∙◌, ap, arith, rules}
 use Rattle.std.specs.List.{flat_map, AllByRecursion}
 use borrow.Author.Count.{below_more}
 use Rattle.std.proofs.Math.Seq.{drop-append-add}
@@ -16,52 +16,32 @@ pub sum_same : (f : AssortmentParts → List ℕ) → ((a : AssortmentParts) →
     → (as_ : List AssortmentParts) → AllByRecursion IsAssortment as_
     → sum_by (λ a. length (f a)) as_ ≡ sum_by classes_of as_
 sum_same f one [] h = refl
-sum_same f one (a ∷ as_) h =
-    omega (
-      arith,
-      one a h.0,
-      sum_same f one as_ h.1,
-      sum_by-cons (λ x. length (f x)) a as_,
-      sum_by-cons classes_of a as_,
-    )
+sum_same f one (a ∷ as_) h = search (rules, sum_by-cons, (sum_same f one as_ h.1))
 
 all_low : (as_ : List AssortmentParts) → AllByRecursion IsAssortment as_
     → All (λ t. t ≤ 1000000) (flat_map (λ a. a.targets) as_)
 all_low [] h = λ k d lt. absurd (omega arith)
-all_low (a ∷ as_) h =
-    All-append (λ t. t ≤ 1000000) a.targets (flat_map (λ a. a.targets) as_) h.0.targets_range (all_low as_ h.1)
+all_low (a ∷ as_) h = search (rules, All-append, (all_low as_ h.1))
 
 -- an assortment's part of the targets of all
 pub part_of : (as_ : List AssortmentParts) (at : ℕ) (a : AssortmentParts) → AllByRecursion IsAssortment as_
     → slice_get as_ at ≡ Some a
     → take (classes_of a) (drop (sum_by classes_of (take at as_)) (flat_map (λ x. x.targets) as_)) ≡ a.targets
 part_of [] at a h e = absurd (none-some a e)
-part_of (b ∷ as_) zero a h e =
-    let same : b ≡ a = same_Some b a e in
-    let number : classes_of a ≡ length b.targets = ap classes_of (sym same) ∙ sym h.0.targets_number in
-    let whole : take (classes_of a) (b.targets ++ flat_map (λ x. x.targets) as_) ≡ b.targets =
-    take-append-le (classes_of a) b.targets (flat_map (λ x. x.targets) as_) (omega (arith, number))
-    ∙ take_all (classes_of a) b.targets (omega (arith, number)) in
-    whole ∙ ap (λ x. x.targets) same
+part_of (b ∷ as_) zero a h e = search (rules, same_Some, take-append-le, take_all)
 part_of (b ∷ as_) (suc at) a h e =
     let before : sum_by classes_of (b ∷ take at as_) ≡ length b.targets + sum_by classes_of (take at as_) =
-    sum_by-cons classes_of b (take at as_)
-    ∙ ap (λ n. n + sum_by classes_of (take at as_)) (sym h.0.targets_number) in
-    ap (λ n. take (classes_of a) (drop n (b.targets ++ flat_map (λ x. x.targets) as_))) before
-    ∙ ap (λ xs. take (classes_of a) xs)
-    (drop-append-add b.targets (flat_map (λ x. x.targets) as_) (sum_by classes_of (take at as_)))
-    ∙ part_of as_ at a h.1 e
+    search (rules, sum_by-cons) in
+    search (rules, drop-append-add, (part_of as_ at a h.1 e))
 
 pub valid_at : (i : InstructionParts) (at : ℕ) (a : AssortmentParts) → IsInstruction i
     → slice_get i.assortments at ≡ Some a → IsAssortment a
 valid_at i at a v e =
-    subst IsAssortment (get_or_from_slice_get i.assortments at a a e)
-    (All-get_or IsAssortment i.assortments at a (slice_get_within i.assortments at a e) v.assortments_valid)
+    grind (arith, get_or_from_slice_get, All-get_or, slice_get_within, i.assortments, v.assortments_valid)
 
 pub opening_valid : (i : InstructionParts) → IsInstruction i → AreTargets i (opening_targets i)
 opening_valid i v =
-    let h : AllByRecursion IsAssortment i.assortments =
-    recursion_from_All IsAssortment i.assortments v.assortments_valid in
+    let h : AllByRecursion IsAssortment i.assortments = search (rules, recursion_from_All) in
     record {
       one_each = length-flat_map (λ a. a.targets) i.assortments
           ∙ sum_same (λ a. a.targets) (λ a w. w.targets_number) i.assortments h;
@@ -74,8 +54,8 @@ pub part_within : (i : InstructionParts) (at : ℕ) (a : AssortmentParts) → sl
     → classes_before i at + classes_of a ≤ classes i
 part_within i at a e =
     let more : classes_before i at + classes_of (get_or i.assortments at a) ≤ classes i =
-    sum_by_more_le classes_of i.assortments at a (slice_get_within i.assortments at a e) in
-    rw (get_or_from_slice_get i.assortments at a a e) at more
+    search (rules, sum_by_more_le, slice_get_within) in
+    search (rules, get_or_from_slice_get)
 
 -- a class's target is a part of what is wanted of its assortment
 pub target_within : (i : InstructionParts) (at j : ℕ) (a : AssortmentParts) (ts : List ℕ) → AreTargets i ts
@@ -92,6 +72,4 @@ pub low_more : (i : InstructionParts) (ts : List ℕ) (at : ℕ) (a : Assortment
     → targets_sum i a at ts ≤ 1000000000
     → ((k : ℕ) → k < at → IsLowSumAt i ts k)
     → (k : ℕ) → k < at + 1 → IsLowSumAt i ts k
-low_more i ts at a e low before =
-    below_more (λ k. IsLowSumAt i ts k) at before
-    (λ b f. subst (λ x. targets_sum i x at ts ≤ 1000000000) (same_Some a b (sym e ∙ f)) low)
+low_more i ts at a e low before = grind (arith, below_more, same_Some)

@@ -12,7 +12,6 @@ ghost use Rattle.buck_book.specs.Pricing.{AreAnswers, AreAnswersWith, AreAnswers
 ghost use Rattle.buck_book.specs.Book.{sheets_from, IsBook, entry_of, demand_of, IsNext, IsReadyFor, IsReadyDemand, SameContent};
 ghost use Rattle.buck_book.specs.Refused.{IsFull, IsBelow, IsRefusal, IsDemandRefusal};
 ghost use Rattle.buck_book.specs.declared.posting.Posting.{Posting};
-ghost use Rattle.buck_book.specs.inner.Running.{IsPassed};
 ghost use Rattle.buck_book.specs.declared.posting.TheConstants.{MOST_POSTINGS};
 
 use crate::counts::zeros;
@@ -20,7 +19,6 @@ use crate::demand::{DemandRefusal, ReadyDemand};
 use crate::entry::Entry;
 use crate::plan::Plan;
 use crate::posting::{Demand, Posting};
-use crate::pricing::sheet_by;
 use crate::ready::{Ready, Refusal};
 use crate::running::Running;
 use crate::targets::check_targets;
@@ -362,27 +360,6 @@ impl<F: Fn(&Standing) -> u64> Book<F> {
         })
     }
 
-    /// The sheet that comes after a posting, an end, with which the postings add up to `after`: the rule's answers to how
-    /// the classes then stand.
-    fn sheet_after(&self, alloc: Global, after: &Running) -> Result<Arc<Sheet>, Memory>
-        requires answers { Answers F.Fn self.now.rule }
-        requires after { (x : Posting) × IsPassed self.now.history x after.now }
-        ensures next { IfOk result (λ s. (x : Posting) → IsPassed self.now.history x after.now
-            → IsEnd self.now.history.instruction self.now.history.postings x
-            → IsNextSheet self.now.history x s.value) }
-        ensures given { IfOk result (λ s. (x : Posting) → IsPassed self.now.history x after.now
-            → AreAnswers F.Fn self.now.rule self.now.history.instruction (self.now.history.postings ++ x ∷ []) s.value.prices) }
-    {
-        let standings = after.standings(&self.instruction);
-        sheet_by(
-            alloc,
-            &self.rule,
-            &self.instruction,
-            after.version(),
-            &standings,
-        )
-    }
-
     /// The next sheet after a plan's entry, where that ends a period.
     fn next_sheet(&self, alloc: Global, plan: &Plan) -> Result<Option<Arc<Sheet>>, Memory>
         requires answers { Answers F.Fn self.now.rule }
@@ -398,7 +375,7 @@ impl<F: Fn(&Standing) -> u64> Book<F> {
         }
         let mut after = self.running.clone()?;
         after.after_plan(plan);
-        Ok(Some(self.sheet_after(alloc, &after)?))
+        Ok(Some(after.sheet(alloc, &self.rule, &self.instruction)?))
     }
 
     /// Prepares the commit of a plan: makes all that the commit stores or hands out, with the next sheet where the
@@ -477,7 +454,7 @@ impl<F: Fn(&Standing) -> u64> Book<F> {
             stored: targets.clone()?,
             in_force: targets.clone()?,
             answered: targets.clone()?,
-            next: self.sheet_after(alloc, &after)?,
+            next: after.sheet(alloc, &self.rule, &self.instruction)?,
         };
         self.reserve()?;
         Ok(ready)

@@ -4,17 +4,14 @@ ghost use Rattle.buck_apt.specs.Instruction.{classes, classes_before, index_of};
 ghost use Rattle.buck_rule.specs.Standing.{IsInRange};
 ghost use Rattle.buck_rule.specs.Stored.{Answers};
 ghost use Rattle.buck_book.specs.Targets.{targets_sum};
-ghost use Rattle.buck_book.specs.inner.Pricing.{CanPrice, IsSection, IsAnswer, ArePriced, IsPricedSheet, class_at, row_start, standing_by};
+ghost use Rattle.buck_book.specs.inner.Pricing.{CanPrice, IsSection, IsAnswer, ArePriced, class_at, row_start, standing_by};
 
 use crate::counts::Counts;
 use crate::targets::targets_sum;
 use buck_apt::{Assortment, Instruction};
-use buck_record::Memory;
 use buck_rule::{Rule, Standing};
-use buck_value::Sheet;
 use std::alloc::{AllocError, Global};
 use std::marker::Model;
-use std::sync::Arc;
 
 /// How the classes of an instruction stand: what is wanted of each, and what was cut.
 #[derive(Drop)]
@@ -166,23 +163,4 @@ pub fn prices_by<F: Fn(&Standing) -> u64>(
         add_assortment(&mut prices, rule, standings, at)?;
     }
     Ok(prices)
-}
-
-/// The sheet of a version, whose prices are the rule's answers to how the classes stand.
-pub fn sheet_by<F: Fn(&Standing) -> u64>(
-    alloc: Global,
-    rule: &Rule<F>,
-    instruction: &Arc<Instruction>,
-    version: u32,
-    standings: &Standings,
-) -> Result<Arc<Sheet>, Memory>
-    requires answers { Answers F.Fn rule.now }
-    requires same { standings.now.instruction ≡ instruction.now.value }
-    ensures { IfOk result (λ s. IsPricedSheet F.Fn rule.now standings.now version s.value) }
-{
-    let prices = prices_by(alloc, rule, standings)?;
-    let Ok(sheet) = Sheet::with_prices(instruction.clone()?, version, prices) else {
-        unreachable!()
-    };
-    Ok(Arc::new(alloc, sheet)?)
 }

@@ -1,6 +1,7 @@
 //! What runs on along postings: a book and a walk hold one each.
 ghost use Rattle.std.specs.Prelude.{List, ◌≡◌, ◌+◌, ◌<◌, ◌≤◌, ◌==◌, ◌↔◌, [], IsTrue, IfOk, OnOk, cond, length, slice_index};
 ghost use Rattle.buck_apt.specs.Instruction.{InstructionParts, IsInstruction};
+ghost use Rattle.buck_rule.specs.Stored.{Answers};
 ghost use Rattle.buck_value.specs.Allowed.{IsAllowed, end_of};
 ghost use Rattle.buck_dp.specs.Cutting.{IsCutFrom};
 ghost use Rattle.buck_book.specs.declared.posting.Posting.{Posting};
@@ -8,15 +9,16 @@ ghost use Rattle.buck_book.specs.Entry.{EntryParts, DemandParts};
 ghost use Rattle.buck_book.specs.Posting.{opening_targets};
 ghost use Rattle.buck_book.specs.Targets.{AreTargets};
 ghost use Rattle.buck_book.specs.Walk.{IsCountable};
-ghost use Rattle.buck_book.specs.inner.Running.{Tells, GoesOn, IsAfter, standings_of};
+ghost use Rattle.buck_book.specs.inner.Running.{Tells, GoesOn, IsAfter, IsSheetAfter, standings_of};
 ghost use Rattle.buck_book.specs.declared.posting.TheConstants.{MOST_POSTINGS};
 
 use crate::counts::Counts;
 use crate::plan::Plan;
 use crate::posting::Posting;
-use crate::pricing::Standings;
+use crate::pricing::{Standings, prices_by};
 use buck_apt::Instruction;
 use buck_record::Memory;
+use buck_rule::{Rule, Standing};
 use buck_stem::Stem;
 use buck_value::{Log, Sheet};
 use std::alloc::{AllocError, Global};
@@ -137,6 +139,25 @@ impl Running {
             targets: self.targets.as_slice(),
             counts: &self.counts,
         }
+    }
+
+    /// The sheet in force: its prices are the rule's answers to how the classes stand.
+    pub fn sheet<F: Fn(&Standing) -> u64>(
+        &self,
+        alloc: Global,
+        rule: &Rule<F>,
+        instruction: &Arc<Instruction>,
+    ) -> Result<Arc<Sheet>, Memory>
+        requires answers { Answers F.Fn rule.now }
+        requires told { (ps : List Posting) × Tells instruction.now.value ps self.now }
+        ensures { IfOk result (λ s. (ps : List Posting) → Tells instruction.now.value ps self.now
+            → IsSheetAfter F.Fn rule.now instruction.now.value ps s.value) }
+    {
+        let prices = prices_by(alloc, rule, &self.standings(instruction))?;
+        let Ok(sheet) = Sheet::with_prices(instruction.clone()?, self.version(), prices) else {
+            unreachable!()
+        };
+        Ok(Arc::new(alloc, sheet)?)
     }
 
     /// The targets in force, and how many logs were cut in each class.

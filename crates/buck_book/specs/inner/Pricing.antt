@@ -7,7 +7,7 @@ use Rattle.buck_apt.specs.declared.class.Class.{Class}
 use Rattle.buck_apt.specs.Instruction.{InstructionParts, AssortmentParts, IsInstruction, IsClass, classes, classes_before, index_of}
 use Rattle.buck_rule.specs.declared.standing.Standing.{Standing}
 use Rattle.buck_rule.specs.Relation.{Meets}
-use Rattle.buck_value.specs.Sheet.{SheetParts, sheet_of, IsPriceAt}
+use Rattle.buck_value.specs.Sheet.{IsPriceAt}
 use Rattle.buck_book.specs.declared.pricing.Section.{Section}
 use Rattle.buck_book.specs.Targets.{AreTargets, targets_sum}
 use Rattle.buck_book.specs.History.{standing_at}
@@ -71,9 +71,3 @@ pub record ArePriced {F : Type 0} (g : Shared F (Bor Standing × Unit {0}) ℕ) 
   pub answered : (c : Class) (k : IsClass s.instruction c) → index_of s.instruction c < number
       → IsAnswer g f (standing_by s k.assortment c) (slice_index prices (index_of s.instruction c))
   pub in_span : (k : ℕ) → k < number → IsPriceAt s.instruction prices k
-
--- a sheet of a version, whose prices are answers to how the classes stand
-pub record IsPricedSheet {F : Type 0} (g : Shared F (Bor Standing × Unit {0}) ℕ) (f : F)
-    (s : StandingsParts) (version : ℕ) (x : SheetParts) : Type 0 where
-  pub made : x ≡ sheet_of version s.instruction x.prices
-  pub priced : ArePriced g f s x.prices (classes s.instruction)

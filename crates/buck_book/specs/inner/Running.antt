@@ -9,7 +9,8 @@ use Rattle.buck_book.specs.declared.posting.Posting.{Posting}
 use Rattle.buck_book.specs.Posting.{targets_of, ends_of, cuts_since_end}
 use Rattle.buck_book.specs.Targets.{AreTargets}
 use Rattle.buck_book.specs.Counts.{AreClassCounts, assortment_count_of, calls_of}
-use Rattle.buck_book.specs.History.{HistoryParts}
+use Rattle.buck_book.specs.History.{PricesMeet}
+use Rattle.buck_book.specs.Pricing.{Calls, AreAnswers}
 use Rattle.buck_book.specs.Book.{BookParts, IsBook, sheets_from}
 use Rattle.buck_book.specs.inner.Pricing.{StandingsParts}
 use Rattle.buck_book.specs.declared.posting.TheConstants.{MOST_POSTINGS}
@@ -75,9 +76,14 @@ abbrev pub IsAfter : InstructionParts → RunningParts → Posting → RunningPa
 IsAfter i before x after =
     (ps : List Posting) → length ps < MOST_POSTINGS → Tells i ps before → Tells i (ps ++ x ∷ []) after
 
--- a history's postings with one more add up to it
-abbrev pub IsPassed : HistoryParts → Posting → RunningParts → Type 0
-IsPassed h x n = Tells h.instruction (h.postings ++ x ∷ []) n
+-- the sheet in force after some postings, made there: its prices are answers to how the classes stand, and keep the
+-- relation with it
+pub record IsSheetAfter {F : Type 0} (g : Calls F) (f : F) (i : InstructionParts) (ps : List Posting)
+    (s : SheetParts) : Type 0 where
+  pub version_is : s.version ≡ ends_of i ps
+  pub same_instruction : s.instruction ≡ i
+  pub prices_meet : PricesMeet i ps s.prices
+  pub answers : AreAnswers g f i ps s.prices
 
 -- the running numbers of calls, by harvester from 1 to 64, are those of some postings
 pub record AreCalls (ps : List Posting) (calls : List ℕ) : Type 0 where

@@ -1,22 +1,24 @@
-use Rattle.std.proofs.Common.{rules, refl, Some, ap, arith}
+use Rattle.std.proofs.Common.{rules, refl, Some, sym, ap, arith}
 use Rattle.std.proofs.lemmas.Grind.{common_steps}
 use Rattle.buck_book.specs.declared.posting.Posting.TheVariants.{Demand}
 use Rattle.buck_book.specs.Book.{demand_of}
 use Rattle.buck_book.specs.Targets.{AreTargets}
 use Rattle.buck_book.proofs.Told.{version_low}
-use Rattle.buck_book.proofs.Books.{ready_to_add, passed_demand}
+use Rattle.buck_book.proofs.Books.{ready_to_add, passed_demand, is_next_sheet}
 use Rattle.buck_book.proofs.book.Book.prepare_demand.Goals as goal
 
 pub after_demand-requires : goal.after_demand-requires
 after_demand-requires g c = grind (arith, version_low)
 
-pub sheet_after-requires-clause-after : goal.sheet_after-requires-clause-after
-sheet_after-requires-clause-after g c = (
-  Demand (demand_of c.args.self.now.history 0 c.args.targets.now.value.items),
-  passed_demand _ _ _ _ _ c.self.view_is c.self.invariant (c.if-is_full.ensures.below refl)
-      c.args.targets.now.value.items _ _ (grind (arith, common_steps)) c.in_ok-after.ensures
-      (rw (ap (λ x. x.items) c.in_ok-clone.ensures.cases) at c.after_demand.ensures) 0,
-)
+pub sheet-requires-clause-told : goal.sheet-requires-clause-told
+sheet-requires-clause-told g c =
+    let valid : AreTargets c.args.self.now.history.instruction c.args.targets.now.value.items =
+    grind (arith, common_steps) in (
+      _,
+      passed_demand _ _ _ _ _ c.self.view_is c.self.invariant (c.if-is_full.ensures.below refl)
+          c.args.targets.now.value.items _ _ valid c.in_ok-after.ensures
+          (rw (ap (λ x. x.items) c.in_ok-clone.ensures.cases) at c.after_demand.ensures) 0,
+    )
 
 pub returns-clause-ready : goal.returns-clause-ready
 returns-clause-ready g c =
@@ -31,10 +33,19 @@ returns-clause-ready g c =
     record {
       to_add = rw same
           (ready_to_add _ _ (λ h harvester. Demand (demand_of h harvester c.args.targets.now.value.items))
-          (Some c.in_ok-sheet_after.field-0.value) c.reserve.ensures.content (search rules)
-          (λ harvester. (refl, c.in_ok-sheet_after.ensures.next _ (passed harvester) refl)) room.posting room.sheet);
+          (Some c.in_ok-sheet.field-0.value) c.reserve.ensures.content (search rules)
+          (rw (sym c.self.view_is) (λ harvester.
+          (refl, is_next_sheet g.F.Fn _ _ _ _ (c.in_ok-sheet.ensures _ (passed harvester)) refl)))
+          room.posting room.sheet);
       valid = search rules;
     }
 
 pub returns-clause-given : goal.returns-clause-given
-returns-clause-given g c = grind (arith, passed_demand)
+returns-clause-given g c =
+    let valid : AreTargets c.args.self.now.history.instruction c.args.targets.now.value.items =
+    grind (arith, common_steps) in
+    let passed =
+    passed_demand _ _ _ _ _ c.self.view_is c.self.invariant (c.if-is_full.ensures.below refl)
+    c.args.targets.now.value.items _ _ valid c.in_ok-after.ensures
+    (rw (ap (λ x. x.items) c.in_ok-clone.ensures.cases) at c.after_demand.ensures) in
+    rw (sym c.self.view_is) (λ harvester. (c.in_ok-sheet.ensures _ (passed harvester)).answers)
