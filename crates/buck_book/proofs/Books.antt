@@ -1,5 +1,5 @@
 -- What a book keeps, one posting on.
-use Rattle.std.proofs.Common.{◌≡◌, ℕ, ◌-◌, ◌<◌, ◌≤◌, inl, inr, List, [], ◌∷◌, ◌++◌, Option, Some, None, MatchOption, length, map, set, replicate, get_or, append-nil, refl, sym, ◌∙◌, ap, subst, arith}
+use Rattle.std.proofs.Common.{◌≡◌, ℕ, ◌-◌, ◌<◌, ◌≤◌, inl, inr, List, [], ◌∷◌, ◌++◌, Option, Some, None, length, map, set, replicate, get_or, append-nil, refl, sym, ◌∙◌, ap, subst, arith, rules}
 use Rattle.std.proofs.lemmas.Grind.{common_steps}
 use Rattle.std.proofs.lemmas.List.{map-append, length_push}
 use Rattle.std.proofs.lemmas.Option.{none-some}
@@ -26,13 +26,7 @@ use Rattle.buck_book.proofs.Sheets.{length-sheets_from, get_or-sheets_from, shee
 -- the version in force has a sheet
 pub in_sheets : {F : Type 0} (b : BookParts F) (sheets : List SheetParts) (n : RunningParts) (calls : List ℕ)
     → Keeps b sheets n calls → version_of b.history < length sheets
-in_sheets b sheets n calls k =
-    omega (
-      arith,
-      ap (λ xs. length xs) k.sheets_are,
-      length-sheets_from 0 b.history.instruction b.history.sheets,
-      k.is_book.lawful.sheets_number,
-    )
+in_sheets b sheets n calls k = search (rules, length-sheets_from)
 
 -- the sheet at its place is the sheet in force
 pub force_is : {F : Type 0} (b : BookParts F) (sheets : List SheetParts) (n : RunningParts) (calls : List ℕ)
@@ -70,15 +64,9 @@ book_more b x next room sheet_room k follows n first in_range below = record {
   lawful = one_more b.history x next k.lawful follows n;
   firsts = λ j y at. elim (slice_get-push b.history.postings x y j at) [
     | inl old ↦ first_stays b.history x y next (version_within b.history j y k.lawful old.1).1 (k.firsts j y old.1)
-    | inr new ↦
-        let lt : planned_version x < length b.history.sheets =
-        omega (arith, follows.version_in_force, k.lawful.sheets_number) in
-        subst (λ z. IsFirst (history_with b.history x next) z) (sym new.1) (first_stays b.history x x next lt first)
+    | inr new ↦ search (rules, first_stays)
   ];
-  harvesters = λ j y at. elim (slice_get-push b.history.postings x y j at) [
-    | inl old ↦ k.harvesters j y old.1
-    | inr new ↦ subst (λ z. IsWithin 1 64 (harvester_of z)) (sym new.1) in_range
-  ];
+  harvesters = search (rules, slice_get-push);
   within = omega (arith, length_push b.history.postings x);
   capacity_range = k.capacity_range;
 }
@@ -104,8 +92,7 @@ keeps_more b sheets sheets' n n' calls calls' x y next added pss' ps' room sheet
     told y_is added_is calls_are ps_are sheets_are pss_are =
     let z : Posting = x b.history in
     let all : ps' ≡ b.history.postings ++ z ∷ [] = ps_are ∙ ap (λ w. b.history.postings ++ w ∷ []) y_is in
-    let called : calls' ≡ set calls (harvester_of z - 1) (number_of z) = calls_are
-    ∙ ap (λ w. set calls (harvester_of w - 1) (number_of w)) y_is in
+    let called : calls' ≡ set calls (harvester_of z - 1) (number_of z) = cc in
     rw (pss_are, all, added_is) (record {
       is_book = book_more b z next room sheet_room k.is_book follows is_next first own below;
       sheets_are = sheets_are ∙ ap (λ o. sheets ++ option_to_list o) added_is
@@ -127,9 +114,7 @@ entry_follows h harvester p plan same = grind (arith, common_steps)
 pub entry_after : (h : HistoryParts) (harvester : ℕ) (p : PlanParts) (n n' : RunningParts) → p.sheet ≡ in_force h
     → ((e : EntryParts) → e.stem ≡ p.stem → e.logs ≡ p.logs → IsAfter p.sheet.instruction n (Cut e) n')
     → IsAfter h.instruction n (Cut (entry_of h harvester p)) n'
-entry_after h harvester p n n' same told =
-    subst (λ s. IsAfter s.instruction n (Cut (entry_of h harvester p)) n') same
-    (told (entry_of h harvester p) refl refl)
+entry_after h harvester p n n' same told = grind arith
 
 -- what runs on in a book below its capacity, with a posting more: d is the book as callers see it
 module _ {F : Type 0} (b d : BookParts F) (sheets : List SheetParts) (n : RunningParts) (calls : List ℕ) (view : b ≡ d)
@@ -143,9 +128,7 @@ module _ {F : Type 0} (b d : BookParts F) (sheets : List SheetParts) (n : Runnin
   pub passed_cut : (p : PlanParts) (n₁ n' : RunningParts) → p.sheet ≡ in_force d.history → n₁ ≡ n
       → ((e : EntryParts) → e.stem ≡ p.stem → e.logs ≡ p.logs → IsAfter p.sheet.instruction n₁ (Cut e) n')
       → (harvester : ℕ) → Tells b.history.instruction (b.history.postings ++ Cut (entry_of b.history harvester p) ∷ []) n'
-  passed_cut p n₁ n' same is told harvester =
-      entry_after b.history harvester p n₁ n' (rw (sym view) at same) told b.history.postings few
-      (subst (λ m. Tells b.history.instruction b.history.postings m) (sym is) k.tells)
+  passed_cut p n₁ n' same is told harvester = grind (arith, entry_after, few)
 
   pub passed_demand : (targets : List ℕ) (n₁ n' : RunningParts) → AreTargets d.history.instruction targets → n₁ ≡ n
       → ((i : InstructionParts) (x : DemandParts) → x.targets ≡ targets → AreTargets i x.targets
@@ -183,12 +166,4 @@ pub ready_to_add : {F : Type 0} (a b : BookParts F) (x : HistoryParts → ℕ �
     → SameContent a b → length a.history.postings < a.capacity
     → ((h : ℕ) → IsNext a.history (x a.history h) next) → length b.history.postings < b.room
     → length b.history.sheets < b.sheet_room → IsReadyToAdd b (x b.history) next
-ready_to_add a b x next same below is_next posting sheet = record {
-  below = rw (same.history, same.capacity) below;
-  next_is = λ h. rw same.history (is_next h);
-  posting_room = posting;
-  sheet_room = if_needed next sheet;
-} where
-  if_needed : {A : Type 0} (next : Option SheetParts) → A → MatchOption next (Unit {0}) (λ _. A)
-  if_needed None room = tt
-  if_needed (Some s) room = room
+ready_to_add a b x next same below is_next posting sheet = search rules

@@ -1,5 +1,5 @@
 -- Prices in the relation, class by class.
-use Rattle.std.proofs.Common.{◌≡◌, ℕ, ◌+◌, ◌<◌, inl, inr, List, Option, Some, None, length, slice_index, refl, sym, subst, arith}
+use Rattle.std.proofs.Common.{◌≡◌, ℕ, ◌+◌, ◌<◌, inl, inr, List, Option, Some, None, length, slice_index, refl, sym, subst, arith, rules}
 use Rattle.std.specs.Prelude.{IfNone}
 use Rattle.std.proofs.lemmas.Bool.{cases_lt}
 use Rattle.buck_apt.specs.declared.class.Class.{Class}
@@ -71,9 +71,7 @@ module _ (s : StandingsParts) (ps : List Posting) (prices : List ℕ) (wanted : 
     class = w.class;
     exists = w.exists;
     place = w.place;
-    wrong = λ m. w.wrong
-        (subst (λ q. Meets (standing_by s w.exists.assortment w.class) (slice_index prices q)) w.place
-        (subst (λ x. Meets x (slice_index prices (index_of s.instruction w.class))) (sym (stands w.class w.exists)) m));
+    wrong = search (rules, stands);
     least = λ c k lt. subst (λ x. Meets x (slice_index prices (index_of s.instruction c))) (stands c k) (w.least c k lt);
   }
 

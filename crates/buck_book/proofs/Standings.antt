@@ -1,5 +1,5 @@
 -- How classes stand, and the prices that are answered to that.
-use Rattle.std.proofs.Common.{◌≡◌, ℕ, ◌+◌, ◌*◌, ◌<◌, ◌≤◌, inl, inr, List, [], ◌∷◌, ◌++◌, length, take, get_or, slice_index, slice_get, Some, refl, sym, ◌∙◌, ap, subst, arith, mul-le-mul_left}
+use Rattle.std.proofs.Common.{◌≡◌, ℕ, ◌+◌, ◌*◌, ◌<◌, ◌≤◌, inl, inr, List, [], ◌∷◌, ◌++◌, length, take, get_or, slice_index, slice_get, Some, sym, ◌∙◌, ap, subst, arith, mul-le-mul_left, rules}
 use Rattle.std.proofs.lemmas.Grind.{common_steps}
 use Rattle.std.specs.List.{flat_map}
 use Rattle.std.proofs.lemmas.Bool.{cases_lt}
@@ -56,7 +56,7 @@ base_is i c v k =
     let lt : c.assortment < length i.assortments = slice_get_within i.assortments c.assortment k.assortment k.exists in
     let w : IsAssortment k.assortment = valid_at i c.assortment k.assortment v k.exists in
     let here : k.assortment ≡ get_or i.assortments c.assortment k.assortment =
-    sym (get_or_from_slice_get i.assortments c.assortment k.assortment k.assortment k.exists) in
+    search (rules, get_or_from_slice_get) in
     let before : classes_before i c.assortment ≡ length (flat_map (λ a. a.prices) (take c.assortment i.assortments)) =
     sym (length-flat_map (λ a. a.prices) (take c.assortment i.assortments)
     ∙ sum_same (λ a. a.prices) (λ a w. w.prices_number) (take c.assortment i.assortments)
@@ -79,8 +79,7 @@ pub priced_more : {F : Type 0} (g : Shared F (Bor Standing × Unit {0}) ℕ) (f 
     → ArePriced g f s (prices ++ price ∷ []) (n + 1)
 priced_more g f s prices c price n k place answer priced =
     let i = s.instruction in
-    let last : get_or (prices ++ price ∷ []) (index_of i c) 0 ≡ price =
-    get_or_push prices price 0 (index_of i c) (priced.number_is ∙ sym place) in
+    let last : get_or (prices ++ price ∷ []) (index_of i c) 0 ≡ price = search (rules, get_or_push) in
     record {
       number_is = omega (arith, length_push prices price, priced.number_is);
       answered = λ d l lt. elim (cases_lt (index_of i d) n) [
@@ -93,17 +92,7 @@ priced_more g f s prices c price n k place answer priced =
             (omega arith)
             (subst (λ p. IsAnswer g f (standing_by s k.assortment c) p) (sym last) answer)
       ];
-      in_span = λ j lt. elim (cases_lt j n) [
-        | inl old ↦
-            subst (λ p. IsInSpan i.limit (slice_index (base_prices i) j) p)
-            (sym (get_or_append_left prices (price ∷ []) 0 j (omega (arith, priced.number_is)))) (priced.in_span j old)
-        | inr new ↦
-            let same : index_of i c ≡ j = omega arith in
-            let here : IsInSpan i.limit (slice_index (base_prices i) (index_of i c)) price =
-            meets_within (standing_by s k.assortment c) price answer.met in
-            subst (λ x. IsPriceAt i (prices ++ price ∷ []) x) same
-            (subst (λ p. IsInSpan i.limit (slice_index (base_prices i) (index_of i c)) p) (sym last) here)
-      ];
+      in_span = search (rules, cases_lt, get_or_append_left, meets_within);
     }
 
 -- a price in the relation is at most twice the greatest base price
@@ -153,7 +142,7 @@ module _ (s : StandingsParts) (x : Section) (row column : ℕ) (k : IsSection s 
         × (row_start x row + column < length s.targets)
     section_counts =
         let counts = has_counts s x.assortment.now (class_at x.at row column) section_class can in
-        (omega (arith, counts.0, section_place), counts.1, omega (arith, counts.2, section_place))
+        search (rules, section_place)
 
     -- how it stands by what was read is how it stands
     pub section_stands : (base limit target count counts : ℕ)
@@ -212,10 +201,7 @@ module _ {F : Type 0} (g : Shared F (Bor Standing × Unit {0}) ℕ) (f : F) (s :
     (priced : ArePriced g f s prices (classes s.instruction)) where
   answers : (c : Class) (k : IsClass s.instruction c)
       → IsAnswer g f (standing_of s.instruction k.assortment c ps) (slice_index prices (index_of s.instruction c))
-  answers c k =
-      subst (λ x. IsAnswer g f x (slice_index prices (index_of s.instruction c)))
-      (standing_is s.instruction s.targets s.by_class s.by_assortment ps c wanted counts k)
-      (priced.answered c k (omega (arith, place_lt s.instruction c k)))
+  answers c k = grind (arith, standing_is, place_lt)
 
 -- a sheet of prices by running counts that are right
 pub is_sheet : {F : Type 0} (g : Shared F (Bor Standing × Unit {0}) ℕ) (f : F) (i : InstructionParts) (ps : List Posting)
@@ -223,12 +209,7 @@ pub is_sheet : {F : Type 0} (g : Shared F (Bor Standing × Unit {0}) ℕ) (f : F
     → ArePriced g f (standings_of i n) prices (classes i) → s ≡ sheet_of n.version i prices → IsSheetAfter g f i ps s
 is_sheet g f i ps n prices s told priced made =
     let answered = answers g f (standings_of i n) ps prices told.targets_are told.counts_are priced in
-    rw made (record {
-      version_is = told.version_is;
-      same_instruction = refl;
-      prices_meet = record { one_each = priced.number_is; each_meets = λ c k. (answered c k).met };
-      answers = λ c k. (answered c k).given;
-    })
+    search (rules, answers)
 
 -- prices within their spans, one for each class, make a sheet
 pub no_fault : (i : InstructionParts) (prices : List ℕ) (fault : SheetFault) → length prices ≡ classes i

@@ -14,7 +14,6 @@ ghost use Rattle.buck_book.specs.Refused.{IsFull, IsBelow, IsRefusal, IsDemandRe
 ghost use Rattle.buck_book.specs.declared.posting.Posting.{Posting};
 ghost use Rattle.buck_book.specs.declared.posting.TheConstants.{MOST_POSTINGS};
 
-use crate::counts::zeros;
 use crate::demand::{DemandRefusal, ReadyDemand};
 use crate::entry::Entry;
 use crate::plan::Plan;
@@ -345,7 +344,7 @@ impl<F: Fn(&Standing) -> u64> Book<F> {
         ensures capacity { IfOk result (λ b. b.capacity ≡ capacity) }
     {
         let running = Running::opening(alloc, &instruction)?;
-        let calls = zeros(alloc, 64)?;
+        let calls = vec![in alloc; 0; 64]?;
         let base = Arc::new(alloc, Sheet::base(alloc, instruction.clone()?)?)?;
         let mut sheets = Vec::with_capacity(alloc, 1)?;
         sheets.push_reserved(base);

@@ -103,19 +103,13 @@ impl Plan {
         } }
         ensures best { IsPlan self }
     {
-        let Plan {
-            stem,
-            sheet: _,
-            cutting,
-            worth,
-        } = self;
         Entry {
             harvester,
             number,
-            stem,
+            stem: self.stem,
             version,
-            cutting,
-            worth,
+            cutting: self.cutting,
+            worth: self.worth,
         }
     }
 }

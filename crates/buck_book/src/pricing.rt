@@ -6,7 +6,6 @@ ghost use Rattle.buck_rule.specs.Stored.{Answers};
 ghost use Rattle.buck_book.specs.Targets.{targets_sum};
 ghost use Rattle.buck_book.specs.inner.Pricing.{CanPrice, IsSection, IsAnswer, ArePriced, class_at, row_start, standing_by};
 
-use crate::counts::Counts;
 use crate::targets::targets_sum;
 use buck_apt::{Assortment, Instruction};
 use buck_rule::{Rule, Standing};
@@ -18,7 +17,8 @@ use std::marker::Model;
 pub struct Standings<'a> {
     pub instruction: &'a Instruction,
     pub targets: &'a [u32],
-    pub counts: &'a Counts,
+    pub by_class: &'a [u32],
+    pub by_assortment: &'a [u32],
 }
 
 impl<'a> Model for Standings<'a> {
@@ -29,15 +29,15 @@ impl<'a> Model for Standings<'a> {
     ghost view = { λ s. record {
       instruction = s.instruction.now;
       targets = s.targets.now;
-      by_class = s.counts.now.by_class.items;
-      by_assortment = s.counts.now.by_assortment.items;
+      by_class = s.by_class.now;
+      by_assortment = s.by_assortment.now;
     } };
 
     ghost invariant = { λ s. CanPrice (record {
       instruction = s.instruction.now;
       targets = s.targets.now;
-      by_class = s.counts.now.by_class.items;
-      by_assortment = s.counts.now.by_assortment.items;
+      by_class = s.by_class.now;
+      by_assortment = s.by_assortment.now;
     }) };
 }
 
@@ -88,8 +88,8 @@ impl<'a> Standings<'a> {
             limit,
             target: u64::from(self.targets[place]),
             targets: section.targets,
-            count: u64::from(self.counts.by_class[place]),
-            counts: u64::from(self.counts.by_assortment[section.at]),
+            count: u64::from(self.by_class[place]),
+            counts: u64::from(self.by_assortment[section.at]),
         }
     }
 }

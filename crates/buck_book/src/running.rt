@@ -12,7 +12,7 @@ ghost use Rattle.buck_book.specs.Walk.{IsCountable};
 ghost use Rattle.buck_book.specs.inner.Running.{Tells, GoesOn, IsAfter, IsSheetAfter, standings_of};
 ghost use Rattle.buck_book.specs.declared.posting.TheConstants.{MOST_POSTINGS};
 
-use crate::counts::Counts;
+use crate::counts::add_logs;
 use crate::plan::Plan;
 use crate::posting::Posting;
 use crate::pricing::{Standings, prices_by};
@@ -31,7 +31,8 @@ pub struct Running {
     targets: Arc<Vec<u32>>,
     cuts: u32,
     version: u32,
-    counts: Counts,
+    by_class: Vec<u32>,
+    by_assortment: Vec<u32>,
 }
 
 impl Model for Running {
@@ -43,8 +44,8 @@ impl Model for Running {
       targets = n.targets.value.items;
       cuts = n.cuts;
       version = n.version;
-      by_class = n.counts.by_class.items;
-      by_assortment = n.counts.by_assortment.items;
+      by_class = n.by_class.items;
+      by_assortment = n.by_assortment.items;
     } };
 }
 
@@ -78,13 +79,15 @@ impl Running {
     pub fn opening(alloc: Global, instruction: &Instruction) -> Result<Running, Memory>
         ensures { IfOk result (λ n. Tells instruction.now [] n) }
     {
-        let counts = Counts::none(alloc, instruction)?;
         let targets = Arc::new(alloc, targets_at_opening(alloc, instruction)?)?;
+        let by_class = vec![in alloc; 0; instruction.classes()]?;
+        let by_assortment = vec![in alloc; 0; instruction.assortments().len()]?;
         Ok(Running {
             targets,
             cuts: 0,
             version: 0,
-            counts,
+            by_class,
+            by_assortment,
         })
     }
 
@@ -96,7 +99,8 @@ impl Running {
             targets: self.targets.clone()?,
             cuts: self.cuts,
             version: self.version,
-            counts: self.counts.clone()?,
+            by_class: self.by_class.clone()?,
+            by_assortment: self.by_assortment.clone()?,
         })
     }
 
@@ -125,7 +129,7 @@ impl Running {
     pub fn classes(&self) -> &[u32]
         ensures { result.now ≡ self.now.by_class }
     {
-        self.counts.by_class.as_slice()
+        self.by_class.as_slice()
     }
 
     /// How the classes of the instruction stand by it.
@@ -137,7 +141,8 @@ impl Running {
         Standings {
             instruction,
             targets: self.targets.as_slice(),
-            counts: &self.counts,
+            by_class: self.by_class.as_slice(),
+            by_assortment: self.by_assortment.as_slice(),
         }
     }
 
@@ -165,7 +170,7 @@ impl Running {
         ensures targets { result.0.value.items ≡ self.targets }
         ensures counts { result.1.items ≡ self.by_class }
     {
-        (self.targets, self.counts.by_class)
+        (self.targets, self.by_class)
     }
 
     /// Adds a cut: an admissible cutting of a stem. The sheet is any of the instruction.
@@ -180,7 +185,13 @@ impl Running {
         // No stem is longer, so its logs are few, and the counts stay small.
         prove!(stem.length() <= 40_000);
         let period = sheet.instruction().period();
-        self.counts.add(sheet, stem, logs);
+        add_logs(
+            &mut self.by_class,
+            &mut self.by_assortment,
+            sheet,
+            stem,
+            logs,
+        );
         let (cuts, version) = cut_more(self.cuts, self.version, period);
         self.cuts = cuts;
         self.version = version;

@@ -1,0 +1,18 @@
+use Rattle.std.proofs.Common.{refl, arith}
+use Rattle.std.proofs.lemmas.Grind.{common_steps}
+use Rattle.buck_value.specs.declared.log.Log.{Log}
+use Rattle.buck_book.specs.inner.Running.{class_place}
+use Rattle.buck_book.proofs.Counting.{grown_more}
+use Rattle.buck_book.proofs.counts.add_logs.Goals as goal
+
+pub loop-log-preserved : goal.loop-log-preserved
+loop-log-preserved c =
+    let none : Log = record { start = 0; length = 0; assortment = 0 } in
+    record {
+      classes = rw c.add_one.ensures
+          (grown_more (class_place c.args.sheet.now.instruction c.args.stem.now) _ _ _ _ _ none c.loop-log-test.true
+          c.place_of.ensures.place (grind (arith, common_steps)) c.loop-log.invariant.classes);
+      assortments = rw c.add_one-in-loop-log.ensures
+          (grown_more (λ g. g.assortment) _ _ _ _ _ none c.loop-log-test.true refl (grind (arith, common_steps))
+          c.loop-log.invariant.assortments);
+    }
