@@ -1,7 +1,9 @@
 -- the seats of a new fleet, and the same seats after a run
-use Rattle.std.proofs.Common.{◌≡◌, ℕ, suc, ◌+◌, ◌<◌, ◌≤◌, ◌≢◌, ◌==◌, ◌⊎◌, inl, inr, cond, List, [], ◌∷◌, length, get_or, refl, sym, ap, subst, ◌∙◌, arith}
+use Rattle.std.proofs.Common.{◌≡◌, ℕ, zero, suc, ◌+◌, ◌<◌, ◌≤◌, ◌==◌, cond, List, [], ◌∷◌, length, get_or, take, refl, sym, ap, ◌∙◌, arith, add-one}
 use Rattle.std.specs.List.{sum_by}
-use Rattle.std.proofs.lemmas.List.Sums.{sum_by-cons}
+use Rattle.std.proofs.lemmas.List.{take_all}
+use Rattle.std.proofs.lemmas.List.Sums.{sum_by-cons, sum_by_more}
+use Rattle.std.specs.Prelude.{if◌then◌else◌, nat_lt}
 use Rattle.std.proofs.lemmas.Bool.Decides.{nat_tests}
 use Rattle.buck_fleet.specs.Seat.{SeatParts}
 use Rattle.buck_fleet.specs.Crew.{seats_of, parts_of, IsCrew}
@@ -11,54 +13,27 @@ use Rattle.std.specs.declared.sync.Arc.{Arc}
 use Rattle.std.specs.declared.vec.Vec.{Vec}
 use Rattle.std.specs.declared.alloc.Global.{Global}
 use Rattle.buck_stem.specs.declared.stem.Stem.{Stem}
-use Rattle.buck_fleet.proofs.Places.{seats_of-append, seats_of-self}
 
-seats_of-other : (h : ℕ) (s : SeatParts) → s.harvester ≢ h → seats_of h (s ∷ []) ≡ 0
-seats_of-other h s ne = grind (arith, nat_tests)
-
--- the harvesters go up by one, from k + 1 on
-abbrev pub Rising : ℕ → List SeatParts → Type 0
-Rising k xs = (i : ℕ) (d : SeatParts) → i < length xs → (get_or xs i d).harvester ≡ i + k + 1
-
-rising_tail : (k : ℕ) (x : SeatParts) (xs : List SeatParts) → Rising k (x ∷ xs) → Rising (k + 1) xs
-rising_tail k x xs r i d lt = let e = r (suc i) d (omega arith) in e ∙ omega arith
-
-seats_below : (h k : ℕ) (xs : List SeatParts) → Rising k xs → h ≤ k → seats_of h xs ≡ 0
-seats_below h k [] r le = refl
-seats_below h k (x ∷ xs) r le =
-    let a = seats_of-append h (x ∷ []) xs in
-    let e : x.harvester ≡ 0 + k + 1 = r 0 x (omega arith) in
-    let b = seats_of-other h x (λ z. omega arith) in
-    let t = seats_below h (k + 1) xs (rising_tail k x xs r) (omega arith) in
-    omega arith
-
-seats_in : (h k : ℕ) (xs : List SeatParts) → Rising k xs → k < h → h ≤ k + length xs → seats_of h xs ≡ 1
-seats_in h k [] r lt le = absurd (omega arith)
-seats_in h k (x ∷ xs) r lt le =
-    let a = seats_of-append h (x ∷ []) xs in
-    let e : x.harvester ≡ 0 + k + 1 = r 0 x (omega arith) in
-    let cases : (h ≡ k + 1) ⊎ (k + 1 < h) = grind arith in
-    elim cases [
-      | inl is ↦ (
-          let s : seats_of x.harvester (x ∷ []) ≡ 1 = seats_of-self x in
-          let same : x.harvester ≡ h = omega arith in
-          let s' : seats_of h (x ∷ []) ≡ 1 = subst (λ (n : ℕ). seats_of n (x ∷ []) ≡ 1) same s in
-          let t = seats_below h (k + 1) xs (rising_tail k x xs r) (omega arith) in
-          omega arith)
-      | inr more ↦ (
-          let b = seats_of-other h x (λ z. omega arith) in
-          let t = seats_in h (k + 1) xs (rising_tail k x xs r) more (omega arith) in
-          omega arith)
-    ]
+-- each harvester from 1 on has one of the first n seats, or none
+first_seats : (x : SeatParts) (seats : List SeatParts) (h n : ℕ)
+    → ((i : ℕ) (d : SeatParts) → i < length seats → (get_or seats i d).harvester ≡ i + 1) → n ≤ length seats → 0 < h
+    → seats_of h (take n seats) ≡ (if nat_lt n h then 0 else 1)
+first_seats x seats h zero each le pos = grind (arith, nat_tests)
+first_seats x seats h (suc n) each le pos =
+    let more = sum_by_more (λ (s : SeatParts). cond (s.harvester == h) 1 0) seats n x (omega arith) in
+    let at = each n x (omega arith) in
+    let before = first_seats x seats h n each (omega arith) pos in
+    rw (← add-one) (grind (arith, nat_tests))
 
 pub crew_of_new : (n : ℕ) (seats : List SeatParts) → length seats ≡ n
     → ((i : ℕ) (d : SeatParts) → i < n → (get_or seats i d).harvester ≡ i + 1) → IsCrew n seats
-crew_of_new n seats number each =
-    let rising : Rising 0 seats = λ i d lt. each i d (omega arith) ∙ omega arith in
-    record {
-      within = λ i d lt. (let e = rising i d lt in (omega arith, omega arith));
-      once = λ h pos le. seats_in h 0 seats rising pos (omega arith);
-    }
+crew_of_new n [] number each = record { within = λ i d lt. absurd (omega arith); once = λ h pos le. absurd (omega arith) }
+crew_of_new n (x ∷ xs) number each = record {
+  within = λ i d lt. (let e = each i d (omega arith) in (omega arith, omega arith));
+  once = λ h pos le. let first =
+      first_seats x (x ∷ xs) h (length (x ∷ xs)) (λ i d lt. each i d (omega arith)) (omega arith) pos in
+      grind (arith, nat_tests, take_all);
+}
 
 -- sums over seats that are alike
 sums_same : (f : SeatParts → ℕ) (xs ys : List SeatParts) → length ys ≡ length xs

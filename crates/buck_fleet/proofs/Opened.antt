@@ -1,41 +1,54 @@
 -- seats of a new fleet, one by one
-use Rattle.std.proofs.Common.{◌≡◌, ℕ, ◌+◌, ◌<◌, ◌⊎◌, inl, inr, List, [], ◌∷◌, ◌++◌, length, get_or, refl, sym, ap, subst, ◌∙◌, arith}
+use Rattle.std.proofs.Common.{◌≡◌, ℕ, ◌+◌, ◌<◌, List, [], ◌∷◌, ◌++◌, length, get_or, refl, ap, arith}
 use Rattle.std.proofs.lemmas.Grind.{common_steps}
-use Rattle.std.specs.Prelude.{None}
+use Rattle.std.specs.Prelude.{None, Some, All}
 use Rattle.std.proofs.lemmas.List.{get_or_append_left, get_or_push, length_push}
-use Rattle.std.proofs.lemmas.List.Sums.{sum_by-append}
+use Rattle.std.proofs.lemmas.List.Sums.{sum_by_push}
+use Rattle.std.proofs.lemmas.List.Elements.{All-pop}
 use Rattle.buck_board.specs.declared.board.Board.{Board}
 use Rattle.buck_board.specs.declared.seat.BoardSeat.{BoardSeat}
 use Rattle.buck_board.specs.Board.{IsSeatOf, seen_by}
 use Rattle.buck_fleet.specs.Seat.{SeatParts}
-use Rattle.buck_fleet.specs.Crew.{parts_of, IsNew}
+use Rattle.buck_fleet.specs.Crew.{parts_of, IsNew, AreOpened}
+use Rattle.buck_fleet.proofs.Crews.{crew_of_new}
 
--- all seats so far are new ones
-abbrev pub AreNew : Board → List SeatParts → Type 0
-AreNew b seats = (i : ℕ) (d : SeatParts) → i < length seats → IsNew b i (get_or seats i d)
+-- some of the seats have their places, and the next one gets so many of the parts that are left
+pub record AreSoFar (b : Board) (count : ℕ) (seats : List SeatParts) (places : List BoardSeat) (parts left : ℕ) : Type 0 where
+  pub number : length places + length seats ≡ count
+  pub some_parts : 0 < parts
+  pub one_each : 0 < length seats → parts ≡ 1
+  pub shared : parts + length places ≡ left + 1
+  pub all_parts : left + parts_of seats ≡ 64
+  pub places_of : All (IsSeatOf b) places
+  pub unseen : All (λ p. seen_by p ≡ 0) places
+  pub new : (i : ℕ) (d : SeatParts) → i < length seats → IsNew b i (get_or seats i d)
 
-pub is_new : (b : Board) (n : ℕ) (s : SeatParts) (h : ℕ) (p : BoardSeat) (parts : ℕ)
-    → s ≡ record { harvester = h; place = p; kept = []; parts = parts; stopped = None } → h ≡ n + 1 → IsSeatOf b p
-    → seen_by p ≡ 0 → IsNew b n s
-is_new b n s h p parts e eh of unseen = grind (arith, common_steps)
+pub one_more : (b : Board) (count : ℕ) (seats after : List SeatParts) (places others : List BoardSeat)
+    (parts left left_after own : ℕ) (s : SeatParts) (h : ℕ) (p : BoardSeat)
+    → AreSoFar b count seats places parts left → places ≡ others ++ p ∷ []
+    → s ≡ record { harvester = h; place = p; kept = []; parts = own; stopped = None } → own ≡ parts
+    → h ≡ length seats + 1 → after ≡ seats ++ s ∷ [] → left_after + parts ≡ left → AreSoFar b count after others 1 left_after
+one_more b count seats after places others parts left left_after own s h p so_far place is e at more given =
+    let fewer = ap length place in
+    let longer = ap length more in
+    let sum = ap parts_of more in
+    let made : IsNew b (length seats) s = grind (arith, common_steps) in
+    record {
+      number = grind (arith, length_push);
+      some_parts = omega arith;
+      one_each = λ some. refl;
+      shared = grind (arith, length_push);
+      all_parts = grind (arith, sum_by_push);
+      places_of = (All-pop (IsSeatOf b) _ _ (Some p) place so_far.places_of).0;
+      unseen = (All-pop (λ p. seen_by p ≡ 0) _ _ (Some p) place so_far.unseen).0;
+      new = grind (arith, get_or_append_left, get_or_push, length_push);
+    }
 
-pub one_more_new : (b : Board) (seats after : List SeatParts) (s : SeatParts) → after ≡ seats ++ s ∷ [] → AreNew b seats
-    → IsNew b (length seats) s → AreNew b after
-one_more_new b seats after s is new one = subst (AreNew b) (sym is) (λ i d lt. (
-    let n = length_push seats s in
-    elim (split i (length seats) (omega arith)) [
-      | inl less ↦ subst (IsNew b i) (sym (get_or_append_left seats (s ∷ []) d i less)) (new i d less)
-      | inr same ↦
-          subst (λ (k : ℕ). IsNew b k (get_or (seats ++ s ∷ []) k d)) (sym same)
-          (subst (IsNew b (length seats)) (sym (get_or_push seats s d (length seats) refl)) one)
-    ])) where
-      split : (i n : ℕ) → i < n + 1 → (i < n) ⊎ (i ≡ n)
-      split i n lt = grind arith
-
-pub one_more_parts : (seats after : List SeatParts) (s : SeatParts) → after ≡ seats ++ s ∷ []
-    → parts_of after ≡ parts_of seats + s.parts
-one_more_parts seats after s is = grind (arith, sum_by-append)
-
-pub one_more_long : (seats after : List SeatParts) (s : SeatParts) → after ≡ seats ++ s ∷ []
-    → length after ≡ length seats + 1
-one_more_long seats after s is = ap (λ (l : List SeatParts). length l) is ∙ length_push seats s
+pub opened : (b : Board) (count : ℕ) (seats : List SeatParts) (places : List BoardSeat) (parts left : ℕ)
+    → AreSoFar b count seats places parts left → length places ≡ 0 → 0 < count → AreOpened b count seats
+opened b count seats places parts left so_far none some = record {
+  number = omega arith;
+  each = λ i d lt. so_far.new i d (omega arith);
+  all_parts = omega arith;
+  crew = crew_of_new count seats (omega arith) (λ i d lt. (so_far.new i d (omega arith)).harvester_is);
+}

@@ -1,25 +1,16 @@
 -- kept lists that are put in their places, one by one
-use Rattle.std.proofs.Common.{◌≡◌, ℕ, zero, suc, ◌+◌, ◌-◌, ◌<◌, ◌≤◌, ◌≢◌, ◌==◌, List, [], ◌∷◌, ◌++◌, length, get_or, set, refl, sym, ap, subst, ◌∙◌, arith, length-append, append-nil, append_assoc, cond}
+use Rattle.std.proofs.Common.{◌≡◌, ◌≢◌, ℕ, zero, suc, ◌+◌, ◌-◌, ◌<◌, ◌≤◌, ◌==◌, List, [], ◌∷◌, ◌++◌, length, get_or, set, refl, sym, ap, ◌∙◌, arith, append_assoc, cond, length-set, length-append}
 use Rattle.std.proofs.lemmas.Grind.{common_steps}
-use Rattle.std.proofs.Math.Seq.{get_or-append_seam}
-use Rattle.std.specs.Prelude.{All, slice_index_or}
+use Rattle.std.specs.Prelude.{All}
 use Rattle.std.specs.List.{sum_by}
-use Rattle.std.proofs.lemmas.List.Sums.{sum_by-append, sum_by-set}
-use Rattle.std.proofs.lemmas.List.{get_or-set_other, get_or-append-add}
+use Rattle.std.proofs.lemmas.List.Sums.{sum_by-append, sum_by-cons, sum_by-set, sum_by-le, get_or-le-sum_by}
+use Rattle.std.proofs.lemmas.List.{get_or-set_other, get_or-set_same}
 use Rattle.std.proofs.lemmas.Bool.{eq-eqb}
+use Rattle.std.proofs.Math.Seq.{get_or-append_seam}
 use Rattle.buck_fleet.specs.declared.seat.Kept.{Kept}
 use Rattle.buck_fleet.specs.Seat.{SeatParts}
 use Rattle.buck_fleet.specs.Crew.{seats_of, parts_of, IsCrew}
 use Rattle.buck_fleet.specs.inner.Lists.{AreEmpty}
-
--- the seats that are left begin all seats, and the lists of the others are in their places
-pub record Places (all rest : List SeatParts) (lists : List (List Kept)) (parts amount : ℕ) : Type 0 where
-  pub done : List SeatParts
-  pub split : all ≡ rest ++ done
-  pub parts_are : parts ≡ parts_of done
-  pub amount_is : amount ≡ sum_by length lists
-  pub empty : (h : ℕ) → 0 < h → 0 < seats_of h rest → slice_index_or lists (h - 1) [] ≡ []
-  pub filled : All (λ s. slice_index_or lists (s.harvester - 1) [] ≡ s.kept) done
 
 pub seats_of-append : (h : ℕ) (xs ys : List SeatParts) → seats_of h (xs ++ ys) ≡ seats_of h xs + seats_of h ys
 seats_of-append h xs ys = sum_by-append (λ (s : SeatParts). cond (s.harvester == h) 1 0) xs ys
@@ -27,92 +18,118 @@ seats_of-append h xs ys = sum_by-append (λ (s : SeatParts). cond (s.harvester =
 pub seats_of-self : (s : SeatParts) → seats_of s.harvester (s ∷ []) ≡ 1
 seats_of-self s = rw (eq-eqb s.harvester s.harvester refl) refl
 
-none : (lists : List (List Kept)) → AreEmpty lists → sum_by length lists ≡ 0
-none [] e = refl
-none (x ∷ xs) e =
-    let a = sum_by-append (λ (l : List Kept). length l) (x ∷ []) xs in
-    let b : x ≡ [] = e 0 [] (omega arith) in
-    let c : length x ≡ 0 = ap (λ (l : List Kept). length l) b in
-    let r : sum_by length xs ≡ 0 = none xs (λ k d lt. e (suc k) d (omega arith)) in
-    omega (arith, a, c, r)
+-- the lists with those of these seats in their places
+abbrev pub placed : List (List Kept) → List SeatParts → List (List Kept)
+placed lists [] = lists
+placed lists (s ∷ done) = set (placed lists done) (s.harvester - 1) s.kept
 
-empty_at : (lists : List (List Kept)) (i : ℕ) → AreEmpty lists → get_or lists i [] ≡ []
-empty_at [] i e = refl
-empty_at (x ∷ xs) zero e = e 0 [] (omega arith)
-empty_at (x ∷ xs) (suc i) e = empty_at xs i (λ k d lt. e (suc k) d (omega arith))
+-- the seats that are left begin all seats, and the others were taken in
+pub record Places (all rest : List SeatParts) (before lists : List (List Kept)) (parts amount : ℕ) : Type 0 where
+  pub done : List SeatParts
+  pub split : all ≡ rest ++ done
+  pub lists_are : lists ≡ placed before done
+  pub parts_are : parts ≡ parts_of done
+  pub amount_is : amount ≡ sum_by (λ s. length s.kept) done
 
-filled_more : (lists : List (List Kept)) (s : SeatParts) (done : List SeatParts) (k : ℕ) (d : SeatParts)
-    → 0 < s.harvester → s.harvester - 1 < length lists → seats_of s.harvester done ≡ 0
-    → ((k' : ℕ) → k' < length done → 0 < (get_or done k' d).harvester)
-    → ((k' : ℕ) → k' < length done → get_or lists ((get_or done k' d).harvester - 1) [] ≡ (get_or done k' d).kept)
-    → k < length (s ∷ done)
-    → get_or (set lists (s.harvester - 1) s.kept) ((get_or (s ∷ done) k d).harvester - 1) []
-    ≡ (get_or (s ∷ done) k d).kept
-filled_more lists s done k d pos room nil all_pos filled lt = grind (arith, common_steps)
+-- one seat more is taken in
+pub one_more_in : (all rest rest' : List SeatParts) (s v : SeatParts) (before lists lists' : List (List Kept))
+    (parts parts' amount amount' own : ℕ) → rest ≡ rest' ++ s ∷ [] → v ≡ s
+    → lists' ≡ set lists (v.harvester - 1) v.kept → parts' ≡ parts + v.parts → amount' ≡ amount + own
+    → own ≡ length v.kept → Places all rest before lists parts amount → Places all rest' before lists' parts' amount'
+one_more_in all rest rest' s v before lists lists' parts parts' amount amount' own is view l p a o places =
+    let more = sum_by-cons (λ (x : SeatParts). x.parts) v places.done in
+    let longer = sum_by-cons (λ (x : SeatParts). length x.kept) v places.done in
+    record {
+      done = v ∷ places.done;
+      split = places.split ∙ (λ t. is t ++ places.done) ∙ append_assoc rest' (s ∷ []) places.done
+          ∙ (λ t. rest' ++ sym view t ∷ places.done);
+      lists_are = l ∙ ap (λ x. set x (v.harvester - 1) v.kept) places.lists_are;
+      parts_are = omega (arith, places.parts_are);
+      amount_is = omega (arith, places.amount_is);
+    }
 
--- at the beginning
-pub places_none : (all : List SeatParts) (lists : List (List Kept)) → AreEmpty lists → Places all all lists 0 0
-places_none all lists empty = record {
-  done = [];
-  split = sym (append-nil all);
-  parts_are = refl;
-  amount_is = sym (none lists empty);
-  empty = λ h pos some. empty_at lists (h - 1) empty;
-  filled = λ k d lt. absurd (omega arith);
+pub in_range : (n : ℕ) (all rest rest' : List SeatParts) (s v : SeatParts) (before lists : List (List Kept))
+    (parts amount : ℕ) → IsCrew n all → rest ≡ rest' ++ s ∷ [] → v ≡ s → Places all rest before lists parts amount
+    → (0 < v.harvester) × (v.harvester ≤ n)
+in_range n all rest rest' s v before lists parts amount crew is view places =
+    let first : rest ++ places.done ≡ rest' ++ s ∷ places.done = (λ t. is t ++ places.done)
+    ∙ append_assoc rest' (s ∷ []) places.done in
+    let within = rw (places.split ∙ first) at crew.within in
+    rw (view, ← get_or-append_seam rest' s places.done s) (within (length rest') s (omega (arith, length-append rest' (s ∷ places.done))))
+
+-- harvesters from 1 to n, none twice
+record AreApart (n : ℕ) (xs : List SeatParts) : Type 0 where
+  within : All (λ s. (0 < s.harvester) × (s.harvester ≤ n)) xs
+  once : (h : ℕ) → 0 < h → h ≤ n → seats_of h xs ≤ 1
+
+first_apart : (n : ℕ) (s : SeatParts) (xs : List SeatParts) → AreApart n (s ∷ xs)
+    → (0 < s.harvester) × (s.harvester ≤ n) × (seats_of s.harvester xs ≡ 0)
+first_apart n s xs apart =
+    let w = apart.within 0 s (omega arith) in
+    let o = apart.once s.harvester w.0 w.1 in
+    let a = seats_of-append s.harvester (s ∷ []) xs in
+    let b = seats_of-self s in (w.0, w.1, omega arith)
+
+rest_apart : (n : ℕ) (s : SeatParts) (xs : List SeatParts) → AreApart n (s ∷ xs) → AreApart n xs
+rest_apart n s xs apart = record {
+  within = λ k d lt. apart.within (suc k) d (omega arith);
+  once = λ h pos le. omega (arith, apart.once h pos le, seats_of-append h (s ∷ []) xs);
 }
 
-pub places_one : (all rest rest' : List SeatParts) (s : SeatParts) (lists : List (List Kept)) (parts amount : ℕ)
-    → IsCrew (length lists) all → rest ≡ rest' ++ s ∷ [] → Places all rest lists parts amount
-    → (0 < s.harvester) × (s.harvester ≤ length lists)
-    × Places all rest' (set lists (s.harvester - 1) s.kept) (parts + s.parts) (amount + length s.kept)
-places_one all rest rest' s lists parts amount crew is p =
-    let h = s.harvester in
-    let split' : all ≡ rest' ++ s ∷ p.done = p.split ∙ ap (λ (xs : List SeatParts). xs ++ p.done) is
-    ∙ append_assoc rest' (s ∷ []) p.done in
-    let long : length all ≡ length rest' + (length p.done + 1) = ap (λ (xs : List SeatParts). length xs) split'
-    ∙ length-append rest' (s ∷ p.done) ∙ ap (λ (n : ℕ). length rest' + n) (omega arith) in
-    let at_s : get_or all (length rest') s ≡ s = ap (λ (xs : List SeatParts). get_or xs (length rest') s) split'
-    ∙ get_or-append_seam rest' s p.done s in
-    let within : (0 < h) × (h ≤ length lists) =
-    subst (λ (x : SeatParts). (0 < x.harvester) × (x.harvester ≤ length lists)) at_s
-    (crew.within (length rest') s (omega arith)) in
-    let once : seats_of h all ≡ 1 = crew.once h within.0 within.1 in
-    let t1 : seats_of h all ≡ seats_of h rest' + seats_of h (s ∷ p.done) = ap (seats_of h) split'
-    ∙ seats_of-append h rest' (s ∷ p.done) in
-    let t2 : seats_of h (s ∷ p.done) ≡ seats_of h (s ∷ []) + seats_of h p.done = seats_of-append h (s ∷ []) p.done in
-    let t3 : seats_of h (s ∷ []) ≡ 1 = seats_of-self s in
-    let no_rest : seats_of h rest' ≡ 0 = omega (arith, once, t1, t2, t3) in
-    let no_done : seats_of h p.done ≡ 0 = omega (arith, once, t1, t2, t3) in
-    let grow : (x : ℕ) → seats_of x rest ≡ seats_of x rest' + seats_of x (s ∷ []) = λ x. ap (seats_of x) is
-    ∙ seats_of-append x rest' (s ∷ []) in
-    let room : h - 1 < length lists = omega (arith, within.0, within.1) in
-    let was : get_or lists (h - 1) [] ≡ [] = p.empty h within.0 (let g = grow h in omega (arith, g, t3)) in
-    let summed = sum_by-set (λ (l : List Kept). length l) lists (h - 1) s.kept [] room in
-    let no_len : length (get_or lists (h - 1) []) ≡ 0 = ap (λ (l : List Kept). length l) was in (
-      within.0,
-      within.1,
-      record {
-        done = s ∷ p.done;
-        split = split';
-        parts_are =
-            (let a = sum_by-append (λ (x : SeatParts). x.parts) (s ∷ []) p.done in omega (arith, a, p.parts_are));
-        amount_is = omega (arith, summed, no_len, p.amount_is);
-        empty = λ x pos some.
-            let ne : x ≢ h =
-            λ e. (let z : seats_of h rest' ≡ seats_of x rest' = ap (λ (n : ℕ). seats_of n rest') (sym e) in
-            omega (arith, z, some, no_rest)) in
-            let ne1 : x - 1 ≢ h - 1 = λ e. ne (omega (arith, e, pos, within.0)) in
-            let g = grow x in
-            get_or-set_other lists (h - 1) (x - 1) s.kept [] ne1 ∙ p.empty x pos (omega (arith, g, some));
-        filled = λ k d lt. filled_more lists s p.done k d within.0 room no_done
-            (λ k' lt'. (
-            let idx : get_or all (length rest + k') d ≡ get_or p.done k' d =
-            ap (λ (xs : List SeatParts). get_or xs (length rest + k') d) p.split
-            ∙ get_or-append-add rest p.done k' d in
-            let n : length all ≡ length rest + length p.done = ap (λ (xs : List SeatParts). length xs) p.split
-            ∙ length-append rest p.done in
-            let w = crew.within (length rest + k') d (omega (arith, n, lt')) in
-            let v : 0 < (get_or p.done k' d).harvester = subst (λ (x : SeatParts). 0 < x.harvester) idx w.0 in v))
-            (λ k' lt'. p.filled k' d lt') lt;
-      },
+not_there : (h : ℕ) (xs : List SeatParts) (k : ℕ) (d : SeatParts) → seats_of h xs ≡ 0 → k < length xs
+    → (get_or xs k d).harvester ≢ h
+not_there h xs k d none lt e = let one = get_or-le-sum_by (λ (x : SeatParts). cond (x.harvester == h) 1 0) xs k d lt in
+    absurd (omega (arith, rw (eq-eqb (get_or xs k d).harvester h e) at one))
+
+module _ (lists : List (List Kept)) (empty : AreEmpty lists) where
+  long : (xs : List SeatParts) → length (placed lists xs) ≡ length lists
+  long [] = refl
+  long (s ∷ xs) = grind (arith, length-set, (long xs))
+
+  -- the place of a harvester that has no seat is empty
+  free : (h : ℕ) (xs : List SeatParts) → 0 < h → AreApart (length lists) xs → seats_of h xs ≡ 0
+      → get_or (placed lists xs) (h - 1) [] ≡ []
+  free h [] pos apart none = grind (arith, common_steps)
+  free h (s ∷ xs) pos apart none =
+      let f = first_apart _ s xs apart in
+      let other = not_there h (s ∷ xs) 0 s none (omega arith) in
+      get_or-set_other (placed lists xs) (s.harvester - 1) (h - 1) s.kept [] (λ e. other (omega arith))
+      ∙ free h xs pos (rest_apart _ s xs apart) (omega (arith, seats_of-append h (s ∷ []) xs))
+
+  summed : (xs : List SeatParts) → AreApart (length lists) xs
+      → sum_by length (placed lists xs) ≡ sum_by (λ s. length s.kept) xs
+  summed [] apart = omega (arith, sum_by-le length 0 lists (λ k d lt. omega (arith, ap length (empty k d lt))))
+  summed (s ∷ xs) apart =
+      let f = first_apart _ s xs apart in
+      let none = ap length (free s.harvester xs f.0 (rest_apart _ s xs apart) f.2) in
+      let set = sum_by-set length (placed lists xs) (s.harvester - 1) s.kept [] (omega (arith, long xs)) in
+      let more = sum_by-cons (λ (x : SeatParts). length x.kept) s xs in
+      omega (arith, summed xs (rest_apart _ s xs apart))
+
+  there : (xs : List SeatParts) → AreApart (length lists) xs
+      → All (λ s. get_or (placed lists xs) (s.harvester - 1) [] ≡ s.kept) xs
+  there [] apart k d lt = absurd (omega arith)
+  there (s ∷ xs) apart zero d lt = let f = first_apart _ s xs apart in
+      get_or-set_same (placed lists xs) (s.harvester - 1) s.kept [] (omega (arith, long xs))
+  there (s ∷ xs) apart (suc k) d lt =
+      let f = first_apart _ s xs apart in
+      let w = (rest_apart _ s xs apart).within k d (omega arith) in
+      let other = not_there s.harvester xs k d f.2 (omega arith) in
+      get_or-set_other (placed lists xs) (s.harvester - 1) ((get_or xs k d).harvester - 1) s.kept []
+      (λ e. other (omega arith))
+      ∙ there xs (rest_apart _ s xs apart) k d (omega arith)
+
+-- all seats are taken in
+pub all_in : (n : ℕ) (all rest : List SeatParts) (before lists : List (List Kept)) (parts amount : ℕ) → IsCrew n all
+    → length before ≡ n → AreEmpty before → length rest ≡ 0 → Places all rest before lists parts amount
+    → All (λ s. get_or lists (s.harvester - 1) [] ≡ s.kept) all × (amount ≡ sum_by length lists)
+all_in n all (x ∷ rest) before lists parts amount crew number empty none p = absurd (omega arith)
+all_in n all [] before lists parts amount crew number empty none p =
+    let done : p.done ≡ all = sym p.split in
+    let is : lists ≡ placed before all = p.lists_are ∙ ap (placed before) done in
+    let apart : AreApart (length before) all =
+    rw number record { within = crew.within; once = λ h pos le. omega (arith, crew.once h pos le) } in
+    rw is (
+      there before empty all apart,
+      p.amount_is ∙ ap (sum_by (λ s. length s.kept)) done ∙ sym (summed before empty all apart),
     )

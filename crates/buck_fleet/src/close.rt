@@ -14,7 +14,7 @@ ghost use Rattle.buck_book.specs.declared.posting.TheConstants.{MOST_POSTINGS};
 
 use crate::desk::Desk;
 use crate::fleet::Fleet;
-use crate::seat::{Kept, Own, Seat};
+use crate::seat::{Kept, Seat};
 use buck_apt::Instruction;
 use buck_book::{Parts, Posting};
 use buck_record::{FaultNumbers, Numbered};
@@ -105,20 +105,10 @@ fn collect<L: Ledger>(seats: Vec<Seat<L>>, kept: &mut Vec<Vec<Kept>>, all: &mut 
 {
     let mut seats = seats;
     while let Some(seat) = seats.pop() {
-        let Seat {
-            harvester,
-            own,
-            stopped: _,
-            planner: _,
-        } = seat;
-        let Own {
-            place: _,
-            kept: list,
-            share,
-        } = own;
-        all.merge(share);
-        let its_place = &mut kept[harvester as usize - 1];
-        *its_place = list;
+        let its_place = &mut kept[seat.harvester as usize - 1];
+        let own = seat.own;
+        all.merge(own.share);
+        *its_place = own.kept;
     }
 }
 
@@ -242,23 +232,6 @@ impl Closed {
         self.kept.as_slice()
     }
 
-    /// The first difference of the lowest harvester that has one.
-    fn difference(&self) -> Option<CloseFault>
-        requires seats { length self.now.kept ≤ 64 }
-        ensures none { IfNone result ((h : ℕ) → 0 < h → h ≤ length self.now.kept
-            → kept_by h self.now ≡ replies_of h self.now.history) }
-        ensures some { IfSome result (IsCloseFault self.now.history.instruction (length self.now.kept) self.now) }
-    {
-        for (i, kept) in self.kept.iter().enumerate() {
-            let harvester = i as u32 + 1;
-            match first_difference(self.parts.entries.as_slice(), kept.as_slice(), harvester) {
-                Some(number) => return Some(CloseFault::Calls { harvester, number }),
-                None => {}
-            }
-        }
-        None
-    }
-
     /// Why a fleet of this instruction doesn't close well.
     fn fault(&self, instruction: &Instruction) -> Option<CloseFault>
         requires seats { length self.now.kept ≤ 64 }
@@ -270,7 +243,14 @@ impl Closed {
         if !self.parts.instruction.same(instruction) {
             return Some(CloseFault::Instruction);
         }
-        self.difference()
+        for (i, kept) in self.kept.iter().enumerate() {
+            let harvester = i as u32 + 1;
+            match first_difference(self.parts.entries.as_slice(), kept.as_slice(), harvester) {
+                Some(number) => return Some(CloseFault::Calls { harvester, number }),
+                None => {}
+            }
+        }
+        None
     }
 }
 

@@ -4,62 +4,19 @@ ghost use Rattle.buck_rule.specs.Stored.{AllAnswer};
 ghost use Rattle.buck_fleet.specs.Seat.{KeepsNothing, seen_of};
 ghost use Rattle.buck_fleet.specs.Fleet.{IsSeatIn};
 ghost use Rattle.buck_fleet.specs.Reply.{IsReplyFor, AreAttempts};
-ghost use Rattle.buck_fleet.specs.inner.Desk.{IsAttempt};
 
-use crate::fault::CutFault;
+use crate::fault::{CutFault, TryFault};
 use crate::fleet::Fleet;
 use crate::gate::Gate;
 use crate::seat::{Path, Reply, Seat};
-use buck_book::{Plan, Refusal};
+use buck_book::Refusal;
 use buck_rule::Standing;
 use buck_stem::Stem;
 use std::alloc::Global;
 use std::sync::ledger::Ledger;
 use std::sync::{Arc, Wait};
 
-/// What became of a plan that was brought to the book.
-#[derive(Drop)]
-pub enum Attempt {
-    /// It was committed.
-    Done(Reply),
-    /// Another sheet was in force.
-    Outdated,
-    /// It was refused for another reason.
-    Refused(CutFault),
-}
-
 impl<F: Fn(&Standing) -> u64 + Drop, L: Ledger> Fleet<F, L> {
-    /// One optimistic critical section.
-    fn bring<R: Wait>(
-        &self,
-        rt: &R,
-        alloc: Global,
-        seat: &mut Seat<L>,
-        plan: Plan,
-        attempt: u8,
-    ) -> Attempt
-        requires answers { AllAnswer F.Fn }
-        requires seat { IsSeatIn self.now seat.old }
-        ensures seat { IsSeatIn self.now seat.new }
-        ensures became { IsAttempt seat.old seat.new plan attempt result }
-    {
-        let mut desk = self.lock(rt);
-        match desk.commit(
-            rt,
-            alloc,
-            &self.board,
-            seat,
-            plan,
-            attempt,
-            Path::Optimistic,
-        ) {
-            Ok(reply) => Attempt::Done(reply),
-            Err((Refusal::Stale { .. }, _)) => Attempt::Outdated,
-            Err((Refusal::Full, _)) => Attempt::Refused(CutFault::Full),
-            Err((Refusal::Memory, _)) => Attempt::Refused(CutFault::Memory),
-        }
-    }
-
     /// The locked plan: it is made and committed in one critical section, under the sheet in force.
     fn cut_locked<R: Wait>(
         &self,
@@ -124,11 +81,17 @@ impl<F: Fn(&Standing) -> u64 + Drop, L: Ledger> Fleet<F, L> {
             // Plan: without the lock.
             let plan = seat.plan(alloc, shown.sheet(), &stem)?;
             gate.planned(rt, seat.harvester(), attempt, &plan);
-            match self.bring(rt, alloc, &mut *seat, plan, attempt) {
-                Attempt::Done(reply) => return Ok(reply),
+            match self.try_commit(rt, alloc, &mut *seat, plan) {
+                Ok(reply) => {
+                    return Ok(Reply {
+                        attempts: attempt,
+                        ..reply
+                    });
+                }
                 // Leave: the call ends refused.
-                Attempt::Refused(fault) => return Err(fault),
-                Attempt::Outdated => {}
+                Err(TryFault::Full { .. }) => return Err(CutFault::Full),
+                Err(TryFault::Memory { .. }) => return Err(CutFault::Memory),
+                Err(TryFault::Stale { .. }) => {}
             }
             attempts = attempt;
             before = version;

@@ -31,19 +31,11 @@ pub struct Desk<F, L: Ledger> {
     ghost no_amount: { rest.amount ≡ 0 },
 }
 
-/// A prepared commit of a plan, and what the seat keeps of the entry.
-#[derive(Drop)]
-pub struct ReadyCut {
-    pub(crate) ready: Ready,
-    pub(crate) stem: Arc<Stem>,
-    pub(crate) cutting: Arc<Cutting>,
-}
-
 /// A posting that is ready to be added.
 #[derive(Drop)]
 pub enum Made {
-    /// The entry of a plan, with what the seat keeps of it.
-    Cut(ReadyCut, Plan),
+    /// The entry of a plan, with the stem and the cutting that the seat keeps of it.
+    Cut(Ready, Arc<Stem>, Arc<Cutting>, Plan),
     /// A demand, and the targets that the seat keeps of it.
     Demand(ReadyDemand, Arc<Vec<u32>>),
 }
@@ -70,14 +62,14 @@ fn prepare_cut<R: Wait, F: Fn(&Standing) -> u64 + Drop>(
     board: &Board,
     kept: &mut Vec<Kept>,
     plan: &Plan,
-) -> Result<ReadyCut, Refusal>
+) -> Result<(Ready, Arc<Stem>, Arc<Cutting>), Refusal>
     requires { AllAnswer F.Fn }
     ensures history { book.new.history ≡ book.old.history }
     ensures kept { kept.new.items ≡ kept.old.items }
     ensures room { OnOk result (vec_len kept.new < vec_capacity kept.new) }
-    ensures ready { IfOk result (λ r. IsReadyFor book.new r.ready plan.now) }
-    ensures stem { IfOk result (λ r. r.stem.value ≡ plan.now.stem) }
-    ensures logs { IfOk result (λ r. r.cutting.value.logs.items ≡ plan.now.logs) }
+    ensures ready { IfOk result (λ r. IsReadyFor book.new r.0 plan.now) }
+    ensures stem { IfOk result (λ r. r.1.value ≡ plan.now.stem) }
+    ensures logs { IfOk result (λ r. r.2.value.logs.items ≡ plan.now.logs) }
     ensures best { OnOk result (IsPlan plan.now) }
     ensures refused { IfErr result (IsPlanRefused book.old book.new plan.now) }
 {
@@ -87,36 +79,7 @@ fn prepare_cut<R: Wait, F: Fn(&Standing) -> u64 + Drop>(
     // Try, of a plan that is outdated: nothing is added.
     let ready = book.prepare(alloc, plan)?;
     put_up(rt, alloc, board, ready.next_sheet())?;
-    Ok(ReadyCut {
-        ready,
-        stem,
-        cutting,
-    })
-}
-
-/// Makes all that the commit of new targets needs, the room in the seat's kept list first, and puts the next sheet up.
-fn prepare_targets<R: Wait, F: Fn(&Standing) -> u64 + Drop>(
-    rt: &R,
-    alloc: Global,
-    book: &mut Book<F>,
-    board: &Board,
-    kept: &mut Vec<Kept>,
-    targets: &Arc<Vec<u32>>,
-) -> Result<Made, DemandRefusal>
-    requires { AllAnswer F.Fn }
-    ensures history { book.new.history ≡ book.old.history }
-    ensures kept { kept.new.items ≡ kept.old.items }
-    ensures room { OnOk result (vec_len kept.new < vec_capacity kept.new) }
-    ensures made { IfOk result (IsMade book.new) }
-    ensures posting { IfOk result (λ r. (harvester : ℕ) →
-        posting_of book.new.history harvester r
-        ≡ Posting.Demand (demand_of book.new.history harvester targets.now.value.items)) }
-{
-    kept.reserve(1)?;
-    let copy = targets.clone()?;
-    let ready = book.prepare_demand(alloc, targets)?;
-    put_up(rt, alloc, board, Some(ready.next_sheet()))?;
-    Ok(Made::Demand(ready, copy))
+    Ok((ready, stem, cutting))
 }
 
 /// Adds a prepared posting to the history: the posting, and what a seat keeps of it.
@@ -129,12 +92,7 @@ fn add_to_book<F: Drop>(book: &mut Book<F>, made: Made, harvester: u32) -> (Post
     ensures instruction { book.new.history.instruction ≡ book.old.history.instruction }
 {
     match made {
-        Made::Cut(cut, plan) => {
-            let ReadyCut {
-                ready,
-                stem,
-                cutting,
-            } = cut;
+        Made::Cut(ready, stem, cutting, plan) => {
             // Try, or Locked: the entry is added.
             let entry = book.commit(ready, harvester, plan);
             let copy = entry.sharing(stem, cutting);
@@ -184,7 +142,7 @@ impl<F: Drop, L: Ledger> Desk<F, L> {
 impl<F: Fn(&Standing) -> u64 + Drop, L: Ledger> Desk<F, L> {
     /// Commits a plan for a seat, if its sheet is in force: adds its entry to the history and to the seat's kept list,
     /// and raises the front to the version in force.
-    #[tactic(auto, using(crate::proofs::Keeping::is_added))]
+    #[tactic(auto, using(crate::proofs::Keeping::is_kept))]
     pub fn commit<R: Wait>(
         &mut self,
         rt: &R,
@@ -204,11 +162,19 @@ impl<F: Fn(&Standing) -> u64 + Drop, L: Ledger> Desk<F, L> {
         ensures plan { IfErr result (λ e. (e.1 ≡ plan) × (seat.new ≡ seat.old)) }
     {
         let Seat { harvester, own, .. } = seat;
-        let cut = match prepare_cut(rt, alloc, &mut self.book, board, &mut own.kept, &plan) {
-            Ok(cut) => cut,
+        let (ready, stem, cutting) = match prepare_cut(
+            rt,
+            alloc,
+            &mut self.book,
+            board,
+            &mut own.kept,
+            &plan,
+        ) {
+            Ok(prepared) => prepared,
             Err(refusal) => return Err((refusal, plan)),
         };
-        let (posting, position) = self.add(board, own, *harvester, Made::Cut(cut, plan));
+        let made = Made::Cut(ready, stem, cutting, plan);
+        let (posting, position) = self.add(board, own, *harvester, made);
         match posting {
             Posting::Cut(entry) => Ok(Reply {
                 entry,
@@ -222,6 +188,7 @@ impl<F: Fn(&Standing) -> u64 + Drop, L: Ledger> Desk<F, L> {
 
     /// Puts new targets in force for a seat: adds the demand to the history and to the seat's kept list, and raises the
     /// front to the version in force.
+    #[tactic(auto, using(crate::proofs::Keeping::is_kept))]
     pub fn retarget<R: Wait>(
         &mut self,
         rt: &R,
@@ -238,8 +205,11 @@ impl<F: Fn(&Standing) -> u64 + Drop, L: Ledger> Desk<F, L> {
         ensures refused { IfErr result (λ e. (self.new.book.history ≡ self.old.book.history) × (seat.new ≡ seat.old)) }
     {
         let Seat { harvester, own, .. } = seat;
-        let made = prepare_targets(rt, alloc, &mut self.book, board, &mut own.kept, targets)?;
-        let (posting, position) = self.add(board, own, *harvester, made);
+        own.kept.reserve(1)?;
+        let copy = targets.clone()?;
+        let ready = self.book.prepare_demand(alloc, targets)?;
+        put_up(rt, alloc, board, Some(ready.next_sheet()))?;
+        let (posting, position) = self.add(board, own, *harvester, Made::Demand(ready, copy));
         match posting {
             Posting::Demand(demand) => Ok(DemandReply { demand, position }),
             Posting::Cut(_) => unreachable!(),

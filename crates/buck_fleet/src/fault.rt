@@ -1,9 +1,8 @@
 //! Why the calls of a seat are refused. The history and the kept list are then as before.
 ghost use Rattle.std.specs.Prelude.{◌≡◌};
-ghost use Rattle.buck_fleet.specs.Refused.{GivesBack, stop_of, retarget_fault_of};
-ghost use Rattle.buck_fleet.specs.inner.Desk.{HasOtherSheet};
+ghost use Rattle.buck_fleet.specs.Refused.{stop_of, retarget_fault_of};
 
-use buck_book::{DemandRefusal, Plan, Refusal, TargetsFault};
+use buck_book::{DemandRefusal, Plan, TargetsFault};
 use buck_record::Memory;
 use buck_value::Sheet;
 use std::alloc::AllocError;
@@ -133,17 +132,5 @@ impl From<DemandRefusal> for RetargetFault {
             DemandRefusal::Targets(fault) => RetargetFault::Targets(fault),
             DemandRefusal::Memory => RetargetFault::Memory,
         }
-    }
-}
-
-/// A refused plan, with why.
-pub(crate) fn try_fault(refusal: Refusal, plan: Plan) -> TryFault
-    requires { HasOtherSheet plan refusal }
-    ensures { GivesBack plan result }
-{
-    match refusal {
-        Refusal::Full => TryFault::Full { plan },
-        Refusal::Stale { in_force } => TryFault::Stale { in_force, plan },
-        Refusal::Memory => TryFault::Memory { plan },
     }
 }

@@ -8,11 +8,11 @@ ghost use Rattle.buck_fleet.specs.Reply.{IsReplyFor, IsOfPlan, IsReplyToTargets}
 ghost use Rattle.buck_fleet.specs.Refused.{GivesBack};
 
 use crate::desk::Desk;
-use crate::fault::{RetargetFault, TryFault, try_fault};
+use crate::fault::{RetargetFault, TryFault};
 use crate::seat::{DemandReply, Kept, Path, Reply, Seat};
 use buck_apt::Instruction;
 use buck_board::{Board, Snapshot};
-use buck_book::Plan;
+use buck_book::{Plan, Refusal};
 use buck_rule::Standing;
 use std::alloc::Global;
 use std::hint::spin_loop;
@@ -97,7 +97,11 @@ impl<F: Fn(&Standing) -> u64 + Drop, L: Ledger> Fleet<F, L> {
         match desk.commit(rt, alloc, &self.board, seat, plan, 1, Path::Optimistic) {
             Ok(reply) => Ok(reply),
             // Leave: the call ends refused.
-            Err((refusal, plan)) => Err(try_fault(refusal, plan)),
+            Err((refusal, plan)) => Err(match refusal {
+                Refusal::Full => TryFault::Full { plan },
+                Refusal::Stale { in_force } => TryFault::Stale { in_force, plan },
+                Refusal::Memory => TryFault::Memory { plan },
+            }),
         }
     }
 

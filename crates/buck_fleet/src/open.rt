@@ -76,25 +76,8 @@ fn empty_lists(alloc: Global, count: u32) -> Result<Vec<Vec<Kept>>, Memory>
     Ok(lists)
 }
 
-/// A board that shows the sheet of a new book, and a place at it for each seat.
-fn show_base<R: Wait, F: Drop>(
-    rt: &R,
-    alloc: Global,
-    book: &Book<F>,
-    seats: u32,
-) -> Result<(Board, Vec<BoardSeat>), Memory>
-    requires seats { (1 ≤ seats) × (seats ≤ 64) }
-    requires new { book.now.history.postings ≡ [] }
-    ensures number { IfOk result (λ b. vec_len b.1 ≡ seats) }
-    ensures places { IfOk result (λ b. All (IsSeatOf b.0) b.1.items) }
-    ensures unseen { IfOk result (λ b. All (λ s. seen_by s ≡ 0) b.1.items) }
-{
-    let base = book.sheet().clone()?;
-    Board::open(rt, alloc, seats, base)
-}
-
-/// Gives each harvester a seat, from the first on, with a place at the board and one part of the ledger. The last one
-/// has all parts that are left.
+/// Gives each harvester a seat, from the first on, with a place at the board and one part of the ledger. The first one
+/// has all parts that the others leave.
 fn seat_all<L: Ledger>(
     alloc: Global,
     board: &Board,
@@ -111,17 +94,13 @@ fn seat_all<L: Ledger>(
     let mut seats = Vec::with_capacity(alloc, count as usize)?;
     let mut share = share;
     let mut places = places;
-    for harvester in 1..count {
-        let Some(place) = places.pop() else {
-            unreachable!()
-        };
-        let one = share.split_off(1, 0);
-        seats.push_reserved(Seat::make(alloc, harvester, place, one));
+    let mut parts = 65 - u64::from(count);
+    while let Some(place) = places.pop() {
+        let harvester = seats.len() as u32 + 1;
+        let own = share.split_off(parts, 0);
+        seats.push_reserved(Seat::make(alloc, harvester, place, own));
+        parts = 1;
     }
-    let Some(place) = places.pop() else {
-        unreachable!()
-    };
-    seats.push_reserved(Seat::make(alloc, count, place, share));
     Ok(seats)
 }
 
@@ -142,7 +121,8 @@ fn found<R: Wait, F: Drop, L: Ledger>(
     ensures seats { IfOk result (λ r. AreOpened r.0.board seats r.1.items) }
 {
     let kept = empty_lists(alloc, seats)?;
-    let (board, places) = show_base(rt, alloc, &book, seats)?;
+    let base = book.sheet().clone()?;
+    let (board, places) = Board::open(rt, alloc, seats, base)?;
     let (calls, mut share) = blank.open::<L>();
     let rest = share.empty();
     let made = seat_all(alloc, &board, places, share, seats)?;

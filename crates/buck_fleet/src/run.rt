@@ -16,37 +16,8 @@ use std::sync::ledger::Ledger;
 use std::sync::{Arc, Wait};
 use std::thread::{Threads, for_each_mut};
 
-/// Cuts a list in order, and stops at the first fault.
+/// Cuts a list in order up to the first fault, and notes in the seat why it stopped.
 fn cut_all<F: Fn(&Standing) -> u64 + Drop, L: Ledger, R: Wait, G: Gate>(
-    rt: &R,
-    alloc: Global,
-    fleet: &Fleet<F, L>,
-    seat: &mut Seat<L>,
-    stems: &[Arc<Stem>],
-    gate: &G,
-) -> Option<RunFault>
-    requires answers { AllAnswer F.Fn }
-    requires seat { IsSeatIn fleet.now seat.old }
-    ensures seat { IsSeatIn fleet.now seat.new }
-    ensures cut { (n : ℕ) × HasCut n (stems_of stems.now) seat.old seat.new }
-    ensures whole { IfNone result (HasCut (length (stems_of stems.now)) (stems_of stems.now) seat.old seat.new) }
-    ensures part { IfSome result (λ _. (n : ℕ) × (n < length (stems_of stems.now))
-        × HasCut n (stems_of stems.now) seat.old seat.new) }
-{
-    for stem in stems {
-        let Ok(stem) = stem.clone() else {
-            return Some(RunFault::Memory);
-        };
-        match fleet.cut(rt, alloc, &mut *seat, stem, gate) {
-            Ok(_reply) => {}
-            Err(fault) => return Some(RunFault::from(fault)),
-        }
-    }
-    None
-}
-
-/// Cuts a list in order, and notes in the seat why it stopped.
-fn run_one<F: Fn(&Standing) -> u64 + Drop, L: Ledger, R: Wait, G: Gate>(
     rt: &R,
     alloc: Global,
     fleet: &Fleet<F, L>,
@@ -59,8 +30,20 @@ fn run_one<F: Fn(&Standing) -> u64 + Drop, L: Ledger, R: Wait, G: Gate>(
     ensures seat { IsSeatIn fleet.now seat.new }
     ensures run { HasRun (stems_of stems.now) seat.old seat.new }
 {
-    let stopped = cut_all(rt, alloc, fleet, &mut *seat, stems, gate);
-    seat.note(stopped);
+    for stem in stems {
+        let Ok(stem) = stem.clone() else {
+            seat.note(Some(RunFault::Memory));
+            return;
+        };
+        match fleet.cut(rt, alloc, &mut *seat, stem, gate) {
+            Ok(_reply) => {}
+            Err(fault) => {
+                seat.note(Some(RunFault::from(fault)));
+                return;
+            }
+        }
+    }
+    seat.note(None);
 }
 
 /// Cuts all lists, each in a thread of its own.
@@ -93,7 +76,7 @@ fn run_each<
         &|i: usize, seat: &mut Seat<L>|
             requires { AllAnswer F.Fn × (i < length lists.now) × IsSeatIn fleet.now seat.old }
             ensures { IsSeatIn fleet.entry.now seat.new × HasRun (stems_at lists.entry.now i) seat.old seat.new }
-        { run_one(rt, alloc, fleet, seat, lists[i].as_slice(), gate) },
+        { cut_all(rt, alloc, fleet, seat, lists[i].as_slice(), gate) },
     );
 }
 
@@ -102,20 +85,11 @@ fn first_stop<L: Ledger>(seats: &[Seat<L>]) -> Option<RunFault>
     ensures none { IfNone result (All (λ s. s.stopped ≡ None) seats.now) }
     ensures some { IfSome result (IsFirstStop seats.now) }
 {
-    let mut lowest = 65u32;
-    let mut first = None;
-    for seat in seats {
-        match seat.stopped {
-            None => {}
-            Some(fault) => {
-                if seat.harvester < lowest {
-                    lowest = seat.harvester;
-                    first = Some(fault);
-                }
-            }
-        }
-    }
-    first
+    let first = seats.iter().min_by_key(|seat| match seat.stopped {
+        Some(_) => seat.harvester,
+        None => 65,
+    })?;
+    first.stopped
 }
 
 /// Cuts one list of stems by each seat of a fleet, each in a thread of its own and in order. A harvester stops at its

@@ -92,32 +92,6 @@ impl<L: Ledger> Model for Seat<L> {
         × (0 < s.harvester) × (s.harvester ≤ 64) };
 }
 
-/// Plans a stem under a sheet, with the planner that is there. It is renewed where the sheet is another.
-fn plan_with(
-    alloc: Global,
-    kept: &mut Option<Planner>,
-    sheet: &Arc<Sheet>,
-    stem: &Arc<Stem>,
-) -> Result<Plan, Memory>
-    ensures sheet { IfOk result (λ p. p.sheet ≡ sheet.now.value) }
-    ensures stem { IfOk result (λ p. p.stem ≡ stem.now.value) }
-{
-    match kept {
-        Some(planner) => {
-            if !planner.sheet().same(sheet) {
-                planner.renew(alloc, sheet.clone()?)?;
-            }
-            Plan::make_with(alloc, planner, stem.clone()?)
-        }
-        None => {
-            let mut planner = Planner::make(alloc, sheet.clone()?)?;
-            let plan = Plan::make_with(alloc, &mut planner, stem.clone()?)?;
-            *kept = Some(planner);
-            Ok(plan)
-        }
-    }
-}
-
 impl<L: Ledger> Seat<L> {
     /// A seat that has kept nothing.
     pub(crate) fn make(alloc: Global, harvester: u32, place: BoardSeat, share: Share<L>) -> Seat<L>
@@ -147,7 +121,8 @@ impl<L: Ledger> Seat<L> {
         self.stopped = stopped;
     }
 
-    /// Plans a stem under a sheet. It asks nobody else and waits for nobody.
+    /// Plans a stem under a sheet, with the planner that is there: it is renewed where the sheet is another. It asks
+    /// nobody else and waits for nobody.
     pub(crate) fn plan(
         &mut self,
         alloc: Global,
@@ -158,7 +133,20 @@ impl<L: Ledger> Seat<L> {
         ensures sheet { IfOk result (λ p. p.sheet ≡ sheet.now.value) }
         ensures stem { IfOk result (λ p. p.stem ≡ stem.now.value) }
     {
-        plan_with(alloc, &mut self.planner, sheet, stem)
+        match &mut self.planner {
+            Some(planner) => {
+                if !planner.sheet().same(sheet) {
+                    planner.renew(alloc, sheet.clone()?)?;
+                }
+                Plan::make_with(alloc, planner, stem.clone()?)
+            }
+            None => {
+                let mut planner = Planner::make(alloc, sheet.clone()?)?;
+                let plan = Plan::make_with(alloc, &mut planner, stem.clone()?)?;
+                self.planner = Some(planner);
+                Ok(plan)
+            }
+        }
     }
 
     /// Its harvester, from 1 on.

@@ -13,10 +13,7 @@ use Rattle.buck_fleet.specs.declared.seat.Kept.{Kept}
 use Rattle.buck_fleet.specs.declared.seat.Reply.{Reply}
 use Rattle.buck_fleet.specs.declared.seat.DemandReply.{DemandReply}
 use Rattle.buck_fleet.specs.Seat.{SeatParts, KeepsOne, seen_of}
-use Rattle.buck_fleet.specs.declared.cut.Attempt.{Attempt}
-use Rattle.buck_fleet.specs.declared.cut.Attempt.TheVariants.{Done}
-use Rattle.buck_fleet.specs.declared.seat.Path.TheVariants.{Optimistic}
-use Rattle.buck_fleet.specs.Reply.{kept_of, kept_demand_of, IsReplyFor, IsOfPlan}
+use Rattle.buck_fleet.specs.Reply.{kept_of, kept_demand_of}
 
 -- the postings and one more
 abbrev pub with_one : List Posting → Posting → List Posting
@@ -24,13 +21,13 @@ with_one ps x = ps ++ x ∷ []
 
 -- the posting was prepared by this book, with no commit since, and what the seat keeps is of the same parts
 abbrev pub IsMade : {F : Type 0} → BookParts F → Made → Type 0
-IsMade b (made.Cut cut p) =
-    IsReadyFor b cut.ready p × (cut.stem.value ≡ p.stem) × (cut.cutting.value.logs.items ≡ p.logs)
+IsMade b (made.Cut ready stem cutting p) =
+    IsReadyFor b ready p × (stem.value ≡ p.stem) × (cutting.value.logs.items ≡ p.logs)
 IsMade b (made.Demand ready copy) = IsReadyDemand b ready × (copy.value.items ≡ ready.targets)
 
 -- what is added of it for a harvester
 abbrev pub posting_of : HistoryParts → ℕ → Made → Posting
-posting_of h harvester (made.Cut cut p) = Cut (entry_of h harvester p)
+posting_of h harvester (made.Cut ready stem cutting p) = Cut (entry_of h harvester p)
 posting_of h harvester (made.Demand ready copy) = Demand (demand_of h harvester ready.targets)
 
 -- the posting was added and is kept, with its position, and the version in force has been seen
@@ -50,29 +47,17 @@ pub record IsReplyAt {F : Type 0} (before after : BookParts F) (seat_before seat
   pub added : IsAddedAt before after seat_before seat_after (kept_of r)
 
 -- a plan is stale where another sheet is in force
-abbrev pub HasOtherSheet : PlanParts → Refusal → Type 0
-HasOtherSheet p (Stale sheet) = sheet.value ≢ p.sheet
-HasOtherSheet p other = Unit {0}
-
--- the plan's own sheet wasn't in force then
-abbrev pub WasStale : HistoryParts → PlanParts → Refusal → Type 0
-WasStale h p (Stale sheet) = p.sheet ≢ in_force h
-WasStale h p other = Unit {0}
+abbrev pub IsStale : HistoryParts → PlanParts → Refusal → Type 0
+IsStale h p (Stale sheet) = (sheet.value ≢ p.sheet) × (p.sheet ≢ in_force h)
+IsStale h p other = Unit {0}
 
 -- the plan wasn't committed
 pub record IsPlanRefused {F : Type 0} (before after : BookParts F) (p : PlanParts) (e : Refusal) : Type 0 where
   pub same_history : after.history ≡ before.history
-  pub other_sheet : HasOtherSheet p e
-  pub stale : WasStale before.history p e
+  pub stale : IsStale before.history p e
 
 -- the demand was committed: it is the next posting of the history
 pub record IsDemandReplyAt {F : Type 0} (before after : BookParts F) (seat_before seat_after : SeatParts)
     (targets : List ℕ) (r : DemandReply) : Type 0 where
   pub demand_is : r.demand ≡ demand_of before.history seat_before.harvester targets
   pub added : IsAddedAt before after seat_before seat_after (kept_demand_of r)
-
--- what became of a plan that was brought to the book
-abbrev pub IsAttempt : SeatParts → SeatParts → PlanParts → ℕ → Attempt → Type 0
-IsAttempt before after p attempt (Done r) = IsReplyFor before after p.stem r × IsOfPlan p r.entry
-    × (r.attempts ≡ attempt) × (r.path ≡ Optimistic)
-IsAttempt before after p attempt other = after ≡ before

@@ -2,7 +2,7 @@ use Rattle.std.proofs.Common.{◌≡◌, ◌≤◌, ◌<◌, ◌-◌, ℕ, []}
 use Rattle.std.specs.Prelude.{slice_index_or}
 use Rattle.buck_fleet.specs.Closed.{replies_from}
 use Rattle.buck_fleet.specs.Closed.{lists_of}
-use Rattle.buck_fleet.proofs.close.Closed.difference.Given as goal
+use Rattle.buck_fleet.proofs.close.Closed.fault.Given as goal
 
 abbrev pub invariant-loop-i : goal.invariant-loop-i
 invariant-loop-i l = (h : ℕ) → 0 < h → h ≤ l.i
