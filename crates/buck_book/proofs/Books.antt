@@ -77,32 +77,26 @@ pub sheets_after : (h : HistoryParts) (x : Posting) (ts : List SheetParts) (next
     → ts ++ option_to_list next ≡ sheets_from 0 h.instruction (sheets_with h.sheets next)
 sheets_after h x ts next l are n = grind (arith, append-nil, sheets_from-append)
 
--- what is kept after a posting more, of what then stands in the book's lists
-pub keeps_more : {F : Type 0} (b : BookParts F) (sheets sheets' : List SheetParts) (n n' : RunningParts)
-    (calls calls' : List ℕ) (x : HistoryParts → Posting) (y : Posting) (next added : Option SheetParts)
-    (pss' : List (List ℕ)) (ps' : List Posting) (room sheet_room : ℕ)
+-- what is kept after a posting more
+pub keeps_more : {F : Type 0} (b : BookParts F) (sheets : List SheetParts) (n n' : RunningParts) (calls : List ℕ)
+    (x : HistoryParts → Posting) (next : Option SheetParts) (room sheet_room : ℕ)
     → Keeps b sheets n calls → length b.history.postings < b.capacity → IsWithin 1 64 (harvester_of (x b.history))
-    → Follows b.history.instruction b.history.sheets b.history.postings (x b.history) → IsFirst b.history (x b.history)
+    → Follows b.history.instruction b.history.sheets b.history.postings (x b.history) × IsFirst b.history (x b.history)
     → IsNext b.history (x b.history) next → IsAfter b.history.instruction n (x b.history) n'
-    → y ≡ x b.history → added ≡ next → calls' ≡ set calls (harvester_of y - 1) (number_of y)
-    → ps' ≡ b.history.postings ++ y ∷ []
-    → sheets' ≡ sheets ++ option_to_list added → pss' ≡ sheets_with b.history.sheets added
-    → Keeps (book_of b.rule b.history.instruction pss' ps' b.capacity room sheet_room) sheets' n' calls'
-keeps_more b sheets sheets' n n' calls calls' x y next added pss' ps' room sheet_room k below own follows first is_next
-    told y_is added_is calls_are ps_are sheets_are pss_are =
-    let z : Posting = x b.history in
-    let all : ps' ≡ b.history.postings ++ z ∷ [] = ps_are ∙ ap (λ w. b.history.postings ++ w ∷ []) y_is in
-    let called : calls' ≡ set calls (harvester_of z - 1) (number_of z) = cc in
-    rw (pss_are, all, added_is) (record {
-      is_book = book_more b z next room sheet_room k.is_book follows is_next first own below;
-      sheets_are = sheets_are ∙ ap (λ o. sheets ++ option_to_list o) added_is
-          ∙ sheets_after b.history z sheets next k.is_book.lawful k.sheets_are is_next;
+    → Keeps
+    (book_of b.rule b.history.instruction (sheets_with b.history.sheets next) (b.history.postings ++ x b.history ∷ [])
+    b.capacity room sheet_room) (sheets ++ option_to_list next) n'
+    (set calls (harvester_of (x b.history) - 1) (number_of (x b.history)))
+keeps_more b sheets n n' calls x next room sheet_room k below own may is_next told =
+    let y : Posting = x b.history in
+    record {
+      is_book = book_more b y next room sheet_room k.is_book may.0 is_next may.1 own below;
+      sheets_are = sheets_after b.history y sheets next k.is_book.lawful k.sheets_are is_next;
       tells = told b.history.postings (omega (arith, below, k.is_book.capacity_range)) k.tells;
       calls_are =
-          rw called
-          (calls_more b.history.postings z calls (harvester_of z) (number_of z)
-          k.calls_are refl own.0 own.1 follows.number_is_next);
-    })
+          calls_more b.history.postings y calls (harvester_of y) (number_of y)
+          k.calls_are refl own.0 own.1 may.0.number_is_next;
+    }
 
 -- a plan's entry may follow
 pub entry_follows : (h : HistoryParts) (harvester : ℕ) (p : PlanParts) → IsPlan p → p.sheet ≡ in_force h

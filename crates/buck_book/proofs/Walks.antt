@@ -1,8 +1,9 @@
 -- What is kept along a way through postings, one posting on.
-use Rattle.std.proofs.Common.{◌≡◌, ℕ, ◌+◌, ◌<◌, ◌==◌, cond, length, slice_get, Some, arith}
+use Rattle.std.proofs.Common.{◌≡◌, ℕ, ◌+◌, ◌<◌, ◌==◌, cond, length, slice_get, Some, sym, arith}
 use Rattle.std.proofs.lemmas.List.{length-take-le}
 use Rattle.std.proofs.lemmas.List.Sums.{sum_by_push}
 use Rattle.std.proofs.lemmas.Option.{slice_get_within}
+use Rattle.buck_apt.specs.Instruction.{InstructionParts}
 use Rattle.buck_book.specs.declared.posting.Posting.{Posting}
 use Rattle.buck_book.specs.Posting.{harvester_of}
 use Rattle.buck_book.specs.Walk.{WalkParts, walk_of, passed}
@@ -10,15 +11,16 @@ use Rattle.buck_book.specs.inner.Running.{RunningParts, GoesOn, IsAfter}
 use Rattle.buck_book.specs.inner.Walk.{IsWalk}
 use Rattle.buck_book.proofs.Ends.{take_one_more}
 
-module _ (w : WalkParts) (n : RunningParts) (calls : ℕ → ℕ) (x : Posting) (k : IsWalk w n calls)
-    (there : slice_get w.postings w.at ≡ Some x) where
+-- d is the place as callers see it
+module _ (w d : WalkParts) (n : RunningParts) (calls : ℕ → ℕ) (x : Posting) (i : InstructionParts) (view : w ≡ d)
+    (k : IsWalk w n calls) (there : slice_get d.postings d.at ≡ Some x) (same : i ≡ d.instruction) where
   few : length (passed w) < 1000000
-  few = omega (arith, k.few, slice_get_within w.postings w.at x there, length-take-le w.at w.postings k.within)
+  few = grind (arith, slice_get_within, length-take-le)
 
-  pub walk_goes_on : GoesOn w.instruction n
-  walk_goes_on = (passed w, few, k.tells)
+  pub walk_goes_on : GoesOn i n
+  walk_goes_on = (passed w, few, rw (same, sym view) k.tells)
 
-  pub walk_more : (n' : RunningParts) (calls' : ℕ → ℕ) → IsAfter w.instruction n x n'
+  pub walk_more : (n' : RunningParts) (calls' : ℕ → ℕ) → IsAfter i n x n'
       → ((h : ℕ) → calls' h ≡ calls h + cond (harvester_of x == h) 1 0)
       → IsWalk (walk_of w.instruction w.postings (w.at + 1)) n' calls'
   walk_more n' calls' told called = grind (arith, take_one_more, few, slice_get_within, sum_by_push)

@@ -1,4 +1,4 @@
-use Rattle.std.proofs.Common.{◌+◌, sym, ◌∙◌, ap, arith}
+use Rattle.std.proofs.Common.{◌+◌, sym, ap, arith}
 use Rattle.std.proofs.lemmas.Grind.{common_steps}
 use Rattle.buck_book.specs.declared.posting.Posting.TheVariants.{Cut}
 use Rattle.buck_book.specs.Book.{ReadyParts, entry_of}
@@ -12,26 +12,24 @@ pub invariant_of-self : goal.invariant_of-self
 invariant_of-self g c =
     let p = c.args.plan in
     let ready = rw (sym c.self.view_is) at c.requires.ready in
-    let next = ap (λ (x : ReadyParts). x.next) c.ready.view_is in
     let number = ap (λ n. n + 1) (rw (sym c.self.view_is) at c.calls-number.ensures) in
     let version = rw (sym c.self.view_is) at c.version-version.ensures.version in
     let made = c.into_entry-entry.ensures in
-    let may = entry_follows _ c.args.harvester p made.best ready.sheet_in_force in
-    keeps_more _ _ _ _ _ _ _ (λ h. Cut (entry_of h c.args.harvester p))
-    _ c.args.ready.next _ _ _ _ _ c.self.invariant ready.to_add.below c.requires.harvester
-    may.0 may.1 (ready.to_add.next_is c.args.harvester)
-    (entry_after _ _ _ _ _ ready.sheet_in_force c.after_plan.ensures)
-    (ap Cut (c.sharing.ensures ∙ made.entry
-    ∙ (λ t. record {
-      harvester = c.args.harvester;
-      number = number t;
-      stem = p.stem;
-      version = version t;
-      logs =
-          p.logs;
-      worth = p.worth;
-    })))
-    next c.add.ensures.calls c.add.ensures.postings c.add.ensures.sheets c.add.ensures.prices
+    rw (
+      c.add.ensures.calls,
+      c.add.ensures.postings,
+      c.add.ensures.sheets,
+      c.add.ensures.prices,
+      c.sharing.ensures,
+      made.entry,
+      number,
+      version,
+      ap (λ (x : ReadyParts). x.next) c.ready.view_is,
+    )
+    (keeps_more _ _ _ _ _ (λ h. Cut (entry_of h c.args.harvester p)) _ _ _ c.self.invariant ready.to_add.below
+    c.requires.harvester (entry_follows _ c.args.harvester p made.best ready.sheet_in_force)
+    (ready.to_add.next_is c.args.harvester)
+    (entry_after _ c.args.harvester p _ _ ready.sheet_in_force c.after_plan.ensures))
 
 pub returns-clause-sheets : goal.returns-clause-sheets
 returns-clause-sheets g c = grind (arith, common_steps)

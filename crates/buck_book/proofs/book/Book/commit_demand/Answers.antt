@@ -2,7 +2,7 @@ use Rattle.std.proofs.Common.{◌+◌, Some, refl, sym, ◌∙◌, ap}
 use Rattle.buck_book.specs.declared.posting.Posting.TheVariants.{Demand}
 use Rattle.buck_book.specs.Book.{ReadyDemandParts, demand_of}
 use Rattle.buck_book.proofs.Told.{version_low}
-use Rattle.buck_book.proofs.Books.{keeps_more, demand_same}
+use Rattle.buck_book.proofs.Books.{keeps_more}
 use Rattle.buck_book.proofs.book.Book.commit_demand.Goals as goal
 
 pub after_demand-requires : goal.after_demand-requires
@@ -11,16 +11,22 @@ after_demand-requires g c = version_low _ _ _ c.self.invariant.tells
 pub invariant_of-self : goal.invariant_of-self
 invariant_of-self g c =
     let ready = rw (sym c.self.view_is) at c.requires.ready in
-    let next = ap (λ (x : ReadyDemandParts). x.next) c.ready.view_is in
     let targets = ap (λ (x : ReadyDemandParts). x.targets) c.ready.view_is in
     let number = ap (λ n. n + 1) (rw (sym c.self.view_is) at c.calls-number.ensures) in
-    keeps_more _ _ _ _ _ _ _ (λ h. Demand (demand_of h c.args.harvester c.args.ready.targets)) _
-    (Some c.args.ready.next) _ _ _ _ _ c.self.invariant ready.to_add.below c.requires.harvester
-    (record { number_is_next = refl; version_in_force = refl; holds = ready.valid }) tt
+    let version = rw (sym c.self.view_is) at c.version-version.ensures.version in
+    rw (
+      c.add.ensures.calls,
+      c.add.ensures.postings,
+      c.add.ensures.sheets,
+      c.add.ensures.prices,
+      c.sharing.ensures,
+      number,
+      version,
+      c.ready.invariant.1 ∙ targets,
+      ap (λ (x : ReadyDemandParts). x.next) c.ready.view_is,
+    )
+    (keeps_more _ _ _ _ _ (λ h. Demand (demand_of h c.args.harvester c.args.ready.targets)) (Some c.args.ready.next) _ _
+    c.self.invariant ready.to_add.below c.requires.harvester
+    (record { number_is_next = refl; version_in_force = refl; holds = ready.valid }, tt)
     (ready.to_add.next_is c.args.harvester)
-    (c.after_demand.ensures _ _ (sym (c.ready.invariant.0 ∙ targets)) ready.valid)
-    (ap Demand
-    (c.sharing.ensures
-    ∙ demand_same _ _ refl number (rw (sym c.self.view_is) at c.version-version.ensures.version)
-    (c.ready.invariant.1 ∙ targets)))
-    (ap Some next) c.add.ensures.calls c.add.ensures.postings c.add.ensures.sheets c.add.ensures.prices
+    (c.after_demand.ensures _ _ (sym (c.ready.invariant.0 ∙ targets)) ready.valid))

@@ -16,16 +16,15 @@ sheet-requires-clause-told g c = (
 
 pub returns-clause-next : goal.returns-clause-next
 returns-clause-next g c =
-    let passed =
-    passed_cut _ _ _ _ _ c.self.view_is c.self.invariant c.requires.below c.args.plan.now _ _ c.requires.in_force
-    c.in_ok-after.ensures c.after_plan.ensures in
     let last = eq-eqb _ _ (rw (sym c.self.view_is) at (c.is_period_end.ensures.0 c.if-not-is_period_end.false)) in
-    rw (sym c.self.view_is)
-    (λ harvester. (last, is_next_sheet g.F.Fn _ _ _ _ (c.in_ok-sheet.ensures _ (passed harvester)) last))
+    rw (sym c.self.view_is) (λ harvester. (
+      last,
+      is_next_sheet g.F.Fn _ _ _ _ (c.in_ok-sheet.ensures _
+          (passed_cut _ _ _ _ _ c.self.view_is c.self.invariant c.requires.below c.args.plan.now _ _ c.requires.in_force
+          c.in_ok-after.ensures c.after_plan.ensures harvester)) last,
+    ))
 
 pub returns-clause-given : goal.returns-clause-given
-returns-clause-given g c =
-    let passed =
-    passed_cut _ _ _ _ _ c.self.view_is c.self.invariant c.requires.below c.args.plan.now _ _ c.requires.in_force
-    c.in_ok-after.ensures c.after_plan.ensures in
-    rw (sym c.self.view_is) (λ harvester. (c.in_ok-sheet.ensures _ (passed harvester)).answers)
+returns-clause-given g c = rw (sym c.self.view_is) (λ harvester. (c.in_ok-sheet.ensures _
+    (passed_cut _ _ _ _ _ c.self.view_is c.self.invariant c.requires.below c.args.plan.now _ _ c.requires.in_force
+    c.in_ok-after.ensures c.after_plan.ensures harvester)).answers)
