@@ -1,5 +1,5 @@
 -- What a book keeps, one posting on.
-use Rattle.std.proofs.Common.{◌≡◌, ℕ, ◌-◌, ◌<◌, ◌≤◌, inl, inr, List, [], ◌∷◌, ◌++◌, Option, Some, None, length, map, set, replicate, get_or, append-nil, refl, sym, ◌∙◌, ap, subst, arith, rules}
+use Rattle.std.proofs.Common.{◌≡◌, ℕ, ◌-◌, ◌<◌, ◌≤◌, inl, inr, List, [], ◌∷◌, ◌++◌, Option, Some, None, length, map, set, replicate, get_or, append-nil, refl, sym, ◌∙◌, ap, arith, rules}
 use Rattle.std.proofs.lemmas.Grind.{common_steps}
 use Rattle.std.proofs.lemmas.List.{map-append, length_push}
 use Rattle.std.proofs.lemmas.Option.{none-some}
@@ -117,7 +117,7 @@ module _ {F : Type 0} (b d : BookParts F) (sheets : List SheetParts) (n : Runnin
   few = omega (arith, (rw (sym view) at below), k.is_book.capacity_range)
 
   pub goes_on : (p : PlanParts) → p.sheet ≡ in_force d.history → GoesOn p.sheet.instruction n
-  goes_on p same = subst (λ s. GoesOn s.instruction n) (sym (rw (sym view) at same)) (b.history.postings, few, k.tells)
+  goes_on p same = grind (arith, few)
 
   pub passed_cut : (p : PlanParts) (n₁ n' : RunningParts) → p.sheet ≡ in_force d.history → n₁ ≡ n
       → ((e : EntryParts) → e.stem ≡ p.stem → e.logs ≡ p.logs → IsAfter p.sheet.instruction n₁ (Cut e) n')
@@ -131,7 +131,7 @@ module _ {F : Type 0} (b d : BookParts F) (sheets : List SheetParts) (n : Runnin
       → Tells b.history.instruction (b.history.postings ++ Demand (demand_of b.history harvester targets) ∷ []) n'
   passed_demand targets n₁ n' valid is told harvester =
       told b.history.instruction (demand_of b.history harvester targets) refl (rw (sym view) at valid)
-      b.history.postings few (subst (λ m. Tells b.history.instruction b.history.postings m) (sym is) k.tells)
+      b.history.postings few (rw is k.tells)
 
 -- the sheet in force after an end is the next sheet
 pub is_next_sheet : {F : Type 0} (g : Shared F (Bor Standing × Unit {0}) ℕ) (f : F) (h : HistoryParts) (x : Posting)
@@ -150,10 +150,6 @@ pub prices_added : {X : Type 0} (val : X → SheetParts) (xs ys : List X) (next 
     → map (λ a. (val a).prices) ys ≡ sheets_with (map (λ a. (val a).prices) xs) (option_map val next)
 prices_added val xs ys None is = ap (map (λ a. (val a).prices)) (is ∙ append-nil xs)
 prices_added val xs ys (Some x) is = ap (map (λ a. (val a).prices)) is ∙ map-append (λ a. (val a).prices) xs (x ∷ [])
-
-pub demand_same : (a b : DemandParts) → a.harvester ≡ b.harvester → a.number ≡ b.number → a.version ≡ b.version
-    → a.targets ≡ b.targets → a ≡ b
-demand_same a b h n v t = λ j. record { harvester = h j; number = n j; version = v j; targets = t j }
 
 -- what was made for a book can be added to it when more memory is held ready
 pub ready_to_add : {F : Type 0} (a b : BookParts F) (x : HistoryParts → ℕ → Posting) (next : Option SheetParts)

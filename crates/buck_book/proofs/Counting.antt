@@ -4,21 +4,15 @@ use Rattle.std.proofs.lemmas.Grind.{common_steps}
 use Rattle.std.proofs.lemmas.Bool.{ne_eqb, cases_eq}
 use Rattle.std.proofs.lemmas.List.{get_or-set_same, get_or-set_other, length-set, get_or_past, get_or-replicate, length-replicate}
 use Rattle.std.proofs.lemmas.List.Sums.{sum_by-le-sum_by, sum_by_push, count_by-le-length}
-use Rattle.std.proofs.lemmas.Option.{slice_get_within}
 use Rattle.buck_apt.specs.declared.class.Class.{Class}
-use Rattle.buck_apt.specs.Instruction.{InstructionParts, IsInstruction, classes}
+use Rattle.buck_apt.specs.Instruction.{InstructionParts, classes}
 use Rattle.buck_value.specs.declared.log.Log.{Log}
-use Rattle.buck_value.specs.Allowed.{IsAllowed, end_of}
-use Rattle.buck_dp.specs.Cutting.{IsCutFrom}
-use Rattle.buck_book.specs.Entry.{EntryParts, DemandParts}
 use Rattle.buck_book.specs.declared.posting.Posting.{Posting}
 use Rattle.buck_book.specs.declared.posting.Posting.TheVariants.{Cut, Demand}
 use Rattle.buck_book.specs.Posting.{harvester_of}
 use Rattle.buck_book.specs.Counts.{class_logs_in, assortment_logs_in, count_of, assortment_count_of, calls_of}
-use Rattle.buck_book.specs.inner.Running.{AreCounts, AreAtMost, AreCalls, AreGrownBy, AreGrownAt, class_place}
-use Rattle.buck_book.specs.Targets.{AreTargets}
-use Rattle.buck_book.specs.inner.Pricing.{CanPrice}
-use Rattle.buck_book.proofs.Cuts.{tallied, class_logs-le}
+use Rattle.buck_book.specs.inner.Running.{AreCounts, AreAtMost, AreCalls, AreGrownBy, AreGrownAt}
+use Rattle.buck_book.proofs.Cuts.{class_logs-le}
 
 zeros : (n k : ℕ) → get_or (replicate {A = ℕ} n 0) k 0 ≡ 0
 zeros n k = grind (arith, get_or-replicate, get_or_past, length-replicate)
@@ -31,46 +25,13 @@ none_counted i n m e f = grind (arith, length-replicate, zeros)
 pub none_low : (n m : ℕ) → AreAtMost 0 (replicate {A = ℕ} n 0) (replicate {A = ℕ} m 0)
 none_low n m = grind (arith, zeros)
 
--- the counts after one cut more
-pub counts_more : (i : InstructionParts) (ps : List Posting) (e : EntryParts)
-    (by_class by_assortment by_class' by_assortment' : List ℕ)
-    → IsInstruction i
-    → IsCutFrom (IsAllowed i e.stem) (end_of i) 0 e.logs
-    → AreCounts i ps by_class by_assortment
-    → AreGrownAt (class_place i e.stem) by_class e.logs by_class' → AreGrownBy by_assortment e.logs by_assortment'
-    → AreCounts i (ps ++ Cut e ∷ []) by_class' by_assortment'
-counts_more i ps e by_class by_assortment by_class' by_assortment' v cut counts classes_grown assortments_grown =
-    search (rules, tallied, sum_by_push)
-
--- the counts stay after a demand
-pub counts_stay : (i : InstructionParts) (ps : List Posting) (d : DemandParts) (by_class by_assortment : List ℕ)
-    → AreCounts i ps by_class by_assortment
-    → AreCounts i (ps ++ Demand d ∷ []) by_class by_assortment
-counts_stay i ps d by_class by_assortment counts = grind (arith, sum_by_push)
-
--- counts grow by at most the logs of a cutting
-pub low_more : (most few : ℕ) (place : Log → ℕ) (by_class by_assortment by_class' by_assortment' : List ℕ)
-    (logs : List Log)
-    → AreAtMost most by_class by_assortment → length logs ≤ few
-    → AreGrownAt place by_class logs by_class' → AreGrownBy by_assortment logs by_assortment'
-    → AreAtMost (most + few) by_class' by_assortment'
-low_more most few place by_class by_assortment by_class' by_assortment' logs low few_ cg ag =
-    grind (arith, count_by-le-length)
-
 logs_in-le : (i : InstructionParts) (c : Class) (x : Posting) → class_logs_in i c x ≤ assortment_logs_in c.assortment x
 logs_in-le i c (Cut e) = class_logs-le i c e.stem e.logs
 logs_in-le i c (Demand d) = omega arith
 
-count_of-le : (i : InstructionParts) (c : Class) (ps : List Posting)
+pub count_of-le : (i : InstructionParts) (c : Class) (ps : List Posting)
     → count_of i c ps ≤ assortment_count_of c.assortment ps
 count_of-le i c ps = search (rules, sum_by-le-sum_by, logs_in-le)
-
--- by valid targets, and by counts that are right and low, prices can be made
-pub can_price : (i : InstructionParts) (targets : List ℕ) (ps : List Posting) (by_class by_assortment : List ℕ)
-    → IsInstruction i → AreTargets i targets → AreCounts i ps by_class by_assortment
-    → AreAtMost 80000000 by_class by_assortment
-    → CanPrice (record { instruction = i; targets = targets; by_class = by_class; by_assortment = by_assortment })
-can_price i targets ps by_class by_assortment v t counts low = grind (arith, slice_get_within, count_of-le)
 
 -- the numbers of calls after one posting more
 pub calls_more : (ps : List Posting) (x : Posting) (calls : List ℕ) (h number : ℕ)

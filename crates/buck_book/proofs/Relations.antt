@@ -16,19 +16,6 @@ use Rattle.buck_book.specs.inner.Walk.{AreMetBelow, IsFirstWrong}
 use Rattle.buck_book.proofs.Places.{place_lt, inner_is}
 use Rattle.buck_book.proofs.Standings.{at_place, standing_is, class_in, section_class, section_place}
 
--- one class more
-pub met_more : (s : StandingsParts) (prices : List ℕ) (c : Class) (n : ℕ) (k : IsClass s.instruction c)
-    → index_of s.instruction c ≡ n
-    → Meets (standing_by s k.assortment c) (slice_index prices n)
-    → AreMetBelow s prices n
-    → AreMetBelow s prices (n + 1)
-met_more s prices c n k place met below = λ d l lt. elim (cases_lt (index_of s.instruction d) n) [
-  | inl old ↦ below d l old
-  | inr new ↦
-      at_place s.instruction (λ a x m. Meets (standing_by s a x) (slice_index prices m)) c d k l (omega (arith, place))
-      (subst (λ m. Meets (standing_by s k.assortment c) (slice_index prices m)) (sym place) met)
-]
-
 -- a class of a section more
 module _ (s : StandingsParts) (prices : List ℕ) (x : Section) (row column : ℕ) (k : IsSection s x)
     (r : row < length x.assortment.now.diameters) (c : column < x.columns)
@@ -36,12 +23,16 @@ module _ (s : StandingsParts) (prices : List ℕ) (x : Section) (row column : �
   pub section_met : Meets (standing_by s x.assortment.now (class_at x.at row column))
       (slice_index prices (row_start x row + column))
       → AreMetBelow s prices (row_start x row + (column + 1))
-  section_met m =
-      let n : row_start x row + column + 1 ≡ row_start x row + (column + 1) = omega arith in
-      subst (λ p. AreMetBelow s prices p) n
-      (met_more s prices (class_at x.at row column) (row_start x row + column)
-      (class_in s.instruction x.assortment.now (class_at x.at row column) (section_class s x row column k r c))
-      (section_place s x row column k r c) m met)
+  section_met m = λ d l lt. elim (cases_lt (index_of s.instruction d) (row_start x row + column)) [
+    | inl old ↦ met d l old
+    | inr new ↦
+        let place = section_place s x row column k r c in
+        at_place s.instruction (λ a y q. Meets (standing_by s a y) (slice_index prices q)) (class_at x.at row column) d
+        (class_in s.instruction x.assortment.now (class_at x.at row column) (section_class s x row column k r c)) l
+        (omega (arith, place))
+        (subst (λ q. Meets (standing_by s x.assortment.now (class_at x.at row column)) (slice_index prices q)) (sym place)
+        m)
+  ]
 
   pub section_wrong : (Meets (standing_by s x.assortment.now (class_at x.at row column))
       (slice_index prices (row_start x row + column)) → ⊥)

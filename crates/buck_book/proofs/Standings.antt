@@ -21,7 +21,7 @@ use Rattle.buck_value.specs.declared.fault.SheetFault.TheVariants.{Count, Price}
 use Rattle.buck_value.proofs.Prices.{base_at, base_price-le}
 use Rattle.buck_book.specs.declared.posting.Posting.{Posting}
 use Rattle.buck_book.specs.Posting.{targets_of}
-use Rattle.buck_book.specs.Targets.{AreTargets, targets_sum}
+use Rattle.buck_book.specs.Targets.{targets_sum}
 use Rattle.buck_book.specs.History.{standing_at, standing_of}
 use Rattle.buck_book.specs.inner.Running.{AreCounts, RunningParts, Tells, IsSheetAfter, standings_of}
 use Rattle.buck_book.specs.declared.pricing.Section.{Section}
@@ -40,13 +40,6 @@ pub at_place : (i : InstructionParts) (P : AssortmentParts → Class → ℕ →
 at_place i P c d k l same holds =
     subst (λ (x : Class). (m : IsClass i x) → P m.assortment x (index_of i x)) (one_place i c d k l same)
     (λ m. subst (λ a. P a c (index_of i c)) (one_assortment i c k m) holds) l
-
--- how a class stands lies in range
-pub in_range : (i : InstructionParts) (c : Class) (targets : List ℕ) (count counts : ℕ) → IsInstruction i
-    → AreTargets i targets → (k : IsClass i c) → count ≤ counts → counts ≤ 80000000
-    → IsInRange (standing_at i k.assortment c targets count counts)
-in_range i c targets count counts v t k le low =
-    grind (arith, slice_get_within, target_within, inner_lt, inner_is, base_price-le, target_low)
 
 -- the base price of a class, by its place among all
 pub base_is : (i : InstructionParts) (c : Class) → IsInstruction i → (k : IsClass i c)
@@ -69,31 +62,6 @@ base_is i c v k =
 -- a price in the relation lies within the span
 pub meets_within : (s : Standing) (price : ℕ) → Meets s price → IsInSpan s.limit s.base price
 meets_within s price m = grind (arith, common_steps)
-
--- one price more
-pub priced_more : {F : Type 0} (g : Shared F (Bor Standing × Unit {0}) ℕ) (f : F) (s : StandingsParts) (prices : List ℕ)
-    (c : Class) (price n : ℕ)
-    → (k : IsClass s.instruction c) → index_of s.instruction c ≡ n
-    → IsAnswer g f (standing_by s k.assortment c) price
-    → ArePriced g f s prices n
-    → ArePriced g f s (prices ++ price ∷ []) (n + 1)
-priced_more g f s prices c price n k place answer priced =
-    let i = s.instruction in
-    let last : get_or (prices ++ price ∷ []) (index_of i c) 0 ≡ price = search (rules, get_or_push) in
-    record {
-      number_is = omega (arith, length_push prices price, priced.number_is);
-      answered = λ d l lt. elim (cases_lt (index_of i d) n) [
-        | inl old ↦
-            subst (λ p. IsAnswer g f (standing_by s l.assortment d) p)
-            (sym (get_or_append_left prices (price ∷ []) 0 (index_of i d) (omega (arith, priced.number_is))))
-            (priced.answered d l old)
-        | inr new ↦
-            at_place i (λ a x n. IsAnswer g f (standing_by s a x) (slice_index (prices ++ price ∷ []) n)) c d k l
-            (omega arith)
-            (subst (λ p. IsAnswer g f (standing_by s k.assortment c) p) (sym last) answer)
-      ];
-      in_span = search (rules, cases_lt, get_or_append_left, meets_within);
-    }
 
 -- a price in the relation is at most twice the greatest base price
 pub meets_low : (s : Standing) (price : ℕ) → IsInRange s → Meets s price → price ≤ 20000000
@@ -136,29 +104,20 @@ module _ (s : StandingsParts) (x : Section) (row column : ℕ) (k : IsSection s 
   pub section_below : row_start x row + column < classes s.instruction
   section_below = omega (arith, section_place, place_lt s.instruction (class_at x.at row column) section_is)
 
-  -- it has a target and counts
-  module _ (can : CanPrice s) where
-    pub section_counts : (row_start x row + column < length s.by_class) × (x.at < length s.by_assortment)
-        × (row_start x row + column < length s.targets)
-    section_counts =
-        let counts = has_counts s x.assortment.now (class_at x.at row column) section_class can in
-        search (rules, section_place)
+  -- how it stands by what was read is how it stands
+  pub section_stands : CanPrice s → (base limit target count counts : ℕ)
+      → base ≡ slice_index x.assortment.now.prices (row * length x.assortment.now.lengths + column)
+      → limit ≡ s.instruction.limit
+      → target ≡ slice_index s.targets (row_start x row + column)
+      → count ≡ slice_index s.by_class (row_start x row + column)
+      → counts ≡ slice_index s.by_assortment x.at
+      → record { base = base; limit = limit; target = target; targets = x.targets; count = count; counts = counts }
+      ≡ standing_by s x.assortment.now (class_at x.at row column)
+  section_stands can base limit target count counts b l t n ns =
+      let there = base_is s.instruction (class_at x.at row column) can.valid section_is in
+      grind (arith, stands_by, section_place, there)
 
-    -- how it stands by what was read is how it stands
-    pub section_stands : (base limit target count counts : ℕ)
-        → base ≡ slice_index x.assortment.now.prices (row * length x.assortment.now.lengths + column)
-        → limit ≡ s.instruction.limit
-        → target ≡ slice_index s.targets (row_start x row + column)
-        → count ≡ slice_index s.by_class (row_start x row + column)
-        → counts ≡ slice_index s.by_assortment x.at
-        → record { base = base; limit = limit; target = target; targets = x.targets; count = count; counts = counts }
-        ≡ standing_by s x.assortment.now (class_at x.at row column)
-    section_stands base limit target count counts b l t n ns =
-        stands_by s x.assortment.now (class_at x.at row column) base limit target x.targets count counts
-        (b ∙ sym (base_is s.instruction (class_at x.at row column) can.valid section_is))
-        l (t ∙ ap (λ p. slice_index s.targets p) (sym section_place)) k.targets_are
-        (n ∙ ap (λ p. slice_index s.by_class p) (sym section_place)) ns
-
+-- its price added to those of all classes before it
 pub price_more : {F : Type 0} (g : Shared F (Bor Standing × Unit {0}) ℕ) (f : F) (s : StandingsParts) (x : Section)
     (row column price : ℕ) (prices : List ℕ) → IsSection s x
     → row < length x.assortment.now.diameters → column < x.columns
@@ -166,10 +125,25 @@ pub price_more : {F : Type 0} (g : Shared F (Bor Standing × Unit {0}) ℕ) (f :
     → ArePriced g f s prices (row_start x row + column)
     → ArePriced g f s (prices ++ price ∷ []) (row_start x row + (column + 1))
 price_more g f s x row column price prices k r c answer priced =
-    let n : row_start x row + column + 1 ≡ row_start x row + (column + 1) = omega arith in
-    subst (λ m. ArePriced g f s (prices ++ price ∷ []) m) n
-    (priced_more g f s prices (class_at x.at row column) price (row_start x row + column)
-    (section_is s x row column k r c) (section_place s x row column k r c) answer priced)
+    let i = s.instruction in
+    let n : ℕ = row_start x row + column in
+    let place : index_of i (class_at x.at row column) ≡ n = section_place s x row column k r c in
+    let last : get_or (prices ++ price ∷ []) (index_of i (class_at x.at row column)) 0 ≡ price =
+    search (rules, get_or_push) in
+    record {
+      number_is = omega (arith, length_push prices price, priced.number_is);
+      answered = λ d l lt. elim (cases_lt (index_of i d) n) [
+        | inl old ↦
+            subst (λ p. IsAnswer g f (standing_by s l.assortment d) p)
+            (sym (get_or_append_left prices (price ∷ []) 0 (index_of i d) (omega (arith, priced.number_is))))
+            (priced.answered d l old)
+        | inr new ↦
+            at_place i (λ a x n. IsAnswer g f (standing_by s a x) (slice_index (prices ++ price ∷ []) n))
+            (class_at x.at row column) d (section_is s x row column k r c) l (omega arith)
+            (subst (λ p. IsAnswer g f (standing_by s x.assortment.now (class_at x.at row column)) p) (sym last) answer)
+      ];
+      in_span = search (rules, cases_lt, get_or_append_left, meets_within);
+    }
 
 -- the classes before the next assortment are those before this one, and its own
 pub before_next : (i : InstructionParts) (a : AssortmentParts) (at : ℕ) → slice_get i.assortments at ≡ Some a
@@ -183,10 +157,7 @@ before_next i a at exists =
 pub stands_in_range : (s : StandingsParts) (a : AssortmentParts) (c : Class) → IsClassOf s.instruction a c → CanPrice s
     → IsInRange (standing_by s a c)
 stands_in_range s a c k can =
-    let i = s.instruction in
-    let l = class_in i a c k in
-    in_range i c s.targets (slice_index s.by_class (index_of i c)) (slice_index s.by_assortment c.assortment)
-    can.valid can.targets l (can.class_within c l) (can.bounded c.assortment)
+    grind (arith, slice_get_within, target_within, inner_lt, inner_is, base_price-le, target_low, class_in s.instruction a c k)
 
 -- by running counts that are right, a class stands as it does after the postings
 pub standing_is : (i : InstructionParts) (targets by_class by_assortment : List ℕ) (ps : List Posting) (c : Class)

@@ -1,7 +1,9 @@
 -- What some postings add up to, one posting on.
-use Rattle.std.proofs.Common.{◌≡◌, ℕ, ◌+◌, ◌*◌, ◌<◌, ◌≤◌, ◌==◌, cond, List, [], ◌∷◌, ◌++◌, length, sym, ◌∙◌, ap, subst, arith, rules}
+use Rattle.std.proofs.Common.{◌≡◌, ℕ, ◌+◌, ◌<◌, ◌≤◌, ◌==◌, cond, List, [], ◌∷◌, ◌++◌, length, subst, arith, rules}
 use Rattle.std.proofs.lemmas.Grind.{common_steps}
 use Rattle.std.proofs.lemmas.List.{length_push}
+use Rattle.std.proofs.lemmas.List.Sums.{sum_by_push, count_by-le-length}
+use Rattle.std.proofs.lemmas.Option.{slice_get_within}
 use Rattle.buck_apt.specs.Instruction.{InstructionParts, IsInstruction}
 use Rattle.buck_stem.specs.Stem.{IsStem}
 use Rattle.buck_value.specs.Allowed.{IsAllowed, end_of}
@@ -13,14 +15,9 @@ use Rattle.buck_book.specs.Posting.{opening_targets}
 use Rattle.buck_book.specs.Targets.{AreTargets}
 use Rattle.buck_book.specs.inner.Running.{RunningParts, Tells, standings_of, AreCounts, AreAtMost, AreGrownAt, AreGrownBy, class_place}
 use Rattle.buck_book.specs.inner.Pricing.{CanPrice}
-use Rattle.buck_book.proofs.Cuts.{few_logs}
-use Rattle.buck_book.proofs.Counting.{counts_more, counts_stay, low_more, can_price}
+use Rattle.buck_book.proofs.Cuts.{few_logs, tallied}
+use Rattle.buck_book.proofs.Counting.{count_of-le}
 use Rattle.buck_book.proofs.Ends.{ends-append, cuts-append, targets-append, ends-le, cuts_low}
-
--- a looser bound
-at_most : (most more : ℕ) (by_class by_assortment : List ℕ) → most ≤ more → AreAtMost most by_class by_assortment
-    → AreAtMost more by_class by_assortment
-at_most most more by_class by_assortment le low = grind (arith, common_steps)
 
 module _ (i : InstructionParts) (ps : List Posting) (n : RunningParts) (t : Tells i ps n) where
   pub version_low : n.version ≤ 1000000
@@ -30,18 +27,10 @@ module _ (i : InstructionParts) (ps : List Posting) (n : RunningParts) (t : Tell
   cuts_few = grind (arith, cuts_low)
 
   pub counts_fit : AreAtMost 80000000 n.by_class n.by_assortment
-  counts_fit = at_most (80 * length ps) 80000000 n.by_class n.by_assortment (omega (arith, t.few)) t.counts_low
+  counts_fit = grind (arith, common_steps)
 
   pub prices_can : CanPrice (standings_of i n)
-  prices_can = can_price i n.targets ps n.by_class n.by_assortment t.valid t.targets_valid t.counts_are counts_fit
-
-  module _ (x : Posting) (few : length ps < 1000000) where
-    few_then : length (ps ++ x ∷ []) ≤ 1000000
-    few_then = omega (arith, few, length_push ps x)
-
-    low_then : (by_class by_assortment : List ℕ) → AreAtMost (80 * length ps + 80) by_class by_assortment
-        → AreAtMost (80 * length (ps ++ x ∷ [])) by_class by_assortment
-    low_then by_class by_assortment low = grind (arith, at_most, length_push)
+  prices_can = grind (arith, slice_get_within, count_of-le, counts_fit)
 
   pub tells_cut : (e : EntryParts) (by_class' by_assortment' : List ℕ) (cuts' version' : ℕ)
       → length ps < 1000000 → IsStem e.stem → IsCutFrom (IsAllowed i e.stem) (end_of i) 0 e.logs
@@ -52,33 +41,31 @@ module _ (i : InstructionParts) (ps : List Posting) (n : RunningParts) (t : Tell
       → Tells i (ps ++ Cut e ∷ [])
       (record n { cuts = cuts'; version = version'; by_class = by_class'; by_assortment = by_assortment' })
   tells_cut e by_class' by_assortment' cuts' version' few s cut classes_grown assortments_grown cut_is ended =
-      let x : Posting = Cut e in
       let logs : length e.logs ≤ 80 = few_logs i e.stem e.logs t.valid s cut in
       record {
         valid = t.valid;
-        few = few_then x few;
-        targets_are = t.targets_are ∙ sym (targets-append (opening_targets i) ps (x ∷ []));
+        few = grind (arith, length_push);
+        targets_are = grind (arith, targets-append);
         targets_valid = t.targets_valid;
         cuts_are = grind (arith, cuts-append);
         version_is = grind (arith, ends-append);
-        counts_are = search (rules, counts_more);
-        counts_low = search (rules, low_then, low_more);
+        counts_are = search (rules, tallied, sum_by_push);
+        counts_low = grind (arith, length_push, count_by-le-length, logs);
       }
 
   pub tells_demand : (d : DemandParts) (targets' : List ℕ) (version' : ℕ)
       → length ps < 1000000 → AreTargets i d.targets → d.targets ≡ targets' → version' ≡ n.version + 1
       → Tells i (ps ++ Demand d ∷ []) (record n { targets = targets'; cuts = 0; version = version' })
   tells_demand d targets' version' few valid same ended =
-      let x : Posting = Demand d in
       record {
         valid = t.valid;
-        few = few_then x few;
-        targets_are = sym same ∙ sym (targets-append (opening_targets i) ps (x ∷ []));
+        few = grind (arith, length_push);
+        targets_are = grind (arith, targets-append);
         targets_valid = subst (λ ts. AreTargets i ts) same valid;
-        cuts_are = sym (cuts-append i.period 0 ps (x ∷ []));
-        version_is = ended ∙ ap (λ v. v + 1) t.version_is ∙ sym (ends-append i.period 0 ps (x ∷ []));
-        counts_are = counts_stay i ps d n.by_class n.by_assortment t.counts_are;
-        counts_low = grind (arith, low_then, at_most);
+        cuts_are = grind (arith, cuts-append);
+        version_is = grind (arith, ends-append);
+        counts_are = grind (arith, sum_by_push);
+        counts_low = grind (arith, length_push);
       }
 
 -- before the first posting

@@ -1,12 +1,8 @@
-use Rattle.std.proofs.Common.{◌+◌, sym, ap, arith}
-use Rattle.std.proofs.lemmas.Grind.{common_steps}
+use Rattle.std.proofs.Common.{◌+◌, sym, ap}
 use Rattle.buck_book.specs.declared.posting.Posting.TheVariants.{Cut}
 use Rattle.buck_book.specs.Book.{ReadyParts, entry_of}
-use Rattle.buck_book.proofs.Books.{goes_on, keeps_more, entry_follows, entry_after}
+use Rattle.buck_book.proofs.Books.{keeps_more, entry_follows, entry_after}
 use Rattle.buck_book.proofs.book.Book.commit.Goals as goal
-
-pub after_plan-requires : goal.after_plan-requires
-after_plan-requires g c = grind (arith, goes_on)
 
 pub invariant_of-self : goal.invariant_of-self
 invariant_of-self g c =
@@ -30,6 +26,3 @@ invariant_of-self g c =
     c.requires.harvester (entry_follows _ c.args.harvester p made.best ready.sheet_in_force)
     (ready.to_add.next_is c.args.harvester)
     (entry_after _ c.args.harvester p _ _ ready.sheet_in_force c.after_plan.ensures))
-
-pub returns-clause-sheets : goal.returns-clause-sheets
-returns-clause-sheets g c = grind (arith, common_steps)

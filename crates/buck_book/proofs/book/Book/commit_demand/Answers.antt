@@ -1,12 +1,8 @@
 use Rattle.std.proofs.Common.{◌+◌, Some, refl, sym, ◌∙◌, ap}
 use Rattle.buck_book.specs.declared.posting.Posting.TheVariants.{Demand}
 use Rattle.buck_book.specs.Book.{ReadyDemandParts, demand_of}
-use Rattle.buck_book.proofs.Told.{version_low}
 use Rattle.buck_book.proofs.Books.{keeps_more}
 use Rattle.buck_book.proofs.book.Book.commit_demand.Goals as goal
-
-pub after_demand-requires : goal.after_demand-requires
-after_demand-requires g c = version_low _ _ _ c.self.invariant.tells
 
 pub invariant_of-self : goal.invariant_of-self
 invariant_of-self g c =

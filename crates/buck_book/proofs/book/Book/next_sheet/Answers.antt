@@ -1,11 +1,6 @@
 use Rattle.std.proofs.Common.{eq-eqb, sym}
-use Rattle.buck_book.proofs.Books.{goes_on, passed_cut, is_next_sheet}
+use Rattle.buck_book.proofs.Books.{passed_cut, is_next_sheet}
 use Rattle.buck_book.proofs.book.Book.next_sheet.Goals as goal
-
-pub after_plan-requires : goal.after_plan-requires
-after_plan-requires g c =
-    rw c.in_ok-after.ensures
-    (goes_on _ _ _ _ _ c.self.view_is c.self.invariant c.requires.below c.args.plan.now c.requires.in_force)
 
 pub sheet-requires-clause-told : goal.sheet-requires-clause-told
 sheet-requires-clause-told g c = (

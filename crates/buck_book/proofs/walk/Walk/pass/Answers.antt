@@ -1,11 +1,7 @@
 use Rattle.std.proofs.Common.{◌+◌, ◌==◌, cond, ◌∙◌, ap}
 use Rattle.buck_book.specs.inner.Walk.{calls_in}
-use Rattle.buck_book.proofs.Walks.{walk_goes_on, walk_more}
+use Rattle.buck_book.proofs.Walks.{walk_more}
 use Rattle.buck_book.proofs.walk.Walk.pass.Goals as goal
-
-pub after-requires-clause-before : goal.after-requires-clause-before
-after-requires-clause-before c =
-    walk_goes_on _ _ _ _ _ _ c.self.view_is c.self.invariant c.requires.next c.requires.instruction
 
 pub invariant_of-result : goal.invariant_of-result
 invariant_of-result c =
