@@ -1,8 +1,8 @@
 -- Histories of cuts alone: their ends are the full periods, and two ways to say that one is lawful say the same.
-use Rattle.std.proofs.Common.{◌≡◌, ℕ, zero, suc, ◌+◌, ◌-◌, ◌*◌, ◌/◌, ◌%◌, ◌<◌, ◌≤◌, ◌↔◌, inl, inr, List, [], ◌∷◌, map, length, take, drop, slice_index, slice_get, Some, sum_by, refl, sym, ◌∙◌, ap, subst, arith, eqb-true, eq-eqb, mul-le-mul_right, div-mul-le_self, rules}
+use Rattle.std.proofs.Common.{◌≡◌, ℕ, zero, suc, ◌+◌, ◌-◌, ◌*◌, ◌/◌, ◌%◌, ◌<◌, ◌≤◌, ◌↔◌, inl, inr, List, [], ◌∷◌, map, length, take, drop, slice_index, slice_get, Some, sum_by, refl, sym, ◌∙◌, ap, subst, arith, add-one, eqb-true, eq-eqb, mul-le-mul_right, div-mul-le_self, rules}
 use Rattle.std.specs.Option.{option_map}
 use Rattle.std.proofs.lemmas.Bool.{cases_Bool, cases_lt, cases_eq}
-use Rattle.std.proofs.lemmas.Nat.{div-mul-add, mod-mul-add, div-add-mod', div_below, mod_below}
+use Rattle.std.proofs.lemmas.Nat.{same_from_place, div-mul-add, mod-mul-add, div-add-mod', div_below, mod_below}
 use Rattle.std.proofs.lemmas.Grind.{same_number_lists}
 use Rattle.std.proofs.lemmas.List.{take-map, get_or-take, get_or-drop, length-take-le}
 use Rattle.std.proofs.lemmas.List.Elements.{recursion_from_All}
@@ -158,51 +158,39 @@ module _ (i : InstructionParts) (sheets : List (List ℕ)) (before : List EntryP
   follows_from_alone f = grind (arith, sum_of_cuts, ends_alone)
 
 module _ (i : InstructionParts) (sheets : List (List ℕ)) (es : List EntryParts) (v : IsInstruction i) where
-  -- the sheet of a version that comes after a full period
-  later_sheet : IsLawful (alone.history_of i sheets es) → (w : ℕ) (e : EntryParts)
-      → slice_get es (w * i.period + (i.period - 1)) ≡ Some e
-      → alone.PricesMeet i (take (suc w * i.period) es) (prices_at sheets (suc w))
-  later_sheet l w e at =
-      let p : ℕ = i.period in
-      let k : ℕ = w * p + (p - 1) in
-      let pos : 0 < p = v.period_range.0 in
-      let shown : length (take k es) ≡ k = length-take-le k es (let lt = slice_get_within es k e at in omega arith) in
-      let next : k + 1 ≡ suc w * p = omega arith in
-      let ends : ends_of i (map Cut (take k es)) ≡ w = (ends_alone i (take k es) pos).0 ∙ ap (λ m. m / p) shown
-      ∙ div-mul-add w p (p - 1) (omega arith) in
-      let cuts : cuts_since_end i (map Cut (take k es)) ≡ p - 1 = (ends_alone i (take k es) pos).1
-      ∙ ap (λ m. m % p) shown ∙ mod-mul-add w p (p - 1) (omega arith) in
-      let is : IsEnd i (map Cut (take k es)) (Cut e) =
-      eq-eqb (cuts_since_end i (map Cut (take k es)) + 1) p (omega (arith, cuts)) in
-      let is' : IsEnd i (take k (map Cut es)) (Cut e) = subst (λ ps. IsEnd i ps (Cut e)) (sym (take-map Cut k es)) is in
-      let version : ends_of i (take k (map Cut es)) + 1 ≡ suc w = ap (λ ps. ends_of i ps + 1) (take-map Cut k es)
-      ∙ omega (arith, ends) in
-      let there : PricesMeet i (take (k + 1) (map Cut es)) (prices_at sheets (ends_of i (take k (map Cut es)) + 1)) =
-      l.sheets_meet k (Cut e) (at_cut es k e at) is' in
-      let here : PricesMeet i (map Cut (take (suc w * p) es)) (prices_at sheets (suc w)) =
-      subst (λ n. PricesMeet i (map Cut (take n es)) (prices_at sheets (suc w))) next
-      (subst (λ ps. PricesMeet i ps (prices_at sheets (suc w))) (take-map Cut (k + 1) es)
-      (subst (λ n. PricesMeet i (take (k + 1) (map Cut es)) (prices_at sheets n)) version there)) in
-      meets_to_alone i (take (suc w * p) es) (prices_at sheets (suc w)) v here
+  -- the ends before a place and the cuts since the last make up all entries there
+  counted : (k : ℕ) → k ≤ length es
+      → (ends_of i (take k (map Cut es)) * i.period + cuts_since_end i (take k (map Cut es)) ≡ k)
+      × (cuts_since_end i (take k (map Cut es)) < i.period)
+  counted k le =
+      rw take-map (
+        spread i.period 0 (take k es) ∙ omega (arith, length-take-le k es le),
+        cuts_low i.period 0 (map Cut (take k es)) v.period_range.0 v.period_range.0,
+      )
 
   number_alone : IsLawful (alone.history_of i sheets es) → length sheets ≡ length es / i.period + 1
-  number_alone l = l.sheets_number ∙ ap (λ n. n + 1) (ends_alone i es v.period_range.0).0
+  number_alone l = grind (arith, ends_alone)
 
+  -- the sheet of a version comes after so many full periods
   sheets_alone : IsLawful (alone.history_of i sheets es) → (w : ℕ) → w < length sheets
       → alone.PricesMeet i (take (w * i.period) es) (prices_at sheets w)
   sheets_alone l zero lt =
-      let none : 0 ≡ zero * i.period = omega arith in
-      subst (λ n. alone.PricesMeet i (take n es) (prices_at sheets 0)) none
-      (subst (λ prices. alone.PricesMeet i [] prices) (sym l.base_sheet) (base_meets i v))
+      let none : zero * i.period ≡ 0 = omega arith in
+      rw (none, l.base_sheet) (base_meets i v)
   sheets_alone l (suc w) lt =
       let p : ℕ = i.period in
       let k : ℕ = w * p + (p - 1) in
-      let pos : 0 < p = v.period_range.0 in
+      let next : k + 1 ≡ suc w * p = omega (arith, v.period_range.0) in
       let a : suc w * p ≤ length es / p * p = mul-le-mul_right p (omega (arith, number_alone l)) in
-      let b : length es / p * p ≤ length es = div-mul-le_self (length es) p in
-      let within : k < length es = omega arith in
+      let within : k < length es = omega (arith, div-mul-le_self (length es) p) in
       elim (slice_get_cases es k).1 [
-        | inl some ↦ later_sheet l w some.0 some.2
+        | inl some ↦
+            let here = counted k (omega arith) in
+            let same = same_from_place _ _ w (p - 1) p here.1 (omega (arith, v.period_range.0)) here.0 in
+            let there =
+            l.sheets_meet k (Cut some.0) (at_cut es k some.0 some.2) (eq-eqb _ _ (omega (arith, same.1))) in
+            meets_to_alone i (take (suc w * p) es) (prices_at sheets (suc w)) v
+            (rw (take-map Cut (k + 1) es, same.0, next, add-one) at there)
         | inr past ↦ absurd (omega (arith, past.0))
       ]
 
@@ -212,43 +200,28 @@ module _ (i : InstructionParts) (sheets : List (List ℕ)) (es : List EntryParts
     sheets_meet = sheets_alone l;
     entries_follow = λ k e at.
         follows_to_alone i sheets (take k es) e v
-        (subst (λ ps. Follows i sheets ps (Cut e)) (take-map Cut k es)
-        (l.postings_follow k (Cut e) (at_cut es k e at)));
+        (rw take-map at (l.postings_follow k (Cut e) (at_cut es k e at)));
   }
-
-  number_from_alone : alone.IsLawful i sheets es → length sheets ≡ ends_of i (map Cut es) + 1
-  number_from_alone l = l.sheets_number ∙ ap (λ n. n + 1) (sym (ends_alone i es v.period_range.0).0)
 
   -- an end is the last cut of a full period
   sheets_from_alone : alone.IsLawful i sheets es → (k : ℕ) (e : EntryParts) → slice_get es k ≡ Some e
       → IsEnd i (take k (map Cut es)) (Cut e)
       → PricesMeet i (take (k + 1) (map Cut es)) (prices_at sheets (ends_of i (take k (map Cut es)) + 1))
   sheets_from_alone l k e at is =
-      let p : ℕ = i.period in
       let ends : ℕ = ends_of i (take k (map Cut es)) in
-      let shown : length (take k es) ≡ k = length-take-le k es (let lt = slice_get_within es k e at in omega arith) in
-      let all : ends * p + cuts_since_end i (take k (map Cut es)) ≡ k =
-      ap (λ ps. ends_of i ps * p + cuts_since_end i ps) (take-map Cut k es) ∙ spread p 0 (take k es)
-      ∙ omega (arith, shown) in
-      let full : cuts_since_end i (take k (map Cut es)) + 1 ≡ p =
-      eqb-true (cuts_since_end i (take k (map Cut es)) + 1) p is in
-      let next : (ends + 1) * p ≡ k + 1 = omega arith in
+      let lt = slice_get_within es k e at in
+      let next : (ends + 1) * i.period ≡ k + 1 = omega (arith, counted k (omega arith), eqb-true _ _ is) in
       let within : ends + 1 < length sheets =
-      omega (arith, ends_past i (map Cut es) k (Cut e) (at_cut es k e at) is, number_from_alone l) in
-      let there : alone.PricesMeet i (take (k + 1) es) (prices_at sheets (ends + 1)) =
-      subst (λ n. alone.PricesMeet i (take n es) (prices_at sheets (ends + 1))) next
-      (l.sheets_meet (ends + 1) within) in
-      subst (λ ps. PricesMeet i ps (prices_at sheets (ends + 1))) (sym (take-map Cut (k + 1) es))
-      (meets_from_alone i (take (k + 1) es) (prices_at sheets (ends + 1)) v there)
+      grind (arith, ends_past i (map Cut es) k (Cut e) (at_cut es k e at) is, ends_alone, l.sheets_number) in
+      rw (take-map Cut (k + 1) es)
+      (meets_from_alone i (take (k + 1) es) (prices_at sheets (ends + 1)) v (rw next at (l.sheets_meet (ends + 1) within)))
 
   from_alone : alone.IsLawful i sheets es → IsLawful (alone.history_of i sheets es)
   from_alone l = record {
     postings_follow = λ k x at.
         let c = cut_at es k x at in
-        subst (λ y. Follows i sheets (take k (map Cut es)) y) (sym c.2)
-        (subst (λ ps. Follows i sheets ps (Cut c.0)) (sym (take-map Cut k es))
-        (follows_from_alone i sheets (take k es) c.0 v (l.entries_follow k c.0 c.1)));
-    sheets_number = number_from_alone l;
+        rw (c.2, take-map) (follows_from_alone i sheets (take k es) c.0 v (l.entries_follow k c.0 c.1));
+    sheets_number = grind (arith, ends_alone);
     base_sheet = search (rules, base_alone);
     sheets_meet = grind (arith, cut_at, sheets_from_alone);
   }

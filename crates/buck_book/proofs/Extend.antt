@@ -1,5 +1,5 @@
 -- Prefixes of lawful histories, and lawful histories one posting longer.
-use Rattle.std.proofs.Common.{◌≡◌, ℕ, zero, suc, ◌+◌, ◌<◌, ◌≤◌, ◌⊎◌, inl, inr, List, [], ◌∷◌, ◌++◌, length, take, get_or, slice_get, Option, Some, None, refl, sym, ap, subst, ◌∙◌, arith, rules}
+use Rattle.std.proofs.Common.{◌≡◌, ℕ, zero, suc, ◌+◌, ◌<◌, ◌≤◌, ◌⊎◌, inl, inr, List, [], ◌∷◌, ◌++◌, length, take, get_or, slice_get, Option, Some, None, refl, sym, ap, ◌∙◌, arith, rules}
 use Rattle.std.proofs.lemmas.Grind.{common_steps}
 use Rattle.std.proofs.lemmas.List.{take_all, take-append-le, take-take, length-take-le, length_push, get_or-take, get_or_append_left, get_or_push}
 use Rattle.std.proofs.lemmas.Option.{slice_get_within, slice_get-get_or, get_or_from_slice_get}
@@ -45,39 +45,33 @@ version_within h k x l at =
     let w = (l.postings_follow k x at).version_in_force in
     search (rules, ends_take-le)
 
-ends_of_first : (i : InstructionParts) (ps : List Posting) (j k : ℕ) → j ≤ k
-    → ends_of i (take j ps) ≤ ends_of i (take k ps)
-ends_of_first i ps j k le = omega (arith, ends_take-le i (take k ps) j, ap (λ xs. ends_of i xs) (take-take j k ps le))
-
 pub prefix : (h : HistoryParts) (k : ℕ) → IsLawful h → k ≤ length h.postings → IsLawful (first_of k h)
 prefix h k l le =
-    let n : ℕ = ends_of h.instruction (take k h.postings) + 1 in
-    let number : length (take n h.sheets) ≡ n = search (rules, length-take-le, ends_take-le) in
+    let i = h.instruction in
+    let n : ℕ = ends_of i (take k h.postings) + 1 in
     record {
       postings_follow = λ j x at.
           let here = slice_get-take h.postings k j x le at in
-          let w = version_within h j x l here.1 in
+          let one = take-take j k h.postings (omega (arith, here.0)) in
           let low : planned_version x < n =
-          omega (arith, w.0, ends_of_first h.instruction h.postings j k (omega (arith, here.0))) in
-          rw (take-take j k h.postings (omega (arith, here.0)))
-          (follows_same h.instruction h.sheets (take n h.sheets) (take j h.postings) x
+          omega (
+            arith,
+            (version_within h j x l here.1).0,
+            ends_take-le i (take k h.postings) j,
+            ap (λ xs. ends_of i xs) one,
+          ) in
+          rw one
+          (follows_same i h.sheets (take n h.sheets) (take j h.postings) x
           (get_or-take n h.sheets (planned_version x) [] low) (l.postings_follow j x here.1));
-      sheets_number = number;
+      sheets_number = search (rules, length-take-le, ends_take-le);
       base_sheet = get_or-take n h.sheets 0 [] (omega arith) ∙ l.base_sheet;
       sheets_meet = λ j x at e.
           let here = slice_get-take h.postings k j x le at in
-          let one : take j (take k h.postings) ≡ take j h.postings = take-take j k h.postings (omega (arith, here.0)) in
-          let two : take (j + 1) (take k h.postings) ≡ take (j + 1) h.postings =
-          take-take (j + 1) k h.postings (omega (arith, here.0)) in
-          let e' : IsEnd h.instruction (take j h.postings) x = subst (λ xs. IsEnd h.instruction xs x) one e in
-          let low : ends_of h.instruction (take j h.postings) + 1 < n =
-          omega (
-            arith,
-            ends_past h.instruction (take k h.postings) j x at e,
-            ap (λ xs. ends_of h.instruction xs) one,
-          ) in
-          rw (one, two, get_or-take n h.sheets (ends_of h.instruction (take j h.postings) + 1) [] low)
-          (l.sheets_meet j x here.1 e');
+          let one = take-take j k h.postings (omega (arith, here.0)) in
+          let low : ends_of i (take j h.postings) + 1 < n =
+          omega (arith, ends_past i (take k h.postings) j x at e, ap (λ xs. ends_of i xs) one) in
+          rw (one, take-take (j + 1) k h.postings (omega (arith, here.0)), get_or-take n h.sheets _ [] low)
+          (l.sheets_meet j x here.1 (rw one at e));
     }
 
 -- what a list of sheets says of an older version stays with more sheets
@@ -102,44 +96,34 @@ pub one_more : (h : HistoryParts) (x : Posting) (next : Option SheetParts) → I
 one_more h x next l follows n =
     let i = h.instruction in
     let stands = next_stands h x next l n in
+    let whole : take (length h.postings) (h.postings ++ x ∷ []) ≡ h.postings =
+    take-append-le (length h.postings) h.postings (x ∷ []) (omega arith)
+    ∙ take_all (length h.postings) h.postings (omega arith) in
+    let with_it : take (length h.postings + 1) (h.postings ++ x ∷ []) ≡ h.postings ++ x ∷ [] =
+    take_all (length h.postings + 1) (h.postings ++ x ∷ []) (omega (arith, length_push h.postings x)) in
     record {
       postings_follow = λ k y at. elim (slice_get-push h.postings x y k at) [
         | inl old ↦
-            let w = version_within h k y l old.1 in
             rw (take-append-le k h.postings (x ∷ []) (omega (arith, old.0)))
             (follows_same i h.sheets (sheets_with h.sheets next) (take k h.postings) y
-            (prices_stay h.sheets next (planned_version y) w.1) (l.postings_follow k y old.1))
+            (prices_stay h.sheets next (planned_version y) (version_within h k y l old.1).1)
+            (l.postings_follow k y old.1))
         | inr new ↦
             let w : planned_version x < length h.sheets = omega (arith, follows.version_in_force, l.sheets_number) in
-            let f : Follows i (sheets_with h.sheets next) h.postings x =
-            follows_same i h.sheets (sheets_with h.sheets next) h.postings x
-            (prices_stay h.sheets next (planned_version x) w) follows in
-            let g : Follows i (sheets_with h.sheets next) (take k h.postings) x =
-            rw (take_all k h.postings (omega (arith, new.0))) f in
-            rw (take-append-le k h.postings (x ∷ []) (omega (arith, new.0)))
-            (subst (λ y. Follows i (sheets_with h.sheets next) (take k h.postings) y) (sym new.1) g)
+            rw (new.0, new.1, whole)
+            (follows_same i h.sheets (sheets_with h.sheets next) h.postings x
+            (prices_stay h.sheets next (planned_version x) w) follows)
       ];
       sheets_number = stands.number;
       base_sheet = prices_stay h.sheets next 0 (omega (arith, l.sheets_number)) ∙ l.base_sheet;
       sheets_meet = λ k y at e. elim (slice_get-push h.postings x y k at) [
         | inl old ↦
-            let before : take k (h.postings ++ x ∷ []) ≡ take k h.postings =
-            take-append-le k h.postings (x ∷ []) (omega (arith, old.0)) in
-            let with_it : take (k + 1) (h.postings ++ x ∷ []) ≡ take (k + 1) h.postings =
-            take-append-le (k + 1) h.postings (x ∷ []) (omega (arith, old.0)) in
-            let e' : IsEnd i (take k h.postings) y = subst (λ xs. IsEnd i xs y) before e in
+            let before = take-append-le k h.postings (x ∷ []) (omega (arith, old.0)) in
+            let e' = rw before at e in
             let low : ends_of i (take k h.postings) + 1 < length h.sheets =
             omega (arith, l.sheets_number, ends_past i h.postings k y old.1 e') in
-            rw (before, with_it, prices_stay h.sheets next (ends_of i (take k h.postings) + 1) low)
+            rw (before, take-append-le (k + 1) h.postings (x ∷ []) (omega (arith, old.0)), prices_stay h.sheets next _ low)
             (l.sheets_meet k y old.1 e')
-        | inr new ↦
-            let before : take k (h.postings ++ x ∷ []) ≡ h.postings =
-            take-append-le k h.postings (x ∷ []) (omega (arith, new.0))
-            ∙ take_all k h.postings (omega (arith, new.0)) in
-            let with_it : take (k + 1) (h.postings ++ x ∷ []) ≡ h.postings ++ x ∷ [] =
-            take_all (k + 1) (h.postings ++ x ∷ []) (omega (arith, new.0, length_push h.postings x)) in
-            let e' : IsEnd i h.postings x =
-            subst (λ z. IsEnd i h.postings z) new.1 (subst (λ xs. IsEnd i xs y) before e) in
-            rw (before, with_it) (stands.meets e')
+        | inr new ↦ rw (new.0, whole, with_it) (stands.meets (rw (new.0, new.1, whole) at e))
       ];
     }
