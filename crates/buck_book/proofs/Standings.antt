@@ -1,5 +1,5 @@
 -- How classes stand, and the prices that are answered to that.
-use Rattle.std.proofs.Common.{◌≡◌, ℕ, ◌+◌, ◌*◌, ◌<◌, ◌≤◌, inl, inr, List, [], ◌∷◌, ◌++◌, length, take, get_or, slice_index, slice_get, Some, sym, ◌∙◌, ap, subst, arith, mul-le-mul_left, rules}
+use Rattle.std.proofs.Common.{refl, ◌≡◌, ℕ, ◌+◌, ◌*◌, ◌<◌, ◌≤◌, inl, inr, List, [], ◌∷◌, ◌++◌, length, take, get_or, slice_index, slice_get, Some, sym, ◌∙◌, ap, subst, arith, mul-le-mul_left, rules}
 use Rattle.std.proofs.lemmas.Grind.{common_steps}
 use Rattle.std.specs.List.{flat_map}
 use Rattle.std.proofs.lemmas.Bool.{cases_lt}
@@ -117,33 +117,28 @@ module _ (s : StandingsParts) (x : Section) (row column : ℕ) (k : IsSection s 
       let there = base_is s.instruction (class_at x.at row column) can.valid section_is in
       grind (arith, stands_by, section_place, there)
 
--- its price added to those of all classes before it
-pub price_more : {F : Type 0} (g : Shared F (Bor Standing × Unit {0}) ℕ) (f : F) (s : StandingsParts) (x : Section)
-    (row column price : ℕ) (prices : List ℕ) → IsSection s x
-    → row < length x.assortment.now.diameters → column < x.columns
-    → IsAnswer g f (standing_by s x.assortment.now (class_at x.at row column)) price
-    → ArePriced g f s prices (row_start x row + column)
-    → ArePriced g f s (prices ++ price ∷ []) (row_start x row + (column + 1))
-price_more g f s x row column price prices k r c answer priced =
-    let i = s.instruction in
-    let n : ℕ = row_start x row + column in
-    let place : index_of i (class_at x.at row column) ≡ n = section_place s x row column k r c in
-    let last : get_or (prices ++ price ∷ []) (index_of i (class_at x.at row column)) 0 ≡ price =
-    search (rules, get_or_push) in
-    record {
-      number_is = omega (arith, length_push prices price, priced.number_is);
-      answered = λ d l lt. elim (cases_lt (index_of i d) n) [
-        | inl old ↦
-            subst (λ p. IsAnswer g f (standing_by s l.assortment d) p)
-            (sym (get_or_append_left prices (price ∷ []) 0 (index_of i d) (omega (arith, priced.number_is))))
-            (priced.answered d l old)
-        | inr new ↦
-            at_place i (λ a x n. IsAnswer g f (standing_by s a x) (slice_index (prices ++ price ∷ []) n))
-            (class_at x.at row column) d (section_is s x row column k r c) l (omega arith)
-            (subst (λ p. IsAnswer g f (standing_by s x.assortment.now (class_at x.at row column)) p) (sym last) answer)
-      ];
-      in_span = search (rules, cases_lt, get_or_append_left, meets_within);
-    }
+  -- its price added to those of all classes before it
+  pub price_more : {F : Type 0} (g : Shared F (Bor Standing × Unit {0}) ℕ) (f : F) (price : ℕ) (prices : List ℕ)
+      → IsAnswer g f (standing_by s x.assortment.now (class_at x.at row column)) price
+      → ArePriced g f s prices (row_start x row + column)
+      → ArePriced g f s (prices ++ price ∷ []) (row_start x row + (column + 1))
+  price_more g f price prices answer priced =
+      let i = s.instruction in
+      let n : ℕ = row_start x row + column in
+      let last : get_or (prices ++ price ∷ []) (index_of i (class_at x.at row column)) 0 ≡ price =
+      search (rules, get_or_push, section_place) in
+      record {
+        number_is = omega (arith, length_push prices price, priced.number_is);
+        answered = λ d l lt. elim (cases_lt (index_of i d) n) [
+          | inl old ↦
+              rw (get_or_append_left prices (price ∷ []) 0 (index_of i d) (omega (arith, priced.number_is)))
+              (priced.answered d l old)
+          | inr new ↦
+              at_place i (λ a x n. IsAnswer g f (standing_by s a x) (slice_index (prices ++ price ∷ []) n))
+              (class_at x.at row column) d section_is l (omega (arith, section_place)) (rw last answer)
+        ];
+        in_span = search (rules, cases_lt, get_or_append_left, meets_within, section_place);
+      }
 
 -- the classes before the next assortment are those before this one, and its own
 pub before_next : (i : InstructionParts) (a : AssortmentParts) (at : ℕ) → slice_get i.assortments at ≡ Some a
@@ -166,21 +161,20 @@ pub standing_is : (i : InstructionParts) (targets by_class by_assortment : List 
     (slice_index by_assortment c.assortment) ≡ standing_of i k.assortment c ps
 standing_is i targets by_class by_assortment ps c wanted counts k = grind (arith, slice_get_within)
 
-module _ {F : Type 0} (g : Shared F (Bor Standing × Unit {0}) ℕ) (f : F) (s : StandingsParts) (ps : List Posting)
-    (prices : List ℕ) (wanted : s.targets ≡ targets_of s.instruction ps)
-    (counts : AreCounts s.instruction ps s.by_class s.by_assortment)
-    (priced : ArePriced g f s prices (classes s.instruction)) where
-  answers : (c : Class) (k : IsClass s.instruction c)
-      → IsAnswer g f (standing_of s.instruction k.assortment c ps) (slice_index prices (index_of s.instruction c))
-  answers c k = grind (arith, standing_is, place_lt)
-
 -- a sheet of prices by running counts that are right
 pub is_sheet : {F : Type 0} (g : Shared F (Bor Standing × Unit {0}) ℕ) (f : F) (i : InstructionParts) (ps : List Posting)
     (n : RunningParts) (prices : List ℕ) (s : SheetParts) → Tells i ps n
     → ArePriced g f (standings_of i n) prices (classes i) → s ≡ sheet_of n.version i prices → IsSheetAfter g f i ps s
 is_sheet g f i ps n prices s told priced made =
-    let answered = answers g f (standings_of i n) ps prices told.targets_are told.counts_are priced in
-    search (rules, answers)
+    let answered : (c : Class) (k : IsClass i c)
+    → IsAnswer g f (standing_of i k.assortment c ps) (slice_index prices (index_of i c)) =
+    grind (arith, standing_is, place_lt) in
+    rw made (record {
+      version_is = told.version_is;
+      same_instruction = refl;
+      prices_meet = record { one_each = priced.number_is; each_meets = λ c k. (answered c k).met };
+      answers = λ c k. (answered c k).given;
+    })
 
 -- prices within their spans, one for each class, make a sheet
 pub no_fault : (i : InstructionParts) (prices : List ℕ) (fault : SheetFault) → length prices ≡ classes i

@@ -218,6 +218,7 @@ impl Running {
     }
 
     /// Adds a posting that can be counted. The sheet is any of the instruction. Refused as `Memory` alone.
+    #[tactic(auto, using(crate::proofs::Told::version_low))]
     pub fn after(&mut self, sheet: &Sheet, posting: &Posting) -> Result<(), Memory>
         requires before { GoesOn sheet.now.instruction self.old }
         requires countable { IsCountable sheet.now.instruction posting.now }

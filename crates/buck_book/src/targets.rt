@@ -29,12 +29,7 @@ fn first_above(targets: &[u32]) -> Option<usize>
         × ((k : ℕ) → k < at → IsLowAt targets.now k)) }
     ensures none { IfNone result (EachIndex targets.now (λ k. IsLowAt targets.now k)) }
 {
-    for at in 0..targets.len() {
-        if targets[at] > TARGETS.high {
-            return Some(at);
-        }
-    }
-    None
+    targets.iter().position(|target| *target > TARGETS.high)
 }
 
 /// All of some numbers together.

@@ -1,10 +1,6 @@
 use Rattle.std.proofs.Common.{sym, ◌∙◌, ap}
 use Rattle.buck_book.specs.Entry.{DemandParts}
-use Rattle.buck_book.proofs.Told.{version_low}
 use Rattle.buck_book.proofs.running.Running.after.Goals as goal
-
-pub after_demand-requires : goal.after_demand-requires
-after_demand-requires c = version_low _ _ _ c.requires.before.2
 
 pub returns-in_ok-clone-in-Demand : goal.returns-in_ok-clone-in-Demand
 returns-in_ok-clone-in-Demand c =
