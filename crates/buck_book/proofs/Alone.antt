@@ -1,6 +1,5 @@
 -- Histories of cuts alone: their ends are the full periods, and two ways to say that one is lawful say the same.
-use Rattle.std.proofs.Common.{◌≡◌, ℕ, zero, suc, ◌+◌, ◌-◌, ◌*◌, ◌/◌, ◌%◌, ◌<◌, ◌≤◌, ◌↔◌, inl, inr, List, [], ◌∷◌, map, length, take, drop, slice_index, slice_get, Some, sum_by, refl, sym, ◌∙◌, ap, subst, arith, add-one, eqb-true, eq-eqb, mul-le-mul_right, div-mul-le_self, rules}
-use Rattle.std.specs.Option.{option_map}
+use Rattle.std.proofs.Common.{◌≡◌, ℕ, zero, suc, ◌+◌, ◌-◌, ◌*◌, ◌/◌, ◌%◌, ◌<◌, ◌≤◌, ◌↔◌, inl, inr, List, [], ◌∷◌, map, length, take, drop, slice_index, slice_get, Some, sum_by, refl, sym, ◌∙◌, arith, rules, add-one, eqb-true, eq-eqb, mul-le-mul_right, div-mul-le_self, rules}
 use Rattle.std.proofs.lemmas.Bool.{cases_Bool, cases_lt, cases_eq}
 use Rattle.std.proofs.lemmas.Nat.{same_from_place, div-mul-add, mod-mul-add, div-add-mod', div_below, mod_below}
 use Rattle.std.proofs.lemmas.Grind.{same_number_lists}
@@ -10,14 +9,13 @@ use Rattle.std.proofs.lemmas.List.Sums.{sum_by-cons}
 use Rattle.std.proofs.lemmas.Option.{slice_get_within, slice_get-map, slice_get_cases, same_Some, none-some}
 use Rattle.buck_apt.specs.declared.class.Class.{Class}
 use Rattle.buck_apt.specs.Instruction.{InstructionParts, AssortmentParts, IsInstruction, IsClass, classes, classes_of, classes_before, index_of}
-use Rattle.buck_rule.specs.Relation.{Meets}
 use Rattle.buck_value.specs.Sheet.{base_prices}
 use Rattle.buck_value.proofs.Prices.{length-base_prices}
 use Rattle.buck_book.specs.declared.posting.Posting.{Posting}
 use Rattle.buck_book.specs.declared.posting.Posting.TheVariants.{Cut}
 use Rattle.buck_book.specs.Entry.{EntryParts}
 use Rattle.buck_book.specs.Posting.{ends_from, cuts_from, ends_of, cuts_since_end, targets_after, opening_targets}
-use Rattle.buck_book.specs.History.{IsLawful, Follows, IsEnd, PricesMeet, prices_at, standing_of}
+use Rattle.buck_book.specs.History.{IsLawful, IsEnd, PricesMeet, prices_at, standing_of}
 use Rattle.buck_book.specs.CutsAlone as alone
 use Rattle.buck_book.proofs.Ends.{ends_yes, ends_no, cuts_yes, cuts_no, cuts_low, ends_past}
 use Rattle.buck_book.proofs.Places.{inner_is, inner_lt}
@@ -33,12 +31,12 @@ spread p n (e ∷ es) = search (rules, cases_Bool, eqb-true, ends_yes, cuts_yes,
 pub ends_alone : (i : InstructionParts) (es : List EntryParts) → 0 < i.period
     → (ends_of i (map Cut es) ≡ length es / i.period) × (cuts_since_end i (map Cut es) ≡ length es % i.period)
 ends_alone i es pos =
-    let ps : List Posting = map Cut es in
-    let p : ℕ = i.period in
-    let low : cuts_since_end i ps < p = cuts_low p 0 ps pos pos in
-    let whole : ends_of i ps * p + cuts_since_end i ps ≡ length es = spread p 0 es ∙ omega arith in (
-      sym (ap (λ m. m / p) (sym whole) ∙ div-mul-add (ends_of i ps) p (cuts_since_end i ps) low),
-      sym (ap (λ m. m % p) (sym whole) ∙ mod-mul-add (ends_of i ps) p (cuts_since_end i ps) low),
+    grind (
+      arith,
+      div-mul-add,
+      mod-mul-add,
+      (cuts_low i.period 0 (map Cut es) pos pos),
+      (spread i.period 0 es),
     )
 
 -- sums over postings that are cuts are sums over their entries
@@ -60,7 +58,7 @@ cut_at (e ∷ es) (suc k) x at = cut_at es k x at
 
 at_cut : (es : List EntryParts) (k : ℕ) (e : EntryParts) → slice_get es k ≡ Some e
     → slice_get (map Cut es) k ≡ Some (Cut e)
-at_cut es k e at = slice_get-map Cut es k ∙ ap (λ o. option_map Cut o) at
+at_cut es k e at = grind (arith, slice_get-map)
 
 module _ (i : InstructionParts) (c : Class) (v : IsInstruction i) (k : IsClass i c) where
   part : take (classes_of k.assortment) (drop (classes_before i c.assortment) (opening_targets i))
@@ -80,11 +78,8 @@ module _ (i : InstructionParts) (c : Class) (v : IsInstruction i) (k : IsClass i
 -- prices that keep the relation after cuts do so in words that know of no demand, and the other way round
 pub meets_to_alone : (i : InstructionParts) (es : List EntryParts) (prices : List ℕ) → IsInstruction i
     → PricesMeet i (map Cut es) prices → alone.PricesMeet i es prices
-meets_to_alone i es prices v m = record {
-  one_each = m.one_each;
-  each_meets =
-      λ c k. subst (λ s. Meets s (slice_index prices (index_of i c))) (same_standing i c v k es) (m.each_meets c k);
-}
+meets_to_alone i es prices v m =
+    record { one_each = m.one_each; each_meets = λ c k. rw (same_standing i c v k es) at (m.each_meets c k) }
 
 pub meets_from_alone : (i : InstructionParts) (es : List EntryParts) (prices : List ℕ) → IsInstruction i
     → alone.PricesMeet i es prices → PricesMeet i (map Cut es) prices
@@ -95,29 +90,15 @@ pub base_meets : (i : InstructionParts) → IsInstruction i → alone.PricesMeet
 base_meets i v = grind (arith, length-base_prices, base_is)
 
 -- a place among all classes is one in some assortment
-record PlaceIn (as_ : List AssortmentParts) (q : ℕ) : Type 0 where
-  at : ℕ
-  a : AssortmentParts
-  exists : slice_get as_ at ≡ Some a
-  inner : ℕ
-  within : inner < classes_of a
-  is : sum_by classes_of (take at as_) + inner ≡ q
-
-place_of : (as_ : List AssortmentParts) (q : ℕ) → q < sum_by classes_of as_ → PlaceIn as_ q
+place_of : (as_ : List AssortmentParts) (q : ℕ) → q < sum_by classes_of as_
+    → (at : ℕ) × (a : AssortmentParts) × (inner : ℕ) × (slice_get as_ at ≡ Some a) × (inner < classes_of a)
+    × (sum_by classes_of (take at as_) + inner ≡ q)
 place_of [] q lt = absurd (omega arith)
 place_of (a ∷ as_) q lt = elim (cases_lt q (classes_of a)) [
-  | inl here ↦ record { at = 0; a = a; exists = refl; inner = q; within = here; is = omega arith }
+  | inl here ↦ (0, a, q, refl, here, omega arith)
   | inr past ↦
-      let rest : PlaceIn as_ (q - classes_of a) =
-      grind (arith, sum_by-cons, (place_of as_ (q - classes_of a) (omega (arith, sum_by-cons classes_of a as_)))) in
-      record {
-        at = suc rest.at;
-        a = rest.a;
-        exists = rest.exists;
-        inner = rest.inner;
-        within = rest.within;
-        is = omega (arith, rest.is, sum_by-cons classes_of a (take rest.at as_));
-      }
+      let p = place_of as_ (q - classes_of a) (omega (arith, sum_by-cons classes_of a as_)) in
+      (suc p.0, p.1, p.2, p.3, p.4, omega (arith, p.5, sum_by-cons classes_of a (take p.0 as_)))
 ]
 
 -- each place is a class's
@@ -128,17 +109,17 @@ pub record ClassAt (i : InstructionParts) (q : ℕ) : Type 0 where
 
 pub class_at : (i : InstructionParts) (q : ℕ) → q < classes i → ClassAt i q
 class_at i q lt =
-    let p : PlaceIn i.assortments q = place_of i.assortments q lt in
-    let wide : ℕ = length p.a.lengths in
+    let p = place_of i.assortments q lt in
+    let wide : ℕ = length p.1.lengths in
     let pos : 0 < wide = search (rules, cases_eq) in
-    let c : Class = record { assortment = p.at; row = p.inner / wide; column = p.inner % wide } in
+    let c : Class = record { assortment = p.0; row = p.2 / wide; column = p.2 % wide } in
     let k : IsClass i c = record {
-      assortment = p.a;
-      exists = p.exists;
-      row = div_below p.inner wide (length p.a.diameters) pos p.within;
-      column = mod_below p.inner wide pos;
+      assortment = p.1;
+      exists = p.3;
+      row = div_below p.2 wide (length p.1.diameters) pos p.4;
+      column = mod_below p.2 wide pos;
     } in
-    record { class = c; is_class = k; place = omega (arith, inner_is i c k, div-add-mod' p.inner wide, p.is) }
+    record { class = c; is_class = k; place = omega (arith, inner_is i c k, div-add-mod' p.2 wide, p.5) }
 
 -- prices in the relation where nothing was cut are the base prices
 pub base_alone : (i : InstructionParts) (prices : List ℕ) → IsInstruction i → alone.PricesMeet i [] prices
@@ -148,14 +129,6 @@ base_alone i prices v m =
     (λ q lt.
     let w : ClassAt i q = class_at i q (omega (arith, m.one_each)) in
     search (rules, base_is))
-
-module _ (i : InstructionParts) (sheets : List (List ℕ)) (before : List EntryParts) (e : EntryParts)
-    (v : IsInstruction i) where
-  follows_to_alone : Follows i sheets (map Cut before) (Cut e) → alone.Follows i sheets before e
-  follows_to_alone f = grind (arith, sum_of_cuts, ends_alone)
-
-  follows_from_alone : alone.Follows i sheets before e → Follows i sheets (map Cut before) (Cut e)
-  follows_from_alone f = grind (arith, sum_of_cuts, ends_alone)
 
 module _ (i : InstructionParts) (sheets : List (List ℕ)) (es : List EntryParts) (v : IsInstruction i) where
   -- the ends before a place and the cuts since the last make up all entries there
@@ -168,9 +141,6 @@ module _ (i : InstructionParts) (sheets : List (List ℕ)) (es : List EntryParts
         cuts_low i.period 0 (map Cut (take k es)) v.period_range.0 v.period_range.0,
       )
 
-  number_alone : IsLawful (alone.history_of i sheets es) → length sheets ≡ length es / i.period + 1
-  number_alone l = grind (arith, ends_alone)
-
   -- the sheet of a version comes after so many full periods
   sheets_alone : IsLawful (alone.history_of i sheets es) → (w : ℕ) → w < length sheets
       → alone.PricesMeet i (take (w * i.period) es) (prices_at sheets w)
@@ -181,7 +151,7 @@ module _ (i : InstructionParts) (sheets : List (List ℕ)) (es : List EntryParts
       let p : ℕ = i.period in
       let k : ℕ = w * p + (p - 1) in
       let next : k + 1 ≡ suc w * p = omega (arith, v.period_range.0) in
-      let a : suc w * p ≤ length es / p * p = mul-le-mul_right p (omega (arith, number_alone l)) in
+      let a : suc w * p ≤ length es / p * p = mul-le-mul_right p (grind (arith, ends_alone)) in
       let within : k < length es = omega (arith, div-mul-le_self (length es) p) in
       elim (slice_get_cases es k).1 [
         | inl some ↦
@@ -196,11 +166,11 @@ module _ (i : InstructionParts) (sheets : List (List ℕ)) (es : List EntryParts
 
   to_alone : IsLawful (alone.history_of i sheets es) → alone.IsLawful i sheets es
   to_alone l = record {
-    sheets_number = number_alone l;
+    sheets_number = grind (arith, ends_alone);
     sheets_meet = sheets_alone l;
     entries_follow = λ k e at.
-        follows_to_alone i sheets (take k es) e v
-        (rw take-map at (l.postings_follow k (Cut e) (at_cut es k e at)));
+        let f = rw take-map at (l.postings_follow k (Cut e) (at_cut es k e at)) in
+        grind (arith, sum_of_cuts, ends_alone);
   }
 
   -- an end is the last cut of a full period
@@ -220,7 +190,8 @@ module _ (i : InstructionParts) (sheets : List (List ℕ)) (es : List EntryParts
   from_alone l = record {
     postings_follow = λ k x at.
         let c = cut_at es k x at in
-        rw (c.2, take-map) (follows_from_alone i sheets (take k es) c.0 v (l.entries_follow k c.0 c.1));
+        let f = l.entries_follow k c.0 c.1 in
+        rw (c.2, take-map) (grind (arith, sum_of_cuts, ends_alone));
     sheets_number = grind (arith, ends_alone);
     base_sheet = search (rules, base_alone);
     sheets_meet = grind (arith, cut_at, sheets_from_alone);

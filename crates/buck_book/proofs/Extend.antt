@@ -81,21 +81,16 @@ prices_stay sheets None v lt = refl
 prices_stay sheets (Some s) v lt = get_or_append_left sheets (s.prices ∷ []) [] v lt
 
 -- the next sheet, where there is one, is there as it should be
-record NextStands (h : HistoryParts) (x : Posting) (next : Option SheetParts) : Type 0 where
-  number : length (sheets_with h.sheets next) ≡ ends_of h.instruction (h.postings ++ x ∷ []) + 1
-  meets : IsEnd h.instruction h.postings x
-      → PricesMeet h.instruction (h.postings ++ x ∷ [])
-      (prices_at (sheets_with h.sheets next) (ends_of h.instruction h.postings + 1))
-
-next_stands : (h : HistoryParts) (x : Posting) (next : Option SheetParts) → IsLawful h → IsNext h x next
-    → NextStands h x next
-next_stands h x next l n = grind (arith, ends_without, length_push, ends_with_end, get_or_push)
+next_meets : (h : HistoryParts) (x : Posting) (next : Option SheetParts) → IsLawful h → IsNext h x next
+    → IsEnd h.instruction h.postings x
+    → PricesMeet h.instruction (h.postings ++ x ∷ [])
+    (prices_at (sheets_with h.sheets next) (ends_of h.instruction h.postings + 1))
+next_meets h x next l n last = grind (arith, get_or_push)
 
 pub one_more : (h : HistoryParts) (x : Posting) (next : Option SheetParts) → IsLawful h
     → Follows h.instruction h.sheets h.postings x → IsNext h x next → IsLawful (history_with h x next)
 one_more h x next l follows n =
     let i = h.instruction in
-    let stands = next_stands h x next l n in
     let whole : take (length h.postings) (h.postings ++ x ∷ []) ≡ h.postings =
     take-append-le (length h.postings) h.postings (x ∷ []) (omega arith)
     ∙ take_all (length h.postings) h.postings (omega arith) in
@@ -114,7 +109,7 @@ one_more h x next l follows n =
             (follows_same i h.sheets (sheets_with h.sheets next) h.postings x
             (prices_stay h.sheets next (planned_version x) w) follows)
       ];
-      sheets_number = stands.number;
+      sheets_number = grind (arith, ends_without, length_push, ends_with_end);
       base_sheet = prices_stay h.sheets next 0 (omega (arith, l.sheets_number)) ∙ l.base_sheet;
       sheets_meet = λ k y at e. elim (slice_get-push h.postings x y k at) [
         | inl old ↦
@@ -124,6 +119,6 @@ one_more h x next l follows n =
             omega (arith, l.sheets_number, ends_past i h.postings k y old.1 e') in
             rw (before, take-append-le (k + 1) h.postings (x ∷ []) (omega (arith, old.0)), prices_stay h.sheets next _ low)
             (l.sheets_meet k y old.1 e')
-        | inr new ↦ rw (new.0, whole, with_it) (stands.meets (rw (new.0, new.1, whole) at e))
+        | inr new ↦ rw (new.0, whole, with_it) (next_meets h x next l n (rw (new.0, new.1, whole) at e))
       ];
     }
