@@ -1,11 +1,10 @@
 -- What a book keeps, one posting on.
-use Rattle.std.proofs.Common.{◌≡◌, ℕ, ◌-◌, ◌<◌, ◌≤◌, inl, inr, List, [], ◌∷◌, ◌++◌, Option, Some, None, length, map, set, replicate, get_or, append-nil, refl, sym, ◌∙◌, ap, arith, rules}
+use Rattle.std.proofs.Common.{◌≡◌, ℕ, ◌-◌, ◌<◌, inl, inr, List, [], ◌∷◌, ◌++◌, Option, Some, None, length, map, set, get_or, append-nil, refl, sym, ◌∙◌, ap, arith, rules}
 use Rattle.std.proofs.lemmas.Grind.{common_steps}
 use Rattle.std.proofs.lemmas.List.{map-append, length_push}
-use Rattle.std.proofs.lemmas.Option.{none-some}
 use Rattle.std.specs.Option.{option_to_list, option_map}
 use Rattle.buck_apt.specs.Instruction.{InstructionParts, IsWithin}
-use Rattle.buck_value.specs.Sheet.{SheetParts, sheet_of, base_prices}
+use Rattle.buck_value.specs.Sheet.{SheetParts}
 use Rattle.buck_book.specs.declared.posting.Posting.{Posting}
 use Rattle.buck_book.specs.declared.posting.Posting.TheVariants.{Cut, Demand}
 use Rattle.buck_book.specs.Entry.{EntryParts, DemandParts}
@@ -18,7 +17,7 @@ use Rattle.buck_book.specs.inner.Running.{RunningParts, Keeps, Tells, GoesOn, Is
 use Rattle.buck_rule.specs.declared.standing.Standing.{Standing}
 use denote.Ref.{Bor}
 use denote.Param.Members.{Shared}
-use Rattle.buck_book.proofs.Counting.{calls_more, no_calls}
+use Rattle.buck_book.proofs.Counting.{calls_more}
 use Rattle.buck_book.proofs.Ends.{ends_with_end}
 use Rattle.buck_book.proofs.Extend.{slice_get-push, version_within, one_more, prices_stay}
 use Rattle.buck_book.proofs.Sheets.{length-sheets_from, get_or-sheets_from, sheets_from-append}
@@ -32,20 +31,6 @@ in_sheets b sheets n calls k = search (rules, length-sheets_from)
 pub force_is : {F : Type 0} (b : BookParts F) (sheets : List SheetParts) (n : RunningParts) (calls : List ℕ)
     (d : SheetParts) → Keeps b sheets n calls → get_or sheets (version_of b.history) d ≡ in_force b.history
 force_is b sheets n calls d k = grind (arith, get_or-sheets_from)
-
--- a history with no posting
-pub lawful_empty : (i : InstructionParts)
-    → IsLawful (record { instruction = i; sheets = base_prices i ∷ []; postings = [] })
-lawful_empty i = grind (arith, none-some)
-
-pub keeps_empty : {F : Type 0} (f : F) (i : InstructionParts) (pss : List (List ℕ)) (ps : List Posting)
-    (ts : List SheetParts) (n : RunningParts) (calls : List ℕ) (capacity room sheet_room : ℕ)
-    → capacity ≤ 1000000
-    → ps ≡ [] → pss ≡ base_prices i ∷ [] → ts ≡ sheet_of 0 i (base_prices i) ∷ []
-    → Tells i [] n → calls ≡ replicate {A = ℕ} 64 0
-    → Keeps (book_of f i pss ps capacity room sheet_room) ts n calls
-keeps_empty f i pss ps ts n calls capacity room sheet_room le none priced sheeted told called =
-    grind (arith, lawful_empty, none-some, no_calls)
 
 -- a cutting stays the first of the best with more sheets
 first_stays : (h : HistoryParts) (x y : Posting) (next : Option SheetParts) → planned_version y < length h.sheets
@@ -93,9 +78,7 @@ keeps_more b sheets n n' calls x next room sheet_room k below own may is_next to
       is_book = book_more b y next room sheet_room k.is_book may.0 is_next may.1 own below;
       sheets_are = sheets_after b.history y sheets next k.is_book.lawful k.sheets_are is_next;
       tells = told b.history.postings (omega (arith, below, k.is_book.capacity_range)) k.tells;
-      calls_are =
-          calls_more b.history.postings y calls (harvester_of y) (number_of y)
-          k.calls_are refl own.0 own.1 may.0.number_is_next;
+      calls_are = search (rules, calls_more);
     }
 
 -- a plan's entry may follow
@@ -124,14 +107,13 @@ module _ {F : Type 0} (b d : BookParts F) (sheets : List SheetParts) (n : Runnin
       → (harvester : ℕ) → Tells b.history.instruction (b.history.postings ++ Cut (entry_of b.history harvester p) ∷ []) n'
   passed_cut p n₁ n' same is told harvester = grind (arith, entry_after, few)
 
-  pub passed_demand : (targets : List ℕ) (n₁ n' : RunningParts) → AreTargets d.history.instruction targets → n₁ ≡ n
+  pub passed_demand : (targets : List ℕ) (n₁ n' : RunningParts) → AreTargets b.history.instruction targets → n₁ ≡ n
       → ((i : InstructionParts) (x : DemandParts) → x.targets ≡ targets → AreTargets i x.targets
       → IsAfter i n₁ (Demand x) n')
       → (harvester : ℕ)
       → Tells b.history.instruction (b.history.postings ++ Demand (demand_of b.history harvester targets) ∷ []) n'
   passed_demand targets n₁ n' valid is told harvester =
-      told b.history.instruction (demand_of b.history harvester targets) refl (rw (sym view) at valid)
-      b.history.postings few (rw is k.tells)
+      told b.history.instruction (demand_of b.history harvester targets) refl valid b.history.postings few (rw is k.tells)
 
 -- the sheet in force after an end is the next sheet
 pub is_next_sheet : {F : Type 0} (g : Shared F (Bor Standing × Unit {0}) ℕ) (f : F) (h : HistoryParts) (x : Posting)

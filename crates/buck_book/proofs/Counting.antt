@@ -53,10 +53,6 @@ calls_more ps x calls h number are is pos most next = record {
   ];
 }
 
--- before the first entry nobody has called
-pub no_calls : AreCalls [] (replicate {A = ℕ} 64 0)
-no_calls = record { number = length-replicate {A = ℕ} 64 0; each = λ k lt. zeros 64 k }
-
 pub calls-le : (h : ℕ) (ps : List Posting) → calls_of h ps ≤ length ps
 calls-le h ps = count_by-le-length (λ x. harvester_of x == h) ps
 

@@ -1,11 +1,10 @@
 -- Sums over the classes of an assortment.
 use Rattle.std.proofs.Common.{◌≡◌, ℕ, zero, suc, ◌+◌, ◌*◌, ◌/◌, ◌<◌, ◌≤◌, min, List, [], ◌∷◌, length, take, sum, get_or, arith, add-one, rules}
-use Rattle.std.proofs.lemmas.Grind.{common_steps}
 use Rattle.std.proofs.lemmas.List.Sums.{sum_by-cons}
 use Rattle.std.proofs.Math.Nat.{min-le_left, add-mul, mul-le-mul, div-le_of_le-mul}
 use Rattle.std.specs.Prelude.{slice_get, Some}
 use Rattle.std.proofs.lemmas.Option.{slice_get_read}
-use Rattle.buck_apt.specs.Instruction.{InstructionParts, AssortmentParts, classes_before, index_of}
+use Rattle.buck_apt.specs.Instruction.{AssortmentParts}
 use Rattle.buck_book.specs.Degree.{shared_of}
 
 step : (wanted cut : ℕ) (targets counts : List ℕ) (i : ℕ) → i < length targets → i < length counts
@@ -43,8 +42,3 @@ degree_low targets counts = grind (arith, div-le_of_le-mul, mul-le-mul, shared_l
 pub stands : (xs ys : List AssortmentParts) (at : ℕ) (a : AssortmentParts) → xs ≡ ys → at < length ys
     → a ≡ get_or xs at a → slice_get ys at ≡ Some a
 stands xs ys at a same lt is = grind (arith, slice_get_read)
-
--- the place of an assortment's first class
-pub first_class : (i : InstructionParts) (at : ℕ) (a : AssortmentParts) → slice_get i.assortments at ≡ Some a
-    → index_of i (record { assortment = at; row = 0; column = 0 }) ≡ classes_before i at
-first_class i at a there = grind (arith, common_steps)

@@ -63,7 +63,7 @@ module _ (s : StandingsParts) (ps : List Posting) (prices : List ℕ) (wanted : 
     exists = w.exists;
     place = w.place;
     wrong = search (rules, stands);
-    least = λ c k lt. subst (λ x. Meets x (slice_index prices (index_of s.instruction c))) (stands c k) (w.least c k lt);
+    least = λ c k lt. rw (stands c k) at (w.least c k lt);
   }
 
 -- what a fact about an option gives

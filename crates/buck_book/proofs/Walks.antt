@@ -1,5 +1,5 @@
 -- What is kept along a way through postings, one posting on.
-use Rattle.std.proofs.Common.{◌≡◌, ℕ, ◌+◌, ◌<◌, ◌==◌, cond, length, slice_get, Some, sym, arith}
+use Rattle.std.proofs.Common.{◌≡◌, ℕ, ◌+◌, ◌<◌, ◌==◌, cond, length, slice_get, Some, arith}
 use Rattle.std.proofs.lemmas.List.{length-take-le}
 use Rattle.std.proofs.lemmas.List.Sums.{sum_by_push}
 use Rattle.std.proofs.lemmas.Option.{slice_get_within}
@@ -7,7 +7,7 @@ use Rattle.buck_apt.specs.Instruction.{InstructionParts}
 use Rattle.buck_book.specs.declared.posting.Posting.{Posting}
 use Rattle.buck_book.specs.Posting.{harvester_of}
 use Rattle.buck_book.specs.Walk.{WalkParts, walk_of, passed}
-use Rattle.buck_book.specs.inner.Running.{RunningParts, GoesOn, IsAfter}
+use Rattle.buck_book.specs.inner.Running.{RunningParts, IsAfter}
 use Rattle.buck_book.specs.inner.Walk.{IsWalk}
 use Rattle.buck_book.proofs.Ends.{take_one_more}
 
@@ -16,9 +16,6 @@ module _ (w d : WalkParts) (n : RunningParts) (calls : ℕ → ℕ) (x : Posting
     (k : IsWalk w n calls) (there : slice_get d.postings d.at ≡ Some x) (same : i ≡ d.instruction) where
   few : length (passed w) < 1000000
   few = grind (arith, slice_get_within, length-take-le)
-
-  pub walk_goes_on : GoesOn i n
-  walk_goes_on = (passed w, few, rw (same, sym view) k.tells)
 
   pub walk_more : (n' : RunningParts) (calls' : ℕ → ℕ) → IsAfter i n x n'
       → ((h : ℕ) → calls' h ≡ calls h + cond (harvester_of x == h) 1 0)

@@ -1,4 +1,4 @@
-use Rattle.std.proofs.Common.{eq-eqb, sym}
+use Rattle.std.proofs.Common.{eq-eqb, sym, rules}
 use Rattle.buck_book.proofs.Books.{passed_cut, is_next_sheet}
 use Rattle.buck_book.proofs.book.Book.next_sheet.Goals as goal
 
@@ -20,6 +20,4 @@ returns-clause-next g c =
     ))
 
 pub returns-clause-given : goal.returns-clause-given
-returns-clause-given g c = rw (sym c.self.view_is) (λ harvester. (c.in_ok-sheet.ensures _
-    (passed_cut _ _ _ _ _ c.self.view_is c.self.invariant c.requires.below c.args.plan.now _ _ c.requires.in_force
-    c.in_ok-after.ensures c.after_plan.ensures harvester)).answers)
+returns-clause-given g c = rw (sym c.self.view_is) (search (rules, passed_cut))

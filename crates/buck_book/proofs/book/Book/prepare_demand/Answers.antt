@@ -1,8 +1,6 @@
 use Rattle.std.proofs.Common.{rules, refl, Some, sym, ap, arith}
-use Rattle.std.proofs.lemmas.Grind.{common_steps}
 use Rattle.buck_book.specs.declared.posting.Posting.TheVariants.{Demand}
 use Rattle.buck_book.specs.Book.{demand_of}
-use Rattle.buck_book.specs.Targets.{AreTargets}
 use Rattle.buck_book.proofs.Told.{version_low}
 use Rattle.buck_book.proofs.Books.{ready_to_add, passed_demand, is_next_sheet}
 use Rattle.buck_book.proofs.book.Book.prepare_demand.Goals as goal
@@ -11,24 +9,20 @@ pub after_demand-requires : goal.after_demand-requires
 after_demand-requires g c = grind (arith, version_low)
 
 pub sheet-requires-clause-told : goal.sheet-requires-clause-told
-sheet-requires-clause-told g c =
-    let valid : AreTargets c.args.self.now.history.instruction c.args.targets.now.value.items =
-    grind (arith, common_steps) in (
-      _,
-      passed_demand _ _ _ _ _ c.self.view_is c.self.invariant (c.if-is_full.ensures.below refl)
-          c.args.targets.now.value.items _ _ valid c.in_ok-after.ensures
-          (rw (ap (λ x. x.items) c.in_ok-clone.ensures.cases) at c.after_demand.ensures) 0,
-    )
+sheet-requires-clause-told g c = (
+  _,
+  passed_demand _ _ _ _ _ c.self.view_is c.self.invariant (c.if-is_full.ensures.below refl)
+      c.args.targets.now.value.items _ _ (rw (c.deref.ensures, c.as_slice.ensures.value, c.deref-2.ensures) at c.in-Ok.ensures.valid) c.in_ok-after.ensures
+      (rw (ap (λ x. x.items) c.in_ok-clone.ensures.cases) at c.after_demand.ensures) 0,
+)
 
 pub returns-clause-ready : goal.returns-clause-ready
 returns-clause-ready g c =
     let same = ap (λ x. x.items) c.in_ok-clone-2.ensures.cases in
     let room = c.in_ok-reserve.ensures in
-    let valid : AreTargets c.args.self.now.history.instruction c.args.targets.now.value.items =
-    grind (arith, common_steps) in
     let passed =
     passed_demand _ _ _ _ _ c.self.view_is c.self.invariant (c.if-is_full.ensures.below refl)
-    c.args.targets.now.value.items _ _ valid c.in_ok-after.ensures
+    c.args.targets.now.value.items _ _ (rw (c.deref.ensures, c.as_slice.ensures.value, c.deref-2.ensures) at c.in-Ok.ensures.valid) c.in_ok-after.ensures
     (rw (ap (λ x. x.items) c.in_ok-clone.ensures.cases) at c.after_demand.ensures) in
     record {
       to_add = rw same
@@ -42,10 +36,8 @@ returns-clause-ready g c =
 
 pub returns-clause-given : goal.returns-clause-given
 returns-clause-given g c =
-    let valid : AreTargets c.args.self.now.history.instruction c.args.targets.now.value.items =
-    grind (arith, common_steps) in
     let passed =
     passed_demand _ _ _ _ _ c.self.view_is c.self.invariant (c.if-is_full.ensures.below refl)
-    c.args.targets.now.value.items _ _ valid c.in_ok-after.ensures
+    c.args.targets.now.value.items _ _ (rw (c.deref.ensures, c.as_slice.ensures.value, c.deref-2.ensures) at c.in-Ok.ensures.valid) c.in_ok-after.ensures
     (rw (ap (λ x. x.items) c.in_ok-clone.ensures.cases) at c.after_demand.ensures) in
     rw (sym c.self.view_is) (λ harvester. (c.in_ok-sheet.ensures _ (passed harvester)).answers)

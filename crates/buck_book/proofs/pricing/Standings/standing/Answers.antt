@@ -1,4 +1,4 @@
-use Rattle.std.proofs.Common.{sym, ◌∙◌, subst, arith}
+use Rattle.std.proofs.Common.{sym, subst, arith, rules}
 use Rattle.std.proofs.lemmas.Option.{slice_get_within}
 use Rattle.buck_rule.specs.Standing.{IsInRange}
 use Rattle.buck_book.proofs.Standings.{section_class, section_below, section_stands, stands_in_range}
@@ -29,12 +29,7 @@ pub offset_bounds-self-inside-section : goal.offset_bounds-self-inside-section
 offset_bounds-self-inside-section c = omega (arith, bounds-self-inside-section c, c.self.told)
 
 pub returns-clause-standing : goal.returns-clause-standing
-returns-clause-standing c =
-    let section = rw (sym c.self.view_is) at c.requires.section in
-    rw (sym c.self.view_is)
-    (section_stands _ _ _ _ section c.requires.row c.requires.column c.self.invariant _ _ _ _ _
-    (c.from-base.ensures ∙ c.price.ensures) (c.from-limit.ensures ∙ c.limit.ensures.limit) c.from.ensures
-    c.from-2.ensures c.from-3.ensures)
+returns-clause-standing c = search (rules, section_stands)
 
 pub returns-clause-range : goal.returns-clause-range
 returns-clause-range c =

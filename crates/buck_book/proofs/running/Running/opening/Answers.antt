@@ -1,4 +1,4 @@
-use Rattle.std.proofs.Common.{◌≡◌, ◌∙◌, ap, arith}
+use Rattle.std.proofs.Common.{◌≡◌, arith, rules}
 use Rattle.buck_book.specs.Posting.{opening_targets}
 use Rattle.buck_book.proofs.Counting.{none_counted, none_low}
 use Rattle.buck_book.proofs.Wanted.{opening_valid}
@@ -9,8 +9,7 @@ pub returns : goal.returns
 returns c =
     let i = c.args.instruction.now in
     let v = c.in_ok-targets_at_opening.ensures.valid in
-    let wanted : c.in_ok-targets.targets.value.items ≡ opening_targets i = ap (λ x. x.items) c.in_ok-targets.ensures.ok
-    ∙ c.in_ok-targets_at_opening.ensures.targets in
+    let wanted : c.in_ok-targets.targets.value.items ≡ opening_targets i = search rules in
     rw (
       c.in_ok-by_class.ensures.items_if_clones_equal (λ y e. e),
       c.in_ok-by_assortment.ensures.items_if_clones_equal (λ y e. e),

@@ -1,5 +1,4 @@
-use Rattle.std.proofs.Common.{◌∙◌, ap}
-use Rattle.buck_value.specs.Sheet.{sheet_of}
+use Rattle.std.proofs.Common.{◌∙◌, ap, rules}
 use Rattle.buck_book.specs.inner.Running.{standings_of}
 use Rattle.buck_book.proofs.Standings.{is_sheet}
 use Rattle.buck_book.proofs.running.Running.sheet.Goals as goal
@@ -8,5 +7,4 @@ pub returns : goal.returns
 returns g c = λ ps told.
     is_sheet g.F.Fn _ _ ps c.args.self.now c.in_ok-prices.prices.items _ told
     (rw (c.standings.ensures ∙ ap (λ i. standings_of i c.args.self.now) c.deref.ensures) at c.in_ok-prices.ensures)
-    (c.in_ok-new.ensures.ok ∙ c.in-Ok.ensures.made
-    ∙ (λ j. sheet_of (c.version.ensures j) (c.in_ok-clone.ensures.cases j) c.in_ok-prices.prices.items))
+    (search rules)

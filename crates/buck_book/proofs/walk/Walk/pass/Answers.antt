@@ -1,10 +1,8 @@
-use Rattle.std.proofs.Common.{◌+◌, ◌==◌, cond, ◌∙◌, ap}
-use Rattle.buck_book.specs.inner.Walk.{calls_in}
+use Rattle.std.proofs.Common.{rules}
 use Rattle.buck_book.proofs.Walks.{walk_more}
 use Rattle.buck_book.proofs.walk.Walk.pass.Goals as goal
 
 pub invariant_of-result : goal.invariant_of-result
 invariant_of-result c =
     walk_more _ _ _ _ _ _ c.self.view_is c.self.invariant c.requires.next c.requires.instruction _ _ c.in_ok-after.ensures
-    (λ h. c.in_ok-count_call.ensures h
-    ∙ ap (λ x. calls_in c.self.inside.calls h + cond (x == h) 1 0) c.harvester.ensures)
+    (search rules)

@@ -1,17 +1,11 @@
-use Rattle.std.proofs.Common.{take, sym}
+use Rattle.std.proofs.Common.{take, sym, rules}
 use Rattle.std.proofs.lemmas.Option.{IfSome_then}
 use Rattle.buck_book.specs.inner.Running.{standings_of}
 use Rattle.buck_book.proofs.Relations.{all_met, is_wrong, weaken_none}
 use Rattle.buck_book.proofs.walk.Walk.wrong_price.Goals as goal
 
 pub returns-clause-found : goal.returns-clause-found
-returns-clause-found c =
-    let w = c.self.inside in
-    let t = c.self.invariant.tells in
-    rw (sym c.self.view_is)
-    (IfSome_then c.first_wrong.result c.first_wrong.ensures.found
-    (λ at found. is_wrong (standings_of w.instruction.now w.running) (take w.at w.postings.now) c.args.prices.now
-    t.targets_are t.counts_are at (rw c.standings.ensures at found)))
+returns-clause-found c = search (rules, IfSome_then, is_wrong)
 
 pub returns-clause-none : goal.returns-clause-none
 returns-clause-none c =
