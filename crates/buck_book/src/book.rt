@@ -1,5 +1,5 @@
 //! The book of one thread.
-ghost use Rattle.std.specs.Prelude.{◌≡◌, ℕ, ◌+◌, ◌-◌, ◌<◌, ◌≤◌, [], ◌∷◌, ◌++◌, false, All, IfOk, IfErr, IfSome, OnOk, IsTrue, ◌↔◌, length, map, slice_set, vec_len, vec_capacity};
+ghost use Rattle.std.specs.Prelude.{◌≡◌, ℕ, ◌+◌, ◌-◌, ◌<◌, ◌≤◌, [], ◌∷◌, ◌++◌, false, All, IfOk, IfErr, IfSome, OnOk, IsTrue, ◌↔◌, length, map, vec_len, vec_capacity};
 ghost use Rattle.std.specs.Option.{option_to_list, option_map};
 ghost use Rattle.buck_apt.specs.Instruction.{IsClass};
 ghost use Rattle.buck_rule.specs.Stored.{Answers};
@@ -85,28 +85,22 @@ fn add_sheet(sheets: &mut Vec<Arc<Sheet>>, next: Option<Arc<Sheet>>)
     }
 }
 
-/// Adds a posting to a book's lists, its number to the calls, and the next sheet, if there is one, where there is memory
-/// for both.
+/// Adds a posting to a book's lists, and the next sheet, if there is one, where there is memory for both.
 #[tactic(auto, using(crate::proofs::Books::values_added, crate::proofs::Books::prices_added))]
 fn add(
-    calls: &mut Vec<u32>,
     postings: &mut Vec<Posting>,
     sheets: &mut Vec<Arc<Sheet>>,
     posting: Posting,
     next: Option<Arc<Sheet>>,
 )
-    requires harvester { (0 < harvester_of posting) × (harvester_of posting ≤ vec_len calls.old) }
     requires room { vec_len postings.old < vec_capacity postings.old }
     requires sheet_room { IfSome next (λ _. vec_len sheets.old < vec_capacity sheets.old) }
-    ensures calls { calls.new.items ≡ slice_set calls.old.items (harvester_of posting - 1) (number_of posting) }
     ensures postings { postings.new.items ≡ postings.old.items ++ posting ∷ [] }
     ensures sheets { map (λ a. a.value) sheets.new.items
         ≡ map (λ a. a.value) sheets.old.items ++ option_to_list (option_map (λ a. a.value) next) }
     ensures prices { map (λ a. a.value.prices) sheets.new.items
         ≡ sheets_with (map (λ a. a.value.prices) sheets.old.items) (option_map (λ a. a.value) next) }
 {
-    let caller = posting.harvester() as usize - 1;
-    calls[caller] = posting.number();
     postings.push_reserved(posting);
     add_sheet(sheets, next);
 }
@@ -280,16 +274,11 @@ impl<F: Drop> Book<F> {
     {
         let number = self.calls(harvester) + 1;
         let version = self.version();
+        self.calls[(harvester - 1) as usize] = number;
         self.running.after_plan(&plan);
         let entry = plan.into_entry(harvester, number, version);
         let stored = Posting::Cut(entry.sharing(ready.stem, ready.cutting));
-        add(
-            &mut self.calls,
-            &mut self.postings,
-            &mut self.sheets,
-            stored,
-            ready.next,
-        );
+        add(&mut self.postings, &mut self.sheets, stored, ready.next);
         entry
     }
 
@@ -307,6 +296,7 @@ impl<F: Drop> Book<F> {
     {
         let number = self.calls(harvester) + 1;
         let version = self.version();
+        self.calls[(harvester - 1) as usize] = number;
         self.running.after_demand(ready.in_force);
         let demand = Demand {
             harvester,
@@ -316,13 +306,7 @@ impl<F: Drop> Book<F> {
         };
         let stored = Posting::Demand(demand.sharing(ready.stored));
         let next = Some(ready.next);
-        add(
-            &mut self.calls,
-            &mut self.postings,
-            &mut self.sheets,
-            stored,
-            next,
-        );
+        add(&mut self.postings, &mut self.sheets, stored, next);
         demand
     }
 }

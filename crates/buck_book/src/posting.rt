@@ -1,6 +1,6 @@
 //! Postings of a history: cuts and demands.
 ghost use Rattle.std.specs.Prelude.{◌≡◌, ◌↔◌, IfOk, IsTrue};
-ghost use Rattle.buck_book.specs.Posting.{harvester_of, number_of};
+ghost use Rattle.buck_book.specs.Posting.{harvester_of};
 
 use crate::entry::Entry;
 use buck_record::Memory;
@@ -86,16 +86,6 @@ impl Posting {
         match self {
             Posting::Cut(entry) => entry.harvester,
             Posting::Demand(demand) => demand.harvester,
-        }
-    }
-
-    /// Which of its harvester's calls it is, from 1.
-    pub(crate) fn number(&self) -> u32
-        ensures { result ≡ number_of self.now }
-    {
-        match self {
-            Posting::Cut(entry) => entry.number,
-            Posting::Demand(demand) => demand.number,
         }
     }
 

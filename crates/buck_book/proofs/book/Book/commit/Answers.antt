@@ -12,7 +12,6 @@ invariant_of-self g c =
     let version = rw (sym c.self.view_is) at c.version-version.ensures.version in
     let made = c.into_entry-entry.ensures in
     rw (
-      c.add.ensures.calls,
       c.add.ensures.postings,
       c.add.ensures.sheets,
       c.add.ensures.prices,

@@ -11,7 +11,6 @@ invariant_of-self g c =
     let number = ap (λ n. n + 1) (rw (sym c.self.view_is) at c.calls-number.ensures) in
     let version = rw (sym c.self.view_is) at c.version-version.ensures.version in
     rw (
-      c.add.ensures.calls,
       c.add.ensures.postings,
       c.add.ensures.sheets,
       c.add.ensures.prices,
