@@ -135,11 +135,7 @@ module _ (i : InstructionParts) (sheets : List (List ℕ)) (es : List EntryParts
   counted : (k : ℕ) → k ≤ length es
       → (ends_of i (take k (map Cut es)) * i.period + cuts_since_end i (take k (map Cut es)) ≡ k)
       × (cuts_since_end i (take k (map Cut es)) < i.period)
-  counted k le =
-      rw take-map (
-        spread i.period 0 (take k es) ∙ omega (arith, length-take-le k es le),
-        cuts_low i.period 0 (map Cut (take k es)) v.period_range.0 v.period_range.0,
-      )
+  counted k le = grind (arith, take-map, spread, length-take-le, cuts_low)
 
   -- the sheet of a version comes after so many full periods
   sheets_alone : IsLawful (alone.history_of i sheets es) → (w : ℕ) → w < length sheets

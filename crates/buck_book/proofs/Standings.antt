@@ -1,5 +1,5 @@
 -- How classes stand, and the prices that are answered to that.
-use Rattle.std.proofs.Common.{refl, ◌≡◌, ℕ, ◌+◌, ◌*◌, ◌<◌, ◌≤◌, inl, inr, List, [], ◌∷◌, ◌++◌, length, take, get_or, slice_index, slice_get, Some, sym, ◌∙◌, ap, subst, arith, mul-le-mul_left, rules}
+use Rattle.std.proofs.Common.{◌≡◌, ℕ, ◌+◌, ◌*◌, ◌<◌, ◌≤◌, inl, inr, List, [], ◌∷◌, ◌++◌, length, take, get_or, slice_index, slice_get, Some, sym, ◌∙◌, ap, subst, arith, mul-le-mul_left, rules}
 use Rattle.std.proofs.lemmas.Grind.{common_steps}
 use Rattle.std.specs.List.{flat_map}
 use Rattle.std.proofs.lemmas.Bool.{cases_lt}
@@ -166,15 +166,7 @@ pub is_sheet : {F : Type 0} (g : Shared F (Bor Standing × Unit {0}) ℕ) (f : F
     (n : RunningParts) (prices : List ℕ) (s : SheetParts) → Tells i ps n
     → ArePriced g f (standings_of i n) prices (classes i) → s ≡ sheet_of n.version i prices → IsSheetAfter g f i ps s
 is_sheet g f i ps n prices s told priced made =
-    let answered : (c : Class) (k : IsClass i c)
-    → IsAnswer g f (standing_of i k.assortment c ps) (slice_index prices (index_of i c)) =
-    grind (arith, standing_is, place_lt) in
-    rw made (record {
-      version_is = told.version_is;
-      same_instruction = refl;
-      prices_meet = record { one_each = priced.number_is; each_meets = λ c k. (answered c k).met };
-      answers = λ c k. (answered c k).given;
-    })
+    grind (arith, standing_is, place_lt, told.version_is, priced.number_is)
 
 -- prices within their spans, one for each class, make a sheet
 pub no_fault : (i : InstructionParts) (prices : List ℕ) (fault : SheetFault) → length prices ≡ classes i

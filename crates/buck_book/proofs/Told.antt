@@ -1,5 +1,5 @@
 -- What some postings add up to, one posting on.
-use Rattle.std.proofs.Common.{◌≡◌, ℕ, ◌+◌, ◌<◌, ◌≤◌, ◌==◌, cond, List, [], ◌∷◌, ◌++◌, length, subst, arith, rules}
+use Rattle.std.proofs.Common.{◌≡◌, ℕ, ◌+◌, ◌<◌, ◌≤◌, ◌==◌, cond, List, [], ◌∷◌, ◌++◌, length, arith, rules}
 use Rattle.std.proofs.lemmas.Grind.{common_steps}
 use Rattle.std.proofs.lemmas.List.{length_push}
 use Rattle.std.proofs.lemmas.List.Sums.{sum_by_push, count_by-le-length}
@@ -41,32 +41,23 @@ module _ (i : InstructionParts) (ps : List Posting) (n : RunningParts) (t : Tell
       → Tells i (ps ++ Cut e ∷ [])
       (record n { cuts = cuts'; version = version'; by_class = by_class'; by_assortment = by_assortment' })
   tells_cut e by_class' by_assortment' cuts' version' few s cut classes_grown assortments_grown cut_is ended =
-      let logs : length e.logs ≤ 80 = few_logs i e.stem e.logs t.valid s cut in
-      record {
-        valid = t.valid;
-        few = grind (arith, length_push);
-        targets_are = grind (arith, targets-append);
-        targets_valid = t.targets_valid;
-        cuts_are = grind (arith, cuts-append);
-        version_is = grind (arith, ends-append);
-        counts_are = search (rules, tallied, sum_by_push);
-        counts_low = grind (arith, length_push, count_by-le-length, logs);
-      }
+      search (
+        rules,
+        few_logs,
+        length_push,
+        targets-append,
+        cuts-append,
+        ends-append,
+        tallied,
+        sum_by_push,
+        count_by-le-length,
+      )
 
   pub tells_demand : (d : DemandParts) (targets' : List ℕ) (version' : ℕ)
       → length ps < 1000000 → AreTargets i d.targets → d.targets ≡ targets' → version' ≡ n.version + 1
       → Tells i (ps ++ Demand d ∷ []) (record n { targets = targets'; cuts = 0; version = version' })
   tells_demand d targets' version' few valid same ended =
-      record {
-        valid = t.valid;
-        few = grind (arith, length_push);
-        targets_are = grind (arith, targets-append);
-        targets_valid = subst (λ ts. AreTargets i ts) same valid;
-        cuts_are = grind (arith, cuts-append);
-        version_is = grind (arith, ends-append);
-        counts_are = grind (arith, sum_by_push);
-        counts_low = grind (arith, length_push);
-      }
+      grind (arith, length_push, targets-append, cuts-append, ends-append, sum_by_push)
 
 -- before the first posting
 pub tells_opening : (i : InstructionParts) (targets by_class by_assortment : List ℕ)
