@@ -1,11 +1,10 @@
 -- Items that were written are read again as what was written.
-use Rattle.std.proofs.Common.{◌≡◌, ℕ, ◌+◌, ◌*◌, ◌<◌, ◌≤◌, true, List, [], ◌∷◌, ◌++◌, Ok, length, map, refl, ap, subst, arith, codes}
+use Rattle.std.proofs.Common.{◌≡◌, ℕ, ◌+◌, ◌*◌, ◌%◌, ◌≤◌, true, List, [], ◌∷◌, ◌++◌, Ok, length, map, refl, ap, arith, codes, eq-eqb}
 use Rattle.std.specs.List.{AllByRecursion, flat_map}
+use Rattle.std.proofs.lemmas.Bool.{le-leb, and_from}
 use Rattle.std.proofs.lemmas.Bool.Decides.{nat_tests}
 use Rattle.buck_record.specs.Item.{ItemParts}
-use Rattle.buck_record.specs.declared.slot.Slot.{Slot}
-use Rattle.buck_record.specs.pass.Cursor.{item_in}
-use Rattle.buck_record.specs.checking.Rules.{slot, within, all_within}
+use Rattle.buck_record.specs.checking.Rules.{within, all_within}
 use Rattle.buck_record.proofs.PassLemmas.{both, within_ok}
 use Rattle.buck_apt.specs.declared.slots.TheConstants.{TARGETS}
 use Rattle.buck_stem.specs.declared.file.slots.TheConstants.{SPECIES, SAMPLES, MOST_ZONES}
@@ -13,14 +12,13 @@ use Rattle.buck_stem.specs.file.Stm.{zones_of}
 use Rattle.buck_value.specs.declared.log.Log.{Log}
 use Rattle.buck_book.specs.declared.posting.Posting.{Posting}
 use Rattle.buck_book.specs.declared.posting.Posting.TheVariants.{Cut, Demand}
-use Rattle.buck_book.specs.Entry.{EntryParts, DemandParts}
 use Rattle.buck_journal.specs.declared.reading.call.Call.{Call}
-use Rattle.buck_journal.specs.reading.Journal.{list_at, sheet_at, is_call, call_at, is_zone, are_zones, zones_at, is_log, are_logs, logs_of, logs_at, targets_at, journal_in}
+use Rattle.buck_journal.specs.reading.Journal.{says, list_form, is_call, is_zone, are_zones, zones_form, is_log, are_logs, logs_of, logs_form, journal_in}
 use Rattle.buck_journal.specs.Written.{zone_numbers, log_numbers}
-use Rattle.buck_journal.specs.Ranges.{AreSheetPrices, call_of_cut, call_of_demand, IsCutInRange, IsDemandInRange, IsInRange}
-use Rattle.buck_journal.specs.inner.Plain.{IsReadAs, ArePostings, AreParts}
+use Rattle.buck_journal.specs.Ranges.{AreSheetPrices, call_of_cut, call_of_demand, IsInRange}
+use Rattle.buck_journal.specs.inner.Plain.{AreReadAs, AreSheets}
 use Rattle.buck_journal.proofs.Lines.{told, numbers_told, worth_told, kind_item}
-use Rattle.buck_journal.proofs.OnePass.{call_read, list_read, head_read, samples_read, zones_read, logs_read, worth_read, IsReadWith, cut_read, demand_read, posting_postings, no_postings, sheet_parts, postings_alone, in_order}
+use Rattle.buck_journal.proofs.OnePass.{cut_read, demand_read, nothing_read, both_read, sheet_read, both_sheets, in_order}
 
 -- an item of numbers
 abbrev pub made : ℕ → ℕ → List ℕ → ItemParts
@@ -37,17 +35,6 @@ in_small low high (n ∷ ns) le h =
 pub call_small : (c : Call) → is_call c ≡ true
     → AllByRecursion (λ n. n ≤ 4294967295) (c.harvester ∷ c.number ∷ c.version ∷ [])
 call_small c h = (grind (arith, nat_tests), (grind (arith, nat_tests), (grind (arith, nat_tests), tt)))
-
-call_again : (s : Slot) (c : Call) → is_call c ≡ true → (before : ℕ) → before < 1000000
-    → IsReadAs (λ items k. call_at s items k before) (item_in s (told (c.harvester ∷ c.number ∷ c.version ∷ []))) c
-call_again s c range =
-    call_read s (told (c.harvester ∷ c.number ∷ c.version ∷ [])) (c.harvester ∷ c.number ∷ c.version ∷ [])
-    (numbers_told _ (call_small c range)) refl range
-
-list_again : (s : Slot) (low high : ℕ) (ns : List ℕ) → high ≤ 4294967295 → length ns ≤ 16384
-    → all_within low high ns ≡ true → IsReadAs (list_at s low high) (item_in s (told ns)) ns
-list_again s low high ns le few range =
-    list_read s low high (told ns) ns (numbers_told ns (in_small low high ns le range)) few range
 
 -- zones and their numbers
 pub zones_back : (zones : List (ℕ × ℕ)) → zones_of (zone_numbers zones) ≡ zones
@@ -83,87 +70,67 @@ logs_small (g ∷ gs) h =
     let range = p.0 in
     (grind (arith, nat_tests), (grind (arith, nat_tests), (grind (arith, nat_tests), logs_small gs p.1)))
 
-zones_again : (zones : List (ℕ × ℕ)) → length zones ≤ MOST_ZONES → are_zones 0 (zone_numbers zones) ≡ true
-    → IsReadAs zones_at (made 981 4 (zone_numbers zones)) zones
-zones_again zones number range =
-    let long = zones_length zones in
-    subst (λ zs. IsReadAs zones_at (made 981 4 (zone_numbers zones)) zs) (zones_back zones)
-    (zones_read (told (zone_numbers zones)) (zone_numbers zones) (numbers_told _ (zones_small 0 zones range))
-    (omega arith) (omega arith) range)
-
-logs_again : (logs : List Log) → length logs ≤ 80 → are_logs (log_numbers logs) ≡ true
-    → IsReadAs logs_at (made 981 5 (log_numbers logs)) logs
-logs_again logs number range =
-    let long = logs_length logs in
-    subst (λ gs. IsReadAs logs_at (made 981 5 (log_numbers logs)) gs) (logs_back logs)
-    (logs_read (told (log_numbers logs)) (log_numbers logs) (numbers_told _ (logs_small logs range)) (omega arith)
-    (omega arith) range)
-
-abbrev first_item : Posting → ItemParts
-first_item (Cut e) = made 981 1 (e.harvester ∷ e.number ∷ e.version ∷ [])
-first_item (Demand d) = made 982 1 (d.harvester ∷ d.number ∷ d.version ∷ [])
-
-abbrev other_items : Posting → List ItemParts
-other_items (Cut e) =
-    made 981 2 (e.stem.number ∷ e.stem.species ∷ []) ∷ made 981 3 e.stem.samples
-    ∷ made 981 4 (zone_numbers e.stem.zones)
-    ∷ made 981 5 (log_numbers e.logs) ∷ made 981 6 (e.worth ∷ []) ∷ []
-other_items (Demand d) = made 982 2 d.targets ∷ []
-
 abbrev pub posting_items : Posting → List ItemParts
-posting_items p = first_item p ∷ other_items p
+posting_items (Cut e) =
+    made 981 1 (e.harvester ∷ e.number ∷ e.version ∷ []) ∷ made 981 2 (e.stem.number ∷ e.stem.species ∷ [])
+    ∷ made 981 3 e.stem.samples ∷ made 981 4 (zone_numbers e.stem.zones) ∷ made 981 5 (log_numbers e.logs)
+    ∷ made 981 6 (e.worth ∷ []) ∷ []
+posting_items (Demand d) =
+    made 982 1 (d.harvester ∷ d.number ∷ d.version ∷ []) ∷ made 982 2 d.targets ∷ []
+
+-- what was written is said
+zones_said : (zones : List (ℕ × ℕ)) → length zones ≤ MOST_ZONES → are_zones 0 (zone_numbers zones) ≡ true
+    → says zones_form 1 (zone_numbers zones) ≡ Ok zones
+zones_said zones few range =
+    let long = zones_length zones in
+    rw (and_from _ _ (eq-eqb (length (zone_numbers zones) % 2) 0 (omega arith)) (le-leb (length (zone_numbers zones)) (2 * MOST_ZONES) (omega arith)), range, zones_back zones) refl
+
+logs_said : (logs : List Log) → length logs ≤ 80 → are_logs (log_numbers logs) ≡ true
+    → says logs_form 1 (log_numbers logs) ≡ Ok logs
+logs_said logs few range =
+    let long = logs_length logs in
+    rw (and_from _ _ (eq-eqb (length (log_numbers logs) % 3) 0 (omega arith)) (le-leb (length (log_numbers logs)) 240 (omega arith)), range, logs_back logs) refl
+
+list_said : (low high : ℕ) (ns : List ℕ) → length ns ≤ 16384 → all_within low high ns ≡ true
+    → says (list_form low high) 1 ns ≡ Ok ns
+list_said low high ns few range = rw (le-leb (length ns) 16384 few, range) refl
 
 -- the items of a posting are read as it
-module _ (before : ℕ) (few : before < 1000000) where
-  cut_again : (e : EntryParts) → IsCutInRange e → IsReadWith before (Cut e) (first_item (Cut e)) (other_items (Cut e))
-  cut_again e r =
-      cut_read before (call_of_cut e) e.stem e.logs e.worth (told (e.harvester ∷ e.number ∷ e.version ∷ []))
-      (told (e.stem.number ∷ e.stem.species ∷ [])) (told e.stem.samples) (told (zone_numbers e.stem.zones))
-      (told (log_numbers e.logs)) (told (e.worth ∷ []))
-      (call_again (slot 981 1) (call_of_cut e) r.call before few)
-      (head_read _ (e.stem.number ∷ e.stem.species ∷ [])
-      (numbers_told _ (
-        r.stem_number,
-        ((let h = within_ok SPECIES.low SPECIES.high e.stem.species r.species in omega (arith, h.1)), tt),
-      ))
-      refl r.species)
-      (samples_read _ e.stem.samples
-      (numbers_told _ (in_small SAMPLES.low SAMPLES.high e.stem.samples (omega arith) r.samples_range))
-      r.samples_number r.samples_range)
-      (zones_again e.stem.zones r.zones_number r.zones_range)
-      (logs_again e.logs r.logs_number r.logs_range)
-      (worth_read _ e.worth (worth_told e.worth r.worth))
+posting_again : (p : Posting) → IsInRange p → AreReadAs (posting_items p) (p ∷ [])
+posting_again (Cut e) r =
+    cut_read (call_of_cut e) (e.stem.number, e.stem.species) e.stem.samples e.stem.zones e.logs e.worth _ _ _ _ _ _
+    (e.harvester ∷ e.number ∷ e.version ∷ []) (e.stem.number ∷ e.stem.species ∷ []) e.stem.samples
+    (zone_numbers e.stem.zones) (log_numbers e.logs)
+    (numbers_told _ (call_small (call_of_cut e) r.call)) (rw r.call refl)
+    (numbers_told _ (
+      r.stem_number,
+      ((let h = within_ok SPECIES.low SPECIES.high e.stem.species r.species in omega (arith, h.1)), tt),
+    )) (rw r.species refl)
+    (numbers_told _ (in_small SAMPLES.low SAMPLES.high e.stem.samples (omega arith) r.samples_range))
+    (rw (r.samples_number, r.samples_range) refl)
+    (numbers_told _ (zones_small 0 e.stem.zones r.zones_range)) (zones_said e.stem.zones r.zones_number r.zones_range)
+    (numbers_told _ (logs_small e.logs r.logs_range)) (logs_said e.logs r.logs_number r.logs_range)
+    (worth_told e.worth r.worth)
+posting_again (Demand d) r =
+    demand_read (call_of_demand d) d.targets _ _ (d.harvester ∷ d.number ∷ d.version ∷ []) d.targets
+    (numbers_told _ (call_small (call_of_demand d) r.call)) (rw r.call refl)
+    (numbers_told _ (in_small TARGETS.low TARGETS.high d.targets (omega arith) r.targets_range))
+    (list_said TARGETS.low TARGETS.high d.targets r.targets_number r.targets_range)
 
-  demand_again : (d : DemandParts) → IsDemandInRange d
-      → IsReadWith before (Demand d) (first_item (Demand d)) (other_items (Demand d))
-  unfolding targets_at
-  demand_again d r =
-      demand_read before (call_of_demand d) d.targets (told (d.harvester ∷ d.number ∷ d.version ∷ [])) (told d.targets)
-      (call_again (slot 982 1) (call_of_demand d) r.call before few)
-      (list_again (slot 982 2) TARGETS.low TARGETS.high d.targets (omega arith) r.targets_number r.targets_range)
-
-  posting_again : (p : Posting) → IsInRange p → IsReadWith before p (first_item p) (other_items p)
-  posting_again (Cut e) r = cut_again e r
-  posting_again (Demand d) r = demand_again d r
-
-postings_again : (before : ℕ) (ps : List Posting) → AllByRecursion IsInRange ps → before + length ps ≤ 1000000
-    → ArePostings before (flat_map posting_items ps) ps
-postings_again before [] r few = no_postings before
-postings_again before (p ∷ ps) r few =
-    posting_postings before p (first_item p) (other_items p) (flat_map posting_items ps) ps
-    (posting_again before (omega arith) p r.0) (postings_again (before + 1) ps r.1 (omega arith))
+postings_again : (ps : List Posting) → AllByRecursion IsInRange ps → AreReadAs (flat_map posting_items ps) ps
+postings_again [] r = nothing_read
+postings_again (p ∷ ps) r =
+    both_read (posting_items p) (flat_map posting_items ps) (p ∷ []) ps (posting_again p r.0) (postings_again ps r.1)
 
 abbrev pub sheet_item : List ℕ → ItemParts
 sheet_item prices = made 971 1 prices
 
-parts_again : (pss : List (List ℕ)) (ps : List Posting) → AllByRecursion AreSheetPrices pss
-    → AllByRecursion IsInRange ps → length ps ≤ 1000000
-    → AreParts (map sheet_item pss ++ flat_map posting_items ps) pss ps
-unfolding sheet_at
-parts_again [] ps r q few = postings_alone (flat_map posting_items ps) ps (postings_again 0 ps q (omega arith))
-parts_again (prices ∷ pss) ps r q few =
-    sheet_parts (told prices) prices (map sheet_item pss ++ flat_map posting_items ps) pss ps
-    (list_again (slot 971 1) 0 20000000 prices (omega arith) r.0.number r.0.range) (parts_again pss ps r.1 q few)
+sheets_again : (pss : List (List ℕ)) → AllByRecursion AreSheetPrices pss → AreSheets (map sheet_item pss) pss
+sheets_again [] r = λ more others ps h. h
+sheets_again (prices ∷ pss) r =
+    both_sheets (sheet_item prices ∷ []) (map sheet_item pss) (prices ∷ []) pss
+    (sheet_read (told prices) prices prices (numbers_told _ (in_small 0 20000000 prices (omega arith) r.0.range))
+    (list_said 0 20000000 prices r.0.number r.0.range)) (sheets_again pss r.1)
 
 -- the journal of items that were written
 pub journal_again : (pss : List (List ℕ)) (ps : List Posting) → AllByRecursion AreSheetPrices pss
@@ -171,4 +138,5 @@ pub journal_again : (pss : List (List ℕ)) (ps : List Posting) → AllByRecursi
     → journal_in (kind_item ∷ (map sheet_item pss ++ flat_map posting_items ps))
     ≡ Ok (record { sheets = pss; entries = ps })
 journal_again pss ps r q few =
-    in_order (codes "JRN") (map sheet_item pss ++ flat_map posting_items ps) pss ps refl (parts_again pss ps r q few)
+    in_order (codes "JRN") (map sheet_item pss) (flat_map posting_items ps) pss ps refl (sheets_again pss r)
+    (postings_again ps q) few

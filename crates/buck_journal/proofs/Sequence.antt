@@ -1,8 +1,12 @@
 -- How many items a journal has.
-use Rattle.std.proofs.Common.{◌≡◌, ℕ, zero, suc, ◌+◌, Bool, true, false, List, [], ◌∷◌, Option, Some, None, Result, Ok, Err, inl, inr, length, drop, slice_get, sum_by, refl, sym, ap, ◌∙◌, subst, arith}
+use Rattle.std.proofs.Common.{◌≡◌, ℕ, zero, suc, ◌+◌, ◌<◌, Bool, true, false, List, [], ◌∷◌, Option, Some, None, Result, Ok, Err, inl, inr, length, drop, slice_get, sum_by, refl, sym, ap, ◌∙◌, subst, arith}
 use Rattle.std.proofs.lemmas.Grind.{common_steps}
 use Rattle.std.specs.Prelude.{if◌then◌else◌}
 use Rattle.std.proofs.lemmas.Bool.{cases_Bool}
+use Rattle.std.proofs.lemmas.Option.{same_Some}
+use Rattle.buck_record.specs.Reading.{with_fault}
+use Rattle.buck_apt.specs.declared.slots.TheConstants.{TARGETS}
+use Rattle.buck_value.specs.declared.log.Log.{Log}
 use Rattle.std.proofs.lemmas.List.Sums.{sum_by-cons}
 use Rattle.buck_record.specs.Item.{ItemParts}
 use Rattle.buck_record.specs.checking.Check.{◌>>=◌}
@@ -13,10 +17,12 @@ use Rattle.buck_record.proofs.PassLemmas.{both, check_ok}
 use Rattle.buck_book.specs.declared.posting.Posting.{Posting}
 use Rattle.buck_journal.specs.declared.reading.fault.JournalFault.{JournalFault}
 use Rattle.buck_journal.specs.declared.reading.fault.JournalFault.TheVariants.{Shape}
-use Rattle.buck_journal.specs.reading.Journal.{JournalParts, wanted, rest_at, numbers_at, sheet_at, call_at, head_at, samples_at, zones_at, stem_at, logs_at, worth_at, targets_at, is_first, follows, posting_follows, cut_at, demand_at, posting_at, sheets_from, postings_from, says_journal, journal_in, journal_of, number_of_items}
-use Rattle.buck_journal.specs.inner.Plain.{Stands, begins}
-use Rattle.buck_journal.proofs.OnePass.{ok_of, next_stands, first_stands}
-use Rattle.buck_journal.proofs.Alone.{stands_rest}
+use Rattle.buck_journal.specs.reading.Journal.{JournalParts, Form, says, wanted, numbers_at, item_at, list_form, sheet_at, call_at, head_form, samples_form, zones_form, stem_at, logs_form, worth_at, is_first, follows, cut_at, demand_at, posting_at, sheets_from, postings_from, says_journal, journal_in, journal_of, number_of_items}
+use Rattle.buck_journal.specs.inner.Plain.{begins}
+
+ok_of : {X E : Type 0} (fault : ℕ → E) (r : Result X ℕ) (x : X) → with_fault fault r ≡ Ok x → r ≡ Ok x
+ok_of fault (Ok y) x h = cc
+ok_of fault (Err e) x h = cc
 
 -- a step that passed
 step_ok : {A B E : Type 0} (r : Result A E) (f : A → Result B E) (y : B) → (r >>= f) ≡ Ok y
@@ -35,9 +41,9 @@ else_of : {A : Type 0} (b : Bool) (p q y : A) → b ≡ false → (if b then p e
 else_of true p q y is h = cc
 else_of false p q y is h = h
 
--- an item stands at a place, and begins no posting
-abbrev Inside : List ItemParts → ℕ → Type 0
-Inside items k = (x : ItemParts) × (slice_get items k ≡ Some x) × (is_first x ≡ false)
+-- an item is there, and begins no posting
+abbrev Inside : Option ItemParts → Type 0
+Inside o = (x : ItemParts) × (o ≡ Some x) × (is_first x ≡ false)
 
 other_kind : (number kind : ℕ) (x : ItemParts) → (kind ≡ 1 → ⊥) → is_at (slot number kind) x ≡ true → is_first x ≡ false
 other_kind number kind x other h = grind (arith, common_steps)
@@ -47,28 +53,20 @@ wanted_right : (b : Bool) (rest read : List ℕ) (fault : JournalFault) → (if 
 wanted_right true rest read fault h = refl
 wanted_right false rest read fault h = cc
 
-wanted_inside : (number kind : ℕ) (items : List ItemParts) (k place : ℕ) (o : Option ItemParts) (read : List ℕ)
-    → (kind ≡ 1 → ⊥) → slice_get items k ≡ o → wanted (slot number kind) place o ≡ Ok read → Inside items k
-wanted_inside number kind items k place o read other at h = grind (arith, other_kind, wanted_right)
+module _ (number kind place : ℕ) (o : Option ItemParts) (other : kind ≡ 1 → ⊥) where
+  wanted_inside : (read : List ℕ) → wanted (slot number kind) place o ≡ Ok read → Inside o
+  wanted_inside read h = grind (arith, other_kind, wanted_right)
 
-module _ (items : List ItemParts) (k : ℕ) where
-  rest_inside : (number kind : ℕ) (read : List ℕ) → (kind ≡ 1 → ⊥) → rest_at (slot number kind) items k ≡ Ok read
-      → Inside items k
-  unfolding rest_at
-  rest_inside number kind read other h = wanted_inside number kind items k (k + 1) (slice_get items k) read other refl h
+  item_inside : {A : Type 0} (form : Form A) (x : A) → item_at (slot number kind) form place o ≡ Ok x → Inside o
+  unfolding item_at numbers_at
+  item_inside form x h =
+      let numbers = step_ok (numbers_at (slot number kind) place o) (says form place) x h in
+      wanted_inside _ (step_ok (wanted (slot number kind) place o) _ _ numbers.1).1
 
-  numbers_inside : (number kind : ℕ) (ns : List ℕ) → (kind ≡ 1 → ⊥) → numbers_at (slot number kind) items k ≡ Ok ns
-      → Inside items k
-  unfolding numbers_at
-  numbers_inside number kind ns other h = grind (arith, step_ok, rest_inside)
-
-  by_numbers : {A : Type 0} (number kind : ℕ) (f : List ℕ → Result A JournalFault) (x : A) → (kind ≡ 1 → ⊥)
-      → (numbers_at (slot number kind) items k >>= f) ≡ Ok x → Inside items k
-  by_numbers number kind f x other h = grind (arith, step_ok, numbers_inside)
-
-  worth_inside : (worth : ℕ) → worth_at items k ≡ Ok worth → Inside items k
-  unfolding worth_at
-  worth_inside worth h = grind (arith, step_ok, rest_inside)
+worth_inside : (place : ℕ) (o : Option ItemParts) (worth : ℕ) → worth_at place o ≡ Ok worth → Inside o
+unfolding worth_at
+worth_inside place o worth h =
+    wanted_inside 981 6 place o (λ e. omega arith) _ (step_ok (wanted (slot 981 6) place o) _ worth h).1
 
 -- so many items are those of a posting that began before, and after them comes the next one, or the end
 abbrev Owes : ℕ → List ItemParts → Type 0
@@ -76,125 +74,123 @@ Owes zero rest = begins rest ≡ true
 Owes (suc n) [] = ⊥
 Owes (suc n) (x ∷ more) = (is_first x ≡ false) × Owes n more
 
-module _ (items : List ItemParts) where
-  owes_one : (k j n : ℕ) (rest : List ItemParts) → j ≡ k → Inside items j → Stands items k rest
-      → ((more : List ItemParts) → Stands items (k + 1) more → Owes n more) → Owes (suc n) rest
-  owes_one k j n [] is inside at later =
-      let none : slice_get items k ≡ None = first_stands items k [] at in
-      let some : slice_get items k ≡ Some inside.0 = ap (slice_get items) (sym is) ∙ inside.1 in
-      cc
-  owes_one k j n (x ∷ more) is inside at later =
-      let here : slice_get items k ≡ Some x = first_stands items k (x ∷ more) at in
-      let there : slice_get items k ≡ Some inside.0 = ap (slice_get items) (sym is) ∙ inside.1 in
-      let same : x ≡ inside.0 = cc in
-      (ap is_first same ∙ inside.2, later more (next_stands items k x more at))
+then_begins : (n place : ℕ) (rest : List ItemParts) → follows place (slice_get rest n) ≡ Ok tt
+    → begins (drop n rest) ≡ true
+then_begins zero place [] h = refl
+then_begins zero place (x ∷ more) h = check_ok (is_first x) (Shape place) h
+then_begins (suc n) place [] h = refl
+then_begins (suc n) place (x ∷ more) h = then_begins n place more h
 
-  owes_none : (k j : ℕ) (rest : List ItemParts) → j ≡ k → posting_follows items j ≡ Ok tt → Stands items k rest
-      → Owes 0 rest
-  unfolding posting_follows
-  owes_none k j [] is h at = refl
-  owes_none k j (x ∷ more) is h at =
-      let here : slice_get items j ≡ Some x = ap (slice_get items) is ∙ first_stands items k (x ∷ more) at in
-      check_ok (is_first x) (Shape (j + 1)) (sym (ap (follows (j + 1)) here) ∙ h)
+owes : (n : ℕ) (rest : List ItemParts) → ((j : ℕ) → j < n → Inside (slice_get rest j))
+    → begins (drop n rest) ≡ true → Owes n rest
+owes zero rest inside end = end
+owes (suc n) [] inside end = let i = inside 0 (omega arith) in let no_ = i.1 in cc
+owes (suc n) (x ∷ more) inside end =
+    let i = inside 0 (omega arith) in
+    let same : x ≡ i.0 = same_Some x i.0 i.1 in
+    (ap is_first same ∙ i.2, owes n more (λ j lt. inside (suc j) (omega (arith, lt))) end)
 
-  cut_owes : (k before : ℕ) (p : Posting) (more : List ItemParts) → cut_at items k before ≡ Ok p
-      → Stands items (k + 1) more
-      → (number_of_items p ≡ 6) × Owes 5 more
-  unfolding cut_at stem_at head_at samples_at zones_at logs_at
-  cut_owes k before p more h at =
-      let a = step_ok (call_at (slot 981 1) items k before) _ p h in
-      let b = step_ok (stem_at items (k + 1)) _ p a.2 in
-      let c = step_ok (logs_at items (k + 4)) _ p b.2 in
-      let d = step_ok (worth_at items (k + 5)) _ p c.2 in
-      let e = step_ok (posting_follows items (k + 6)) _ p d.2 in
-      let s = step_ok (head_at items (k + 1)) _ b.0 b.1 in
-      let t = step_ok (samples_at items (k + 1 + 1)) _ b.0 s.2 in
-      let u = step_ok (zones_at items (k + 1 + 2)) _ b.0 t.2 in (
-        ap number_of_items (sym (ok_same _ p e.2)),
-        owes_one (k + 1) (k + 1) 4 more refl (by_numbers items (k + 1) 981 2 _ s.0 (λ e. omega arith) s.1) at (λ m n.
-            owes_one (k + 1 + 1) (k + 1 + 1) 3 m refl (by_numbers items (k + 1 + 1) 981 3 _ t.0 (λ e. omega arith) t.1)
-            n (λ m n.
-            owes_one (k + 1 + 1 + 1) (k + 1 + 2) 2 m (omega arith)
-            (by_numbers items (k + 1 + 2) 981 4 _ u.0 (λ e. omega arith) u.1) n (λ m n.
-            owes_one (k + 1 + 1 + 1 + 1) (k + 4) 1 m (omega arith)
-            (by_numbers items (k + 4) 981 5 _ c.0 (λ e. omega arith) c.1) n (λ m n.
-            owes_one (k + 1 + 1 + 1 + 1 + 1) (k + 5) 0 m (omega arith) (worth_inside items (k + 5) d.0 d.1) n (λ m n.
-            owes_none (k + 1 + 1 + 1 + 1 + 1 + 1) (k + 6) m (omega arith) e.1 n))))),
-      )
+cut_owes : (x : ItemParts) (more : List ItemParts) (k before : ℕ) (p : Posting)
+    → cut_at (x ∷ more) k before ≡ Ok p → (number_of_items p ≡ 6) × Owes 5 more
+unfolding cut_at stem_at
+cut_owes x more k before p h =
+    let a = step_ok (call_at (slot 981 1) before (k + 1) (Some x)) _ p h in
+    let b = step_ok (stem_at (x ∷ more) k) _ p a.2 in
+    let c = step_ok (item_at (slot 981 5) logs_form (k + 5) (slice_get more 3)) _ p b.2 in
+    let d = step_ok (worth_at (k + 6) (slice_get more 4)) _ p c.2 in
+    let e = step_ok (follows (k + 7) (slice_get more 5)) _ p d.2 in
+    let s = step_ok (item_at (slot 981 2) head_form (k + 2) (slice_get more 0)) _ b.0 b.1 in
+    let t = step_ok (item_at (slot 981 3) samples_form (k + 3) (slice_get more 1)) _ b.0 s.2 in
+    let u = step_ok (item_at (slot 981 4) zones_form (k + 4) (slice_get more 2)) _ b.0 t.2 in (
+      ap number_of_items (sym (ok_same _ p e.2)),
+      owes 5 more (below s.0 s.1 t.0 t.1 u.0 u.1 c.0 c.1 d.0 d.1)
+          (then_begins 5 (k + 7) more e.1),
+    )
+  where
+    below : (s : ℕ × ℕ) → item_at (slot 981 2) head_form (k + 2) (slice_get more 0) ≡ Ok s
+        → (t : List ℕ) → item_at (slot 981 3) samples_form (k + 3) (slice_get more 1) ≡ Ok t
+        → (u : List (ℕ × ℕ)) → item_at (slot 981 4) zones_form (k + 4) (slice_get more 2) ≡ Ok u
+        → (v : List Log) → item_at (slot 981 5) logs_form (k + 5) (slice_get more 3) ≡ Ok v
+        → (w : ℕ) → worth_at (k + 6) (slice_get more 4) ≡ Ok w
+        → (j : ℕ) → j < 5 → Inside (slice_get more j)
+    below s s' t t' u u' v v' w w' zero lt = item_inside 981 2 (k + 2) _ (λ e. omega arith) head_form s s'
+    below s s' t t' u u' v v' w w' (suc zero) lt = item_inside 981 3 (k + 3) _ (λ e. omega arith) samples_form t t'
+    below s s' t t' u u' v v' w w' (suc (suc zero)) lt = item_inside 981 4 (k + 4) _ (λ e. omega arith) zones_form u u'
+    below s s' t t' u u' v v' w w' (suc (suc (suc zero))) lt =
+        item_inside 981 5 (k + 5) _ (λ e. omega arith) logs_form v v'
+    below s s' t t' u u' v v' w w' (suc (suc (suc (suc zero)))) lt = worth_inside (k + 6) _ w w'
+    below s s' t t' u u' v v' w w' (suc (suc (suc (suc (suc j))))) lt = absurd (omega arith)
 
-  demand_owes : (k before : ℕ) (p : Posting) (more : List ItemParts) → demand_at items k before ≡ Ok p
-      → Stands items (k + 1) more
-      → (number_of_items p ≡ 2) × Owes 1 more
-  unfolding demand_at targets_at
-  demand_owes k before p more h at =
-      let a = step_ok (call_at (slot 982 1) items k before) _ p h in
-      let b = step_ok (targets_at items (k + 1)) _ p a.2 in
-      let c = step_ok (posting_follows items (k + 2)) _ p b.2 in (
-        ap number_of_items (sym (ok_same _ p c.2)),
-        owes_one (k + 1) (k + 1) 0 more refl (by_numbers items (k + 1) 982 2 _ b.0 (λ e. omega arith) b.1) at (λ m n.
-            owes_none (k + 1 + 1) (k + 2) m (omega arith) c.1 n),
-      )
+demand_owes : (x : ItemParts) (more : List ItemParts) (k before : ℕ) (p : Posting)
+    → demand_at (x ∷ more) k before ≡ Ok p → (number_of_items p ≡ 2) × Owes 1 more
+unfolding demand_at
+demand_owes x more k before p h =
+    let a = step_ok (call_at (slot 982 1) before (k + 1) (Some x)) _ p h in
+    let b = step_ok (item_at (slot 982 2) (list_form TARGETS.low TARGETS.high) (k + 2) (slice_get more 0)) _ p a.2 in
+    let c = step_ok (follows (k + 3) (slice_get more 1)) _ p b.2 in
+    (ap number_of_items (sym (ok_same _ p c.2)), owes 1 more (below b.0 b.1) (then_begins 1 (k + 3) more c.1))
+  where
+    below : (t : List ℕ)
+        → item_at (slot 982 2) (list_form TARGETS.low TARGETS.high) (k + 2) (slice_get more 0) ≡ Ok t
+        → (j : ℕ) → j < 1 → Inside (slice_get more j)
+    below t t' zero lt = item_inside 982 2 (k + 2) _ (λ e. omega arith) (list_form TARGETS.low TARGETS.high) t t'
+    below t t' (suc j) lt = absurd (omega arith)
 
-  posting_owes : (x : ItemParts) (k before : ℕ) (p : Posting) (more : List ItemParts)
-      → posting_at x items k before ≡ Ok p
-      → Stands items (k + 1) more → (n : ℕ) × (number_of_items p ≡ n + 1) × Owes n more
-  unfolding posting_at
-  posting_owes x k before p more h at = elim (cases_Bool (is_at (slot 981 1) x)) [
-    | inl cut ↦ let o = cut_owes k before p more (then_of _ _ _ _ cut h) at in (5, o.0, o.1)
-    | inr other ↦ let o = demand_owes k before p more (else_of _ _ _ _ other h) at in (1, o.0, o.1)
-  ]
+posting_owes : (x : ItemParts) (more : List ItemParts) (k before : ℕ) (p : Posting)
+    → posting_at x (x ∷ more) k before ≡ Ok p → (n : ℕ) × (number_of_items p ≡ n + 1) × Owes n more
+unfolding posting_at
+posting_owes x more k before p h = elim (cases_Bool (is_at (slot 981 1) x)) [
+  | inl cut ↦ let o = cut_owes x more k before p (then_of _ _ _ _ cut h) in (5, o.0, o.1)
+  | inr other ↦ let o = demand_owes x more k before p (else_of _ _ _ _ other h) in (1, o.0, o.1)
+]
 
-  postings_counted : (k before n : ℕ) (rest : List ItemParts) (ps : List Posting) → Stands items k rest → Owes n rest
-      → postings_from items k before rest ≡ Ok ps → length rest ≡ n + sum_by number_of_items ps
-  unfolding postings_from
-  postings_counted k before zero [] ps at o h = subst (λ qs. 0 ≡ 0 + sum_by number_of_items qs) (ok_same [] ps h) refl
-  postings_counted k before (suc n) [] ps at o h = absurd o
-  postings_counted k before (suc n) (x ∷ more) ps at o h =
-      let later : length more ≡ n + sum_by number_of_items ps =
-      postings_counted (k + 1) before n more ps (next_stands items k x more at) o.1
-      (else_of (is_first x) _ _ _ o.0 h) in
+postings_counted : (k before n : ℕ) (rest : List ItemParts) (ps : List Posting) → Owes n rest
+    → postings_from k before rest ≡ Ok ps → length rest ≡ n + sum_by number_of_items ps
+unfolding postings_from
+postings_counted k before zero [] ps o h = subst (λ qs. 0 ≡ 0 + sum_by number_of_items qs) (ok_same [] ps h) refl
+postings_counted k before (suc n) [] ps o h = absurd o
+postings_counted k before (suc n) (x ∷ more) ps o h =
+    let later : length more ≡ n + sum_by number_of_items ps =
+    postings_counted (k + 1) before n more ps o.1 (else_of (is_first x) _ _ _ o.0 h) in
+    omega arith
+postings_counted k before zero (x ∷ more) ps o h =
+    let a = step_ok (posting_at x (x ∷ more) k before) _ ps (then_of (is_first x) _ _ _ o h) in
+    let b = step_ok (postings_from (k + 1) (before + 1) more) _ ps a.2 in
+    let w = posting_owes x more k before a.0 a.1 in
+    let later : length more ≡ w.0 + sum_by number_of_items b.0 =
+    postings_counted (k + 1) (before + 1) w.0 more b.0 w.2 b.1 in
+    let all : number_of_items a.0 + sum_by number_of_items b.0 ≡ sum_by number_of_items ps =
+    sym (sum_by-cons number_of_items a.0 b.0) ∙ ap (λ qs. sum_by number_of_items qs) (ok_same (a.0 ∷ b.0) ps b.2) in
+    omega (arith, all, later, w.1)
+
+sheets_counted : (k before : ℕ) (rest : List ItemParts) (sheets : List (List ℕ)) (ps : List Posting)
+    → sheets_from k rest ≡ Ok sheets → postings_from k before rest ≡ Ok ps
+    → length rest ≡ length sheets + sum_by number_of_items ps
+unfolding sheets_from postings_from
+sheets_counted k before [] sheets ps s h =
+    let few : 0 ≡ length sheets = ap (λ xs. length xs) (ok_same [] sheets s) in
+    let counted : 0 ≡ sum_by number_of_items ps = ap (λ qs. sum_by number_of_items qs) (ok_same [] ps h) in
+    omega arith
+sheets_counted k before (x ∷ more) sheets ps s h = elim (cases_Bool (is_first x)) [
+  | inl first ↦
+      let few : 0 ≡ length sheets = ap (λ xs. length xs) (ok_same [] sheets (then_of (is_first x) _ _ _ first s)) in
+      let counted : suc (length more) ≡ 0 + sum_by number_of_items ps =
+      postings_counted k before 0 (x ∷ more) ps first h in
       omega arith
-  postings_counted k before zero (x ∷ more) ps at o h =
-      let a = step_ok (posting_at x items k before) _ ps (then_of (is_first x) _ _ _ o h) in
-      let b = step_ok (postings_from items (k + 1) (before + 1) more) _ ps a.2 in
-      let at' = next_stands items k x more at in
-      let w = posting_owes x k before a.0 more a.1 at' in
-      let later : length more ≡ w.0 + sum_by number_of_items b.0 =
-      postings_counted (k + 1) (before + 1) w.0 more b.0 at' w.2 b.1 in
-      let all : number_of_items a.0 + sum_by number_of_items b.0 ≡ sum_by number_of_items ps =
-      sym (sum_by-cons number_of_items a.0 b.0) ∙ ap (λ qs. sum_by number_of_items qs) (ok_same (a.0 ∷ b.0) ps b.2) in
-      omega (arith, all, later, w.1)
-
-  sheets_counted : (k before : ℕ) (rest : List ItemParts) (sheets : List (List ℕ)) (ps : List Posting)
-      → Stands items k rest
-      → sheets_from items k rest ≡ Ok sheets → postings_from items k before rest ≡ Ok ps
-      → length rest ≡ length sheets + sum_by number_of_items ps
-  unfolding sheets_from postings_from
-  sheets_counted k before [] sheets ps at s h =
-      let few : 0 ≡ length sheets = ap (λ xs. length xs) (ok_same [] sheets s) in
-      let counted : 0 ≡ sum_by number_of_items ps = ap (λ qs. sum_by number_of_items qs) (ok_same [] ps h) in
+  | inr other ↦
+      let a = step_ok (sheet_at (k + 1) (Some x)) _ sheets (else_of (is_first x) _ _ _ other s) in
+      let b = step_ok (sheets_from (k + 1) more) _ sheets a.2 in
+      let one : suc (length b.0) ≡ length sheets = ap (λ xs. length xs) (ok_same (a.0 ∷ b.0) sheets b.2) in
+      let later : length more ≡ length b.0 + sum_by number_of_items ps =
+      sheets_counted (k + 1) before more b.0 ps b.1 (else_of (is_first x) _ _ _ other h) in
       omega arith
-  sheets_counted k before (x ∷ more) sheets ps at s h = elim (cases_Bool (is_first x)) [
-    | inl first ↦
-        let few : 0 ≡ length sheets = ap (λ xs. length xs) (ok_same [] sheets (then_of (is_first x) _ _ _ first s)) in
-        let counted : suc (length more) ≡ 0 + sum_by number_of_items ps =
-        postings_counted k before 0 (x ∷ more) ps at first h in
-        omega arith
-    | inr other ↦
-        let a = step_ok (sheet_at items k) _ sheets (else_of (is_first x) _ _ _ other s) in
-        let b = step_ok (sheets_from items (k + 1) more) _ sheets a.2 in
-        let one : suc (length b.0) ≡ length sheets = ap (λ xs. length xs) (ok_same (a.0 ∷ b.0) sheets b.2) in
-        let later : length more ≡ length b.0 + sum_by number_of_items ps =
-        sheets_counted (k + 1) before more b.0 ps (next_stands items k x more at) b.1
-        (else_of (is_first x) _ _ _ other h) in
-        omega arith
-  ]
+]
 
 file_counted : (items : List ItemParts) (sheets : List (List ℕ)) (ps : List Posting) → says_journal items ≡ true
-    → sheets_from items 1 (drop 1 items) ≡ Ok sheets → postings_from items 0 0 items ≡ Ok ps
+    → sheets_from 1 (drop 1 items) ≡ Ok sheets → postings_from 0 0 items ≡ Ok ps
     → length items ≡ 1 + length sheets + sum_by number_of_items ps
 unfolding postings_from
-file_counted items sheets ps says s h = grind (arith, both, other_kind, sheets_counted, stands_rest, else_of)
+file_counted items sheets ps says s h = grind (arith, both, other_kind, sheets_counted, else_of)
 
 pub none_skipped : (bytes : List ℕ) (j : JournalParts) → journal_of bytes ≡ Ok j
     → (items : List ItemParts)

@@ -1,8 +1,6 @@
 -- Numbers two and three at a time.
 use Rattle.std.proofs.Common.{◌≡◌, ℕ, ◌+◌, ◌<◌, ◌≤◌, ◌&&◌, true, List, [], ◌∷◌, length, drop, get_or, sym, ap, ◌∙◌, arith, drop-cons, add-one}
 use Rattle.std.proofs.lemmas.Grind.{common_steps}
-use Rattle.std.proofs.lemmas.Bool.Decides.{nat_tests}
-use Rattle.buck_record.proofs.PassLemmas.{both}
 use Rattle.buck_stem.specs.file.Stm.{zones_of}
 use Rattle.buck_journal.specs.reading.Journal.{is_zone, are_zones, is_log, are_logs, logs_of}
 
@@ -31,27 +29,17 @@ pub no_log_parts : (xs : List ℕ) → length xs ≤ 2 → logs_of xs ≡ []
 no_log_parts xs le = grind (arith, common_steps)
 
 -- the next two, and the next three
-pub zones_more : (low : ℕ) (xs : List ℕ) (i : ℕ) → i + 1 < length xs
-    → is_zone low (get_or xs i 0) (get_or xs (i + 1) 0) ≡ true
-    → are_zones low (drop i xs) ≡ are_zones (get_or xs i 0 + 1) (drop (i + 2) xs)
-zones_more low xs i lt h = grind (arith, two)
+module _ (xs : List ℕ) (i : ℕ) where
+  pub next_zone : (low : ℕ) → i + 1 < length xs
+      → (are_zones low (drop i xs)
+      ≡ (is_zone low (get_or xs i 0) (get_or xs (i + 1) 0) && are_zones (get_or xs i 0 + 1) (drop (i + 2) xs)))
+      × (zones_of (drop i xs) ≡ (get_or xs i 0, get_or xs (i + 1) 0) ∷ zones_of (drop (i + 2) xs))
+  next_zone low lt = (ap (are_zones low) (two xs i 0 lt), ap zones_of (two xs i 0 lt))
 
-pub logs_more : (xs : List ℕ) (i : ℕ) → i + 2 < length xs
-    → is_log (get_or xs i 0) (get_or xs (i + 1) 0) (get_or xs (i + 2) 0) ≡ true
-    → are_logs (drop i xs) ≡ are_logs (drop (i + 3) xs)
-logs_more xs i lt h = ap are_logs (three xs i 0 lt) ∙ ap (λ b. b && are_logs (drop (i + 3) xs)) h
-
--- what passed: the two, and the rest
-pub zone_right : (low : ℕ) (xs : List ℕ) (i : ℕ) → i + 1 < length xs → are_zones low (drop i xs) ≡ true
-    → (get_or xs (i + 1) 0 ≤ 8) × (are_zones (get_or xs i 0 + 1) (drop (i + 2) xs) ≡ true)
-zone_right low xs i lt h =
-    let p = both (is_zone low (get_or xs i 0) (get_or xs (i + 1) 0)) (are_zones (get_or xs i 0 + 1) (drop (i + 2) xs))
-    (sym (ap (are_zones low) (two xs i 0 lt)) ∙ h) in
-    let range = p.0 in (grind (arith, nat_tests), p.1)
-
-pub log_right : (xs : List ℕ) (i : ℕ) → i + 2 < length xs → are_logs (drop i xs) ≡ true
-    → (get_or xs (i + 2) 0 ≤ 15) × (are_logs (drop (i + 3) xs) ≡ true)
-log_right xs i lt h =
-    let p = both (is_log (get_or xs i 0) (get_or xs (i + 1) 0) (get_or xs (i + 2) 0)) (are_logs (drop (i + 3) xs))
-    (sym (ap are_logs (three xs i 0 lt)) ∙ h) in
-    let range = p.0 in (grind (arith, nat_tests), p.1)
+  pub next_log : i + 2 < length xs
+      → (are_logs (drop i xs)
+      ≡ (is_log (get_or xs i 0) (get_or xs (i + 1) 0) (get_or xs (i + 2) 0) && are_logs (drop (i + 3) xs)))
+      × (logs_of (drop i xs)
+      ≡ record { start = get_or xs i 0; length = get_or xs (i + 1) 0; assortment = get_or xs (i + 2) 0 }
+      ∷ logs_of (drop (i + 3) xs))
+  next_log lt = (ap are_logs (three xs i 0 lt), ap logs_of (three xs i 0 lt))

@@ -1,6 +1,6 @@
 -- Going over the items of a journal, as the loops do.
-use Rattle.std.proofs.Common.{◌≡◌, ℕ, ◌+◌, ◌<◌, ◌≤◌, true, false, List, [], ◌∷◌, ◌++◌, Result, Ok, Err, length, map, drop, get_or, refl, sym, ap, ◌∙◌, drop-cons, add-one, append_assoc, arith}
-use Rattle.std.proofs.lemmas.List.{drop_all, append-nil}
+use Rattle.std.proofs.Common.{◌≡◌, ℕ, ◌+◌, ◌-◌, ◌<◌, ◌≤◌, true, false, List, [], ◌∷◌, ◌++◌, Result, Ok, Err, Some, length, map, take, drop, length-drop, get_or, refl, sym, ap, ◌∙◌, drop-cons, add-one, append_assoc, arith}
+use Rattle.std.proofs.lemmas.List.{drop_all, take_all, append-nil}
 use Rattle.buck_record.specs.Item.{ItemParts}
 use Rattle.buck_record.specs.checking.Check.{◌>>=◌}
 use Rattle.buck_record.proofs.CheckLemmas.{after_front}
@@ -31,13 +31,13 @@ module _ {X : Type 0} (made : List X) (rest all : Result (List X) JournalFault) 
       gives_up fault e = sym so_far ∙ ap (after_front made) (is ∙ ap (λ q. q >>= λ x. later >>= λ xs. Ok (x ∷ xs)) e)
 
 module _ (items : List ItemParts) (k : ℕ) where
-  pub sheets_past : length items ≤ k → sheets_from items k (drop k items) ≡ Ok []
+  pub sheets_past : length items ≤ k → sheets_from k (drop k items) ≡ Ok []
   unfolding sheets_from
-  sheets_past le = ap (λ xs. sheets_from items k xs) (drop_all k items le)
+  sheets_past le = ap (λ xs. sheets_from k xs) (drop_all k items le)
 
-  pub postings_past : (before : ℕ) → length items ≤ k → postings_from items k before (drop k items) ≡ Ok []
+  pub postings_past : (before : ℕ) → length items ≤ k → postings_from k before (drop k items) ≡ Ok []
   unfolding postings_from
-  postings_past before le = ap (λ xs. postings_from items k before xs) (drop_all k items le)
+  postings_past before le = ap (λ xs. postings_from k before xs) (drop_all k items le)
 
   -- the item at the place
   module _ (x : ItemParts) (lt : k < length items) (at : x ≡ get_or items k x) where
@@ -45,27 +45,28 @@ module _ (items : List ItemParts) (k : ℕ) where
     here = rw add-one (drop-cons items k x lt) ∙ ap (λ y. y ∷ drop (k + 1) items) (sym at)
 
     pub sheet_here : is_first x ≡ false
-        → sheets_from items k (drop k items)
-        ≡ (sheet_at items k >>= λ prices. sheets_from items (k + 1) (drop (k + 1) items) >>= λ sheets. Ok
+        → sheets_from k (drop k items)
+        ≡ (sheet_at (k + 1) (Some x) >>= λ prices. sheets_from (k + 1) (drop (k + 1) items) >>= λ sheets. Ok
         (prices ∷ sheets))
     unfolding sheets_from
-    sheet_here h = ap (λ xs. sheets_from items k xs) here ∙ rw h refl
+    sheet_here h = ap (λ xs. sheets_from k xs) here ∙ rw h refl
 
-    pub no_sheet_here : is_first x ≡ true → sheets_from items k (drop k items) ≡ Ok []
+    pub no_sheet_here : is_first x ≡ true → sheets_from k (drop k items) ≡ Ok []
     unfolding sheets_from
-    no_sheet_here h = ap (λ xs. sheets_from items k xs) here ∙ rw h refl
+    no_sheet_here h = ap (λ xs. sheets_from k xs) here ∙ rw h refl
 
     pub posting_here : (before : ℕ) → is_first x ≡ true
-        → postings_from items k before (drop k items)
-        ≡ (posting_at x items k before >>= λ posting. postings_from items (k + 1) (before + 1) (drop (k + 1) items)
+        → postings_from k before (drop k items)
+        ≡ (posting_at x (take (length items - k) (drop k items)) k before >>= λ posting. postings_from (k + 1) (before + 1) (drop (k + 1) items)
         >>= λ rest. Ok (posting ∷ rest))
     unfolding postings_from
-    posting_here before h = ap (λ xs. postings_from items k before xs) here ∙ rw h refl
+    posting_here before h =
+        rw (take_all (length items - k) (drop k items) (simp length-drop (omega arith)), here) (rw h refl)
 
     pub no_posting_here : (before : ℕ) → is_first x ≡ false
-        → postings_from items k before (drop k items) ≡ postings_from items (k + 1) before (drop (k + 1) items)
+        → postings_from k before (drop k items) ≡ postings_from (k + 1) before (drop (k + 1) items)
     unfolding postings_from
-    no_posting_here before h = ap (λ xs. postings_from items k before xs) here ∙ rw h refl
+    no_posting_here before h = ap (λ xs. postings_from k before xs) here ∙ rw h refl
 
 -- a list with one element more, each seen by f
 pub pushed : {A : Type 0} (f : A → List ℕ) (xs : List A) (x : A) (ys : List ℕ) → f x ≡ ys

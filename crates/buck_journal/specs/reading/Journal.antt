@@ -49,31 +49,45 @@ pub record JournalParts : Type 0 where
   pub sheets : List (List ℕ)  -- the prices of each, by version
   pub entries : List Posting  -- in the order of their commits
 
--- the rest of an item in the slot that is wanted at a place
+-- the rest of the item at a place, which has to be in this slot
 abbrev pub wanted : Slot → ℕ → Option ItemParts → Result (List ℕ) JournalFault
 wanted s place None = Err (Shape place)
 wanted s place (Some item) = if is_at s item then Ok item.rest else Err (Shape place)
 
--- the rest of the item at place k, which has to be in this slot
-unfoldable pub rest_at : Slot → List ItemParts → ℕ → Result (List ℕ) JournalFault
-rest_at s items k = wanted s (k + 1) (slice_get items k)
-
 -- its numbers
-unfoldable pub numbers_at : Slot → List ItemParts → ℕ → Result (List ℕ) JournalFault
-numbers_at s items k = do
-  rest ← rest_at s items k
-  with_fault (λ _. Digits (k + 1)) (numbers_of rest)
+unfoldable pub numbers_at : Slot → ℕ → Option ItemParts → Result (List ℕ) JournalFault
+numbers_at s place item = do
+  rest ← wanted s place item
+  with_fault (λ _. Digits place) (numbers_of rest)
+
+-- how many numbers an item may have, which these may be, and what they say
+pub record Form (X : Type 0) : Type 0 where
+  pub count : List ℕ → Bool
+  pub range : List ℕ → Bool
+  pub value : List ℕ → X
+
+abbrev pub says : {X : Type 0} → Form X → ℕ → List ℕ → Result X JournalFault
+says form place numbers = do
+  _ ← check (form.count numbers) (Count place)
+  _ ← check (form.range numbers) (Range place)
+  Ok (form.value numbers)
+
+-- what the item at a place says
+unfoldable pub item_at : {X : Type 0} → Slot → Form X → ℕ → Option ItemParts → Result X JournalFault
+item_at s form place item = do
+  numbers ← numbers_at s place item
+  says form place numbers
 
 -- at most 16,384 numbers, each in a range
-abbrev pub list_at : Slot → ℕ → ℕ → List ItemParts → ℕ → Result (List ℕ) JournalFault
-list_at s low high items k = do
-  numbers ← numbers_at s items k
-  _ ← check (nat_le (length numbers) 16384) (Count (k + 1))
-  _ ← check (all_within low high numbers) (Range (k + 1))
-  Ok numbers
+abbrev pub list_form : ℕ → ℕ → Form (List ℕ)
+list_form low high = record {
+  count = λ ns. nat_le (length ns) 16384;
+  range = λ ns. all_within low high ns;
+  value = λ ns. ns;
+}
 
-unfoldable pub sheet_at : List ItemParts → ℕ → Result (List ℕ) JournalFault
-sheet_at items k = list_at (slot 971 1) 0 HIGHEST_PRICE items k
+abbrev pub sheet_at : ℕ → Option ItemParts → Result (List ℕ) JournalFault
+sheet_at place item = item_at (slot 971 1) (list_form 0 HIGHEST_PRICE) place item
 
 abbrev pub call_of : List ℕ → Call
 call_of numbers = record {
@@ -85,29 +99,34 @@ call_of numbers = record {
 abbrev pub is_call : Call → Bool
 is_call c = within 1 64 c.harvester && (within 1 MOST_POSTINGS c.number && nat_le c.version MOST_POSTINGS)
 
+abbrev pub call_form : Form Call
+call_form = record {
+  count = λ ns. length ns == 3;
+  range = λ ns. is_call (call_of ns);
+  value = call_of;
+}
+
 -- the item that begins a posting, which so many come before
-unfoldable pub call_at : Slot → List ItemParts → ℕ → ℕ → Result Call JournalFault
-call_at s items k before = do
-  numbers ← numbers_at s items k
-  _ ← check (length numbers == 3) (Count (k + 1))
-  _ ← check (nat_lt before MOST_POSTINGS) (Count (k + 1))
-  _ ← check (is_call (call_of numbers)) (Range (k + 1))
-  Ok (call_of numbers)
+unfoldable pub call_at : Slot → ℕ → ℕ → Option ItemParts → Result Call JournalFault
+call_at s before place item = do
+  numbers ← numbers_at s place item
+  _ ← check (nat_lt before MOST_POSTINGS) (Count place)
+  says call_form place numbers
 
 -- the stem's number and species
-unfoldable pub head_at : List ItemParts → ℕ → Result (ℕ × ℕ) JournalFault
-head_at items k = do
-  numbers ← numbers_at (slot 981 2) items k
-  _ ← check (length numbers == 2) (Count (k + 1))
-  _ ← check (within SPECIES.low SPECIES.high (slice_index numbers 1)) (Range (k + 1))
-  Ok (slice_index numbers 0, slice_index numbers 1)
+abbrev pub head_form : Form (ℕ × ℕ)
+head_form = record {
+  count = λ ns. length ns == 2;
+  range = λ ns. within SPECIES.low SPECIES.high (slice_index ns 1);
+  value = λ ns. (slice_index ns 0, slice_index ns 1);
+}
 
-unfoldable pub samples_at : List ItemParts → ℕ → Result (List ℕ) JournalFault
-samples_at items k = do
-  samples ← numbers_at (slot 981 3) items k
-  _ ← check (one_to MOST_SAMPLES (length samples)) (Count (k + 1))
-  _ ← check (all_within SAMPLES.low SAMPLES.high samples) (Range (k + 1))
-  Ok samples
+abbrev pub samples_form : Form (List ℕ)
+samples_form = record {
+  count = λ ns. one_to MOST_SAMPLES (length ns);
+  range = λ ns. all_within SAMPLES.low SAMPLES.high ns;
+  value = λ ns. ns;
+}
 
 abbrev pub is_zone : ℕ → ℕ → ℕ → Bool
 is_zone low start grade = within low STARTS.high start && within GRADES.low GRADES.high grade
@@ -118,20 +137,12 @@ are_zones low [] = true
 are_zones low (start ∷ []) = true
 are_zones low (start ∷ grade ∷ more) = is_zone low start grade && are_zones (start + 1) more
 
-unfoldable pub zones_at : List ItemParts → ℕ → Result (List (ℕ × ℕ)) JournalFault
-zones_at items k = do
-  numbers ← numbers_at (slot 981 4) items k
-  _ ← check (length numbers % 2 == 0) (Count (k + 1))
-  _ ← check (nat_le (length numbers) (2 * MOST_ZONES)) (Count (k + 1))
-  _ ← check (are_zones 0 numbers) (Range (k + 1))
-  Ok (zones_of numbers)
-
-unfoldable pub stem_at : List ItemParts → ℕ → Result StemParts JournalFault
-stem_at items k = do
-  head ← head_at items k
-  samples ← samples_at items (k + 1)
-  zones ← zones_at items (k + 2)
-  Ok (stem_of head.0 head.1 samples zones)
+abbrev pub zones_form : Form (List (ℕ × ℕ))
+zones_form = record {
+  count = λ ns. (length ns % 2 == 0) && nat_le (length ns) (2 * MOST_ZONES);
+  range = λ ns. are_zones 0 ns;
+  value = zones_of;
+}
 
 abbrev pub is_log : ℕ → ℕ → ℕ → Bool
 is_log start long assortment =
@@ -147,21 +158,17 @@ logs_of (start ∷ long ∷ assortment ∷ more) =
     record { start = start; length = long; assortment = assortment } ∷ logs_of more
 logs_of other = []
 
-unfoldable pub logs_at : List ItemParts → ℕ → Result (List Log) JournalFault
-logs_at items k = do
-  numbers ← numbers_at (slot 981 5) items k
-  _ ← check (length numbers % 3 == 0) (Count (k + 1))
-  _ ← check (nat_le (length numbers) 240) (Count (k + 1))
-  _ ← check (are_logs numbers) (Range (k + 1))
-  Ok (logs_of numbers)
+abbrev pub logs_form : Form (List Log)
+logs_form = record {
+  count = λ ns. (length ns % 3 == 0) && nat_le (length ns) 240;
+  range = are_logs;
+  value = logs_of;
+}
 
-unfoldable pub worth_at : List ItemParts → ℕ → Result ℕ JournalFault
-worth_at items k = do
-  rest ← rest_at (slot 981 6) items k
-  with_fault (λ _. Digits (k + 1)) (number_of 18446744073709551615 rest)
-
-unfoldable pub targets_at : List ItemParts → ℕ → Result (List ℕ) JournalFault
-targets_at items k = list_at (slot 982 2) TARGETS.low TARGETS.high items k
+unfoldable pub worth_at : ℕ → Option ItemParts → Result ℕ JournalFault
+worth_at place item = do
+  rest ← wanted (slot 981 6) place item
+  with_fault (λ _. Digits place) (number_of 18446744073709551615 rest)
 
 -- the item begins a posting
 abbrev pub is_first : ItemParts → Bool
@@ -171,9 +178,6 @@ is_first item = is_at (slot 981 1) item || is_at (slot 982 1) item
 abbrev pub follows : ℕ → Option ItemParts → Result (Unit {0}) JournalFault
 follows place None = Ok tt
 follows place (Some item) = check (is_first item) (Shape place)
-
-unfoldable pub posting_follows : List ItemParts → ℕ → Result (Unit {0}) JournalFault
-posting_follows items k = follows (k + 1) (slice_get items k)
 
 abbrev pub entry_of : Call → StemParts → List Log → ℕ → EntryParts
 entry_of c stem logs worth = record {
@@ -185,13 +189,22 @@ entry_of c stem logs worth = record {
   worth = worth;
 }
 
+-- the stem of a cut that the items begin with, k of the file coming before
+unfoldable pub stem_at : List ItemParts → ℕ → Result StemParts JournalFault
+stem_at items k = do
+  head ← item_at (slot 981 2) head_form (k + 2) (slice_get items 1)
+  samples ← item_at (slot 981 3) samples_form (k + 3) (slice_get items 2)
+  zones ← item_at (slot 981 4) zones_form (k + 4) (slice_get items 3)
+  Ok (stem_of head.0 head.1 samples zones)
+
+-- the cut
 unfoldable pub cut_at : List ItemParts → ℕ → ℕ → Result Posting JournalFault
 cut_at items k before = do
-  call ← call_at (slot 981 1) items k before
-  stem ← stem_at items (k + 1)
-  logs ← logs_at items (k + 4)
-  worth ← worth_at items (k + 5)
-  _ ← posting_follows items (k + 6)
+  call ← call_at (slot 981 1) before (k + 1) (slice_get items 0)
+  stem ← stem_at items k
+  logs ← item_at (slot 981 5) logs_form (k + 5) (slice_get items 4)
+  worth ← worth_at (k + 6) (slice_get items 5)
+  _ ← follows (k + 7) (slice_get items 6)
   Ok (Cut (entry_of call stem logs worth))
 
 abbrev pub demand_of : Call → List ℕ → DemandParts
@@ -204,31 +217,31 @@ demand_of c targets = record {
 
 unfoldable pub demand_at : List ItemParts → ℕ → ℕ → Result Posting JournalFault
 demand_at items k before = do
-  call ← call_at (slot 982 1) items k before
-  targets ← targets_at items (k + 1)
-  _ ← posting_follows items (k + 2)
+  call ← call_at (slot 982 1) before (k + 1) (slice_get items 0)
+  targets ← item_at (slot 982 2) (list_form TARGETS.low TARGETS.high) (k + 2) (slice_get items 1)
+  _ ← follows (k + 3) (slice_get items 2)
   Ok (Demand (demand_of call targets))
 
--- the posting that an item begins, with the items that come with it
+-- the posting that the items begin with
 unfoldable pub posting_at : ItemParts → List ItemParts → ℕ → ℕ → Result Posting JournalFault
 posting_at first items k before =
     if is_at (slot 981 1) first then cut_at items k before else demand_at items k before
 
--- the sheets of the items from place k on: one for each item up to the first that begins a posting
-unfoldable pub sheets_from : List ItemParts → ℕ → List ItemParts → Result (List (List ℕ)) JournalFault
-sheets_from items k [] = Ok []
-sheets_from items k (item ∷ more) =
+-- the sheets of the items behind k others: one for each item up to the first that begins a posting
+unfoldable pub sheets_from : ℕ → List ItemParts → Result (List (List ℕ)) JournalFault
+sheets_from k [] = Ok []
+sheets_from k (item ∷ more) =
     if is_first item then Ok []
-    else (sheet_at items k >>= λ prices. sheets_from items (k + 1) more >>= λ sheets. Ok (prices ∷ sheets))
+    else (sheet_at (k + 1) (Some item) >>= λ prices. sheets_from (k + 1) more >>= λ sheets. Ok (prices ∷ sheets))
 
--- the postings of the items from place k on, so many coming before: one for each item that begins a posting
-unfoldable pub postings_from : List ItemParts → ℕ → ℕ → List ItemParts → Result (List Posting) JournalFault
-postings_from items k before [] = Ok []
-postings_from items k before (item ∷ more) =
+-- the postings of the items behind k others, so many coming before: one for each item that begins a posting
+unfoldable pub postings_from : ℕ → ℕ → List ItemParts → Result (List Posting) JournalFault
+postings_from k before [] = Ok []
+postings_from k before (item ∷ more) =
     if is_first item
-    then (posting_at item items k before >>= λ posting.
-    postings_from items (k + 1) (before + 1) more >>= λ rest. Ok (posting ∷ rest))
-    else postings_from items (k + 1) before more
+    then (posting_at item (item ∷ more) k before >>= λ posting.
+    postings_from (k + 1) (before + 1) more >>= λ rest. Ok (posting ∷ rest))
+    else postings_from (k + 1) before more
 
 -- the first item says that the file is a journal
 abbrev pub says_journal : List ItemParts → Bool
@@ -239,8 +252,8 @@ says_journal (item ∷ more) = is_at file_slot item && bytes_eq item.rest (codes
 unfoldable pub journal_in : List ItemParts → Result JournalParts JournalFault
 journal_in items = do
   _ ← check (says_journal items) NotJournal
-  sheets ← sheets_from items 1 (drop 1 items)
-  postings ← postings_from items 0 0 items
+  sheets ← sheets_from 1 (drop 1 items)
+  postings ← postings_from 0 0 items
   Ok (record { sheets = sheets; entries = postings })
 
 unfoldable pub journal_of : List ℕ → Result JournalParts JournalFault

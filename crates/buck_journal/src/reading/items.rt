@@ -1,21 +1,18 @@
-//! The items of a journal, one by one.
-ghost use Rattle.std.specs.Prelude.{◌≡◌, ◌≤◌, ◌<◌, ◌+◌, IfOk, OnOk, length, true};
+//! The items of a journal, one by one: each is read by its place, which counts from 1, and by what stands there.
+ghost use Rattle.std.specs.Prelude.{◌≡◌, ◌≤◌, ◌<◌, IfOk, IfErr, OnOk, Ok, Err, option_map, length};
 ghost use Rattle.buck_record.specs.checking.Table.{is_at};
-ghost use Rattle.buck_record.specs.checking.Rules.{slot, all_within};
-ghost use Rattle.buck_record.specs.Reading.{Gives, listed};
-ghost use Rattle.buck_stem.specs.file.Stm.{zones_of};
+ghost use Rattle.buck_record.specs.Reading.{Gives};
 ghost use Rattle.buck_journal.specs.declared.reading.fault.JournalFault.TheVariants.{Memory};
-ghost use Rattle.buck_journal.specs.reading.Journal.{rest_at, numbers_at, list_at, call_of, is_call, call_at, head_at, samples_at, are_zones, zones_at, are_logs, logs_of, logs_at, worth_at};
+ghost use Rattle.buck_journal.specs.reading.Journal.{numbers_at, says, list_form, is_call, call_form, call_at, head_form, worth_at, is_first, follows};
 
 use crate::reading::call::Call;
 use crate::reading::fault::JournalFault;
-use crate::reading::slots::{HEAD, WORTH};
+use crate::reading::slots::{CUT, DEMAND, WORTH};
 use buck_book::MOST_POSTINGS;
 use buck_record::check::check;
 use buck_record::rules::all_within;
 use buck_record::{Listed, Piece, RecordFault, Slot, numbers, wide};
 use buck_stem::slots::SPECIES;
-use buck_value::Log;
 use std::alloc::{AllocError, Global};
 
 /// Whether an item stands in a slot.
@@ -25,85 +22,65 @@ pub(crate) fn is_at(item: &Piece<'_>, slot: Slot) -> bool
     item.number == slot.number && item.kind == slot.kind
 }
 
-/// The numbers of the item at a place, which has to be in this slot.
-#[tactic(auto, unfolding(crate::specs::reading::Journal::rest_at, crate::specs::reading::Journal::numbers_at))]
-pub(crate) fn numbers_at<'a>(
+/// The numbers of an item, which has to be in this slot.
+#[tactic(auto, unfolding(crate::specs::reading::Journal::numbers_at))]
+pub(crate) fn numbers_at(
     alloc: Global,
     slot: Slot,
-    items: &'a [Piece<'a>],
-    k: usize,
+    place: usize,
+    item: Option<&Piece<'_>>,
 ) -> Result<Listed<u32>, JournalFault>
-    requires { k ≤ length items.now + 6 }
-    ensures { Gives Memory result (numbers_at slot items.now k) }
+    ensures { Gives Memory result (numbers_at slot place (option_map (λ i. i.now) item.entry)) }
 {
-    if k >= items.len() {
-        return Err(JournalFault::Shape { item: k + 1 });
+    let Some(found) = item else {
+        return Err(JournalFault::Shape { item: place });
+    };
+    if !is_at(found, slot) {
+        return Err(JournalFault::Shape { item: place });
     }
-    let item = &items[k];
-    if !is_at(item, slot) {
-        return Err(JournalFault::Shape { item: k + 1 });
-    }
-    match numbers(alloc, item.rest) {
+    match numbers(alloc, found.rest) {
         Ok(found) => Ok(Listed::of(found)),
-        Err(RecordFault::Digits { place: _ }) => Err(JournalFault::Digits { item: k + 1 }),
+        Err(RecordFault::Digits { place: _ }) => Err(JournalFault::Digits { item: place }),
         Err(_) => Err(JournalFault::Memory),
     }
 }
 
-/// The worth in the item at a place.
-#[tactic(auto, unfolding(crate::specs::reading::Journal::rest_at, crate::specs::reading::Journal::worth_at))]
-pub(crate) fn worth_at<'a>(items: &'a [Piece<'a>], k: usize) -> Result<u64, JournalFault>
-    requires { k ≤ length items.now + 6 }
-    ensures { result ≡ worth_at items.now k }
+/// The worth in an item.
+#[tactic(auto, unfolding(crate::specs::reading::Journal::worth_at))]
+pub(crate) fn worth_at(place: usize, item: Option<&Piece<'_>>) -> Result<u64, JournalFault>
+    ensures { result ≡ worth_at place (option_map (λ i. i.now) item.entry) }
 {
-    if k >= items.len() {
-        return Err(JournalFault::Shape { item: k + 1 });
+    let Some(found) = item else {
+        return Err(JournalFault::Shape { item: place });
+    };
+    if !is_at(found, WORTH) {
+        return Err(JournalFault::Shape { item: place });
     }
-    let last = &items[k];
-    if !is_at(last, WORTH) {
-        return Err(JournalFault::Shape { item: k + 1 });
-    }
-    match wide(last.rest) {
+    match wide(found.rest) {
         Ok(worth) => Ok(worth),
-        Err(_) => Err(JournalFault::Digits { item: k + 1 }),
+        Err(_) => Err(JournalFault::Digits { item: place }),
     }
 }
 
-/// The prices of a sheet, or the targets of a demand.
-pub(crate) fn list_at<'a>(
-    alloc: Global,
-    slot: Slot,
+/// Whether numbers can be the prices of a sheet, or the targets of a demand.
+pub(crate) fn check_list(
     low: u32,
     high: u32,
-    items: &'a [Piece<'a>],
-    k: usize,
-) -> Result<Listed<u32>, JournalFault>
-    requires { k ≤ length items.now + 5 }
-    ensures { Gives Memory result (list_at slot low high items.now k) }
+    place: usize,
+    numbers: &[u32],
+) -> Result<(), JournalFault>
+    ensures ok { OnOk result (says (list_form low high) place numbers.now ≡ Ok numbers.now) }
+    ensures refused { IfErr result (λ e. says (list_form low high) place numbers.now ≡ Err e) }
 {
-    let numbers = numbers_at(alloc, slot, items, k)?;
-    check(numbers.len() <= 16_384, JournalFault::Count { item: k + 1 })?;
+    check(numbers.len() <= 16_384, JournalFault::Count { item: place })?;
     check(
-        all_within(low, high, numbers.as_slice()),
-        JournalFault::Range { item: k + 1 },
-    )?;
-    Ok(numbers)
-}
-
-/// What three numbers say.
-pub(crate) fn call_of(numbers: &[u32]) -> Call
-    requires { length numbers.now ≡ 3 }
-    ensures { result ≡ call_of numbers.now }
-{
-    Call {
-        harvester: numbers[0],
-        number: numbers[1],
-        version: numbers[2],
-    }
+        all_within(low, high, numbers),
+        JournalFault::Range { item: place },
+    )
 }
 
 /// Whether harvester, number and version are in range.
-pub(crate) fn is_call(call: Call) -> bool
+fn is_call(call: Call) -> bool
     ensures { result ≡ is_call call }
 {
     1 <= call.harvester
@@ -113,52 +90,74 @@ pub(crate) fn is_call(call: Call) -> bool
         && call.version <= MOST_POSTINGS
 }
 
-/// What the first item of a posting says, which so many come before.
-#[tactic(auto, unfolding(crate::specs::reading::Journal::call_at))]
-pub(crate) fn call_at<'a>(
-    alloc: Global,
-    slot: Slot,
-    items: &'a [Piece<'a>],
-    k: usize,
-    before: usize,
-) -> Result<Call, JournalFault>
-    requires { k ≤ length items.now + 5 }
-    ensures value { Gives Memory result (call_at slot items.now k before) }
-    ensures few { OnOk result (before < MOST_POSTINGS) }
+/// What numbers say of a call.
+pub(crate) fn call_in(place: usize, numbers: &[u32]) -> Result<Call, JournalFault>
+    ensures { result ≡ says call_form place numbers.now }
 {
-    let numbers = numbers_at(alloc, slot, items, k)?;
     if numbers.len() != 3 {
-        return Err(JournalFault::Count { item: k + 1 });
+        return Err(JournalFault::Count { item: place });
     }
-    if before >= MOST_POSTINGS as usize {
-        return Err(JournalFault::Count { item: k + 1 });
+    let call = Call {
+        harvester: numbers[0],
+        number: numbers[1],
+        version: numbers[2],
+    };
+    if !is_call(call) {
+        return Err(JournalFault::Range { item: place });
     }
-    let call = call_of(numbers.as_slice());
-    check(is_call(call), JournalFault::Range { item: k + 1 })?;
     Ok(call)
 }
 
-/// The number and the species of a stem.
-#[tactic(auto, unfolding(crate::specs::reading::Journal::head_at))]
-pub(crate) fn head_at<'a>(
+/// What the first item of a posting says, which so many come before.
+#[tactic(auto, unfolding(crate::specs::reading::Journal::call_at))]
+pub(crate) fn call_at(
     alloc: Global,
-    items: &'a [Piece<'a>],
-    k: usize,
-) -> Result<(u32, u8), JournalFault>
-    requires { k ≤ length items.now + 5 }
-    ensures value { Gives Memory result (head_at items.now k) }
+    slot: Slot,
+    before: usize,
+    place: usize,
+    item: Option<&Piece<'_>>,
+) -> Result<Call, JournalFault>
+    ensures value { Gives Memory result (call_at slot before place (option_map (λ i. i.now) item.entry)) }
+    ensures few { OnOk result (before < MOST_POSTINGS) }
+{
+    let numbers = numbers_at(alloc, slot, place, item)?;
+    if before >= MOST_POSTINGS as usize {
+        return Err(JournalFault::Count { item: place });
+    }
+    call_in(place, numbers.as_slice())
+}
+
+/// The number and the species of a stem.
+pub(crate) fn head_in(place: usize, numbers: &[u32]) -> Result<(u32, u8), JournalFault>
+    ensures value { result ≡ says head_form place numbers.now }
     ensures species { IfOk result (λ head. (SPECIES.low ≤ head.1) × (head.1 ≤ SPECIES.high)) }
 {
-    let numbers = numbers_at(alloc, HEAD, items, k)?;
     if numbers.len() != 2 {
-        return Err(JournalFault::Count { item: k + 1 });
+        return Err(JournalFault::Count { item: place });
     }
-    let species = numbers.as_slice()[1];
+    let species = numbers[1];
     if species < SPECIES.low {
-        return Err(JournalFault::Range { item: k + 1 });
+        return Err(JournalFault::Range { item: place });
     }
     if species > SPECIES.high {
-        return Err(JournalFault::Range { item: k + 1 });
+        return Err(JournalFault::Range { item: place });
     }
-    Ok((numbers.as_slice()[0], species as u8))
+    Ok((numbers[0], species as u8))
+}
+
+/// Whether an item begins a posting.
+pub(crate) fn is_first(item: &Piece<'_>) -> bool
+    ensures { result ≡ is_first item.now }
+{
+    is_at(item, CUT) || is_at(item, DEMAND)
+}
+
+/// After a posting comes the next one, or the end.
+pub(crate) fn follows(place: usize, item: Option<&Piece<'_>>) -> Result<(), JournalFault>
+    ensures { result ≡ follows place (option_map (λ i. i.now) item.entry) }
+{
+    match item {
+        Some(next) => check(is_first(next), JournalFault::Shape { item: place }),
+        None => Ok(()),
+    }
 }

@@ -1,5 +1,5 @@
 //! Journals, and how one is read.
-ghost use Rattle.std.specs.Prelude.{◌≡◌, ◌≤◌, IfOk, length};
+ghost use Rattle.std.specs.Prelude.{◌≡◌, ◌≤◌, IfOk, Ok, length, map};
 ghost use Rattle.buck_record.specs.Reading.{Gives};
 ghost use Rattle.buck_journal.specs.declared.reading.fault.JournalFault.TheVariants.{Memory};
 ghost use Rattle.buck_journal.specs.reading.Journal.{says_journal, journal_in, journal_of};
@@ -7,9 +7,9 @@ ghost use Rattle.buck_book.specs.declared.posting.TheConstants.{MOST_POSTINGS};
 
 use crate::reading::fault::{self, JournalFault};
 use crate::reading::items::is_at;
-use crate::reading::plain::read_plain;
+use crate::reading::plain::{opened, postings_of};
 use crate::reading::postings::{postings_in, sheets_in};
-use buck_book::Posting;
+use buck_book::{MOST_POSTINGS, Posting};
 use buck_record::Piece;
 use buck_record::check::check;
 use buck_record::rules::{FILE, items_in};
@@ -58,12 +58,54 @@ fn journal_in<'a>(alloc: Global, items: &'a [Piece<'a>]) -> Result<Journal, Jour
 }
 
 /// The journal of a file's bytes, or the first refusal that applies, by the list of the file's items.
-pub(crate) fn read_by_items(alloc: Global, bytes: &[u8]) -> Result<Journal, JournalFault>
+fn read_by_items(alloc: Global, bytes: &[u8]) -> Result<Journal, JournalFault>
     ensures value { Gives Memory result (journal_of bytes.now) }
     ensures few { IfOk result (λ journal. length journal.entries ≤ MOST_POSTINGS) }
 {
     let items = items_in(alloc, bytes, fault::head)?;
     journal_in(alloc, items.as_slice())
+}
+
+/// The journal of the sheets and the postings that were read of it, where there aren't too many.
+pub(crate) fn plain_journal(
+    sheets: Vec<Vec<u32>>,
+    entries: Vec<Posting>,
+) -> Result<Journal, JournalFault>
+    ensures value { IfOk result (λ j. (j.sheets ≡ map (λ v. v.items) sheets.items) × (j.entries ≡ entries.items)) }
+    ensures few { IfOk result (λ journal. length journal.entries ≤ MOST_POSTINGS) }
+{
+    if entries.len() > MOST_POSTINGS as usize {
+        return Err(JournalFault::NotJournal);
+    }
+    Ok(Journal { sheets, entries })
+}
+
+/// The journal of a file's bytes, where all of it is right.
+fn read_plain(alloc: Global, bytes: &[u8]) -> Result<Journal, JournalFault>
+    ensures value { IfOk result (λ journal. journal_of bytes.now ≡ Ok journal) }
+    ensures few { IfOk result (λ journal. length journal.entries ≤ MOST_POSTINGS) }
+{
+    let (sheets, rest) = opened(alloc, bytes)?;
+    let entries = postings_of(alloc, rest)?;
+    plain_journal(sheets, entries)
+}
+
+/// What was read in one pass, or what is read by the list of the items, where that wasn't right.
+pub(crate) fn or_by_items(
+    alloc: Global,
+    bytes: &[u8],
+    plain: Result<Journal, JournalFault>,
+) -> Result<Journal, JournalFault>
+    requires value { IfOk plain (λ journal. journal_of bytes.now ≡ Ok journal) }
+    requires few { IfOk plain (λ journal. length journal.entries ≤ MOST_POSTINGS) }
+    ensures value { Gives Memory result (journal_of bytes.now) }
+    ensures few { IfOk result (λ journal. length journal.entries ≤ MOST_POSTINGS) }
+{
+    match plain {
+        Ok(journal) => Ok(journal),
+        Err(JournalFault::Memory) => Err(JournalFault::Memory),
+        Err(_) => read_by_items(alloc, bytes),
+    }
 }
 
 /// Reads a journal, whose bytes are items between tildes (see docs/FORMATS.md).
@@ -75,8 +117,5 @@ pub fn read_journal(alloc: Global, bytes: &[u8]) -> Result<Journal, JournalFault
     ensures value { Gives Memory result (journal_of bytes.now) }
     ensures few { IfOk result (λ journal. length journal.entries ≤ MOST_POSTINGS) }
 {
-    match read_plain(alloc, bytes)? {
-        Some(journal) => Ok(journal),
-        None => read_by_items(alloc, bytes),
-    }
+    or_by_items(alloc, bytes, read_plain(alloc, bytes))
 }

@@ -1,5 +1,5 @@
 //! Journals whose postings are read in several threads at once.
-ghost use Rattle.std.specs.Prelude.{◌≡◌, ◌≤◌, ◌++◌, IfOk, IfSome, OnOk, Ok, length};
+ghost use Rattle.std.specs.Prelude.{◌≡◌, ◌≤◌, ◌++◌, IfOk, OnOk, Ok, length};
 ghost use Rattle.std.specs.Thread.{IsSync};
 ghost use Rattle.buck_record.specs.Reading.{Gives};
 ghost use Rattle.buck_journal.specs.declared.reading.fault.JournalFault.TheVariants.{Memory};
@@ -7,7 +7,7 @@ ghost use Rattle.buck_journal.specs.reading.Journal.{journal_of};
 ghost use Rattle.buck_journal.specs.inner.Plain.{HasPostings};
 
 use crate::reading::fault::JournalFault;
-use crate::reading::journal::{Journal, read_by_items};
+use crate::reading::journal::{Journal, or_by_items, plain_journal};
 use crate::reading::plain::{opened, postings_of};
 use crate::reading::slots::CUT;
 use buck_book::{MOST_POSTINGS, Posting};
@@ -29,58 +29,47 @@ fn put_behind(postings: &mut Vec<Posting>, more: Vec<Posting>) -> Result<(), All
 
 /// The postings of a text, up to its end, where the text is cut in two again and again, until there is a thread for
 /// each part.
+#[tactic(auto, using(crate::proofs::OnePass::postings_join))]
 fn postings_in_parts<T: Threads + Sync>(
     rt: &T,
     alloc: Global,
     text: &[u8],
     threads: usize,
-) -> Result<Option<Vec<Posting>>, AllocError>
-    ensures { IfOk result (λ o. IfSome o (λ postings. HasPostings text.now postings.items)) }
+) -> Result<Vec<Posting>, JournalFault>
+    ensures { IfOk result (λ postings. HasPostings text.now postings.items) }
 {
     let Some((front, back)) = two_parts(CUT, text, threads) else {
         return postings_of(alloc, text);
     };
     let (first, second) = thread::join(
         rt,
-        || -> Result<Option<Vec<Posting>>, AllocError>
+        || -> Result<Vec<Posting>, JournalFault>
             requires { IsSync T.row }
-            ensures { IfOk result (λ o. IfSome o (λ postings. HasPostings front.entry.now postings.items)) }
+            ensures { IfOk result (λ postings. HasPostings front.entry.now postings.items) }
         { postings_in_parts(rt, alloc, front, threads / 2) },
-        || -> Result<Option<Vec<Posting>>, AllocError>
+        || -> Result<Vec<Posting>, JournalFault>
             requires { IsSync T.row }
-            ensures { IfOk result (λ o. IfSome o (λ postings. HasPostings back.entry.now postings.items)) }
+            ensures { IfOk result (λ postings. HasPostings back.entry.now postings.items) }
         { postings_in_parts(rt, alloc, back, threads - threads / 2) },
     );
-    let Some(mut postings) = first? else {
-        return Ok(None);
-    };
-    let Some(more) = second? else {
-        return Ok(None);
-    };
-    put_behind(&mut postings, more)?;
-    Ok(Some(postings))
+    let mut postings = first?;
+    put_behind(&mut postings, second?)?;
+    Ok(postings)
 }
 
-/// The same as `read_plain`, with the postings in at most so many threads at once.
+/// The journal of a file's bytes, where all of it is right, with the postings in at most so many threads at once.
 fn read_plain_in_parts<T: Threads + Sync>(
     rt: &T,
     alloc: Global,
     bytes: &[u8],
     threads: usize,
-) -> Result<Option<Journal>, AllocError>
-    ensures value { IfOk result (λ o. IfSome o (λ journal. journal_of bytes.now ≡ Ok journal)) }
-    ensures few { IfOk result (λ o. IfSome o (λ journal. length journal.entries ≤ MOST_POSTINGS)) }
+) -> Result<Journal, JournalFault>
+    ensures value { IfOk result (λ journal. journal_of bytes.now ≡ Ok journal) }
+    ensures few { IfOk result (λ journal. length journal.entries ≤ MOST_POSTINGS) }
 {
-    let Some((sheets, rest)) = opened(alloc, bytes)? else {
-        return Ok(None);
-    };
-    let Some(entries) = postings_in_parts(rt, alloc, rest, threads)? else {
-        return Ok(None);
-    };
-    if entries.len() > MOST_POSTINGS as usize {
-        return Ok(None);
-    }
-    Ok(Some(Journal { sheets, entries }))
+    let (sheets, rest) = opened(alloc, bytes)?;
+    let entries = postings_in_parts(rt, alloc, rest, threads)?;
+    plain_journal(sheets, entries)
 }
 
 /// The same as [`read_journal`](crate::read_journal), where the postings of a journal that isn't short are read in at
@@ -95,8 +84,5 @@ pub fn read_journal_in_parts<T: Threads + Sync>(
     ensures value { Gives Memory result (journal_of bytes.now) }
     ensures few { IfOk result (λ journal. length journal.entries ≤ MOST_POSTINGS) }
 {
-    match read_plain_in_parts(rt, alloc, bytes, threads)? {
-        Some(journal) => Ok(journal),
-        None => read_by_items(alloc, bytes),
-    }
+    or_by_items(alloc, bytes, read_plain_in_parts(rt, alloc, bytes, threads))
 }

@@ -1,26 +1,28 @@
 //! Journals in one pass, with no list of their items: the kind of file, the sheets, and then the items of each posting.
 //! The numbers of an item, and the diameters of a stem, are read into rooms that are kept from item to item.
-ghost use Rattle.std.specs.Prelude.{◌≡◌, ◌≤◌, IfOk, IfSome, Ok, length, map};
+//!
+//! Where a text isn't read, the fault says nothing of it but that memory was wanting, if it is that.
+ghost use Rattle.std.specs.Prelude.{◌≡◌, ◌≤◌, [], ◌∷◌, IfOk, IfSome, Ok, length, map};
 ghost use Rattle.buck_record.specs.checking.Rules.{slot};
-ghost use Rattle.buck_journal.specs.reading.Journal.{head_at, samples_at, zones_at, list_at, logs_at, worth_at, journal_of};
-ghost use Rattle.buck_journal.specs.inner.Limits.{AreSamples, AreZones};
-ghost use Rattle.buck_journal.specs.inner.Plain.{LeadsNumbers, LeadsTo, LeadsCall, LeadsStem, LeadsPosting, LeadsPostings, HasPostings, LeadsSheets, BeginsJournal};
+ghost use Rattle.buck_journal.specs.reading.Journal.{says, samples_form, journal_of};
+ghost use Rattle.buck_journal.specs.inner.Limits.{AreSamples};
+ghost use Rattle.buck_journal.specs.inner.Plain.{LeadsNumbers, LeadsWorth, LeadsPostings, HasPostings, LeadsSheets, BeginsJournal};
 
-use crate::reading::call::Call;
-use crate::reading::items::{call_of, is_call};
+use crate::reading::fault::JournalFault;
+use crate::reading::items::{call_in, check_list, head_in};
 use crate::reading::journal::Journal;
-use crate::reading::parts::{are_logs, are_zones, logs_of, zones_of};
+use crate::reading::parts::{logs_in, zones_in};
 use crate::reading::postings::{cut_of, demand_of};
 use crate::reading::slots::{
     CUT, CUT_SAMPLES, CUT_ZONES, DEMAND, DEMAND_TARGETS, HEAD, LOGS, SHEET, WORTH,
 };
 use buck_apt::slots::TARGETS;
 use buck_book::{MOST_POSTINGS, Posting};
-use buck_record::rules::{FILE, all_within, one_to};
+use buck_record::rules::{FILE, one_to};
 use buck_record::{Slot, append_numbers, is_done, next_quick, numbers_into, wide};
 use buck_stem::Stem;
-use buck_stem::slots::{MOST_SAMPLES, MOST_ZONES, SAMPLES, SPECIES};
-use buck_value::{HIGHEST_PRICE, Log};
+use buck_stem::slots::{MOST_SAMPLES, SAMPLES};
+use buck_value::HIGHEST_PRICE;
 use std::alloc::{AllocError, Global};
 
 /// Reads the numbers of the item that a text begins with, where that stands in this slot, into `room`; and what is left
@@ -29,238 +31,92 @@ fn next_numbers<'a>(
     room: &mut Vec<u32>,
     slot: Slot,
     text: &'a [u8],
-) -> Result<Option<&'a [u8]>, AllocError>
-    ensures { IfOk result (λ o. IfSome o (λ left. LeadsNumbers slot text.now room.new.items left.now)) }
+) -> Result<&'a [u8], JournalFault>
+    ensures { IfOk result (λ left. LeadsNumbers slot text.now room.new.items left.now) }
 {
     let Some((rest, left)) = next_quick(slot, text) else {
-        return Ok(None);
+        return Err(JournalFault::NotJournal);
     };
     if !numbers_into(rest, room)? {
-        return Ok(None);
+        return Err(JournalFault::NotJournal);
     }
-    Ok(Some(left))
-}
-
-/// What the first item of a posting says, and what is left after it.
-fn next_call<'a>(
-    room: &mut Vec<u32>,
-    slot: Slot,
-    text: &'a [u8],
-) -> Result<Option<(Call, &'a [u8])>, AllocError>
-    ensures { IfOk result (λ o. IfSome o (λ w. LeadsCall slot text.now w.0 w.1.now)) }
-{
-    let Some(left) = next_numbers(room, slot, text)? else {
-        return Ok(None);
-    };
-    if room.len() != 3 {
-        return Ok(None);
-    }
-    let call = call_of(room.as_slice());
-    if !is_call(call) {
-        return Ok(None);
-    }
-    Ok(Some((call, left)))
-}
-
-/// The number and the species of a stem, and what is left after them.
-#[tactic(auto, using(crate::proofs::OnePass::head_leads))]
-fn next_head<'a>(
-    room: &mut Vec<u32>,
-    text: &'a [u8],
-) -> Result<Option<((u32, u8), &'a [u8])>, AllocError>
-    ensures leads { IfOk result (λ o. IfSome o (λ w. LeadsTo (slot 981 2) head_at text.now w.0 w.1.now)) }
-    ensures species { IfOk result (λ o. IfSome o (λ w. (SPECIES.low ≤ w.0.1) × (w.0.1 ≤ SPECIES.high))) }
-{
-    let Some(left) = next_numbers(room, HEAD, text)? else {
-        return Ok(None);
-    };
-    let numbers = room.as_slice();
-    if numbers.len() != 2 {
-        return Ok(None);
-    }
-    let species = numbers[1];
-    if species < SPECIES.low {
-        return Ok(None);
-    }
-    if species > SPECIES.high {
-        return Ok(None);
-    }
-    Ok(Some(((numbers[0], species as u8), left)))
+    Ok(left)
 }
 
 /// Reads the diameters of a stem into `samples`; and what is left after them.
-fn next_samples<'a>(samples: &mut Vec<u16>, text: &'a [u8]) -> Result<Option<&'a [u8]>, AllocError>
-    ensures leads { IfOk result (λ o. IfSome o (λ left.
-        LeadsTo (slot 981 3) samples_at text.now samples.new.items left.now)) }
-    ensures valid { IfOk result (λ o. IfSome o (λ _. AreSamples samples.new.items)) }
+fn next_samples<'a>(samples: &mut Vec<u16>, text: &'a [u8]) -> Result<&'a [u8], JournalFault>
+    ensures leads { IfOk result (λ left. LeadsNumbers (slot 981 3) text.now samples.new.items left.now) }
+    ensures right { IfOk result (λ _. says samples_form 1 samples.new.items ≡ Ok samples.new.items) }
+    ensures valid { IfOk result (λ _. AreSamples samples.new.items) }
 {
     let Some((rest, left)) = next_quick(CUT_SAMPLES, text) else {
-        return Ok(None);
+        return Err(JournalFault::NotJournal);
     };
     samples.clear();
     samples.reserve(rest.len() / 2 + 1)?;
     if !append_numbers(SAMPLES.high as u16, rest, samples) {
-        return Ok(None);
+        return Err(JournalFault::NotJournal);
     }
     if !one_to(MOST_SAMPLES, samples.len()) {
-        return Ok(None);
+        return Err(JournalFault::NotJournal);
     }
-    Ok(Some(left))
-}
-
-/// The zones of a stem, and what is left after them.
-fn next_zones<'a>(
-    alloc: Global,
-    room: &mut Vec<u32>,
-    text: &'a [u8],
-) -> Result<Option<(Vec<(u32, u8)>, &'a [u8])>, AllocError>
-    ensures leads { IfOk result (λ o. IfSome o (λ w. LeadsTo (slot 981 4) zones_at text.now w.0.items w.1.now)) }
-    ensures valid { IfOk result (λ o. IfSome o (λ w. AreZones w.0.items)) }
-{
-    let Some(left) = next_numbers(room, CUT_ZONES, text)? else {
-        return Ok(None);
-    };
-    if room.len() % 2 != 0 {
-        return Ok(None);
-    }
-    if room.len() > 2 * MOST_ZONES {
-        return Ok(None);
-    }
-    if !are_zones(room.as_slice()) {
-        return Ok(None);
-    }
-    let zones = zones_of(alloc, room.as_slice())?;
-    Ok(Some((zones, left)))
-}
-
-/// A stem, and what is left after its items.
-#[tactic(auto, using(crate::proofs::Limits::is_stem_ok))]
-fn next_stem<'a>(
-    alloc: Global,
-    room: &mut Vec<u32>,
-    samples: &mut Vec<u16>,
-    text: &'a [u8],
-) -> Result<Option<(Stem, &'a [u8])>, AllocError>
-    ensures { IfOk result (λ o. IfSome o (λ w. LeadsStem text.now w.0 w.1.now)) }
-{
-    let Some((head, named)) = next_head(room, text)? else {
-        return Ok(None);
-    };
-    let Some(sampled) = next_samples(samples, named)? else {
-        return Ok(None);
-    };
-    let Some((zones, left)) = next_zones(alloc, room, sampled)? else {
-        return Ok(None);
-    };
-    let stem = Stem::of_parts(alloc, head.0, head.1, samples.as_slice(), zones)?;
-    Ok(Some((stem, left)))
-}
-
-/// The logs of a cutting, and what is left after them.
-fn next_logs<'a>(
-    alloc: Global,
-    room: &mut Vec<u32>,
-    text: &'a [u8],
-) -> Result<Option<(Vec<Log>, &'a [u8])>, AllocError>
-    ensures { IfOk result (λ o. IfSome o (λ w. LeadsTo (slot 981 5) logs_at text.now w.0.items w.1.now)) }
-{
-    let Some(left) = next_numbers(room, LOGS, text)? else {
-        return Ok(None);
-    };
-    if room.len() % 3 != 0 {
-        return Ok(None);
-    }
-    if room.len() > 240 {
-        return Ok(None);
-    }
-    if !are_logs(room.as_slice()) {
-        return Ok(None);
-    }
-    let logs = logs_of(alloc, room.as_slice())?;
-    Ok(Some((logs, left)))
+    Ok(left)
 }
 
 /// The worth of a cutting, and what is left after it.
-#[tactic(auto, using(crate::proofs::OnePass::worth_read, crate::proofs::OnePass::ok_of))]
-fn next_worth(text: &[u8]) -> Option<(u64, &[u8])>
-    ensures { IfSome result (λ w. LeadsTo (slot 981 6) worth_at text.now w.0 w.1.now) }
+fn next_worth(text: &[u8]) -> Result<(u64, &[u8]), JournalFault>
+    ensures { IfOk result (λ w. LeadsWorth text.now w.0 w.1.now) }
 {
     let Some((rest, left)) = next_quick(WORTH, text) else {
-        return None;
+        return Err(JournalFault::NotJournal);
     };
     match wide(rest) {
-        Ok(worth) => Some((worth, left)),
-        Err(_) => None,
+        Ok(worth) => Ok((worth, left)),
+        Err(_) => Err(JournalFault::NotJournal),
     }
 }
 
 /// A cut, and what is left after its items.
+#[tactic(auto, using(crate::proofs::Limits::is_stem_ok, crate::proofs::OnePass::cut_leads))]
 fn next_cut<'a>(
     alloc: Global,
     room: &mut Vec<u32>,
     samples: &mut Vec<u16>,
     text: &'a [u8],
-) -> Result<Option<(Posting, &'a [u8])>, AllocError>
-    ensures { IfOk result (λ o. IfSome o (λ w. LeadsPosting text.now w.0 w.1.now)) }
+) -> Result<(Posting, &'a [u8]), JournalFault>
+    ensures { IfOk result (λ w. LeadsPostings text.now (w.0 ∷ []) w.1.now) }
 {
-    let Some((call, called)) = next_call(room, CUT, text)? else {
-        return Ok(None);
-    };
-    let Some((stem, felled)) = next_stem(alloc, room, samples, called)? else {
-        return Ok(None);
-    };
-    let Some((logs, logged)) = next_logs(alloc, room, felled)? else {
-        return Ok(None);
-    };
-    let Some((worth, left)) = next_worth(logged) else {
-        return Ok(None);
-    };
+    let called = next_numbers(room, CUT, text)?;
+    let call = call_in(1, room.as_slice())?;
+    let named = next_numbers(room, HEAD, called)?;
+    let (number, species) = head_in(1, room.as_slice())?;
+    let sampled = next_samples(samples, named)?;
+    let zoned = next_numbers(room, CUT_ZONES, sampled)?;
+    let zones = zones_in(alloc, 1, room.as_slice())?;
+    let logged = next_numbers(room, LOGS, zoned)?;
+    let logs = logs_in(alloc, 1, room.as_slice())?;
+    let (worth, left) = next_worth(logged)?;
+    let stem = Stem::of_parts(alloc, number, species, samples.as_slice(), zones)?;
     let cut = cut_of(alloc, call, stem, logs, worth)?;
-    Ok(Some((cut, left)))
-}
-
-/// The prices of a sheet, or the targets of a demand, and what is left after them.
-#[tactic(auto, using(crate::proofs::OnePass::list_leads))]
-fn next_list<'a>(
-    alloc: Global,
-    room: &mut Vec<u32>,
-    slot: Slot,
-    low: u32,
-    high: u32,
-    text: &'a [u8],
-) -> Result<Option<(Vec<u32>, &'a [u8])>, AllocError>
-    ensures { IfOk result (λ o. IfSome o (λ w. LeadsTo slot (list_at slot low high) text.now w.0.items w.1.now)) }
-{
-    let Some(left) = next_numbers(room, slot, text)? else {
-        return Ok(None);
-    };
-    if room.len() > 16_384 {
-        return Ok(None);
-    }
-    if !all_within(low, high, room.as_slice()) {
-        return Ok(None);
-    }
-    let numbers = Vec::from_slice(alloc, room.as_slice())?;
-    Ok(Some((numbers, left)))
+    Ok((cut, left))
 }
 
 /// A demand, and what is left after its items.
+#[tactic(auto, using(crate::proofs::OnePass::demand_leads))]
 fn next_demand<'a>(
     alloc: Global,
     room: &mut Vec<u32>,
     text: &'a [u8],
-) -> Result<Option<(Posting, &'a [u8])>, AllocError>
-    ensures { IfOk result (λ o. IfSome o (λ w. LeadsPosting text.now w.0 w.1.now)) }
+) -> Result<(Posting, &'a [u8]), JournalFault>
+    ensures { IfOk result (λ w. LeadsPostings text.now (w.0 ∷ []) w.1.now) }
 {
-    let Some((call, called)) = next_call(room, DEMAND, text)? else {
-        return Ok(None);
-    };
-    let (low, high) = (TARGETS.low, TARGETS.high);
-    let Some((targets, left)) = next_list(alloc, room, DEMAND_TARGETS, low, high, called)? else {
-        return Ok(None);
-    };
+    let called = next_numbers(room, DEMAND, text)?;
+    let call = call_in(1, room.as_slice())?;
+    let left = next_numbers(room, DEMAND_TARGETS, called)?;
+    check_list(TARGETS.low, TARGETS.high, 1, room.as_slice())?;
+    let targets = Vec::from_slice(alloc, room.as_slice())?;
     let demand = demand_of(alloc, call, targets)?;
-    Ok(Some((demand, left)))
+    Ok((demand, left))
 }
 
 /// A posting, and what is left after its items.
@@ -269,18 +125,20 @@ fn next_posting<'a>(
     room: &mut Vec<u32>,
     samples: &mut Vec<u16>,
     text: &'a [u8],
-) -> Result<Option<(Posting, &'a [u8])>, AllocError>
-    ensures { IfOk result (λ o. IfSome o (λ w. LeadsPosting text.now w.0 w.1.now)) }
+) -> Result<(Posting, &'a [u8]), JournalFault>
+    ensures { IfOk result (λ w. LeadsPostings text.now (w.0 ∷ []) w.1.now) }
 {
-    match next_cut(alloc, room, samples, text)? {
-        Some(cut) => Ok(Some(cut)),
-        None => next_demand(alloc, room, text),
+    match next_cut(alloc, room, samples, text) {
+        Ok(cut) => Ok(cut),
+        Err(JournalFault::Memory) => Err(JournalFault::Memory),
+        Err(_) => next_demand(alloc, room, text),
     }
 }
 
 /// The postings of a text, up to its end.
-pub(crate) fn postings_of(alloc: Global, text: &[u8]) -> Result<Option<Vec<Posting>>, AllocError>
-    ensures { IfOk result (λ o. IfSome o (λ postings. HasPostings text.now postings.items)) }
+#[tactic(auto, using(crate::proofs::OnePass::postings_start, crate::proofs::OnePass::postings_go_on, crate::proofs::OnePass::postings_end))]
+pub(crate) fn postings_of(alloc: Global, text: &[u8]) -> Result<Vec<Posting>, JournalFault>
+    ensures { IfOk result (λ postings. HasPostings text.now postings.items) }
 {
     let mut room = Vec::new(alloc);
     let mut samples = Vec::new(alloc);
@@ -289,69 +147,63 @@ pub(crate) fn postings_of(alloc: Global, text: &[u8]) -> Result<Option<Vec<Posti
     // One turn at least: where no posting is left, the text has ended.
     for _ in 0..text.len().max(1) {
         if is_done(rest) {
-            return Ok(Some(postings));
+            return Ok(postings);
         }
-        let Some((posting, left)) = next_posting(alloc, &mut room, &mut samples, rest)? else {
-            return Ok(None);
-        };
+        let (posting, left) = next_posting(alloc, &mut room, &mut samples, rest)?;
         postings.push(posting)?;
         rest = left;
     }
-    Ok(None)
+    Err(JournalFault::NotJournal)
 }
 
-/// The sheets that a text begins with, and what is left after them.
-fn sheets_of<'a>(
+/// The prices of a sheet, and what is left after them.
+#[tactic(auto, using(crate::proofs::OnePass::sheet_leads))]
+fn next_sheet<'a>(
     alloc: Global,
     room: &mut Vec<u32>,
     text: &'a [u8],
-) -> Result<(Vec<Vec<u32>>, &'a [u8]), AllocError>
+) -> Result<(Vec<u32>, &'a [u8]), JournalFault>
+    ensures { IfOk result (λ w. LeadsSheets text.now (w.0.items ∷ []) w.1.now) }
+{
+    let left = next_numbers(room, SHEET, text)?;
+    check_list(0, HIGHEST_PRICE, 1, room.as_slice())?;
+    Ok((Vec::from_slice(alloc, room.as_slice())?, left))
+}
+
+/// The sheets that a text begins with, and what is left after them.
+#[tactic(auto, using(crate::proofs::OnePass::sheets_start, crate::proofs::OnePass::sheets_go_on, crate::proofs::Walk::pushed))]
+fn sheets_of<'a>(alloc: Global, text: &'a [u8]) -> Result<(Vec<Vec<u32>>, &'a [u8]), JournalFault>
     ensures { IfOk result (λ w. LeadsSheets text.now (map (λ v. v.items) w.0.items) w.1.now) }
 {
+    let mut room = Vec::new(alloc);
     let mut sheets = Vec::new(alloc);
     let mut rest = text;
     for _ in 0..text.len() {
-        let Some((prices, left)) = next_list(alloc, room, SHEET, 0, HIGHEST_PRICE, rest)? else {
-            return Ok((sheets, rest));
-        };
-        sheets.push(prices)?;
-        rest = left;
+        match next_sheet(alloc, &mut room, rest) {
+            Ok((prices, left)) => {
+                sheets.push(prices)?;
+                rest = left;
+            }
+            Err(JournalFault::Memory) => return Err(JournalFault::Memory),
+            Err(_) => return Ok((sheets, rest)),
+        }
     }
     Ok((sheets, rest))
 }
 
 /// The sheets of a journal's bytes, and what is left after them.
+#[tactic(auto, using(crate::proofs::OnePass::plain_journal))]
 pub(crate) fn opened<'a>(
     alloc: Global,
     bytes: &'a [u8],
-) -> Result<Option<(Vec<Vec<u32>>, &'a [u8])>, AllocError>
-    ensures { IfOk result (λ o. IfSome o (λ w.
-        BeginsJournal bytes.now (map (λ v. v.items) w.0.items) w.1.now)) }
+) -> Result<(Vec<Vec<u32>>, &'a [u8]), JournalFault>
+    ensures { IfOk result (λ w. BeginsJournal bytes.now (map (λ v. v.items) w.0.items) w.1.now) }
 {
     let Some((kind, body)) = next_quick(FILE, bytes) else {
-        return Ok(None);
+        return Err(JournalFault::NotJournal);
     };
     if kind != b"JRN".as_slice() {
-        return Ok(None);
+        return Err(JournalFault::NotJournal);
     }
-    let mut room = Vec::new(alloc);
-    let (sheets, rest) = sheets_of(alloc, &mut room, body)?;
-    Ok(Some((sheets, rest)))
-}
-
-/// The journal of a file's bytes, where all of it is right; `None` says nothing of them.
-pub(crate) fn read_plain(alloc: Global, bytes: &[u8]) -> Result<Option<Journal>, AllocError>
-    ensures value { IfOk result (λ o. IfSome o (λ journal. journal_of bytes.now ≡ Ok journal)) }
-    ensures few { IfOk result (λ o. IfSome o (λ journal. length journal.entries ≤ MOST_POSTINGS)) }
-{
-    let Some((sheets, rest)) = opened(alloc, bytes)? else {
-        return Ok(None);
-    };
-    let Some(entries) = postings_of(alloc, rest)? else {
-        return Ok(None);
-    };
-    if entries.len() > MOST_POSTINGS as usize {
-        return Ok(None);
-    }
-    Ok(Some(Journal { sheets, entries }))
+    sheets_of(alloc, body)
 }

@@ -1,23 +1,20 @@
-use Rattle.std.proofs.Common.{sym, subst}
-use Rattle.buck_record.specs.checking.Rules.{slot}
-use Rattle.buck_journal.specs.reading.Journal.{logs_at}
-use Rattle.buck_journal.specs.inner.Plain.{LeadsTo, LeadsCall, LeadsStem, LeadsPosting}
+use Rattle.std.proofs.Common.{ap, sym, ◌∙◌}
+use Rattle.buck_journal.specs.reading.Journal.{says, call_form, head_form, zones_form, logs_form}
 use Rattle.buck_journal.proofs.OnePass.{cut_leads}
 use Rattle.buck_journal.proofs.reading.plain.next_cut.Goals as goal
 
 pub returns : goal.returns
 returns c =
-    let text = c.args.text.now in
-    let call = c.in-Some.call in
-    let called = c.in-Some.called.now in
-    let stem = c.in-Some-2.stem in
-    let felled = c.in-Some-2.felled.now in
-    let logs = c.in-Some-3.logs.items in
-    let logged = c.in-Some-3.logged.now in
-    let left = c.in-Some-next_worth.left.now in
-    let first : LeadsCall (slot 981 1) text call called = rw c.in-Some.is at c.in_ok-call.ensures in
-    let second : LeadsStem called stem felled = rw c.in-Some-2.is at c.in_ok-stem.ensures in
-    let third : LeadsTo (slot 981 5) logs_at felled logs logged = rw c.in-Some-3.is at c.in_ok-logs.ensures in
-    subst (λ p. LeadsPosting text p left) (sym c.in_ok-cut.ensures)
-    (cut_leads call stem logs c.in-Some-next_worth.worth text called felled logged left first second third
-    c.in-Some-next_worth.ensures)
+    let left = c.in_ok-worth.left.now in
+    rw (c.in_ok-cut.ensures, c.in_ok-stem.ensures, c.as_slice-5.ensures.value)
+    (cut_leads c.in_ok-call.call (c.in_ok-number.number, c.in_ok-number.species) c.next_samples.new.samples.items
+    c.in_ok-zones.zones.items c.in_ok-logs.logs.items c.in_ok-worth.worth
+    c.args.text.now c.in_ok-called.called.now c.in_ok-named.named.now c.in_ok-sampled.sampled.now c.in_ok-zoned.zoned.now
+    c.in_ok-logged.logged.now left
+    _ _ _ _
+    c.in_ok-called.ensures (ap (says call_form 1) (sym c.as_slice.ensures.value) ∙ sym c.in_ok-call.ensures)
+    c.in_ok-named.ensures (ap (says head_form 1) (sym c.as_slice-2.ensures.value) ∙ sym c.in_ok-number.ensures.value)
+    c.in_ok-sampled.ensures.leads c.in_ok-sampled.ensures.right
+    c.in_ok-zoned.ensures (ap (says zones_form 1) (sym c.as_slice-3.ensures.value) ∙ c.in_ok-zones.ensures.value)
+    c.in_ok-logged.ensures (ap (says logs_form 1) (sym c.as_slice-4.ensures.value) ∙ c.in_ok-logs.ensures)
+    c.in_ok-worth.ensures)

@@ -15,7 +15,7 @@ returns-in_err-posting c =
     let same : c.len.result ≡ length c.loop-k.postings.items = search rules in
     rw (p.1, p.2) (record {
       value = λ ne. gives_up _ _ _ c.loop-k.invariant.read _ _ here c.in_err-posting.field-0.0
-          (ap (posting_at c.index-items-k.result c.args.items.now c.loop-k.k) (sym same)
+          (ap (posting_at c.index-items-k.result _ c.loop-k.k) (sym same)
           ∙ c.in_err-posting.ensures.value ne);
       few = tt;
     })
@@ -31,7 +31,7 @@ loop-k-preserved c = elim c.if-is_first.branch [
       rw (w.postings-is, w.in_ok-push.ensures.items) (record {
         read = rw longer
             (goes_on _ _ _ c.loop-k.invariant.read _ _ here w.in_ok-posting.posting
-            (ap (posting_at c.index-items-k.result c.args.items.now c.loop-k.k) (sym same)
+            (ap (posting_at c.index-items-k.result _ c.loop-k.k) (sym same)
             ∙ w.in_ok-posting.ensures.value));
         few = omega (arith, longer, w.in_ok-posting.ensures.few, w.len.ensures);
       })

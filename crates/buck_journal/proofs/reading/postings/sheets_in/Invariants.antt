@@ -5,5 +5,5 @@ use Rattle.buck_journal.proofs.reading.postings.sheets_in.Given as goal
 
 abbrev pub invariant-loop-k : goal.invariant-loop-k
 invariant-loop-k l =
-    after_front (map (λ w. w.items) l.sheets.items) (sheets_from l.items l.k (drop l.k l.items))
-    ≡ sheets_from l.items 1 (drop 1 l.items)
+    after_front (map (λ w. w.items) l.sheets.items) (sheets_from l.k (drop l.k l.items))
+    ≡ sheets_from 1 (drop 1 l.items)

@@ -1,9 +1,9 @@
-use Rattle.std.proofs.Common.{◌≡◌, ◌*◌, ◌++◌, drop, true}
+use Rattle.std.proofs.Common.{◌≡◌, ◌*◌, ◌++◌, drop}
 use Rattle.buck_journal.specs.reading.Journal.{are_logs, logs_of}
-use Rattle.buck_journal.proofs.reading.parts.logs_of.Given as goal
+use Rattle.buck_journal.proofs.reading.parts.logs_in.Given as goal
 
 abbrev pub invariant-loop-k : goal.invariant-loop-k
 invariant-loop-k l = record {
   so_far : l.logs.items ++ logs_of (drop (3 * l.k) l.numbers) ≡ logs_of l.numbers;
-  right : are_logs (drop (3 * l.k) l.numbers) ≡ true;
+  right : are_logs (drop (3 * l.k) l.numbers) ≡ are_logs l.numbers;
 }

@@ -1,10 +1,10 @@
-use Rattle.std.proofs.Common.{◌≡◌, ℕ, ◌*◌, ◌++◌, drop, true}
+use Rattle.std.proofs.Common.{◌≡◌, ◌*◌, ◌++◌, drop}
 use Rattle.buck_stem.specs.file.Stm.{zones_of}
 use Rattle.buck_journal.specs.reading.Journal.{are_zones}
-use Rattle.buck_journal.proofs.reading.parts.zones_of.Given as goal
+use Rattle.buck_journal.proofs.reading.parts.zones_in.Given as goal
 
 abbrev pub invariant-loop-k : goal.invariant-loop-k
 invariant-loop-k l = record {
   so_far : l.zones.items ++ zones_of (drop (2 * l.k) l.numbers) ≡ zones_of l.numbers;
-  right : (low : ℕ) × (are_zones low (drop (2 * l.k) l.numbers) ≡ true);
+  right : are_zones l.low (drop (2 * l.k) l.numbers) ≡ are_zones 0 l.numbers;
 }
