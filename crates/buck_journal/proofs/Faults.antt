@@ -38,23 +38,17 @@ module _ (h : HistoryParts) (v : IsInstruction h.instruction) (l : IsLawful h) w
             let version : version_at h (m + 1) ≡ version_at h m + 1 =
             ap (λ ps. ends_of h.instruction ps) (take_one_more h.postings m x at)
             ∙ ends_with_end h.instruction (take m h.postings) x yes_ in
-            subst (λ n. PricesMeet h.instruction (take (m + 1) h.postings) (prices_at h.sheets n)) (sym version)
-            (l.sheets_meet m x at yes_)
+            grind arith
         | inr no_ ↦
             let more : cuts_since_end h.instruction (take m h.postings ++ x ∷ [])
-            ≡ cuts_since_end h.instruction (take m h.postings) + 1 =
-            cuts_without h.instruction (take m h.postings) x (λ e. true_false (sym e ∙ no_)) in
-            absurd (omega
-            (arith, b, ap (λ ps. cuts_since_end h.instruction ps) (take_one_more h.postings m x at), more))
+            ≡ cuts_since_end h.instruction (take m h.postings) + 1 = grind (arith, cuts_without, true_false) in
+            grind (arith, take_one_more)
       ]
 
   pub prices_right : (k : ℕ) → k ≤ length h.postings → Begins h k
       → PricesMeet h.instruction (take k h.postings) (prices_then h k)
   prices_right k le b = elim (cases_eq k 0) [
-    | inl none ↦
-        subst (λ n. PricesMeet h.instruction (take n h.postings) (prices_then h n)) (sym none)
-        (subst (λ prices. PricesMeet h.instruction [] prices) (sym l.base_sheet)
-        (meets_from_alone h.instruction [] (base_prices h.instruction) v (base_meets h.instruction v)))
+    | inl none ↦ grind (arith, meets_from_alone, base_meets)
     | inr some ↦
         let before : k - 1 + 1 ≡ k = omega arith in
         elim (slice_get_cases h.postings (k - 1)).1 [

@@ -42,9 +42,7 @@ module _ (h : HistoryParts) where
       → IsPriced h.instruction h.sheets (planned_version x)
   priced_before k le before j x lt at =
       let from = opened h j (version_at h j) (omega (arith, lt, le)) (omega arith) in
-      let sheet = before.sheets from.at (omega (arith, from.within_them, lt)) from.begins in
-      let version : version_at h from.at ≡ planned_version x = from.is ∙ sym (before.postings j x lt at).of_version in
-      subst (λ v. IsPriced h.instruction h.sheets v) version (sheet.0.0, (take from.at h.postings, sheet.1))
+      search rules
 
   -- a posting that is right, and isn't outvalued, may follow
   follows : (before : List Posting) (x : Posting)
@@ -87,18 +85,7 @@ module _ (h : HistoryParts) where
   first_is_met until at le before lt first =
       let r = before.postings at first.next lt first.there in
       let more = first.wrong (priced_before until le before at first.next lt first.there) in
-      inl (record {
-        at = at;
-        next = first.next;
-        there = first.there;
-        right = right_before at (in_order_less at until (omega arith) before) first.before;
-        wrong = inr (
-          before.sheets at lt,
-          subst (λ v. IsPostingFault (sheet_at h.instruction h.sheets v) (take at h.postings) first.next at
-              (Outvalued at)) r.of_version
-              (inr (r.numbered, r.of_version, outvalued_there at first.next r more)),
-        );
-      })
+      grind (arith, right_before, in_order_less, outvalued_there, first.next, first.there, first.before, before.sheets, r.of_version, r.numbered)
 
   -- where none is, the fault at which the walk stopped is the first
   stop_is_met : (until : ℕ) (fault : ReplayFault) → IsInOrderBefore h until
@@ -109,22 +96,18 @@ module _ (h : HistoryParts) where
   module _ {W : Type 0} (until : ℕ) (ps : List Posting) (end : Result W ReplayFault) (o : IsOrdered h until end)
       (same : AreSameBefore until ps h.postings) where
     pub judged_found : (at : ℕ) → at < until → IsFound h ps (Some at) → IsFirstFault h (Outvalued at)
-    judged_found at lt first =
-        first_is_met until at o.within o.right lt (first_same until ps h.postings same at lt first)
+    judged_found at lt first = grind (arith, first_is_met, first_same)
 
     judged_end : (e : Result W ReplayFault) → IsOrdered h until e → NoneDoubtful h h.postings until
         → IsJudged h e
-    judged_end (Ok w) ok none =
-        let all = ok.ended in
-        lawful_when h all.valid (subst (λ n. IsRightBefore h n) all.all (right_before until ok.right none)) all.right
+    judged_end (Ok w) ok none = grind (arith, lawful_when, right_before, ok.ended, ok.right)
     judged_end (Err fault) ok none = λ told. stop_is_met until fault ok.right none (ok.stopped told)
 
     pub judged_none : IsFound h ps None → IsJudged h end
     judged_none none = grind (arith, judged_end, slice_get_within)
 
     pub judged_behind : (at : ℕ) → until ≤ at → IsFound h ps (Some at) → IsJudged h end
-    judged_behind at le first =
-        judged_end end o (λ j x lt is. first.before j x (omega (arith, lt, le)) (same j lt ∙ is))
+    judged_behind at le first = search (rules, judged_end)
 
 -- what that is to a caller
 pub judged_cases : {W : Type 0} (h : HistoryParts) (r : Result W ReplayFault) → IsJudged h r
@@ -184,8 +167,7 @@ module _ (h : HistoryParts) (ps front rest : List Posting) (mid : ℕ) (front_is
   get_front k lt = ap (λ xs. slice_get xs k) front_is ∙ get_taken mid ps k (omega (arith, lt, front_length))
 
   get_rest : (k : ℕ) → k < length rest → slice_get rest k ≡ slice_get ps (length front + k)
-  get_rest k lt =
-      ap (λ xs. slice_get xs k) rest_is ∙ get_dropped mid ps k ∙ ap (λ n. slice_get ps (n + k)) (sym front_length)
+  get_rest k lt = grind (arith, get_dropped)
 
   pub in_front : (found : Option ℕ) → true ≡ is_some found → IsFound h front found → IsFound h ps found
   in_front found none first = grind (arith, first_same, get_front, slice_get_within)
@@ -198,14 +180,7 @@ module _ (h : HistoryParts) (ps front rest : List Posting) (mid : ℕ) (front_is
   pub in_rest : (found : Option ℕ) → false ≡ is_some found → IsFound h front found → (at : ℕ)
       → IsFound h rest (Some at)
       → IsFound h ps (Some (length front + at))
-  in_rest found none old at first =
-      first_in_part h ps rest (length front) get_rest at (none_in_front found none old) first
-
-  pub in_neither : (found : Option ℕ) → false ≡ is_some found → IsFound h front found → IsFound h rest None
-      → IsFound h ps None
-  in_neither found none old new =
-      none_in_part h ps rest (length front) get_rest (length ps)
-      (λ j lt within. omega (arith, lt, front_length, rest_length)) (none_in_front found none old) new
+  in_rest found none old at first = search (rules, first_in_part, get_rest, none_in_front)
 
   -- and a place in the rest is one that fits a number
   pub in_bounds : (at : ℕ) → IsFound h rest (Some at) → length front + at < length ps

@@ -1,5 +1,5 @@
 -- Numbers that passed the tests are within the limits of a stem.
-use Rattle.std.proofs.Common.{◌≡◌, ℕ, ◌+◌, ◌*◌, ◌≤◌, true, List, [], ◌∷◌, ◌++◌, length, sym, ap, ◌∙◌, subst, arith}
+use Rattle.std.proofs.Common.{◌≡◌, ℕ, ◌+◌, ◌*◌, ◌≤◌, true, List, [], ◌∷◌, ◌++◌, length, sym, ◌∙◌, subst, arith}
 use Rattle.std.proofs.lemmas.List.{append-nil}
 use Rattle.std.proofs.lemmas.Grind.{common_steps}
 use Rattle.std.specs.List.{AllByRecursion}
@@ -13,7 +13,6 @@ use Rattle.buck_stem.specs.Stem.{IsStem, IsGrade, IsRisingFrom, stem_of}
 use Rattle.buck_stem.specs.file.Stm.{zones_of}
 use Rattle.buck_journal.specs.reading.Journal.{is_zone, are_zones}
 use Rattle.buck_journal.specs.inner.Limits.{AreSamples, AreZones}
-use Rattle.buck_journal.proofs.Tuples.{no_zones, no_zone_parts}
 
 half : (ns : List ℕ) → length (zones_of ns) * 2 ≤ length ns
 half [] = omega arith
@@ -45,10 +44,11 @@ are_zones_ok ns few h = record {
 -- all zones of an item were gone through
 pub zones_done : (zones : List (ℕ × ℕ)) (low : ℕ) (ns rest : List ℕ) → length rest ≤ 1 → length ns ≤ 2 * MOST_ZONES
     → zones ++ zones_of rest ≡ zones_of ns → are_zones low rest ≡ are_zones 0 ns → AreZones zones
-zones_done zones low ns rest le few so_far right =
-    let all : zones ≡ zones_of ns =
-    sym (append-nil zones) ∙ ap (λ zs. zones ++ zs) (sym (no_zone_parts rest le)) ∙ so_far in
-    subst AreZones (sym all) (are_zones_ok ns few (sym right ∙ no_zones low rest le))
+zones_done zones low ns [] le few so_far right =
+    subst AreZones (sym so_far ∙ append-nil zones) (are_zones_ok ns few (sym right))
+zones_done zones low ns (x ∷ []) le few so_far right =
+    subst AreZones (sym so_far ∙ append-nil zones) (are_zones_ok ns few (sym right))
+zones_done zones low ns (x ∷ y ∷ more) le few so_far right = absurd (omega arith)
 
 pub are_samples_ok : (ns : List ℕ) → one_to MOST_SAMPLES (length ns) ≡ true
     → all_within SAMPLES.low SAMPLES.high ns ≡ true → AreSamples ns

@@ -1,7 +1,7 @@
 -- Lines of a file as they are written, and the items that are read of them.
 use Rattle.std.proofs.Common.{◌≡◌, ℕ, ◌+◌, ◌-◌, ◌<◌, ◌≤◌, ◌^◌, true, false, List, [], ◌∷◌, ◌++◌, All, Some, Ok, get_or, length, filter, map, refl, sym, ap, ◌∙◌, subst, arith, append_assoc, codes, rules}
 use Rattle.std.proofs.lemmas.Grind.{common_steps}
-use Rattle.std.specs.List.{slice_split, flat_map, AllByRecursion}
+use Rattle.std.specs.List.{slice_split, AllByRecursion}
 use Rattle.std.specs.Char.{is_ascii_digit}
 use Rattle.std.specs.Fmt.{decimal}
 use Rattle.std.proofs.lemmas.Fmt.{digits_decimal, decimal_nonempty}
@@ -15,11 +15,13 @@ use Rattle.buck_record.specs.Item.{ItemParts}
 use Rattle.buck_record.specs.bytes.White.{is_white, is_filled, trim, trim_start, trim_end, first_word, after_word, words}
 use Rattle.buck_record.specs.Reading.{each_from}
 use Rattle.buck_record.specs.bytes.Record.{number_at_most, is_tilde, filled_parts, item_of, items_of, numbers_of, number_of}
+use Rattle.buck_record.specs.pass.Cursor.{HasItems}
 use Rattle.buck_record.specs.writing.Written.{spelled}
 use Rattle.buck_record.proofs.NumberLemmas.{numeral}
 use Rattle.buck_record.proofs.RoundLemmas.{number-decimal, numbers_again, words-spelled}
 use Rattle.buck_record.proofs.WordLemmas.{words-trim_start}
 use Rattle.buck_journal.specs.Written.{item_text}
+use Rattle.buck_journal.proofs.OnePass.{items-are}
 
 -- a text whose last byte isn't white, and one whose first isn't
 abbrev EndsDark : List ℕ → Type 0
@@ -57,10 +59,7 @@ ends_append xs zs h = grind (arith, common_steps)
 ends_spelled : (xs ns : List ℕ) → AllByRecursion (λ n. n < 2 ^ 64) ns → EndsDark xs → EndsDark (xs ++ spelled ns)
 ends_spelled xs [] h e = subst EndsDark (sym (append-nil xs)) e
 ends_spelled xs (n ∷ ns) h e =
-    let more : EndsDark ((xs ++ 32 ∷ decimal n) ++ spelled ns) =
-    ends_spelled (xs ++ 32 ∷ decimal n) ns h.1
-    (ends_append xs (32 ∷ decimal n) (ends_append (32 ∷ []) (decimal n) (ends_decimal n h.0))) in
-    subst EndsDark (append_assoc xs (32 ∷ decimal n) (spelled ns)) more
+    search (rules, ends_append, ends_decimal, append_assoc, (ends_spelled (xs ++ 32 ∷ decimal n) ns h.1 (ends_append xs (32 ∷ decimal n) (ends_append (32 ∷ []) (decimal n) (ends_decimal n h.0)))))
 
 starts_append : (xs zs : List ℕ) → StartsDark xs → StartsDark (xs ++ zs)
 starts_append [] zs h = absurd (let pos = h.0 in omega arith)
@@ -96,8 +95,7 @@ unfolding told
 told_words [] h = words-spelled [] h
 told_words (n ∷ ns) h =
     let own : trim_start (32 ∷ (decimal n ++ spelled ns)) ≡ decimal n ++ spelled ns =
-    start_white 32 (decimal n ++ spelled ns) refl
-    ∙ start_dark (decimal n ++ spelled ns) (starts_append (decimal n) (spelled ns) (starts_decimal n h.0)) in
+    search (rules, start_white, start_dark, starts_append, starts_decimal) in
     ap words (sym own) ∙ words-trim_start (32 ∷ (decimal n ++ spelled ns)) ∙ words-spelled (n ∷ ns) h
 
 pub smaller : (ns : List ℕ) → AllByRecursion (λ n. n ≤ 4294967295) ns → AllByRecursion (λ n. n < 2 ^ 64) ns
@@ -115,8 +113,7 @@ numbers_told ns h = search (rules, numbers_by_words, told, told_words, smaller, 
 -- one wide number after a head is read again
 pub worth_told : (n : ℕ) → n ≤ 18446744073709551615 → number_of 18446744073709551615 (told (n ∷ [])) ≡ Ok n
 unfolding number_of
-worth_told n le =
-    rw (told_words (n ∷ []) (omega arith, tt), number-decimal 18446744073709551615 n le (omega arith)) refl
+worth_told n le = grind (arith, told_words, number-decimal)
 
 -- the head of an item: three digits, a blank and one digit
 pub record Head : Type 0 where
@@ -134,20 +131,11 @@ pub record Head : Type 0 where
 abbrev pub bytes_of : Head → List ℕ
 bytes_of h = h.a ∷ h.b ∷ h.c ∷ 32 ∷ h.k ∷ []
 
--- a line is a head and numbers
-pub record Line : Type 0 where
-  pub head : Head
-  pub numbers : List ℕ
-  pub small : AllByRecursion (λ n. n < 2 ^ 64) numbers
+abbrev pub item_at : Head → List ℕ → ItemParts
+item_at h ns = record { number = h.number; kind = h.kind; rest = told ns }
 
-abbrev pub item_at : Line → ItemParts
-item_at l = record { number = l.head.number; kind = l.head.kind; rest = told l.numbers }
-
-abbrev piece_of : Line → List ℕ
-piece_of l = bytes_of l.head ++ spelled l.numbers
-
-abbrev pub text_of : Line → List ℕ
-text_of l = item_text (bytes_of l.head) l.numbers
+abbrev piece_of : Head → List ℕ → List ℕ
+piece_of h ns = bytes_of h ++ spelled ns
 
 -- the words of a head
 module _ (h : Head) where
@@ -169,90 +157,83 @@ module _ (h : Head) where
   after_kind [] = rw h.dark.3 refl
   after_kind (n ∷ ns) = rw h.dark.3 refl
 
-item_of_piece : (l : Line) → item_of (piece_of l) ≡ Some (item_at l)
+item_of_piece : (h : Head) (ns : List ℕ) → AllByRecursion (λ n. n < 2 ^ 64) ns
+    → item_of (piece_of h ns) ≡ Some (item_at h ns)
 unfolding item_of
-item_of_piece l =
-    let h = l.head in
-    let tail : trim (after_word (h.a ∷ h.b ∷ h.c ∷ 32 ∷ h.k ∷ spelled l.numbers)) ≡ h.k ∷ spelled l.numbers =
-    ap trim (after_of h (h.k ∷ spelled l.numbers))
-    ∙ trim_dark (h.k ∷ spelled l.numbers) (omega arith, h.dark.3)
-    (ends_spelled (h.k ∷ []) l.numbers l.small (omega arith, h.dark.3)) in
+item_of_piece h ns small =
+    let tail : trim (after_word (h.a ∷ h.b ∷ h.c ∷ 32 ∷ h.k ∷ spelled ns)) ≡ h.k ∷ spelled ns =
+    ap trim (after_of h (h.k ∷ spelled ns))
+    ∙ trim_dark (h.k ∷ spelled ns) (omega arith, h.dark.3)
+    (ends_spelled (h.k ∷ []) ns small (omega arith, h.dark.3)) in
     rw (
-      first_of h (h.k ∷ spelled l.numbers),
+      first_of h (h.k ∷ spelled ns),
       h.number_is,
       tail,
-      kind_word h l.numbers,
+      kind_word h ns,
       h.kind_is,
-      after_kind h l.numbers,
-      told_trimmed l.numbers l.small,
+      after_kind h ns,
+      told_trimmed ns small,
     ) refl
 
 plain_spelled : (ns : List ℕ) → AllByRecursion (λ n. n < 2 ^ 64) ns → All IsPlain (spelled ns)
 plain_spelled [] h = All-nil IsPlain
-plain_spelled (n ∷ ns) h =
-    All-cons IsPlain 32 (decimal n ++ spelled ns) refl
-    (All-append IsPlain (decimal n) (spelled ns) (plain_decimal n h.0) (plain_spelled ns h.1))
+plain_spelled (n ∷ ns) h = search (rules, All-cons, All-append, plain_decimal, (plain_spelled ns h.1))
 
-plain_piece : (l : Line) → All IsPlain (piece_of l)
-plain_piece l = search (rules, plain_spelled)
-
-piece_trimmed : (l : Line) → trim (piece_of l) ≡ piece_of l
-piece_trimmed l =
-    trim_dark (piece_of l) (omega arith, l.head.dark.0)
-    (ends_spelled (bytes_of l.head) l.numbers l.small (omega arith, l.head.dark.3))
-
-trim_white : (w : ℕ) (xs : List ℕ) → is_white w ≡ true → trim (w ∷ xs) ≡ trim xs
-trim_white w xs h = ap trim_end (start_white w xs h)
-
-filled_front : (word : List ℕ) (others : List (List ℕ)) → 0 < length word
-    → filter is_filled (word ∷ others) ≡ word ∷ filter is_filled others
-filled_front word others h = cond-true _ _ _ (lt-ltb _ _ h)
-
-trim_none : trim [] ≡ []
-unfolding trim_start trim_end
-trim_none = refl
-
--- the pieces of lines, each after a line feed
-pub line_pieces : (ls : List Line) → filled_parts (slice_split is_tilde (10 ∷ flat_map text_of ls)) ≡ map piece_of ls
-line_pieces [] = ap (λ t. filter is_filled (t ∷ [])) (trim_white 10 [] refl ∙ trim_none)
-line_pieces (l ∷ ls) =
-    let rest : List ℕ = 10 ∷ flat_map text_of ls in
-    let text : 10 ∷ flat_map text_of (l ∷ ls) ≡ (10 ∷ piece_of l) ++ 126 ∷ rest =
-    ap (λ t. 10 ∷ l.head.a ∷ l.head.b ∷ l.head.c ∷ 32 ∷ l.head.k ∷ t)
-    (append_assoc (spelled l.numbers) (126 ∷ 10 ∷ []) (flat_map text_of ls)) in
-    let split : slice_split is_tilde (10 ∷ flat_map text_of (l ∷ ls)) ≡ (10 ∷ piece_of l) ∷ slice_split is_tilde rest =
-    ap (slice_split is_tilde) text
-    ∙ slice_split_at is_tilde (10 ∷ piece_of l) 126 rest
-    (All-cons IsPlain 10 (piece_of l) refl (plain_piece l)) refl in
-    ap filled_parts split
-    ∙ ap (λ xs. filter is_filled (xs ∷ map trim (slice_split is_tilde rest)))
-    (trim_white 10 (piece_of l) refl ∙ piece_trimmed l)
-    ∙ filled_front (piece_of l) (map trim (slice_split is_tilde rest)) (omega arith)
-    ∙ ap (λ xss. piece_of l ∷ xss) (line_pieces ls)
-
-each_line : (k : ℕ) (ls : List Line) → each_from item_of k (map piece_of ls) ≡ Ok (map item_at ls)
+-- a part that is an item, and a tilde, before the others
+part_says : (part piece left : List ℕ) (item : ItemParts) (items : List ItemParts) → All IsPlain part
+    → trim part ≡ piece → 0 < length piece → item_of piece ≡ Some item
+    → HasItems left items → HasItems (part ++ 126 ∷ left) (item ∷ items)
 unfolding each_from
-each_line k [] = refl
-each_line k (l ∷ ls) = rw (item_of_piece l, each_line (k + 1) ls) refl
+part_says part piece left item items plain trimmed some is h = λ k.
+    ap (λ parts. each_from item_of k (filled_parts parts)) (slice_split_at is_tilde part 126 left plain refl)
+    ∙ ap (λ word. each_from item_of k (filter is_filled (word ∷ map trim (slice_split is_tilde left)))) trimmed
+    ∙ ap (each_from item_of k) (cond-true _ _ _ (lt-ltb _ _ some))
+    ∙ rw (is, h (k + 1)) refl
+
+-- whatever follows, the lines of a text are those of items
+pub record Says (text : List ℕ) (items : List ItemParts) : Type 0 where
+  pub before : (rest : List ℕ) (more : List ItemParts)
+      → HasItems (10 ∷ rest) more → HasItems (10 ∷ (text ++ rest)) (items ++ more)
+
+pub says_none : Says [] []
+says_none = record { before = λ rest more h. h }
+
+pub says_both : (s t : List ℕ) (xs ys : List ItemParts) → Says s xs → Says t ys → Says (s ++ t) (xs ++ ys)
+says_both s t xs ys first second = record {
+  before = λ rest more h.
+      rw (append_assoc s t rest, append_assoc xs ys more)
+      (first.before (t ++ rest) (ys ++ more) (second.before rest more h));
+}
+
+pub line_says : (h : Head) (ns : List ℕ) → AllByRecursion (λ n. n < 2 ^ 64) ns
+    → Says (item_text (bytes_of h) ns) (item_at h ns ∷ [])
+line_says h ns small = record {
+  before = λ rest more is.
+      rw (append_assoc (spelled ns) (126 ∷ 10 ∷ []) rest)
+      (part_says (10 ∷ piece_of h ns) (piece_of h ns) (10 ∷ rest) (item_at h ns) more
+      (All-cons IsPlain 10 (piece_of h ns) refl (search (rules, plain_spelled)))
+      (ap trim_end (start_white 10 (piece_of h ns) refl)
+      ∙ trim_dark (piece_of h ns) (omega arith, h.dark.0)
+      (ends_spelled (bytes_of h) ns small (omega arith, h.dark.3)))
+      (omega arith) (item_of_piece h ns small) is);
+}
 
 -- the first item, which says the kind of file
 abbrev pub kind_item : ItemParts
 kind_item = record { number = 1; kind = 2; rest = codes "JRN" }
 
-head_piece : trim (codes "1 2 JRN") ≡ codes "1 2 JRN"
-unfolding trim_start trim_end
-head_piece = refl
-
-item_of_head : item_of (codes "1 2 JRN") ≡ Some kind_item
+kind_piece : (trim (codes "1 2 JRN") ≡ codes "1 2 JRN") × (item_of (codes "1 2 JRN") ≡ Some kind_item)
 unfolding item_of first_word after_word trim_start trim_end number_at_most
-item_of_head = refl
+kind_piece = (refl, refl)
 
-plain_head : All IsPlain (codes "1 2 JRN")
-plain_head =
-    All-from_recursion IsPlain (codes "1 2 JRN") (refl, (refl, (refl, (refl, (refl, (refl, (refl, tt)))))))
+nothing_left : HasItems (10 ∷ []) []
+unfolding each_from trim_start trim_end
+nothing_left k = refl
 
--- the items of lines after the first, which says the kind of file
-pub items_again : (ls : List Line)
-    → items_of (item_text (codes "1 2 JRN") [] ++ flat_map text_of ls) ≡ Ok (kind_item ∷ map item_at ls)
-unfolding items_of each_from
-items_again ls = grind (arith, slice_split_at, plain_head, head_piece, line_pieces, item_of_head, each_line)
+pub file_says : (text : List ℕ) (items : List ItemParts) → Says text items
+    → items_of (item_text (codes "1 2 JRN") [] ++ text) ≡ Ok (kind_item ∷ items)
+file_says text items says =
+    items-are (item_text (codes "1 2 JRN") [] ++ text) (kind_item ∷ items)
+    (part_says (codes "1 2 JRN") (codes "1 2 JRN") (10 ∷ text) kind_item items
+    (All-from_recursion IsPlain (codes "1 2 JRN") (refl, (refl, (refl, (refl, (refl, (refl, (refl, tt))))))))
+    kind_piece.0 (omega arith) kind_piece.1 (rw (append-nil text, append-nil items) at (says.before [] [] nothing_left)))

@@ -1,5 +1,5 @@
 -- A history in which no fault stands is lawful: what isn't wrong is right.
-use Rattle.std.proofs.Common.{◌≡◌, ℕ, zero, suc, ◌+◌, ◌<◌, ◌≤◌, ◌⊎◌, inl, inr, List, [], ◌∷◌, length, take, slice_get, Some, refl, sym, ◌∙◌, ap, subst, arith}
+use Rattle.std.proofs.Common.{◌≡◌, ℕ, zero, suc, ◌+◌, ◌<◌, ◌≤◌, ◌⊎◌, inl, inr, List, [], ◌∷◌, length, take, slice_get, Some, refl, sym, ◌∙◌, ap, subst, arith, rules}
 use Rattle.std.specs.Prelude.{Contains, slice_index}
 use Rattle.std.proofs.lemmas.Bool.{cases_eq, cases_lt, cases_order}
 use Rattle.std.proofs.lemmas.Map.Made.{Contains-tail}
@@ -73,16 +73,14 @@ allowed_of i stem g nn = elim (slice_get_cases i.assortments g.assortment).1 [
         no_ (subst (λ a. Allows i.«module» a stem g) (same_Some al.assortment some.0 (sym al.exists ∙ some.2))
         al.allows)));
   }
-  | inr past ↦
-      absurd (nn
-      (λ al. absurd (omega (arith, past.0, slice_get_within i.assortments g.assortment al.assortment al.exists))))
+  | inr past ↦ search (rules, slice_get_within)
 ]
 
 cut_of : (i : InstructionParts) (stem : StemParts) (from : ℕ) (gs : List Log)
     → Sure (IsCutFrom (IsAllowed i stem) (end_of i) from gs)
 cut_of i stem from [] nn = tt
 cut_of i stem from (g ∷ gs) nn = (
-  le_of _ _ (λ no_. nn (λ c. no_ c.0)),
+  grind (arith, le_of),
   allowed_of i stem g (λ no_. nn (λ c. no_ c.1)),
   cut_of i stem (end_of i g) gs (λ no_. nn (λ c. no_ c.2)),
 )

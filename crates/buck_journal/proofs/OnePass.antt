@@ -233,7 +233,7 @@ in_order kind xs ys pss ps says sheets postings few =
     sheets ys [] ps (record { sheets_read = λ k. no_sheets k ys last.begin; postings_read = last.read }) in
     rw (says, all.sheets_read 1, all.postings_read (0 + 1), append-nil pss) refl
 
-items-are : (bytes : List ℕ) (items : List ItemParts) → HasItems bytes items → items_of bytes ≡ Ok items
+pub items-are : (bytes : List ℕ) (items : List ItemParts) → HasItems bytes items → items_of bytes ≡ Ok items
 unfolding items_of
 items-are bytes items h = h 1
 

@@ -1,6 +1,5 @@
 -- Numbers two and three at a time.
 use Rattle.std.proofs.Common.{◌≡◌, ℕ, ◌+◌, ◌<◌, ◌≤◌, ◌&&◌, true, List, [], ◌∷◌, length, drop, get_or, sym, ap, ◌∙◌, arith, drop-cons, add-one}
-use Rattle.std.proofs.lemmas.Grind.{common_steps}
 use Rattle.buck_stem.specs.file.Stm.{zones_of}
 use Rattle.buck_journal.specs.reading.Journal.{is_zone, are_zones, is_log, are_logs, logs_of}
 
@@ -14,19 +13,6 @@ two xs i d lt = grind (arith, here)
 pub three : (xs : List ℕ) (i d : ℕ) → i + 2 < length xs
     → drop i xs ≡ get_or xs i d ∷ get_or xs (i + 1) d ∷ get_or xs (i + 2) d ∷ drop (i + 3) xs
 three xs i d lt = grind (arith, two, here)
-
--- no two are left, and no three
-pub no_zones : (low : ℕ) (xs : List ℕ) → length xs ≤ 1 → are_zones low xs ≡ true
-no_zones low xs le = grind (arith, common_steps)
-
-pub no_zone_parts : (xs : List ℕ) → length xs ≤ 1 → zones_of xs ≡ []
-no_zone_parts xs le = grind (arith, common_steps)
-
-pub no_logs : (xs : List ℕ) → length xs ≤ 2 → are_logs xs ≡ true
-no_logs xs le = grind (arith, common_steps)
-
-pub no_log_parts : (xs : List ℕ) → length xs ≤ 2 → logs_of xs ≡ []
-no_log_parts xs le = grind (arith, common_steps)
 
 -- the next two, and the next three
 module _ (xs : List ℕ) (i : ℕ) where

@@ -52,26 +52,19 @@ zones_yes : (low : ℕ) (zones : List (ℕ × ℕ)) → IsRisingFrom low zones �
     → are_zones low (zone_numbers zones) ≡ true
 zones_yes low [] rise starts grades = refl
 zones_yes low (z ∷ zs) rise starts grades =
-    let rest = zones_yes (z.0 + 1) zs rise.1 starts.1 grades.1 in grind (arith, nat_tests)
+    search (rules, nat_tests, (zones_yes (z.0 + 1) zs rise.1 starts.1 grades.1))
 
 log_yes : (i : InstructionParts) (stem : StemParts) (g : Log) → IsInstruction i → IsStem stem → IsAllowed i stem g
     → is_log g.start g.length g.assortment ≡ true
 log_yes i stem g v s a =
     let w = valid_of i stem g v a in
-    let long : g.length ≤ LENGTHS.high =
-    (All-contains (λ l. IsWithin LENGTHS.low LENGTHS.high l)
-    a.assortment.lengths g.length w.lengths_range a.allows.length_offered).1 in
-    let start : g.start ≤ STARTS.high = omega (arith, a.allows.within, s.samples_number.1) in
-    let which : g.assortment ≤ 15 =
-    omega (arith, slice_get_within i.assortments g.assortment a.assortment a.exists, v.assortments_number.1) in
-    grind (arith, nat_tests)
+    search (rules, All-contains, slice_get_within, nat_tests)
 
 logs_yes : (i : InstructionParts) (stem : StemParts) (from : ℕ) (gs : List Log) → IsInstruction i → IsStem stem
     → IsCutFrom (IsAllowed i stem) (end_of i) from gs
     → are_logs (log_numbers gs) ≡ true
 logs_yes i stem from [] v s cut = refl
-logs_yes i stem from (g ∷ gs) v s cut =
-    and_from _ _ (log_yes i stem g v s cut.1) (logs_yes i stem (end_of i g) gs v s cut.2)
+logs_yes i stem from (g ∷ gs) v s cut = search (rules, and_from, log_yes, (logs_yes i stem (end_of i g) gs v s cut.2))
 
 -- prices that keep the relation somewhere lie within their spans, and are low
 module _ (i : InstructionParts) (ps : List Posting) (prices : List ℕ) (v : IsInstruction i) (m : PricesMeet i ps prices)
@@ -149,9 +142,7 @@ module _ (h : HistoryParts) (v : IsInstruction h.instruction) (l : IsLawful h) w
     demand_in k d at b =
         let f : Follows h.instruction h.sheets (take k h.postings) (Demand d) = l.postings_follow k (Demand d) at in
         record {
-          call = call_yes (call_of_demand d) b
-              (subst (λ n. IsWithin 1 1000000 n) (sym f.number_is_next) (number_in k (Demand d) at))
-              (omega (arith, f.version_in_force, version_in k (Demand d) at));
+          call = search (rules, call_yes, number_in, version_in);
           targets_number = omega (arith, f.holds.one_each, classes-le h.instruction v);
           targets_range =
               all_within_yes TARGETS.high d.targets
@@ -166,8 +157,7 @@ module _ (h : HistoryParts) (v : IsInstruction h.instruction) (l : IsLawful h) w
     sheet_in : (k : ℕ) → k < length h.sheets → AreSheetPrices (prices_at h.sheets k)
     sheet_in k lt =
         let n : ℕ = length h.postings in
-        let whole : version_at h n ≡ ends_of h.instruction h.postings =
-        ap (λ ps. ends_of h.instruction ps) (take_all n h.postings (omega arith)) in
+        let whole : version_at h n ≡ ends_of h.instruction h.postings = grind (arith, take_all) in
         let o : Opened h n k = opened h n k (omega arith) (omega (arith, whole, l.sheets_number)) in
         sheet_prices h.instruction (take o.at h.postings) (prices_at h.sheets k) v (meets_there n k (omega arith) o)
 
@@ -176,7 +166,5 @@ module _ (h : HistoryParts) (v : IsInstruction h.instruction) (l : IsLawful h) w
     in_range of_book = record {
       few = few;
       sheets = λ k d lt. subst AreSheetPrices (get_or_default h.sheets k [] d lt) (sheet_in k lt);
-      postings = λ k d lt.
-          let at = slice_get-get_or h.postings k d lt in
-          posting_in k (get_or h.postings k d) at (of_book k (get_or h.postings k d) at);
+      postings = grind (arith, slice_get-get_or, posting_in);
     }

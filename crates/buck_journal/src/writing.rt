@@ -94,40 +94,21 @@ fn put_stem(out: &mut Vec<u8>, stem: &Stem) -> Result<(), Memory>
     put(out, b"~\n")
 }
 
-/// Puts the item that begins a posting.
-fn put_call(
-    out: &mut Vec<u8>,
-    head: &[u8],
-    harvester: u32,
-    number: u32,
-    version: u32,
-) -> Result<(), Memory>
-    ensures { OnOk result (out.new.items
-        ≡ out.old.items ++ item_text head.now (harvester ∷ number ∷ version ∷ [])) }
-{
-    let harvester = u128::from(harvester);
-    let number = u128::from(number);
-    put_few(out, head, &[harvester, number, u128::from(version)])
-}
-
-/// Puts the item of a cutting.
-fn put_cutting(out: &mut Vec<u8>, logs: &[Log]) -> Result<(), Memory>
-    ensures { OnOk result (out.new.items
-        ≡ out.old.items ++ item_text (codes "981 5") (log_numbers logs.now)) }
-{
-    put(out, b"981 5")?;
-    put_logs(out, logs)?;
-    put(out, b"~\n")
-}
-
 /// Puts the items of an entry.
 #[tactic(auto, unfolding(crate::specs::Written::cut_text))]
 fn put_entry(out: &mut Vec<u8>, entry: &Entry) -> Result<(), Memory>
     ensures { OnOk result (out.new.items ≡ out.old.items ++ cut_text entry.now) }
 {
-    put_call(out, b"981 1", entry.harvester, entry.number, entry.version)?;
+    let (harvester, number) = (u128::from(entry.harvester), u128::from(entry.number));
+    put_few(
+        out,
+        b"981 1",
+        &[harvester, number, u128::from(entry.version)],
+    )?;
     put_stem(out, &entry.stem)?;
-    put_cutting(out, entry.cutting.logs.as_slice())?;
+    put(out, b"981 5")?;
+    put_logs(out, entry.cutting.logs.as_slice())?;
+    put(out, b"~\n")?;
     put_few(out, b"981 6", &[u128::from(entry.worth)])
 }
 
@@ -136,12 +117,11 @@ fn put_entry(out: &mut Vec<u8>, entry: &Entry) -> Result<(), Memory>
 fn put_demand(out: &mut Vec<u8>, demand: &Demand) -> Result<(), Memory>
     ensures { OnOk result (out.new.items ≡ out.old.items ++ demand_text demand.now) }
 {
-    put_call(
+    let (harvester, number) = (u128::from(demand.harvester), u128::from(demand.number));
+    put_few(
         out,
         b"982 1",
-        demand.harvester,
-        demand.number,
-        demand.version,
+        &[harvester, number, u128::from(demand.version)],
     )?;
     put_list(out, b"982 2", demand.targets.as_slice())
 }
