@@ -1,5 +1,5 @@
 -- Items that were written are read again as what was written.
-use Rattle.std.proofs.Common.{◌≡◌, ℕ, ◌+◌, ◌*◌, ◌%◌, ◌≤◌, true, List, [], ◌∷◌, ◌++◌, Ok, length, map, refl, ap, arith, codes, eq-eqb}
+use Rattle.std.proofs.Common.{◌≡◌, ℕ, ◌+◌, ◌*◌, ◌%◌, ◌≤◌, true, List, [], ◌∷◌, ◌++◌, Ok, length, map, refl, ap, arith, codes, eq-eqb, rules}
 use Rattle.std.specs.List.{AllByRecursion, flat_map}
 use Rattle.std.proofs.lemmas.Bool.{le-leb, and_from}
 use Rattle.std.proofs.lemmas.Bool.Decides.{nat_tests}
@@ -30,7 +30,7 @@ pub in_small : (low high : ℕ) (ns : List ℕ) → high ≤ 4294967295 → all_
 in_small low high [] le h = tt
 in_small low high (n ∷ ns) le h =
     let p = both (within low high n) (all_within low high ns) h in
-    (omega (arith, (within_ok low high n p.0).1), in_small low high ns le p.1)
+    search (rules, within_ok, (in_small low high ns le p.1))
 
 pub call_small : (c : Call) → is_call c ≡ true
     → AllByRecursion (λ n. n ≤ 4294967295) (c.harvester ∷ c.number ∷ c.version ∷ [])
@@ -50,8 +50,7 @@ pub zones_small : (low : ℕ) (zones : List (ℕ × ℕ)) → are_zones low (zon
 zones_small low [] h = tt
 zones_small low (z ∷ zs) h =
     let p = both (is_zone low z.0 z.1) (are_zones (z.0 + 1) (zone_numbers zs)) h in
-    let range = p.0 in
-    (grind (arith, nat_tests), (grind (arith, nat_tests), zones_small (z.0 + 1) zs p.1))
+    search (rules, nat_tests, (zones_small (z.0 + 1) zs p.1))
 
 -- logs and their numbers
 pub logs_back : (logs : List Log) → logs_of (log_numbers logs) ≡ logs
@@ -67,8 +66,7 @@ pub logs_small : (logs : List Log) → are_logs (log_numbers logs) ≡ true
 logs_small [] h = tt
 logs_small (g ∷ gs) h =
     let p = both (is_log g.start g.length g.assortment) (are_logs (log_numbers gs)) h in
-    let range = p.0 in
-    (grind (arith, nat_tests), (grind (arith, nat_tests), (grind (arith, nat_tests), logs_small gs p.1)))
+    search (rules, nat_tests, (logs_small gs p.1))
 
 abbrev pub posting_items : Posting → List ItemParts
 posting_items (Cut e) =
@@ -81,15 +79,11 @@ posting_items (Demand d) =
 -- what was written is said
 zones_said : (zones : List (ℕ × ℕ)) → length zones ≤ MOST_ZONES → are_zones 0 (zone_numbers zones) ≡ true
     → says zones_form 1 (zone_numbers zones) ≡ Ok zones
-zones_said zones few range =
-    let long = zones_length zones in
-    rw (and_from _ _ (eq-eqb (length (zone_numbers zones) % 2) 0 (omega arith)) (le-leb (length (zone_numbers zones)) (2 * MOST_ZONES) (omega arith)), range, zones_back zones) refl
+zones_said zones few range = grind (arith, zones_length, and_from, eq-eqb, le-leb, zones_back)
 
 logs_said : (logs : List Log) → length logs ≤ 80 → are_logs (log_numbers logs) ≡ true
     → says logs_form 1 (log_numbers logs) ≡ Ok logs
-logs_said logs few range =
-    let long = logs_length logs in
-    rw (and_from _ _ (eq-eqb (length (log_numbers logs) % 3) 0 (omega arith)) (le-leb (length (log_numbers logs)) 240 (omega arith)), range, logs_back logs) refl
+logs_said logs few range = grind (arith, logs_length, and_from, eq-eqb, le-leb, logs_back)
 
 list_said : (low high : ℕ) (ns : List ℕ) → length ns ≤ 16384 → all_within low high ns ≡ true
     → says (list_form low high) 1 ns ≡ Ok ns
@@ -102,10 +96,7 @@ posting_again (Cut e) r =
     (e.harvester ∷ e.number ∷ e.version ∷ []) (e.stem.number ∷ e.stem.species ∷ []) e.stem.samples
     (zone_numbers e.stem.zones) (log_numbers e.logs)
     (numbers_told _ (call_small (call_of_cut e) r.call)) (rw r.call refl)
-    (numbers_told _ (
-      r.stem_number,
-      ((let h = within_ok SPECIES.low SPECIES.high e.stem.species r.species in omega (arith, h.1)), tt),
-    )) (rw r.species refl)
+    (search (rules, numbers_told, within_ok)) (rw r.species refl)
     (numbers_told _ (in_small SAMPLES.low SAMPLES.high e.stem.samples (omega arith) r.samples_range))
     (rw (r.samples_number, r.samples_range) refl)
     (numbers_told _ (zones_small 0 e.stem.zones r.zones_range)) (zones_said e.stem.zones r.zones_number r.zones_range)

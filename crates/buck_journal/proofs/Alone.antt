@@ -44,5 +44,4 @@ behind_first (x ∷ more) none = later x more none
 
 pub journal_alone : (items : List ItemParts) → alone.HasNoDemand items → journal_in items ≡ alone.journal_in items
 unfolding journal_in alone.journal_in
-journal_alone items none =
-    rw (sheets_alone 1 (drop 1 items) (behind_first items none), postings_alone 0 0 items none) refl
+journal_alone items none = grind (arith, sheets_alone, behind_first, postings_alone)

@@ -1,5 +1,5 @@
 -- Numbers that passed the tests are within the limits of a stem.
-use Rattle.std.proofs.Common.{◌≡◌, ℕ, ◌+◌, ◌*◌, ◌≤◌, true, List, [], ◌∷◌, ◌++◌, length, sym, ◌∙◌, subst, arith}
+use Rattle.std.proofs.Common.{◌≡◌, ℕ, ◌+◌, ◌*◌, ◌≤◌, true, List, [], ◌∷◌, ◌++◌, length, sym, ◌∙◌, subst, arith, rules}
 use Rattle.std.proofs.lemmas.List.{append-nil}
 use Rattle.std.proofs.lemmas.Grind.{common_steps}
 use Rattle.std.specs.List.{AllByRecursion}
@@ -26,12 +26,7 @@ fit low [] h = (tt, tt, tt)
 fit low (s ∷ []) h = (tt, tt, tt)
 fit low (s ∷ g ∷ more) h =
     let p = both (is_zone low s g) (are_zones (s + 1) more) h in
-    let range = p.0 in
-    let rest = fit (s + 1) more p.1 in (
-      (grind (arith, nat_tests), rest.0),
-      ((grind (arith, nat_tests), grind (arith, nat_tests)), rest.1),
-      (grind (arith, nat_tests), rest.2),
-    )
+    search (rules, nat_tests, (fit (s + 1) more p.1))
 
 pub are_zones_ok : (ns : List ℕ) → length ns ≤ 2 * MOST_ZONES → are_zones 0 ns ≡ true → AreZones (zones_of ns)
 are_zones_ok ns few h = record {

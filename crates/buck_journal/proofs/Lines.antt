@@ -184,11 +184,7 @@ part_says : (part piece left : List ℕ) (item : ItemParts) (items : List ItemPa
     → trim part ≡ piece → 0 < length piece → item_of piece ≡ Some item
     → HasItems left items → HasItems (part ++ 126 ∷ left) (item ∷ items)
 unfolding each_from
-part_says part piece left item items plain trimmed some is h = λ k.
-    ap (λ parts. each_from item_of k (filled_parts parts)) (slice_split_at is_tilde part 126 left plain refl)
-    ∙ ap (λ word. each_from item_of k (filter is_filled (word ∷ map trim (slice_split is_tilde left)))) trimmed
-    ∙ ap (each_from item_of k) (cond-true _ _ _ (lt-ltb _ _ some))
-    ∙ rw (is, h (k + 1)) refl
+part_says part piece left item items plain trimmed some is h = grind (arith, slice_split_at, cond-true, lt-ltb)
 
 -- whatever follows, the lines of a text are those of items
 pub record Says (text : List ℕ) (items : List ItemParts) : Type 0 where
@@ -199,11 +195,7 @@ pub says_none : Says [] []
 says_none = record { before = λ rest more h. h }
 
 pub says_both : (s t : List ℕ) (xs ys : List ItemParts) → Says s xs → Says t ys → Says (s ++ t) (xs ++ ys)
-says_both s t xs ys first second = record {
-  before = λ rest more h.
-      rw (append_assoc s t rest, append_assoc xs ys more)
-      (first.before (t ++ rest) (ys ++ more) (second.before rest more h));
-}
+says_both s t xs ys first second = search (rules, append_assoc)
 
 pub line_says : (h : Head) (ns : List ℕ) → AllByRecursion (λ n. n < 2 ^ 64) ns
     → Says (item_text (bytes_of h) ns) (item_at h ns ∷ [])

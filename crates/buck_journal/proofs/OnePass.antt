@@ -1,5 +1,5 @@
 -- A journal that is gone through item by item is read as what was found.
-use Rattle.std.proofs.Common.{◌≡◌, ℕ, suc, ◌+◌, ◌<◌, ◌≤◌, ◌&&◌, Bool, true, false, List, [], ◌∷◌, ◌++◌, Some, Ok, Err, Result, codes, length, slice_get, refl, sym, ap, ◌∙◌, subst, arith, append_assoc, eq-eqb}
+use Rattle.std.proofs.Common.{◌≡◌, ℕ, suc, ◌+◌, ◌<◌, ◌≤◌, ◌&&◌, Bool, true, false, List, [], ◌∷◌, ◌++◌, Some, Ok, Err, Result, codes, length, slice_get, refl, sym, ap, ◌∙◌, subst, arith, append_assoc, eq-eqb, rules}
 use Rattle.std.proofs.lemmas.Grind.{common_steps}
 use Rattle.std.specs.Str.{bytes_eq}
 use Rattle.std.proofs.lemmas.Bool.{lt-ltb, and_from}
@@ -49,8 +49,7 @@ call_says : (s : Slot) (before : ℕ) (t ns : List ℕ) (c : Call) → before < 
     → numbers_of t ≡ Ok ns → says call_form 1 ns ≡ Ok c
     → (place : ℕ) → call_at s before place (Some (item_in s t)) ≡ Ok c
 unfolding call_at numbers_at
-call_says s before t ns c few read h place =
-    rw (is_at_its_slot s t, read, lt-ltb before 1000000 few) (say_there call_form ns c place h)
+call_says s before t ns c few read h place = grind (arith, is_at_its_slot, lt-ltb, say_there)
 
 worth_says : (t : List ℕ) (worth : ℕ) → number_of 18446744073709551615 t ≡ Ok worth
     → (place : ℕ) → worth_at place (Some (item_in (slot 981 6) t)) ≡ Ok worth
@@ -121,8 +120,7 @@ cut_leads c head samples zones logs w text called named sampled zoned logged lef
           ∷ item_in (slot 981 4) l₄.rest ∷ item_in (slot 981 5) l₅.rest ∷ item_in (slot 981 6) l₆.rest ∷ [];
       leads = λ items h.
           l₁.leads.next _ (l₂.leads.next _ (l₃.leads.next _ (l₄.leads.next _ (l₅.leads.next _ (l₆.leads.next items h)))));
-      read = cut_read c head samples zones logs w _ _ _ _ _ _ n₁ n₂ samples n₄ n₅ l₁.read s₁ l₂.read s₂ l₃.read s₃ l₄.read
-          s₄ l₅.read s₅ l₆.read;
+      read = search (rules, cut_read);
     }
 
 pub demand_leads : (c : Call) (text called targets left n₁ : List ℕ)
@@ -191,9 +189,7 @@ sheet_read t prices ns read h = λ items others ps more. record {
 
 pub both_sheets : (xs ys : List ItemParts) (pss qss : List (List ℕ))
     → AreSheets xs pss → AreSheets ys qss → AreSheets (xs ++ ys) (pss ++ qss)
-both_sheets xs ys pss qss first second = λ more others ps h.
-    rw (append_assoc xs ys more, append_assoc pss qss others)
-    (first (ys ++ more) (qss ++ others) ps (second more others ps h))
+both_sheets xs ys pss qss first second = grind (arith, append_assoc)
 
 pub sheets_start : (text : List ℕ) → LeadsSheets text [] text
 sheets_start text = record { items = []; leads = λ items h. h; read = λ more others ps h. h }
@@ -248,7 +244,6 @@ pub plain_journal : (bytes kind body rest : List ℕ) (pss : List (List ℕ)) (p
     → journal_of bytes ≡ Ok (record { sheets = pss; entries = ps })
 plain_journal bytes kind body rest pss ps first says l few h =
     let items : List ItemParts = item_in file_slot kind ∷ l.items ++ h.items in
-    let read : items_of bytes ≡ Ok items =
-    items-are bytes items (first.next (l.items ++ h.items) (l.leads h.items h.are)) in
+    let read : items_of bytes ≡ Ok items = search (rules, items-are, first.next, l.items, h.items, l.leads, h.are) in
     journal_of_items bytes items (ap (with_fault Head) read)
     ∙ in_order kind l.items h.items pss ps says l.read h.read few

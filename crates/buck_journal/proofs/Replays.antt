@@ -40,9 +40,7 @@ pub version_stays : (i : InstructionParts) (ps : List Posting) (k : ℕ) (x : Po
     → ends_of i (take (k + 1) ps) ≡ ends_of i (take k ps)
 version_stays i ps k x at goes_on =
     let longer : take (k + 1) ps ≡ take k ps ++ x ∷ [] = take_one_more ps k x at in
-    let no_end : IsEnd i (take k ps) x → ⊥ =
-    λ e. goes_on (ap (λ xs. cuts_since_end i xs) longer ∙ cuts_with_end i (take k ps) x e) in
-    ap (λ xs. ends_of i xs) longer ∙ ends_without i (take k ps) x no_end
+    grind (arith, cuts_with_end, ends_without)
 
 module _ (h : HistoryParts) where
   -- where the sheet of a version comes into force
@@ -57,29 +55,7 @@ module _ (h : HistoryParts) where
       → Opened (n + 1) version
   opened_next n version x at low before =
       let longer : take (n + 1) h.postings ≡ take n h.postings ++ x ∷ [] = take_one_more h.postings n x at in
-      elim (cases_lt (version_at h n) version) [
-        | inr less ↦
-            let o = before (omega arith) in
-            record { at = o.at; within_them = omega (arith, o.within_them); begins = o.begins; is = o.is }
-        | inl new ↦
-            elim (cases_Bool (is_end h.instruction.period (cuts_since_end h.instruction (take n h.postings)) x)) [
-              | inl yes_ ↦
-                  let more : version_at h (n + 1) ≡ version_at h n + 1 = ap (λ ps. ends_of h.instruction ps) longer
-                  ∙ ends_with_end h.instruction (take n h.postings) x yes_ in
-                  record {
-                    at = n + 1;
-                    within_them = omega arith;
-                    begins = ap (λ ps. cuts_since_end h.instruction ps) longer
-                        ∙ cuts_with_end h.instruction (take n h.postings) x yes_;
-                    is = omega (arith, more);
-                  }
-              | inr no_ ↦
-                  let same : version_at h (n + 1) ≡ version_at h n =
-                  ap (λ ps. ends_of h.instruction ps) longer
-                  ∙ ends_without h.instruction (take n h.postings) x (λ e. true_false (sym e ∙ no_)) in
-                  absurd (omega (arith, same))
-            ]
-      ]
+      grind (arith, cases_lt, cases_Bool, ends_with_end, cuts_with_end, ends_without, true_false)
 
   pub opened : (n version : ℕ) → n ≤ length h.postings → version ≤ version_at h n → Opened n version
   opened zero version le low = record { at = 0; within_them = omega arith; begins = refl; is = omega arith }
@@ -123,8 +99,7 @@ one_passed h k x at before p = record {
 -- and the sheet stays, where no period begins behind it
 pub sheet_stays : (h : HistoryParts) (k : ℕ) (x : Posting) (s : SheetParts) → slice_get h.postings k ≡ Some x
     → s ≡ sheet_then h k → (Begins h (k + 1) → ⊥) → s ≡ sheet_then h (k + 1)
-sheet_stays h k x s at is goes_on =
-    is ∙ ap (λ v. sheet_at h.instruction h.sheets v) (sym (version_stays h.instruction h.postings k x at goes_on))
+sheet_stays h k x s at is goes_on = search (rules, version_stays)
 
 at_end : {X : Type 0} (xs : List X) (k : ℕ) → k ≤ length xs → None ≡ slice_get xs k → k ≡ length xs
 at_end xs k le none = grind (arith, slice_get_cases)
@@ -146,17 +121,15 @@ module _ (h : HistoryParts) (w : WalkParts) (same : w ≡ walk_of h.instruction 
       subst (λ (v : WalkParts). (v ≡ walk_of h.instruction h.postings v.at)
       × IsInOrderBefore (along v h.sheets) v.at
       × ((Begins (along v h.sheets) v.at → ⊥) → s ≡ sheet_then (along v h.sheets) v.at)) (sym further) (
-        ap (λ (v : WalkParts). walk_of v.instruction v.postings (w.at + 1)) same,
+        cc,
         one_passed (along w h.sheets) w.at x (sym there) before passed,
-        sheet_stays (along w h.sheets) w.at x s (sym there) is,
+        search (rules, sheet_stays),
       )
 
   pub walk_ends : {E : Type 0} (r : Result WalkParts E) → w.at ≤ length w.postings → None ≡ slice_get w.postings w.at
       → IfOk r (λ v. v ≡ w) → IfOk r (λ v. v ≡ walk_of h.instruction h.postings (length h.postings))
   walk_ends (Err e) le none is = tt
-  walk_ends (Ok v) le none is =
-      is ∙ same ∙ ap (λ n. walk_of h.instruction h.postings n)
-      (at_end w.postings w.at le none ∙ ap (λ (u : WalkParts). length u.postings) same)
+  walk_ends (Ok v) le none is = grind (arith, at_end)
 
 -- what comes of a walk: it has stopped at a posting, or behind the last
 pub stopped_at : (W : Type 0) (h : HistoryParts) (k : ℕ) (x : Posting) (fault : ReplayFault) → k ≤ length h.postings
@@ -164,8 +137,7 @@ pub stopped_at : (W : Type 0) (h : HistoryParts) (k : ℕ) (x : Posting) (fault 
     → IsInOrderBefore h k
     → (fault ≢ Memory → IsFaultAt h k x fault)
     → IsOrdered {W = W} h k (Err fault)
-stopped_at W h k x fault le there before wrong =
-    record { within = le; right = before; ended = tt; stopped = λ told. inl (x, sym there, wrong told) }
+stopped_at W h k x fault le there before wrong = grind arith
 
 pub ended_at : {W : Type 0} (h : HistoryParts) (k : ℕ) (end : Result W ReplayFault) → k ≤ length h.postings
     → None ≡ slice_get h.postings k
@@ -174,12 +146,8 @@ pub ended_at : {W : Type 0} (h : HistoryParts) (k : ℕ) (end : Result W ReplayF
     → OnOk end (IsEndRight h k)
     → IfErr end (IsFaultAtEnd h k)
     → IsOrdered h k end
-ended_at h k (Ok w) le none valid before right wrong =
-    let all = at_end h.postings k le none in
-    record { within = le; right = before; ended = record { all = all; valid = valid; right = subst (λ n. IsEndRight h n) all right }; stopped = tt }
-ended_at h k (Err e) le none valid before right wrong =
-    let all = at_end h.postings k le none in
-    record { within = le; right = before; ended = tt; stopped = λ told. inr (all, wrong) }
+ended_at h k (Ok w) le none valid before right wrong = search (rules, at_end)
+ended_at h k (Err e) le none valid before right wrong = search (rules, at_end)
 
 -- all postings may follow, and all sheets are right
 pub lawful_when : (h : HistoryParts) → IsInstruction h.instruction → IsRightBefore h (length h.postings)

@@ -1,5 +1,5 @@
 -- How many items a journal has.
-use Rattle.std.proofs.Common.{◌≡◌, ℕ, zero, suc, ◌+◌, ◌<◌, Bool, true, false, List, [], ◌∷◌, Option, Some, None, Result, Ok, Err, inl, inr, length, drop, slice_get, sum_by, refl, sym, ap, ◌∙◌, subst, arith}
+use Rattle.std.proofs.Common.{◌≡◌, ℕ, zero, suc, ◌+◌, ◌<◌, Bool, true, false, List, [], ◌∷◌, Option, Some, None, Result, Ok, Err, inl, inr, length, drop, slice_get, sum_by, refl, sym, ap, ◌∙◌, subst, arith, rules}
 use Rattle.std.proofs.lemmas.Grind.{common_steps}
 use Rattle.std.specs.Prelude.{if◌then◌else◌}
 use Rattle.std.proofs.lemmas.Bool.{cases_Bool}
@@ -59,14 +59,11 @@ module _ (number kind place : ℕ) (o : Option ItemParts) (other : kind ≡ 1 �
 
   item_inside : {A : Type 0} (form : Form A) (x : A) → item_at (slot number kind) form place o ≡ Ok x → Inside o
   unfolding item_at numbers_at
-  item_inside form x h =
-      let numbers = step_ok (numbers_at (slot number kind) place o) (says form place) x h in
-      wanted_inside _ (step_ok (wanted (slot number kind) place o) _ _ numbers.1).1
+  item_inside form x h = grind (arith, step_ok, wanted_inside)
 
 worth_inside : (place : ℕ) (o : Option ItemParts) (worth : ℕ) → worth_at place o ≡ Ok worth → Inside o
 unfolding worth_at
-worth_inside place o worth h =
-    wanted_inside 981 6 place o (λ e. omega arith) _ (step_ok (wanted (slot 981 6) place o) _ worth h).1
+worth_inside place o worth h = grind (arith, wanted_inside, step_ok)
 
 -- so many items are those of a posting that began before, and after them comes the next one, or the end
 abbrev Owes : ℕ → List ItemParts → Type 0
@@ -150,9 +147,7 @@ unfolding postings_from
 postings_counted k before zero [] ps o h = subst (λ qs. 0 ≡ 0 + sum_by number_of_items qs) (ok_same [] ps h) refl
 postings_counted k before (suc n) [] ps o h = absurd o
 postings_counted k before (suc n) (x ∷ more) ps o h =
-    let later : length more ≡ n + sum_by number_of_items ps =
-    postings_counted (k + 1) before n more ps o.1 (else_of (is_first x) _ _ _ o.0 h) in
-    omega arith
+    search (rules, else_of, (postings_counted (k + 1) before n more ps o.1 (else_of (is_first x) _ _ _ o.0 h)))
 postings_counted k before zero (x ∷ more) ps o h =
     let a = step_ok (posting_at x (x ∷ more) k before) _ ps (then_of (is_first x) _ _ _ o h) in
     let b = step_ok (postings_from (k + 1) (before + 1) more) _ ps a.2 in
@@ -167,10 +162,7 @@ sheets_counted : (k before : ℕ) (rest : List ItemParts) (sheets : List (List �
     → sheets_from k rest ≡ Ok sheets → postings_from k before rest ≡ Ok ps
     → length rest ≡ length sheets + sum_by number_of_items ps
 unfolding sheets_from postings_from
-sheets_counted k before [] sheets ps s h =
-    let few : 0 ≡ length sheets = ap (λ xs. length xs) (ok_same [] sheets s) in
-    let counted : 0 ≡ sum_by number_of_items ps = ap (λ qs. sum_by number_of_items qs) (ok_same [] ps h) in
-    omega arith
+sheets_counted k before [] sheets ps s h = cc
 sheets_counted k before (x ∷ more) sheets ps s h = elim (cases_Bool (is_first x)) [
   | inl first ↦
       let few : 0 ≡ length sheets = ap (λ xs. length xs) (ok_same [] sheets (then_of (is_first x) _ _ _ first s)) in

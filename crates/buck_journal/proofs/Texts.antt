@@ -1,5 +1,5 @@
 -- The text of a journal is read again.
-use Rattle.std.proofs.Common.{◌≡◌, ℕ, ◌<◌, ◌^◌, true, false, List, [], ◌∷◌, ◌++◌, Some, Ok, map, refl, ap, ◌∙◌, arith, append_assoc, codes}
+use Rattle.std.proofs.Common.{◌≡◌, ℕ, ◌<◌, ◌^◌, true, false, List, [], ◌∷◌, ◌++◌, Some, Ok, map, refl, ap, ◌∙◌, arith, append_assoc, codes, rules}
 use Rattle.std.specs.List.{AllByRecursion, flat_map}
 use Rattle.std.proofs.lemmas.List.Elements.{recursion_from_All}
 use Rattle.buck_record.specs.Reading.{with_fault}
@@ -92,9 +92,7 @@ posting_says (Demand d) r =
 postings_say : (ps : List Posting) → AllByRecursion IsInRange ps
     → Says (flat_map posting_text ps) (flat_map posting_items ps)
 postings_say [] r = says_none
-postings_say (p ∷ ps) r =
-    says_both (posting_text p) (flat_map posting_text ps) (posting_items p) (flat_map posting_items ps)
-    (posting_says p r.0) (postings_say ps r.1)
+postings_say (p ∷ ps) r = search (rules, says_both, posting_items, posting_says, (postings_say ps r.1))
 
 -- the journal of a journal's text is what was written
 pub read_again : (pss : List (List ℕ)) (ps : List Posting) → AreInRange pss ps

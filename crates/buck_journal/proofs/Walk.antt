@@ -60,8 +60,7 @@ module _ (items : List ItemParts) (k : ℕ) where
         ≡ (posting_at x (take (length items - k) (drop k items)) k before >>= λ posting. postings_from (k + 1) (before + 1) (drop (k + 1) items)
         >>= λ rest. Ok (posting ∷ rest))
     unfolding postings_from
-    posting_here before h =
-        rw (take_all (length items - k) (drop k items) (simp length-drop (omega arith)), here) (rw h refl)
+    posting_here before h = grind (arith, take_all, length-drop, here)
 
     pub no_posting_here : (before : ℕ) → is_first x ≡ false
         → postings_from k before (drop k items) ≡ postings_from (k + 1) before (drop (k + 1) items)
