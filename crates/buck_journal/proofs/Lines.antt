@@ -1,14 +1,14 @@
 -- Lines of a file as they are written, and the items that are read of them.
-use Rattle.std.proofs.Common.{◌≡◌, ℕ, ◌+◌, ◌-◌, ◌<◌, ◌≤◌, ◌^◌, true, false, List, [], ◌∷◌, ◌++◌, All, Some, Ok, get_or, length, filter, map, refl, sym, ap, ◌∙◌, subst, arith, append_assoc, codes, rules}
+use Rattle.std.proofs.Common.{◌≡◌, ℕ, suc, ◌+◌, ◌-◌, ◌<◌, ◌≤◌, ◌^◌, true, false, List, [], ◌∷◌, ◌++◌, All, Some, Ok, get_or, length, take, drop, filter, map, refl, sym, ap, ◌∙◌, subst, arith, append_assoc, codes, rules}
 use Rattle.std.proofs.lemmas.Grind.{common_steps}
-use Rattle.std.specs.List.{slice_split, AllByRecursion}
+use Rattle.std.specs.List.{slice_split, position_or_len, AllByRecursion}
 use Rattle.std.specs.Char.{is_ascii_digit}
 use Rattle.std.specs.Fmt.{decimal}
 use Rattle.std.proofs.lemmas.Fmt.{digits_decimal, decimal_nonempty}
 use Rattle.std.proofs.lemmas.Bool.{cond-true, lt-ltb}
 use Rattle.std.proofs.lemmas.Bool.Decides.{nat_tests}
-use Rattle.std.proofs.lemmas.List.{append-nil, take_all}
-use Rattle.std.proofs.lemmas.List.Elements.{All-append, All-cons, All-nil, All-from_recursion}
+use Rattle.std.proofs.lemmas.List.{append-nil, take_all, length-append}
+use Rattle.std.proofs.lemmas.List.Elements.{All-append, All-cons, All-nil, All-from_recursion, recursion_from_All}
 use Rattle.std.proofs.lemmas.List.Splits.{slice_split_at}
 use Rattle.std.proofs.lemmas.List.Sums.{AllPass-from_list_all, suffix_len_is}
 use Rattle.buck_record.specs.Item.{ItemParts}
@@ -115,63 +115,48 @@ pub worth_told : (n : ℕ) → n ≤ 18446744073709551615 → number_of 18446744
 unfolding number_of
 worth_told n le = grind (arith, told_words, number-decimal)
 
--- the head of an item: three digits, a blank and one digit
-pub record Head : Type 0 where
-  pub a : ℕ
-  pub b : ℕ
-  pub c : ℕ
-  pub k : ℕ
-  pub number : ℕ
-  pub kind : ℕ
-  pub dark : (is_white a ≡ false) × (is_white b ≡ false) × (is_white c ≡ false) × (is_white k ≡ false)
-  pub plain : (is_tilde a ≡ false) × (is_tilde b ≡ false) × (is_tilde c ≡ false) × (is_tilde k ≡ false)
-  pub number_is : number_at_most 65535 (a ∷ b ∷ c ∷ []) ≡ Some number
-  pub kind_is : number_at_most 65535 (k ∷ []) ≡ Some kind
+one_past : (n x : ℕ) (xs : List ℕ)
+    → (take (1 + n) (x ∷ xs) ≡ x ∷ take n xs) × (drop (1 + n + 1) (x ∷ xs) ≡ drop (n + 1) xs)
+one_past n x xs =
+    let one : 1 + n ≡ suc n = omega arith in let two : 1 + n + 1 ≡ suc (n + 1) = omega arith in (rw one refl, rw two refl)
 
-abbrev pub bytes_of : Head → List ℕ
-bytes_of h = h.a ∷ h.b ∷ h.c ∷ 32 ∷ h.k ∷ []
+-- the first word of a text that begins with no white byte, and what is after it
+word_of : (xs ns : List ℕ) → AllByRecursion (λ b. is_white b ≡ false) xs
+    → (first_word (xs ++ spelled ns) ≡ xs) × (after_word (xs ++ spelled ns) ≡ told ns)
+unfolding first_word after_word told
+word_of [] [] h = (refl, refl)
+word_of [] (n ∷ ns) h = (refl, refl)
+word_of (x ∷ xs) ns h =
+    let more = word_of xs ns h.1 in
+    let n : ℕ = position_or_len is_white (xs ++ spelled ns) in (
+      rw h.0 ((one_past n x (xs ++ spelled ns)).0 ∙ ap (λ ys. x ∷ ys) more.0),
+      rw h.0 ((one_past n x (xs ++ spelled ns)).1 ∙ more.1),
+    )
 
-abbrev pub item_at : Head → List ℕ → ItemParts
-item_at h ns = record { number = h.number; kind = h.kind; rest = told ns }
+number_word : (n : ℕ) (ns : List ℕ) → n < 2 ^ 64
+    → (first_word (told (n ∷ ns)) ≡ decimal n) × (after_word (told (n ∷ ns)) ≡ told ns)
+unfolding told
+number_word n ns lt =
+    word_of (decimal n) ns
+    (recursion_from_All _ (decimal n) (λ k d l. digit_dark (get_or (decimal n) k d)
+    (AllPass-from_list_all is_ascii_digit (decimal n) (digits_decimal numeral n lt) k d l)))
 
-abbrev piece_of : Head → List ℕ → List ℕ
-piece_of h ns = bytes_of h ++ spelled ns
+-- an item is its number, its kind and then other numbers
+abbrev pub item_at : ℕ → ℕ → List ℕ → ItemParts
+item_at number kind ns = record { number = number; kind = kind; rest = told ns }
 
--- the words of a head
-module _ (h : Head) where
-  first_of : (xs : List ℕ) → first_word (h.a ∷ h.b ∷ h.c ∷ 32 ∷ xs) ≡ h.a ∷ h.b ∷ h.c ∷ []
-  unfolding first_word
-  first_of xs = rw (h.dark.0, h.dark.1, h.dark.2) refl
-
-  after_of : (xs : List ℕ) → after_word (h.a ∷ h.b ∷ h.c ∷ 32 ∷ xs) ≡ xs
-  unfolding after_word
-  after_of xs = rw (h.dark.0, h.dark.1, h.dark.2) refl
-
-  kind_word : (ns : List ℕ) → first_word (h.k ∷ spelled ns) ≡ h.k ∷ []
-  unfolding first_word
-  kind_word [] = rw h.dark.3 refl
-  kind_word (n ∷ ns) = rw h.dark.3 refl
-
-  after_kind : (ns : List ℕ) → after_word (h.k ∷ spelled ns) ≡ told ns
-  unfolding after_word told
-  after_kind [] = rw h.dark.3 refl
-  after_kind (n ∷ ns) = rw h.dark.3 refl
-
-item_of_piece : (h : Head) (ns : List ℕ) → AllByRecursion (λ n. n < 2 ^ 64) ns
-    → item_of (piece_of h ns) ≡ Some (item_at h ns)
+item_told : (number kind : ℕ) (ns : List ℕ) → number ≤ 65535 → kind ≤ 65535 → AllByRecursion (λ n. n < 2 ^ 64) ns
+    → item_of (told (number ∷ kind ∷ ns)) ≡ Some (item_at number kind ns)
 unfolding item_of
-item_of_piece h ns small =
-    let tail : trim (after_word (h.a ∷ h.b ∷ h.c ∷ 32 ∷ h.k ∷ spelled ns)) ≡ h.k ∷ spelled ns =
-    ap trim (after_of h (h.k ∷ spelled ns))
-    ∙ trim_dark (h.k ∷ spelled ns) (omega arith, h.dark.3)
-    (ends_spelled (h.k ∷ []) ns small (omega arith, h.dark.3)) in
+item_told number kind ns n k small =
     rw (
-      first_of h (h.k ∷ spelled ns),
-      h.number_is,
-      tail,
-      kind_word h ns,
-      h.kind_is,
-      after_kind h ns,
+      (number_word number (kind ∷ ns) (omega arith)).0,
+      number-decimal 65535 number n (omega arith),
+      (number_word number (kind ∷ ns) (omega arith)).1,
+      told_trimmed (kind ∷ ns) (omega arith, small),
+      (number_word kind ns (omega arith)).0,
+      number-decimal 65535 kind k (omega arith),
+      (number_word kind ns (omega arith)).1,
       told_trimmed ns small,
     ) refl
 
@@ -197,17 +182,23 @@ says_none = record { before = λ rest more h. h }
 pub says_both : (s t : List ℕ) (xs ys : List ItemParts) → Says s xs → Says t ys → Says (s ++ t) (xs ++ ys)
 says_both s t xs ys first second = search (rules, append_assoc)
 
-pub line_says : (h : Head) (ns : List ℕ) → AllByRecursion (λ n. n < 2 ^ 64) ns
-    → Says (item_text (bytes_of h) ns) (item_at h ns ∷ [])
-line_says h ns small = record {
+pub line_says : (number kind : ℕ) (ns : List ℕ) → number ≤ 65535 → kind ≤ 65535 → AllByRecursion (λ n. n < 2 ^ 64) ns
+    → Says (item_text (decimal number ++ 32 ∷ decimal kind) ns) (item_at number kind ns ∷ [])
+unfolding told
+line_says number kind ns n k small = record {
   before = λ rest more is.
-      rw (append_assoc (spelled ns) (126 ∷ 10 ∷ []) rest)
-      (part_says (10 ∷ piece_of h ns) (piece_of h ns) (10 ∷ rest) (item_at h ns) more
-      (All-cons IsPlain 10 (piece_of h ns) refl (search (rules, plain_spelled)))
-      (ap trim_end (start_white 10 (piece_of h ns) refl)
-      ∙ trim_dark (piece_of h ns) (omega arith, h.dark.0)
-      (ends_spelled (bytes_of h) ns small (omega arith, h.dark.3)))
-      (omega arith) (item_of_piece h ns small) is);
+      let small' : AllByRecursion (λ n. n < 2 ^ 64) (number ∷ kind ∷ ns) = (omega arith, (omega arith, small)) in
+      let piece : List ℕ = told (number ∷ kind ∷ ns) in
+      let text : (10 ∷ piece) ++ 126 ∷ 10 ∷ rest
+      ≡ 10 ∷ (item_text (decimal number ++ 32 ∷ decimal kind) ns ++ rest) = simp append_assoc in
+      subst (λ t. HasItems t (item_at number kind ns ∷ more)) text
+      (part_says (10 ∷ piece) piece (10 ∷ rest) (item_at number kind ns) more
+      (All-cons IsPlain 10 piece refl
+      (All-append IsPlain (decimal number) (spelled (kind ∷ ns)) (plain_decimal number (omega arith))
+      (plain_spelled (kind ∷ ns) small'.1)))
+      (ap trim_end (start_white 10 piece refl) ∙ told_trimmed (number ∷ kind ∷ ns) small')
+      (omega (arith, decimal_nonempty number (omega arith), length-append (decimal number) (spelled (kind ∷ ns))))
+      (item_told number kind ns n k small) is);
 }
 
 -- the first item, which says the kind of file

@@ -1,6 +1,7 @@
 -- The text of a journal is read again.
-use Rattle.std.proofs.Common.{◌≡◌, ℕ, ◌<◌, ◌^◌, true, false, List, [], ◌∷◌, ◌++◌, Some, Ok, map, refl, ap, ◌∙◌, arith, append_assoc, codes, rules}
+use Rattle.std.proofs.Common.{◌≡◌, ℕ, ◌<◌, ◌≤◌, ◌^◌, true, false, List, [], ◌∷◌, ◌++◌, Some, Ok, map, refl, ap, ◌∙◌, arith, append_assoc, codes, rules}
 use Rattle.std.specs.List.{AllByRecursion, flat_map}
+use Rattle.std.specs.Fmt.{decimal, digits}
 use Rattle.std.proofs.lemmas.List.Elements.{recursion_from_All}
 use Rattle.buck_record.specs.Reading.{with_fault}
 use Rattle.buck_record.specs.checking.Rules.{within}
@@ -15,41 +16,22 @@ use Rattle.buck_journal.specs.declared.reading.fault.JournalFault.TheVariants as
 use Rattle.buck_journal.specs.reading.Journal.{journal_of}
 use Rattle.buck_journal.specs.Written.{item_text, sheet_text, cut_text, demand_text, posting_text, journal_text, zone_numbers, log_numbers}
 use Rattle.buck_journal.specs.Ranges.{AreSheetPrices, IsInRange, AreInRange, call_of_cut, call_of_demand}
-use Rattle.buck_journal.proofs.Lines.{Head, smaller, Says, says_none, says_both, line_says, file_says, kind_item}
+use Rattle.buck_journal.proofs.Lines.{smaller, item_at, Says, says_none, says_both, line_says, file_says, kind_item}
 use Rattle.buck_journal.proofs.Again.{in_small, call_small, zones_small, logs_small, sheet_item, posting_items, journal_again}
 use Rattle.buck_journal.proofs.Stages.{journal_of_items}
 
--- the numbers and kinds of heads
-numbers_are : (number_at_most 65535 (57 ∷ 55 ∷ 49 ∷ []) ≡ Some 971)
-    × (number_at_most 65535 (57 ∷ 56 ∷ 49 ∷ []) ≡ Some 981) × (number_at_most 65535 (57 ∷ 56 ∷ 50 ∷ []) ≡ Some 982)
-unfolding number_at_most
-numbers_are = (refl, refl, refl)
+-- the heads of items, in digits
+heads_are : (codes "971 1" ≡ decimal 971 ++ 32 ∷ decimal 1) × (codes "981 1" ≡ decimal 981 ++ 32 ∷ decimal 1)
+    × (codes "981 2" ≡ decimal 981 ++ 32 ∷ decimal 2) × (codes "981 3" ≡ decimal 981 ++ 32 ∷ decimal 3)
+    × (codes "981 4" ≡ decimal 981 ++ 32 ∷ decimal 4) × (codes "981 5" ≡ decimal 981 ++ 32 ∷ decimal 5)
+    × (codes "981 6" ≡ decimal 981 ++ 32 ∷ decimal 6) × (codes "982 1" ≡ decimal 982 ++ 32 ∷ decimal 1)
+    × (codes "982 2" ≡ decimal 982 ++ 32 ∷ decimal 2)
+unfolding digits
+heads_are = (refl, refl, refl, refl, refl, refl, refl, refl, refl)
 
-kinds_are : (number_at_most 65535 (49 ∷ []) ≡ Some 1) × (number_at_most 65535 (50 ∷ []) ≡ Some 2)
-    × (number_at_most 65535 (51 ∷ []) ≡ Some 3)
-    × (number_at_most 65535 (52 ∷ []) ≡ Some 4) × (number_at_most 65535 (53 ∷ []) ≡ Some 5)
-    × (number_at_most 65535 (54 ∷ []) ≡ Some 6)
-unfolding number_at_most
-kinds_are = (refl, refl, refl, refl, refl, refl)
-
--- the head of a number 9bc and a kind k, whose digits are these
-abbrev head : (b c k number kind : ℕ) → (is_white b ≡ false) × (is_white c ≡ false) × (is_white k ≡ false)
-    → (is_tilde b ≡ false) × (is_tilde c ≡ false) × (is_tilde k ≡ false)
-    → number_at_most 65535 (57 ∷ b ∷ c ∷ []) ≡ Some number → number_at_most 65535 (k ∷ []) ≡ Some kind → Head
-head b c k number kind dark plain n m =
-    record {
-      a = 57;
-      b = b;
-      c = c;
-      k = k;
-      number = number;
-      kind = kind;
-      dark = (refl, dark.0, dark.1, dark.2);
-      plain =
-          (refl, plain.0, plain.1, plain.2);
-      number_is = n;
-      kind_is = m;
-    }
+line : (number kind : ℕ) (head ns : List ℕ) → head ≡ decimal number ++ 32 ∷ decimal kind → number ≤ 65535 → kind ≤ 65535
+    → AllByRecursion (λ n. n < 2 ^ 64) ns → Says (item_text head ns) (item_at number kind ns ∷ [])
+line number kind head ns is n k small = rw is (line_says number kind ns n k small)
 
 species_small : (n : ℕ) → within SPECIES.low SPECIES.high n ≡ true → n < 2 ^ 64
 species_small n h = let le = within_ok SPECIES.low SPECIES.high n h in omega (arith, le.1)
@@ -60,33 +42,28 @@ sheets_say : (pss : List (List ℕ)) → AllByRecursion AreSheetPrices pss
 sheets_say [] r = says_none
 sheets_say (prices ∷ pss) r =
     says_both (sheet_text prices) (flat_map sheet_text pss) (sheet_item prices ∷ []) (map sheet_item pss)
-    (line_says (head 55 49 49 971 1 (refl, refl, refl) (refl, refl, refl) numbers_are.0 kinds_are.0) prices
+    (line 971 1 (codes "971 1") prices heads_are.0 (omega arith) (omega arith)
     (smaller prices (in_small 0 20000000 prices (omega arith) r.0.range))) (sheets_say pss r.1)
 
 posting_says : (p : Posting) → IsInRange p → Says (posting_text p) (posting_items p)
 unfolding cut_text demand_text
 posting_says (Cut e) r =
     says_both _ _ _ _ (says_both _ _ _ _ (says_both _ _ _ _ (says_both _ _ _ _ (says_both _ _ _ _
-    (line_says (head 56 49 49 981 1 (refl, refl, refl) (refl, refl, refl) numbers_are.1 kinds_are.0)
-    (e.harvester ∷ e.number ∷ e.version ∷ [])
+    (line 981 1 (codes "981 1") (e.harvester ∷ e.number ∷ e.version ∷ []) heads_are.1 (omega arith) (omega arith)
     (smaller (e.harvester ∷ e.number ∷ e.version ∷ []) (call_small (call_of_cut e) r.call)))
-    (line_says (head 56 49 50 981 2 (refl, refl, refl) (refl, refl, refl) numbers_are.1 kinds_are.1)
-    (e.stem.number ∷ e.stem.species ∷ [])
+    (line 981 2 (codes "981 2") (e.stem.number ∷ e.stem.species ∷ []) heads_are.2 (omega arith) (omega arith)
     ((let h = r.stem_number in omega arith), (species_small e.stem.species r.species, tt))))
-    (line_says (head 56 49 51 981 3 (refl, refl, refl) (refl, refl, refl) numbers_are.1 kinds_are.2) e.stem.samples
+    (line 981 3 (codes "981 3") e.stem.samples heads_are.3 (omega arith) (omega arith)
     (smaller e.stem.samples (in_small SAMPLES.low SAMPLES.high e.stem.samples (omega arith) r.samples_range))))
-    (line_says (head 56 49 52 981 4 (refl, refl, refl) (refl, refl, refl) numbers_are.1 kinds_are.3)
-    (zone_numbers e.stem.zones) (smaller (zone_numbers e.stem.zones) (zones_small 0 e.stem.zones r.zones_range))))
-    (line_says (head 56 49 53 981 5 (refl, refl, refl) (refl, refl, refl) numbers_are.1 kinds_are.4)
-    (log_numbers e.logs) (smaller (log_numbers e.logs) (logs_small e.logs r.logs_range))))
-    (line_says (head 56 49 54 981 6 (refl, refl, refl) (refl, refl, refl) numbers_are.1 kinds_are.5) (e.worth ∷ [])
+    (line 981 4 (codes "981 4") (zone_numbers e.stem.zones) heads_are.4 (omega arith) (omega arith) (smaller (zone_numbers e.stem.zones) (zones_small 0 e.stem.zones r.zones_range))))
+    (line 981 5 (codes "981 5") (log_numbers e.logs) heads_are.5 (omega arith) (omega arith) (smaller (log_numbers e.logs) (logs_small e.logs r.logs_range))))
+    (line 981 6 (codes "981 6") (e.worth ∷ []) heads_are.6 (omega arith) (omega arith)
     ((let h = r.worth in omega arith), tt))
 posting_says (Demand d) r =
     says_both _ _ _ _
-    (line_says (head 56 50 49 982 1 (refl, refl, refl) (refl, refl, refl) numbers_are.2 kinds_are.0)
-    (d.harvester ∷ d.number ∷ d.version ∷ [])
+    (line 982 1 (codes "982 1") (d.harvester ∷ d.number ∷ d.version ∷ []) heads_are.7 (omega arith) (omega arith)
     (smaller (d.harvester ∷ d.number ∷ d.version ∷ []) (call_small (call_of_demand d) r.call)))
-    (line_says (head 56 50 50 982 2 (refl, refl, refl) (refl, refl, refl) numbers_are.2 kinds_are.1) d.targets
+    (line 982 2 (codes "982 2") d.targets heads_are.8 (omega arith) (omega arith)
     (smaller d.targets (in_small TARGETS.low TARGETS.high d.targets (omega arith) r.targets_range)))
 
 postings_say : (ps : List Posting) → AllByRecursion IsInRange ps
