@@ -1,7 +1,8 @@
 -- Going over the items of a journal, as the loops do.
 use Rattle.std.proofs.Common.{◌≡◌, ℕ, ◌+◌, ◌-◌, ◌<◌, ◌≤◌, true, false, List, [], ◌∷◌, ◌++◌, Result, Ok, Err, Some, length, map, take, drop, length-drop, get_or, refl, sym, ap, ◌∙◌, drop-cons, add-one, append_assoc, arith}
-use Rattle.std.proofs.lemmas.List.{drop_all, take_all, append-nil}
+use Rattle.std.proofs.lemmas.List.{drop_all, take_all, append-nil, length_push}
 use Rattle.buck_record.specs.Item.{ItemParts}
+use Rattle.buck_book.specs.declared.posting.Posting.{Posting}
 use Rattle.buck_record.specs.checking.Check.{◌>>=◌}
 use Rattle.buck_record.proofs.CheckLemmas.{after_front}
 use Rattle.buck_journal.specs.declared.reading.fault.JournalFault.{JournalFault}
@@ -12,60 +13,57 @@ regroup : {X : Type 0} (made : List X) (x : X) (read : Result (List X) JournalFa
 regroup made x (Ok xs) = ap (λ ys. Ok ys) (simp append_assoc)
 regroup made x (Err e) = refl
 
--- what a loop has made so far, where the items from its place on are read as `rest`
-module _ {X : Type 0} (made : List X) (rest all : Result (List X) JournalFault) (so_far : after_front made rest ≡ all)
-  where
-    pub stops : rest ≡ Ok [] → all ≡ Ok made
-    stops is = sym so_far ∙ ap (after_front made) is ∙ ap (λ ys. Ok ys) (append-nil made)
-
-    pub goes_by : (later : Result (List X) JournalFault) → rest ≡ later → after_front made later ≡ all
-    goes_by later is = ap (after_front made) (sym is) ∙ so_far
-
-    -- the first of them is read as r, and the others as `later`
-    module _ (r : Result X JournalFault) (later : Result (List X) JournalFault)
-        (is : rest ≡ (r >>= λ x. later >>= λ xs. Ok (x ∷ xs))) where
-      pub goes_on : (x : X) → r ≡ Ok x → after_front (made ++ x ∷ []) later ≡ all
-      goes_on x e = grind (arith, regroup, after_front)
-
-      pub gives_up : (fault : JournalFault) → r ≡ Err fault → all ≡ Err fault
-      gives_up fault e = sym so_far ∙ ap (after_front made) (is ∙ ap (λ q. q >>= λ x. later >>= λ xs. Ok (x ∷ xs)) e)
-
 module _ (items : List ItemParts) (k : ℕ) where
-  pub sheets_past : length items ≤ k → sheets_from k (drop k items) ≡ Ok []
-  unfolding sheets_from
-  sheets_past le = ap (λ xs. sheets_from k xs) (drop_all k items le)
+  here : (x : ItemParts) → k < length items → x ≡ get_or items k x → drop k items ≡ x ∷ drop (k + 1) items
+  here x lt at = rw add-one (drop-cons items k x lt) ∙ ap (λ y. y ∷ drop (k + 1) items) (sym at)
 
-  pub postings_past : (before : ℕ) → length items ≤ k → postings_from k before (drop k items) ≡ Ok []
-  unfolding postings_from
-  postings_past before le = ap (λ xs. postings_from k before xs) (drop_all k items le)
-
-  -- the item at the place
-  module _ (x : ItemParts) (lt : k < length items) (at : x ≡ get_or items k x) where
-    here : drop k items ≡ x ∷ drop (k + 1) items
-    here = rw add-one (drop-cons items k x lt) ∙ ap (λ y. y ∷ drop (k + 1) items) (sym at)
-
-    pub sheet_here : is_first x ≡ false
-        → sheets_from k (drop k items)
-        ≡ (sheet_at (k + 1) (Some x) >>= λ prices. sheets_from (k + 1) (drop (k + 1) items) >>= λ sheets. Ok
-        (prices ∷ sheets))
+  -- what a loop has made so far, where the items from its place on are read as the rest
+  module _ (made : List (List ℕ)) (all : Result (List (List ℕ)) JournalFault)
+      (so_far : after_front made (sheets_from k (drop k items)) ≡ all) where
+    pub sheets_end : length items ≤ k → all ≡ Ok made
     unfolding sheets_from
-    sheet_here h = ap (λ xs. sheets_from k xs) here ∙ rw h refl
+    sheets_end le = sym (rw (drop_all k items le, append-nil made) at so_far)
 
-    pub no_sheet_here : is_first x ≡ true → sheets_from k (drop k items) ≡ Ok []
+    pub sheets_stop : (x : ItemParts) → k < length items → x ≡ get_or items k x → is_first x ≡ true → all ≡ Ok made
     unfolding sheets_from
-    no_sheet_here h = ap (λ xs. sheets_from k xs) here ∙ rw h refl
+    sheets_stop x lt at h = sym (rw (here x lt at, h, append-nil made) at so_far)
 
-    pub posting_here : (before : ℕ) → is_first x ≡ true
-        → postings_from k before (drop k items)
-        ≡ (posting_at x (take (length items - k) (drop k items)) k before >>= λ posting. postings_from (k + 1) (before + 1) (drop (k + 1) items)
-        >>= λ rest. Ok (posting ∷ rest))
-    unfolding postings_from
-    posting_here before h = grind (arith, take_all, length-drop, here)
+    module _ (x : ItemParts) (lt : k < length items) (at : x ≡ get_or items k x) (h : is_first x ≡ false) where
+      pub sheet_wrong : (e : JournalFault) → sheet_at (k + 1) (Some x) ≡ Err e → all ≡ Err e
+      unfolding sheets_from
+      sheet_wrong e r = sym (rw (here x lt at, h, r) at so_far)
 
-    pub no_posting_here : (before : ℕ) → is_first x ≡ false
-        → postings_from k before (drop k items) ≡ postings_from (k + 1) before (drop (k + 1) items)
+      pub sheet_more : (prices : List ℕ) → sheet_at (k + 1) (Some x) ≡ Ok prices
+          → after_front (made ++ prices ∷ []) (sheets_from (k + 1) (drop (k + 1) items)) ≡ all
+      unfolding sheets_from
+      sheet_more prices r = sym (regroup made prices _) ∙ (rw (here x lt at, h, r) at so_far)
+
+  module _ (made : List Posting) (all : Result (List Posting) JournalFault)
+      (so_far : after_front made (postings_from k (length made) (drop k items)) ≡ all) where
+    pub postings_stop : length items ≤ k → all ≡ Ok made
     unfolding postings_from
-    no_posting_here before h = ap (λ xs. postings_from k before xs) here ∙ rw h refl
+    postings_stop le = sym (rw (drop_all k items le, append-nil made) at so_far)
+
+    module _ (x : ItemParts) (lt : k < length items) (at : x ≡ get_or items k x) where
+      pub no_posting : is_first x ≡ false
+          → after_front made (postings_from (k + 1) (length made) (drop (k + 1) items)) ≡ all
+      unfolding postings_from
+      no_posting h = rw (here x lt at, h) at so_far
+
+      those : take (length items - k) (drop k items) ≡ x ∷ drop (k + 1) items
+      those = take_all (length items - k) (drop k items) (simp length-drop (omega arith)) ∙ here x lt at
+
+      pub posting_wrong : is_first x ≡ true → (e : JournalFault)
+          → posting_at x (take (length items - k) (drop k items)) k (length made) ≡ Err e → all ≡ Err e
+      unfolding postings_from
+      posting_wrong h e r = sym (rw (here x lt at, h, rw those at r) at so_far)
+
+      pub posting_more : is_first x ≡ true → (p : Posting)
+          → posting_at x (take (length items - k) (drop k items)) k (length made) ≡ Ok p
+          → after_front (made ++ p ∷ []) (postings_from (k + 1) (length (made ++ p ∷ [])) (drop (k + 1) items)) ≡ all
+      unfolding postings_from
+      posting_more h p r =
+          rw (length_push made p) (sym (regroup made p _) ∙ (rw (here x lt at, h, rw those at r) at so_far))
 
 -- a list with one element more, each seen by f
 pub pushed : {A : Type 0} (f : A → List ℕ) (xs : List A) (x : A) (ys : List ℕ) → f x ≡ ys

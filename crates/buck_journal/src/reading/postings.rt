@@ -188,6 +188,7 @@ fn sheet_at(alloc: Global, place: usize, item: &Piece<'_>) -> Result<Vec<u32>, J
 }
 
 /// The prices of the sheets, up to the first posting.
+#[tactic(auto, using(crate::proofs::Walk::sheet_more, crate::proofs::Walk::pushed))]
 pub(crate) fn sheets_in<'a>(
     alloc: Global,
     items: &'a [Piece<'a>],
