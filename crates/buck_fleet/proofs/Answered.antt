@@ -1,18 +1,23 @@
--- what a commit under the lock tells the seat's caller
-use Rattle.std.proofs.Common.{◌≡◌, ℕ, ◌+◌, ◌≤◌, List, [], ◌∷◌, ◌++◌, ap, arith}
+-- what a posting that was added under the lock tells its seat's caller
+use Rattle.std.proofs.Common.{◌≡◌, ℕ, ◌+◌, ◌≤◌, List, [], ◌∷◌, ◌++◌, arith, sym, ◌∙◌}
 use Rattle.std.proofs.lemmas.Grind.{common_steps}
 use Rattle.buck_book.specs.declared.posting.Posting.{Posting}
-use Rattle.buck_book.specs.declared.posting.Posting.TheVariants.{Demand}
-use Rattle.buck_book.specs.Entry.{DemandParts}
-use Rattle.buck_book.specs.Plan.{PlanParts}
-use Rattle.buck_book.specs.History.{HistoryParts, version_of}
-use Rattle.buck_book.specs.Book.{BookParts}
+use Rattle.buck_book.specs.declared.posting.Posting.TheVariants.{Cut, Demand}
+use Rattle.buck_book.specs.Entry.{EntryParts, DemandParts}
+use Rattle.buck_book.specs.Plan.{PlanParts, IsPlan}
+use Rattle.buck_book.specs.History.{HistoryParts, version_of, in_force}
+use Rattle.buck_book.specs.Book.{entry_of, demand_of}
 use Rattle.buck_book.proofs.Ends.{ends-append, ends_with_end}
+use Rattle.buck_fleet.specs.declared.seat.Kept.{Kept}
 use Rattle.buck_fleet.specs.declared.seat.Reply.{Reply}
 use Rattle.buck_fleet.specs.declared.seat.DemandReply.{DemandReply}
-use Rattle.buck_fleet.specs.Seat.{SeatParts}
-use Rattle.buck_fleet.specs.Reply.{IsReplyFor, IsOfPlan, IsReplyToTargets}
-use Rattle.buck_fleet.specs.inner.Desk.{IsReplyAt, IsDemandReplyAt}
+use Rattle.buck_fleet.specs.Seat.{SeatParts, Keeps, KeepsOne, seen_of}
+use Rattle.buck_fleet.specs.Reply.{IsReplyFor, IsOfPlan, IsReplyToTargets, kept_of, kept_demand_of}
+
+-- `inside` is the seat before it
+pub is_kept : (inside seat seat' : SeatParts) (items : List Kept) (k : Kept) → inside ≡ seat → items ≡ inside.kept
+    → Keeps inside (items ++ k ∷ []) seat' → KeepsOne seat k seat'
+is_kept inside seat seat' items k view is kept = rw (← view) (rw is at kept)
 
 -- the version in force never falls
 no_less : (before after : HistoryParts) (x : Posting) → after.postings ≡ before.postings ++ x ∷ []
@@ -20,30 +25,24 @@ no_less : (before after : HistoryParts) (x : Posting) → after.postings ≡ bef
 no_less before after x ps i = grind (arith, ends-append)
 
 -- after a demand it is the next one
-next : (before after : HistoryParts) (d : DemandParts) → after.postings ≡ before.postings ++ Demand d ∷ []
-    → after.instruction ≡ before.instruction → version_of after ≡ version_of before + 1
-next before after d ps i = grind (arith, ends_with_end)
+pub next : (before after : HistoryParts) (x : Posting) (d : DemandParts) → x ≡ Demand d
+    → after.postings ≡ before.postings ++ x ∷ [] → after.instruction ≡ before.instruction
+    → version_of after ≡ version_of before + 1
+next before after x d is ps i = grind (arith, ends_with_end)
 
-pub reply_for : {F : Type 0} (before after : BookParts F) (s s' : SeatParts) (p : PlanParts) (r : Reply)
-    → IsReplyAt before after s s' p r → IsReplyFor s s' p.stem r
-reply_for before after s s' p r at = grind (arith, no_less)
+pub reply_for : (h after : HistoryParts) (v s s' : SeatParts) (p : PlanParts) (x : Posting) (r : Reply) → v ≡ s
+    → x ≡ Cut r.entry → x ≡ Cut (entry_of h v.harvester p) → p.sheet ≡ in_force h → IsPlan p
+    → after.postings ≡ h.postings ++ x ∷ [] → after.instruction ≡ h.instruction → version_of after ≤ seen_of s'
+    → KeepsOne s (kept_of r) s' → IsReplyFor s s' p.stem r × IsOfPlan p r.entry
+reply_for h after v s s' p x r view is made under planned postings instruction seen kept =
+    let both : Cut r.entry ≡ Cut (entry_of h v.harvester p) = sym is ∙ made in
+    let entry : r.entry ≡ entry_of h v.harvester p = cc both in
+    grind (arith, no_less)
 
-pub of_plan : {F : Type 0} (before after : BookParts F) (s s' : SeatParts) (p : PlanParts) (r : Reply)
-    → IsReplyAt before after s s' p r → IsOfPlan p r.entry
-of_plan before after s s' p r at = grind (arith, common_steps)
-
-pub reply_to : {F : Type 0} (before after : BookParts F) (s s' : SeatParts) (targets : List ℕ) (r : DemandReply)
-    → IsDemandReplyAt before after s s' targets r → IsReplyToTargets s s' targets r
-reply_to before after s s' targets r at =
-    let added = at.added in
-    record {
-      kept = added.kept;
-      own_harvester = ap (λ (d : DemandParts). d.harvester) at.demand_is;
-      same_targets = ap (λ (d : DemandParts). d.targets) at.demand_is;
-      seen = omega (
-        arith,
-        ap (λ (d : DemandParts). d.version) at.demand_is,
-        next before.history after.history _ added.postings_are added.same_instruction,
-        added.seen,
-      );
-    }
+pub reply_to : (h : HistoryParts) (v s s' : SeatParts) (targets : List ℕ) (x : Posting) (r : DemandReply) → v ≡ s
+    → x ≡ Demand r.demand → x ≡ Demand (demand_of h v.harvester targets) → version_of h + 1 ≤ seen_of s'
+    → KeepsOne s (kept_demand_of r) s' → IsReplyToTargets s s' targets r
+reply_to h v s s' targets x r view is made seen kept =
+    let both : Demand r.demand ≡ Demand (demand_of h v.harvester targets) = sym is ∙ made in
+    let demand : r.demand ≡ demand_of h v.harvester targets = cc both in
+    grind (arith, common_steps)

@@ -2,7 +2,6 @@ pub mod Places
 pub mod Counted
 pub mod Replies
 pub mod Opened
-pub mod Keeping
 pub mod Answered
 pub mod Running
 pub mod Crews

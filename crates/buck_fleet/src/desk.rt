@@ -6,7 +6,8 @@ ghost use Rattle.buck_book.specs.Plan.{IsPlan};
 ghost use Rattle.buck_book.specs.History.{version_of};
 ghost use Rattle.buck_book.specs.Book.{IsReadyFor, demand_of};
 ghost use Rattle.buck_book.specs.declared.posting.Posting.TheVariants as Posting;
-ghost use Rattle.buck_fleet.specs.inner.Desk.{with_one, IsMade, posting_of, IsPlanRefused, IsReplyAt, IsDemandReplyAt};
+ghost use Rattle.buck_fleet.specs.inner.Desk.{with_one, IsMade, posting_of, IsStale};
+ghost use Rattle.buck_fleet.specs.Reply.{IsReplyFor, IsOfPlan, IsReplyToTargets};
 
 use crate::seat::{DemandReply, Kept, Own, Path, Reply, Seat};
 use buck_board::Board;
@@ -71,7 +72,7 @@ fn prepare_cut<R: Wait, F: Fn(&Standing) -> u64 + Drop>(
     ensures stem { IfOk result (λ r. r.1.value ≡ plan.now.stem) }
     ensures logs { IfOk result (λ r. r.2.value.logs.items ≡ plan.now.logs) }
     ensures best { OnOk result (IsPlan plan.now) }
-    ensures refused { IfErr result (IsPlanRefused book.old book.new plan.now) }
+    ensures refused { IfErr result (IsStale book.old.history plan.now) }
 {
     kept.reserve(1)?;
     let stem = plan.stem().clone()?;
@@ -142,7 +143,6 @@ impl<F: Drop, L: Ledger> Desk<F, L> {
 impl<F: Fn(&Standing) -> u64 + Drop, L: Ledger> Desk<F, L> {
     /// Commits a plan for a seat, if its sheet is in force: adds its entry to the history and to the seat's kept list,
     /// and raises the front to the version in force.
-    #[tactic(auto, using(crate::proofs::Keeping::is_kept))]
     pub fn commit<R: Wait>(
         &mut self,
         rt: &R,
@@ -156,9 +156,9 @@ impl<F: Fn(&Standing) -> u64 + Drop, L: Ledger> Desk<F, L> {
         requires answers { AllAnswer F.Fn }
         requires seat { IsSeatOf board.now seat.old.place }
         ensures seat { IsSeatOf board.now seat.new.place }
-        ensures ok { IfOk result (IsReplyAt self.old.book self.new.book seat.old seat.new plan) }
+        ensures reply { IfOk result (λ r. IsReplyFor seat.old seat.new plan.stem r × IsOfPlan plan r.entry) }
         ensures told { IfOk result (λ r. (r.attempts ≡ attempts) × (r.path ≡ path)) }
-        ensures refused { IfErr result (λ e. IsPlanRefused self.old.book self.new.book plan e.0) }
+        ensures refused { IfErr result (λ e. IsStale self.old.book.history plan e.0) }
         ensures plan { IfErr result (λ e. (e.1 ≡ plan) × (seat.new ≡ seat.old)) }
     {
         let Seat { harvester, own, .. } = seat;
@@ -188,7 +188,6 @@ impl<F: Fn(&Standing) -> u64 + Drop, L: Ledger> Desk<F, L> {
 
     /// Puts new targets in force for a seat: adds the demand to the history and to the seat's kept list, and raises the
     /// front to the version in force.
-    #[tactic(auto, using(crate::proofs::Keeping::is_kept))]
     pub fn retarget<R: Wait>(
         &mut self,
         rt: &R,
@@ -200,9 +199,8 @@ impl<F: Fn(&Standing) -> u64 + Drop, L: Ledger> Desk<F, L> {
         requires answers { AllAnswer F.Fn }
         requires seat { IsSeatOf board.now seat.old.place }
         ensures seat { IsSeatOf board.now seat.new.place }
-        ensures ok { IfOk result
-            (IsDemandReplyAt self.old.book self.new.book seat.old seat.new targets.now.value.items) }
-        ensures refused { IfErr result (λ e. (self.new.book.history ≡ self.old.book.history) × (seat.new ≡ seat.old)) }
+        ensures reply { IfOk result (IsReplyToTargets seat.old seat.new targets.now.value.items) }
+        ensures left { IfErr result (λ e. seat.new ≡ seat.old) }
     {
         let Seat { harvester, own, .. } = seat;
         own.kept.reserve(1)?;

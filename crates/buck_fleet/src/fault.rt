@@ -103,26 +103,6 @@ pub enum RetargetFault {
     Memory,
 }
 
-impl From<AllocError> for RetargetFault {
-    ghost use Rattle.buck_fleet.specs.declared.fault.RetargetFault.TheVariants.{Memory};
-
-    ghost from_gives = { λ _ e. e ≡ Memory };
-
-    fn from(_error: AllocError) -> RetargetFault {
-        RetargetFault::Memory
-    }
-}
-
-impl From<Memory> for RetargetFault {
-    ghost use Rattle.buck_fleet.specs.declared.fault.RetargetFault.TheVariants.{Memory};
-
-    ghost from_gives = { λ _ e. e ≡ Memory };
-
-    fn from(_error: Memory) -> RetargetFault {
-        RetargetFault::Memory
-    }
-}
-
 impl From<DemandRefusal> for RetargetFault {
     ghost from_gives = { λ it e. e ≡ retarget_fault_of it };
 
