@@ -1,5 +1,5 @@
 -- what a posting that was added under the lock tells its seat's caller
-use Rattle.std.proofs.Common.{◌≡◌, ℕ, ◌+◌, ◌≤◌, List, [], ◌∷◌, ◌++◌, arith, sym, ◌∙◌}
+use Rattle.std.proofs.Common.{◌≡◌, ℕ, ◌+◌, ◌≤◌, List, [], ◌∷◌, ◌++◌, arith, sym, ◌∙◌, rules}
 use Rattle.std.proofs.lemmas.Grind.{common_steps}
 use Rattle.buck_book.specs.declared.posting.Posting.{Posting}
 use Rattle.buck_book.specs.declared.posting.Posting.TheVariants.{Cut, Demand}
@@ -34,15 +34,9 @@ pub reply_for : (h after : HistoryParts) (v s s' : SeatParts) (p : PlanParts) (x
     → x ≡ Cut r.entry → x ≡ Cut (entry_of h v.harvester p) → p.sheet ≡ in_force h → IsPlan p
     → after.postings ≡ h.postings ++ x ∷ [] → after.instruction ≡ h.instruction → version_of after ≤ seen_of s'
     → KeepsOne s (kept_of r) s' → IsReplyFor s s' p.stem r × IsOfPlan p r.entry
-reply_for h after v s s' p x r view is made under planned postings instruction seen kept =
-    let both : Cut r.entry ≡ Cut (entry_of h v.harvester p) = sym is ∙ made in
-    let entry : r.entry ≡ entry_of h v.harvester p = cc both in
-    grind (arith, no_less)
+reply_for h after v s s' p x r view is made under planned postings instruction seen kept = search (rules, no_less)
 
 pub reply_to : (h : HistoryParts) (v s s' : SeatParts) (targets : List ℕ) (x : Posting) (r : DemandReply) → v ≡ s
     → x ≡ Demand r.demand → x ≡ Demand (demand_of h v.harvester targets) → version_of h + 1 ≤ seen_of s'
     → KeepsOne s (kept_demand_of r) s' → IsReplyToTargets s s' targets r
-reply_to h v s s' targets x r view is made seen kept =
-    let both : Demand r.demand ≡ Demand (demand_of h v.harvester targets) = sym is ∙ made in
-    let demand : r.demand ≡ demand_of h v.harvester targets = cc both in
-    grind (arith, common_steps)
+reply_to h v s s' targets x r view is made seen kept = search rules

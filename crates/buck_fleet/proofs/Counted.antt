@@ -48,11 +48,7 @@ pub parts_out : (h : HistoryParts) (i : InstructionParts) (prices : List (List �
     × (length h.postings ≤ 1000000)
     → IsLawful (history_of i prices ps) × (sheets ≡ sheets_from 0 i prices) × (targets ≡ targets_of i ps)
     × AreTargets i targets × AreClassCounts i ps counts × (length ps ≤ 1000000)
-parts_out h i prices ps sheets targets counts same =
-    subst (λ (x : HistoryParts). IsLawful x × (sheets ≡ sheets_from 0 x.instruction x.sheets)
-    × (targets ≡ targets_of x.instruction x.postings) × AreTargets x.instruction targets
-    × AreClassCounts x.instruction x.postings counts × (length x.postings ≤ 1000000))
-    (sym same)
+parts_out h i prices ps sheets targets counts same = grind arith
 
 -- what `close` hands out, by what it takes in: the kept lists, and the history with the first of the best cuttings
 pub handed_out : (n : ℕ) (seats : List SeatParts) (c : ClosedParts) (h : HistoryParts) (lists : List (List Kept))
@@ -63,8 +59,7 @@ handed_out n seats c h lists eh ek len all total firsts = grind (arith, common_s
 
 pub fault_at : (i j : InstructionParts) (n m : ℕ) (c : ClosedParts) (f : CloseFault) → i ≡ j → n ≡ m
     → IsCloseFault i n c f → IsCloseFault j m c f
-fault_at i j n m c f ei en h =
-    subst (λ (x : InstructionParts). IsCloseFault x m c f) ei (subst (λ (x : ℕ). IsCloseFault i x c f) en h)
+fault_at i j n m c f ei en h = grind arith
 
 -- the last of a lawful history's sheets is the one in force
 pub last_is : (h : HistoryParts) (sheets : List SheetParts) (d : SheetParts) → IsLawful h

@@ -21,9 +21,7 @@ first_seats : (x : SeatParts) (seats : List SeatParts) (h n : ℕ)
 first_seats x seats h zero each le pos = grind (arith, nat_tests)
 first_seats x seats h (suc n) each le pos =
     let more = sum_by_more (λ (s : SeatParts). cond (s.harvester == h) 1 0) seats n x (omega arith) in
-    let at = each n x (omega arith) in
-    let before = first_seats x seats h n each (omega arith) pos in
-    rw (← add-one) (grind (arith, nat_tests))
+    grind (arith, add-one, nat_tests, (first_seats x seats h n each (omega arith) pos))
 
 pub crew_of_new : (n : ℕ) (seats : List SeatParts) → length seats ≡ n
     → ((i : ℕ) (d : SeatParts) → i < n → (get_or seats i d).harvester ≡ i + 1) → IsCrew n seats
@@ -44,7 +42,7 @@ sums_same f (x ∷ xs) [] len e = absurd (omega arith)
 sums_same f (x ∷ xs) (y ∷ ys) len e =
     let h : f y ≡ f x = e 0 x (omega arith) in
     let t = sums_same f xs ys (omega arith) (λ i d lt. e (suc i) d (omega arith)) in
-    sum_by-cons f y ys ∙ (λ j. h j + t j) ∙ sym (sum_by-cons f x xs)
+    grind (arith, sum_by-cons)
 
 pub parts_same : (xs ys : List SeatParts) → length ys ≡ length xs
     → ((i : ℕ) (d : SeatParts) → i < length xs → (get_or ys i d).parts ≡ (get_or xs i d).parts)
@@ -55,8 +53,7 @@ pub crew_same : (n : ℕ) (xs ys : List SeatParts) → length ys ≡ length xs
     → ((i : ℕ) (d : SeatParts) → i < length xs → (get_or ys i d).harvester ≡ (get_or xs i d).harvester) → IsCrew n xs
     → IsCrew n ys
 crew_same n xs ys len e crew = record {
-  within = λ i d lt.
-      (let w = crew.within i d (omega arith) in let is = e i d (omega arith) in (omega arith, omega arith));
+  within = omega arith;
   once = λ h pos le. sums_same (λ s. cond (s.harvester == h) 1 0) xs ys len
       (λ i d lt. ap (λ (n : ℕ). cond (n == h) 1 0) (e i d lt)) ∙ crew.once h pos le;
 }

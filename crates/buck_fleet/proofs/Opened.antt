@@ -1,5 +1,5 @@
 -- seats of a new fleet, one by one
-use Rattle.std.proofs.Common.{◌≡◌, ℕ, ◌+◌, ◌<◌, List, [], ◌∷◌, ◌++◌, length, get_or, refl, ap, arith}
+use Rattle.std.proofs.Common.{◌≡◌, ℕ, ◌+◌, ◌<◌, List, [], ◌∷◌, ◌++◌, length, get_or, refl, ap, arith, rules}
 use Rattle.std.proofs.lemmas.Grind.{common_steps}
 use Rattle.std.specs.Prelude.{None, Some, All}
 use Rattle.std.proofs.lemmas.List.{get_or_append_left, get_or_push, length_push}
@@ -29,20 +29,7 @@ pub one_more : (b : Board) (count : ℕ) (seats after : List SeatParts) (places 
     → s ≡ record { harvester = h; place = p; kept = []; parts = own; stopped = None } → own ≡ parts
     → h ≡ length seats + 1 → after ≡ seats ++ s ∷ [] → left_after + parts ≡ left → AreSoFar b count after others 1 left_after
 one_more b count seats after places others parts left left_after own s h p so_far place is e at more given =
-    let fewer = ap length place in
-    let longer = ap length more in
-    let sum = ap parts_of more in
-    let made : IsNew b (length seats) s = grind (arith, common_steps) in
-    record {
-      number = grind (arith, length_push);
-      some_parts = omega arith;
-      one_each = λ some. refl;
-      shared = grind (arith, length_push);
-      all_parts = grind (arith, sum_by_push);
-      places_of = (All-pop (IsSeatOf b) _ _ (Some p) place so_far.places_of).0;
-      unseen = (All-pop (λ p. seen_by p ≡ 0) _ _ (Some p) place so_far.unseen).0;
-      new = grind (arith, get_or_append_left, get_or_push, length_push);
-    }
+    search (rules, length_push, sum_by_push, All-pop, get_or_append_left, get_or_push)
 
 pub opened : (b : Board) (count : ℕ) (seats : List SeatParts) (places : List BoardSeat) (parts left : ℕ)
     → AreSoFar b count seats places parts left → length places ≡ 0 → 0 < count → AreOpened b count seats

@@ -1,5 +1,5 @@
 -- kept lists that are put in their places, one by one
-use Rattle.std.proofs.Common.{◌≡◌, ◌≢◌, ℕ, zero, suc, ◌+◌, ◌-◌, ◌<◌, ◌≤◌, ◌==◌, List, [], ◌∷◌, ◌++◌, length, get_or, set, refl, sym, ap, ◌∙◌, arith, append_assoc, cond, length-set, length-append}
+use Rattle.std.proofs.Common.{◌≡◌, ◌≢◌, ℕ, zero, suc, ◌+◌, ◌-◌, ◌<◌, ◌≤◌, ◌==◌, List, [], ◌∷◌, ◌++◌, length, get_or, set, refl, sym, ap, ◌∙◌, arith, append_assoc, cond, length-set, length-append, rules}
 use Rattle.std.proofs.lemmas.Grind.{common_steps}
 use Rattle.std.specs.Prelude.{All}
 use Rattle.std.specs.List.{sum_by}
@@ -39,21 +39,13 @@ pub one_more_in : (all rest rest' : List SeatParts) (s v : SeatParts) (before li
 one_more_in all rest rest' s v before lists lists' parts parts' amount amount' own is view l p a o places =
     let more = sum_by-cons (λ (x : SeatParts). x.parts) v places.done in
     let longer = sum_by-cons (λ (x : SeatParts). length x.kept) v places.done in
-    record {
-      done = v ∷ places.done;
-      split = places.split ∙ (λ t. is t ++ places.done) ∙ append_assoc rest' (s ∷ []) places.done
-          ∙ (λ t. rest' ++ sym view t ∷ places.done);
-      lists_are = l ∙ ap (λ x. set x (v.harvester - 1) v.kept) places.lists_are;
-      parts_are = omega (arith, places.parts_are);
-      amount_is = omega (arith, places.amount_is);
-    }
+    search (rules, append_assoc)
 
 pub in_range : (n : ℕ) (all rest rest' : List SeatParts) (s v : SeatParts) (before lists : List (List Kept))
     (parts amount : ℕ) → IsCrew n all → rest ≡ rest' ++ s ∷ [] → v ≡ s → Places all rest before lists parts amount
     → (0 < v.harvester) × (v.harvester ≤ n)
 in_range n all rest rest' s v before lists parts amount crew is view places =
-    let first : rest ++ places.done ≡ rest' ++ s ∷ places.done = (λ t. is t ++ places.done)
-    ∙ append_assoc rest' (s ∷ []) places.done in
+    let first : rest ++ places.done ≡ rest' ++ s ∷ places.done = search (rules, append_assoc) in
     let within = rw (places.split ∙ first) at crew.within in
     rw (view, ← get_or-append_seam rest' s places.done s) (within (length rest') s (omega (arith, length-append rest' (s ∷ places.done))))
 
@@ -78,8 +70,7 @@ rest_apart n s xs apart = record {
 
 not_there : (h : ℕ) (xs : List SeatParts) (k : ℕ) (d : SeatParts) → seats_of h xs ≡ 0 → k < length xs
     → (get_or xs k d).harvester ≢ h
-not_there h xs k d none lt e = let one = get_or-le-sum_by (λ (x : SeatParts). cond (x.harvester == h) 1 0) xs k d lt in
-    absurd (omega (arith, rw (eq-eqb (get_or xs k d).harvester h e) at one))
+not_there h xs k d none lt e = grind (arith, get_or-le-sum_by, eq-eqb)
 
 module _ (lists : List (List Kept)) (empty : AreEmpty lists) where
   long : (xs : List SeatParts) → length (placed lists xs) ≡ length lists
@@ -93,8 +84,7 @@ module _ (lists : List (List Kept)) (empty : AreEmpty lists) where
   free h (s ∷ xs) pos apart none =
       let f = first_apart _ s xs apart in
       let other = not_there h (s ∷ xs) 0 s none (omega arith) in
-      get_or-set_other (placed lists xs) (s.harvester - 1) (h - 1) s.kept [] (λ e. other (omega arith))
-      ∙ free h xs pos (rest_apart _ s xs apart) (omega (arith, seats_of-append h (s ∷ []) xs))
+      search (rules, get_or-set_other, rest_apart, seats_of-append, (free h xs pos (rest_apart _ s xs apart) (omega (arith, seats_of-append h (s ∷ []) xs))))
 
   summed : (xs : List SeatParts) → AreApart (length lists) xs
       → sum_by length (placed lists xs) ≡ sum_by (λ s. length s.kept) xs
@@ -110,7 +100,7 @@ module _ (lists : List (List Kept)) (empty : AreEmpty lists) where
       → All (λ s. get_or (placed lists xs) (s.harvester - 1) [] ≡ s.kept) xs
   there [] apart k d lt = absurd (omega arith)
   there (s ∷ xs) apart zero d lt = let f = first_apart _ s xs apart in
-      get_or-set_same (placed lists xs) (s.harvester - 1) s.kept [] (omega (arith, long xs))
+      search (rules, get_or-set_same, long)
   there (s ∷ xs) apart (suc k) d lt =
       let f = first_apart _ s xs apart in
       let w = (rest_apart _ s xs apart).within k d (omega arith) in

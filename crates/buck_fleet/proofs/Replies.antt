@@ -27,17 +27,7 @@ differ_here k kept replies y ys le is ne = grind (arith, take_seam, get_seam)
 pub differ_end : (k : ℕ) (kept replies : List Kept) → k < length kept → replies ≡ take k kept ++ []
     → DifferFirstAt (k + 1) kept replies
 differ_end k kept replies lt is =
-    let back : k + 1 - 1 ≡ k = omega arith in
-    let past : slice_get replies k ≡ None = ap (λ (l : List Kept). slice_get l k) is
-    ∙ slice_get_past (take k kept ++ []) k
-    (omega (arith, length-append (take k kept) [], length-take-le k kept (omega arith))) in
-    record {
-      from_one = omega arith;
-      like_before = rw (back, is) (sym (take_seam k kept [] (omega arith)));
-      unlike_there =
-          rw back (λ e. elim ((slice_get_cases kept k).1)
-          [ inl s ↦ none-some s.0 (sym past ∙ sym e ∙ s.2) | inr n ↦ absurd (omega (arith, n.0)) ]);
-    }
+    grind (arith, slice_get_past, length-append, length-take-le, take_seam, slice_get_cases, none-some)
 
 -- a posting of the harvester is the next reply
 reply_at : (h i : ℕ) (entries : List Posting) (x : Posting) → i < length entries → x ≡ get_or entries i x

@@ -1,5 +1,5 @@
 -- a run goes on
-use Rattle.std.proofs.Common.{◌≡◌, ℕ, zero, suc, ◌+◌, ◌<◌, List, [], ◌∷◌, ◌++◌, length, take, get_or, map, sym, ap, ◌∙◌, arith, append_assoc}
+use Rattle.std.proofs.Common.{◌≡◌, ℕ, zero, suc, ◌+◌, ◌<◌, List, [], ◌∷◌, ◌++◌, length, take, get_or, map, sym, ap, ◌∙◌, arith, append_assoc, rules}
 use Rattle.std.specs.Prelude.{Some, slice_get}
 use Rattle.std.proofs.lemmas.List.{map-append}
 use Rattle.std.proofs.lemmas.List.Elements.{All-append, All-cons}
@@ -23,22 +23,14 @@ pub one_more_cut : (n : ℕ) (stems : List StemParts) (a b c : SeatParts) (r : R
     → HasCut (n + 1) stems a c
 one_more_cut n stems a b c r stem cut reply at lt = record {
   more = cut.more ++ kept_of r ∷ [];
-  kept = record {
-    same_harvester = reply.kept.same_harvester ∙ cut.kept.same_harvester;
-    kept_are = reply.kept.kept_are ∙ ap (λ (l : List Kept). l ++ kept_of r ∷ []) cut.kept.kept_are
-        ∙ append_assoc a.kept cut.more (kept_of r ∷ []);
-    same_parts = reply.kept.same_parts ∙ cut.kept.same_parts;
-    seen_rises = omega (arith, reply.kept.seen_rises, cut.kept.seen_rises);
-  };
+  kept = search (rules, append_assoc);
   within = omega arith;
   each = map-append (λ (k : Kept). stem_cut k.entry) cut.more (kept_of r ∷ [])
       ∙ (λ t. cut.each t ++ Some (reply.same_stem t) ∷ [])
       ∙ sym (map-append (λ (s : StemParts). Some s) (take n stems) (stem ∷ []))
       ∙ ap (λ (l : List StemParts). map (λ (s : StemParts). Some s) l) (sym (take_one_more stems n stem at));
   own = All-append (λ (k : Kept). harvester_of k.entry ≡ a.harvester) cut.more (kept_of r ∷ []) cut.own
-      (All-cons (λ (k : Kept). harvester_of k.entry ≡ a.harvester) (kept_of r) []
-      (reply.own_harvester ∙ cut.kept.same_harvester) (λ i d lt. absurd (omega (arith, lt))));
+      (search (rules, All-cons));
   best = All-append (λ (k : Kept). IsFirstBestCut k.entry) cut.more (kept_of r ∷ []) cut.best
-      (All-cons (λ (k : Kept). IsFirstBestCut k.entry) (kept_of r) [] reply.first_best
-      (λ i d lt. absurd (omega (arith, lt))));
+      (search (rules, All-cons));
 }

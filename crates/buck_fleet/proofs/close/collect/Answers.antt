@@ -7,8 +7,7 @@ pub index_mut-its_place-requires : goal.index_mut-its_place-requires
 index_mut-its_place-requires g c =
     let w = in_range _ _ _ _ _ _ _ _ _ _ c.requires.crew c.in-Some.ensures.items c.seat.view_is
     c.loop-seat.invariant.taken in
-    let ok = c.loop-seat.kept.ok in
-    omega (arith, w, c.loop-seat.invariant.number)
+    omega arith
 
 pub loop-seat-preserved-in-Some : goal.loop-seat-preserved-in-Some
 loop-seat-preserved-in-Some g c = record {

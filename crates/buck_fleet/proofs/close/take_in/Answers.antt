@@ -1,4 +1,4 @@
-use Rattle.std.proofs.Common.{refl, sym, ◌∙◌, arith}
+use Rattle.std.proofs.Common.{refl, sym, ◌∙◌, arith, rules}
 use Rattle.std.proofs.lemmas.List.{length-map}
 use Rattle.buck_fleet.specs.Closed.{lists_of}
 use Rattle.buck_fleet.proofs.Counted.{prices_are, history_same, parts_out, handed_out}
@@ -10,14 +10,7 @@ invariant_of-result g c =
     let same =
     history_same c.args.desk.book.history _ _ _ parts.instruction (prices_are (λ a. a.value) _ _ _ _ parts.sheets)
     parts.entries in
-    parts_out _ _ _ _ _ _ _ same (
-      parts.kept.lawful,
-      parts.sheets,
-      parts.targets,
-      parts.valid,
-      parts.counts,
-      omega (arith, parts.kept.within, parts.kept.capacity_range),
-    )
+    search (rules, parts_out)
 
 pub returns : goal.returns
 returns g c =
