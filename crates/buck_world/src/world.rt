@@ -171,27 +171,6 @@ impl<F: Fn(&Standing) -> u64 + Drop> World<F> {
         })
     }
 
-    /// One event that is allowed.
-    fn follow(&mut self, alloc: Global, event: Event) -> Result<(), StepFault>
-        requires answers { Answers F.Fn self.old.rule }
-        requires allowed { Allowed self.old.world event }
-        ensures ok { OnOk result (Step self.old.world event self.new.world) }
-        ensures room { OnOk result (HasRoom self.old event) }
-        ensures refused { IfErr result (IsRefusal self.old event) }
-        ensures left { OnErr result (self.new ≡ self.old) }
-        ensures rule { self.new.rule ≡ self.old.rule }
-        ensures capacity { self.new.capacity ≡ self.old.capacity }
-        ensures harvesters { length self.new.world.harvesters ≡ length self.old.world.harvesters }
-    {
-        act(
-            alloc,
-            &mut self.book,
-            &mut self.front,
-            &mut self.harvesters,
-            event,
-        )
-    }
-
     /// One event, where it is allowed: what follows is a world step. Else, and where it is refused otherwise, the world
     /// stays as it was. A try that is stale is answered `Ok`. Refused as `NotAllowed` where no case of the event holds,
     /// as `Full` where it would try to add a posting at the capacity, as `Targets` where new targets aren't valid, and
@@ -212,6 +191,12 @@ impl<F: Fn(&Standing) -> u64 + Drop> World<F> {
         if !self.allows(&event) {
             return Err(StepFault::NotAllowed);
         }
-        self.follow(alloc, event)
+        act(
+            alloc,
+            &mut self.book,
+            &mut self.front,
+            &mut self.harvesters,
+            event,
+        )
     }
 }

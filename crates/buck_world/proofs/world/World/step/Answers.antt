@@ -1,13 +1,15 @@
-use Rattle.std.proofs.Common.{sym}
+use Rattle.std.proofs.Common.{rules, sym}
 use Rattle.std.proofs.lemmas.Result.{on_err_weaker}
+use Rattle.buck_world.specs.Step.{Allowed}
 use Rattle.buck_world.proofs.Kept.{keeps_act}
-use Rattle.buck_world.proofs.world.World.follow.Goals as goal
+use Rattle.buck_world.proofs.world.World.step.Goals as goal
 
 pub invariant_of-self : goal.invariant_of-self
 invariant_of-self g c =
+    let allowed : Allowed c.args.self.now.world c.args.event = search rules in
     let left =
     on_err_weaker c.act.result (λ l. (λ j. record { history = l.0 j; front = l.1 j; harvesters = l.2 j }))
     c.act.ensures.left in
     keeps_act _ c.args.event c.act.new.book.rule c.act.new.book.capacity _ c.act.result c.self.invariant
-    (rw (sym c.self.view_is) at c.requires.allowed)
+    (rw (sym c.self.view_is) at allowed)
     c.act.ensures.capacity c.act.ensures.ok c.act.ensures.room left
