@@ -15,7 +15,7 @@ use Rattle.buck_world.specs.declared.harvester.Harvester.{Harvester}
 use Rattle.buck_world.specs.declared.event.Event.{Event}
 use Rattle.buck_world.specs.declared.event.Event.TheVariants.{Read, Plan, Try, Locked, Retarget, Raise, Leave}
 use Rattle.buck_world.specs.World.{WorldParts, IsHarvester, at, IsAnswered, NobodyAnswered, with_harvester, with_posting, with_front}
-use Rattle.buck_world.specs.Step.{IsPlanUnder, Adds, Allowed, Step}
+use Rattle.buck_world.specs.Step.{IsPlanUnder, Adds, Becomes, Allowed, Step}
 use Rattle.buck_world.specs.Kept.{IsFit}
 use Rattle.buck_world.specs.Run.{harvester_of_event}
 use Rattle.buck_world.specs.inner.Sound.{IsGoing, IsSound}
@@ -53,24 +53,39 @@ entry_follows : (h : HistoryParts) (n : ℕ) (p : PlanParts) → IsPlanUnder h (
     → history.Follows h.instruction h.sheets h.postings (Cut (entry_of h n p))
 entry_follows h n p under = grind (arith, common_steps)
 
--- nobody holds a plan
-no_plan : (w : WorldParts) (seen stale : ℕ) (stage : Stage) → ((p : PlanParts) → stage ≢ Planned p) → seen ≤ w.front
-    → stale ≤ 3 → IsFit w.history w.front (record { stage = stage; seen = seen; stale = stale })
-no_plan w seen stale stage none low few = record { plan = λ p e. absurd (none p e); seen = low; stale = few }
+-- h's posting is added where nobody is answered
+added : (w w' : WorldParts) (h : ℕ) (x : Posting) → NobodyAnswered w → harvester_of x ≡ h
+    → history.Follows w.history.instruction w.history.sheets w.history.postings x → Adds w h x w' → IsMove w h w'
+added w w' h x nobody by_h follows (next, is_next, is) = inr (inl record {
+  posting = x;
+  next = next;
+  is = is;
+  nobody = nobody;
+  by_h = by_h;
+  follows = follows;
+  is_next = is_next;
+})
+
+-- h alone changes, and holds no plan then
+quiet : (w w' : WorldParts) (h : ℕ) (stage : Stage) (seen stale : ℕ) → (at w h).stage ≢ Answered → stage ≢ Answered
+    → ((p : PlanParts) → stage ≢ Planned p) → (at w h).seen ≤ seen → seen ≤ w.front → stale ≤ 3
+    → (IsGoing stage → stale < 3) → Becomes w h stage seen stale w' → IsMove w h w'
+quiet w w' h stage seen stale before after none no_less low few going is = inl record {
+  now = record { stage = stage; seen = seen; stale = stale };
+  is = is;
+  before = before;
+  after = after;
+  no_less = no_less;
+  fit = record { plan = λ p e. absurd (none p e); seen = low; stale = few };
+  going = going;
+}
 
 going_of : (x : Stage) (p : PlanParts) → x ≡ Planned p → IsGoing x
 going_of x p e = subst (λ (s : Stage). IsGoing s) (sym e) tt
 
 pub move_of : (w w' : WorldParts) (e : Event) → IsSound w → Step w e w' → IsMove w (harvester_of_event e) w'
-move_of w w' (Read h v) s (a, f) = let fit = s.world.fits h a.0 in inl record {
-  now = record { stage = Reading; seen = v; stale = (at w h).stale };
-  is = f;
-  before = λ e. let x = a.1 in cc;
-  after = λ e. cc;
-  no_less = a.3;
-  fit = no_plan w v (at w h).stale Reading (λ p e. cc) a.4 fit.stale;
-  going = λ _. a.2;
-}
+move_of w w' (Read h v) s (a, f) = let fit = s.world.fits h a.0 in
+    quiet w w' h Reading v (at w h).stale (λ e. let x = a.1 in cc) (λ e. cc) (λ p e. cc) a.3 a.4 fit.stale (λ _. a.2) f
 move_of w w' (Plan h stem) s (a, (p, is_stem, under, f)) = let fit = s.world.fits h a.0 in inl record {
   now = record { stage = Planned p; seen = (at w h).seen; stale = (at w h).stale };
   is = f;
@@ -85,56 +100,23 @@ move_of w w' (Plan h stem) s (a, (p, is_stem, under, f)) = let fit = s.world.fit
   going = λ _. (s.placed h a.0).going (subst (λ (z : Stage). IsGoing z) (sym a.1) tt);
 }
 move_of w w' (Try h) s (a, (p, is, t)) = let fit = s.world.fits h a.0 in ⊎_elim
-    (λ (k : ((at w h).seen ≡ version_of w.history) × Adds w h (Cut (entry_of w.history h p)) w'). inr (inl record {
-      posting = Cut (entry_of w.history h p);
-      next = k.1.0;
-      is = k.1.2;
-      nobody = a.2;
-      by_h = refl;
-      follows = entry_follows w.history h p (subst (λ (v : ℕ). IsPlanUnder w.history v p) k.0 (fit.plan p is));
-      is_next = k.1.1;
-    }))
-    (λ (k : ((at w h).seen ≢ version_of w.history)
-    × (w' ≡ with_harvester w h (record { stage = Idle; seen = (at w h).seen; stale = (at w h).stale + 1 }))). inl
-    record {
-      now = record { stage = Idle; seen = (at w h).seen; stale = (at w h).stale + 1 };
-      is = k.1;
-      before = a.2 h a.0;
-      after = λ e. cc;
-      no_less = le_refl (at w h).seen;
-      fit = let few = (s.placed h a.0).going (going_of (at w h).stage p is) in
-          no_plan w (at w h).seen ((at w h).stale + 1) Idle (λ q e. cc) fit.seen (omega arith);
-      going = λ f. absurd f;
-    })
+    (λ (k : ((at w h).seen ≡ version_of w.history) × Adds w h (Cut (entry_of w.history h p)) w').
+    added w w' h (Cut (entry_of w.history h p)) a.2 refl
+    (entry_follows w.history h p (subst (λ (v : ℕ). IsPlanUnder w.history v p) k.0 (fit.plan p is))) k.1)
+    (λ (k : ((at w h).seen ≢ version_of w.history) × Becomes w h Idle (at w h).seen ((at w h).stale + 1) w').
+    let few = (s.placed h a.0).going (going_of (at w h).stage p is) in
+    quiet w w' h Idle (at w h).seen ((at w h).stale + 1) (a.2 h a.0) (λ e. cc) (λ q e. cc) (le_refl (at w h).seen)
+    fit.seen (omega arith) (λ f. absurd f) k.1)
     t
-move_of w w' (Locked h stem) s (a, (p, is_stem, under, f)) = inr (inl record {
-  posting = Cut (entry_of w.history h p);
-  next = f.0;
-  is = f.2;
-  nobody = a.2;
-  by_h = refl;
-  follows = entry_follows w.history h p under;
-  is_next = f.1;
-})
-move_of w w' (Retarget h targets) s (a, (valid, f)) = inr (inl record {
-  posting = Demand (demand_of w.history h targets.value.items);
-  next = f.0;
-  is = f.2;
-  nobody = a.2;
-  by_h = refl;
-  follows = record { number_is_next = refl; version_in_force = refl; holds = valid };
-  is_next = f.1;
-})
+move_of w w' (Locked h stem) s (a, (p, is_stem, under, f)) =
+    added w w' h (Cut (entry_of w.history h p)) a.2 refl (entry_follows w.history h p under) f
+move_of w w' (Retarget h targets) s (a, (valid, f)) =
+    added w w' h (Demand (demand_of w.history h targets.value.items)) a.2 refl
+    record { number_is_next = refl; version_in_force = refl; holds = valid } f
 move_of w w' (Raise h) s (a, f) = inr (inr record { is = f; was = a.1 })
-move_of w w' (Leave h) s (a, f) = let fit = s.world.fits h a.0 in inl record {
-  now = record { stage = Idle; seen = (at w h).seen; stale = 0 };
-  is = f;
-  before = a.1;
-  after = λ e. cc;
-  no_less = le_refl (at w h).seen;
-  fit = no_plan w (at w h).seen 0 Idle (λ q e. cc) fit.seen (omega arith);
-  going = λ g. absurd g;
-}
+move_of w w' (Leave h) s (a, f) = let fit = s.world.fits h a.0 in
+    quiet w w' h Idle (at w h).seen 0 a.1 (λ e. cc) (λ q e. cc) (le_refl (at w h).seen) fit.seen (omega arith)
+    (λ g. absurd g) f
 
 pub is_in : (w : WorldParts) (e : Event) → Allowed w e → IsHarvester w (harvester_of_event e)
 is_in w (Read h v) a = a.0

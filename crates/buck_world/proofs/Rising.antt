@@ -12,11 +12,11 @@ use Rattle.buck_world.specs.declared.stage.Stage.TheVariants.{Idle, Reading, Pla
 use Rattle.buck_world.specs.declared.harvester.Harvester.{Harvester}
 use Rattle.buck_world.specs.declared.event.Event.{Event}
 use Rattle.buck_world.specs.declared.event.Event.TheVariants.{Read, Try}
-use Rattle.buck_world.specs.World.{WorldParts, IsHarvester, at, with_harvester}
-use Rattle.buck_world.specs.Step.{IsPlanUnder, Adds, Step}
+use Rattle.buck_world.specs.World.{WorldParts, at}
+use Rattle.buck_world.specs.Step.{IsPlanUnder, Adds, Becomes, Step}
 use Rattle.buck_world.specs.Run.{Move, IsRun, last, harvester_of_event, added_at, added}
 use Rattle.buck_world.specs.inner.Sound.{IsSound}
-use Rattle.buck_world.proofs.Sound.{stays_sound, run_sound}
+use Rattle.buck_world.proofs.Sound.{stays_sound}
 use Rattle.buck_world.proofs.Kept.{same_number}
 use Rattle.buck_world.proofs.Counting.{at_here, foreign}
 
@@ -35,45 +35,40 @@ step_no_less w w' e h s step low = elim (cases_eq h (harvester_of_event e)) [
   | inr not ↦ seen_no_less w w' h (at w h) (foreign w w' e h s step low not) (le_refl (at w h).seen)
 ]
 
-run_no_less : (w : WorldParts) (moves : List Move) (h : ℕ) → IsSound w → IsRun w moves → 1 ≤ h
-    → (at w h).seen ≤ (at (last w moves) h).seen
-run_no_less w [] h s r low = le_refl (at w h).seen
-run_no_less w (m ∷ ms) h s r low =
-    grind (arith, step_no_less, stays_sound, (run_no_less m.after ms h (stays_sound w m.after m.event s r.0) r.1 low))
+run_to : (w : WorldParts) (before : List Move) (h : ℕ) (after : List Move) → IsSound w → IsRun w (before ++ after)
+    → 1 ≤ h → (at w h).seen ≤ (at (last w before) h).seen
+run_to w [] h after s r low = le_refl (at w h).seen
+run_to w (m ∷ before) h after s r low =
+    grind (arith, step_no_less, (run_to m.after before h after (stays_sound w m.after m.event s r.0) r.1 low))
 
--- a run in two parts
-parts : (w : WorldParts) (xs ys : List Move) → IsRun w (xs ++ ys) → IsRun w xs × IsRun (last w xs) ys
-parts w [] ys r = (tt, r)
-parts w (m ∷ ms) ys r = let p = parts m.after ms ys r.1 in ((r.0, p.0), p.1)
+-- a run up to a move, the move, and what comes after it
+moment : (w : WorldParts) (before after : List Move) (m : Move) → IsSound w → IsRun w (before ++ m ∷ after)
+    → IsSound (last w before) × Step (last w before) m.event m.after × IsSound m.after × IsRun m.after after
+moment w [] after m s r = (s, r.0, stays_sound w m.after m.event s r.0, r.1)
+moment w (b ∷ before) after m s r = moment b.after before after m (stays_sound w b.after b.event s r.0) r.1
 
 pub reads_never_fall : (w : WorldParts) (before between after : List Move) (h v v' : ℕ) (x x' : WorldParts) → IsSound w
     → IsRun w
     (before ++ (record { event = Read h v; after = x })
     ∷ (between ++ (record { event = Read h v'; after = x' }) ∷ after)) → v ≤ v'
 reads_never_fall w before between after h v v' x x' s r =
-    let p = parts w before
-    ((record { event = Read h v; after = x }) ∷ (between ++ (record { event = Read h v'; after = x' }) ∷ after))
-    r in
-    let u = last w before in let sound : IsSound u = run_sound w before s p.0 in
-    let step : Step u (Read h v) x = p.1.0 in let h_in : IsHarvester u h = step.0.0 in
-    let sound_x : IsSound x = stays_sound u x (Read h v) sound step in
-    let q = parts x between ((record { event = Read h v'; after = x' }) ∷ after) p.1.1 in
-    let seen : at x h ≡ record { stage = Reading; seen = v; stale = (at u h).stale } =
-    at_here u x _ h _ step.1 refl h_in in
+    let m = moment w before (between ++ (record { event = Read h v'; after = x' }) ∷ after)
+    record { event = Read h v; after = x } s r in
+    let n = moment x between after record { event = Read h v'; after = x' } m.2 m.3 in
+    let seen : at x h ≡ record { stage = Reading; seen = v; stale = (at (last w before) h).stale } =
+    at_here (last w before) x _ h _ m.1.1 refl m.1.0.0 in
     let is : (at x h).seen ≡ v = ap (λ (z : Harvester). z.seen) seen in
-    let up : (at x h).seen ≤ (at (last x between) h).seen = run_no_less x between h sound_x q.0 h_in.0 in
-    let low : (at (last x between) h).seen ≤ v' = q.1.0.0.3 in omega arith
+    let up = run_to x between h _ m.2 m.3 m.1.0.0.0 in
+    let low : (at (last x between) h).seen ≤ v' = n.1.0.3 in omega arith
 
 pub reads_after_replies : (w : WorldParts) (before after : List Move) (h v k : ℕ) (x : WorldParts) (d : Posting)
     → IsSound w
     → IsRun w (before ++ (record { event = Read h v; after = x }) ∷ after)
     → slice_get (last w before).history.postings k ≡ Some d → harvester_of d ≡ h → planned_version d ≤ v
 reads_after_replies w before after h v k x d s r there by_h =
-    let p = parts w before ((record { event = Read h v; after = x }) ∷ after) r in let u = last w before in
-    let sound : IsSound u = run_sound w before s p.0 in
-    let step : Step u (Read h v) x = p.1.0 in let h_in : IsHarvester u h = step.0.0 in
-    let idle : (at u h).stage ≡ Idle = step.0.1 in
-    le_trans ((sound.placed h h_in).replied (λ q. cc) k d there by_h) step.0.3
+    let m = moment w before after record { event = Read h v; after = x } s r in
+    let idle : (at (last w before) h).stage ≡ Idle = m.1.0.1 in
+    le_trans ((m.0.placed h m.1.0.0).replied (λ q. cc) k d there by_h) m.1.0.3
 
 -- a try with a plan of another sheet leaves the history
 pub no_old_plan : (w : WorldParts) (before after : List Move) (h : ℕ) (x : WorldParts) (p : PlanParts) → IsSound w
@@ -81,18 +76,15 @@ pub no_old_plan : (w : WorldParts) (before after : List Move) (h : ℕ) (x : Wor
     → p.sheet ≢ in_force (last w before).history
     → x.history ≡ (last w before).history
 no_old_plan w before after h x p s r holds other =
-    let t = parts w before ((record { event = Try h; after = x }) ∷ after) r in
+    let m = moment w before after record { event = Try h; after = x } s r in
     let u = last w before in
-    let sound : IsSound u = run_sound w before s t.0 in
-    let step : Step u (Try h) x = t.1.0 in
-    let under : IsPlanUnder u.history (at u h).seen p = (sound.world.fits h step.0.0).plan p holds in
+    let under : IsPlanUnder u.history (at u h).seen p = (m.0.world.fits h m.1.0.0).plan p holds in
     ⊎_elim
-    (λ (k : ((at u h).seen ≡ version_of u.history) × Adds u h (Cut (entry_of u.history h step.1.0)) x).
+    (λ (k : ((at u h).seen ≡ version_of u.history) × Adds u h (Cut (entry_of u.history h m.1.1.0)) x).
     absurd (other (under.sheet_is ∙ ap (λ (v : ℕ). sheet_at u.history.instruction u.history.sheets v) k.0)))
-    (λ (k : ((at u h).seen ≢ version_of u.history)
-    × (x ≡ with_harvester u h (record { stage = Idle; seen = (at u h).seen; stale = (at u h).stale + 1 }))).
+    (λ (k : ((at u h).seen ≢ version_of u.history) × Becomes u h Idle (at u h).seen ((at u h).stale + 1) x).
     ap (λ (z : WorldParts). z.history) k.1)
-    step.1.2
+    m.1.1.2
 
 step_added : (w w' : WorldParts) (e : Event) → Step w e w' → w'.history.postings ≡ w.history.postings ++ added_at w e w'
 step_added w w' e step = grind (arith, common_steps)
