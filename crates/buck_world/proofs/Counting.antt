@@ -55,13 +55,18 @@ within_step : (w w' : WorldParts) (e : Event) (h k : ℕ) → IsSound w → Step
     → IsWithin w h k → IsWithin w' h (if_by h e (stale_at w e w') + if_by h e (lift_at w e w') + k)
 within_step w w' e h k s step fresh low within = grind (arith, common_steps)
 
-pub stale_and_lifts : (w : WorldParts) (moves : List Move) (h k : ℕ) → IsSound w → IsRun w moves → IsFresh w moves
+stale_and_lifts : (w : WorldParts) (moves : List Move) (h k : ℕ) → IsSound w → IsRun w moves → IsFresh w moves
     → 1 ≤ h → IsWithin w h k → stale_of h w moves + lifts_of h w moves + k ≤ (last w moves).front
 stale_and_lifts w [] h k s r f low within = let a = within.front in omega arith
 stale_and_lifts w (m ∷ ms) h k s r f low within =
     let rest =
     stale_and_lifts m.after ms h _ (stays_sound w m.after m.event s r.0) r.1 f.1 low
     (within_step w m.after m.event h k s r.0 f.0 low within) in omega arith
+
+pub within_front : (w : WorldParts) (moves : List Move) (h : ℕ) → IsSound w → w.front ≡ 0 → IsRun w moves
+    → IsFresh w moves → 1 ≤ h → stale_of h w moves + lifts_of h w moves ≤ (last w moves).front
+within_front w moves h s none r f low =
+    omega (arith, stale_and_lifts w moves h 0 s r f low record { front = omega arith; seen = λ _. omega arith })
 
 -- sums over the harvesters from 1 to n
 sum_to : (ℕ → ℕ) → ℕ → ℕ
@@ -124,10 +129,10 @@ pub all_stale_within : (w : WorldParts) (moves : List Move) (n : ℕ) → IsSoun
     → all_stale w moves ≤ (n - 1) * version_of (last w moves).history
 all_stale_within w moves n s is none r f end =
     let a = sum_to_bound (λ h. stale_of h w moves + lifts_of h w moves) n (last w moves).front
-    (λ h low high. let b =
-    stale_and_lifts w moves h 0 s r f low record { front = omega arith; seen = λ _. omega arith } in omega arith) in
-    let c = sum_to_plus (λ h. stale_of h w moves) (λ h. lifts_of h w moves) n in let d =
-    sum_of_own stale_at w moves n s is r in let l = sum_of_own lift_at w moves n s is r in
+    (λ h low high. omega (arith, within_front w moves h s none r f low)) in
+    let c = sum_to_plus (λ h. stale_of h w moves) (λ h. lifts_of h w moves) n in
+    let d = sum_of_own stale_at w moves n s is r in
+    let l = sum_of_own lift_at w moves n s is r in
     let g = lifts_are_front w moves s r in
-    fewer n (all_stale w moves) (last w moves).front (version_of (last w moves).history) (omega (arith, a, c, d, l, g))
+    fewer n (all_stale w moves) (last w moves).front (version_of (last w moves).history) (omega arith)
     end.world.front_low

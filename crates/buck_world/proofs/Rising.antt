@@ -35,56 +35,17 @@ step_no_less w w' e h s step low = elim (cases_eq h (harvester_of_event e)) [
   | inr not ↦ seen_no_less w w' h (at w h) (foreign w w' e h s step low not) (le_refl (at w h).seen)
 ]
 
-run_to : (w : WorldParts) (before : List Move) (h : ℕ) (after : List Move) → IsSound w → IsRun w (before ++ after)
+pub run_to : (w : WorldParts) (before : List Move) (h : ℕ) (after : List Move) → IsSound w → IsRun w (before ++ after)
     → 1 ≤ h → (at w h).seen ≤ (at (last w before) h).seen
 run_to w [] h after s r low = le_refl (at w h).seen
 run_to w (m ∷ before) h after s r low =
     grind (arith, step_no_less, (run_to m.after before h after (stays_sound w m.after m.event s r.0) r.1 low))
 
 -- a run up to a move, the move, and what comes after it
-moment : (w : WorldParts) (before after : List Move) (m : Move) → IsSound w → IsRun w (before ++ m ∷ after)
+pub moment : (w : WorldParts) (before after : List Move) (m : Move) → IsSound w → IsRun w (before ++ m ∷ after)
     → IsSound (last w before) × Step (last w before) m.event m.after × IsSound m.after × IsRun m.after after
 moment w [] after m s r = (s, r.0, stays_sound w m.after m.event s r.0, r.1)
 moment w (b ∷ before) after m s r = moment b.after before after m (stays_sound w b.after b.event s r.0) r.1
-
-pub reads_never_fall : (w : WorldParts) (before between after : List Move) (h v v' : ℕ) (x x' : WorldParts) → IsSound w
-    → IsRun w
-    (before ++ (record { event = Read h v; after = x })
-    ∷ (between ++ (record { event = Read h v'; after = x' }) ∷ after)) → v ≤ v'
-reads_never_fall w before between after h v v' x x' s r =
-    let m = moment w before (between ++ (record { event = Read h v'; after = x' }) ∷ after)
-    record { event = Read h v; after = x } s r in
-    let n = moment x between after record { event = Read h v'; after = x' } m.2 m.3 in
-    let seen : at x h ≡ record { stage = Reading; seen = v; stale = (at (last w before) h).stale } =
-    at_here (last w before) x _ h _ m.1.1 refl m.1.0.0 in
-    let is : (at x h).seen ≡ v = ap (λ (z : Harvester). z.seen) seen in
-    let up = run_to x between h _ m.2 m.3 m.1.0.0.0 in
-    let low : (at (last x between) h).seen ≤ v' = n.1.0.3 in omega arith
-
-pub reads_after_replies : (w : WorldParts) (before after : List Move) (h v k : ℕ) (x : WorldParts) (d : Posting)
-    → IsSound w
-    → IsRun w (before ++ (record { event = Read h v; after = x }) ∷ after)
-    → slice_get (last w before).history.postings k ≡ Some d → harvester_of d ≡ h → planned_version d ≤ v
-reads_after_replies w before after h v k x d s r there by_h =
-    let m = moment w before after record { event = Read h v; after = x } s r in
-    let idle : (at (last w before) h).stage ≡ Idle = m.1.0.1 in
-    le_trans ((m.0.placed h m.1.0.0).replied (λ q. cc) k d there by_h) m.1.0.3
-
--- a try with a plan of another sheet leaves the history
-pub no_old_plan : (w : WorldParts) (before after : List Move) (h : ℕ) (x : WorldParts) (p : PlanParts) → IsSound w
-    → IsRun w (before ++ (record { event = Try h; after = x }) ∷ after) → (at (last w before) h).stage ≡ Planned p
-    → p.sheet ≢ in_force (last w before).history
-    → x.history ≡ (last w before).history
-no_old_plan w before after h x p s r holds other =
-    let m = moment w before after record { event = Try h; after = x } s r in
-    let u = last w before in
-    let under : IsPlanUnder u.history (at u h).seen p = (m.0.world.fits h m.1.0.0).plan p holds in
-    ⊎_elim
-    (λ (k : ((at u h).seen ≡ version_of u.history) × Adds u h (Cut (entry_of u.history h m.1.1.0)) x).
-    absurd (other (under.sheet_is ∙ ap (λ (v : ℕ). sheet_at u.history.instruction u.history.sheets v) k.0)))
-    (λ (k : ((at u h).seen ≢ version_of u.history) × Becomes u h Idle (at u h).seen ((at u h).stale + 1) x).
-    ap (λ (z : WorldParts). z.history) k.1)
-    m.1.1.2
 
 step_added : (w w' : WorldParts) (e : Event) → Step w e w' → w'.history.postings ≡ w.history.postings ++ added_at w e w'
 step_added w w' e step = grind (arith, common_steps)

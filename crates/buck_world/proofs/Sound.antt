@@ -164,9 +164,13 @@ stays_sound w w' e s step = let h = harvester_of_event e in let h_in = is_in w e
     (λ more. ⊎_elim (λ a. added_sound w w' h s h_in a) (λ r. raised_sound w w' h s h_in r) more)
     (move_of w w' e s step)
 
-pub run_sound : (w : WorldParts) (moves : List Move) → IsSound w → IsRun w moves → IsSound (last w moves)
+run_sound : (w : WorldParts) (moves : List Move) → IsSound w → IsRun w moves → IsSound (last w moves)
 run_sound w [] s r = s
 run_sound w (m ∷ ms) s r = run_sound m.after ms (stays_sound w m.after m.event s r.0) r.1
 
 pub opening_sound : (i : InstructionParts) (n : ℕ) → IsSound (opening i n)
 opening_sound i n = grind (arith, get_or-replicate, length-replicate)
+
+pub reached : (i : InstructionParts) (n : ℕ) (moves : List Move) → IsRun (opening i n) moves
+    → IsSound (last (opening i n) moves)
+reached i n moves r = run_sound (opening i n) moves (opening_sound i n) r

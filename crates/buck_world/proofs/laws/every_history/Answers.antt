@@ -1,17 +1,31 @@
-use Rattle.std.proofs.Common.{rules}
-use Rattle.buck_world.specs.World.{opening}
-use Rattle.buck_world.proofs.Sound.{run_sound, opening_sound}
-use Rattle.buck_world.proofs.Rising.{run_added, run_instruction, no_old_plan}
+use Rattle.std.proofs.Common.{◌≡◌, ◌≢◌, ⊎_elim, ℕ, ◌+◌, ap, ◌∙◌}
+use Rattle.buck_book.specs.declared.posting.Posting.TheVariants.{Cut}
+use Rattle.buck_book.specs.History.{version_of, sheet_at}
+use Rattle.buck_book.specs.Book.{entry_of}
+use Rattle.buck_world.specs.declared.stage.Stage.TheVariants.{Idle}
+use Rattle.buck_world.specs.declared.event.Event.TheVariants.{Try}
+use Rattle.buck_world.specs.World.{WorldParts, opening, at}
+use Rattle.buck_world.specs.Step.{Adds, Becomes}
+use Rattle.buck_world.specs.Run.{last}
+use Rattle.buck_world.proofs.Sound.{reached, opening_sound}
+use Rattle.buck_world.proofs.Rising.{moment, run_added, run_instruction}
 use Rattle.buck_world.proofs.laws.every_history.Goals as goal
 
 pub returns-clause-lawful : goal.returns-clause-lawful
-returns-clause-lawful c i n moves r = (
-  (run_sound (opening i n) moves (opening_sound i n) r).world.lawful,
-  run_instruction (opening i n) moves (opening_sound i n) r,
-)
+returns-clause-lawful c i n moves r =
+    ((reached i n moves r).world.lawful, run_instruction (opening i n) moves (opening_sound i n) r)
 
 pub returns-clause-added : goal.returns-clause-added
 returns-clause-added c i n moves r = run_added (opening i n) moves r
 
 pub returns-clause-no_old_plan : goal.returns-clause-no_old_plan
-returns-clause-no_old_plan c i n before after h x p r holds other = search (rules, no_old_plan, opening_sound)
+returns-clause-no_old_plan c i n before after h x p r holds other =
+    let m = moment (opening i n) before after record { event = Try h; after = x } (opening_sound i n) r in
+    let u = last (opening i n) before in
+    ⊎_elim
+    (λ (k : ((at u h).seen ≡ version_of u.history) × Adds u h (Cut (entry_of u.history h m.1.1.0)) x).
+    absurd (other (((m.0.world.fits h m.1.0.0).plan p holds).sheet_is
+    ∙ ap (λ (v : ℕ). sheet_at u.history.instruction u.history.sheets v) k.0)))
+    (λ (k : ((at u h).seen ≢ version_of u.history) × Becomes u h Idle (at u h).seen ((at u h).stale + 1) x).
+    ap (λ (z : WorldParts). z.history) k.1)
+    m.1.1.2
