@@ -59,9 +59,7 @@ stale_and_lifts : (w : WorldParts) (moves : List Move) (h k : ℕ) → IsSound w
     → 1 ≤ h → IsWithin w h k → stale_of h w moves + lifts_of h w moves + k ≤ (last w moves).front
 stale_and_lifts w [] h k s r f low within = let a = within.front in omega arith
 stale_and_lifts w (m ∷ ms) h k s r f low within =
-    let rest =
-    stale_and_lifts m.after ms h _ (stays_sound w m.after m.event s r.0) r.1 f.1 low
-    (within_step w m.after m.event h k s r.0 f.0 low within) in omega arith
+    search (rules, stays_sound, within_step, (stale_and_lifts m.after ms h _ (stays_sound w m.after m.event s r.0) r.1 f.1 low (within_step w m.after m.event h k s r.0 f.0 low within)))
 
 pub within_front : (w : WorldParts) (moves : List Move) (h : ℕ) → IsSound w → w.front ≡ 0 → IsRun w moves
     → IsFresh w moves → 1 ≤ h → stale_of h w moves + lifts_of h w moves ≤ (last w moves).front
@@ -120,9 +118,7 @@ sum_of_own count w (m ∷ ms) n s is r =
 
 fewer : (n stale front version : ℕ) → stale + front ≤ n * front → front ≤ version → stale ≤ (n - 1) * version
 fewer zero stale front version a b = omega arith
-fewer (suc n) stale front version a b = let c : n * front ≤ n * version = mul-le-mul_left n b in let d : suc n - 1 ≡ n =
-    omega arith in
-    subst (λ (k : ℕ). stale ≤ k * version) (sym d) (omega arith)
+fewer (suc n) stale front version a b = grind (arith, mul-le-mul_left)
 
 pub all_stale_within : (w : WorldParts) (moves : List Move) (n : ℕ) → IsSound w → length w.harvesters ≡ n → w.front ≡ 0
     → IsRun w moves → IsFresh w moves → IsSound (last w moves)

@@ -1,5 +1,5 @@
 -- Each event keeps what the type of worlds keeps.
-use Rattle.std.proofs.Common.{◌≡◌, ℕ, ◌+◌, ◌-◌, ◌≤◌, List, [], ◌∷◌, length, length-set, get_or, replicate, sym, subst, arith}
+use Rattle.std.proofs.Common.{◌≡◌, ℕ, ◌+◌, ◌-◌, ◌≤◌, List, [], ◌∷◌, length, length-set, get_or, replicate, sym, subst, arith, rules}
 use Rattle.std.specs.Prelude.{Result, Ok, Err, OnOk, OnErr}
 use Rattle.std.proofs.lemmas.List.{length_push, length-replicate}
 use Rattle.std.proofs.lemmas.List.Elements.{All-map, All-from_get_or}
@@ -73,13 +73,7 @@ pub keeps_opening : {F : Type 0} (rule : F) (capacity : ℕ) (s : HistoryParts) 
     → Keeps {F = F} record { rule = rule; capacity = capacity; world = world_of s 0 xs }
 keeps_opening {F} rule capacity s xs i n same sheets none all valid range few =
     let l = length-replicate n newcomer in
-    let is : world_of s 0 xs ≡ opening i n =
-    λ j. record {
-      history = record { instruction = same j; sheets = sheets j; postings = none j };
-      front =
-          0;
-      harvesters = all j;
-    } in
+    let is : world_of s 0 xs ≡ opening i n = grind arith in
     subst (λ (w : WorldParts). Keeps {F = F} record { rule = rule; capacity = capacity; world = w }) (sym is)
     (keeps_all record { rule = rule; capacity = capacity; world = opening i n } (opening_sound i n)
     (subst (λ (k : InstructionParts). IsInstruction k) same valid) (omega arith) range (omega arith))
@@ -92,7 +86,4 @@ pub keeps_act : {F : Type 0} (r : RuledWorld F) (e : Event) (rule : F) (capacity
     → Keeps {F = F} record { rule = rule; capacity = capacity; world = w' }
 keeps_act r e rule capacity w' (Ok x) k allowed same follows room left =
     keeps_step r rule capacity e w' k same (allowed, follows) room
-keeps_act {F} r e rule capacity w' (Err f) k allowed same follows room left =
-    subst (λ (w : WorldParts). Keeps {F = F} record { rule = rule; capacity = capacity; world = w }) (sym left)
-    (keeps_all record { rule = rule; capacity = capacity; world = r.world } k.sound k.kept.valid
-    (let b = k.kept.within in omega arith) (let b = k.kept.capacity_range in omega arith) k.kept.harvesters_range)
+keeps_act {F} r e rule capacity w' (Err f) k allowed same follows room left = search (rules, keeps_all)

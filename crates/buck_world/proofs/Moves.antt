@@ -1,5 +1,5 @@
 -- The three things that a step may do: one harvester alone changes, a posting is added, or the front is raised.
-use Rattle.std.proofs.Common.{◌≡◌, ◌≢◌, ◌⊎◌, inl, inr, ⊎_elim, ℕ, ◌+◌, ◌<◌, ◌≤◌, ◌-◌, set, Option, sym, refl, subst, arith, le_refl}
+use Rattle.std.proofs.Common.{◌≡◌, ◌≢◌, ◌⊎◌, inl, inr, ⊎_elim, ℕ, ◌+◌, ◌<◌, ◌≤◌, ◌-◌, set, Option, sym, refl, subst, arith, le_refl, rules}
 use Rattle.std.proofs.lemmas.Grind.{common_steps}
 use Rattle.buck_value.specs.Sheet.{SheetParts}
 use Rattle.buck_book.specs.declared.posting.Posting.{Posting}
@@ -56,67 +56,30 @@ entry_follows h n p under = grind (arith, common_steps)
 -- h's posting is added where nobody is answered
 added : (w w' : WorldParts) (h : ℕ) (x : Posting) → NobodyAnswered w → harvester_of x ≡ h
     → history.Follows w.history.instruction w.history.sheets w.history.postings x → Adds w h x w' → IsMove w h w'
-added w w' h x nobody by_h follows (next, is_next, is) = inr (inl record {
-  posting = x;
-  next = next;
-  is = is;
-  nobody = nobody;
-  by_h = by_h;
-  follows = follows;
-  is_next = is_next;
-})
+added w w' h x nobody by_h follows (next, is_next, is) = grind arith
 
 -- h alone changes, and holds no plan then
 quiet : (w w' : WorldParts) (h : ℕ) (stage : Stage) (seen stale : ℕ) → (at w h).stage ≢ Answered → stage ≢ Answered
     → ((p : PlanParts) → stage ≢ Planned p) → (at w h).seen ≤ seen → seen ≤ w.front → stale ≤ 3
     → (IsGoing stage → stale < 3) → Becomes w h stage seen stale w' → IsMove w h w'
-quiet w w' h stage seen stale before after none no_less low few going is = inl record {
-  now = record { stage = stage; seen = seen; stale = stale };
-  is = is;
-  before = before;
-  after = after;
-  no_less = no_less;
-  fit = record { plan = λ p e. absurd (none p e); seen = low; stale = few };
-  going = going;
-}
+quiet w w' h stage seen stale before after none no_less low few going is = grind arith
 
 going_of : (x : Stage) (p : PlanParts) → x ≡ Planned p → IsGoing x
 going_of x p e = subst (λ (s : Stage). IsGoing s) (sym e) tt
 
 pub move_of : (w w' : WorldParts) (e : Event) → IsSound w → Step w e w' → IsMove w (harvester_of_event e) w'
-move_of w w' (Read h v) s (a, f) = let fit = s.world.fits h a.0 in
-    quiet w w' h Reading v (at w h).stale (λ e. let x = a.1 in cc) (λ e. cc) (λ p e. cc) a.3 a.4 fit.stale (λ _. a.2) f
-move_of w w' (Plan h stem) s (a, (p, is_stem, under, f)) = let fit = s.world.fits h a.0 in inl record {
-  now = record { stage = Planned p; seen = (at w h).seen; stale = (at w h).stale };
-  is = f;
-  before = λ e. let x = a.1 in cc;
-  after = λ e. cc;
-  no_less = le_refl (at w h).seen;
-  fit = record {
-    plan = λ q e. let same : p ≡ q = cc in subst (λ (z : PlanParts). IsPlanUnder w.history (at w h).seen z) same under;
-    seen = fit.seen;
-    stale = fit.stale;
-  };
-  going = λ _. (s.placed h a.0).going (subst (λ (z : Stage). IsGoing z) (sym a.1) tt);
-}
+move_of w w' (Read h v) s (a, f) = search (rules, quiet)
+move_of w w' (Plan h stem) s (a, (p, is_stem, under, f)) = search (rules, le_refl)
 move_of w w' (Try h) s (a, (p, is, t)) = let fit = s.world.fits h a.0 in ⊎_elim
     (λ (k : ((at w h).seen ≡ version_of w.history) × Adds w h (Cut (entry_of w.history h p)) w').
     added w w' h (Cut (entry_of w.history h p)) a.2 refl
     (entry_follows w.history h p (subst (λ (v : ℕ). IsPlanUnder w.history v p) k.0 (fit.plan p is))) k.1)
-    (λ (k : ((at w h).seen ≢ version_of w.history) × Becomes w h Idle (at w h).seen ((at w h).stale + 1) w').
-    let few = (s.placed h a.0).going (going_of (at w h).stage p is) in
-    quiet w w' h Idle (at w h).seen ((at w h).stale + 1) (a.2 h a.0) (λ e. cc) (λ q e. cc) (le_refl (at w h).seen)
-    fit.seen (omega arith) (λ f. absurd f) k.1)
+    (search (rules, going_of, quiet, le_refl))
     t
-move_of w w' (Locked h stem) s (a, (p, is_stem, under, f)) =
-    added w w' h (Cut (entry_of w.history h p)) a.2 refl (entry_follows w.history h p under) f
-move_of w w' (Retarget h targets) s (a, (valid, f)) =
-    added w w' h (Demand (demand_of w.history h targets.value.items)) a.2 refl
-    record { number_is_next = refl; version_in_force = refl; holds = valid } f
+move_of w w' (Locked h stem) s (a, (p, is_stem, under, f)) = search (rules, added, entry_follows)
+move_of w w' (Retarget h targets) s (a, (valid, f)) = search (rules, added)
 move_of w w' (Raise h) s (a, f) = inr (inr record { is = f; was = a.1 })
-move_of w w' (Leave h) s (a, f) = let fit = s.world.fits h a.0 in
-    quiet w w' h Idle (at w h).seen 0 a.1 (λ e. cc) (λ q e. cc) (le_refl (at w h).seen) fit.seen (omega arith)
-    (λ g. absurd g) f
+move_of w w' (Leave h) s (a, f) = search (rules, quiet, le_refl)
 
 pub is_in : (w : WorldParts) (e : Event) → Allowed w e → IsHarvester w (harvester_of_event e)
 is_in w (Read h v) a = a.0

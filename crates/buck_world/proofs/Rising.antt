@@ -1,5 +1,5 @@
 -- What a harvester has seen never falls, and what is added along a run.
-use Rattle.std.proofs.Common.{◌≡◌, ◌≢◌, ⊎_elim, inl, inr, ℕ, ◌+◌, ◌≤◌, List, [], ◌∷◌, ◌++◌, slice_get, Some, sym, refl, ap, subst, ◌∙◌, append_assoc, append-nil, arith, le_refl, le_trans}
+use Rattle.std.proofs.Common.{◌≡◌, ◌≢◌, ⊎_elim, inl, inr, ℕ, ◌+◌, ◌≤◌, List, [], ◌∷◌, ◌++◌, slice_get, Some, sym, refl, ap, subst, ◌∙◌, append_assoc, append-nil, arith, le_refl, le_trans, rules}
 use Rattle.std.proofs.lemmas.Grind.{common_steps}
 use Rattle.std.proofs.lemmas.Bool.{cases_eq}
 use Rattle.buck_book.specs.declared.posting.Posting.{Posting}
@@ -30,10 +30,7 @@ own_no_less w w' e s step = grind (arith, common_steps)
 
 step_no_less : (w w' : WorldParts) (e : Event) (h : ℕ) → IsSound w → Step w e w' → 1 ≤ h
     → (at w h).seen ≤ (at w' h).seen
-step_no_less w w' e h s step low = elim (cases_eq h (harvester_of_event e)) [
-  | inl is ↦ subst (λ g. (at w g).seen ≤ (at w' g).seen) (sym is) (own_no_less w w' e s step)
-  | inr not ↦ seen_no_less w w' h (at w h) (foreign w w' e h s step low not) (le_refl (at w h).seen)
-]
+step_no_less w w' e h s step low = grind (arith, cases_eq, own_no_less, seen_no_less, foreign, le_refl)
 
 pub run_to : (w : WorldParts) (before : List Move) (h : ℕ) (after : List Move) → IsSound w → IsRun w (before ++ after)
     → 1 ≤ h → (at w h).seen ≤ (at (last w before) h).seen
@@ -61,5 +58,4 @@ run_added w (m ∷ ms) r = run_added m.after ms r.1
 pub run_instruction : (w : WorldParts) (moves : List Move) → IsSound w → IsRun w moves
     → (last w moves).history.instruction ≡ w.history.instruction
 run_instruction w [] s r = refl
-run_instruction w (m ∷ ms) s r = run_instruction m.after ms (stays_sound w m.after m.event s r.0) r.1
-    ∙ (same_number w m.after m.event s r.0).1
+run_instruction w (m ∷ ms) s r = search (rules, stays_sound, same_number, (run_instruction m.after ms (stays_sound w m.after m.event s r.0) r.1))

@@ -127,8 +127,7 @@ added_sound w w' h s h_in a = subst (λ (y : WorldParts). IsSound y) (sym a.is) 
 -- a posting's version is at most the version in force
 version_low : (w : WorldParts) → IsSound w → (i : ℕ) (p : Posting) → slice_get w.history.postings i ≡ Some p
     → planned_version p ≤ version_of w.history
-version_low w s i p there = let v = version_within w.history i p s.world.lawful there in let n =
-    s.world.lawful.sheets_number in omega arith
+version_low w s i p there = let v = version_within w.history i p s.world.lawful there in omega arith
 
 raised_sound : (w w' : WorldParts) (h : ℕ) → IsSound w → IsHarvester w h → IsRaised w h w' → IsSound w'
 raised_sound w w' h s h_in r = subst (λ (y : WorldParts). IsSound y) (sym r.is) record {

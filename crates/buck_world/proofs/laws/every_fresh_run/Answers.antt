@@ -9,8 +9,7 @@ pub returns-clause-lifts : goal.returns-clause-lifts
 returns-clause-lifts c i n moves r fresh = omega (arith, lifts_are_front (opening i n) moves (opening_sound i n) r)
 
 pub returns-clause-one_harvester : goal.returns-clause-one_harvester
-returns-clause-one_harvester c i n moves r fresh h low high =
-    within_front (opening i n) moves h (opening_sound i n) refl r fresh low
+returns-clause-one_harvester c i n moves r fresh h low high = search (rules, within_front, opening_sound)
 
 pub returns-clause-others : goal.returns-clause-others
 returns-clause-others c i n moves r fresh h low high =

@@ -1,3 +1,4 @@
+use Rattle.std.proofs.Common.{arith}
 use Rattle.buck_world.proofs.Sound.{reached}
 use Rattle.buck_world.proofs.laws.every_world.Goals as goal
 
@@ -8,5 +9,4 @@ pub returns-clause-one_answered : goal.returns-clause-one_answered
 returns-clause-one_answered c i n moves r = (reached i n moves r).world.one_answered
 
 pub returns-clause-front : goal.returns-clause-front
-returns-clause-front c i n moves r = let w = (reached i n moves r).world in
-    ((λ h h_in. (w.fits h h_in).seen), w.front_low, w.front_in_force)
+returns-clause-front c i n moves r = grind (arith, reached)

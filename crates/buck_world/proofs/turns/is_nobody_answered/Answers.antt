@@ -6,7 +6,7 @@ use Rattle.buck_world.proofs.turns.is_nobody_answered.Goals as goal
 
 pub returns-then-is_answered : goal.returns-then-is_answered
 returns-then-is_answered c = (
-  (λ f. absurd (cc)),
+  grind arith,
   λ none.
       let low : 1 ≤ c.loop-x.x-index + 1 = omega arith in
       let high = c.loop-x-test.true in
