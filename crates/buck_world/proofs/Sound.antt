@@ -1,5 +1,5 @@
 -- What holds of each world that a run reaches.
-use Rattle.std.proofs.Common.{◌≡◌, ◌≢◌, ⊎_elim, inl, inr, ℕ, ◌+◌, ◌-◌, ◌<◌, ◌≤◌, List, [], ◌∷◌, length, length-set, get_or, set, slice_get, Option, Some, None, sym, refl, ap, subst, ◌∙◌, arith, le_refl, le_trans}
+use Rattle.std.proofs.Common.{◌≡◌, ◌≢◌, ⊎_elim, inl, inr, ℕ, ◌+◌, ◌-◌, ◌<◌, ◌≤◌, List, [], ◌∷◌, length, length-set, get_or, set, slice_get, Option, Some, None, sym, refl, ap, subst, ◌∙◌, arith, le_refl, le_trans, rules}
 use Rattle.std.proofs.lemmas.List.{get_or-replicate, length-replicate, length_push}
 use Rattle.std.proofs.lemmas.Bool.{cases_eq}
 use Rattle.buck_apt.specs.Instruction.{InstructionParts}
@@ -12,9 +12,9 @@ use Rattle.buck_book.proofs.Extend.{one_more, slice_get-push, version_within, pr
 use Rattle.buck_world.specs.declared.stage.Stage.TheVariants.{Idle, Answered}
 use Rattle.buck_world.specs.declared.harvester.Harvester.{Harvester}
 use Rattle.buck_world.specs.declared.event.Event.{Event}
-use Rattle.buck_world.specs.World.{WorldParts, newcomer, opening, IsHarvester, at, with_harvester}
+use Rattle.buck_world.specs.World.{WorldParts, newcomer, opening, IsHarvester, at, IsAnswered}
 use Rattle.buck_world.specs.Step.{IsPlanUnder, Step}
-use Rattle.buck_world.specs.Kept.{IsFit, IsWorld}
+use Rattle.buck_world.specs.Kept.{IsFit}
 use Rattle.buck_world.specs.Run.{Move, IsRun, last, harvester_of_event}
 use Rattle.buck_world.specs.inner.Sound.{IsPlaced, IsSound}
 use Rattle.buck_world.proofs.Lists.{here, elsewhere, each_of, after_set}
@@ -26,43 +26,67 @@ grown : (sheets : List (List ℕ)) (next : Option SheetParts)
 grown sheets None = (omega arith, omega arith)
 grown sheets (Some s) = let e = length_push sheets s.prices in (omega arith, omega arith)
 
-quiet_sound : (w w' : WorldParts) (h : ℕ) → IsSound w → IsHarvester w h → IsQuiet w h w' → IsSound w'
-quiet_sound w w' h s h_in q = subst (λ (y : WorldParts). IsSound y) (sym q.is) record {
+-- what holds of harvester h
+abbrev IsRight : HistoryParts → ℕ → ℕ → Harvester → Type 0
+IsRight s front h x = IsFit s front x × IsPlaced s h x
+
+-- harvester h became x, and the others stayed
+sound_after : (w : WorldParts) (h : ℕ) (x : Harvester) (s : HistoryParts) (front : ℕ) → IsSound w → IsHarvester w h
+    → IsLawful s → front ≤ version_of s → version_of s ≤ front + 1 → IsRight s front h x
+    → ((g : ℕ) → IsHarvester w g → g ≢ h → IsRight s front g (at w g))
+    → (x.stage ≡ Answered → (g : ℕ) → IsHarvester w g → g ≢ h → IsAnswered w g → ⊥)
+    → (x.stage ≢ Answered → ((g : ℕ) → IsHarvester w g → g ≢ h → IsAnswered w g → ⊥) → front ≡ version_of s)
+    → IsSound (record { history = s; front = front; harvesters = set w.harvesters (h - 1) x })
+sound_after w h x s front sound h_in lawful low next own others only forced = record {
   world = record {
-    lawful = k.lawful;
-    fits = after_set (λ g y. IsFit w.history w.front y) w.harvesters h q.now newcomer h_in.0 h_in.1 q.fit
-        (λ g g_in other. k.fits g g_in);
-    one_answered =
-        λ g j g_in j_in g_is j_is. k.one_answered g j (back_in g g_in) (back_in j j_in) (back g g_in g_is)
-        (back j j_in j_is);
-    front_low = k.front_low;
-    front_in_force = λ nobody. k.front_in_force (λ g g_in g_is. elim (cases_eq g h) [
-      | inl e ↦ q.before (subst (λ j. (at w j).stage ≡ Answered) e g_is)
-      | inr n ↦ nobody g (forth_in g g_in) (rw (elsewhere w.harvesters h g q.now newcomer h_in.0 g_in.0 n) g_is)
-    ]);
+    lawful = lawful;
+    fits = λ g g_in. (all g g_in).0;
+    one_answered = λ g j g_in j_in g_is j_is. elim (cases_eq g h) [
+      | inl e ↦ elim (cases_eq j h) [
+        | inl f ↦ e ∙ sym f
+        | inr o ↦ let b = back j j_in j_is o in absurd (only (self g e g_is) j b.0 o b.1)
+      ]
+      | inr n ↦ let a = back g g_in g_is n in elim (cases_eq j h) [
+        | inl f ↦ absurd (only (self j f j_is) g a.0 n a.1)
+        | inr o ↦ let b = back j j_in j_is o in sound.world.one_answered g j a.0 b.0 a.1 b.1
+      ]
+    ];
+    front_low = low;
+    front_in_force = λ nobody. forced
+        (λ e. nobody h (forth h h_in) (rw (here w.harvesters h x newcomer h_in.0 h_in.1) e))
+        (λ g g_in other g_is. nobody g (forth g g_in)
+        (rw (elsewhere w.harvesters h g x newcomer h_in.0 g_in.0 other) g_is));
   };
-  next = s.next;
-  placed = after_set (λ g y. IsPlaced w.history g y) w.harvesters h q.now newcomer h_in.0 h_in.1
-      record {
-        going = q.going;
-        replied =
-            λ idle i e there by_h. le_trans ((s.placed h h_in).replied q.before i e there by_h) q.no_less;
-      }
-      (λ g g_in other. s.placed g g_in);
+  next = next;
+  placed = λ g g_in. (all g g_in).1;
 }
   where
-    k : IsWorld w
-    k = s.world
+    all : (g : ℕ) → (1 ≤ g) × (g ≤ length (set w.harvesters (h - 1) x))
+        → IsRight s front g (get_or (set w.harvesters (h - 1) x) (g - 1) newcomer)
+    all = after_set (λ g y. IsRight s front g y) w.harvesters h x newcomer h_in.0 h_in.1 own others
 
-    back_in : (g : ℕ) → IsHarvester (with_harvester w h q.now) g → IsHarvester w g
-    back_in g t = (t.0, subst (λ (j : ℕ). g ≤ j) (length-set w.harvesters (h - 1) q.now) t.1)
+    forth : (g : ℕ) → IsHarvester w g → (1 ≤ g) × (g ≤ length (set w.harvesters (h - 1) x))
+    forth g t = (t.0, subst (λ (j : ℕ). g ≤ j) (sym (length-set w.harvesters (h - 1) x)) t.1)
 
-    forth_in : (g : ℕ) → IsHarvester w g → IsHarvester (with_harvester w h q.now) g
-    forth_in g t = (t.0, subst (λ (j : ℕ). g ≤ j) (sym (length-set w.harvesters (h - 1) q.now)) t.1)
+    self : (g : ℕ) → g ≡ h → (get_or (set w.harvesters (h - 1) x) (g - 1) newcomer).stage ≡ Answered
+        → x.stage ≡ Answered
+    self g e g_is = grind (arith, here)
 
-    back : (g : ℕ) → IsHarvester (with_harvester w h q.now) g → (at (with_harvester w h q.now) g).stage ≡ Answered
-        → (at w g).stage ≡ Answered
-    back g g_in g_is = grind (arith, each_of, here)
+    back : (g : ℕ) → (1 ≤ g) × (g ≤ length (set w.harvesters (h - 1) x))
+        → (get_or (set w.harvesters (h - 1) x) (g - 1) newcomer).stage ≡ Answered → g ≢ h
+        → IsHarvester w g × IsAnswered w g
+    back g g_in g_is other = grind (arith, each_of)
+
+quiet_sound : (w w' : WorldParts) (h : ℕ) → IsSound w → IsHarvester w h → IsQuiet w h w' → IsSound w'
+quiet_sound w w' h s h_in q = let k = s.world in
+    subst (λ (y : WorldParts). IsSound y) (sym q.is) (sound_after w h q.now w.history w.front s h_in k.lawful
+    k.front_low s.next (
+      search rules,
+      search (rules, le_trans),
+    )
+    (λ g g_in other. (k.fits g g_in, s.placed g g_in))
+    (λ is. absurd (q.after is))
+    (search (rules, cases_eq)))
 
 -- a plan's sheet stays at its place
 under_after : (s : HistoryParts) (x : Posting) (next : Option SheetParts) (v : ℕ) (p : PlanParts) → v < length s.sheets
@@ -74,55 +98,37 @@ seen_low : (w : WorldParts) (v : ℕ) → IsSound w → v ≤ w.front → v < le
 seen_low w v s low = let count = s.world.lawful.sheets_number in let front = s.world.front_low in omega arith
 
 added_sound : (w w' : WorldParts) (h : ℕ) → IsSound w → IsHarvester w h → IsAdded w h w' → IsSound w'
-added_sound w w' h s h_in a = subst (λ (y : WorldParts). IsSound y) (sym a.is) record {
-  world = record {
-    lawful = lawful;
-    fits = after_set (λ g y. IsFit after w.front y) w.harvesters h x newcomer h_in.0 h_in.1
-        (let fit = k.fits h h_in in record { plan = λ p e. absurd (cc); seen = fit.seen; stale = fit.stale })
-        (λ g g_in other. let fit = k.fits g g_in in record {
-          plan = λ p e. under_after w.history a.posting a.next (at w g).seen p (seen_low w (at w g).seen s fit.seen)
-              (fit.plan p e);
-          seen = fit.seen;
-          stale = fit.stale;
-        });
-    one_answered = λ g j g_in j_in g_is j_is. only g g_in g_is ∙ sym (only j j_in j_is);
-    front_low = let up = grown w.history.sheets a.next in let n = k.lawful.sheets_number in let m =
-        lawful.sheets_number in omega arith;
-    front_in_force =
-        λ none. absurd
-        (none h (forth_in h h_in) (ap (λ (y : Harvester). y.stage) (here w.harvesters h x newcomer h_in.0 h_in.1)));
-  };
-  next = let up = grown w.history.sheets a.next in let n = k.lawful.sheets_number in let m = lawful.sheets_number in
-      omega arith;
-  placed = after_set (λ g y. IsPlaced after g y) w.harvesters h x newcomer h_in.0 h_in.1
-      record { going = λ f. absurd f; replied = λ idle. absurd (idle refl) }
-      (λ g g_in other. let placed = s.placed g g_in in record {
+added_sound w w' h s h_in a =
+    let k = s.world in
+    let after = history_with w.history a.posting a.next in
+    let lawful = one_more w.history a.posting a.next k.lawful a.follows a.is_next in
+    let up = grown w.history.sheets a.next in
+    let n = k.lawful.sheets_number in
+    let m = lawful.sheets_number in
+    let own = k.fits h h_in in
+    subst (λ (y : WorldParts). IsSound y) (sym a.is) (sound_after w h
+    (record { stage = Answered; seen = (at w h).seen; stale = (at w h).stale }) after w.front s h_in lawful
+    (omega arith) (omega arith) (
+      record { plan = λ p e. absurd (cc); seen = own.seen; stale = own.stale },
+      record { going = λ f. absurd f; replied = λ idle. absurd (idle refl) },
+    )
+    (λ g g_in other. let fit = k.fits g g_in in let placed = s.placed g g_in in (
+      record {
+        plan = λ p e. under_after w.history a.posting a.next (at w g).seen p (seen_low w (at w g).seen s fit.seen)
+            (fit.plan p e);
+        seen = fit.seen;
+        stale = fit.stale;
+      },
+      record {
         going = placed.going;
         replied = λ idle i p there by_g. ⊎_elim
             (λ t. placed.replied idle i p t.1 by_g)
             (λ t. absurd (other (sym by_g ∙ ap harvester_of t.1 ∙ a.by_h)))
             (slice_get-push w.history.postings a.posting p i there);
-      });
-}
-  where
-    k : IsWorld w
-    k = s.world
-
-    after : HistoryParts
-    after = history_with w.history a.posting a.next
-
-    lawful : IsLawful after
-    lawful = one_more w.history a.posting a.next k.lawful a.follows a.is_next
-
-    x : Harvester
-    x = record { stage = Answered; seen = (at w h).seen; stale = (at w h).stale }
-
-    forth_in : (g : ℕ) → IsHarvester w g → (1 ≤ g) × (g ≤ length (set w.harvesters (h - 1) x))
-    forth_in g t = (t.0, subst (λ (j : ℕ). g ≤ j) (sym (length-set w.harvesters (h - 1) x)) t.1)
-
-    only : (g : ℕ) → (1 ≤ g) × (g ≤ length (set w.harvesters (h - 1) x))
-        → (get_or (set w.harvesters (h - 1) x) (g - 1) newcomer).stage ≡ Answered → g ≡ h
-    only g g_in g_is = grind (arith, each_of)
+      },
+    ))
+    (λ is g g_in other g_is. a.nobody g g_in g_is)
+    (λ not. absurd (not refl)))
 
 -- a posting's version is at most the version in force
 version_low : (w : WorldParts) → IsSound w → (i : ℕ) (p : Posting) → slice_get w.history.postings i ≡ Some p
@@ -130,32 +136,18 @@ version_low : (w : WorldParts) → IsSound w → (i : ℕ) (p : Posting) → sli
 version_low w s i p there = let v = version_within w.history i p s.world.lawful there in omega arith
 
 raised_sound : (w w' : WorldParts) (h : ℕ) → IsSound w → IsHarvester w h → IsRaised w h w' → IsSound w'
-raised_sound w w' h s h_in r = subst (λ (y : WorldParts). IsSound y) (sym r.is) record {
-  world = record {
-    lawful = k.lawful;
-    fits = after_set (λ g y. IsFit w.history (version_of w.history) y) w.harvesters h x newcomer h_in.0 h_in.1
-        record { plan = λ p e. absurd (cc); seen = le_refl (version_of w.history); stale = omega arith }
-        (λ g g_in other. let fit = k.fits g g_in in
-        record { plan = fit.plan; seen = le_trans fit.seen k.front_low; stale = fit.stale });
-    one_answered = λ g j g_in j_in g_is j_is. absurd (nobody g g_in g_is);
-    front_low = le_refl (version_of w.history);
-    front_in_force = λ none. refl;
-  };
-  next = omega arith;
-  placed = after_set (λ g y. IsPlaced w.history g y) w.harvesters h x newcomer h_in.0 h_in.1
-      record { going = λ f. absurd f; replied = λ idle i p there by_h. version_low w s i p there }
-      (λ g g_in other. s.placed g g_in);
-}
-  where
-    k : IsWorld w
-    k = s.world
-
-    x : Harvester
-    x = record { stage = Idle; seen = version_of w.history; stale = 0 }
-
-    nobody : (g : ℕ) → (1 ≤ g) × (g ≤ length (set w.harvesters (h - 1) x))
-        → (get_or (set w.harvesters (h - 1) x) (g - 1) newcomer).stage ≢ Answered
-    nobody g g_in g_is = grind (arith, each_of, here)
+raised_sound w w' h s h_in r =
+    let k = s.world in
+    let version = version_of w.history in
+    subst (λ (y : WorldParts). IsSound y) (sym r.is) (sound_after w h
+    (record { stage = Idle; seen = version; stale = 0 }) w.history version s h_in k.lawful (le_refl version) (omega arith) (
+      record { plan = λ p e. absurd (cc); seen = le_refl version; stale = omega arith },
+      record { going = λ f. absurd f; replied = λ idle i p there by_h. version_low w s i p there },
+    )
+    (λ g g_in other. let fit = k.fits g g_in in
+    (record { plan = fit.plan; seen = le_trans fit.seen k.front_low; stale = fit.stale }, s.placed g g_in))
+    (λ is. absurd (cc))
+    (λ not none. refl))
 
 pub stays_sound : (w w' : WorldParts) (e : Event) → IsSound w → Step w e w' → IsSound w'
 stays_sound w w' e s step = let h = harvester_of_event e in let h_in = is_in w e step.0 in ⊎_elim
