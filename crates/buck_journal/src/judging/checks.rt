@@ -36,25 +36,6 @@ fn check_prices(case: &Case<'_, '_>, walk: &Walk<'_>) -> Result<(), ReplayFault>
     }
 }
 
-/// The sheet in force at a place, where it is there and right.
-fn opened_sheet(
-    alloc: Global,
-    case: &Case<'_, '_>,
-    walk: &Walk<'_>,
-) -> Result<Arc<Sheet>, ReplayFault>
-    requires { walk.now.instruction ≡ case.now.instruction }
-    ensures right { OnOk result (IsSheetRight (along walk.now case.now.sheets) walk.now.at) }
-    ensures sheet { IfOk result (λ s. s.value ≡ sheet_then (along walk.now case.now.sheets) walk.now.at) }
-    ensures refused { IfErr result (λ fault.
-        fault ≢ Memory → IsSheetFault (along walk.now case.now.sheets) walk.now.at fault) }
-{
-    check_prices(case, walk)?;
-    match case.sheet(alloc, walk.version())? {
-        Some(sheet) => Ok(sheet),
-        None => unreachable!(),
-    }
-}
-
 /// The sheet in force at a place: a right one, where a period begins there, and else the one that is kept.
 pub(crate) fn sheet_in_force(
     alloc: Global,
@@ -73,10 +54,14 @@ pub(crate) fn sheet_in_force(
         → Begins (along walk.now case.now.sheets) walk.now.at
         × IsSheetFault (along walk.now case.now.sheets) walk.now.at fault) }
 {
-    if walk.begins_period() {
-        return opened_sheet(alloc, case, walk);
+    if !walk.begins_period() {
+        match kept {
+            Some(sheet) => return Ok(sheet),
+            None => unreachable!(),
+        }
     }
-    match kept {
+    check_prices(case, walk)?;
+    match case.sheet(alloc, walk.version())? {
         Some(sheet) => Ok(sheet),
         None => unreachable!(),
     }

@@ -16,17 +16,6 @@ use std::alloc::{AllocError, Global};
 use std::thread;
 use std::thread::Threads;
 
-/// Puts further postings behind these.
-fn put_behind(postings: &mut Vec<Posting>, more: Vec<Posting>) -> Result<(), AllocError>
-    ensures { OnOk result (postings.new.items ≡ postings.old.items ++ more.items) }
-{
-    postings.reserve(more.len())?;
-    for posting in more {
-        postings.push(posting)?;
-    }
-    Ok(())
-}
-
 /// The postings of a text, up to its end, where the text is cut in two again and again, until there is a thread for
 /// each part.
 #[tactic(auto, using(crate::proofs::OnePass::postings_join))]
@@ -53,7 +42,8 @@ fn postings_in_parts<T: Threads + Sync>(
         { postings_in_parts(rt, alloc, back, threads - threads / 2) },
     );
     let mut postings = first?;
-    put_behind(&mut postings, second?)?;
+    let mut more = second?;
+    postings.append(&mut more)?;
     Ok(postings)
 }
 
