@@ -1,6 +1,6 @@
 -- The sheets of the first versions, one more.
-use Rattle.std.proofs.Common.{◌≡◌, ℕ, zero, suc, List, [], ◌∷◌, ◌++◌, length, map, slice_get, Some, refl, sym, ◌∙◌, ap, subst, arith}
-use Rattle.std.proofs.lemmas.List.{length_push, map-append}
+use Rattle.std.proofs.Common.{◌≡◌, ℕ, zero, suc, List, [], ◌∷◌, ◌++◌, length, map, slice_get, Some, refl, sym, ◌∙◌, ap, arith}
+use Rattle.std.proofs.lemmas.List.{length_push, length-map, map-append}
 use Rattle.buck_apt.specs.Instruction.{InstructionParts}
 use Rattle.buck_value.specs.Sheet.{SheetParts}
 use Rattle.buck_book.specs.History.{sheet_at}
@@ -15,19 +15,16 @@ pushed_at : {X : Type 0} (xs : List X) (y : X) → slice_get (xs ++ y ∷ []) (l
 pushed_at [] y = refl
 pushed_at (x ∷ xs) y = pushed_at xs y
 
-pub one_made : (i : InstructionParts) (sheets : List (List ℕ)) (made : List SheetParts) (s : SheetParts)
-    → AreMade i sheets made
-    → s ≡ sheet_at i sheets (length made)
-    → AreMade i sheets (made ++ s ∷ [])
+one_made : (i : InstructionParts) (sheets : List (List ℕ)) (made : List SheetParts) (s : SheetParts)
+    → AreMade i sheets made → s ≡ sheet_at i sheets (length made) → AreMade i sheets (made ++ s ∷ [])
 one_made i sheets made s are is version lt = grind (arith, pushed_at, kept_at, length_push)
 
 -- the same of a list of what the sheets stand in
 pub one_more : {A : Type 0} (f : A → SheetParts) (i : InstructionParts) (sheets : List (List ℕ)) (old new : List A)
-    (x : A)
-    → AreMade i sheets (map f old)
-    → new ≡ old ++ x ∷ []
-    → f x ≡ sheet_at i sheets (length (map f old))
+    (x : A) (version : ℕ)
+    → AreMade i sheets (map f old) → length old ≡ version → new ≡ old ++ x ∷ [] → f x ≡ sheet_at i sheets version
     → AreMade i sheets (map f new)
-one_more f i sheets old new x are more is =
-    subst (λ xs. AreMade i sheets xs) (sym (ap (λ xs. map f xs) more ∙ map-append f old (x ∷ [])))
-    (one_made i sheets (map f old) (f x) are is)
+one_more f i sheets old new x version are count more is =
+    rw (more, map-append f old (x ∷ []))
+    (one_made i sheets (map f old) (f x) are
+    (is ∙ ap (λ n. sheet_at i sheets n) (sym (length-map old f ∙ count))))

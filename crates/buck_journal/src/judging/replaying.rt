@@ -228,20 +228,6 @@ fn walk_beside_search<T: Threads + Sync>(
     }
 }
 
-/// Whether no posting has an earlier version than the one before, as in each lawful journal. It tells only which way is
-/// gone.
-fn never_go_back(postings: &[Posting]) -> bool {
-    let mut last = 0;
-    for posting in postings {
-        let version = version_of(posting);
-        if version < last {
-            return false;
-        }
-        last = version;
-    }
-    true
-}
-
 /// [`replay`] in at most so many threads at once. One goes through the postings in order, while the others look which
 /// cut is outvalued, each in a run of neighbours. The answer is that of [`replay`], whatever the number, or `Memory`
 /// where a growth was refused and no part before it has found one. A short journal is left to one thread, and so is one
@@ -263,7 +249,8 @@ pub fn replay_in_parts<T: Threads + Sync>(
     if count <= size_of_part(count, threads) {
         return replay(alloc, instruction, journal);
     }
-    if !never_go_back(journal.entries.as_slice()) {
+    // Versions don't go back in a lawful journal.
+    if !journal.entries.as_slice().is_sorted_by_key(version_of) {
         return replay(alloc, instruction, journal);
     }
     let (ordered, doubtful) = walk_beside_search(rt, alloc, threads, instruction, journal)?;
