@@ -1,7 +1,6 @@
 pub mod Tuples
 pub mod Limits
 pub mod Walk
-pub mod Stages
 pub mod Replays
 pub mod Judged
 pub mod Made

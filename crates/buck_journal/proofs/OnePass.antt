@@ -22,7 +22,6 @@ use Rattle.buck_journal.specs.declared.reading.fault.JournalFault.{JournalFault}
 use Rattle.buck_journal.specs.declared.reading.fault.JournalFault.TheVariants.{Head}
 use Rattle.buck_journal.specs.reading.Journal.{numbers_at, Form, says, item_at, list_form, call_form, call_at, head_form, samples_form, zones_form, logs_form, worth_at, is_first, follows, entry_of, stem_at, cut_at, demand_of, demand_at, posting_at, sheets_from, postings_from, journal_in, journal_of}
 use Rattle.buck_journal.specs.inner.Plain.{LeadsNumbers, LeadsWorth, begins, ArePostings, AreParts, AreReadAs, AreSheets, LeadsPostings, HasPostings, LeadsSheets}
-use Rattle.buck_journal.proofs.Stages.{journal_of_items}
 
 -- ---- an item
 is_at_its_slot : (s : Slot) (t : List ℕ) → is_at s (item_in s t) ≡ true
@@ -242,8 +241,7 @@ pub plain_journal : (bytes kind body rest : List ℕ) (pss : List (List ℕ)) (p
     → length ps ≤ 1000000
     → HasPostings rest ps
     → journal_of bytes ≡ Ok (record { sheets = pss; entries = ps })
+unfolding journal_of
 plain_journal bytes kind body rest pss ps first says l few h =
-    let items : List ItemParts = item_in file_slot kind ∷ l.items ++ h.items in
-    let read : items_of bytes ≡ Ok items = search (rules, items-are, first.next, l.items, h.items, l.leads, h.are) in
-    journal_of_items bytes items (ap (with_fault Head) read)
-    ∙ in_order kind l.items h.items pss ps says l.read h.read few
+    let read = items-are bytes _ (first.next (l.items ++ h.items) (l.leads h.items h.are)) in
+    rw read (in_order kind l.items h.items pss ps says l.read h.read few)

@@ -18,7 +18,6 @@ use Rattle.buck_journal.specs.Written.{item_text, sheet_text, cut_text, demand_t
 use Rattle.buck_journal.specs.Ranges.{AreSheetPrices, IsInRange, AreInRange, call_of_cut, call_of_demand}
 use Rattle.buck_journal.proofs.Lines.{smaller, item_at, Says, says_none, says_both, line_says, file_says, kind_item}
 use Rattle.buck_journal.proofs.Again.{in_small, call_small, zones_small, logs_small, sheet_item, posting_items, journal_again}
-use Rattle.buck_journal.proofs.Stages.{journal_of_items}
 
 -- the heads of items, in digits
 heads_are : (codes "971 1" ≡ decimal 971 ++ 32 ∷ decimal 1) × (codes "981 1" ≡ decimal 981 ++ 32 ∷ decimal 1)
@@ -74,7 +73,7 @@ postings_say (p ∷ ps) r = search (rules, says_both, posting_items, posting_say
 -- the journal of a journal's text is what was written
 pub read_again : (pss : List (List ℕ)) (ps : List Posting) → AreInRange pss ps
     → journal_of (journal_text pss ps) ≡ Ok (record { sheets = pss; entries = ps })
-unfolding journal_text
+unfolding journal_text journal_of
 read_again pss ps range =
     let r : AllByRecursion AreSheetPrices pss = recursion_from_All AreSheetPrices pss range.sheets in
     let q : AllByRecursion IsInRange ps = recursion_from_All IsInRange ps range.postings in
@@ -82,6 +81,5 @@ read_again pss ps range =
     (map sheet_item pss ++ flat_map posting_items ps)
     (says_both (flat_map sheet_text pss) (flat_map posting_text ps) (map sheet_item pss) (flat_map posting_items ps)
     (sheets_say pss r) (postings_say ps q)) in
-    rw (append_assoc (item_text (codes "1 2 JRN") []) (flat_map sheet_text pss) (flat_map posting_text ps))
-    (journal_of_items _ (kind_item ∷ (map sheet_item pss ++ flat_map posting_items ps)) (ap (with_fault fault.Head) items)
-    ∙ journal_again pss ps r q range.few)
+    rw (append_assoc (item_text (codes "1 2 JRN") []) (flat_map sheet_text pss) (flat_map posting_text ps), items)
+    (journal_again pss ps r q range.few)

@@ -4,7 +4,7 @@ ghost use Rattle.std.specs.Prelude.{◌≡◌, ◌<◌, Bool, true, false, IfOk}
 ghost use Rattle.buck_book.specs.Posting.{planned_version};
 ghost use Rattle.buck_book.specs.History.{sheet_at};
 ghost use Rattle.buck_journal.specs.inner.Sheets.{IsMissing};
-ghost use Rattle.buck_journal.specs.inner.Replay.{IsOutvalued, IsDoubtful, IsFound};
+ghost use Rattle.buck_journal.specs.inner.Replay.{IsDoubtful, IsFound};
 
 use crate::judging::case::Case;
 use crate::judging::checks::version_of;
@@ -40,21 +40,6 @@ fn turn_to(
     Ok(true)
 }
 
-/// Whether some admissible list of logs is worth more than a posting's under a planner's sheet.
-fn is_outvalued(alloc: Global, planner: &mut Planner, posting: &Posting) -> Result<bool, Memory>
-    ensures same { planner.new ≡ planner.old }
-    ensures outvalued { IfOk result (IsOutvalued planner.old posting.now) }
-{
-    let Posting::Cut(entry) = posting else {
-        return Ok(false);
-    };
-    let (_best, most) = planner.best(alloc, &entry.stem)?;
-    if most > entry.worth {
-        return Ok(true);
-    }
-    Ok(false)
-}
-
 /// Whether a posting is outvalued under the sheet of its version, to which it turns a planner, or has no such sheet.
 fn is_doubtful(
     alloc: Global,
@@ -70,7 +55,11 @@ fn is_doubtful(
     if !turn_to(alloc, case, planner, version_of(posting))? {
         return Ok(true);
     }
-    is_outvalued(alloc, planner, posting)
+    let Posting::Cut(entry) = posting else {
+        return Ok(false);
+    };
+    let (_best, most) = planner.best(alloc, &entry.stem)?;
+    Ok(most > entry.worth)
 }
 
 /// The first of some postings that is doubtful, by its place: outvalued under the sheet of its version, or without one.
