@@ -56,9 +56,7 @@ wanted s place (Some item) = if is_at s item then Ok item.rest else Err (Shape p
 
 -- its numbers
 unfoldable pub numbers_at : Slot → ℕ → Option ItemParts → Result (List ℕ) JournalFault
-numbers_at s place item = do
-  rest ← wanted s place item
-  with_fault (λ _. Digits place) (numbers_of rest)
+numbers_at s place item = wanted s place item >>= λ rest. with_fault (λ _. Digits place) (numbers_of rest)
 
 -- how many numbers an item may have, which these may be, and what they say
 pub record Form (X : Type 0) : Type 0 where
@@ -74,17 +72,12 @@ says form place numbers = do
 
 -- what the item at a place says
 unfoldable pub item_at : {X : Type 0} → Slot → Form X → ℕ → Option ItemParts → Result X JournalFault
-item_at s form place item = do
-  numbers ← numbers_at s place item
-  says form place numbers
+item_at s form place item = numbers_at s place item >>= λ numbers. says form place numbers
 
 -- at most 16,384 numbers, each in a range
 abbrev pub list_form : ℕ → ℕ → Form (List ℕ)
-list_form low high = record {
-  count = λ ns. nat_le (length ns) 16384;
-  range = λ ns. all_within low high ns;
-  value = λ ns. ns;
-}
+list_form low high =
+    record { count = λ ns. nat_le (length ns) 16384; range = λ ns. all_within low high ns; value = λ ns. ns }
 
 abbrev pub sheet_at : ℕ → Option ItemParts → Result (List ℕ) JournalFault
 sheet_at place item = item_at (slot 971 1) (list_form 0 HIGHEST_PRICE) place item
@@ -100,11 +93,7 @@ abbrev pub is_call : Call → Bool
 is_call c = within 1 64 c.harvester && (within 1 MOST_POSTINGS c.number && nat_le c.version MOST_POSTINGS)
 
 abbrev pub call_form : Form Call
-call_form = record {
-  count = λ ns. length ns == 3;
-  range = λ ns. is_call (call_of ns);
-  value = call_of;
-}
+call_form = record { count = λ ns. length ns == 3; range = λ ns. is_call (call_of ns); value = call_of }
 
 -- the item that begins a posting, which so many come before
 unfoldable pub call_at : Slot → ℕ → ℕ → Option ItemParts → Result Call JournalFault
@@ -159,11 +148,8 @@ logs_of (start ∷ long ∷ assortment ∷ more) =
 logs_of other = []
 
 abbrev pub logs_form : Form (List Log)
-logs_form = record {
-  count = λ ns. (length ns % 3 == 0) && nat_le (length ns) 240;
-  range = are_logs;
-  value = logs_of;
-}
+logs_form =
+    record { count = λ ns. (length ns % 3 == 0) && nat_le (length ns) 240; range = are_logs; value = logs_of }
 
 unfoldable pub worth_at : ℕ → Option ItemParts → Result ℕ JournalFault
 worth_at place item = do
