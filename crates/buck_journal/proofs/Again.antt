@@ -1,5 +1,5 @@
 -- Items that were written are read again as what was written.
-use Rattle.std.proofs.Common.{◌≡◌, ℕ, ◌+◌, ◌*◌, ◌%◌, ◌≤◌, true, List, [], ◌∷◌, ◌++◌, Ok, length, map, refl, ap, arith, codes, eq-eqb, rules}
+use Rattle.std.proofs.Common.{◌≡◌, ℕ, ◌+◌, ◌*◌, ◌≤◌, true, List, [], ◌∷◌, ◌++◌, Ok, length, map, refl, ap, arith, codes, eq-eqb, rules}
 use Rattle.std.specs.List.{AllByRecursion, flat_map}
 use Rattle.std.proofs.lemmas.Bool.{le-leb, and_from}
 use Rattle.std.proofs.lemmas.Bool.Decides.{nat_tests}
@@ -7,7 +7,7 @@ use Rattle.buck_record.specs.Item.{ItemParts}
 use Rattle.buck_record.specs.checking.Rules.{within, all_within}
 use Rattle.buck_record.proofs.PassLemmas.{both, within_ok}
 use Rattle.buck_apt.specs.declared.slots.TheConstants.{TARGETS}
-use Rattle.buck_stem.specs.declared.file.slots.TheConstants.{SPECIES, SAMPLES, MOST_ZONES}
+use Rattle.buck_stem.specs.declared.file.slots.TheConstants.{SAMPLES, MOST_ZONES}
 use Rattle.buck_stem.specs.file.Stm.{zones_of}
 use Rattle.buck_value.specs.declared.log.Log.{Log}
 use Rattle.buck_book.specs.declared.posting.Posting.{Posting}

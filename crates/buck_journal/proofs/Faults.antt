@@ -5,10 +5,9 @@ use Rattle.std.proofs.lemmas.Bool.{cases_Bool, cases_eq}
 use Rattle.std.proofs.lemmas.List.{take_all}
 use Rattle.std.proofs.lemmas.Option.{slice_get_within, slice_get_cases}
 use Rattle.buck_apt.specs.Instruction.{InstructionParts, IsInstruction}
-use Rattle.buck_value.specs.Sheet.{base_prices}
 use Rattle.buck_book.specs.declared.posting.Posting.{Posting}
 use Rattle.buck_book.specs.Posting.{planned_version, is_end, ends_of, cuts_since_end}
-use Rattle.buck_book.specs.History.{HistoryParts, IsLawful, Holds, PricesMeet, prices_at, sheet_at}
+use Rattle.buck_book.specs.History.{HistoryParts, IsLawful, Holds, PricesMeet, sheet_at}
 use Rattle.buck_book.proofs.Ends.{true_false, take_one_more, ends_take-le, ends_with_end, cuts_without}
 use Rattle.buck_book.proofs.Alone.{base_meets, meets_from_alone}
 use Rattle.buck_journal.specs.declared.judging.fault.ReplayFault.{ReplayFault}

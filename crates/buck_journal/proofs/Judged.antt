@@ -12,7 +12,7 @@ use Rattle.buck_book.specs.Posting.{planned_version}
 use Rattle.buck_book.specs.History.{HistoryParts, IsLawful, Follows, Holds, sheet_at}
 use Rattle.buck_journal.specs.declared.judging.fault.ReplayFault.{ReplayFault}
 use Rattle.buck_journal.specs.declared.judging.fault.ReplayFault.TheVariants.{Outvalued, Memory}
-use Rattle.buck_journal.specs.judging.Replay.{version_at, IsRightBefore, IsContentFault, IsPostingFault, IsFirstFault}
+use Rattle.buck_journal.specs.judging.Replay.{version_at, IsRightBefore, IsContentFault, IsFirstFault}
 use Rattle.buck_journal.specs.inner.Sheets.{IsPriced}
 use Rattle.buck_journal.specs.inner.Replay.{HoldsUnder, IsRightUnder, IsInOrderBefore, IsStopped, IsOrdered, IsOutvalued, IsDoubtful, NoneDoubtful, IsFirstDoubtful, IsFound, AreSameBefore, IsJudged}
 use Rattle.buck_journal.proofs.Replays.{opened, lawful_when}

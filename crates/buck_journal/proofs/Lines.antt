@@ -1,7 +1,7 @@
 -- Lines of a file as they are written, and the items that are read of them.
-use Rattle.std.proofs.Common.{◌≡◌, ℕ, suc, ◌+◌, ◌-◌, ◌<◌, ◌≤◌, ◌^◌, true, false, List, [], ◌∷◌, ◌++◌, All, Some, Ok, get_or, length, take, drop, filter, map, refl, sym, ap, ◌∙◌, subst, arith, append_assoc, codes, rules}
+use Rattle.std.proofs.Common.{◌≡◌, ℕ, suc, ◌+◌, ◌-◌, ◌<◌, ◌≤◌, ◌^◌, true, false, List, [], ◌∷◌, ◌++◌, All, Some, Ok, get_or, length, take, drop, map, refl, sym, ap, ◌∙◌, subst, arith, append_assoc, codes, rules}
 use Rattle.std.proofs.lemmas.Grind.{common_steps}
-use Rattle.std.specs.List.{slice_split, position_or_len, AllByRecursion}
+use Rattle.std.specs.List.{position_or_len, AllByRecursion}
 use Rattle.std.specs.Char.{is_ascii_digit}
 use Rattle.std.specs.Fmt.{decimal}
 use Rattle.std.proofs.lemmas.Fmt.{digits_decimal, decimal_nonempty}
@@ -12,9 +12,9 @@ use Rattle.std.proofs.lemmas.List.Elements.{All-append, All-cons, All-nil, All-f
 use Rattle.std.proofs.lemmas.List.Splits.{slice_split_at}
 use Rattle.std.proofs.lemmas.List.Sums.{AllPass-from_list_all, suffix_len_is}
 use Rattle.buck_record.specs.Item.{ItemParts}
-use Rattle.buck_record.specs.bytes.White.{is_white, is_filled, trim, trim_start, trim_end, first_word, after_word, words}
+use Rattle.buck_record.specs.bytes.White.{is_white, trim, trim_start, trim_end, first_word, after_word, words}
 use Rattle.buck_record.specs.Reading.{each_from}
-use Rattle.buck_record.specs.bytes.Record.{number_at_most, is_tilde, filled_parts, item_of, items_of, numbers_of, number_of}
+use Rattle.buck_record.specs.bytes.Record.{number_at_most, is_tilde, item_of, items_of, numbers_of, number_of}
 use Rattle.buck_record.specs.pass.Cursor.{HasItems}
 use Rattle.buck_record.specs.writing.Written.{spelled}
 use Rattle.buck_record.proofs.NumberLemmas.{numeral}

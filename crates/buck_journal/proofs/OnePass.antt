@@ -1,12 +1,11 @@
 -- A journal that is gone through item by item is read as what was found.
-use Rattle.std.proofs.Common.{◌≡◌, ℕ, suc, ◌+◌, ◌<◌, ◌≤◌, ◌&&◌, Bool, true, false, List, [], ◌∷◌, ◌++◌, Some, Ok, Err, Result, codes, length, slice_get, refl, sym, ap, ◌∙◌, subst, arith, append_assoc, eq-eqb, rules}
+use Rattle.std.proofs.Common.{◌≡◌, ℕ, ◌+◌, ◌<◌, ◌≤◌, Bool, true, false, List, [], ◌∷◌, ◌++◌, Some, Ok, Result, codes, length, slice_get, refl, subst, arith, append_assoc, eq-eqb, rules}
 use Rattle.std.proofs.lemmas.Grind.{common_steps}
 use Rattle.std.specs.Str.{bytes_eq}
 use Rattle.std.proofs.lemmas.Bool.{lt-ltb, and_from}
 use Rattle.std.proofs.lemmas.List.{append-nil, length-append}
 use Rattle.buck_record.specs.Item.{ItemParts}
 use Rattle.buck_record.specs.declared.slot.Slot.{Slot}
-use Rattle.buck_record.specs.Reading.{with_fault}
 use Rattle.buck_record.specs.bytes.Record.{items_of, numbers_of, number_of}
 use Rattle.buck_record.specs.checking.Table.{is_at}
 use Rattle.buck_record.specs.checking.Check.{◌>>=◌, check}
@@ -19,8 +18,7 @@ use Rattle.buck_book.specs.declared.posting.Posting.{Posting}
 use Rattle.buck_book.specs.declared.posting.Posting.TheVariants.{Cut, Demand}
 use Rattle.buck_journal.specs.declared.reading.call.Call.{Call}
 use Rattle.buck_journal.specs.declared.reading.fault.JournalFault.{JournalFault}
-use Rattle.buck_journal.specs.declared.reading.fault.JournalFault.TheVariants.{Head}
-use Rattle.buck_journal.specs.reading.Journal.{numbers_at, Form, says, item_at, list_form, call_form, call_at, head_form, samples_form, zones_form, logs_form, worth_at, is_first, follows, entry_of, stem_at, cut_at, demand_of, demand_at, posting_at, sheets_from, postings_from, journal_in, journal_of}
+use Rattle.buck_journal.specs.reading.Journal.{numbers_at, Form, says, item_at, list_form, call_form, call_at, head_form, samples_form, zones_form, logs_form, worth_at, follows, entry_of, stem_at, cut_at, demand_of, demand_at, posting_at, sheets_from, postings_from, journal_in, journal_of}
 use Rattle.buck_journal.specs.inner.Plain.{LeadsNumbers, LeadsWorth, begins, ArePostings, AreParts, AreReadAs, AreSheets, LeadsPostings, HasPostings, LeadsSheets}
 
 -- ---- an item

@@ -9,10 +9,9 @@ use Rattle.buck_value.specs.Sheet.{SheetParts, IsPriceAt}
 use Rattle.buck_value.specs.Sheet as sheet
 use Rattle.buck_value.specs.declared.fault.SheetFault.{SheetFault}
 use Rattle.buck_book.specs.declared.posting.Posting.{Posting}
-use Rattle.buck_book.specs.Posting.{planned_version, is_end, ends_of, cuts_since_end}
-use Rattle.buck_book.specs.History.{HistoryParts, IsLawful, IsEnd, PricesMeet, standing_of, prices_at, sheet_at}
+use Rattle.buck_book.specs.Posting.{planned_version, ends_of, cuts_since_end}
+use Rattle.buck_book.specs.History.{HistoryParts, IsLawful, PricesMeet, standing_of, prices_at, sheet_at}
 use Rattle.std.specs.Prelude.{Result, Ok, Err, None, IfOk, IfErr, OnOk}
-use Rattle.std.proofs.lemmas.Grind.{common_steps}
 use Rattle.buck_book.specs.Walk.{WalkParts, walk_of}
 use Rattle.buck_journal.specs.declared.judging.fault.ReplayFault.{ReplayFault}
 use Rattle.buck_journal.specs.declared.judging.fault.ReplayFault.TheVariants.{Memory}

@@ -1,5 +1,5 @@
 -- Numbers two and three at a time.
-use Rattle.std.proofs.Common.{◌≡◌, ℕ, ◌+◌, ◌<◌, ◌≤◌, ◌&&◌, true, List, [], ◌∷◌, length, drop, get_or, sym, ap, ◌∙◌, arith, drop-cons, add-one}
+use Rattle.std.proofs.Common.{◌≡◌, ℕ, ◌+◌, ◌<◌, ◌&&◌, List, ◌∷◌, length, drop, get_or, ap, arith, drop-cons, add-one}
 use Rattle.buck_stem.specs.file.Stm.{zones_of}
 use Rattle.buck_journal.specs.reading.Journal.{is_zone, are_zones, is_log, are_logs, logs_of}
 

@@ -1,5 +1,5 @@
 -- The numbers of a lawful history lie within a journal's ranges.
-use Rattle.std.proofs.Common.{◌≡◌, ℕ, ◌+◌, ◌*◌, ◌<◌, ◌≤◌, true, List, [], ◌∷◌, length, take, get_or, slice_index, slice_get, Some, refl, sym, ap, subst, arith, mul-le-mul_left, rules}
+use Rattle.std.proofs.Common.{◌≡◌, ℕ, ◌+◌, ◌*◌, ◌<◌, ◌≤◌, true, List, [], ◌∷◌, length, take, get_or, slice_index, slice_get, Some, refl, sym, subst, arith, mul-le-mul_left, rules}
 use Rattle.std.proofs.lemmas.Grind.{common_steps}
 use Rattle.std.specs.List.{AllByRecursion}
 use Rattle.std.proofs.lemmas.Bool.{and_from}
@@ -9,7 +9,7 @@ use Rattle.std.proofs.lemmas.List.Elements.{recursion_from_All, All-contains}
 use Rattle.std.proofs.lemmas.Option.{slice_get_within, slice_get-get_or}
 use Rattle.buck_record.specs.checking.Rules.{within, all_within}
 use Rattle.buck_apt.specs.Instruction.{InstructionParts, IsInstruction, IsWithin}
-use Rattle.buck_apt.specs.declared.slots.TheConstants.{LENGTHS, TARGETS}
+use Rattle.buck_apt.specs.declared.slots.TheConstants.{TARGETS}
 use Rattle.buck_stem.specs.declared.file.slots.TheConstants.{SPECIES, SAMPLES, MOST_SAMPLES, STARTS}
 use Rattle.buck_stem.specs.Stem.{StemParts, IsStem, IsGrade, IsRisingFrom}
 use Rattle.buck_value.specs.declared.log.Log.{Log}
@@ -33,7 +33,7 @@ use Rattle.buck_journal.specs.declared.reading.call.Call.{Call}
 use Rattle.buck_journal.specs.reading.Journal.{is_call, are_zones, is_log, are_logs}
 use Rattle.buck_journal.specs.Written.{zone_numbers, log_numbers}
 use Rattle.buck_journal.specs.judging.Replay.{version_at}
-use Rattle.buck_journal.specs.Ranges.{AreSheetPrices, IsCutInRange, IsDemandInRange, IsInRange, AreInRange, IsOfBook, call_of_cut, call_of_demand}
+use Rattle.buck_journal.specs.Ranges.{AreSheetPrices, IsCutInRange, IsDemandInRange, IsInRange, AreInRange, IsOfBook, call_of_cut}
 use Rattle.buck_journal.proofs.Faults.{prices_right}
 use Rattle.buck_journal.proofs.Replays.{in_span, Opened, opened}
 

@@ -1,5 +1,5 @@
 -- Journals that are gone through item by item, with no list of the items.
-use Rattle.std.specs.Prelude.{◌≡◌, ℕ, ◌+◌, ◌≤◌, Bool, true, List, [], ◌∷◌, ◌++◌, length, Result, Ok}
+use Rattle.std.specs.Prelude.{◌≡◌, ℕ, ◌+◌, ◌≤◌, Bool, true, List, [], ◌∷◌, ◌++◌, length, Ok}
 use Rattle.buck_record.specs.Item.{ItemParts}
 use Rattle.buck_record.specs.bytes.Record.{numbers_of, number_of}
 use Rattle.buck_record.specs.pass.Cursor.{HasItems, Leads, item_in}

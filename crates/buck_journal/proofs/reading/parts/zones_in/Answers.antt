@@ -1,4 +1,4 @@
-use Rattle.std.proofs.Common.{◌≡◌, ℕ, ◌*◌, ◌+◌, arith, length-drop}
+use Rattle.std.proofs.Common.{◌≡◌, ◌*◌, ◌+◌, arith, length-drop}
 use Rattle.std.proofs.lemmas.Grind.{common_steps}
 use Rattle.buck_journal.proofs.Limits.{zones_done}
 use Rattle.buck_journal.proofs.Tuples.{next_zone}
