@@ -1,22 +1,5 @@
 -- Items that were written are read again as what was written.
-use Rattle.std.proofs.Common.{◌≡◌, ℕ, ◌+◌, ◌*◌, ◌≤◌, true, List, [], ◌∷◌, ◌++◌, Ok, length, map, refl, ap, arith, codes, eq-eqb, rules}
-use Rattle.std.specs.List.{AllByRecursion, flat_map}
-use Rattle.std.proofs.lemmas.Bool.{le-leb, and_from}
-use Rattle.std.proofs.lemmas.Bool.Decides.{nat_tests}
-use Rattle.buck_record.specs.Item.{ItemParts}
-use Rattle.buck_record.specs.checking.Rules.{within, all_within}
-use Rattle.buck_record.proofs.PassLemmas.{both, within_ok}
-use Rattle.buck_apt.specs.declared.slots.TheConstants.{TARGETS}
-use Rattle.buck_stem.specs.declared.file.slots.TheConstants.{SAMPLES, MOST_ZONES}
-use Rattle.buck_stem.specs.file.Stm.{zones_of}
-use Rattle.buck_value.specs.declared.log.Log.{Log}
-use Rattle.buck_book.specs.declared.posting.Posting.{Posting}
-use Rattle.buck_book.specs.declared.posting.Posting.TheVariants.{Cut, Demand}
-use Rattle.buck_journal.specs.declared.reading.call.Call.{Call}
-use Rattle.buck_journal.specs.reading.Journal.{says, list_form, is_call, is_zone, are_zones, zones_form, is_log, are_logs, logs_of, logs_form, journal_in}
-use Rattle.buck_journal.specs.Written.{zone_numbers, log_numbers}
-use Rattle.buck_journal.specs.Ranges.{AreSheetPrices, call_of_cut, call_of_demand, IsInRange}
-use Rattle.buck_journal.specs.inner.Plain.{AreReadAs, AreSheets}
+use Rattle.buck_journal.proofs.Words.{◌≡◌, ℕ, ◌+◌, ◌*◌, ◌≤◌, true, List, [], ◌∷◌, ◌++◌, Ok, length, map, refl, ap, arith, codes, eq-eqb, rules, AllByRecursion, flat_map, le-leb, and_from, nat_tests, ItemParts, within, all_within, both, within_ok, TARGETS, SAMPLES, MOST_ZONES, zones_of, Log, Posting, Cut, Demand, Call, says, list_form, is_call, is_zone, are_zones, zones_form, is_log, are_logs, logs_of, logs_form, journal_in, zone_numbers, log_numbers, AreSheetPrices, call_of_cut, call_of_demand, IsInRange, AreReadAs, AreSheets}
 use Rattle.buck_journal.proofs.Lines.{told, numbers_told, worth_told, kind_item}
 use Rattle.buck_journal.proofs.OnePass.{cut_read, demand_read, nothing_read, both_read, sheet_read, both_sheets, in_order}
 

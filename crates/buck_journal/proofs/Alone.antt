@@ -1,11 +1,5 @@
 -- Items without a demand are read as in the words that know of none.
-use Rattle.std.proofs.Common.{◌≡◌, ℕ, suc, ◌+◌, false, List, [], ◌∷◌, Option, Some, None, inl, inr, drop, slice_get, refl, arith}
-use Rattle.std.proofs.Math.Bool.{or-false}
-use Rattle.std.proofs.lemmas.Bool.{cases_Bool}
-use Rattle.buck_record.specs.Item.{ItemParts}
-use Rattle.buck_record.specs.checking.Table.{is_at}
-use Rattle.buck_record.specs.checking.Rules.{slot}
-use Rattle.buck_journal.specs.reading.Journal.{follows, cut_at, posting_at, sheets_from, postings_from, journal_in}
+use Rattle.buck_journal.proofs.Words.{◌≡◌, ℕ, suc, ◌+◌, false, List, [], ◌∷◌, Option, Some, None, inl, inr, drop, slice_get, refl, arith, or-false, cases_Bool, ItemParts, is_at, slot, follows, cut_at, posting_at, sheets_from, postings_from, journal_in}
 use Rattle.buck_journal.specs.reading.CutsAlone as alone
 
 follows_alone : (place : ℕ) (o : Option ItemParts) → ((x : ItemParts) → o ≡ Some x → is_at (slot 982 1) x ≡ false)

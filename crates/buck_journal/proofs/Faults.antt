@@ -1,17 +1,5 @@
 -- A history in which a fault stands isn't lawful.
-use Rattle.std.proofs.Common.{◌≡◌, ℕ, ◌+◌, ◌-◌, ◌≤◌, inl, inr, List, [], ◌∷◌, ◌++◌, length, take, slice_get, Some, sym, ◌∙◌, ap, subst, arith}
-use Rattle.std.proofs.lemmas.Grind.{common_steps}
-use Rattle.std.proofs.lemmas.Bool.{cases_Bool, cases_eq}
-use Rattle.std.proofs.lemmas.List.{take_all}
-use Rattle.std.proofs.lemmas.Option.{slice_get_within, slice_get_cases}
-use Rattle.buck_apt.specs.Instruction.{InstructionParts, IsInstruction}
-use Rattle.buck_book.specs.declared.posting.Posting.{Posting}
-use Rattle.buck_book.specs.Posting.{planned_version, is_end, ends_of, cuts_since_end}
-use Rattle.buck_book.specs.History.{HistoryParts, IsLawful, Holds, PricesMeet, sheet_at}
-use Rattle.buck_book.proofs.Ends.{true_false, take_one_more, ends_take-le, ends_with_end, cuts_without}
-use Rattle.buck_book.proofs.Alone.{base_meets, meets_from_alone}
-use Rattle.buck_journal.specs.declared.judging.fault.ReplayFault.{ReplayFault}
-use Rattle.buck_journal.specs.judging.Replay.{version_at, prices_then, Begins, IsSheetRight, IsSheetFault, IsCallFault, IsContentFault, IsPostingFault, IsNumberFault, IsFaultAtEnd, IsNumbered, IsOfVersion, IsFirstFault}
+use Rattle.buck_journal.proofs.Words.{◌≡◌, ℕ, ◌+◌, ◌-◌, ◌≤◌, inl, inr, List, [], ◌∷◌, ◌++◌, length, take, slice_get, Some, sym, ◌∙◌, ap, subst, arith, common_steps, cases_Bool, cases_eq, take_all, slice_get_within, slice_get_cases, InstructionParts, IsInstruction, Posting, planned_version, is_end, ends_of, cuts_since_end, HistoryParts, IsLawful, Holds, PricesMeet, sheet_at, true_false, take_one_more, ends_take-le, ends_with_end, cuts_without, base_meets, meets_from_alone, ReplayFault, version_at, prices_then, Begins, IsSheetRight, IsSheetFault, IsCallFault, IsContentFault, IsPostingFault, IsNumberFault, IsFaultAtEnd, IsNumbered, IsOfVersion, IsFirstFault}
 
 no_sheet_fault : (h : HistoryParts) (k : ℕ) (fault : ReplayFault) → IsSheetRight h k → IsSheetFault h k fault → ⊥
 no_sheet_fault h k fault right wrong = grind (arith, common_steps)

@@ -1,20 +1,5 @@
 -- Postings of which the first doubtful one is known: what comes of their history.
-use Rattle.std.proofs.Common.{◌≡◌, ◌≢◌, ℕ, zero, suc, ◌+◌, ◌<◌, ◌≤◌, inl, inr, true, false, List, [], ◌∷◌, length, take, drop, slice_get, Option, Some, None, refl, sym, ◌∙◌, ap, subst, arith, rules}
-use Rattle.std.proofs.lemmas.Grind.{common_steps}
-use Rattle.std.specs.Prelude.{◌-◌, Result, Ok, Err, IfOk, IfErr, OnOk}
-use Rattle.std.specs.Fork.{IsChunk}
-use Rattle.std.specs.Option.{is_some}
-use Rattle.std.proofs.lemmas.Bool.{cases_lt}
-use Rattle.std.proofs.lemmas.Option.{slice_get_within}
-use Rattle.buck_book.specs.declared.posting.Posting.{Posting}
-use Rattle.buck_book.specs.declared.posting.Posting.TheVariants.{Cut, Demand}
-use Rattle.buck_book.specs.Posting.{planned_version}
-use Rattle.buck_book.specs.History.{HistoryParts, IsLawful, Follows, Holds, sheet_at}
-use Rattle.buck_journal.specs.declared.judging.fault.ReplayFault.{ReplayFault}
-use Rattle.buck_journal.specs.declared.judging.fault.ReplayFault.TheVariants.{Outvalued, Memory}
-use Rattle.buck_journal.specs.judging.Replay.{version_at, IsRightBefore, IsContentFault, IsFirstFault}
-use Rattle.buck_journal.specs.inner.Sheets.{IsPriced}
-use Rattle.buck_journal.specs.inner.Replay.{HoldsUnder, IsRightUnder, IsInOrderBefore, IsStopped, IsOrdered, IsOutvalued, IsDoubtful, NoneDoubtful, IsFirstDoubtful, IsFound, AreSameBefore, IsJudged}
+use Rattle.buck_journal.proofs.Words.{◌≡◌, ◌≢◌, ℕ, zero, suc, ◌+◌, ◌<◌, ◌≤◌, inl, inr, true, false, List, [], ◌∷◌, length, take, drop, slice_get, Option, Some, None, refl, sym, ◌∙◌, ap, subst, arith, rules, common_steps, ◌-◌, Result, Ok, Err, IfOk, IfErr, OnOk, IsChunk, is_some, cases_lt, slice_get_within, Posting, Cut, Demand, planned_version, HistoryParts, IsLawful, Follows, Holds, sheet_at, ReplayFault, Outvalued, Memory, version_at, IsRightBefore, IsContentFault, IsFirstFault, IsPriced, HoldsUnder, IsRightUnder, IsInOrderBefore, IsStopped, IsOrdered, IsOutvalued, IsDoubtful, NoneDoubtful, IsFirstDoubtful, IsFound, AreSameBefore, IsJudged}
 use Rattle.buck_journal.proofs.Replays.{opened, lawful_when}
 
 -- what stands in the first postings, and in those from a place on

@@ -1,3 +1,4 @@
+pub mod Words
 pub mod Tuples
 pub mod Limits
 pub mod Walk

@@ -1,18 +1,5 @@
 -- Numbers that passed the tests are within the limits of a stem.
-use Rattle.std.proofs.Common.{◌≡◌, ℕ, ◌+◌, ◌*◌, ◌≤◌, true, List, [], ◌∷◌, ◌++◌, length, sym, ◌∙◌, subst, arith, rules}
-use Rattle.std.proofs.lemmas.List.{append-nil}
-use Rattle.std.proofs.lemmas.Grind.{common_steps}
-use Rattle.std.specs.List.{AllByRecursion}
-use Rattle.std.proofs.lemmas.Bool.Decides.{nat_tests}
-use Rattle.std.proofs.lemmas.List.Elements.{All-from_recursion}
-use Rattle.std.proofs.lemmas.List.Sums.{AllPass-from_list_all}
-use Rattle.buck_record.specs.checking.Rules.{all_within, one_to}
-use Rattle.buck_record.proofs.PassLemmas.{both, within_ok}
-use Rattle.buck_stem.specs.declared.file.slots.TheConstants.{SPECIES, SAMPLES, MOST_SAMPLES, STARTS, MOST_ZONES}
-use Rattle.buck_stem.specs.Stem.{IsStem, IsGrade, IsRisingFrom, stem_of}
-use Rattle.buck_stem.specs.file.Stm.{zones_of}
-use Rattle.buck_journal.specs.reading.Journal.{is_zone, are_zones}
-use Rattle.buck_journal.specs.inner.Limits.{AreSamples, AreZones}
+use Rattle.buck_journal.proofs.Words.{◌≡◌, ℕ, ◌+◌, ◌*◌, ◌≤◌, true, List, [], ◌∷◌, ◌++◌, length, sym, ◌∙◌, subst, arith, rules, append-nil, common_steps, AllByRecursion, nat_tests, All-from_recursion, AllPass-from_list_all, all_within, one_to, both, within_ok, SPECIES, SAMPLES, MOST_SAMPLES, STARTS, MOST_ZONES, IsStem, IsGrade, IsRisingFrom, stem_of, zones_of, is_zone, are_zones, AreSamples, AreZones}
 
 half : (ns : List ℕ) → length (zones_of ns) * 2 ≤ length ns
 half [] = omega arith

@@ -1,26 +1,5 @@
 -- Lines of a file as they are written, and the items that are read of them.
-use Rattle.std.proofs.Common.{◌≡◌, ℕ, suc, ◌+◌, ◌-◌, ◌<◌, ◌≤◌, ◌^◌, true, false, List, [], ◌∷◌, ◌++◌, All, Some, Ok, get_or, length, take, drop, map, refl, sym, ap, ◌∙◌, subst, arith, append_assoc, codes, rules}
-use Rattle.std.proofs.lemmas.Grind.{common_steps}
-use Rattle.std.specs.List.{position_or_len, AllByRecursion}
-use Rattle.std.specs.Char.{is_ascii_digit}
-use Rattle.std.specs.Fmt.{decimal}
-use Rattle.std.proofs.lemmas.Fmt.{digits_decimal, decimal_nonempty}
-use Rattle.std.proofs.lemmas.Bool.{cond-true, lt-ltb}
-use Rattle.std.proofs.lemmas.Bool.Decides.{nat_tests}
-use Rattle.std.proofs.lemmas.List.{append-nil, take_all, length-append}
-use Rattle.std.proofs.lemmas.List.Elements.{All-append, All-cons, All-nil, All-from_recursion, recursion_from_All}
-use Rattle.std.proofs.lemmas.List.Splits.{slice_split_at}
-use Rattle.std.proofs.lemmas.List.Sums.{AllPass-from_list_all, suffix_len_is}
-use Rattle.buck_record.specs.Item.{ItemParts}
-use Rattle.buck_record.specs.bytes.White.{is_white, trim, trim_start, trim_end, first_word, after_word, words}
-use Rattle.buck_record.specs.Reading.{each_from}
-use Rattle.buck_record.specs.bytes.Record.{number_at_most, is_tilde, item_of, items_of, numbers_of, number_of}
-use Rattle.buck_record.specs.pass.Cursor.{HasItems}
-use Rattle.buck_record.specs.writing.Written.{spelled}
-use Rattle.buck_record.proofs.NumberLemmas.{numeral}
-use Rattle.buck_record.proofs.RoundLemmas.{number-decimal, numbers_again, words-spelled}
-use Rattle.buck_record.proofs.WordLemmas.{words-trim_start}
-use Rattle.buck_journal.specs.Written.{item_text}
+use Rattle.buck_journal.proofs.Words.{◌≡◌, ℕ, suc, ◌+◌, ◌-◌, ◌<◌, ◌≤◌, ◌^◌, true, false, List, [], ◌∷◌, ◌++◌, All, Some, Ok, get_or, length, take, drop, map, refl, sym, ap, ◌∙◌, subst, arith, append_assoc, codes, rules, common_steps, position_or_len, AllByRecursion, is_ascii_digit, decimal, digits_decimal, decimal_nonempty, cond-true, lt-ltb, nat_tests, append-nil, take_all, length-append, All-append, All-cons, All-nil, All-from_recursion, recursion_from_All, slice_split_at, AllPass-from_list_all, suffix_len_is, ItemParts, is_white, trim, trim_start, trim_end, first_word, after_word, words, each_from, number_at_most, is_tilde, item_of, items_of, numbers_of, number_of, HasItems, spelled, numeral, number-decimal, numbers_again, words-spelled, words-trim_start, item_text}
 use Rattle.buck_journal.proofs.OnePass.{items-are}
 
 -- a text whose last byte isn't white, and one whose first isn't

@@ -1,10 +1,5 @@
 -- The sheets of the first versions, one more.
-use Rattle.std.proofs.Common.{◌≡◌, ℕ, zero, suc, List, [], ◌∷◌, ◌++◌, length, map, slice_get, Some, refl, sym, ◌∙◌, ap, arith}
-use Rattle.std.proofs.lemmas.List.{length_push, length-map, map-append}
-use Rattle.buck_apt.specs.Instruction.{InstructionParts}
-use Rattle.buck_value.specs.Sheet.{SheetParts}
-use Rattle.buck_book.specs.History.{sheet_at}
-use Rattle.buck_journal.specs.inner.Sheets.{AreMade}
+use Rattle.buck_journal.proofs.Words.{◌≡◌, ℕ, zero, suc, List, [], ◌∷◌, ◌++◌, length, map, slice_get, Some, refl, sym, ◌∙◌, ap, arith, length_push, length-map, map-append, InstructionParts, SheetParts, sheet_at, AreMade}
 
 kept_at : {X : Type 0} (xs : List X) (y x : X) (k : ℕ) → slice_get xs k ≡ Some x → slice_get (xs ++ y ∷ []) k ≡ Some x
 kept_at [] y x k there = absurd (cc)

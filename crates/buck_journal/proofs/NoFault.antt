@@ -1,29 +1,6 @@
 -- A history in which no fault stands is lawful: what isn't wrong is right.
-use Rattle.std.proofs.Common.{◌≡◌, ℕ, zero, suc, ◌+◌, ◌<◌, ◌≤◌, ◌⊎◌, inl, inr, List, [], ◌∷◌, length, take, slice_get, Some, refl, sym, ◌∙◌, ap, subst, arith, rules}
-use Rattle.std.specs.Prelude.{Contains, slice_index}
-use Rattle.std.proofs.lemmas.Bool.{cases_eq, cases_lt, cases_order}
-use Rattle.std.proofs.lemmas.Map.Made.{Contains-tail}
-use Rattle.std.proofs.lemmas.Option.{slice_get_within, slice_get_cases, same_Some}
-use Rattle.buck_apt.specs.declared.class.Class.{Class}
-use Rattle.buck_apt.specs.Instruction.{InstructionParts, AssortmentParts, IsInstruction, IsClass, index_of}
-use Rattle.buck_rule.specs.declared.standing.Standing.{Standing}
-use Rattle.buck_rule.specs.Relation.{Meets}
-use Rattle.buck_stem.specs.Stem.{StemParts}
-use Rattle.buck_value.specs.declared.log.Log.{Log}
-use Rattle.buck_value.specs.Sheet.{SheetParts}
-use Rattle.buck_value.specs.Allowed.{IsAllowed, Allows, end_of}
-use Rattle.buck_dp.specs.Cutting.{IsCutFrom}
-use Rattle.buck_dp.specs.Best.{IsAdmissible, cutting_worth}
-use Rattle.buck_book.specs.declared.posting.Posting.{Posting}
+use Rattle.buck_journal.proofs.Words.{◌≡◌, ℕ, zero, suc, ◌+◌, ◌<◌, ◌≤◌, ◌⊎◌, inl, inr, List, [], ◌∷◌, length, take, slice_get, Some, refl, sym, ◌∙◌, ap, subst, arith, rules, Contains, slice_index, cases_eq, cases_lt, cases_order, Contains-tail, slice_get_within, slice_get_cases, same_Some, Class, InstructionParts, AssortmentParts, IsInstruction, IsClass, index_of, Standing, Meets, StemParts, Log, SheetParts, IsAllowed, Allows, end_of, IsCutFrom, IsAdmissible, cutting_worth, Posting, planned_version, AreTargets, HistoryParts, IsLawful, Follows, Holds, standing_of, sheet_at, MeetsAfter, ReplayFault, Sheet, Price, Numbering, Version, Cutting, Worth, Outvalued, Targets, version_at, prices_then, Begins, HasSheet, IsSheetRight, IsSheetFault, IsContentFault, IsPostingFault, IsNumbered, IsOfVersion, IsFaultAt, IsRightBefore, IsFirstFault, sheet_then}
 use Rattle.buck_book.specs.declared.posting.Posting.TheVariants as posting
-use Rattle.buck_book.specs.Posting.{planned_version}
-use Rattle.buck_book.specs.Targets.{AreTargets}
-use Rattle.buck_book.specs.History.{HistoryParts, IsLawful, Follows, Holds, standing_of, sheet_at}
-use Rattle.buck_book.specs.Walk.{MeetsAfter}
-use Rattle.buck_journal.specs.declared.judging.fault.ReplayFault.{ReplayFault}
-use Rattle.buck_journal.specs.declared.judging.fault.ReplayFault.TheVariants.{Sheet, Price, Numbering, Version, Cutting, Worth, Outvalued, Targets}
-use Rattle.buck_journal.specs.judging.Replay.{version_at, prices_then, Begins, HasSheet, IsSheetRight, IsSheetFault, IsContentFault, IsPostingFault, IsNumbered, IsOfVersion, IsFaultAt, IsRightBefore, IsFirstFault}
-use Rattle.buck_journal.specs.inner.Replay.{sheet_then}
 use Rattle.buck_journal.proofs.Replays.{lawful_when}
 
 -- what can't fail holds

@@ -1,25 +1,5 @@
 -- A journal that is gone through item by item is read as what was found.
-use Rattle.std.proofs.Common.{◌≡◌, ℕ, ◌+◌, ◌<◌, ◌≤◌, Bool, true, false, List, [], ◌∷◌, ◌++◌, Some, Ok, Result, codes, length, slice_get, refl, subst, arith, append_assoc, eq-eqb, rules}
-use Rattle.std.proofs.lemmas.Grind.{common_steps}
-use Rattle.std.specs.Str.{bytes_eq}
-use Rattle.std.proofs.lemmas.Bool.{lt-ltb, and_from}
-use Rattle.std.proofs.lemmas.List.{append-nil, length-append}
-use Rattle.buck_record.specs.Item.{ItemParts}
-use Rattle.buck_record.specs.declared.slot.Slot.{Slot}
-use Rattle.buck_record.specs.bytes.Record.{items_of, numbers_of, number_of}
-use Rattle.buck_record.specs.checking.Table.{is_at}
-use Rattle.buck_record.specs.checking.Check.{◌>>=◌, check}
-use Rattle.buck_record.specs.pass.Cursor.{HasItems, Joins, Leads, item_in}
-use Rattle.buck_record.specs.checking.Rules.{slot, file_slot}
-use Rattle.buck_apt.specs.declared.slots.TheConstants.{TARGETS}
-use Rattle.buck_stem.specs.Stem.{stem_of}
-use Rattle.buck_value.specs.declared.log.Log.{Log}
-use Rattle.buck_book.specs.declared.posting.Posting.{Posting}
-use Rattle.buck_book.specs.declared.posting.Posting.TheVariants.{Cut, Demand}
-use Rattle.buck_journal.specs.declared.reading.call.Call.{Call}
-use Rattle.buck_journal.specs.declared.reading.fault.JournalFault.{JournalFault}
-use Rattle.buck_journal.specs.reading.Journal.{numbers_at, Form, says, item_at, list_form, call_form, call_at, head_form, samples_form, zones_form, logs_form, worth_at, follows, entry_of, stem_at, cut_at, demand_of, demand_at, posting_at, sheets_from, postings_from, journal_in, journal_of}
-use Rattle.buck_journal.specs.inner.Plain.{LeadsNumbers, LeadsWorth, begins, ArePostings, AreParts, AreReadAs, AreSheets, LeadsPostings, HasPostings, LeadsSheets}
+use Rattle.buck_journal.proofs.Words.{◌≡◌, ℕ, ◌+◌, ◌<◌, ◌≤◌, Bool, true, false, List, [], ◌∷◌, ◌++◌, Some, Ok, Result, codes, length, slice_get, refl, subst, arith, append_assoc, eq-eqb, rules, common_steps, bytes_eq, lt-ltb, and_from, append-nil, length-append, ItemParts, Slot, items_of, numbers_of, number_of, is_at, ◌>>=◌, check, HasItems, Joins, Leads, item_in, slot, file_slot, TARGETS, stem_of, Log, Posting, Cut, Demand, Call, JournalFault, numbers_at, Form, says, item_at, list_form, call_form, call_at, head_form, samples_form, zones_form, logs_form, worth_at, follows, entry_of, stem_at, cut_at, demand_of, demand_at, posting_at, sheets_from, postings_from, journal_in, journal_of, LeadsNumbers, LeadsWorth, begins, ArePostings, AreParts, AreReadAs, AreSheets, LeadsPostings, HasPostings, LeadsSheets}
 
 -- ---- an item
 is_at_its_slot : (s : Slot) (t : List ℕ) → is_at s (item_in s t) ≡ true

@@ -1,25 +1,7 @@
 -- What a walk through a history shows of its order, and where each posting may follow and each sheet is right it is
 -- lawful.
-use Rattle.std.proofs.Common.{◌≡◌, ◌≢◌, ℕ, zero, suc, ◌+◌, ◌<◌, ◌≤◌, inl, inr, List, [], ◌∷◌, ◌++◌, length, take, slice_get, Some, refl, sym, ◌∙◌, ap, subst, arith, rules}
-use Rattle.std.proofs.lemmas.Bool.{cases_Bool, cases_lt, cases_eq}
-use Rattle.std.proofs.lemmas.List.{take_all}
-use Rattle.std.proofs.lemmas.Option.{slice_get_within, slice_get_cases, same_Some}
-use Rattle.buck_apt.specs.Instruction.{InstructionParts, IsInstruction}
-use Rattle.buck_value.specs.Sheet.{SheetParts, IsPriceAt}
+use Rattle.buck_journal.proofs.Words.{◌≡◌, ◌≢◌, ℕ, zero, suc, ◌+◌, ◌<◌, ◌≤◌, inl, inr, List, [], ◌∷◌, ◌++◌, length, take, slice_get, Some, refl, sym, ◌∙◌, ap, subst, arith, rules, cases_Bool, cases_lt, cases_eq, take_all, slice_get_within, slice_get_cases, same_Some, InstructionParts, IsInstruction, SheetParts, IsPriceAt, SheetFault, Posting, planned_version, ends_of, cuts_since_end, HistoryParts, IsLawful, PricesMeet, standing_of, prices_at, sheet_at, Result, Ok, Err, None, IfOk, IfErr, OnOk, WalkParts, walk_of, ReplayFault, Memory, true_false, take_one_more, ends_with_end, cuts_with_end, ends_without, meets_within, no_fault, ClassAt, class_at, base_alone, meets_to_alone, version_at, Begins, IsSheetRight, IsFaultAt, IsFaultAtEnd, IsRightBefore, along, sheet_then, IsRightUnder, IsPassed, IsInOrderBefore, IsEndRight, IsOrdered}
 use Rattle.buck_value.specs.Sheet as sheet
-use Rattle.buck_value.specs.declared.fault.SheetFault.{SheetFault}
-use Rattle.buck_book.specs.declared.posting.Posting.{Posting}
-use Rattle.buck_book.specs.Posting.{planned_version, ends_of, cuts_since_end}
-use Rattle.buck_book.specs.History.{HistoryParts, IsLawful, PricesMeet, standing_of, prices_at, sheet_at}
-use Rattle.std.specs.Prelude.{Result, Ok, Err, None, IfOk, IfErr, OnOk}
-use Rattle.buck_book.specs.Walk.{WalkParts, walk_of}
-use Rattle.buck_journal.specs.declared.judging.fault.ReplayFault.{ReplayFault}
-use Rattle.buck_journal.specs.declared.judging.fault.ReplayFault.TheVariants.{Memory}
-use Rattle.buck_book.proofs.Ends.{true_false, take_one_more, ends_with_end, cuts_with_end, ends_without}
-use Rattle.buck_book.proofs.Standings.{meets_within, no_fault}
-use Rattle.buck_book.proofs.Alone.{ClassAt, class_at, base_alone, meets_to_alone}
-use Rattle.buck_journal.specs.judging.Replay.{version_at, Begins, IsSheetRight, IsFaultAt, IsFaultAtEnd, IsRightBefore}
-use Rattle.buck_journal.specs.inner.Replay.{along, sheet_then, IsRightUnder, IsPassed, IsInOrderBefore, IsEndRight, IsOrdered}
 
 -- prices that keep the price relation somewhere lie within their spans, and make a sheet
 pub in_span : (i : InstructionParts) (ps : List Posting) (prices : List ℕ) → PricesMeet i ps prices → (k : ℕ)

@@ -1,24 +1,6 @@
 -- How many items a journal has.
-use Rattle.std.proofs.Common.{◌≡◌, ℕ, zero, suc, ◌+◌, ◌<◌, Bool, true, false, List, [], ◌∷◌, Option, Some, Result, Ok, Err, inl, inr, length, drop, slice_get, sum_by, refl, sym, ap, ◌∙◌, subst, arith, rules}
-use Rattle.std.proofs.lemmas.Grind.{common_steps}
-use Rattle.std.specs.Prelude.{if◌then◌else◌}
-use Rattle.std.proofs.lemmas.Bool.{cases_Bool}
-use Rattle.std.proofs.lemmas.Option.{same_Some}
-use Rattle.buck_record.specs.Reading.{with_fault}
-use Rattle.buck_apt.specs.declared.slots.TheConstants.{TARGETS}
-use Rattle.buck_value.specs.declared.log.Log.{Log}
-use Rattle.std.proofs.lemmas.List.Sums.{sum_by-cons}
-use Rattle.buck_record.specs.Item.{ItemParts}
-use Rattle.buck_record.specs.checking.Check.{◌>>=◌}
-use Rattle.buck_record.specs.bytes.Record.{items_of}
-use Rattle.buck_record.specs.checking.Table.{is_at}
-use Rattle.buck_record.specs.checking.Rules.{slot}
-use Rattle.buck_record.proofs.PassLemmas.{both, check_ok}
-use Rattle.buck_book.specs.declared.posting.Posting.{Posting}
-use Rattle.buck_journal.specs.declared.reading.fault.JournalFault.{JournalFault}
-use Rattle.buck_journal.specs.declared.reading.fault.JournalFault.TheVariants.{Shape}
-use Rattle.buck_journal.specs.reading.Journal.{JournalParts, Form, says, wanted, numbers_at, item_at, list_form, sheet_at, call_at, head_form, samples_form, zones_form, stem_at, logs_form, worth_at, is_first, follows, cut_at, demand_at, posting_at, sheets_from, postings_from, says_journal, journal_in, journal_of, number_of_items}
-use Rattle.buck_journal.specs.inner.Plain.{begins}
+use Rattle.buck_journal.proofs.Words.{◌≡◌, ℕ, zero, suc, ◌+◌, ◌<◌, Bool, true, false, List, [], ◌∷◌, Option, Some, Result, Ok, Err, inl, inr, length, drop, slice_get, sum_by, refl, sym, ap, ◌∙◌, subst, arith, rules, common_steps, if◌then◌else◌, cases_Bool, same_Some, with_fault, TARGETS, Log, sum_by-cons, ItemParts, ◌>>=◌, items_of, is_at, slot, both, check_ok, Posting, JournalFault, Shape, JournalParts, Form, says, wanted, numbers_at, item_at, list_form, call_at, head_form, samples_form, zones_form, stem_at, logs_form, worth_at, is_first, follows, cut_at, demand_at, posting_at, sheets_from, postings_from, says_journal, journal_in, journal_of, number_of_items, begins}
+use Rattle.buck_journal.specs.reading.Journal.{sheet_at}
 
 ok_of : {X E : Type 0} (fault : ℕ → E) (r : Result X ℕ) (x : X) → with_fault fault r ≡ Ok x → r ≡ Ok x
 ok_of fault (Ok y) x h = cc

@@ -1,17 +1,5 @@
 -- The text of a journal is read again.
-use Rattle.std.proofs.Common.{◌≡◌, ℕ, ◌<◌, ◌≤◌, ◌^◌, true, List, [], ◌∷◌, ◌++◌, Ok, map, refl, arith, append_assoc, codes, rules}
-use Rattle.std.specs.List.{AllByRecursion, flat_map}
-use Rattle.std.specs.Fmt.{decimal, digits}
-use Rattle.std.proofs.lemmas.List.Elements.{recursion_from_All}
-use Rattle.buck_record.specs.checking.Rules.{within}
-use Rattle.buck_record.proofs.PassLemmas.{within_ok}
-use Rattle.buck_apt.specs.declared.slots.TheConstants.{TARGETS}
-use Rattle.buck_stem.specs.declared.file.slots.TheConstants.{SPECIES, SAMPLES}
-use Rattle.buck_book.specs.declared.posting.Posting.{Posting}
-use Rattle.buck_book.specs.declared.posting.Posting.TheVariants.{Cut, Demand}
-use Rattle.buck_journal.specs.reading.Journal.{journal_of}
-use Rattle.buck_journal.specs.Written.{item_text, sheet_text, cut_text, demand_text, posting_text, journal_text, zone_numbers, log_numbers}
-use Rattle.buck_journal.specs.Ranges.{AreSheetPrices, IsInRange, AreInRange, call_of_cut, call_of_demand}
+use Rattle.buck_journal.proofs.Words.{◌≡◌, ℕ, ◌<◌, ◌≤◌, ◌^◌, true, List, [], ◌∷◌, ◌++◌, Ok, map, refl, arith, append_assoc, codes, rules, AllByRecursion, flat_map, decimal, digits, recursion_from_All, within, within_ok, TARGETS, SPECIES, SAMPLES, Posting, Cut, Demand, journal_of, item_text, sheet_text, cut_text, demand_text, posting_text, journal_text, zone_numbers, log_numbers, AreSheetPrices, IsInRange, AreInRange, call_of_cut, call_of_demand}
 use Rattle.buck_journal.proofs.Lines.{smaller, item_at, Says, says_none, says_both, line_says, file_says}
 use Rattle.buck_journal.proofs.Again.{in_small, call_small, zones_small, logs_small, sheet_item, posting_items, journal_again}
 

@@ -1,7 +1,5 @@
 -- Numbers two and three at a time.
-use Rattle.std.proofs.Common.{◌≡◌, ℕ, ◌+◌, ◌<◌, ◌&&◌, List, ◌∷◌, length, drop, get_or, ap, arith, drop-cons, add-one}
-use Rattle.buck_stem.specs.file.Stm.{zones_of}
-use Rattle.buck_journal.specs.reading.Journal.{is_zone, are_zones, is_log, are_logs, logs_of}
+use Rattle.buck_journal.proofs.Words.{◌≡◌, ℕ, ◌+◌, ◌<◌, ◌&&◌, List, ◌∷◌, length, drop, get_or, ap, arith, drop-cons, add-one, zones_of, is_zone, are_zones, is_log, are_logs, logs_of}
 
 here : (xs : List ℕ) (i d : ℕ) → i < length xs → drop i xs ≡ get_or xs i d ∷ drop (i + 1) xs
 here xs i d lt = rw add-one (drop-cons xs i d lt)

@@ -1,12 +1,6 @@
 -- Going over the items of a journal, as the loops do.
-use Rattle.std.proofs.Common.{◌≡◌, ℕ, ◌+◌, ◌-◌, ◌<◌, ◌≤◌, true, false, List, [], ◌∷◌, ◌++◌, Result, Ok, Err, Some, length, map, take, drop, length-drop, get_or, refl, sym, ap, ◌∙◌, drop-cons, add-one, append_assoc, arith}
-use Rattle.std.proofs.lemmas.List.{drop_all, take_all, append-nil, length_push}
-use Rattle.buck_record.specs.Item.{ItemParts}
-use Rattle.buck_book.specs.declared.posting.Posting.{Posting}
-use Rattle.buck_record.specs.checking.Check.{◌>>=◌}
-use Rattle.buck_record.proofs.CheckLemmas.{after_front}
-use Rattle.buck_journal.specs.declared.reading.fault.JournalFault.{JournalFault}
-use Rattle.buck_journal.specs.reading.Journal.{is_first, sheet_at, posting_at, sheets_from, postings_from}
+use Rattle.buck_journal.proofs.Words.{◌≡◌, ℕ, ◌+◌, ◌-◌, ◌<◌, ◌≤◌, true, false, List, [], ◌∷◌, ◌++◌, Result, Ok, Err, Some, length, map, take, drop, length-drop, get_or, refl, sym, ap, ◌∙◌, drop-cons, add-one, append_assoc, arith, drop_all, take_all, append-nil, length_push, ItemParts, Posting, ◌>>=◌, after_front, JournalFault, is_first, posting_at, sheets_from, postings_from}
+use Rattle.buck_journal.specs.reading.Journal.{sheet_at}
 
 regroup : {X : Type 0} (made : List X) (x : X) (read : Result (List X) JournalFault)
     → after_front made (read >>= λ xs. Ok (x ∷ xs)) ≡ after_front (made ++ x ∷ []) read

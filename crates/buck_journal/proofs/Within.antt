@@ -1,39 +1,5 @@
 -- The numbers of a lawful history lie within a journal's ranges.
-use Rattle.std.proofs.Common.{◌≡◌, ℕ, ◌+◌, ◌*◌, ◌<◌, ◌≤◌, true, List, [], ◌∷◌, length, take, get_or, slice_index, slice_get, Some, refl, sym, subst, arith, mul-le-mul_left, rules}
-use Rattle.std.proofs.lemmas.Grind.{common_steps}
-use Rattle.std.specs.List.{AllByRecursion}
-use Rattle.std.proofs.lemmas.Bool.{and_from}
-use Rattle.std.proofs.lemmas.Bool.Decides.{nat_tests}
-use Rattle.std.proofs.lemmas.List.{take_all, length-take-le, get_or_default}
-use Rattle.std.proofs.lemmas.List.Elements.{recursion_from_All, All-contains}
-use Rattle.std.proofs.lemmas.Option.{slice_get_within, slice_get-get_or}
-use Rattle.buck_record.specs.checking.Rules.{within, all_within}
-use Rattle.buck_apt.specs.Instruction.{InstructionParts, IsInstruction, IsWithin}
-use Rattle.buck_apt.specs.declared.slots.TheConstants.{TARGETS}
-use Rattle.buck_stem.specs.declared.file.slots.TheConstants.{SPECIES, SAMPLES, MOST_SAMPLES, STARTS}
-use Rattle.buck_stem.specs.Stem.{StemParts, IsStem, IsGrade, IsRisingFrom}
-use Rattle.buck_value.specs.declared.log.Log.{Log}
-use Rattle.buck_value.specs.Sheet.{IsSheet, base_prices, sheet_of}
-use Rattle.buck_value.specs.Allowed.{IsAllowed, end_of}
-use Rattle.buck_value.proofs.Prices.{base_price-le}
-use Rattle.buck_value.proofs.Classes.{valid_of}
-use Rattle.buck_dp.specs.Cutting.{IsCutFrom}
-use Rattle.buck_dp.proofs.Lists.{worth_bounded}
-use Rattle.buck_book.specs.declared.posting.Posting.{Posting}
-use Rattle.buck_book.specs.declared.posting.Posting.TheVariants.{Cut, Demand}
-use Rattle.buck_book.specs.Entry.{EntryParts, DemandParts}
-use Rattle.buck_book.specs.Posting.{harvester_of, ends_of}
-use Rattle.buck_book.specs.Counts.{calls_of}
-use Rattle.buck_book.specs.History.{HistoryParts, IsLawful, Follows, PricesMeet, prices_at, sheet_at}
-use Rattle.buck_book.proofs.Ends.{ends-le}
-use Rattle.buck_book.proofs.Counting.{calls-le}
-use Rattle.buck_book.proofs.Cuts.{few_logs}
-use Rattle.buck_book.proofs.Sheets.{classes-le}
-use Rattle.buck_journal.specs.declared.reading.call.Call.{Call}
-use Rattle.buck_journal.specs.reading.Journal.{is_call, are_zones, is_log, are_logs}
-use Rattle.buck_journal.specs.Written.{zone_numbers, log_numbers}
-use Rattle.buck_journal.specs.judging.Replay.{version_at}
-use Rattle.buck_journal.specs.Ranges.{AreSheetPrices, IsCutInRange, IsDemandInRange, IsInRange, AreInRange, IsOfBook, call_of_cut}
+use Rattle.buck_journal.proofs.Words.{◌≡◌, ℕ, ◌+◌, ◌*◌, ◌<◌, ◌≤◌, true, List, [], ◌∷◌, length, take, get_or, slice_index, slice_get, Some, refl, sym, subst, arith, mul-le-mul_left, rules, common_steps, AllByRecursion, and_from, nat_tests, take_all, length-take-le, get_or_default, recursion_from_All, All-contains, slice_get_within, slice_get-get_or, within, all_within, InstructionParts, IsInstruction, IsWithin, TARGETS, SPECIES, SAMPLES, MOST_SAMPLES, STARTS, StemParts, IsStem, IsGrade, IsRisingFrom, Log, IsSheet, base_prices, sheet_of, IsAllowed, end_of, base_price-le, valid_of, IsCutFrom, worth_bounded, Posting, Cut, Demand, EntryParts, DemandParts, harvester_of, ends_of, calls_of, HistoryParts, IsLawful, Follows, PricesMeet, prices_at, sheet_at, ends-le, calls-le, few_logs, classes-le, Call, is_call, are_zones, is_log, are_logs, zone_numbers, log_numbers, version_at, AreSheetPrices, IsCutInRange, IsDemandInRange, IsInRange, AreInRange, IsOfBook, call_of_cut}
 use Rattle.buck_journal.proofs.Faults.{prices_right}
 use Rattle.buck_journal.proofs.Replays.{in_span, Opened, opened}
 

@@ -1,6 +1,4 @@
-use Rattle.std.proofs.Common.{◌≡◌, ◌++◌, take}
-use Rattle.std.specs.List.{flat_map}
-use Rattle.buck_journal.specs.Written.{posting_text}
+use Rattle.buck_journal.proofs.Words.{◌≡◌, ◌++◌, take, flat_map, posting_text}
 use Rattle.buck_journal.proofs.writing.put_postings.Given as goal
 
 abbrev pub invariant-loop-posting : goal.invariant-loop-posting

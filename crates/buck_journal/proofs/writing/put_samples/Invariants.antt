@@ -1,5 +1,4 @@
-use Rattle.std.proofs.Common.{◌≡◌, ◌++◌, take}
-use Rattle.buck_record.specs.writing.Written.{spelled}
+use Rattle.buck_journal.proofs.Words.{◌≡◌, ◌++◌, take, spelled}
 use Rattle.buck_journal.proofs.writing.put_samples.Given as goal
 
 abbrev pub invariant-loop-sample : goal.invariant-loop-sample

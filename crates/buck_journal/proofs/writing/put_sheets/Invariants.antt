@@ -1,6 +1,4 @@
-use Rattle.std.proofs.Common.{◌≡◌, ◌++◌, take, map}
-use Rattle.std.specs.List.{flat_map}
-use Rattle.buck_journal.specs.Written.{sheet_text}
+use Rattle.buck_journal.proofs.Words.{◌≡◌, ◌++◌, take, map, flat_map, sheet_text}
 use Rattle.buck_journal.proofs.writing.put_sheets.Given as goal
 
 abbrev pub invariant-loop-sheet : goal.invariant-loop-sheet

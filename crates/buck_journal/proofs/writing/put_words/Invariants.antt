@@ -1,5 +1,4 @@
-use Rattle.std.proofs.Common.{◌≡◌, ◌++◌, take}
-use Rattle.buck_record.specs.writing.Written.{spelled}
+use Rattle.buck_journal.proofs.Words.{◌≡◌, ◌++◌, take, spelled}
 use Rattle.buck_journal.proofs.writing.put_words.Given as goal
 
 abbrev pub invariant-loop-number : goal.invariant-loop-number

@@ -1,6 +1,4 @@
-use Rattle.std.proofs.Common.{◌≡◌, ◌++◌, take}
-use Rattle.buck_record.specs.writing.Written.{spelled}
-use Rattle.buck_journal.specs.Written.{zone_numbers}
+use Rattle.buck_journal.proofs.Words.{◌≡◌, ◌++◌, take, spelled, zone_numbers}
 use Rattle.buck_journal.proofs.writing.put_zones.Given as goal
 
 abbrev pub invariant-loop-zone : goal.invariant-loop-zone

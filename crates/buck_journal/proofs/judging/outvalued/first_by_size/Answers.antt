@@ -1,6 +1,4 @@
-use Rattle.std.proofs.Common.{◌+◌, ◌*◌, ◌∙◌, None, sym, ap, arith}
-use Rattle.std.specs.Prelude.{Ok}
-use Rattle.buck_journal.specs.inner.Replay.{IsFound}
+use Rattle.buck_journal.proofs.Words.{◌+◌, ◌*◌, ◌∙◌, None, sym, ap, arith, Ok, IsFound}
 use Rattle.buck_journal.proofs.Judged.{told, get_chunk, first_in_part, none_in_part}
 use Rattle.buck_journal.proofs.judging.outvalued.first_by_size.Goals as goal
 

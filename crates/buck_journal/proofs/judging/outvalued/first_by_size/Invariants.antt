@@ -1,5 +1,4 @@
-use Rattle.std.proofs.Common.{◌*◌}
-use Rattle.buck_journal.specs.inner.Replay.{NoneDoubtful}
+use Rattle.buck_journal.proofs.Words.{◌*◌, NoneDoubtful}
 use Rattle.buck_journal.proofs.judging.outvalued.first_by_size.Given as goal
 
 abbrev pub invariant-loop-k : goal.invariant-loop-k

@@ -1,6 +1,4 @@
-use Rattle.std.proofs.Common.{◌≡◌}
-use Rattle.buck_book.specs.History.{sheet_at}
-use Rattle.buck_journal.specs.inner.Replay.{NoneDoubtful}
+use Rattle.buck_journal.proofs.Words.{◌≡◌, sheet_at, NoneDoubtful}
 use Rattle.buck_journal.proofs.judging.outvalued.first_doubtful.Given as goal
 
 abbrev pub invariant-loop-at : goal.invariant-loop-at

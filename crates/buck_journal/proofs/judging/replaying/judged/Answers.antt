@@ -1,5 +1,4 @@
-use Rattle.std.proofs.Common.{subst, arith}
-use Rattle.buck_journal.specs.inner.Replay.{IsFound}
+use Rattle.buck_journal.proofs.Words.{subst, arith, IsFound}
 use Rattle.buck_journal.proofs.Judged.{judged_found, judged_none, judged_behind}
 use Rattle.buck_journal.proofs.judging.replaying.judged.Goals as goal
 

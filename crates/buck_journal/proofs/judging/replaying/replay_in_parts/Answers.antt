@@ -1,5 +1,4 @@
-use Rattle.std.proofs.Common.{refl}
-use Rattle.buck_journal.specs.judging.Replay.{history_of}
+use Rattle.buck_journal.proofs.Words.{refl, history_of}
 use Rattle.buck_journal.proofs.Judged.{judged_cases}
 use Rattle.buck_journal.proofs.judging.replaying.replay_in_parts.Goals as goal
 

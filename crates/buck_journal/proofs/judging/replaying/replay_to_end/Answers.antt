@@ -1,6 +1,4 @@
-use Rattle.std.proofs.Common.{◌∙◌, take, slice_get, ap, subst, arith}
-use Rattle.buck_journal.specs.judging.Replay.{history_of}
-use Rattle.buck_journal.specs.inner.Replay.{IsJudged}
+use Rattle.buck_journal.proofs.Words.{◌∙◌, take, slice_get, ap, subst, arith, history_of, IsJudged}
 use Rattle.buck_journal.proofs.Judged.{get_taken, judged_cases, told_end}
 use Rattle.buck_journal.proofs.judging.replaying.replay_to_end.Goals as goal
 

@@ -1,5 +1,4 @@
-use Rattle.std.proofs.Common.{Err, subst}
-use Rattle.buck_journal.specs.inner.Replay.{IsOrdered}
+use Rattle.buck_journal.proofs.Words.{Err, subst, IsOrdered}
 use Rattle.buck_journal.proofs.Replays.{along_is, walk_on, walk_ends, stopped_at, ended_at}
 use Rattle.buck_journal.proofs.judging.replaying.walk_in_order.Goals as goal
 

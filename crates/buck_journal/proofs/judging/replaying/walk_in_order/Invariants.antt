@@ -1,8 +1,4 @@
-use Rattle.std.proofs.Common.{◌≡◌, ◌-◌, length}
-use Rattle.std.specs.Prelude.{IfNone, IfSome}
-use Rattle.buck_book.specs.Walk.{walk_of}
-use Rattle.buck_journal.specs.judging.Replay.{Begins}
-use Rattle.buck_journal.specs.inner.Replay.{along, sheet_then, IsInOrderBefore}
+use Rattle.buck_journal.proofs.Words.{◌≡◌, ◌-◌, length, IfNone, IfSome, walk_of, Begins, along, sheet_then, IsInOrderBefore}
 use Rattle.buck_journal.proofs.judging.replaying.walk_in_order.Given as goal
 
 abbrev pub invariant-loop-posting : goal.invariant-loop-posting

@@ -1,7 +1,4 @@
-use Rattle.std.proofs.Common.{map, subst, arith}
-use Rattle.std.specs.Prelude.{◌≡◌, IfSome}
-use Rattle.std.proofs.lemmas.List.{length_push}
-use Rattle.buck_book.specs.History.{sheet_at}
+use Rattle.buck_journal.proofs.Words.{map, subst, arith, ◌≡◌, IfSome, length_push, sheet_at}
 use Rattle.buck_journal.proofs.Made.{one_more}
 use Rattle.buck_journal.proofs.judging.sheets.first_sheets.Goals as goal
 

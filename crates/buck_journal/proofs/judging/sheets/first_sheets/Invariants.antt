@@ -1,5 +1,4 @@
-use Rattle.std.proofs.Common.{◌≡◌, length, map}
-use Rattle.buck_journal.specs.inner.Sheets.{AreMade}
+use Rattle.buck_journal.proofs.Words.{◌≡◌, length, map, AreMade}
 use Rattle.buck_journal.proofs.judging.sheets.first_sheets.Given as goal
 
 abbrev pub invariant-loop-version : goal.invariant-loop-version

@@ -1,7 +1,5 @@
-use Rattle.std.proofs.Common.{map, ◌∙◌, subst}
-use Rattle.buck_apt.specs.Instruction.{IsInstruction}
+use Rattle.buck_journal.proofs.Words.{map, ◌∙◌, subst, IsInstruction, prices_at}
 use Rattle.buck_value.specs.Sheet.{IsSheetFault}
-use Rattle.buck_book.specs.History.{prices_at}
 use Rattle.buck_journal.proofs.Replays.{is_sheet}
 use Rattle.buck_journal.proofs.judging.sheets.new_sheet.Goals as goal
 

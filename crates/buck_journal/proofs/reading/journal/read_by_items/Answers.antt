@@ -1,7 +1,5 @@
-use Rattle.std.proofs.Common.{rules, refl}
-use Rattle.std.proofs.lemmas.Result.{err_from_is_err_and}
-use Rattle.buck_journal.specs.declared.reading.fault.JournalFault.TheVariants.{Memory, Head}
-use Rattle.buck_journal.specs.reading.Journal.{journal_of}
+use Rattle.buck_journal.proofs.Words.{rules, refl, err_from_is_err_and, Head, journal_of}
+use Rattle.buck_journal.specs.declared.reading.fault.JournalFault.TheVariants.{Memory}
 use Rattle.buck_journal.proofs.reading.journal.read_by_items.Goals as goal
 
 pub returns-in_err-items : goal.returns-in_err-items

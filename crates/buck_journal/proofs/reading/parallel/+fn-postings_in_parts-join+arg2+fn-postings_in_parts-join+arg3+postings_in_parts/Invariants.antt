@@ -1,4 +1,4 @@
-use Rattle.std.proofs.Common.{◌+◌, ◌-◌, ◌*◌, ◌/◌}
+use Rattle.buck_journal.proofs.Words.{◌+◌, ◌-◌, ◌*◌, ◌/◌}
 use Rattle.buck_journal.proofs.reading.parallel.+fn-postings_in_parts-join+arg2+fn-postings_in_parts-join+arg3+postings_in_parts.Given as goal
 
 abbrev pub decreases-join+arg2 : goal.decreases-join+arg2

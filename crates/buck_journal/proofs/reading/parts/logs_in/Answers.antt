@@ -1,5 +1,4 @@
-use Rattle.std.proofs.Common.{◌≡◌, ◌*◌, ◌+◌, arith}
-use Rattle.std.proofs.lemmas.Grind.{common_steps}
+use Rattle.buck_journal.proofs.Words.{◌≡◌, ◌*◌, ◌+◌, arith, common_steps}
 use Rattle.buck_journal.proofs.Tuples.{next_log}
 use Rattle.buck_journal.proofs.reading.parts.logs_in.Goals as goal
 

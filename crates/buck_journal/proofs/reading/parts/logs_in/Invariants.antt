@@ -1,5 +1,4 @@
-use Rattle.std.proofs.Common.{◌≡◌, ◌*◌, ◌++◌, drop}
-use Rattle.buck_journal.specs.reading.Journal.{are_logs, logs_of}
+use Rattle.buck_journal.proofs.Words.{◌≡◌, ◌*◌, ◌++◌, drop, are_logs, logs_of}
 use Rattle.buck_journal.proofs.reading.parts.logs_in.Given as goal
 
 abbrev pub invariant-loop-k : goal.invariant-loop-k

@@ -1,4 +1,4 @@
-use Rattle.std.proofs.Common.{◌≡◌, take}
+use Rattle.buck_journal.proofs.Words.{◌≡◌, take}
 use Rattle.buck_journal.proofs.reading.parts.samples_of.Given as goal
 
 abbrev pub invariant-loop-number : goal.invariant-loop-number

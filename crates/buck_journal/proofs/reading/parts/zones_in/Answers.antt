@@ -1,5 +1,4 @@
-use Rattle.std.proofs.Common.{◌≡◌, ◌*◌, ◌+◌, arith, length-drop}
-use Rattle.std.proofs.lemmas.Grind.{common_steps}
+use Rattle.buck_journal.proofs.Words.{◌≡◌, ◌*◌, ◌+◌, arith, length-drop, common_steps}
 use Rattle.buck_journal.proofs.Limits.{zones_done}
 use Rattle.buck_journal.proofs.Tuples.{next_zone}
 use Rattle.buck_journal.proofs.reading.parts.zones_in.Goals as goal

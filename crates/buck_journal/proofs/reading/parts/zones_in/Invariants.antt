@@ -1,6 +1,4 @@
-use Rattle.std.proofs.Common.{◌≡◌, ◌*◌, ◌++◌, drop}
-use Rattle.buck_stem.specs.file.Stm.{zones_of}
-use Rattle.buck_journal.specs.reading.Journal.{are_zones}
+use Rattle.buck_journal.proofs.Words.{◌≡◌, ◌*◌, ◌++◌, drop, zones_of, are_zones}
 use Rattle.buck_journal.proofs.reading.parts.zones_in.Given as goal
 
 abbrev pub invariant-loop-k : goal.invariant-loop-k

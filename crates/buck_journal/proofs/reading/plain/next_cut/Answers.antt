@@ -1,5 +1,4 @@
-use Rattle.std.proofs.Common.{ap, sym, ◌∙◌}
-use Rattle.buck_journal.specs.reading.Journal.{says, call_form, head_form, zones_form, logs_form}
+use Rattle.buck_journal.proofs.Words.{ap, sym, ◌∙◌, says, call_form, head_form, zones_form, logs_form}
 use Rattle.buck_journal.proofs.OnePass.{cut_leads}
 use Rattle.buck_journal.proofs.reading.plain.next_cut.Goals as goal
 

@@ -1,4 +1,4 @@
-use Rattle.buck_journal.specs.inner.Plain.{LeadsPostings}
+use Rattle.buck_journal.proofs.Words.{LeadsPostings}
 use Rattle.buck_journal.proofs.reading.plain.postings_of.Given as goal
 
 -- the postings so far lead to what is left

@@ -1,5 +1,4 @@
-use Rattle.std.proofs.Common.{map}
-use Rattle.buck_journal.specs.inner.Plain.{LeadsSheets}
+use Rattle.buck_journal.proofs.Words.{map, LeadsSheets}
 use Rattle.buck_journal.proofs.reading.plain.sheets_of.Given as goal
 
 -- the sheets so far lead to what is left

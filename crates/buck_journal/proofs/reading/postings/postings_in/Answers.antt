@@ -1,7 +1,4 @@
-use Rattle.std.proofs.Common.{rules, ◌≡◌, arith, length, sym, ◌∙◌, ap}
-use Rattle.std.proofs.lemmas.Result.{err_from_is_err_and}
-use Rattle.std.proofs.lemmas.List.{length_push}
-use Rattle.buck_journal.specs.reading.Journal.{posting_at}
+use Rattle.buck_journal.proofs.Words.{rules, ◌≡◌, arith, length, sym, ◌∙◌, ap, err_from_is_err_and, length_push, posting_at}
 use Rattle.buck_journal.proofs.Walk.{postings_stop, no_posting, posting_wrong, posting_more}
 use Rattle.buck_journal.proofs.reading.postings.postings_in.Goals as goal
 

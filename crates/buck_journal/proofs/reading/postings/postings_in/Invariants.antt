@@ -1,6 +1,4 @@
-use Rattle.std.proofs.Common.{◌≡◌, ◌≤◌, drop, length}
-use Rattle.buck_record.proofs.CheckLemmas.{after_front}
-use Rattle.buck_journal.specs.reading.Journal.{postings_from}
+use Rattle.buck_journal.proofs.Words.{◌≡◌, ◌≤◌, drop, length, after_front, postings_from}
 use Rattle.buck_journal.proofs.reading.postings.postings_in.Given as goal
 
 abbrev pub invariant-loop-k : goal.invariant-loop-k

@@ -1,5 +1,4 @@
-use Rattle.std.proofs.Common.{sym, ◌∙◌}
-use Rattle.std.proofs.lemmas.Result.{err_from_is_err_and}
+use Rattle.buck_journal.proofs.Words.{sym, ◌∙◌, err_from_is_err_and}
 use Rattle.buck_journal.proofs.Walk.{sheets_end, sheets_stop, sheet_wrong}
 use Rattle.buck_journal.proofs.reading.postings.sheets_in.Goals as goal
 

@@ -1,6 +1,4 @@
-use Rattle.std.proofs.Common.{◌≡◌, drop, map}
-use Rattle.buck_record.proofs.CheckLemmas.{after_front}
-use Rattle.buck_journal.specs.reading.Journal.{sheets_from}
+use Rattle.buck_journal.proofs.Words.{◌≡◌, drop, map, after_front, sheets_from}
 use Rattle.buck_journal.proofs.reading.postings.sheets_in.Given as goal
 
 abbrev pub invariant-loop-k : goal.invariant-loop-k
