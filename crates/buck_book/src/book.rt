@@ -239,16 +239,6 @@ impl<F: Drop> Book<F> {
         self.len() >= self.capacity() as usize
     }
 
-    /// Whether one more cut ends a period.
-    #[tactic(auto, using(crate::proofs::Told::cuts_few))]
-    fn is_period_end(&self) -> bool
-        ensures { IsTrue result
-            ↔ (cuts_since_end self.now.history.instruction self.now.history.postings + 1
-            ≡ self.now.history.instruction.period) }
-    {
-        self.running.cuts() + 1 == self.instruction.period()
-    }
-
     /// Makes room for one more posting and one more sheet.
     fn reserve(&mut self) -> Result<(), AllocError>
         ensures content { SameContent self.old self.new }
@@ -344,6 +334,7 @@ impl<F: Fn(&Standing) -> u64> Book<F> {
     }
 
     /// The next sheet after a plan's entry, where that ends a period.
+    #[tactic(auto, using(crate::proofs::Told::cuts_few))]
     fn next_sheet(&self, alloc: Global, plan: &Plan) -> Result<Option<Arc<Sheet>>, Memory>
         requires answers { Answers F.Fn self.now.rule }
         requires below { length self.now.history.postings < self.now.capacity }
@@ -353,7 +344,7 @@ impl<F: Fn(&Standing) -> u64> Book<F> {
         ensures given { IfOk result (λ next. IfSome next (λ s.
             AreAnswersWith F.Fn self.now.rule self.now.history plan.now s.value.prices)) }
     {
-        if !self.is_period_end() {
+        if self.running.cuts() + 1 != self.instruction.period() {
             return Ok(None);
         }
         let mut after = self.running.clone()?;

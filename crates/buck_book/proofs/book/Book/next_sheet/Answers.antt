@@ -1,4 +1,5 @@
-use Rattle.std.proofs.Common.{eq-eqb, sym, rules}
+use Rattle.std.proofs.Common.{◌+◌, eq-eqb, sym, rules, arith}
+use Rattle.buck_book.specs.Posting.{cuts_since_end}
 use Rattle.buck_book.proofs.Books.{passed_cut, is_next_sheet}
 use Rattle.buck_book.proofs.book.Book.next_sheet.Goals as goal
 
@@ -11,7 +12,8 @@ sheet-requires-clause-told g c = (
 
 pub returns-clause-next : goal.returns-clause-next
 returns-clause-next g c =
-    let last = eq-eqb _ _ (rw (sym c.self.view_is) at (c.is_period_end.ensures.0 c.if-not-is_period_end.false)) in
+    let i = c.self.inside.instruction.value in
+    let last = eq-eqb (cuts_since_end i c.self.inside.postings.items + 1) i.period (grind arith) in
     rw (sym c.self.view_is) (λ harvester. (
       last,
       is_next_sheet g.F.Fn _ _ _ _ (c.in_ok-sheet.ensures _
