@@ -53,9 +53,14 @@ module _ (s : StandingsParts) (ps : List Posting) (prices : List ℕ) (wanted : 
   stands c k = standing_is s.instruction s.targets s.by_class s.by_assortment ps c wanted counts k
 
   -- by running counts that are right, the prices of all classes keep the relation after the postings
-  pub all_met : length prices ≡ classes s.instruction → AreMetBelow s prices (classes s.instruction)
+  all_met : length prices ≡ classes s.instruction → AreMetBelow s prices (classes s.instruction)
       → PricesMeet s.instruction ps prices
   all_met all met = grind (arith, stands, place_lt)
+
+  pub none_wrong : (o : Option ℕ) → length prices ≡ classes s.instruction
+      → IfNone o (AreMetBelow s prices (classes s.instruction)) → IfNone o (PricesMeet s.instruction ps prices)
+  none_wrong None all met = all_met all met
+  none_wrong (Some x) all met = met
 
   pub is_wrong : (at : ℕ) → IsFirstWrong s prices at → IsWrongPrice s.instruction ps prices at
   is_wrong at w = record {
@@ -65,11 +70,6 @@ module _ (s : StandingsParts) (ps : List Posting) (prices : List ℕ) (wanted : 
     wrong = search (rules, stands);
     least = λ c k lt. rw (stands c k) at (w.least c k lt);
   }
-
--- what a fact about an option gives
-pub weaken_none : {X : Type 0} {P Q : Type 0} (o : Option X) → (P → Q) → IfNone o P → IfNone o Q
-weaken_none None f p = f p
-weaken_none (Some x) f p = p
 
 -- a class of a row
 pub record RowClass (i : InstructionParts) (a : AssortmentParts) (first : Class) (column : ℕ) : Type 0 where

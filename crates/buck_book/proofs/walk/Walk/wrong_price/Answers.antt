@@ -1,7 +1,7 @@
-use Rattle.std.proofs.Common.{take, sym, rules}
+use Rattle.std.proofs.Common.{sym, rules}
 use Rattle.std.proofs.lemmas.Option.{IfSome_then}
 use Rattle.buck_book.specs.inner.Running.{standings_of}
-use Rattle.buck_book.proofs.Relations.{all_met, is_wrong, weaken_none}
+use Rattle.buck_book.proofs.Relations.{none_wrong, is_wrong}
 use Rattle.buck_book.proofs.walk.Walk.wrong_price.Goals as goal
 
 pub returns-clause-found : goal.returns-clause-found
@@ -9,11 +9,8 @@ returns-clause-found c = search (rules, IfSome_then, is_wrong)
 
 pub returns-clause-none : goal.returns-clause-none
 returns-clause-none c =
-    let w = c.self.inside in
     let t = c.self.invariant.tells in
-    let one_each = rw (sym c.self.view_is) at c.requires in
     rw (sym c.self.view_is)
-    (weaken_none c.first_wrong.result
-    (λ met. all_met (standings_of w.instruction.now w.running) (take w.at w.postings.now) c.args.prices.now
-    t.targets_are t.counts_are one_each (rw c.standings.ensures at met))
-    c.first_wrong.ensures.none)
+    (none_wrong (standings_of c.self.inside.instruction.now c.self.inside.running) _ _ t.targets_are t.counts_are
+    c.first_wrong.result (rw (sym c.self.view_is) at c.requires)
+    (rw c.standings.ensures at c.first_wrong.ensures.none))
