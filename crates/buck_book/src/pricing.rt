@@ -78,7 +78,6 @@ impl<'a> Standings<'a> {
         ensures standing { result
             ≡ standing_by self.now section.now.assortment.now (class_at section.now.at row column) }
         ensures range { IsInRange result }
-        ensures kept { CanPrice self.now }
     {
         let base = u64::from(section.assortment.price(row, column));
         let limit = u64::from(self.instruction.limit());

@@ -7,7 +7,7 @@ ghost use Rattle.buck_book.specs.Targets.{AreTargets};
 ghost use Rattle.buck_book.specs.Counts.{AreClassCounts, calls_of};
 ghost use Rattle.buck_book.specs.History.{PricesMeet};
 ghost use Rattle.buck_book.specs.Walk.{walk_of, passed, IsWrongPrice, IsCountable};
-ghost use Rattle.buck_book.specs.inner.Walk.{calls_in, IsCalled};
+ghost use Rattle.buck_book.specs.inner.Walk.{calls_in};
 ghost use Rattle.buck_book.specs.declared.posting.TheConstants.{MOST_POSTINGS};
 
 use crate::posting::Posting;
@@ -52,7 +52,7 @@ fn calls_in(calls: &BTreeMap<u32, u32>, harvester: u32) -> u32
 /// Counts a call of a harvester.
 fn count_call(calls: &mut BTreeMap<u32, u32>, harvester: u32) -> Result<(), Memory>
     requires { calls_in calls.old harvester + 1 < 2 ^ 32 }
-    ensures { OnOk result (IsCalled calls.old harvester calls.new) }
+    ensures { OnOk result ((h : ℕ) → calls_in calls.new h ≡ calls_in calls.old h + cond (harvester == h) 1 0) }
 {
     let before = calls_in(calls, harvester);
     calls.insert(harvester, before + 1)?;

@@ -1,5 +1,5 @@
 -- What runs on along a way through postings.
-use Rattle.std.specs.Prelude.{◌≡◌, ℕ, ◌+◌, ◌<◌, ◌≤◌, ◌==◌, cond, List, length, slice_index, unwrap_or}
+use Rattle.std.specs.Prelude.{◌≡◌, ℕ, ◌<◌, ◌≤◌, List, length, slice_index, unwrap_or}
 use Rattle.std.specs.Ordering.{nat_cmp}
 use Rattle.std.specs.BTreeMap.{get, BTreeMap}
 use Rattle.buck_apt.specs.declared.class.Class.{Class}
@@ -14,10 +14,6 @@ use Rattle.buck_book.specs.declared.posting.TheConstants.{MOST_POSTINGS}
 -- how many calls a harvester has
 abbrev pub calls_in : BTreeMap ℕ ℕ → ℕ → ℕ
 calls_in calls h = unwrap_or (get nat_cmp calls h) 0
-
--- one harvester has one call more
-abbrev pub IsCalled : BTreeMap ℕ ℕ → ℕ → BTreeMap ℕ ℕ → Type 0
-IsCalled before harvester after = (h : ℕ) → calls_in after h ≡ calls_in before h + cond (harvester == h) 1 0
 
 -- what is kept beside the place is what the postings that were passed say
 pub record IsWalk (w : WalkParts) (n : RunningParts) (calls : ℕ → ℕ) : Type 0 where
