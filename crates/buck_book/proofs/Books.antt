@@ -124,8 +124,8 @@ is_next_sheet g f h x s sheet last = grind (arith, ends_with_end)
 -- a sheet added to a list, as a list of values and of prices
 pub values_added : {X : Type 0} (val : X → SheetParts) (xs ys : List X) (next : Option X)
     → ys ≡ xs ++ option_to_list next → map val ys ≡ map val xs ++ option_to_list (option_map val next)
-values_added val xs ys None is = ap (map val) is ∙ map-append val xs []
-values_added val xs ys (Some x) is = ap (map val) is ∙ map-append val xs (x ∷ [])
+values_added val xs ys None is = grind (arith, map-append)
+values_added val xs ys (Some x) is = grind (arith, map-append)
 
 pub prices_added : {X : Type 0} (val : X → SheetParts) (xs ys : List X) (next : Option X)
     → ys ≡ xs ++ option_to_list next

@@ -1,5 +1,5 @@
 -- Ends, and the targets in force, of longer and of shorter lists of postings.
-use Rattle.std.proofs.Common.{◌≡◌, ◌≢◌, ℕ, ◌+◌, ◌<◌, ◌≤◌, true, false, cond, inl, inr, List, [], ◌∷◌, ◌++◌, length, take, drop, slice_get, Some, refl, sym, ◌∙◌, ap, arith, eq-eqb}
+use Rattle.std.proofs.Common.{◌≡◌, ℕ, ◌+◌, ◌<◌, ◌≤◌, true, false, cond, inl, inr, List, [], ◌∷◌, ◌++◌, length, take, drop, slice_get, Some, refl, ◌∙◌, ap, arith, eq-eqb}
 use Rattle.std.proofs.lemmas.Bool.{cases_Bool, false_from_ne_true}
 use Rattle.std.proofs.lemmas.List.{take-append-drop, take_more}
 use Rattle.std.proofs.lemmas.Option.{slice_get_within, get_or_from_slice_get}
@@ -85,8 +85,7 @@ ends-le p n [] = omega arith
 ends-le p n (x ∷ xs) = grind (arith, ends_yes, ends_no, (ends-le p 0 xs), (ends-le p (n + 1) xs))
 
 still_low : (p n : ℕ) (x : Posting) → n < p → is_end p n x ≡ false → n + 1 < p
-still_low p n (Cut e) lt no_ = let ne : n + 1 ≢ p = λ z. true_false (sym (eq-eqb (n + 1) p z) ∙ no_) in omega arith
-still_low p n (Demand d) lt no_ = absurd (true_false no_)
+still_low p n x lt no_ = grind (arith, eq-eqb, true_false)
 
 -- a period has fewer cuts than make it full
 pub cuts_low : (p n : ℕ) (ps : List Posting) → 0 < p → n < p → cuts_from p n ps < p

@@ -50,14 +50,10 @@ in_one : (i : InstructionParts) (c d : Class) (k : IsClass i c) (l : IsClass i d
     → index_of i c ≡ index_of i d → c ≡ d
 in_one i c d k l same e =
     let one : k.assortment ≡ l.assortment = search (rules, same_Some) in
-    let before : classes_before i c.assortment ≡ classes_before i d.assortment = ap (λ a. classes_before i a) same in
-    let width : length k.assortment.lengths ≡ length l.assortment.lengths = ap (λ a. length a.lengths) one in
-    let inner : c.row * length k.assortment.lengths + c.column ≡ d.row * length l.assortment.lengths + d.column =
-    omega (arith, inner_is i c k, inner_is i d l) in
-    let here : c.row * length l.assortment.lengths + c.column ≡ d.row * length l.assortment.lengths + d.column =
-    rw width at inner in
-    let col : c.column < length l.assortment.lengths = rw width at k.column in
-    let parts = same_from_place c.row c.column d.row d.column (length l.assortment.lengths) col l.column here in
+    let inner : c.row * length l.assortment.lengths + c.column ≡ d.row * length l.assortment.lengths + d.column =
+    grind (arith, inner_is i c k, inner_is i d l) in
+    let parts =
+    same_from_place c.row c.column d.row d.column (length l.assortment.lengths) (grind (arith, k.column)) l.column inner in
     class_same c d same parts.0 parts.1
 
 -- two classes of one place are one class
