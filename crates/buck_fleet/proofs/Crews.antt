@@ -25,7 +25,8 @@ first_seats x seats h (suc n) each le pos =
 
 pub crew_of_new : (n : ℕ) (seats : List SeatParts) → length seats ≡ n
     → ((i : ℕ) (d : SeatParts) → i < n → (get_or seats i d).harvester ≡ i + 1) → IsCrew n seats
-crew_of_new n [] number each = record { within = λ i d lt. absurd (omega arith); once = λ h pos le. absurd (omega arith) }
+crew_of_new n [] number each =
+    record { within = λ i d lt. absurd (omega arith); once = λ h pos le. absurd (omega arith) }
 crew_of_new n (x ∷ xs) number each = record {
   within = λ i d lt. (let e = each i d (omega arith) in (omega arith, omega arith));
   once = λ h pos le. let first =

@@ -13,7 +13,8 @@ use Rattle.buck_fleet.specs.Crew.{parts_of, IsNew, AreOpened}
 use Rattle.buck_fleet.proofs.Crews.{crew_of_new}
 
 -- some of the seats have their places, and the next one gets so many of the parts that are left
-pub record AreSoFar (b : Board) (count : ℕ) (seats : List SeatParts) (places : List BoardSeat) (parts left : ℕ) : Type 0 where
+pub record AreSoFar (b : Board) (count : ℕ) (seats : List SeatParts) (places : List BoardSeat)
+    (parts left : ℕ) : Type 0 where
   pub number : length places + length seats ≡ count
   pub some_parts : 0 < parts
   pub one_each : 0 < length seats → parts ≡ 1
@@ -27,7 +28,8 @@ pub one_more : (b : Board) (count : ℕ) (seats after : List SeatParts) (places 
     (parts left left_after own : ℕ) (s : SeatParts) (h : ℕ) (p : BoardSeat)
     → AreSoFar b count seats places parts left → places ≡ others ++ p ∷ []
     → s ≡ record { harvester = h; place = p; kept = []; parts = own; stopped = None } → own ≡ parts
-    → h ≡ length seats + 1 → after ≡ seats ++ s ∷ [] → left_after + parts ≡ left → AreSoFar b count after others 1 left_after
+    → h ≡ length seats + 1 → after ≡ seats ++ s ∷ [] → left_after + parts ≡ left
+    → AreSoFar b count after others 1 left_after
 one_more b count seats after places others parts left left_after own s h p so_far place is e at more given =
     search (rules, length_push, sum_by_push, All-pop, get_or_append_left, get_or_push)
 

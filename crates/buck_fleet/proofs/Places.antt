@@ -47,7 +47,8 @@ pub in_range : (n : ℕ) (all rest rest' : List SeatParts) (s v : SeatParts) (be
 in_range n all rest rest' s v before lists parts amount crew is view places =
     let first : rest ++ places.done ≡ rest' ++ s ∷ places.done = search (rules, append_assoc) in
     let within = rw (places.split ∙ first) at crew.within in
-    rw (view, ← get_or-append_seam rest' s places.done s) (within (length rest') s (omega (arith, length-append rest' (s ∷ places.done))))
+    rw (view, ← get_or-append_seam rest' s places.done s) (within (length rest') s
+    (omega (arith, length-append rest' (s ∷ places.done))))
 
 -- harvesters from 1 to n, none twice
 record AreApart (n : ℕ) (xs : List SeatParts) : Type 0 where
@@ -84,7 +85,14 @@ module _ (lists : List (List Kept)) (empty : AreEmpty lists) where
   free h (s ∷ xs) pos apart none =
       let f = first_apart _ s xs apart in
       let other = not_there h (s ∷ xs) 0 s none (omega arith) in
-      search (rules, get_or-set_other, rest_apart, seats_of-append, (free h xs pos (rest_apart _ s xs apart) (omega (arith, seats_of-append h (s ∷ []) xs))))
+      search (
+        rules,
+        get_or-set_other,
+        rest_apart,
+        seats_of-append,
+        (free h xs pos (rest_apart _ s xs apart)
+            (omega (arith, seats_of-append h (s ∷ []) xs))),
+      )
 
   summed : (xs : List SeatParts) → AreApart (length lists) xs
       → sum_by length (placed lists xs) ≡ sum_by (λ s. length s.kept) xs
