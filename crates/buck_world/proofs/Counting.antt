@@ -59,7 +59,11 @@ stale_and_lifts : (w : WorldParts) (moves : List Move) (h k : ℕ) → IsSound w
     → 1 ≤ h → IsWithin w h k → stale_of h w moves + lifts_of h w moves + k ≤ (last w moves).front
 stale_and_lifts w [] h k s r f low within = let a = within.front in omega arith
 stale_and_lifts w (m ∷ ms) h k s r f low within =
-    search (rules, stays_sound, within_step, (stale_and_lifts m.after ms h _ (stays_sound w m.after m.event s r.0) r.1 f.1 low (within_step w m.after m.event h k s r.0 f.0 low within)))
+    omega (
+      arith,
+      stale_and_lifts m.after ms h _ (stays_sound w m.after m.event s r.0) r.1 f.1 low
+          (within_step w m.after m.event h k s r.0 f.0 low within),
+    )
 
 pub within_front : (w : WorldParts) (moves : List Move) (h : ℕ) → IsSound w → w.front ≡ 0 → IsRun w moves
     → IsFresh w moves → 1 ≤ h → stale_of h w moves + lifts_of h w moves ≤ (last w moves).front

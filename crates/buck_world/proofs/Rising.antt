@@ -58,4 +58,5 @@ run_added w (m ∷ ms) r = run_added m.after ms r.1
 pub run_instruction : (w : WorldParts) (moves : List Move) → IsSound w → IsRun w moves
     → (last w moves).history.instruction ≡ w.history.instruction
 run_instruction w [] s r = refl
-run_instruction w (m ∷ ms) s r = search (rules, stays_sound, same_number, (run_instruction m.after ms (stays_sound w m.after m.event s r.0) r.1))
+run_instruction w (m ∷ ms) s r =
+    search (rules, same_number, (run_instruction m.after ms (stays_sound w m.after m.event s r.0) r.1))

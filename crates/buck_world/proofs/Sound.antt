@@ -140,7 +140,8 @@ raised_sound w w' h s h_in r =
     let k = s.world in
     let version = version_of w.history in
     subst (λ (y : WorldParts). IsSound y) (sym r.is) (sound_after w h
-    (record { stage = Idle; seen = version; stale = 0 }) w.history version s h_in k.lawful (le_refl version) (omega arith) (
+    (record { stage = Idle; seen = version; stale = 0 }) w.history version s h_in k.lawful (le_refl version)
+    (omega arith) (
       record { plan = λ p e. absurd (cc); seen = le_refl version; stale = omega arith },
       record { going = λ f. absurd f; replied = λ idle i p there by_h. version_low w s i p there },
     )
