@@ -1,21 +1,5 @@
 -- Histories of cuts alone: their ends are the full periods, and two ways to say that one is lawful say the same.
-use Rattle.std.proofs.Common.{◌≡◌, ℕ, zero, suc, ◌+◌, ◌-◌, ◌*◌, ◌/◌, ◌%◌, ◌<◌, ◌≤◌, ◌↔◌, inl, inr, List, [], ◌∷◌, map, length, take, drop, slice_index, slice_get, Some, sum_by, refl, sym, ◌∙◌, arith, rules, add-one, eqb-true, eq-eqb, mul-le-mul_right, div-mul-le_self, rules}
-use Rattle.std.proofs.lemmas.Bool.{cases_Bool, cases_lt, cases_eq}
-use Rattle.std.proofs.lemmas.Nat.{same_from_place, div-mul-add, mod-mul-add, div-add-mod', div_below, mod_below}
-use Rattle.std.proofs.lemmas.Grind.{same_number_lists}
-use Rattle.std.proofs.lemmas.List.{take-map, get_or-take, get_or-drop, length-take-le}
-use Rattle.std.proofs.lemmas.List.Elements.{recursion_from_All}
-use Rattle.std.proofs.lemmas.List.Sums.{sum_by-cons}
-use Rattle.std.proofs.lemmas.Option.{slice_get_within, slice_get-map, slice_get_cases, same_Some, none-some}
-use Rattle.buck_apt.specs.declared.class.Class.{Class}
-use Rattle.buck_apt.specs.Instruction.{InstructionParts, AssortmentParts, IsInstruction, IsClass, classes, classes_of, classes_before, index_of}
-use Rattle.buck_value.specs.Sheet.{base_prices}
-use Rattle.buck_value.proofs.Prices.{length-base_prices}
-use Rattle.buck_book.specs.declared.posting.Posting.{Posting}
-use Rattle.buck_book.specs.declared.posting.Posting.TheVariants.{Cut}
-use Rattle.buck_book.specs.Entry.{EntryParts}
-use Rattle.buck_book.specs.Posting.{ends_from, cuts_from, ends_of, cuts_since_end, targets_after, opening_targets}
-use Rattle.buck_book.specs.History.{IsLawful, IsEnd, PricesMeet, prices_at, standing_of}
+use Rattle.buck_book.proofs.Words.{◌≡◌, ℕ, zero, suc, ◌+◌, ◌-◌, ◌*◌, ◌/◌, ◌%◌, ◌<◌, ◌≤◌, ◌↔◌, inl, inr, List, [], ◌∷◌, map, length, take, drop, slice_index, slice_get, Some, sum_by, refl, sym, ◌∙◌, arith, rules, add-one, eqb-true, eq-eqb, mul-le-mul_right, div-mul-le_self, cases_Bool, cases_lt, cases_eq, same_from_place, div-mul-add, mod-mul-add, div-add-mod', div_below, mod_below, same_number_lists, take-map, get_or-take, get_or-drop, length-take-le, recursion_from_All, sum_by-cons, slice_get_within, slice_get-map, slice_get_cases, same_Some, none-some, Class, InstructionParts, AssortmentParts, IsInstruction, IsClass, classes, classes_of, classes_before, index_of, base_prices, length-base_prices, Posting, Cut, EntryParts, ends_from, cuts_from, ends_of, cuts_since_end, targets_after, opening_targets, IsLawful, IsEnd, PricesMeet, prices_at, standing_of}
 use Rattle.buck_book.specs.CutsAlone as alone
 use Rattle.buck_book.proofs.Ends.{ends_yes, ends_no, cuts_yes, cuts_no, cuts_low, ends_past}
 use Rattle.buck_book.proofs.Places.{inner_is, inner_lt}

@@ -1,22 +1,5 @@
 -- What a book keeps, one posting on.
-use Rattle.std.proofs.Common.{◌≡◌, ℕ, ◌-◌, ◌<◌, inl, inr, List, [], ◌∷◌, ◌++◌, Option, Some, None, length, map, set, get_or, append-nil, refl, sym, ◌∙◌, ap, arith, rules}
-use Rattle.std.proofs.lemmas.Grind.{common_steps}
-use Rattle.std.proofs.lemmas.List.{map-append, length_push}
-use Rattle.std.specs.Option.{option_to_list, option_map}
-use Rattle.buck_apt.specs.Instruction.{InstructionParts, IsWithin}
-use Rattle.buck_value.specs.Sheet.{SheetParts}
-use Rattle.buck_book.specs.declared.posting.Posting.{Posting}
-use Rattle.buck_book.specs.declared.posting.Posting.TheVariants.{Cut, Demand}
-use Rattle.buck_book.specs.Entry.{EntryParts, DemandParts}
-use Rattle.buck_book.specs.Posting.{harvester_of, number_of, planned_version}
-use Rattle.buck_book.specs.Targets.{AreTargets}
-use Rattle.buck_book.specs.History.{HistoryParts, IsLawful, Follows, IsEnd, IsNextSheet, sheets_with, history_with, version_of, in_force}
-use Rattle.buck_book.specs.Plan.{PlanParts, IsPlan}
-use Rattle.buck_book.specs.Book.{BookParts, book_of, IsBook, IsFirst, IsNext, IsReadyToAdd, SameContent, sheets_from, entry_of, demand_of}
-use Rattle.buck_book.specs.inner.Running.{RunningParts, Keeps, Tells, GoesOn, IsAfter, IsSheetAfter}
-use Rattle.buck_rule.specs.declared.standing.Standing.{Standing}
-use denote.Ref.{Bor}
-use denote.Param.Members.{Shared}
+use Rattle.buck_book.proofs.Words.{◌≡◌, ℕ, ◌-◌, ◌<◌, inl, inr, List, [], ◌∷◌, ◌++◌, Option, Some, None, length, map, set, get_or, append-nil, refl, sym, ◌∙◌, ap, arith, rules, common_steps, map-append, length_push, option_to_list, option_map, InstructionParts, IsWithin, SheetParts, Posting, Cut, Demand, EntryParts, DemandParts, harvester_of, number_of, planned_version, AreTargets, HistoryParts, IsLawful, Follows, IsEnd, IsNextSheet, sheets_with, history_with, version_of, in_force, PlanParts, IsPlan, BookParts, book_of, IsBook, IsFirst, IsNext, IsReadyToAdd, SameContent, sheets_from, entry_of, demand_of, RunningParts, Keeps, Tells, GoesOn, IsAfter, IsSheetAfter, Standing, Bor, Shared}
 use Rattle.buck_book.proofs.Counting.{calls_more}
 use Rattle.buck_book.proofs.Ends.{ends_with_end}
 use Rattle.buck_book.proofs.Extend.{slice_get-push, version_within, one_more, prices_stay}

@@ -1,17 +1,5 @@
 -- Running counts of entries, one entry on.
-use Rattle.std.proofs.Common.{◌≡◌, ℕ, ◌+◌, ◌-◌, ◌<◌, ◌≤◌, ◌==◌, true, cond, List, [], ◌∷◌, ◌++◌, length, get_or, set, take, replicate, ◌^◌, sym, ◌∙◌, ap, inl, inr, arith, eq-eqb, rules}
-use Rattle.std.proofs.lemmas.Grind.{common_steps}
-use Rattle.std.proofs.lemmas.Bool.{ne_eqb, cases_eq}
-use Rattle.std.proofs.lemmas.List.{get_or-set_same, get_or-set_other, length-set, get_or_past, get_or-replicate, length-replicate}
-use Rattle.std.proofs.lemmas.List.Sums.{sum_by-le-sum_by, sum_by_push, count_by-le-length}
-use Rattle.buck_apt.specs.declared.class.Class.{Class}
-use Rattle.buck_apt.specs.Instruction.{InstructionParts, classes}
-use Rattle.buck_value.specs.declared.log.Log.{Log}
-use Rattle.buck_book.specs.declared.posting.Posting.{Posting}
-use Rattle.buck_book.specs.declared.posting.Posting.TheVariants.{Cut, Demand}
-use Rattle.buck_book.specs.Posting.{harvester_of}
-use Rattle.buck_book.specs.Counts.{class_logs_in, assortment_logs_in, count_of, assortment_count_of, calls_of}
-use Rattle.buck_book.specs.inner.Running.{AreCounts, AreAtMost, AreCalls, AreGrownBy, AreGrownAt}
+use Rattle.buck_book.proofs.Words.{◌≡◌, ℕ, ◌+◌, ◌-◌, ◌<◌, ◌≤◌, ◌==◌, true, cond, List, [], ◌∷◌, ◌++◌, length, get_or, set, take, replicate, ◌^◌, sym, ◌∙◌, ap, inl, inr, arith, eq-eqb, rules, common_steps, ne_eqb, cases_eq, get_or-set_same, get_or-set_other, length-set, get_or_past, get_or-replicate, length-replicate, sum_by-le-sum_by, sum_by_push, count_by-le-length, Class, InstructionParts, classes, Log, Posting, Cut, Demand, harvester_of, class_logs_in, assortment_logs_in, count_of, assortment_count_of, calls_of, AreCounts, AreAtMost, AreCalls, AreGrownBy, AreGrownAt}
 use Rattle.buck_book.proofs.Cuts.{class_logs-le}
 
 zeros : (n k : ℕ) → get_or (replicate {A = ℕ} n 0) k 0 ≡ 0

@@ -1,18 +1,5 @@
 -- The logs of an admissible cutting: each is allowed, and there are at most 80.
-use Rattle.std.proofs.Common.{◌≡◌, ℕ, ◌+◌, ◌*◌, ◌≤◌, ◌==◌, true, cond, List, [], ◌∷◌, All, length, count_by, refl, sym, ◌∙◌, inl, inr, arith, eqb-true, eq-eqb, rules}
-use Rattle.std.proofs.lemmas.Bool.{and_parts, and_from, ne_eqb, cases_eq, false_from_ne_true}
-use Rattle.std.proofs.lemmas.List.Elements.{All-nil, All-cons}
-use Rattle.std.proofs.lemmas.List.Sums.{sum_by-cons, sum_by-le-sum_by}
-use Rattle.buck_apt.specs.declared.class.Class.{Class}
-use Rattle.buck_apt.specs.Instruction.{InstructionParts, IsInstruction, IsClass, index_of}
-use Rattle.buck_stem.specs.Stem.{StemParts, IsStem, stem_length}
-use Rattle.buck_value.specs.declared.log.Log.{Log}
-use Rattle.buck_value.specs.Allowed.{IsAllowed, class_of, end_of}
-use Rattle.buck_value.proofs.Classes.{class_is_class, allowed_low}
-use Rattle.buck_dp.specs.Cutting.{IsCutFrom}
-use Rattle.buck_dp.proofs.Bounds.{end_within}
-use Rattle.buck_book.specs.Counts.{is_class, class_logs, assortment_logs}
-use Rattle.buck_book.specs.inner.Running.{class_place}
+use Rattle.buck_book.proofs.Words.{◌≡◌, ℕ, ◌+◌, ◌*◌, ◌≤◌, ◌==◌, true, cond, List, [], ◌∷◌, All, length, count_by, refl, sym, ◌∙◌, inl, inr, arith, eqb-true, eq-eqb, rules, and_parts, and_from, ne_eqb, cases_eq, false_from_ne_true, All-nil, All-cons, sum_by-cons, sum_by-le-sum_by, Class, InstructionParts, IsInstruction, IsClass, index_of, StemParts, IsStem, stem_length, Log, IsAllowed, class_of, end_of, class_is_class, allowed_low, IsCutFrom, end_within, is_class, class_logs, assortment_logs, class_place}
 use Rattle.buck_book.proofs.Places.{one_place, class_of_assortment}
 
 pub each_allowed : (i : InstructionParts) (stem : StemParts) (from : ℕ) (gs : List Log)

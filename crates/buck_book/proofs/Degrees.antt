@@ -1,11 +1,5 @@
 -- Sums over the classes of an assortment.
-use Rattle.std.proofs.Common.{◌≡◌, ℕ, zero, suc, ◌+◌, ◌*◌, ◌/◌, ◌<◌, ◌≤◌, min, List, [], ◌∷◌, length, take, sum, get_or, arith, add-one, rules}
-use Rattle.std.proofs.lemmas.List.Sums.{sum_by-cons}
-use Rattle.std.proofs.Math.Nat.{min-le_left, add-mul, mul-le-mul, div-le_of_le-mul}
-use Rattle.std.specs.Prelude.{slice_get, Some}
-use Rattle.std.proofs.lemmas.Option.{slice_get_read}
-use Rattle.buck_apt.specs.Instruction.{AssortmentParts}
-use Rattle.buck_book.specs.Degree.{shared_of}
+use Rattle.buck_book.proofs.Words.{◌≡◌, ℕ, zero, suc, ◌+◌, ◌*◌, ◌/◌, ◌<◌, ◌≤◌, min, List, [], ◌∷◌, length, take, sum, get_or, arith, add-one, rules, sum_by-cons, min-le_left, add-mul, mul-le-mul, div-le_of_le-mul, slice_get, Some, slice_get_read, AssortmentParts, shared_of}
 
 step : (wanted cut : ℕ) (targets counts : List ℕ) (i : ℕ) → i < length targets → i < length counts
     → shared_of wanted cut (take (suc i) targets) (take (suc i) counts)

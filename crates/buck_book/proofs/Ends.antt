@@ -1,14 +1,5 @@
 -- Ends, and the targets in force, of longer and of shorter lists of postings.
-use Rattle.std.proofs.Common.{◌≡◌, ℕ, ◌+◌, ◌<◌, ◌≤◌, true, false, cond, inl, inr, List, [], ◌∷◌, ◌++◌, length, take, drop, slice_get, Some, refl, ◌∙◌, ap, arith, eq-eqb}
-use Rattle.std.proofs.lemmas.Bool.{cases_Bool, false_from_ne_true}
-use Rattle.std.proofs.lemmas.List.{take-append-drop, take_more}
-use Rattle.std.proofs.lemmas.Option.{slice_get_within, get_or_from_slice_get}
-use Rattle.buck_apt.specs.Instruction.{InstructionParts}
-use Rattle.buck_book.specs.declared.posting.Posting.{Posting}
-use Rattle.buck_book.specs.declared.posting.Posting.TheVariants.{Cut, Demand}
-use Rattle.buck_book.specs.Entry.{DemandParts}
-use Rattle.buck_book.specs.Posting.{is_end, ends_from, cuts_from, ends_of, cuts_since_end, targets_after}
-use Rattle.buck_book.specs.History.{IsEnd}
+use Rattle.buck_book.proofs.Words.{◌≡◌, ℕ, ◌+◌, ◌<◌, ◌≤◌, true, false, cond, inl, inr, List, [], ◌∷◌, ◌++◌, length, take, drop, slice_get, Some, refl, ◌∙◌, ap, arith, eq-eqb, cases_Bool, false_from_ne_true, take-append-drop, take_more, slice_get_within, get_or_from_slice_get, InstructionParts, Posting, Cut, Demand, DemandParts, is_end, ends_from, cuts_from, ends_of, cuts_since_end, targets_after, IsEnd}
 
 pub true_false : true ≡ false → ⊥
 true_false e = absurd (cc)

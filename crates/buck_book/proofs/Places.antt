@@ -1,14 +1,5 @@
 -- Places of classes: one place, one class.
-use Rattle.std.proofs.Common.{◌≡◌, ℕ, ◌+◌, ◌*◌, ◌<◌, ◌≤◌, List, Option, Some, None, length, take, get_or, slice_get, sum_by, refl, ◌∙◌, ap, arith, mul_comm, rules}
-use Rattle.std.proofs.lemmas.Nat.{same_from_place, mul-add-lt}
-use Rattle.std.proofs.lemmas.List.{take-take, get_or-take, length-take-le}
-use Rattle.std.proofs.lemmas.List.Sums.{sum_by_more_le}
-use Rattle.std.proofs.lemmas.Option.{get_or_from_slice_get, slice_get_within, same_Some}
-use Rattle.buck_apt.specs.declared.class.Class.{Class}
-use Rattle.buck_apt.specs.Instruction.{InstructionParts, AssortmentParts, IsClass, classes, classes_of, classes_before, index_of, place_in}
-use Rattle.buck_stem.specs.Stem.{StemParts}
-use Rattle.buck_value.specs.declared.log.Log.{Log}
-use Rattle.buck_value.specs.Allowed.{class_of, class_in}
+use Rattle.buck_book.proofs.Words.{◌≡◌, ℕ, ◌+◌, ◌*◌, ◌<◌, ◌≤◌, List, Option, Some, None, length, take, get_or, slice_get, sum_by, refl, ◌∙◌, ap, arith, mul_comm, rules, same_from_place, mul-add-lt, take-take, get_or-take, length-take-le, sum_by_more_le, get_or_from_slice_get, slice_get_within, same_Some, Class, InstructionParts, AssortmentParts, IsClass, classes, classes_of, classes_before, index_of, place_in, StemParts, Log, class_of, class_in}
 use Rattle.buck_book.proofs.Wanted.{part_within}
 
 -- the classes of an assortment come before those of a later one

@@ -1,18 +1,5 @@
 -- Prices in the relation, class by class.
-use Rattle.std.proofs.Common.{◌≡◌, ℕ, ◌+◌, ◌<◌, inl, inr, List, Option, Some, None, length, slice_index, refl, sym, subst, arith, rules}
-use Rattle.std.specs.Prelude.{IfNone}
-use Rattle.std.proofs.lemmas.Bool.{cases_lt}
-use Rattle.buck_apt.specs.declared.class.Class.{Class}
-use Rattle.buck_apt.specs.Instruction.{InstructionParts, AssortmentParts, IsClass, classes, index_of}
-use Rattle.buck_rule.specs.Relation.{Meets}
-use Rattle.buck_book.specs.declared.posting.Posting.{Posting}
-use Rattle.buck_book.specs.Posting.{targets_of}
-use Rattle.buck_book.specs.History.{standing_of, PricesMeet}
-use Rattle.buck_book.specs.Walk.{IsWrongPrice}
-use Rattle.buck_book.specs.inner.Running.{AreCounts}
-use Rattle.buck_book.specs.declared.pricing.Section.{Section}
-use Rattle.buck_book.specs.inner.Pricing.{StandingsParts, IsSection, IsClassOf, class_at, row_start, standing_by}
-use Rattle.buck_book.specs.inner.Walk.{AreMetBelow, IsFirstWrong}
+use Rattle.buck_book.proofs.Words.{◌≡◌, ℕ, ◌+◌, ◌<◌, inl, inr, List, Option, Some, None, length, slice_index, refl, sym, subst, arith, rules, IfNone, cases_lt, Class, InstructionParts, AssortmentParts, IsClass, classes, index_of, Meets, Posting, targets_of, standing_of, PricesMeet, IsWrongPrice, AreCounts, Section, StandingsParts, IsSection, IsClassOf, class_at, row_start, standing_by, AreMetBelow, IsFirstWrong}
 use Rattle.buck_book.proofs.Places.{place_lt, inner_is}
 use Rattle.buck_book.proofs.Standings.{at_place, standing_is, class_in, section_class, section_place}
 

@@ -1,10 +1,5 @@
 -- The sheets of a book.
-use Rattle.std.proofs.Common.{◌≡◌, ℕ, zero, suc, ◌+◌, ◌*◌, ◌<◌, ◌≤◌, List, [], ◌∷◌, ◌++◌, All, length, get_or, refl, ap, arith, mul-le-mul_right}
-use Rattle.std.proofs.lemmas.List.Sums.{sum_by-le}
-use Rattle.std.proofs.lemmas.List.Elements.{All-weaker}
-use Rattle.buck_apt.specs.Instruction.{InstructionParts, AssortmentParts, IsInstruction, IsAssortment, classes, classes_of}
-use Rattle.buck_value.specs.Sheet.{SheetParts, sheet_of}
-use Rattle.buck_book.specs.Book.{sheets_from}
+use Rattle.buck_book.proofs.Words.{◌≡◌, ℕ, zero, suc, ◌+◌, ◌*◌, ◌<◌, ◌≤◌, List, [], ◌∷◌, ◌++◌, All, length, get_or, refl, ap, arith, mul-le-mul_right, sum_by-le, All-weaker, InstructionParts, AssortmentParts, IsInstruction, IsAssortment, classes, classes_of, SheetParts, sheet_of, sheets_from}
 
 pub length-sheets_from : (v : ℕ) (i : InstructionParts) (pss : List (List ℕ))
     → length (sheets_from v i pss) ≡ length pss

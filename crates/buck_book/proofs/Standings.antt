@@ -1,31 +1,5 @@
 -- How classes stand, and the prices that are answered to that.
-use Rattle.std.proofs.Common.{◌≡◌, ℕ, ◌+◌, ◌*◌, ◌<◌, ◌≤◌, inl, inr, List, [], ◌∷◌, ◌++◌, length, take, get_or, slice_index, slice_get, Some, sym, ◌∙◌, ap, subst, arith, mul-le-mul_left, rules}
-use Rattle.std.proofs.lemmas.Grind.{common_steps}
-use Rattle.std.specs.List.{flat_map}
-use Rattle.std.proofs.lemmas.Bool.{cases_lt}
-use Rattle.std.proofs.lemmas.List.{get_or_push, get_or_append_left, length_push}
-use Rattle.std.proofs.lemmas.List.Concat.{length-flat_map}
-use Rattle.std.proofs.lemmas.List.Sums.{sum_by_more}
-use Rattle.std.proofs.lemmas.List.Elements.{All-take, recursion_from_All}
-use Rattle.std.proofs.lemmas.Option.{slice_get_within, get_or_from_slice_get, same_Some}
-use denote.Ref.{Bor}
-use denote.Param.Members.{Shared}
-use Rattle.buck_apt.specs.declared.class.Class.{Class}
-use Rattle.buck_apt.specs.Instruction.{InstructionParts, AssortmentParts, IsInstruction, IsAssortment, IsClass, classes, classes_of, classes_before, index_of}
-use Rattle.buck_rule.specs.declared.standing.Standing.{Standing}
-use Rattle.buck_rule.specs.Standing.{IsInRange}
-use Rattle.buck_rule.specs.Relation.{Meets}
-use Rattle.buck_value.specs.Sheet.{SheetParts, sheet_of, base_prices, IsPriceAt, IsInSpan, IsSheetFault}
-use Rattle.buck_value.specs.declared.fault.SheetFault.{SheetFault}
-use Rattle.buck_value.specs.declared.fault.SheetFault.TheVariants.{Count, Price}
-use Rattle.buck_value.proofs.Prices.{base_at, base_price-le}
-use Rattle.buck_book.specs.declared.posting.Posting.{Posting}
-use Rattle.buck_book.specs.Posting.{targets_of}
-use Rattle.buck_book.specs.Targets.{targets_sum}
-use Rattle.buck_book.specs.History.{standing_at, standing_of}
-use Rattle.buck_book.specs.inner.Running.{AreCounts, RunningParts, Tells, IsSheetAfter, standings_of}
-use Rattle.buck_book.specs.declared.pricing.Section.{Section}
-use Rattle.buck_book.specs.inner.Pricing.{StandingsParts, CanPrice, IsSection, IsClassOf, IsAnswer, ArePriced, class_at, row_start, standing_by}
+use Rattle.buck_book.proofs.Words.{◌≡◌, ℕ, ◌+◌, ◌*◌, ◌<◌, ◌≤◌, inl, inr, List, [], ◌∷◌, ◌++◌, length, take, get_or, slice_index, slice_get, Some, sym, ◌∙◌, ap, subst, arith, mul-le-mul_left, rules, common_steps, flat_map, cases_lt, get_or_push, get_or_append_left, length_push, length-flat_map, sum_by_more, All-take, recursion_from_All, slice_get_within, get_or_from_slice_get, same_Some, Bor, Shared, Class, InstructionParts, AssortmentParts, IsInstruction, IsAssortment, IsClass, classes, classes_of, classes_before, index_of, Standing, IsInRange, Meets, SheetParts, sheet_of, base_prices, IsPriceAt, IsInSpan, IsSheetFault, SheetFault, Count, Price, base_at, base_price-le, Posting, targets_of, targets_sum, standing_at, standing_of, AreCounts, RunningParts, Tells, IsSheetAfter, standings_of, Section, StandingsParts, CanPrice, IsSection, IsClassOf, IsAnswer, ArePriced, class_at, row_start, standing_by}
 use Rattle.buck_book.proofs.Places.{inner_is, inner_lt, one_place, place_lt}
 use Rattle.buck_book.proofs.Wanted.{sum_same, valid_at, target_within, target_low}
 

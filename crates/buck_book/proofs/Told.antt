@@ -1,20 +1,5 @@
 -- What some postings add up to, one posting on.
-use Rattle.std.proofs.Common.{◌≡◌, ℕ, ◌+◌, ◌<◌, ◌≤◌, ◌==◌, cond, List, [], ◌∷◌, ◌++◌, length, arith, rules}
-use Rattle.std.proofs.lemmas.Grind.{common_steps}
-use Rattle.std.proofs.lemmas.List.{length_push}
-use Rattle.std.proofs.lemmas.List.Sums.{sum_by_push, count_by-le-length}
-use Rattle.std.proofs.lemmas.Option.{slice_get_within}
-use Rattle.buck_apt.specs.Instruction.{InstructionParts, IsInstruction}
-use Rattle.buck_stem.specs.Stem.{IsStem}
-use Rattle.buck_value.specs.Allowed.{IsAllowed, end_of}
-use Rattle.buck_dp.specs.Cutting.{IsCutFrom}
-use Rattle.buck_book.specs.declared.posting.Posting.{Posting}
-use Rattle.buck_book.specs.declared.posting.Posting.TheVariants.{Cut, Demand}
-use Rattle.buck_book.specs.Entry.{EntryParts, DemandParts}
-use Rattle.buck_book.specs.Posting.{opening_targets}
-use Rattle.buck_book.specs.Targets.{AreTargets}
-use Rattle.buck_book.specs.inner.Running.{RunningParts, Tells, standings_of, AreCounts, AreAtMost, AreGrownAt, AreGrownBy, class_place}
-use Rattle.buck_book.specs.inner.Pricing.{CanPrice}
+use Rattle.buck_book.proofs.Words.{◌≡◌, ℕ, ◌+◌, ◌<◌, ◌≤◌, ◌==◌, cond, List, [], ◌∷◌, ◌++◌, length, arith, rules, common_steps, length_push, sum_by_push, count_by-le-length, slice_get_within, InstructionParts, IsInstruction, IsStem, IsAllowed, end_of, IsCutFrom, Posting, Cut, Demand, EntryParts, DemandParts, opening_targets, AreTargets, RunningParts, Tells, standings_of, AreCounts, AreAtMost, AreGrownAt, AreGrownBy, class_place, CanPrice}
 use Rattle.buck_book.proofs.Cuts.{few_logs, tallied}
 use Rattle.buck_book.proofs.Counting.{count_of-le}
 use Rattle.buck_book.proofs.Ends.{ends-append, cuts-append, targets-append, ends-le, cuts_low}

@@ -1,14 +1,5 @@
 -- What is kept along a way through postings, one posting on.
-use Rattle.std.proofs.Common.{◌≡◌, ℕ, ◌+◌, ◌<◌, ◌==◌, cond, length, slice_get, Some, arith}
-use Rattle.std.proofs.lemmas.List.{length-take-le}
-use Rattle.std.proofs.lemmas.List.Sums.{sum_by_push}
-use Rattle.std.proofs.lemmas.Option.{slice_get_within}
-use Rattle.buck_apt.specs.Instruction.{InstructionParts}
-use Rattle.buck_book.specs.declared.posting.Posting.{Posting}
-use Rattle.buck_book.specs.Posting.{harvester_of}
-use Rattle.buck_book.specs.Walk.{WalkParts, walk_of, passed}
-use Rattle.buck_book.specs.inner.Running.{RunningParts, IsAfter}
-use Rattle.buck_book.specs.inner.Walk.{IsWalk}
+use Rattle.buck_book.proofs.Words.{◌≡◌, ℕ, ◌+◌, ◌<◌, ◌==◌, cond, length, slice_get, Some, arith, length-take-le, sum_by_push, slice_get_within, InstructionParts, Posting, harvester_of, WalkParts, walk_of, passed, RunningParts, IsAfter, IsWalk}
 use Rattle.buck_book.proofs.Ends.{take_one_more}
 
 -- d is the place as callers see it

@@ -1,16 +1,5 @@
 -- The instruction's targets are valid, and what is wanted of an assortment is read from its part of all targets.
-use Rattle.std.proofs.Common.{◌≡◌, ℕ, zero, suc, ◌+◌, ◌<◌, ◌≤◌, List, [], ◌∷◌, All, length, take, drop, get_or, slice_index, slice_get, Some, sum, sum_by, refl, ◌∙◌, ap, arith, rules}
-use Rattle.std.specs.List.{flat_map, AllByRecursion}
-use borrow.Author.Count.{below_more}
-use Rattle.std.proofs.Math.Seq.{drop-append-add}
-use Rattle.std.proofs.lemmas.List.{get_or-take, get_or-drop, length-take-le, length-drop, take-append-le, take_all, get_or_past}
-use Rattle.std.proofs.lemmas.List.Concat.{length-flat_map}
-use Rattle.std.proofs.lemmas.List.Elements.{All-append, All-get_or, recursion_from_All}
-use Rattle.std.proofs.lemmas.List.Sums.{sum_by-cons, sum_by_more_le, get_or-le-sum_by}
-use Rattle.std.proofs.lemmas.Option.{slice_get_within, get_or_from_slice_get, same_Some, none-some}
-use Rattle.buck_apt.specs.Instruction.{InstructionParts, AssortmentParts, IsInstruction, IsAssortment, classes, classes_of, classes_before}
-use Rattle.buck_book.specs.Posting.{opening_targets}
-use Rattle.buck_book.specs.Targets.{AreTargets, IsLowSumAt, targets_sum}
+use Rattle.buck_book.proofs.Words.{◌≡◌, ℕ, zero, suc, ◌+◌, ◌<◌, ◌≤◌, List, [], ◌∷◌, All, length, take, drop, get_or, slice_index, slice_get, Some, sum, sum_by, refl, ◌∙◌, ap, arith, rules, flat_map, AllByRecursion, below_more, drop-append-add, get_or-take, get_or-drop, length-take-le, length-drop, take-append-le, take_all, get_or_past, length-flat_map, All-append, All-get_or, recursion_from_All, sum_by-cons, sum_by_more_le, get_or-le-sum_by, slice_get_within, get_or_from_slice_get, same_Some, none-some, InstructionParts, AssortmentParts, IsInstruction, IsAssortment, classes, classes_of, classes_before, opening_targets, AreTargets, IsLowSumAt, targets_sum}
 
 pub sum_same : (f : AssortmentParts → List ℕ) → ((a : AssortmentParts) → IsAssortment a → length (f a) ≡ classes_of a)
     → (as_ : List AssortmentParts) → AllByRecursion IsAssortment as_

@@ -1,7 +1,4 @@
-use Rattle.std.proofs.Common.{refl, arith}
-use Rattle.std.proofs.lemmas.Grind.{common_steps}
-use Rattle.buck_value.specs.declared.log.Log.{Log}
-use Rattle.buck_book.specs.inner.Running.{class_place}
+use Rattle.buck_book.proofs.Words.{refl, arith, common_steps, Log, class_place}
 use Rattle.buck_book.proofs.Counting.{grown_more}
 use Rattle.buck_book.proofs.counts.add_logs.Goals as goal
 

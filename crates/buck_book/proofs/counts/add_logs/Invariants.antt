@@ -1,5 +1,4 @@
-use Rattle.std.proofs.Common.{take}
-use Rattle.buck_book.specs.inner.Running.{AreGrownAt, AreGrownBy, class_place}
+use Rattle.buck_book.proofs.Words.{take, AreGrownAt, AreGrownBy, class_place}
 use Rattle.buck_book.proofs.counts.add_logs.Given as goal
 
 abbrev pub invariant-loop-log : goal.invariant-loop-log

@@ -1,5 +1,4 @@
-use Rattle.std.proofs.Common.{arith}
-use Rattle.std.proofs.Math.Nat.{mul-le-mul}
+use Rattle.buck_book.proofs.Words.{arith, mul-le-mul}
 use Rattle.buck_book.proofs.Degrees.{shared_low, degree_low}
 use Rattle.buck_book.proofs.degree.degree_by.Goals as goal
 

@@ -1,5 +1,4 @@
-use Rattle.std.proofs.Common.{arith}
-use Rattle.std.proofs.Math.Nat.{min-le_left, mul-le-mul}
+use Rattle.buck_book.proofs.Words.{arith, min-le_left, mul-le-mul}
 use Rattle.buck_book.proofs.Degrees.{shared_more}
 use Rattle.buck_book.proofs.degree.shared.Goals as goal
 

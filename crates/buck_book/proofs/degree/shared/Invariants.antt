@@ -1,5 +1,4 @@
-use Rattle.std.proofs.Common.{◌≡◌, ◌*◌, ◌≤◌, take}
-use Rattle.buck_book.specs.Degree.{shared_of}
+use Rattle.buck_book.proofs.Words.{◌≡◌, ◌*◌, ◌≤◌, take, shared_of}
 use Rattle.buck_book.proofs.degree.shared.Given as goal
 
 abbrev pub invariant-loop-i : goal.invariant-loop-i

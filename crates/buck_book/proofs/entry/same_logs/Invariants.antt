@@ -1,4 +1,4 @@
-use Rattle.std.proofs.Common.{take, ◌≡◌}
+use Rattle.buck_book.proofs.Words.{take, ◌≡◌}
 use Rattle.buck_book.proofs.entry.same_logs.Given as goal
 
 abbrev pub invariant-loop-i : goal.invariant-loop-i

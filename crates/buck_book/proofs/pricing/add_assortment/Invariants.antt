@@ -1,4 +1,4 @@
-use Rattle.buck_book.specs.inner.Pricing.{ArePriced, row_start}
+use Rattle.buck_book.proofs.Words.{ArePriced, row_start}
 use Rattle.buck_book.proofs.pricing.add_assortment.Given as goal
 
 abbrev pub invariant-loop-row : goal.invariant-loop-row

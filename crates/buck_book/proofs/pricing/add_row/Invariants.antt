@@ -1,5 +1,4 @@
-use Rattle.std.proofs.Common.{◌+◌}
-use Rattle.buck_book.specs.inner.Pricing.{ArePriced, row_start}
+use Rattle.buck_book.proofs.Words.{◌+◌, ArePriced, row_start}
 use Rattle.buck_book.proofs.pricing.add_row.Given as goal
 
 abbrev pub invariant-loop-column : goal.invariant-loop-column

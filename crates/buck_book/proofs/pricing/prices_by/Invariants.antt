@@ -1,5 +1,4 @@
-use Rattle.buck_apt.specs.Instruction.{classes_before}
-use Rattle.buck_book.specs.inner.Pricing.{ArePriced}
+use Rattle.buck_book.proofs.Words.{classes_before, ArePriced}
 use Rattle.buck_book.proofs.pricing.prices_by.Given as goal
 
 abbrev pub invariant-loop-at : goal.invariant-loop-at

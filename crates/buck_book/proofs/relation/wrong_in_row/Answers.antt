@@ -1,4 +1,4 @@
-use Rattle.std.proofs.Common.{sym}
+use Rattle.buck_book.proofs.Words.{sym}
 use Rattle.buck_book.proofs.Ends.{true_false}
 use Rattle.buck_book.proofs.Relations.{section_wrong}
 use Rattle.buck_book.proofs.relation.wrong_in_row.Goals as goal

@@ -1,6 +1,4 @@
-use Rattle.std.proofs.Common.{◌+◌}
-use Rattle.buck_book.specs.inner.Pricing.{row_start}
-use Rattle.buck_book.specs.inner.Walk.{AreMetBelow}
+use Rattle.buck_book.proofs.Words.{◌+◌, row_start, AreMetBelow}
 use Rattle.buck_book.proofs.relation.wrong_in_row.Given as goal
 
 abbrev pub invariant-loop-column : goal.invariant-loop-column

@@ -1,5 +1,4 @@
-use Rattle.buck_book.specs.inner.Pricing.{row_start}
-use Rattle.buck_book.specs.inner.Walk.{AreMetBelow}
+use Rattle.buck_book.proofs.Words.{row_start, AreMetBelow}
 use Rattle.buck_book.proofs.relation.wrong_in_section.Given as goal
 
 abbrev pub invariant-loop-row : goal.invariant-loop-row

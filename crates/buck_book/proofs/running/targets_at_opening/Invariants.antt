@@ -1,5 +1,4 @@
-use Rattle.std.proofs.Common.{◌≡◌, take}
-use Rattle.std.specs.List.{flat_map}
+use Rattle.buck_book.proofs.Words.{◌≡◌, take, flat_map}
 use Rattle.buck_book.proofs.running.targets_at_opening.Given as goal
 
 abbrev pub invariant-loop-assortment : goal.invariant-loop-assortment

@@ -1,5 +1,4 @@
-use Rattle.std.proofs.Common.{arith}
-use Rattle.std.proofs.lemmas.Option.{slice_get-get_or}
+use Rattle.buck_book.proofs.Words.{arith, slice_get-get_or}
 use Rattle.buck_book.proofs.Standings.{before_next}
 use Rattle.buck_book.proofs.Wanted.{low_more}
 use Rattle.buck_book.proofs.targets.first_sum_above.Goals as goal

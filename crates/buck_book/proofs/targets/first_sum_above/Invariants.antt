@@ -1,6 +1,4 @@
-use Rattle.std.proofs.Common.{◌≡◌, ℕ, ◌<◌}
-use Rattle.buck_apt.specs.Instruction.{classes_before}
-use Rattle.buck_book.specs.Targets.{IsLowSumAt}
+use Rattle.buck_book.proofs.Words.{◌≡◌, ℕ, ◌<◌, classes_before, IsLowSumAt}
 use Rattle.buck_book.proofs.targets.first_sum_above.Given as goal
 
 abbrev pub invariant-loop-at : goal.invariant-loop-at

@@ -1,4 +1,4 @@
-use Rattle.std.proofs.Common.{◌≡◌, ◌*◌, ◌≤◌, take, sum}
+use Rattle.buck_book.proofs.Words.{◌≡◌, ◌*◌, ◌≤◌, take, sum}
 use Rattle.buck_book.proofs.targets.sum_of.Given as goal
 
 abbrev pub invariant-loop-target : goal.invariant-loop-target

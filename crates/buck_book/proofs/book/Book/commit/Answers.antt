@@ -1,6 +1,4 @@
-use Rattle.std.proofs.Common.{◌+◌, sym, ap}
-use Rattle.buck_book.specs.declared.posting.Posting.TheVariants.{Cut}
-use Rattle.buck_book.specs.Book.{ReadyParts, entry_of}
+use Rattle.buck_book.proofs.Words.{◌+◌, sym, ap, Cut, ReadyParts, entry_of}
 use Rattle.buck_book.proofs.Books.{keeps_more, entry_follows, entry_after}
 use Rattle.buck_book.proofs.book.Book.commit.Goals as goal
 

@@ -1,6 +1,4 @@
-use Rattle.std.proofs.Common.{◌+◌, Some, refl, sym, ◌∙◌, ap}
-use Rattle.buck_book.specs.declared.posting.Posting.TheVariants.{Demand}
-use Rattle.buck_book.specs.Book.{ReadyDemandParts, demand_of}
+use Rattle.buck_book.proofs.Words.{◌+◌, Some, refl, sym, ◌∙◌, ap, Demand, ReadyDemandParts, demand_of}
 use Rattle.buck_book.proofs.Books.{keeps_more}
 use Rattle.buck_book.proofs.book.Book.commit_demand.Goals as goal
 

@@ -1,5 +1,4 @@
-use Rattle.std.proofs.Common.{◌+◌, eq-eqb, sym, rules, arith}
-use Rattle.buck_book.specs.Posting.{cuts_since_end}
+use Rattle.buck_book.proofs.Words.{◌+◌, eq-eqb, sym, rules, arith, cuts_since_end}
 use Rattle.buck_book.proofs.Books.{passed_cut, is_next_sheet}
 use Rattle.buck_book.proofs.book.Book.next_sheet.Goals as goal
 

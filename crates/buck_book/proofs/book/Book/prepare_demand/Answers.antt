@@ -1,6 +1,4 @@
-use Rattle.std.proofs.Common.{rules, refl, Some, sym, ap, arith}
-use Rattle.buck_book.specs.declared.posting.Posting.TheVariants.{Demand}
-use Rattle.buck_book.specs.Book.{demand_of}
+use Rattle.buck_book.proofs.Words.{rules, refl, Some, sym, ap, arith, Demand, demand_of}
 use Rattle.buck_book.proofs.Told.{version_low}
 use Rattle.buck_book.proofs.Books.{ready_to_add, passed_demand, is_next_sheet}
 use Rattle.buck_book.proofs.book.Book.prepare_demand.Goals as goal

@@ -1,6 +1,4 @@
-use Rattle.std.proofs.Common.{rules}
-use Rattle.buck_book.specs.declared.posting.Posting.TheVariants.{Cut}
-use Rattle.buck_book.specs.Book.{entry_of}
+use Rattle.buck_book.proofs.Words.{rules, Cut, entry_of}
 use Rattle.buck_book.proofs.Books.{ready_to_add}
 use Rattle.buck_book.proofs.book.Book.prepare_in_force.Goals as goal
 

@@ -1,5 +1,4 @@
-use Rattle.std.proofs.Common.{sym, ◌∙◌, ap, arith}
-use Rattle.std.proofs.lemmas.List.{get_or-map, length-map}
+use Rattle.buck_book.proofs.Words.{sym, ◌∙◌, ap, arith, get_or-map, length-map}
 use Rattle.buck_book.proofs.Books.{in_sheets, force_is}
 use Rattle.buck_book.proofs.book.Book.sheet.Goals as goal
 

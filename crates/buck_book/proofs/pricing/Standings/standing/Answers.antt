@@ -1,6 +1,4 @@
-use Rattle.std.proofs.Common.{sym, subst, arith, rules}
-use Rattle.std.proofs.lemmas.Option.{slice_get_within}
-use Rattle.buck_rule.specs.Standing.{IsInRange}
+use Rattle.buck_book.proofs.Words.{sym, subst, arith, rules, slice_get_within, IsInRange}
 use Rattle.buck_book.proofs.Standings.{section_class, section_below, section_stands, stands_in_range}
 use Rattle.buck_book.proofs.pricing.Standings.standing.Goals as goal
 

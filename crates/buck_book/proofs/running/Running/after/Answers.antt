@@ -1,5 +1,4 @@
-use Rattle.std.proofs.Common.{sym, ◌∙◌, ap}
-use Rattle.buck_book.specs.Entry.{DemandParts}
+use Rattle.buck_book.proofs.Words.{sym, ◌∙◌, ap, DemandParts}
 use Rattle.buck_book.proofs.running.Running.after.Goals as goal
 
 pub returns-in_ok-clone-in-Demand : goal.returns-in_ok-clone-in-Demand

@@ -1,5 +1,4 @@
-use Rattle.std.proofs.Common.{◌+◌, ◌==◌, cond, sym, ◌∙◌, ap, subst}
-use Rattle.buck_book.specs.inner.Running.{Tells}
+use Rattle.buck_book.proofs.Words.{◌+◌, ◌==◌, cond, sym, ◌∙◌, ap, subst, Tells}
 use Rattle.buck_book.proofs.Told.{tells_cut}
 use Rattle.buck_book.proofs.running.Running.after_cut.Goals as goal
 

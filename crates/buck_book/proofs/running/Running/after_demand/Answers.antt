@@ -1,5 +1,4 @@
-use Rattle.std.proofs.Common.{refl, sym, subst}
-use Rattle.buck_book.specs.inner.Running.{Tells}
+use Rattle.buck_book.proofs.Words.{refl, sym, subst, Tells}
 use Rattle.buck_book.proofs.Told.{tells_demand}
 use Rattle.buck_book.proofs.running.Running.after_demand.Goals as goal
 

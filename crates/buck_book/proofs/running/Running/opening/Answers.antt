@@ -1,4 +1,4 @@
-use Rattle.std.proofs.Common.{arith}
+use Rattle.buck_book.proofs.Words.{arith}
 use Rattle.buck_book.proofs.Counting.{none_counted, none_low}
 use Rattle.buck_book.proofs.Wanted.{opening_valid}
 use Rattle.buck_book.proofs.Told.{tells_opening}

@@ -1,5 +1,4 @@
-use Rattle.std.proofs.Common.{◌∙◌, ap, rules}
-use Rattle.buck_book.specs.inner.Running.{standings_of}
+use Rattle.buck_book.proofs.Words.{◌∙◌, ap, rules, standings_of}
 use Rattle.buck_book.proofs.Standings.{is_sheet}
 use Rattle.buck_book.proofs.running.Running.sheet.Goals as goal
 

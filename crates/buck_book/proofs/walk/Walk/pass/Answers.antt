@@ -1,4 +1,4 @@
-use Rattle.std.proofs.Common.{rules}
+use Rattle.buck_book.proofs.Words.{rules}
 use Rattle.buck_book.proofs.Walks.{walk_more}
 use Rattle.buck_book.proofs.walk.Walk.pass.Goals as goal
 

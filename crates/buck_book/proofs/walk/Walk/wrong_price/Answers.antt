@@ -1,6 +1,4 @@
-use Rattle.std.proofs.Common.{sym, rules}
-use Rattle.std.proofs.lemmas.Option.{IfSome_then}
-use Rattle.buck_book.specs.inner.Running.{standings_of}
+use Rattle.buck_book.proofs.Words.{sym, rules, IfSome_then, standings_of}
 use Rattle.buck_book.proofs.Relations.{none_wrong, is_wrong}
 use Rattle.buck_book.proofs.walk.Walk.wrong_price.Goals as goal
 
