@@ -1,18 +1,5 @@
 -- what a posting that was added under the lock tells its seat's caller
-use Rattle.std.proofs.Common.{◌≡◌, ℕ, ◌+◌, ◌≤◌, List, [], ◌∷◌, ◌++◌, arith, sym, ◌∙◌, rules}
-use Rattle.std.proofs.lemmas.Grind.{common_steps}
-use Rattle.buck_book.specs.declared.posting.Posting.{Posting}
-use Rattle.buck_book.specs.declared.posting.Posting.TheVariants.{Cut, Demand}
-use Rattle.buck_book.specs.Entry.{EntryParts, DemandParts}
-use Rattle.buck_book.specs.Plan.{PlanParts, IsPlan}
-use Rattle.buck_book.specs.History.{HistoryParts, version_of, in_force}
-use Rattle.buck_book.specs.Book.{entry_of, demand_of}
-use Rattle.buck_book.proofs.Ends.{ends-append, ends_with_end}
-use Rattle.buck_fleet.specs.declared.seat.Kept.{Kept}
-use Rattle.buck_fleet.specs.declared.seat.Reply.{Reply}
-use Rattle.buck_fleet.specs.declared.seat.DemandReply.{DemandReply}
-use Rattle.buck_fleet.specs.Seat.{SeatParts, Keeps, KeepsOne, seen_of}
-use Rattle.buck_fleet.specs.Reply.{IsReplyFor, IsOfPlan, IsReplyToTargets, kept_of, kept_demand_of}
+use Rattle.buck_fleet.proofs.Words.{◌≡◌, ℕ, ◌+◌, ◌≤◌, List, [], ◌∷◌, ◌++◌, arith, sym, ◌∙◌, rules, common_steps, Posting, Cut, Demand, EntryParts, DemandParts, PlanParts, IsPlan, HistoryParts, version_of, in_force, entry_of, demand_of, ends-append, ends_with_end, Kept, Reply, DemandReply, SeatParts, Keeps, KeepsOne, seen_of, IsReplyFor, IsOfPlan, IsReplyToTargets, kept_of, kept_demand_of}
 
 -- `inside` is the seat before it
 pub is_kept : (inside seat seat' : SeatParts) (items : List Kept) (k : Kept) → inside ≡ seat → items ≡ inside.kept

@@ -1,21 +1,5 @@
 -- what a closed fleet hands out of its book
-use Rattle.std.proofs.Common.{◌≡◌, ℕ, ◌+◌, ◌-◌, ◌<◌, ◌≤◌, List, [], ◌∷◌, length, get_or, refl, sym, ap, subst, ◌∙◌, map, arith}
-use Rattle.std.proofs.lemmas.Grind.{common_steps}
-use Rattle.std.specs.Prelude.{All, slice_index_or, slice_get, Some}
-use Rattle.std.specs.List.{sum_by}
-use Rattle.buck_apt.specs.Instruction.{InstructionParts}
-use Rattle.buck_value.specs.Sheet.{SheetParts}
-use Rattle.buck_book.specs.declared.posting.Posting.{Posting}
-use Rattle.buck_book.specs.Posting.{targets_of}
-use Rattle.buck_book.specs.Targets.{AreTargets}
-use Rattle.buck_book.specs.Counts.{AreClassCounts}
-use Rattle.buck_book.specs.History.{HistoryParts, IsLawful, in_force}
-use Rattle.buck_book.specs.Book.{IsFirst, sheets_from}
-use Rattle.buck_book.proofs.Sheets.{length-sheets_from, get_or-sheets_from}
-use Rattle.buck_fleet.specs.declared.close.CloseFault.{CloseFault}
-use Rattle.buck_fleet.specs.declared.seat.Kept.{Kept}
-use Rattle.buck_fleet.specs.Seat.{SeatParts}
-use Rattle.buck_fleet.specs.Closed.{ClosedParts, IsHandedOut, IsCloseFault}
+use Rattle.buck_fleet.proofs.Words.{◌≡◌, ℕ, ◌+◌, ◌-◌, ◌<◌, ◌≤◌, List, [], ◌∷◌, length, get_or, refl, sym, ap, subst, ◌∙◌, map, arith, common_steps, All, slice_index_or, slice_get, Some, sum_by, InstructionParts, SheetParts, Posting, targets_of, AreTargets, AreClassCounts, HistoryParts, IsLawful, in_force, IsFirst, sheets_from, length-sheets_from, get_or-sheets_from, CloseFault, Kept, SeatParts, ClosedParts, IsHandedOut, IsCloseFault}
 
 -- a history of these parts
 abbrev pub history_of : InstructionParts → List (List ℕ) → List Posting → HistoryParts

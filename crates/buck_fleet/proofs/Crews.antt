@@ -1,18 +1,5 @@
 -- the seats of a new fleet, and the same seats after a run
-use Rattle.std.proofs.Common.{◌≡◌, ℕ, zero, suc, ◌+◌, ◌<◌, ◌≤◌, ◌==◌, cond, List, [], ◌∷◌, length, get_or, take, refl, sym, ap, ◌∙◌, arith, add-one}
-use Rattle.std.specs.List.{sum_by}
-use Rattle.std.proofs.lemmas.List.{take_all}
-use Rattle.std.proofs.lemmas.List.Sums.{sum_by-cons, sum_by_more}
-use Rattle.std.specs.Prelude.{if◌then◌else◌, nat_lt}
-use Rattle.std.proofs.lemmas.Bool.Decides.{nat_tests}
-use Rattle.buck_fleet.specs.Seat.{SeatParts}
-use Rattle.buck_fleet.specs.Crew.{seats_of, parts_of, IsCrew}
-use Rattle.buck_fleet.specs.Fleet.{FleetParts, IsSeatIn}
-use Rattle.buck_fleet.specs.Run.{HasRun, HaveRun, stems_at}
-use Rattle.std.specs.declared.sync.Arc.{Arc}
-use Rattle.std.specs.declared.vec.Vec.{Vec}
-use Rattle.std.specs.declared.alloc.Global.{Global}
-use Rattle.buck_stem.specs.declared.stem.Stem.{Stem}
+use Rattle.buck_fleet.proofs.Words.{◌≡◌, ℕ, zero, suc, ◌+◌, ◌<◌, ◌≤◌, ◌==◌, cond, List, [], ◌∷◌, length, get_or, take, refl, sym, ap, ◌∙◌, arith, add-one, sum_by, take_all, sum_by-cons, sum_by_more, if◌then◌else◌, nat_lt, nat_tests, SeatParts, seats_of, parts_of, IsCrew, FleetParts, IsSeatIn, HasRun, HaveRun, stems_at, Arc, Vec, Global, Stem}
 
 -- each harvester from 1 on has one of the first n seats, or none
 first_seats : (x : SeatParts) (seats : List SeatParts) (h n : ℕ)

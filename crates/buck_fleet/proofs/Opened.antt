@@ -1,15 +1,5 @@
 -- seats of a new fleet, one by one
-use Rattle.std.proofs.Common.{◌≡◌, ℕ, ◌+◌, ◌<◌, List, [], ◌∷◌, ◌++◌, length, get_or, refl, ap, arith, rules}
-use Rattle.std.proofs.lemmas.Grind.{common_steps}
-use Rattle.std.specs.Prelude.{None, Some, All}
-use Rattle.std.proofs.lemmas.List.{get_or_append_left, get_or_push, length_push}
-use Rattle.std.proofs.lemmas.List.Sums.{sum_by_push}
-use Rattle.std.proofs.lemmas.List.Elements.{All-pop}
-use Rattle.buck_board.specs.declared.board.Board.{Board}
-use Rattle.buck_board.specs.declared.seat.BoardSeat.{BoardSeat}
-use Rattle.buck_board.specs.Board.{IsSeatOf, seen_by}
-use Rattle.buck_fleet.specs.Seat.{SeatParts}
-use Rattle.buck_fleet.specs.Crew.{parts_of, IsNew, AreOpened}
+use Rattle.buck_fleet.proofs.Words.{◌≡◌, ℕ, ◌+◌, ◌<◌, List, [], ◌∷◌, ◌++◌, length, get_or, refl, ap, arith, rules, common_steps, None, Some, All, get_or_append_left, get_or_push, length_push, sum_by_push, All-pop, Board, BoardSeat, IsSeatOf, seen_by, SeatParts, parts_of, IsNew, AreOpened}
 use Rattle.buck_fleet.proofs.Crews.{crew_of_new}
 
 -- some of the seats have their places, and the next one gets so many of the parts that are left

@@ -1,16 +1,5 @@
 -- kept lists that are put in their places, one by one
-use Rattle.std.proofs.Common.{◌≡◌, ◌≢◌, ℕ, zero, suc, ◌+◌, ◌-◌, ◌<◌, ◌≤◌, ◌==◌, List, [], ◌∷◌, ◌++◌, length, get_or, set, refl, sym, ap, ◌∙◌, arith, append_assoc, cond, length-set, length-append, rules}
-use Rattle.std.proofs.lemmas.Grind.{common_steps}
-use Rattle.std.specs.Prelude.{All}
-use Rattle.std.specs.List.{sum_by}
-use Rattle.std.proofs.lemmas.List.Sums.{sum_by-append, sum_by-cons, sum_by-set, sum_by-le, get_or-le-sum_by}
-use Rattle.std.proofs.lemmas.List.{get_or-set_other, get_or-set_same}
-use Rattle.std.proofs.lemmas.Bool.{eq-eqb}
-use Rattle.std.proofs.Math.Seq.{get_or-append_seam}
-use Rattle.buck_fleet.specs.declared.seat.Kept.{Kept}
-use Rattle.buck_fleet.specs.Seat.{SeatParts}
-use Rattle.buck_fleet.specs.Crew.{seats_of, parts_of, IsCrew}
-use Rattle.buck_fleet.specs.inner.Lists.{AreEmpty}
+use Rattle.buck_fleet.proofs.Words.{◌≡◌, ◌≢◌, ℕ, zero, suc, ◌+◌, ◌-◌, ◌<◌, ◌≤◌, ◌==◌, List, [], ◌∷◌, ◌++◌, length, get_or, set, refl, sym, ap, ◌∙◌, arith, append_assoc, cond, length-set, length-append, rules, common_steps, All, sum_by, sum_by-append, sum_by-cons, sum_by-set, sum_by-le, get_or-le-sum_by, get_or-set_other, get_or-set_same, eq-eqb, get_or-append_seam, Kept, SeatParts, seats_of, parts_of, IsCrew, AreEmpty}
 
 pub seats_of-append : (h : ℕ) (xs ys : List SeatParts) → seats_of h (xs ++ ys) ≡ seats_of h xs + seats_of h ys
 seats_of-append h xs ys = sum_by-append (λ (s : SeatParts). cond (s.harvester == h) 1 0) xs ys

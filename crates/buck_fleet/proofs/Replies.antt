@@ -1,13 +1,6 @@
 -- where two lists of replies differ
-use Rattle.std.proofs.Common.{◌≡◌, ◌≢◌, ℕ, zero, suc, ◌+◌, ◌-◌, ◌<◌, ◌≤◌, List, [], ◌∷◌, ◌++◌, length, take, drop, get_or, true, ◌==◌, inl, inr, drop-cons, add-one, refl, sym, ap, ◌∙◌, arith}
-use Rattle.std.proofs.lemmas.Grind.{common_steps}
-use Rattle.std.specs.Prelude.{slice_get, Some, None}
-use Rattle.std.proofs.lemmas.List.{drop_all, length-append, length-take-le}
-use Rattle.std.proofs.lemmas.Option.{slice_get_cases, slice_get_past, slice_get-get_or, none-some, same_Some}
-use Rattle.buck_book.specs.declared.posting.Posting.{Posting}
-use Rattle.buck_book.specs.Posting.{harvester_of}
-use Rattle.buck_fleet.specs.declared.seat.Kept.{Kept}
-use Rattle.buck_fleet.specs.Closed.{DifferFirstAt, replies_from}
+use Rattle.buck_fleet.proofs.Words.{◌≡◌, ◌≢◌, ℕ, zero, suc, ◌+◌, ◌-◌, ◌<◌, ◌≤◌, List, [], ◌∷◌, ◌++◌, length, take, drop, get_or, true, ◌==◌, inl, inr, drop-cons, add-one, refl, sym, ap, ◌∙◌, arith, common_steps, slice_get, Some, None, drop_all, length-take-le, slice_get_cases, slice_get_past, slice_get-get_or, none-some, same_Some, Posting, harvester_of, Kept, DifferFirstAt, replies_from}
+use Rattle.std.proofs.lemmas.List.{length-append}
 
 take_seam : (k : ℕ) (xs ys : List Kept) → k ≤ length xs → take k (take k xs ++ ys) ≡ take k xs
 take_seam k xs ys le = grind (arith, common_steps)

@@ -1,16 +1,5 @@
 -- a run goes on
-use Rattle.std.proofs.Common.{◌≡◌, ℕ, zero, suc, ◌+◌, ◌<◌, List, [], ◌∷◌, ◌++◌, length, take, get_or, map, sym, ap, ◌∙◌, arith, append_assoc, rules}
-use Rattle.std.specs.Prelude.{Some, slice_get}
-use Rattle.std.proofs.lemmas.List.{map-append}
-use Rattle.std.proofs.lemmas.List.Elements.{All-append, All-cons}
-use Rattle.buck_stem.specs.Stem.{StemParts}
-use Rattle.buck_book.proofs.Ends.{take_one_more}
-use Rattle.buck_fleet.specs.declared.seat.Kept.{Kept}
-use Rattle.buck_fleet.specs.declared.seat.Reply.{Reply}
-use Rattle.buck_fleet.specs.Seat.{SeatParts}
-use Rattle.buck_fleet.specs.Reply.{IsReplyFor, kept_of}
-use Rattle.buck_book.specs.Posting.{harvester_of}
-use Rattle.buck_fleet.specs.Run.{HasCut, IsFirstBestCut, stem_cut}
+use Rattle.buck_fleet.proofs.Words.{◌≡◌, ℕ, zero, suc, ◌+◌, ◌<◌, List, [], ◌∷◌, ◌++◌, length, take, get_or, map, sym, ap, ◌∙◌, arith, append_assoc, rules, Some, slice_get, map-append, All-append, All-cons, StemParts, take_one_more, Kept, Reply, SeatParts, IsReplyFor, kept_of, harvester_of, HasCut, IsFirstBestCut, stem_cut}
 
 pub got : {A : Type 0} (f : A → StemParts) (xs : List A) (n : ℕ) (x : A) → n < length xs → x ≡ get_or xs n x
     → slice_get (map f xs) n ≡ Some (f x)

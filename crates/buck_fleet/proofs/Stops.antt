@@ -1,11 +1,5 @@
 -- what stopped the lowest harvester that was stopped
-use Rattle.std.proofs.Common.{◌≡◌, ℕ, ◌<◌, ◌≤◌, List, arith, refl, ap, ◌∙◌}
-use Rattle.std.specs.Prelude.{All, Option, None, Some, IfSome}
-use Rattle.std.proofs.lemmas.Option.{slice_get-get_or}
-use Rattle.std.specs.List.{Contains}
-use Rattle.buck_fleet.specs.declared.fault.RunFault.{RunFault}
-use Rattle.buck_fleet.specs.Seat.{SeatParts}
-use Rattle.buck_fleet.specs.Run.{IsFirstStop}
+use Rattle.buck_fleet.proofs.Words.{◌≡◌, ℕ, ◌<◌, ◌≤◌, List, arith, refl, ap, ◌∙◌, All, Option, None, Some, IfSome, slice_get-get_or, Contains, RunFault, SeatParts, IsFirstStop}
 
 -- the harvester of a seat that was stopped; more than any harvester where it wasn't
 abbrev key : ℕ → Option RunFault → ℕ

@@ -1,14 +1,5 @@
 -- What a commit of the book leaves, as the world sees it.
-use Rattle.std.proofs.Common.{◌≡◌, ◌≢◌, ℕ, ◌+◌, ◌-◌, List, [], ◌∷◌, ◌++◌, slice_set, Option, ap, ◌∙◌, arith, rules}
-use Rattle.buck_value.specs.Sheet.{SheetParts}
-use Rattle.buck_book.specs.declared.posting.Posting.{Posting}
-use Rattle.buck_book.specs.Plan.{PlanParts}
-use Rattle.buck_book.specs.History.{HistoryParts, version_of, in_force, sheet_at, sheets_with, history_with}
-use Rattle.buck_book.specs.Book.{IsNext}
-use Rattle.buck_world.specs.declared.stage.Stage.TheVariants.{Idle, Planned, Answered}
-use Rattle.buck_world.specs.declared.harvester.Harvester.{Harvester}
-use Rattle.buck_world.specs.Step.{IsPlanUnder, Adds, Tries}
-use Rattle.buck_world.specs.inner.Acts.{world_of, is_at}
+use Rattle.buck_world.proofs.Words.{◌≡◌, ◌≢◌, ℕ, ◌+◌, ◌-◌, List, [], ◌∷◌, ◌++◌, slice_set, Option, ap, ◌∙◌, arith, rules, SheetParts, Posting, PlanParts, HistoryParts, version_of, in_force, sheet_at, sheets_with, history_with, IsNext, Idle, Planned, Answered, Harvester, IsPlanUnder, Adds, Tries, world_of, is_at}
 
 -- what a commit says of the history after it
 pub record IsCommitted (s : HistoryParts) (x : Posting) (next : Option SheetParts) (s' : HistoryParts) : Type 0 where

@@ -1,16 +1,5 @@
 -- What is counted along runs.
-use Rattle.std.proofs.Common.{◌≡◌, ◌≢◌, inl, inr, ℕ, zero, suc, ◌+◌, ◌-◌, ◌*◌, ◌<◌, ◌≤◌, List, [], ◌∷◌, Bool, cond, length, set, sym, refl, ap, subst, ◌∙◌, eq-eqb, ne_eqb, arith, mul-le-mul_left, rules}
-use Rattle.std.proofs.lemmas.Grind.{common_steps}
-use Rattle.std.proofs.lemmas.Bool.{cases_eq}
-use Rattle.std.proofs.lemmas.Bool.Decides.{nat_tests}
-use Rattle.buck_book.specs.History.{version_of}
-use Rattle.buck_world.specs.declared.harvester.Harvester.{Harvester}
-use Rattle.buck_world.specs.declared.event.Event.{Event}
-use Rattle.buck_world.specs.World.{WorldParts, IsHarvester, at}
-use Rattle.buck_world.specs.Step.{Step}
-use Rattle.buck_world.specs.Run.{Move, IsRun, last, harvester_of_event}
-use Rattle.buck_world.specs.Counts.{IsFreshAt, IsFresh, one_if_more, lift_at, stale_at, if_by, count_all, count_own, all_lifts, lifts_of, all_stale, stale_of}
-use Rattle.buck_world.specs.inner.Sound.{IsGoing, IsSound}
+use Rattle.buck_world.proofs.Words.{◌≡◌, ◌≢◌, inl, inr, ℕ, zero, suc, ◌+◌, ◌-◌, ◌*◌, ◌<◌, ◌≤◌, List, [], ◌∷◌, Bool, cond, length, set, sym, refl, ap, subst, ◌∙◌, eq-eqb, ne_eqb, arith, mul-le-mul_left, rules, common_steps, cases_eq, nat_tests, version_of, Harvester, Event, WorldParts, IsHarvester, at, Step, Move, IsRun, last, harvester_of_event, IsFreshAt, IsFresh, one_if_more, lift_at, stale_at, if_by, count_all, count_own, all_lifts, lifts_of, all_stale, stale_of, IsGoing, IsSound}
 use Rattle.buck_world.proofs.Lists.{here, elsewhere}
 use Rattle.buck_world.proofs.Moves.{is_in, changed}
 use Rattle.buck_world.proofs.Sound.{stays_sound}

@@ -1,21 +1,5 @@
 -- Each event keeps what the type of worlds keeps.
-use Rattle.std.proofs.Common.{◌≡◌, ℕ, ◌+◌, ◌-◌, ◌≤◌, List, [], ◌∷◌, length, length-set, get_or, replicate, sym, subst, arith, rules}
-use Rattle.std.specs.Prelude.{Result, Ok, Err, OnOk, OnErr}
-use Rattle.std.proofs.lemmas.List.{length_push, length-replicate}
-use Rattle.std.proofs.lemmas.List.Elements.{All-map, All-from_get_or}
-use Rattle.buck_apt.specs.Instruction.{InstructionParts, IsInstruction}
-use Rattle.buck_value.specs.Sheet.{base_prices}
-use Rattle.buck_book.specs.History.{HistoryParts}
-use Rattle.buck_book.proofs.Ends.{ends-le}
-use Rattle.buck_world.specs.declared.harvester.Harvester.{Harvester}
-use Rattle.buck_world.specs.declared.event.Event.{Event}
-use Rattle.buck_world.specs.declared.fault.StepFault.{StepFault}
-use Rattle.buck_world.specs.World.{WorldParts, newcomer, opening}
-use Rattle.buck_world.specs.Step.{Allowed, Follows, Step}
-use Rattle.buck_world.specs.Kept.{RuledWorld}
-use Rattle.buck_world.specs.Refused.{HasRoom}
-use Rattle.buck_world.specs.inner.Sound.{IsSound, Keeps}
-use Rattle.buck_world.specs.inner.Acts.{world_of}
+use Rattle.buck_world.proofs.Words.{◌≡◌, ℕ, ◌+◌, ◌-◌, ◌≤◌, List, [], ◌∷◌, length, length-set, get_or, replicate, sym, subst, arith, rules, Result, Ok, Err, OnOk, OnErr, length_push, length-replicate, All-map, All-from_get_or, InstructionParts, IsInstruction, base_prices, HistoryParts, ends-le, Harvester, Event, StepFault, WorldParts, newcomer, opening, Allowed, Follows, Step, RuledWorld, HasRoom, IsSound, Keeps, world_of}
 use Rattle.buck_world.proofs.Moves.{changed}
 use Rattle.buck_world.proofs.Sound.{stays_sound, opening_sound}
 

@@ -1,6 +1,5 @@
 -- A list of harvesters after one of them changed, read from 1 on.
-use Rattle.std.proofs.Common.{◌≡◌, ◌≢◌, ◌⊎◌, ℕ, ◌-◌, ◌≤◌, List, length, get_or, set, length-set, arith}
-use Rattle.std.proofs.lemmas.List.{get_or-set_same, get_or-set_other}
+use Rattle.buck_world.proofs.Words.{◌≡◌, ◌≢◌, ◌⊎◌, ℕ, ◌-◌, ◌≤◌, List, length, get_or, set, length-set, arith, get_or-set_same, get_or-set_other}
 
 module _ {X : Type 0} where
   pub here : (xs : List X) (h : ℕ) (x d : X) → 1 ≤ h → h ≤ length xs → get_or (set xs (h - 1) x) (h - 1) d ≡ x

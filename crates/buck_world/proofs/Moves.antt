@@ -1,24 +1,6 @@
 -- The three things that a step may do: one harvester alone changes, a posting is added, or the front is raised.
-use Rattle.std.proofs.Common.{◌≡◌, ◌≢◌, ◌⊎◌, inl, inr, ⊎_elim, ℕ, ◌+◌, ◌<◌, ◌≤◌, ◌-◌, set, Option, sym, refl, subst, arith, le_refl, rules}
-use Rattle.std.proofs.lemmas.Grind.{common_steps}
-use Rattle.buck_value.specs.Sheet.{SheetParts}
-use Rattle.buck_book.specs.declared.posting.Posting.{Posting}
-use Rattle.buck_book.specs.declared.posting.Posting.TheVariants.{Cut, Demand}
-use Rattle.buck_book.specs.Posting.{harvester_of}
-use Rattle.buck_book.specs.Plan.{PlanParts}
-use Rattle.buck_book.specs.History.{HistoryParts, version_of, in_force}
+use Rattle.buck_world.proofs.Words.{◌≡◌, ◌≢◌, ◌⊎◌, inl, inr, ⊎_elim, ℕ, ◌+◌, ◌<◌, ◌≤◌, ◌-◌, set, Option, sym, refl, subst, arith, le_refl, rules, common_steps, SheetParts, Posting, Cut, Demand, harvester_of, PlanParts, HistoryParts, version_of, in_force, entry_of, demand_of, IsNext, Stage, Idle, Reading, Planned, Answered, Harvester, Event, Read, Plan, Try, Locked, Retarget, Raise, Leave, WorldParts, IsHarvester, at, IsAnswered, NobodyAnswered, with_harvester, with_posting, with_front, IsPlanUnder, Adds, Becomes, Allowed, Step, IsFit, harvester_of_event, IsGoing, IsSound}
 use Rattle.buck_book.specs.History as history
-use Rattle.buck_book.specs.Book.{entry_of, demand_of, IsNext}
-use Rattle.buck_world.specs.declared.stage.Stage.{Stage}
-use Rattle.buck_world.specs.declared.stage.Stage.TheVariants.{Idle, Reading, Planned, Answered}
-use Rattle.buck_world.specs.declared.harvester.Harvester.{Harvester}
-use Rattle.buck_world.specs.declared.event.Event.{Event}
-use Rattle.buck_world.specs.declared.event.Event.TheVariants.{Read, Plan, Try, Locked, Retarget, Raise, Leave}
-use Rattle.buck_world.specs.World.{WorldParts, IsHarvester, at, IsAnswered, NobodyAnswered, with_harvester, with_posting, with_front}
-use Rattle.buck_world.specs.Step.{IsPlanUnder, Adds, Becomes, Allowed, Step}
-use Rattle.buck_world.specs.Kept.{IsFit}
-use Rattle.buck_world.specs.Run.{harvester_of_event}
-use Rattle.buck_world.specs.inner.Sound.{IsGoing, IsSound}
 
 -- harvester h alone changes, and is answered neither before nor after
 pub record IsQuiet (w : WorldParts) (h : ℕ) (w' : WorldParts) : Type 0 where

@@ -1,21 +1,5 @@
 -- What a harvester has seen never falls, and what is added along a run.
-use Rattle.std.proofs.Common.{◌≡◌, ◌≢◌, ⊎_elim, inl, inr, ℕ, ◌+◌, ◌≤◌, List, [], ◌∷◌, ◌++◌, slice_get, Some, sym, refl, ap, subst, ◌∙◌, append_assoc, append-nil, arith, le_refl, le_trans, rules}
-use Rattle.std.proofs.lemmas.Grind.{common_steps}
-use Rattle.std.proofs.lemmas.Bool.{cases_eq}
-use Rattle.buck_book.specs.declared.posting.Posting.{Posting}
-use Rattle.buck_book.specs.declared.posting.Posting.TheVariants.{Cut}
-use Rattle.buck_book.specs.Posting.{harvester_of, planned_version}
-use Rattle.buck_book.specs.Plan.{PlanParts}
-use Rattle.buck_book.specs.History.{version_of, in_force, sheet_at}
-use Rattle.buck_book.specs.Book.{entry_of}
-use Rattle.buck_world.specs.declared.stage.Stage.TheVariants.{Idle, Reading, Planned}
-use Rattle.buck_world.specs.declared.harvester.Harvester.{Harvester}
-use Rattle.buck_world.specs.declared.event.Event.{Event}
-use Rattle.buck_world.specs.declared.event.Event.TheVariants.{Read, Try}
-use Rattle.buck_world.specs.World.{WorldParts, at}
-use Rattle.buck_world.specs.Step.{IsPlanUnder, Adds, Becomes, Step}
-use Rattle.buck_world.specs.Run.{Move, IsRun, last, harvester_of_event, added_at, added}
-use Rattle.buck_world.specs.inner.Sound.{IsSound}
+use Rattle.buck_world.proofs.Words.{◌≡◌, ◌≢◌, ⊎_elim, inl, inr, ℕ, ◌+◌, ◌≤◌, List, [], ◌∷◌, ◌++◌, slice_get, Some, sym, refl, ap, subst, ◌∙◌, append_assoc, append-nil, arith, le_refl, le_trans, rules, common_steps, cases_eq, Posting, Cut, harvester_of, planned_version, PlanParts, version_of, in_force, sheet_at, entry_of, Idle, Reading, Planned, Harvester, Event, Read, Try, WorldParts, at, IsPlanUnder, Adds, Becomes, Step, Move, IsRun, last, harvester_of_event, added_at, added, IsSound}
 use Rattle.buck_world.proofs.Sound.{stays_sound}
 use Rattle.buck_world.proofs.Kept.{same_number}
 use Rattle.buck_world.proofs.Counting.{at_here, foreign}

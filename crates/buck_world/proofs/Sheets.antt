@@ -1,10 +1,5 @@
 -- The sheets that a book shows.
-use Rattle.std.proofs.Common.{◌≡◌, ℕ, ◌+◌, ◌<◌, ◌≤◌, List, [], length, map, get_or, sym, ap, ◌∙◌, arith}
-use Rattle.std.proofs.lemmas.List.{length-map, get_or-map}
-use Rattle.buck_value.specs.Sheet.{SheetParts, sheet_of}
-use Rattle.buck_book.specs.History.{HistoryParts, IsLawful, version_of, sheet_at}
-use Rattle.buck_book.specs.Book.{sheets_from}
-use Rattle.buck_book.proofs.Sheets.{length-sheets_from, get_or-sheets_from}
+use Rattle.buck_world.proofs.Words.{◌≡◌, ℕ, ◌+◌, ◌<◌, ◌≤◌, List, [], length, map, get_or, sym, ap, ◌∙◌, arith, length-map, get_or-map, SheetParts, sheet_of, HistoryParts, IsLawful, version_of, sheet_at, sheets_from, length-sheets_from, get_or-sheets_from}
 
 module _ {X : Type 0} (value : X → SheetParts) (xs : List X) (h : HistoryParts)
     (is : map value xs ≡ sheets_from 0 h.instruction h.sheets) where

@@ -1,22 +1,5 @@
 -- What holds of each world that a run reaches.
-use Rattle.std.proofs.Common.{◌≡◌, ◌≢◌, ⊎_elim, inl, inr, ℕ, ◌+◌, ◌-◌, ◌<◌, ◌≤◌, List, [], ◌∷◌, length, length-set, get_or, set, slice_get, Option, Some, None, sym, refl, ap, subst, ◌∙◌, arith, le_refl, le_trans, rules}
-use Rattle.std.proofs.lemmas.List.{get_or-replicate, length-replicate, length_push}
-use Rattle.std.proofs.lemmas.Bool.{cases_eq}
-use Rattle.buck_apt.specs.Instruction.{InstructionParts}
-use Rattle.buck_value.specs.Sheet.{SheetParts}
-use Rattle.buck_book.specs.declared.posting.Posting.{Posting}
-use Rattle.buck_book.specs.Posting.{harvester_of, planned_version}
-use Rattle.buck_book.specs.Plan.{PlanParts}
-use Rattle.buck_book.specs.History.{HistoryParts, IsLawful, version_of, sheets_with, history_with}
-use Rattle.buck_book.proofs.Extend.{one_more, slice_get-push, version_within, prices_stay}
-use Rattle.buck_world.specs.declared.stage.Stage.TheVariants.{Idle, Answered}
-use Rattle.buck_world.specs.declared.harvester.Harvester.{Harvester}
-use Rattle.buck_world.specs.declared.event.Event.{Event}
-use Rattle.buck_world.specs.World.{WorldParts, newcomer, opening, IsHarvester, at, IsAnswered}
-use Rattle.buck_world.specs.Step.{IsPlanUnder, Step}
-use Rattle.buck_world.specs.Kept.{IsFit}
-use Rattle.buck_world.specs.Run.{Move, IsRun, last, harvester_of_event}
-use Rattle.buck_world.specs.inner.Sound.{IsPlaced, IsSound}
+use Rattle.buck_world.proofs.Words.{◌≡◌, ◌≢◌, ⊎_elim, inl, inr, ℕ, ◌+◌, ◌-◌, ◌<◌, ◌≤◌, List, [], ◌∷◌, length, length-set, get_or, set, slice_get, Option, Some, None, sym, refl, ap, subst, ◌∙◌, arith, le_refl, le_trans, rules, get_or-replicate, length-replicate, length_push, cases_eq, InstructionParts, SheetParts, Posting, harvester_of, planned_version, PlanParts, HistoryParts, IsLawful, version_of, sheets_with, history_with, one_more, slice_get-push, version_within, prices_stay, Idle, Answered, Harvester, Event, WorldParts, newcomer, opening, IsHarvester, at, IsAnswered, IsPlanUnder, Step, IsFit, Move, IsRun, last, harvester_of_event, IsPlaced, IsSound}
 use Rattle.buck_world.proofs.Lists.{here, elsewhere, each_of, after_set}
 use Rattle.buck_world.proofs.Moves.{IsQuiet, IsAdded, IsRaised, move_of, is_in}
 

@@ -1,5 +1,4 @@
-use Rattle.std.proofs.Common.{arith, ◌∙◌, length-set}
-use Rattle.std.proofs.lemmas.List.{map-set, length-map}
+use Rattle.buck_fleet.proofs.Words.{arith, ◌∙◌, length-set, map-set, length-map}
 use Rattle.buck_fleet.proofs.Places.{one_more_in, in_range, all_in}
 use Rattle.buck_fleet.proofs.close.collect.Goals as goal
 

@@ -1,5 +1,4 @@
-use Rattle.std.proofs.Common.{◌≡◌, length}
-use Rattle.buck_fleet.specs.Closed.{lists_of}
+use Rattle.buck_fleet.proofs.Words.{◌≡◌, length, lists_of}
 use Rattle.buck_fleet.proofs.Places.{Places}
 use Rattle.buck_fleet.proofs.close.collect.Given as goal
 

@@ -1,4 +1,4 @@
-use Rattle.std.proofs.Common.{arith, sym, ◌∙◌}
+use Rattle.buck_fleet.proofs.Words.{arith, sym, ◌∙◌}
 use Rattle.buck_fleet.proofs.Replies.{kept_ends, kept_other, kept_more}
 use Rattle.buck_fleet.proofs.close.first_difference.Goals as goal
 

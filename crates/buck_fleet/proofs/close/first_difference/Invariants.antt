@@ -1,5 +1,4 @@
-use Rattle.std.proofs.Common.{◌≡◌, ◌≤◌, ◌++◌, length, take, drop}
-use Rattle.buck_fleet.specs.Closed.{replies_from}
+use Rattle.buck_fleet.proofs.Words.{◌≡◌, ◌≤◌, ◌++◌, length, take, drop, replies_from}
 use Rattle.buck_fleet.proofs.close.first_difference.Given as goal
 
 abbrev pub invariant-loop-i : goal.invariant-loop-i

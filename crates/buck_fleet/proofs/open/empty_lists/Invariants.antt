@@ -1,6 +1,4 @@
-use Rattle.std.proofs.Common.{◌≡◌, ◌≤◌, length, vec_capacity}
-use Rattle.buck_fleet.specs.Closed.{lists_of}
-use Rattle.buck_fleet.specs.inner.Lists.{AreEmpty}
+use Rattle.buck_fleet.proofs.Words.{◌≡◌, ◌≤◌, length, vec_capacity, lists_of, AreEmpty}
 use Rattle.buck_fleet.proofs.open.empty_lists.Given as goal
 
 abbrev pub invariant-loop : goal.invariant-loop

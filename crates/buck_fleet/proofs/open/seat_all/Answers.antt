@@ -1,4 +1,4 @@
-use Rattle.std.proofs.Common.{arith}
+use Rattle.buck_fleet.proofs.Words.{arith}
 use Rattle.buck_fleet.proofs.Opened.{one_more, opened}
 use Rattle.buck_fleet.proofs.open.seat_all.Goals as goal
 

@@ -1,4 +1,4 @@
-use Rattle.std.proofs.Common.{◌≡◌, ◌≤◌, length, vec_capacity}
+use Rattle.buck_fleet.proofs.Words.{◌≡◌, ◌≤◌, length, vec_capacity}
 use Rattle.buck_fleet.proofs.Opened.{AreSoFar}
 use Rattle.buck_fleet.proofs.open.seat_all.Given as goal
 

@@ -1,11 +1,4 @@
-use Rattle.std.proofs.Common.{arith, ap, ◌∙◌, sym}
-use Rattle.std.specs.Prelude.{Some}
-use Rattle.std.proofs.lemmas.List.{length-map}
-use Rattle.std.specs.declared.sync.Arc.{Arc}
-use Rattle.std.specs.declared.alloc.Global.{Global}
-use Rattle.std.specs.Arc.{arc_value}
-use Rattle.buck_stem.specs.declared.stem.Stem.{Stem}
-use Rattle.buck_stem.specs.Stem.{StemParts}
+use Rattle.buck_fleet.proofs.Words.{arith, ap, ◌∙◌, sym, Some, length-map, Arc, Global, arc_value, Stem, StemParts}
 use Rattle.buck_fleet.proofs.Running.{got, one_more_cut}
 use Rattle.buck_fleet.proofs.run.cut_all.Goals as goal
 

@@ -1,5 +1,4 @@
-use Rattle.buck_fleet.specs.Fleet.{IsSeatIn}
-use Rattle.buck_fleet.specs.Run.{HasCut, stems_of}
+use Rattle.buck_fleet.proofs.Words.{IsSeatIn, HasCut, stems_of}
 use Rattle.buck_fleet.proofs.run.cut_all.Given as goal
 
 abbrev pub invariant-loop-stem : goal.invariant-loop-stem

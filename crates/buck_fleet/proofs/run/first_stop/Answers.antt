@@ -1,6 +1,4 @@
-use Rattle.std.proofs.Common.{rules, ap, sym, ◌≤◌}
-use Rattle.std.specs.Prelude.{All}
-use Rattle.std.specs.List.{Contains}
+use Rattle.buck_fleet.proofs.Words.{rules, ap, sym, ◌≤◌, All, Contains}
 use Rattle.buck_fleet.proofs.Stops.{key_of, stop_is}
 use Rattle.buck_fleet.proofs.run.first_stop.Goals as goal
 

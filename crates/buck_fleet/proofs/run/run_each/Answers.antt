@@ -1,4 +1,4 @@
-use Rattle.std.proofs.Common.{rules}
+use Rattle.buck_fleet.proofs.Words.{rules}
 use Rattle.buck_fleet.proofs.Crews.{have_run}
 use Rattle.buck_fleet.proofs.run.run_each.Goals as goal
 

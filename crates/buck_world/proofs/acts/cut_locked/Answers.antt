@@ -1,7 +1,4 @@
-use Rattle.std.proofs.Common.{ℕ, ap, subst}
-use Rattle.buck_book.specs.declared.posting.Posting.TheVariants.{Cut}
-use Rattle.buck_book.specs.Book.{entry_of}
-use Rattle.buck_world.specs.Step.{IsPlanUnder}
+use Rattle.buck_world.proofs.Words.{ℕ, ap, subst, Cut, entry_of, IsPlanUnder}
 use Rattle.buck_world.proofs.Committed.{posting_added}
 use Rattle.buck_world.proofs.acts.cut_locked.Goals as goal
 

@@ -1,8 +1,4 @@
-use Rattle.std.proofs.Common.{Some, List, ℕ, ap, ◌∙◌, subst}
-use Rattle.buck_book.specs.declared.posting.Posting.TheVariants.{Demand}
-use Rattle.buck_book.specs.Targets.{AreTargets}
-use Rattle.buck_book.specs.History.{HistoryParts}
-use Rattle.buck_book.specs.Book.{demand_of, IsNext}
+use Rattle.buck_world.proofs.Words.{Some, List, ℕ, ap, ◌∙◌, subst, Demand, AreTargets, HistoryParts, demand_of, IsNext}
 use Rattle.buck_world.proofs.Committed.{posting_added}
 use Rattle.buck_world.proofs.acts.retarget.Goals as goal
 

@@ -1,9 +1,4 @@
-use Rattle.std.proofs.Common.{rules, ◌≡◌, inl, sym, ap, subst, ◌∙◌}
-use Rattle.buck_book.specs.Plan.{PlanParts}
-use Rattle.buck_book.specs.declared.posting.Posting.TheVariants.{Cut}
-use Rattle.buck_book.specs.Book.{IsReadyFor, entry_of}
-use Rattle.buck_world.specs.declared.stage.Stage.TheVariants.{Planned}
-use Rattle.buck_world.specs.inner.Acts.{is_at}
+use Rattle.buck_world.proofs.Words.{rules, ◌≡◌, inl, sym, ap, subst, ◌∙◌, PlanParts, Cut, IsReadyFor, entry_of, Planned, is_at}
 use Rattle.buck_world.proofs.Committed.{posting_added, found_planned, version_is, tried_stale}
 use Rattle.buck_world.proofs.acts.try_plan.Goals as goal
 

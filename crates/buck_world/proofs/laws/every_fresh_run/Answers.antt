@@ -1,6 +1,4 @@
-use Rattle.std.proofs.Common.{arith, refl, rules}
-use Rattle.std.proofs.lemmas.List.{length-replicate}
-use Rattle.buck_world.specs.World.{opening}
+use Rattle.buck_world.proofs.Words.{arith, refl, rules, length-replicate, opening}
 use Rattle.buck_world.proofs.Sound.{reached, opening_sound}
 use Rattle.buck_world.proofs.Counting.{lifts_are_front, within_front, all_stale_within}
 use Rattle.buck_world.proofs.laws.every_fresh_run.Goals as goal

@@ -1,12 +1,4 @@
-use Rattle.std.proofs.Common.{◌≡◌, ◌≢◌, ⊎_elim, ℕ, ◌+◌, ap, ◌∙◌}
-use Rattle.buck_book.specs.declared.posting.Posting.TheVariants.{Cut}
-use Rattle.buck_book.specs.History.{version_of, sheet_at}
-use Rattle.buck_book.specs.Book.{entry_of}
-use Rattle.buck_world.specs.declared.stage.Stage.TheVariants.{Idle}
-use Rattle.buck_world.specs.declared.event.Event.TheVariants.{Try}
-use Rattle.buck_world.specs.World.{WorldParts, opening, at}
-use Rattle.buck_world.specs.Step.{Adds, Becomes}
-use Rattle.buck_world.specs.Run.{last}
+use Rattle.buck_world.proofs.Words.{◌≡◌, ◌≢◌, ⊎_elim, ℕ, ◌+◌, ap, ◌∙◌, Cut, version_of, sheet_at, entry_of, Idle, Try, WorldParts, opening, at, Adds, Becomes, last}
 use Rattle.buck_world.proofs.Sound.{reached, opening_sound}
 use Rattle.buck_world.proofs.Rising.{moment, run_added, run_instruction}
 use Rattle.buck_world.proofs.laws.every_history.Goals as goal

@@ -1,9 +1,4 @@
-use Rattle.std.proofs.Common.{◌≡◌, ◌≤◌, ◌∷◌, ◌++◌, refl, ap, arith, le_trans, rules}
-use Rattle.buck_world.specs.declared.stage.Stage.TheVariants.{Idle, Reading}
-use Rattle.buck_world.specs.declared.harvester.Harvester.{Harvester}
-use Rattle.buck_world.specs.declared.event.Event.TheVariants.{Read}
-use Rattle.buck_world.specs.World.{opening, at}
-use Rattle.buck_world.specs.Run.{last}
+use Rattle.buck_world.proofs.Words.{◌≡◌, ◌≤◌, ◌∷◌, ◌++◌, refl, ap, arith, le_trans, rules, Idle, Reading, Harvester, Read, opening, at, last}
 use Rattle.buck_world.proofs.Sound.{opening_sound}
 use Rattle.buck_world.proofs.Counting.{at_here}
 use Rattle.buck_world.proofs.Rising.{moment, run_to}

@@ -1,4 +1,4 @@
-use Rattle.std.proofs.Common.{arith}
+use Rattle.buck_world.proofs.Words.{arith}
 use Rattle.buck_world.proofs.Sound.{reached}
 use Rattle.buck_world.proofs.laws.every_world.Goals as goal
 

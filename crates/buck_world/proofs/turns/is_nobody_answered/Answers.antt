@@ -1,7 +1,4 @@
-use Rattle.std.proofs.Common.{◌≡◌, ◌+◌, ◌-◌, ◌≤◌, ℕ, get_or, subst, sym, ap, ◌∙◌, arith, refl}
-use Rattle.std.proofs.lemmas.List.{get_or_read}
-use Rattle.buck_world.specs.declared.stage.Stage.TheVariants.{Answered}
-use Rattle.buck_world.specs.World.{newcomer}
+use Rattle.buck_world.proofs.Words.{◌≡◌, ◌+◌, ◌-◌, ◌≤◌, ℕ, get_or, subst, sym, ap, ◌∙◌, arith, refl, get_or_read, Answered, newcomer}
 use Rattle.buck_world.proofs.turns.is_nobody_answered.Goals as goal
 
 pub returns-then-is_answered : goal.returns-then-is_answered

@@ -1,6 +1,4 @@
-use Rattle.std.proofs.Common.{◌≢◌, ℕ, ◌-◌, ◌≤◌, get_or}
-use Rattle.buck_world.specs.declared.stage.Stage.TheVariants.{Answered}
-use Rattle.buck_world.specs.World.{newcomer}
+use Rattle.buck_world.proofs.Words.{◌≢◌, ℕ, ◌-◌, ◌≤◌, get_or, Answered, newcomer}
 use Rattle.buck_world.proofs.turns.is_nobody_answered.Given as goal
 
 abbrev pub invariant-loop-x : goal.invariant-loop-x

@@ -1,5 +1,4 @@
-use Rattle.std.proofs.Common.{◌≡◌, replicate}
-use Rattle.buck_world.specs.World.{newcomer}
+use Rattle.buck_world.proofs.Words.{◌≡◌, replicate, newcomer}
 use Rattle.buck_world.proofs.world.newcomers.Given as goal
 
 abbrev pub invariant-loop : goal.invariant-loop

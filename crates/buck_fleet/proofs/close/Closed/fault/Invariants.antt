@@ -1,7 +1,4 @@
-use Rattle.std.proofs.Common.{◌≡◌, ◌≤◌, ◌<◌, ◌-◌, ℕ, []}
-use Rattle.std.specs.Prelude.{slice_index_or}
-use Rattle.buck_fleet.specs.Closed.{replies_from}
-use Rattle.buck_fleet.specs.Closed.{lists_of}
+use Rattle.buck_fleet.proofs.Words.{◌≡◌, ◌≤◌, ◌<◌, ◌-◌, ℕ, [], slice_index_or, replies_from, lists_of}
 use Rattle.buck_fleet.proofs.close.Closed.fault.Given as goal
 
 abbrev pub invariant-loop-i : goal.invariant-loop-i

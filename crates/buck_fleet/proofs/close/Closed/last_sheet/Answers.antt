@@ -1,5 +1,4 @@
-use Rattle.std.proofs.Common.{◌-◌, map, get_or, sym, ◌∙◌, ap, arith}
-use Rattle.std.proofs.lemmas.List.{get_or-map, length-map}
+use Rattle.buck_fleet.proofs.Words.{◌-◌, map, get_or, sym, ◌∙◌, ap, arith, get_or-map, length-map}
 use Rattle.buck_fleet.proofs.Counted.{history_of, last_is}
 use Rattle.buck_fleet.proofs.close.Closed.last_sheet.Goals as goal
 

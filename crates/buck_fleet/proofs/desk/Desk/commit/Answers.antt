@@ -1,4 +1,4 @@
-use Rattle.std.proofs.Common.{rules}
+use Rattle.buck_fleet.proofs.Words.{rules}
 use Rattle.buck_fleet.proofs.Answered.{is_kept, reply_for}
 use Rattle.buck_fleet.proofs.desk.Desk.commit.Goals as goal
 

@@ -1,6 +1,4 @@
-use Rattle.std.proofs.Common.{rules, arith, ap, ◌∙◌}
-use Rattle.buck_book.specs.declared.posting.Posting.TheVariants.{Demand}
-use Rattle.buck_book.specs.Book.{demand_of}
+use Rattle.buck_fleet.proofs.Words.{rules, arith, ap, ◌∙◌, Demand, demand_of}
 use Rattle.buck_fleet.proofs.Answered.{is_kept, next, reply_to}
 use Rattle.buck_fleet.proofs.desk.Desk.retarget.Goals as goal
 

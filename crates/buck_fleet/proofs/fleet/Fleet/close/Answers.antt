@@ -1,5 +1,4 @@
-use Rattle.std.proofs.Common.{rules, arith}
-use Rattle.std.proofs.lemmas.Grind.{common_steps}
+use Rattle.buck_fleet.proofs.Words.{rules, arith, common_steps}
 use Rattle.buck_fleet.proofs.Counted.{fault_at}
 use Rattle.buck_fleet.proofs.fleet.Fleet.close.Goals as goal
 

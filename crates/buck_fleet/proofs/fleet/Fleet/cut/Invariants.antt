@@ -1,6 +1,4 @@
-use Rattle.std.proofs.Common.{◌≡◌, ◌≤◌, ◌+◌}
-use Rattle.buck_fleet.specs.Seat.{KeepsNothing, seen_of}
-use Rattle.buck_fleet.specs.Fleet.{IsSeatIn}
+use Rattle.buck_fleet.proofs.Words.{◌≡◌, ◌≤◌, ◌+◌, KeepsNothing, seen_of, IsSeatIn}
 use Rattle.buck_fleet.proofs.fleet.Fleet.cut.Given as goal
 
 abbrev pub invariant-loop-attempt : goal.invariant-loop-attempt

@@ -1,6 +1,4 @@
-use Rattle.std.proofs.Common.{subst, arith}
-use Rattle.buck_apt.specs.Instruction.{IsInstruction}
-use Rattle.buck_book.specs.Book.{BookParts}
+use Rattle.buck_world.proofs.Words.{subst, arith, IsInstruction, BookParts}
 use Rattle.buck_world.proofs.Kept.{keeps_opening}
 use Rattle.buck_world.proofs.world.World.open.Goals as goal
 

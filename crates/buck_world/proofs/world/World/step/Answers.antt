@@ -1,6 +1,4 @@
-use Rattle.std.proofs.Common.{rules, sym}
-use Rattle.std.proofs.lemmas.Result.{on_err_weaker}
-use Rattle.buck_world.specs.Step.{Allowed}
+use Rattle.buck_world.proofs.Words.{rules, sym, on_err_weaker, Allowed}
 use Rattle.buck_world.proofs.Kept.{keeps_act}
 use Rattle.buck_world.proofs.world.World.step.Goals as goal
 
