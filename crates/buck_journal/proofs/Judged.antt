@@ -180,3 +180,6 @@ told P r x ok same = subst (λ q. IfOk q P) same ok
 pub told_end : {X E : Type 0} (P : X → Type 0) (end r : Result X E) → IfOk end P → IfOk r (λ x. end ≡ Ok x) → IfOk r P
 told_end P end (Ok x) ok same = told P end x ok same
 told_end P end (Err e) ok same = tt
+
+-- what a walk and a search beside it come to
+pub ruleset joined = (told, in_front, in_bounds, in_rest)

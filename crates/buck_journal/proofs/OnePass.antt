@@ -223,3 +223,8 @@ unfolding journal_of
 plain_journal bytes kind body rest pss ps first says l few h =
     let read = items-are bytes _ (first.next (l.items ++ h.items) (l.leads h.items h.are)) in
     rw read (in_order kind l.items h.items pss ps says l.read h.read few)
+
+-- the steps of the loops over postings and over sheets
+pub ruleset posting_steps = (postings_start, postings_go_on, postings_end)
+
+pub ruleset sheet_steps = (sheets_start, sheets_go_on)

@@ -182,7 +182,7 @@ fn size_of_part(count: usize, threads: usize) -> usize
 /// Goes through a journal in order, and looks for the first doubtful one of its postings, in at most so many threads at
 /// once. One goes through the journal, which takes about a tenth of the time of a search of all, and then searches the
 /// first postings; the others search the rest, so many each.
-#[tactic(auto, using(crate::proofs::Judged::told, crate::proofs::Judged::in_front, crate::proofs::Judged::in_bounds, crate::proofs::Judged::in_rest))]
+#[tactic(auto, using(crate::proofs::Judged::joined))]
 fn walk_beside_search<T: Threads + Sync>(
     rt: &T,
     alloc: Global,
