@@ -2,6 +2,7 @@
 use Rattle.buck_book.proofs.Words.{◌≡◌, ℕ, zero, suc, ◌+◌, ◌-◌, ◌*◌, ◌/◌, ◌%◌, ◌<◌, ◌≤◌, ◌↔◌, inl, inr, List, [], ◌∷◌, map, length, take, drop, slice_index, slice_get, Some, sum_by, refl, sym, ◌∙◌, arith, rules, add-one, eqb-true, eq-eqb, mul-le-mul_right, div-mul-le_self, cases_Bool, cases_lt, cases_eq, same_from_place, div-mul-add, mod-mul-add, div-add-mod', div_below, mod_below, same_number_lists, take-map, get_or-take, get_or-drop, length-take-le, recursion_from_All, sum_by-cons, slice_get_within, slice_get-map, slice_get_cases, same_Some, none-some, Class, InstructionParts, AssortmentParts, IsInstruction, IsClass, classes, classes_of, classes_before, index_of, base_prices, length-base_prices, Posting, Cut, EntryParts, ends_from, cuts_from, ends_of, cuts_since_end, targets_after, opening_targets, IsLawful, IsEnd, PricesMeet, prices_at, standing_of}
 use Rattle.buck_book.specs.CutsAlone as alone
 use Rattle.buck_book.proofs.Ends.{ends_yes, ends_no, cuts_yes, cuts_no, cuts_low, ends_past}
+pub use Rattle.buck_book.proofs.Places.{ClassAt, class_at}
 use Rattle.buck_book.proofs.Places.{inner_is, inner_lt}
 use Rattle.buck_book.proofs.Standings.{base_is}
 use Rattle.buck_book.proofs.Wanted.{part_of}
@@ -12,16 +13,12 @@ spread p n [] = omega arith
 spread p n (e ∷ es) = search (rules, cases_Bool, eqb-true, ends_yes, cuts_yes, ends_no, cuts_no, (spread p 0 es), (spread p (n + 1) es))
 
 -- where no demand stands, the ends are the full periods
-pub ends_alone : (i : InstructionParts) (es : List EntryParts) → 0 < i.period
-    → (ends_of i (map Cut es) ≡ length es / i.period) × (cuts_since_end i (map Cut es) ≡ length es % i.period)
-ends_alone i es pos =
-    grind (
-      arith,
-      div-mul-add,
-      mod-mul-add,
-      (cuts_low i.period 0 (map Cut es) pos pos),
-      (spread i.period 0 es),
-    )
+module _ (i : InstructionParts) (es : List EntryParts) (pos : 0 < i.period) where
+  pub ends_alone : ends_of i (map Cut es) ≡ length es / i.period
+  ends_alone = grind (arith, div-mul-add, (cuts_low i.period 0 (map Cut es) pos pos), (spread i.period 0 es))
+
+  pub cuts_alone : cuts_since_end i (map Cut es) ≡ length es % i.period
+  cuts_alone = grind (arith, mod-mul-add, (cuts_low i.period 0 (map Cut es) pos pos), (spread i.period 0 es))
 
 -- sums over postings that are cuts are sums over their entries
 sum_of_cuts : (f : Posting → ℕ) (es : List EntryParts) → sum_by f (map Cut es) ≡ sum_by (λ e. f (Cut e)) es
@@ -73,38 +70,6 @@ meets_from_alone i es prices v m = grind (arith, same_standing)
 pub base_meets : (i : InstructionParts) → IsInstruction i → alone.PricesMeet i [] (base_prices i)
 base_meets i v = grind (arith, length-base_prices, base_is)
 
--- a place among all classes is one in some assortment
-place_of : (as_ : List AssortmentParts) (q : ℕ) → q < sum_by classes_of as_
-    → (at : ℕ) × (a : AssortmentParts) × (inner : ℕ) × (slice_get as_ at ≡ Some a) × (inner < classes_of a)
-    × (sum_by classes_of (take at as_) + inner ≡ q)
-place_of [] q lt = absurd (omega arith)
-place_of (a ∷ as_) q lt = elim (cases_lt q (classes_of a)) [
-  | inl here ↦ (0, a, q, refl, here, omega arith)
-  | inr past ↦
-      let p = place_of as_ (q - classes_of a) (omega (arith, sum_by-cons classes_of a as_)) in
-      (suc p.0, p.1, p.2, p.3, p.4, omega (arith, p.5, sum_by-cons classes_of a (take p.0 as_)))
-]
-
--- each place is a class's
-pub record ClassAt (i : InstructionParts) (q : ℕ) : Type 0 where
-  pub class : Class
-  pub is_class : IsClass i class
-  pub place : index_of i class ≡ q
-
-pub class_at : (i : InstructionParts) (q : ℕ) → q < classes i → ClassAt i q
-class_at i q lt =
-    let p = place_of i.assortments q lt in
-    let wide : ℕ = length p.1.lengths in
-    let pos : 0 < wide = search (rules, cases_eq) in
-    let c : Class = record { assortment = p.0; row = p.2 / wide; column = p.2 % wide } in
-    let k : IsClass i c = record {
-      assortment = p.1;
-      exists = p.3;
-      row = div_below p.2 wide (length p.1.diameters) pos p.4;
-      column = mod_below p.2 wide pos;
-    } in
-    record { class = c; is_class = k; place = omega (arith, inner_is i c k, div-add-mod' p.2 wide, p.5) }
-
 -- prices in the relation where nothing was cut are the base prices
 pub base_alone : (i : InstructionParts) (prices : List ℕ) → IsInstruction i → alone.PricesMeet i [] prices
     → prices ≡ base_prices i
@@ -144,7 +109,7 @@ module _ (i : InstructionParts) (sheets : List (List ℕ)) (es : List EntryParts
         | inr past ↦ absurd (omega (arith, past.0))
       ]
 
-  to_alone : IsLawful (alone.history_of i sheets es) → alone.IsLawful i sheets es
+  pub to_alone : IsLawful (alone.history_of i sheets es) → alone.IsLawful i sheets es
   to_alone l = record {
     sheets_number = grind (arith, ends_alone);
     sheets_meet = sheets_alone l;
@@ -166,7 +131,7 @@ module _ (i : InstructionParts) (sheets : List (List ℕ)) (es : List EntryParts
       rw (take-map Cut (k + 1) es)
       (meets_from_alone i (take (k + 1) es) (prices_at sheets (ends + 1)) v (rw next at (l.sheets_meet (ends + 1) within)))
 
-  from_alone : alone.IsLawful i sheets es → IsLawful (alone.history_of i sheets es)
+  pub from_alone : alone.IsLawful i sheets es → IsLawful (alone.history_of i sheets es)
   from_alone l = record {
     postings_follow = λ k x at.
         let c = cut_at es k x at in
@@ -176,7 +141,3 @@ module _ (i : InstructionParts) (sheets : List (List ℕ)) (es : List EntryParts
     base_sheet = search (rules, base_alone);
     sheets_meet = grind (arith, cut_at, sheets_from_alone);
   }
-
-pub lawful_alone : (i : InstructionParts) (sheets : List (List ℕ)) (es : List EntryParts) → IsInstruction i
-    → IsLawful (alone.history_of i sheets es) ↔ alone.IsLawful i sheets es
-lawful_alone i sheets es v = (to_alone i sheets es v, from_alone i sheets es v)

@@ -1,17 +1,17 @@
 -- What a book keeps, one posting on.
-use Rattle.buck_book.proofs.Words.{◌≡◌, ℕ, ◌-◌, ◌<◌, inl, inr, List, [], ◌∷◌, ◌++◌, Option, Some, None, length, map, set, get_or, append-nil, refl, sym, ◌∙◌, ap, arith, rules, common_steps, map-append, length_push, option_to_list, option_map, InstructionParts, IsWithin, SheetParts, Posting, Cut, Demand, EntryParts, DemandParts, harvester_of, number_of, planned_version, AreTargets, HistoryParts, IsLawful, Follows, IsEnd, IsNextSheet, sheets_with, history_with, version_of, in_force, PlanParts, IsPlan, BookParts, book_of, IsBook, IsFirst, IsNext, IsReadyToAdd, SameContent, sheets_from, entry_of, demand_of, RunningParts, Keeps, Tells, GoesOn, IsAfter, IsSheetAfter, Standing, Bor, Shared}
+use Rattle.buck_book.proofs.Words.{◌≡◌, ℕ, ◌-◌, ◌<◌, inl, inr, List, [], ◌∷◌, ◌++◌, Option, Some, None, length, map, set, get_or, append-nil, refl, sym, ◌∙◌, ap, arith, rules, common_steps, map-append, length_push, option_to_list, option_map, InstructionParts, IsWithin, SheetParts, Posting, Cut, Demand, EntryParts, DemandParts, harvester_of, number_of, planned_version, AreTargets, HistoryParts, IsLawful, Follows, IsEnd, IsNextSheet, sheets_with, history_with, version_of, in_force, PlanParts, IsPlan, BookParts, book_of, IsBook, IsFirst, IsNext, IsReadyToAdd, SameContent, sheets_from, entry_of, demand_of, Running, Keeps, Tells, GoesOn, IsAfter, IsCopy, IsSheetAfter, Standing, Bor, Shared}
 use Rattle.buck_book.proofs.Counting.{calls_more}
 use Rattle.buck_book.proofs.Ends.{ends_with_end}
 use Rattle.buck_book.proofs.Extend.{slice_get-push, version_within, one_more, prices_stay}
 use Rattle.buck_book.proofs.Sheets.{length-sheets_from, get_or-sheets_from, sheets_from-append}
 
 -- the version in force has a sheet
-pub in_sheets : {F : Type 0} (b : BookParts F) (sheets : List SheetParts) (n : RunningParts) (calls : List ℕ)
+pub in_sheets : {F : Type 0} (b : BookParts F) (sheets : List SheetParts) (n : Running) (calls : List ℕ)
     → Keeps b sheets n calls → version_of b.history < length sheets
 in_sheets b sheets n calls k = search (rules, length-sheets_from)
 
 -- the sheet at its place is the sheet in force
-pub force_is : {F : Type 0} (b : BookParts F) (sheets : List SheetParts) (n : RunningParts) (calls : List ℕ)
+pub force_is : {F : Type 0} (b : BookParts F) (sheets : List SheetParts) (n : Running) (calls : List ℕ)
     (d : SheetParts) → Keeps b sheets n calls → get_or sheets (version_of b.history) d ≡ in_force b.history
 force_is b sheets n calls d k = grind (arith, get_or-sheets_from)
 
@@ -46,7 +46,7 @@ pub sheets_after : (h : HistoryParts) (x : Posting) (ts : List SheetParts) (next
 sheets_after h x ts next l are n = grind (arith, append-nil, sheets_from-append)
 
 -- what is kept after a posting more
-pub keeps_more : {F : Type 0} (b : BookParts F) (sheets : List SheetParts) (n n' : RunningParts) (calls : List ℕ)
+pub keeps_more : {F : Type 0} (b : BookParts F) (sheets : List SheetParts) (n n' : Running) (calls : List ℕ)
     (x : HistoryParts → Posting) (next : Option SheetParts) (room sheet_room : ℕ)
     → Keeps b sheets n calls → length b.history.postings < b.capacity → IsWithin 1 64 (harvester_of (x b.history))
     → Follows b.history.instruction b.history.sheets b.history.postings (x b.history) × IsFirst b.history (x b.history)
@@ -71,13 +71,13 @@ pub entry_follows : (h : HistoryParts) (harvester : ℕ) (p : PlanParts) → IsP
 entry_follows h harvester p plan same = grind (arith, common_steps)
 
 -- what runs on after it
-pub entry_after : (h : HistoryParts) (harvester : ℕ) (p : PlanParts) (n n' : RunningParts) → p.sheet ≡ in_force h
+pub entry_after : (h : HistoryParts) (harvester : ℕ) (p : PlanParts) (n n' : Running) → p.sheet ≡ in_force h
     → ((e : EntryParts) → e.stem ≡ p.stem → e.logs ≡ p.logs → IsAfter p.sheet.instruction n (Cut e) n')
     → IsAfter h.instruction n (Cut (entry_of h harvester p)) n'
 entry_after h harvester p n n' same told = grind arith
 
 -- what runs on in a book below its capacity, with a posting more: d is the book as callers see it
-module _ {F : Type 0} (b d : BookParts F) (sheets : List SheetParts) (n : RunningParts) (calls : List ℕ) (view : b ≡ d)
+module _ {F : Type 0} (b d : BookParts F) (sheets : List SheetParts) (n : Running) (calls : List ℕ) (view : b ≡ d)
     (k : Keeps b sheets n calls) (below : length d.history.postings < d.capacity) where
   few : length b.history.postings < 1000000
   few = omega (arith, (rw (sym view) at below), k.is_book.capacity_range)
@@ -85,18 +85,19 @@ module _ {F : Type 0} (b d : BookParts F) (sheets : List SheetParts) (n : Runnin
   pub goes_on : (p : PlanParts) → p.sheet ≡ in_force d.history → GoesOn p.sheet.instruction n
   goes_on p same = grind (arith, few)
 
-  pub passed_cut : (p : PlanParts) (n₁ n' : RunningParts) → p.sheet ≡ in_force d.history → n₁ ≡ n
+  pub passed_cut : (p : PlanParts) (n₁ n' : Running) → p.sheet ≡ in_force d.history → IsCopy n n₁
       → ((e : EntryParts) → e.stem ≡ p.stem → e.logs ≡ p.logs → IsAfter p.sheet.instruction n₁ (Cut e) n')
       → (harvester : ℕ) → Tells b.history.instruction (b.history.postings ++ Cut (entry_of b.history harvester p) ∷ []) n'
-  passed_cut p n₁ n' same is told harvester = grind (arith, entry_after, few)
+  passed_cut p n₁ n' same is told harvester =
+      entry_after b.history harvester p n₁ n' (rw (sym view) at same) told b.history.postings few (is _ _ k.tells)
 
-  pub passed_demand : (targets : List ℕ) (n₁ n' : RunningParts) → AreTargets b.history.instruction targets → n₁ ≡ n
+  pub passed_demand : (targets : List ℕ) (n₁ n' : Running) → AreTargets b.history.instruction targets → IsCopy n n₁
       → ((i : InstructionParts) (x : DemandParts) → x.targets ≡ targets → AreTargets i x.targets
       → IsAfter i n₁ (Demand x) n')
       → (harvester : ℕ)
       → Tells b.history.instruction (b.history.postings ++ Demand (demand_of b.history harvester targets) ∷ []) n'
   passed_demand targets n₁ n' valid is told harvester =
-      told b.history.instruction (demand_of b.history harvester targets) refl valid b.history.postings few (rw is k.tells)
+      told b.history.instruction (demand_of b.history harvester targets) refl valid b.history.postings few (is _ _ k.tells)
 
 -- the sheet in force after an end is the next sheet
 pub is_next_sheet : {F : Type 0} (g : Shared F (Bor Standing × Unit {0}) ℕ) (f : F) (h : HistoryParts) (x : Posting)

@@ -1,24 +1,6 @@
 -- Sums over the classes of an assortment.
 use Rattle.buck_book.proofs.Words.{◌≡◌, ℕ, zero, suc, ◌+◌, ◌*◌, ◌/◌, ◌<◌, ◌≤◌, min, List, [], ◌∷◌, length, take, sum, get_or, arith, add-one, rules, sum_by-cons, min-le_left, add-mul, mul-le-mul, div-le_of_le-mul, slice_get, Some, slice_get_read, AssortmentParts, shared_of}
 
-step : (wanted cut : ℕ) (targets counts : List ℕ) (i : ℕ) → i < length targets → i < length counts
-    → shared_of wanted cut (take (suc i) targets) (take (suc i) counts)
-    ≡ shared_of wanted cut (take i targets) (take i counts) + min (get_or targets i 0 * cut)
-    (get_or counts i 0 * wanted)
-step wanted cut [] counts i lt lu = absurd (omega (arith, lt))
-step wanted cut (t ∷ ts) [] i lt lu = absurd (omega (arith, lu))
-step wanted cut (t ∷ ts) (n ∷ ns) zero lt lu =
-    omega (arith, sum_by-cons (λ (p : ℕ × ℕ). min (p.0 * cut) (p.1 * wanted)) (t, n) [])
-step wanted cut (t ∷ ts) (n ∷ ns) (suc i) lt lu =
-    search (rules, sum_by-cons, (step wanted cut ts ns i (omega (arith, lt)) (omega (arith, lu))))
-
--- one class more
-pub shared_more : (wanted cut : ℕ) (targets counts : List ℕ) (i : ℕ) → i < length targets → i < length counts
-    → shared_of wanted cut (take (i + 1) targets) (take (i + 1) counts)
-    ≡ shared_of wanted cut (take i targets) (take i counts) + min (get_or targets i 0 * cut)
-    (get_or counts i 0 * wanted)
-shared_more wanted cut targets counts i lt lu = rw add-one (step wanted cut targets counts i lt lu)
-
 -- all classes together have at most the whole
 pub shared_low : (wanted cut : ℕ) (targets counts : List ℕ) → shared_of wanted cut targets counts ≤ sum targets * cut
 shared_low wanted cut [] counts = omega arith

@@ -1,5 +1,5 @@
 -- Places of classes: one place, one class.
-use Rattle.buck_book.proofs.Words.{◌≡◌, ℕ, ◌+◌, ◌*◌, ◌<◌, ◌≤◌, List, Option, Some, None, length, take, get_or, slice_get, sum_by, refl, ◌∙◌, ap, arith, mul_comm, rules, same_from_place, mul-add-lt, take-take, get_or-take, length-take-le, sum_by_more_le, get_or_from_slice_get, slice_get_within, same_Some, Class, InstructionParts, AssortmentParts, IsClass, classes, classes_of, classes_before, index_of, place_in, StemParts, Log, class_of, class_in}
+use Rattle.buck_book.proofs.Words.{◌≡◌, ℕ, suc, ◌+◌, ◌-◌, ◌*◌, ◌/◌, ◌%◌, ◌<◌, ◌≤◌, inl, inr, List, [], ◌∷◌, Option, Some, None, length, take, get_or, slice_get, sum_by, refl, ◌∙◌, ap, arith, mul_comm, rules, same_from_place, cases_lt, cases_eq, div-add-mod', div_below, mod_below, sum_by-cons, mul-add-lt, take-take, get_or-take, length-take-le, sum_by_more_le, get_or_from_slice_get, slice_get_within, same_Some, Class, InstructionParts, AssortmentParts, IsClass, classes, classes_of, classes_before, index_of, place_in, StemParts, Log, class_of, class_in}
 use Rattle.buck_book.proofs.Wanted.{part_within}
 
 -- the classes of an assortment come before those of a later one
@@ -21,35 +21,36 @@ pub inner_lt : (i : InstructionParts) (c : Class) (k : IsClass i c)
     → c.row * length k.assortment.lengths + c.column < classes_of k.assortment
 inner_lt i c k = search (rules, mul_comm, mul-add-lt)
 
--- a class of an earlier assortment has a lower place
-lower : (i : InstructionParts) (c d : Class) → IsClass i c → IsClass i d → c.assortment < d.assortment
-    → index_of i c < index_of i d
-lower i c d k l lt =
-    let within : d.assortment < length i.assortments = search (rules, slice_get_within) in
-    omega (
-      arith,
-      inner_is i c k,
-      inner_lt i c k,
-      inner_is i d l,
-      earlier i.assortments c.assortment d.assortment k.assortment k.exists lt within,
-    )
+-- the class at a place of an assortment is of that assortment
+pub in_assortment : (i : InstructionParts) (c : Class) (k : IsClass i c) (at inner : ℕ) (a : AssortmentParts)
+    → slice_get i.assortments at ≡ Some a → inner < classes_of a → index_of i c ≡ classes_before i at + inner
+    → (c.assortment ≡ at) × (k.assortment ≡ a) × (c.row * length a.lengths + c.column ≡ inner)
+in_assortment i c k at inner a exists lt is =
+    let own : c.assortment ≡ at = elim (cases_lt c.assortment at) [
+      | inl low ↦
+          let e = earlier i.assortments c.assortment at k.assortment k.exists low (slice_get_within _ _ _ exists) in
+          absurd (omega (arith, inner_is i c k, inner_lt i c k, e))
+      | inr ge ↦ elim (cases_eq c.assortment at) [
+        | inl same ↦ same
+        | inr other ↦
+            let e = earlier i.assortments at c.assortment a exists (omega arith) (slice_get_within _ _ _ k.exists) in
+            absurd (omega (arith, inner_is i c k, e))
+      ]
+    ] in
+    let same : k.assortment ≡ a = search (rules, same_Some) in
+    (own, same, grind (arith, inner_is i c k))
 
 class_same : (c d : Class) → c.assortment ≡ d.assortment → c.row ≡ d.row → c.column ≡ d.column → c ≡ d
 class_same c d a r o = λ j. record { assortment = a j; row = r j; column = o j }
 
-in_one : (i : InstructionParts) (c d : Class) (k : IsClass i c) (l : IsClass i d) → c.assortment ≡ d.assortment
-    → index_of i c ≡ index_of i d → c ≡ d
-in_one i c d k l same e =
-    let one : k.assortment ≡ l.assortment = search (rules, same_Some) in
-    let inner : c.row * length l.assortment.lengths + c.column ≡ d.row * length l.assortment.lengths + d.column =
-    grind (arith, inner_is i c k, inner_is i d l) in
-    let parts =
-    same_from_place c.row c.column d.row d.column (length l.assortment.lengths) (grind (arith, k.column)) l.column inner in
-    class_same c d same parts.0 parts.1
-
 -- two classes of one place are one class
 pub one_place : (i : InstructionParts) (c d : Class) → IsClass i c → IsClass i d → index_of i c ≡ index_of i d → c ≡ d
-one_place i c d k l e = grind (arith, in_one, lower)
+one_place i c d k l e =
+    let w : ℕ = length l.assortment.lengths in
+    let p = in_assortment i c k d.assortment (d.row * w + d.column) l.assortment l.exists (inner_lt i d l)
+    (e ∙ inner_is i d l) in
+    let parts = same_from_place c.row c.column d.row d.column w (grind (arith, k.column)) l.column p.2 in
+    class_same c d p.0 parts.0 parts.1
 
 class_in_assortment : (o : Option AssortmentParts) (stem : StemParts) (g : Log)
     → (class_in o stem g).assortment ≡ g.assortment
@@ -64,3 +65,35 @@ class_of_assortment i stem g = class_in_assortment (slice_get i.assortments g.as
 -- a class's place is below the number of classes
 pub place_lt : (i : InstructionParts) (c : Class) → IsClass i c → index_of i c < classes i
 place_lt i c k = omega (arith, inner_is i c k, inner_lt i c k, part_within i c.assortment k.assortment k.exists)
+
+-- a place among all classes is one in some assortment
+place_of : (as_ : List AssortmentParts) (q : ℕ) → q < sum_by classes_of as_
+    → (at : ℕ) × (a : AssortmentParts) × (inner : ℕ) × (slice_get as_ at ≡ Some a) × (inner < classes_of a)
+    × (sum_by classes_of (take at as_) + inner ≡ q)
+place_of [] q lt = absurd (omega arith)
+place_of (a ∷ as_) q lt = elim (cases_lt q (classes_of a)) [
+  | inl here ↦ (0, a, q, refl, here, omega arith)
+  | inr past ↦
+      let p = place_of as_ (q - classes_of a) (omega (arith, sum_by-cons classes_of a as_)) in
+      (suc p.0, p.1, p.2, p.3, p.4, omega (arith, p.5, sum_by-cons classes_of a (take p.0 as_)))
+]
+
+-- each place is a class's
+pub record ClassAt (i : InstructionParts) (q : ℕ) : Type 0 where
+  pub class : Class
+  pub is_class : IsClass i class
+  pub place : index_of i class ≡ q
+
+pub class_at : (i : InstructionParts) (q : ℕ) → q < classes i → ClassAt i q
+class_at i q lt =
+    let p = place_of i.assortments q lt in
+    let wide : ℕ = length p.1.lengths in
+    let pos : 0 < wide = search (rules, cases_eq) in
+    let c : Class = record { assortment = p.0; row = p.2 / wide; column = p.2 % wide } in
+    let k : IsClass i c = record {
+      assortment = p.1;
+      exists = p.3;
+      row = div_below p.2 wide (length p.1.diameters) pos p.4;
+      column = mod_below p.2 wide pos;
+    } in
+    record { class = c; is_class = k; place = omega (arith, inner_is i c k, div-add-mod' p.2 wide, p.5) }

@@ -1,19 +1,11 @@
 -- How classes stand, and the prices that are answered to that.
-use Rattle.buck_book.proofs.Words.{◌≡◌, ℕ, ◌+◌, ◌*◌, ◌<◌, ◌≤◌, inl, inr, List, [], ◌∷◌, ◌++◌, length, take, get_or, slice_index, slice_get, Some, sym, ◌∙◌, ap, subst, arith, mul-le-mul_left, rules, common_steps, flat_map, cases_lt, get_or_push, get_or_append_left, length_push, length-flat_map, sum_by_more, All-take, recursion_from_All, slice_get_within, get_or_from_slice_get, same_Some, Bor, Shared, Class, InstructionParts, AssortmentParts, IsInstruction, IsAssortment, IsClass, classes, classes_of, classes_before, index_of, Standing, IsInRange, Meets, SheetParts, sheet_of, base_prices, IsPriceAt, IsInSpan, IsSheetFault, SheetFault, Count, Price, base_at, base_price-le, Posting, targets_of, targets_sum, standing_at, standing_of, AreCounts, RunningParts, Tells, IsSheetAfter, standings_of, Section, StandingsParts, CanPrice, IsSection, IsClassOf, IsAnswer, ArePriced, class_at, row_start, standing_by}
-use Rattle.buck_book.proofs.Places.{inner_is, inner_lt, one_place, place_lt}
-use Rattle.buck_book.proofs.Wanted.{sum_same, valid_at, target_within, target_low}
+use Rattle.buck_book.proofs.Words.{◌≡◌, ℕ, ◌+◌, ◌*◌, ◌<◌, ◌≤◌, inl, inr, List, [], ◌∷◌, ◌++◌, length, take, get_or, slice_index, slice_get, Some, sym, ◌∙◌, ap, subst, arith, mul-le-mul_left, rules, common_steps, flat_map, cases_lt, get_or_push, get_or_append_left, length_push, length-flat_map, sum_by_more, All-take, recursion_from_All, slice_get_within, get_or_from_slice_get, same_Some, Bor, Shared, Class, InstructionParts, AssortmentParts, IsInstruction, IsAssortment, IsClass, classes, classes_of, classes_before, index_of, Standing, IsInRange, Meets, SheetParts, sheet_of, base_prices, IsPriceAt, IsInSpan, IsSheetFault, SheetFault, Count, Price, base_at, base_price-le, Posting, targets_of, targets_sum, standing_at, standing_of, AreCounts, Running, Tells, IsSheetAfter, standings_of, Section, StandingsParts, CanPrice, IsSection, IsClassOf, StandsAt, IsAnswer, ArePriced, AreBelow, standing_by}
+use Rattle.buck_book.proofs.Places.{inner_is, inner_lt, place_lt, in_assortment, ClassAt, class_at}
+use Rattle.buck_book.proofs.Wanted.{sum_same, valid_at, part_within, target_within, target_low}
 
 -- a class has one assortment
 pub one_assortment : (i : InstructionParts) (c : Class) (k l : IsClass i c) → k.assortment ≡ l.assortment
 one_assortment i c k l = same_Some k.assortment l.assortment (sym k.exists ∙ l.exists)
-
--- what holds of a class holds of each class at its place
-pub at_place : (i : InstructionParts) (P : AssortmentParts → Class → ℕ → Type 0) (c d : Class) (k : IsClass i c)
-    (l : IsClass i d) → index_of i c ≡ index_of i d
-    → P k.assortment c (index_of i c) → P l.assortment d (index_of i d)
-at_place i P c d k l same holds =
-    subst (λ (x : Class). (m : IsClass i x) → P m.assortment x (index_of i x)) (one_place i c d k l same)
-    (λ m. subst (λ a. P a c (index_of i c)) (one_assortment i c k m) holds) l
 
 -- the base price of a class, by its place among all
 pub base_is : (i : InstructionParts) (c : Class) → IsInstruction i → (k : IsClass i c)
@@ -63,57 +55,6 @@ pub stands_by : (s : StandingsParts) (a : AssortmentParts) (c : Class) (base lim
     ≡ standing_by s a c
 stands_by s a c base limit target targets count counts b l t ts n ns = cc
 
--- a class of a section
-module _ (s : StandingsParts) (x : Section) (row column : ℕ) (k : IsSection s x)
-    (r : row < length x.assortment.now.diameters) (c : column < x.columns) where
-  pub section_class : IsClassOf s.instruction x.assortment.now (class_at x.at row column)
-  section_class = record { exists = k.exists; row = r; column = omega (arith, k.columns_are) }
-
-  abbrev section_is : IsClass s.instruction (class_at x.at row column)
-  section_is = class_in s.instruction x.assortment.now (class_at x.at row column) section_class
-
-  pub section_place : index_of s.instruction (class_at x.at row column) ≡ row_start x row + column
-  section_place = grind (arith, inner_is s.instruction (class_at x.at row column) section_is)
-
-  pub section_below : row_start x row + column < classes s.instruction
-  section_below = omega (arith, section_place, place_lt s.instruction (class_at x.at row column) section_is)
-
-  -- how it stands by what was read is how it stands
-  pub section_stands : CanPrice s → (base limit target count counts : ℕ)
-      → base ≡ slice_index x.assortment.now.prices (row * length x.assortment.now.lengths + column)
-      → limit ≡ s.instruction.limit
-      → target ≡ slice_index s.targets (row_start x row + column)
-      → count ≡ slice_index s.by_class (row_start x row + column)
-      → counts ≡ slice_index s.by_assortment x.at
-      → record { base = base; limit = limit; target = target; targets = x.targets; count = count; counts = counts }
-      ≡ standing_by s x.assortment.now (class_at x.at row column)
-  section_stands can base limit target count counts b l t n ns =
-      let there = base_is s.instruction (class_at x.at row column) can.valid section_is in
-      grind (arith, stands_by, section_place, there)
-
-  -- its price added to those of all classes before it
-  pub price_more : {F : Type 0} (g : Shared F (Bor Standing × Unit {0}) ℕ) (f : F) (price : ℕ) (prices : List ℕ)
-      → IsAnswer g f (standing_by s x.assortment.now (class_at x.at row column)) price
-      → ArePriced g f s prices (row_start x row + column)
-      → ArePriced g f s (prices ++ price ∷ []) (row_start x row + (column + 1))
-  price_more g f price prices answer priced =
-      let i = s.instruction in
-      let n : ℕ = row_start x row + column in
-      let last : get_or (prices ++ price ∷ []) (index_of i (class_at x.at row column)) 0 ≡ price =
-      search (rules, get_or_push, section_place) in
-      record {
-        number_is = omega (arith, length_push prices price, priced.number_is);
-        answered = λ d l lt. elim (cases_lt (index_of i d) n) [
-          | inl old ↦
-              rw (get_or_append_left prices (price ∷ []) 0 (index_of i d) (omega (arith, priced.number_is)))
-              (priced.answered d l old)
-          | inr new ↦
-              at_place i (λ a x n. IsAnswer g f (standing_by s a x) (slice_index (prices ++ price ∷ []) n))
-              (class_at x.at row column) d section_is l (omega (arith, section_place)) (rw last answer)
-        ];
-        in_span = search (rules, cases_lt, get_or_append_left, meets_within, section_place);
-      }
-
 -- the classes before the next assortment are those before this one, and its own
 pub before_next : (i : InstructionParts) (a : AssortmentParts) (at : ℕ) → slice_get i.assortments at ≡ Some a
     → classes_before i (at + 1) ≡ classes_before i at + length a.diameters * length a.lengths
@@ -128,6 +69,77 @@ pub stands_in_range : (s : StandingsParts) (a : AssortmentParts) (c : Class) →
 stands_in_range s a c k can =
     grind (arith, slice_get_within, target_within, inner_lt, inner_is, base_price-le, target_low, class_in s.instruction a c k)
 
+-- a class of a section
+module _ (i : InstructionParts) (n : Running) (x : Section) (inner : ℕ) (k : IsSection (standings_of i n) x)
+    (lt : inner < classes_of x.assortment.now) where
+  -- what is read of it is there
+  pub section_below : x.before + inner < classes i
+  section_below = omega (arith, k.before_is, part_within i x.at x.assortment.now k.exists)
+
+  pub section_price : inner < length x.assortment.now.prices
+  section_price = omega (arith, (valid_at i x.at x.assortment.now k.can.valid k.exists).prices_number)
+
+  pub section_target : x.before + inner < length n.targets.value.items
+  section_target = omega (arith, section_below, k.can.targets.one_each)
+
+  pub section_count : x.before + inner < length n.by_class.items
+  section_count = omega (arith, section_below, k.can.classes_number)
+
+  pub section_counts : x.at < length n.by_assortment.items
+  section_counts = omega (arith, slice_get_within i.assortments x.at x.assortment.now k.exists, k.can.assortments_number)
+
+  -- how it stands by what was read is how it stands
+  pub section_stands : (base limit target count counts : ℕ)
+      → base ≡ slice_index x.assortment.now.prices inner
+      → limit ≡ i.limit
+      → target ≡ slice_index n.targets.value.items (x.before + inner)
+      → count ≡ slice_index n.by_class.items (x.before + inner)
+      → counts ≡ slice_index n.by_assortment.items x.at
+      → StandsAt (standings_of i n) (x.before + inner) (record { base = base; limit = limit; target = target; targets = x.targets; count = count; counts = counts })
+  section_stands base limit target count counts b l t o os =
+      let w : ClassAt i (x.before + inner) = class_at i (x.before + inner) section_below in
+      record {
+        in_range = rw (each w.class w.is_class w.place)
+            (stands_in_range (standings_of i n) w.is_class.assortment w.class
+            (record { exists = w.is_class.exists; row = w.is_class.row; column = w.is_class.column }) k.can);
+        each = each;
+      }
+    where
+      each : (c : Class) (m : IsClass i c) → index_of i c ≡ x.before + inner
+          → record { base = base; limit = limit; target = target; targets = x.targets; count = count; counts = counts }
+          ≡ standing_by (standings_of i n) m.assortment c
+      each c m is =
+          let p = in_assortment i c m x.at inner x.assortment.now k.exists lt (grind (arith, k.before_is)) in
+          let there = base_is i c k.can.valid m in
+          grind (arith, stands_by)
+
+-- a class more, of which it is true
+pub one_more_below : (P : Standing → ℕ → Type 0) (s : StandingsParts) (prices : List ℕ) (n m : ℕ) (t : Standing)
+    → StandsAt s (n + m) t → P t (slice_index prices (n + m)) → AreBelow P s prices (n + m)
+    → AreBelow P s prices (n + (m + 1))
+one_more_below P s prices n m t stands true below = record {
+  each = λ c k lt. elim (cases_lt (index_of s.instruction c) (n + m)) [
+    | inl old ↦ below.each c k old
+    | inr new ↦
+        let here : index_of s.instruction c ≡ n + m = omega arith in
+        rw (← stands.each c k here) (rw (sym here) at true)
+  ];
+}
+
+-- its price added to those of all classes before it
+pub price_more : {F : Type 0} (g : Shared F (Bor Standing × Unit {0}) ℕ) (f : F) (s : StandingsParts) (prices : List ℕ)
+    (price n m : ℕ) (t : Standing) → StandsAt s (n + m) t → IsAnswer g f t price → ArePriced g f s prices (n + m)
+    → ArePriced g f s (prices ++ price ∷ []) (n + (m + 1))
+price_more g f s prices price n m t stands answer priced = record {
+  number_is = omega (arith, length_push prices price, priced.number_is);
+  answered = one_more_below (IsAnswer g f) s (prices ++ price ∷ []) n m t stands
+      (rw (← priced.number_is, get_or_push) answer)
+      (record {
+        each = λ c k lt. rw (get_or_append_left prices (price ∷ []) 0 (index_of s.instruction c) (omega (arith, priced.number_is)))
+            (priced.answered.each c k lt);
+      });
+}
+
 -- by running counts that are right, a class stands as it does after the postings
 pub standing_is : (i : InstructionParts) (targets by_class by_assortment : List ℕ) (ps : List Posting) (c : Class)
     → targets ≡ targets_of i ps → AreCounts i ps by_class by_assortment → (k : IsClass i c)
@@ -137,7 +149,7 @@ standing_is i targets by_class by_assortment ps c wanted counts k = grind (arith
 
 -- a sheet of prices by running counts that are right
 pub is_sheet : {F : Type 0} (g : Shared F (Bor Standing × Unit {0}) ℕ) (f : F) (i : InstructionParts) (ps : List Posting)
-    (n : RunningParts) (prices : List ℕ) (s : SheetParts) → Tells i ps n
+    (n : Running) (prices : List ℕ) (s : SheetParts) → Tells i ps n
     → ArePriced g f (standings_of i n) prices (classes i) → s ≡ sheet_of n.version i prices → IsSheetAfter g f i ps s
 is_sheet g f i ps n prices s told priced made =
     grind (arith, standing_is, place_lt, told.version_is, priced.number_is)
@@ -147,3 +159,12 @@ pub no_fault : (i : InstructionParts) (prices : List ℕ) (fault : SheetFault) �
     → ((k : ℕ) → k < length prices → IsPriceAt i prices k) → IsSheetFault i prices fault → ⊥
 no_fault i prices Count all inside e = e all
 no_fault i prices (Price at) all inside e = e.2 (inside at e.1)
+
+pub no_price_fault : {F : Type 0} (g : Shared F (Bor Standing × Unit {0}) ℕ) (f : F) (s : StandingsParts)
+    (prices : List ℕ) (fault : SheetFault) → ArePriced g f s prices (classes s.instruction)
+    → IsSheetFault s.instruction prices fault → ⊥
+no_price_fault g f s prices fault priced =
+    no_fault s.instruction prices fault priced.number_is (λ k lt.
+    let w : ClassAt s.instruction k = class_at s.instruction k (omega (arith, priced.number_is)) in
+    let p = priced.answered.each w.class w.is_class (omega (arith, w.place, priced.number_is)) in
+    rw w.place at (meets_within _ _ p.met))

@@ -1,31 +1,31 @@
 -- What some postings add up to, one posting on.
-use Rattle.buck_book.proofs.Words.{◌≡◌, ℕ, ◌+◌, ◌<◌, ◌≤◌, ◌==◌, cond, List, [], ◌∷◌, ◌++◌, length, arith, rules, common_steps, length_push, sum_by_push, count_by-le-length, slice_get_within, InstructionParts, IsInstruction, IsStem, IsAllowed, end_of, IsCutFrom, Posting, Cut, Demand, EntryParts, DemandParts, opening_targets, AreTargets, RunningParts, Tells, standings_of, AreCounts, AreAtMost, AreGrownAt, AreGrownBy, class_place, CanPrice}
+use Rattle.buck_book.proofs.Words.{◌≡◌, ℕ, ◌+◌, ◌<◌, ◌≤◌, ◌==◌, cond, List, [], ◌∷◌, ◌++◌, length, arith, rules, common_steps, length_push, sum_by_push, count_by-le-length, slice_get_within, InstructionParts, IsInstruction, IsStem, IsAllowed, end_of, IsCutFrom, Posting, Cut, Demand, EntryParts, DemandParts, opening_targets, AreTargets, Running, Tells, standings_of, AreCounts, AreAtMost, AreGrownAt, AreGrownBy, class_place, CanPrice}
 use Rattle.buck_book.proofs.Cuts.{few_logs, tallied}
 use Rattle.buck_book.proofs.Counting.{count_of-le}
 use Rattle.buck_book.proofs.Ends.{ends-append, cuts-append, targets-append, ends-le, cuts_low}
 
-module _ (i : InstructionParts) (ps : List Posting) (n : RunningParts) (t : Tells i ps n) where
+module _ (i : InstructionParts) (ps : List Posting) (n : Running) (t : Tells i ps n) where
   pub version_low : n.version ≤ 1000000
   version_low = omega (arith, t.version_is, ends-le i.period 0 ps, t.few)
 
   pub cuts_few : n.cuts < 1000
   cuts_few = grind (arith, cuts_low)
 
-  pub counts_fit : AreAtMost 80000000 n.by_class n.by_assortment
+  pub counts_fit : AreAtMost 80000000 n.by_class.items n.by_assortment.items
   counts_fit = grind (arith, common_steps)
 
   pub prices_can : CanPrice (standings_of i n)
   prices_can = grind (arith, slice_get_within, count_of-le, counts_fit)
 
-  pub tells_cut : (e : EntryParts) (by_class' by_assortment' : List ℕ) (cuts' version' : ℕ)
+  pub tells_cut : (n' : Running) (e : EntryParts)
       → length ps < 1000000 → IsStem e.stem → IsCutFrom (IsAllowed i e.stem) (end_of i) 0 e.logs
-      → AreGrownAt (class_place i e.stem) n.by_class e.logs by_class'
-      → AreGrownBy n.by_assortment e.logs by_assortment'
-      → cuts' ≡ cond (n.cuts + 1 == i.period) 0 (n.cuts + 1)
-      → version' ≡ n.version + cond (n.cuts + 1 == i.period) 1 0
-      → Tells i (ps ++ Cut e ∷ [])
-      (record n { cuts = cuts'; version = version'; by_class = by_class'; by_assortment = by_assortment' })
-  tells_cut e by_class' by_assortment' cuts' version' few s cut classes_grown assortments_grown cut_is ended =
+      → n'.targets ≡ n.targets
+      → AreGrownAt (class_place i e.stem) n.by_class.items e.logs n'.by_class.items
+      → AreGrownBy n.by_assortment.items e.logs n'.by_assortment.items
+      → n'.cuts ≡ cond (n.cuts + 1 == i.period) 0 (n.cuts + 1)
+      → n'.version ≡ n.version + cond (n.cuts + 1 == i.period) 1 0
+      → Tells i (ps ++ Cut e ∷ []) n'
+  tells_cut n' e few s cut same classes_grown assortments_grown cut_is ended =
       search (
         rules,
         few_logs,
@@ -38,16 +38,16 @@ module _ (i : InstructionParts) (ps : List Posting) (n : RunningParts) (t : Tell
         count_by-le-length,
       )
 
-  pub tells_demand : (d : DemandParts) (targets' : List ℕ) (version' : ℕ)
-      → length ps < 1000000 → AreTargets i d.targets → d.targets ≡ targets' → version' ≡ n.version + 1
-      → Tells i (ps ++ Demand d ∷ []) (record n { targets = targets'; cuts = 0; version = version' })
-  tells_demand d targets' version' few valid same ended =
+  pub tells_demand : (n' : Running) (d : DemandParts)
+      → length ps < 1000000 → AreTargets i d.targets → d.targets ≡ n'.targets.value.items → n'.cuts ≡ 0
+      → n'.version ≡ n.version + 1 → n'.by_class ≡ n.by_class → n'.by_assortment ≡ n.by_assortment
+      → Tells i (ps ++ Demand d ∷ []) n'
+  tells_demand n' d few valid same none ended classes assortments =
       grind (arith, length_push, targets-append, cuts-append, ends-append, sum_by_push)
 
 -- before the first posting
-pub tells_opening : (i : InstructionParts) (targets by_class by_assortment : List ℕ)
-    → IsInstruction i → targets ≡ opening_targets i → AreTargets i targets
-    → AreCounts i [] by_class by_assortment → AreAtMost 0 by_class by_assortment
-    → Tells i []
-    (record { targets = targets; cuts = 0; version = 0; by_class = by_class; by_assortment = by_assortment })
-tells_opening i targets by_class by_assortment v wanted valid counts low = grind (arith, common_steps)
+pub tells_opening : (i : InstructionParts) (n : Running)
+    → IsInstruction i → n.targets.value.items ≡ opening_targets i → AreTargets i n.targets.value.items
+    → AreCounts i [] n.by_class.items n.by_assortment.items → AreAtMost 0 n.by_class.items n.by_assortment.items
+    → n.cuts ≡ 0 → n.version ≡ 0 → Tells i [] n
+tells_opening i n v wanted valid counts low cuts version = grind (arith, common_steps)

@@ -19,9 +19,9 @@ pub use Rattle.buck_book.specs.Posting.{ends_from, cuts_from, ends_of, cuts_sinc
 pub use Rattle.buck_book.specs.History.{IsLawful, IsEnd, PricesMeet, prices_at, standing_of, HistoryParts, Follows, IsNextSheet, sheets_with, history_with, version_of, in_force, Holds, first_of, standing_at}
 pub use Rattle.std.specs.Option.{option_to_list, option_map}
 pub use Rattle.buck_book.specs.Targets.{AreTargets, targets_sum, IsLowSumAt}
-pub use Rattle.buck_book.specs.Plan.{PlanParts, IsPlan}
+pub use Rattle.buck_book.specs.Plan.{PlanParts, IsPlan, plan_of}
 pub use Rattle.buck_book.specs.Book.{BookParts, book_of, IsBook, IsFirst, IsNext, IsReadyToAdd, SameContent, sheets_from, entry_of, demand_of, ReadyParts, ReadyDemandParts}
-pub use Rattle.buck_book.specs.inner.Running.{RunningParts, Keeps, Tells, GoesOn, IsAfter, IsSheetAfter, AreCounts, AreAtMost, AreCalls, AreGrownBy, AreGrownAt, class_place, standings_of}
+pub use Rattle.buck_book.specs.inner.Running.{Keeps, Tells, GoesOn, IsAfter, IsCopy, IsSheetAfter, AreCounts, AreAtMost, AreCalls, AreGrownBy, AreGrownAt, class_place, standings_of}
 pub use Rattle.buck_rule.specs.declared.standing.Standing.{Standing}
 pub use denote.Ref.{Bor}
 pub use denote.Param.Members.{Shared}
@@ -35,9 +35,11 @@ pub use Rattle.buck_book.specs.Degree.{shared_of}
 pub use Rattle.buck_rule.specs.Relation.{Meets}
 pub use Rattle.buck_book.specs.Walk.{IsWrongPrice, WalkParts, walk_of, passed}
 pub use Rattle.buck_book.specs.declared.pricing.Section.{Section}
-pub use Rattle.buck_book.specs.inner.Pricing.{StandingsParts, IsSection, IsClassOf, class_at, row_start, standing_by, CanPrice, IsAnswer, ArePriced}
-pub use Rattle.buck_book.specs.inner.Walk.{AreMetBelow, IsFirstWrong, IsWalk}
-pub use Rattle.std.specs.List.{flat_map, AllByRecursion}
+pub use Rattle.buck_book.specs.declared.running.Running.{Running}
+pub use Rattle.buck_book.specs.inner.Pricing.{StandingsParts, IsSection, IsClassOf, standing_by, CanPrice, StandsAt, IsAnswer, ArePriced, AreBelow, IsFirstWrong}
+pub use Rattle.buck_book.specs.inner.Walk.{IsWalk}
+pub use Rattle.std.specs.List.{flat_map, AllByRecursion, zip}
+pub use Rattle.std.proofs.lemmas.Slice.Zip.{length-zip, get_or-zip}
 pub use Rattle.std.proofs.lemmas.List.Concat.{length-flat_map}
 pub use Rattle.buck_rule.specs.Standing.{IsInRange}
 pub use Rattle.buck_value.specs.declared.fault.SheetFault.{SheetFault}

@@ -75,34 +75,18 @@ pub struct Parts {
 }
 
 /// Adds a sheet, if there is one, where there is memory for it.
+#[tactic(auto, using(crate::proofs::Books::values_added, crate::proofs::Books::prices_added))]
 fn add_sheet(sheets: &mut Vec<Arc<Sheet>>, next: Option<Arc<Sheet>>)
     requires { IfSome next (λ _. vec_len sheets.old < vec_capacity sheets.old) }
-    ensures { sheets.new.items ≡ sheets.old.items ++ option_to_list next }
-{
-    match next {
-        Some(sheet) => sheets.push_reserved(sheet),
-        None => {}
-    }
-}
-
-/// Adds a posting to a book's lists, and the next sheet, if there is one, where there is memory for both.
-#[tactic(auto, using(crate::proofs::Books::values_added, crate::proofs::Books::prices_added))]
-fn add(
-    postings: &mut Vec<Posting>,
-    sheets: &mut Vec<Arc<Sheet>>,
-    posting: Posting,
-    next: Option<Arc<Sheet>>,
-)
-    requires room { vec_len postings.old < vec_capacity postings.old }
-    requires sheet_room { IfSome next (λ _. vec_len sheets.old < vec_capacity sheets.old) }
-    ensures postings { postings.new.items ≡ postings.old.items ++ posting ∷ [] }
     ensures sheets { map (λ a. a.value) sheets.new.items
         ≡ map (λ a. a.value) sheets.old.items ++ option_to_list (option_map (λ a. a.value) next) }
     ensures prices { map (λ a. a.value.prices) sheets.new.items
         ≡ sheets_with (map (λ a. a.value.prices) sheets.old.items) (option_map (λ a. a.value) next) }
 {
-    postings.push_reserved(posting);
-    add_sheet(sheets, next);
+    match next {
+        Some(sheet) => sheets.push_reserved(sheet),
+        None => {}
+    }
 }
 
 impl<F: Drop> Book<F> {
@@ -126,7 +110,7 @@ impl<F: Drop> Book<F> {
         ensures version { result ≡ version_of self.now.history }
         ensures small { result ≤ MOST_POSTINGS }
     {
-        self.running.version()
+        self.running.version
     }
 
     /// The targets in force, class by class: those of the last demand, else the instruction's.
@@ -134,7 +118,7 @@ impl<F: Drop> Book<F> {
         ensures targets { result.now ≡ targets_of self.now.history.instruction self.now.history.postings }
         ensures valid { AreTargets self.now.history.instruction result.now }
     {
-        self.running.targets()
+        self.running.targets.as_slice()
     }
 
     /// The number of postings.
@@ -158,14 +142,14 @@ impl<F: Drop> Book<F> {
         requires { IsClass self.now.history.instruction class }
         ensures { result ≡ count_of self.now.history.instruction class self.now.history.postings }
     {
-        self.running.classes()[self.instruction.index(class)]
+        self.running.by_class[self.instruction.index(class)]
     }
 
     /// How many logs were cut in each class, assortment by assortment and row by row.
     pub fn counts(&self) -> &[u32]
         ensures { AreClassCounts self.now.history.instruction self.now.history.postings result.now }
     {
-        self.running.classes()
+        self.running.by_class.as_slice()
     }
 
     /// How many postings are a harvester's, 1 to 64.
@@ -204,13 +188,13 @@ impl<F: Drop> Book<F> {
         ensures counts { AreClassCounts self.history.instruction self.history.postings result.counts.items }
         ensures kept { IsBook self }
     {
-        let (targets, counts) = self.running.into_parts();
+        let running = self.running;
         Parts {
             instruction: self.instruction,
             sheets: self.sheets,
             entries: self.postings,
-            targets,
-            counts,
+            targets: running.targets,
+            counts: running.by_class,
         }
     }
 
@@ -266,9 +250,17 @@ impl<F: Drop> Book<F> {
         let version = self.version();
         self.calls[(harvester - 1) as usize] = number;
         self.running.after_plan(&plan);
-        let entry = plan.into_entry(harvester, number, version);
+        let entry = Entry {
+            harvester,
+            number,
+            stem: plan.stem,
+            version,
+            cutting: plan.cutting,
+            worth: plan.worth,
+        };
         let stored = Posting::Cut(entry.sharing(ready.stem, ready.cutting));
-        add(&mut self.postings, &mut self.sheets, stored, ready.next);
+        self.postings.push_reserved(stored);
+        add_sheet(&mut self.sheets, ready.next);
         entry
     }
 
@@ -296,7 +288,8 @@ impl<F: Drop> Book<F> {
         };
         let stored = Posting::Demand(demand.sharing(ready.stored));
         let next = Some(ready.next);
-        add(&mut self.postings, &mut self.sheets, stored, next);
+        self.postings.push_reserved(stored);
+        add_sheet(&mut self.sheets, next);
         demand
     }
 }
@@ -344,7 +337,7 @@ impl<F: Fn(&Standing) -> u64> Book<F> {
         ensures given { IfOk result (λ next. IfSome next (λ s.
             AreAnswersWith F.Fn self.now.rule self.now.history plan.now s.value.prices)) }
     {
-        if self.running.cuts() + 1 != self.instruction.period() {
+        if self.running.cuts + 1 != self.instruction.period() {
             return Ok(None);
         }
         let mut after = self.running.clone()?;

@@ -27,6 +27,7 @@ pub fn one_more_is_lawful()
 {}
 
 /// Where no demand stands, the ends are the full periods.
+#[tactic(auto, using(crate::proofs::Alone::ends_alone, crate::proofs::Alone::cuts_alone))]
 pub fn ends_of_cuts_alone()
     ensures { (i : InstructionParts) (es : List EntryParts)
         → 0 < i.period

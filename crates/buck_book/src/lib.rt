@@ -11,7 +11,6 @@ mod plan;
 mod posting;
 mod pricing;
 mod ready;
-mod relation;
 mod running;
 mod targets;
 mod walk;

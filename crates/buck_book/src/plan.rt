@@ -2,7 +2,6 @@
 ghost use Rattle.std.specs.Prelude.{◌≡◌, IfOk};
 ghost use Rattle.buck_book.specs.Plan.{IsPlan};
 
-use crate::entry::Entry;
 use buck_dp::{Cutting, Planner};
 use buck_record::Memory;
 use buck_stem::Stem;
@@ -14,10 +13,10 @@ use std::sync::Arc;
 /// A plan for a stem: the first of the best cuttings under a sheet, and its worth.
 #[derive(Drop)]
 pub struct Plan {
-    stem: Arc<Stem>,
+    pub(crate) stem: Arc<Stem>,
     sheet: Arc<Sheet>,
-    cutting: Arc<Cutting>,
-    worth: u64,
+    pub(crate) cutting: Arc<Cutting>,
+    pub(crate) worth: u64,
 }
 
 impl Model for Plan {
@@ -89,27 +88,5 @@ impl Plan {
         ensures best { IsPlan self.now }
     {
         self.worth
-    }
-
-    /// The entry of this plan in a history; the sheet is let go.
-    pub(crate) fn into_entry(self, harvester: u32, number: u32, version: u32) -> Entry
-        ensures entry { result ≡ record {
-          harvester = harvester;
-          number = number;
-          stem = self.stem;
-          version = version;
-          logs = self.logs;
-          worth = self.worth;
-        } }
-        ensures best { IsPlan self }
-    {
-        Entry {
-            harvester,
-            number,
-            stem: self.stem,
-            version,
-            cutting: self.cutting,
-            worth: self.worth,
-        }
     }
 }

@@ -9,44 +9,29 @@ ghost use Rattle.buck_book.specs.Entry.{EntryParts, DemandParts};
 ghost use Rattle.buck_book.specs.Posting.{opening_targets};
 ghost use Rattle.buck_book.specs.Targets.{AreTargets};
 ghost use Rattle.buck_book.specs.Walk.{IsCountable};
-ghost use Rattle.buck_book.specs.inner.Running.{Tells, GoesOn, IsAfter, IsSheetAfter, standings_of};
+ghost use Rattle.buck_book.specs.inner.Running.{Tells, GoesOn, IsAfter, IsCopy, IsSheetAfter};
 ghost use Rattle.buck_book.specs.declared.posting.TheConstants.{MOST_POSTINGS};
 
 use crate::counts::add_logs;
 use crate::plan::Plan;
 use crate::posting::Posting;
-use crate::pricing::{Standings, prices_by};
+use crate::pricing::prices_by;
 use buck_apt::Instruction;
 use buck_record::Memory;
 use buck_rule::{Rule, Standing};
 use buck_stem::Stem;
 use buck_value::{Log, Sheet};
 use std::alloc::{AllocError, Global};
-use std::marker::Model;
 use std::sync::Arc;
 
 /// What some postings add up to, from the opening on.
 #[derive(Drop)]
 pub struct Running {
-    targets: Arc<Vec<u32>>,
-    cuts: u32,
-    version: u32,
-    by_class: Vec<u32>,
-    by_assortment: Vec<u32>,
-}
-
-impl Model for Running {
-    ghost use Rattle.buck_book.specs.inner.Running.{RunningParts};
-
-    ghost Value = { RunningParts };
-
-    ghost view = { λ n. record {
-      targets = n.targets.value.items;
-      cuts = n.cuts;
-      version = n.version;
-      by_class = n.by_class.items;
-      by_assortment = n.by_assortment.items;
-    } };
+    pub targets: Arc<Vec<u32>>,
+    pub cuts: u32,
+    pub version: u32,
+    pub by_class: Vec<u32>,
+    pub by_assortment: Vec<u32>,
 }
 
 /// The instruction's targets, class by class.
@@ -93,7 +78,7 @@ impl Running {
 
     /// A second one of the same value.
     pub fn clone(&self) -> Result<Running, AllocError>
-        ensures { IfOk result (λ n. n ≡ self.now) }
+        ensures { IfOk result (λ n. IsCopy self.now n) }
     {
         Ok(Running {
             targets: self.targets.clone()?,
@@ -104,49 +89,8 @@ impl Running {
         })
     }
 
-    /// The targets in force.
-    pub fn targets(&self) -> &[u32]
-        ensures { result.now ≡ self.now.targets }
-    {
-        self.targets.as_slice()
-    }
-
-    /// How many cuts came since the last end.
-    pub fn cuts(&self) -> u32
-        ensures { result ≡ self.now.cuts }
-    {
-        self.cuts
-    }
-
-    /// How many ends there were: the version in force.
-    pub fn version(&self) -> u32
-        ensures { result ≡ self.now.version }
-    {
-        self.version
-    }
-
-    /// How many logs were cut in each class.
-    pub fn classes(&self) -> &[u32]
-        ensures { result.now ≡ self.now.by_class }
-    {
-        self.by_class.as_slice()
-    }
-
-    /// How the classes of the instruction stand by it.
-    #[tactic(auto, using(crate::proofs::Told::prices_can))]
-    pub fn standings<'a>(&'a self, instruction: &'a Instruction) -> Standings<'a>
-        requires { (ps : List Posting) × Tells instruction.now ps self.now }
-        ensures { result ≡ standings_of instruction.now self.now }
-    {
-        Standings {
-            instruction,
-            targets: self.targets.as_slice(),
-            by_class: self.by_class.as_slice(),
-            by_assortment: self.by_assortment.as_slice(),
-        }
-    }
-
     /// The sheet in force: its prices are the rule's answers to how the classes stand.
+    #[tactic(auto, using(crate::proofs::Told::prices_can, crate::proofs::Standings::no_price_fault))]
     pub fn sheet<F: Fn(&Standing) -> u64>(
         &self,
         alloc: Global,
@@ -158,19 +102,11 @@ impl Running {
         ensures { IfOk result (λ s. (ps : List Posting) → Tells instruction.now.value ps self.now
             → IsSheetAfter F.Fn rule.now instruction.now.value ps s.value) }
     {
-        let prices = prices_by(alloc, rule, &self.standings(instruction))?;
-        let Ok(sheet) = Sheet::with_prices(instruction.clone()?, self.version(), prices) else {
+        let prices = prices_by(alloc, rule, instruction, self)?;
+        let Ok(sheet) = Sheet::with_prices(instruction.clone()?, self.version, prices) else {
             unreachable!()
         };
         Ok(Arc::new(alloc, sheet)?)
-    }
-
-    /// The targets in force, and how many logs were cut in each class.
-    pub fn into_parts(self) -> (Arc<Vec<u32>>, Vec<u32>)
-        ensures targets { result.0.value.items ≡ self.targets }
-        ensures counts { result.1.items ≡ self.by_class }
-    {
-        (self.targets, self.by_class)
     }
 
     /// Adds a cut: an admissible cutting of a stem. The sheet is any of the instruction.

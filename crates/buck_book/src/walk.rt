@@ -11,7 +11,7 @@ ghost use Rattle.buck_book.specs.inner.Walk.{calls_in};
 ghost use Rattle.buck_book.specs.declared.posting.TheConstants.{MOST_POSTINGS};
 
 use crate::posting::Posting;
-use crate::relation::first_wrong;
+use crate::pricing::first_wrong;
 use crate::running::Running;
 use buck_apt::Instruction;
 use buck_record::Memory;
@@ -102,14 +102,14 @@ impl<'a> Walk<'a> {
         ensures version { result ≡ ends_of self.now.instruction (passed self.now) }
         ensures small { result ≤ MOST_POSTINGS }
     {
-        self.running.version()
+        self.running.version
     }
 
     /// Whether a period begins here: there was no cut since the last end.
     pub fn begins_period(&self) -> bool
         ensures { IsTrue result ↔ (cuts_since_end self.now.instruction (passed self.now) ≡ 0) }
     {
-        self.running.cuts() == 0
+        self.running.cuts == 0
     }
 
     /// The targets in force, class by class: those of the last demand that was passed, else the instruction's.
@@ -117,14 +117,14 @@ impl<'a> Walk<'a> {
         ensures targets { result.now ≡ targets_of self.now.instruction (passed self.now) }
         ensures valid { AreTargets self.now.instruction result.now }
     {
-        self.running.targets()
+        self.running.targets.as_slice()
     }
 
     /// How many logs of each class were passed, class by class.
     pub fn counts(&self) -> &[u32]
         ensures { AreClassCounts self.now.instruction (passed self.now) result.now }
     {
-        self.running.classes()
+        self.running.by_class.as_slice()
     }
 
     /// The number that the next call of a harvester has.
@@ -136,6 +136,7 @@ impl<'a> Walk<'a> {
 
     /// The first class whose price, of one for each class, doesn't keep the price relation with the targets in force
     /// and with what was cut up to here, by its place among all classes. It takes no memory.
+    #[tactic(auto, using(crate::proofs::Told::prices_can))]
     pub fn wrong_price(&self, prices: &[u32]) -> Option<usize>
         requires { length prices.now ≡ classes self.now.instruction }
         ensures found { IfSome result (λ at.
@@ -143,7 +144,7 @@ impl<'a> Walk<'a> {
         ensures none { IfNone result
             (PricesMeet self.now.instruction (passed self.now) prices.now) }
     {
-        first_wrong(&self.running.standings(self.instruction), prices)
+        first_wrong(self.instruction, &self.running, prices)
     }
 
     /// The place after the next posting, whose logs, if it is a cut, are an admissible cutting, and whose targets, if

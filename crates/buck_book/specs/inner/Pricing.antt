@@ -1,13 +1,13 @@
 -- What holds while the prices of a next sheet are made.
-use Rattle.std.specs.Prelude.{◌≡◌, ℕ, ◌+◌, ◌*◌, ◌<◌, ◌≤◌, List, length, slice_index, slice_get, Some}
+use Rattle.std.specs.Prelude.{◌≡◌, ℕ, ◌<◌, ◌≤◌, List, length, slice_index, slice_get, Some}
 use Rattle.std.specs.Fn.{FnReturnsAt}
 use denote.Ref.{Bor}
 use denote.Param.Members.{Shared}
 use Rattle.buck_apt.specs.declared.class.Class.{Class}
 use Rattle.buck_apt.specs.Instruction.{InstructionParts, AssortmentParts, IsInstruction, IsClass, classes, classes_before, index_of}
 use Rattle.buck_rule.specs.declared.standing.Standing.{Standing}
+use Rattle.buck_rule.specs.Standing.{IsInRange}
 use Rattle.buck_rule.specs.Relation.{Meets}
-use Rattle.buck_value.specs.Sheet.{IsPriceAt}
 use Rattle.buck_book.specs.declared.pricing.Section.{Section}
 use Rattle.buck_book.specs.Targets.{AreTargets, targets_sum}
 use Rattle.buck_book.specs.History.{standing_at}
@@ -36,21 +36,23 @@ standing_by s a c =
     standing_at s.instruction a c s.targets
     (slice_index s.by_class (index_of s.instruction c)) (slice_index s.by_assortment c.assortment)
 
--- the class of an assortment, a row and a column
-abbrev pub class_at : ℕ → ℕ → ℕ → Class
-class_at at row column = record { assortment = at; row = row; column = column }
-
--- of an assortment of the instruction it is said how many classes come before, how many are in a row, and what is
--- wanted of all of its own
+-- of an assortment it is said how many classes come before, and what is wanted of all of its own
 pub record IsSection (s : StandingsParts) (x : Section) : Type 0 where
+  pub can : CanPrice s
   pub exists : slice_get s.instruction.assortments x.at ≡ Some x.assortment.now
   pub before_is : x.before ≡ classes_before s.instruction x.at
-  pub columns_are : x.columns ≡ length x.assortment.now.lengths
   pub targets_are : x.targets ≡ targets_sum s.instruction x.assortment.now x.at s.targets
 
--- how many classes come before a row
-abbrev pub row_start : Section → ℕ → ℕ
-row_start x row = x.before + row * x.columns
+-- how the class at a place stands
+pub record StandsAt (s : StandingsParts) (place : ℕ) (t : Standing) : Type 0 where
+  pub in_range : IsInRange t
+  pub each : (c : Class) (k : IsClass s.instruction c)
+      → index_of s.instruction c ≡ place → t ≡ standing_by s k.assortment c
+
+-- what is true of all classes below a place: of how each stands, and of its price
+pub record AreBelow (P : Standing → ℕ → Type 0) (s : StandingsParts) (prices : List ℕ) (place : ℕ) : Type 0 where
+  pub each : (c : Class) (k : IsClass s.instruction c) → index_of s.instruction c < place
+      → P (standing_by s k.assortment c) (slice_index prices (index_of s.instruction c))
 
 -- the class is one of this assortment of the instruction
 pub record IsClassOf (i : InstructionParts) (a : AssortmentParts) (c : Class) : Type 0 where
@@ -64,10 +66,16 @@ pub record IsAnswer {F : Type 0} (g : Shared F (Bor Standing × Unit {0}) ℕ) (
   pub given : FnReturnsAt g f s price
   pub met : Meets s price
 
--- so many first classes have prices: each is the closure's answer to its class's standing, within its span
+-- so many first classes have prices: each is the closure's answer to its class's standing
 pub record ArePriced {F : Type 0} (g : Shared F (Bor Standing × Unit {0}) ℕ) (f : F)
     (s : StandingsParts) (prices : List ℕ) (number : ℕ) : Type 0 where
   pub number_is : length prices ≡ number
-  pub answered : (c : Class) (k : IsClass s.instruction c) → index_of s.instruction c < number
-      → IsAnswer g f (standing_by s k.assortment c) (slice_index prices (index_of s.instruction c))
-  pub in_span : (k : ℕ) → k < number → IsPriceAt s.instruction prices k
+  pub answered : AreBelow (IsAnswer g f) s prices number
+
+-- the price at a place doesn't keep the price relation with how the class there stands, and those before it do
+pub record IsFirstWrong (s : StandingsParts) (prices : List ℕ) (place : ℕ) : Type 0 where
+  pub within : place < classes s.instruction
+  pub standing : Standing
+  pub stands : StandsAt s place standing
+  pub wrong : Meets standing (slice_index prices place) → ⊥
+  pub least : AreBelow Meets s prices place

@@ -6,6 +6,7 @@ use Rattle.buck_value.specs.declared.log.Log.{Log}
 use Rattle.buck_value.specs.Allowed.{class_of}
 use Rattle.buck_value.specs.Sheet.{SheetParts}
 use Rattle.buck_book.specs.declared.posting.Posting.{Posting}
+use Rattle.buck_book.specs.declared.running.Running.{Running}
 use Rattle.buck_book.specs.Posting.{targets_of, ends_of, cuts_since_end}
 use Rattle.buck_book.specs.Targets.{AreTargets}
 use Rattle.buck_book.specs.Counts.{AreClassCounts, assortment_count_of, calls_of}
@@ -39,42 +40,38 @@ pub record AreGrownAt {X : Type 0} (place : X → ℕ) (before : List ℕ) (xs :
 abbrev pub AreGrownBy : List ℕ → List Log → List ℕ → Type 0
 AreGrownBy = AreGrownAt (λ g. g.assortment)
 
--- what some postings add up to
-pub record RunningParts : Type 0 where
-  pub targets : List ℕ  -- those in force
-  pub cuts : ℕ  -- since the last end
-  pub version : ℕ  -- how many ends there were
-  pub by_class : List ℕ
-  pub by_assortment : List ℕ
-
 -- what prices are made by
-abbrev pub standings_of : InstructionParts → RunningParts → StandingsParts
+abbrev pub standings_of : InstructionParts → Running → StandingsParts
 standings_of i n = record {
   instruction = i;
-  targets = n.targets;
-  by_class = n.by_class;
-  by_assortment = n.by_assortment;
+  targets = n.targets.value.items;
+  by_class = n.by_class.items;
+  by_assortment = n.by_assortment.items;
 }
 
 -- it is what the history's definitions say of these postings
-pub record Tells (i : InstructionParts) (ps : List Posting) (n : RunningParts) : Type 0 where
+pub record Tells (i : InstructionParts) (ps : List Posting) (n : Running) : Type 0 where
   pub valid : IsInstruction i
   pub few : length ps ≤ MOST_POSTINGS
-  pub targets_are : n.targets ≡ targets_of i ps
-  pub targets_valid : AreTargets i n.targets
+  pub targets_are : n.targets.value.items ≡ targets_of i ps
+  pub targets_valid : AreTargets i n.targets.value.items
   pub cuts_are : n.cuts ≡ cuts_since_end i ps
   pub version_is : n.version ≡ ends_of i ps
-  pub counts_are : AreCounts i ps n.by_class n.by_assortment
-  pub counts_low : AreAtMost (80 * length ps) n.by_class n.by_assortment
+  pub counts_are : AreCounts i ps n.by_class.items n.by_assortment.items
+  pub counts_low : AreAtMost (80 * length ps) n.by_class.items n.by_assortment.items
 
 -- some postings to which one may be added add up to it
-abbrev pub GoesOn : InstructionParts → RunningParts → Type 0
+abbrev pub GoesOn : InstructionParts → Running → Type 0
 GoesOn i n = (ps : List Posting) × (length ps < MOST_POSTINGS) × Tells i ps n
 
 -- with a posting more, some postings that added up to one thing add up to the other
-abbrev pub IsAfter : InstructionParts → RunningParts → Posting → RunningParts → Type 0
+abbrev pub IsAfter : InstructionParts → Running → Posting → Running → Type 0
 IsAfter i before x after =
     (ps : List Posting) → length ps < MOST_POSTINGS → Tells i ps before → Tells i (ps ++ x ∷ []) after
+
+-- what adds up to one thing adds up to the other
+abbrev pub IsCopy : Running → Running → Type 0
+IsCopy n m = (i : InstructionParts) (ps : List Posting) → Tells i ps n → Tells i ps m
 
 -- the sheet in force after some postings, made there: its prices are answers to how the classes stand, and keep the
 -- relation with it
@@ -91,7 +88,7 @@ pub record AreCalls (ps : List Posting) (calls : List ℕ) : Type 0 where
   pub each : (k : ℕ) → k < 64 → slice_index calls k ≡ calls_of (k + 1) ps
 
 -- what a book keeps: its sheets are those of its prices, and all that runs on is what its history says
-pub record Keeps {F : Type 0} (b : BookParts F) (sheets : List SheetParts) (n : RunningParts) (calls : List ℕ) : Type 0 where
+pub record Keeps {F : Type 0} (b : BookParts F) (sheets : List SheetParts) (n : Running) (calls : List ℕ) : Type 0 where
   pub is_book : IsBook b
   pub sheets_are : sheets ≡ sheets_from 0 b.history.instruction b.history.sheets
   pub tells : Tells b.history.instruction b.history.postings n
