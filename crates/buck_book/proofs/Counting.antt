@@ -29,14 +29,11 @@ calls_more ps x calls h number are is pos most next = record {
   number = length-set calls (h - 1) number ∙ are.number;
   each = λ k lt. elim (cases_eq k (h - 1)) [
     | inl same ↦
-        let here : h ≡ k + 1 = omega arith in
-        let own : (harvester_of x == k + 1) ≡ true = eq-eqb (harvester_of x) (k + 1) (is ∙ here) in
-        let value : get_or (set calls (h - 1) number) k 0 ≡ number =
-        ap (λ x. get_or (set calls (h - 1) number) x 0) same
-        ∙ get_or-set_same calls (h - 1) number 0 (omega (arith, are.number)) in
-        value ∙ next ∙ ap (λ y. calls_of y ps + 1) here
-        ∙ sym (sum_by_push (λ y. cond (harvester_of y == k + 1) 1 0) ps x
-        ∙ ap (λ b. calls_of (k + 1) ps + cond b 1 0) own)
+        let here : k + 1 ≡ h = omega arith in
+        let value = get_or-set_same calls (h - 1) number 0 (omega (arith, are.number)) in
+        let pushed = sum_by_push (λ y. cond (harvester_of y == h) 1 0) ps x in
+        rw (here, same, value)
+        (next ∙ sym (pushed ∙ ap (λ b. calls_of h ps + cond b 1 0) (eq-eqb (harvester_of x) h is)))
     | inr other ↦ search (rules, ne_eqb, sum_by_push, get_or-set_other)
   ];
 }

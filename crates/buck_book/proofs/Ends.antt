@@ -75,16 +75,11 @@ pub ends-le : (p n : ℕ) (ps : List Posting) → ends_from p n ps ≤ length ps
 ends-le p n [] = omega arith
 ends-le p n (x ∷ xs) = grind (arith, ends_yes, ends_no, (ends-le p 0 xs), (ends-le p (n + 1) xs))
 
-still_low : (p n : ℕ) (x : Posting) → n < p → is_end p n x ≡ false → n + 1 < p
-still_low p n x lt no_ = grind (arith, eq-eqb, true_false)
-
 -- a period has fewer cuts than make it full
 pub cuts_low : (p n : ℕ) (ps : List Posting) → 0 < p → n < p → cuts_from p n ps < p
 cuts_low p n [] pos lt = lt
-cuts_low p n (x ∷ xs) pos lt = elim (cases_Bool (is_end p n x)) [
-  | inl yes_ ↦ omega (arith, cuts_yes p n x xs yes_, cuts_low p 0 xs pos pos)
-  | inr no_ ↦ omega (arith, cuts_no p n x xs no_, cuts_low p (n + 1) xs pos (still_low p n x lt no_))
-]
+cuts_low p n (x ∷ xs) pos lt =
+    grind (arith, cuts_yes, cuts_no, eq-eqb, true_false, (cuts_low p 0 xs pos pos), (cuts_low p (n + 1) xs pos))
 
 pub targets-append : (ts : List ℕ) (xs ys : List Posting)
     → targets_after ts (xs ++ ys) ≡ targets_after (targets_after ts xs) ys

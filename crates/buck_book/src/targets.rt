@@ -21,17 +21,6 @@ pub enum TargetsFault {
     Sum { assortment: usize },
 }
 
-/// The first class whose target is above 1,000,000.
-fn first_above(targets: &[u32]) -> Option<usize>
-    ensures found { IfSome result (λ at.
-        (at < length targets.now)
-        × (IsLowAt targets.now at → ⊥)
-        × ((k : ℕ) → k < at → IsLowAt targets.now k)) }
-    ensures none { IfNone result (EachIndex targets.now (λ k. IsLowAt targets.now k)) }
-{
-    targets.iter().position(|target| *target > TARGETS.high)
-}
-
 /// All of some numbers together.
 pub fn sum_of(targets: &[u32]) -> u64
     requires few { length targets.now ≤ 1024 }
@@ -85,7 +74,7 @@ pub fn check_targets(instruction: &Instruction, targets: &[u32]) -> Result<(), T
     if targets.len() != instruction.classes() {
         return Err(TargetsFault::Count);
     }
-    match first_above(targets) {
+    match targets.iter().position(|target| *target > TARGETS.high) {
         Some(at) => return Err(TargetsFault::Range { at }),
         None => {}
     }

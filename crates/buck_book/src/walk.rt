@@ -156,21 +156,10 @@ impl<'a> Walk<'a> {
         ensures { IfOk result (λ w.
             w ≡ walk_of self.entry.instruction self.entry.postings (self.entry.at + 1)) }
     {
-        let Walk {
-            instruction,
-            postings,
-            at,
-            mut running,
-            mut calls,
-        } = self;
-        running.after(sheet, posting)?;
-        count_call(&mut calls, posting.harvester())?;
-        Ok(Walk {
-            instruction,
-            postings,
-            at: at + 1,
-            running,
-            calls,
-        })
+        let mut walk = self;
+        walk.running.after(sheet, posting)?;
+        count_call(&mut walk.calls, posting.harvester())?;
+        walk.at += 1;
+        Ok(walk)
     }
 }
