@@ -3,7 +3,7 @@ use Rattle.buck_book.proofs.Words.{◌≡◌, ℕ, zero, suc, ◌+◌, ◌-◌, 
 use Rattle.buck_book.specs.CutsAlone as alone
 use Rattle.buck_book.proofs.Ends.{ends_yes, ends_no, cuts_yes, cuts_no, cuts_low, ends_past}
 pub use Rattle.buck_book.proofs.Places.{ClassAt, class_at}
-use Rattle.buck_book.proofs.Places.{inner_is, inner_lt}
+use Rattle.buck_book.proofs.Places.{number_at}
 use Rattle.buck_book.proofs.Standings.{base_is}
 use Rattle.buck_book.proofs.Wanted.{part_of}
 
@@ -41,20 +41,12 @@ at_cut : (es : List EntryParts) (k : ℕ) (e : EntryParts) → slice_get es k �
     → slice_get (map Cut es) k ≡ Some (Cut e)
 at_cut es k e at = grind (arith, slice_get-map)
 
-module _ (i : InstructionParts) (c : Class) (v : IsInstruction i) (k : IsClass i c) where
-  part : take (classes_of k.assortment) (drop (classes_before i c.assortment) (opening_targets i))
-      ≡ k.assortment.targets
-  part = grind (arith, part_of, recursion_from_All)
-
-  -- a class's target at the opening is read from its assortment
-  target_is : slice_index (opening_targets i) (index_of i c)
-      ≡ slice_index k.assortment.targets (alone.place_in k.assortment c)
-  target_is = grind (arith, inner_is, get_or-drop, get_or-take, inner_lt, part)
-
-  -- after cuts alone a class stands the same in both words
-  same_standing : (es : List EntryParts)
-      → standing_of i k.assortment c (map Cut es) ≡ alone.standing_of i k.assortment c es
-  same_standing es = grind (arith, targets_stay, base_is, target_is, part, sum_of_cuts)
+-- after cuts alone a class stands the same in both words
+same_standing : (i : InstructionParts) (c : Class) → IsInstruction i → (k : IsClass i c) (es : List EntryParts)
+    → standing_of i k.assortment c (map Cut es) ≡ alone.standing_of i k.assortment c es
+same_standing i c v k es =
+    let target = number_at (λ a. a.targets) (λ a w. w.targets_number) i c v k in
+    grind (arith, targets_stay, base_is, target, part_of (λ a. a.targets) (λ a w. w.targets_number), recursion_from_All, sum_of_cuts)
 
 -- prices that keep the relation after cuts do so in words that know of no demand, and the other way round
 pub meets_to_alone : (i : InstructionParts) (es : List EntryParts) (prices : List ℕ) → IsInstruction i

@@ -105,18 +105,6 @@ pub is_next_sheet : {F : Type 0} (g : Shared F (Bor Standing × Unit {0}) ℕ) (
     → IsNextSheet h x s
 is_next_sheet g f h x s sheet last = grind (arith, ends_with_end)
 
--- a sheet added to a list, as a list of values and of prices
-pub values_added : {X : Type 0} (val : X → SheetParts) (xs ys : List X) (next : Option X)
-    → ys ≡ xs ++ option_to_list next → map val ys ≡ map val xs ++ option_to_list (option_map val next)
-values_added val xs ys None is = grind (arith, map-append)
-values_added val xs ys (Some x) is = grind (arith, map-append)
-
-pub prices_added : {X : Type 0} (val : X → SheetParts) (xs ys : List X) (next : Option X)
-    → ys ≡ xs ++ option_to_list next
-    → map (λ a. (val a).prices) ys ≡ sheets_with (map (λ a. (val a).prices) xs) (option_map val next)
-prices_added val xs ys None is = ap (map (λ a. (val a).prices)) (is ∙ append-nil xs)
-prices_added val xs ys (Some x) is = ap (map (λ a. (val a).prices)) is ∙ map-append (λ a. (val a).prices) xs (x ∷ [])
-
 -- what was made for a book can be added to it when more memory is held ready
 pub ready_to_add : {F : Type 0} (a b : BookParts F) (x : HistoryParts → ℕ → Posting) (next : Option SheetParts)
     → SameContent a b → length a.history.postings < a.capacity

@@ -1,6 +1,6 @@
 -- Prefixes of lawful histories, and lawful histories one posting longer.
 use Rattle.buck_book.proofs.Words.{◌≡◌, ℕ, zero, suc, ◌+◌, ◌<◌, ◌≤◌, ◌⊎◌, inl, inr, List, [], ◌∷◌, ◌++◌, length, take, get_or, slice_get, Option, Some, None, refl, sym, ap, ◌∙◌, arith, rules, common_steps, take_all, take-append-le, take-take, length-take-le, length_push, get_or-take, get_or_append_left, get_or_push, slice_get_within, slice_get-get_or, get_or_from_slice_get, InstructionParts, SheetParts, Posting, ends_of, planned_version, HistoryParts, IsLawful, Follows, Holds, IsEnd, PricesMeet, prices_at, sheets_with, history_with, first_of, IsNext}
-use Rattle.buck_book.proofs.Ends.{ends_with_end, ends_without, ends_take-le, take_one_more}
+use Rattle.buck_book.proofs.Ends.{ends_with_end, ends_without, ends_take-le, ends_past}
 
 -- an element of a list one longer
 pub slice_get-push : {X : Type 0} (xs : List X) (y x : X) (i : ℕ) → slice_get (xs ++ y ∷ []) i ≡ Some x
@@ -36,65 +36,40 @@ version_within h k x l at =
     let w = (l.postings_follow k x at).version_in_force in
     search (rules, ends_take-le)
 
+pub prefix : (h : HistoryParts) (k : ℕ) → IsLawful h → k ≤ length h.postings → IsLawful (first_of k h)
+prefix h k l le =
+    let i = h.instruction in
+    let n : ℕ = ends_of i (take k h.postings) + 1 in
+    record {
+      postings_follow = λ j x at.
+          let here = slice_get-take h.postings k j x le at in
+          let one = take-take j k h.postings (omega (arith, here.0)) in
+          let low : planned_version x < n =
+          omega (
+            arith,
+            (version_within h j x l here.1).0,
+            ends_take-le i (take k h.postings) j,
+            ap (λ xs. ends_of i xs) one,
+          ) in
+          rw one
+          (follows_same i h.sheets (take n h.sheets) (take j h.postings) x
+          (get_or-take n h.sheets (planned_version x) [] low) (l.postings_follow j x here.1));
+      sheets_number = search (rules, length-take-le, ends_take-le);
+      base_sheet = get_or-take n h.sheets 0 [] (omega arith) ∙ l.base_sheet;
+      sheets_meet = λ j x at e.
+          let here = slice_get-take h.postings k j x le at in
+          let one = take-take j k h.postings (omega (arith, here.0)) in
+          let low : ends_of i (take j h.postings) + 1 < n =
+          omega (arith, ends_past i (take k h.postings) j x at e, ap (λ xs. ends_of i xs) one) in
+          rw (one, take-take (j + 1) k h.postings (omega (arith, here.0)), get_or-take n h.sheets _ [] low)
+          (l.sheets_meet j x here.1 (rw one at e));
+    }
+
 -- what a list of sheets says of an older version stays with more sheets
 pub prices_stay : (sheets : List (List ℕ)) (next : Option SheetParts) (v : ℕ) → v < length sheets
     → prices_at (sheets_with sheets next) v ≡ prices_at sheets v
 prices_stay sheets None v lt = refl
 prices_stay sheets (Some s) v lt = get_or_append_left sheets (s.prices ∷ []) [] v lt
-
--- a list of postings that agrees with a lawful history up to one, with the same sheets up to then
-module _ (h : HistoryParts) (ps : List Posting) (sheets : List (List ℕ)) (k : ℕ) (x : Posting) (l : IsLawful h)
-    (at : slice_get h.postings k ≡ Some x) (same : take (k + 1) ps ≡ take (k + 1) h.postings)
-    (stay : (v : ℕ) → v ≤ ends_of h.instruction (take (k + 1) h.postings) → prices_at sheets v ≡ prices_at h.sheets v) where
-  before : take k ps ≡ take k h.postings
-  before = sym (take-take k (k + 1) ps (omega arith)) ∙ ap (λ xs. take k xs) same
-      ∙ take-take k (k + 1) h.postings (omega arith)
-
-  ends_before : ends_of h.instruction (take k h.postings) ≤ ends_of h.instruction (take (k + 1) h.postings)
-  ends_before =
-      rw (take-take k (k + 1) h.postings (omega arith)) at (ends_take-le h.instruction (take (k + 1) h.postings) k)
-
-  follows_on : Follows h.instruction sheets (take k ps) x
-  follows_on =
-      rw before
-      (follows_same h.instruction h.sheets sheets (take k h.postings) x
-      (stay (planned_version x) (omega (arith, (version_within h k x l at).0, ends_before))) (l.postings_follow k x at))
-
-  meets_on : IsEnd h.instruction (take k ps) x
-      → PricesMeet h.instruction (take (k + 1) ps) (prices_at sheets (ends_of h.instruction (take k ps) + 1))
-  meets_on e =
-      let e' = rw before at e in
-      let next : ends_of h.instruction (take k h.postings) + 1 ≤ ends_of h.instruction (take (k + 1) h.postings) =
-      omega (
-        arith,
-        ends_with_end h.instruction (take k h.postings) x e',
-        ap (λ xs. ends_of h.instruction xs) (take_one_more h.postings k x at),
-      ) in
-      rw (same, before, stay _ next) (l.sheets_meet k x at e')
-
-pub prefix : (h : HistoryParts) (k : ℕ) → IsLawful h → k ≤ length h.postings → IsLawful (first_of k h)
-prefix h k l le = record {
-  postings_follow = λ j x at.
-      let here = slice_get-take h.postings k j x le at in
-      follows_on h (take k h.postings) (take n h.sheets) j x l here.1 (one j here.0) (stay j here.0);
-  sheets_number = search (rules, length-take-le, ends_take-le);
-  base_sheet = get_or-take n h.sheets 0 [] (omega arith) ∙ l.base_sheet;
-  sheets_meet = λ j x at.
-      let here = slice_get-take h.postings k j x le at in
-      meets_on h (take k h.postings) (take n h.sheets) j x l here.1 (one j here.0) (stay j here.0);
-}
-  where
-    n : ℕ
-    n = ends_of h.instruction (take k h.postings) + 1
-
-    one : (j : ℕ) → j < k → take (j + 1) (take k h.postings) ≡ take (j + 1) h.postings
-    one j lt = take-take (j + 1) k h.postings (omega arith)
-
-    stay : (j : ℕ) → j < k → (v : ℕ) → v ≤ ends_of h.instruction (take (j + 1) h.postings)
-        → prices_at (take n h.sheets) v ≡ prices_at h.sheets v
-    stay j lt v low =
-        get_or-take n h.sheets v []
-        (omega (arith, rw (one j lt) at (ends_take-le h.instruction (take k h.postings) (j + 1))))
 
 -- the next sheet, where there is one, is there as it should be
 next_meets : (h : HistoryParts) (x : Posting) (next : Option SheetParts) → IsLawful h → IsNext h x next
@@ -105,38 +80,36 @@ next_meets h x next l n last = grind (arith, get_or_push)
 
 pub one_more : (h : HistoryParts) (x : Posting) (next : Option SheetParts) → IsLawful h
     → Follows h.instruction h.sheets h.postings x → IsNext h x next → IsLawful (history_with h x next)
-one_more h x next l follows n = record {
-  postings_follow = λ k y at. elim (slice_get-push h.postings x y k at) [
-    | inl old ↦ follows_on h longer sheets k y l old.1 (one k old.0) (stay k)
-    | inr new ↦
-        let w : planned_version x < length h.sheets = omega (arith, follows.version_in_force, l.sheets_number) in
-        rw (new.0, new.1, whole)
-        (follows_same h.instruction h.sheets sheets h.postings x (prices_stay h.sheets next (planned_version x) w) follows)
-  ];
-  sheets_number = grind (arith, ends_without, length_push, ends_with_end);
-  base_sheet = prices_stay h.sheets next 0 (omega (arith, l.sheets_number)) ∙ l.base_sheet;
-  sheets_meet = λ k y at e. elim (slice_get-push h.postings x y k at) [
-    | inl old ↦ meets_on h longer sheets k y l old.1 (one k old.0) (stay k) e
-    | inr new ↦ rw (new.0, whole, with_it) (next_meets h x next l n (rw (new.0, new.1, whole) at e))
-  ];
-}
-  where
-    longer : List Posting
-    longer = h.postings ++ x ∷ []
-
-    sheets : List (List ℕ)
-    sheets = sheets_with h.sheets next
-
-    whole : take (length h.postings) longer ≡ h.postings
-    whole = take-append-le (length h.postings) h.postings (x ∷ []) (omega arith)
-        ∙ take_all (length h.postings) h.postings (omega arith)
-
-    with_it : take (length h.postings + 1) longer ≡ longer
-    with_it = take_all (length h.postings + 1) longer (omega (arith, length_push h.postings x))
-
-    one : (k : ℕ) → k < length h.postings → take (k + 1) longer ≡ take (k + 1) h.postings
-    one k lt = take-append-le (k + 1) h.postings (x ∷ []) (omega arith)
-
-    stay : (k v : ℕ) → v ≤ ends_of h.instruction (take (k + 1) h.postings) → prices_at sheets v ≡ prices_at h.sheets v
-    stay k v low =
-        prices_stay h.sheets next v (omega (arith, l.sheets_number, ends_take-le h.instruction h.postings (k + 1)))
+one_more h x next l follows n =
+    let i = h.instruction in
+    let whole : take (length h.postings) (h.postings ++ x ∷ []) ≡ h.postings =
+    take-append-le (length h.postings) h.postings (x ∷ []) (omega arith)
+    ∙ take_all (length h.postings) h.postings (omega arith) in
+    let with_it : take (length h.postings + 1) (h.postings ++ x ∷ []) ≡ h.postings ++ x ∷ [] =
+    take_all (length h.postings + 1) (h.postings ++ x ∷ []) (omega (arith, length_push h.postings x)) in
+    record {
+      postings_follow = λ k y at. elim (slice_get-push h.postings x y k at) [
+        | inl old ↦
+            rw (take-append-le k h.postings (x ∷ []) (omega (arith, old.0)))
+            (follows_same i h.sheets (sheets_with h.sheets next) (take k h.postings) y
+            (prices_stay h.sheets next (planned_version y) (version_within h k y l old.1).1)
+            (l.postings_follow k y old.1))
+        | inr new ↦
+            let w : planned_version x < length h.sheets = omega (arith, follows.version_in_force, l.sheets_number) in
+            rw (new.0, new.1, whole)
+            (follows_same i h.sheets (sheets_with h.sheets next) h.postings x
+            (prices_stay h.sheets next (planned_version x) w) follows)
+      ];
+      sheets_number = grind (arith, ends_without, length_push, ends_with_end);
+      base_sheet = prices_stay h.sheets next 0 (omega (arith, l.sheets_number)) ∙ l.base_sheet;
+      sheets_meet = λ k y at e. elim (slice_get-push h.postings x y k at) [
+        | inl old ↦
+            let before = take-append-le k h.postings (x ∷ []) (omega (arith, old.0)) in
+            let e' = rw before at e in
+            let low : ends_of i (take k h.postings) + 1 < length h.sheets =
+            omega (arith, l.sheets_number, ends_past i h.postings k y old.1 e') in
+            rw (before, take-append-le (k + 1) h.postings (x ∷ []) (omega (arith, old.0)), prices_stay h.sheets next _ low)
+            (l.sheets_meet k y old.1 e')
+        | inr new ↦ rw (new.0, whole, with_it) (next_meets h x next l n (rw (new.0, new.1, whole) at e))
+      ];
+    }

@@ -11,5 +11,4 @@ pub mod Told
 pub mod Books
 pub mod Alone
 pub mod Relations
-pub mod Walks
 pub mod Degrees

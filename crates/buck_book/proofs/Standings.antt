@@ -1,6 +1,6 @@
 -- How classes stand, and the prices that are answered to that.
 use Rattle.buck_book.proofs.Words.{◌≡◌, ℕ, ◌+◌, ◌*◌, ◌<◌, ◌≤◌, inl, inr, List, [], ◌∷◌, ◌++◌, length, take, get_or, slice_index, slice_get, Some, sym, ◌∙◌, ap, subst, arith, mul-le-mul_left, rules, common_steps, flat_map, cases_lt, get_or_push, get_or_append_left, length_push, length-flat_map, sum_by_more, All-take, recursion_from_All, slice_get_within, get_or_from_slice_get, same_Some, Bor, Shared, Class, InstructionParts, AssortmentParts, IsInstruction, IsAssortment, IsClass, classes, classes_of, classes_before, index_of, Standing, IsInRange, Meets, SheetParts, sheet_of, base_prices, IsPriceAt, IsInSpan, IsSheetFault, SheetFault, Count, Price, base_at, base_price-le, Posting, targets_of, targets_sum, standing_at, standing_of, AreCounts, Running, Tells, IsSheetAfter, standings_of, Section, StandingsParts, CanPrice, IsSection, IsClassOf, StandsAt, IsAnswer, ArePriced, AreBelow, standing_by}
-use Rattle.buck_book.proofs.Places.{inner_is, inner_lt, place_lt, in_assortment, ClassAt, class_at}
+use Rattle.buck_book.proofs.Places.{number_at, inner_is, inner_lt, place_lt, in_assortment, ClassAt, class_at}
 use Rattle.buck_book.proofs.Wanted.{sum_same, valid_at, part_within, target_within, target_low}
 
 -- a class has one assortment
@@ -11,19 +11,7 @@ one_assortment i c k l = same_Some k.assortment l.assortment (sym k.exists ∙ l
 pub base_is : (i : InstructionParts) (c : Class) → IsInstruction i → (k : IsClass i c)
     → slice_index (base_prices i) (index_of i c)
     ≡ slice_index k.assortment.prices (c.row * length k.assortment.lengths + c.column)
-base_is i c v k =
-    let lt : c.assortment < length i.assortments = slice_get_within i.assortments c.assortment k.assortment k.exists in
-    let w : IsAssortment k.assortment = valid_at i c.assortment k.assortment v k.exists in
-    let here : k.assortment ≡ get_or i.assortments c.assortment k.assortment =
-    search (rules, get_or_from_slice_get) in
-    let before : classes_before i c.assortment ≡ length (flat_map (λ a. a.prices) (take c.assortment i.assortments)) =
-    sym (length-flat_map (λ a. a.prices) (take c.assortment i.assortments)
-    ∙ sum_same (λ a. a.prices) (λ a w. w.prices_number) (take c.assortment i.assortments)
-    (recursion_from_All IsAssortment (take c.assortment i.assortments)
-    (All-take IsAssortment c.assortment i.assortments v.assortments_valid))) in
-    ap (λ x. slice_index (base_prices i) x) (inner_is i c k)
-    ∙ base_at i c.assortment (c.row * length k.assortment.lengths + c.column) (classes_before i c.assortment)
-    k.assortment lt here before (omega (arith, w.prices_number, inner_lt i c k))
+base_is = number_at (λ a. a.prices) (λ a w. w.prices_number)
 
 -- a price in the relation lies within the span
 pub meets_within : (s : Standing) (price : ℕ) → Meets s price → IsInSpan s.limit s.base price
@@ -78,15 +66,6 @@ module _ (i : InstructionParts) (n : Running) (x : Section) (inner : ℕ) (k : I
 
   pub section_price : inner < length x.assortment.now.prices
   section_price = omega (arith, (valid_at i x.at x.assortment.now k.can.valid k.exists).prices_number)
-
-  pub section_target : x.before + inner < length n.targets.value.items
-  section_target = omega (arith, section_below, k.can.targets.one_each)
-
-  pub section_count : x.before + inner < length n.by_class.items
-  section_count = omega (arith, section_below, k.can.classes_number)
-
-  pub section_counts : x.at < length n.by_assortment.items
-  section_counts = omega (arith, slice_get_within i.assortments x.at x.assortment.now k.exists, k.can.assortments_number)
 
   -- how it stands by what was read is how it stands
   pub section_stands : (base limit target count counts : ℕ)

@@ -1,8 +1,8 @@
 -- What some postings add up to, one posting on.
-use Rattle.buck_book.proofs.Words.{◌≡◌, ℕ, ◌+◌, ◌<◌, ◌≤◌, ◌==◌, cond, List, [], ◌∷◌, ◌++◌, length, arith, rules, common_steps, length_push, sum_by_push, count_by-le-length, slice_get_within, InstructionParts, IsInstruction, IsStem, IsAllowed, end_of, IsCutFrom, Posting, Cut, Demand, EntryParts, DemandParts, opening_targets, AreTargets, Running, Tells, standings_of, AreCounts, AreAtMost, AreGrownAt, AreGrownBy, class_place, CanPrice}
+use Rattle.buck_book.proofs.Words.{◌≡◌, ℕ, ◌+◌, ◌<◌, ◌≤◌, ◌==◌, cond, List, [], ◌∷◌, ◌++◌, length, arith, rules, common_steps, length_push, sum_by_push, count_by-le-length, slice_get_within, slice_get, Some, length-take-le, harvester_of, WalkParts, walk_of, passed, IsAfter, IsWalk, InstructionParts, IsInstruction, IsStem, IsAllowed, end_of, IsCutFrom, Posting, Cut, Demand, EntryParts, DemandParts, opening_targets, AreTargets, Running, Tells, standings_of, AreCounts, AreAtMost, AreGrownAt, AreGrownBy, class_place, CanPrice}
 use Rattle.buck_book.proofs.Cuts.{few_logs, tallied}
 use Rattle.buck_book.proofs.Counting.{count_of-le}
-use Rattle.buck_book.proofs.Ends.{ends-append, cuts-append, targets-append, ends-le, cuts_low}
+use Rattle.buck_book.proofs.Ends.{take_one_more, ends-append, cuts-append, targets-append, ends-le, cuts_low}
 
 module _ (i : InstructionParts) (ps : List Posting) (n : Running) (t : Tells i ps n) where
   pub version_low : n.version ≤ 1000000
@@ -51,3 +51,14 @@ pub tells_opening : (i : InstructionParts) (n : Running)
     → AreCounts i [] n.by_class.items n.by_assortment.items → AreAtMost 0 n.by_class.items n.by_assortment.items
     → n.cuts ≡ 0 → n.version ≡ 0 → Tells i [] n
 tells_opening i n v wanted valid counts low cuts version = grind (arith, common_steps)
+
+-- what is kept along a way, one posting on: d is the place as callers see it
+module _ (w d : WalkParts) (n : Running) (calls : ℕ → ℕ) (x : Posting) (i : InstructionParts) (view : w ≡ d)
+    (k : IsWalk w n calls) (there : slice_get d.postings d.at ≡ Some x) (same : i ≡ d.instruction) where
+  few : length (passed w) < 1000000
+  few = grind (arith, slice_get_within, length-take-le)
+
+  pub walk_more : (n' : Running) (calls' : ℕ → ℕ) → IsAfter i n x n'
+      → ((h : ℕ) → calls' h ≡ calls h + cond (harvester_of x == h) 1 0)
+      → IsWalk (walk_of w.instruction w.postings (w.at + 1)) n' calls'
+  walk_more n' calls' told called = grind (arith, take_one_more, few, slice_get_within, sum_by_push)

@@ -12,16 +12,17 @@ all_low : (as_ : List AssortmentParts) → AllByRecursion IsAssortment as_
 all_low [] h = λ k d lt. absurd (omega arith)
 all_low (a ∷ as_) h = search (rules, All-append, (all_low as_ h.1))
 
--- an assortment's part of the targets of all
-pub part_of : (as_ : List AssortmentParts) (at : ℕ) (a : AssortmentParts) → AllByRecursion IsAssortment as_
+-- an assortment's part of lists with a number for each class, one of each assortment
+pub part_of : (f : AssortmentParts → List ℕ) → ((a : AssortmentParts) → IsAssortment a → length (f a) ≡ classes_of a)
+    → (as_ : List AssortmentParts) (at : ℕ) (a : AssortmentParts) → AllByRecursion IsAssortment as_
     → slice_get as_ at ≡ Some a
-    → take (classes_of a) (drop (sum_by classes_of (take at as_)) (flat_map (λ x. x.targets) as_)) ≡ a.targets
-part_of [] at a h e = absurd (none-some a e)
-part_of (b ∷ as_) zero a h e = search (rules, same_Some, take-append-le, take_all)
-part_of (b ∷ as_) (suc at) a h e =
-    let before : sum_by classes_of (b ∷ take at as_) ≡ length b.targets + sum_by classes_of (take at as_) =
+    → take (classes_of a) (drop (sum_by classes_of (take at as_)) (flat_map f as_)) ≡ f a
+part_of f one [] at a h e = absurd (none-some a e)
+part_of f one (b ∷ as_) zero a h e = search (rules, same_Some, take-append-le, take_all)
+part_of f one (b ∷ as_) (suc at) a h e =
+    let before : sum_by classes_of (b ∷ take at as_) ≡ length (f b) + sum_by classes_of (take at as_) =
     search (rules, sum_by-cons) in
-    search (rules, drop-append-add, (part_of as_ at a h.1 e))
+    search (rules, drop-append-add, (part_of f one as_ at a h.1 e))
 
 pub valid_at : (i : InstructionParts) (at : ℕ) (a : AssortmentParts) → IsInstruction i
     → slice_get i.assortments at ≡ Some a → IsAssortment a
@@ -35,7 +36,7 @@ opening_valid i v =
       one_each = length-flat_map (λ a. a.targets) i.assortments
           ∙ sum_same (λ a. a.targets) (λ a w. w.targets_number) i.assortments h;
       low = λ k lt. all_low i.assortments h k 0 lt;
-      low_sums = λ at lt a e. omega (arith, ap sum (part_of i.assortments at a h e), (valid_at i at a v e).targets_sum);
+      low_sums = λ at lt a e. omega (arith, ap sum (part_of (λ a. a.targets) (λ a w. w.targets_number) i.assortments at a h e), (valid_at i at a v e).targets_sum);
     }
 
 -- where an assortment's classes end

@@ -21,7 +21,7 @@ pub use Rattle.std.specs.Option.{option_to_list, option_map}
 pub use Rattle.buck_book.specs.Targets.{AreTargets, targets_sum, IsLowSumAt}
 pub use Rattle.buck_book.specs.Plan.{PlanParts, IsPlan, plan_of}
 pub use Rattle.buck_book.specs.Book.{BookParts, book_of, IsBook, IsFirst, IsNext, IsReadyToAdd, SameContent, sheets_from, entry_of, demand_of, ReadyParts, ReadyDemandParts}
-pub use Rattle.buck_book.specs.inner.Running.{Keeps, Tells, GoesOn, IsAfter, IsCopy, IsSheetAfter, AreCounts, AreAtMost, AreCalls, AreGrownBy, AreGrownAt, class_place, standings_of}
+pub use Rattle.buck_book.specs.inner.Running.{IsWalk, Keeps, Tells, GoesOn, IsAfter, IsCopy, IsSheetAfter, AreCounts, AreAtMost, AreCalls, AreGrownBy, AreGrownAt, class_place, standings_of}
 pub use Rattle.buck_rule.specs.declared.standing.Standing.{Standing}
 pub use denote.Ref.{Bor}
 pub use denote.Param.Members.{Shared}
@@ -37,7 +37,6 @@ pub use Rattle.buck_book.specs.Walk.{IsWrongPrice, WalkParts, walk_of, passed}
 pub use Rattle.buck_book.specs.declared.pricing.Section.{Section}
 pub use Rattle.buck_book.specs.declared.running.Running.{Running}
 pub use Rattle.buck_book.specs.inner.Pricing.{StandingsParts, IsSection, IsClassOf, standing_by, CanPrice, StandsAt, IsAnswer, ArePriced, AreBelow, IsFirstWrong}
-pub use Rattle.buck_book.specs.inner.Walk.{IsWalk}
 pub use Rattle.std.specs.List.{flat_map, AllByRecursion, zip}
 pub use Rattle.std.proofs.lemmas.Slice.Zip.{length-zip, get_or-zip}
 pub use Rattle.std.proofs.lemmas.List.Concat.{length-flat_map}

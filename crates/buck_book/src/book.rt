@@ -75,7 +75,6 @@ pub struct Parts {
 }
 
 /// Adds a sheet, if there is one, where there is memory for it.
-#[tactic(auto, using(crate::proofs::Books::values_added, crate::proofs::Books::prices_added))]
 fn add_sheet(sheets: &mut Vec<Arc<Sheet>>, next: Option<Arc<Sheet>>)
     requires { IfSome next (λ _. vec_len sheets.old < vec_capacity sheets.old) }
     ensures sheets { map (λ a. a.value) sheets.new.items

@@ -42,7 +42,7 @@ impl Running {
     }
 
     /// How a class of an assortment stands.
-    #[tactic(auto, using(crate::proofs::Standings::section_below, crate::proofs::Standings::section_price, crate::proofs::Standings::section_target, crate::proofs::Standings::section_count, crate::proofs::Standings::section_counts, crate::proofs::Standings::section_stands))]
+    #[tactic(auto, using(crate::proofs::Standings::section_below, crate::proofs::Standings::section_price, std::proofs::lemmas::Option::slice_get_within, crate::proofs::Standings::section_stands))]
     fn standing(&self, instruction: &Instruction, section: &Section, inner: usize) -> Standing
         requires section { IsSection (standings_of instruction.now self.now) section.now }
         requires inner { inner < classes_of section.now.assortment.now }

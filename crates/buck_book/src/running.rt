@@ -90,7 +90,7 @@ impl Running {
     }
 
     /// The sheet in force: its prices are the rule's answers to how the classes stand.
-    #[tactic(auto, using(crate::proofs::Told::prices_can, crate::proofs::Standings::no_price_fault))]
+    #[tactic(auto, using(crate::proofs::Told::prices_can, crate::proofs::Standings::no_price_fault, crate::proofs::Standings::is_sheet))]
     pub fn sheet<F: Fn(&Standing) -> u64>(
         &self,
         alloc: Global,
@@ -128,9 +128,7 @@ impl Running {
             stem,
             logs,
         );
-        let (cuts, version) = cut_more(self.cuts, self.version, period);
-        self.cuts = cuts;
-        self.version = version;
+        (self.cuts, self.version) = cut_more(self.cuts, self.version, period);
     }
 
     /// Adds the cut of a plan.

@@ -7,7 +7,7 @@ ghost use Rattle.buck_book.specs.Targets.{AreTargets};
 ghost use Rattle.buck_book.specs.Counts.{AreClassCounts, calls_of};
 ghost use Rattle.buck_book.specs.History.{PricesMeet};
 ghost use Rattle.buck_book.specs.Walk.{walk_of, passed, IsWrongPrice, IsCountable};
-ghost use Rattle.buck_book.specs.inner.Walk.{calls_in};
+ghost use Rattle.buck_book.specs.inner.Running.{calls_in};
 ghost use Rattle.buck_book.specs.declared.posting.TheConstants.{MOST_POSTINGS};
 
 use crate::posting::Posting;
@@ -33,7 +33,7 @@ pub struct Walk<'a> {
 
 impl<'a> Model for Walk<'a> {
     ghost use Rattle.buck_book.specs.Walk.{WalkParts, walk_of};
-    ghost use Rattle.buck_book.specs.inner.Walk.{IsWalk, calls_in};
+    ghost use Rattle.buck_book.specs.inner.Running.{IsWalk, calls_in};
 
     ghost Value = { WalkParts };
 

@@ -1,5 +1,7 @@
 -- What some postings add up to, and running counts.
-use Rattle.std.specs.Prelude.{◌≡◌, ℕ, ◌+◌, ◌*◌, ◌<◌, ◌≤◌, ◌==◌, List, [], ◌∷◌, ◌++◌, length, count_by, slice_index}
+use Rattle.std.specs.Prelude.{◌≡◌, ℕ, ◌+◌, ◌*◌, ◌<◌, ◌≤◌, ◌==◌, List, [], ◌∷◌, ◌++◌, length, count_by, slice_index, unwrap_or}
+use Rattle.std.specs.Ordering.{nat_cmp}
+use Rattle.std.specs.BTreeMap.{get, BTreeMap}
 use Rattle.buck_apt.specs.Instruction.{InstructionParts, IsInstruction, index_of}
 use Rattle.buck_stem.specs.Stem.{StemParts}
 use Rattle.buck_value.specs.declared.log.Log.{Log}
@@ -13,6 +15,7 @@ use Rattle.buck_book.specs.Counts.{AreClassCounts, assortment_count_of, calls_of
 use Rattle.buck_book.specs.History.{PricesMeet}
 use Rattle.buck_book.specs.Pricing.{Calls, AreAnswers}
 use Rattle.buck_book.specs.Book.{BookParts, IsBook, sheets_from}
+use Rattle.buck_book.specs.Walk.{WalkParts, passed}
 use Rattle.buck_book.specs.inner.Pricing.{StandingsParts}
 use Rattle.buck_book.specs.declared.posting.TheConstants.{MOST_POSTINGS}
 
@@ -93,3 +96,14 @@ pub record Keeps {F : Type 0} (b : BookParts F) (sheets : List SheetParts) (n : 
   pub sheets_are : sheets ≡ sheets_from 0 b.history.instruction b.history.sheets
   pub tells : Tells b.history.instruction b.history.postings n
   pub calls_are : AreCalls b.history.postings calls
+
+-- how many calls a harvester has, along a way
+abbrev pub calls_in : BTreeMap ℕ ℕ → ℕ → ℕ
+calls_in calls h = unwrap_or (get nat_cmp calls h) 0
+
+-- what is kept beside the place is what the postings that were passed say
+pub record IsWalk (w : WalkParts) (n : Running) (calls : ℕ → ℕ) : Type 0 where
+  pub few : length w.postings ≤ MOST_POSTINGS
+  pub within : w.at ≤ length w.postings
+  pub tells : Tells w.instruction (passed w) n
+  pub calls_are : (h : ℕ) → calls h ≡ calls_of h (passed w)

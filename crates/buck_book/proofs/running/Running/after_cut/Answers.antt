@@ -9,5 +9,5 @@ returns c = λ e s l ps few t.
     tells_cut c.args.sheet.now.instruction ps c.args.self.now t _ e few
     (rw s c.length.ensures.valid) (rw (s, l) c.requires.cutting) refl
     (rw (s, l) c.add_logs.ensures.classes) (rw l c.add_logs.ensures.assortments)
-    (c.cut_more-cuts.ensures.cuts ∙ ap (λ p. cond (c.args.self.now.cuts + 1 == p) 0 (c.args.self.now.cuts + 1)) period)
-    (c.cut_more-cuts.ensures.version ∙ ap (λ p. c.args.self.now.version + cond (c.args.self.now.cuts + 1 == p) 1 0) period)
+    (c.cut_more.ensures.cuts ∙ ap (λ p. cond (c.args.self.now.cuts + 1 == p) 0 (c.args.self.now.cuts + 1)) period)
+    (c.cut_more.ensures.version ∙ ap (λ p. c.args.self.now.version + cond (c.args.self.now.cuts + 1 == p) 1 0) period)

@@ -1,5 +1,5 @@
 use Rattle.buck_book.proofs.Words.{rules}
-use Rattle.buck_book.proofs.Walks.{walk_more}
+use Rattle.buck_book.proofs.Told.{walk_more}
 use Rattle.buck_book.proofs.walk.Walk.pass.Goals as goal
 
 pub invariant_of-walk : goal.invariant_of-walk
