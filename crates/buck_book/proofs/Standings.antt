@@ -1,5 +1,6 @@
 -- How classes stand, and the prices that are answered to that.
 use Rattle.buck_book.proofs.Words.{◌≡◌, ℕ, ◌+◌, ◌*◌, ◌<◌, ◌≤◌, inl, inr, List, [], ◌∷◌, ◌++◌, length, take, get_or, slice_index, slice_get, Some, sym, ◌∙◌, ap, subst, arith, mul-le-mul_left, rules, common_steps, flat_map, cases_lt, get_or_push, get_or_append_left, length_push, length-flat_map, sum_by_more, All-take, recursion_from_All, slice_get_within, get_or_from_slice_get, same_Some, Bor, Shared, Class, InstructionParts, AssortmentParts, IsInstruction, IsAssortment, IsClass, classes, classes_of, classes_before, index_of, Standing, IsInRange, Meets, SheetParts, sheet_of, base_prices, IsPriceAt, IsInSpan, IsSheetFault, SheetFault, Count, Price, base_at, base_price-le, Posting, targets_of, targets_sum, standing_at, standing_of, AreCounts, Running, Tells, IsSheetAfter, standings_of, Section, StandingsParts, CanPrice, IsSection, IsClassOf, StandsAt, IsAnswer, ArePriced, AreBelow, standing_by}
+use Rattle.std.specs.Fn.{FnReturnsAt}
 use Rattle.buck_book.proofs.Places.{number_at, inner_is, inner_lt, place_lt, in_assortment, ClassAt, class_at}
 use Rattle.buck_book.proofs.Wanted.{sum_same, valid_at, part_within, target_within, target_low}
 
@@ -107,12 +108,13 @@ one_more_below P s prices n m t stands true below = record {
 
 -- its price added to those of all classes before it
 pub price_more : {F : Type 0} (g : Shared F (Bor Standing × Unit {0}) ℕ) (f : F) (s : StandingsParts) (prices : List ℕ)
-    (price n m : ℕ) (t : Standing) → StandsAt s (n + m) t → IsAnswer g f t price → ArePriced g f s prices (n + m)
+    (price n m : ℕ) (t : Standing) → StandsAt s (n + m) t → FnReturnsAt g f t price → Meets t price
+    → ArePriced g f s prices (n + m)
     → ArePriced g f s (prices ++ price ∷ []) (n + (m + 1))
-price_more g f s prices price n m t stands answer priced = record {
+price_more g f s prices price n m t stands given met priced = record {
   number_is = omega (arith, length_push prices price, priced.number_is);
   answered = one_more_below (IsAnswer g f) s (prices ++ price ∷ []) n m t stands
-      (rw (← priced.number_is, get_or_push) answer)
+      (rw (← priced.number_is, get_or_push) (record { given = given; met = met }))
       (record {
         each = λ c k lt. rw (get_or_append_left prices (price ∷ []) 0 (index_of s.instruction c) (omega (arith, priced.number_is)))
             (priced.answered.each c k lt);

@@ -2,7 +2,6 @@
 #![tactic(auto)]
 
 mod book;
-mod counts;
 mod degree;
 mod demand;
 mod entry;

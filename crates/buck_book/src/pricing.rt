@@ -60,18 +60,8 @@ impl Running {
     }
 }
 
-/// The rule's price for a standing.
-#[tactic(auto, using(crate::proofs::Standings::meets_low))]
-fn price_by<F: Fn(&Standing) -> u64>(rule: &Rule<F>, standing: &Standing) -> u32
-    requires answers { Answers F.Fn rule.now }
-    requires range { IsInRange standing.now }
-    ensures { IsAnswer F.Fn rule.now standing.now result }
-{
-    rule.answer(standing) as u32
-}
-
 /// The prices of all classes: the rule's answers to how the classes stand.
-#[tactic(auto, using(crate::proofs::Standings::before_next, crate::proofs::Standings::price_more))]
+#[tactic(auto, using(crate::proofs::Standings::before_next, crate::proofs::Standings::meets_low, crate::proofs::Standings::price_more))]
 pub fn prices_by<F: Fn(&Standing) -> u64>(
     alloc: Global,
     rule: &Rule<F>,
@@ -88,7 +78,7 @@ pub fn prices_by<F: Fn(&Standing) -> u64>(
         let section = running.section(instruction, at, prices.len());
         for inner in 0..section.assortment.classes() {
             let standing = running.standing(instruction, &section, inner);
-            prices.push(price_by(rule, &standing))?;
+            prices.push(rule.answer(&standing) as u32)?;
         }
     }
     Ok(prices)

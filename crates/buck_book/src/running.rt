@@ -1,18 +1,16 @@
 //! What runs on along postings: a book and a walk hold one each.
-ghost use Rattle.std.specs.Prelude.{List, ◌≡◌, ◌+◌, ◌<◌, ◌≤◌, ◌==◌, ◌↔◌, [], IsTrue, IfOk, OnOk, cond, length, slice_index};
-ghost use Rattle.buck_apt.specs.Instruction.{InstructionParts, IsInstruction};
+ghost use Rattle.std.specs.Prelude.{List, ◌≡◌, ◌+◌, ◌<◌, ◌≤◌, ◌^◌, ◌==◌, [], IfOk, OnOk, All, cond, length, slice_index, slice_set};
+ghost use Rattle.buck_apt.specs.Instruction.{InstructionParts, classes, index_of};
 ghost use Rattle.buck_rule.specs.Stored.{Answers};
-ghost use Rattle.buck_value.specs.Allowed.{IsAllowed, end_of};
+ghost use Rattle.buck_value.specs.Allowed.{IsAllowed, class_of, end_of};
 ghost use Rattle.buck_dp.specs.Cutting.{IsCutFrom};
 ghost use Rattle.buck_book.specs.declared.posting.Posting.{Posting};
 ghost use Rattle.buck_book.specs.Entry.{EntryParts, DemandParts};
-ghost use Rattle.buck_book.specs.Posting.{opening_targets};
 ghost use Rattle.buck_book.specs.Targets.{AreTargets};
 ghost use Rattle.buck_book.specs.Walk.{IsCountable};
-ghost use Rattle.buck_book.specs.inner.Running.{Tells, GoesOn, IsAfter, IsCopy, IsSheetAfter};
+ghost use Rattle.buck_book.specs.inner.Running.{AreAtMost, AreGrownAt, AreGrownBy, class_place, Tells, GoesOn, IsAfter, IsCopy, IsSheetAfter};
 ghost use Rattle.buck_book.specs.declared.posting.TheConstants.{MOST_POSTINGS};
 
-use crate::counts::add_logs;
 use crate::plan::Plan;
 use crate::posting::Posting;
 use crate::pricing::prices_by;
@@ -20,7 +18,7 @@ use buck_apt::Instruction;
 use buck_record::Memory;
 use buck_rule::{Rule, Standing};
 use buck_stem::Stem;
-use buck_value::{Log, Sheet};
+use buck_value::{Log, Sheet, class_of};
 use std::alloc::{AllocError, Global};
 use std::sync::Arc;
 
@@ -32,18 +30,6 @@ pub struct Running {
     pub version: u32,
     pub by_class: Vec<u32>,
     pub by_assortment: Vec<u32>,
-}
-
-/// The instruction's targets, class by class.
-fn targets_at_opening(alloc: Global, instruction: &Instruction) -> Result<Vec<u32>, AllocError>
-    ensures targets { IfOk result (λ targets. targets.items ≡ opening_targets instruction.now) }
-    ensures valid { IsInstruction instruction.now }
-{
-    let mut targets = Vec::new(alloc);
-    for assortment in instruction.assortments() {
-        targets.extend_from_slice(assortment.targets())?;
-    }
-    Ok(targets)
 }
 
 /// How many cuts came since the last end, and the version in force, after one cut more.
@@ -59,12 +45,61 @@ fn cut_more(cuts: u32, version: u32, period: u32) -> (u32, u32)
     }
 }
 
+/// The place of the class of an allowed log.
+#[tactic(auto, using(buck_value::proofs::Classes::class_is_class))]
+fn place_of(sheet: &Sheet, stem: &Stem, log: &Log) -> usize
+    requires { IsAllowed sheet.now.instruction stem.now log.now }
+    ensures place { result ≡ index_of sheet.now.instruction (class_of sheet.now.instruction stem.now log.now) }
+    ensures within { result < classes sheet.now.instruction }
+{
+    match class_of(sheet, stem, log.start, log.assortment, log.length) {
+        Some(class) => sheet.instruction().index(class),
+        None => unreachable!(),
+    }
+}
+
+/// Adds one to the count at a place.
+fn add_one(counts: &mut Vec<u32>, place: usize)
+    requires within { place < length counts.old.items }
+    requires low { slice_index counts.old.items place + 1 < 2 ^ 32 }
+    ensures { counts.new.items ≡ slice_set counts.old.items place (slice_index counts.old.items place + 1) }
+{
+    counts[place] += 1;
+}
+
+/// Counts the logs of a stem's cutting, each allowed under the sheet, by class and by assortment.
+fn add_logs(
+    by_class: &mut Vec<u32>,
+    by_assortment: &mut Vec<u32>,
+    sheet: &Sheet,
+    stem: &Stem,
+    logs: &[Log],
+)
+    requires allowed { All (IsAllowed sheet.now.instruction stem.now) logs.now }
+    requires classes { length by_class.old.items ≡ classes sheet.now.instruction }
+    requires assortments { length by_assortment.old.items ≡ length sheet.now.instruction.assortments }
+    requires low { AreAtMost 80000000 by_class.old.items by_assortment.old.items }
+    requires few { length logs.now ≤ 80 }
+    ensures classes { AreGrownAt (class_place sheet.now.instruction stem.now) by_class.old.items logs.now
+        by_class.new.items }
+    ensures assortments { AreGrownBy by_assortment.old.items logs.now by_assortment.new.items }
+{
+    for log in logs {
+        add_one(by_class, place_of(sheet, stem, log));
+        add_one(by_assortment, log.assortment as usize);
+    }
+}
+
 impl Running {
     /// What no posting adds up to.
     pub fn opening(alloc: Global, instruction: &Instruction) -> Result<Running, Memory>
         ensures { IfOk result (λ n. Tells instruction.now [] n) }
     {
-        let targets = Arc::new(alloc, targets_at_opening(alloc, instruction)?)?;
+        let mut targets = Vec::new(alloc);
+        for assortment in instruction.assortments() {
+            targets.extend_from_slice(assortment.targets())?;
+        }
+        let targets = Arc::new(alloc, targets)?;
         let by_class = vec![in alloc; 0; instruction.classes()]?;
         let by_assortment = vec![in alloc; 0; instruction.assortments().len()]?;
         Ok(Running {

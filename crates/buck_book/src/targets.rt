@@ -42,28 +42,6 @@ pub fn targets_sum(assortment: &Assortment, first: usize, targets: &[u32]) -> u6
     sum_of(&targets[first..first + assortment.classes()])
 }
 
-/// The first assortment whose targets are together above 1,000,000,000.
-fn first_sum_above(instruction: &Instruction, targets: &[u32]) -> Option<usize>
-    requires { length targets.now ≡ classes instruction.now }
-    ensures found { IfSome result (λ at.
-        (at < length instruction.now.assortments)
-        × (IsLowSumAt instruction.now targets.now at → ⊥)
-        × ((k : ℕ) → k < at → IsLowSumAt instruction.now targets.now k)) }
-    ensures none { IfNone result
-        (EachIndex instruction.now.assortments (λ at. IsLowSumAt instruction.now targets.now at)) }
-{
-    let assortments = instruction.assortments();
-    let mut first = 0;
-    for at in 0..assortments.len() {
-        let assortment = &assortments[at];
-        if targets_sum(assortment, first, targets) > MOST_TARGETS_TOGETHER {
-            return Some(at);
-        }
-        first += assortment.classes();
-    }
-    None
-}
-
 /// Whether targets may come into force: one for each class of the instruction, assortment by assortment and row by
 /// row, each at most 1,000,000, and those of an assortment together at most 1,000,000,000. Refused as `Count`, else as
 /// `Range` with the least class, else as `Sum` with the least assortment. It takes no memory.
@@ -78,8 +56,14 @@ pub fn check_targets(instruction: &Instruction, targets: &[u32]) -> Result<(), T
         Some(at) => return Err(TargetsFault::Range { at }),
         None => {}
     }
-    match first_sum_above(instruction, targets) {
-        Some(assortment) => Err(TargetsFault::Sum { assortment }),
-        None => Ok(()),
+    let assortments = instruction.assortments();
+    let mut first = 0;
+    for at in 0..assortments.len() {
+        let assortment = &assortments[at];
+        if targets_sum(assortment, first, targets) > MOST_TARGETS_TOGETHER {
+            return Err(TargetsFault::Sum { assortment: at });
+        }
+        first += assortment.classes();
     }
+    Ok(())
 }

@@ -1,4 +1,4 @@
-use Rattle.buck_book.proofs.Words.{arith}
+use Rattle.buck_book.proofs.Words.{arith, take_all}
 use Rattle.buck_book.proofs.Counting.{none_counted, none_low}
 use Rattle.buck_book.proofs.Wanted.{opening_valid}
 use Rattle.buck_book.proofs.Told.{tells_opening}
@@ -8,4 +8,4 @@ pub returns : goal.returns
 returns c =
     let classes = c.in_ok-by_class.ensures.items_if_clones_equal (λ y e. e) in
     let assortments = c.in_ok-by_assortment.ensures.items_if_clones_equal (λ y e. e) in
-    grind (arith, tells_opening, opening_valid, none_counted, none_low)
+    grind (arith, take_all, tells_opening, opening_valid, none_counted, none_low)

@@ -1,6 +1,6 @@
 use Rattle.buck_book.proofs.Words.{refl, arith, common_steps, Log, class_place}
 use Rattle.buck_book.proofs.Counting.{grown_more}
-use Rattle.buck_book.proofs.counts.add_logs.Goals as goal
+use Rattle.buck_book.proofs.running.add_logs.Goals as goal
 
 pub loop-log-preserved : goal.loop-log-preserved
 loop-log-preserved c =

@@ -1,5 +1,5 @@
 use Rattle.buck_book.proofs.Words.{◌≡◌, ℕ, ◌<◌, classes_before, IsLowSumAt}
-use Rattle.buck_book.proofs.targets.first_sum_above.Given as goal
+use Rattle.buck_book.proofs.targets.check_targets.Given as goal
 
 abbrev pub invariant-loop-at : goal.invariant-loop-at
 invariant-loop-at l = record {

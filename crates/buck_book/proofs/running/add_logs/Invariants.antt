@@ -1,5 +1,5 @@
 use Rattle.buck_book.proofs.Words.{take, AreGrownAt, AreGrownBy, class_place}
-use Rattle.buck_book.proofs.counts.add_logs.Given as goal
+use Rattle.buck_book.proofs.running.add_logs.Given as goal
 
 abbrev pub invariant-loop-log : goal.invariant-loop-log
 invariant-loop-log l = record {
