@@ -22,20 +22,6 @@ fn shared(targets: &[u32], counts: &[u32], wanted: u128, cut: u128) -> u128
     all
 }
 
-/// The degree of an assortment's classes, given what is wanted of each and what was cut of each.
-fn degree_by(targets: &[u32], counts: &[u32]) -> Option<u32>
-    requires few { length targets.now ≤ 1024 }
-    requires one_each { length counts.now ≡ length targets.now }
-    ensures { result ≡ degree_of targets.now counts.now }
-{
-    let wanted = u128::from(sum_of(targets));
-    let cut = u128::from(sum_of(counts));
-    if wanted * cut == 0 {
-        return None;
-    }
-    Some((shared(targets, counts, wanted, cut) * 10_000 / (wanted * cut)) as u32)
-}
-
 /// The degree of apportionment of the assortment at a place, in ten-thousandths, rounded down once, given what is
 /// wanted of each class of the instruction and how many logs were cut in each: how far these logs have the proportions
 /// of those wanted. None where nothing is wanted of the assortment or nothing was cut.
@@ -58,5 +44,12 @@ pub fn degree_at(
         column: 0,
     });
     let after = first + number;
-    degree_by(&targets[first..after], &counts[first..after])
+    let targets = &targets[first..after];
+    let counts = &counts[first..after];
+    let wanted = u128::from(sum_of(targets));
+    let cut = u128::from(sum_of(counts));
+    if wanted * cut == 0 {
+        return None;
+    }
+    Some((shared(targets, counts, wanted, cut) * 10_000 / (wanted * cut)) as u32)
 }

@@ -44,15 +44,7 @@ impl Model for Entry {
 fn same_logs(these: &[Log], those: &[Log]) -> bool
     ensures { IsTrue result ↔ (these.now ≡ those.now) }
 {
-    if these.len() != those.len() {
-        return false;
-    }
-    for i in 0..these.len() {
-        if these[i] != those[i] {
-            return false;
-        }
-    }
-    true
+    these == those
 }
 
 impl Entry {

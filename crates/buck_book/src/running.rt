@@ -45,19 +45,6 @@ fn cut_more(cuts: u32, version: u32, period: u32) -> (u32, u32)
     }
 }
 
-/// The place of the class of an allowed log.
-#[tactic(auto, using(buck_value::proofs::Classes::class_is_class))]
-fn place_of(sheet: &Sheet, stem: &Stem, log: &Log) -> usize
-    requires { IsAllowed sheet.now.instruction stem.now log.now }
-    ensures place { result ≡ index_of sheet.now.instruction (class_of sheet.now.instruction stem.now log.now) }
-    ensures within { result < classes sheet.now.instruction }
-{
-    match class_of(sheet, stem, log.start, log.assortment, log.length) {
-        Some(class) => sheet.instruction().index(class),
-        None => unreachable!(),
-    }
-}
-
 /// Adds one to the count at a place.
 fn add_one(counts: &mut Vec<u32>, place: usize)
     requires within { place < length counts.old.items }
@@ -85,7 +72,10 @@ fn add_logs(
     ensures assortments { AreGrownBy by_assortment.old.items logs.now by_assortment.new.items }
 {
     for log in logs {
-        add_one(by_class, place_of(sheet, stem, log));
+        let Some(class) = class_of(sheet, stem, log.start, log.assortment, log.length) else {
+            unreachable!()
+        };
+        add_one(by_class, sheet.instruction().index(class));
         add_one(by_assortment, log.assortment as usize);
     }
 }

@@ -42,23 +42,6 @@ impl<'a> Model for Walk<'a> {
     ghost invariant = { λ w. IsWalk (walk_of w.instruction.now w.postings.now w.at) w.running (calls_in w.calls) };
 }
 
-/// How many calls a harvester has.
-fn calls_in(calls: &BTreeMap<u32, u32>, harvester: u32) -> u32
-    ensures { result ≡ calls_in calls.now harvester }
-{
-    calls.get(&harvester).copied().unwrap_or(0)
-}
-
-/// Counts a call of a harvester.
-fn count_call(calls: &mut BTreeMap<u32, u32>, harvester: u32) -> Result<(), Memory>
-    requires { calls_in calls.old harvester + 1 < 2 ^ 32 }
-    ensures { OnOk result ((h : ℕ) → calls_in calls.new h ≡ calls_in calls.old h + cond (harvester == h) 1 0) }
-{
-    let before = calls_in(calls, harvester);
-    calls.insert(harvester, before + 1)?;
-    Ok(())
-}
-
 impl<'a> Walk<'a> {
     /// The place before the first of at most 1,000,000 postings. Refused as `Memory` alone.
     pub fn opening(
@@ -131,7 +114,7 @@ impl<'a> Walk<'a> {
     pub fn next_number(&self, harvester: u32) -> u32
         ensures { result ≡ calls_of harvester (passed self.now) + 1 }
     {
-        calls_in(&self.calls, harvester) + 1
+        self.calls.get(&harvester).copied().unwrap_or(0) + 1
     }
 
     /// The first class whose price, of one for each class, doesn't keep the price relation with the targets in force
@@ -156,9 +139,10 @@ impl<'a> Walk<'a> {
         ensures { IfOk result (λ w.
             w ≡ walk_of self.entry.instruction self.entry.postings (self.entry.at + 1)) }
     {
+        let number = self.next_number(posting.harvester());
         let mut walk = self;
         walk.running.after(sheet, posting)?;
-        count_call(&mut walk.calls, posting.harvester())?;
+        walk.calls.insert(posting.harvester(), number)?;
         walk.at += 1;
         Ok(walk)
     }

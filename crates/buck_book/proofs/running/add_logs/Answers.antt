@@ -1,4 +1,4 @@
-use Rattle.buck_book.proofs.Words.{refl, arith, common_steps, Log, class_place}
+use Rattle.buck_book.proofs.Words.{refl, rules, arith, common_steps, Log, class_place}
 use Rattle.buck_book.proofs.Counting.{grown_more}
 use Rattle.buck_book.proofs.running.add_logs.Goals as goal
 
@@ -8,7 +8,7 @@ loop-log-preserved c =
     record {
       classes = rw c.add_one.ensures
           (grown_more (class_place c.args.sheet.now.instruction c.args.stem.now) _ _ _ _ _ none c.loop-log-test.true
-          c.place_of.ensures.place (grind (arith, common_steps)) c.loop-log.invariant.classes);
+          (search rules) (grind (arith, common_steps)) c.loop-log.invariant.classes);
       assortments = rw c.add_one-in-loop-log.ensures
           (grown_more (λ g. g.assortment) _ _ _ _ _ none c.loop-log-test.true refl (grind (arith, common_steps))
           c.loop-log.invariant.assortments);
