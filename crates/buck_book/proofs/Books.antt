@@ -39,12 +39,6 @@ book_more b x next room sheet_room k follows n first in_range below = record {
   capacity_range = k.capacity_range;
 }
 
--- the sheets with the next one
-pub sheets_after : (h : HistoryParts) (x : Posting) (ts : List SheetParts) (next : Option SheetParts) → IsLawful h
-    → ts ≡ sheets_from 0 h.instruction h.sheets → IsNext h x next
-    → ts ++ option_to_list next ≡ sheets_from 0 h.instruction (sheets_with h.sheets next)
-sheets_after h x ts next l are n = grind (arith, append-nil, sheets_from-append)
-
 -- what is kept after a posting more
 pub keeps_more : {F : Type 0} (b : BookParts F) (sheets : List SheetParts) (n n' : Running) (calls : List ℕ)
     (x : HistoryParts → Posting) (next : Option SheetParts) (room sheet_room : ℕ)
@@ -59,7 +53,7 @@ keeps_more b sheets n n' calls x next room sheet_room k below own may is_next to
     let y : Posting = x b.history in
     record {
       is_book = book_more b y next room sheet_room k.is_book may.0 is_next may.1 own below;
-      sheets_are = sheets_after b.history y sheets next k.is_book.lawful k.sheets_are is_next;
+      sheets_are = grind (arith, append-nil, sheets_from-append);
       tells = told b.history.postings (omega (arith, below, k.is_book.capacity_range)) k.tells;
       calls_are = search (rules, calls_more);
     }
@@ -81,9 +75,6 @@ module _ {F : Type 0} (b d : BookParts F) (sheets : List SheetParts) (n : Runnin
     (k : Keeps b sheets n calls) (below : length d.history.postings < d.capacity) where
   few : length b.history.postings < 1000000
   few = omega (arith, (rw (sym view) at below), k.is_book.capacity_range)
-
-  pub goes_on : (p : PlanParts) → p.sheet ≡ in_force d.history → GoesOn p.sheet.instruction n
-  goes_on p same = grind (arith, few)
 
   pub passed_cut : (p : PlanParts) (n₁ n' : Running) → p.sheet ≡ in_force d.history → IsCopy n n₁
       → ((e : EntryParts) → e.stem ≡ p.stem → e.logs ≡ p.logs → IsAfter p.sheet.instruction n₁ (Cut e) n')

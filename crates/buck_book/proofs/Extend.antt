@@ -19,15 +19,11 @@ slice_get-take xs n i x le e =
     let is : get_or xs i x ≡ x = sym (get_or-take n xs i x lt) ∙ get_or_from_slice_get (take n xs) i x x e in
     grind (arith, slice_get-get_or)
 
--- a posting holds where the prices of its version are the same
-holds_same : (i : InstructionParts) (these those : List (List ℕ)) (x : Posting)
-    → prices_at those (planned_version x) ≡ prices_at these (planned_version x) → Holds i these x → Holds i those x
-holds_same i these those x same h = grind (arith, common_steps)
-
+-- a posting follows where the prices of its version are the same
 pub follows_same : (i : InstructionParts) (these those : List (List ℕ)) (before : List Posting) (x : Posting)
     → prices_at those (planned_version x) ≡ prices_at these (planned_version x)
     → Follows i these before x → Follows i those before x
-follows_same i these those before x same f = grind (arith, holds_same)
+follows_same i these those before x same f = grind (arith, common_steps)
 
 -- the sheet of a posting is there
 pub version_within : (h : HistoryParts) (k : ℕ) (x : Posting) → IsLawful h → slice_get h.postings k ≡ Some x
