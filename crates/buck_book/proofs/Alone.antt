@@ -1,5 +1,5 @@
 -- Histories of cuts alone: their ends are the full periods, and two ways to say that one is lawful say the same.
-use Rattle.buck_book.proofs.Words.{◌≡◌, ℕ, zero, suc, ◌+◌, ◌-◌, ◌*◌, ◌/◌, ◌%◌, ◌<◌, ◌≤◌, ◌↔◌, inl, inr, List, [], ◌∷◌, map, length, take, drop, slice_index, slice_get, Some, sum_by, refl, sym, ◌∙◌, arith, rules, add-one, eqb-true, eq-eqb, mul-le-mul_right, div-mul-le_self, cases_Bool, cases_lt, cases_eq, same_from_place, div-mul-add, mod-mul-add, div-add-mod', div_below, mod_below, same_number_lists, take-map, get_or-take, get_or-drop, length-take-le, recursion_from_All, sum_by-cons, slice_get_within, slice_get-map, slice_get_cases, same_Some, none-some, Class, InstructionParts, AssortmentParts, IsInstruction, IsClass, classes, classes_of, classes_before, index_of, base_prices, length-base_prices, Posting, Cut, EntryParts, ends_from, cuts_from, ends_of, cuts_since_end, targets_after, opening_targets, IsLawful, IsEnd, PricesMeet, prices_at, standing_of}
+use Rattle.buck_book.proofs.Words.{◌≡◌, ℕ, zero, suc, ◌+◌, ◌-◌, ◌*◌, ◌/◌, ◌%◌, ◌<◌, ◌≤◌, inl, inr, List, [], ◌∷◌, map, length, take, slice_get, Some, sum_by, refl, sym, ◌∙◌, arith, rules, add-one, eqb-true, eq-eqb, mul-le-mul_right, div-mul-le_self, cases_Bool, same_from_place, div-mul-add, mod-mul-add, same_number_lists, take-map, length-take-le, recursion_from_All, sum_by-cons, slice_get_within, slice_get-map, slice_get_cases, same_Some, none-some, Class, InstructionParts, IsInstruction, IsClass, base_prices, length-base_prices, Posting, Cut, EntryParts, ends_from, cuts_from, ends_of, cuts_since_end, targets_after, IsLawful, IsEnd, PricesMeet, prices_at, standing_of}
 use Rattle.buck_book.specs.CutsAlone as alone
 use Rattle.buck_book.proofs.Ends.{ends_yes, ends_no, cuts_yes, cuts_no, cuts_low, ends_past}
 pub use Rattle.buck_book.proofs.Places.{ClassAt, class_at}

@@ -1,5 +1,5 @@
 -- What a book keeps, one posting on.
-use Rattle.buck_book.proofs.Words.{◌≡◌, ℕ, ◌-◌, ◌<◌, inl, inr, List, [], ◌∷◌, ◌++◌, Option, Some, None, length, map, set, get_or, append-nil, refl, sym, ◌∙◌, ap, arith, rules, common_steps, map-append, length_push, option_to_list, option_map, InstructionParts, IsWithin, SheetParts, Posting, Cut, Demand, EntryParts, DemandParts, harvester_of, number_of, planned_version, AreTargets, HistoryParts, IsLawful, Follows, IsEnd, IsNextSheet, sheets_with, history_with, version_of, in_force, PlanParts, IsPlan, BookParts, book_of, IsBook, IsFirst, IsNext, IsReadyToAdd, SameContent, sheets_from, entry_of, demand_of, Running, Keeps, Tells, GoesOn, IsAfter, IsCopy, IsSheetAfter, Standing, Bor, Shared}
+use Rattle.buck_book.proofs.Words.{◌≡◌, ℕ, ◌-◌, ◌<◌, inl, inr, List, [], ◌∷◌, ◌++◌, Option, length, set, get_or, append-nil, refl, sym, arith, rules, common_steps, length_push, option_to_list, InstructionParts, IsWithin, SheetParts, Posting, Cut, Demand, EntryParts, DemandParts, harvester_of, number_of, planned_version, AreTargets, HistoryParts, Follows, IsEnd, IsNextSheet, sheets_with, history_with, version_of, in_force, PlanParts, IsPlan, BookParts, book_of, IsBook, IsFirst, IsNext, IsReadyToAdd, SameContent, entry_of, demand_of, Running, Keeps, Tells, IsAfter, IsCopy, IsSheetAfter, Standing, Bor, Shared}
 use Rattle.buck_book.proofs.Counting.{calls_more}
 use Rattle.buck_book.proofs.Ends.{ends_with_end}
 use Rattle.buck_book.proofs.Extend.{slice_get-push, version_within, one_more, prices_stay}

@@ -1,5 +1,5 @@
 -- Running counts of entries, one entry on.
-use Rattle.buck_book.proofs.Words.{◌≡◌, ℕ, ◌+◌, ◌-◌, ◌<◌, ◌≤◌, ◌==◌, true, cond, List, [], ◌∷◌, ◌++◌, length, get_or, set, take, replicate, ◌^◌, sym, ◌∙◌, ap, inl, inr, arith, eq-eqb, rules, common_steps, ne_eqb, cases_eq, get_or-set_same, get_or-set_other, length-set, get_or_past, get_or-replicate, length-replicate, sum_by-le-sum_by, sum_by_push, count_by-le-length, Class, InstructionParts, classes, Log, Posting, Cut, Demand, harvester_of, class_logs_in, assortment_logs_in, count_of, assortment_count_of, calls_of, AreCounts, AreAtMost, AreCalls, AreGrownBy, AreGrownAt}
+use Rattle.buck_book.proofs.Words.{◌≡◌, ℕ, ◌+◌, ◌-◌, ◌<◌, ◌≤◌, ◌==◌, cond, List, [], ◌∷◌, ◌++◌, length, get_or, set, take, replicate, ◌^◌, sym, ◌∙◌, ap, inl, inr, arith, eq-eqb, rules, common_steps, ne_eqb, cases_eq, get_or-set_same, get_or-set_other, length-set, get_or_past, get_or-replicate, length-replicate, sum_by-le-sum_by, sum_by_push, count_by-le-length, Class, InstructionParts, classes, Log, Posting, Cut, Demand, harvester_of, class_logs_in, assortment_logs_in, count_of, assortment_count_of, calls_of, AreCounts, AreAtMost, AreCalls, AreGrownBy, AreGrownAt}
 use Rattle.buck_book.proofs.Cuts.{class_logs-le}
 
 zeros : (n k : ℕ) → get_or (replicate {A = ℕ} n 0) k 0 ≡ 0

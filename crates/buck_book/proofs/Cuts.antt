@@ -30,12 +30,8 @@ is_class_itself c = grind (arith, and_from, eq-eqb)
 -- classes are compared by their places
 pub place_tells : (i : InstructionParts) (c d : Class) → IsClass i c → IsClass i d
     → (index_of i d == index_of i c) ≡ is_class c d
-place_tells i c d k l = elim (cases_eq (index_of i d) (index_of i c)) [
-  | inl same ↦
-      let one : d ≡ c = one_place i d c l k same in
-      grind (arith, eq-eqb, is_class_itself)
-  | inr other ↦ grind (arith, ne_eqb, false_from_ne_true, is_class_same)
-]
+place_tells i c d k l =
+    grind (arith, cases_eq, eq-eqb, ne_eqb, is_class_itself, false_from_ne_true, is_class_same, (one_place i d c l k))
 
 -- a class's logs are counted by their places
 pub tallied : (i : InstructionParts) (c : Class) (stem : StemParts) (from : ℕ) (gs : List Log) → IsInstruction i

@@ -1,5 +1,5 @@
 -- Sums over the classes of an assortment.
-use Rattle.buck_book.proofs.Words.{◌≡◌, ℕ, zero, suc, ◌+◌, ◌*◌, ◌/◌, ◌<◌, ◌≤◌, min, List, [], ◌∷◌, length, take, sum, get_or, arith, add-one, rules, sum_by-cons, min-le_left, add-mul, mul-le-mul, div-le_of_le-mul, slice_get, Some, slice_get_read, AssortmentParts, shared_of}
+use Rattle.buck_book.proofs.Words.{◌≡◌, ℕ, ◌+◌, ◌*◌, ◌/◌, ◌<◌, ◌≤◌, List, [], ◌∷◌, length, sum, get_or, arith, rules, sum_by-cons, min-le_left, add-mul, mul-le-mul, div-le_of_le-mul, slice_get, Some, slice_get_read, AssortmentParts, shared_of}
 
 -- all classes together have at most the whole
 pub shared_low : (wanted cut : ℕ) (targets counts : List ℕ) → shared_of wanted cut targets counts ≤ sum targets * cut

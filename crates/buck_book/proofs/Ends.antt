@@ -1,5 +1,5 @@
 -- Ends, and the targets in force, of longer and of shorter lists of postings.
-use Rattle.buck_book.proofs.Words.{◌≡◌, ℕ, ◌+◌, ◌<◌, ◌≤◌, true, false, cond, inl, inr, List, [], ◌∷◌, ◌++◌, length, take, drop, slice_get, Some, refl, ◌∙◌, ap, arith, eq-eqb, cases_Bool, false_from_ne_true, take-append-drop, take_more, slice_get_within, get_or_from_slice_get, InstructionParts, Posting, Cut, Demand, DemandParts, is_end, ends_from, cuts_from, ends_of, cuts_since_end, targets_after, IsEnd}
+use Rattle.buck_book.proofs.Words.{◌≡◌, ℕ, ◌+◌, ◌<◌, ◌≤◌, true, false, cond, List, [], ◌∷◌, ◌++◌, length, take, drop, slice_get, Some, refl, ◌∙◌, ap, arith, eq-eqb, false_from_ne_true, take-append-drop, take_more, slice_get_within, get_or_from_slice_get, InstructionParts, Posting, Cut, Demand, DemandParts, is_end, ends_from, cuts_from, ends_of, cuts_since_end, targets_after, IsEnd}
 
 pub true_false : true ≡ false → ⊥
 true_false e = absurd (cc)

@@ -1,5 +1,5 @@
 -- Prefixes of lawful histories, and lawful histories one posting longer.
-use Rattle.buck_book.proofs.Words.{◌≡◌, ℕ, zero, suc, ◌+◌, ◌<◌, ◌≤◌, ◌⊎◌, inl, inr, List, [], ◌∷◌, ◌++◌, length, take, get_or, slice_get, Option, Some, None, refl, sym, ap, ◌∙◌, arith, rules, common_steps, take_all, take-append-le, take-take, length-take-le, length_push, get_or-take, get_or_append_left, get_or_push, slice_get_within, slice_get-get_or, get_or_from_slice_get, InstructionParts, SheetParts, Posting, ends_of, planned_version, HistoryParts, IsLawful, Follows, Holds, IsEnd, PricesMeet, prices_at, sheets_with, history_with, first_of, IsNext}
+use Rattle.buck_book.proofs.Words.{◌≡◌, ℕ, zero, suc, ◌+◌, ◌<◌, ◌≤◌, ◌⊎◌, inl, inr, List, [], ◌∷◌, ◌++◌, length, take, get_or, slice_get, Option, Some, None, refl, sym, ap, ◌∙◌, arith, rules, common_steps, take_all, take-append-le, take-take, length-take-le, length_push, get_or-take, get_or_append_left, get_or_push, slice_get_within, slice_get-get_or, get_or_from_slice_get, InstructionParts, SheetParts, Posting, ends_of, planned_version, HistoryParts, IsLawful, Follows, IsEnd, PricesMeet, prices_at, sheets_with, history_with, first_of, IsNext}
 use Rattle.buck_book.proofs.Ends.{ends_with_end, ends_without, ends_take-le, ends_past}
 
 -- an element of a list one longer

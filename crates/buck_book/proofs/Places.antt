@@ -1,5 +1,5 @@
 -- Places of classes: one place, one class.
-use Rattle.buck_book.proofs.Words.{◌≡◌, ℕ, suc, ◌+◌, ◌-◌, ◌*◌, ◌/◌, ◌%◌, ◌<◌, ◌≤◌, inl, inr, List, [], ◌∷◌, Option, Some, None, length, take, get_or, slice_get, slice_index, sum_by, flat_map, refl, ◌∙◌, ap, arith, mul_comm, rules, same_from_place, cases_lt, cases_eq, div-add-mod', div_below, mod_below, sum_by-cons, mul-add-lt, take-take, get_or-take, length-take-le, sum_by_more_le, get_or_from_slice_get, slice_get_within, same_Some, Class, InstructionParts, AssortmentParts, IsInstruction, IsAssortment, recursion_from_All, get_or-drop, IsClass, classes, classes_of, classes_before, index_of, place_in, StemParts, Log, class_of, class_in}
+use Rattle.buck_book.proofs.Words.{◌≡◌, ℕ, suc, ◌+◌, ◌-◌, ◌*◌, ◌/◌, ◌%◌, ◌<◌, ◌≤◌, inl, inr, List, [], ◌∷◌, Option, Some, None, length, take, get_or, slice_get, slice_index, sum_by, flat_map, refl, ◌∙◌, ap, arith, mul_comm, rules, same_from_place, cases_lt, cases_eq, div-add-mod', div_below, mod_below, sum_by-cons, mul-add-lt, take-take, get_or-take, length-take-le, sum_by_more_le, get_or_from_slice_get, slice_get_within, same_Some, Class, InstructionParts, AssortmentParts, IsInstruction, IsAssortment, recursion_from_All, get_or-drop, IsClass, classes, classes_of, classes_before, index_of, place_in, StemParts, Log, class_in}
 use Rattle.buck_book.proofs.Wanted.{part_within, part_of}
 
 -- the classes of an assortment come before those of a later one

@@ -1,5 +1,5 @@
 -- Prices in the relation, class by class.
-use Rattle.buck_book.proofs.Words.{◌≡◌, ℕ, ◌+◌, ◌<◌, inl, inr, List, Option, Some, None, length, slice_index, refl, sym, subst, arith, rules, IfNone, cases_lt, Class, InstructionParts, AssortmentParts, IsClass, classes, index_of, Meets, Posting, targets_of, standing_of, PricesMeet, IsWrongPrice, AreCounts, StandingsParts, IsClassOf, standing_by, AreBelow, IsFirstWrong}
+use Rattle.buck_book.proofs.Words.{◌≡◌, ℕ, ◌+◌, ◌<◌, List, Option, Some, None, length, refl, arith, rules, IfNone, Class, InstructionParts, AssortmentParts, IsClass, classes, index_of, Meets, Posting, targets_of, standing_of, PricesMeet, IsWrongPrice, AreCounts, StandingsParts, IsClassOf, standing_by, AreBelow, IsFirstWrong}
 use Rattle.buck_book.proofs.Places.{place_lt, inner_is, ClassAt, class_at}
 use Rattle.buck_book.proofs.Standings.{standing_is}
 

@@ -1,8 +1,8 @@
 -- How classes stand, and the prices that are answered to that.
-use Rattle.buck_book.proofs.Words.{◌≡◌, ℕ, ◌+◌, ◌*◌, ◌<◌, ◌≤◌, inl, inr, List, [], ◌∷◌, ◌++◌, length, take, get_or, slice_index, slice_get, Some, sym, ◌∙◌, ap, subst, arith, mul-le-mul_left, rules, common_steps, flat_map, cases_lt, get_or_push, get_or_append_left, length_push, length-flat_map, sum_by_more, All-take, recursion_from_All, slice_get_within, get_or_from_slice_get, same_Some, Bor, Shared, Class, InstructionParts, AssortmentParts, IsInstruction, IsAssortment, IsClass, classes, classes_of, classes_before, index_of, Standing, IsInRange, Meets, SheetParts, sheet_of, base_prices, IsPriceAt, IsInSpan, IsSheetFault, SheetFault, Count, Price, base_at, base_price-le, Posting, targets_of, targets_sum, standing_at, standing_of, AreCounts, Running, Tells, IsSheetAfter, standings_of, Section, StandingsParts, CanPrice, IsSection, IsClassOf, StandsAt, IsAnswer, ArePriced, AreBelow, standing_by}
+use Rattle.buck_book.proofs.Words.{◌≡◌, ℕ, ◌+◌, ◌*◌, ◌<◌, ◌≤◌, inl, inr, List, [], ◌∷◌, ◌++◌, length, slice_index, slice_get, Some, sym, ◌∙◌, ap, arith, mul-le-mul_left, common_steps, cases_lt, get_or_push, get_or_append_left, length_push, sum_by_more, slice_get_within, get_or_from_slice_get, same_Some, Bor, Shared, Class, InstructionParts, AssortmentParts, IsInstruction, IsClass, classes, classes_of, classes_before, index_of, Standing, IsInRange, Meets, SheetParts, sheet_of, base_prices, IsPriceAt, IsInSpan, IsSheetFault, SheetFault, Count, Price, base_price-le, Posting, targets_of, targets_sum, standing_at, standing_of, AreCounts, Running, Tells, IsSheetAfter, standings_of, Section, StandingsParts, CanPrice, IsSection, IsClassOf, StandsAt, IsAnswer, ArePriced, AreBelow, standing_by}
 use Rattle.std.specs.Fn.{FnReturnsAt}
 use Rattle.buck_book.proofs.Places.{number_at, inner_is, inner_lt, place_lt, in_assortment, ClassAt, class_at}
-use Rattle.buck_book.proofs.Wanted.{sum_same, valid_at, part_within, target_within, target_low}
+use Rattle.buck_book.proofs.Wanted.{valid_at, part_within, target_within, target_low}
 
 -- a class has one assortment
 pub one_assortment : (i : InstructionParts) (c : Class) (k l : IsClass i c) → k.assortment ≡ l.assortment
@@ -48,9 +48,8 @@ stands_by s a c base limit target targets count counts b l t ts n ns = cc
 pub before_next : (i : InstructionParts) (a : AssortmentParts) (at : ℕ) → slice_get i.assortments at ≡ Some a
     → classes_before i (at + 1) ≡ classes_before i at + length a.diameters * length a.lengths
 before_next i a at exists =
-    let lt : at < length i.assortments = slice_get_within i.assortments at a exists in
-    sum_by_more classes_of i.assortments at a lt
-    ∙ ap (λ x. classes_before i at + classes_of x) (get_or_from_slice_get i.assortments at a a exists)
+    rw (get_or_from_slice_get i.assortments at a a exists) at
+    (sum_by_more classes_of i.assortments at a (slice_get_within i.assortments at a exists))
 
 -- by running counts that can be a history's, a class stands in range
 pub stands_in_range : (s : StandingsParts) (a : AssortmentParts) (c : Class) → IsClassOf s.instruction a c → CanPrice s

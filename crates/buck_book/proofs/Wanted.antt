@@ -43,9 +43,8 @@ opening_valid i v =
 pub part_within : (i : InstructionParts) (at : ℕ) (a : AssortmentParts) → slice_get i.assortments at ≡ Some a
     → classes_before i at + classes_of a ≤ classes i
 part_within i at a e =
-    let more : classes_before i at + classes_of (get_or i.assortments at a) ≤ classes i =
-    search (rules, sum_by_more_le, slice_get_within) in
-    search (rules, get_or_from_slice_get)
+    rw (get_or_from_slice_get i.assortments at a a e) at
+    (sum_by_more_le classes_of i.assortments at a (slice_get_within i.assortments at a e))
 
 -- a class's target is a part of what is wanted of its assortment
 pub target_within : (i : InstructionParts) (at j : ℕ) (a : AssortmentParts) (ts : List ℕ) → AreTargets i ts

@@ -1,7 +1,7 @@
 //! The degree of apportionment.
-ghost use Rattle.std.specs.Prelude.{◌≡◌, ◌*◌, ◌<◌, ◌≤◌, ◌^◌, length, sum};
+ghost use Rattle.std.specs.Prelude.{◌≡◌, ◌*◌, ◌<◌, ◌≤◌, ◌^◌, length};
 ghost use Rattle.buck_apt.specs.Instruction.{classes};
-ghost use Rattle.buck_book.specs.Degree.{IsDegreeBy, degree_of, shared_of};
+ghost use Rattle.buck_book.specs.Degree.{IsDegreeBy, shared_of};
 
 use crate::targets::sum_of;
 use buck_apt::{Class, Instruction};

@@ -1,10 +1,9 @@
 //! How classes stand: the prices that a rule answers to it, and whether prices keep the price relation with it.
 ghost use Rattle.std.specs.Prelude.{◌≡◌, ◌+◌, ◌<◌, IfOk, IfSome, IfNone, length};
 ghost use Rattle.buck_apt.specs.Instruction.{classes, classes_of, classes_before};
-ghost use Rattle.buck_rule.specs.Standing.{IsInRange};
 ghost use Rattle.buck_rule.specs.Stored.{Answers};
 ghost use Rattle.buck_rule.specs.Relation.{Meets};
-ghost use Rattle.buck_book.specs.inner.Pricing.{CanPrice, IsSection, StandsAt, IsAnswer, ArePriced, AreBelow, IsFirstWrong};
+ghost use Rattle.buck_book.specs.inner.Pricing.{CanPrice, IsSection, StandsAt, ArePriced, AreBelow, IsFirstWrong};
 ghost use Rattle.buck_book.specs.inner.Running.{standings_of};
 
 use crate::running::Running;

@@ -1,6 +1,6 @@
 //! What runs on along postings: a book and a walk hold one each.
 ghost use Rattle.std.specs.Prelude.{List, ◌≡◌, ◌+◌, ◌<◌, ◌≤◌, ◌^◌, ◌==◌, [], IfOk, OnOk, All, cond, length, slice_index, slice_set};
-ghost use Rattle.buck_apt.specs.Instruction.{InstructionParts, classes, index_of};
+ghost use Rattle.buck_apt.specs.Instruction.{InstructionParts, classes};
 ghost use Rattle.buck_rule.specs.Stored.{Answers};
 ghost use Rattle.buck_value.specs.Allowed.{IsAllowed, class_of, end_of};
 ghost use Rattle.buck_dp.specs.Cutting.{IsCutFrom};

@@ -1,7 +1,7 @@
 //! Which targets may come into force.
-ghost use Rattle.std.specs.Prelude.{◌≡◌, ℕ, ◌+◌, ◌*◌, ◌<◌, ◌≤◌, ◌^◌, IfSome, IfNone, IfErr, OnOk, EachIndex, length, take, drop, sum, slice_get, slice_index, Some};
-ghost use Rattle.buck_apt.specs.Instruction.{IsInstruction, classes, classes_of, classes_before};
-ghost use Rattle.buck_book.specs.Targets.{AreTargets, IsTargetsFault, IsLowAt, IsLowSumAt, targets_sum};
+ghost use Rattle.std.specs.Prelude.{◌≡◌, ◌+◌, ◌*◌, ◌<◌, ◌≤◌, ◌^◌, IfErr, OnOk, length, take, drop, sum, Some};
+ghost use Rattle.buck_apt.specs.Instruction.{classes, classes_of};
+ghost use Rattle.buck_book.specs.Targets.{AreTargets, IsTargetsFault, targets_sum};
 
 use buck_apt::slots::{MOST_TARGETS_TOGETHER, TARGETS};
 use buck_apt::{Assortment, Instruction};

@@ -1,5 +1,5 @@
 //! A way through the postings of a history.
-ghost use Rattle.std.specs.Prelude.{◌≡◌, ℕ, ◌+◌, ◌<◌, ◌≤◌, ◌^◌, ◌==◌, ◌↔◌, IsTrue, IfOk, IfSome, IfNone, OnOk, cond, length, slice_get, Some};
+ghost use Rattle.std.specs.Prelude.{◌≡◌, ◌+◌, ◌<◌, ◌≤◌, ◌==◌, ◌↔◌, IsTrue, IfOk, IfSome, IfNone, length, slice_get, Some};
 ghost use Rattle.std.specs.Option.{option_map};
 ghost use Rattle.buck_apt.specs.Instruction.{IsInstruction, classes};
 ghost use Rattle.buck_book.specs.Posting.{ends_of, cuts_since_end, targets_of};
