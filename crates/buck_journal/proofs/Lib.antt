@@ -8,7 +8,6 @@ pub mod Made
 pub mod Faults
 pub mod NoFault
 pub mod Lines
-pub mod Again
 pub mod Texts
 pub mod Within
 pub mod OnePass

@@ -1,6 +1,5 @@
 -- Lines of a file as they are written, and the items that are read of them.
-use Rattle.buck_journal.proofs.Words.{◌≡◌, ℕ, suc, ◌+◌, ◌-◌, ◌<◌, ◌≤◌, ◌^◌, true, false, List, [], ◌∷◌, ◌++◌, All, Some, Ok, get_or, length, take, drop, map, refl, sym, ap, ◌∙◌, subst, arith, append_assoc, codes, rules, common_steps, position_or_len, AllByRecursion, is_ascii_digit, decimal, digits_decimal, decimal_nonempty, cond-true, lt-ltb, nat_tests, append-nil, take_all, length-append, All-append, All-cons, All-nil, All-from_recursion, recursion_from_All, slice_split_at, AllPass-from_list_all, suffix_len_is, ItemParts, is_white, trim, trim_start, trim_end, first_word, after_word, words, each_from, number_at_most, is_tilde, item_of, items_of, numbers_of, number_of, HasItems, spelled, numeral, number-decimal, numbers_again, words-spelled, words-trim_start, item_text}
-use Rattle.buck_journal.proofs.OnePass.{items-are}
+use Rattle.buck_journal.proofs.Words.{◌≡◌, ℕ, suc, ◌+◌, ◌-◌, ◌<◌, ◌≤◌, ◌^◌, true, false, List, [], ◌∷◌, ◌++◌, All, Some, Ok, get_or, length, take, drop, map, refl, sym, ap, ◌∙◌, subst, arith, append_assoc, codes, rules, common_steps, position_or_len, AllByRecursion, is_ascii_digit, decimal, digits_decimal, decimal_nonempty, cond-true, lt-ltb, nat_tests, append-nil, take_all, length-append, All-append, All-cons, All-nil, All-from_recursion, recursion_from_All, slice_split_at, AllPass-from_list_all, suffix_len_is, ItemParts, Slot, Leads, item_in, slot, file_slot, LeadsNumbers, LeadsWorth, is_white, trim, trim_start, trim_end, first_word, after_word, words, each_from, number_at_most, is_tilde, item_of, numbers_of, number_of, HasItems, spelled, numeral, number-decimal, numbers_again, words-spelled, words-trim_start, item_text}
 
 -- a text whose last byte isn't white, and one whose first isn't
 abbrev EndsDark : List ℕ → Type 0
@@ -61,7 +60,7 @@ unfolding trim_start
 start_white w xs h = grind (arith, common_steps)
 
 -- numbers as they stand after a head
-pub told : List ℕ → List ℕ
+told : List ℕ → List ℕ
 told [] = []
 told (n ∷ ns) = decimal n ++ spelled ns
 
@@ -77,7 +76,7 @@ told_words (n ∷ ns) h =
     search (rules, start_white, start_dark, starts_append, starts_decimal) in
     ap words (sym own) ∙ words-trim_start (32 ∷ (decimal n ++ spelled ns)) ∙ words-spelled (n ∷ ns) h
 
-pub smaller : (ns : List ℕ) → AllByRecursion (λ n. n ≤ 4294967295) ns → AllByRecursion (λ n. n < 2 ^ 64) ns
+smaller : (ns : List ℕ) → AllByRecursion (λ n. n ≤ 4294967295) ns → AllByRecursion (λ n. n < 2 ^ 64) ns
 smaller [] h = tt
 smaller (n ∷ ns) h = (omega (arith, h.0), smaller ns h.1)
 
@@ -86,11 +85,11 @@ unfolding numbers_of
 numbers_by_words xs ys e = ap (λ ws. each_from (number_at_most 4294967295) 1 ws) e
 
 -- numbers after a head are read again
-pub numbers_told : (ns : List ℕ) → AllByRecursion (λ n. n ≤ 4294967295) ns → numbers_of (told ns) ≡ Ok ns
+numbers_told : (ns : List ℕ) → AllByRecursion (λ n. n ≤ 4294967295) ns → numbers_of (told ns) ≡ Ok ns
 numbers_told ns h = search (rules, numbers_by_words, told, told_words, smaller, words-spelled, numbers_again)
 
 -- one wide number after a head is read again
-pub worth_told : (n : ℕ) → n ≤ 18446744073709551615 → number_of 18446744073709551615 (told (n ∷ [])) ≡ Ok n
+worth_told : (n : ℕ) → n ≤ 18446744073709551615 → number_of 18446744073709551615 (told (n ∷ [])) ≡ Ok n
 unfolding number_of
 worth_told n le = grind (arith, told_words, number-decimal)
 
@@ -121,11 +120,8 @@ number_word n ns lt =
     (AllPass-from_list_all is_ascii_digit (decimal n) (digits_decimal numeral n lt) k d l)))
 
 -- an item is its number, its kind and then other numbers
-abbrev pub item_at : ℕ → ℕ → List ℕ → ItemParts
-item_at number kind ns = record { number = number; kind = kind; rest = told ns }
-
 item_told : (number kind : ℕ) (ns : List ℕ) → number ≤ 65535 → kind ≤ 65535 → AllByRecursion (λ n. n < 2 ^ 64) ns
-    → item_of (told (number ∷ kind ∷ ns)) ≡ Some (item_at number kind ns)
+    → item_of (told (number ∷ kind ∷ ns)) ≡ Some (record { number = number; kind = kind; rest = told ns })
 unfolding item_of
 item_told number kind ns n k small =
     rw (
@@ -150,52 +146,68 @@ part_says : (part piece left : List ℕ) (item : ItemParts) (items : List ItemPa
 unfolding each_from
 part_says part piece left item items plain trimmed some is h = grind (arith, slice_split_at, cond-true, lt-ltb)
 
--- whatever follows, the lines of a text are those of items
-pub record Says (text : List ℕ) (items : List ItemParts) : Type 0 where
-  pub before : (rest : List ℕ) (more : List ItemParts)
-      → HasItems (10 ∷ rest) more → HasItems (10 ∷ (text ++ rest)) (items ++ more)
-
-pub says_none : Says [] []
-says_none = record { before = λ rest more h. h }
-
-pub says_both : (s t : List ℕ) (xs ys : List ItemParts) → Says s xs → Says t ys → Says (s ++ t) (xs ++ ys)
-says_both s t xs ys first second = search (rules, append_assoc)
-
-pub line_says : (number kind : ℕ) (ns : List ℕ) → number ≤ 65535 → kind ≤ 65535 → AllByRecursion (λ n. n < 2 ^ 64) ns
-    → Says (item_text (decimal number ++ 32 ∷ decimal kind) ns) (item_at number kind ns ∷ [])
+-- the line of an item, and its numbers
+line_leads : (s : Slot) (head ns rest : List ℕ) → head ≡ decimal s.number ++ 32 ∷ decimal s.kind → s.number ≤ 65535
+    → s.kind ≤ 65535 → AllByRecursion (λ n. n < 2 ^ 64) ns
+    → Leads (10 ∷ (item_text head ns ++ rest)) (item_in s (told ns)) (10 ∷ rest)
 unfolding told
-line_says number kind ns n k small = record {
-  before = λ rest more is.
-      let small' : AllByRecursion (λ n. n < 2 ^ 64) (number ∷ kind ∷ ns) = (omega arith, (omega arith, small)) in
-      let piece : List ℕ = told (number ∷ kind ∷ ns) in
-      let text : (10 ∷ piece) ++ 126 ∷ 10 ∷ rest
-      ≡ 10 ∷ (item_text (decimal number ++ 32 ∷ decimal kind) ns ++ rest) = simp append_assoc in
-      subst (λ t. HasItems t (item_at number kind ns ∷ more)) text
-      (part_says (10 ∷ piece) piece (10 ∷ rest) (item_at number kind ns) more
-      (All-cons IsPlain 10 piece refl
-      (All-append IsPlain (decimal number) (spelled (kind ∷ ns)) (plain_decimal number (omega arith))
-      (plain_spelled (kind ∷ ns) small'.1)))
-      (ap trim_end (start_white 10 piece refl) ∙ told_trimmed (number ∷ kind ∷ ns) small')
-      (omega (arith, decimal_nonempty number (omega arith), length-append (decimal number) (spelled (kind ∷ ns))))
-      (item_told number kind ns n k small) is);
+line_leads s head ns rest is n k small =
+    let piece : List ℕ = told (s.number ∷ s.kind ∷ ns) in
+    let all : AllByRecursion (λ n. n < 2 ^ 64) (s.number ∷ s.kind ∷ ns) = (omega arith, (omega arith, small)) in
+    let text : (10 ∷ piece) ++ 126 ∷ 10 ∷ rest ≡ 10 ∷ (item_text head ns ++ rest) = rw is (simp append_assoc) in
+    record {
+      next = λ items h.
+          subst (λ t. HasItems t (item_in s (told ns) ∷ items)) text
+          (part_says (10 ∷ piece) piece (10 ∷ rest) (item_in s (told ns)) items
+          (All-cons IsPlain 10 piece refl
+          (All-append IsPlain (decimal s.number) (spelled (s.kind ∷ ns)) (plain_decimal s.number (omega arith))
+          (plain_spelled (s.kind ∷ ns) all.1)))
+          (ap trim_end (start_white 10 piece refl) ∙ told_trimmed (s.number ∷ s.kind ∷ ns) all)
+          (omega (arith, decimal_nonempty s.number (omega arith), length-append (decimal s.number) (spelled (s.kind ∷ ns))))
+          (item_told s.number s.kind ns n k small) h);
+      shorter = subst (λ t. length (10 ∷ rest) < length t) text (omega (arith, length-append piece (126 ∷ 10 ∷ rest)));
+    }
+
+pub numbers_lead : (s : Slot) (head ns rest : List ℕ) → head ≡ decimal s.number ++ 32 ∷ decimal s.kind
+    → s.number ≤ 65535 → s.kind ≤ 65535 → AllByRecursion (λ n. n ≤ 4294967295) ns
+    → LeadsNumbers s (10 ∷ (item_text head ns ++ rest)) ns (10 ∷ rest)
+numbers_lead s head ns rest is n k small = record {
+  rest = told ns;
+  read = numbers_told ns small;
+  leads = line_leads s head ns rest is n k (smaller ns small);
+}
+
+-- before other lines of one text
+pub numbers_before : (s : Slot) (head ns tail rest : List ℕ) → head ≡ decimal s.number ++ 32 ∷ decimal s.kind
+    → s.number ≤ 65535 → s.kind ≤ 65535 → AllByRecursion (λ n. n ≤ 4294967295) ns
+    → LeadsNumbers s (10 ∷ ((item_text head ns ++ tail) ++ rest)) ns (10 ∷ (tail ++ rest))
+numbers_before s head ns tail rest is n k small =
+    rw (append_assoc (item_text head ns) tail rest) (numbers_lead s head ns (tail ++ rest) is n k small)
+
+pub worth_leads : (head rest : List ℕ) (n : ℕ) → head ≡ decimal 981 ++ 32 ∷ decimal 6 → n ≤ 18446744073709551615
+    → LeadsWorth (10 ∷ (item_text head (n ∷ []) ++ rest)) n (10 ∷ rest)
+worth_leads head rest n is le = record {
+  rest = told (n ∷ []);
+  read = worth_told n le;
+  leads = line_leads (slot 981 6) head (n ∷ []) rest is (omega arith) (omega arith) (omega arith, tt);
 }
 
 -- the first item, which says the kind of file
-abbrev pub kind_item : ItemParts
-kind_item = record { number = 1; kind = 2; rest = codes "JRN" }
-
-kind_piece : (trim (codes "1 2 JRN") ≡ codes "1 2 JRN") × (item_of (codes "1 2 JRN") ≡ Some kind_item)
+kind_piece : (trim (codes "1 2 JRN") ≡ codes "1 2 JRN")
+    × (item_of (codes "1 2 JRN") ≡ Some (item_in file_slot (codes "JRN")))
 unfolding item_of first_word after_word trim_start trim_end number_at_most
 kind_piece = (refl, refl)
 
-nothing_left : HasItems (10 ∷ []) []
+pub kind_leads : (text : List ℕ)
+    → Leads (item_text (codes "1 2 JRN") [] ++ text) (item_in file_slot (codes "JRN")) (10 ∷ text)
+kind_leads text = record {
+  next = λ items h.
+      part_says (codes "1 2 JRN") (codes "1 2 JRN") (10 ∷ text) (item_in file_slot (codes "JRN")) items
+      (All-from_recursion IsPlain (codes "1 2 JRN") (refl, (refl, (refl, (refl, (refl, (refl, (refl, tt))))))))
+      kind_piece.0 (omega arith) kind_piece.1 h;
+  shorter = omega arith;
+}
+
+pub nothing_left : HasItems (10 ∷ []) []
 unfolding each_from trim_start trim_end
 nothing_left k = refl
-
-pub file_says : (text : List ℕ) (items : List ItemParts) → Says text items
-    → items_of (item_text (codes "1 2 JRN") [] ++ text) ≡ Ok (kind_item ∷ items)
-file_says text items says =
-    items-are (item_text (codes "1 2 JRN") [] ++ text) (kind_item ∷ items)
-    (part_says (codes "1 2 JRN") (codes "1 2 JRN") (10 ∷ text) kind_item items
-    (All-from_recursion IsPlain (codes "1 2 JRN") (refl, (refl, (refl, (refl, (refl, (refl, (refl, tt))))))))
-    kind_piece.0 (omega arith) kind_piece.1 (rw (append-nil text, append-nil items) at (says.before [] [] nothing_left)))

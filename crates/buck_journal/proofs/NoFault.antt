@@ -1,7 +1,8 @@
 -- A history in which no fault stands is lawful: what isn't wrong is right.
-use Rattle.buck_journal.proofs.Words.{◌≡◌, ℕ, zero, suc, ◌+◌, ◌<◌, ◌≤◌, ◌⊎◌, inl, inr, List, [], ◌∷◌, length, take, slice_get, Some, refl, sym, ◌∙◌, ap, subst, arith, rules, Contains, slice_index, cases_eq, cases_lt, cases_order, Contains-tail, slice_get_within, slice_get_cases, same_Some, Class, InstructionParts, AssortmentParts, IsInstruction, IsClass, index_of, Standing, Meets, StemParts, Log, SheetParts, IsAllowed, Allows, end_of, IsCutFrom, IsAdmissible, cutting_worth, Posting, planned_version, AreTargets, HistoryParts, IsLawful, Follows, Holds, standing_of, sheet_at, MeetsAfter, ReplayFault, Sheet, Price, Numbering, Version, Cutting, Worth, Outvalued, Targets, version_at, prices_then, Begins, HasSheet, IsSheetRight, IsSheetFault, IsContentFault, IsPostingFault, IsNumbered, IsOfVersion, IsFaultAt, IsRightBefore, IsFirstFault, sheet_then}
+use Rattle.buck_journal.proofs.Words.{◌≡◌, ℕ, zero, suc, ◌+◌, ◌<◌, ◌≤◌, ◌⊎◌, inl, inr, List, [], ◌∷◌, length, take, slice_get, Some, refl, sym, ◌∙◌, subst, arith, rules, Contains, slice_index, cases_eq, cases_lt, cases_order, Contains-tail, slice_get_within, slice_get_cases, same_Some, Class, InstructionParts, AssortmentParts, IsInstruction, IsClass, index_of, Standing, Meets, StemParts, Log, SheetParts, IsAllowed, Allows, end_of, IsCutFrom, IsAdmissible, cutting_worth, Posting, planned_version, AreTargets, HistoryParts, IsLawful, Follows, Holds, standing_of, sheet_at, MeetsAfter, ReplayFault, Sheet, Price, Numbering, Version, Cutting, Worth, Outvalued, Targets, version_at, prices_then, Begins, HasSheet, IsSheetRight, IsSheetFault, IsContentFault, IsPostingFault, IsNumbered, IsOfVersion, IsFaultAt, IsRightBefore, IsFirstFault, sheet_then}
 use Rattle.buck_book.specs.declared.posting.Posting.TheVariants as posting
-use Rattle.buck_journal.proofs.Replays.{lawful_when}
+use Rattle.buck_journal.proofs.Replays.{one_more, lawful_when}
+use Rattle.std.proofs.Common.{below_more}
 
 -- what can't fail holds
 abbrev Sure : Type 0 → Type 0
@@ -133,16 +134,11 @@ module _ (h : HistoryParts) where
       }
 
   module _ (none : (fault : ReplayFault) → IsFirstFault h fault → ⊥) where
-    one_more : (k : ℕ) (x : Posting) → slice_get h.postings k ≡ Some x → IsRightBefore h k → IsRightBefore h (suc k)
-    one_more k x at before = record {
-      sheets = λ j lt b. elim (cases_eq j k) [
-        | inl same ↦ subst (λ m. IsSheetRight h m) (sym same) (sheet (subst (λ m. Begins h m) same b))
-        | inr other ↦ before.sheets j (omega arith) b
-      ];
-      postings = λ j y lt there. elim (cases_eq j k) [
-        | inl same ↦ last j y same there
-        | inr other ↦ before.postings j y (omega arith) there
-      ];
+    further : (k : ℕ) (x : Posting) → slice_get h.postings k ≡ Some x → IsRightBefore h k → IsRightBefore h (k + 1)
+    further k x at before = record {
+      sheets = below_more (λ j. Begins h j → IsSheetRight h j) k before.sheets sheet;
+      postings = one_more h.postings (λ j y. Follows h.instruction h.sheets (take j h.postings) y) k x at
+          before.postings (follows_of k x (λ fault wrong. met fault (inr (sheet, wrong))));
     }
       where
         met : (fault : ReplayFault) → IsFaultAt h k x fault → ⊥
@@ -151,20 +147,12 @@ module _ (h : HistoryParts) where
         sheet : Begins h k → IsSheetRight h k
         sheet b = sheet_of k (λ fault wrong. met fault (inl (b, wrong)))
 
-        follows : Follows h.instruction h.sheets (take k h.postings) x
-        follows = follows_of k x (λ fault wrong. met fault (inr (sheet, wrong)))
-
-        last : (j : ℕ) (y : Posting) → j ≡ k → slice_get h.postings j ≡ Some y
-            → Follows h.instruction h.sheets (take j h.postings) y
-        last j y same there =
-            let one : x ≡ y = same_Some x y (sym at ∙ ap (λ m. slice_get h.postings m) (sym same) ∙ there) in
-            subst (λ m. Follows h.instruction h.sheets (take m h.postings) y) (sym same)
-            (subst (λ z. Follows h.instruction h.sheets (take k h.postings) z) one follows)
-
     right_to : (k : ℕ) → k ≤ length h.postings → IsRightBefore h k
     right_to zero le = record { sheets = λ j lt b. absurd (omega arith); postings = λ j x lt at. absurd (omega arith) }
     right_to (suc k) le = elim (slice_get_cases h.postings k).1 [
-      | inl some ↦ one_more k some.0 some.2 (right_to k (omega arith))
+      | inl some ↦
+          let one : k + 1 ≡ suc k = omega arith in
+          subst (IsRightBefore h) one (further k some.0 some.2 (right_to k (omega arith)))
       | inr past ↦ absurd (omega (arith, past.0))
     ]
 

@@ -2,6 +2,7 @@
 -- lawful.
 use Rattle.buck_journal.proofs.Words.{◌≡◌, ◌≢◌, ℕ, zero, suc, ◌+◌, ◌<◌, ◌≤◌, inl, inr, List, [], ◌∷◌, ◌++◌, length, take, slice_get, Some, refl, sym, ◌∙◌, ap, subst, arith, rules, cases_Bool, cases_lt, cases_eq, take_all, slice_get_within, slice_get_cases, same_Some, InstructionParts, IsInstruction, SheetParts, IsPriceAt, SheetFault, Posting, planned_version, ends_of, cuts_since_end, HistoryParts, IsLawful, PricesMeet, standing_of, prices_at, sheet_at, Result, Ok, Err, None, IfOk, IfErr, OnOk, WalkParts, walk_of, ReplayFault, Memory, true_false, take_one_more, ends_with_end, cuts_with_end, ends_without, meets_within, no_fault, ClassAt, class_at, base_alone, meets_to_alone, version_at, Begins, IsSheetRight, IsFaultAt, IsFaultAtEnd, IsRightBefore, along, sheet_then, IsRightUnder, IsPassed, IsInOrderBefore, IsEndRight, IsOrdered}
 use Rattle.buck_value.specs.Sheet as sheet
+use Rattle.std.proofs.Common.{below_more}
 
 -- prices that keep the price relation somewhere lie within their spans, and make a sheet
 pub in_span : (i : InstructionParts) (ps : List Posting) (prices : List ℕ) → PricesMeet i ps prices → (k : ℕ)
@@ -16,7 +17,7 @@ pub is_sheet : (i : InstructionParts) (ps : List Posting) (prices : List ℕ) (f
 is_sheet i ps prices fault v m wrong = no_fault i prices fault m.one_each (in_span i ps prices m) wrong
 
 -- where no period begins after a posting, the version stays
-pub version_stays : (i : InstructionParts) (ps : List Posting) (k : ℕ) (x : Posting) → slice_get ps k ≡ Some x
+version_stays : (i : InstructionParts) (ps : List Posting) (k : ℕ) (x : Posting) → slice_get ps k ≡ Some x
     → cuts_since_end i (take (k + 1) ps) ≢ 0
     → ends_of i (take (k + 1) ps) ≡ ends_of i (take k ps)
 version_stays i ps k x at goes_on =
@@ -50,35 +51,31 @@ module _ (h : HistoryParts) where
         | inr past ↦ absurd (omega (arith, past.0))
       ]
 
--- the next posting was passed
-pub one_passed : (h : HistoryParts) (k : ℕ) (x : Posting) → slice_get h.postings k ≡ Some x → IsInOrderBefore h k
-    → IsPassed h k x → IsInOrderBefore h (k + 1)
-one_passed h k x at before p = record {
-  sheets = λ j lt b. elim (cases_eq j k) [
-    | inl same ↦ subst (λ n. IsSheetRight h n) (sym same) (p.sheet (subst (λ n. Begins h n) same b))
-    | inr other ↦ before.sheets j (omega arith) b
-  ];
-  postings = λ j y lt there. elim (cases_eq j k) [
-    | inl same ↦ last j y same there
-    | inr other ↦ before.postings j y (omega arith) there
-  ];
-}
-  where
-    right : IsRightUnder (sheet_at h.instruction h.sheets (planned_version x)) (take k h.postings) x
-    right =
-        subst (λ v. IsRightUnder (sheet_at h.instruction h.sheets v) (take k h.postings) x) (sym p.posting.of_version)
-        p.posting
+-- what holds of each posting before a place, and of the one there, holds of each before the next place
+pub one_more : (ps : List Posting) (P : ℕ → Posting → Type 0) (k : ℕ) (x : Posting) → slice_get ps k ≡ Some x
+    → ((j : ℕ) (y : Posting) → j < k → slice_get ps j ≡ Some y → P j y) → P k x
+    → (j : ℕ) (y : Posting) → j < k + 1 → slice_get ps j ≡ Some y → P j y
+one_more ps P k x at before here j y lt there = elim (cases_eq j k) [
+  | inl same ↦
+      let one : x ≡ y = same_Some x y (sym at ∙ ap (λ n. slice_get ps n) (sym same) ∙ there) in
+      subst (λ n. P n y) (sym same) (subst (P k) one here)
+  | inr other ↦ before j y (omega arith) there
+]
 
-    last : (j : ℕ) (y : Posting) → j ≡ k → slice_get h.postings j ≡ Some y
-        → IsRightUnder (sheet_at h.instruction h.sheets (planned_version y)) (take j h.postings) y
-    last j y same there =
-        let one : x ≡ y = same_Some x y (sym at ∙ ap (λ n. slice_get h.postings n) (sym same) ∙ there) in
-        subst (λ n. IsRightUnder (sheet_at h.instruction h.sheets (planned_version y)) (take n h.postings) y) (sym same)
-        (subst (λ z. IsRightUnder (sheet_at h.instruction h.sheets (planned_version z)) (take k h.postings) z) one
-        right)
+-- the next posting was passed
+one_passed : (h : HistoryParts) (k : ℕ) (x : Posting) → slice_get h.postings k ≡ Some x → IsInOrderBefore h k
+    → IsPassed h k x → IsInOrderBefore h (k + 1)
+one_passed h k x at before p =
+    let Right : ℕ → ℕ → Posting → Type 0 =
+    λ v j y. IsRightUnder (sheet_at h.instruction h.sheets v) (take j h.postings) y in
+    record {
+      sheets = below_more (λ j. Begins h j → IsSheetRight h j) k before.sheets p.sheet;
+      postings = one_more h.postings (λ j y. Right (planned_version y) j y) k x at before.postings
+          (subst (λ v. Right v k x) (sym p.posting.of_version) p.posting);
+    }
 
 -- and the sheet stays, where no period begins behind it
-pub sheet_stays : (h : HistoryParts) (k : ℕ) (x : Posting) (s : SheetParts) → slice_get h.postings k ≡ Some x
+sheet_stays : (h : HistoryParts) (k : ℕ) (x : Posting) (s : SheetParts) → slice_get h.postings k ≡ Some x
     → s ≡ sheet_then h k → (Begins h (k + 1) → ⊥) → s ≡ sheet_then h (k + 1)
 sheet_stays h k x s at is goes_on = search (rules, version_stays)
 

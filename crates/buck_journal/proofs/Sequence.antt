@@ -1,5 +1,5 @@
 -- How many items a journal has.
-use Rattle.buck_journal.proofs.Words.{◌≡◌, ℕ, zero, suc, ◌+◌, ◌<◌, Bool, true, false, List, [], ◌∷◌, Option, Some, Result, Ok, Err, inl, inr, length, drop, slice_get, sum_by, refl, sym, ap, ◌∙◌, subst, arith, rules, common_steps, if◌then◌else◌, cases_Bool, same_Some, with_fault, TARGETS, Log, sum_by-cons, ItemParts, ◌>>=◌, items_of, is_at, slot, both, check_ok, Posting, JournalFault, Shape, JournalParts, Form, says, wanted, numbers_at, item_at, list_form, call_at, head_form, samples_form, zones_form, stem_at, logs_form, worth_at, is_first, follows, cut_at, demand_at, posting_at, sheets_from, postings_from, says_journal, journal_in, journal_of, number_of_items, begins}
+use Rattle.buck_journal.proofs.Words.{◌≡◌, ℕ, zero, suc, ◌+◌, ◌<◌, Bool, true, false, List, [], ◌∷◌, Option, Some, Result, Ok, Err, inl, inr, length, drop, slice_get, sum_by, refl, sym, ap, ◌∙◌, subst, arith, rules, common_steps, if◌then◌else◌, cases_Bool, same_Some, with_fault, TARGETS, sum_by-cons, ItemParts, ◌>>=◌, items_of, is_at, slot, both, check_ok, Posting, JournalFault, Shape, JournalParts, Form, says, wanted, numbers_at, item_at, list_form, call_at, head_form, samples_form, zones_form, stem_at, logs_form, worth_at, is_first, follows, cut_at, demand_at, posting_at, sheets_from, postings_from, says_journal, journal_in, journal_of, number_of_items, begins}
 use Rattle.buck_journal.specs.reading.Journal.{sheet_at}
 
 ok_of : {X E : Type 0} (fault : ℕ → E) (r : Result X ℕ) (x : X) → with_fault fault r ≡ Ok x → r ≡ Ok x
@@ -47,11 +47,14 @@ worth_inside : (place : ℕ) (o : Option ItemParts) (worth : ℕ) → worth_at p
 unfolding worth_at
 worth_inside place o worth h = grind (arith, wanted_inside, step_ok)
 
--- so many items are those of a posting that began before, and after them comes the next one, or the end
-abbrev Owes : ℕ → List ItemParts → Type 0
-Owes zero rest = begins rest ≡ true
-Owes (suc n) [] = ⊥
-Owes (suc n) (x ∷ more) = (is_first x ≡ false) × Owes n more
+-- behind some items as many are those of a posting that began before, and after them comes the next one, or the end
+abbrev Owes : ℕ → ℕ → List ItemParts → Type 0
+Owes i zero rest = begins (drop i rest) ≡ true
+Owes i (suc n) rest = Inside (slice_get rest i) × Owes (suc i) n rest
+
+one_behind : (i n : ℕ) (x : ItemParts) (more : List ItemParts) → Owes (suc i) n (x ∷ more) → Owes i n more
+one_behind i zero x more o = o
+one_behind i (suc n) x more o = (o.0, one_behind (suc i) n x more o.1)
 
 then_begins : (n place : ℕ) (rest : List ItemParts) → follows place (slice_get rest n) ≡ Ok tt
     → begins (drop n rest) ≡ true
@@ -60,17 +63,8 @@ then_begins zero place (x ∷ more) h = check_ok (is_first x) (Shape place) h
 then_begins (suc n) place [] h = refl
 then_begins (suc n) place (x ∷ more) h = then_begins n place more h
 
-owes : (n : ℕ) (rest : List ItemParts) → ((j : ℕ) → j < n → Inside (slice_get rest j))
-    → begins (drop n rest) ≡ true → Owes n rest
-owes zero rest inside end = end
-owes (suc n) [] inside end = let i = inside 0 (omega arith) in let no_ = i.1 in cc
-owes (suc n) (x ∷ more) inside end =
-    let i = inside 0 (omega arith) in
-    let same : x ≡ i.0 = same_Some x i.0 i.1 in
-    (ap is_first same ∙ i.2, owes n more (λ j lt. inside (suc j) (omega (arith, lt))) end)
-
 cut_owes : (x : ItemParts) (more : List ItemParts) (k before : ℕ) (p : Posting)
-    → cut_at (x ∷ more) k before ≡ Ok p → (number_of_items p ≡ 6) × Owes 5 more
+    → cut_at (x ∷ more) k before ≡ Ok p → (number_of_items p ≡ 6) × Owes 0 5 more
 unfolding cut_at stem_at
 cut_owes x more k before p h =
     let a = step_ok (call_at (slot 981 1) before (k + 1) (Some x)) _ p h in
@@ -82,54 +76,51 @@ cut_owes x more k before p h =
     let t = step_ok (item_at (slot 981 3) samples_form (k + 3) (slice_get more 1)) _ b.0 s.2 in
     let u = step_ok (item_at (slot 981 4) zones_form (k + 4) (slice_get more 2)) _ b.0 t.2 in (
       ap number_of_items (sym (ok_same _ p e.2)),
-      owes 5 more (below s.0 s.1 t.0 t.1 u.0 u.1 c.0 c.1 d.0 d.1)
-          (then_begins 5 (k + 7) more e.1),
+      (
+        item_inside 981 2 (k + 2) _ (λ e. omega arith) head_form s.0 s.1,
+        (
+          item_inside 981 3 (k + 3) _ (λ e. omega arith) samples_form t.0 t.1,
+          (
+            item_inside 981 4 (k + 4) _ (λ e. omega arith) zones_form u.0 u.1,
+            (
+              item_inside 981 5 (k + 5) _ (λ e. omega arith) logs_form c.0 c.1,
+              (worth_inside (k + 6) _ d.0 d.1, then_begins 5 (k + 7) more e.1),
+            ),
+          ),
+        ),
+      ),
     )
-  where
-    below : (s : ℕ × ℕ) → item_at (slot 981 2) head_form (k + 2) (slice_get more 0) ≡ Ok s
-        → (t : List ℕ) → item_at (slot 981 3) samples_form (k + 3) (slice_get more 1) ≡ Ok t
-        → (u : List (ℕ × ℕ)) → item_at (slot 981 4) zones_form (k + 4) (slice_get more 2) ≡ Ok u
-        → (v : List Log) → item_at (slot 981 5) logs_form (k + 5) (slice_get more 3) ≡ Ok v
-        → (w : ℕ) → worth_at (k + 6) (slice_get more 4) ≡ Ok w
-        → (j : ℕ) → j < 5 → Inside (slice_get more j)
-    below s s' t t' u u' v v' w w' zero lt = item_inside 981 2 (k + 2) _ (λ e. omega arith) head_form s s'
-    below s s' t t' u u' v v' w w' (suc zero) lt = item_inside 981 3 (k + 3) _ (λ e. omega arith) samples_form t t'
-    below s s' t t' u u' v v' w w' (suc (suc zero)) lt = item_inside 981 4 (k + 4) _ (λ e. omega arith) zones_form u u'
-    below s s' t t' u u' v v' w w' (suc (suc (suc zero))) lt =
-        item_inside 981 5 (k + 5) _ (λ e. omega arith) logs_form v v'
-    below s s' t t' u u' v v' w w' (suc (suc (suc (suc zero)))) lt = worth_inside (k + 6) _ w w'
-    below s s' t t' u u' v v' w w' (suc (suc (suc (suc (suc j))))) lt = absurd (omega arith)
 
 demand_owes : (x : ItemParts) (more : List ItemParts) (k before : ℕ) (p : Posting)
-    → demand_at (x ∷ more) k before ≡ Ok p → (number_of_items p ≡ 2) × Owes 1 more
+    → demand_at (x ∷ more) k before ≡ Ok p → (number_of_items p ≡ 2) × Owes 0 1 more
 unfolding demand_at
 demand_owes x more k before p h =
     let a = step_ok (call_at (slot 982 1) before (k + 1) (Some x)) _ p h in
     let b = step_ok (item_at (slot 982 2) (list_form TARGETS.low TARGETS.high) (k + 2) (slice_get more 0)) _ p a.2 in
-    let c = step_ok (follows (k + 3) (slice_get more 1)) _ p b.2 in
-    (ap number_of_items (sym (ok_same _ p c.2)), owes 1 more (below b.0 b.1) (then_begins 1 (k + 3) more c.1))
-  where
-    below : (t : List ℕ)
-        → item_at (slot 982 2) (list_form TARGETS.low TARGETS.high) (k + 2) (slice_get more 0) ≡ Ok t
-        → (j : ℕ) → j < 1 → Inside (slice_get more j)
-    below t t' zero lt = item_inside 982 2 (k + 2) _ (λ e. omega arith) (list_form TARGETS.low TARGETS.high) t t'
-    below t t' (suc j) lt = absurd (omega arith)
+    let c = step_ok (follows (k + 3) (slice_get more 1)) _ p b.2 in (
+      ap number_of_items (sym (ok_same _ p c.2)),
+      (
+        item_inside 982 2 (k + 2) _ (λ e. omega arith) (list_form TARGETS.low TARGETS.high) b.0 b.1,
+        then_begins 1 (k + 3) more c.1,
+      ),
+    )
 
 posting_owes : (x : ItemParts) (more : List ItemParts) (k before : ℕ) (p : Posting)
-    → posting_at x (x ∷ more) k before ≡ Ok p → (n : ℕ) × (number_of_items p ≡ n + 1) × Owes n more
+    → posting_at x (x ∷ more) k before ≡ Ok p → (n : ℕ) × (number_of_items p ≡ n + 1) × Owes 0 n more
 unfolding posting_at
 posting_owes x more k before p h = elim (cases_Bool (is_at (slot 981 1) x)) [
   | inl cut ↦ let o = cut_owes x more k before p (then_of _ _ _ _ cut h) in (5, o.0, o.1)
   | inr other ↦ let o = demand_owes x more k before p (else_of _ _ _ _ other h) in (1, o.0, o.1)
 ]
 
-postings_counted : (k before n : ℕ) (rest : List ItemParts) (ps : List Posting) → Owes n rest
+postings_counted : (k before n : ℕ) (rest : List ItemParts) (ps : List Posting) → Owes 0 n rest
     → postings_from k before rest ≡ Ok ps → length rest ≡ n + sum_by number_of_items ps
 unfolding postings_from
 postings_counted k before zero [] ps o h = subst (λ qs. 0 ≡ 0 + sum_by number_of_items qs) (ok_same [] ps h) refl
-postings_counted k before (suc n) [] ps o h = absurd o
+postings_counted k before (suc n) [] ps o h = let no_ = o.0.1 in cc
 postings_counted k before (suc n) (x ∷ more) ps o h =
-    search (rules, else_of, (postings_counted (k + 1) before n more ps o.1 (else_of (is_first x) _ _ _ o.0 h)))
+    let other : is_first x ≡ false = ap is_first (same_Some x o.0.0 o.0.1) ∙ o.0.2 in
+    search (rules, (postings_counted (k + 1) before n more ps (one_behind 0 n x more o.1) (else_of (is_first x) _ _ _ other h)))
 postings_counted k before zero (x ∷ more) ps o h =
     let a = step_ok (posting_at x (x ∷ more) k before) _ ps (then_of (is_first x) _ _ _ o h) in
     let b = step_ok (postings_from (k + 1) (before + 1) more) _ ps a.2 in

@@ -19,7 +19,7 @@ unfoldable pub use Rattle.buck_journal.specs.reading.Journal.{journal_in, cut_at
 pub use Rattle.buck_journal.specs.Written.{zone_numbers, log_numbers, item_text, sheet_text, posting_text}
 unfoldable pub use Rattle.buck_journal.specs.Written.{cut_text, demand_text, journal_text}
 pub use Rattle.buck_journal.specs.Ranges.{AreSheetPrices, call_of_cut, call_of_demand, IsInRange, AreInRange, IsCutInRange, IsDemandInRange, IsOfBook}
-pub use Rattle.buck_journal.specs.inner.Plain.{AreReadAs, AreSheets, LeadsNumbers, LeadsWorth, begins, ArePostings, AreParts, LeadsPostings, HasPostings, LeadsSheets}
+pub use Rattle.buck_journal.specs.inner.Plain.{LeadsNumbers, LeadsWorth, begins, ArePostings, AreParts, LeadsPostings, HasPostings, LeadsSheets}
 pub use Rattle.std.proofs.Math.Bool.{or-false}
 pub use Rattle.buck_record.specs.checking.Table.{is_at}
 pub use Rattle.std.proofs.lemmas.Grind.{common_steps}
@@ -31,13 +31,11 @@ pub use Rattle.buck_book.specs.History.{HistoryParts, IsLawful, Holds, PricesMee
 pub use Rattle.buck_book.proofs.Ends.{true_false, take_one_more, ends_take-le, ends_with_end, cuts_without, cuts_with_end, ends_without, ends-le}
 pub use Rattle.buck_book.proofs.Alone.{base_meets, meets_from_alone, ClassAt, class_at, base_alone, meets_to_alone}
 pub use Rattle.buck_journal.specs.declared.judging.fault.ReplayFault.{ReplayFault}
-pub use Rattle.buck_journal.specs.judging.Replay.{version_at, prices_then, Begins, IsSheetRight, IsSheetFault, IsCallFault, IsContentFault, IsPostingFault, IsNumberFault, IsFaultAtEnd, IsNumbered, IsOfVersion, IsFirstFault, IsRightBefore, HasSheet, IsFaultAt, history_of}
+pub use Rattle.buck_journal.specs.judging.Replay.{version_at, prices_then, Begins, IsSheetRight, IsSheetFault, IsCallFault, IsContentFault, IsPostingFault, IsNumberFault, IsFaultAtEnd, IsNumbered, IsOfVersion, IsFirstFault, IsRightBefore, HasSheet, IsFaultAt}
 pub use Rattle.std.specs.Prelude.{IfOk, IfErr, OnOk, Contains}
-pub use Rattle.std.specs.Fork.{IsChunk}
-pub use Rattle.std.specs.Option.{is_some}
 pub use Rattle.buck_journal.specs.declared.judging.fault.ReplayFault.TheVariants.{Outvalued, Memory, Sheet, Price, Numbering, Version, Cutting, Worth, Targets}
 pub use Rattle.buck_journal.specs.inner.Sheets.{IsPriced, AreMade}
-pub use Rattle.buck_journal.specs.inner.Replay.{HoldsUnder, IsRightUnder, IsInOrderBefore, IsStopped, IsOrdered, IsOutvalued, IsDoubtful, NoneDoubtful, IsFirstDoubtful, IsFound, AreSameBefore, IsJudged, sheet_then, along, IsPassed, IsEndRight}
+pub use Rattle.buck_journal.specs.inner.Replay.{HoldsUnder, IsRightUnder, IsInOrderBefore, IsStopped, IsOrdered, IsOutvalued, IsDoubtful, NoneDoubtful, IsFirstDoubtful, IsFound, sheet_then, along, IsPassed, IsEndRight}
 pub use Rattle.std.proofs.lemmas.List.Elements.{All-from_recursion, All-append, All-cons, All-nil, recursion_from_All, All-contains}
 pub use Rattle.std.proofs.lemmas.List.Sums.{AllPass-from_list_all, suffix_len_is, list_all-from_AllPass}
 pub use Rattle.buck_stem.specs.Stem.{IsRisingFrom, stem_of}

@@ -26,50 +26,36 @@ abbrev pub begins : List ItemParts → Bool
 begins [] = true
 begins (item ∷ more) = is_first item
 
--- at the end of a file, and after so many postings, the items are read as these postings
-pub record ArePostings (before : ℕ) (items : List ItemParts) (ps : List Posting) : Type 0 where
+-- at the end of a file the items are read as these postings, where as many are let in
+pub record ArePostings (items : List ItemParts) (ps : List Posting) : Type 0 where
   pub begin : begins items ≡ true
-  pub read : (k : ℕ) → postings_from k before items ≡ Ok ps
+  pub read : (k before : ℕ) → before + length ps ≤ MOST_POSTINGS → postings_from k before items ≡ Ok ps
 
--- at the end of a file the items are read as these sheets and postings
-pub record AreParts (items : List ItemParts) (sheets : List (List ℕ)) (ps : List Posting) : Type 0 where
+-- and as these sheets and postings
+pub record AreParts (ps : List Posting) (items : List ItemParts) (sheets : List (List ℕ)) : Type 0 where
   pub sheets_read : (k : ℕ) → sheets_from k items ≡ Ok sheets
   pub postings_read : (k : ℕ) → postings_from k 0 items ≡ Ok ps
 
--- after so many postings that there is room for these, and whatever follows, the items are read as these postings
-abbrev pub AreReadAs : List ItemParts → List Posting → Type 0
-AreReadAs items ps =
-    (before : ℕ) (more : List ItemParts) (others : List Posting)
-    → before + length ps ≤ MOST_POSTINGS → ArePostings (before + length ps) more others
-    → ArePostings before (items ++ more) (ps ++ others)
-
--- and the same of sheets
-abbrev pub AreSheets : List ItemParts → List (List ℕ) → Type 0
-AreSheets items sheets =
-    (more : List ItemParts) (others : List (List ℕ)) (ps : List Posting)
-    → AreParts more others ps → AreParts (items ++ more) (sheets ++ others) ps
-
--- the text begins with the items, and `left` has the others
-abbrev pub LeadsItems : List ℕ → List ItemParts → List ℕ → Type 0
-LeadsItems text items left = (more : List ItemParts) → HasItems left more → HasItems text (items ++ more)
-
--- the text begins with the items of the postings, and `left` has the others
-pub record LeadsPostings (text : List ℕ) (ps : List Posting) (left : List ℕ) : Type 0 where
+-- the text begins with items, and `left` has the others; whatever these are read as, all are read as the list and it
+pub record LeadsTo {P X : Type 0} (Are : P → List ItemParts → List X → Type 0) (text : List ℕ) (xs : List X)
+    (left : List ℕ) : Type 0 where
   pub items : List ItemParts
-  pub leads : LeadsItems text items left
-  pub read : AreReadAs items ps
+  pub leads : (more : List ItemParts) → HasItems left more → HasItems text (items ++ more)
+  pub read : (p : P) (more : List ItemParts) (others : List X)
+      → Are p more others → Are p (items ++ more) (xs ++ others)
+
+-- so with postings, and with sheets before any postings
+abbrev pub LeadsPostings : List ℕ → List Posting → List ℕ → Type 0
+LeadsPostings text ps left = LeadsTo {P = Unit {0}} (λ _ items qs. ArePostings items qs) text ps left
+
+abbrev pub LeadsSheets : List ℕ → List (List ℕ) → List ℕ → Type 0
+LeadsSheets text sheets left = LeadsTo AreParts text sheets left
 
 -- the items of the text are those of the postings
 pub record HasPostings (text : List ℕ) (ps : List Posting) : Type 0 where
-  pub items : List ItemParts
-  pub are : HasItems text items
-  pub read : AreReadAs items ps
-
--- the text begins with the items of the sheets, and `left` has the others
-pub record LeadsSheets (text : List ℕ) (sheets : List (List ℕ)) (left : List ℕ) : Type 0 where
-  pub items : List ItemParts
-  pub leads : LeadsItems text items left
-  pub read : AreSheets items sheets
+  pub left : List ℕ
+  pub leads : LeadsPostings text ps left
+  pub none : HasItems left []
 
 -- whatever postings the rest has, if they aren't too many, the file has these sheets and them
 abbrev pub BeginsJournal : List ℕ → List (List ℕ) → List ℕ → Type 0

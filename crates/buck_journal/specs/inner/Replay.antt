@@ -1,5 +1,5 @@
 -- What holds while a journal is replayed: of its order, up to a place, and of which cuts are outvalued before there.
-use Rattle.std.specs.Prelude.{◌≡◌, ◌≢◌, ℕ, ◌+◌, ◌<◌, ◌≤◌, ◌⊎◌, Bool, true, false, List, length, take, slice_get, Option, Some, None, Result, Ok, Err, OnOk, IfErr}
+use Rattle.std.specs.Prelude.{◌≡◌, ◌≢◌, ℕ, ◌+◌, ◌<◌, ◌≤◌, ◌⊎◌, Bool, true, false, List, length, take, slice_get, Option, Some, None, Result, OnOk, IfErr}
 use Rattle.buck_apt.specs.Instruction.{IsInstruction}
 use Rattle.buck_value.specs.declared.log.Log.{Log}
 use Rattle.buck_value.specs.Sheet.{SheetParts}
@@ -8,11 +8,11 @@ use Rattle.buck_book.specs.declared.posting.Posting.{Posting}
 use Rattle.buck_book.specs.declared.posting.Posting.TheVariants.{Cut, Demand}
 use Rattle.buck_book.specs.Posting.{planned_version}
 use Rattle.buck_book.specs.Targets.{AreTargets}
-use Rattle.buck_book.specs.History.{HistoryParts, IsLawful, sheet_at}
+use Rattle.buck_book.specs.History.{HistoryParts, sheet_at}
 use Rattle.buck_book.specs.Walk.{WalkParts}
 use Rattle.buck_journal.specs.declared.judging.fault.ReplayFault.{ReplayFault}
 use Rattle.buck_journal.specs.declared.judging.fault.ReplayFault.TheVariants.{Memory}
-use Rattle.buck_journal.specs.judging.Replay.{version_at, Begins, IsSheetRight, IsNumbered, IsOfVersion, IsFaultAt, IsFaultAtEnd, IsFirstFault}
+use Rattle.buck_journal.specs.judging.Replay.{version_at, Begins, IsSheetRight, IsNumbered, IsOfVersion, IsFaultAt, IsFaultAtEnd}
 use Rattle.buck_journal.specs.inner.Sheets.{IsPriced}
 
 -- the history that a walk goes through, with the sheets of a journal
@@ -88,27 +88,19 @@ IsDoubtful h x true =
     → IsOutvalued (sheet_at h.instruction h.sheets (planned_version x)) x true
 IsDoubtful h x false = IsOutvalued (sheet_at h.instruction h.sheets (planned_version x)) x false
 
--- no posting before a place is
-abbrev pub NoneDoubtful : HistoryParts → List Posting → ℕ → Type 0
-NoneDoubtful h ps k = (j : ℕ) (x : Posting) → j < k → slice_get ps j ≡ Some x → IsDoubtful h x false
+-- no posting from a place to before another is
+abbrev pub NoneDoubtful : HistoryParts → ℕ → ℕ → Type 0
+NoneDoubtful h from to =
+    (j : ℕ) (x : Posting) → from ≤ j → j < to → slice_get h.postings j ≡ Some x → IsDoubtful h x false
 
--- the posting at a place is, and none before it
-pub record IsFirstDoubtful (h : HistoryParts) (ps : List Posting) (at : ℕ) : Type 0 where
+-- the posting at a place is, and none before it from another place on
+pub record IsFirstDoubtful (h : HistoryParts) (from at : ℕ) : Type 0 where
   pub next : Posting
-  pub there : slice_get ps at ≡ Some next
+  pub there : slice_get h.postings at ≡ Some next
   pub wrong : IsDoubtful h next true
-  pub before : NoneDoubtful h ps at
+  pub before : NoneDoubtful h from at
 
--- the first place of postings that is doubtful, or that there is none
-abbrev pub IsFound : HistoryParts → List Posting → Option ℕ → Type 0
-IsFound h ps None = NoneDoubtful h ps (length ps)
-IsFound h ps (Some at) = IsFirstDoubtful h ps at
-
--- two lists have the same postings before a place
-abbrev pub AreSameBefore : ℕ → List Posting → List Posting → Type 0
-AreSameBefore k ps qs = (j : ℕ) → j < k → slice_get ps j ≡ slice_get qs j
-
--- what comes of a history: it is lawful, or has a first fault, unless memory was wanting
-abbrev pub IsJudged : {W : Type 0} → HistoryParts → Result W ReplayFault → Type 0
-IsJudged h (Ok w) = IsLawful h
-IsJudged h (Err fault) = fault ≢ Memory → IsFirstFault h fault
+-- the first place that is doubtful, from one on and before another, or that there is none
+abbrev pub IsFound : HistoryParts → ℕ → ℕ → Option ℕ → Type 0
+IsFound h from to None = NoneDoubtful h from to
+IsFound h from to (Some at) = IsFirstDoubtful h from at

@@ -1,6 +1,6 @@
 //! Which cuts are outvalued: each is judged by itself, so neighbours can be in several threads, before it is known
 //! whether they stand in order.
-ghost use Rattle.std.specs.Prelude.{◌≡◌, ◌<◌, Bool, true, false, IfOk};
+ghost use Rattle.std.specs.Prelude.{◌≡◌, ◌<◌, ◌≤◌, ◌+◌, ◌^◌, Bool, true, false, IfOk, length};
 ghost use Rattle.buck_book.specs.Posting.{planned_version};
 ghost use Rattle.buck_book.specs.History.{sheet_at};
 ghost use Rattle.buck_journal.specs.inner.Sheets.{IsMissing};
@@ -62,23 +62,27 @@ fn is_doubtful(
     Ok(most > entry.worth)
 }
 
-/// The first of some postings that is doubtful, by its place: outvalued under the sheet of its version, or without one.
+/// The first posting from one place to before another that is doubtful: outvalued under the sheet of its version, or
+/// without one.
 #[tactic(auto, using(std::proofs::lemmas::Option::slice_get_read, crate::proofs::Judged::none_more))]
 pub(crate) fn first_doubtful(
     alloc: Global,
     case: &Case<'_, '_>,
-    postings: &[Posting],
+    from: usize,
+    to: usize,
 ) -> Result<Option<usize>, Memory>
-    ensures { IfOk result (IsFound case.now postings.now) }
+    requires { to ≤ length case.now.postings }
+    ensures { IfOk result (IsFound case.now from to) }
 {
-    if postings.is_empty() {
+    if from >= to {
         return Ok(None);
     }
-    let Some(sheet) = case.sheet(alloc, version_of(&postings[0]))? else {
-        return Ok(Some(0));
+    let postings = case.postings();
+    let Some(sheet) = case.sheet(alloc, version_of(&postings[from]))? else {
+        return Ok(Some(from));
     };
     let mut planner = Planner::make(alloc, sheet)?;
-    for at in 0..postings.len() {
+    for at in from..to {
         if is_doubtful(alloc, case, &mut planner, &postings[at])? {
             return Ok(Some(at));
         }
@@ -86,27 +90,31 @@ pub(crate) fn first_doubtful(
     Ok(None)
 }
 
-/// [`first_doubtful`], with each run of so many neighbours in a thread of its own.
+/// [`first_doubtful`] from a place to the end, with each run of so many neighbours in a thread of its own.
 pub(crate) fn first_by_size<T: Threads + Sync>(
     rt: &T,
     alloc: Global,
     size: usize,
     case: &Case<'_, '_>,
-    postings: &[Posting],
+    from: usize,
 ) -> Result<Option<usize>, Memory>
-    requires { 0 < size }
-    ensures { IfOk result (IsFound case.now postings.now) }
+    requires size { 0 < size }
+    requires within { from ≤ length case.now.postings }
+    ensures { IfOk result (IsFound case.now from (length case.now.postings)) }
 {
-    let find = |_: usize, part: &[Posting]| -> Result<Option<usize>, Memory>
-        ensures { IfOk result (IsFound case.entry.now part.now) }
-    { first_doubtful(alloc, case, part) };
-    let found = thread::map_chunks(rt, alloc, postings, size, &find)?;
+    let find = |start: usize, part: &[Posting]| -> Result<Option<usize>, Memory>
+        requires { (from + start + length part.now ≤ length case.now.postings)
+            × (length case.now.postings < 2 ^ 64) }
+        ensures { IfOk result
+            (IsFound case.entry.now (from + start) (from + start + length part.now)) }
+    { first_doubtful(alloc, case, from + start, from + start + part.len()) };
+    let found = thread::map_chunks(rt, alloc, &case.postings()[from..], size, &find)?;
     for k in 0..found.len() {
         let Ok(first) = &found[k] else {
             return Err(Memory);
         };
         match first {
-            Some(at) => return Ok(Some(k * size + *at)),
+            Some(at) => return Ok(Some(*at)),
             None => {}
         }
     }

@@ -1,13 +1,12 @@
 //! Whether a journal is lawful.
-ghost use Rattle.std.specs.Prelude.{◌≡◌, ◌≢◌, ◌+◌, ◌<◌, ◌≤◌, OnOk, IfOk, IfErr, IfNone, IfSome, List, length, map, slice_get, Some, Ok};
+ghost use Rattle.std.specs.Prelude.{◌≡◌, ◌≢◌, ◌+◌, ◌<◌, ◌≤◌, OnOk, IfOk, IfErr, IfNone, IfSome, length, map, slice_get, Some, Ok};
 ghost use Rattle.std.specs.Thread.{IsSync};
-ghost use Rattle.buck_book.specs.declared.posting.Posting.{Posting};
-ghost use Rattle.buck_book.specs.History.{HistoryParts, IsLawful};
+ghost use Rattle.buck_book.specs.History.{IsLawful};
 ghost use Rattle.buck_book.specs.Walk.{walk_of};
 ghost use Rattle.buck_journal.specs.judging.Replay.{history_of, Begins, IsFaultAt, IsFirstFault};
 ghost use Rattle.buck_journal.specs.declared.judging.fault.ReplayFault.TheVariants.{Memory};
 ghost use Rattle.buck_journal.specs.inner.Sheets.{AreMade};
-ghost use Rattle.buck_journal.specs.inner.Replay.{along, sheet_then, IsPassed, IsOrdered, IsFound, AreSameBefore, IsJudged};
+ghost use Rattle.buck_journal.specs.inner.Replay.{along, sheet_then, IsPassed, IsOrdered, IsFound};
 ghost use Rattle.buck_book.specs.declared.posting.TheConstants.{MOST_POSTINGS};
 
 use crate::judging::case::Case;
@@ -90,14 +89,18 @@ fn walk_in_order<'w>(
     }
 }
 
-/// What comes of a journal, by the first doubtful one among postings that are its own as far as it is in order.
-fn judged<W: Drop>(ordered: Ordered<W>, doubtful: Option<usize>) -> Result<W, ReplayFault>
-    ensures judged { (h : HistoryParts) (ps : List Posting)
-        → IsOrdered h ordered.until ordered.end
-        → AreSameBefore ordered.until ps h.postings
-        → IsFound h ps doubtful
-        → IsJudged h result }
+/// What comes of a journal, by the first doubtful posting as far as it is in order.
+#[tactic(auto, using(crate::proofs::Judged::answer_of_walk, crate::proofs::Judged::first_is_met))]
+fn judged<W: Drop>(
+    case: &Case<'_, '_>,
+    ordered: Ordered<W>,
+    doubtful: Option<usize>,
+) -> Result<W, ReplayFault>
+    requires ordered { IsOrdered case.now ordered.until ordered.end }
+    requires found { IsFound case.now 0 ordered.until doubtful }
     ensures end { IfOk result (λ w. ordered.end ≡ Ok w) }
+    ensures lawful { OnOk result (IsLawful case.now) }
+    ensures refused { IfErr result (λ e. e ≢ Memory → IsFirstFault case.now e) }
 {
     let Ordered { until, end } = ordered;
     let Some(at) = doubtful else {
@@ -126,8 +129,8 @@ pub fn replay_to_end<'w>(
     let made = first_sheets(alloc, instruction, journal.sheets.as_slice())?;
     let case = Case::of(instruction, journal, made.as_slice());
     let ordered = walk_in_order(alloc, &case)?;
-    let doubtful = first_doubtful(alloc, &case, &case.postings()[..ordered.until])?;
-    judged(ordered, doubtful)
+    let doubtful = first_doubtful(alloc, &case, 0, ordered.until)?;
+    judged(&case, ordered, doubtful)
 }
 
 /// Whether a journal of at most 1,000,000 postings is lawful for an instruction: each cutting is one that none
@@ -148,18 +151,19 @@ pub fn replay(
     Ok(())
 }
 
-/// Goes through a journal in order, and then looks for the first doubtful one of some postings.
+/// Goes through a journal in order, and then looks for the first doubtful posting before a place.
 fn walk_and_search(
     alloc: Global,
     case: &Case<'_, '_>,
-    postings: &[Posting],
+    to: usize,
 ) -> Result<(Ordered<()>, Option<usize>), buck_record::Memory>
-    requires { length case.now.postings ≤ MOST_POSTINGS }
+    requires few { length case.now.postings ≤ MOST_POSTINGS }
+    requires within { to ≤ length case.now.postings }
     ensures { IfOk result (λ both.
-        IsOrdered case.now both.0.until both.0.end × IsFound case.now postings.now both.1) }
+        IsOrdered case.now both.0.until both.0.end × IsFound case.now 0 to both.1) }
 {
     let Ordered { until, end } = walk_in_order(alloc, case)?;
-    let doubtful = first_doubtful(alloc, case, postings)?;
+    let doubtful = first_doubtful(alloc, case, 0, to)?;
     let end = match end {
         Ok(_) => Ok(()),
         Err(fault) => Err(fault),
@@ -189,43 +193,47 @@ fn walk_beside_search<T: Threads + Sync>(
     threads: usize,
     instruction: &Arc<Instruction>,
     journal: &Journal,
+    made: &[Arc<Sheet>],
 ) -> Result<(Ordered<()>, Option<usize>), buck_record::Memory>
     requires threads { 0 < threads }
     requires few { length journal.now.entries ≤ MOST_POSTINGS }
+    requires made { AreMade instruction.now.value journal.now.sheets (map (λ a. a.value) made.now) }
     ensures { IfOk result (λ both.
         IsOrdered (history_of instruction.now.value journal.now) both.0.until both.0.end
-        × IsFound (history_of instruction.now.value journal.now) journal.now.entries both.1) }
+        × IsFound (history_of instruction.now.value journal.now) 0 both.0.until both.1) }
 {
-    let made = first_sheets(alloc, instruction, journal.sheets.as_slice())?;
-    let made = made.as_slice();
-    let postings = journal.entries.as_slice();
-    let size = size_of_part(postings.len(), threads);
-    let others = size.saturating_mul(threads - 1);
-    let (front, rest) = postings.split_at(postings.len().saturating_sub(others));
+    let count = journal.entries.len();
+    let size = size_of_part(count, threads);
+    let front = count.saturating_sub(size.saturating_mul(threads - 1));
     let (first, later) = thread::join(
         rt,
         || -> Result<(Ordered<()>, Option<usize>), buck_record::Memory>
-            requires { (length journal.now.entries ≤ MOST_POSTINGS)
+            requires { (length journal.now.entries ≤ MOST_POSTINGS) × (front ≤ length journal.now.entries)
                 × AreMade instruction.now.value journal.now.sheets (map (λ a. a.value) made.now) }
             ensures { IfOk result (λ both.
                 IsOrdered (history_of instruction.entry.now.value journal.entry.now) both.0.until both.0.end
-                × IsFound (history_of instruction.entry.now.value journal.entry.now) front.entry.now both.1) }
+                × IsFound (history_of instruction.entry.now.value journal.entry.now) 0 front both.1) }
         { walk_and_search(alloc, &Case::of(instruction, journal, made), front) },
         || -> Result<Option<usize>, buck_record::Memory>
-            requires { IsSync T.row × (0 < size)
+            requires { IsSync T.row × (0 < size) × (front ≤ length journal.now.entries)
                 × AreMade instruction.now.value journal.now.sheets (map (λ a. a.value) made.now) }
-            ensures { IfOk result
-                (IsFound (history_of instruction.entry.now.value journal.entry.now) rest.entry.now) }
-        { first_by_size(rt, alloc, size, &Case::of(instruction, journal, made), rest) },
+            ensures { IfOk result (IsFound (history_of instruction.entry.now.value journal.entry.now) front
+                (length journal.entry.now.entries)) }
+        {
+            first_by_size(
+                rt,
+                alloc,
+                size,
+                &Case::of(instruction, journal, made),
+                front,
+            )
+        },
     );
     let (ordered, first) = first?;
     if first.is_some() {
         return Ok((ordered, first));
     }
-    match later? {
-        Some(at) => Ok((ordered, Some(front.len() + at))),
-        None => Ok((ordered, None)),
-    }
+    Ok((ordered, later?))
 }
 
 /// [`replay`] in at most so many threads at once. One goes through the postings in order, while the others look which
@@ -253,6 +261,8 @@ pub fn replay_in_parts<T: Threads + Sync>(
     if !journal.entries.as_slice().is_sorted_by_key(version_of) {
         return replay(alloc, instruction, journal);
     }
-    let (ordered, doubtful) = walk_beside_search(rt, alloc, threads, instruction, journal)?;
-    judged(ordered, doubtful)
+    let made = first_sheets(alloc, instruction, journal.sheets.as_slice())?;
+    let made = made.as_slice();
+    let (ordered, doubtful) = walk_beside_search(rt, alloc, threads, instruction, journal, made)?;
+    judged(&Case::of(instruction, journal, made), ordered, doubtful)
 }

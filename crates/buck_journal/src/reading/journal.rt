@@ -66,28 +66,14 @@ fn read_by_items(alloc: Global, bytes: &[u8]) -> Result<Journal, JournalFault>
     journal_in(alloc, items.as_slice())
 }
 
-/// The journal of the sheets and the postings that were read of it, where there aren't too many.
-pub(crate) fn plain_journal(
-    sheets: Vec<Vec<u32>>,
-    entries: Vec<Posting>,
-) -> Result<Journal, JournalFault>
-    ensures value { IfOk result (λ j. (j.sheets ≡ map (λ v. v.items) sheets.items) × (j.entries ≡ entries.items)) }
-    ensures few { IfOk result (λ journal. length journal.entries ≤ MOST_POSTINGS) }
-{
-    if entries.len() > MOST_POSTINGS as usize {
-        return Err(JournalFault::NotJournal);
-    }
-    Ok(Journal { sheets, entries })
-}
-
-/// The journal of a file's bytes, where all of it is right.
+/// The journal of a file's bytes, where all of it is right, with any number of postings.
 fn read_plain(alloc: Global, bytes: &[u8]) -> Result<Journal, JournalFault>
-    ensures value { IfOk result (λ journal. journal_of bytes.now ≡ Ok journal) }
-    ensures few { IfOk result (λ journal. length journal.entries ≤ MOST_POSTINGS) }
+    ensures { IfOk result (λ journal.
+        length journal.entries ≤ MOST_POSTINGS → journal_of bytes.now ≡ Ok journal) }
 {
     let (sheets, rest) = opened(alloc, bytes)?;
     let entries = postings_of(alloc, rest)?;
-    plain_journal(sheets, entries)
+    Ok(Journal { sheets, entries })
 }
 
 /// What was read in one pass, or what is read by the list of the items, where that wasn't right.
@@ -96,13 +82,19 @@ pub(crate) fn or_by_items(
     bytes: &[u8],
     plain: Result<Journal, JournalFault>,
 ) -> Result<Journal, JournalFault>
-    requires value { IfOk plain (λ journal. journal_of bytes.now ≡ Ok journal) }
-    requires few { IfOk plain (λ journal. length journal.entries ≤ MOST_POSTINGS) }
+    requires { IfOk plain (λ journal.
+        length journal.entries ≤ MOST_POSTINGS → journal_of bytes.now ≡ Ok journal) }
     ensures value { Gives Memory result (journal_of bytes.now) }
     ensures few { IfOk result (λ journal. length journal.entries ≤ MOST_POSTINGS) }
 {
     match plain {
-        Ok(journal) => Ok(journal),
+        Ok(journal) => {
+            if journal.entries.len() <= MOST_POSTINGS as usize {
+                return Ok(journal);
+            }
+            drop(journal);
+            read_by_items(alloc, bytes)
+        }
         Err(JournalFault::Memory) => Err(JournalFault::Memory),
         Err(_) => read_by_items(alloc, bytes),
     }

@@ -7,7 +7,7 @@ ghost use Rattle.buck_journal.specs.reading.Journal.{journal_of};
 ghost use Rattle.buck_journal.specs.inner.Plain.{HasPostings};
 
 use crate::reading::fault::JournalFault;
-use crate::reading::journal::{Journal, or_by_items, plain_journal};
+use crate::reading::journal::{Journal, or_by_items};
 use crate::reading::plain::{opened, postings_of};
 use crate::reading::slots::CUT;
 use buck_book::{MOST_POSTINGS, Posting};
@@ -54,12 +54,12 @@ fn read_plain_in_parts<T: Threads + Sync>(
     bytes: &[u8],
     threads: usize,
 ) -> Result<Journal, JournalFault>
-    ensures value { IfOk result (λ journal. journal_of bytes.now ≡ Ok journal) }
-    ensures few { IfOk result (λ journal. length journal.entries ≤ MOST_POSTINGS) }
+    ensures { IfOk result (λ journal.
+        length journal.entries ≤ MOST_POSTINGS → journal_of bytes.now ≡ Ok journal) }
 {
     let (sheets, rest) = opened(alloc, bytes)?;
     let entries = postings_in_parts(rt, alloc, rest, threads)?;
-    plain_journal(sheets, entries)
+    Ok(Journal { sheets, entries })
 }
 
 /// The same as [`read_journal`](crate::read_journal), where the postings of a journal that isn't short are read in at

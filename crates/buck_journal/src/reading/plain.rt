@@ -136,7 +136,7 @@ fn next_posting<'a>(
 }
 
 /// The postings of a text, up to its end.
-#[tactic(auto, using(crate::proofs::OnePass::posting_steps))]
+#[tactic(auto, using(crate::proofs::OnePass::steps))]
 pub(crate) fn postings_of(alloc: Global, text: &[u8]) -> Result<Vec<Posting>, JournalFault>
     ensures { IfOk result (λ postings. HasPostings text.now postings.items) }
 {
@@ -171,7 +171,7 @@ fn next_sheet<'a>(
 }
 
 /// The sheets that a text begins with, and what is left after them.
-#[tactic(auto, using(crate::proofs::OnePass::sheet_steps, crate::proofs::Walk::pushed))]
+#[tactic(auto, using(crate::proofs::OnePass::steps, crate::proofs::Walk::pushed))]
 fn sheets_of<'a>(alloc: Global, text: &'a [u8]) -> Result<(Vec<Vec<u32>>, &'a [u8]), JournalFault>
     ensures { IfOk result (λ w. LeadsSheets text.now (map (λ v. v.items) w.0.items) w.1.now) }
 {
