@@ -177,13 +177,6 @@ numbers_lead s head ns rest is n k small = record {
   leads = line_leads s head ns rest is n k (smaller ns small);
 }
 
--- before other lines of one text
-pub numbers_before : (s : Slot) (head ns tail rest : List ℕ) → head ≡ decimal s.number ++ 32 ∷ decimal s.kind
-    → s.number ≤ 65535 → s.kind ≤ 65535 → AllByRecursion (λ n. n ≤ 4294967295) ns
-    → LeadsNumbers s (10 ∷ ((item_text head ns ++ tail) ++ rest)) ns (10 ∷ (tail ++ rest))
-numbers_before s head ns tail rest is n k small =
-    rw (append_assoc (item_text head ns) tail rest) (numbers_lead s head ns (tail ++ rest) is n k small)
-
 pub worth_leads : (head rest : List ℕ) (n : ℕ) → head ≡ decimal 981 ++ 32 ∷ decimal 6 → n ≤ 18446744073709551615
     → LeadsWorth (10 ∷ (item_text head (n ∷ []) ++ rest)) n (10 ∷ rest)
 worth_leads head rest n is le = record {

@@ -1,5 +1,5 @@
 -- How many items a journal has.
-use Rattle.buck_journal.proofs.Words.{◌≡◌, ℕ, zero, suc, ◌+◌, ◌<◌, Bool, true, false, List, [], ◌∷◌, Option, Some, Result, Ok, Err, inl, inr, length, drop, slice_get, sum_by, refl, sym, ap, ◌∙◌, subst, arith, rules, common_steps, if◌then◌else◌, cases_Bool, same_Some, with_fault, TARGETS, sum_by-cons, ItemParts, ◌>>=◌, items_of, is_at, slot, both, check_ok, Posting, JournalFault, Shape, JournalParts, Form, says, wanted, numbers_at, item_at, list_form, call_at, head_form, samples_form, zones_form, stem_at, logs_form, worth_at, is_first, follows, cut_at, demand_at, posting_at, sheets_from, postings_from, says_journal, journal_in, journal_of, number_of_items, begins}
+use Rattle.buck_journal.proofs.Words.{◌≡◌, ℕ, zero, suc, ◌+◌, ◌<◌, Bool, true, false, List, [], ◌∷◌, Option, Some, None, Result, Ok, Err, inl, inr, length, drop, slice_get, sum_by, refl, sym, ap, ◌∙◌, subst, arith, rules, common_steps, if◌then◌else◌, cases_Bool, same_Some, with_fault, TARGETS, sum_by-cons, ItemParts, ◌>>=◌, items_of, is_at, slot, both, check_ok, Posting, JournalFault, Shape, JournalParts, Form, says, wanted, numbers_at, item_at, list_form, call_at, head_form, samples_form, zones_form, stem_at, logs_form, worth_at, is_first, follows, cut_at, demand_at, posting_at, sheets_from, postings_from, says_journal, journal_in, journal_of, number_of_items, begins}
 use Rattle.buck_journal.specs.reading.Journal.{sheet_at}
 
 ok_of : {X E : Type 0} (fault : ℕ → E) (r : Result X ℕ) (x : X) → with_fault fault r ≡ Ok x → r ≡ Ok x
@@ -25,7 +25,8 @@ else_of false p q y is h = h
 
 -- an item is there, and begins no posting
 abbrev Inside : Option ItemParts → Type 0
-Inside o = (x : ItemParts) × (o ≡ Some x) × (is_first x ≡ false)
+Inside None = ⊥
+Inside (Some x) = is_first x ≡ false
 
 other_kind : (number kind : ℕ) (x : ItemParts) → (kind ≡ 1 → ⊥) → is_at (slot number kind) x ≡ true → is_first x ≡ false
 other_kind number kind x other h = grind (arith, common_steps)
@@ -66,44 +67,12 @@ then_begins (suc n) place (x ∷ more) h = then_begins n place more h
 cut_owes : (x : ItemParts) (more : List ItemParts) (k before : ℕ) (p : Posting)
     → cut_at (x ∷ more) k before ≡ Ok p → (number_of_items p ≡ 6) × Owes 0 5 more
 unfolding cut_at stem_at
-cut_owes x more k before p h =
-    let a = step_ok (call_at (slot 981 1) before (k + 1) (Some x)) _ p h in
-    let b = step_ok (stem_at (x ∷ more) k) _ p a.2 in
-    let c = step_ok (item_at (slot 981 5) logs_form (k + 5) (slice_get more 3)) _ p b.2 in
-    let d = step_ok (worth_at (k + 6) (slice_get more 4)) _ p c.2 in
-    let e = step_ok (follows (k + 7) (slice_get more 5)) _ p d.2 in
-    let s = step_ok (item_at (slot 981 2) head_form (k + 2) (slice_get more 0)) _ b.0 b.1 in
-    let t = step_ok (item_at (slot 981 3) samples_form (k + 3) (slice_get more 1)) _ b.0 s.2 in
-    let u = step_ok (item_at (slot 981 4) zones_form (k + 4) (slice_get more 2)) _ b.0 t.2 in (
-      ap number_of_items (sym (ok_same _ p e.2)),
-      (
-        item_inside 981 2 (k + 2) _ (λ e. omega arith) head_form s.0 s.1,
-        (
-          item_inside 981 3 (k + 3) _ (λ e. omega arith) samples_form t.0 t.1,
-          (
-            item_inside 981 4 (k + 4) _ (λ e. omega arith) zones_form u.0 u.1,
-            (
-              item_inside 981 5 (k + 5) _ (λ e. omega arith) logs_form c.0 c.1,
-              (worth_inside (k + 6) _ d.0 d.1, then_begins 5 (k + 7) more e.1),
-            ),
-          ),
-        ),
-      ),
-    )
+cut_owes x more k before p h = grind (arith, step_ok, ok_same, item_inside, worth_inside, then_begins)
 
 demand_owes : (x : ItemParts) (more : List ItemParts) (k before : ℕ) (p : Posting)
     → demand_at (x ∷ more) k before ≡ Ok p → (number_of_items p ≡ 2) × Owes 0 1 more
 unfolding demand_at
-demand_owes x more k before p h =
-    let a = step_ok (call_at (slot 982 1) before (k + 1) (Some x)) _ p h in
-    let b = step_ok (item_at (slot 982 2) (list_form TARGETS.low TARGETS.high) (k + 2) (slice_get more 0)) _ p a.2 in
-    let c = step_ok (follows (k + 3) (slice_get more 1)) _ p b.2 in (
-      ap number_of_items (sym (ok_same _ p c.2)),
-      (
-        item_inside 982 2 (k + 2) _ (λ e. omega arith) (list_form TARGETS.low TARGETS.high) b.0 b.1,
-        then_begins 1 (k + 3) more c.1,
-      ),
-    )
+demand_owes x more k before p h = grind (arith, step_ok, ok_same, item_inside, then_begins)
 
 posting_owes : (x : ItemParts) (more : List ItemParts) (k before : ℕ) (p : Posting)
     → posting_at x (x ∷ more) k before ≡ Ok p → (n : ℕ) × (number_of_items p ≡ n + 1) × Owes 0 n more
@@ -117,10 +86,9 @@ postings_counted : (k before n : ℕ) (rest : List ItemParts) (ps : List Posting
     → postings_from k before rest ≡ Ok ps → length rest ≡ n + sum_by number_of_items ps
 unfolding postings_from
 postings_counted k before zero [] ps o h = subst (λ qs. 0 ≡ 0 + sum_by number_of_items qs) (ok_same [] ps h) refl
-postings_counted k before (suc n) [] ps o h = let no_ = o.0.1 in cc
+postings_counted k before (suc n) [] ps o h = absurd o.0
 postings_counted k before (suc n) (x ∷ more) ps o h =
-    let other : is_first x ≡ false = ap is_first (same_Some x o.0.0 o.0.1) ∙ o.0.2 in
-    search (rules, (postings_counted (k + 1) before n more ps (one_behind 0 n x more o.1) (else_of (is_first x) _ _ _ other h)))
+    search (rules, (postings_counted (k + 1) before n more ps (one_behind 0 n x more o.1) (else_of (is_first x) _ _ _ o.0 h)))
 postings_counted k before zero (x ∷ more) ps o h =
     let a = step_ok (posting_at x (x ∷ more) k before) _ ps (then_of (is_first x) _ _ _ o h) in
     let b = step_ok (postings_from (k + 1) (before + 1) more) _ ps a.2 in

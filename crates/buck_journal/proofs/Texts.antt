@@ -1,6 +1,6 @@
 -- The text of a journal is read again.
 use Rattle.buck_journal.proofs.Words.{◌≡◌, ℕ, ◌+◌, ◌*◌, ◌<◌, ◌≤◌, ◌^◌, true, List, [], ◌∷◌, ◌++◌, Ok, length, refl, ap, arith, subst, append_assoc, append-nil, codes, eq-eqb, rules, AllByRecursion, flat_map, decimal, digits, recursion_from_All, le-leb, and_from, nat_tests, within, all_within, both, within_ok, slot, TARGETS, SAMPLES, MOST_ZONES, zones_of, Log, Posting, Cut, Demand, Call, says, list_form, is_call, is_zone, are_zones, zones_form, is_log, are_logs, logs_of, logs_form, journal_of, item_text, sheet_text, cut_text, demand_text, posting_text, journal_text, zone_numbers, log_numbers, AreSheetPrices, IsInRange, AreInRange, call_of_cut, call_of_demand, LeadsPostings, LeadsSheets}
-use Rattle.buck_journal.proofs.Lines.{numbers_lead, numbers_before, worth_leads, kind_leads, nothing_left}
+use Rattle.buck_journal.proofs.Lines.{numbers_lead, worth_leads, kind_leads, nothing_left}
 use Rattle.buck_journal.proofs.OnePass.{cut_leads, demand_leads, sheet_leads, starts, goes_on, plain_journal}
 
 -- numbers that are in range are small
@@ -104,12 +104,13 @@ posting_leads (Cut e) r rest =
     (worth_leads (codes "981 6") rest e.worth heads_are.6 r.worth))
 posting_leads (Demand d) r rest =
     let called : List ℕ = item_text (codes "982 2") d.targets in
-    demand_leads (call_of_demand d) (10 ∷ (demand_text d ++ rest)) (10 ∷ (called ++ rest)) d.targets (10 ∷ rest) _
-    (numbers_before (slot 982 1) (codes "982 1") (d.harvester ∷ d.number ∷ d.version ∷ []) called rest heads_are.7
+    rw (append_assoc (item_text (codes "982 1") (d.harvester ∷ d.number ∷ d.version ∷ [])) called rest)
+    (demand_leads (call_of_demand d) _ (10 ∷ (called ++ rest)) d.targets (10 ∷ rest) _
+    (numbers_lead (slot 982 1) (codes "982 1") (d.harvester ∷ d.number ∷ d.version ∷ []) (called ++ rest) heads_are.7
     (omega arith) (omega arith) (call_small (call_of_demand d) r.call)) (rw r.call refl)
     (numbers_lead (slot 982 2) (codes "982 2") d.targets rest heads_are.8 (omega arith) (omega arith)
     (in_small TARGETS.low TARGETS.high d.targets (omega arith) r.targets_range))
-    (list_said TARGETS.low TARGETS.high d.targets r.targets_number r.targets_range)
+    (list_said TARGETS.low TARGETS.high d.targets r.targets_number r.targets_range))
 
 postings_lead : (ps : List Posting) → AllByRecursion IsInRange ps → (rest : List ℕ)
     → LeadsPostings (10 ∷ (flat_map posting_text ps ++ rest)) ps (10 ∷ rest)
@@ -122,11 +123,12 @@ sheets_lead : (pss : List (List ℕ)) → AllByRecursion AreSheetPrices pss → 
     → LeadsSheets (10 ∷ (flat_map sheet_text pss ++ rest)) pss (10 ∷ rest)
 sheets_lead [] r rest = starts (10 ∷ rest)
 sheets_lead (prices ∷ pss) r rest =
-    goes_on _ (10 ∷ (flat_map sheet_text pss ++ rest)) _ (prices ∷ []) pss
+    rw (append_assoc (sheet_text prices) (flat_map sheet_text pss) rest)
+    (goes_on _ _ _ (prices ∷ []) pss
     (sheet_leads _ prices _
-    (numbers_before (slot 971 1) (codes "971 1") prices (flat_map sheet_text pss) rest heads_are.0 (omega arith)
+    (numbers_lead (slot 971 1) (codes "971 1") prices (flat_map sheet_text pss ++ rest) heads_are.0 (omega arith)
     (omega arith) (in_small 0 20000000 prices (omega arith) r.0.range))
-    (list_said 0 20000000 prices r.0.number r.0.range)) (sheets_lead pss r.1 rest)
+    (list_said 0 20000000 prices r.0.number r.0.range)) (sheets_lead pss r.1 rest))
 
 -- the journal of a journal's text is what was written
 pub read_again : (pss : List (List ℕ)) (ps : List Posting) → AreInRange pss ps
