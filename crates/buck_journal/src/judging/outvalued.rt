@@ -91,6 +91,7 @@ pub(crate) fn first_doubtful(
 }
 
 /// [`first_doubtful`] from a place to the end, with each run of so many neighbours in a thread of its own.
+#[tactic(auto, using(crate::proofs::Judged::joined))]
 pub(crate) fn first_by_size<T: Threads + Sync>(
     rt: &T,
     alloc: Global,

@@ -114,6 +114,7 @@ fn judged<W: Drop>(
 
 /// The place after the last posting of a journal of at most 1,000,000, where it is lawful for an instruction: what all
 /// of it adds up to. Refused as [`replay`] refuses.
+#[tactic(auto, using(crate::proofs::Judged::told_end))]
 pub fn replay_to_end<'w>(
     alloc: Global,
     instruction: &'w Arc<Instruction>,
