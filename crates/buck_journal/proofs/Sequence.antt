@@ -1,5 +1,5 @@
 -- How many items a journal has.
-use Rattle.buck_journal.proofs.Words.{◌≡◌, ℕ, zero, suc, ◌+◌, ◌<◌, Bool, true, false, List, [], ◌∷◌, Option, Some, None, Result, Ok, Err, inl, inr, length, drop, slice_get, sum_by, refl, sym, ap, ◌∙◌, subst, arith, rules, common_steps, if◌then◌else◌, cases_Bool, same_Some, with_fault, TARGETS, sum_by-cons, ItemParts, ◌>>=◌, items_of, is_at, slot, both, check_ok, Posting, JournalFault, Shape, JournalParts, Form, says, wanted, numbers_at, item_at, list_form, call_at, head_form, samples_form, zones_form, stem_at, logs_form, worth_at, is_first, follows, cut_at, demand_at, posting_at, sheets_from, postings_from, says_journal, journal_in, journal_of, number_of_items, begins}
+use Rattle.buck_journal.proofs.Words.{◌≡◌, ℕ, zero, suc, ◌+◌, ◌<◌, Bool, true, false, List, [], ◌∷◌, Option, Some, None, Result, Ok, Err, inl, inr, length, drop, slice_get, sum_by, refl, sym, ap, ◌∙◌, subst, arith, rules, common_steps, if◌then◌else◌, cases_Bool, with_fault, sum_by-cons, ItemParts, ◌>>=◌, items_of, is_at, slot, both, check_ok, Posting, JournalFault, Shape, JournalParts, Form, says, wanted, numbers_at, item_at, stem_at, worth_at, is_first, follows, cut_at, demand_at, posting_at, sheets_from, postings_from, says_journal, journal_in, journal_of, number_of_items, begins}
 use Rattle.buck_journal.specs.reading.Journal.{sheet_at}
 
 ok_of : {X E : Type 0} (fault : ℕ → E) (r : Result X ℕ) (x : X) → with_fault fault r ≡ Ok x → r ≡ Ok x
