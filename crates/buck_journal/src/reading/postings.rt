@@ -62,7 +62,18 @@ pub(crate) fn demand_of(alloc: Global, call: Call, targets: Vec<u32>) -> Result<
     }))
 }
 
-/// The diameters of a cut that items begin with, so many of the file coming before.
+/// The number and the species of the stem of a cut that items begin with, so many of the file coming before.
+#[tactic(auto, unfolding(crate::specs::reading::Journal::item_at))]
+fn head_at(alloc: Global, items: &[Piece<'_>], k: usize) -> Result<(u32, u8), JournalFault>
+    requires { k + 7 < 2 ^ 64 }
+    ensures value { Gives Memory result (item_at (slot 981 2) head_form (k + 2) (slice_get items.now 1)) }
+    ensures species { IfOk result (λ head. (SPECIES.low ≤ head.1) × (head.1 ≤ SPECIES.high)) }
+{
+    let numbers = numbers_at(alloc, HEAD, k + 2, items.get(1))?;
+    head_in(k + 2, numbers.as_slice())
+}
+
+/// Its diameters.
 #[tactic(auto, unfolding(crate::specs::reading::Journal::item_at))]
 fn samples_at(alloc: Global, items: &[Piece<'_>], k: usize) -> Result<Vec<u16>, JournalFault>
     requires { k + 7 < 2 ^ 64 }
@@ -73,7 +84,7 @@ fn samples_at(alloc: Global, items: &[Piece<'_>], k: usize) -> Result<Vec<u16>, 
     samples_in(alloc, k + 3, numbers.as_slice())
 }
 
-/// The zones of such a cut.
+/// Its zones.
 #[tactic(auto, unfolding(crate::specs::reading::Journal::item_at))]
 fn zones_at(alloc: Global, items: &[Piece<'_>], k: usize) -> Result<Vec<(u32, u8)>, JournalFault>
     requires { k + 7 < 2 ^ 64 }
@@ -95,13 +106,12 @@ fn logs_at(alloc: Global, items: &[Piece<'_>], k: usize) -> Result<Vec<Log>, Jou
 }
 
 /// The stem of such a cut.
-#[tactic(auto, using(crate::proofs::Limits::is_stem_ok), unfolding(crate::specs::reading::Journal::stem_at, crate::specs::reading::Journal::item_at))]
+#[tactic(auto, using(crate::proofs::Limits::is_stem_ok), unfolding(crate::specs::reading::Journal::stem_at))]
 fn stem_at<'a>(alloc: Global, items: &'a [Piece<'a>], k: usize) -> Result<Stem, JournalFault>
     requires { k + 7 < 2 ^ 64 }
     ensures { Gives Memory result (stem_at items.now k) }
 {
-    let named = numbers_at(alloc, HEAD, k + 2, items.get(1))?;
-    let (number, species) = head_in(k + 2, named.as_slice())?;
+    let (number, species) = head_at(alloc, items, k)?;
     let samples = samples_at(alloc, items, k)?;
     let zones = zones_at(alloc, items, k)?;
     let stem = Stem::of_parts(alloc, number, species, samples.as_slice(), zones)?;
