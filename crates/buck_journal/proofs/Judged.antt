@@ -1,5 +1,5 @@
 -- What comes of a history of which the first doubtful posting is known.
-use Rattle.buck_journal.proofs.Words.{◌≡◌, ◌≢◌, ℕ, ◌+◌, ◌<◌, ◌≤◌, inl, inr, true, false, List, length, take, subst, slice_get, Option, Some, None, refl, arith, rules, common_steps, cases_lt, slice_get_within, Posting, Cut, Demand, planned_version, HistoryParts, Follows, Holds, sheet_at, ReplayFault, Outvalued, Memory, Result, Ok, Err, IfOk, IfErr, OnOk, IsLawful, IsOrdered, version_at, IsRightBefore, IsContentFault, IsFirstFault, IsPriced, HoldsUnder, IsRightUnder, IsInOrderBefore, IsStopped, IsOutvalued, IsDoubtful, NoneDoubtful, IsFirstDoubtful, IsFound}
+use Rattle.buck_journal.proofs.Words.{◌≡◌, ◌≢◌, ℕ, ◌+◌, ◌<◌, ◌≤◌, inl, inr, true, false, List, length, take, subst, slice_get, Option, Some, None, refl, arith, rules, common_steps, cases_lt, slice_get_within, Posting, Cut, Demand, planned_version, HistoryParts, Follows, sheet_at, ReplayFault, Outvalued, Memory, Result, Ok, Err, IfOk, IfErr, OnOk, IsLawful, IsOrdered, version_at, IsRightBefore, IsContentFault, IsFirstFault, IsPriced, IsRightUnder, IsInOrderBefore, IsStopped, IsOutvalued, IsDoubtful, NoneDoubtful, IsFirstDoubtful, IsFound}
 use Rattle.std.specs.Option.{is_some}
 use Rattle.buck_journal.proofs.Replays.{opened, lawful_when}
 
@@ -52,15 +52,10 @@ module _ (h : HistoryParts) where
       → IsRightUnder (sheet_at h.instruction h.sheets (planned_version x)) before x
       → IsOutvalued (sheet_at h.instruction h.sheets (planned_version x)) x false
       → Follows h.instruction h.sheets before x
-  follows before x r none =
-      record { number_is_next = r.numbered; version_in_force = r.of_version; holds = holds x r.holds none }
-    where
-      holds : (y : Posting) → HoldsUnder (sheet_at h.instruction h.sheets (planned_version y)) y
-          → IsOutvalued (sheet_at h.instruction h.sheets (planned_version y)) y false
-          → Holds h.instruction h.sheets y
-      holds (Cut e) k most =
-          (record { admissible = k.0; none_outvalues = λ others ok. omega (arith, most others ok, k.1) }, k.1)
-      holds (Demand d) k most = k
+  follows before (Cut e) r none =
+      record { number_is_next = r.numbered; version_in_force = r.of_version; holds = grind (arith, none) }
+  follows before (Demand d) r none =
+      record { number_is_next = r.numbered; version_in_force = r.of_version; holds = r.holds }
 
   right_before : (k n : ℕ) → k ≤ n → IsInOrderBefore h n → NoneDoubtful h 0 k → IsRightBefore h k
   right_before k n le before none = record {
