@@ -20,17 +20,8 @@ module _ (h : HistoryParts) (v : IsInstruction h.instruction) (l : IsLawful h) w
   after : (m : ℕ) (x : Posting) → slice_get h.postings m ≡ Some x → Begins h (m + 1)
       → PricesMeet h.instruction (take (m + 1) h.postings) (prices_then h (m + 1))
   after m x at b =
-      elim (cases_Bool (is_end h.instruction.period (cuts_since_end h.instruction (take m h.postings)) x)) [
-        | inl yes_ ↦
-            let version : version_at h (m + 1) ≡ version_at h m + 1 =
-            ap (λ ps. ends_of h.instruction ps) (take_one_more h.postings m x at)
-            ∙ ends_with_end h.instruction (take m h.postings) x yes_ in
-            grind arith
-        | inr no_ ↦
-            let more : cuts_since_end h.instruction (take m h.postings ++ x ∷ [])
-            ≡ cuts_since_end h.instruction (take m h.postings) + 1 = grind (arith, cuts_without, true_false) in
-            grind (arith, take_one_more)
-      ]
+      let longer : take (m + 1) h.postings ≡ take m h.postings ++ x ∷ [] = take_one_more h.postings m x at in
+      grind (arith, cases_Bool, ends_with_end, cuts_without, true_false, l.sheets_meet)
 
   pub prices_right : (k : ℕ) → k ≤ length h.postings → Begins h k
       → PricesMeet h.instruction (take k h.postings) (prices_then h k)
