@@ -1,5 +1,5 @@
 -- A history in which a fault stands isn't lawful.
-use Rattle.buck_journal.proofs.Words.{◌≡◌, ℕ, ◌+◌, ◌-◌, ◌≤◌, inl, inr, List, [], ◌∷◌, ◌++◌, length, take, slice_get, Some, sym, ◌∙◌, ap, subst, arith, common_steps, cases_Bool, cases_eq, take_all, slice_get_within, slice_get_cases, InstructionParts, IsInstruction, Posting, planned_version, is_end, ends_of, cuts_since_end, HistoryParts, IsLawful, Holds, PricesMeet, sheet_at, true_false, take_one_more, ends_take-le, ends_with_end, cuts_without, base_meets, meets_from_alone, ReplayFault, version_at, prices_then, Begins, IsSheetRight, IsSheetFault, IsCallFault, IsContentFault, IsPostingFault, IsNumberFault, IsFaultAtEnd, IsNumbered, IsOfVersion, IsFirstFault}
+use Rattle.buck_journal.proofs.Words.{◌≡◌, ℕ, ◌+◌, ◌-◌, ◌≤◌, inl, inr, List, [], ◌∷◌, ◌++◌, length, take, slice_get, Some, sym, ◌∙◌, subst, arith, common_steps, cases_Bool, cases_eq, take_all, slice_get_within, slice_get_cases, InstructionParts, IsInstruction, Posting, planned_version, HistoryParts, IsLawful, Holds, PricesMeet, sheet_at, true_false, take_one_more, ends_take-le, ends_with_end, cuts_without, base_meets, meets_from_alone, ReplayFault, version_at, prices_then, Begins, IsSheetRight, IsSheetFault, IsCallFault, IsContentFault, IsPostingFault, IsNumberFault, IsFaultAtEnd, IsNumbered, IsOfVersion, IsFirstFault}
 
 no_sheet_fault : (h : HistoryParts) (k : ℕ) (fault : ReplayFault) → IsSheetRight h k → IsSheetFault h k fault → ⊥
 no_sheet_fault h k fault right wrong = grind (arith, common_steps)

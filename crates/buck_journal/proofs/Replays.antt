@@ -142,12 +142,8 @@ lawful_when h v before last =
           (meets_to_alone i [] (prices_at h.sheets 0) v (right_at 0 (omega arith) refl).1);
       sheets_meet = λ k x at e.
           let longer : take (k + 1) h.postings ≡ take k h.postings ++ x ∷ [] = take_one_more h.postings k x at in
-          let begins : cuts_since_end i (take (k + 1) h.postings) ≡ 0 = ap (λ ps. cuts_since_end i ps) longer
-          ∙ cuts_with_end i (take k h.postings) x e in
-          let version : version_at h (k + 1) ≡ version_at h k + 1 = ap (λ ps. ends_of i ps) longer
-          ∙ ends_with_end i (take k h.postings) x e in
-          subst (λ n. PricesMeet i (take (k + 1) h.postings) (prices_at h.sheets n)) version
-          (right_at (k + 1) (omega (arith, slice_get_within h.postings k x at)) begins).1;
+          let right = right_at (k + 1) (omega (arith, slice_get_within h.postings k x at)) in
+          grind (arith, cuts_with_end, ends_with_end, right);
     }
   where
     right_at : (j : ℕ) → j ≤ length h.postings → Begins h j → IsSheetRight h j
