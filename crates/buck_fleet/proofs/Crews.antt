@@ -1,25 +1,5 @@
--- the seats of a new fleet, and the same seats after a run
-use Rattle.buck_fleet.proofs.Words.{◌≡◌, ℕ, zero, suc, ◌+◌, ◌<◌, ◌≤◌, ◌==◌, cond, List, [], ◌∷◌, length, get_or, take, refl, sym, ap, ◌∙◌, arith, add-one, sum_by, take_all, sum_by-cons, sum_by_more, if◌then◌else◌, nat_lt, nat_tests, SeatParts, seats_of, parts_of, IsCrew, FleetParts, IsSeatIn, HasRun, HaveRun, stems_at, Arc, Vec, Global, Stem}
-
--- each harvester from 1 on has one of the first n seats, or none
-first_seats : (x : SeatParts) (seats : List SeatParts) (h n : ℕ)
-    → ((i : ℕ) (d : SeatParts) → i < length seats → (get_or seats i d).harvester ≡ i + 1) → n ≤ length seats → 0 < h
-    → seats_of h (take n seats) ≡ (if nat_lt n h then 0 else 1)
-first_seats x seats h zero each le pos = grind (arith, nat_tests)
-first_seats x seats h (suc n) each le pos =
-    let more = sum_by_more (λ (s : SeatParts). cond (s.harvester == h) 1 0) seats n x (omega arith) in
-    grind (arith, add-one, nat_tests, (first_seats x seats h n each (omega arith) pos))
-
-pub crew_of_new : (n : ℕ) (seats : List SeatParts) → length seats ≡ n
-    → ((i : ℕ) (d : SeatParts) → i < n → (get_or seats i d).harvester ≡ i + 1) → IsCrew n seats
-crew_of_new n [] number each =
-    record { within = λ i d lt. absurd (omega arith); once = λ h pos le. absurd (omega arith) }
-crew_of_new n (x ∷ xs) number each = record {
-  within = λ i d lt. (let e = each i d (omega arith) in (omega arith, omega arith));
-  once = λ h pos le. let first =
-      first_seats x (x ∷ xs) h (length (x ∷ xs)) (λ i d lt. each i d (omega arith)) (omega arith) pos in
-      grind (arith, nat_tests, take_all);
-}
+-- the same seats after a run
+use Rattle.buck_fleet.proofs.Words.{◌++◌, common_steps, ◌≡◌, ℕ, zero, suc, ◌+◌, ◌<◌, ◌≤◌, ◌==◌, cond, List, [], ◌∷◌, length, get_or, take, refl, sym, ap, ◌∙◌, arith, add-one, sum_by, take_all, sum_by-cons, sum_by_more, if◌then◌else◌, nat_lt, nat_tests, SeatParts, seats_of, parts_of, IsCrew, FleetParts, IsSeatIn, HasRun, HaveRun, stems_at, Arc, Vec, Global, Stem}
 
 -- sums over seats that are alike
 sums_same : (f : SeatParts → ℕ) (xs ys : List SeatParts) → length ys ≡ length xs
@@ -47,15 +27,18 @@ crew_same n xs ys len e crew = record {
 }
 
 -- each seat has run
-pub have_run : (f : FleetParts) (lists : List (Vec (Arc Stem Global) Global)) (xs ys : List SeatParts)
-    → length ys ≡ length xs
+pub have_run : (f : FleetParts) (lists : List (Vec (Arc Stem Global) Global)) (xs ys zs : List SeatParts) (n : ℕ)
+    → n ≡ length xs → length ys ≡ length xs
     → ((i : ℕ) (d : SeatParts) → i < length xs
     → IsSeatIn f (get_or ys i d) × HasRun (stems_at lists i) (get_or xs i d) (get_or ys i d))
-    → HaveRun f lists xs ys
-have_run f lists xs ys number each = record {
+    → HaveRun f lists xs (take n (ys ++ zs))
+have_run f lists xs ys zs n all number each = rw is record {
   number = number;
   of_fleet = λ k d lt. (each k d (omega (arith, lt, number))).0;
   same_crew = λ n crew. crew_same n xs ys number (λ i d lt. (each i d lt).1.beginning.1.kept.same_harvester) crew;
   same_parts = parts_same xs ys number (λ i d lt. (each i d lt).1.beginning.1.kept.same_parts);
   runs = λ i d lt. (each i d lt).1;
 }
+  where
+    is : take n (ys ++ zs) ≡ ys
+    is = grind (arith, common_steps)

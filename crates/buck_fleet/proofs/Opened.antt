@@ -1,6 +1,5 @@
 -- seats of a new fleet, one by one
-use Rattle.buck_fleet.proofs.Words.{◌≡◌, ℕ, ◌+◌, ◌<◌, List, [], ◌∷◌, ◌++◌, length, get_or, refl, ap, arith, rules, common_steps, None, Some, All, get_or_append_left, get_or_push, length_push, sum_by_push, All-pop, Board, BoardSeat, IsSeatOf, seen_by, SeatParts, parts_of, IsNew, AreOpened}
-use Rattle.buck_fleet.proofs.Crews.{crew_of_new}
+use Rattle.buck_fleet.proofs.Words.{◌≡◌, ℕ, ◌+◌, ◌<◌, if◌then◌else◌, nat_lt, nat_tests, seats_of, List, [], ◌∷◌, ◌++◌, length, get_or, refl, ap, arith, rules, common_steps, None, Some, All, get_or_append_left, get_or_push, length_push, sum_by_push, All-pop, Board, BoardSeat, IsSeatOf, seen_by, SeatParts, parts_of, IsNew, AreOpened}
 
 -- some of the seats have their places, and the next one gets so many of the parts that are left
 pub record AreSoFar (b : Board) (count : ℕ) (seats : List SeatParts) (places : List BoardSeat)
@@ -13,6 +12,12 @@ pub record AreSoFar (b : Board) (count : ℕ) (seats : List SeatParts) (places :
   pub places_of : All (IsSeatOf b) places
   pub unseen : All (λ p. seen_by p ≡ 0) places
   pub new : (i : ℕ) (d : SeatParts) → i < length seats → IsNew b i (get_or seats i d)
+  pub once : (h : ℕ) → 0 < h → seats_of h seats ≡ (if nat_lt (length seats) h then 0 else 1)
+
+counted : (h : ℕ) (seats after : List SeatParts) (s : SeatParts)
+    → seats_of h seats ≡ (if nat_lt (length seats) h then 0 else 1) → 0 < h → s.harvester ≡ length seats + 1
+    → after ≡ seats ++ s ∷ [] → seats_of h after ≡ (if nat_lt (length after) h then 0 else 1)
+counted h seats after s was pos is more = grind (arith, sum_by_push, length_push, nat_tests)
 
 pub one_more : (b : Board) (count : ℕ) (seats after : List SeatParts) (places others : List BoardSeat)
     (parts left left_after own : ℕ) (s : SeatParts) (h : ℕ) (p : BoardSeat)
@@ -21,7 +26,7 @@ pub one_more : (b : Board) (count : ℕ) (seats after : List SeatParts) (places 
     → h ≡ length seats + 1 → after ≡ seats ++ s ∷ [] → left_after + parts ≡ left
     → AreSoFar b count after others 1 left_after
 one_more b count seats after places others parts left left_after own s h p so_far place is e at more given =
-    search (rules, length_push, sum_by_push, All-pop, get_or_append_left, get_or_push)
+    search (rules, counted, length_push, sum_by_push, All-pop, get_or_append_left, get_or_push)
 
 pub opened : (b : Board) (count : ℕ) (seats : List SeatParts) (places : List BoardSeat) (parts left : ℕ)
     → AreSoFar b count seats places parts left → length places ≡ 0 → 0 < count → AreOpened b count seats
@@ -29,5 +34,8 @@ opened b count seats places parts left so_far none some = record {
   number = omega arith;
   each = λ i d lt. so_far.new i d (omega arith);
   all_parts = omega arith;
-  crew = crew_of_new count seats (omega arith) (λ i d lt. (so_far.new i d (omega arith)).harvester_is);
+  crew = record {
+    within = λ i d lt. (let is = (so_far.new i d lt).harvester_is in (omega arith, omega arith));
+    once = λ h pos le. (let is = so_far.once h pos in grind (arith, nat_tests));
+  };
 }

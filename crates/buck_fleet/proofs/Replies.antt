@@ -1,57 +1,48 @@
 -- where two lists of replies differ
-use Rattle.buck_fleet.proofs.Words.{◌≡◌, ◌≢◌, ℕ, zero, suc, ◌+◌, ◌-◌, ◌<◌, ◌≤◌, List, [], ◌∷◌, ◌++◌, length, take, drop, get_or, true, ◌==◌, inl, inr, drop-cons, add-one, refl, sym, ap, ◌∙◌, arith, common_steps, slice_get, Some, None, drop_all, length-take-le, slice_get_cases, slice_get_past, slice_get-get_or, none-some, same_Some, Posting, harvester_of, Kept, DifferFirstAt, replies_from}
-use Rattle.std.proofs.lemmas.List.{length-append}
+use Rattle.buck_fleet.proofs.Words.{◌≡◌, ◌≢◌, ℕ, zero, suc, ◌+◌, ◌<◌, ◌≤◌, List, [], ◌∷◌, ◌++◌, length, take, drop, get_or, drop-cons, add-one, refl, ap, ◌∙◌, arith, nat_tests, append_assoc, common_steps, drop_all, slice_get, slice_get_cases, slice_get_within, none-some, Some, take_one_more, Posting, harvester_of, Kept, DifferFirstAt, replies_from}
+
+-- the first k that are kept are the harvester's replies among the first i postings
+abbrev pub AreAlike : ℕ → List Kept → List Posting → ℕ → ℕ → Type 0
+AreAlike h kept entries k i =
+    (k ≤ i) × (k ≤ length kept) × (replies_from h 0 entries ≡ take k kept ++ replies_from h i (drop i entries))
 
 take_seam : (k : ℕ) (xs ys : List Kept) → k ≤ length xs → take k (take k xs ++ ys) ≡ take k xs
 take_seam k xs ys le = grind (arith, common_steps)
 
-get_seam : (k : ℕ) (xs : List Kept) (y : Kept) (ys : List Kept) → k ≤ length xs
-    → slice_get (take k xs ++ y ∷ ys) k ≡ Some y
-get_seam zero xs y ys le = refl
-get_seam (suc k) [] y ys le = absurd (omega arith)
-get_seam (suc k) (x ∷ xs) y ys le = get_seam k xs y ys (omega arith)
+get_seam : (k : ℕ) (xs ys : List Kept) → k ≤ length xs → slice_get (take k xs ++ ys) k ≡ slice_get ys 0
+get_seam zero xs ys le = refl
+get_seam (suc k) [] ys le = absurd (omega arith)
+get_seam (suc k) (x ∷ xs) ys le = get_seam k xs ys (omega arith)
 
--- up to k they are alike, and there the history goes on with a reply that isn't kept there
-pub differ_here : (k : ℕ) (kept replies : List Kept) (y : Kept) (ys : List Kept) → k ≤ length kept
-    → replies ≡ take k kept ++ y ∷ ys → slice_get kept k ≢ Some y → DifferFirstAt (k + 1) kept replies
-differ_here k kept replies y ys le is ne = grind (arith, take_seam, get_seam)
+-- up to k they are alike, and there the replies go on with others, or end
+differ : (k : ℕ) (kept replies ys : List Kept) → k ≤ length kept → replies ≡ take k kept ++ ys
+    → slice_get kept k ≢ slice_get ys 0 → DifferFirstAt (k + 1) kept replies
+differ k kept replies ys le is ne = grind (arith, take_seam, get_seam)
 
--- up to k they are alike, and there the history has no more replies
-pub differ_end : (k : ℕ) (kept replies : List Kept) → k < length kept → replies ≡ take k kept ++ []
-    → DifferFirstAt (k + 1) kept replies
-differ_end k kept replies lt is =
-    grind (arith, slice_get_past, length-append, length-take-le, take_seam, slice_get_cases, none-some)
+module _ (h k i : ℕ) (kept : List Kept) (entries : List Posting) (alike : AreAlike h kept entries k i) where
+  -- more is kept than the harvester's postings
+  pub more_kept : k < length kept → length entries ≤ i → DifferFirstAt (k + 1) kept (replies_from h 0 entries)
+  more_kept lt past =
+      differ k kept _ _ alike.1 (alike.2 ∙ ap (λ l. take k kept ++ replies_from h i l) (drop_all i entries past))
+      (grind (arith, slice_get_cases, none-some))
 
--- a posting of the harvester is the next reply
-reply_at : (h i : ℕ) (entries : List Posting) (x : Posting) → i < length entries → x ≡ get_or entries i x
-    → (harvester_of x == h) ≡ true
-    → replies_from h i (drop i entries) ≡ (record { position = i; entry = x })
-    ∷ replies_from h (i + 1) (drop (i + 1) entries)
-reply_at h i entries x lt at own = grind (arith, add-one, drop-cons)
+  module _ (x : Posting) (lt : i < length entries) (at : x ≡ get_or entries i x) where
+    -- a posting of the harvester is the next reply
+    reply_at : harvester_of x ≡ h → replies_from h i (drop i entries)
+        ≡ (record { position = i; entry = x }) ∷ replies_from h (i + 1) (drop (i + 1) entries)
+    reply_at own = grind (arith, add-one, drop-cons, nat_tests)
 
--- the kept list ends before the harvester's posting i
-pub kept_ends : (h k i : ℕ) (kept : List Kept) (entries : List Posting) (x : Posting)
-    → replies_from h 0 entries ≡ take k kept ++ replies_from h i (drop i entries)
-    → k ≤ length kept → length kept ≤ k → i < length entries → x ≡ get_or entries i x → (harvester_of x == h) ≡ true
-    → DifferFirstAt (k + 1) kept (replies_from h 0 entries)
-kept_ends h k i kept entries x is le ge lt at own =
-    differ_here k kept _ _ _ le (is ∙ ap (λ (l : List Kept). take k kept ++ l) (reply_at h i entries x lt at own))
-    (λ e. none-some _ (sym (slice_get_past kept k ge) ∙ e))
+    pub other_kept : harvester_of x ≡ h → slice_get kept k ≢ Some record { position = i; entry = x }
+        → DifferFirstAt (k + 1) kept (replies_from h 0 entries)
+    other_kept own ne = differ k kept _ _ alike.1 (alike.2 ∙ ap (λ l. take k kept ++ l) (reply_at own)) ne
 
--- another reply is kept than the harvester's posting i
-pub kept_other : (h k i : ℕ) (kept : List Kept) (entries : List Posting) (x : Posting) (y : Kept)
-    → replies_from h 0 entries ≡ take k kept ++ replies_from h i (drop i entries)
-    → k < length kept → i < length entries → x ≡ get_or entries i x → (harvester_of x == h) ≡ true → y ≡ get_or kept k y
-    → y ≢ record { position = i; entry = x }
-    → DifferFirstAt (k + 1) kept (replies_from h 0 entries)
-kept_other h k i kept entries x y is lt_k lt at own at_k ne =
-    differ_here k kept _ _ _ (omega arith)
-    (is ∙ ap (λ (l : List Kept). take k kept ++ l) (reply_at h i entries x lt at own))
-    (λ e. ne (same_Some _ _ (ap Some at_k ∙ sym (slice_get-get_or kept k y lt_k) ∙ e)))
+    pub goes_on : (k' : ℕ) → k' ≡ k + 1 → harvester_of x ≡ h
+        → slice_get kept k ≡ Some record { position = i; entry = x } → AreAlike h kept entries k' (i + 1)
+    goes_on k' is own there = rw is (
+      omega arith,
+      omega (arith, slice_get_within kept k _ there),
+      rw (take_one_more kept k _ there, append_assoc) (alike.2 ∙ ap (λ l. take k kept ++ l) (reply_at own)),
+    )
 
--- more is kept than the harvester's postings
-pub kept_more : (h k i : ℕ) (kept : List Kept) (entries : List Posting)
-    → replies_from h 0 entries ≡ take k kept ++ replies_from h i (drop i entries)
-    → k < length kept → length entries ≤ i → DifferFirstAt (k + 1) kept (replies_from h 0 entries)
-kept_more h k i kept entries is lt past =
-    differ_end k kept _ lt (is ∙ ap (λ (l : List Posting). take k kept ++ replies_from h i l) (drop_all i entries past))
+    pub passes : (k' : ℕ) → k' ≡ k → harvester_of x ≢ h → AreAlike h kept entries k' (i + 1)
+    passes k' is other = grind (arith, add-one, drop-cons, nat_tests)

@@ -1,6 +1,6 @@
 -- The words that the proofs of this crate name, from where each is declared.
 pub use Rattle.buck_dp.proofs.Words.{rules, add-one, take_all, sum_by-cons, sum_by_more, if◌then◌else◌, None, append_assoc, drop, drop-cons, length-take-le, StemParts, IfSome, vec_capacity}
-pub use Rattle.std.proofs.Common.{◌≡◌, ℕ, ◌+◌, ◌≤◌, List, [], ◌∷◌, ◌++◌, arith, sym, ◌∙◌, ◌-◌, ◌<◌, length, get_or, refl, ap, subst, map, zero, suc, ◌==◌, cond, take, ◌≢◌, set, length-set, length-append, true, inl, inr}
+pub use Rattle.std.proofs.Common.{◌≡◌, ℕ, ◌+◌, ◌≤◌, List, [], ◌∷◌, ◌++◌, arith, sym, ◌∙◌, ◌-◌, ◌<◌, length, get_or, refl, ap, subst, map, zero, suc, ◌==◌, cond, take, ◌≢◌, set, length-set, length-append, true, inl, inr, append-nil}
 pub use Rattle.std.proofs.lemmas.Grind.{common_steps}
 pub use Rattle.buck_book.specs.declared.posting.Posting.{Posting}
 pub use Rattle.buck_book.specs.declared.posting.Posting.TheVariants.{Cut, Demand}
@@ -38,9 +38,8 @@ pub use Rattle.std.proofs.lemmas.List.Elements.{All-pop, All-append, All-cons}
 pub use Rattle.buck_board.specs.declared.board.Board.{Board}
 pub use Rattle.buck_board.specs.declared.seat.BoardSeat.{BoardSeat}
 pub use Rattle.buck_board.specs.Board.{IsSeatOf, seen_by}
-pub use Rattle.std.proofs.lemmas.Bool.{eq-eqb}
+pub use Rattle.std.proofs.lemmas.Bool.{cases_eq, eq-eqb}
 pub use Rattle.std.proofs.Math.Seq.{get_or-append_seam}
-pub use Rattle.buck_fleet.specs.inner.Lists.{AreEmpty}
-pub use Rattle.std.proofs.lemmas.Option.{slice_get_cases, slice_get_past, slice_get-get_or, none-some, same_Some}
+pub use Rattle.std.proofs.lemmas.Option.{slice_get_within, slice_get_cases, slice_get_past, slice_get-get_or, none-some, same_Some}
 pub use Rattle.buck_fleet.specs.declared.fault.RunFault.{RunFault}
 pub use Rattle.std.specs.Arc.{arc_value}

@@ -6,4 +6,3 @@ pub mod Run
 pub mod Closed
 pub mod Refused
 pub mod Faults
-pub mod inner

@@ -9,7 +9,6 @@ ghost use Rattle.buck_book.specs.Book.{sheets_from};
 ghost use Rattle.buck_fleet.specs.Crew.{IsCrew, parts_of};
 ghost use Rattle.buck_fleet.specs.Closed.{ClosedParts, kept_by, lists_of, replies_from, replies_of, IsHandedOut, IsOneHistory, IsCloseFault, DifferFirstAt};
 ghost use Rattle.buck_fleet.specs.Faults.{close_numbers};
-ghost use Rattle.buck_fleet.specs.inner.Lists.{AreEmpty};
 ghost use Rattle.buck_book.specs.declared.posting.TheConstants.{MOST_POSTINGS};
 
 use crate::desk::Desk;
@@ -96,7 +95,7 @@ impl Model for Closed {
 /// Puts each seat's kept list in its harvester's place, and takes its share in.
 fn collect<L: Ledger>(seats: Vec<Seat<L>>, kept: &mut Vec<Vec<Kept>>, all: &mut Share<L>)
     requires crew { IsCrew (length kept.old.items) seats.items }
-    requires empty { AreEmpty (lists_of kept.old.items) }
+    requires empty { All (λ l. l ≡ []) (lists_of kept.old.items) }
     requires share { (all.old.parts ≡ 0) × (all.old.amount ≡ 0) }
     ensures lists { All (λ s. slice_index_or (lists_of kept.new.items) (s.harvester - 1) [] ≡ s.kept) seats.items }
     ensures number { length kept.new.items ≡ length kept.old.items }
@@ -119,7 +118,7 @@ fn take_in<F: Drop, L: Ledger>(
     kept: Vec<Vec<Kept>>,
 ) -> Closed
     requires crew { IsCrew (length kept.items) seats.items }
-    requires empty { AreEmpty (lists_of kept.items) }
+    requires empty { All (λ l. l ≡ []) (lists_of kept.items) }
     requires parts { parts_of seats.items ≡ L.parts }
     ensures { IsHandedOut (length kept.items) seats.items result }
 {
@@ -136,21 +135,14 @@ fn take_in<F: Drop, L: Ledger>(
     Closed { parts, kept }
 }
 
-/// Whether a posting is a harvester's.
-fn is_of(posting: &Posting, harvester: u32) -> bool
-    ensures { result ≡ (harvester_of posting.now == harvester) }
+/// Whether a posting of this position stands at a place of a kept list.
+fn is_kept_at(kept: &[Kept], place: usize, position: usize, posting: &Posting) -> bool
+    ensures { IsTrue result ↔ (slice_get kept.now place ≡ Some record { position = position; entry = posting.now }) }
 {
-    posting.harvester() == harvester
-}
-
-/// Whether a posting was kept at this position.
-fn is_kept_as(kept: &Kept, position: usize, posting: &Posting) -> bool
-    ensures { IsTrue result ↔ (kept.now ≡ record { position = position; entry = posting.now }) }
-{
-    if kept.position as usize != position {
-        return false;
+    match kept.get(place) {
+        Some(kept) => kept.position as usize == position && kept.entry.same(posting),
+        None => false,
     }
-    kept.entry.same(posting)
 }
 
 /// The first number at which a harvester's kept list and its postings of a history differ, from 1.
@@ -161,11 +153,8 @@ fn first_difference(entries: &[Posting], kept: &[Kept], harvester: u32) -> Optio
 {
     let mut k = 0usize;
     for (i, entry) in entries.iter().enumerate() {
-        if is_of(entry, harvester) {
-            if k >= kept.len() {
-                return Some(k as u32 + 1);
-            }
-            if !is_kept_as(&kept[k], i, entry) {
+        if entry.harvester() == harvester {
+            if !is_kept_at(kept, k, i, entry) {
                 return Some(k as u32 + 1);
             }
             k += 1;

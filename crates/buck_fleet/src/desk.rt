@@ -1,17 +1,15 @@
 //! The desk: what lies under the lock, and all that is done there.
-ghost use Rattle.std.specs.Prelude.{◌≡◌, ℕ, ◌+◌, ◌<◌, ◌≤◌, ◌++◌, ◌∷◌, [], length, IfOk, IfErr, OnOk, vec_len, vec_capacity};
+ghost use Rattle.std.specs.Prelude.{◌≡◌, ◌≢◌, ℕ, ◌+◌, ◌<◌, ◌≤◌, ◌++◌, ◌∷◌, [], length, IfOk, IfErr, OnOk, vec_len, vec_capacity};
 ghost use Rattle.buck_rule.specs.Stored.{AllAnswer};
 ghost use Rattle.buck_board.specs.Board.{IsSeatOf, seen_by};
 ghost use Rattle.buck_book.specs.Plan.{IsPlan};
-ghost use Rattle.buck_book.specs.History.{version_of};
-ghost use Rattle.buck_book.specs.Book.{IsReadyFor, demand_of};
-ghost use Rattle.buck_book.specs.declared.posting.Posting.TheVariants as Posting;
-ghost use Rattle.buck_fleet.specs.inner.Desk.{with_one, IsMade, posting_of, IsStale};
+ghost use Rattle.buck_book.specs.Book.{IsReadyFor};
+ghost use Rattle.buck_book.specs.Refused.{IsRefusal};
 ghost use Rattle.buck_fleet.specs.Reply.{IsReplyFor, IsOfPlan, IsReplyToTargets};
 
 use crate::seat::{DemandReply, Kept, Own, Path, Reply, Seat};
 use buck_board::Board;
-use buck_book::{Book, DemandRefusal, Plan, Posting, Ready, ReadyDemand, Refusal};
+use buck_book::{Book, DemandRefusal, Plan, Posting, Ready, Refusal};
 use buck_dp::Cutting;
 use buck_record::Memory;
 use buck_rule::Standing;
@@ -32,28 +30,6 @@ pub struct Desk<F, L: Ledger> {
     ghost no_amount: { rest.amount ≡ 0 },
 }
 
-/// A posting that is ready to be added.
-#[derive(Drop)]
-pub enum Made {
-    /// The entry of a plan, with the stem and the cutting that the seat keeps of it.
-    Cut(Ready, Arc<Stem>, Arc<Cutting>, Plan),
-    /// A demand, and the targets that the seat keeps of it.
-    Demand(ReadyDemand, Arc<Vec<u32>>),
-}
-
-/// Puts a next sheet up, where there is one.
-fn put_up<R: Wait>(
-    rt: &R,
-    alloc: Global,
-    board: &Board,
-    next: Option<&Arc<Sheet>>,
-) -> Result<(), Memory> {
-    match next {
-        Some(sheet) => board.put_up(rt, alloc, sheet.clone()?),
-        None => Ok(()),
-    }
-}
-
 /// Makes all that the commit of a plan needs, the room in the seat's kept list first, and puts the next sheet up, where
 /// it ends a period.
 fn prepare_cut<R: Wait, F: Fn(&Standing) -> u64 + Drop>(
@@ -72,72 +48,44 @@ fn prepare_cut<R: Wait, F: Fn(&Standing) -> u64 + Drop>(
     ensures stem { IfOk result (λ r. r.1.value ≡ plan.now.stem) }
     ensures logs { IfOk result (λ r. r.2.value.logs.items ≡ plan.now.logs) }
     ensures best { OnOk result (IsPlan plan.now) }
-    ensures refused { IfErr result (IsStale book.old.history plan.now) }
+    ensures refused { IfErr result (λ e. e ≢ Refusal.Memory → IsRefusal book.old plan.now e) }
 {
     kept.reserve(1)?;
     let stem = plan.stem().clone()?;
     let cutting = plan.cutting().clone()?;
     // Try, of a plan that is outdated: nothing is added.
     let ready = book.prepare(alloc, plan)?;
-    put_up(rt, alloc, board, ready.next_sheet())?;
+    match ready.next_sheet() {
+        Some(sheet) => board.put_up(rt, alloc, sheet.clone()?)?,
+        None => {}
+    }
     Ok((ready, stem, cutting))
 }
 
-/// Adds a prepared posting to the history: the posting, and what a seat keeps of it.
-fn add_to_book<F: Drop>(book: &mut Book<F>, made: Made, harvester: u32) -> (Posting, Posting)
-    requires made { IsMade book.old made }
-    requires harvester { (0 < harvester) × (harvester ≤ 64) }
-    ensures posting { result.0 ≡ posting_of book.old.history harvester made }
-    ensures copy { result.1 ≡ result.0 }
-    ensures postings { book.new.history.postings ≡ with_one book.old.history.postings result.0 }
-    ensures instruction { book.new.history.instruction ≡ book.old.history.instruction }
+/// Keeps a posting that was added to the history, in its seat's kept list and in the ledger, and raises the front to a
+/// version.
+fn keep<L: Ledger>(
+    calls: &mut ledger::Book<L>,
+    board: &Board,
+    own: &mut Own<L>,
+    kept: Kept,
+    version: u32,
+)
+    requires room { vec_len own.old.kept < vec_capacity own.old.kept }
+    requires parts { 0 < own.old.share.parts }
+    requires seat { IsSeatOf board.now own.old.place }
+    ensures total { calls.new.total ≡ calls.old.total + 1 }
+    ensures kept { own.new.kept.items ≡ own.old.kept.items ++ kept ∷ [] }
+    ensures amount { own.new.share.amount ≡ own.old.share.amount + 1 }
+    ensures parts { own.new.share.parts ≡ own.old.share.parts }
+    ensures seat { IsSeatOf board.now own.new.place }
+    ensures rises { seen_by own.old.place ≤ seen_by own.new.place }
+    ensures seen { version ≤ seen_by own.new.place }
 {
-    match made {
-        Made::Cut(ready, stem, cutting, plan) => {
-            // Try, or Locked: the entry is added.
-            let entry = book.commit(ready, harvester, plan);
-            let copy = entry.sharing(stem, cutting);
-            (Posting::Cut(entry), Posting::Cut(copy))
-        }
-        Made::Demand(ready, copy) => {
-            // Retarget: the demand is added.
-            let demand = book.commit_demand(ready, harvester);
-            let copy = demand.sharing(copy);
-            (Posting::Demand(demand), Posting::Demand(copy))
-        }
-    }
-}
-
-impl<F: Drop, L: Ledger> Desk<F, L> {
-    /// Adds a prepared posting of a harvester, with its position: to the history, to its seat's kept list and to the
-    /// ledger. Raises the front to the version in force.
-    fn add(&mut self, board: &Board, own: &mut Own<L>, harvester: u32, made: Made) -> (Posting, u32)
-        requires made { IsMade self.old.book made }
-        requires harvester { (0 < harvester) × (harvester ≤ 64) }
-        requires room { vec_len own.old.kept < vec_capacity own.old.kept }
-        requires parts { 0 < own.old.share.parts }
-        requires seat { IsSeatOf board.now own.old.place }
-        ensures posting { result.0 ≡ posting_of self.old.book.history harvester made }
-        ensures position { result.1 ≡ length self.old.book.history.postings }
-        ensures postings { self.new.book.history.postings ≡ with_one self.old.book.history.postings result.0 }
-        ensures instruction { self.new.book.history.instruction ≡ self.old.book.history.instruction }
-        ensures kept { own.new.kept.items
-            ≡ own.old.kept.items ++ (record { position = result.1; entry = result.0 }) ∷ [] }
-        ensures amount { own.new.share.amount ≡ own.old.share.amount + 1 }
-        ensures parts { own.new.share.parts ≡ own.old.share.parts }
-        ensures seat { IsSeatOf board.now own.new.place }
-        ensures rises { seen_by own.old.place ≤ seen_by own.new.place }
-        ensures seen { version_of self.new.book.history ≤ seen_by own.new.place }
-    {
-        let Desk { book, calls, .. } = self;
-        let position = book.len() as u32;
-        let (posting, entry) = add_to_book(book, made, harvester);
-        calls.add(&mut own.share, 1);
-        own.kept.push_reserved(Kept { position, entry });
-        // Raise: before the lock is given back.
-        board.raise(&mut own.place, book.version());
-        (posting, position)
-    }
+    calls.add(&mut own.share, 1);
+    own.kept.push_reserved(kept);
+    // Raise: before the lock is given back.
+    board.raise(&mut own.place, version);
 }
 
 impl<F: Fn(&Standing) -> u64 + Drop, L: Ledger> Desk<F, L> {
@@ -158,14 +106,15 @@ impl<F: Fn(&Standing) -> u64 + Drop, L: Ledger> Desk<F, L> {
         ensures seat { IsSeatOf board.now seat.new.place }
         ensures reply { IfOk result (λ r. IsReplyFor seat.old seat.new plan.stem r × IsOfPlan plan r.entry) }
         ensures told { IfOk result (λ r. (r.attempts ≡ attempts) × (r.path ≡ path)) }
-        ensures refused { IfErr result (λ e. IsStale self.old.book.history plan e.0) }
+        ensures refused { IfErr result (λ e. e.0 ≢ Refusal.Memory → IsRefusal self.old.book plan e.0) }
         ensures plan { IfErr result (λ e. (e.1 ≡ plan) × (seat.new ≡ seat.old)) }
     {
         let Seat { harvester, own, .. } = seat;
+        let Desk { book, calls, .. } = self;
         let (ready, stem, cutting) = match prepare_cut(
             rt,
             alloc,
-            &mut self.book,
+            book,
             board,
             &mut own.kept,
             &plan,
@@ -173,17 +122,26 @@ impl<F: Fn(&Standing) -> u64 + Drop, L: Ledger> Desk<F, L> {
             Ok(prepared) => prepared,
             Err(refusal) => return Err((refusal, plan)),
         };
-        let made = Made::Cut(ready, stem, cutting, plan);
-        let (posting, position) = self.add(board, own, *harvester, made);
-        match posting {
-            Posting::Cut(entry) => Ok(Reply {
-                entry,
+        let position = book.len() as u32;
+        // Try, or Locked: the entry is added.
+        let entry = book.commit(ready, *harvester, plan);
+        let cut = Posting::Cut(entry.sharing(stem, cutting));
+        keep(
+            calls,
+            board,
+            own,
+            Kept {
                 position,
-                attempts,
-                path,
-            }),
-            Posting::Demand(_) => unreachable!(),
-        }
+                entry: cut,
+            },
+            book.version(),
+        );
+        Ok(Reply {
+            entry,
+            position,
+            attempts,
+            path,
+        })
     }
 
     /// Puts new targets in force for a seat: adds the demand to the history and to the seat's kept list, and raises the
@@ -203,14 +161,25 @@ impl<F: Fn(&Standing) -> u64 + Drop, L: Ledger> Desk<F, L> {
         ensures left { IfErr result (λ e. seat.new ≡ seat.old) }
     {
         let Seat { harvester, own, .. } = seat;
+        let Desk { book, calls, .. } = self;
         own.kept.reserve(1)?;
         let copy = targets.clone()?;
-        let ready = self.book.prepare_demand(alloc, targets)?;
-        put_up(rt, alloc, board, Some(ready.next_sheet()))?;
-        let (posting, position) = self.add(board, own, *harvester, Made::Demand(ready, copy));
-        match posting {
-            Posting::Demand(demand) => Ok(DemandReply { demand, position }),
-            Posting::Cut(_) => unreachable!(),
-        }
+        let ready = book.prepare_demand(alloc, targets)?;
+        board.put_up(rt, alloc, ready.next_sheet().clone()?)?;
+        let position = book.len() as u32;
+        // Retarget: the demand is added.
+        let demand = book.commit_demand(ready, *harvester);
+        let wanted = Posting::Demand(demand.sharing(copy));
+        keep(
+            calls,
+            board,
+            own,
+            Kept {
+                position,
+                entry: wanted,
+            },
+            book.version(),
+        );
+        Ok(DemandReply { demand, position })
     }
 }

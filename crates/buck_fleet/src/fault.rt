@@ -1,6 +1,7 @@
 //! Why the calls of a seat are refused. The history and the kept list are then as before.
 ghost use Rattle.std.specs.Prelude.{◌≡◌};
 ghost use Rattle.buck_fleet.specs.Refused.{stop_of, retarget_fault_of};
+ghost use Rattle.buck_fleet.specs.declared.fault.CutFault.TheVariants.{Memory};
 
 use buck_book::{DemandRefusal, Plan, TargetsFault};
 use buck_record::Memory;
@@ -48,8 +49,6 @@ pub enum CutFault {
 }
 
 impl From<AllocError> for CutFault {
-    ghost use Rattle.buck_fleet.specs.declared.fault.CutFault.TheVariants.{Memory};
-
     ghost from_gives = { λ _ e. e ≡ Memory };
 
     fn from(_error: AllocError) -> CutFault {
@@ -58,8 +57,6 @@ impl From<AllocError> for CutFault {
 }
 
 impl From<Memory> for CutFault {
-    ghost use Rattle.buck_fleet.specs.declared.fault.CutFault.TheVariants.{Memory};
-
     ghost from_gives = { λ _ e. e ≡ Memory };
 
     fn from(_error: Memory) -> CutFault {

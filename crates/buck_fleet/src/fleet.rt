@@ -33,16 +33,18 @@ pub struct Fleet<F, L: Ledger> {
 }
 
 impl<F, L: Ledger> Model for Fleet<F, L> {
-    ghost use Rattle.std.specs.Prelude.{length, ◌≤◌};
+    ghost use Rattle.std.specs.Prelude.{◌≡◌, ◌≤◌, [], length, All};
     ghost use Rattle.buck_fleet.specs.Fleet.{FleetParts};
     ghost use Rattle.buck_fleet.specs.Closed.{lists_of};
-    ghost use Rattle.buck_fleet.specs.inner.Lists.{AreEmpty};
 
     ghost Value = { FleetParts };
 
     ghost view = { λ f. record { instruction = f.instruction.value; seats = length f.kept.items; board = f.board } };
 
-    ghost invariant = { λ f. record { empty : AreEmpty (lists_of f.kept.items); few : length f.kept.items ≤ 64 } };
+    ghost invariant = { λ f. record {
+      empty : All (λ l. l ≡ []) (lists_of f.kept.items);
+      few : length f.kept.items ≤ 64;
+    } };
 }
 
 impl<F, L: Ledger> Fleet<F, L> {
@@ -122,10 +124,7 @@ impl<F: Fn(&Standing) -> u64 + Drop, L: Ledger> Fleet<F, L> {
         ensures left { IfErr result (λ e. KeepsNothing seat.old seat.new) }
     {
         let mut desk = self.lock(rt);
-        match desk.retarget(rt, alloc, &self.board, seat, &targets) {
-            Ok(reply) => Ok(reply),
-            // Leave: the call ends refused.
-            Err(refusal) => Err(RetargetFault::from(refusal)),
-        }
+        // Leave, where it is refused: the call ends.
+        Ok(desk.retarget(rt, alloc, &self.board, seat, &targets)?)
     }
 }

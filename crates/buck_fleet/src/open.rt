@@ -4,7 +4,6 @@ ghost use Rattle.buck_board.specs.Board.{IsSeatOf, seen_by};
 ghost use Rattle.buck_fleet.specs.Crew.{AreOpened};
 ghost use Rattle.buck_fleet.specs.Refused.{IsOpenFault};
 ghost use Rattle.buck_fleet.specs.Closed.{lists_of};
-ghost use Rattle.buck_fleet.specs.inner.Lists.{AreEmpty};
 ghost use Rattle.buck_fleet.specs.declared.open.OpenFault.TheVariants.{Memory};
 
 use crate::desk::Desk;
@@ -50,48 +49,25 @@ impl From<Memory> for OpenFault {
     }
 }
 
-/// Whether so many seats and postings may be.
-fn check_room(seats: u32, capacity: u32) -> Result<(), OpenFault>
-    ensures room { OnOk result ((0 < seats) × (seats ≤ 64) × (0 < capacity) × (capacity ≤ MOST_POSTINGS)) }
-    ensures fault { IfErr result (IsOpenFault seats capacity) }
-{
-    if seats == 0 || seats > 64 {
-        return Err(OpenFault::Seats);
-    }
-    if capacity == 0 || capacity > MOST_POSTINGS {
-        return Err(OpenFault::Capacity);
-    }
-    Ok(())
-}
-
-/// An empty list for each harvester.
-fn empty_lists(alloc: Global, count: u32) -> Result<Vec<Vec<Kept>>, Memory>
-    ensures number { IfOk result (λ v. length v.items ≡ count) }
-    ensures empty { IfOk result (λ v. AreEmpty (lists_of v.items)) }
-{
-    let mut lists = Vec::with_capacity(alloc, count as usize)?;
-    for _ in 0..count {
-        lists.push_reserved(Vec::new(alloc));
-    }
-    Ok(lists)
-}
-
-/// Gives each harvester a seat, from the first on, with a place at the board and one part of the ledger. The first one
-/// has all parts that the others leave.
+/// Gives each harvester a seat, from the first on, with a place at the board and one part of the ledger, and makes an
+/// empty list for what it will have kept. The first one has all parts that the others leave.
 fn seat_all<L: Ledger>(
     alloc: Global,
     board: &Board,
     places: Vec<BoardSeat>,
     share: Share<L>,
     count: u32,
-) -> Result<Vec<Seat<L>>, Memory>
+) -> Result<(Vec<Seat<L>>, Vec<Vec<Kept>>), Memory>
     requires count { (0 < count) × (count ≤ 64) × (vec_len places ≡ count) }
     requires places { All (IsSeatOf board.now) places.items }
     requires unseen { All (λ s. seen_by s ≡ 0) places.items }
     requires share { (share.parts ≡ 64) × (share.amount ≡ 0) }
-    ensures { IfOk result (λ s. AreOpened board.now count s.items) }
+    ensures seats { IfOk result (λ r. AreOpened board.now count r.0.items) }
+    ensures number { IfOk result (λ r. length r.1.items ≡ count) }
+    ensures empty { IfOk result (λ r. All (λ l. l ≡ []) (lists_of r.1.items)) }
 {
     let mut seats = Vec::with_capacity(alloc, count as usize)?;
+    let mut kept = Vec::with_capacity(alloc, count as usize)?;
     let mut share = share;
     let mut places = places;
     let mut parts = 65 - u64::from(count);
@@ -99,40 +75,10 @@ fn seat_all<L: Ledger>(
         let harvester = seats.len() as u32 + 1;
         let own = share.split_off(parts, 0);
         seats.push_reserved(Seat::make(alloc, harvester, place, own));
+        kept.push_reserved(Vec::new(alloc));
         parts = 1;
     }
-    Ok(seats)
-}
-
-/// A fleet of a new book, and its seats.
-fn found<R: Wait, F: Drop, L: Ledger>(
-    rt: &R,
-    alloc: Global,
-    blank: Blank,
-    instruction: Arc<Instruction>,
-    book: Book<F>,
-    seats: u32,
-) -> Result<(Fleet<F, L>, Vec<Seat<L>>), Memory>
-    requires blank { (blank.name ≡ L.name) × (blank.parts ≡ L.parts) × (blank.parts ≡ 64) }
-    requires seats { (0 < seats) × (seats ≤ 64) }
-    requires new { book.history.postings ≡ [] }
-    ensures instruction { IfOk result (λ r. r.0.instruction ≡ instruction.value) }
-    ensures number { IfOk result (λ r. r.0.seats ≡ seats) }
-    ensures seats { IfOk result (λ r. AreOpened r.0.board seats r.1.items) }
-{
-    let kept = empty_lists(alloc, seats)?;
-    let base = book.sheet().clone()?;
-    let (board, places) = Board::open(rt, alloc, seats, base)?;
-    let (calls, mut share) = blank.open::<L>();
-    let rest = share.empty();
-    let made = seat_all(alloc, &board, places, share, seats)?;
-    let fleet = Fleet {
-        instruction,
-        board,
-        desk: Mutex::new(Desk { book, calls, rest }),
-        kept,
-    };
-    Ok((fleet, made))
+    Ok((seats, kept))
 }
 
 impl<F: Fn(&Standing) -> u64 + Drop, L: Ledger> Fleet<F, L> {
@@ -155,9 +101,24 @@ impl<F: Fn(&Standing) -> u64 + Drop, L: Ledger> Fleet<F, L> {
         ensures seats { IfOk result (λ r. AreOpened r.0.board seats r.1.items) }
         ensures fault { IfErr result (IsOpenFault seats capacity) }
     {
-        check_room(seats, capacity)?;
+        if seats == 0 || seats > 64 {
+            return Err(OpenFault::Seats);
+        }
+        if capacity == 0 || capacity > MOST_POSTINGS {
+            return Err(OpenFault::Capacity);
+        }
         let shown = instruction.clone()?;
         let book = Book::open(alloc, instruction, rule, capacity)?;
-        Ok(found(rt, alloc, blank, shown, book, seats)?)
+        let (board, places) = Board::open(rt, alloc, seats, book.sheet().clone()?)?;
+        let (calls, mut share) = blank.open::<L>();
+        let rest = share.empty();
+        let (made, kept) = seat_all(alloc, &board, places, share, seats)?;
+        let fleet = Fleet {
+            instruction: shown,
+            board,
+            desk: Mutex::new(Desk { book, calls, rest }),
+            kept,
+        };
+        Ok((fleet, made))
     }
 }

@@ -46,40 +46,6 @@ fn cut_all<F: Fn(&Standing) -> u64 + Drop, L: Ledger, R: Wait, G: Gate>(
     seat.note(None);
 }
 
-/// Cuts all lists, each in a thread of its own.
-fn run_each<
-    F: Fn(&Standing) -> u64 + Drop + Send,
-    L: Ledger + Send + Sync,
-    R: Threads + Wait + Sync,
-    G: Gate + Sync,
->(
-    rt: &R,
-    alloc: Global,
-    fleet: &Fleet<F, L>,
-    seats: &mut [Seat<L>],
-    lists: &[Vec<Arc<Stem>>],
-    gate: &G,
-)
-    requires answers { AllAnswer F.Fn }
-    requires lists { length seats.old ≡ length lists.now }
-    requires seats { All (IsSeatIn fleet.now) seats.old }
-    ensures { HaveRun fleet.now lists.now seats.old seats.new }
-{
-    if seats.len() == 0 {
-        return;
-    }
-    let threads = seats.len();
-    for_each_mut(
-        rt,
-        seats,
-        threads,
-        &|i: usize, seat: &mut Seat<L>|
-            requires { AllAnswer F.Fn × (i < length lists.now) × IsSeatIn fleet.now seat.old }
-            ensures { IsSeatIn fleet.entry.now seat.new × HasRun (stems_at lists.entry.now i) seat.old seat.new }
-        { cut_all(rt, alloc, fleet, seat, lists[i].as_slice(), gate) },
-    );
-}
-
 /// What stopped the lowest harvester that was stopped.
 fn first_stop<L: Ledger>(seats: &[Seat<L>]) -> Option<RunFault>
     ensures none { IfNone result (All (λ s. s.stopped ≡ None) seats.now) }
@@ -117,7 +83,16 @@ pub fn run_fleet<
     ensures first { IfErr result (λ e. IsFirstStop e.1.items e.0) }
 {
     let mut seats = seats;
-    run_each(rt, alloc, fleet, seats.as_mut_slice(), lists, gate);
+    let threads = seats.len().max(1);
+    for_each_mut(
+        rt,
+        seats.as_mut_slice(),
+        threads,
+        &|i: usize, seat: &mut Seat<L>|
+            requires { AllAnswer F.Fn × (i < length lists.now) × IsSeatIn fleet.now seat.old }
+            ensures { IsSeatIn fleet.entry.now seat.new × HasRun (stems_at lists.entry.now i) seat.old seat.new }
+        { cut_all(rt, alloc, fleet, seat, lists[i].as_slice(), gate) },
+    );
     match first_stop(seats.as_slice()) {
         None => Ok(seats),
         Some(fault) => Err((fault, seats)),

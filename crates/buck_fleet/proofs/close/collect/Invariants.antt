@@ -4,8 +4,7 @@ use Rattle.buck_fleet.proofs.close.collect.Given as goal
 
 abbrev pub invariant-loop-seat : goal.invariant-loop-seat
 invariant-loop-seat g l = record {
-  taken : Places l.fn.seats.items l.seats.items (lists_of l.initial.kept.items) (lists_of l.kept.items) l.all.parts
-      l.all.amount;
+  taken : Places l.fn.seats.items l.seats.items (lists_of l.kept.items) l.all.parts l.all.amount;
   number : length l.kept.items ≡ length l.initial.kept.items;
 }
 

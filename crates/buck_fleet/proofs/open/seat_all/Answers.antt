@@ -1,4 +1,4 @@
-use Rattle.buck_fleet.proofs.Words.{arith}
+use Rattle.buck_fleet.proofs.Words.{arith, common_steps}
 use Rattle.buck_fleet.proofs.Opened.{one_more, opened}
 use Rattle.buck_fleet.proofs.open.seat_all.Goals as goal
 
@@ -8,7 +8,10 @@ loop-place-preserved g c = let i = c.loop-place.invariant in record {
       c.split_off-own.ensures.parts (omega arith) c.push_reserved.ensures.items c.split_off-own.ensures.parts_left;
   room = omega arith;
   amount = omega arith;
+  kept_number = grind (arith, common_steps);
+  kept_room = omega arith;
+  empty = grind (arith, common_steps);
 }
 
-pub returns : goal.returns
-returns g c = opened _ _ _ _ _ _ c.loop-place.invariant.seated (grind arith) (omega arith)
+pub returns-clause-seats : goal.returns-clause-seats
+returns-clause-seats g c = opened _ _ _ _ _ _ c.loop-place.invariant.seated (grind arith) (omega arith)

@@ -1,9 +1,19 @@
-use Rattle.buck_fleet.proofs.Words.{rules}
-use Rattle.buck_fleet.proofs.Answered.{is_kept, reply_for}
+use Rattle.buck_fleet.proofs.Words.{arith, refl, Cut}
+use Rattle.buck_fleet.proofs.Answered.{is_kept, no_less, reply_for}
 use Rattle.buck_fleet.proofs.desk.Desk.commit.Goals as goal
 
 pub returns-clause-reply : goal.returns-clause-reply
-returns-clause-reply g c = let added = c.add-posting.ensures in
-    reply_for c.prepare_cut.new.book.history c.add-posting.new.self.book.history _ _ _ _ _ _ c.seat.view_is
-    c.in-Cut.is added.posting c.in-Ok.ensures.ready.sheet_in_force
-    c.in-Ok.ensures.best added.postings added.instruction added.seen (search (rules, is_kept))
+returns-clause-reply g c =
+    let made = c.in-Ok.ensures in
+    let added = c.commit-entry.ensures in
+    let position = c.len-position.result in
+    reply_for c.prepare_cut.new.book.history _ _ _ _ _ c.seat.view_is added.entry made.ready.sheet_in_force made.best
+    (omega (arith, no_less c.prepare_cut.new.book.history c.commit-entry.new.self.history _ added.postings added.instruction))
+    (is_kept _ _ _ c.prepare_cut.new.kept.items _ (record { position = position; entry = Cut c.sharing.result })
+    c.seat.view_is made.kept (λ t. record { position = position; entry = Cut (c.sharing.ensures t) })
+    record {
+      same_harvester = refl;
+      kept_are = c.keep.ensures.kept;
+      same_parts = c.keep.ensures.parts;
+      seen_rises = c.keep.ensures.rises;
+    })
