@@ -125,17 +125,11 @@ impl<F: Fn(&Standing) -> u64 + Drop, L: Ledger> Desk<F, L> {
         let position = book.len() as u32;
         // Try, or Locked: the entry is added.
         let entry = book.commit(ready, *harvester, plan);
-        let cut = Posting::Cut(entry.sharing(stem, cutting));
-        keep(
-            calls,
-            board,
-            own,
-            Kept {
-                position,
-                entry: cut,
-            },
-            book.version(),
-        );
+        let cut = Kept {
+            position,
+            entry: Posting::Cut(entry.sharing(stem, cutting)),
+        };
+        keep(calls, board, own, cut, book.version());
         Ok(Reply {
             entry,
             position,
@@ -169,17 +163,11 @@ impl<F: Fn(&Standing) -> u64 + Drop, L: Ledger> Desk<F, L> {
         let position = book.len() as u32;
         // Retarget: the demand is added.
         let demand = book.commit_demand(ready, *harvester);
-        let wanted = Posting::Demand(demand.sharing(copy));
-        keep(
-            calls,
-            board,
-            own,
-            Kept {
-                position,
-                entry: wanted,
-            },
-            book.version(),
-        );
+        let wanted = Kept {
+            position,
+            entry: Posting::Demand(demand.sharing(copy)),
+        };
+        keep(calls, board, own, wanted, book.version());
         Ok(DemandReply { demand, position })
     }
 }

@@ -1,25 +1,25 @@
 -- What a commit of the book leaves, as the world sees it.
 use Rattle.buck_world.proofs.Words.{◌≡◌, ◌≢◌, ℕ, ◌+◌, ◌-◌, List, [], ◌∷◌, ◌++◌, slice_set, Option, ap, ◌∙◌, arith, rules, SheetParts, Posting, PlanParts, HistoryParts, version_of, in_force, sheet_at, sheets_with, history_with, IsNext, Idle, Planned, Answered, Harvester, IsPlanUnder, Adds, Tries, world_of, is_at}
 
--- what a commit says of the history after it
-pub record IsCommitted (s : HistoryParts) (x : Posting) (next : Option SheetParts) (s' : HistoryParts) : Type 0 where
-  pub postings : s'.postings ≡ s.postings ++ x ∷ []
-  pub sheets : s'.sheets ≡ sheets_with s.sheets next
-  pub instruction : s'.instruction ≡ s.instruction
-
-committed : (s s' : HistoryParts) (x : Posting) (next : Option SheetParts) → IsCommitted s x next s'
-    → s' ≡ history_with s x next
-committed s s' x next c = λ j. record { instruction = c.instruction j; sheets = c.sheets j; postings = c.postings j }
-
 abbrev pub answered : List Harvester → ℕ → List Harvester
 answered xs h = slice_set xs (h - 1) (record { stage = Answered; seen = (is_at xs h).seen; stale = (is_at xs h).stale })
 
 -- a committed posting of h is added: s was m before the room was made
 pub posting_added : (s m s' : HistoryParts) (xs ys : List Harvester) (front h : ℕ) (x : HistoryParts → Posting)
-    (y : Posting) (next : Option SheetParts)
-    → m ≡ s → IsNext m (x m) next → y ≡ x m → IsCommitted m y next s' → ys ≡ answered xs h
-    → Adds (world_of s front xs) h (x s) (world_of s' front ys)
-posting_added s m s' xs ys front h x y next same is_next is c now = grind (arith, committed)
+    (y : Posting) (next : Option SheetParts) → m ≡ s → IsNext m (x m) next → y ≡ x m
+    → s'.postings ≡ m.postings ++ y ∷ [] → s'.sheets ≡ sheets_with m.sheets next → s'.instruction ≡ m.instruction
+    → ys ≡ answered xs h → Adds (world_of s front xs) h (x s) (world_of s' front ys)
+posting_added s m s' xs ys front h x y next same is_next is postings sheets instruction now = rw (← same) (
+  next,
+  is_next,
+  λ j. world_of
+      (record {
+        instruction = instruction j;
+        sheets = sheets j;
+        postings = (postings ∙ ap (λ z. m.postings ++ z ∷ []) is) j;
+      })
+      front (now j),
+)
 
 -- what was found at h's place, in a list that is xs
 pub found_planned : (xs ys : List Harvester) (h : ℕ) (x : Harvester) (p : PlanParts) → x ≡ is_at ys h → ys ≡ xs

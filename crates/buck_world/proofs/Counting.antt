@@ -1,15 +1,14 @@
 -- What is counted along runs.
-use Rattle.buck_world.proofs.Words.{◌≡◌, ◌≢◌, inl, inr, ℕ, zero, suc, ◌+◌, ◌-◌, ◌*◌, ◌<◌, ◌≤◌, List, [], ◌∷◌, Bool, cond, length, set, sym, refl, ap, subst, ◌∙◌, eq-eqb, ne_eqb, arith, mul-le-mul_left, rules, common_steps, cases_eq, nat_tests, version_of, Harvester, Event, WorldParts, IsHarvester, at, Step, Move, IsRun, last, harvester_of_event, IsFreshAt, IsFresh, one_if_more, lift_at, stale_at, if_by, count_all, count_own, all_lifts, lifts_of, all_stale, stale_of, IsGoing, IsSound}
+use Rattle.buck_world.proofs.Words.{newcomer, sum_by, get_or, ◌≡◌, ◌≢◌, inl, inr, ℕ, zero, suc, ◌+◌, ◌-◌, ◌*◌, ◌<◌, ◌≤◌, List, [], ◌∷◌, Bool, cond, length, set, sym, refl, ap, subst, ◌∙◌, eq-eqb, ne_eqb, arith, mul-le-mul_left, rules, common_steps, cases_eq, nat_tests, version_of, Harvester, Event, WorldParts, IsHarvester, at, Step, Move, IsRun, last, harvester_of_event, IsFreshAt, IsFresh, one_if_more, lift_at, stale_at, if_by, count_all, count_own, all_lifts, lifts_of, all_stale, stale_of, IsGoing, IsSound}
+use Rattle.std.specs.List.{range_with_len}
+use Rattle.std.proofs.lemmas.List.Sums.{sum_by-le, sum_by-cons, sum_by-le-sum_by}
+use Rattle.std.proofs.lemmas.List.FromFn.{get_or-range_with_len, length-range_with_len}
 use Rattle.buck_world.proofs.Lists.{here, elsewhere}
-use Rattle.buck_world.proofs.Moves.{is_in, changed}
-use Rattle.buck_world.proofs.Sound.{stays_sound}
+use Rattle.buck_world.proofs.Sound.{is_in, move_of, stays_sound}
 use Rattle.buck_world.proofs.Kept.{same_number}
 
 by_self : (h : ℕ) (e : Event) (n : ℕ) → harvester_of_event e ≡ h → if_by h e n ≡ n
 by_self h e n is = ap (λ (t : Bool). cond t n 0) (eq-eqb (harvester_of_event e) h is)
-
-by_other : (h : ℕ) (e : Event) (n : ℕ) → harvester_of_event e ≢ h → if_by h e n ≡ 0
-by_other h e n not = ap (λ (t : Bool). cond t n 0) (ne_eqb (harvester_of_event e) h not)
 
 -- one raise of the front, by 1 at most
 raise_is : (front version : ℕ) → front ≤ version → version ≤ front + 1 → one_if_more front version + front ≡ version
@@ -28,7 +27,10 @@ lifts_are_front w (m ∷ ms) s r =
 -- another harvester stays
 pub foreign : (w w' : WorldParts) (e : Event) (g : ℕ) → IsSound w → Step w e w' → 1 ≤ g → g ≢ harvester_of_event e
     → at w' g ≡ at w g
-foreign w w' e g s step low other = grind (arith, changed, elsewhere, is_in)
+foreign w w' e g s step low other =
+    let move = move_of w w' e s step in
+    ap (λ xs. get_or xs (g - 1) newcomer) move.harvesters_are
+    ∙ elsewhere w.harvesters (harvester_of_event e) g move.now newcomer (is_in w e step.0).0 low other
 
 -- k events of h so far: no more than the front, and while an attempt goes on no more than the version that it saw
 pub record IsWithin (w : WorldParts) (h k : ℕ) : Type 0 where
@@ -59,69 +61,44 @@ pub within_front : (w : WorldParts) (moves : List Move) (h : ℕ) → IsSound w 
 within_front w moves h s none r f low =
     omega (arith, stale_and_lifts w moves h 0 s r f low record { front = omega arith; seen = λ _. omega arith })
 
--- sums over the harvesters from 1 to n
-sum_to : (ℕ → ℕ) → ℕ → ℕ
-sum_to f zero = 0
-sum_to f (suc n) = sum_to f n + f (suc n)
+-- no term is less, and that of h is more by k
+more_at : (f g : ℕ → ℕ) (k h i : ℕ) (xs : List ℕ) → ((x : ℕ) → f x ≤ g x) → i < length xs → get_or xs i 0 ≡ h
+    → f h + k ≤ g h → sum_by f xs + k ≤ sum_by g xs
+more_at f g k h i [] low lt is more = absurd (omega arith)
+more_at f g k h zero (x ∷ xs) low lt is more =
+    let m : f x + k ≤ g x = rw is more in
+    omega (arith, sum_by-cons f x xs, sum_by-cons g x xs, sum_by-le-sum_by f g xs low)
+more_at f g k h (suc i) (x ∷ xs) low lt is more =
+    omega (arith, sum_by-cons f x xs, sum_by-cons g x xs, low x, more_at f g k h i xs low (omega arith) is more)
 
-sum_to_plus : (f g : ℕ → ℕ) (n : ℕ) → sum_to (λ h. f h + g h) n ≡ sum_to f n + sum_to g n
-unfolding sum_to
-sum_to_plus f g zero = refl
-sum_to_plus f g (suc n) = let a = sum_to_plus f g n in omega arith
-
-sum_to_zero : (n : ℕ) → sum_to (λ h. 0) n ≡ 0
-unfolding sum_to
-sum_to_zero zero = refl
-sum_to_zero (suc n) = let a = sum_to_zero n in omega arith
-
-sum_to_bound : (f : ℕ → ℕ) (n top : ℕ) → ((h : ℕ) → 1 ≤ h → h ≤ n → f h ≤ top) → sum_to f n ≤ n * top
-unfolding sum_to
-sum_to_bound f zero top low = omega arith
-sum_to_bound f (suc n) top low =
-    omega (arith, sum_to_bound f n top (λ h p q. low h p (omega arith)), low (suc n) (omega arith) (omega arith))
-
--- one harvester's event is counted once
-sum_to_past : (e : Event) (x n : ℕ) → n < harvester_of_event e → sum_to (λ h. if_by h e x) n ≡ 0
-unfolding sum_to
-sum_to_past e x zero past = refl
-sum_to_past e x (suc n) past = grind (arith, by_other, (sum_to_past e x n (omega arith)))
-
-sum_to_one : (e : Event) (x n : ℕ) → 1 ≤ harvester_of_event e → harvester_of_event e ≤ n
-    → sum_to (λ h. if_by h e x) n ≡ x
-unfolding sum_to
-sum_to_one e x zero low high = absurd (omega arith)
-sum_to_one e x (suc n) low high = elim (cases_eq (harvester_of_event e) (suc n)) [
-  | inl is ↦ let a = sum_to_past e x n (omega arith) in let b = by_self (suc n) e x is in omega arith
-  | inr not ↦ let a = sum_to_one e x n low (omega arith) in let b = by_other (suc n) e x not in omega arith
-]
-
-sum_of_own : (count : WorldParts → Event → WorldParts → ℕ) (w : WorldParts) (moves : List Move) (n : ℕ) → IsSound w
-    → length w.harvesters ≡ n → IsRun w moves
-    → sum_to (λ h. count_own count h w moves) n ≡ count_all count w moves
-sum_of_own count w [] n s is r = sum_to_zero n
-sum_of_own count w (m ∷ ms) n s is r =
+-- what is counted of all is no more than what is counted of each harvester
+shared : (w : WorldParts) (moves : List Move) → IsSound w → IsRun w moves → all_stale w moves + all_lifts w moves
+    ≤ sum_by (λ h. stale_of h w moves + lifts_of h w moves) (range_with_len 1 (length w.harvesters))
+shared w [] s r = omega arith
+shared w (m ∷ ms) s r =
     let e = m.event in
-    let x = count w e m.after in
+    let h = harvester_of_event e in
     let h_in = is_in w e r.0.0 in
-    let high : harvester_of_event e ≤ length w.harvesters = h_in.1 in
-    let b = sum_to_one e x n h_in.0 (omega arith) in
-    let same = (same_number w m.after e s r.0).0 ∙ is in
-    let c = sum_of_own count m.after ms n (stays_sound w m.after e s r.0) same r.1 in
-    sum_to_plus (λ h. if_by h e x) (λ h. count_own count h m.after ms) n ∙ omega (arith, b, c)
+    let n = length w.harvesters in
+    let more = more_at (λ g. stale_of g m.after ms + lifts_of g m.after ms)
+    (λ g. stale_of g w (m ∷ ms) + lifts_of g w (m ∷ ms)) (stale_at w e m.after + lift_at w e m.after) h (h - 1)
+    (range_with_len 1 n) (λ x. omega arith) (omega (arith, length-range_with_len 1 n))
+    (get_or-range_with_len 1 n (h - 1) 0 (omega arith) ∙ omega arith)
+    (omega (arith, by_self h e (stale_at w e m.after) refl, by_self h e (lift_at w e m.after) refl)) in
+    let rest = rw ((same_number w m.after e s r.0).0) at (shared m.after ms (stays_sound w m.after e s r.0) r.1) in
+    omega (arith, more, rest)
 
 fewer : (n stale front version : ℕ) → stale + front ≤ n * front → front ≤ version → stale ≤ (n - 1) * version
 fewer zero stale front version a b = omega arith
 fewer (suc n) stale front version a b = grind (arith, mul-le-mul_left)
 
-pub all_stale_within : (w : WorldParts) (moves : List Move) (n : ℕ) → IsSound w → length w.harvesters ≡ n → w.front ≡ 0
-    → IsRun w moves → IsFresh w moves → IsSound (last w moves)
-    → all_stale w moves ≤ (n - 1) * version_of (last w moves).history
-all_stale_within w moves n s is none r f end =
-    let a = sum_to_bound (λ h. stale_of h w moves + lifts_of h w moves) n (last w moves).front
-    (λ h low high. omega (arith, within_front w moves h s none r f low)) in
-    let c = sum_to_plus (λ h. stale_of h w moves) (λ h. lifts_of h w moves) n in
-    let d = sum_of_own stale_at w moves n s is r in
-    let l = sum_of_own lift_at w moves n s is r in
-    let g = lifts_are_front w moves s r in
-    fewer n (all_stale w moves) (last w moves).front (version_of (last w moves).history) (omega arith)
+pub all_stale_within : (w : WorldParts) (moves : List Move) → IsSound w → w.front ≡ 0 → IsRun w moves → IsFresh w moves
+    → IsSound (last w moves) → all_stale w moves ≤ (length w.harvesters - 1) * version_of (last w moves).history
+all_stale_within w moves s none r f end =
+    let n = length w.harvesters in
+    let each = sum_by-le (λ h. stale_of h w moves + lifts_of h w moves) (last w moves).front (range_with_len 1 n)
+    (λ k d lt. within_front w moves _ s none r f
+    (omega (arith, get_or-range_with_len 1 n k d (omega (arith, length-range_with_len 1 n))))) in
+    fewer n (all_stale w moves) (last w moves).front (version_of (last w moves).history)
+    (omega (arith, rw (length-range_with_len 1 n) at each, shared w moves s r, lifts_are_front w moves s r))
     end.world.front_low

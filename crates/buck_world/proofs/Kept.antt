@@ -1,7 +1,6 @@
 -- Each event keeps what the type of worlds keeps.
-use Rattle.buck_world.proofs.Words.{◌≡◌, ℕ, ◌+◌, ◌-◌, ◌≤◌, List, [], ◌∷◌, length, length-set, get_or, replicate, sym, subst, arith, rules, Result, Ok, Err, OnOk, OnErr, length_push, length-replicate, All-map, All-from_get_or, InstructionParts, IsInstruction, base_prices, HistoryParts, ends-le, Harvester, Event, StepFault, WorldParts, newcomer, opening, Allowed, Follows, Step, RuledWorld, HasRoom, IsSound, Keeps, world_of}
-use Rattle.buck_world.proofs.Moves.{changed}
-use Rattle.buck_world.proofs.Sound.{stays_sound, opening_sound}
+use Rattle.buck_world.proofs.Words.{ap, ◌∙◌, ◌≡◌, ℕ, ◌+◌, ◌-◌, ◌≤◌, List, [], ◌∷◌, length, length-set, get_or, replicate, sym, subst, arith, rules, Result, Ok, Err, OnOk, OnErr, length_push, length-replicate, All-map, All-from_get_or, InstructionParts, IsInstruction, base_prices, HistoryParts, ends-le, Harvester, Event, StepFault, WorldParts, newcomer, opening, Allowed, Follows, Step, RuledWorld, HasRoom, IsSound, Keeps, world_of}
+use Rattle.buck_world.proofs.Sound.{move_of, stays_sound, opening_sound}
 
 -- the front is at most the version in force, which is at most the number of postings
 front_low : (w : WorldParts) → IsSound w → w.front ≤ length w.history.postings
@@ -36,7 +35,8 @@ within_after r e w' low step room = grind (arith, length_push)
 -- neither the instruction nor the number of harvesters changes
 pub same_number : (w w' : WorldParts) (e : Event) → IsSound w → Step w e w'
     → (length w'.harvesters ≡ length w.harvesters) × (w'.history.instruction ≡ w.history.instruction)
-same_number w w' e s step = grind (arith, changed, length-set)
+same_number w w' e s step = let move = move_of w w' e s step in
+    (ap length move.harvesters_are ∙ length-set _ _ _, move.same_instruction)
 
 pub keeps_step : {F : Type 0} (r : RuledWorld F) (rule : F) (capacity : ℕ) (e : Event) (w' : WorldParts) → Keeps r
     → capacity ≡ r.capacity → Step r.world e w' → HasRoom r e

@@ -1,6 +1,5 @@
 pub mod Words
 pub mod Lists
-pub mod Moves
 pub mod Sound
 pub mod Sheets
 pub mod Committed

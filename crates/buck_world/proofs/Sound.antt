@@ -1,7 +1,11 @@
--- What holds of each world that a run reaches.
-use Rattle.buck_world.proofs.Words.{◌≡◌, ◌≢◌, ⊎_elim, inl, inr, ℕ, ◌+◌, ◌-◌, ◌<◌, ◌≤◌, List, [], ◌∷◌, length, length-set, get_or, set, slice_get, Option, Some, None, sym, refl, ap, subst, ◌∙◌, arith, le_refl, le_trans, rules, get_or-replicate, length-replicate, length_push, cases_eq, InstructionParts, SheetParts, Posting, harvester_of, planned_version, PlanParts, HistoryParts, IsLawful, version_of, sheets_with, history_with, one_more, slice_get-push, version_within, prices_stay, Idle, Answered, Harvester, Event, WorldParts, newcomer, opening, IsHarvester, at, IsAnswered, IsPlanUnder, Step, IsFit, Move, IsRun, last, harvester_of_event, IsPlaced, IsSound}
+-- What a step does, and what holds of each world that a run reaches.
+use Rattle.buck_world.proofs.Words.{◌≡◌, ◌≢◌, ◌⊎◌, ⊎_elim, inl, inr, ℕ, ◌+◌, ◌-◌, ◌<◌, ◌≤◌, List, [], ◌∷◌, length, length-set, get_or, set, slice_get, Option, Some, None, sym, refl, ap, subst, ◌∙◌, arith, le_refl, le_trans, rules, common_steps, get_or-replicate, length-replicate, length_push, cases_eq, InstructionParts, SheetParts, Posting, Cut, Demand, harvester_of, planned_version, PlanParts, HistoryParts, IsLawful, version_of, in_force, sheets_with, history_with, entry_of, demand_of, one_more, slice_get-push, version_within, prices_stay, Stage, Idle, Reading, Planned, Answered, Harvester, Event, Read, Plan, Try, Locked, Retarget, Raise, Leave, WorldParts, newcomer, opening, IsHarvester, at, IsAnswered, NobodyAnswered, with_harvester, with_posting, with_front, IsPlanUnder, Adds, Becomes, Allowed, Step, IsFit, IsGoing, Move, IsRun, last, harvester_of_event, IsPlaced, IsSound}
+use Rattle.buck_book.specs.History as history
 use Rattle.buck_world.proofs.Lists.{here, elsewhere, each_of, after_set}
-use Rattle.buck_world.proofs.Moves.{IsQuiet, IsAdded, IsRaised, move_of, is_in}
+
+pub is_in : (w : WorldParts) (e : Event) → Allowed w e → IsHarvester w (harvester_of_event e)
+is_in w (Read h v) a = a.0
+is_in w other a = a.0
 
 -- a history one posting longer has as many sheets, or one more
 grown : (sheets : List (List ℕ)) (next : Option SheetParts)
@@ -60,16 +64,34 @@ sound_after w h x s front sound h_in lawful low next own others only forced = re
         → IsHarvester w g × IsAnswered w g
     back g g_in g_is other = grind (arith, each_of)
 
-quiet_sound : (w w' : WorldParts) (h : ℕ) → IsSound w → IsHarvester w h → IsQuiet w h w' → IsSound w'
-quiet_sound w w' h s h_in q = let k = s.world in
-    subst (λ (y : WorldParts). IsSound y) (sym q.is) (sound_after w h q.now w.history w.front s h_in k.lawful
-    k.front_low s.next (
-      search rules,
-      search (rules, le_trans),
-    )
-    (λ g g_in other. (k.fits g g_in, s.placed g g_in))
-    (λ is. absurd (q.after is))
-    (search (rules, cases_eq)))
+-- what a step does: its harvester alone changes, and has seen no less; the instruction stays, and so does what is kept
+pub record IsMove (w : WorldParts) (h : ℕ) (w' : WorldParts) : Type 0 where
+  pub now : Harvester
+  pub harvesters_are : w'.harvesters ≡ set w.harvesters (h - 1) now
+  pub same_instruction : w'.history.instruction ≡ w.history.instruction
+  pub no_less : (at w h).seen ≤ now.seen
+  pub sound : IsSound w'
+
+-- h alone changes, and is answered neither before nor after
+quiet : (w w' : WorldParts) (h : ℕ) (stage : Stage) (seen stale : ℕ) → IsSound w → IsHarvester w h
+    → (at w h).stage ≢ Answered → stage ≢ Answered
+    → ((p : PlanParts) → stage ≡ Planned p → IsPlanUnder w.history seen p)
+    → (at w h).seen ≤ seen → seen ≤ w.front → stale ≤ 3 → (IsGoing stage → stale < 3) → Becomes w h stage seen stale w'
+    → IsMove w h w'
+quiet w w' h stage seen stale s h_in before after plan no_less low few going is =
+    let k = s.world in
+    let now : Harvester = record { stage = stage; seen = seen; stale = stale } in
+    subst (λ (y : WorldParts). IsMove w h y) (sym is) record {
+      now = now;
+      harvesters_are = refl;
+      same_instruction = refl;
+      no_less = no_less;
+      sound = sound_after w h now w.history w.front s h_in k.lawful k.front_low s.next
+          (record { plan = plan; seen = low; stale = few }, search (rules, le_trans))
+          (λ g g_in other. (k.fits g g_in, s.placed g g_in))
+          (λ is. absurd (after is))
+          (search (rules, cases_eq));
+    }
 
 -- a plan's sheet stays at its place
 under_after : (s : HistoryParts) (x : Posting) (next : Option SheetParts) (v : ℕ) (p : PlanParts) → v < length s.sheets
@@ -80,64 +102,94 @@ under_after s x next v p low under = grind (arith, prices_stay)
 seen_low : (w : WorldParts) (v : ℕ) → IsSound w → v ≤ w.front → v < length w.history.sheets
 seen_low w v s low = let count = s.world.lawful.sheets_number in let front = s.world.front_low in omega arith
 
-added_sound : (w w' : WorldParts) (h : ℕ) → IsSound w → IsHarvester w h → IsAdded w h w' → IsSound w'
-added_sound w w' h s h_in a =
+-- the entry of a plan under the sheet in force may follow
+entry_follows : (h : HistoryParts) (n : ℕ) (p : PlanParts) → IsPlanUnder h (version_of h) p
+    → history.Follows h.instruction h.sheets h.postings (Cut (entry_of h n p))
+entry_follows h n p under = grind (arith, common_steps)
+
+-- h's posting is added where nobody is answered
+added : (w w' : WorldParts) (h : ℕ) (x : Posting) → IsSound w → IsHarvester w h → NobodyAnswered w → harvester_of x ≡ h
+    → history.Follows w.history.instruction w.history.sheets w.history.postings x → Adds w h x w' → IsMove w h w'
+added w w' h x s h_in nobody by_h follows (next, is_next, is) =
     let k = s.world in
-    let after = history_with w.history a.posting a.next in
-    let lawful = one_more w.history a.posting a.next k.lawful a.follows a.is_next in
-    let up = grown w.history.sheets a.next in
+    let lawful = one_more w.history x next k.lawful follows is_next in
+    let up = grown w.history.sheets next in
     let n = k.lawful.sheets_number in
     let m = lawful.sheets_number in
     let own = k.fits h h_in in
-    subst (λ (y : WorldParts). IsSound y) (sym a.is) (sound_after w h
-    (record { stage = Answered; seen = (at w h).seen; stale = (at w h).stale }) after w.front s h_in lawful
-    (omega arith) (omega arith) (
-      record { plan = λ p e. absurd (cc); seen = own.seen; stale = own.stale },
-      record { going = λ f. absurd f; replied = λ idle. absurd (idle refl) },
-    )
-    (λ g g_in other. let fit = k.fits g g_in in let placed = s.placed g g_in in (
-      record {
-        plan = λ p e. under_after w.history a.posting a.next (at w g).seen p (seen_low w (at w g).seen s fit.seen)
-            (fit.plan p e);
-        seen = fit.seen;
-        stale = fit.stale;
-      },
-      record {
-        going = placed.going;
-        replied = λ idle i p there by_g. ⊎_elim
-            (λ t. placed.replied idle i p t.1 by_g)
-            (λ t. absurd (other (sym by_g ∙ ap harvester_of t.1 ∙ a.by_h)))
-            (slice_get-push w.history.postings a.posting p i there);
-      },
-    ))
-    (λ is g g_in other g_is. a.nobody g g_in g_is)
-    (λ not. absurd (not refl)))
+    let now : Harvester = record { stage = Answered; seen = (at w h).seen; stale = (at w h).stale } in
+    subst (λ (y : WorldParts). IsMove w h y) (sym is) record {
+      now = now;
+      harvesters_are = refl;
+      same_instruction = refl;
+      no_less = le_refl _;
+      sound = sound_after w h now (history_with w.history x next) w.front s h_in lawful (omega arith) (omega arith) (
+        record { plan = λ p e. absurd (cc); seen = own.seen; stale = own.stale },
+        record { going = λ f. absurd f; replied = λ idle. absurd (idle refl) },
+      )
+          (λ g g_in other. let fit = k.fits g g_in in let placed = s.placed g g_in in (
+            record {
+              plan = λ p e. under_after w.history x next (at w g).seen p (seen_low w (at w g).seen s fit.seen) (fit.plan p e);
+              seen = fit.seen;
+              stale = fit.stale;
+            },
+            record {
+              going = placed.going;
+              replied = λ idle i p there by_g. ⊎_elim
+                  (λ t. placed.replied idle i p t.1 by_g)
+                  (λ t. absurd (other (sym by_g ∙ ap harvester_of t.1 ∙ by_h)))
+                  (slice_get-push w.history.postings x p i there);
+            },
+          ))
+          (λ is g g_in other g_is. nobody g g_in g_is)
+          (λ not. absurd (not refl));
+    }
 
 -- a posting's version is at most the version in force
 version_low : (w : WorldParts) → IsSound w → (i : ℕ) (p : Posting) → slice_get w.history.postings i ≡ Some p
     → planned_version p ≤ version_of w.history
 version_low w s i p there = let v = version_within w.history i p s.world.lawful there in omega arith
 
-raised_sound : (w w' : WorldParts) (h : ℕ) → IsSound w → IsHarvester w h → IsRaised w h w' → IsSound w'
-raised_sound w w' h s h_in r =
+-- h raises the front
+raised : (w w' : WorldParts) (h : ℕ) → IsSound w → IsHarvester w h → IsAnswered w h → w' ≡ with_front w h → IsMove w h w'
+raised w w' h s h_in was is =
     let k = s.world in
     let version = version_of w.history in
-    subst (λ (y : WorldParts). IsSound y) (sym r.is) (sound_after w h
-    (record { stage = Idle; seen = version; stale = 0 }) w.history version s h_in k.lawful (le_refl version)
-    (omega arith) (
-      record { plan = λ p e. absurd (cc); seen = le_refl version; stale = omega arith },
-      record { going = λ f. absurd f; replied = λ idle i p there by_h. version_low w s i p there },
-    )
-    (λ g g_in other. let fit = k.fits g g_in in
-    (record { plan = fit.plan; seen = le_trans fit.seen k.front_low; stale = fit.stale }, s.placed g g_in))
-    (λ is. absurd (cc))
-    (λ not none. refl))
+    let now : Harvester = record { stage = Idle; seen = version; stale = 0 } in
+    subst (λ (y : WorldParts). IsMove w h y) (sym is) record {
+      now = now;
+      harvesters_are = refl;
+      same_instruction = refl;
+      no_less = le_trans (k.fits h h_in).seen k.front_low;
+      sound = sound_after w h now w.history version s h_in k.lawful (le_refl version) (omega arith) (
+        record { plan = λ p e. absurd (cc); seen = le_refl version; stale = omega arith },
+        record { going = λ f. absurd f; replied = λ idle i p there by_h. version_low w s i p there },
+      )
+          (λ g g_in other. let fit = k.fits g g_in in
+          (record { plan = fit.plan; seen = le_trans fit.seen k.front_low; stale = fit.stale }, s.placed g g_in))
+          (λ is. absurd (cc))
+          (λ not none. refl);
+    }
+
+going_of : (x : Stage) (p : PlanParts) → x ≡ Planned p → IsGoing x
+going_of x p e = subst (λ (s : Stage). IsGoing s) (sym e) tt
+
+pub move_of : (w w' : WorldParts) (e : Event) → IsSound w → Step w e w' → IsMove w (harvester_of_event e) w'
+move_of w w' (Read h v) s (a, f) = search (rules, quiet)
+move_of w w' (Plan h stem) s (a, (p, is_stem, under, f)) = search (rules, quiet, le_refl)
+move_of w w' (Try h) s (a, (p, is, t)) = let fit = s.world.fits h a.0 in ⊎_elim
+    (λ (k : ((at w h).seen ≡ version_of w.history) × Adds w h (Cut (entry_of w.history h p)) w').
+    added w w' h (Cut (entry_of w.history h p)) s a.0 a.2 refl
+    (entry_follows w.history h p (subst (λ (v : ℕ). IsPlanUnder w.history v p) k.0 (fit.plan p is))) k.1)
+    (search (rules, going_of, quiet, le_refl))
+    t
+move_of w w' (Locked h stem) s (a, (p, is_stem, under, f)) = search (rules, added, entry_follows)
+move_of w w' (Retarget h targets) s (a, (valid, f)) = search (rules, added)
+move_of w w' (Raise h) s (a, f) = raised w w' h s a.0 a.1 f
+move_of w w' (Leave h) s (a, f) = search (rules, quiet, le_refl)
 
 pub stays_sound : (w w' : WorldParts) (e : Event) → IsSound w → Step w e w' → IsSound w'
-stays_sound w w' e s step = let h = harvester_of_event e in let h_in = is_in w e step.0 in ⊎_elim
-    (λ q. quiet_sound w w' h s h_in q)
-    (λ more. ⊎_elim (λ a. added_sound w w' h s h_in a) (λ r. raised_sound w w' h s h_in r) more)
-    (move_of w w' e s step)
+stays_sound w w' e s step = (move_of w w' e s step).sound
 
 run_sound : (w : WorldParts) (moves : List Move) → IsSound w → IsRun w moves → IsSound (last w moves)
 run_sound w [] s r = s

@@ -1,6 +1,6 @@
 -- The words that the proofs of this crate name, from where each is declared.
 pub use Rattle.buck_dp.proofs.Words.{slice_set, rules, Bool, mul-le-mul_left, append_assoc, sheet_of, None}
-pub use Rattle.std.proofs.Common.{◌≡◌, ◌≢◌, ℕ, ◌+◌, ◌-◌, List, [], ◌∷◌, ◌++◌, Option, ap, ◌∙◌, arith, inl, inr, zero, suc, ◌*◌, ◌<◌, ◌≤◌, cond, length, set, sym, refl, subst, eq-eqb, ne_eqb, length-set, get_or, replicate, ◌⊎◌, ⊎_elim, le_refl, slice_get, Some, append-nil, le_trans, map}
+pub use Rattle.std.proofs.Common.{◌≡◌, ◌≢◌, ℕ, ◌+◌, ◌-◌, List, [], ◌∷◌, ◌++◌, Option, ap, ◌∙◌, arith, inl, inr, zero, suc, ◌*◌, ◌<◌, ◌≤◌, cond, length, set, sym, refl, subst, eq-eqb, ne_eqb, length-set, get_or, replicate, ◌⊎◌, ⊎_elim, le_refl, slice_get, Some, append-nil, le_trans, map, Result, Ok, Err, OnOk, OnErr, sum_by}
 pub use Rattle.buck_value.specs.Sheet.{SheetParts, base_prices}
 pub use Rattle.buck_book.specs.declared.posting.Posting.{Posting}
 pub use Rattle.buck_book.specs.Plan.{PlanParts}
@@ -18,7 +18,6 @@ pub use Rattle.buck_world.specs.World.{WorldParts, IsHarvester, at, newcomer, op
 pub use Rattle.buck_world.specs.Run.{Move, IsRun, last, harvester_of_event, added_at, added}
 pub use Rattle.buck_world.specs.Counts.{IsFreshAt, IsFresh, one_if_more, lift_at, stale_at, if_by, count_all, count_own, all_lifts, lifts_of, all_stale, stale_of}
 pub use Rattle.buck_world.specs.inner.Sound.{IsGoing, IsSound, Keeps, IsPlaced}
-pub use Rattle.std.specs.Prelude.{Result, Ok, Err, OnOk, OnErr}
 pub use Rattle.std.proofs.lemmas.List.{length_push, length-replicate, get_or-set_same, get_or-set_other, length-map, get_or-map, get_or-replicate, get_or_read}
 pub use Rattle.std.proofs.lemmas.List.Elements.{All-map, All-from_get_or}
 pub use Rattle.buck_apt.specs.Instruction.{InstructionParts, IsInstruction}

@@ -1,4 +1,4 @@
-use Rattle.buck_world.proofs.Words.{arith, refl, rules, length-replicate, opening}
+use Rattle.buck_world.proofs.Words.{arith, refl, rules, newcomer, length-replicate, opening}
 use Rattle.buck_world.proofs.Sound.{reached, opening_sound}
 use Rattle.buck_world.proofs.Counting.{lifts_are_front, within_front, all_stale_within}
 use Rattle.buck_world.proofs.laws.every_fresh_run.Goals as goal
@@ -19,4 +19,5 @@ returns-clause-others c i n moves r fresh h low high =
 
 pub returns-clause-all_stale : goal.returns-clause-all_stale
 returns-clause-all_stale c i n moves r fresh =
-    search (rules, opening_sound, all_stale_within, length-replicate, reached)
+    let most = all_stale_within (opening i n) moves (opening_sound i n) refl r fresh (reached i n moves r) in
+    rw (length-replicate n newcomer) at most

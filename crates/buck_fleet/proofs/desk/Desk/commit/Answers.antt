@@ -7,8 +7,9 @@ returns-clause-reply g c =
     let made = c.in-Ok.ensures in
     let added = c.commit-entry.ensures in
     let position = c.len-position.result in
-    reply_for c.prepare_cut.new.book.history _ _ _ _ _ c.seat.view_is added.entry made.ready.sheet_in_force made.best
-    (omega (arith, no_less c.prepare_cut.new.book.history c.commit-entry.new.self.history _ added.postings added.instruction))
+    let h = c.prepare_cut.new.book.history in
+    reply_for h _ _ _ _ _ c.seat.view_is added.entry made.ready.sheet_in_force made.best
+    (omega (arith, no_less h c.commit-entry.new.self.history _ added.postings added.instruction))
     (is_kept _ _ _ c.prepare_cut.new.kept.items _ (record { position = position; entry = Cut c.sharing.result })
     c.seat.view_is made.kept (λ t. record { position = position; entry = Cut (c.sharing.ensures t) })
     record {
