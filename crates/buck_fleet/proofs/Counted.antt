@@ -1,5 +1,5 @@
 -- what a closed fleet hands out of its book
-use Rattle.buck_fleet.proofs.Words.{◌≡◌, ℕ, ◌+◌, ◌-◌, ◌<◌, ◌≤◌, List, [], ◌∷◌, length, get_or, refl, sym, ap, subst, ◌∙◌, map, arith, common_steps, All, slice_index_or, slice_get, Some, sum_by, InstructionParts, SheetParts, Posting, targets_of, AreTargets, AreClassCounts, HistoryParts, IsLawful, in_force, IsFirst, sheets_from, length-sheets_from, get_or-sheets_from, CloseFault, Kept, SeatParts, ClosedParts, IsHandedOut, IsCloseFault}
+use Rattle.buck_fleet.proofs.Words.{◌≡◌, ℕ, ◌+◌, ◌-◌, ◌<◌, ◌≤◌, List, [], ◌∷◌, length, get_or, refl, ap, ◌∙◌, map, arith, common_steps, All, slice_index_or, slice_get, Some, sum_by, InstructionParts, SheetParts, Posting, targets_of, AreTargets, AreClassCounts, HistoryParts, IsLawful, in_force, IsFirst, sheets_from, length-sheets_from, get_or-sheets_from, CloseFault, Kept, SeatParts, ClosedParts, IsHandedOut, IsCloseFault}
 
 -- a history of these parts
 abbrev pub history_of : InstructionParts → List (List ℕ) → List Posting → HistoryParts

@@ -1,10 +1,10 @@
 -- The words that the proofs of this crate name, from where each is declared.
-pub use Rattle.buck_dp.proofs.Words.{rules, add-one, take_all, sum_by-cons, sum_by_more, if◌then◌else◌, None, append_assoc, drop, drop-cons, length-take-le, StemParts, IfSome, vec_capacity}
-pub use Rattle.std.proofs.Common.{◌≡◌, ℕ, ◌+◌, ◌≤◌, List, [], ◌∷◌, ◌++◌, arith, sym, ◌∙◌, ◌-◌, ◌<◌, length, get_or, refl, ap, subst, map, zero, suc, ◌==◌, cond, take, ◌≢◌, set, length-set, length-append, true, inl, inr, append-nil}
+pub use Rattle.buck_dp.proofs.Words.{InstructionParts, SheetParts, rules, add-one, sum_by-cons, if◌then◌else◌, None, append_assoc, drop, drop-cons, StemParts, IfSome, vec_capacity}
+pub use Rattle.std.proofs.Common.{All, slice_index_or, slice_get, Some, nat_lt, Option, sum_by, Contains, ◌≡◌, ℕ, ◌+◌, ◌≤◌, List, [], ◌∷◌, ◌++◌, arith, sym, ◌∙◌, ◌-◌, ◌<◌, length, get_or, refl, ap, map, zero, suc, ◌==◌, cond, take, ◌≢◌, set, length-set, length-append, inl, inr, append-nil}
 pub use Rattle.std.proofs.lemmas.Grind.{common_steps}
 pub use Rattle.buck_book.specs.declared.posting.Posting.{Posting}
 pub use Rattle.buck_book.specs.declared.posting.Posting.TheVariants.{Cut, Demand}
-pub use Rattle.buck_book.specs.Entry.{EntryParts, DemandParts}
+pub use Rattle.buck_book.specs.Entry.{DemandParts}
 pub use Rattle.buck_book.specs.Plan.{PlanParts, IsPlan}
 pub use Rattle.buck_book.specs.History.{HistoryParts, version_of, in_force, IsLawful}
 pub use Rattle.buck_book.specs.Book.{entry_of, demand_of, IsFirst, sheets_from}
@@ -14,10 +14,6 @@ pub use Rattle.buck_fleet.specs.declared.seat.Reply.{Reply}
 pub use Rattle.buck_fleet.specs.declared.seat.DemandReply.{DemandReply}
 pub use Rattle.buck_fleet.specs.Seat.{SeatParts, Keeps, KeepsOne, seen_of, KeepsNothing}
 pub use Rattle.buck_fleet.specs.Reply.{IsReplyFor, IsOfPlan, IsReplyToTargets, kept_of, kept_demand_of}
-pub use Rattle.std.specs.Prelude.{All, slice_index_or, slice_get, Some, nat_lt, Option}
-pub use Rattle.std.specs.List.{sum_by, Contains}
-pub use Rattle.buck_apt.specs.Instruction.{InstructionParts}
-pub use Rattle.buck_value.specs.Sheet.{SheetParts}
 pub use Rattle.buck_book.specs.Posting.{targets_of, harvester_of}
 pub use Rattle.buck_book.specs.Targets.{AreTargets}
 pub use Rattle.buck_book.specs.Counts.{AreClassCounts}
@@ -25,7 +21,7 @@ pub use Rattle.buck_book.proofs.Sheets.{length-sheets_from, get_or-sheets_from}
 pub use Rattle.buck_fleet.specs.declared.close.CloseFault.{CloseFault}
 pub use Rattle.buck_fleet.specs.Closed.{ClosedParts, IsHandedOut, IsCloseFault, DifferFirstAt, replies_from, lists_of}
 pub use Rattle.std.proofs.lemmas.List.{get_or_append_left, get_or_push, length_push, get_or-set_other, get_or-set_same, drop_all, map-append, get_or-map, length-map, map-set}
-pub use Rattle.std.proofs.lemmas.List.Sums.{sum_by_push, sum_by-append, sum_by-set, sum_by-le, get_or-le-sum_by}
+pub use Rattle.std.proofs.lemmas.List.Sums.{sum_by_push, sum_by-set, sum_by-le, get_or-le-sum_by}
 pub use Rattle.std.proofs.lemmas.Bool.Decides.{nat_tests}
 pub use Rattle.buck_fleet.specs.Crew.{seats_of, parts_of, IsCrew, IsNew, AreOpened}
 pub use Rattle.buck_fleet.specs.Fleet.{FleetParts, IsSeatIn}
@@ -38,8 +34,8 @@ pub use Rattle.std.proofs.lemmas.List.Elements.{All-pop, All-append, All-cons}
 pub use Rattle.buck_board.specs.declared.board.Board.{Board}
 pub use Rattle.buck_board.specs.declared.seat.BoardSeat.{BoardSeat}
 pub use Rattle.buck_board.specs.Board.{IsSeatOf, seen_by}
-pub use Rattle.std.proofs.lemmas.Bool.{cases_eq, eq-eqb}
+pub use Rattle.std.proofs.lemmas.Bool.{cases_eq}
 pub use Rattle.std.proofs.Math.Seq.{get_or-append_seam}
-pub use Rattle.std.proofs.lemmas.Option.{slice_get_within, slice_get_cases, slice_get_past, slice_get-get_or, none-some, same_Some}
+pub use Rattle.std.proofs.lemmas.Option.{slice_get_within, slice_get_cases, slice_get-get_or, none-some}
 pub use Rattle.buck_fleet.specs.declared.fault.RunFault.{RunFault}
 pub use Rattle.std.specs.Arc.{arc_value}

@@ -32,18 +32,18 @@ fn cut_all<F: Fn(&Standing) -> u64 + Drop, L: Ledger, R: Wait, G: Gate>(
 {
     for stem in stems {
         let Ok(stem) = stem.clone() else {
-            seat.note(Some(RunFault::Memory));
+            seat.stopped = Some(RunFault::Memory);
             return;
         };
         match fleet.cut(rt, alloc, &mut *seat, stem, gate) {
             Ok(_reply) => {}
             Err(fault) => {
-                seat.note(Some(RunFault::from(fault)));
+                seat.stopped = Some(RunFault::from(fault));
                 return;
             }
         }
     }
-    seat.note(None);
+    seat.stopped = None;
 }
 
 /// What stopped the lowest harvester that was stopped.

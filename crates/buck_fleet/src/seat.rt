@@ -114,13 +114,6 @@ impl<L: Ledger> Seat<L> {
         }
     }
 
-    /// Notes why its run stopped.
-    pub(crate) fn note(&mut self, stopped: Option<RunFault>)
-        ensures { self.new ≡ record self.old { stopped = stopped } }
-    {
-        self.stopped = stopped;
-    }
-
     /// Plans a stem under a sheet, with the planner that is there: it is renewed where the sheet is another. It asks
     /// nobody else and waits for nobody.
     pub(crate) fn plan(

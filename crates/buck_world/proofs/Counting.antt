@@ -1,5 +1,5 @@
 -- What is counted along runs.
-use Rattle.buck_world.proofs.Words.{newcomer, sum_by, get_or, ◌≡◌, ◌≢◌, inl, inr, ℕ, zero, suc, ◌+◌, ◌-◌, ◌*◌, ◌<◌, ◌≤◌, List, [], ◌∷◌, Bool, cond, length, set, sym, refl, ap, subst, ◌∙◌, eq-eqb, ne_eqb, arith, mul-le-mul_left, rules, common_steps, cases_eq, nat_tests, version_of, Harvester, Event, WorldParts, IsHarvester, at, Step, Move, IsRun, last, harvester_of_event, IsFreshAt, IsFresh, one_if_more, lift_at, stale_at, if_by, count_all, count_own, all_lifts, lifts_of, all_stale, stale_of, IsGoing, IsSound}
+use Rattle.buck_world.proofs.Words.{newcomer, sum_by, get_or, ◌≡◌, ◌≢◌, ℕ, zero, suc, ◌+◌, ◌-◌, ◌*◌, ◌<◌, ◌≤◌, List, [], ◌∷◌, Bool, cond, length, set, refl, ap, ◌∙◌, eq-eqb, arith, mul-le-mul_left, rules, common_steps, nat_tests, version_of, Harvester, Event, WorldParts, IsHarvester, at, Step, Move, IsRun, last, harvester_of_event, IsFreshAt, IsFresh, one_if_more, lift_at, stale_at, if_by, all_lifts, lifts_of, all_stale, stale_of, IsGoing, IsSound}
 use Rattle.std.specs.List.{range_with_len}
 use Rattle.std.proofs.lemmas.List.Sums.{sum_by-le, sum_by-cons, sum_by-le-sum_by}
 use Rattle.std.proofs.lemmas.List.FromFn.{get_or-range_with_len, length-range_with_len}

@@ -1,8 +1,8 @@
 -- What a harvester has seen never falls, and what is added along a run.
-use Rattle.buck_world.proofs.Words.{◌≡◌, ◌≢◌, ⊎_elim, inl, inr, ℕ, ◌+◌, ◌≤◌, List, [], ◌∷◌, ◌++◌, slice_get, Some, sym, refl, ap, subst, ◌∙◌, append_assoc, append-nil, arith, le_refl, le_trans, rules, common_steps, cases_eq, Posting, Cut, harvester_of, planned_version, PlanParts, version_of, in_force, sheet_at, entry_of, Idle, Reading, Planned, Harvester, Event, Read, Try, WorldParts, at, IsPlanUnder, Adds, Becomes, Step, Move, IsRun, last, harvester_of_event, added_at, added, IsSound}
+use Rattle.buck_world.proofs.Words.{◌≡◌, ℕ, ◌+◌, ◌≤◌, List, [], ◌∷◌, ◌++◌, sym, refl, ap, ◌∙◌, append_assoc, append-nil, arith, le_refl, rules, common_steps, cases_eq, Posting, Harvester, Event, WorldParts, at, Step, Move, IsRun, last, harvester_of_event, added_at, added, IsSound}
 use Rattle.buck_world.proofs.Sound.{stays_sound}
 use Rattle.buck_world.proofs.Kept.{same_number}
-use Rattle.buck_world.proofs.Counting.{at_here, foreign}
+use Rattle.buck_world.proofs.Counting.{foreign}
 
 seen_no_less : (w w' : WorldParts) (h : ℕ) (y : Harvester) → at w' h ≡ y → (at w h).seen ≤ y.seen
     → (at w h).seen ≤ (at w' h).seen

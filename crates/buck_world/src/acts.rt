@@ -5,8 +5,7 @@ ghost use Rattle.buck_book.specs.History.{version_of, in_force};
 ghost use Rattle.buck_world.specs.declared.event.Event.{Event};
 ghost use Rattle.buck_world.specs.Step.{IsPlanUnder, Allowed, Follows};
 ghost use Rattle.buck_world.specs.Refused.{HasRoom, IsRefusal};
-ghost use Rattle.buck_world.specs.inner.Sound.{Keeps};
-ghost use Rattle.buck_world.specs.inner.Acts.{world_of, ruled};
+ghost use Rattle.buck_world.specs.inner.Sound.{Keeps, world_of, ruled};
 
 use crate::event::Event;
 use crate::fault::StepFault;

@@ -6,7 +6,6 @@ ghost use Rattle.buck_world.specs.World.{newcomer, opening, IsHarvester, at};
 ghost use Rattle.buck_world.specs.Step.{Allowed, Step};
 ghost use Rattle.buck_world.specs.Kept.{IsKept};
 ghost use Rattle.buck_world.specs.Refused.{IsFull, MayAdd, HasRoom, IsRefusal};
-ghost use Rattle.buck_world.specs.inner.Sound.{Keeps};
 ghost use Rattle.buck_book.specs.declared.posting.TheConstants.{MOST_POSTINGS};
 
 use crate::acts::act;
@@ -37,16 +36,11 @@ pub struct World<F> {
 
 impl<F> Model for World<F> {
     ghost use Rattle.buck_world.specs.Kept.{RuledWorld};
-    ghost use Rattle.buck_world.specs.inner.Acts.{ruled};
-    ghost use Rattle.buck_world.specs.inner.Sound.{Keeps};
+    ghost use Rattle.buck_world.specs.inner.Sound.{Keeps, ruled};
 
     ghost Value = { RuledWorld F };
 
-    ghost view = { λ w. record {
-      rule = w.book.rule;
-      capacity = w.book.capacity;
-      world = record { history = w.book.history; front = w.front; harvesters = w.harvesters.items };
-    } };
+    ghost view = { λ w. ruled w.book w.front w.harvesters.items };
 
     ghost invariant = { λ w. Keeps (ruled w.book w.front w.harvesters.items) };
 }

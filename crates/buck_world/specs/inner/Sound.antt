@@ -1,12 +1,13 @@
 -- What is kept besides, so that each event leaves a world again.
-use Rattle.std.specs.Prelude.{◌≡◌, ℕ, ◌+◌, ◌<◌, ◌≤◌, slice_get, Some}
+use Rattle.std.specs.Prelude.{◌≡◌, ℕ, ◌+◌, ◌-◌, ◌<◌, ◌≤◌, List, slice_get, slice_index_or, Some}
 use Rattle.buck_book.specs.declared.posting.Posting.{Posting}
 use Rattle.buck_book.specs.Posting.{harvester_of, planned_version}
 use Rattle.buck_book.specs.History.{HistoryParts, version_of}
+use Rattle.buck_book.specs.Book.{BookParts}
 use Rattle.buck_world.specs.declared.stage.Stage.{Stage}
 use Rattle.buck_world.specs.declared.stage.Stage.TheVariants.{Reading, Planned, Answered}
 use Rattle.buck_world.specs.declared.harvester.Harvester.{Harvester}
-use Rattle.buck_world.specs.World.{WorldParts, IsHarvester, at}
+use Rattle.buck_world.specs.World.{WorldParts, IsHarvester, at, newcomer}
 use Rattle.buck_world.specs.Kept.{IsWorld, RuledWorld, IsKept}
 
 -- an attempt is going on
@@ -35,3 +36,13 @@ pub record IsSound (w : WorldParts) : Type 0 where
 pub record Keeps {F : Type 0} (r : RuledWorld F) : Type 0 where
   pub kept : IsKept r
   pub sound : IsSound r.world
+
+-- the world of a book, a front and the harvesters
+abbrev pub world_of : HistoryParts → ℕ → List Harvester → WorldParts
+world_of s front xs = record { history = s; front = front; harvesters = xs }
+
+abbrev pub ruled : {F : Type 0} → BookParts F → ℕ → List Harvester → RuledWorld F
+ruled b front xs = record { rule = b.rule; capacity = b.capacity; world = world_of b.history front xs }
+
+abbrev pub is_at : List Harvester → ℕ → Harvester
+is_at xs h = slice_index_or xs (h - 1) newcomer

@@ -1,4 +1,4 @@
-use Rattle.buck_fleet.proofs.Words.{refl, sym, ◌∙◌, arith, rules, length-map, lists_of}
+use Rattle.buck_fleet.proofs.Words.{refl, sym, ◌∙◌, rules, length-map, lists_of}
 use Rattle.buck_fleet.proofs.Counted.{prices_are, history_same, parts_out, handed_out}
 use Rattle.buck_fleet.proofs.close.take_in.Goals as goal
 

@@ -1,4 +1,4 @@
-use Rattle.buck_world.proofs.Words.{◌≡◌, ◌≤◌, ◌∷◌, ◌++◌, refl, ap, arith, le_trans, rules, Idle, Reading, Harvester, Read, opening, at, last}
+use Rattle.buck_world.proofs.Words.{◌∷◌, ◌++◌, le_trans, rules, Read, opening}
 use Rattle.buck_world.proofs.Sound.{opening_sound}
 use Rattle.buck_world.proofs.Counting.{at_here}
 use Rattle.buck_world.proofs.Rising.{moment, run_to}
