@@ -1,20 +1,16 @@
 -- What a harvester has seen never falls, and what is added along a run.
-use Rattle.buck_world.proofs.Words.{◌≡◌, ℕ, ◌+◌, ◌≤◌, List, [], ◌∷◌, ◌++◌, sym, refl, ap, ◌∙◌, append_assoc, append-nil, arith, le_refl, rules, common_steps, cases_eq, Posting, Harvester, Event, WorldParts, at, Step, Move, IsRun, last, harvester_of_event, added_at, added, IsSound}
-use Rattle.buck_world.proofs.Sound.{stays_sound}
+use Rattle.buck_world.proofs.Words.{inl, inr, ◌≡◌, ℕ, ◌+◌, ◌≤◌, List, [], ◌∷◌, ◌++◌, sym, refl, ap, ◌∙◌, append_assoc, append-nil, arith, le_refl, rules, common_steps, cases_eq, Posting, Harvester, Event, WorldParts, at, Step, Move, IsRun, last, harvester_of_event, added_at, added, IsSound}
+use Rattle.buck_world.proofs.Sound.{is_in, move_of, stays_sound}
 use Rattle.buck_world.proofs.Kept.{same_number}
-use Rattle.buck_world.proofs.Counting.{foreign}
-
-seen_no_less : (w w' : WorldParts) (h : ℕ) (y : Harvester) → at w' h ≡ y → (at w h).seen ≤ y.seen
-    → (at w h).seen ≤ (at w' h).seen
-seen_no_less w w' h y e low = let f = ap (λ (z : Harvester). z.seen) e in omega arith
-
-own_no_less : (w w' : WorldParts) (e : Event) → IsSound w → Step w e w'
-    → (at w (harvester_of_event e)).seen ≤ (at w' (harvester_of_event e)).seen
-own_no_less w w' e s step = grind (arith, common_steps)
+use Rattle.buck_world.proofs.Counting.{at_here, foreign}
 
 step_no_less : (w w' : WorldParts) (e : Event) (h : ℕ) → IsSound w → Step w e w' → 1 ≤ h
     → (at w h).seen ≤ (at w' h).seen
-step_no_less w w' e h s step low = grind (arith, cases_eq, own_no_less, seen_no_less, foreign, le_refl)
+step_no_less w w' e h s step low = elim (cases_eq h (harvester_of_event e)) [
+  | inl own ↦ let move = move_of w w' e s step in
+      rw (own, at_here w w' w' _ move.now refl move.harvesters_are (is_in w e step.0)) move.no_less
+  | inr other ↦ rw (foreign w w' e h s step low other) (le_refl _)
+]
 
 pub run_to : (w : WorldParts) (before : List Move) (h : ℕ) (after : List Move) → IsSound w → IsRun w (before ++ after)
     → 1 ≤ h → (at w h).seen ≤ (at (last w before) h).seen

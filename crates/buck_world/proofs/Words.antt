@@ -21,7 +21,7 @@ pub use Rattle.std.proofs.lemmas.List.{length_push, length-replicate, get_or-set
 pub use Rattle.std.proofs.lemmas.List.Elements.{All-map, All-from_get_or}
 pub use Rattle.buck_book.proofs.Ends.{ends-le}
 pub use Rattle.buck_world.specs.declared.fault.StepFault.{StepFault}
-pub use Rattle.buck_world.specs.Kept.{RuledWorld, IsFit}
+pub use Rattle.buck_world.specs.Kept.{RuledWorld, IsFit, IsWorld}
 pub use Rattle.buck_world.specs.Refused.{HasRoom}
 pub use Rattle.buck_book.specs.declared.posting.Posting.TheVariants.{Cut, Demand}
 pub use Rattle.buck_book.specs.Posting.{harvester_of, planned_version}
