@@ -21,11 +21,6 @@ posting_added s m s' xs ys front h x y next same is_next is postings sheets inst
       front (now j),
 )
 
--- what was found at h's place, in a list that is xs
-pub found_planned : (xs ys : List Harvester) (h : ℕ) (x : Harvester) (p : PlanParts) → x ≡ is_at ys h → ys ≡ xs
-    → x.stage ≡ Planned p → (is_at xs h).stage ≡ Planned p
-found_planned xs ys h x p at same is = cc
-
 -- a plan of the sheet in force was made under the version in force, and no other plan was
 pub version_is : (s m : HistoryParts) (v : ℕ) (p : PlanParts) → IsPlanUnder s v p → m ≡ s → p.sheet ≡ in_force m
     → v ≡ version_of s

@@ -1,5 +1,5 @@
 use Rattle.buck_world.proofs.Words.{rules, ◌≡◌, inl, Some, List, ℕ, sym, ap, ◌∙◌, subst, PlanParts, HistoryParts, AreTargets, Cut, Demand, IsNext, IsReadyFor, IsPlanUnder, entry_of, demand_of, Planned, is_at}
-use Rattle.buck_world.proofs.Committed.{posting_added, found_planned, version_is, tried_stale}
+use Rattle.buck_world.proofs.Committed.{posting_added, version_is, tried_stale}
 use Rattle.buck_world.proofs.acts.act.Goals as goal
 
 pub returns-in-Ok-clause-ok : goal.returns-in-Ok-clause-ok
@@ -10,8 +10,7 @@ returns-in-Ok-clause-ok g c =
     let allowed = rw c.in-Try.is at c.requires.allowed in
     let holds = (c.requires.kept.sound.world.fits h allowed.0).plan in
     let same = c.in-Ok.ensures.content.history in
-    let was = found_planned xs c.as_slice-in-Try.result.now h c.at-in-Try.result.now c.in-Planned.plan
-    c.at-in-Try.ensures c.as_slice-in-Try.ensures.value c.in-Planned.is in
+    let was : (is_at xs h).stage ≡ Planned c.in-Planned.plan = search rules in
     let is : (is_at xs h).stage ≡ Planned plan = sym c.in-Planned-answer.ensures.was in
     let both : Planned c.in-Planned.plan ≡ Planned plan = sym was ∙ is in
     let one_plan : c.in-Planned.plan ≡ plan = cc both in
@@ -39,8 +38,7 @@ returns-in-Err-Stale-clause-ok g c =
     let allowed = rw c.in-Try.is at c.requires.allowed in
     let holds = (c.requires.kept.sound.world.fits h allowed.0).plan in
     let refused = rw c.in-Err-Stale.field-0-is at c.in-Err-Stale.ensures.refused in
-    let is = found_planned xs c.as_slice-in-Try.result.now h c.at-in-Try.result.now plan
-    c.at-in-Try.ensures c.as_slice-in-Try.ensures.value c.in-Planned.is in
+    let is : (is_at xs h).stage ≡ Planned plan = search rules in
     rw c.in-Try.is (
       plan,
       is,
