@@ -1,5 +1,5 @@
 -- What a commit of the book leaves, as the world sees it.
-use Rattle.buck_world.proofs.Words.{◌≡◌, ◌≢◌, ℕ, ◌+◌, ◌-◌, List, [], ◌∷◌, ◌++◌, slice_set, Option, ap, ◌∙◌, arith, rules, SheetParts, Posting, PlanParts, HistoryParts, version_of, in_force, sheet_at, sheets_with, IsNext, Idle, Planned, Answered, Harvester, IsPlanUnder, Adds, Tries, world_of, is_at}
+use Rattle.buck_world.proofs.Words.{◌≡◌, ◌≢◌, ℕ, ◌+◌, ◌-◌, List, [], ◌∷◌, ◌++◌, slice_set, Option, ap, ◌∙◌, arith, rules, SheetParts, Posting, PlanParts, HistoryParts, version_of, in_force, sheet_at, sheets_with, IsNext, Idle, Answered, Harvester, IsPlanUnder, Adds, Tries, world_of, is_at}
 
 abbrev pub answered : List Harvester → ℕ → List Harvester
 answered xs h = slice_set xs (h - 1) (record { stage = Answered; seen = (is_at xs h).seen; stale = (is_at xs h).stale })

@@ -1,5 +1,5 @@
 -- What a harvester has seen never falls, and what is added along a run.
-use Rattle.buck_world.proofs.Words.{inl, inr, ◌≡◌, ℕ, ◌+◌, ◌≤◌, List, [], ◌∷◌, ◌++◌, sym, refl, ap, ◌∙◌, append_assoc, append-nil, arith, le_refl, rules, common_steps, cases_eq, Posting, Harvester, Event, WorldParts, at, Step, Move, IsRun, last, harvester_of_event, added_at, added, IsSound}
+use Rattle.buck_world.proofs.Words.{inl, inr, ◌≡◌, ℕ, ◌≤◌, List, [], ◌∷◌, ◌++◌, sym, refl, ap, ◌∙◌, append_assoc, append-nil, arith, le_refl, rules, common_steps, cases_eq, Posting, Event, WorldParts, at, Step, Move, IsRun, last, harvester_of_event, added_at, added, IsSound}
 use Rattle.buck_world.proofs.Sound.{is_in, move_of, stays_sound}
 use Rattle.buck_world.proofs.Kept.{same_number}
 use Rattle.buck_world.proofs.Counting.{at_here, foreign}

@@ -1,5 +1,5 @@
 -- What a step does, and what holds of each world that a run reaches.
-use Rattle.buck_world.proofs.Words.{IsWorld, ◌≡◌, ◌≢◌, ◌⊎◌, ⊎_elim, inl, inr, ℕ, ◌+◌, ◌-◌, ◌<◌, ◌≤◌, List, [], ◌∷◌, length, length-set, get_or, set, slice_get, Option, Some, None, sym, refl, ap, subst, ◌∙◌, arith, le_refl, le_trans, rules, common_steps, get_or-replicate, length-replicate, length_push, cases_eq, InstructionParts, SheetParts, Posting, Cut, harvester_of, planned_version, PlanParts, HistoryParts, IsLawful, version_of, sheets_with, history_with, entry_of, one_more, slice_get-push, version_within, prices_stay, Stage, Idle, Planned, Answered, Harvester, Event, Read, Plan, Try, Locked, Retarget, Raise, Leave, WorldParts, newcomer, opening, IsHarvester, at, IsAnswered, NobodyAnswered, with_front, IsPlanUnder, Adds, Becomes, Allowed, Step, IsFit, IsGoing, Move, IsRun, last, harvester_of_event, IsPlaced, IsSound}
+use Rattle.buck_world.proofs.Words.{IsWorld, ◌≡◌, ◌≢◌, ⊎_elim, inl, inr, ℕ, ◌+◌, ◌-◌, ◌<◌, ◌≤◌, List, [], ◌∷◌, length, length-set, get_or, set, slice_get, Option, Some, None, sym, refl, ap, subst, ◌∙◌, arith, le_refl, le_trans, rules, common_steps, get_or-replicate, length-replicate, length_push, cases_eq, InstructionParts, SheetParts, Posting, Cut, harvester_of, planned_version, PlanParts, HistoryParts, IsLawful, version_of, sheets_with, history_with, entry_of, one_more, slice_get-push, version_within, prices_stay, Stage, Idle, Planned, Answered, Harvester, Event, Read, Plan, Try, Locked, Retarget, Raise, Leave, WorldParts, newcomer, opening, IsHarvester, at, IsAnswered, NobodyAnswered, with_front, IsPlanUnder, Adds, Becomes, Allowed, Step, IsFit, IsGoing, Move, IsRun, last, harvester_of_event, IsPlaced, IsSound}
 use Rattle.buck_book.specs.History as history
 use Rattle.buck_world.proofs.Lists.{here, elsewhere, each_of, after_set}
 
