@@ -1,4 +1,4 @@
-use Rattle.buck_fleet.proofs.Words.{arith, rules, sym, ◌∙◌, ◌-◌, length-set, map-set, length-map}
+use Rattle.buck_fleet.proofs.Words.{arith, rules, sym, ◌∙◌, length-set, map-set, length-map}
 use Rattle.buck_fleet.proofs.Places.{none_in, one_more_in, in_range}
 use Rattle.buck_fleet.proofs.close.collect.Goals as goal
 
