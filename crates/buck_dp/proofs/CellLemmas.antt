@@ -40,15 +40,6 @@ module _ (cells : List Cell) (top first stop n : ℕ) (low : stop ≤ top) (v u 
       → AreOffered cells top first stop (length cells) v u
   offered_near long = search (rules, cases_lt)
 
--- no cells are offered yet
-pub offered_none : (top first stop : ℕ) (v : List BidParts) → AreOffered [] top first stop 0 v v
-offered_none top first stop v = search (rules, IsAtMost-refl)
-
--- what is offered of a row is offered of it with one cell more
-pub offered_behind : (row : List Cell) (c : Cell) (top first stop : ℕ) (v u : List BidParts)
-    → AreOffered row top first stop (length row) v u → AreOffered (row ++ c ∷ []) top first stop (length row) v u
-offered_behind row c top first stop v u offered = search (rules, push_cases, kept_at)
-
 -- A row whose cells all start at point `base` or later is offered to the points from there on alone.
 module _ (cells : List Cell) (top first stop far base : ℕ) (v : List BidParts)
     (is : base + far ≡ top) (begins : first ≤ base) (below : stop ≤ top) (inside : base ≤ length v)

@@ -1,5 +1,5 @@
 -- Lists and rows that are kept.
-use Rattle.buck_dp.proofs.Words.{◌≡◌, ℕ, ◌+◌, ◌-◌, ◌⊎◌, inl, inr, List, [], ◌∷◌, ◌++◌, Option, length, length-append, take, drop, slice_get, Some, sym, subst, ap, ◌∙◌, arith, rules, none-some, length-drop, drop_at, drop-append-le, take-append-le, take_all, InstructionParts, SheetParts, push_each, Key, Place, Head, Menu, Term, Kept, IsKeptAt, part_of, IsAt, TermsOf, ListOf, RowOf, AreKept}
+use Rattle.buck_dp.proofs.Words.{◌≡◌, ℕ, ◌+◌, ◌-◌, ◌⊎◌, inl, inr, List, [], ◌∷◌, ◌++◌, Option, length, length-append, take, drop, slice_get, Some, sym, subst, ap, ◌∙◌, arith, rules, none-some, length-drop, drop_at, drop-append-le, take-append-le, take_all, InstructionParts, SheetParts, push_each, Key, Place, Head, Menu, Term, Kept, IsKeptAt, IsBehind, part_of, IsAt, TermsOf, ListOf, RowOf, AreKept}
 
 -- what each head tells of its place
 abbrev pub Each : {X : Type 0} → (Key → List X → Type 0) → List Head → List X → Type 0
@@ -10,12 +10,6 @@ module _ {X : Type 0} (R : Key → List X → Type 0) where
   more : (xs ys : List X) (key : Key) (place : Place) → IsAt R xs key place → IsAt R (xs ++ ys) key place
   more xs ys key place is = search (rules, drop-append-le, take-append-le, length-drop, length-append)
 
-  -- what is put behind a list stands there
-  pub put_behind : (xs ys zs : List X) (key : Key) (from past : ℕ) → zs ≡ xs ++ ys → from ≡ length xs → past ≡ length zs
-      → R key ys
-      → IsAt R zs key (record { from = from; past = past })
-  put_behind xs ys zs key from past is at end right = search (rules, length-append, drop_at, take_all)
-
   -- what is kept for a key
   pub kept_is : (heads : List Head) (xs : List X) (key : Key) (place : Place) → Each R heads xs
       → IsKeptAt heads key place → IsAt R xs key place
@@ -25,23 +19,29 @@ module _ {X : Type 0} (R : Key → List X → Type 0) where
   kept_none : (heads : List Head) (xs : List X) → heads ≡ [] → Each R heads xs
   kept_none heads xs none = subst (λ (hs : List Head). Each R hs xs) (sym none) (λ n h at. absurd (none-some h at))
 
+  -- what is put behind a list stands there
+  pub put_at : (xs ys zs : List X) (key : Key) (place : Place) → IsBehind xs ys zs place → R key ys → IsAt R zs key place
+  put_at xs ys zs key place is right = search (rules, length-append, drop_at, take_all)
+
   -- what is kept stays right where all were dropped, and where more stands behind
-  pub kept_room : (old new : List Head) (xs ys zs vs : List X) → ((ys ≡ xs) × (new ≡ old)) ⊎ (new ≡ []) → vs ≡ ys ++ zs
-      → Each R old xs
-      → Each R new vs
-  kept_room old new xs ys zs vs (inr none) is each = kept_none new vs none
-  kept_room old new xs ys zs vs (inl same) is each =
+  kept_room : (old heads : List Head) (xs ys zs vs : List X) → ((ys ≡ xs) × (heads ≡ old)) ⊎ (heads ≡ [])
+      → vs ≡ ys ++ zs → Each R old xs → Each R heads vs
+  kept_room old heads xs ys zs vs (inr none) is each = kept_none heads vs none
+  kept_room old heads xs ys zs vs (inl same) is each =
       subst (λ (hs : List Head). Each R hs vs) (sym same.1)
       (subst (λ (us : List X). Each R old us) (sym (is ∙ ap (λ us. us ++ zs) same.0))
       (λ n h at. more xs zs h.key h.place (each n h at)))
 
-  -- one more is kept, or not
-  pub kept_push : (heads new : List Head) (xs : List X) (h : Head) → (new ≡ heads ++ h ∷ []) ⊎ (new ≡ heads)
-      → IsAt R xs h.key h.place
-      → Each R heads xs → Each R new xs
-  kept_push heads new xs h (inl is) right each =
-      subst (λ (hs : List Head). Each R hs xs) (sym is) (push_each (λ n x. IsAt R xs x.key x.place) heads h each right)
-  kept_push heads new xs h (inr is) right each = subst (λ (hs : List Head). Each R hs xs) (sym is) each
+  -- and one more is kept, or not
+  pub kept_more : (old heads new : List Head) (xs ys zs vs : List X) (key : Key) (place : Place)
+      → ((ys ≡ xs) × (heads ≡ old)) ⊎ (heads ≡ []) → IsBehind ys zs vs place → R key zs
+      → (new ≡ heads ++ record { key = key; place = place } ∷ []) ⊎ (new ≡ heads) → Each R old xs → Each R new vs
+  kept_more old heads new xs ys zs vs key place room is right (inr same) each =
+      subst (λ (hs : List Head). Each R hs vs) (sym same) (kept_room old heads xs ys zs vs room is.0 each)
+  kept_more old heads new xs ys zs vs key place room is right (inl pushed) each =
+      subst (λ (hs : List Head). Each R hs vs) (sym pushed)
+      (push_each (λ n h. IsAt R vs h.key h.place) heads (record { key = key; place = place })
+      (kept_room old heads xs ys zs vs room is.0 each) (put_at ys zs vs key place is right))
 
 -- what is kept is right under another sheet of the instruction, once what hangs on prices is dropped
 pub prices_dropped : (s t : SheetParts) (m : Menu) (old new : Kept) → s.instruction ≡ t.instruction

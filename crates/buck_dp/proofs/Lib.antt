@@ -13,6 +13,7 @@ pub mod Untrimmed
 pub mod BidLemmas
 pub mod CellLemmas
 pub mod TopLemmas
+pub mod RowLemmas
 pub mod PartLemmas
 pub mod PruneLemmas
 pub mod QuoteLemmas

@@ -1,7 +1,8 @@
 -- Price lists that grow, and rows drawn from them.
-use Rattle.buck_dp.proofs.Words.{◌≡◌, ℕ, ◌+◌, ◌-◌, ◌*◌, ◌<◌, ◌≤◌, ◌⊎◌, inl, inr, List, [], ◌∷◌, ◌++◌, Option, IfSome, IfNone, length, length-append, take, get_or, slice_get, slice_set, zero, suc, Some, None, refl, sym, subst, ap, ◌∙◌, append_assoc, arith, mul-le-mul_right, add-mul, rules, cases_lt, none-some, same_Some, slice_get_within, slice_get-get_or, get_or_from_slice_get, IsStrictlyIncreasing, InstructionParts, SheetParts, IsSheet, Offer, codes_in, code_of, codes_number, take-suc, take-suc-set, get_or-append_right, set-append_right, take_all, length-set, kept_at, pushed_at, push_cases, push_each, in_order, Cell, Reach, Quote, Ask, Term, Takers, BidParts, IsAtMost, IsTakersBid, IsReal, AreCells, quote_bid, IsAsked, IsQuote, IsQuoteOf, HasNoBid, IsOver, IsPut, IsQuoted, IsTermOf, IsNoTerm, AreTerms, Falls, AreQuotes, IsWithin, cell_of, IsCellOf, IsDrawn}
+use Rattle.buck_dp.proofs.Words.{◌≡◌, ℕ, ◌+◌, ◌-◌, ◌*◌, ◌<◌, ◌≤◌, ◌⊎◌, inl, inr, List, [], ◌∷◌, ◌++◌, Option, IfSome, IfNone, length, length-append, take, get_or, slice_get, slice_set, zero, suc, Some, None, refl, sym, subst, ap, ◌∙◌, append_assoc, arith, mul-le-mul_right, add-mul, rules, cases_lt, none-some, same_Some, slice_get_within, slice_get-get_or, get_or_from_slice_get, IsStrictlyIncreasing, InstructionParts, SheetParts, IsSheet, Offer, codes_in, code_of, codes_number, take-suc, take-suc-set, get_or-append_right, set-append_right, take_all, length-set, kept_at, pushed_at, push_cases, push_each, in_order, Cell, Reach, Quote, Ask, Term, Takers, BidParts, IsAtMost, IsTakersBid, quote_bid, IsAsked, IsQuote, IsQuoteOf, HasNoBid, IsOver, IsPut, IsQuoted, IsTermOf, IsNoTerm, AreTerms, Falls, AreQuotes, cell_for, row_of, IsRow, IsPlaced, AreByLength, slice_index, log_of, ◌/◌}
 use Rattle.buck_dp.proofs.BidLemmas.{IsAtMost-refl, worth_at_most}
-use Rattle.buck_dp.proofs.Places.{after_in_order}
+use Rattle.buck_dp.proofs.Marks.{mark_code, mark_place}
+use Rattle.buck_dp.proofs.RowLemmas.{made_of, cell_is, cell_placed}
 
 -- with one more that has no higher number than any other
 falls_push : {X : Type 0} (of : X → ℕ) (xs : List X) (x : X) → Falls of xs
@@ -204,179 +205,61 @@ terms_put i codes ask n terms term some none was =
     at_place k (Some t) at = (was.some k t at, tt)
     at_place k None at = (tt, was.none k at)
 
--- a row with the cells of no quotes
-pub drawn_none : (quotes : List Quote) (d : ℕ) (reach : Reach) → IsDrawn quotes d reach 0 []
-drawn_none quotes d reach = search (rules, none-some)
-
-module _ (quotes : List Quote) (d : ℕ) (reach : Reach) (n : ℕ) (row : List Cell) (q : Quote)
-    (at : slice_get quotes n ≡ Some q)
-    (was : IsDrawn quotes d reach n row) where
-  -- the quote at the next place
-  next_is : (k : ℕ) (x : Quote) → n ≤ k → k < n + 1 → slice_get quotes k ≡ Some x → q ≡ x
-  next_is k x le lt there = search (rules, same_Some)
-
-  -- a row with the cells of one quote more, which is not within reach
-  pub drawn_skip : (IsWithin reach q → ⊥) → IsDrawn quotes d reach (n + 1) row
-  drawn_skip out = search (rules, cases_lt, next_is)
-
-  -- or is
-  pub drawn_push : IsWithin reach q → IsDrawn quotes d reach (n + 1) (row ++ cell_of reach q d ∷ [])
-  drawn_push within =
-      let c : Cell = cell_of reach q d in
-      record {
-        real = push_each (λ k x. IsCellOf quotes d reach x) row c was.real
-            (record { place = n; quote = q; there = at; within = within; is = refl });
-        early = λ j k b x falls le here there.
-            push_each (λ j (b : Cell). x.rank ≤ b.bid.rank) row c
-            (λ j b here. was.early j k b x falls (omega (arith, le)) here there)
-            (omega (arith, falls n k q x (omega (arith, le)) at there)) j b here;
-        order = λ falls. falls_push (λ (y : Cell). y.bid.rank) row c (was.order falls)
-            (λ j a here. omega (arith, was.early j n a q falls (omega arith) here at));
-        met = λ k x lt there w. elim (cases_lt k n) [
-          | inl before ↦
-              let m = was.met k x before there w in
-              (m.0, kept_at row c (cell_of reach x d) m.0 m.1)
-          | inr here ↦ (
-            length row,
-            pushed_at row c (length row) refl
-                ∙ ap (λ (y : Quote). Some (cell_of reach y d)) (next_is k x here lt there),
-          )
-        ];
-      }
-
--- what `get_or` gives past the end of a list
-abbrev pub blank : Quote
-blank = record { kind = 0; price = 0; rank = 0; length = 0; steps = 0; trim = 0; rise = 0 }
-
--- each list has its row
-pub drawn_all : (quotes : List Quote) (d : ℕ) (reach : Reach) → (row : List Cell)
-    × IsDrawn quotes d reach (length quotes) row
-drawn_all quotes d reach = up_to (length quotes) (omega arith)
-  where
-    within : (q : Quote) → IsWithin reach q ⊎ (IsWithin reach q → ⊥)
-    within q = elim (cases_lt reach.past q.steps) [
-      | inr short ↦ inr (λ w. omega (arith, short, w.0))
-      | inl long ↦ elim (cases_lt reach.far q.steps) [
-        | inl far ↦ inr (λ w. omega (arith, far, w.1))
-        | inr near ↦ elim (cases_lt reach.room q.trim) [
-          | inl wide ↦ inr (λ w. omega (arith, wide, w.2))
-          | inr fits ↦ inl (long, near, fits)
-        ]
-      ]
-    ]
-
-    up_to : (n : ℕ) → n ≤ length quotes → (row : List Cell) × IsDrawn quotes d reach n row
-    up_to zero le = ([], drawn_none quotes d reach)
-    up_to (suc n) le =
-        let was = up_to n (omega (arith, le)) in
-        let q : Quote = get_or quotes n blank in
-        let at : slice_get quotes n ≡ Some q = slice_get-get_or quotes n blank (omega (arith, le)) in
-        subst (λ (k : ℕ). (row : List Cell) × IsDrawn quotes d reach k row) (let e : n + 1 ≡ suc n = omega arith in e)
-        (elim (within q) [
-          | inl near ↦ (was.0 ++ cell_of reach q d ∷ [], drawn_push quotes d reach n was.0 q at was.1 near)
-          | inr out ↦ (was.0, drawn_skip quotes d reach n was.0 q at was.1 out)
-        ])
-
 -- each bid of a taker has the rank of an offer
 pub rank_offered : (s : SheetParts) (offers : List Offer) (takers : Takers) (d steps trim : ℕ) (bid : BidParts)
     → IsTakersBid s (codes_in offers) takers d steps trim bid → 1023 < bid.rank + length offers
 rank_offered s offers takers d steps trim bid b = search (rules, codes_number, slice_get_within)
 
--- of two cells the one of the lower rank is for logs that are no shorter
-no_shorter : (s : SheetParts) (codes : List ℕ) (takers : Takers) (d : ℕ) (reach : Reach) (a b : Cell) → IsSheet s
-    → IsStrictlyIncreasing codes → IsReal s codes takers d reach a → IsReal s codes takers d reach b
-    → b.bid.rank ≤ a.bid.rank
+-- the code of a bid's rank tells how long its logs are
+bid_coded : (s : SheetParts) (codes : List ℕ) (takers : Takers) (d steps trim : ℕ) (bid : BidParts) → IsSheet s
+    → IsTakersBid s codes takers d steps trim bid
+    → steps * s.instruction.«module» ≡ slice_index codes (1023 - bid.rank) / 16
+bid_coded s codes takers d steps trim bid valid b = omega (
+  arith,
+  mark_code codes (log_of 0 (steps * s.instruction.«module») b.a) bid.rank b.bids.rank,
+  slice_get_within s.instruction.assortments b.a b.assortment b.exists,
+  valid.valid.assortments_number,
+)
+
+-- of two quotes the one of the lower rank is for logs that are no shorter
+quote_order : (s : SheetParts) (codes : List ℕ) (ask : Ask) (d : ℕ) (a b : Quote) → IsSheet s
+    → IsStrictlyIncreasing codes → IsAsked ask d → IsQuote s codes ask a → IsQuote s codes ask b → b.rank ≤ a.rank
     → a.steps ≤ b.steps
-no_shorter s codes takers d reach a b valid rise x y le =
+quote_order s codes ask d a b valid rise asked x y le =
     let m : ℕ = s.instruction.«module» in
-    let code : Cell → ℕ → ℕ = λ (c : Cell) n. code_of (c.steps * m) n in
-    let ra = x.is.bids.rank in
-    let rb = y.is.bids.rank in
-    let up : get_or codes (1023 - a.bid.rank) 0 ≤ get_or codes (1023 - b.bid.rank) 0 =
-    in_order codes rise (1023 - a.bid.rank) (1023 - b.bid.rank) (omega (arith, le))
-    (slice_get_within codes (1023 - b.bid.rank) (code b y.is.a) rb.at) in
-    let low : x.is.a < 16 =
-    omega (
-      arith,
-      slice_get_within s.instruction.assortments x.is.a x.is.assortment x.is.exists,
-      valid.valid.assortments_number,
-    ) in
-    let low' : y.is.a < 16 =
-    omega (
-      arith,
-      slice_get_within s.instruction.assortments y.is.a y.is.assortment y.is.exists,
-      valid.valid.assortments_number,
-    ) in
-    let long : a.steps * m ≤ b.steps * m = omega (
-      arith,
-      up,
-      low,
-      low',
-      get_or_from_slice_get codes (1023 - a.bid.rank) (code a x.is.a) 0 ra.at,
-      get_or_from_slice_get codes (1023 - b.bid.rank) (code b y.is.a) 0 rb.at,
-    ) in
+    let up : get_or codes (1023 - a.rank) 0 ≤ get_or codes (1023 - b.rank) 0 =
+    in_order codes rise (1023 - a.rank) (1023 - b.rank) (omega (arith, le))
+    (mark_place codes (log_of 0 (b.steps * m) (y.bids d asked).a) b.rank (y.bids d asked).bids.rank) in
     elim (cases_lt b.steps a.steps) [
       | inr le ↦ le
       | inl less ↦ absurd (
           let more : (b.steps + 1) * m ≤ a.steps * m = mul-le-mul_right m (omega (arith, less)) in
-          omega (arith, more, long, add-mul b.steps 1 m, valid.valid.module_range))
+          omega (
+            arith,
+            more,
+            up,
+            bid_coded s codes ask.takers d a.steps a.trim (quote_bid a d) valid (x.bids d asked),
+            bid_coded s codes ask.takers d b.steps b.trim (quote_bid b d) valid (y.bids d asked),
+            add-mul b.steps 1 m,
+            valid.valid.module_range,
+          ))
     ]
 
--- a row of a price list has the cells of its takers
-pub row_cells : (s : SheetParts) (codes : List ℕ) (ask : Ask) (n d : ℕ) (reach : Reach) (quotes : List Quote)
-    (row : List Cell)
-    → IsSheet s → IsStrictlyIncreasing codes → IsAsked ask d
-    → ((steps trim : ℕ) (bid : BidParts) → IsTakersBid s codes ask.takers d steps trim bid → 1023 < bid.rank + n)
-    → AreQuotes s codes ask n quotes → IsDrawn quotes d reach (length quotes) row
-    → AreCells s codes ask.takers d reach row
-row_cells s codes ask n d reach quotes row valid rise asked all are drawn = record {
-  order = λ j k a b le here there.
-      no_shorter s codes ask.takers d reach a b valid rise (real j a here) (real k b there)
-      (drawn.order are.order j k a b le here there);
-  real = real;
-  met = λ steps trim bid past far room b.
-      let i = are.met steps trim d bid asked (all steps trim bid b) b in
-      let q = are.real i.place i.quote i.there in
-      elim (cases_lt reach.past i.quote.steps) [
-        | inl within ↦
-            let m = drawn.met i.place i.quote (slice_get_within quotes i.place i.quote i.there) i.there (
-              within,
-              (elim i.meets [ inl same ↦ omega (arith, same.0) | inr less ↦ omega (arith, less.0) ]),
-              omega (arith, i.trims),
-            ) in
-            inl (record {
-              place = m.0;
-              cell = cell_of reach i.quote d;
-              there = m.1;
-              meets = i.meets;
-              leaves = omega (
-                arith,
-                q.rise,
-                after_in_order s.instruction.«module» i.quote.trim trim (omega (arith, valid.valid.module_range))
-                    i.trims,
-              );
-            })
-        | inr short ↦ inr (record {
-          steps = i.quote.steps;
-          less = i.quote.trim;
-          other = quote_bid i.quote d;
-          is = q.bids d asked;
-          short = short;
-          trims = i.trims;
-          more = elim i.meets [ inl same ↦ absurd (omega (arith, same.0)) | inr less ↦ less.1 ];
-        })
-      ];
-}
-  where
-    real : (k : ℕ) (c : Cell) → slice_get row k ≡ Some c → IsReal s codes ask.takers d reach c
-    real k c at =
-        let o = drawn.real k c at in
-        let q = are.real o.place o.quote o.there in
-        subst (λ x. IsReal s codes ask.takers d reach x) (sym o.is) (record {
-          trim = o.quote.trim;
-          is = q.bids d asked;
-          next = q.rise;
-          late = o.within.0;
-          back = (omega (arith, o.within.1), refl);
-          fits = o.within.2;
-        })
+-- the cells of a row stand by the length of their logs, and tell where these lie
+module _ (s : SheetParts) (codes : List ℕ) (n : ℕ) (takers : Takers) (d : ℕ) (reach : Reach) (row : List Cell)
+    (is : IsRow s codes n takers d reach row) where
+  listed : (k : ℕ) (c : Cell) → slice_get row k ≡ Some c → slice_get (row_of is.quotes d reach) k ≡ Some c
+  listed k c at = subst (λ cs. slice_get cs k ≡ Some c) is.is at
+
+  pub row_order : IsSheet s → IsStrictlyIncreasing codes → AreByLength row
+  row_order valid rise j k a b le here there =
+      let o = made_of (cell_for d reach) is.quotes j k a b le (listed j a here) (listed k b there) in
+      let order = is.list.order o.m o.n o.x o.y o.order o.here o.there in
+      let steps = quote_order s codes is.ask d o.x o.y valid rise is.asked (is.list.real o.m o.x o.here)
+      (is.list.real o.n o.y o.there) order in
+      omega (arith, steps, ap (λ (c : Cell). c.steps) (cell_is d reach o.x a o.first).1,
+        ap (λ (c : Cell). c.steps) (cell_is d reach o.y b o.second).1)
+
+  pub row_placed : (k : ℕ) (c : Cell) → slice_get row k ≡ Some c → (reach.past < c.steps) × IsPlaced reach.far c
+  row_placed k c at =
+      cell_placed d reach is.quotes k c (listed k c at)

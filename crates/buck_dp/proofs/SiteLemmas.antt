@@ -1,8 +1,9 @@
 -- Who takes the wood of a stem.
-use Rattle.buck_dp.proofs.Words.{◌≡◌, ℕ, ◌+◌, ◌*◌, ◌/◌, ◌<◌, ◌≤◌, ◌⊎◌, inl, inr, List, Contains, length, slice_index, refl, sym, subst, ◌∙◌, arith, mul-le-mul_left, mul-le-mul_right, add-mul, rules, div-mul-le_self, lt-div-mul-add, cases_lt, StemParts, IsStem, IsGrade, grade_at, HasGrade, HasGradesOf, stem_length, diameter_at, IsMask, IsMaskBetween, ProfileParts, profile_of, grade_at_is, mask_allows, IsSheet, codes_in, GroundParts, points_of, Takers, Kind, IsTaker, AreTakersOf, BidParts, IsLogAt, HasTakers, AreCells, IsPart, all_of, IsSite, IsDiameterAt, ground_of, Site, Cell, Reach}
+use Rattle.buck_dp.proofs.Words.{◌≡◌, ℕ, ◌+◌, ◌*◌, ◌/◌, ◌<◌, ◌≤◌, ◌⊎◌, inl, inr, List, Contains, length, slice_index, refl, sym, subst, ◌∙◌, arith, mul-le-mul_left, mul-le-mul_right, add-mul, rules, div-mul-le_self, lt-div-mul-add, cases_lt, StemParts, IsStem, IsGrade, grade_at, HasGrade, HasGradesOf, stem_length, diameter_at, IsMask, IsMaskBetween, ProfileParts, profile_of, grade_at_is, mask_allows, IsSheet, codes_in, GroundParts, points_of, Takers, Kind, IsTaker, AreTakersOf, BidParts, IsLogAt, HasTakers, IsRow, IsPart, IsPartTo, IsSearch, IsDone, AreSearched, Memo, Search, Ask, Quote, IsAsked, AreQuotes, row_of, min, ◌-◌, all_of, IsSite, IsDiameterAt, ground_of, Site, Part, Cell, Reach}
 use Rattle.buck_stem.specs.points.Profile as grid
 use Rattle.buck_dp.proofs.Logs.{log_coded, point_within}
-use Rattle.buck_dp.proofs.PartLemmas.{cells_part}
+use Rattle.buck_dp.proofs.PartLemmas.{row_part}
+use Rattle.buck_dp.proofs.QuoteLemmas.{rank_offered}
 
 -- a mask of a profile is one of its stem
 pub mask_of : (q : ProfileParts) (stem : StemParts) (step i j mask : ℕ) → q ≡ profile_of stem step
@@ -126,33 +127,70 @@ module _ (x : Site) (is : IsSite x) where
       → (t * x.market.sheet.now.instruction.«module» ≤ stem_length x.stem.now.samples) × (t ≤ 4000)
   point_reached t lt = search (rules, point_within, mul-le-mul_left)
 
-  -- cells of the takers of a part are a part
-  pub part_offered : (ds : List ℕ) (t first stop : ℕ) (takers : Takers) (reach : Reach) (cells : List Cell)
+  -- the row of a price list of the takers of a part has its logs
+  pub part_offered : (ds : List ℕ) (t stop : ℕ) (part : Part) (reach : Reach) (row : List Cell)
       → ((j : ℕ) → j < points_of (ground_of x)
       → slice_index ds j ≡ diameter_at x.stem.now.samples (j * x.market.sheet.now.instruction.«module»))
       → reach.past + stop ≤ t
-      → ((i e : ℕ) (bid : BidParts) → first ≤ i → IsLogAt (ground_of x) i t e bid → t ≤ reach.far + i)
-      → ((i : ℕ) → first ≤ i → i < stop → HasTakers (ground_of x) takers i t)
+      → ((i e : ℕ) (bid : BidParts) → part.first ≤ i → IsLogAt (ground_of x) i t e bid → t ≤ reach.far + i)
+      → IsPartTo x t stop part
       → t * x.market.sheet.now.instruction.«module» + reach.room ≤ stem_length x.stem.now.samples
       → (reach.room ≡ x.market.menu.now.most_trim)
       ⊎ (stem_length x.stem.now.samples ≤ t * x.market.sheet.now.instruction.«module» + reach.room)
-      → AreCells x.market.sheet.now (codes_in x.market.menu.now.offers.items) takers (slice_index ds t) reach cells
-      → IsPart (ground_of x) t first stop cells
-  part_offered ds t first stop takers reach cells known past far here fits room are =
-      cells_part (ground_of x) is.valid ds known t first stop takers reach cells past far here fits
+      → IsRow x.market.sheet.now (codes_in x.market.menu.now.offers.items) (length x.market.menu.now.offers.items)
+      part.group.takers (slice_index ds t) reach row
+      → IsPart (ground_of x) t part.first stop row
+  part_offered ds t stop part reach row known past far here fits room are =
+      row_part (ground_of x) is.valid ds known t part.first stop (length x.market.menu.now.offers.items)
+      part.group.takers reach row past far here.takers fits
       (search rules)
+      (λ takers steps trim bid b.
+      rank_offered x.market.sheet.now x.market.menu.now.offers.items takers (slice_index ds t) steps trim bid b)
       are
 
-  -- so are those of a row that is kept
-  pub row_offered : (t d first : ℕ) (takers : Takers) (cells : List Cell) → IsDiameterAt x t d
-      → t < points_of (ground_of x)
-      → first < t → t < x.fit → ((i : ℕ) → first ≤ i → i < t → HasTakers (ground_of x) takers i t)
-      → AreCells x.market.sheet.now (codes_in x.market.menu.now.offers.items) takers d (all_of x.market.menu.now) cells
-      → IsPart (ground_of x) t first t cells
-  row_offered t d first takers cells at lt order fit here are =
-      part_offered at.table t first t takers (all_of x.market.menu.now) cells at.known (omega arith)
-      (λ i e bid low log. elim (cases_lt (i + x.market.menu.now.most_steps) t) [
+  -- so has one that is kept
+  pub row_offered : (s : Search) (d : ℕ) (part : Part) (row : List Cell) → IsSearch (ground_of x) s → s.stop ≡ s.from
+      → IsDiameterAt x s.from d → s.from < x.fit → IsPartTo x s.from s.from part
+      → IsRow x.market.sheet.now (codes_in x.market.menu.now.offers.items) (length x.market.menu.now.offers.items)
+      part.group.takers d (all_of x.market.menu.now) row
+      → IsPart (ground_of x) s.from part.first s.stop row
+  row_offered s d part row so_far stop at fit here are =
+      subst (λ n. IsPart (ground_of x) s.from part.first n row) (sym stop)
+      (part_offered at.table s.from s.from part (all_of x.market.menu.now) row at.known (omega arith)
+      (λ i e bid low log. elim (cases_lt (i + x.market.menu.now.most_steps) s.from) [
         | inr le ↦ omega (arith, le)
-        | inl lt ↦ absurd (too_long (ground_of x) x.market.menu.now.most_steps i t e bid is.valid is.menu.long lt log)
-      ]) here (is.fit t fit) (inl refl)
-      (search rules)
+        | inl lt ↦
+            absurd (too_long (ground_of x) x.market.menu.now.most_steps i s.from e bid is.valid is.menu.long lt log)
+      ]) here (is.fit s.from fit) (inl refl)
+      (search rules))
+
+  -- so has the row of a price list for the starts of a part
+  pub list_offered : (s : Search) (ds : List ℕ) (part : Part) (ask : Ask) (quotes : List Quote) (left room : ℕ)
+      → IsSearch (ground_of x) s
+      → ((j : ℕ) → j < points_of (ground_of x)
+      → slice_index ds j ≡ diameter_at x.stem.now.samples (j * x.market.sheet.now.instruction.«module»))
+      → IsPartTo x s.from s.stop part → ask.takers ≡ part.group.takers → IsAsked ask (slice_index ds s.from)
+      → AreQuotes x.market.sheet.now (codes_in x.market.menu.now.offers.items) ask (length x.market.menu.now.offers.items)
+      quotes
+      → left + s.from * x.market.sheet.now.instruction.«module» ≡ stem_length x.stem.now.samples
+      → room ≡ min left x.market.menu.now.most_trim
+      → IsPart (ground_of x) s.from part.first s.stop (row_of quotes (slice_index ds s.from)
+      (record { past = s.from - s.stop; far = s.from - part.first; room = room }))
+  list_offered s ds part ask quotes left room so_far known here own asked are long room_is =
+      let reach : Reach = record { past = s.from - s.stop; far = s.from - part.first; room = room } in
+      part_offered ds s.from s.stop part reach (row_of quotes (slice_index ds s.from) reach) known
+      (omega (arith, so_far.below)) (λ i e bid low log. omega (arith, so_far.below, low)) here
+      (omega (arith, long, room_is))
+      (elim (cases_lt left x.market.menu.now.most_trim) [
+        | inl less ↦ inr (omega (arith, long, room_is))
+        | inr more ↦ inl (omega (arith, room_is))
+      ]) (record { ask = ask; quotes = quotes; own = own; asked = asked; list = are; is = refl })
+
+  -- once all tops are taken, the values and the choices of all points are found
+  pub all_searched : (m : Memo) → IsDone x 0 0 m
+      → AreSearched (ground_of x) m.search.values.items m.search.choices.items 0 0
+  all_searched m done =
+      let from : m.search.from ≡ 0 = omega (arith, done.high) in
+      subst (λ n. AreSearched (ground_of x) m.search.values.items m.search.choices.items 0 n) done.stop
+      (subst (λ n. AreSearched (ground_of x) m.search.values.items m.search.choices.items n m.search.stop) from
+      done.plan.search.searched)

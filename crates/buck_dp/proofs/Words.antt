@@ -13,7 +13,7 @@ pub use Rattle.std.proofs.lemmas.Bool.{cases_order, ne_eqb, ltb-true}
 pub use Rattle.std.proofs.lemmas.List.{length-drop, length-take-le, get_or-drop, get_or-take, get_or-append_right, drop_at, drop-append-le, take-append-le, take_all, set-append_right, length-set, append-nil, get_or_past}
 pub use Rattle.buck_bid.proofs.ListLemmas.{push_cases, kept_at, push_each, on_module, in_order, pushed_at, read_at}
 pub use Rattle.buck_dp.specs.declared.offering.Cell.{Cell}
-pub use Rattle.buck_dp.specs.inner.Cells.{IsPlaced, IsBidOf, IsTakersBid, AreCells, IsReal}
+pub use Rattle.buck_dp.specs.inner.Cells.{IsPlaced, IsBidOf, IsTakersBid, AreByLength}
 pub use Rattle.buck_dp.specs.inner.Logs.{bid_at, IsLogAt, IsLow}
 pub use Rattle.buck_dp.specs.inner.Rows.{IsNear, AreOffered, AreFit, IsPart, IsServed, IsBeaten}
 pub use Rattle.buck_dp.specs.declared.index.Key.{Key}
@@ -22,8 +22,8 @@ pub use Rattle.buck_dp.specs.declared.index.Head.{Head}
 pub use Rattle.buck_dp.specs.declared.menu.Menu.{Menu}
 pub use Rattle.buck_dp.specs.declared.pricing.Term.{Term}
 pub use Rattle.buck_dp.specs.declared.keeping.Kept.{Kept}
-pub use Rattle.buck_dp.specs.inner.Index.{IsKeptAt, part_of}
-pub use Rattle.buck_dp.specs.inner.Kept.{IsAt, TermsOf, ListOf, RowOf, AreKept, all_of, ask_of}
+pub use Rattle.buck_dp.specs.inner.Index.{IsKeptAt, part_of, IsBehind}
+pub use Rattle.buck_dp.specs.inner.Kept.{IsAt, TermsOf, ListOf, RowOf, AreKept, IsKeptFor, all_of, ask_of}
 pub use Rattle.std.proofs.lemmas.List.Sums.{sum_by-cons, sum_by_more}
 pub use Rattle.buck_value.proofs.Classes.{allowed_low}
 pub use Rattle.buck_dp.specs.Order.{IsLogBefore, IsBefore}
@@ -31,10 +31,10 @@ pub use Rattle.buck_dp.specs.Best.{IsAdmissible, IsFirstBest, cutting_worth}
 pub use Rattle.buck_dp.specs.inner.Points.{GroundParts, points_of, ends_of, point_after, ground_with}
 pub use Rattle.buck_bid.specs.Offers.{HasMark, AreOffers}
 pub use Rattle.std.proofs.lemmas.List.Kept.{AllPairs-from_increasing}
-pub use Rattle.buck_dp.specs.inner.Searched.{IsSettled, Reaches, AreSearched}
+pub use Rattle.buck_dp.specs.inner.Searched.{IsSettled, Reaches, AreSearched, IsSearch}
 pub use Rattle.buck_dp.specs.inner.Table.{IsTop, IsNoWorse, IsAtOrBefore}
 pub use Rattle.buck_dp.specs.inner.Values.{IsBestFrom}
-pub use Rattle.buck_dp.specs.inner.Parts.{HasTakers}
+pub use Rattle.buck_dp.specs.inner.Parts.{HasTakers, HasNoneOf}
 pub use Rattle.buck_dp.specs.declared.takers.Takers.{Takers}
 pub use Rattle.buck_dp.specs.declared.offering.Reach.{Reach}
 pub use Rattle.std.proofs.lemmas.Nat.{le-div}
@@ -49,13 +49,14 @@ pub use Rattle.buck_dp.specs.declared.pricing.Ask.{Ask}
 pub use Rattle.buck_dp.specs.inner.Takers.{IsTaker, AreTakersOf, AreKnown, IsTakerOf}
 pub use Rattle.buck_dp.specs.inner.Quotes.{quote_bid, priced_at, IsAsked, IsQuoteOf, IsTermOf, HasNoBid, IsQuote, IsOver, IsPut, IsQuoted, IsNoTerm, AreTerms, Falls, AreQuotes, IsLeading}
 pub use Rattle.std.proofs.Math.Seq.{take-suc, take-suc-set, take-append_seam}
-pub use Rattle.buck_dp.specs.inner.Drawn.{IsWithin, cell_of, IsCellOf, IsDrawn, IsPartOf}
+pub use Rattle.buck_dp.specs.inner.Drawn.{IsWithin, cell_of, cell_for, row_of, IsRow}
 pub use Rattle.buck_stem.specs.points.Profile.{IsMask, IsMaskBetween, ProfileParts, profile_of}
 pub use Rattle.buck_stem.proofs.Tables.{grade_at_is}
 pub use Rattle.buck_value.proofs.Grades.{mask_allows}
 pub use Rattle.buck_dp.specs.declared.takers.Kind.{Kind}
-pub use Rattle.buck_dp.specs.inner.Site.{IsSite, IsDiameterAt, ground_of, IsMemoFor}
+pub use Rattle.buck_dp.specs.inner.Site.{IsSite, IsDiameterAt, IsPartTo, IsNearest, IsReady, IsPlan, IsDone, ground_of}
 pub use Rattle.buck_dp.specs.declared.planning.Site.{Site}
+pub use Rattle.buck_dp.specs.declared.planning.Part.{Part}
 pub use Rattle.buck_value.specs.Untrimmed.{HasNoTrim, IsAllowedUntrimmed}
 pub use Rattle.buck_value.proofs.Untrimmed.{no_trim, without_trim, with_trim}
 pub use Rattle.buck_bid.proofs.LimitLemmas.{band_is}
@@ -65,3 +66,12 @@ pub use Rattle.std.specs.Int.{bit_at}
 pub use Rattle.buck_dp.specs.declared.pricing.Leader.{Leader}
 pub use Rattle.std.proofs.lemmas.Nat.Bits.{bit_at_set_same, bit_at_set_other}
 pub use Rattle.std.proofs.Math.Nat.{mul-mod_left, div-mul-le_self, mul-add-div_right, lt-div-mul-add, mul-div_left, mul_assoc, mul-add, mul-zero, zero-mul, mul-le-mul}
+pub use Rattle.std.specs.List.{filter_map, cons_option}
+pub use Rattle.std.proofs.lemmas.List.Elements.{filter_map-append}
+pub use Rattle.std.proofs.lemmas.List.{take_more}
+pub use Rattle.std.proofs.lemmas.Bool.Decides.{nat_tests}
+pub use Rattle.std.proofs.lemmas.List.{with_items_is}
+pub use Rattle.buck_dp.specs.declared.search.Search.{Search}
+pub use Rattle.std.proofs.lemmas.Result.{IfOk-weaker}
+pub use Rattle.std.specs.Prelude.{min}
+pub use Rattle.buck_dp.specs.declared.planning.Memo.{Memo}

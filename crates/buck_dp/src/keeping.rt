@@ -1,21 +1,15 @@
 //! What is kept from stem to stem: of an instruction how its logs are priced, and of a sheet price lists, and rows drawn
 //! from them.
-ghost use Rattle.std.specs.Prelude.{◌≡◌, ℕ, ◌+◌, ◌<◌, ◌≤◌, ◌⊎◌, ◌++◌, [], List, Option, IfOk, OnOk, length, slice_index};
-ghost use Rattle.buck_value.specs.Sheet.{SheetParts, IsSheet};
+ghost use Rattle.std.specs.Prelude.{◌≡◌, ◌+◌, ◌<◌, ◌≤◌, ◌⊎◌, [], IfOk, length, slice_index};
+ghost use Rattle.buck_value.specs.Sheet.{SheetParts};
 ghost use Rattle.buck_apt.specs.Instruction.{InstructionParts};
 ghost use Rattle.buck_bid.specs.Limits.{AreLimits, IsBandOf};
-ghost use Rattle.buck_bid.specs.Offers.{codes_in};
-ghost use Rattle.buck_dp.specs.inner.Menu.{IsMenu};
-ghost use Rattle.buck_dp.specs.inner.Cells.{AreCells};
-ghost use Rattle.buck_dp.specs.inner.Index.{IsPlaceIn, part_of};
-ghost use Rattle.buck_dp.specs.inner.Kept.{ask_of, AreKept, IsAt, TermsOf, ListOf, RowOf};
-ghost use Rattle.buck_dp.specs.inner.Quotes.{AreTerms, AreQuotes, IsAsked};
+ghost use Rattle.buck_dp.specs.declared.index.Key.{Key};
 ghost use Rattle.buck_dp.specs.declared.menu.Menu.{Menu};
-ghost use Rattle.buck_dp.specs.declared.pricing.Ask.{Ask};
-ghost use Rattle.buck_dp.specs.declared.pricing.Quote.{Quote};
-ghost use Rattle.buck_dp.specs.declared.pricing.Term.{Term};
-ghost use Rattle.buck_dp.specs.declared.offering.Cell.{Cell};
-ghost use Rattle.buck_bid.specs.declared.limits.TheConstants.{ABOVE_ALL};
+ghost use Rattle.buck_dp.specs.inner.Index.{IsPlaceIn, part_of};
+ghost use Rattle.buck_dp.specs.inner.Kept.{ask_of, AreKept, IsKeptFor, IsAt, TermsOf, ListOf, RowOf};
+ghost use Rattle.buck_dp.specs.inner.Menu.{IsBandIn};
+ghost use Rattle.buck_dp.specs.inner.Quotes.{IsAsked};
 
 use crate::index::{Head, Index, Key, Place};
 use crate::kinds::Group;
@@ -73,8 +67,7 @@ fn make_room<T: Copy>(items: &mut Vec<T>, heads: &mut Index, most: usize)
 
 /// What is asked for of some takers in a band.
 fn ask_for(menu: &Menu, key: Key) -> Ask
-    requires band { key.at + 1 < length menu.now.limits.items }
-    requires high { slice_index menu.now.limits.items (key.at + 1) ≤ ABOVE_ALL }
+    requires band { IsBandIn menu.now key.at }
     ensures ask { result ≡ ask_of menu.now key }
     ensures band { (i : InstructionParts) → AreLimits i menu.now.limits.items
         → IsBandOf i result.band.thinnest result.band.past }
@@ -83,84 +76,6 @@ fn ask_for(menu: &Menu, key: Key) -> Ask
         takers: key.takers,
         band: menu.band_at(key.at),
     }
-}
-
-/// Makes the terms of some takers in a band.
-fn make_terms(terms: &mut Vec<Option<Term>>, market: Market<'_>, key: Key) -> Result<Place, Memory>
-    requires menu { IsMenu market.sheet.now.instruction market.menu.now }
-    requires band { key.at + 1 < length market.menu.now.limits.items }
-    requires high { slice_index market.menu.now.limits.items (key.at + 1) ≤ ABOVE_ALL }
-    ensures kept { (more : List (Option Term)) × (terms.new.items ≡ terms.old.items ++ more) }
-    ensures terms { IfOk result (IsAt (TermsOf market.entry.sheet.now.instruction market.entry.menu.now) terms.new.items
-        key) }
-{
-    let from = terms.as_slice().len();
-    let ask = ask_for(market.menu, key);
-    put_terms(
-        terms,
-        market.sheet.instruction(),
-        market.menu.offers.as_slice(),
-        ask,
-    )?;
-    Ok(Place {
-        from,
-        past: terms.as_slice().len(),
-    })
-}
-
-/// Makes the price list of some takers in a band from its terms.
-fn make_list(
-    quotes: &mut Vec<Quote>,
-    terms: &[Option<Term>],
-    market: Market<'_>,
-    key: Key,
-) -> Result<Place, Memory>
-    requires valid { IsSheet market.sheet.now }
-    requires menu { IsMenu market.sheet.now.instruction market.menu.now }
-    requires band { key.at + 1 < length market.menu.now.limits.items }
-    requires high { slice_index market.menu.now.limits.items (key.at + 1) ≤ ABOVE_ALL }
-    requires terms { AreTerms market.sheet.now.instruction (codes_in market.menu.now.offers.items)
-        (ask_of market.menu.now key) (length market.menu.now.offers.items) terms.now }
-    ensures kept { (more : List Quote) × (quotes.new.items ≡ quotes.old.items ++ more) }
-    ensures list { IfOk result (IsAt (ListOf market.entry.sheet.now market.entry.menu.now) quotes.new.items key) }
-{
-    let from = quotes.as_slice().len();
-    let ask = ask_for(market.menu, key);
-    put_list(quotes, market.sheet, terms, ask)?;
-    Ok(Place {
-        from,
-        past: quotes.as_slice().len(),
-    })
-}
-
-/// Draws the row of a group at a diameter from its price list.
-fn make_row(
-    cells: &mut Vec<Cell>,
-    list: &[Quote],
-    market: Market<'_>,
-    group: Group,
-    diameter: u32,
-) -> Result<Place, Memory>
-    requires valid { IsSheet market.sheet.now }
-    requires menu { IsMenu market.sheet.now.instruction market.menu.now }
-    requires diameter { diameter ≤ 1500 }
-    requires list { (ask : Ask) × (ask.takers ≡ group.takers) × IsAsked ask diameter
-        × AreQuotes market.sheet.now (codes_in market.menu.now.offers.items) ask (length market.menu.now.offers.items) list.now }
-    ensures kept { (more : List Cell) × (cells.new.items ≡ cells.old.items ++ more) }
-    ensures row { IfOk result (IsAt (RowOf market.entry.sheet.now market.entry.menu.now) cells.new.items
-        (record { takers = group.takers; at = diameter })) }
-{
-    let from = cells.as_slice().len();
-    let all = Reach {
-        past: 0,
-        far: market.menu.most_steps,
-        room: market.menu.most_trim,
-    };
-    put_row(cells, list, diameter, all)?;
-    Ok(Place {
-        from,
-        past: cells.as_slice().len(),
-    })
 }
 
 impl Kept {
@@ -198,40 +113,33 @@ impl Kept {
         self.rows.clear();
     }
 
-    /// Where the terms of a group in a band stand. They are made where they aren't there.
-    fn terms(&mut self, market: Market<'_>, group: Group, band: usize) -> Result<Place, Memory>
-        requires menu { IsMenu market.sheet.now.instruction market.menu.now }
-        requires band { band + 1 < length market.menu.now.limits.items }
-        requires high { slice_index market.menu.now.limits.items (band + 1) ≤ ABOVE_ALL }
-        requires kept { AreKept market.sheet.now market.menu.now self.old }
-        ensures kept { AreKept market.entry.sheet.now market.entry.menu.now self.new }
-        ensures terms { IfOk result (IsAt (TermsOf market.entry.sheet.now.instruction market.entry.menu.now) self.new.terms.items
-            (record { takers = group.takers; at = band })) }
+    /// Where the terms of some takers in a band stand, noted at a slot. They are made where they aren't there.
+    fn terms(&mut self, market: Market<'_>, key: Key, ask: Ask, slot: usize) -> Result<Place, Memory>
+        requires kept { IsKeptFor market self.old }
+        requires ask { ask ≡ ask_of market.menu.now key }
+        requires band { IsBandOf market.sheet.now.instruction ask.band.thinnest ask.band.past }
+        requires slot { slot ≤ 1000000000 }
+        ensures { IfOk result (λ p. IsKeptFor market.entry self.new
+            × IsAt (TermsOf market.entry.sheet.now.instruction market.entry.menu.now) self.new.terms.items key p) }
     {
-        let key = Key {
-            takers: group.takers,
-            at: band,
-        };
-        let slot = usize::from(group.number) * BANDS + band % BANDS;
         if let Some(place) = self.asked.find(key, slot) {
             return Ok(place);
         }
         make_room(&mut self.terms, &mut self.asked, TERMS);
-        let place = make_terms(&mut self.terms, market, key)?;
+        let offers = market.menu.offers.as_slice();
+        let place = put_terms(&mut self.terms, market.sheet.instruction(), offers, ask)?;
         self.asked.keep(Head { key, place }, slot)
     }
 
-    /// Where the price list of a group in a band stands. It is made where it isn't there.
-    pub fn list(&mut self, market: Market<'_>, group: Group, band: usize) -> Result<Place, Memory>
-        requires valid { IsSheet market.sheet.now }
-        requires menu { IsMenu market.sheet.now.instruction market.menu.now }
-        requires band { band + 1 < length market.menu.now.limits.items }
-        requires high { slice_index market.menu.now.limits.items (band + 1) ≤ ABOVE_ALL }
-        requires kept { AreKept market.sheet.now market.menu.now self.old }
-        ensures kept { AreKept market.entry.sheet.now market.entry.menu.now self.new }
-        ensures list { IfOk result (IsAt (ListOf market.entry.sheet.now market.entry.menu.now) self.new.quotes.items
-            (record { takers = group.takers; at = band })) }
+    /// Where the price list of a group in the band of a diameter stands. It is made where it isn't there.
+    pub fn list(&mut self, market: Market<'_>, group: Group, diameter: u32) -> Result<Place, Memory>
+        requires kept { IsKeptFor market self.old }
+        requires diameter { diameter ≤ 1500 }
+        ensures { IfOk result (λ p. IsKeptFor market.entry self.new × (key : Key) × (key.takers ≡ group.takers)
+            × IsAsked (ask_of market.entry.menu.now key) diameter
+            × IsAt (ListOf market.entry.sheet.now market.entry.menu.now) self.new.quotes.items key p) }
     {
+        let band = market.menu.band_of(diameter);
         let key = Key {
             takers: group.takers,
             at: band,
@@ -240,13 +148,14 @@ impl Kept {
         if let Some(place) = self.lists.find(key, slot) {
             return Ok(place);
         }
-        let terms = self.terms(market, group, band)?;
+        let ask = ask_for(market.menu, key);
+        let terms = self.terms(market, key, ask, slot)?;
         make_room(&mut self.quotes, &mut self.lists, QUOTES);
-        let place = make_list(
+        let place = put_list(
             &mut self.quotes,
+            market.sheet,
             &self.terms[terms.from..terms.past],
-            market,
-            key,
+            ask,
         )?;
         self.lists.keep(Head { key, place }, slot)
     }
@@ -260,42 +169,36 @@ impl Kept {
         diameter: u32,
         slot: usize,
     ) -> Result<Place, Memory>
-        requires valid { IsSheet market.sheet.now }
-        requires menu { IsMenu market.sheet.now.instruction market.menu.now }
+        requires kept { IsKeptFor market self.old }
         requires diameter { diameter ≤ 1500 }
         requires slot { slot ≤ 1000000000 }
-        requires kept { AreKept market.sheet.now market.menu.now self.old }
-        ensures kept { AreKept market.entry.sheet.now market.entry.menu.now self.new }
-        ensures row { IfOk result (IsAt (RowOf market.entry.sheet.now market.entry.menu.now) self.new.cells.items
-            (record { takers = group.takers; at = diameter })) }
+        ensures { IfOk result (λ p. IsKeptFor market.entry self.new
+            × IsAt (RowOf market.entry.sheet.now market.entry.menu.now) self.new.cells.items
+            (record { takers = group.takers; at = diameter }) p) }
     {
         let key = Key {
             takers: group.takers,
             at: diameter as usize,
         };
-        let band = market.menu.band_of(diameter);
-        let list = self.list(market, group, band)?;
+        let list = self.list(market, group, diameter)?;
         make_room(&mut self.cells, &mut self.rows, CELLS);
-        let place = make_row(
-            &mut self.cells,
-            &self.quotes[list.from..list.past],
-            market,
-            group,
-            diameter,
-        )?;
+        let all = Reach {
+            past: 0,
+            far: market.menu.most_steps,
+            room: market.menu.most_trim,
+        };
+        let place = put_row(&mut self.cells, &self.quotes[list.from..list.past], diameter, all)?;
         self.rows.keep(Head { key, place }, slot)
     }
 
     /// Where the row of a group at a diameter stands. It is drawn where it isn't there.
     #[inline(always)]
     pub fn row(&mut self, market: Market<'_>, group: Group, diameter: u32) -> Result<Place, Memory>
-        requires valid { IsSheet market.sheet.now }
-        requires menu { IsMenu market.sheet.now.instruction market.menu.now }
+        requires kept { IsKeptFor market self.old }
         requires diameter { diameter ≤ 1500 }
-        requires kept { AreKept market.sheet.now market.menu.now self.old }
-        ensures kept { AreKept market.entry.sheet.now market.entry.menu.now self.new }
-        ensures row { IfOk result (IsAt (RowOf market.entry.sheet.now market.entry.menu.now) self.new.cells.items
-            (record { takers = group.takers; at = diameter })) }
+        ensures { IfOk result (λ p. IsKeptFor market.entry self.new
+            × IsAt (RowOf market.entry.sheet.now market.entry.menu.now) self.new.cells.items
+            (record { takers = group.takers; at = diameter }) p) }
     {
         let key = Key {
             takers: group.takers,

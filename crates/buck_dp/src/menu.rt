@@ -4,8 +4,7 @@ ghost use Rattle.buck_apt.specs.Instruction.{AssortmentParts, InstructionParts};
 ghost use Rattle.buck_bid.specs.declared.offers.Offer.{Offer};
 ghost use Rattle.buck_bid.specs.Limits.{IsBandOf};
 ghost use Rattle.buck_bid.specs.Offers.{AreOffers};
-ghost use Rattle.buck_dp.specs.inner.Menu.{IsMenu};
-ghost use Rattle.buck_bid.specs.declared.limits.TheConstants.{ABOVE_ALL};
+ghost use Rattle.buck_dp.specs.inner.Menu.{IsMenu, IsBandIn};
 
 use buck_apt::Instruction;
 use buck_bid::{Band, Offer, band_of, limits_of, offers_of};
@@ -83,10 +82,9 @@ impl Menu {
     pub fn band_of(&self, diameter: u32) -> usize
         requires menu { (i : InstructionParts) × IsMenu i self.now }
         requires diameter { diameter ≤ 1500 }
-        ensures within { result + 1 < length self.now.limits.items }
+        ensures band { IsBandIn self.now result }
         ensures from { slice_index self.now.limits.items result ≤ diameter }
         ensures past { diameter < slice_index self.now.limits.items (result + 1) }
-        ensures high { slice_index self.now.limits.items (result + 1) ≤ ABOVE_ALL }
     {
         band_of(self.limits.as_slice(), diameter)
     }

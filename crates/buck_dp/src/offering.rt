@@ -1,11 +1,11 @@
 //! What is done at one top: its value is settled, and its logs are offered to the points where they start.
-ghost use Rattle.std.specs.Prelude.{◌≡◌, ◌≢◌, ℕ, ◌+◌, ◌<◌, ◌≤◌, ◌⊎◌, List, length, get_or, slice_get, Some};
+ghost use Rattle.std.specs.Prelude.{◌≡◌, ◌≢◌, ℕ, ◌+◌, ◌<◌, ◌≤◌, length, get_or, slice_get, Some};
 ghost use Rattle.buck_dp.specs.declared.offering.Cell.{Cell};
 ghost use Rattle.buck_dp.specs.inner.Bid.{bid_of, plus, IsGreater};
 ghost use Rattle.buck_dp.specs.inner.Cells.{AreByLength, IsPlaced};
 ghost use Rattle.buck_dp.specs.inner.Logs.{bid_at};
 ghost use Rattle.buck_dp.specs.declared.pricing.Quote.{Quote};
-ghost use Rattle.buck_dp.specs.inner.Drawn.{IsDrawn};
+ghost use Rattle.buck_dp.specs.inner.Drawn.{row_of};
 ghost use Rattle.buck_dp.specs.inner.Quotes.{IsSmall};
 ghost use Rattle.buck_dp.specs.inner.Rows.{IsNear, AreOffered, AreFit};
 
@@ -89,7 +89,7 @@ fn offer_back(values: &mut [Bid], far: usize, row: &[Cell])
 
 /// Offers the cells of a row at a top to the points where their logs start, which are all among these. The row reaches
 /// `far` points back.
-pub(crate) fn offer_whole(values: &mut [Bid], top: usize, starts: Starts, row: &[Cell], far: usize)
+fn offer_whole(values: &mut [Bid], top: usize, starts: Starts, row: &[Cell], far: usize)
     requires order { (starts.first ≤ starts.stop) × (starts.stop ≤ top) }
     requires far { starts.first + far ≤ top }
     requires inside { top ≤ length values.old }
@@ -104,7 +104,7 @@ pub(crate) fn offer_whole(values: &mut [Bid], top: usize, starts: Starts, row: &
 
 /// Offers the cells of a row at a top to those of these starts where their logs start, which are all before `stop`.
 /// Once a log is too long, those after it are too.
-pub(crate) fn offer_row(values: &mut [Bid], top: usize, starts: Starts, row: &[Cell])
+fn offer_row(values: &mut [Bid], top: usize, starts: Starts, row: &[Cell])
     requires order { (starts.first ≤ starts.stop) × (starts.stop ≤ top) }
     requires fit { AreFit row.now top starts.first starts.stop values.old }
     requires late { (k : ℕ) (c : Cell) → slice_get row.now k ≡ Some c → top < c.steps + starts.stop }
@@ -129,19 +129,57 @@ pub(crate) fn offer_row(values: &mut [Bid], top: usize, starts: Starts, row: &[C
     }
 }
 
+/// Offers the cells of a row at a top to those of these starts where their logs start, which are all before `stop`. The
+/// row reaches `far` points back.
+pub(crate) fn offer_starts(values: &mut [Bid], top: usize, starts: Starts, row: &[Cell], far: usize)
+    requires order { (starts.first ≤ starts.stop) × (starts.stop ≤ top) }
+    requires inside { top ≤ length values.old }
+    requires fit { AreFit row.now top starts.first starts.stop values.old }
+    requires late { (k : ℕ) (c : Cell) → slice_get row.now k ≡ Some c → top < c.steps + starts.stop }
+    requires back { (k : ℕ) (c : Cell) → slice_get row.now k ≡ Some c → IsPlaced far c }
+    requires rows { AreByLength row.now }
+    ensures { AreOffered row.now top starts.first starts.stop (length row.now) values.old values.new }
+{
+    if top - starts.first >= far {
+        offer_whole(values, top, starts, row, far);
+        return;
+    }
+    offer_row(values, top, starts, row);
+}
+
 /// Offers the logs of a price list with the top `reach.far` to the points where they start.
-pub(crate) fn offer_list(values: &mut [Bid], list: &[Quote], diameter: u32, reach: Reach)
+fn offer_quotes(values: &mut [Bid], list: &[Quote], diameter: u32, reach: Reach)
     requires small { (k : ℕ) (q : Quote) → slice_get list.now k ≡ Some q → IsSmall q }
     requires diameter { diameter ≤ 1500 }
     requires far { reach.far ≤ 4294967295 }
-    requires fit { (row : List Cell) × IsDrawn list.now diameter reach (length list.now) row
-        × AreFit row reach.far 0 reach.far values.old }
-    ensures { (row : List Cell) × IsDrawn list.now diameter reach (length list.now) row
-        × AreOffered row reach.far 0 reach.far (length row) values.old values.new }
+    requires fit { AreFit (row_of list.now diameter reach) reach.far 0 reach.far values.old }
+    ensures { AreOffered (row_of list.now diameter reach) reach.far 0 reach.far
+        (length (row_of list.now diameter reach)) values.old values.new }
 {
     for quote in list {
         if let Some(cell) = cell_at(*quote, diameter, reach) {
             offer_near(values, reach.far, cell);
         }
     }
+}
+
+/// Offers the logs of a price list with one top, `reach.far` points behind the first start, to these starts.
+pub(crate) fn offer_list(
+    values: &mut [Bid],
+    starts: Starts,
+    list: &[Quote],
+    diameter: u32,
+    reach: Reach,
+)
+    requires order { (starts.first ≤ starts.stop) × (reach.past + starts.stop ≡ starts.first + reach.far) }
+    requires inside { starts.first + reach.far ≤ length values.old }
+    requires small { (k : ℕ) (q : Quote) → slice_get list.now k ≡ Some q → IsSmall q }
+    requires diameter { diameter ≤ 1500 }
+    requires far { reach.far ≤ 4294967295 }
+    requires fit { AreFit (row_of list.now diameter reach) (starts.first + reach.far) starts.first starts.stop values.old }
+    ensures { AreOffered (row_of list.now diameter reach) (starts.first + reach.far) starts.first starts.stop
+        (length (row_of list.now diameter reach)) values.old values.new }
+{
+    let (_, reached) = values.split_at_mut(starts.first);
+    offer_quotes(reached, list, diameter, reach);
 }

@@ -6,7 +6,8 @@ ghost use Rattle.buck_value.specs.declared.log.Log.{Log};
 ghost use Rattle.buck_dp.specs.Best.{IsFirstBest, cutting_worth};
 ghost use Rattle.buck_value.specs.Sheet.{SheetParts};
 ghost use Rattle.buck_dp.specs.declared.menu.Menu.{Menu};
-ghost use Rattle.buck_dp.specs.inner.Site.{IsReady, IsMemo};
+ghost use Rattle.buck_dp.specs.inner.Menu.{IsMenu};
+ghost use Rattle.buck_dp.specs.inner.Site.{IsReady};
 
 use crate::cutting::Cutting;
 use crate::following::follow;
@@ -14,6 +15,7 @@ use crate::keeping::{Kept, Market};
 use crate::kinds::Kinds;
 use crate::menu::Menu;
 use crate::planning::{Memo, Site, fit_of, search_stem};
+use crate::search::Search;
 use buck_record::Memory;
 use buck_stem::{Profile, ProfileLists, Stem};
 use buck_value::Sheet;
@@ -72,32 +74,38 @@ fn own_of(alloc: Global, sheet: &Sheet) -> Result<Own, Memory>
         kept: Kept::new(alloc),
         is_first: true,
         profile: ProfileLists::new(alloc),
-        values: Vec::new(alloc),
-        choices: Vec::new(alloc),
+        search: Search::new(alloc),
     };
     Ok(Own { menu, memo })
 }
 
-/// Drops what too many kinds of wood have left.
+/// Drops what was found of wood and of prices.
+fn drop_found(memo: &mut Memo)
+    ensures { (s : SheetParts) (m : Menu) → IsMenu s.instruction m → IsReady s m memo.new }
+{
+    memo.kinds.clear();
+    memo.kept.clear();
+}
+
+/// Drops it where too many kinds of wood were met.
 fn make_room(memo: &mut Memo)
-    ensures { (s : SheetParts) (m : Menu) → IsMemo s m memo.old → IsMemo s m memo.new }
+    ensures { (s : SheetParts) (m : Menu) → IsReady s m memo.old → IsReady s m memo.new }
 {
     if memo.kinds.are_many() {
-        memo.kinds.clear();
-        memo.kept.clear();
+        drop_found(memo);
     }
 }
 
 /// The first of the best cuttings of a stem that some assortment's species is, and its worth.
-fn cut_wanted<'a>(
+fn cut_wanted(
     alloc: Global,
-    sheet: &'a Sheet,
-    stem: &'a Stem,
-    menu: &'a Menu,
+    sheet: &Sheet,
+    stem: &Stem,
+    menu: &Menu,
     memo: &mut Memo,
 ) -> Result<(Cutting, u64), Memory>
     requires ready { IsReady sheet.now menu.now memo.old }
-    ensures ready { IsReady sheet.now menu.now memo.new }
+    ensures ready { OnOk result (IsReady sheet.now menu.now memo.new) }
     ensures first { IfOk result (λ found. IsFirstBest sheet.now stem.now found.0.logs.items) }
     ensures worth { IfOk result (λ found. found.1 ≡ cutting_worth sheet.now stem.now found.0.logs.items) }
     ensures high { IfOk result (λ found. found.1 ≤ 2800000000000000) }
@@ -112,11 +120,10 @@ fn cut_wanted<'a>(
         is_first: memo.is_first,
     };
     make_room(memo);
-    let search = search_stem(alloc, site, memo)?;
-    let logs = follow(alloc, sheet, stem, menu.offers.as_slice(), search.choices())?;
-    let worth = search.worth();
+    search_stem(site, memo)?;
+    let logs = follow(alloc, sheet, stem, menu.offers.as_slice(), &memo.search.choices)?;
+    let worth = memo.search.worth();
     memo.is_first = false;
-    (memo.values, memo.choices) = search.into_lists();
     memo.profile = profile.into_lists();
     Ok((Cutting { logs }, worth))
 }
@@ -142,7 +149,11 @@ fn best_under(
         };
         return Ok((none, 0));
     }
-    cut_wanted(alloc, sheet, stem, &own.menu, &mut own.memo)
+    let planned = cut_wanted(alloc, sheet, stem, &own.menu, &mut own.memo);
+    if planned.is_err() {
+        drop_found(&mut own.memo);
+    }
+    planned
 }
 
 /// Makes what is kept for a sheet right for another one. What depends on the instruction alone stays where both have the

@@ -1,16 +1,16 @@
 //! The search of a stem: from the top end down one top at a time, and for each the logs with it, by the parts of their
 //! starts.
-ghost use Rattle.std.specs.Prelude.{◌≡◌, ℕ, ◌+◌, ◌*◌, ◌<◌, ◌≤◌, IfOk, OnOk, IsTrue};
+ghost use Rattle.std.specs.Prelude.{◌≡◌, ℕ, ◌+◌, ◌-◌, ◌*◌, ◌<◌, ◌≤◌, IfOk, OnOk, length};
 ghost use Rattle.buck_stem.specs.Stem.{stem_length};
-ghost use Rattle.buck_dp.specs.inner.Points.{points_of, ground_with};
-ghost use Rattle.buck_dp.specs.inner.Parts.{HasTakers, HasNoneOf, HasNoneBefore};
+ghost use Rattle.buck_dp.specs.inner.Points.{points_of};
+ghost use Rattle.buck_dp.specs.inner.Parts.{HasNoneOf};
 ghost use Rattle.buck_bid.specs.Offers.{codes_in};
-ghost use Rattle.buck_dp.specs.inner.Cells.{AreCells};
+ghost use Rattle.buck_dp.specs.inner.Drawn.{IsRow};
 ghost use Rattle.buck_dp.specs.inner.Kept.{all_of};
-ghost use Rattle.buck_dp.specs.inner.Site.{IsSite, IsMemoFor, IsDiameterAt, ground_of};
+ghost use Rattle.buck_dp.specs.inner.Searched.{IsSearch};
+ghost use Rattle.buck_dp.specs.inner.Site.{IsSite, IsReady, IsPlan, IsDone, IsPartTo, IsNearest, IsDiameterAt, ground_of};
 ghost use Rattle.buck_dp.specs.inner.Takers.{AreKnown};
 
-use crate::bid::Bid;
 use crate::keeping::{Kept, Market};
 use crate::kinds::{Group, Kinds};
 use crate::offering::{Cell, Reach};
@@ -19,8 +19,6 @@ use crate::takers::Kind;
 use buck_record::Memory;
 use buck_stem::{Profile, ProfileLists, Stem};
 use buck_value::Sheet;
-use std::alloc::Global;
-use std::mem;
 
 /// A stem at its points, the sheet under which it is cut, and whether it is the first stem under that. Each trim fits
 /// behind the tops before point `fit`.
@@ -42,8 +40,7 @@ pub struct Memo {
     pub is_first: bool,
     /// The lists of a plan. What they hold of the one before is of no account.
     pub profile: ProfileLists,
-    pub values: Vec<Bid>,
-    pub choices: Vec<u32>,
+    pub search: Search,
 }
 
 /// The starts from point `first` on and before another: the same assortments take the wood from these to a top.
@@ -53,10 +50,11 @@ pub struct Part {
     pub group: Group,
 }
 
-/// The starts nearest to the tops of a run, and the first of these tops from which on all logs start there.
+/// The starts nearest to the tops of a run, the first of these tops, and the first from which on all logs start there.
 #[derive(Clone, Copy)]
 pub struct Near {
     pub part: Part,
+    pub last: usize,
     pub low: usize,
 }
 
@@ -77,10 +75,8 @@ fn run_before(site: Site<'_>, kinds: &mut Kinds, top: usize, stop: usize) -> Res
     requires order { (0 < stop) × (stop ≤ top) }
     requires top { top < points_of (ground_of site) }
     requires known { AreKnown site.market.sheet.now.instruction kinds.old }
-    ensures known { AreKnown site.entry.market.sheet.now.instruction kinds.new }
-    ensures first { IfOk result (λ p. p.first < stop) }
-    ensures takers { IfOk result (λ p. (i : ℕ) → p.first ≤ i → i < stop
-        → HasTakers (ground_of site.entry) p.group.takers i top) }
+    ensures known { OnOk result (AreKnown site.entry.market.sheet.now.instruction kinds.new) }
+    ensures part { IfOk result (IsPartTo site.entry top stop) }
 {
     let first = site.profile.run_start(stop - 1);
     let kind = Kind {
@@ -97,10 +93,8 @@ fn part_before(site: Site<'_>, kinds: &mut Kinds, top: usize, stop: usize) -> Re
     requires order { (0 < stop) × (stop ≤ top) }
     requires top { top < points_of (ground_of site) }
     requires known { AreKnown site.market.sheet.now.instruction kinds.old }
-    ensures known { AreKnown site.entry.market.sheet.now.instruction kinds.new }
-    ensures first { IfOk result (λ p. p.first < stop) }
-    ensures takers { IfOk result (λ p. (i : ℕ) → p.first ≤ i → i < stop
-        → HasTakers (ground_of site.entry) p.group.takers i top) }
+    ensures known { OnOk result (AreKnown site.entry.market.sheet.now.instruction kinds.new) }
+    ensures part { IfOk result (IsPartTo site.entry top stop) }
 {
     let low = top.saturating_sub(site.market.menu.most_steps);
     let mut part = run_before(site, kinds, top, stop)?;
@@ -117,44 +111,38 @@ fn part_before(site: Site<'_>, kinds: &mut Kinds, top: usize, stop: usize) -> Re
     Ok(part)
 }
 
-/// Whether no log with a top or a later one starts before a point.
-fn is_first(site: Site<'_>, kinds: &mut Kinds, top: usize, point: usize) -> Result<bool, Memory>
+/// The first top at or after the first of a run from which on all logs start in a part, the nearest to the run.
+fn low_of(site: Site<'_>, kinds: &mut Kinds, part: Part, last: usize) -> Result<usize, Memory>
     requires site { IsSite site }
-    requires order { point ≤ top }
-    requires top { top < points_of (ground_of site) }
+    requires order { part.first ≤ last }
+    requires top { last < points_of (ground_of site) }
     requires known { AreKnown site.market.sheet.now.instruction kinds.old }
-    ensures known { AreKnown site.entry.market.sheet.now.instruction kinds.new }
-    ensures first { IfOk result (λ is. IsTrue is → HasNoneBefore (ground_of site.entry) point top) }
+    ensures known { OnOk result (AreKnown site.entry.market.sheet.now.instruction kinds.new) }
+    ensures low { IfOk result (λ n. last ≤ n) }
+    ensures all { IfOk result (λ n. (t : ℕ) → n ≤ t → HasNoneOf (ground_of site.entry) part.first t) }
 {
-    if point == 0 {
-        return Ok(true);
+    if part.first == 0 {
+        return Ok(last);
     }
-    let behind = run_before(site, kinds, top, point)?;
-    Ok(behind.group.takers.is_empty())
+    let behind = run_before(site, kinds, last, part.first)?;
+    if behind.group.takers.is_empty() {
+        return Ok(last);
+    }
+    Ok(last.max(part.first.saturating_add(site.market.menu.most_steps)))
 }
 
-/// The starts nearest to the tops of the run whose first top is given.
-fn near_part(site: Site<'_>, kinds: &mut Kinds, top: usize) -> Result<Near, Memory>
+/// The starts nearest to the tops of the run whose last top is given.
+fn near_part(site: Site<'_>, kinds: &mut Kinds, high: usize) -> Result<Near, Memory>
     requires site { IsSite site }
-    requires order { 0 < top }
-    requires top { top < points_of (ground_of site) }
+    requires high { (0 < high) × (high < points_of (ground_of site)) }
     requires known { AreKnown site.market.sheet.now.instruction kinds.old }
-    ensures known { AreKnown site.entry.market.sheet.now.instruction kinds.new }
-    ensures first { IfOk result (λ n. n.part.first < top) }
-    ensures takers { IfOk result (λ n. (i : ℕ) → n.part.first ≤ i → i < top
-        → HasTakers (ground_of site.entry) n.part.group.takers i top) }
-    ensures low { IfOk result (λ n. top ≤ n.low) }
-    ensures all { IfOk result (λ n. HasNoneBefore (ground_of site.entry) n.part.first n.low) }
+    ensures known { OnOk result (AreKnown site.entry.market.sheet.now.instruction kinds.new) }
+    ensures near { IfOk result (IsNearest site.entry high) }
 {
-    let part = part_before(site, kinds, top, top)?;
-    if is_first(site, kinds, top, part.first)? {
-        return Ok(Near { part, low: top });
-    }
-    let whole = part.first.saturating_add(site.market.menu.most_steps);
-    Ok(Near {
-        part,
-        low: top.max(whole),
-    })
+    let last = site.profile.run_start(high - 1) + 1;
+    let part = part_before(site, kinds, last, last)?;
+    let low = low_of(site, kinds, part, last)?;
+    Ok(Near { part, last, low })
 }
 
 /// How many mm of a stem lie behind a top.
@@ -171,20 +159,17 @@ fn left_behind(site: Site<'_>, top: usize) -> u32
 /// Offers the logs with the top that was settled last, which all start in one part and whose trims fit, from the row of
 /// that part at the top's diameter.
 #[inline(always)]
-fn offer_cells(site: Site<'_>, search: &mut Search<'_>, part: Part, diameter: u32, cells: &[Cell])
+fn offer_cells(site: Site<'_>, search: &mut Search, part: Part, diameter: u32, cells: &[Cell])
     requires site { IsSite site }
-    requires ground { search.old.ground ≡ ground_of site }
-    requires top { search.old.from < points_of (ground_of site) }
+    requires search { IsSearch (ground_of site) search.old }
     requires stop { search.old.stop ≡ search.old.from }
-    requires order { part.first < search.old.from }
     requires room { search.old.from < site.fit }
-    requires takers { (i : ℕ) → part.first ≤ i → i < search.old.from
-        → HasTakers (ground_of site) part.group.takers i search.old.from }
+    requires part { IsPartTo site search.old.from search.old.from part }
     requires all { HasNoneOf (ground_of site) part.first search.old.from }
     requires diameter { IsDiameterAt site search.old.from diameter }
-    requires cells { AreCells site.market.sheet.now (codes_in site.market.menu.now.offers.items) part.group.takers
-        diameter (all_of site.market.menu.now) cells.now }
-    ensures ground { search.new.ground ≡ search.old.ground }
+    requires cells { IsRow site.market.sheet.now (codes_in site.market.menu.now.offers.items)
+        (length site.market.menu.now.offers.items) part.group.takers diameter (all_of site.market.menu.now) cells.now }
+    ensures search { IsSearch (ground_of site.entry) search.new }
     ensures from { search.new.from ≡ search.old.from }
     ensures stop { search.new.stop ≡ 0 }
 {
@@ -195,194 +180,141 @@ fn offer_cells(site: Site<'_>, search: &mut Search<'_>, part: Part, diameter: u3
 /// Offers the logs with the top that was settled last, and goes on with the tops before it for as long as they have its
 /// diameter and all of their logs start in one part: one row serves them all. Each trim fits.
 #[inline(always)]
-fn offer_kept(
-    site: Site<'_>,
-    memo: &mut Memo,
-    search: &mut Search<'_>,
-    near: Near,
-) -> Result<(), Memory>
+fn offer_same(site: Site<'_>, search: &mut Search, near: Near, diameter: u32, cells: &[Cell])
     requires site { IsSite site }
-    requires memo { IsMemoFor site memo.old }
-    requires ground { search.old.ground ≡ ground_of site }
-    requires top { search.old.from < points_of (ground_of site) }
+    requires search { IsSearch (ground_of site) search.old }
     requires stop { search.old.stop ≡ search.old.from }
-    requires order { (near.part.first < near.low) × (near.low ≤ search.old.from) }
     requires room { search.old.from < site.fit }
-    requires takers { (i t : ℕ) → near.low ≤ t → t ≤ search.old.from → near.part.first ≤ i → i < t
-        → HasTakers (ground_of site) near.part.group.takers i t }
-    requires all { HasNoneBefore (ground_of site) near.part.first near.low }
-    ensures memo { IsMemoFor site.entry memo.new }
-    ensures ground { OnOk result (search.new.ground ≡ search.old.ground) }
-    ensures from { OnOk result ((near.low ≤ search.new.from) × (search.new.from ≤ search.old.from)) }
-    ensures stop { OnOk result (search.new.stop ≡ 0) }
+    requires low { near.low ≤ search.old.from }
+    requires near { IsNearest site search.old.from near }
+    requires diameter { IsDiameterAt site search.old.from diameter }
+    requires cells { IsRow site.market.sheet.now (codes_in site.market.menu.now.offers.items)
+        (length site.market.menu.now.offers.items) near.part.group.takers diameter (all_of site.market.menu.now)
+        cells.now }
+    ensures search { IsSearch (ground_of site.entry) search.new }
+    ensures from { (near.low ≤ search.new.from) × (search.new.from ≤ search.old.from) }
+    ensures stop { search.new.stop ≡ 0 }
 {
     let diameters = site.profile.diameters();
-    let diameter = diameters[search.from()];
-    let place = memo.kept.row(site.market, near.part.group, diameter)?;
-    let cells = memo.kept.cells(place);
     offer_cells(site, search, near.part, diameter, cells);
-    while search.from() > near.low && diameters[search.from() - 1] == diameter {
+    while search.from > near.low && diameters[search.from - 1] == diameter {
         search.settle_top();
         offer_cells(site, search, near.part, diameter, cells);
     }
+}
+
+/// Offers the logs with the top that was settled last from a row that is kept, and goes on with the tops that it serves.
+#[inline(always)]
+fn offer_kept(site: Site<'_>, memo: &mut Memo, near: Near) -> Result<(), Memory>
+    requires plan { IsPlan site memo.old }
+    requires stop { memo.old.search.stop ≡ memo.old.search.from }
+    requires room { memo.old.search.from < site.fit }
+    requires low { near.low ≤ memo.old.search.from }
+    requires near { IsNearest site memo.old.search.from near }
+    ensures { OnOk result (IsDone site.entry near.last memo.old.search.from memo.new) }
+{
+    let diameter = site.profile.diameters()[memo.search.from];
+    let place = memo.kept.row(site.market, near.part.group, diameter)?;
+    let cells = memo.kept.cells(place);
+    offer_same(site, &mut memo.search, near, diameter, cells);
     Ok(())
 }
 
 /// Offers the logs with the top that was settled last that start in a part, from a price list.
-fn offer_part(
-    site: Site<'_>,
-    memo: &mut Memo,
-    search: &mut Search<'_>,
-    part: Part,
-) -> Result<(), Memory>
-    requires site { IsSite site }
-    requires memo { IsMemoFor site memo.old }
-    requires ground { search.old.ground ≡ ground_of site }
-    requires top { search.old.from < points_of (ground_of site) }
-    requires order { part.first < search.old.stop }
-    requires takers { (i : ℕ) → part.first ≤ i → i < search.old.stop
-        → HasTakers (ground_of site) part.group.takers i search.old.from }
-    ensures memo { IsMemoFor site.entry memo.new }
-    ensures ground { OnOk result (search.new.ground ≡ search.old.ground) }
-    ensures from { OnOk result (search.new.from ≡ search.old.from) }
-    ensures stop { OnOk result (search.new.stop ≡ part.first) }
+fn offer_part(site: Site<'_>, memo: &mut Memo, part: Part) -> Result<(), Memory>
+    requires plan { IsPlan site memo.old }
+    requires part { IsPartTo site memo.old.search.from memo.old.search.stop part }
+    ensures plan { OnOk result (IsPlan site.entry memo.new) }
+    ensures from { OnOk result (memo.new.search.from ≡ memo.old.search.from) }
+    ensures stop { OnOk result (memo.new.search.stop ≡ part.first) }
 {
-    let top = search.from();
-    let stop = search.stop();
+    let top = memo.search.from;
     let diameters = site.profile.diameters();
     let diameter = diameters[top];
-    let left = left_behind(site, top);
     let reach = Reach {
-        past: top - stop,
+        past: top - memo.search.stop,
         far: top - part.first,
-        room: left.min(site.market.menu.most_trim),
+        room: left_behind(site, top).min(site.market.menu.most_trim),
     };
-    let band = site.market.menu.band_of(diameter);
-    let place = memo.kept.list(site.market, part.group, band)?;
+    let place = memo.kept.list(site.market, part.group, diameter)?;
     let list = memo.kept.quotes(place);
-    search.offer_list(part.first, list, diameter, reach);
+    memo.search.offer_list(part.first, list, diameter, reach);
     Ok(())
 }
 
 /// Offers the logs with the top that was settled last from the starts to which they aren't offered yet.
-fn offer_rest(site: Site<'_>, memo: &mut Memo, search: &mut Search<'_>) -> Result<(), Memory>
-    requires site { IsSite site }
-    requires memo { IsMemoFor site memo.old }
-    requires ground { search.old.ground ≡ ground_of site }
-    requires top { search.old.from < points_of (ground_of site) }
-    ensures memo { IsMemoFor site.entry memo.new }
-    ensures ground { OnOk result (search.new.ground ≡ search.old.ground) }
-    ensures from { OnOk result (search.new.from ≡ search.old.from) }
-    ensures stop { OnOk result (search.new.stop ≡ 0) }
+fn offer_rest(site: Site<'_>, memo: &mut Memo) -> Result<(), Memory>
+    requires { IsPlan site memo.old }
+    ensures { OnOk result (IsDone site.entry memo.old.search.from memo.old.search.from memo.new) }
 {
-    let top = search.from();
+    let top = memo.search.from;
     let low = top.saturating_sub(site.market.menu.most_steps);
-    while search.stop() > low {
-        let part = part_before(site, &mut memo.kinds, top, search.stop())?;
+    while memo.search.stop > low {
+        let part = part_before(site, &mut memo.kinds, top, memo.search.stop)?;
         if part.group.takers.is_empty() {
-            search.close_top();
+            memo.search.close_top();
             return Ok(());
         }
-        offer_part(site, memo, search, part)?;
+        offer_part(site, memo, part)?;
     }
-    search.close_top();
+    memo.search.close_top();
     Ok(())
 }
 
-/// Whether a row would serve one top of the first stem under a sheet: it isn't drawn then.
-#[inline(always)]
-fn is_alone(site: Site<'_>, top: usize) -> bool
-    requires site { IsSite site }
-    requires top { top < points_of (ground_of site) }
+/// Offers the logs with the top that was settled last, of which the nearest starts are known. Where one row serves them, it
+/// goes on with the tops before it. For one top of the first stem under a sheet no row is drawn.
+fn offer_top(site: Site<'_>, memo: &mut Memo, near: Near) -> Result<(), Memory>
+    requires plan { IsPlan site memo.old }
+    requires stop { memo.old.search.stop ≡ memo.old.search.from }
+    requires low { near.last ≤ memo.old.search.from }
+    requires near { IsNearest site memo.old.search.from near }
+    ensures { OnOk result (IsDone site.entry near.last memo.old.search.from memo.new) }
 {
-    if !site.is_first || top == 0 {
-        return false;
-    }
-    let diameters = site.profile.diameters();
-    diameters[top - 1] != diameters[top]
-}
-
-/// Offers the logs with the top that was settled last, which is `last` or a later one and of which the nearest starts
-/// are known. Where one row serves them, it goes on with the tops before it.
-fn offer_top(
-    site: Site<'_>,
-    memo: &mut Memo,
-    search: &mut Search<'_>,
-    near: Near,
-    last: usize,
-) -> Result<(), Memory>
-    requires site { IsSite site }
-    requires memo { IsMemoFor site memo.old }
-    requires ground { search.old.ground ≡ ground_of site }
-    requires top { search.old.from < points_of (ground_of site) }
-    requires stop { search.old.stop ≡ search.old.from }
-    requires order { (near.part.first < last) × (last ≤ near.low) × (last ≤ search.old.from) }
-    requires takers { (i t : ℕ) → last ≤ t → t ≤ search.old.from → near.part.first ≤ i → i < t
-        → HasTakers (ground_of site) near.part.group.takers i t }
-    requires all { HasNoneBefore (ground_of site) near.part.first near.low }
-    ensures memo { IsMemoFor site.entry memo.new }
-    ensures ground { OnOk result (search.new.ground ≡ search.old.ground) }
-    ensures from { OnOk result ((last ≤ search.new.from) × (search.new.from ≤ search.old.from)) }
-    ensures stop { OnOk result (search.new.stop ≡ 0) }
-{
-    let top = search.from();
+    let top = memo.search.from;
     if top < site.market.menu.least_steps {
-        search.close_top();
+        memo.search.close_top();
         return Ok(());
     }
     if near.part.group.takers.is_empty() {
-        search.close_top();
+        memo.search.close_top();
         return Ok(());
     }
     if top < site.fit && near.low <= top {
-        if !is_alone(site, top) {
-            return offer_kept(site, memo, search, near);
+        let diameters = site.profile.diameters();
+        if !site.is_first || diameters[top - 1] == diameters[top] {
+            return offer_kept(site, memo, near);
         }
     }
-    offer_part(site, memo, search, near.part)?;
-    offer_rest(site, memo, search)
+    offer_part(site, memo, near.part)?;
+    offer_rest(site, memo)
 }
 
 /// Searches the tops behind the steps of one run.
 #[inline(never)]
-fn search_run(site: Site<'_>, memo: &mut Memo, search: &mut Search<'_>) -> Result<(), Memory>
-    requires site { IsSite site }
-    requires memo { IsMemoFor site memo.old }
-    requires ground { search.old.ground ≡ ground_of site }
-    requires from { (1 < search.old.from) × (search.old.from ≤ points_of (ground_of site)) }
-    requires stop { search.old.stop ≡ 0 }
-    ensures memo { IsMemoFor site.entry memo.new }
-    ensures ground { OnOk result (search.new.ground ≡ search.old.ground) }
-    ensures from { OnOk result ((0 < search.new.from) × (search.new.from < search.old.from)) }
-    ensures stop { OnOk result (search.new.stop ≡ 0) }
+fn search_run(site: Site<'_>, memo: &mut Memo) -> Result<(), Memory>
+    requires plan { IsPlan site memo.old }
+    requires from { 1 < memo.old.search.from }
+    requires stop { memo.old.search.stop ≡ 0 }
+    ensures { OnOk result (IsDone site.entry 1 (memo.old.search.from - 1) memo.new) }
 {
-    let run = site.profile.run_start(search.from() - 2);
-    let near = near_part(site, &mut memo.kinds, run + 1)?;
-    while search.from() > run + 1 {
-        search.settle_top();
-        offer_top(site, memo, search, near, run + 1)?;
+    let near = near_part(site, &mut memo.kinds, memo.search.from - 1)?;
+    while memo.search.from > near.last {
+        memo.search.settle_top();
+        offer_top(site, memo, near)?;
     }
     Ok(())
 }
 
 /// Searches a stem from the top end down to the butt.
-pub fn search_stem<'a>(alloc: Global, site: Site<'a>, memo: &mut Memo) -> Result<Search<'a>, Memory>
+pub fn search_stem(site: Site<'_>, memo: &mut Memo) -> Result<(), Memory>
     requires site { IsSite site }
-    requires memo { IsMemoFor site memo.old }
-    ensures memo { IsMemoFor site.entry memo.new }
-    ensures ground { IfOk result (λ s. s.ground ≡ ground_of site.entry) }
-    ensures whole { IfOk result (λ s. (s.from ≡ 0) × (s.stop ≡ 0)) }
+    requires ready { IsReady site.market.sheet.now site.market.menu.now memo.old }
+    ensures { OnOk result (IsDone site.entry 0 0 memo.new) }
 {
-    let mut search = Search::start(
-        mem::replace(&mut memo.values, Vec::new(alloc)),
-        mem::replace(&mut memo.choices, Vec::new(alloc)),
-        site.market.sheet,
-        site.stem,
-        site.market.menu.offers.as_slice(),
-    )?;
-    while search.from() > 1 {
-        search_run(site, memo, &mut search)?;
+    memo.search.start(site.market.sheet, site.stem)?;
+    while memo.search.from > 1 {
+        search_run(site, memo)?;
     }
-    search.settle_top();
-    Ok(search)
+    memo.search.settle_top();
+    Ok(())
 }

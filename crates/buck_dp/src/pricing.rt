@@ -1,16 +1,18 @@
 //! Price lists: what the logs of some takers are bid by length and trim, at each diameter of a band.
-ghost use Rattle.std.specs.Prelude.{◌≡◌, ℕ, ◌+◌, ◌-◌, ◌*◌, ◌/◌, ◌<◌, ◌≤◌, ◌⊎◌, ◌++◌, ◌∷◌, [], IfErr, OnOk, IfSome, IfNone, IsTrue, List, Option, length, slice_get, slice_index, vec_len, vec_capacity};
+ghost use Rattle.std.specs.Prelude.{◌≡◌, ℕ, ◌+◌, ◌-◌, ◌*◌, ◌/◌, ◌<◌, ◌≤◌, ◌⊎◌, ◌++◌, ◌∷◌, [], IfOk, IfSome, IfNone, IsTrue, List, Option, length, slice_get, slice_index, vec_len, vec_capacity};
 ghost use Rattle.buck_apt.specs.Instruction.{classes};
 ghost use Rattle.buck_value.specs.Sheet.{IsSheet};
 ghost use Rattle.buck_bid.specs.Offers.{codes_in, AreOffers};
 ghost use Rattle.buck_bid.specs.Limits.{IsBandOf};
 ghost use Rattle.buck_bid.specs.Prices.{IsPricing, HasNoPrice};
+ghost use Rattle.buck_dp.specs.inner.Index.{IsBehind};
 ghost use Rattle.buck_dp.specs.inner.Points.{point_after};
 ghost use Rattle.buck_dp.specs.inner.Takers.{IsTaker};
 ghost use Rattle.buck_dp.specs.inner.Quotes.{quote_bid, priced_at, IsSmall, IsOver, IsLeading, IsPut, IsTermOf, IsNoTerm, AreTerms, AreQuotes};
 
 use crate::bid::Bid;
 use crate::ends::point_from;
+use crate::index::Place;
 use crate::takers::Takers;
 use buck_apt::Instruction;
 use buck_bid::{Band, Offer, Pricing, pricing_of};
@@ -131,23 +133,27 @@ fn term_at(instruction: &Instruction, offers: &[Offer], place: usize, ask: Ask) 
     }
 }
 
-/// Puts the terms of some takers in a band behind others, offer by offer.
+/// Puts the terms of some takers in a band behind others, offer by offer, and tells where.
 pub fn put_terms(
     terms: &mut Vec<Option<Term>>,
     instruction: &Instruction,
     offers: &[Offer],
     ask: Ask,
-) -> Result<(), AllocError>
+) -> Result<Place, AllocError>
     requires offers { AreOffers instruction.now offers.now }
     requires band { IsBandOf instruction.now ask.band.thinnest ask.band.past }
-    ensures { (more : List (Option Term)) × (terms.new.items ≡ terms.old.items ++ more)
-        × OnOk result (AreTerms instruction.now (codes_in offers.now) ask (length offers.now) more) }
+    ensures { IfOk result (λ p. (more : List (Option Term)) × IsBehind terms.old.items more terms.new.items p
+        × AreTerms instruction.now (codes_in offers.now) ask (length offers.now) more) }
 {
+    let from = terms.len();
     for place in 0..offers.len() {
         let term = term_at(instruction, offers, place, ask);
         terms.push(term)?;
     }
-    Ok(())
+    Ok(Place {
+        from,
+        past: terms.len(),
+    })
 }
 
 /// A price for each millimetre of a log and each unit of its top's area.
@@ -240,23 +246,23 @@ fn put_quote(list: &mut Vec<Quote>, from: usize, leader: &mut Leader, quote: Quo
 }
 
 /// Puts a price list behind others: the quotes of some takers in a band, by their length, from their terms, without
-/// those that one outbids in the whole band whose log is no longer.
+/// those that one outbids in the whole band whose log is no longer. Tells where.
 #[inline(never)]
 pub fn put_list(
     quotes: &mut Vec<Quote>,
     sheet: &Sheet,
     terms: &[Option<Term>],
     ask: Ask,
-) -> Result<(), AllocError>
+) -> Result<Place, AllocError>
     requires valid { IsSheet sheet.now }
     requires band { (ask.band.thinnest < ask.band.past) × (ask.band.past ≤ 2001) }
     requires terms { (codes : List ℕ) × AreTerms sheet.now.instruction codes ask (length terms.now) terms.now }
-    ensures { (list : List Quote) × (quotes.new.items ≡ quotes.old.items ++ list)
-        × OnOk result ((codes : List ℕ) → AreTerms sheet.now.instruction codes ask (length terms.now) terms.now
-        → AreQuotes sheet.now codes ask (length terms.now) list) }
+    ensures { IfOk result (λ p. (list : List Quote) × IsBehind quotes.old.items list quotes.new.items p
+        × ((codes : List ℕ) → AreTerms sheet.now.instruction codes ask (length terms.now) terms.now
+        → AreQuotes sheet.now codes ask (length terms.now) list)) }
 {
     quotes.reserve(terms.len().max(MOST_OFFERS))?;
-    let from = quotes.as_slice().len();
+    let from = quotes.len();
     let nobody = Quote {
         kind: 0,
         price: 0,
@@ -279,5 +285,8 @@ pub fn put_list(
             }
         }
     }
-    Ok(())
+    Ok(Place {
+        from,
+        past: quotes.len(),
+    })
 }

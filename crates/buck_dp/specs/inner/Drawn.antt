@@ -1,15 +1,20 @@
 -- Rows that are drawn from price lists at one diameter.
-use Rattle.std.specs.Prelude.{◌≡◌, ℕ, ◌+◌, ◌-◌, ◌<◌, ◌≤◌, List, length, slice_get, Some}
+use Rattle.std.specs.Prelude.{◌≡◌, ℕ, ◌+◌, ◌-◌, ◌<◌, ◌≤◌, ◌&&◌, List, Option, Some, None, if◌then◌else◌, nat_lt, nat_le, Bool}
+use Rattle.std.specs.List.{filter_map}
 use Rattle.buck_dp.specs.declared.offering.Cell.{Cell}
 use Rattle.buck_dp.specs.declared.offering.Reach.{Reach}
+use Rattle.buck_dp.specs.declared.pricing.Ask.{Ask}
 use Rattle.buck_dp.specs.declared.pricing.Quote.{Quote}
-use Rattle.buck_dp.specs.inner.Points.{GroundParts}
-use Rattle.buck_dp.specs.inner.Quotes.{quote_bid, Falls}
-use Rattle.buck_dp.specs.inner.Rows.{IsPart}
+use Rattle.buck_dp.specs.declared.takers.Takers.{Takers}
+use Rattle.buck_value.specs.Sheet.{SheetParts}
+use Rattle.buck_dp.specs.inner.Quotes.{quote_bid, IsAsked, AreQuotes}
 
 -- a quote is for logs within reach
 abbrev pub IsWithin : Reach → Quote → Type 0
 IsWithin reach q = (reach.past < q.steps) × (q.steps ≤ reach.far) × (q.trim ≤ reach.room)
+
+abbrev pub is_within : Reach → Quote → Bool
+is_within reach q = nat_lt reach.past q.steps && nat_le q.steps reach.far && nat_le q.trim reach.room
 
 -- the cell of a quote at a diameter
 abbrev pub cell_of : Reach → Quote → ℕ → Cell
@@ -21,24 +26,20 @@ cell_of reach q d = record {
   next = reach.far + q.rise;
 }
 
--- a cell is that of a quote
-pub record IsCellOf (quotes : List Quote) (d : ℕ) (reach : Reach) (c : Cell) : Type 0 where
-  pub place : ℕ
-  pub quote : Quote
-  pub there : slice_get quotes place ≡ Some quote
-  pub within : IsWithin reach quote
-  pub is : c ≡ cell_of reach quote d
+-- if its logs are within reach
+abbrev pub cell_for : ℕ → Reach → Quote → Option Cell
+cell_for d reach q = if is_within reach q then Some (cell_of reach q d) else None
 
--- the cells of the first n quotes, in their order
-pub record IsDrawn (quotes : List Quote) (d : ℕ) (reach : Reach) (n : ℕ) (row : List Cell) : Type 0 where
-  pub real : (k : ℕ) (c : Cell) → slice_get row k ≡ Some c → IsCellOf quotes d reach c
-  pub met : (k : ℕ) (q : Quote) → k < n → slice_get quotes k ≡ Some q → IsWithin reach q
-      → (j : ℕ) × (slice_get row j ≡ Some (cell_of reach q d))
-  pub early : (j k : ℕ) (c : Cell) (q : Quote) → Falls (λ (q : Quote). q.rank) quotes → n ≤ k
-      → slice_get row j ≡ Some c → slice_get quotes k ≡ Some q → q.rank ≤ c.bid.rank
-  pub order : Falls (λ (q : Quote). q.rank) quotes → Falls (λ (c : Cell). c.bid.rank) row
+-- the cells of a price list, in its order
+abbrev pub row_of : List Quote → ℕ → Reach → List Cell
+row_of quotes d reach = filter_map (cell_for d reach) quotes
 
--- the row of a price list has the logs with one top that start in a part
-abbrev pub IsPartOf : GroundParts → ℕ → ℕ → ℕ → List Quote → ℕ → Reach → Type 0
-IsPartOf p top first stop quotes d reach = (row : List Cell) → IsDrawn quotes d reach (length quotes) row
-    → IsPart p top first stop row
+-- a row has the cells of a price list of some takers
+pub record IsRow (s : SheetParts) (codes : List ℕ) (n : ℕ) (takers : Takers) (d : ℕ) (reach : Reach)
+    (row : List Cell) : Type 0 where
+  pub ask : Ask
+  pub quotes : List Quote
+  pub own : ask.takers ≡ takers
+  pub asked : IsAsked ask d
+  pub list : AreQuotes s codes ask n quotes
+  pub is : row ≡ row_of quotes d reach

@@ -21,7 +21,3 @@ HasTakers p takers i t = (a : ℕ) (x : AssortmentParts) → slice_get p.sheet.i
 -- no log with a top starts before a point
 abbrev pub HasNoneOf : GroundParts → ℕ → ℕ → Type 0
 HasNoneOf p point top = (i e : ℕ) (bid : BidParts) → i < point → IsLogAt p i top e bid → ⊥
-
--- no log with a top or a later one starts before a point
-abbrev pub HasNoneBefore : GroundParts → ℕ → ℕ → Type 0
-HasNoneBefore p point top = (t : ℕ) → top ≤ t → HasNoneOf p point t

@@ -1,6 +1,7 @@
 -- The values of points while the search goes from the top end down.
 use Rattle.std.specs.Prelude.{◌≡◌, ℕ, ◌+◌, ◌<◌, ◌≤◌, ◌⊎◌, List, length, get_or}
-use Rattle.buck_dp.specs.inner.Points.{GroundParts, ends_of}
+use Rattle.buck_dp.specs.inner.Points.{GroundParts, points_of, ends_of}
+use Rattle.buck_dp.specs.declared.search.Search.{Search}
 use Rattle.buck_dp.specs.inner.Bid.{BidParts, bid_of, none, IsAtMost, plus}
 use Rattle.buck_stem.specs.Stem.{IsStem}
 use Rattle.buck_value.specs.Sheet.{IsSheet}
@@ -36,18 +37,10 @@ pub record AreSearched (p : GroundParts) (values : List BidParts) (choices : Lis
       ⊎ ((j : ℕ) × (e : ℕ) × (bid : BidParts) × (from ≤ j) × IsLogAt p i j e bid
       × (bid_at values i ≡ plus bid (bid_at values e)))
 
--- what a search shows: its ground, the point from which on all are settled, the first start to which logs with their
--- top there are offered, values and choices
-pub record SearchParts : Type 0 where
-  pub ground : GroundParts
-  pub from : ℕ
-  pub stop : ℕ
-  pub values : List BidParts
-  pub choices : List ℕ
-
 -- a search is right so far
-pub record IsSearch (s : SearchParts) : Type 0 where
-  pub valid : IsSheet s.ground.sheet
-  pub sound : IsStem s.ground.stem
+pub record IsSearch (p : GroundParts) (s : Search) : Type 0 where
+  pub valid : IsSheet p.sheet
+  pub sound : IsStem p.stem
   pub below : s.stop ≤ s.from
-  pub searched : AreSearched s.ground s.values s.choices s.from s.stop
+  pub inside : 0 < s.stop → s.from < points_of p
+  pub searched : AreSearched p s.values.items s.choices.items s.from s.stop

@@ -9,6 +9,10 @@ use Rattle.buck_dp.specs.declared.planning.Site.{Site}
 use Rattle.buck_dp.specs.declared.planning.Memo.{Memo}
 use Rattle.buck_dp.specs.declared.menu.Menu.{Menu}
 use Rattle.buck_dp.specs.inner.Menu.{IsMenu}
+use Rattle.buck_dp.specs.declared.planning.Near.{Near}
+use Rattle.buck_dp.specs.declared.planning.Part.{Part}
+use Rattle.buck_dp.specs.inner.Parts.{HasTakers, HasNoneOf}
+use Rattle.buck_dp.specs.inner.Searched.{IsSearch}
 use Rattle.buck_dp.specs.inner.Takers.{AreKnown}
 use Rattle.buck_dp.specs.inner.Kept.{AreKept}
 
@@ -31,16 +35,37 @@ pub record IsDiameterAt (x : Site) (t d : ℕ) : Type 0 where
       → slice_index table j ≡ diameter_at x.stem.now.samples (j * x.market.sheet.now.instruction.«module»)
   pub is : slice_index table t ≡ d
 
--- what is kept is right under a sheet
-pub record IsMemo (s : SheetParts) (menu : Menu) (m : Memo) : Type 0 where
-  pub kinds : AreKnown s.instruction m.kinds
-  pub kept : AreKept s menu m.kept
+-- the starts of a part are before a point, and its takers take the wood from each of them to a top
+pub record IsPartTo (x : Site) (top stop : ℕ) (part : Part) : Type 0 where
+  pub first : part.first < stop
+  pub takers : (i : ℕ) → part.first ≤ i → i < stop → HasTakers (ground_of x) part.group.takers i top
 
--- so under the sheet of a stem
-abbrev pub IsMemoFor : Site → Memo → Type 0
-IsMemoFor x m = IsMemo x.market.sheet.now x.market.menu.now m
+-- the starts nearest to the tops of a run, up to one of these: from the first of them to each of these the same
+-- assortments take the wood, and from the top `low` on no log starts before them
+pub record IsNearest (x : Site) (high : ℕ) (near : Near) : Type 0 where
+  pub first : near.part.first < near.last
+  pub last : near.last ≤ high
+  pub low : near.last ≤ near.low
+  pub takers : (i t : ℕ) → near.last ≤ t → t ≤ high → near.part.first ≤ i → i < t
+      → HasTakers (ground_of x) near.part.group.takers i t
+  pub all : (t : ℕ) → near.low ≤ t → HasNoneOf (ground_of x) near.part.first t
 
 -- what a planner keeps is right under its sheet
 pub record IsReady (s : SheetParts) (menu : Menu) (m : Memo) : Type 0 where
   pub offers : IsMenu s.instruction menu
-  pub right : IsMemo s menu m
+  pub kinds : AreKnown s.instruction m.kinds
+  pub kept : AreKept s menu m.kept
+
+-- a stem is searched so far, with what is kept
+pub record IsPlan (x : Site) (m : Memo) : Type 0 where
+  pub site : IsSite x
+  pub kinds : AreKnown x.market.sheet.now.instruction m.kinds
+  pub kept : AreKept x.market.sheet.now x.market.menu.now m.kept
+  pub search : IsSearch (ground_of x) m.search
+
+-- down to a top from `least` to `most`, all of whose logs are offered
+pub record IsDone (x : Site) (least most : ℕ) (m : Memo) : Type 0 where
+  pub plan : IsPlan x m
+  pub low : least ≤ m.search.from
+  pub high : m.search.from ≤ most
+  pub stop : m.search.stop ≡ 0

@@ -11,3 +11,7 @@ unwanted sheet stem b no_one (inr none) = none
 
 pub returns-then-not-is_wanted-clause-first : goal.returns-then-not-is_wanted-clause-first
 returns-then-not-is_wanted-clause-first c = search (rules, unwanted, nothing_first)
+
+pub returns-then-is_err-clause-own : goal.returns-then-is_err-clause-own
+returns-then-is_err-clause-own c =
+    c.drop_found.ensures c.args.sheet.now c.args.own.now.menu c.requires.own.offers

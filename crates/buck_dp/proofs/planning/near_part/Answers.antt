@@ -1,14 +1,24 @@
-use Rattle.buck_dp.proofs.Words.{arith, rules, ground_of}
-use Rattle.buck_dp.proofs.SiteLemmas.{point_reached, too_long}
+use Rattle.buck_dp.proofs.Words.{◌+◌, ◌-◌, ℕ, arith, rules, ground_of}
+use Rattle.buck_dp.proofs.SiteLemmas.{mask_of, near_takers}
 use Rattle.buck_dp.proofs.planning.near_part.Goals as goal
 
-pub returns-then-branch-clause-all : goal.returns-then-branch-clause-all
-returns-then-branch-clause-all c = c.in_ok-is_first.ensures.first c.if-branch.true
-
-pub returns-clause-all : goal.returns-clause-all
-returns-clause-all c t from i e bid lt log =
+pub returns-clause-near : goal.returns-clause-near
+returns-clause-near c =
     let x = c.args.site in
-    let menu = c.requires.site.menu in
-    let reached = point_reached x c.requires.site t log.within in
-    too_long (ground_of x) x.market.menu.now.most_steps i t e bid c.requires.site.valid menu.long
-    (omega (arith, from)) log
+    let unit : ℕ = x.market.sheet.now.instruction.«module» in
+    let run = c.run_start-last.ensures in
+    let part = c.in_ok-part.ensures.part in
+    let low = c.in_ok-low.ensures in
+    record {
+      first = part.first;
+      last = omega (arith, run.low);
+      low = low.low;
+      takers = λ i t from to after before.
+          near_takers (ground_of x) c.requires.site.sound c.run_start-last.result c.args.high run.even.0
+          (λ k from to. mask_of x.profile.now x.stem.now unit k (k + 1) run.even.0 c.requires.site.profile
+          (run.even.1 k from (omega (arith, to))))
+          (omega (arith, c.requires.site.valid.valid.module_range))
+          c.in_ok-part.part.first i t c.in_ok-part.part.group.takers
+          (omega (arith, from)) to (omega (arith, part.first)) after before part.takers;
+      all = low.all;
+    }

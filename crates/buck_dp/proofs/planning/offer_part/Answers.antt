@@ -1,58 +1,48 @@
-use Rattle.buck_dp.proofs.Words.{◌≡◌, ◌+◌, ◌-◌, ◌*◌, ◌≤◌, ◌⊎◌, inl, inr, ℕ, List, length, slice_get, slice_index, Some, sym, subst, ap, arith, rules, cases_lt, stem_length, codes_in, GroundParts, Reach, AreCells, IsPart, Key, Quote, ask_of, AreQuotes}
-use Rattle.buck_dp.proofs.QuoteLemmas.{row_cells, rank_offered}
-use Rattle.buck_dp.proofs.SiteLemmas.{known_of, point_reached, part_offered}
+use Rattle.buck_dp.proofs.Words.{◌≡◌, ◌<◌, ProfileParts, ◌-◌, ℕ, List, length, slice_get, Some, take, drop, sym, subst, arith, rules, codes_in, Quote, ask_of, part_of, AreQuotes, IsPart, row_of, ground_of}
+use Rattle.buck_stem.specs.points.Profile as grid
+use Rattle.buck_dp.proofs.SiteLemmas.{known_of, list_offered}
 use Rattle.buck_dp.proofs.planning.offer_part.Goals as goal
-
-pub offer_list-requires-clause-part : goal.offer_list-requires-clause-part
-offer_list-requires-clause-part c row drawn =
-    let x = c.args.site in
-    let s = x.market.sheet.now in
-    let m = x.market.menu.now in
-    let t : ℕ = c.args.search.now.from in
-    let first : ℕ = c.args.part.first in
-    let stop : ℕ = c.args.search.now.stop in
-    let takers = c.args.part.group.takers in
-    let ds : List ℕ = c.diameters-diameters.result.now in
-    let at : c.from-top.result * s.instruction.«module» ≡ t * s.instruction.«module» =
-    ap (λ n. n * s.instruction.«module») c.from-top.ensures.value in
-    let reached = point_reached x c.requires.site t c.requires.top in
-    let below = c.from-top.ensures.right.below in
-    let left : ℕ = c.left_behind-left.result in
-    let reach : Reach =
-    record {
-      past = c.from-top.result - c.stop-stop.result;
-      far = c.from-top.result - first;
-      room =
-          c.min.result;
-    } in
-    let key : Key = record { takers = takers; at = c.band_of-band.result } in
-    let quotes : List Quote = c.quotes-list.result.now in
-    let codes : List ℕ = codes_in m.offers.items in
-    let are : AreQuotes s codes (ask_of m key) (length m.offers.items) quotes =
-    subst (λ (qs : List Quote). AreQuotes s codes (ask_of m key) (length m.offers.items) qs) (sym c.quotes-list.ensures)
-    c.in_ok-place.ensures.list.1 in
-    let cells : AreCells s codes takers (slice_index ds t) reach row =
-    subst (λ (n : ℕ). AreCells s codes takers (slice_index ds n) reach row) c.from-top.ensures.value
-    (row_cells s codes (ask_of m key) (length m.offers.items) (slice_index ds c.from-top.result) reach quotes row
-    c.requires.site.valid c.requires.site.menu.offers.codes.rise
-    (c.band_of-band.ensures.from, c.band_of-band.ensures.past)
-    (λ steps trim bid b. rank_offered s m.offers.items takers (slice_index ds c.from-top.result) steps trim bid b)
-    are drawn) in
-    let room : (c.min.result ≡ m.most_trim)
-    ⊎ (stem_length x.stem.now.samples ≤ t * s.instruction.«module» + c.min.result) =
-    elim (cases_lt left m.most_trim) [
-      | inl less ↦ inr (omega (arith, less))
-      | inr more ↦ inl (omega (arith, c.min.ensures, more))
-    ] in
-    subst (λ (g : GroundParts). IsPart g t first stop row) (sym c.requires.ground)
-    (part_offered x c.requires.site ds t first stop takers reach row
-    (known_of x.profile.now x.stem.now s.instruction.«module» ds c.requires.site.profile
-    c.diameters-diameters.ensures.right)
-    (omega (arith, below))
-    (λ i e bid low log. omega (arith, below)) c.requires.takers
-    (omega (arith, at)) room cells)
 
 pub offer_list-requires-clause-small : goal.offer_list-requires-clause-small
 offer_list-requires-clause-small c k q at =
-    (c.in_ok-place.ensures.list.1.real k q
+    (c.in_ok-place.ensures.4.1.real k q
     (subst (λ (qs : List Quote). slice_get qs k ≡ Some q) c.quotes-list.ensures at)).small
+
+pub offer_list-requires-clause-diameter : goal.offer_list-requires-clause-diameter
+offer_list-requires-clause-diameter c =
+    c.diameters-diameters.ensures.high c.args.memo.now.search.from
+    (subst (λ (q : ProfileParts). c.args.memo.now.search.from < grid.points_of q) (sym c.requires.plan.site.profile)
+    (c.requires.plan.search.inside (omega (arith, c.requires.part.first))))
+
+pub offer_list-requires-clause-part : goal.offer_list-requires-clause-part
+offer_list-requires-clause-part c =
+    let x = c.args.site in
+    let m = x.market.menu.now in
+    let put = c.in_ok-place.ensures in
+    (ground_of x, c.requires.plan.search,
+    list_offered x c.requires.plan.site c.args.memo.now.search c.diameters-diameters.result.now c.args.part
+    (ask_of m put.1) c.quotes-list.result.now c.left_behind.result c.min.result c.requires.plan.search
+    (known_of x.profile.now x.stem.now x.market.sheet.now.instruction.«module» c.diameters-diameters.result.now
+    c.requires.plan.site.profile c.diameters-diameters.ensures.right) c.requires.part put.2 put.3
+    (subst (λ (qs : List Quote). AreQuotes x.market.sheet.now (codes_in m.offers.items) (ask_of m put.1)
+    (length m.offers.items) qs) (sym c.quotes-list.ensures) put.4.1)
+    c.left_behind.ensures c.min.ensures)
+
+pub returns-clause-plan : goal.returns-clause-plan
+returns-clause-plan c =
+    let x = c.args.site in
+    let m = x.market.menu.now in
+    let put = c.in_ok-place.ensures in
+    record {
+      site = c.requires.plan.site;
+      kinds = c.requires.plan.kinds;
+      kept = put.0.kept;
+      search = c.offer_list.ensures.search (ground_of x) c.requires.plan.search
+    (    list_offered x c.requires.plan.site c.args.memo.now.search c.diameters-diameters.result.now c.args.part
+    (ask_of m put.1) c.quotes-list.result.now c.left_behind.result c.min.result c.requires.plan.search
+    (known_of x.profile.now x.stem.now x.market.sheet.now.instruction.«module» c.diameters-diameters.result.now
+    c.requires.plan.site.profile c.diameters-diameters.ensures.right) c.requires.part put.2 put.3
+    (subst (λ (qs : List Quote). AreQuotes x.market.sheet.now (codes_in m.offers.items) (ask_of m put.1)
+    (length m.offers.items) qs) (sym c.quotes-list.ensures) put.4.1)
+    c.left_behind.ensures c.min.ensures);
+    }

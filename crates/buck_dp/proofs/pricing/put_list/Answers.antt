@@ -52,9 +52,9 @@ loop-term-preserved c =
             leads = w.put_quote.ensures.leader;
             list =
                 let left =
-                put_cleared ask q (length c.as_slice-from.result.now) start was.0 c.loop-term.quotes.items
+                put_cleared ask q c.len-from.result start was.0 c.loop-term.quotes.items
                 w.put_quote.new.list.items
-                (ap (λ (xs : List Quote). length xs) (c.as_slice-from.ensures.value ∙ c.reserve.ensures.items))
+                (omega (arith, c.len-from.ensures, ap (λ (xs : List Quote). length xs) c.reserve.ensures.items))
                 was.1 w.put_quote.ensures.put in (
                   left.0 ++ q ∷ [],
                   left.2,
@@ -104,7 +104,11 @@ pub returns : goal.returns
 returns c =
     let was = c.loop-term.invariant.list in (
       was.0,
-      was.1,
+      (
+        was.1,
+        omega (arith, c.len-from.ensures, ap (λ (xs : List Quote). length xs) c.reserve.ensures.items),
+        omega (arith, c.len.ensures),
+      ),
       λ codes are.
           subst (λ (n : ℕ). AreQuotes c.args.sheet.now codes c.args.ask n was.0)
           (let e : c.loop-term.term-index ≡ length c.args.terms.now =

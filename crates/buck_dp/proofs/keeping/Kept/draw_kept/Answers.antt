@@ -1,33 +1,47 @@
-use Rattle.buck_dp.proofs.Words.{arith, rules, Head, RowOf}
-use Rattle.buck_dp.proofs.KeptLemmas.{kept_room, kept_push}
+use Rattle.buck_dp.proofs.Words.{◌≡◌, ◌-◌, List, length, slice_get, Some, take, drop, refl, sym, subst, arith, rules, codes_in, Key, Cell, Quote, ask_of, RowOf, AreQuotes, row_of, IsAt, all_of, IfOk-weaker}
+use Rattle.buck_dp.proofs.KeptLemmas.{put_at, kept_more}
 use Rattle.buck_dp.proofs.keeping.Kept.draw_kept.Goals as goal
 
-pub returns-in_err-place-clause-kept : goal.returns-in_err-place-clause-kept
-returns-in_err-place-clause-kept c =
-    let R = RowOf c.args.market.sheet.now c.args.market.menu.now in
-    let new = c.make_room.new in
-    let k = c.make_row.ensures.kept in
-    record {
-      terms = c.list.ensures.kept.terms;
-      lists = c.list.ensures.kept.lists;
-      rows = kept_room R c.list.new.self.rows new.heads c.list.new.self.cells.items new.items.items k.0
-          c.make_row.new.cells.items
-          c.make_room.ensures k.1 c.list.ensures.kept.rows;
-    }
+pub put_row-requires-clause-small : goal.put_row-requires-clause-small
+put_row-requires-clause-small c k q at =
+    let l = c.in_ok-list.list in
+    (c.in_ok-list.ensures.4.1.real k q
+    (subst (λ (qs : List Quote). slice_get (take (l.past - l.from) (drop l.from qs)) k ≡ Some q) c.deref.ensures.value
+    at)).small
 
-pub returns-clause-kept : goal.returns-clause-kept
-returns-clause-kept c =
-    let R = RowOf c.args.market.sheet.now c.args.market.menu.now in
-    let new = c.make_room.new in
-    let k = c.make_row.ensures.kept in
-    let head : Head =
-    record { key = record { takers = c.args.group.takers; at = c.args.diameter }; place = c.in_ok-place.place } in
-    record {
-      terms = c.list.ensures.kept.terms;
-      lists = c.list.ensures.kept.lists;
-      rows = kept_push R new.heads c.keep.new.self c.make_row.new.cells.items head c.keep.ensures.kept
-          c.in_ok-place.ensures.row
-          (kept_room R c.list.new.self.rows new.heads c.list.new.self.cells.items new.items.items k.0
-          c.make_row.new.cells.items
-          c.make_room.ensures k.1 c.list.ensures.kept.rows);
-    }
+pub returns : goal.returns
+returns c =
+    let s = c.args.market.sheet.now in
+    let m = c.args.market.menu.now in
+    let R = RowOf s m in
+    let key : Key = record { takers = c.args.group.takers; at = c.args.diameter } in
+    let self = c.list.new.self in
+    let was = c.in_ok-list.ensures in
+    let new = c.put_row.new.cells.items in
+    let l = c.in_ok-list.list in
+    let quotes : List Quote = take (l.past - l.from) (drop l.from c.deref.result.now) in
+    let row : List Cell = row_of quotes c.args.diameter (all_of m) in
+    let right : R key row = record {
+      ask = ask_of m was.1;
+      quotes = quotes;
+      own = was.2;
+      asked = was.3;
+      list = subst (λ (qs : List Quote). AreQuotes s (codes_in m.offers.items) (ask_of m was.1) (length m.offers.items)
+          (take (l.past - l.from) (drop l.from qs))) (sym c.deref.ensures.value) was.4.1;
+      is = refl;
+    } in
+    IfOk-weaker c.keep.result _ _ (λ p e. (
+      record {
+        valid = was.0.valid;
+        menu = was.0.menu;
+        kept = record {
+          terms = was.0.kept.terms;
+          lists = was.0.kept.lists;
+          rows = kept_more R self.rows c.make_room.new.heads c.keep.new.self self.cells.items
+              c.make_room.new.items.items row new key c.in_ok-place.place
+              c.make_room.ensures c.in_ok-place.ensures right c.keep.ensures.kept was.0.kept.rows;
+        };
+      },
+      subst (λ q. IsAt R new key q) (sym e)
+          (put_at R c.make_room.new.items.items row new key c.in_ok-place.place c.in_ok-place.ensures right),
+    )) c.keep.ensures.place

@@ -1,38 +1,81 @@
-use Rattle.buck_dp.proofs.Words.{arith, rules, Head, ListOf}
-use Rattle.buck_dp.proofs.KeptLemmas.{kept_is, kept_room, kept_push}
+use Rattle.buck_dp.proofs.Words.{◌≡◌, ◌-◌, ℕ, ◌∙◌, take, drop, ap, InstructionParts, List, Option, length, refl, sym, subst, arith, rules, codes_in, Key, Ask, Term, ask_of, ListOf, AreTerms, AreQuotes, IsAt, part_of, IfOk-weaker}
+use Rattle.buck_dp.proofs.KeptLemmas.{kept_is, put_at, kept_more}
 use Rattle.buck_dp.proofs.keeping.Kept.list.Goals as goal
 
-pub returns-in-Some-clause-list : goal.returns-in-Some-clause-list
-returns-in-Some-clause-list c =
-    kept_is (ListOf c.args.market.sheet.now c.args.market.menu.now) c.args.self.now.lists c.args.self.now.quotes.items
-    (record { takers = c.args.group.takers; at = c.args.band }) c.in-Some.place c.requires.kept.lists c.in-Some.ensures
+-- terms as they are asked for
+asked : (i : InstructionParts) (codes : List ℕ) (ask given : Ask) (n : ℕ) (terms slice : List (Option Term)) → given ≡ ask
+    → slice ≡ terms → AreTerms i codes ask n terms → AreTerms i codes given (length slice) slice
+asked i codes ask given n terms slice is same are =
+    rw (is, same) (subst (λ k. AreTerms i codes ask k terms) (sym are.number) are)
 
-pub returns-in_err-place-clause-kept : goal.returns-in_err-place-clause-kept
-returns-in_err-place-clause-kept c =
-    let R = ListOf c.args.market.sheet.now c.args.market.menu.now in
-    let new = c.make_room.new in
-    let k = c.make_list.ensures.kept in
-    record {
-      terms = c.terms.ensures.kept.terms;
-      lists = kept_room R c.terms.new.self.lists new.heads c.terms.new.self.quotes.items new.items.items k.0
-          c.make_list.new.quotes.items
-          c.make_room.ensures k.1 c.terms.ensures.kept.lists;
-      rows = c.terms.ensures.kept.rows;
-    }
+pub terms-requires-clause-band : goal.terms-requires-clause-band
+terms-requires-clause-band c =
+    c.ask_for-ask.ensures.band c.args.market.sheet.now.instruction c.requires.kept.menu.limits
 
-pub returns-clause-kept : goal.returns-clause-kept
-returns-clause-kept c =
-    let R = ListOf c.args.market.sheet.now c.args.market.menu.now in
-    let new = c.make_room.new in
-    let k = c.make_list.ensures.kept in
-    let head : Head =
-    record { key = record { takers = c.args.group.takers; at = c.args.band }; place = c.in_ok-place.place } in
-    record {
-      terms = c.terms.ensures.kept.terms;
-      lists = kept_push R new.heads c.keep.new.self c.make_list.new.quotes.items head c.keep.ensures.kept
-          c.in_ok-place.ensures.list
-          (kept_room R c.terms.new.self.lists new.heads c.terms.new.self.quotes.items new.items.items k.0
-          c.make_list.new.quotes.items
-          c.make_room.ensures k.1 c.terms.ensures.kept.lists);
-      rows = c.terms.ensures.kept.rows;
-    }
+pub put_list-requires-clause-terms : goal.put_list-requires-clause-terms
+put_list-requires-clause-terms c =
+    let m = c.args.market.menu.now in
+    let place = c.in_ok-terms.terms in
+    let are = c.in_ok-terms.ensures.1.1 in (
+      codes_in m.offers.items,
+      asked c.args.market.sheet.now.instruction (codes_in m.offers.items) _ c.ask_for-ask.result
+          (length m.offers.items) _ (take (place.past - place.from) (drop place.from c.deref.result.now))
+          c.ask_for-ask.ensures.ask
+          (ap (λ (ts : List (Option Term)). take (place.past - place.from) (drop place.from ts)) c.deref.ensures.value)
+          are,
+    )
+
+pub put_list-requires-clause-band : goal.put_list-requires-clause-band
+put_list-requires-clause-band c =
+    let b = c.ask_for-ask.ensures.band c.args.market.sheet.now.instruction c.requires.kept.menu.limits in
+    (b.order, omega (arith, b.high))
+
+pub returns-in-Some : goal.returns-in-Some
+returns-in-Some c =
+    let key : Key = record { takers = c.args.group.takers; at = c.band_of-band.result } in (
+      c.requires.kept,
+      key,
+      refl,
+      (c.band_of-band.ensures.from, c.band_of-band.ensures.past),
+      kept_is (ListOf c.args.market.sheet.now c.args.market.menu.now) c.args.self.now.lists
+          c.args.self.now.quotes.items key c.in-Some.place c.requires.kept.kept.lists c.in-Some.ensures,
+    )
+
+pub returns : goal.returns
+returns c =
+    let s = c.args.market.sheet.now in
+    let m = c.args.market.menu.now in
+    let R = ListOf s m in
+    let key : Key = record { takers = c.args.group.takers; at = c.band_of-band.result } in
+    let codes : List ℕ = codes_in m.offers.items in
+    let self = c.terms.new.self in
+    let was = c.in_ok-terms.ensures in
+    let put = c.in_ok-place.ensures in
+    let at = c.in_ok-terms.terms in
+    let slice : List (Option Term) = take (at.past - at.from) (drop at.from c.deref.result.now) in
+    let terms = asked s.instruction codes _ c.ask_for-ask.result (length m.offers.items) _ slice
+    c.ask_for-ask.ensures.ask
+    (ap (λ (ts : List (Option Term)). take (at.past - at.from) (drop at.from ts)) c.deref.ensures.value) was.1.1 in
+    let right : R key put.0 =
+    subst (λ (a : Ask). AreQuotes s codes a (length m.offers.items) put.0) c.ask_for-ask.ensures.ask
+    (subst (λ (k : ℕ). AreQuotes s codes c.ask_for-ask.result k put.0)
+    (ap (λ (ts : List (Option Term)). length (take (at.past - at.from) (drop at.from ts))) c.deref.ensures.value
+    ∙ was.1.1.number) (put.2 codes terms)) in
+    IfOk-weaker c.keep.result _ _ (λ p e. (
+      record {
+        valid = was.0.valid;
+        menu = was.0.menu;
+        kept = record {
+          terms = was.0.kept.terms;
+          lists = kept_more R self.lists c.make_room.new.heads c.keep.new.self self.quotes.items
+              c.make_room.new.items.items put.0 c.put_list.new.quotes.items key c.in_ok-place.place
+              c.make_room.ensures put.1 right c.keep.ensures.kept was.0.kept.lists;
+          rows = was.0.kept.rows;
+        };
+      },
+      key,
+      refl,
+      (c.band_of-band.ensures.from, c.band_of-band.ensures.past),
+      subst (λ q. IsAt R c.put_list.new.quotes.items key q) (sym e)
+          (put_at R c.make_room.new.items.items put.0 c.put_list.new.quotes.items key c.in_ok-place.place put.1 right),
+    )) c.keep.ensures.place

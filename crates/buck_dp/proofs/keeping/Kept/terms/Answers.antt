@@ -1,39 +1,40 @@
-use Rattle.buck_dp.proofs.Words.{arith, rules, Head, TermsOf}
-use Rattle.buck_dp.proofs.KeptLemmas.{kept_is, kept_room, kept_push}
+use Rattle.buck_dp.proofs.Words.{◌≡◌, ◌∙◌, ◌∷◌, List, length, sym, subst, arith, rules, InstructionParts, Offer, codes_in, Ask, TermsOf, AreTerms, IsAt, IfOk-weaker}
+use Rattle.buck_dp.proofs.KeptLemmas.{kept_is, put_at, kept_more}
 use Rattle.buck_dp.proofs.keeping.Kept.terms.Goals as goal
 
-pub returns-in-Some-clause-terms : goal.returns-in-Some-clause-terms
-returns-in-Some-clause-terms c =
-    kept_is (TermsOf c.args.market.sheet.now.instruction c.args.market.menu.now)
-    c.args.self.now.asked c.args.self.now.terms.items
-    (record { takers = c.args.group.takers; at = c.args.band }) c.in-Some.place c.requires.kept.terms c.in-Some.ensures
+pub returns-in-Some : goal.returns-in-Some
+returns-in-Some c = (
+  c.requires.kept,
+  kept_is (TermsOf c.args.market.sheet.now.instruction c.args.market.menu.now)
+      c.args.self.now.asked c.args.self.now.terms.items c.args.key c.in-Some.place c.requires.kept.kept.terms
+      c.in-Some.ensures,
+)
 
-pub returns-in_err-place-clause-kept : goal.returns-in_err-place-clause-kept
-returns-in_err-place-clause-kept c =
-    let R = TermsOf c.args.market.sheet.now.instruction c.args.market.menu.now in
-    let new = c.make_room.new in
-    let k = c.make_terms.ensures.kept in
-    record {
-      terms = kept_room R c.args.self.now.asked new.heads c.args.self.now.terms.items new.items.items k.0
-          c.make_terms.new.terms.items
-          c.make_room.ensures k.1 c.requires.kept.terms;
-      lists = c.requires.kept.lists;
-      rows = c.requires.kept.rows;
-    }
-
-pub returns-clause-kept : goal.returns-clause-kept
-returns-clause-kept c =
-    let R = TermsOf c.args.market.sheet.now.instruction c.args.market.menu.now in
-    let new = c.make_room.new in
-    let k = c.make_terms.ensures.kept in
-    let head : Head =
-    record { key = record { takers = c.args.group.takers; at = c.args.band }; place = c.in_ok-place.place } in
-    record {
-      terms = kept_push R new.heads c.keep.new.self c.make_terms.new.terms.items head c.keep.ensures.kept
-          c.in_ok-place.ensures.terms
-          (kept_room R c.args.self.now.asked new.heads c.args.self.now.terms.items new.items.items k.0
-          c.make_terms.new.terms.items
-          c.make_room.ensures k.1 c.requires.kept.terms);
-      lists = c.requires.kept.lists;
-      rows = c.requires.kept.rows;
-    }
+pub returns : goal.returns
+returns c =
+    let i = c.args.market.sheet.now.instruction in
+    let m = c.args.market.menu.now in
+    let R = TermsOf i m in
+    let was = c.requires.kept in
+    let put = c.in_ok-place.ensures in
+    let right : R c.args.key put.0 =
+    subst (λ (a : Ask). AreTerms i (codes_in m.offers.items) a (length m.offers.items) put.0) c.requires.ask
+    (subst (λ (os : List Offer). AreTerms i (codes_in os) c.args.ask (length os) put.0) c.as_slice-offers.ensures.value
+    (subst (λ (j : InstructionParts). AreTerms j (codes_in c.as_slice-offers.result.now) c.args.ask
+    (length c.as_slice-offers.result.now) put.0) (c.deref.ensures ∙ c.instruction.ensures.instruction) put.2)) in
+    IfOk-weaker c.keep.result _ _ (λ p e. (
+      record {
+        valid = was.valid;
+        menu = was.menu;
+        kept = record {
+          terms = kept_more R c.args.self.now.asked c.make_room.new.heads c.keep.new.self c.args.self.now.terms.items
+              c.make_room.new.items.items put.0 c.put_terms.new.terms.items c.args.key c.in_ok-place.place
+              c.make_room.ensures put.1 right c.keep.ensures.kept was.kept.terms;
+          lists = was.kept.lists;
+          rows = was.kept.rows;
+        };
+      },
+      subst (λ q. IsAt R c.put_terms.new.terms.items c.args.key q) (sym e)
+          (put_at R c.make_room.new.items.items put.0 c.put_terms.new.terms.items c.args.key c.in_ok-place.place put.1
+          right),
+    )) c.keep.ensures.place

@@ -1,9 +1,9 @@
-use Rattle.buck_dp.proofs.Words.{◌≡◌, ◌≤◌, ground_of}
-use Rattle.buck_dp.proofs.planning.offer_kept.Given as goal
+use Rattle.buck_dp.proofs.Words.{◌≡◌, ◌≤◌, IsSearch, ground_of}
+use Rattle.buck_dp.proofs.planning.offer_same.Given as goal
 
 abbrev pub invariant-loop-search : goal.invariant-loop-search
 invariant-loop-search l = record {
-  ground : l.search.ground ≡ ground_of l.site;
+  search : IsSearch (ground_of l.site) l.search;
   low : l.near.low ≤ l.search.from;
   high : l.search.from ≤ l.fn.search.from;
   stop : l.search.stop ≡ 0;
