@@ -8,6 +8,12 @@ module _ (cells : List Cell) (top first stop n : ℕ) (low : stop ≤ top) (v u 
   pub later_same : (k : ℕ) → top ≤ k → bid_at u k ≡ bid_at v k
   later_same k le = search rules
 
+  -- what could be offered at first can be offered still
+  pub fits_still : AreFit cells top first stop v → (k : ℕ) (c : Cell) → slice_get cells k ≡ Some c
+      → IsNear top first stop c
+      → (top + c.rise < length u) × (c.bid.worth + (bid_at u (top + c.rise)).worth ≤ 4000000000000000)
+  fits_still fit k c at near = search (rules, later_same)
+
   module _ (c : Cell) (w : List BidParts) (there : slice_get cells n ≡ Some c) (near : IsNear top first stop c)
       (number : length w ≡ length u)
       (others : (i : ℕ) → i + c.steps ≢ top → bid_at w i ≡ bid_at u i)

@@ -20,7 +20,7 @@ module _ {X : Type 0} (R : Key → List X → Type 0) where
   kept_none heads xs none = subst (λ (hs : List Head). Each R hs xs) (sym none) (λ n h at. absurd (none-some h at))
 
   -- what is put behind a list stands there
-  pub put_at : (xs ys zs : List X) (key : Key) (place : Place) → IsBehind xs ys zs place → R key ys → IsAt R zs key place
+  put_at : (xs ys zs : List X) (key : Key) (place : Place) → IsBehind xs ys zs place → R key ys → IsAt R zs key place
   put_at xs ys zs key place is right = search (rules, length-append, drop_at, take_all)
 
   -- what is kept stays right where all were dropped, and where more stands behind
@@ -35,13 +35,20 @@ module _ {X : Type 0} (R : Key → List X → Type 0) where
   -- and one more is kept, or not
   pub kept_more : (old heads new : List Head) (xs ys zs vs : List X) (key : Key) (place : Place)
       → ((ys ≡ xs) × (heads ≡ old)) ⊎ (heads ≡ []) → IsBehind ys zs vs place → R key zs
-      → (new ≡ heads ++ record { key = key; place = place } ∷ []) ⊎ (new ≡ heads) → Each R old xs → Each R new vs
-  kept_more old heads new xs ys zs vs key place room is right (inr same) each =
-      subst (λ (hs : List Head). Each R hs vs) (sym same) (kept_room old heads xs ys zs vs room is.0 each)
-  kept_more old heads new xs ys zs vs key place room is right (inl pushed) each =
-      subst (λ (hs : List Head). Each R hs vs) (sym pushed)
-      (push_each (λ n h. IsAt R vs h.key h.place) heads (record { key = key; place = place })
-      (kept_room old heads xs ys zs vs room is.0 each) (put_at ys zs vs key place is right))
+      → (new ≡ heads ++ record { key = key; place = place } ∷ []) ⊎ (new ≡ heads) → Each R old xs
+      → Each R new vs × IsAt R vs key place
+  kept_more old heads new xs ys zs vs key place room is right kept each = (grown kept, there)
+    where
+      there : IsAt R vs key place
+      there = put_at ys zs vs key place is right
+
+      grown : (new ≡ heads ++ record { key = key; place = place } ∷ []) ⊎ (new ≡ heads) → Each R new vs
+      grown (inr same) =
+          subst (λ (hs : List Head). Each R hs vs) (sym same) (kept_room old heads xs ys zs vs room is.0 each)
+      grown (inl pushed) =
+          subst (λ (hs : List Head). Each R hs vs) (sym pushed)
+          (push_each (λ n h. IsAt R vs h.key h.place) heads (record { key = key; place = place })
+          (kept_room old heads xs ys zs vs room is.0 each) there)
 
 -- what is kept is right under another sheet of the instruction, once what hangs on prices is dropped
 pub prices_dropped : (s t : SheetParts) (m : Menu) (old new : Kept) → s.instruction ≡ t.instruction

@@ -254,11 +254,15 @@ module _ (s : SheetParts) (codes : List ℕ) (n : ℕ) (takers : Takers) (d : �
   pub row_order : IsSheet s → IsStrictlyIncreasing codes → AreByLength row
   row_order valid rise j k a b le here there =
       let o = made_of (cell_for d reach) is.quotes j k a b le (listed j a here) (listed k b there) in
-      let order = is.list.order o.m o.n o.x o.y o.order o.here o.there in
-      let steps = quote_order s codes is.ask d o.x o.y valid rise is.asked (is.list.real o.m o.x o.here)
-      (is.list.real o.n o.y o.there) order in
-      omega (arith, steps, ap (λ (c : Cell). c.steps) (cell_is d reach o.x a o.first).1,
-        ap (λ (c : Cell). c.steps) (cell_is d reach o.y b o.second).1)
+      let order = is.list.order o.0 o.1 o.2 o.3 o.4 o.5 o.6 in
+      let steps = quote_order s codes is.ask d o.2 o.3 valid rise is.asked (is.list.real o.0 o.2 o.5)
+      (is.list.real o.1 o.3 o.6) order in
+      omega (
+        arith,
+        steps,
+        ap (λ (c : Cell). c.steps) (cell_is d reach o.2 a o.7).1,
+        ap (λ (c : Cell). c.steps) (cell_is d reach o.3 b o.8).1,
+      )
 
   pub row_placed : (k : ℕ) (c : Cell) → slice_get row k ≡ Some c → (reach.past < c.steps) × IsPlaced reach.far c
   row_placed k c at =

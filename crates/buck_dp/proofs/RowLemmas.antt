@@ -3,31 +3,14 @@ use Rattle.buck_dp.proofs.Words.{◌≡◌, ℕ, zero, suc, ◌+◌, ◌-◌, �
 use Rattle.buck_dp.proofs.Marks.{mark_code}
 
 -- two elements of what is made of a list are made of two of its elements, in the same order
-pub record AreMadeOf {X Y : Type 0} (h : X → Option Y) (xs : List X) (a b : Y) : Type 0 where
-  pub m : ℕ
-  pub n : ℕ
-  pub x : X
-  pub y : X
-  pub order : m ≤ n
-  pub here : slice_get xs m ≡ Some x
-  pub there : slice_get xs n ≡ Some y
-  pub first : h x ≡ Some a
-  pub second : h y ≡ Some b
+abbrev pub AreMadeOf : {X Y : Type 0} → (X → Option Y) → List X → Y → Y → Type 0
+AreMadeOf {X} h xs a b = (m : ℕ) × (n : ℕ) × (x : X) × (y : X) × (m ≤ n) × (slice_get xs m ≡ Some x)
+    × (slice_get xs n ≡ Some y) × (h x ≡ Some a) × (h y ≡ Some b)
 
 module _ {X Y : Type 0} (h : X → Option Y) where
   -- so with one element more before these
   behind : (z : X) (xs : List X) (a b : Y) → AreMadeOf h xs a b → AreMadeOf h (z ∷ xs) a b
-  behind z xs a b r = record {
-    m = suc r.m;
-    n = suc r.n;
-    x = r.x;
-    y = r.y;
-    order = omega (arith, r.order);
-    here = r.here;
-    there = r.there;
-    first = r.first;
-    second = r.second;
-  }
+  behind z xs a b r = (suc r.0, suc r.1, r.2, r.3, omega (arith, r.4), r.5, r.6, r.7, r.8)
 
   made_front : (z : X) (xs : List X) (o : Option Y) → h z ≡ o
       → ((j k : ℕ) (a b : Y) → j ≤ k → slice_get (filter_map h xs) j ≡ Some a → slice_get (filter_map h xs) k ≡ Some b
@@ -38,30 +21,11 @@ module _ {X Y : Type 0} (h : X → Option Y) where
   made_front z xs (Some y) e rest (suc j) zero a b le here there = absurd (omega arith)
   made_front z xs (Some y) e rest (suc j) (suc k) a b le here there =
       behind z xs a b (rest j k a b (omega arith) here there)
-  made_front z xs (Some y) e rest zero zero a b le here there = record {
-    m = 0;
-    n = 0;
-    x = z;
-    y = z;
-    order = omega arith;
-    here = refl;
-    there = refl;
-    first = e ∙ here;
-    second = e ∙ there;
-  }
+  made_front z xs (Some y) e rest zero zero a b le here there =
+      (0, 0, z, z, omega arith, refl, refl, e ∙ here, e ∙ there)
   made_front z xs (Some y) e rest zero (suc k) a b le here there =
       let r = rest k k b b (omega arith) there there in
-      record {
-        m = 0;
-        n = suc r.n;
-        x = z;
-        y = r.y;
-        order = omega arith;
-        here = refl;
-        there = r.there;
-        first = e ∙ here;
-        second = r.second;
-      }
+      (0, suc r.1, z, r.3, omega arith, refl, r.6, e ∙ here, r.8)
 
   pub made_of : (xs : List X) (j k : ℕ) (a b : Y) → j ≤ k → slice_get (filter_map h xs) j ≡ Some a
       → slice_get (filter_map h xs) k ≡ Some b → AreMadeOf h xs a b
@@ -111,7 +75,7 @@ module _ (d : ℕ) (reach : Reach) where
       → (reach.past < c.steps) × IsPlaced reach.far c
   cell_placed quotes k c at =
       let o = made_of (cell_for d reach) quotes k k c c (omega arith) at at in
-      let w = cell_is o.x c o.first in
+      let w = cell_is o.2 c o.7 in
       subst (λ (x : Cell). (reach.past < x.steps) × IsPlaced reach.far x) w.1
       (w.0.0, (omega (arith, w.0.1), refl))
 

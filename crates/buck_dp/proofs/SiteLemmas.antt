@@ -167,8 +167,8 @@ module _ (x : Site) (is : IsSite x) where
   -- so has the row of a price list for the starts of a part
   pub list_offered : (s : Search) (ds : List ℕ) (part : Part) (ask : Ask) (quotes : List Quote) (left room : ℕ)
       → IsSearch (ground_of x) s
-      → ((j : ℕ) → j < points_of (ground_of x)
-      → slice_index ds j ≡ diameter_at x.stem.now.samples (j * x.market.sheet.now.instruction.«module»))
+      → ((j : ℕ) → j < grid.points_of x.profile.now
+      → slice_index ds j ≡ diameter_at x.profile.now.stem.samples (j * x.profile.now.«module»))
       → IsPartTo x s.from s.stop part → ask.takers ≡ part.group.takers → IsAsked ask (slice_index ds s.from)
       → AreQuotes x.market.sheet.now (codes_in x.market.menu.now.offers.items) ask (length x.market.menu.now.offers.items)
       quotes
@@ -178,7 +178,8 @@ module _ (x : Site) (is : IsSite x) where
       (record { past = s.from - s.stop; far = s.from - part.first; room = room }))
   list_offered s ds part ask quotes left room so_far known here own asked are long room_is =
       let reach : Reach = record { past = s.from - s.stop; far = s.from - part.first; room = room } in
-      part_offered ds s.from s.stop part reach (row_of quotes (slice_index ds s.from) reach) known
+      part_offered ds s.from s.stop part reach (row_of quotes (slice_index ds s.from) reach)
+      (known_of x.profile.now x.stem.now x.market.sheet.now.instruction.«module» ds is.profile known)
       (omega (arith, so_far.below)) (λ i e bid low log. omega (arith, so_far.below, low)) here
       (omega (arith, long, room_is))
       (elim (cases_lt left x.market.menu.now.most_trim) [

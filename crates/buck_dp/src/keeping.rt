@@ -114,7 +114,13 @@ impl Kept {
     }
 
     /// Where the terms of some takers in a band stand, noted at a slot. They are made where they aren't there.
-    fn terms(&mut self, market: Market<'_>, key: Key, ask: Ask, slot: usize) -> Result<Place, Memory>
+    fn terms(
+        &mut self,
+        market: Market<'_>,
+        key: Key,
+        ask: Ask,
+        slot: usize,
+    ) -> Result<Place, Memory>
         requires kept { IsKeptFor market self.old }
         requires ask { ask ≡ ask_of market.menu.now key }
         requires band { IsBandOf market.sheet.now.instruction ask.band.thinnest ask.band.past }
@@ -187,7 +193,12 @@ impl Kept {
             far: market.menu.most_steps,
             room: market.menu.most_trim,
         };
-        let place = put_row(&mut self.cells, &self.quotes[list.from..list.past], diameter, all)?;
+        let place = put_row(
+            &mut self.cells,
+            &self.quotes[list.from..list.past],
+            diameter,
+            all,
+        )?;
         self.rows.keep(Head { key, place }, slot)
     }
 

@@ -121,7 +121,13 @@ fn cut_wanted(
     };
     make_room(memo);
     search_stem(site, memo)?;
-    let logs = follow(alloc, sheet, stem, menu.offers.as_slice(), &memo.search.choices)?;
+    let logs = follow(
+        alloc,
+        sheet,
+        stem,
+        menu.offers.as_slice(),
+        &memo.search.choices,
+    )?;
     let worth = memo.search.worth();
     memo.is_first = false;
     memo.profile = profile.into_lists();

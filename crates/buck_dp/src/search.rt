@@ -14,7 +14,7 @@ ghost use Rattle.buck_dp.specs.inner.Rows.{IsPart};
 ghost use Rattle.buck_dp.specs.inner.Searched.{IsSearch};
 
 use crate::bid::Bid;
-use crate::offering::{Cell, Reach, Starts, offer_starts, offer_list, settle};
+use crate::offering::{Cell, Reach, Starts, offer_list, offer_starts, settle};
 use crate::pricing::Quote;
 use buck_stem::Stem;
 use buck_value::Sheet;

@@ -1,28 +1,28 @@
-use Rattle.buck_dp.proofs.Words.{◌≡◌, ℕ, ◌+◌, List, [], length, length-append, take, get_or, Some, None, sym, subst, ap, ◌∙◌, arith, rules, Cell, Option, cons_option, cell_for, row_of, AreOffered, IsNear, slice_get, IsGreater, plus, bid_at}
-use Rattle.buck_dp.proofs.CellLemmas.{offered_more, later_same}
+use Rattle.buck_dp.proofs.Words.{◌≡◌, ℕ, ◌+◌, List, [], length, length-append, take, get_or, Some, None, sym, subst, ap, ◌∙◌, arith, rules, Cell, Option, cons_option, cell_for, row_of, AreOffered, bid_at, ◌<◌, ◌≤◌, ◌*◌, Reach, BidParts, AreFit, Quote}
+use Rattle.buck_dp.proofs.CellLemmas.{offered_more, fits_still}
 use Rattle.buck_dp.proofs.RowLemmas.{blank, cell_there, row_more, cell_near}
 use Rattle.buck_dp.proofs.offering.offer_quotes.Goals.{in-Some, in_default}
 use Rattle.buck_dp.proofs.offering.offer_quotes.Goals as goal
 
+-- the cell of the next quote can be offered
+next_fits : (list : List Quote) (d : ℕ) (reach : Reach) (n : ℕ) (c : Cell) (v u : List BidParts) → n < length list
+    → cell_for d reach (get_or list n blank) ≡ Some c → AreFit (row_of list d reach) reach.far 0 reach.far v
+    → AreOffered (row_of list d reach) reach.far 0 reach.far (length (row_of (take n list) d reach)) v u
+    → (reach.far + c.rise < length u) × (c.bid.worth + (bid_at u (reach.far + c.rise)).worth ≤ 4000000000000000)
+next_fits list d reach n c v u lt is fit offered =
+    fits_still (row_of list d reach) reach.far 0 reach.far (length (row_of (take n list) d reach)) (omega arith) v u
+    offered fit (length (row_of (take n list) d reach)) c (cell_there d reach list n c lt is)
+    (cell_near d reach (get_or list n blank) c is)
+
 pub offer_near-requires-clause-there : goal.offer_near-requires-clause-there
 offer_near-requires-clause-there c =
-    let a = c.args in
-    let is = sym c.cell_at.ensures ∙ c.in-Some.is in
-    let at = cell_there a.diameter a.reach a.list.now c.loop-quote.quote-index c.in-Some.cell c.loop-quote-test.true is in
-    let near = cell_near a.diameter a.reach (get_or a.list.now c.loop-quote.quote-index blank) c.in-Some.cell is in
-    search rules
+    (next_fits c.args.list.now c.args.diameter c.args.reach _ _ _ _ c.loop-quote-test.true
+    (sym c.cell_at.ensures ∙ c.in-Some.is) c.requires.fit c.loop-quote.invariant).0
 
 pub offer_near-requires-clause-low : goal.offer_near-requires-clause-low
 offer_near-requires-clause-low c =
-    let a = c.args in
-    let far : ℕ = a.reach.far in
-    let row : List Cell = row_of a.list.now a.diameter a.reach in
-    let is = sym c.cell_at.ensures ∙ c.in-Some.is in
-    let at = cell_there a.diameter a.reach a.list.now c.loop-quote.quote-index c.in-Some.cell c.loop-quote-test.true is in
-    let near = cell_near a.diameter a.reach (get_or a.list.now c.loop-quote.quote-index blank) c.in-Some.cell is in
-    let same = later_same row far 0 far (length (row_of (take c.loop-quote.quote-index a.list.now) a.diameter a.reach))
-    (omega arith) a.values.now c.loop-quote.values c.loop-quote.invariant (far + c.in-Some.cell.rise) (omega arith) in
-    search rules
+    (next_fits c.args.list.now c.args.diameter c.args.reach _ _ _ _ c.loop-quote-test.true
+    (sym c.cell_at.ensures ∙ c.in-Some.is) c.requires.fit c.loop-quote.invariant).1
 
 pub loop-quote-preserved : goal.loop-quote-preserved
 loop-quote-preserved c =

@@ -7,8 +7,12 @@ pub offer_part-requires-clause-late : goal.offer_part-requires-clause-late
 offer_part-requires-clause-late c k cell at =
     let x = c.args.site in
     let m = x.market.menu.now in
-    omega (arith, c.requires.stop, (row_placed x.market.sheet.now (codes_in m.offers.items) (length m.offers.items)
-    c.args.part.group.takers c.args.diameter (all_of m) c.args.cells.now c.requires.cells k cell at).0)
+    omega (
+      arith,
+      c.requires.stop,
+      (row_placed x.market.sheet.now (codes_in m.offers.items) (length m.offers.items)
+          c.args.part.group.takers c.args.diameter (all_of m) c.args.cells.now c.requires.cells k cell at).0,
+    )
 
 pub offer_part-requires-clause-back : goal.offer_part-requires-clause-back
 offer_part-requires-clause-back c k cell at =

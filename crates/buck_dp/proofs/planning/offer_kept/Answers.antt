@@ -20,19 +20,3 @@ offer_same-requires-clause-cells c =
     subst (λ (cs : List Cell). IsRow x.market.sheet.now (codes_in m.offers.items) (length m.offers.items)
     c.args.near.part.group.takers d (all_of m) cs) (sym c.cells-cells.ensures)
     c.in_ok-place.ensures.1.1
-
-pub returns : goal.returns
-returns c =
-    let plan = c.requires.plan in
-    let new = c.offer_same.ensures in
-    record {
-      plan = record {
-        site = plan.site;
-        kinds = plan.kinds;
-        kept = c.in_ok-place.ensures.0.kept;
-        search = new.search;
-      };
-      low = omega (arith, new.from, c.requires.near.low);
-      high = new.from.1;
-      stop = new.stop;
-    }

@@ -6,7 +6,6 @@ pub returns-then-is_empty : goal.returns-then-is_empty
 returns-then-is_empty c =
     let p : GroundParts = ground_of c.args.site in
     let now = c.loop-memo.invariant in
-    let plan = now.plan in
     let t : ℕ = c.loop-memo.memo.search.from in
     let last : ℕ = c.loop-memo.memo.search.stop - 1 in
     let part = c.in_ok-part.ensures.part in
@@ -14,56 +13,17 @@ returns-then-is_empty c =
     let has : HasTakers p takers last t =
     subst (λ (n : ℕ). HasTakers p takers last n) (sym now.from)
     (part.takers last (omega (arith, part.first)) (omega (arith, part.first))) in
-    record {
-      plan = record {
-        site = plan.site;
-        kinds = c.in_ok-part.ensures.known;
-        kept = plan.kept;
-        search = c.close_top.ensures.search p plan.search
-            (λ i e bid lt log.
-            none_before p last i t t e takers bid has (c.is_empty.ensures c.if-is_empty.true) (omega (arith, lt))
-            (omega arith) log);
-      };
-      low = omega (arith, c.close_top.ensures.from, now.from);
-      high = omega (arith, c.close_top.ensures.from, now.from);
-      stop = c.close_top.ensures.stop;
-    }
-
-pub offer_part-requires-clause-plan : goal.offer_part-requires-clause-plan
-offer_part-requires-clause-plan c =
-    let plan = c.loop-memo.invariant.plan in
-    record {
-      site = plan.site;
-      kinds = c.in_ok-part.ensures.known;
-      kept = plan.kept;
-      search = plan.search;
-    }
-
-pub offer_part-requires-clause-part : goal.offer_part-requires-clause-part
-offer_part-requires-clause-part c =
-    let part = c.in_ok-part.ensures.part in
-    record {
-      first = part.first;
-      takers = λ i low high.
-          subst (λ (n : ℕ). HasTakers (ground_of c.args.site) c.in_ok-part.part.group.takers i n)
-          (sym c.loop-memo.invariant.from) (part.takers i low high);
-    }
+    let closed = c.close_top.ensures.search p now.plan.search
+    (λ i e bid lt log.
+    none_before p last i t t e takers bid has (c.is_empty.ensures c.if-is_empty.true) (omega (arith, lt)) (omega arith)
+    log) in
+    search rules
 
 pub returns : goal.returns
 returns c =
-    let now = c.loop-memo.invariant in
-    let plan = now.plan in
-    record {
-      plan = record {
-        site = plan.site;
-        kinds = plan.kinds;
-        kept = plan.kept;
-        search = c.close_top-2.ensures.search (ground_of c.args.site) plan.search
-            (λ i e bid lt log.
-            too_long (ground_of c.args.site) c.args.site.market.menu.now.most_steps i c.loop-memo.memo.search.from e bid
-            plan.site.valid plan.site.menu.long (omega (arith, lt)) log);
-      };
-      low = omega (arith, c.close_top-2.ensures.from, now.from);
-      high = omega (arith, c.close_top-2.ensures.from, now.from);
-      stop = c.close_top-2.ensures.stop;
-    }
+    let plan = c.loop-memo.invariant.plan in
+    let closed = c.close_top-2.ensures.search (ground_of c.args.site) plan.search
+    (λ i e bid lt log.
+    too_long (ground_of c.args.site) c.args.site.market.menu.now.most_steps i c.loop-memo.memo.search.from e bid
+    plan.site.valid plan.site.menu.long (omega (arith, lt)) log) in
+    search rules

@@ -12,11 +12,11 @@ returns-clause-part c =
     record {
       first = omega (arith, c.run_start-first.ensures.low);
       takers = λ i low high.
-    kind_takers (ground_of x) i top kind c.in_ok-group.group.takers c.requires.site.sound c.species.ensures
-    (mask_of x.profile.now x.stem.now x.market.sheet.now.instruction.«module» i top c.grades.result
-    c.requires.site.profile
-    (c.run_start-first.ensures.same top c.grades.result (omega arith)
-    (subst (λ (q : ProfileParts). top < grid.points_of q) (sym c.requires.site.profile) c.requires.top)
-    c.grades.ensures i low (omega arith)))
-    c.in_ok-group.ensures.right;
+          kind_takers (ground_of x) i top kind c.in_ok-group.group.takers c.requires.site.sound c.species.ensures
+          (mask_of x.profile.now x.stem.now x.market.sheet.now.instruction.«module» i top c.grades.result
+          c.requires.site.profile
+          (c.run_start-first.ensures.same top c.grades.result (omega arith)
+          (subst (λ (q : ProfileParts). top < grid.points_of q) (sym c.requires.site.profile) c.requires.top)
+          c.grades.ensures i low (omega arith)))
+          c.in_ok-group.ensures.right;
     }

@@ -3,13 +3,7 @@ use Rattle.buck_dp.proofs.planning.search_run.Goals as goal
 
 pub offer_top-requires-clause-plan : goal.offer_top-requires-clause-plan
 offer_top-requires-clause-plan c =
-    let plan = c.loop-memo.invariant.plan in
-    record {
-      site = plan.site;
-      kinds = plan.kinds;
-      kept = plan.kept;
-      search = c.settle_top.ensures.search (ground_of c.args.site) plan.search;
-    }
+    let settled = c.settle_top.ensures.search (ground_of c.args.site) c.loop-memo.invariant.plan.search in search rules
 
 pub offer_top-requires-clause-near : goal.offer_top-requires-clause-near
 offer_top-requires-clause-near c =

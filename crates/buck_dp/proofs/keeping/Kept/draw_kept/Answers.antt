@@ -1,5 +1,5 @@
 use Rattle.buck_dp.proofs.Words.{◌≡◌, ◌-◌, List, length, slice_get, Some, take, drop, refl, sym, subst, arith, rules, codes_in, Key, Cell, Quote, ask_of, RowOf, AreQuotes, row_of, IsAt, all_of, IfOk-weaker}
-use Rattle.buck_dp.proofs.KeptLemmas.{put_at, kept_more}
+use Rattle.buck_dp.proofs.KeptLemmas.{kept_more}
 use Rattle.buck_dp.proofs.keeping.Kept.draw_kept.Goals as goal
 
 pub put_row-requires-clause-small : goal.put_row-requires-clause-small
@@ -30,18 +30,10 @@ returns c =
           (take (l.past - l.from) (drop l.from qs))) (sym c.deref.ensures.value) was.4.1;
       is = refl;
     } in
+    let kept = kept_more R self.rows c.make_room.new.heads c.keep.new.self self.cells.items
+    c.make_room.new.items.items row new key c.in_ok-place.place c.make_room.ensures c.in_ok-place.ensures right
+    c.keep.ensures.kept was.0.kept.rows in
     IfOk-weaker c.keep.result _ _ (λ p e. (
-      record {
-        valid = was.0.valid;
-        menu = was.0.menu;
-        kept = record {
-          terms = was.0.kept.terms;
-          lists = was.0.kept.lists;
-          rows = kept_more R self.rows c.make_room.new.heads c.keep.new.self self.cells.items
-              c.make_room.new.items.items row new key c.in_ok-place.place
-              c.make_room.ensures c.in_ok-place.ensures right c.keep.ensures.kept was.0.kept.rows;
-        };
-      },
-      subst (λ q. IsAt R new key q) (sym e)
-          (put_at R c.make_room.new.items.items row new key c.in_ok-place.place c.in_ok-place.ensures right),
+      record { valid = was.0.valid; menu = was.0.menu; kept = record { terms = was.0.kept.terms; lists = was.0.kept.lists; rows = kept.0 } },
+      subst (λ q. IsAt R new key q) (sym e) kept.1,
     )) c.keep.ensures.place

@@ -1,5 +1,5 @@
 use Rattle.buck_dp.proofs.Words.{◌≡◌, ◌-◌, ℕ, ◌∙◌, take, drop, ap, InstructionParts, List, Option, length, refl, sym, subst, arith, rules, codes_in, Key, Ask, Term, ask_of, ListOf, AreTerms, AreQuotes, IsAt, part_of, IfOk-weaker}
-use Rattle.buck_dp.proofs.KeptLemmas.{kept_is, put_at, kept_more}
+use Rattle.buck_dp.proofs.KeptLemmas.{kept_is, kept_more}
 use Rattle.buck_dp.proofs.keeping.Kept.list.Goals as goal
 
 -- terms as they are asked for
@@ -61,21 +61,13 @@ returns c =
     (subst (λ (k : ℕ). AreQuotes s codes c.ask_for-ask.result k put.0)
     (ap (λ (ts : List (Option Term)). length (take (at.past - at.from) (drop at.from ts))) c.deref.ensures.value
     ∙ was.1.1.number) (put.2 codes terms)) in
+    let kept = kept_more R self.lists c.make_room.new.heads c.keep.new.self self.quotes.items
+    c.make_room.new.items.items put.0 c.put_list.new.quotes.items key c.in_ok-place.place c.make_room.ensures put.1 right
+    c.keep.ensures.kept was.0.kept.lists in
     IfOk-weaker c.keep.result _ _ (λ p e. (
-      record {
-        valid = was.0.valid;
-        menu = was.0.menu;
-        kept = record {
-          terms = was.0.kept.terms;
-          lists = kept_more R self.lists c.make_room.new.heads c.keep.new.self self.quotes.items
-              c.make_room.new.items.items put.0 c.put_list.new.quotes.items key c.in_ok-place.place
-              c.make_room.ensures put.1 right c.keep.ensures.kept was.0.kept.lists;
-          rows = was.0.kept.rows;
-        };
-      },
+      record { valid = was.0.valid; menu = was.0.menu; kept = record { terms = was.0.kept.terms; lists = kept.0; rows = was.0.kept.rows } },
       key,
       refl,
       (c.band_of-band.ensures.from, c.band_of-band.ensures.past),
-      subst (λ q. IsAt R c.put_list.new.quotes.items key q) (sym e)
-          (put_at R c.make_room.new.items.items put.0 c.put_list.new.quotes.items key c.in_ok-place.place put.1 right),
+      subst (λ q. IsAt R c.put_list.new.quotes.items key q) (sym e) kept.1,
     )) c.keep.ensures.place

@@ -1,5 +1,5 @@
 use Rattle.buck_dp.proofs.Words.{◌≡◌, ◌∙◌, ◌∷◌, List, length, sym, subst, arith, rules, InstructionParts, Offer, codes_in, Ask, TermsOf, AreTerms, IsAt, IfOk-weaker}
-use Rattle.buck_dp.proofs.KeptLemmas.{kept_is, put_at, kept_more}
+use Rattle.buck_dp.proofs.KeptLemmas.{kept_is, kept_more}
 use Rattle.buck_dp.proofs.keeping.Kept.terms.Goals as goal
 
 pub returns-in-Some : goal.returns-in-Some
@@ -22,19 +22,10 @@ returns c =
     (subst (λ (os : List Offer). AreTerms i (codes_in os) c.args.ask (length os) put.0) c.as_slice-offers.ensures.value
     (subst (λ (j : InstructionParts). AreTerms j (codes_in c.as_slice-offers.result.now) c.args.ask
     (length c.as_slice-offers.result.now) put.0) (c.deref.ensures ∙ c.instruction.ensures.instruction) put.2)) in
+    let kept = kept_more R c.args.self.now.asked c.make_room.new.heads c.keep.new.self c.args.self.now.terms.items
+    c.make_room.new.items.items put.0 c.put_terms.new.terms.items c.args.key c.in_ok-place.place c.make_room.ensures put.1
+    right c.keep.ensures.kept was.kept.terms in
     IfOk-weaker c.keep.result _ _ (λ p e. (
-      record {
-        valid = was.valid;
-        menu = was.menu;
-        kept = record {
-          terms = kept_more R c.args.self.now.asked c.make_room.new.heads c.keep.new.self c.args.self.now.terms.items
-              c.make_room.new.items.items put.0 c.put_terms.new.terms.items c.args.key c.in_ok-place.place
-              c.make_room.ensures put.1 right c.keep.ensures.kept was.kept.terms;
-          lists = was.kept.lists;
-          rows = was.kept.rows;
-        };
-      },
-      subst (λ q. IsAt R c.put_terms.new.terms.items c.args.key q) (sym e)
-          (put_at R c.make_room.new.items.items put.0 c.put_terms.new.terms.items c.args.key c.in_ok-place.place put.1
-          right),
+      record { valid = was.valid; menu = was.menu; kept = record { terms = kept.0; lists = was.kept.lists; rows = was.kept.rows } },
+      subst (λ q. IsAt R c.put_terms.new.terms.items c.args.key q) (sym e) kept.1,
     )) c.keep.ensures.place
