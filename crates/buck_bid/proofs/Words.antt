@@ -1,5 +1,5 @@
 -- The words that the proofs of this crate name, from where each is declared.
-pub use Rattle.std.proofs.Common.{◌≡◌, ℕ, ◌+◌, ◌-◌, ◌<◌, ◌≤◌, ◌⊎◌, List, Contains, length, get_or, slice_index, Result, Ok, Err, MatchResult, nat_cmp, sym, ◌∙◌, inl, inr, arith, zero, suc, ◌/◌, ◌%◌, [], ◌∷◌, ◌++◌, length-append, slice_get, Some, refl, ap, subst, ◌*◌, map, mul_comm, ◌≢◌, ◌==◌, true, false, Option, unwrap_or, nat_le, position, All, take, take_all}
+pub use Rattle.std.proofs.Common.{rules, ◌≡◌, ℕ, ◌+◌, ◌-◌, ◌<◌, ◌≤◌, ◌⊎◌, List, Contains, length, get_or, slice_index, Result, Ok, Err, MatchResult, nat_cmp, sym, ◌∙◌, inl, inr, arith, zero, suc, ◌/◌, ◌%◌, [], ◌∷◌, ◌++◌, length-append, slice_get, Some, refl, ap, subst, ◌*◌, map, mul_comm, ◌≢◌, ◌==◌, true, false, Option, unwrap_or, nat_le, position, All, take, take_all}
 pub use Rattle.std.proofs.lemmas.Bool.{cases_lt}
 pub use Rattle.std.proofs.lemmas.List.{get_or_default, get_or_append_left, get_or_push, length-map, map-append, take_more}
 pub use Rattle.std.proofs.lemmas.List.Sorted.{searched, Contains-permutation, IsPermutation-sym}

@@ -66,7 +66,7 @@ module _ (p : GroundParts) (valid : IsSheet p.sheet) where
           let q = drawn.list.real o.0 o.2 o.5 in
           subst (λ (x : Cell). IsLogAt p i t (t + x.rise) x.bid) w.1
           (subst (λ (n : ℕ). IsLogAt p i t (t + n) (quote_bid o.2 d)) (sym q.rise)
-          (bid_log i i o.2.steps o.2.trim (quote_bid o.2 d) (omega (arith, near.0, w.1)) (omega (arith, near.1))
+          (bid_log i i o.2.steps o.2.trim (quote_bid o.2 d) (omega (arith, near.0, ap (λ (x : Cell). x.steps) w.1)) (omega (arith, near.1))
           (omega arith) (omega (arith, e, ap (λ (x : Cell). x.steps) w.1)) w.0.2 (q.bids d drawn.asked)));
       served = λ i e bid low high log.
           let b = log_bid_of i e bid low high log in

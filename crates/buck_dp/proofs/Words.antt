@@ -10,7 +10,7 @@ unfoldable pub use Rattle.buck_value.specs.Allowed.{worth_of}
 pub use Rattle.buck_value.proofs.Rates.{worth_low}
 pub use Rattle.buck_dp.specs.Cutting.{IsCutFrom}
 pub use Rattle.std.proofs.lemmas.Bool.{cases_order, ne_eqb, ltb-true}
-pub use Rattle.std.proofs.lemmas.List.{length-drop, length-take-le, get_or-drop, get_or-take, get_or-append_right, drop_at, drop-append-le, take-append-le, take_all, set-append_right, length-set, append-nil, get_or_past}
+pub use Rattle.std.proofs.lemmas.List.{length-drop, length-take-le, get_or-drop, get_or-take, get_or-append_right, drop_at, drop-append-le, take-append-le, take_all, set-append_right, length-set, append-nil, get_or_past, take_more, with_items_is}
 pub use Rattle.buck_bid.proofs.ListLemmas.{push_cases, kept_at, push_each, on_module, in_order, pushed_at, read_at}
 pub use Rattle.buck_dp.specs.declared.offering.Cell.{Cell}
 pub use Rattle.buck_dp.specs.inner.Cells.{IsPlaced, IsBidOf, IsTakersBid, AreByLength}
@@ -68,9 +68,7 @@ pub use Rattle.std.proofs.lemmas.Nat.Bits.{bit_at_set_same, bit_at_set_other}
 pub use Rattle.std.proofs.Math.Nat.{mul-mod_left, div-mul-le_self, mul-add-div_right, lt-div-mul-add, mul-div_left, mul_assoc, mul-add, mul-zero, zero-mul, mul-le-mul}
 pub use Rattle.std.specs.List.{filter_map, cons_option}
 pub use Rattle.std.proofs.lemmas.List.Elements.{filter_map-append}
-pub use Rattle.std.proofs.lemmas.List.{take_more}
 pub use Rattle.std.proofs.lemmas.Bool.Decides.{nat_tests}
-pub use Rattle.std.proofs.lemmas.List.{with_items_is}
 pub use Rattle.buck_dp.specs.declared.search.Search.{Search}
 pub use Rattle.std.proofs.lemmas.Result.{IfOk-weaker}
 pub use Rattle.std.specs.Prelude.{min}
