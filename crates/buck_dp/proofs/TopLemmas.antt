@@ -1,7 +1,7 @@
 -- The search goes on by a top.
-use Rattle.buck_dp.proofs.Words.{◌≡◌, ◌≢◌, ℕ, zero, suc, ◌+◌, ◌-◌, ◌*◌, ◌/◌, ◌<◌, ◌≤◌, ◌⊎◌, inl, inr, List, ◌++◌, take, length, get_or, slice_get, Some, refl, sym, subst, ap, ◌∙◌, arith, mul-le-mul_right, add-mul, rules, cases_lt, cases_order, slice_get_within, GroundParts, ends_of, IsSheet, worth_low, Cell, BidParts, bid_of, none, IsAtMost, IsGreater, plus, IsLogAt, IsLow, bid_at, IsNear, IsPart, IsServed, IsBeaten, AreOffered, AreFit, IsSettled, Reaches, AreSearched, take-append_seam, IsStem, stem_length, div-mul-le_self}
+use Rattle.buck_dp.proofs.Words.{◌≡◌, ◌≢◌, ℕ, zero, suc, ◌+◌, ◌-◌, ◌*◌, ◌/◌, ◌<◌, ◌≤◌, ◌⊎◌, inl, inr, List, [], none-some, length, get_or, slice_get, Some, refl, sym, subst, ap, ◌∙◌, arith, mul-le-mul_right, add-mul, rules, cases_lt, cases_order, slice_get_within, GroundParts, ends_of, IsSheet, worth_low, Cell, BidParts, bid_of, none, IsAtMost, IsGreater, plus, IsLogAt, IsLow, bid_at, IsNear, IsPart, IsServed, IsBeaten, AreOffered, AreFit, IsSettled, Reaches, AreSearched, IsStem, stem_length, div-mul-le_self}
 use Rattle.buck_dp.proofs.CellLemmas.{later_same as later_same_of}
-use Rattle.buck_dp.proofs.BidLemmas.{IsAtMost-trans, worth_at_most, greater_first, greater_second, plus_at_most}
+use Rattle.buck_dp.proofs.BidLemmas.{IsAtMost-refl, IsAtMost-trans, worth_at_most, greater_first, greater_second, plus_at_most}
 
 -- the worth of settled values falls with the points
 falls_by : (p : GroundParts) (v : List BidParts) (ch : List ℕ) (s : ℕ) → ((k : ℕ) → s ≤ k → IsSettled p v ch k)
@@ -258,29 +258,10 @@ module _ (p : GroundParts) (valid : IsSheet p.sheet) (sound : IsStem p.stem) (v 
     }
 
 -- once no log with this top starts before the last part, all logs with it are offered
-pub offered_all : (p : GroundParts) (v : List BidParts) (ch : List ℕ) (t first : ℕ)
-    → ((i e : ℕ) (bid : BidParts) → i < first → IsLogAt p i t e bid → ⊥)
+pub offered_all : (p : GroundParts) (v : List BidParts) (ch : List ℕ) (t first : ℕ) → IsSheet p.sheet → IsStem p.stem
+    → first ≤ t → ((i e : ℕ) (bid : BidParts) → i < first → IsLogAt p i t e bid → ⊥)
     → AreSearched p v ch t first → AreSearched p v ch t 0
-offered_all p v ch t first none was = record {
-  number = was.number;
-  room = was.room;
-  within = was.within;
-  low = was.low;
-  settled = was.settled;
-  each = λ i j e bid lt which log.
-      let far : t ≤ j = elim which [ inl a ↦ omega arith | inr a ↦ a.0 ] in
-      elim (cases_lt t j) [
-        | inl later ↦ was.each i j e bid lt (inl (omega arith)) log
-        | inr here ↦ elim (cases_lt i first) [
-          | inl before ↦
-              absurd (none i e bid before
-              (subst (λ (n : ℕ). IsLogAt p i n e bid) (let is : j ≡ t = omega arith in is) log))
-          | inr after ↦ was.each i j e bid lt (inr (far, after)) log
-        ]
-      ];
-  one = was.one;
-}
-
--- a list written back over the whole of another
-pub whole : {A : Type 0} → (n : ℕ) (xs ys : List A) → n ≡ length xs → take n (xs ++ ys) ≡ xs
-whole n xs ys e = ap (λ k. take k (xs ++ ys)) e ∙ take-append_seam xs ys
+offered_all p v ch t first valid sound below none was =
+    offered_part p valid sound v ch t 0 first [] below
+    (record { real = λ k c at. absurd (none-some c at); served = λ i e bid low lt log. absurd (none i e bid lt log) })
+    was v (search (rules, IsAtMost-refl, none-some))

@@ -42,18 +42,6 @@ impl Takers {
         Takers { marks: 0 }
     }
 
-    /// These and one more.
-    fn with(self, place: usize) -> Takers
-        requires { place < 16 }
-        ensures same { bit_at result.marks place ≡ 1 }
-        ensures others { (a : ℕ) → a < place → bit_at result.marks a ≡ bit_at self.marks a }
-        ensures later { (a : ℕ) → place < a → bit_at result.marks a ≡ bit_at self.marks a }
-    {
-        Takers {
-            marks: self.marks | 1 << place,
-        }
-    }
-
     /// These, and one more where it takes the wood.
     fn with_if(self, place: usize, taken: bool) -> Takers
         requires place { place < 16 }
@@ -62,10 +50,12 @@ impl Takers {
         ensures others { (a : ℕ) → a < place → bit_at result.marks a ≡ bit_at self.marks a }
         ensures later { (a : ℕ) → place < a → bit_at result.marks a ≡ bit_at self.marks a }
     {
-        if taken {
-            return self.with(place);
+        if !taken {
+            return self;
         }
-        self
+        Takers {
+            marks: self.marks | 1 << place,
+        }
     }
 
     /// Whether nobody is among them.

@@ -56,11 +56,8 @@ returns c =
     let terms = asked s.instruction codes _ c.ask_for-ask.result (length m.offers.items) _ slice
     c.ask_for-ask.ensures.ask
     (ap (λ (ts : List (Option Term)). take (at.past - at.from) (drop at.from ts)) c.deref.ensures.value) was.1.1 in
-    let right : R key put.0 =
-    subst (λ (a : Ask). AreQuotes s codes a (length m.offers.items) put.0) c.ask_for-ask.ensures.ask
-    (subst (λ (k : ℕ). AreQuotes s codes c.ask_for-ask.result k put.0)
-    (ap (λ (ts : List (Option Term)). length (take (at.past - at.from) (drop at.from ts))) c.deref.ensures.value
-    ∙ was.1.1.number) (put.2 codes terms)) in
+    let listed = put.2 codes terms in
+    let right : R key put.0 = search rules in
     let kept = kept_more R self.lists c.make_room.new.heads c.keep.new.self self.quotes.items
     c.make_room.new.items.items put.0 c.put_list.new.quotes.items key c.in_ok-place.place c.make_room.ensures put.1 right
     c.keep.ensures.kept was.0.kept.lists in

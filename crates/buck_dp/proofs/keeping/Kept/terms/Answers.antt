@@ -17,11 +17,7 @@ returns c =
     let R = TermsOf i m in
     let was = c.requires.kept in
     let put = c.in_ok-place.ensures in
-    let right : R c.args.key put.0 =
-    subst (λ (a : Ask). AreTerms i (codes_in m.offers.items) a (length m.offers.items) put.0) c.requires.ask
-    (subst (λ (os : List Offer). AreTerms i (codes_in os) c.args.ask (length os) put.0) c.as_slice-offers.ensures.value
-    (subst (λ (j : InstructionParts). AreTerms j (codes_in c.as_slice-offers.result.now) c.args.ask
-    (length c.as_slice-offers.result.now) put.0) (c.deref.ensures ∙ c.instruction.ensures.instruction) put.2)) in
+    let right : R c.args.key put.0 = search rules in
     let kept = kept_more R c.args.self.now.asked c.make_room.new.heads c.keep.new.self c.args.self.now.terms.items
     c.make_room.new.items.items put.0 c.put_terms.new.terms.items c.args.key c.in_ok-place.place c.make_room.ensures put.1
     right c.keep.ensures.kept was.kept.terms in
