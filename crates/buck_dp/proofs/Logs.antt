@@ -117,28 +117,27 @@ module _ (p : GroundParts) (valid : IsSheet p.sheet) where
       → Takes p.sheet p.stem (k * unit) (j * unit) trim a
   takes_less i k j trim a le takes = search (rules, mul-le-mul_right)
 
-  module _ (diameters : List ℕ)
-      (known : (j : ℕ) → j < points_of p → slice_index diameters j ≡ diameter_at p.stem.samples (j * unit)) where
+  module _ (j d : ℕ) (thick : d ≡ diameter_at p.stem.samples (j * unit)) where
     -- the bid of a log is one of its assortment for its length and its top diameter
-    pub log_quote : (i j e : ℕ) (bid : BidParts) → (l : IsLogAt p i j e bid)
-        → IsBidOf p.sheet p.codes l.log.assortment ((j - i) * unit) (slice_index diameters j) bid
-    log_quote i j e bid l =
+    pub log_quote : (i e : ℕ) (bid : BidParts) → (l : IsLogAt p i j e bid)
+        → IsBidOf p.sheet p.codes l.log.assortment ((j - i) * unit) d bid
+    log_quote i e bid l =
         grind (arith, add-mul, same_worth, l.allowed, l.later, l.log.length, l.start, l.top, l.log)
 
     -- a bid of an assortment that takes the wood is that of an allowed log
-    pub quote_log : (i j a steps trim : ℕ) (bid : BidParts) → i < j → j * unit + trim ≤ stem_length p.stem.samples
+    pub quote_log : (i a steps trim : ℕ) (bid : BidParts) → i < j → j * unit + trim ≤ stem_length p.stem.samples
         → i + steps ≡ j
         → Takes p.sheet p.stem (i * unit) (j * unit) trim a
-        → IsBidOf p.sheet p.codes a (steps * unit) (slice_index diameters j) bid
+        → IsBidOf p.sheet p.codes a (steps * unit) d bid
         → IsLogAt p i j (j + point_after unit trim) bid
-    quote_log i j a steps trim bid lt fits e takes quote =
+    quote_log i a steps trim bid lt fits e takes quote =
         let g : Log = log_of (i * unit) (steps * unit) a in
         let top : top_of g ≡ j * unit = sym (add-mul i steps unit) ∙ ap (λ n. n * unit) e in
         let in_stem : j < points_of p = point_there unit j (stem_length p.stem.samples) pos (omega arith) in
-        let d : slice_index diameters j ≡ top_diameter p.stem g = known j in_stem
+        let same_top : d ≡ top_diameter p.stem g = thick
         ∙ ap (λ x. diameter_at p.stem.samples x) (sym top) in
         let q : IsBidOf p.sheet p.codes a (steps * unit) (top_diameter p.stem g) bid =
-        subst (λ (n : ℕ). IsBidOf p.sheet p.codes a (steps * unit) n bid) d quote in
+        subst (λ (n : ℕ). IsBidOf p.sheet p.codes a (steps * unit) n bid) same_top quote in
         let same : takes.assortment ≡ q.at.assortment =
         same_Some takes.assortment q.at.assortment (sym takes.exists ∙ q.at.exists) in
         let own : q.at.assortment.trim ≡ trim = ap (λ (x : AssortmentParts). x.trim) (sym same) ∙ takes.own in

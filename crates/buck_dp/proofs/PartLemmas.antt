@@ -8,9 +8,8 @@ module _ (p : GroundParts) (valid : IsSheet p.sheet) where
   abbrev unit : ℕ
   unit = p.sheet.instruction.«module»
 
-  module _ (diameters : List ℕ)
-      (known : (j : ℕ) → j < points_of p → slice_index diameters j ≡ diameter_at p.stem.samples (j * unit))
-      (t first stop n : ℕ) (takers : Takers) (reach : Reach) (row : List Cell)
+  module _ (t d first stop n : ℕ) (thick : d ≡ diameter_at p.stem.samples (t * unit))
+      (takers : Takers) (reach : Reach) (row : List Cell)
       (past : reach.past + stop ≤ t)
       (far : (i e : ℕ) (bid : BidParts) → first ≤ i → IsLogAt p i t e bid → t ≤ reach.far + i)
       (here : (i : ℕ) → first ≤ i → i < stop → HasTakers p takers i t)
@@ -18,11 +17,8 @@ module _ (p : GroundParts) (valid : IsSheet p.sheet) where
       (whole : (a : ℕ) (x : AssortmentParts) → slice_get p.sheet.instruction.assortments a ≡ Some x
       → t * unit + x.trim ≤ stem_length p.stem.samples → x.trim ≤ reach.room)
       (all : (takers : Takers) (steps trim : ℕ) (bid : BidParts)
-      → IsTakersBid p.sheet p.codes takers (slice_index diameters t) steps trim bid → 1023 < bid.rank + n)
-      (drawn : IsRow p.sheet p.codes n takers (slice_index diameters t) reach row) where
-    abbrev d : ℕ
-    d = slice_index diameters t
-
+      → IsTakersBid p.sheet p.codes takers d steps trim bid → 1023 < bid.rank + n)
+      (drawn : IsRow p.sheet p.codes n takers d reach row) where
     -- a taker's bid is that of a log from each start behind one in the part
     bid_log : (i k steps trim : ℕ) (bid : BidParts) → first ≤ i → i < stop → i ≤ k → k + steps ≡ t → trim ≤ reach.room
         → IsTakersBid p.sheet p.codes drawn.ask.takers d steps trim bid
@@ -30,7 +26,7 @@ module _ (p : GroundParts) (valid : IsSheet p.sheet) where
     bid_log i k steps trim bid low high le is room b =
         let h = (here i low high b.a b.assortment b.exists).0 (subst (λ k. IsTaker k b.a) drawn.own b.taker) in
         let takes : Takes p.sheet p.stem (i * unit) (t * unit) trim b.a = search rules in
-        quote_log p valid diameters known k t b.a steps trim bid (omega (arith, b.some)) (omega arith) is
+        quote_log p valid t d thick k b.a steps trim bid (omega (arith, b.some)) (omega arith) is
         (takes_less p valid i k t trim b.a le takes) b.bids
 
     -- a log from the part is a taker's bid
@@ -53,7 +49,7 @@ module _ (p : GroundParts) (valid : IsSheet p.sheet) where
             assortment = takes.assortment;
             exists = takes.exists;
             some = omega (arith, log.later);
-            bids = log_quote p valid diameters known i t e bid log;
+            bids = log_quote p valid t d thick i e bid log;
             own = takes.own;
           },
         )

@@ -1,5 +1,5 @@
 -- Who takes the wood of a stem.
-use Rattle.buck_dp.proofs.Words.{◌≡◌, ℕ, ◌+◌, ◌*◌, ◌/◌, ◌<◌, ◌≤◌, ◌⊎◌, inl, inr, List, Contains, length, slice_index, refl, sym, subst, ◌∙◌, arith, mul-le-mul_left, mul-le-mul_right, add-mul, rules, div-mul-le_self, lt-div-mul-add, cases_lt, StemParts, IsStem, IsGrade, grade_at, HasGrade, HasGradesOf, stem_length, diameter_at, IsMask, IsMaskBetween, ProfileParts, profile_of, grade_at_is, mask_allows, IsSheet, codes_in, GroundParts, points_of, Takers, Kind, IsTaker, AreTakersOf, BidParts, IsLogAt, HasTakers, IsRow, IsPart, IsPartTo, IsSearch, IsDone, AreSearched, Memo, Search, Ask, Quote, IsAsked, AreQuotes, row_of, min, ◌-◌, all_of, IsSite, IsDiameterAt, ground_of, Site, Part, Cell, Reach}
+use Rattle.buck_dp.proofs.Words.{◌≡◌, ℕ, ◌+◌, ◌*◌, ◌/◌, ◌<◌, ◌≤◌, ◌⊎◌, inl, inr, List, Contains, length, slice_index, refl, sym, subst, ◌∙◌, arith, mul-le-mul_left, mul-le-mul_right, add-mul, rules, div-mul-le_self, lt-div-mul-add, cases_lt, StemParts, IsStem, IsGrade, grade_at, HasGrade, HasGradesOf, stem_length, diameter_at, IsMask, IsMaskBetween, ProfileParts, profile_of, grade_at_is, mask_allows, IsSheet, codes_in, GroundParts, points_of, Takers, Kind, IsTaker, AreTakersOf, BidParts, IsLogAt, HasTakers, IsRow, IsPart, IsPartTo, IsNearest, Near, IsSearch, IsDone, AreSearched, Memo, Search, Ask, Quote, IsAsked, AreQuotes, row_of, min, ◌-◌, all_of, IsSite, IsDiameterAt, ground_of, Site, Part, Cell, Reach}
 use Rattle.buck_stem.specs.points.Profile as grid
 use Rattle.buck_dp.proofs.Logs.{log_coded, point_within}
 use Rattle.buck_dp.proofs.PartLemmas.{row_part}
@@ -128,9 +128,7 @@ module _ (x : Site) (is : IsSite x) where
   point_reached t lt = search (rules, point_within, mul-le-mul_left)
 
   -- the row of a price list of the takers of a part has its logs
-  pub part_offered : (ds : List ℕ) (t stop : ℕ) (part : Part) (reach : Reach) (row : List Cell)
-      → ((j : ℕ) → j < points_of (ground_of x)
-      → slice_index ds j ≡ diameter_at x.stem.now.samples (j * x.market.sheet.now.instruction.«module»))
+  pub part_offered : (t d stop : ℕ) (part : Part) (reach : Reach) (row : List Cell) → IsDiameterAt x t d
       → reach.past + stop ≤ t
       → ((i e : ℕ) (bid : BidParts) → part.first ≤ i → IsLogAt (ground_of x) i t e bid → t ≤ reach.far + i)
       → IsPartTo x t stop part
@@ -138,14 +136,14 @@ module _ (x : Site) (is : IsSite x) where
       → (reach.room ≡ x.market.menu.now.most_trim)
       ⊎ (stem_length x.stem.now.samples ≤ t * x.market.sheet.now.instruction.«module» + reach.room)
       → IsRow x.market.sheet.now (codes_in x.market.menu.now.offers.items) (length x.market.menu.now.offers.items)
-      part.group.takers (slice_index ds t) reach row
+      part.group.takers d reach row
       → IsPart (ground_of x) t part.first stop row
-  part_offered ds t stop part reach row known past far here fits room are =
-      row_part (ground_of x) is.valid ds known t part.first stop (length x.market.menu.now.offers.items)
+  part_offered t d stop part reach row thick past far here fits room are =
+      row_part (ground_of x) is.valid t d part.first stop (length x.market.menu.now.offers.items) thick
       part.group.takers reach row past far here.takers fits
       (search rules)
       (λ takers steps trim bid b.
-      rank_offered x.market.sheet.now x.market.menu.now.offers.items takers (slice_index ds t) steps trim bid b)
+      rank_offered x.market.sheet.now x.market.menu.now.offers.items takers d steps trim bid b)
       are
 
   -- so has one that is kept
@@ -156,7 +154,7 @@ module _ (x : Site) (is : IsSite x) where
       → IsPart (ground_of x) s.from part.first s.stop row
   row_offered s d part row so_far stop at fit here are =
       subst (λ n. IsPart (ground_of x) s.from part.first n row) (sym stop)
-      (part_offered at.table s.from s.from part (all_of x.market.menu.now) row at.known (omega arith)
+      (part_offered s.from d s.from part (all_of x.market.menu.now) row at (omega arith)
       (λ i e bid low log. elim (cases_lt (i + x.market.menu.now.most_steps) s.from) [
         | inr le ↦ omega (arith, le)
         | inl lt ↦
@@ -176,16 +174,25 @@ module _ (x : Site) (is : IsSite x) where
       → room ≡ min left x.market.menu.now.most_trim
       → IsPart (ground_of x) s.from part.first s.stop (row_of quotes (slice_index ds s.from)
       (record { past = s.from - s.stop; far = s.from - part.first; room = room }))
-  list_offered s ds part ask quotes left room so_far known here own asked are long room_is =
+  list_offered s ds part ask quotes left room so_far right here own asked are long room_is =
       let reach : Reach = record { past = s.from - s.stop; far = s.from - part.first; room = room } in
-      part_offered ds s.from s.stop part reach (row_of quotes (slice_index ds s.from) reach)
-      (known_of x.profile.now x.stem.now x.market.sheet.now.instruction.«module» ds is.profile known)
+      part_offered s.from (slice_index ds s.from) s.stop part reach (row_of quotes (slice_index ds s.from) reach)
+      (known_of x.profile.now x.stem.now x.market.sheet.now.instruction.«module» ds is.profile right s.from
+      (so_far.inside (omega (arith, here.first))))
       (omega (arith, so_far.below)) (λ i e bid low log. omega (arith, so_far.below, low)) here
       (omega (arith, long, room_is))
       (elim (cases_lt left x.market.menu.now.most_trim) [
         | inl less ↦ inr (omega (arith, long, room_is))
         | inr more ↦ inl (omega (arith, room_is))
       ]) (record { ask = ask; quotes = quotes; own = own; asked = asked; list = are; is = refl })
+
+  -- from the starts nearest to a run the same assortments take the wood up to each of its tops
+  pub nearest_part : (high t : ℕ) (near : Near) → IsNearest x high near → near.last ≤ t → t ≤ high
+      → IsPartTo x t t near.part
+  nearest_part high t near nearest low le = record {
+    first = omega (arith, nearest.first);
+    takers = λ i from to. nearest.takers i t low le from to;
+  }
 
   -- once all tops are taken, the values and the choices of all points are found
   pub all_searched : (m : Memo) → IsDone x 0 0 m

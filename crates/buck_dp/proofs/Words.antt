@@ -73,3 +73,4 @@ pub use Rattle.buck_dp.specs.declared.search.Search.{Search}
 pub use Rattle.std.proofs.lemmas.Result.{IfOk-weaker}
 pub use Rattle.std.specs.Prelude.{min}
 pub use Rattle.buck_dp.specs.declared.planning.Memo.{Memo}
+pub use Rattle.buck_dp.specs.declared.planning.Near.{Near}

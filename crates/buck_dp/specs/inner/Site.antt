@@ -28,12 +28,9 @@ pub record IsSite (x : Site) : Type 0 where
   pub profile : x.profile.now ≡ profile_of x.stem.now x.market.sheet.now.instruction.«module»
   pub fit : (t : ℕ) → t < x.fit → t * x.market.sheet.now.instruction.«module» + x.market.menu.now.most_trim ≤ stem_length x.stem.now.samples
 
--- a number is the stem's diameter at a point, by a table of its diameters
-pub record IsDiameterAt (x : Site) (t d : ℕ) : Type 0 where
-  pub table : List ℕ
-  pub known : (j : ℕ) → j < points_of (ground_of x)
-      → slice_index table j ≡ diameter_at x.stem.now.samples (j * x.market.sheet.now.instruction.«module»)
-  pub is : slice_index table t ≡ d
+-- a number is the stem's diameter at a point
+abbrev pub IsDiameterAt : Site → ℕ → ℕ → Type 0
+IsDiameterAt x t d = d ≡ diameter_at x.stem.now.samples (t * x.market.sheet.now.instruction.«module»)
 
 -- the starts of a part are before a point, and its takers take the wood from each of them to a top
 pub record IsPartTo (x : Site) (top stop : ℕ) (part : Part) : Type 0 where

@@ -5,12 +5,10 @@ use Rattle.buck_dp.proofs.planning.offer_kept.Goals as goal
 pub offer_same-requires-clause-diameter : goal.offer_same-requires-clause-diameter
 offer_same-requires-clause-diameter c =
     let x = c.args.site in
-    record {
-      table = c.diameters.result.now;
-      known = known_of x.profile.now x.stem.now x.market.sheet.now.instruction.«module» c.diameters.result.now
-          c.requires.plan.site.profile c.diameters.ensures.right;
-      is = refl;
-    }
+    let near = c.requires.near in
+    known_of x.profile.now x.stem.now x.market.sheet.now.instruction.«module» c.diameters.result.now
+    c.requires.plan.site.profile c.diameters.ensures.right c.args.memo.now.search.from
+    (c.requires.plan.search.inside (omega (arith, c.requires.stop, near.first, near.last)))
 
 pub offer_same-requires-clause-cells : goal.offer_same-requires-clause-cells
 offer_same-requires-clause-cells c =

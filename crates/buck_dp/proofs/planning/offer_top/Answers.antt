@@ -1,5 +1,5 @@
-use Rattle.buck_dp.proofs.Words.{◌-◌, ℕ, arith, rules, GroundParts, ground_of}
-use Rattle.buck_dp.proofs.SiteLemmas.{none_before, too_short}
+use Rattle.buck_dp.proofs.Words.{◌-◌, ℕ, sym, subst, IsPartTo, arith, rules, GroundParts, ground_of}
+use Rattle.buck_dp.proofs.SiteLemmas.{none_before, too_short, nearest_part}
 use Rattle.buck_dp.proofs.planning.offer_top.Goals as goal
 
 pub returns-then-top-site : goal.returns-then-top-site
@@ -26,9 +26,6 @@ returns-then-is_empty c =
 
 pub offer_part-requires-clause-part : goal.offer_part-requires-clause-part
 offer_part-requires-clause-part c =
-    let near = c.requires.near in
-    record {
-      first = omega (arith, near.first, c.requires.low, c.requires.stop);
-      takers = λ i low high.
-          near.takers i c.args.memo.now.search.from c.requires.low (omega arith) low (omega (arith, high, c.requires.stop));
-    }
+    let t = c.args.memo.now.search.from in
+    subst (λ n. IsPartTo c.args.site t n c.args.near.part) (sym c.requires.stop)
+    (nearest_part c.args.site c.requires.plan.site t t c.args.near c.requires.near c.requires.low (omega arith))
