@@ -1,12 +1,10 @@
 pub mod Words
 pub mod Optimal
 pub mod Places
-pub mod Steps
 pub mod Bounds
 pub mod Walk
 pub mod Lists
 pub mod Marks
-pub mod Offered
 pub mod Values
 pub mod Logs
 pub mod Untrimmed

@@ -1,5 +1,13 @@
 -- Places on the stem, as multiples of a step.
-use Rattle.buck_dp.proofs.Words.{◌≡◌, ℕ, ◌+◌, ◌-◌, ◌*◌, ◌/◌, ◌%◌, ◌<◌, ◌≤◌, ◌⊎◌, inl, inr, arith, mul-le-mul_right, rules, cases_lt, lt-div-mul-add, div-mul-le_self, le-div, point_after}
+use Rattle.buck_dp.proofs.Words.{◌≡◌, ℕ, ◌+◌, ◌-◌, ◌*◌, ◌/◌, ◌%◌, ◌<◌, ◌≤◌, ◌⊎◌, inl, inr, arith, mul-le-mul_right, rules, cases_lt, lt-div-mul-add, div-mul-le_self, le-div, point_after, ap, mul_comm, div-add-mod}
+
+-- a multiple of a step, in steps
+pub whole_steps : (l step : ℕ) → l % step ≡ 0 → l / step * step ≡ l
+whole_steps l step on = omega (arith, div-add-mod l step, mul_comm step (l / step))
+
+-- a length is at least one step
+pub one_step : (l step : ℕ) → 0 < l → l % step ≡ 0 → 0 < l / step
+one_step l step long on = search (rules, cases_lt, whole_steps)
 
 -- a start at or after a place is there, or a step later
 pub next_start : (m here s : ℕ) → 0 < m → here % m ≡ 0 → s % m ≡ 0 → here ≤ s → (s ≡ here) ⊎ (here + m ≤ s)

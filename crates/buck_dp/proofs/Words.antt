@@ -13,9 +13,9 @@ pub use Rattle.std.proofs.lemmas.Bool.{cases_order, ne_eqb, ltb-true}
 pub use Rattle.std.proofs.lemmas.List.{length-drop, length-take-le, get_or-drop, get_or-take, get_or-append_right, drop_at, drop-append-le, take-append-le, take_all, set-append_right, length-set, append-nil, get_or_past, take_more, with_items_is}
 pub use Rattle.buck_bid.proofs.ListLemmas.{push_cases, kept_at, push_each, on_module, in_order, pushed_at, read_at}
 pub use Rattle.buck_dp.specs.declared.offering.Cell.{Cell}
-pub use Rattle.buck_dp.specs.inner.Cells.{IsPlaced, IsBidOf, IsTakersBid, AreByLength}
-pub use Rattle.buck_dp.specs.inner.Logs.{bid_at, IsLogAt, IsLow}
-pub use Rattle.buck_dp.specs.inner.Rows.{IsNear, AreOffered, AreFit, IsPart, IsServed, IsBeaten}
+pub use Rattle.buck_dp.specs.inner.Rows.{IsPlaced, AreByLength, IsNear, AreOffered, AreFit, IsPart, IsServed, IsBeaten}
+pub use Rattle.buck_dp.specs.inner.Quotes.{IsBidOf, IsTakersBid, quote_bid, priced_at, IsAsked, IsQuoteOf, IsTermOf, HasNoBid, IsQuote, IsOver, IsPut, IsQuoted, IsNoTerm, AreTerms, Falls, AreQuotes, IsLeading, IsWithin, cell_of, cell_for, row_of, IsRow}
+pub use Rattle.buck_dp.specs.inner.Logs.{bid_at, IsLogAt, IsLow, HasTakers, HasNoneOf}
 pub use Rattle.buck_dp.specs.declared.index.Key.{Key}
 pub use Rattle.buck_dp.specs.declared.index.Place.{Place}
 pub use Rattle.buck_dp.specs.declared.index.Head.{Head}
@@ -32,9 +32,7 @@ pub use Rattle.buck_dp.specs.inner.Points.{GroundParts, points_of, ends_of, poin
 pub use Rattle.buck_bid.specs.Offers.{HasMark, AreOffers}
 pub use Rattle.std.proofs.lemmas.List.Kept.{AllPairs-from_increasing}
 pub use Rattle.buck_dp.specs.inner.Searched.{IsSettled, Reaches, AreSearched, IsSearch}
-pub use Rattle.buck_dp.specs.inner.Table.{IsTop, IsNoWorse, IsAtOrBefore}
-pub use Rattle.buck_dp.specs.inner.Values.{IsBestFrom}
-pub use Rattle.buck_dp.specs.inner.Parts.{HasTakers, HasNoneOf}
+pub use Rattle.buck_dp.specs.inner.Table.{IsTop, IsNoWorse, IsAtOrBefore, IsBestFrom}
 pub use Rattle.buck_dp.specs.declared.takers.Takers.{Takers}
 pub use Rattle.buck_dp.specs.declared.offering.Reach.{Reach}
 pub use Rattle.std.proofs.lemmas.Nat.{le-div}
@@ -47,9 +45,7 @@ pub use Rattle.buck_bid.proofs.OfferLemmas.{code_at, code_index, codes_number, w
 pub use Rattle.buck_dp.specs.declared.pricing.Quote.{Quote}
 pub use Rattle.buck_dp.specs.declared.pricing.Ask.{Ask}
 pub use Rattle.buck_dp.specs.inner.Takers.{IsTaker, AreTakersOf, AreKnown, IsTakerOf}
-pub use Rattle.buck_dp.specs.inner.Quotes.{quote_bid, priced_at, IsAsked, IsQuoteOf, IsTermOf, HasNoBid, IsQuote, IsOver, IsPut, IsQuoted, IsNoTerm, AreTerms, Falls, AreQuotes, IsLeading}
 pub use Rattle.std.proofs.Math.Seq.{take-suc, take-suc-set, take-append_seam}
-pub use Rattle.buck_dp.specs.inner.Drawn.{IsWithin, cell_of, cell_for, row_of, IsRow}
 pub use Rattle.buck_stem.specs.points.Profile.{IsMask, IsMaskBetween, ProfileParts, profile_of}
 pub use Rattle.buck_stem.proofs.Tables.{grade_at_is}
 pub use Rattle.buck_value.proofs.Grades.{mask_allows}

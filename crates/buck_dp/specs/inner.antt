@@ -1,17 +1,13 @@
 -- What the crate's own functions show one another.
 pub mod Points
 pub mod Table
-pub mod Values
 pub mod Bid
 pub mod Logs
 pub mod Rows
 pub mod Searched
 pub mod Takers
-pub mod Cells
 pub mod Quotes
-pub mod Drawn
 pub mod Menu
 pub mod Index
 pub mod Kept
-pub mod Parts
 pub mod Site

@@ -2,12 +2,10 @@
 ghost use Rattle.std.specs.Prelude.{◌≡◌, ◌≢◌, ℕ, ◌+◌, ◌<◌, ◌≤◌, length, get_or, slice_get, Some};
 ghost use Rattle.buck_dp.specs.declared.offering.Cell.{Cell};
 ghost use Rattle.buck_dp.specs.inner.Bid.{bid_of, plus, IsGreater};
-ghost use Rattle.buck_dp.specs.inner.Cells.{AreByLength, IsPlaced};
+ghost use Rattle.buck_dp.specs.inner.Rows.{AreByLength, IsPlaced, IsNear, AreOffered, AreFit};
 ghost use Rattle.buck_dp.specs.inner.Logs.{bid_at};
 ghost use Rattle.buck_dp.specs.declared.pricing.Quote.{Quote};
-ghost use Rattle.buck_dp.specs.inner.Drawn.{row_of};
-ghost use Rattle.buck_dp.specs.inner.Quotes.{IsSmall};
-ghost use Rattle.buck_dp.specs.inner.Rows.{IsNear, AreOffered, AreFit};
+ghost use Rattle.buck_dp.specs.inner.Quotes.{row_of, IsSmall};
 
 use crate::bid::Bid;
 use crate::pricing::Quote;

@@ -3,9 +3,9 @@
 ghost use Rattle.std.specs.Prelude.{◌≡◌, ℕ, ◌+◌, ◌-◌, ◌*◌, ◌<◌, ◌≤◌, IfOk, OnOk, length};
 ghost use Rattle.buck_stem.specs.Stem.{stem_length};
 ghost use Rattle.buck_dp.specs.inner.Points.{points_of};
-ghost use Rattle.buck_dp.specs.inner.Parts.{HasNoneOf};
+ghost use Rattle.buck_dp.specs.inner.Logs.{HasNoneOf};
 ghost use Rattle.buck_bid.specs.Offers.{codes_in};
-ghost use Rattle.buck_dp.specs.inner.Drawn.{IsRow};
+ghost use Rattle.buck_dp.specs.inner.Quotes.{IsRow};
 ghost use Rattle.buck_dp.specs.inner.Kept.{all_of};
 ghost use Rattle.buck_dp.specs.inner.Searched.{IsSearch};
 ghost use Rattle.buck_dp.specs.inner.Site.{IsSite, IsReady, IsPlan, IsDone, IsPartTo, IsNearest, IsDiameterAt, ground_of};

@@ -1,8 +1,7 @@
 //! Rows: what the logs of some takers bid at one diameter.
 ghost use Rattle.std.specs.Prelude.{◌≡◌, ℕ, ◌≤◌, IfOk, slice_get, Some};
 ghost use Rattle.buck_dp.specs.declared.pricing.Quote.{Quote};
-ghost use Rattle.buck_dp.specs.inner.Quotes.{IsSmall};
-ghost use Rattle.buck_dp.specs.inner.Drawn.{cell_for, row_of};
+ghost use Rattle.buck_dp.specs.inner.Quotes.{IsSmall, cell_for, row_of};
 ghost use Rattle.buck_dp.specs.inner.Index.{IsBehind};
 
 use crate::index::Place;

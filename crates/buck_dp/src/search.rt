@@ -5,12 +5,9 @@ ghost use Rattle.buck_value.specs.Sheet.{IsSheet};
 ghost use Rattle.buck_dp.specs.declared.offering.Cell.{Cell};
 ghost use Rattle.buck_dp.specs.declared.pricing.Quote.{Quote};
 ghost use Rattle.buck_dp.specs.inner.Points.{GroundParts, points_of, ground_with};
-ghost use Rattle.buck_dp.specs.inner.Cells.{AreByLength, IsPlaced};
-ghost use Rattle.buck_dp.specs.inner.Drawn.{row_of};
-ghost use Rattle.buck_dp.specs.inner.Logs.{bid_at};
-ghost use Rattle.buck_dp.specs.inner.Parts.{HasNoneOf};
-ghost use Rattle.buck_dp.specs.inner.Quotes.{IsSmall};
-ghost use Rattle.buck_dp.specs.inner.Rows.{IsPart};
+ghost use Rattle.buck_dp.specs.inner.Rows.{AreByLength, IsPlaced, IsPart};
+ghost use Rattle.buck_dp.specs.inner.Quotes.{row_of, IsSmall};
+ghost use Rattle.buck_dp.specs.inner.Logs.{bid_at, HasNoneOf};
 ghost use Rattle.buck_dp.specs.inner.Searched.{IsSearch};
 
 use crate::bid::Bid;

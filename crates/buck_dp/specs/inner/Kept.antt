@@ -14,10 +14,9 @@ use Rattle.buck_dp.specs.declared.offering.Reach.{Reach}
 use Rattle.buck_dp.specs.declared.pricing.Ask.{Ask}
 use Rattle.buck_dp.specs.declared.pricing.Quote.{Quote}
 use Rattle.buck_dp.specs.declared.pricing.Term.{Term}
-use Rattle.buck_dp.specs.inner.Drawn.{IsRow}
+use Rattle.buck_dp.specs.inner.Quotes.{IsRow, AreTerms, AreQuotes}
 use Rattle.buck_dp.specs.inner.Menu.{IsMenu}
 use Rattle.buck_dp.specs.inner.Index.{IsPlaceIn, part_of}
-use Rattle.buck_dp.specs.inner.Quotes.{AreTerms, AreQuotes}
 
 -- what is asked for by a key: the band at its place
 abbrev pub ask_of : Menu → Key → Ask

@@ -1,6 +1,6 @@
--- Price lists: what takers bid at each diameter of a band.
-use Rattle.std.specs.Prelude.{◌≡◌, ◌≢◌, ℕ, ◌+◌, ◌-◌, ◌*◌, ◌<◌, ◌≤◌, ◌⊎◌, List, [], ◌∷◌, ◌++◌, Option, length, slice_get, slice_index, slice_set, Some, None}
-use Rattle.buck_apt.specs.Instruction.{InstructionParts, classes}
+-- What takers bid at a diameter, whatever the stem, and price lists and rows of that.
+use Rattle.std.specs.Prelude.{◌≡◌, ◌≢◌, ℕ, ◌+◌, ◌-◌, ◌*◌, ◌<◌, ◌≤◌, ◌⊎◌, List, [], ◌∷◌, ◌++◌, Option, length, slice_get, slice_index, slice_set, Some, None, ◌&&◌, if◌then◌else◌, nat_lt, nat_le, Bool}
+use Rattle.buck_apt.specs.Instruction.{InstructionParts, classes, AssortmentParts}
 use Rattle.buck_value.specs.Sheet.{SheetParts, IsSheet}
 use Rattle.buck_value.specs.Volume.{volume, worth_at}
 use Rattle.buck_dp.specs.inner.Points.{point_after}
@@ -9,8 +9,31 @@ use Rattle.buck_dp.specs.declared.pricing.Leader.{Leader}
 use Rattle.buck_dp.specs.declared.pricing.Term.{Term}
 use Rattle.buck_dp.specs.declared.pricing.Ask.{Ask}
 use Rattle.buck_dp.specs.inner.Bid.{BidParts, bid_of, IsAtMost}
-use Rattle.buck_dp.specs.inner.Cells.{IsTakersBid}
 use Rattle.buck_value.specs.declared.sheet.TheConstants.{HIGHEST_PRICE}
+use Rattle.buck_value.specs.Allowed.{log_of}
+use Rattle.buck_bid.specs.Offers.{HasMark}
+use Rattle.buck_bid.specs.Quotes.{IsPricedAt, worth_for}
+use Rattle.buck_dp.specs.declared.takers.Takers.{Takers}
+use Rattle.buck_dp.specs.inner.Takers.{IsTaker}
+use Rattle.std.specs.List.{filter_map}
+use Rattle.buck_dp.specs.declared.offering.Cell.{Cell}
+use Rattle.buck_dp.specs.declared.offering.Reach.{Reach}
+
+-- an assortment bids so much for logs of a length and a top diameter
+pub record IsBidOf (s : SheetParts) (codes : List ℕ) (a l d : ℕ) (bid : BidParts) : Type 0 where
+  pub at : IsPricedAt s a l d
+  pub rank : HasMark codes (log_of 0 l a) bid.rank
+  pub worth : bid.worth ≡ worth_for s a l d
+
+-- a taker bids so much for logs of so many steps, with its trim
+pub record IsTakersBid (s : SheetParts) (codes : List ℕ) (takers : Takers) (d steps trim : ℕ) (bid : BidParts) : Type 0 where
+  pub a : ℕ
+  pub taker : IsTaker takers a
+  pub assortment : AssortmentParts
+  pub exists : slice_get s.instruction.assortments a ≡ Some assortment
+  pub some : 0 < steps
+  pub bids : IsBidOf s codes a (steps * s.instruction.«module») d bid
+  pub own : assortment.trim ≡ trim
 
 -- what a quote bids for a log of a top diameter
 abbrev pub quote_bid : Quote → ℕ → BidParts
@@ -114,3 +137,38 @@ pub record AreQuotes (s : SheetParts) (codes : List ℕ) (ask : Ask) (n : ℕ) (
   pub order : Falls (λ (q : Quote). q.rank) quotes
   pub met : (steps trim d : ℕ) (bid : BidParts) → IsAsked ask d → 1023 < bid.rank + n
       → IsTakersBid s codes ask.takers d steps trim bid → IsQuoted quotes d steps trim bid
+
+-- a quote is for logs within reach
+abbrev pub IsWithin : Reach → Quote → Type 0
+IsWithin reach q = (reach.past < q.steps) × (q.steps ≤ reach.far) × (q.trim ≤ reach.room)
+
+abbrev pub is_within : Reach → Quote → Bool
+is_within reach q = nat_lt reach.past q.steps && nat_le q.steps reach.far && nat_le q.trim reach.room
+
+-- the cell of a quote at a diameter
+abbrev pub cell_of : Reach → Quote → ℕ → Cell
+cell_of reach q d = record {
+  bid = quote_bid q d;
+  steps = q.steps;
+  rise = q.rise;
+  back = reach.far - q.steps;
+  next = reach.far + q.rise;
+}
+
+-- if its logs are within reach
+abbrev pub cell_for : ℕ → Reach → Quote → Option Cell
+cell_for d reach q = if is_within reach q then Some (cell_of reach q d) else None
+
+-- the cells of a price list, in its order
+abbrev pub row_of : List Quote → ℕ → Reach → List Cell
+row_of quotes d reach = filter_map (cell_for d reach) quotes
+
+-- a row has the cells of a price list of some takers
+pub record IsRow (s : SheetParts) (codes : List ℕ) (n : ℕ) (takers : Takers) (d : ℕ) (reach : Reach)
+    (row : List Cell) : Type 0 where
+  pub ask : Ask
+  pub quotes : List Quote
+  pub own : ask.takers ≡ takers
+  pub asked : IsAsked ask d
+  pub list : AreQuotes s codes ask n quotes
+  pub is : row ≡ row_of quotes d reach

@@ -5,6 +5,15 @@ use Rattle.buck_dp.specs.declared.offering.Cell.{Cell}
 use Rattle.buck_dp.specs.inner.Bid.{BidParts, IsAtMost, plus}
 use Rattle.buck_dp.specs.inner.Logs.{IsLogAt, bid_at}
 
+-- a cell tells where its log and the next one start, from so far before its top on
+abbrev pub IsPlaced : ℕ → Cell → Type 0
+IsPlaced far c = (c.back + c.steps ≡ far) × (c.next ≡ far + c.rise)
+
+-- no cell is for shorter logs than one before it
+abbrev pub AreByLength : List Cell → Type 0
+AreByLength cells = (j k : ℕ) (a b : Cell) → j ≤ k → slice_get cells j ≡ Some a → slice_get cells k ≡ Some b
+    → a.steps ≤ b.steps
+
 -- the log of a cell starts at point `first` or later, and before `stop`
 abbrev pub IsNear : ℕ → ℕ → ℕ → Cell → Type 0
 IsNear top first stop c = (c.steps + first ≤ top) × (top < c.steps + stop)

@@ -11,7 +11,7 @@ use Rattle.buck_dp.specs.declared.menu.Menu.{Menu}
 use Rattle.buck_dp.specs.inner.Menu.{IsMenu}
 use Rattle.buck_dp.specs.declared.planning.Near.{Near}
 use Rattle.buck_dp.specs.declared.planning.Part.{Part}
-use Rattle.buck_dp.specs.inner.Parts.{HasTakers, HasNoneOf}
+use Rattle.buck_dp.specs.inner.Logs.{HasTakers, HasNoneOf}
 use Rattle.buck_dp.specs.inner.Searched.{IsSearch}
 use Rattle.buck_dp.specs.inner.Takers.{AreKnown}
 use Rattle.buck_dp.specs.inner.Kept.{AreKept}
