@@ -2,13 +2,10 @@ pub mod Words
 pub mod Optimal
 pub mod Places
 pub mod Bounds
-pub mod Walk
 pub mod Lists
-pub mod Marks
 pub mod Values
 pub mod Logs
 pub mod Untrimmed
-pub mod BidLemmas
 pub mod CellLemmas
 pub mod TopLemmas
 pub mod RowLemmas

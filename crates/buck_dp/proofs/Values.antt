@@ -2,11 +2,10 @@
 -- cutting.
 use Rattle.buck_dp.proofs.Words.{◌≡◌, ℕ, zero, suc, ◌+◌, ◌-◌, ◌*◌, ◌<◌, ◌≤◌, inl, inr, List, [], ◌∷◌, ◌++◌, length, get_or, slice_index, append_assoc, refl, sym, ◌∙◌, subst, ap, arith, add-mul, mul-le-mul_right, rules, cases_lt, append-nil, get_or_past, sum_by-cons, mul-mod_left, StemParts, stem_length, Log, SheetParts, IsSheet, IsAllowed, worth_of, end_of, AreCodes, HasMark, code_of, IsFirstBest, cutting_worth, IsCutFrom, GroundParts, points_of, ends_of, point_after, BidParts, bid_of, none, IsLogAt, bid_at, AreSearched, IsTop, IsAtOrBefore, sum_by, InstructionParts, IsInstruction, IsAtMost, IsSettled, IsNoWorse, IsBestFrom}
 use Rattle.buck_dp.proofs.Bounds.{end_within}
-use Rattle.buck_dp.proofs.Logs.{log_there}
-use Rattle.buck_dp.proofs.Marks.{assortment_low, mark_code, mark_high, mark_place, marks_before, marks_same, code_parts, mark_found}
+use Rattle.buck_dp.proofs.Logs.{log_there, assortment_low, mark_code, mark_high, mark_place, marks_before, marks_same, code_parts, mark_found}
 use Rattle.buck_dp.proofs.Optimal.{IsNoWorse-trans, IsNoWorse-cons, IsTop-rest, nothing_top, same_log, IsCutFrom-le}
 use Rattle.buck_dp.proofs.Places.{next_start, past_top, after_covers, start_after}
-use Rattle.buck_dp.proofs.Walk.{AnyRest, same_worth, top_is_first_best}
+use Rattle.buck_dp.proofs.Lists.{AnyRest, same_worth, top_is_first_best}
 
 -- no other list that may be cut from a place on is better
 abbrev pub IsTopAt : GroundParts → ℕ → List Log → Type 0

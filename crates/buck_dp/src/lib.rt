@@ -15,7 +15,6 @@ mod offering;
 mod planner;
 mod planning;
 mod pricing;
-mod rowing;
 mod search;
 mod takers;
 

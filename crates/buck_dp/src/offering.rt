@@ -1,15 +1,17 @@
 //! What is done at one top: its value is settled, and its logs are offered to the points where they start.
-ghost use Rattle.std.specs.Prelude.{◌≡◌, ◌≢◌, ℕ, ◌+◌, ◌<◌, ◌≤◌, length, get_or, slice_get, Some};
+ghost use Rattle.std.specs.Prelude.{◌≡◌, ◌≢◌, ℕ, ◌+◌, ◌<◌, ◌≤◌, length, get_or, slice_get, Some, IfOk};
 ghost use Rattle.buck_dp.specs.declared.offering.Cell.{Cell};
 ghost use Rattle.buck_dp.specs.inner.Bid.{bid_of, plus, IsGreater};
 ghost use Rattle.buck_dp.specs.inner.Rows.{AreByLength, IsPlaced, IsNear, AreOffered, AreFit};
 ghost use Rattle.buck_dp.specs.inner.Logs.{bid_at};
 ghost use Rattle.buck_dp.specs.declared.pricing.Quote.{Quote};
-ghost use Rattle.buck_dp.specs.inner.Quotes.{row_of, IsSmall};
+ghost use Rattle.buck_dp.specs.inner.Quotes.{row_of, IsSmall, cell_for};
+ghost use Rattle.buck_dp.specs.inner.Index.{IsBehind};
 
 use crate::bid::Bid;
-use crate::pricing::Quote;
-use crate::rowing::cell_at;
+use crate::index::Place;
+use crate::pricing::{MOST_OFFERS, Quote};
+use std::alloc::AllocError;
 
 /// What a log brings that is so many steps long, and how many points after its top the next log can start. Of the
 /// points that its row reaches it starts at `back`, and the next one can start at `next`.
@@ -36,6 +38,57 @@ pub struct Reach {
 pub struct Starts {
     pub first: usize,
     pub stop: usize,
+}
+
+/// The cell of a quote at a diameter, if its logs are within reach.
+#[inline(always)]
+fn cell_at(quote: Quote, diameter: u32, reach: Reach) -> Option<Cell>
+    requires small { IsSmall quote }
+    requires diameter { diameter ≤ 1500 }
+    requires far { reach.far ≤ 4294967295 }
+    ensures { result ≡ cell_for diameter reach quote }
+{
+    if quote.steps as usize <= reach.past {
+        return None;
+    }
+    if quote.steps as usize > reach.far {
+        return None;
+    }
+    if quote.trim > reach.room {
+        return None;
+    }
+    Some(Cell {
+        bid: quote.bid(diameter),
+        steps: quote.steps,
+        rise: quote.rise,
+        back: reach.far - quote.steps as usize,
+        next: reach.far + quote.rise as usize,
+    })
+}
+
+/// Puts the cells of a price list at a diameter behind others, for the logs within reach, and tells where.
+pub fn put_row(
+    cells: &mut Vec<Cell>,
+    list: &[Quote],
+    diameter: u32,
+    reach: Reach,
+) -> Result<Place, AllocError>
+    requires small { (k : ℕ) (q : Quote) → slice_get list.now k ≡ Some q → IsSmall q }
+    requires diameter { diameter ≤ 1500 }
+    requires far { reach.far ≤ 4294967295 }
+    ensures { IfOk result (IsBehind cells.old.items (row_of list.now diameter reach) cells.new.items) }
+{
+    cells.reserve(list.len().max(MOST_OFFERS))?;
+    let from = cells.len();
+    for quote in list {
+        if let Some(cell) = cell_at(*quote, diameter, reach) {
+            cells.push_reserved(cell);
+        }
+    }
+    Ok(Place {
+        from,
+        past: cells.len(),
+    })
 }
 
 /// Settles a point: its value is what was offered to it, or that of the next point if this is greater. The rank becomes

@@ -1,5 +1,5 @@
 use Rattle.buck_dp.proofs.Words.{◌≤◌, ◌*◌, ◌-◌, ground_with, ends_of, codes_in}
-use Rattle.buck_dp.proofs.Walk.{AnyRest}
+use Rattle.buck_dp.proofs.Lists.{AnyRest}
 use Rattle.buck_dp.proofs.following.follow.Given as goal
 
 abbrev pub invariant-loop-i : goal.invariant-loop-i

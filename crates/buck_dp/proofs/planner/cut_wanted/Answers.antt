@@ -1,7 +1,6 @@
 use Rattle.buck_dp.proofs.Words.{◌≡◌, ◌≤◌, ◌∙◌, ℕ, List, ap, subst, arith, rules, StemParts, IsStem, ProfileParts, profile_of, Log, codes_in, GroundParts, ground_with, IsFirstBest, cutting_worth, AreSearched}
-use Rattle.buck_dp.proofs.Lists.{worth_bounded}
+use Rattle.buck_dp.proofs.Lists.{worth_bounded, top_is_first_best}
 use Rattle.buck_dp.proofs.SiteLemmas.{all_searched}
-use Rattle.buck_dp.proofs.Walk.{top_is_first_best}
 use Rattle.buck_dp.proofs.Values.{walk_worth}
 use Rattle.buck_dp.proofs.planner.cut_wanted.Goals as goal
 

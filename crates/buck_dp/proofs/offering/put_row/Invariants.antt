@@ -1,5 +1,5 @@
 use Rattle.buck_dp.proofs.Words.{◌≡◌, ◌+◌, ◌≤◌, ◌++◌, length, take, vec_len, vec_capacity, row_of}
-use Rattle.buck_dp.proofs.rowing.put_row.Given as goal
+use Rattle.buck_dp.proofs.offering.put_row.Given as goal
 
 abbrev pub invariant-loop-quote : goal.invariant-loop-quote
 invariant-loop-quote l = record {

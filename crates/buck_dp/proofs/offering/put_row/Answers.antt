@@ -1,7 +1,7 @@
 use Rattle.buck_dp.proofs.Words.{◌≡◌, ◌∙◌, ap, sym, arith, rules, ◌++◌, ◌∷◌, [], append_assoc, append-nil, Some, None, cell_of, take, row_of, List, Cell}
 use Rattle.buck_dp.proofs.RowLemmas.{row_more}
-use Rattle.buck_dp.proofs.rowing.put_row.Goals.{in-Some, in_default}
-use Rattle.buck_dp.proofs.rowing.put_row.Goals as goal
+use Rattle.buck_dp.proofs.offering.put_row.Goals.{in-Some, in_default}
+use Rattle.buck_dp.proofs.offering.put_row.Goals as goal
 
 pub loop-quote-preserved : goal.loop-quote-preserved
 loop-quote-preserved c =
