@@ -1,5 +1,5 @@
 -- A log is worth at most 70,000,000,000 millionths for each millimetre, and so the worth of a cutting fits 64 bits.
-use Rattle.buck_dp.proofs.Words.{ℕ, ◌+◌, ◌*◌, ◌≤◌, List, sum_by, ap, arith, rules, InstructionParts, StemParts, IsStem, stem_length, Log, SheetParts, IsSheet, IsAllowed, worth_of, end_of, trim_in, worth_low, IsCutFrom}
+use Rattle.buck_dp.proofs.Words.{ℕ, ◌+◌, ◌*◌, ◌≤◌, List, sum_by, ap, arith, InstructionParts, StemParts, IsStem, stem_length, Log, SheetParts, IsSheet, IsAllowed, worth_of, end_of, trim_in, worth_low, IsCutFrom}
 use Rattle.buck_dp.proofs.Optimal.{worth_within}
 
 -- an allowed log lies within its stem

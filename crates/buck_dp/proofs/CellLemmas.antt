@@ -1,5 +1,5 @@
 -- Cells offered one after another.
-use Rattle.buck_dp.proofs.Words.{◌≡◌, ◌≢◌, ℕ, ◌+◌, ◌-◌, ◌<◌, ◌≤◌, ◌⊎◌, inl, inr, List, [], ◌∷◌, refl, ◌++◌, take, drop, length, length-append, slice_get, Some, sym, subst, ap, ◌∙◌, arith, rules, cases_lt, cases_order, same_Some, length-drop, length-take-le, get_or-drop, get_or-take, get_or_append_left, get_or-append_right, push_cases, kept_at, Cell, BidParts, none, IsAtMost, IsGreater, plus, IsPlaced, bid_at, IsNear, AreOffered, AreFit, bid_of}
+use Rattle.buck_dp.proofs.Words.{◌≡◌, ◌≢◌, ℕ, ◌+◌, ◌-◌, ◌<◌, ◌≤◌, ◌⊎◌, inl, inr, List, refl, ◌++◌, take, drop, length, length-append, slice_get, Some, sym, subst, ap, ◌∙◌, arith, rules, cases_lt, cases_order, same_Some, length-drop, length-take-le, get_or-drop, get_or-take, get_or_append_left, get_or-append_right, Cell, BidParts, none, IsAtMost, IsGreater, plus, IsPlaced, bid_at, IsNear, AreOffered, AreFit, bid_of}
 
 pub IsAtMost-refl : (a : BidParts) → IsAtMost a a
 IsAtMost-refl a = inr (refl, omega arith)

@@ -1,5 +1,5 @@
 -- Lists and rows that are kept.
-use Rattle.buck_dp.proofs.Words.{◌≡◌, ℕ, ◌+◌, ◌-◌, ◌⊎◌, inl, inr, List, [], ◌∷◌, ◌++◌, Option, length, length-append, take, drop, slice_get, Some, sym, subst, ap, ◌∙◌, arith, rules, none-some, length-drop, drop_at, drop-append-le, take-append-le, take_all, InstructionParts, SheetParts, push_each, Key, Place, Head, Menu, Term, Kept, IsKeptAt, IsBehind, part_of, IsAt, TermsOf, ListOf, RowOf, AreKept}
+use Rattle.buck_dp.proofs.Words.{◌≡◌, ℕ, ◌⊎◌, inl, inr, List, [], ◌∷◌, ◌++◌, Option, length-append, slice_get, Some, sym, subst, ap, ◌∙◌, rules, none-some, length-drop, drop_at, drop-append-le, take-append-le, take_all, InstructionParts, SheetParts, push_each, Key, Place, Head, Menu, Term, Kept, IsKeptAt, IsBehind, IsAt, TermsOf, ListOf, RowOf, AreKept}
 
 -- what each head tells of its place
 abbrev pub Each : {X : Type 0} → (Key → List X → Type 0) → List Head → List X → Type 0

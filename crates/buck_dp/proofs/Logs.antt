@@ -1,5 +1,5 @@
 -- Logs of a stem as bids of its takers, and the other way.
-use Rattle.buck_dp.proofs.Words.{◌≡◌, ℕ, ◌+◌, ◌-◌, ◌*◌, ◌/◌, ◌%◌, ◌<◌, ◌≤◌, inl, inr, List, Option, Some, None, length, slice_get, slice_index, refl, sym, subst, ap, ◌∙◌, arith, add-mul, mul-le-mul_right, rules, cases_lt, same_Some, mul-mod_left, div-mul-le_self, mul-add-div_right, lt-div-mul-add, AssortmentParts, StemParts, HasGradesOf, stem_length, diameter_at, Log, SheetParts, IsSheet, price_of, volume, worth_at, IsAllowed, log_of, top_of, end_of, trim_in, trim_of, top_diameter, class_in, kind_in, worth_of, GroundParts, points_of, ends_of, point_after, HasMark, BidParts, bid_of, IsLogAt, IsBidOf, on_module, allowed_low, class_for, worth_for, ◌⊎◌, get_or, cases_order, slice_get-get_or, slice_get_within, get_or_from_slice_get, AllPairs-from_increasing, InstructionParts, IsInstruction, AreCodes, code_of, IsLogBefore}
+use Rattle.buck_dp.proofs.Words.{◌≡◌, ℕ, ◌+◌, ◌-◌, ◌*◌, ◌/◌, ◌%◌, ◌<◌, ◌≤◌, List, Option, Some, None, length, slice_get, slice_index, refl, sym, subst, ap, ◌∙◌, arith, add-mul, mul-le-mul_right, rules, cases_lt, same_Some, mul-mod_left, div-mul-le_self, mul-add-div_right, lt-div-mul-add, AssortmentParts, StemParts, HasGradesOf, stem_length, diameter_at, Log, SheetParts, IsSheet, IsAllowed, log_of, top_of, end_of, trim_in, trim_of, top_diameter, class_in, worth_of, GroundParts, points_of, ends_of, point_after, HasMark, BidParts, bid_of, IsLogAt, IsBidOf, on_module, allowed_low, class_for, worth_for, ◌⊎◌, get_or, cases_order, slice_get-get_or, slice_get_within, get_or_from_slice_get, AllPairs-from_increasing, InstructionParts, IsInstruction, AreCodes, code_of, IsLogBefore}
 use Rattle.buck_dp.proofs.Places.{whole_steps, one_step, after_within}
 use Rattle.buck_dp.proofs.Bounds.{end_within}
 use Rattle.buck_dp.proofs.Optimal.{same_log}

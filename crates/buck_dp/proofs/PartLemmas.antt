@@ -1,5 +1,5 @@
 -- The row of a price list of the takers of some wood is right for the starts in this wood.
-use Rattle.buck_dp.proofs.Words.{◌≡◌, ℕ, ◌+◌, ◌-◌, ◌*◌, ◌<◌, ◌≤◌, inl, inr, List, slice_get, slice_index, Some, sym, subst, arith, rules, cases_lt, AssortmentParts, stem_length, diameter_at, IsSheet, trim_of, GroundParts, points_of, point_after, Cell, BidParts, IsLogAt, IsPart, IsTakersBid, IsTaker, HasTakers, Takers, Reach, ap, length, take, quote_bid, IsRow, row_of, cell_for, cell_of}
+use Rattle.buck_dp.proofs.Words.{◌≡◌, ℕ, ◌+◌, ◌-◌, ◌*◌, ◌<◌, ◌≤◌, inl, inr, List, slice_get, Some, sym, subst, arith, rules, cases_lt, AssortmentParts, stem_length, diameter_at, IsSheet, trim_of, GroundParts, point_after, Cell, BidParts, IsLogAt, IsPart, IsTakersBid, IsTaker, HasTakers, Takers, Reach, ap, length, take, quote_bid, IsRow, row_of, cell_for, cell_of}
 use Rattle.buck_dp.proofs.Logs.{Takes, log_takes, takes_less, log_quote, quote_log, after_is, log_fits}
 use Rattle.buck_dp.proofs.Places.{after_in_order}
 use Rattle.buck_dp.proofs.RowLemmas.{made_of, made_at, cell_within, cell_is}

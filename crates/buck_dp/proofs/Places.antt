@@ -1,5 +1,5 @@
 -- Places on the stem, as multiples of a step.
-use Rattle.buck_dp.proofs.Words.{◌≡◌, ℕ, ◌+◌, ◌-◌, ◌*◌, ◌/◌, ◌%◌, ◌<◌, ◌≤◌, ◌⊎◌, inl, inr, arith, mul-le-mul_right, rules, cases_lt, lt-div-mul-add, div-mul-le_self, le-div, point_after, ap, mul_comm, div-add-mod}
+use Rattle.buck_dp.proofs.Words.{◌≡◌, ℕ, ◌+◌, ◌*◌, ◌/◌, ◌%◌, ◌<◌, ◌≤◌, ◌⊎◌, inl, inr, arith, mul-le-mul_right, rules, cases_lt, lt-div-mul-add, div-mul-le_self, le-div, point_after, mul_comm, div-add-mod}
 
 -- a multiple of a step, in steps
 pub whole_steps : (l step : ℕ) → l % step ≡ 0 → l / step * step ≡ l

@@ -1,5 +1,5 @@
 -- The quote of an offer.
-use Rattle.buck_dp.proofs.Words.{◌≡◌, ℕ, ◌+◌, ◌-◌, ◌*◌, ◌/◌, ◌<◌, ◌≤◌, IfSome, List, length, slice_get, slice_index, Some, refl, sym, subst, ap, ◌∙◌, arith, rules, mul-div_left, same_Some, slice_get_within, AssortmentParts, InstructionParts, classes, SheetParts, IsSheet, volume, worth_at, price-le, Pricing, Offer, IsPricing, HasNoPrice, AreOffers, IsWhole, codes_in, code_of, IsPricedAt, worth_for, in_order, code_at, code_index, codes_number, whole_length, point_after, Quote, Ask, Term, BidParts, IsTaker, IsTakersBid, quote_bid, priced_at, IsAsked, IsQuoteOf, IsTermOf, HasNoBid}
+use Rattle.buck_dp.proofs.Words.{◌≡◌, ℕ, ◌+◌, ◌-◌, ◌*◌, ◌/◌, ◌<◌, ◌≤◌, IfSome, List, slice_get, slice_index, Some, refl, sym, subst, ap, ◌∙◌, arith, rules, mul-div_left, same_Some, slice_get_within, AssortmentParts, InstructionParts, classes, SheetParts, IsSheet, price-le, Pricing, Offer, IsPricing, HasNoPrice, AreOffers, codes_in, code_of, IsPricedAt, worth_for, in_order, code_at, code_index, codes_number, whole_length, point_after, Quote, Ask, Term, BidParts, IsTaker, IsTakersBid, quote_bid, priced_at, IsAsked, IsQuoteOf, IsTermOf, HasNoBid}
 use Rattle.buck_dp.proofs.CellLemmas.{same_bid}
 
 -- a later offer is no shorter

@@ -1,5 +1,5 @@
 -- Price lists that grow, and rows drawn from them.
-use Rattle.buck_dp.proofs.Words.{◌≡◌, ℕ, ◌+◌, ◌-◌, ◌*◌, ◌<◌, ◌≤◌, ◌⊎◌, inl, inr, List, [], ◌∷◌, ◌++◌, Option, IfSome, IfNone, length, length-append, take, get_or, slice_get, slice_set, zero, suc, Some, None, refl, sym, subst, ap, ◌∙◌, append_assoc, arith, mul-le-mul_right, add-mul, rules, cases_lt, none-some, same_Some, slice_get_within, slice_get-get_or, get_or_from_slice_get, IsStrictlyIncreasing, InstructionParts, SheetParts, IsSheet, Offer, codes_in, code_of, codes_number, take-suc, take-suc-set, get_or-append_right, set-append_right, take_all, length-set, kept_at, pushed_at, push_cases, push_each, in_order, Cell, Reach, Quote, Ask, Term, Takers, BidParts, IsAtMost, IsTakersBid, quote_bid, IsAsked, IsQuote, IsQuoteOf, HasNoBid, IsOver, IsPut, IsQuoted, IsTermOf, IsNoTerm, AreTerms, Falls, AreQuotes, cell_for, row_of, IsRow, IsPlaced, AreByLength, slice_index, log_of, ◌/◌}
+use Rattle.buck_dp.proofs.Words.{◌≡◌, ℕ, ◌+◌, ◌-◌, ◌*◌, ◌<◌, ◌≤◌, ◌⊎◌, inl, inr, List, [], ◌∷◌, ◌++◌, Option, IfSome, IfNone, length, length-append, take, get_or, slice_get, slice_set, suc, Some, None, refl, sym, subst, ap, ◌∙◌, append_assoc, arith, mul-le-mul_right, add-mul, rules, cases_lt, none-some, slice_get_within, slice_get-get_or, get_or_from_slice_get, IsStrictlyIncreasing, InstructionParts, SheetParts, IsSheet, Offer, codes_in, codes_number, take-suc, take-suc-set, get_or-append_right, set-append_right, take_all, length-set, kept_at, pushed_at, push_cases, push_each, in_order, Cell, Reach, Quote, Ask, Term, Takers, BidParts, IsAtMost, IsTakersBid, quote_bid, IsAsked, IsQuote, IsQuoteOf, HasNoBid, IsOver, IsPut, IsQuoted, IsTermOf, IsNoTerm, AreTerms, Falls, AreQuotes, cell_for, row_of, IsRow, IsPlaced, AreByLength, slice_index, log_of, ◌/◌}
 use Rattle.buck_dp.proofs.CellLemmas.{IsAtMost-refl, worth_at_most}
 use Rattle.buck_dp.proofs.Logs.{mark_code, mark_place}
 use Rattle.buck_dp.proofs.RowLemmas.{made_of, cell_is, cell_placed}

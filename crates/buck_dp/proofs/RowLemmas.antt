@@ -1,6 +1,5 @@
 -- Rows that are drawn from price lists.
-use Rattle.buck_dp.proofs.Words.{◌≡◌, ℕ, zero, suc, ◌+◌, ◌-◌, ◌*◌, ◌<◌, ◌≤◌, List, [], ◌∷◌, ◌++◌, Option, Some, None, length, take, get_or, slice_get, slice_get-get_or, IsNear, refl, sym, subst, ap, ◌∙◌, arith, rules, cases_lt, none-some, same_Some, slice_get_within, get_or_from_slice_get, IsStrictlyIncreasing, in_order, mul-le-mul_right, add-mul, SheetParts, IsSheet, log_of, Cell, Reach, Quote, Ask, Takers, BidParts, IsTakersBid, IsPlaced, AreByLength, IsAsked, IsQuote, AreQuotes, IsWithin, cell_of, cell_for, row_of, filter_map, cons_option, filter_map-append, take_more, nat_tests}
-use Rattle.buck_dp.proofs.Logs.{mark_code}
+use Rattle.buck_dp.proofs.Words.{◌≡◌, ℕ, zero, suc, ◌+◌, ◌<◌, ◌≤◌, List, [], ◌∷◌, ◌++◌, Option, Some, None, length, take, get_or, slice_get, slice_get-get_or, IsNear, refl, sym, subst, ap, ◌∙◌, arith, none-some, same_Some, slice_get_within, get_or_from_slice_get, Cell, Reach, Quote, IsPlaced, IsWithin, cell_of, cell_for, row_of, filter_map, cons_option, filter_map-append, take_more, nat_tests}
 
 -- two elements of what is made of a list are made of two of its elements, in the same order
 abbrev pub AreMadeOf : {X Y : Type 0} → (X → Option Y) → List X → Y → Y → Type 0

@@ -1,5 +1,5 @@
 -- Who takes the wood of a stem.
-use Rattle.buck_dp.proofs.Words.{◌≡◌, ℕ, ◌+◌, ◌*◌, ◌/◌, ◌<◌, ◌≤◌, ◌⊎◌, inl, inr, List, Contains, length, slice_index, refl, sym, subst, ◌∙◌, arith, mul-le-mul_left, mul-le-mul_right, add-mul, rules, div-mul-le_self, lt-div-mul-add, cases_lt, StemParts, IsStem, IsGrade, grade_at, HasGrade, HasGradesOf, stem_length, diameter_at, IsMask, IsMaskBetween, ProfileParts, profile_of, grade_at_is, mask_allows, IsSheet, codes_in, GroundParts, points_of, Takers, Kind, IsTaker, AreTakersOf, BidParts, IsLogAt, HasTakers, IsRow, IsPart, IsPartTo, IsNearest, Near, IsSearch, IsDone, AreSearched, Memo, Search, Ask, Quote, IsAsked, AreQuotes, row_of, min, ◌-◌, all_of, IsSite, IsDiameterAt, ground_of, Site, Part, Cell, Reach}
+use Rattle.buck_dp.proofs.Words.{◌≡◌, ℕ, ◌+◌, ◌*◌, ◌/◌, ◌<◌, ◌≤◌, ◌⊎◌, inl, inr, List, Contains, length, slice_index, refl, sym, subst, arith, mul-le-mul_left, mul-le-mul_right, add-mul, rules, div-mul-le_self, lt-div-mul-add, cases_lt, StemParts, IsStem, IsGrade, grade_at, HasGrade, HasGradesOf, stem_length, diameter_at, IsMask, IsMaskBetween, ProfileParts, profile_of, grade_at_is, mask_allows, IsSheet, codes_in, GroundParts, points_of, Takers, Kind, IsTaker, AreTakersOf, BidParts, IsLogAt, HasTakers, IsRow, IsPart, IsPartTo, IsNearest, Near, IsSearch, IsDone, AreSearched, Memo, Search, Ask, Quote, IsAsked, AreQuotes, row_of, min, ◌-◌, all_of, IsSite, IsDiameterAt, ground_of, Site, Part, Cell, Reach}
 use Rattle.buck_stem.specs.points.Profile as grid
 use Rattle.buck_dp.proofs.Logs.{log_coded, point_within}
 use Rattle.buck_dp.proofs.PartLemmas.{row_part}

@@ -1,5 +1,5 @@
 -- The search goes on by a top.
-use Rattle.buck_dp.proofs.Words.{◌≡◌, ◌≢◌, ℕ, zero, suc, ◌+◌, ◌-◌, ◌*◌, ◌/◌, ◌<◌, ◌≤◌, ◌⊎◌, inl, inr, List, [], none-some, length, get_or, slice_get, Some, refl, sym, subst, ap, ◌∙◌, arith, mul-le-mul_right, add-mul, rules, cases_lt, cases_order, slice_get_within, GroundParts, ends_of, IsSheet, worth_low, Cell, BidParts, bid_of, none, IsAtMost, IsGreater, plus, IsLogAt, IsLow, bid_at, IsNear, IsPart, IsServed, IsBeaten, AreOffered, AreFit, IsSettled, Reaches, AreSearched, IsStem, stem_length, div-mul-le_self}
+use Rattle.buck_dp.proofs.Words.{◌≡◌, ◌≢◌, ℕ, zero, suc, ◌+◌, ◌-◌, ◌*◌, ◌<◌, ◌≤◌, ◌⊎◌, inl, inr, List, [], none-some, length, get_or, slice_get, Some, refl, sym, subst, ap, ◌∙◌, arith, mul-le-mul_right, rules, cases_lt, cases_order, slice_get_within, GroundParts, ends_of, IsSheet, worth_low, Cell, BidParts, bid_of, none, IsAtMost, IsGreater, plus, IsLogAt, IsLow, bid_at, IsNear, IsPart, IsServed, IsBeaten, AreOffered, AreFit, IsSettled, Reaches, AreSearched, IsStem}
 use Rattle.buck_dp.proofs.CellLemmas.{later_same as later_same_of, IsAtMost-refl, IsAtMost-trans, worth_at_most, greater_first, greater_second, plus_at_most}
 
 -- the worth of settled values falls with the points

@@ -1,5 +1,5 @@
 -- Where each trim is 0, a cutting is admissible as if there were none.
-use Rattle.buck_dp.proofs.Words.{◌≡◌, ℕ, List, [], ◌∷◌, subst, sym, ap, arith, rules, InstructionParts, StemParts, Log, IsAllowed, top_of, trim_in, end_of, HasNoTrim, IsAllowedUntrimmed, no_trim, without_trim, with_trim, IsCutFrom}
+use Rattle.buck_dp.proofs.Words.{◌≡◌, ℕ, List, [], ◌∷◌, subst, sym, ap, arith, InstructionParts, StemParts, Log, IsAllowed, top_of, trim_in, end_of, HasNoTrim, IsAllowedUntrimmed, no_trim, without_trim, with_trim, IsCutFrom}
 
 -- a log ends with its length
 ends_same : (i : InstructionParts) (stem : StemParts) (g : Log) → HasNoTrim i → IsAllowedUntrimmed i stem g

@@ -1,6 +1,6 @@
 -- Searched values give the best from each point on, and following their choices from the butt gives the first best
 -- cutting.
-use Rattle.buck_dp.proofs.Words.{◌≡◌, ℕ, zero, suc, ◌+◌, ◌-◌, ◌*◌, ◌<◌, ◌≤◌, inl, inr, List, [], ◌∷◌, ◌++◌, length, get_or, slice_index, append_assoc, refl, sym, ◌∙◌, subst, ap, arith, add-mul, mul-le-mul_right, rules, cases_lt, append-nil, get_or_past, sum_by-cons, mul-mod_left, StemParts, stem_length, Log, SheetParts, IsSheet, IsAllowed, worth_of, end_of, AreCodes, HasMark, code_of, IsFirstBest, cutting_worth, IsCutFrom, GroundParts, points_of, ends_of, point_after, BidParts, bid_of, none, IsLogAt, bid_at, AreSearched, IsTop, IsAtOrBefore, sum_by, InstructionParts, IsInstruction, IsAtMost, IsSettled, IsNoWorse, IsBestFrom}
+use Rattle.buck_dp.proofs.Words.{◌≡◌, ℕ, zero, suc, ◌+◌, ◌-◌, ◌*◌, ◌<◌, ◌≤◌, inl, inr, List, [], ◌∷◌, ◌++◌, length, get_or, slice_index, append_assoc, refl, sym, ◌∙◌, subst, ap, arith, add-mul, mul-le-mul_right, rules, cases_lt, append-nil, get_or_past, sum_by-cons, mul-mod_left, StemParts, Log, SheetParts, IsSheet, IsAllowed, worth_of, end_of, AreCodes, HasMark, code_of, IsFirstBest, cutting_worth, IsCutFrom, GroundParts, points_of, ends_of, point_after, BidParts, bid_of, none, IsLogAt, bid_at, AreSearched, IsTop, IsAtOrBefore, sum_by, InstructionParts, IsInstruction, IsAtMost, IsSettled, IsNoWorse, IsBestFrom}
 use Rattle.buck_dp.proofs.Bounds.{end_within}
 use Rattle.buck_dp.proofs.Logs.{log_there, assortment_low, mark_code, mark_high, mark_place, marks_before, marks_same, code_parts, mark_found}
 use Rattle.buck_dp.proofs.Optimal.{IsNoWorse-trans, IsNoWorse-cons, IsTop-rest, nothing_top, same_log, IsCutFrom-le}

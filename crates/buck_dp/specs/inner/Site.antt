@@ -1,10 +1,10 @@
 -- A stem at its points, under a sheet, and what is kept of that.
-use Rattle.std.specs.Prelude.{◌≡◌, ℕ, ◌+◌, ◌*◌, ◌<◌, ◌≤◌, List, slice_index}
+use Rattle.std.specs.Prelude.{◌≡◌, ℕ, ◌+◌, ◌*◌, ◌<◌, ◌≤◌}
 use Rattle.buck_stem.specs.Stem.{IsStem, stem_length, diameter_at}
 use Rattle.buck_stem.specs.points.Profile.{profile_of}
 use Rattle.buck_value.specs.Sheet.{SheetParts, IsSheet}
 use Rattle.buck_bid.specs.Offers.{codes_in}
-use Rattle.buck_dp.specs.inner.Points.{GroundParts, ground_with, points_of}
+use Rattle.buck_dp.specs.inner.Points.{GroundParts, ground_with}
 use Rattle.buck_dp.specs.declared.planning.Site.{Site}
 use Rattle.buck_dp.specs.declared.planning.Memo.{Memo}
 use Rattle.buck_dp.specs.declared.menu.Menu.{Menu}

@@ -1,4 +1,4 @@
-use Rattle.buck_dp.proofs.Words.{◌≡◌, ◌*◌, ◌++◌, [], ◌∷◌, ℕ, List, arith, subst, rules, Log, GroundParts, ground_with, codes_in, codes_number}
+use Rattle.buck_dp.proofs.Words.{◌≡◌, ◌*◌, ◌++◌, [], ◌∷◌, ℕ, List, arith, subst, Log, GroundParts, ground_with, codes_in, codes_number}
 use Rattle.buck_dp.proofs.Lists.{AnyRest}
 use Rattle.buck_dp.proofs.Values.{walk_skip, choice_within, walk_log, walk_end}
 use Rattle.buck_dp.proofs.following.follow.Goals as goal

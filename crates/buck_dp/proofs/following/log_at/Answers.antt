@@ -1,4 +1,4 @@
-use Rattle.buck_dp.proofs.Words.{◌-◌, get_or, sym, rules, slice_get-get_or, Offer, code_index}
+use Rattle.buck_dp.proofs.Words.{rules, slice_get-get_or, code_index}
 use Rattle.buck_dp.proofs.following.log_at.Goals as goal
 
 pub returns-clause-code : goal.returns-clause-code

@@ -1,4 +1,4 @@
-use Rattle.buck_dp.proofs.Words.{sym, arith, rules, div-mul-le_self}
+use Rattle.buck_dp.proofs.Words.{sym, arith}
 use Rattle.buck_dp.proofs.PricingLemmas.{no_shorter}
 use Rattle.buck_dp.proofs.menu.least_steps.Goals as goal
 

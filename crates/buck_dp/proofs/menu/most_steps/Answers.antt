@@ -1,4 +1,4 @@
-use Rattle.buck_dp.proofs.Words.{◌-◌, ◌*◌, length, sym, ap, arith, rules, div_ceil_times, slice_get_within}
+use Rattle.buck_dp.proofs.Words.{◌-◌, ◌*◌, length, sym, ap, arith, div_ceil_times, slice_get_within}
 use Rattle.buck_dp.proofs.PricingLemmas.{no_shorter}
 use Rattle.buck_dp.proofs.menu.most_steps.Goals as goal
 

@@ -1,4 +1,4 @@
-use Rattle.buck_dp.proofs.Words.{arith, rules, AreOffered, subst, sym, refl, ◌+◌, ◌++◌, AreFit, row_of, length}
+use Rattle.buck_dp.proofs.Words.{arith, AreOffered, subst, sym, refl, ◌+◌, ◌++◌, AreFit, row_of, length}
 use Rattle.buck_dp.proofs.CellLemmas.{fits_back, offered_back}
 use Rattle.buck_dp.proofs.RowLemmas.{cells_late, cells_back}
 use Rattle.buck_dp.proofs.offering.offer_list.Goals as goal

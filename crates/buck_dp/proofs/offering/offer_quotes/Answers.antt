@@ -1,4 +1,4 @@
-use Rattle.buck_dp.proofs.Words.{◌≡◌, ℕ, ◌+◌, List, [], length, length-append, take, get_or, Some, None, sym, subst, ap, ◌∙◌, arith, rules, Cell, Option, cons_option, cell_for, row_of, AreOffered, bid_at, ◌<◌, ◌≤◌, ◌*◌, Reach, BidParts, AreFit, Quote}
+use Rattle.buck_dp.proofs.Words.{◌≡◌, ℕ, ◌+◌, List, [], length, length-append, take, get_or, Some, None, sym, subst, ap, ◌∙◌, arith, Cell, Option, cons_option, cell_for, row_of, AreOffered, bid_at, ◌<◌, ◌≤◌, Reach, BidParts, AreFit, Quote}
 use Rattle.buck_dp.proofs.CellLemmas.{offered_more, fits_still}
 use Rattle.buck_dp.proofs.RowLemmas.{blank, cell_there, row_more, cell_near}
 use Rattle.buck_dp.proofs.offering.offer_quotes.Goals.{in-Some, in_default}

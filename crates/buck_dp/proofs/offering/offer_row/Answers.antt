@@ -1,4 +1,4 @@
-use Rattle.buck_dp.proofs.Words.{Some, ap, sym, ◌∙◌, arith, rules, slice_get-get_or}
+use Rattle.buck_dp.proofs.Words.{rules, slice_get-get_or}
 use Rattle.buck_dp.proofs.CellLemmas.{offered_more, offered_near}
 use Rattle.buck_dp.proofs.offering.offer_row.Goals as goal
 

@@ -1,4 +1,4 @@
-use Rattle.buck_dp.proofs.Words.{◌-◌, length, ◌++◌, sym, subst, arith, rules, AreFit, AreOffered}
+use Rattle.buck_dp.proofs.Words.{◌-◌, length, ◌++◌, sym, subst, arith, rules, AreOffered}
 use Rattle.buck_dp.proofs.CellLemmas.{fits_back, offered_back}
 use Rattle.buck_dp.proofs.offering.offer_whole.Goals as goal
 

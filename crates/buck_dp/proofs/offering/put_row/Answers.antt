@@ -1,4 +1,4 @@
-use Rattle.buck_dp.proofs.Words.{◌≡◌, ◌∙◌, ap, sym, arith, rules, ◌++◌, ◌∷◌, [], append_assoc, append-nil, Some, None, cell_of, take, row_of, List, Cell}
+use Rattle.buck_dp.proofs.Words.{◌∙◌, ap, sym, arith, ◌++◌, ◌∷◌, [], append_assoc, append-nil, Some, None, take, row_of, List, Cell}
 use Rattle.buck_dp.proofs.RowLemmas.{row_more}
 use Rattle.buck_dp.proofs.offering.put_row.Goals.{in-Some, in_default}
 use Rattle.buck_dp.proofs.offering.put_row.Goals as goal

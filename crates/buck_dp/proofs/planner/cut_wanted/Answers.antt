@@ -1,4 +1,4 @@
-use Rattle.buck_dp.proofs.Words.{◌≡◌, ◌≤◌, ◌∙◌, ℕ, List, ap, subst, arith, rules, StemParts, IsStem, ProfileParts, profile_of, Log, codes_in, GroundParts, ground_with, IsFirstBest, cutting_worth, AreSearched}
+use Rattle.buck_dp.proofs.Words.{◌≡◌, ◌∙◌, ℕ, subst, arith, rules, StemParts, IsStem, ProfileParts, profile_of, codes_in, ground_with}
 use Rattle.buck_dp.proofs.Lists.{worth_bounded, top_is_first_best}
 use Rattle.buck_dp.proofs.SiteLemmas.{all_searched}
 use Rattle.buck_dp.proofs.Values.{walk_worth}

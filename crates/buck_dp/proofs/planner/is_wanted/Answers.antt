@@ -1,4 +1,4 @@
-use Rattle.buck_dp.proofs.Words.{◌≡◌, ◌<◌, List, length, slice_get, Some, inl, inr, sym, ◌∙◌, ap, arith, rules, cases_lt, same_Some, slice_get_within, AssortmentParts, stands}
+use Rattle.buck_dp.proofs.Words.{◌≡◌, ◌<◌, List, length, slice_get, Some, inl, inr, sym, ◌∙◌, ap, arith, cases_lt, same_Some, slice_get_within, AssortmentParts, stands}
 use Rattle.buck_dp.proofs.planner.is_wanted.Goals as goal
 
 pub loop-assortment-preserved : goal.loop-assortment-preserved

@@ -1,4 +1,4 @@
-use Rattle.buck_dp.proofs.Words.{◌≡◌, ℕ, ◌-◌, ◌*◌, ◌/◌, ◌≤◌, arith, subst, mul-le-mul_right, rules, div-mul-le_self}
+use Rattle.buck_dp.proofs.Words.{mul-le-mul_right, rules, div-mul-le_self}
 use Rattle.buck_dp.proofs.planning.fit_of.Goals as goal
 
 pub returns : goal.returns

@@ -1,4 +1,4 @@
-use Rattle.buck_dp.proofs.Words.{◌-◌, ℕ, arith, rules, ground_of}
+use Rattle.buck_dp.proofs.Words.{◌-◌, ℕ, arith, ground_of}
 use Rattle.buck_dp.proofs.SiteLemmas.{none_before, point_reached, too_long}
 use Rattle.buck_dp.proofs.planning.low_of.Goals as goal
 

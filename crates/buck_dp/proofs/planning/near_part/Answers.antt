@@ -1,4 +1,4 @@
-use Rattle.buck_dp.proofs.Words.{◌+◌, ◌-◌, ℕ, arith, rules, ground_of}
+use Rattle.buck_dp.proofs.Words.{◌+◌, ℕ, arith, ground_of}
 use Rattle.buck_dp.proofs.SiteLemmas.{mask_of, near_takers}
 use Rattle.buck_dp.proofs.planning.near_part.Goals as goal
 

@@ -1,4 +1,4 @@
-use Rattle.buck_dp.proofs.Words.{ℕ, sym, subst, arith, rules, IsLogAt, ground_of, all_of, codes_in, length}
+use Rattle.buck_dp.proofs.Words.{subst, arith, rules, IsLogAt, ground_of, all_of, codes_in, length}
 use Rattle.buck_dp.proofs.QuoteLemmas.{row_order, row_placed}
 use Rattle.buck_dp.proofs.SiteLemmas.{row_offered}
 use Rattle.buck_dp.proofs.planning.offer_cells.Goals as goal

@@ -1,4 +1,4 @@
-use Rattle.buck_dp.proofs.Words.{◌≡◌, ◌-◌, ℕ, List, refl, sym, subst, arith, rules, codes_in, length, all_of, IsRow, Cell, ground_of, slice_index}
+use Rattle.buck_dp.proofs.Words.{ℕ, List, sym, subst, arith, codes_in, length, all_of, IsRow, Cell, slice_index}
 use Rattle.buck_dp.proofs.SiteLemmas.{known_of}
 use Rattle.buck_dp.proofs.planning.offer_kept.Goals as goal
 

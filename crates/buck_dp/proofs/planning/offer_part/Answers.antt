@@ -1,4 +1,4 @@
-use Rattle.buck_dp.proofs.Words.{◌≡◌, ◌<◌, ProfileParts, List, length, slice_get, Some, sym, subst, arith, rules, codes_in, Quote, ask_of, ground_of}
+use Rattle.buck_dp.proofs.Words.{◌≡◌, ◌<◌, ProfileParts, List, slice_get, Some, sym, subst, arith, rules, Quote, ask_of, ground_of}
 use Rattle.buck_stem.specs.points.Profile as grid
 use Rattle.buck_dp.proofs.SiteLemmas.{list_offered}
 use Rattle.buck_dp.proofs.planning.offer_part.Goals as goal

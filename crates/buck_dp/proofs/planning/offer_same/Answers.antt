@@ -1,4 +1,4 @@
-use Rattle.buck_dp.proofs.Words.{◌≡◌, ◌-◌, ◌*◌, ℕ, List, slice_index, sym, ap, ◌∙◌, arith, rules, ground_of}
+use Rattle.buck_dp.proofs.Words.{◌≡◌, ◌-◌, ℕ, List, slice_index, sym, ap, ◌∙◌, arith, ground_of}
 use Rattle.buck_dp.proofs.SiteLemmas.{known_of, nearest_part}
 use Rattle.buck_dp.proofs.planning.offer_same.Goals as goal
 

@@ -1,4 +1,4 @@
-use Rattle.buck_dp.proofs.Words.{◌≡◌, inl, inr, sym, subst, arith, rules, bit_at, cases_lt}
+use Rattle.buck_dp.proofs.Words.{◌≡◌, inl, inr, sym, subst, arith, bit_at, cases_lt}
 use Rattle.buck_dp.proofs.planning.part_before.Goals as goal
 
 pub loop-part-preserved : goal.loop-part-preserved

@@ -1,4 +1,4 @@
-use Rattle.buck_dp.proofs.Words.{◌<◌, ℕ, sym, subst, arith, rules, ProfileParts, Kind, ground_of}
+use Rattle.buck_dp.proofs.Words.{◌<◌, ℕ, sym, subst, arith, ProfileParts, Kind, ground_of}
 use Rattle.buck_stem.specs.points.Profile as grid
 use Rattle.buck_dp.proofs.SiteLemmas.{mask_of, kind_takers}
 use Rattle.buck_dp.proofs.planning.run_before.Goals as goal

@@ -1,4 +1,4 @@
-use Rattle.buck_dp.proofs.Words.{arith, rules, codes_in, ground_of}
+use Rattle.buck_dp.proofs.Words.{rules, codes_in, ground_of}
 use Rattle.buck_dp.proofs.planning.search_stem.Goals as goal
 
 pub loop-memo-init : goal.loop-memo-init

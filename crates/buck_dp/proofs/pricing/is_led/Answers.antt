@@ -1,4 +1,4 @@
-use Rattle.buck_dp.proofs.Words.{◌≡◌, ◌*◌, ◌∙◌, ap, arith, rules, ltb-true, priced_at}
+use Rattle.buck_dp.proofs.Words.{◌≡◌, ◌*◌, ◌∙◌, ap, arith, ltb-true, priced_at}
 use Rattle.buck_dp.proofs.pricing.is_led.Goals as goal
 
 pub returns-then-quote-eq1 : goal.returns-then-quote-eq1

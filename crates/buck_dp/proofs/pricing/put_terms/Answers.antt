@@ -1,4 +1,4 @@
-use Rattle.buck_dp.proofs.Words.{◌∷◌, [], ◌++◌, ◌∙◌, List, Option, ap, append_assoc, arith, rules, codes_in, Term}
+use Rattle.buck_dp.proofs.Words.{◌∷◌, [], ◌++◌, ◌∙◌, List, Option, ap, append_assoc, codes_in, Term}
 use Rattle.buck_dp.proofs.QuoteLemmas.{terms_put}
 use Rattle.buck_dp.proofs.pricing.put_terms.Goals as goal
 

@@ -1,4 +1,4 @@
-use Rattle.buck_dp.proofs.Words.{◌≡◌, ◌<◌, [], true≢false, get_or, slice_get, Some, refl, sym, subst, ◌∙◌, arith, rules, slice_get-get_or, slice_get_within, InstructionParts, sheet_of, Offer, AreOffers, HasNoPrice, codes_number}
+use Rattle.buck_dp.proofs.Words.{◌≡◌, ◌<◌, [], true≢false, get_or, slice_get, Some, refl, sym, subst, ◌∙◌, arith, slice_get-get_or, slice_get_within, InstructionParts, sheet_of, Offer, AreOffers, HasNoPrice, codes_number}
 use Rattle.buck_dp.proofs.PricingLemmas.{no_taker, no_price, term_right}
 use Rattle.buck_dp.proofs.pricing.term_at.Goals as goal
 

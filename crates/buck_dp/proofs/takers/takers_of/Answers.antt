@@ -1,4 +1,4 @@
-use Rattle.buck_dp.proofs.Words.{◌≡◌, ◌↔◌, length, slice_get, Some, subst, sym, ◌∙◌, ap, inl, inr, arith, rules, bit_at, cases_lt, same_Some, slice_get_within, AssortmentParts, read_at, IsTakerOf}
+use Rattle.buck_dp.proofs.Words.{arith, rules, slice_get_within, read_at}
 use Rattle.buck_dp.proofs.takers.takers_of.Goals as goal
 
 pub loop-place-preserved : goal.loop-place-preserved

@@ -1,4 +1,4 @@
-use Rattle.buck_dp.proofs.Words.{◌≡◌, ◌-◌, List, length, slice_get, Some, take, drop, refl, sym, subst, arith, rules, codes_in, Key, Cell, Quote, ask_of, RowOf, AreQuotes, row_of, IsAt, all_of, IfOk-weaker}
+use Rattle.buck_dp.proofs.Words.{◌≡◌, ◌-◌, List, length, slice_get, Some, take, drop, refl, sym, subst, codes_in, Key, Cell, Quote, ask_of, RowOf, AreQuotes, row_of, IsAt, all_of, IfOk-weaker}
 use Rattle.buck_dp.proofs.KeptLemmas.{kept_more}
 use Rattle.buck_dp.proofs.keeping.Kept.draw_kept.Goals as goal
 

@@ -1,4 +1,4 @@
-use Rattle.buck_dp.proofs.Words.{◌≡◌, ◌-◌, ℕ, ◌∙◌, take, drop, ap, InstructionParts, List, Option, length, refl, sym, subst, arith, rules, codes_in, Key, Ask, Term, ask_of, ListOf, AreTerms, AreQuotes, IsAt, part_of, IfOk-weaker}
+use Rattle.buck_dp.proofs.Words.{◌≡◌, ◌-◌, ℕ, take, drop, ap, InstructionParts, List, Option, length, refl, sym, subst, arith, rules, codes_in, Key, Ask, Term, ListOf, AreTerms, IsAt, IfOk-weaker}
 use Rattle.buck_dp.proofs.KeptLemmas.{kept_is, kept_more}
 use Rattle.buck_dp.proofs.keeping.Kept.list.Goals as goal
 

@@ -1,4 +1,4 @@
-use Rattle.buck_dp.proofs.Words.{◌≡◌, ◌∙◌, ◌∷◌, List, length, sym, subst, arith, rules, InstructionParts, Offer, codes_in, Ask, TermsOf, AreTerms, IsAt, IfOk-weaker}
+use Rattle.buck_dp.proofs.Words.{sym, subst, rules, TermsOf, IsAt, IfOk-weaker}
 use Rattle.buck_dp.proofs.KeptLemmas.{kept_is, kept_more}
 use Rattle.buck_dp.proofs.keeping.Kept.terms.Goals as goal
 

@@ -1,4 +1,4 @@
-use Rattle.buck_dp.proofs.Words.{◌≡◌, ℕ, ◌*◌, ◌/◌, ◌<◌, ◌≤◌, List, length, get_or, slice_get, slice_index, Some, sym, subst, arith, rules, slice_get-get_or, Offer, codes_in, code_index, codes_number}
+use Rattle.buck_dp.proofs.Words.{◌≡◌, ℕ, ◌*◌, ◌/◌, ◌<◌, ◌≤◌, List, length, get_or, slice_get, slice_index, Some, sym, subst, arith, slice_get-get_or, Offer, codes_in, code_index, codes_number}
 use Rattle.buck_dp.proofs.menu.Menu.of.Goals as goal
 
 -- what holds of the length of each offer holds of that of each code

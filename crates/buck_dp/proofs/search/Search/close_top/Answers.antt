@@ -1,4 +1,4 @@
-use Rattle.buck_dp.proofs.Words.{arith, rules}
+use Rattle.buck_dp.proofs.Words.{rules}
 use Rattle.buck_dp.proofs.TopLemmas.{offered_all}
 use Rattle.buck_dp.proofs.search.Search.close_top.Goals as goal
 

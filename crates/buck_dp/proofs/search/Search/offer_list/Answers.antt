@@ -1,4 +1,4 @@
-use Rattle.buck_dp.proofs.Words.{arith, rules, with_items_is}
+use Rattle.buck_dp.proofs.Words.{rules, with_items_is}
 use Rattle.buck_dp.proofs.TopLemmas.{part_fits, offered_part}
 use Rattle.buck_dp.proofs.search.Search.offer_list.Goals as goal
 

@@ -1,4 +1,4 @@
-use Rattle.buck_dp.proofs.Words.{◌≡◌, ◌+◌, ◌-◌, ℕ, subst, sym, ◌∙◌, arith, rules, length, with_items_is, AreSearched}
+use Rattle.buck_dp.proofs.Words.{◌≡◌, ◌+◌, ◌-◌, ℕ, subst, sym, arith, rules, length, with_items_is, AreSearched}
 use Rattle.buck_dp.proofs.TopLemmas.{settled_more}
 use Rattle.buck_dp.proofs.search.Search.settle_top.Goals as goal
 
