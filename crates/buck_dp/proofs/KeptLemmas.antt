@@ -56,9 +56,7 @@ pub prices_dropped : (s t : SheetParts) (m : Menu) (old new : Kept) → s.instru
     → AreKept s m old
     → AreKept t m new
 prices_dropped s t m old new same terms none are = record {
-  terms = subst (λ (i : InstructionParts). Each (TermsOf i m) new.asked new.terms.items) same
-      (subst (λ (ts : List (Option Term)). Each (TermsOf s.instruction m) new.asked ts) (sym terms.0)
-      (subst (λ (hs : List Head). Each (TermsOf s.instruction m) hs old.terms.items) (sym terms.1) are.terms));
+  terms = rw (terms.0, terms.1, sym same) are.terms;
   lists = kept_none (ListOf t m) new.lists new.quotes.items none.0;
   rows = kept_none (RowOf t m) new.rows new.cells.items none.1;
 }

@@ -15,7 +15,7 @@ pub use Rattle.buck_bid.proofs.ListLemmas.{push_cases, kept_at, push_each, on_mo
 pub use Rattle.buck_dp.specs.declared.offering.Cell.{Cell}
 pub use Rattle.buck_dp.specs.inner.Rows.{IsPlaced, AreByLength, IsNear, AreOffered, AreFit, IsPart, IsServed, IsBeaten}
 pub use Rattle.buck_dp.specs.inner.Quotes.{IsBidOf, IsTakersBid, quote_bid, priced_at, IsAsked, IsQuoteOf, IsTermOf, HasNoBid, IsQuote, IsOver, IsPut, IsQuoted, IsNoTerm, AreTerms, Falls, AreQuotes, IsLeading, IsWithin, cell_of, cell_for, row_of, IsRow}
-pub use Rattle.buck_dp.specs.inner.Logs.{bid_at, IsLogAt, IsLow, HasTakers, HasNoneOf}
+pub use Rattle.buck_dp.specs.inner.Logs.{bid_at, IsLogAt, IsLow, HasTakers}
 pub use Rattle.buck_dp.specs.declared.index.Key.{Key}
 pub use Rattle.buck_dp.specs.declared.index.Place.{Place}
 pub use Rattle.buck_dp.specs.declared.index.Head.{Head}
@@ -23,7 +23,7 @@ pub use Rattle.buck_dp.specs.declared.menu.Menu.{Menu}
 pub use Rattle.buck_dp.specs.declared.pricing.Term.{Term}
 pub use Rattle.buck_dp.specs.declared.keeping.Kept.{Kept}
 pub use Rattle.buck_dp.specs.inner.Index.{IsKeptAt, part_of, IsBehind}
-pub use Rattle.buck_dp.specs.inner.Kept.{IsAt, TermsOf, ListOf, RowOf, AreKept, IsKeptFor, all_of, ask_of}
+pub use Rattle.buck_dp.specs.inner.Kept.{IsAt, TermsOf, ListOf, RowOf, AreKept, all_of, ask_of}
 pub use Rattle.std.proofs.lemmas.List.Sums.{sum_by-cons, sum_by_more}
 pub use Rattle.buck_value.proofs.Classes.{allowed_low}
 pub use Rattle.buck_dp.specs.Order.{IsLogBefore, IsBefore}
@@ -50,7 +50,7 @@ pub use Rattle.buck_stem.specs.points.Profile.{IsMask, IsMaskBetween, ProfilePar
 pub use Rattle.buck_stem.proofs.Tables.{grade_at_is}
 pub use Rattle.buck_value.proofs.Grades.{mask_allows}
 pub use Rattle.buck_dp.specs.declared.takers.Kind.{Kind}
-pub use Rattle.buck_dp.specs.inner.Site.{IsSite, IsDiameterAt, IsPartTo, IsNearest, IsReady, IsPlan, IsDone, ground_of}
+pub use Rattle.buck_dp.specs.inner.Site.{IsSite, IsDiameterAt, IsPartTo, IsNearest, IsPlan, IsDone, ground_of}
 pub use Rattle.buck_dp.specs.declared.planning.Site.{Site}
 pub use Rattle.buck_dp.specs.declared.planning.Part.{Part}
 pub use Rattle.buck_value.specs.Untrimmed.{HasNoTrim, IsAllowedUntrimmed}

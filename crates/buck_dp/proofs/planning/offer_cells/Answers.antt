@@ -5,21 +5,10 @@ use Rattle.buck_dp.proofs.planning.offer_cells.Goals as goal
 
 pub offer_part-requires-clause-late : goal.offer_part-requires-clause-late
 offer_part-requires-clause-late c k cell at =
-    let x = c.args.site in
-    let m = x.market.menu.now in
-    omega (
-      arith,
-      c.requires.stop,
-      (row_placed x.market.sheet.now (codes_in m.offers.items) (length m.offers.items)
-          c.args.part.group.takers c.args.diameter (all_of m) c.args.cells.now c.requires.cells k cell at).0,
-    )
+    omega (arith, c.requires.stop, (row_placed _ _ _ _ _ _ _ c.requires.cells k cell at).0)
 
 pub offer_part-requires-clause-back : goal.offer_part-requires-clause-back
-offer_part-requires-clause-back c k cell at =
-    let x = c.args.site in
-    let m = x.market.menu.now in
-    (row_placed x.market.sheet.now (codes_in m.offers.items) (length m.offers.items) c.args.part.group.takers
-    c.args.diameter (all_of m) c.args.cells.now c.requires.cells k cell at).1
+offer_part-requires-clause-back c k cell at = (row_placed _ _ _ _ _ _ _ c.requires.cells k cell at).1
 
 pub offer_part-requires-clause-rows : goal.offer_part-requires-clause-rows
 offer_part-requires-clause-rows c = search (rules, row_order)

@@ -30,9 +30,7 @@ returns c =
           (take (l.past - l.from) (drop l.from qs))) (sym c.deref.ensures.value) was.4.1;
       is = refl;
     } in
-    let kept = kept_more R self.rows c.make_room.new.heads c.keep.new.self self.cells.items
-    c.make_room.new.items.items row new key c.in_ok-place.place c.make_room.ensures c.in_ok-place.ensures right
-    c.keep.ensures.kept was.0.kept.rows in
+    let kept = kept_more R _ _ _ _ _ _ _ _ _ c.make_room.ensures c.in_ok-place.ensures right c.keep.ensures.kept was.0.kept.rows in
     IfOk-weaker c.keep.result _ _ (λ p e. (
       record { valid = was.0.valid; menu = was.0.menu; kept = record { terms = was.0.kept.terms; lists = was.0.kept.lists; rows = kept.0 } },
       subst (λ q. IsAt R new key q) (sym e) kept.1,

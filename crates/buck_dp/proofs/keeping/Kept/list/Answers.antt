@@ -58,9 +58,7 @@ returns c =
     (ap (λ (ts : List (Option Term)). take (at.past - at.from) (drop at.from ts)) c.deref.ensures.value) was.1.1 in
     let listed = put.2 codes terms in
     let right : R key put.0 = search rules in
-    let kept = kept_more R self.lists c.make_room.new.heads c.keep.new.self self.quotes.items
-    c.make_room.new.items.items put.0 c.put_list.new.quotes.items key c.in_ok-place.place c.make_room.ensures put.1 right
-    c.keep.ensures.kept was.0.kept.lists in
+    let kept = kept_more R _ _ _ _ _ _ _ _ _ c.make_room.ensures put.1 right c.keep.ensures.kept was.0.kept.lists in
     IfOk-weaker c.keep.result _ _ (λ p e. (
       record { valid = was.0.valid; menu = was.0.menu; kept = record { terms = was.0.kept.terms; lists = kept.0; rows = was.0.kept.rows } },
       key,

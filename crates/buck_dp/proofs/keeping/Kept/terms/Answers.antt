@@ -18,9 +18,7 @@ returns c =
     let was = c.requires.kept in
     let put = c.in_ok-place.ensures in
     let right : R c.args.key put.0 = search rules in
-    let kept = kept_more R c.args.self.now.asked c.make_room.new.heads c.keep.new.self c.args.self.now.terms.items
-    c.make_room.new.items.items put.0 c.put_terms.new.terms.items c.args.key c.in_ok-place.place c.make_room.ensures put.1
-    right c.keep.ensures.kept was.kept.terms in
+    let kept = kept_more R _ _ _ _ _ _ _ _ _ c.make_room.ensures put.1 right c.keep.ensures.kept was.kept.terms in
     IfOk-weaker c.keep.result _ _ (λ p e. (
       record { valid = was.valid; menu = was.menu; kept = record { terms = kept.0; lists = was.kept.lists; rows = was.kept.rows } },
       subst (λ q. IsAt R c.put_terms.new.terms.items c.args.key q) (sym e) kept.1,
