@@ -29,9 +29,7 @@ returns-clause-worth c =
     let was = all_searched _ c.in_ok-search_stem.ensures.plan.site _ c.in_ok-search_stem.ensures in
     c.worth-worth.ensures
     ∙ walk_worth (ground_with c.args.sheet.now c.args.stem.now (codes_in c.args.menu.now.offers.items))
-    c.in_ok-search_stem.ensures.plan.site.valid c.requires.ready.offers.offers.codes
-    c.search_stem.new.memo.search.values.items c.search_stem.new.memo.search.choices.items was c.in_ok-logs.logs.items
-    c.in_ok-logs.ensures
+    c.in_ok-search_stem.ensures.plan.site.valid c.requires.ready.offers.offers.codes _ _ was _ c.in_ok-logs.ensures
 
 pub returns-clause-high : goal.returns-clause-high
 returns-clause-high c =

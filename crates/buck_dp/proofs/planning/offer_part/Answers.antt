@@ -20,9 +20,8 @@ offer_list-requires-clause-part c =
     let put = c.in_ok-place.ensures in (
       ground_of c.args.site,
       plan.search,
-      list_offered c.args.site plan.site c.args.memo.now.search c.diameters-diameters.result.now c.args.part
-          (ask_of c.args.site.market.menu.now put.1) c.quotes-list.result.now c.left_behind.result c.min.result plan.search
-          c.diameters-diameters.ensures.right c.requires.part put.2 put.3 (rw c.quotes-list.ensures put.4.1)
+      list_offered c.args.site plan.site c.args.memo.now.search _ c.args.part _ c.quotes-list.result.now _ _
+          plan.search c.diameters-diameters.ensures.right c.requires.part put.2 put.3 (rw c.quotes-list.ensures put.4.1)
           c.left_behind.ensures c.min.ensures,
     )
 
@@ -31,8 +30,7 @@ returns-clause-plan c =
     let plan = c.requires.plan in
     let put = c.in_ok-place.ensures in
     let new = c.offer_list.ensures.search (ground_of c.args.site) plan.search
-    (list_offered c.args.site plan.site c.args.memo.now.search c.diameters-diameters.result.now c.args.part
-    (ask_of c.args.site.market.menu.now put.1) c.quotes-list.result.now c.left_behind.result c.min.result plan.search
-    c.diameters-diameters.ensures.right c.requires.part put.2 put.3 (rw c.quotes-list.ensures put.4.1)
+    (list_offered c.args.site plan.site c.args.memo.now.search _ c.args.part _ c.quotes-list.result.now _ _
+    plan.search c.diameters-diameters.ensures.right c.requires.part put.2 put.3 (rw c.quotes-list.ensures put.4.1)
     c.left_behind.ensures c.min.ensures) in
     search rules

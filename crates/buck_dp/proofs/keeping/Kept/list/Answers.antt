@@ -18,9 +18,7 @@ put_list-requires-clause-terms c =
     let place = c.in_ok-terms.terms in
     let are = c.in_ok-terms.ensures.1.1 in (
       codes_in m.offers.items,
-      asked c.args.market.sheet.now.instruction (codes_in m.offers.items) _ c.ask_for-ask.result
-          (length m.offers.items) _ (take (place.past - place.from) (drop place.from c.deref.result.now))
-          c.ask_for-ask.ensures.ask
+      asked _ _ _ _ _ _ (take (place.past - place.from) (drop place.from c.deref.result.now)) c.ask_for-ask.ensures.ask
           (ap (λ (ts : List (Option Term)). take (place.past - place.from) (drop place.from ts)) c.deref.ensures.value)
           are,
     )
@@ -37,8 +35,8 @@ returns-in-Some c =
       key,
       refl,
       (c.band_of-band.ensures.from, c.band_of-band.ensures.past),
-      kept_is (ListOf c.args.market.sheet.now c.args.market.menu.now) c.args.self.now.lists
-          c.args.self.now.quotes.items key c.in-Some.place c.requires.kept.kept.lists c.in-Some.ensures,
+      kept_is (ListOf c.args.market.sheet.now c.args.market.menu.now) _ _ key _ c.requires.kept.kept.lists
+          c.in-Some.ensures,
     )
 
 pub returns : goal.returns

@@ -5,8 +5,7 @@ use Rattle.buck_dp.proofs.keeping.Kept.terms.Goals as goal
 pub returns-in-Some : goal.returns-in-Some
 returns-in-Some c = (
   c.requires.kept,
-  kept_is (TermsOf c.args.market.sheet.now.instruction c.args.market.menu.now)
-      c.args.self.now.asked c.args.self.now.terms.items c.args.key c.in-Some.place c.requires.kept.kept.terms
+  kept_is (TermsOf c.args.market.sheet.now.instruction c.args.market.menu.now) _ _ _ _ c.requires.kept.kept.terms
       c.in-Some.ensures,
 )
 
