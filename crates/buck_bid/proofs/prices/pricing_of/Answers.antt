@@ -67,8 +67,7 @@ pub returns-then-price-eq0-clause-none : goal.returns-then-price-eq0-clause-none
 returns-then-price-eq0-clause-none c = λ s d is from lt.
     let i : InstructionParts = c.args.instruction.now in
     none_priced
-    (found i s c.args.offer.assortment c.args.offer.length c.args.band.thinnest c.args.band.past c.in-Some.column
-    c.row_of-row.result c.index-all-offer.result c.assortments-all.result.now c.assortments-all.ensures.items
+    (found i s _ _ _ _ _ _ _ _ c.assortments-all.ensures.items
     (omega (arith, c.if-offer-all.false)) c.index-all-offer.is is c.assortments-all.ensures.valid c.requires.band
     (rw c.diameters.ensures.limits at c.if-band-diameters.false)
     (omega (arith, c.upper.ensures, c.if-upper-band.false)) (sym c.column_of.ensures ∙ c.in-Some.is)
@@ -80,8 +79,7 @@ index-requires c =
     let i : InstructionParts = c.args.instruction.now in
     let s : SheetParts = record { version = 0; instruction = i; prices = [] } in
     is_class
-    (found i s c.args.offer.assortment c.args.offer.length c.args.band.thinnest c.args.band.past c.in-Some.column
-    c.row_of-row.result c.index-all-offer.result c.assortments-all.result.now c.assortments-all.ensures.items
+    (found i s _ _ _ _ _ _ _ _ c.assortments-all.ensures.items
     (omega (arith, c.if-offer-all.false)) c.index-all-offer.is refl c.assortments-all.ensures.valid c.requires.band
     (rw c.diameters.ensures.limits at c.if-band-diameters.false)
     (omega (arith, c.upper.ensures, c.if-upper-band.false)) (sym c.column_of.ensures ∙ c.in-Some.is)
@@ -91,8 +89,7 @@ pub returns-clause-pricing : goal.returns-clause-pricing
 returns-clause-pricing c =
     let i : InstructionParts = c.args.instruction.now in
     let f = (λ (s : SheetParts) (is : s.instruction ≡ i).
-    found i s c.args.offer.assortment c.args.offer.length c.args.band.thinnest c.args.band.past c.in-Some.column
-    c.row_of-row.result c.index-all-offer.result c.assortments-all.result.now c.assortments-all.ensures.items
+    found i s _ _ _ _ _ _ _ _ c.assortments-all.ensures.items
     (omega (arith, c.if-offer-all.false)) c.index-all-offer.is is c.assortments-all.ensures.valid c.requires.band
     (rw c.diameters.ensures.limits at c.if-band-diameters.false)
     (omega (arith, c.upper.ensures, c.if-upper-band.false)) (sym c.column_of.ensures ∙ c.in-Some.is)
@@ -113,8 +110,7 @@ returns-clause-length c =
     let i : InstructionParts = c.args.instruction.now in
     let s : SheetParts = record { version = 0; instruction = i; prices = [] } in
     length_low
-    (found i s c.args.offer.assortment c.args.offer.length c.args.band.thinnest c.args.band.past c.in-Some.column
-    c.row_of-row.result c.index-all-offer.result c.assortments-all.result.now c.assortments-all.ensures.items
+    (found i s _ _ _ _ _ _ _ _ c.assortments-all.ensures.items
     (omega (arith, c.if-offer-all.false)) c.index-all-offer.is refl c.assortments-all.ensures.valid c.requires.band
     (rw c.diameters.ensures.limits at c.if-band-diameters.false)
     (omega (arith, c.upper.ensures, c.if-upper-band.false)) (sym c.column_of.ensures ∙ c.in-Some.is)
