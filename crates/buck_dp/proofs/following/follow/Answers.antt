@@ -9,8 +9,7 @@ loop-i-preserved-then-rank-eq0 c =
     let f = c.requires.found in
     record {
       within = omega (arith, f.1.room);
-      best = walk_skip p c.requires.valid c.requires.offers.codes f.0 c.args.choices.now f.1 c.loop-i.i
-          c.loop-i.logs.items
+      best = walk_skip p c.requires.valid c.requires.offers.codes _ _ f.1 c.loop-i.i _
           (omega (arith, f.1.room)) (omega arith) c.loop-i.invariant.best;
     }
 
@@ -27,9 +26,8 @@ point_after-i-requires-clause-allowed c =
     let p : GroundParts = ground_with c.args.sheet.now c.args.stem.now (codes_in c.args.offers.now) in
     let f = c.requires.found in
     let log = c.log_at-log.ensures in
-    let j = walk_log p c.requires.valid c.requires.offers.codes f.0 c.args.choices.now f.1 c.loop-i.i
-    c.log_at-log.result c.loop-i.logs.items (omega (arith, f.1.room)) (omega arith) log.start log.code log.assortment
-    c.loop-i.invariant.best in
+    let j = walk_log p c.requires.valid c.requires.offers.codes _ _ f.1 c.loop-i.i c.log_at-log.result _
+    (omega (arith, f.1.room)) (omega arith) log.start log.code log.assortment c.loop-i.invariant.best in
     j.4
 
 pub loop-i-smaller : goal.loop-i-smaller
@@ -37,9 +35,8 @@ loop-i-smaller c =
     let p : GroundParts = ground_with c.args.sheet.now c.args.stem.now (codes_in c.args.offers.now) in
     let f = c.requires.found in
     let log = c.log_at-log.ensures in
-    let j = walk_log p c.requires.valid c.requires.offers.codes f.0 c.args.choices.now f.1 c.loop-i.i
-    c.log_at-log.result c.loop-i.logs.items (omega (arith, f.1.room)) (omega arith) log.start log.code log.assortment
-    c.loop-i.invariant.best in
+    let j = walk_log p c.requires.valid c.requires.offers.codes _ _ f.1 c.loop-i.i c.log_at-log.result _
+    (omega (arith, f.1.room)) (omega arith) log.start log.code log.assortment c.loop-i.invariant.best in
     omega arith
 
 pub loop-i-preserved : goal.loop-i-preserved
@@ -47,9 +44,8 @@ loop-i-preserved c =
     let p : GroundParts = ground_with c.args.sheet.now c.args.stem.now (codes_in c.args.offers.now) in
     let f = c.requires.found in
     let log = c.log_at-log.ensures in
-    let j = walk_log p c.requires.valid c.requires.offers.codes f.0 c.args.choices.now f.1 c.loop-i.i
-    c.log_at-log.result c.loop-i.logs.items (omega (arith, f.1.room)) (omega arith) log.start log.code log.assortment
-    c.loop-i.invariant.best in
+    let j = walk_log p c.requires.valid c.requires.offers.codes _ _ f.1 c.loop-i.i c.log_at-log.result _
+    (omega (arith, f.1.room)) (omega arith) log.start log.code log.assortment c.loop-i.invariant.best in
     let at : j.0 ≡ c.point_after-i.result = omega (arith, j.3, c.point_after-i.ensures) in
     let logs : List Log = c.loop-i.logs.items ++ c.log_at-log.result ∷ [] in
     record {

@@ -10,8 +10,7 @@ next_fits : (list : List Quote) (d : ℕ) (reach : Reach) (n : ℕ) (c : Cell) (
     → AreOffered (row_of list d reach) reach.far 0 reach.far (length (row_of (take n list) d reach)) v u
     → (reach.far + c.rise < length u) × (c.bid.worth + (bid_at u (reach.far + c.rise)).worth ≤ 4000000000000000)
 next_fits list d reach n c v u lt is fit offered =
-    fits_still (row_of list d reach) reach.far 0 reach.far (length (row_of (take n list) d reach)) (omega arith) v u
-    offered fit (length (row_of (take n list) d reach)) c (cell_there d reach list n c lt is)
+    fits_still _ _ _ _ _ (omega arith) v u offered fit _ c (cell_there d reach list n c lt is)
     (cell_near d reach (get_or list n blank) c is)
 
 pub offer_near-requires-clause-there : goal.offer_near-requires-clause-there

@@ -15,8 +15,7 @@ pub returns-then-area-eq0-clause-leads : goal.returns-then-area-eq0-clause-leads
 returns-then-area-eq0-clause-leads c = record {
   below = λ q kind low. absurd (omega (arith, low));
   flat = λ q kind low d asked.
-      flat_below c.args.quote q c.args.ask.band.thinnest d c.worth-least.result c.bid.result c.worth-least.ensures
-      c.bid.ensures asked.0 kind low;
+      flat_below c.args.quote q _ d _ _ c.worth-least.ensures c.bid.ensures asked.0 kind low;
 }
 
 pub returns-clause-leads : goal.returns-clause-leads
@@ -34,5 +33,5 @@ returns-clause-leads c =
           (subst (λ n. n * (q.price * q.length) + p.price < n * (p.price * p.length)) c.volume_of-area-2.ensures.value
           (under_bar area (p.price * p.length) (q.price * q.length) p.price (omega (arith, c.if-area-eq0.false)) by));
       flat = λ q kind low d asked.
-          flat_below p q thin d c.worth-least.result c.bid.result c.worth-least.ensures c.bid.ensures asked.0 kind low;
+          flat_below p q thin d _ _ c.worth-least.ensures c.bid.ensures asked.0 kind low;
     }
