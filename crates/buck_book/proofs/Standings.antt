@@ -148,3 +148,6 @@ no_price_fault g f s prices fault priced =
     let w : ClassAt s.instruction k = class_at s.instruction k (omega (arith, priced.number_is)) in
     let p = priced.answered.each w.class w.is_class (omega (arith, w.place, priced.number_is)) in
     rw w.place at (meets_within _ _ p.met))
+
+-- prices are made, and one price more
+pub ruleset one_price_more = (before_next, meets_low, price_more)

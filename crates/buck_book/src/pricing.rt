@@ -60,7 +60,7 @@ impl Running {
 }
 
 /// The prices of all classes: the rule's answers to how the classes stand.
-#[tactic(auto, using(crate::proofs::Standings::before_next, crate::proofs::Standings::meets_low, crate::proofs::Standings::price_more))]
+#[tactic(auto, using(crate::proofs::Standings::one_price_more))]
 pub fn prices_by<F: Fn(&Standing) -> u64>(
     alloc: Global,
     rule: &Rule<F>,
