@@ -74,14 +74,22 @@ pub struct Parts {
     pub counts: Vec<u32>,
 }
 
-/// Adds a sheet, if there is one, where there is memory for it.
-fn add_sheet(sheets: &mut Vec<Arc<Sheet>>, next: Option<Arc<Sheet>>)
-    requires { IfSome next (λ _. vec_len sheets.old < vec_capacity sheets.old) }
+/// Adds a posting to a book's lists, and the next sheet, if there is one, where there is memory for both.
+fn add(
+    postings: &mut Vec<Posting>,
+    sheets: &mut Vec<Arc<Sheet>>,
+    posting: Posting,
+    next: Option<Arc<Sheet>>,
+)
+    requires room { vec_len postings.old < vec_capacity postings.old }
+    requires sheet_room { IfSome next (λ _. vec_len sheets.old < vec_capacity sheets.old) }
+    ensures postings { postings.new.items ≡ postings.old.items ++ posting ∷ [] }
     ensures sheets { map (λ a. a.value) sheets.new.items
         ≡ map (λ a. a.value) sheets.old.items ++ option_to_list (option_map (λ a. a.value) next) }
     ensures prices { map (λ a. a.value.prices) sheets.new.items
         ≡ sheets_with (map (λ a. a.value.prices) sheets.old.items) (option_map (λ a. a.value) next) }
 {
+    postings.push_reserved(posting);
     match next {
         Some(sheet) => sheets.push_reserved(sheet),
         None => {}
@@ -258,8 +266,7 @@ impl<F: Drop> Book<F> {
             worth: plan.worth,
         };
         let stored = Posting::Cut(entry.sharing(ready.stem, ready.cutting));
-        self.postings.push_reserved(stored);
-        add_sheet(&mut self.sheets, ready.next);
+        add(&mut self.postings, &mut self.sheets, stored, ready.next);
         entry
     }
 
@@ -287,8 +294,7 @@ impl<F: Drop> Book<F> {
         };
         let stored = Posting::Demand(demand.sharing(ready.stored));
         let next = Some(ready.next);
-        self.postings.push_reserved(stored);
-        add_sheet(&mut self.sheets, next);
+        add(&mut self.postings, &mut self.sheets, stored, next);
         demand
     }
 }

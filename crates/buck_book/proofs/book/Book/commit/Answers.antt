@@ -10,9 +10,9 @@ invariant_of-self g c =
     let number = ap (λ n. n + 1) (rw (sym c.self.view_is) at c.calls-number.ensures) in
     let version = rw (sym c.self.view_is) at c.version-version.ensures.version in
     rw (
-      c.push_reserved.ensures.items,
-      c.add_sheet.ensures.sheets,
-      c.add_sheet.ensures.prices,
+      c.add.ensures.postings,
+      c.add.ensures.sheets,
+      c.add.ensures.prices,
       c.sharing.ensures,
       number,
       version,
