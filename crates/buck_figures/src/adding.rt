@@ -17,7 +17,7 @@ use buck_book::{Entry, Posting};
 use buck_dp::{Cutting, Planner};
 use buck_record::Memory;
 use buck_stem::Stem;
-use buck_value::{Log, Sheet, log_valuation, volume_of};
+use buck_value::{Log, Sheet, valuation_of_allowed, volume_of};
 use std::alloc::Global;
 
 impl Sums {
@@ -80,9 +80,7 @@ pub(crate) fn wood_in(base: &Sheet, stem: &Stem, log: &Log) -> Wood
     ensures thin { result.volume ≤ 3142 * result.logged }
     ensures low { IsLow result }
 {
-    let Some(found) = log_valuation(base, stem, log) else {
-        unreachable!()
-    };
+    let found = valuation_of_allowed(base, stem, log);
     let assortments = base.instruction().assortments();
     let trim = assortments[log.assortment as usize].trim();
     Wood {

@@ -12,7 +12,7 @@ use buck_book::Entry;
 use buck_dp::{Planner, worth};
 use buck_record::Memory;
 use buck_stem::Stem;
-use buck_value::{Log, Sheet, log_valuation, volume_of};
+use buck_value::{Log, Sheet, valuation_of_allowed, volume_of};
 use std::alloc::Global;
 
 /// What a piece is worth in millionths of the price unit, by its price kind, its price and its volume in cm³.
@@ -33,9 +33,7 @@ fn piece_of(base: &Sheet, prices: &[u32], stem: &Stem, log: &Log) -> Piece
     requires prices { length prices.now ≡ classes base.now.instruction }
     ensures { IsPiece base.now prices.now stem.now log.now result }
 {
-    let Some(found) = log_valuation(base, stem, log) else {
-        unreachable!()
-    };
+    let found = valuation_of_allowed(base, stem, log);
     let instruction = base.instruction();
     let index = instruction.index(found.class);
     let kind = instruction.assortments()[log.assortment as usize].price_kind();

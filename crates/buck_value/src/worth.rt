@@ -254,6 +254,28 @@ pub fn worth_if_allowed(sheet: &Sheet, stem: &Stem, log: &Log) -> Option<u64>
     }
 }
 
+/// The class, the top diameter and the worth of a log that is allowed under a sheet, as [`log_valuation`] has them of
+/// any log. It takes no memory.
+pub fn valuation_of_allowed(sheet: &Sheet, stem: &Stem, log: &Log) -> Valuation
+    requires { IsAllowed sheet.now.instruction stem.now log.now }
+    ensures class { result.class ≡ class_of sheet.now.instruction stem.now log.now }
+    ensures top { result.top ≡ top_diameter stem.now log.now }
+    ensures worth { result.worth ≡ worth_of sheet.now stem.now log.now }
+    ensures valid { IsSheet sheet.now }
+    ensures stem { IsStem stem.now }
+{
+    let _valid = stem.length();
+    let assortment = &sheet.instruction().assortments()[log.assortment as usize];
+    let top = top_of(stem, log);
+    let class = Class {
+        assortment: log.assortment,
+        row: row_of(assortment, top) as u8,
+        column: column_of(assortment, log.length).unwrap_or(0) as u8,
+    };
+    let worth = worth_in_class(sheet, class, top, log.length);
+    Valuation { class, top, worth }
+}
+
 /// What an allowed log is worth under a sheet, in millionths of the price unit: the price in force of its class, times
 /// its volume in cm³ where the price is per cubic metre, times 1,000,000 where it is per piece. The volume is that of
 /// the cylinder of its top diameter and its length, rounded down. It takes no memory.
@@ -263,8 +285,5 @@ pub fn log_worth(sheet: &Sheet, stem: &Stem, log: &Log) -> u64
     ensures valid { IsSheet sheet.now }
     ensures stem { IsStem stem.now }
 {
-    match worth_if_allowed(sheet, stem, log) {
-        Some(worth) => worth,
-        None => unreachable!(),
-    }
+    valuation_of_allowed(sheet, stem, log).worth
 }

@@ -10,7 +10,7 @@ use buck_apt::Instruction;
 use buck_dp::Planner;
 use buck_record::{Memory, put_line, put_numbers};
 use buck_stem::Stem;
-use buck_value::{Log, Sheet, log_valuation};
+use buck_value::{Log, Sheet, valuation_of_allowed};
 use std::alloc::Global;
 use std::sync::Arc;
 use std::thread;
@@ -47,9 +47,7 @@ fn put_log(out: &mut Vec<u8>, sheet: &Sheet, stem: &Stem, log: &Log) -> Result<(
     requires { IsAllowed sheet.now.instruction stem.now log.now }
     ensures { OnOk result (out.new.items ≡ out.old.items ++ log_line sheet.now stem.now log.now) }
 {
-    let Some(found) = log_valuation(sheet, stem, log) else {
-        unreachable!()
-    };
+    let found = valuation_of_allowed(sheet, stem, log);
     let assortment = &sheet.instruction().assortments()[log.assortment as usize];
     let numbers = [
         u128::from(log.start),

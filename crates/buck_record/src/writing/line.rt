@@ -18,6 +18,7 @@ fn put_one(out: &mut Vec<u8>, number: u32) -> Result<(), Memory>
 }
 
 /// Puts a number of three digits, after a blank: most diameters in mm have three.
+#[tactic(auto, using(crate::proofs::Three::decimal_of_three))]
 #[inline(always)]
 fn put_three(out: &mut Vec<u8>, number: u32) -> Result<(), Memory>
     requires { (100 ≤ number) × (number < 1000) }
@@ -27,6 +28,21 @@ fn put_three(out: &mut Vec<u8>, number: u32) -> Result<(), Memory>
     let tens = b'0' + (number / 10 % 10) as u8;
     let ones = b'0' + (number % 10) as u8;
     out.extend_from_slice(&[b' ', hundreds, tens, ones])?;
+    Ok(())
+}
+
+/// Puts a number of four digits, after a blank: most lengths and places in mm have four.
+#[tactic(auto, using(crate::proofs::Three::decimal_of_four))]
+#[inline(always)]
+fn put_four(out: &mut Vec<u8>, number: u32) -> Result<(), Memory>
+    requires { (1000 ≤ number) × (number < 10000) }
+    ensures { OnOk result (out.new.items ≡ out.old.items ++ (32 ∷ decimal number)) }
+{
+    let thousands = b'0' + (number / 1000) as u8;
+    let hundreds = b'0' + (number / 100 % 10) as u8;
+    let tens = b'0' + (number / 10 % 10) as u8;
+    let ones = b'0' + (number % 10) as u8;
+    out.extend_from_slice(&[b' ', thousands, hundreds, tens, ones])?;
     Ok(())
 }
 
@@ -46,16 +62,31 @@ fn put_any(out: &mut Vec<u8>, number: u128) -> Result<(), Memory>
     Ok(())
 }
 
+/// Puts a number of at most four digits, after a blank.
+#[inline(always)]
+fn put_small(out: &mut Vec<u8>, number: u32) -> Result<(), Memory>
+    requires { number < 10000 }
+    ensures { OnOk result (out.new.items ≡ out.old.items ++ (32 ∷ decimal number)) }
+{
+    if number < 10 {
+        return put_one(out, number);
+    }
+    if number < 100 {
+        return put_any(out, u128::from(number));
+    }
+    if number < 1000 {
+        return put_three(out, number);
+    }
+    put_four(out, number)
+}
+
 /// Puts a number in decimal, after a blank.
 #[inline(always)]
 pub fn put_number(out: &mut Vec<u8>, number: u128) -> Result<(), Memory>
     ensures { OnOk result (out.new.items ≡ out.old.items ++ (32 ∷ decimal number)) }
 {
-    if number < 10 {
-        return put_one(out, number as u32);
-    }
-    if 100 <= number && number < 1000 {
-        return put_three(out, number as u32);
+    if number < 10_000 {
+        return put_small(out, number as u32);
     }
     put_any(out, number)
 }

@@ -9,7 +9,7 @@ use crate::file::rules::{grades_within, is_count_of_zones, starts_rise, starts_w
 use crate::file::slots::{GRADES, MOST_SAMPLES, SAMPLES, SPECIES, STARTS, STEM, ZONES};
 use crate::stem::Stem;
 use buck_record::rules::FILE;
-use buck_record::{RecordFault, Slot, append_numbers, is_done, next_in, number, numbers};
+use buck_record::{Slot, append_numbers, is_done, next_in, next_quick, number, numbers_into};
 use std::alloc::{AllocError, Global};
 
 /// The one number of the item that a text begins with, where that stands in this slot, and what is left after it.
@@ -50,7 +50,7 @@ fn next_samples<'a>(room: &mut Vec<u16>, text: &'a [u8]) -> Result<Option<&'a [u
     ensures number { IfOk result (λ o. IfSome o (λ _.
         (1 ≤ length room.new.items) × (length room.new.items ≤ MOST_SAMPLES))) }
 {
-    let Some((rest, left)) = next_in(SAMPLES, text) else {
+    let Some((rest, left)) = next_quick(SAMPLES, text) else {
         return Ok(None);
     };
     room.clear();
@@ -81,11 +81,10 @@ fn are_zones(numbers: &[u32]) -> bool
 fn zones_in(alloc: Global, rest: &[u8]) -> Result<Option<Vec<(u32, u8)>>, AllocError>
     ensures { IfOk result (λ o. IfSome o (λ zones. SaysZones rest.now zones.items)) }
 {
-    let numbers = match numbers(alloc, rest) {
-        Ok(found) => found,
-        Err(RecordFault::Memory) => return Err(AllocError),
-        Err(_) => return Ok(None),
-    };
+    let mut numbers = Vec::new(alloc);
+    if !numbers_into(rest, &mut numbers)? {
+        return Ok(None);
+    }
     if !are_zones(numbers.as_slice()) {
         return Ok(None);
     }

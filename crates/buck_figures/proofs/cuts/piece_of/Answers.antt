@@ -10,37 +10,37 @@ use Rattle.buck_figures.proofs.cuts.piece_of.Goals as goal
 
 pub index-index-requires : goal.index-index-requires
 index-index-requires c =
-    let class : IsClass c.args.base.now.instruction c.in-Some.found.class =
-    subst (λ k. IsClass c.args.base.now.instruction k) (sym c.in-Some.ensures.class)
-    (class_is_class c.args.base.now.instruction c.args.stem.now c.args.log.now c.log_valuation.ensures.valid.valid
-    c.requires.allowed) in
+    let class : IsClass c.args.base.now.instruction c.valuation_of_allowed-found.result.class =
+    subst (λ k. IsClass c.args.base.now.instruction k) (sym c.valuation_of_allowed-found.ensures.class)
+    (class_is_class c.args.base.now.instruction c.args.stem.now c.args.log.now
+    c.valuation_of_allowed-found.ensures.valid.valid c.requires.allowed) in
     let same : c.deref.result.now ≡ c.args.base.now.instruction = search rules in
-    subst (λ (i : InstructionParts). IsClass i c.in-Some.found.class) (sym same) class
+    subst (λ (i : InstructionParts). IsClass i c.valuation_of_allowed-found.result.class) (sym same) class
 
 pub volume_of-volume-requires-clause-diameter : goal.volume_of-volume-requires-clause-diameter
 volume_of-volume-requires-clause-diameter c =
     let low =
-    allowed_low c.args.base.now.instruction c.args.stem.now c.args.log.now c.log_valuation.ensures.valid.valid
-    c.requires.allowed in
-    rw c.in-Some.ensures.top low.2
+    allowed_low c.args.base.now.instruction c.args.stem.now c.args.log.now
+    c.valuation_of_allowed-found.ensures.valid.valid c.requires.allowed in
+    rw c.valuation_of_allowed-found.ensures.top low.2
 
 pub volume_of-volume-requires-clause-length : goal.volume_of-volume-requires-clause-length
 volume_of-volume-requires-clause-length c =
-    (allowed_low c.args.base.now.instruction c.args.stem.now c.args.log.now c.log_valuation.ensures.valid.valid
-    c.requires.allowed).1
+    (allowed_low c.args.base.now.instruction c.args.stem.now c.args.log.now
+    c.valuation_of_allowed-found.ensures.valid.valid c.requires.allowed).1
 
 pub worth_by-requires : goal.worth_by-requires
 worth_by-requires c =
     let low =
-    allowed_low c.args.base.now.instruction c.args.stem.now c.args.log.now c.log_valuation.ensures.valid.valid
-    c.requires.allowed in
+    allowed_low c.args.base.now.instruction c.args.stem.now c.args.log.now
+    c.valuation_of_allowed-found.ensures.valid.valid c.requires.allowed in
     omega (arith, c.volume_of-volume.ensures.high, low.1)
 
 pub price-requires : goal.price-requires
 price-requires c =
-    subst (λ k. IsClass c.args.base.now.instruction k) (sym c.in-Some.ensures.class)
-    (class_is_class c.args.base.now.instruction c.args.stem.now c.args.log.now c.log_valuation.ensures.valid.valid
-    c.requires.allowed)
+    subst (λ k. IsClass c.args.base.now.instruction k) (sym c.valuation_of_allowed-found.ensures.class)
+    (class_is_class c.args.base.now.instruction c.args.stem.now c.args.log.now
+    c.valuation_of_allowed-found.ensures.valid.valid c.requires.allowed)
 
 pub returns : goal.returns
 returns c =
@@ -59,15 +59,18 @@ returns c =
     c.price_kind-kind.ensures ∙ sym (ap kind_in there) in
     record {
       log = refl;
-      class = c.in-Some.ensures.class;
-      exists = subst (λ k. IsClass i k) (sym c.in-Some.ensures.class)
-          (class_is_class i c.args.stem.now c.args.log.now c.log_valuation.ensures.valid.valid c.requires.allowed);
-      index = c.index-index.ensures.place ∙ ap (λ (x : InstructionParts). index_of x c.in-Some.found.class) same;
-      top = c.in-Some.ensures.top;
-      volume = c.volume_of-volume.ensures.value ∙ ap (λ d. volume d c.args.log.now.length) c.in-Some.ensures.top;
+      class = c.valuation_of_allowed-found.ensures.class;
+      exists = subst (λ k. IsClass i k) (sym c.valuation_of_allowed-found.ensures.class)
+          (class_is_class i c.args.stem.now c.args.log.now c.valuation_of_allowed-found.ensures.valid.valid
+          c.requires.allowed);
+      index = c.index-index.ensures.place
+          ∙ ap (λ (x : InstructionParts). index_of x c.valuation_of_allowed-found.result.class) same;
+      top = c.valuation_of_allowed-found.ensures.top;
+      volume = c.volume_of-volume.ensures.value
+          ∙ ap (λ d. volume d c.args.log.now.length) c.valuation_of_allowed-found.ensures.top;
       price = refl;
       worth = c.worth_by.ensures
           ∙ ap (λ k. worth_at k (slice_index c.args.prices.now c.index-index.result) c.volume_of-volume.result) kind;
       base_price = c.price.ensures.price;
-      base_worth = c.in-Some.ensures.worth;
+      base_worth = c.valuation_of_allowed-found.ensures.worth;
     }
