@@ -21,6 +21,10 @@ pub record HasMark (codes : List ℕ) (g : Log) (mark : ℕ) : Type 0 where
   pub high : mark ≤ 1023
   pub at : slice_get codes (1023 - mark) ≡ Some (code_of g.length g.assortment)
 
+-- the offer of a code
+abbrev pub offer_at : ℕ → Offer
+offer_at code = record { length = code / 16; assortment = code % 16 }
+
 -- the codes of offers: their order is that of the codes
 abbrev pub codes_in : List Offer → List ℕ
 codes_in offers = map (λ (o : Offer). code_of o.length o.assortment) offers

@@ -5,6 +5,6 @@ mod limits;
 mod offers;
 mod prices;
 
-pub use limits::{ABOVE_ALL, band_of, limits_of};
+pub use limits::band_around;
 pub use offers::{Offer, offers_of};
 pub use prices::{Band, Pricing, pricing_of};

@@ -1,60 +1,54 @@
 //! Bands of diameters: within one, no assortment changes its row.
-ghost use Rattle.std.specs.Prelude.{◌≡◌, ℕ, ◌+◌, ◌<◌, ◌≤◌, IfOk, OnOk, Contains, [], length, slice_get, slice_index, Some};
-ghost use Rattle.std.specs.List.Sorted.{IsStrictlyIncreasing};
-ghost use Rattle.buck_apt.specs.Instruction.{AssortmentParts};
-ghost use Rattle.buck_bid.specs.Limits.{AreLimits};
+ghost use Rattle.std.specs.Prelude.{◌<◌, ◌≤◌, ◌⊎◌};
+ghost use Rattle.buck_bid.specs.Limits.{IsBand, IsBandOf};
 
-use crate::offers::sort_once;
+use crate::prices::Band;
 use buck_apt::{Assortment, Instruction};
-use std::alloc::{AllocError, Global};
 
 /// A limit above all diameters of a stem.
-pub const ABOVE_ALL: u32 = 1_504;
+const ABOVE_ALL: u32 = 1_504;
 
-/// The limits between which all diameters lie.
-fn outer_limits(alloc: Global) -> Result<Vec<u32>, AllocError>
-    ensures low { IfOk result (λ limits. Contains limits.items 0) }
-    ensures high { IfOk result (λ limits. Contains limits.items ABOVE_ALL) }
-{
-    Vec::from_slice(alloc, &[0, ABOVE_ALL])
-}
-
-/// Puts the lower limits of an assortment's rows and its upper diameter to a list.
-fn push_limits(limits: &mut Vec<u32>, assortment: &Assortment) -> Result<(), AllocError>
-    ensures kept { OnOk result ((x : ℕ) → Contains limits.old.items x → Contains limits.new.items x) }
-    ensures rows { OnOk result ((d : ℕ) → Contains assortment.now.diameters d → Contains limits.new.items d) }
-    ensures upper { OnOk result (Contains limits.new.items assortment.now.upper) }
-{
-    limits.extend_from_slice(assortment.diameters())?;
-    limits.push(assortment.upper())?;
-    Ok(())
-}
-
-/// The diameters in mm at which a band starts: where an assortment has another row, or takes no more logs.
-pub fn limits_of(alloc: Global, instruction: &Instruction) -> Result<Vec<u32>, AllocError>
-    ensures { IfOk result (λ limits. AreLimits instruction.now limits.items) }
-{
-    let mut limits = outer_limits(alloc)?;
-    let all = instruction.assortments();
-    for place in 0..all.len() {
-        push_limits(&mut limits, &all[place])?;
+impl Band {
+    /// Cuts off what lies beyond a limit as seen from a diameter within.
+    fn cut(&mut self, limit: u32, diameter: u32)
+        requires inside { (self.old.thinnest ≤ diameter) × (diameter < self.old.past) }
+        ensures inside { (self.new.thinnest ≤ diameter) × (diameter < self.new.past) }
+        ensures narrower { (self.old.thinnest ≤ self.new.thinnest) × (self.new.past ≤ self.old.past) }
+        ensures apart { (limit ≤ self.new.thinnest) ⊎ (self.new.past ≤ limit) }
+    {
+        if limit <= diameter {
+            self.thinnest = self.thinnest.max(limit);
+        } else {
+            self.past = self.past.min(limit);
+        }
     }
-    sort_once(&mut limits)?;
-    Ok(limits)
+
+    /// The same with each limit of an assortment: no row of that starts or ends in what is left.
+    fn cut_by(&mut self, assortment: &Assortment, diameter: u32)
+        requires inside { (self.old.thinnest ≤ diameter) × (diameter < self.old.past) }
+        ensures inside { (self.new.thinnest ≤ diameter) × (diameter < self.new.past) }
+        ensures narrower { (self.old.thinnest ≤ self.new.thinnest) × (self.new.past ≤ self.old.past) }
+        ensures band { IsBand assortment.now self.new.thinnest self.new.past }
+    {
+        self.cut(assortment.upper(), diameter);
+        for limit in assortment.diameters() {
+            self.cut(*limit, diameter);
+        }
+    }
 }
 
-/// The band of a diameter: the place of the limit at which it starts.
-pub fn band_of(limits: &[u32], diameter: u32) -> usize
-    requires limits { (Contains limits.now 0) × (Contains limits.now ABOVE_ALL) }
-    requires rise { IsStrictlyIncreasing limits.now }
+/// The band of a diameter: those around it in mm within which no assortment changes its row, or takes no more logs.
+pub fn band_around(instruction: &Instruction, diameter: u32) -> Band
     requires diameter { diameter ≤ 1500 }
-    ensures within { result + 1 < length limits.now }
-    ensures from { slice_index limits.now result ≤ diameter }
-    ensures past { diameter < slice_index limits.now (result + 1) }
-    ensures high { slice_index limits.now (result + 1) ≤ ABOVE_ALL }
+    ensures within { (result.thinnest ≤ diameter) × (diameter < result.past) }
+    ensures band { IsBandOf instruction.now result.thinnest result.past }
 {
-    match limits.binary_search(&diameter) {
-        Ok(place) => place,
-        Err(place) => place - 1,
+    let mut band = Band {
+        thinnest: 0,
+        past: ABOVE_ALL,
+    };
+    for assortment in instruction.assortments() {
+        band.cut_by(assortment, diameter);
     }
+    band
 }

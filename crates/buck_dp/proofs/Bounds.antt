@@ -1,23 +1,19 @@
 -- A log is worth at most 70,000,000,000 millionths for each millimetre, and so the worth of a cutting fits 64 bits.
-use Rattle.buck_dp.proofs.Words.{ℕ, ◌+◌, ◌*◌, ◌≤◌, List, sum_by, ap, arith, InstructionParts, StemParts, IsStem, stem_length, Log, SheetParts, IsSheet, IsAllowed, worth_of, end_of, trim_in, worth_low, IsCutFrom}
-use Rattle.buck_dp.proofs.Optimal.{worth_within}
+use Rattle.buck_dp.proofs.Words.{ℕ, ◌+◌, ◌*◌, ◌≤◌, List, [], ◌∷◌, length, ap, arith, sum_by-cons, InstructionParts, StemParts, stem_length, Log, SheetParts, IsSheet, IsAllowed, worth_of, end_of, trim_in, worth_low, allowed_low, cutting_worth, IsCutFrom}
 
 -- an allowed log lies within its stem
 pub end_within : (i : InstructionParts) (stem : StemParts) (d : Log) → (a : IsAllowed i stem d)
     → end_of i d ≤ stem_length stem.samples
 end_within i stem d a = omega (arith, a.allows.within, ap trim_in a.exists)
 
-pub cut_worth-le : (sheet : SheetParts) (stem : StemParts) (from : ℕ) (gs : List Log) → IsSheet sheet → IsStem stem
+-- what is cut from a place on is worth no more than the length behind it, and no log of it is shorter than 500 mm
+pub cut_within : (sheet : SheetParts) (stem : StemParts) (from : ℕ) (gs : List Log) → IsSheet sheet
     → from ≤ stem_length stem.samples
     → IsCutFrom (IsAllowed sheet.instruction stem) (end_of sheet.instruction) from gs
-    → sum_by (worth_of sheet stem) gs ≤ 2800000000000000
-cut_worth-le sheet stem from gs s t le c =
-    let h : sum_by (worth_of sheet stem) gs + 70000000000 * from ≤ 70000000000 * stem_length stem.samples =
-    worth_within (IsAllowed sheet.instruction stem) (end_of sheet.instruction) (worth_of sheet stem) 70000000000
-    (stem_length stem.samples)
-    (λ d a. (
-      let p : worth_of sheet stem d ≤ 70000000000 * d.length = worth_low sheet stem d s a in omega arith,
-      end_within sheet.instruction stem d a,
-    )) from gs le c in
-    let n : stem_length stem.samples ≤ 40000 = omega (arith, t.samples_number) in
-    omega arith
+    → (cutting_worth sheet stem gs + 70000000000 * from ≤ 70000000000 * stem_length stem.samples)
+    × (500 * length gs + from ≤ stem_length stem.samples)
+cut_within sheet stem from [] s le c = (omega arith, omega arith)
+cut_within sheet stem from (g ∷ gs) s le c =
+    let b = cut_within sheet stem (end_of sheet.instruction g) gs s (end_within sheet.instruction stem g c.1) c.2 in
+    let low = allowed_low sheet.instruction stem g s.valid c.1 in
+    (omega (arith, worth_low sheet stem g s c.1, sum_by-cons (worth_of sheet stem) g gs), omega arith)

@@ -1,16 +1,8 @@
 -- Logs of a stem as bids of its takers, and the other way.
-use Rattle.buck_dp.proofs.Words.{◌≡◌, ℕ, ◌+◌, ◌-◌, ◌*◌, ◌/◌, ◌%◌, ◌<◌, ◌≤◌, List, Option, Some, None, length, slice_get, slice_index, refl, sym, subst, ap, ◌∙◌, arith, add-mul, mul-le-mul_right, rules, cases_lt, same_Some, mul-mod_left, div-mul-le_self, mul-add-div_right, lt-div-mul-add, AssortmentParts, StemParts, HasGradesOf, stem_length, diameter_at, Log, SheetParts, IsSheet, IsAllowed, log_of, top_of, end_of, trim_in, trim_of, top_diameter, class_in, worth_of, GroundParts, points_of, ends_of, point_after, HasMark, BidParts, bid_of, IsLogAt, IsBidOf, on_module, allowed_low, class_for, worth_for, ◌⊎◌, get_or, cases_order, slice_get-get_or, slice_get_within, get_or_from_slice_get, AllPairs-from_increasing, InstructionParts, IsInstruction, AreCodes, code_of, IsLogBefore}
+use Rattle.buck_dp.proofs.Words.{◌≡◌, ℕ, ◌+◌, ◌-◌, ◌*◌, ◌/◌, ◌%◌, ◌<◌, ◌≤◌, List, Option, Some, None, length, slice_get, slice_index, refl, sym, subst, ap, ◌∙◌, arith, add-mul, mul-le-mul_right, rules, cases_lt, same_Some, mul-mod_left, div-mul-le_self, mul-add-div_right, lt-div-mul-add, AssortmentParts, StemParts, HasGradesOf, stem_length, diameter_at, Log, SheetParts, IsSheet, IsAllowed, log_of, top_of, end_of, trim_in, trim_of, top_diameter, class_in, worth_of, GroundParts, points_of, ends_of, point_after, HasMark, BidParts, bid_of, IsLogAt, IsBidOf, on_module, allowed_low, class_for, worth_for, inr, get_or, cases_order, slice_get-get_or, slice_get_within, get_or_from_slice_get, AllPairs-from_increasing, InstructionParts, IsInstruction, AreCodes, code_of, IsLogBefore, log_at, next_after}
 use Rattle.buck_dp.proofs.Places.{whole_steps, one_step, after_within}
 use Rattle.buck_dp.proofs.Bounds.{end_within}
 use Rattle.buck_dp.proofs.Optimal.{same_log}
-
--- a code tells the length and the assortment
-pub code_parts : (l a k b : ℕ) → a < 16 → b < 16 → code_of l a ≡ code_of k b → (l ≡ k) × (a ≡ b)
-code_parts l a k b low low' e = (omega arith, omega arith)
-
--- the lower code is that of the shorter log, then of the lower assortment
-code_order : (l a k b : ℕ) → a < 16 → b < 16 → code_of l a < code_of k b → (l < k) ⊎ ((l ≡ k) × (a < b))
-code_order l a k b low low' lt = search (rules, cases_order)
 
 -- the assortment of an allowed log is one of at most 16
 pub assortment_low : (i : InstructionParts) (stem : StemParts) (g : Log) → IsInstruction i → IsAllowed i stem g
@@ -30,36 +22,6 @@ mark_code codes g mark m = get_or_from_slice_get codes (1023 - mark) (code_of g.
 pub mark_high : (i : InstructionParts) (codes : List ℕ) (g : Log) (mark : ℕ) → AreCodes i codes → HasMark codes g mark
     → 0 < mark
 mark_high i codes g mark c m = omega (arith, mark_place codes g mark m, c.few)
-
--- each allowed log has a mark
-pub mark_found : (i : InstructionParts) (stem : StemParts) (codes : List ℕ) (g : Log)
-    → AreCodes i codes → IsAllowed i stem g
-    → (mark : ℕ) × HasMark codes g mark
-mark_found i stem codes g c a =
-    let found = c.whole g.assortment a.assortment g.length a.exists a.allows.length_offered in
-    let place : 1023 - (1023 - found.0) ≡ found.0 = omega (arith, found.1, c.few) in search (rules, slice_get-get_or)
-
--- of two logs that start at one place, the one of the higher mark is before the other
-pub marks_before : (i : InstructionParts) (codes : List ℕ) (g h : Log) (mark less : ℕ)
-    → AreCodes i codes
-    → HasMark codes g mark → HasMark codes h less
-    → less < mark
-    → g.start ≡ h.start
-    → g.assortment < 16 → h.assortment < 16
-    → IsLogBefore g h
-marks_before i codes g h mark less c m n lt at low low' =
-    let rise : get_or codes (1023 - mark) 0 < get_or codes (1023 - less) 0 =
-    search (rules, AllPairs-from_increasing, mark_place) in
-    search (rules, mark_code, code_order)
-
--- and two logs of one mark are the same
-pub marks_same : (codes : List ℕ) (g h : Log) (mark other : ℕ)
-    → HasMark codes g mark → HasMark codes h other
-    → mark ≡ other
-    → g.start ≡ h.start
-    → g.assortment < 16 → h.assortment < 16
-    → g ≡ h
-marks_same codes g h mark other m n same at low low' = search (rules, mark_code, code_parts, same_log)
 
 same_class : (x : Option AssortmentParts) (stem : StemParts) (g : Log)
     → class_in x stem g ≡ class_for x g.assortment g.length (top_diameter stem g)
@@ -116,32 +78,55 @@ module _ (p : GroundParts) (valid : IsSheet p.sheet) where
       → point_after unit (end_of p.sheet.instruction g) < ends_of p
   end_there g a = search (rules, after_within, pos, end_within)
 
-  -- an allowed log from a point, with its mark
-  pub log_there : (i mark : ℕ) (g : Log) → g.start ≡ i * unit → IsAllowed p.sheet.instruction p.stem g
-      → HasMark p.codes g mark
-      → (j : ℕ)
-      × IsLogAt p i j (point_after unit (end_of p.sheet.instruction g)) (bid_of (worth_of p.sheet p.stem g) mark)
-  log_there i mark g at a marked =
+  -- each allowed log from a point has a mark
+  pub log_there : (i : ℕ) (g : Log) → AreCodes p.sheet.instruction p.codes → g.start ≡ i * unit
+      → IsAllowed p.sheet.instruction p.stem g
+      → (j : ℕ) × (bid : BidParts) × (l : IsLogAt p i j (next_after p g) bid) × (l.log ≡ g)
+  log_there i g c at a =
       let n : ℕ = g.length / unit in
       let on : g.length % unit ≡ 0 = search (rules, on_module) in
       let low = allowed_low p.sheet.instruction p.stem g valid.valid a in
       let some : 0 < n = one_step g.length unit (omega (arith, low.0)) on in
-      let top : top_of g ≡ (i + n) * unit = omega (arith, at, whole_steps g.length unit on, add-mul i n unit) in (
+      let top : top_of g ≡ (i + n) * unit = omega (arith, at, whole_steps g.length unit on, add-mul i n unit) in
+      let found = c.whole g.assortment a.assortment g.length a.exists a.allows.length_offered in
+      let place : 1023 - (1023 - found.0) ≡ found.0 = omega (arith, found.1, c.few) in (
         i + n,
+        bid_of (worth_of p.sheet p.stem g) (1023 - found.0),
         record {
           log = g;
           start = at;
           top = top;
           ends = refl;
           allowed = a;
-          rank = marked;
+          rank = search (rules, slice_get-get_or);
           worth = refl;
           later = omega arith;
           order = omega (arith, end_is (i + n) g top);
           within = point_there unit (i + n) (stem_length p.stem.samples) pos (omega (arith, top, a.allows.within));
           last = end_there g a;
         },
+        refl,
       )
+
+  -- the mark of a log tells it
+  pub log_is : {i j e : ℕ} {bid : BidParts} → (l : IsLogAt p i j e bid) → l.log ≡ log_at p bid.rank i
+  log_is {i} {j} {e} {bid} l =
+      let code = mark_code p.codes l.log bid.rank l.rank in
+      let low = assortment_low p.sheet.instruction p.stem l.log valid.valid l.allowed in
+      same_log l.log (log_at p bid.rank i) l.start (omega arith) (omega arith)
+
+  -- of two logs from one point, the one of the higher mark is before the other
+  pub marks_before : AreCodes p.sheet.instruction p.codes → {i j e k f : ℕ} {bid less : BidParts}
+      → (l : IsLogAt p i j e bid) → (m : IsLogAt p i k f less) → less.rank < bid.rank → IsLogBefore l.log m.log
+  marks_before c {i} {j} {e} {k} {f} {bid} {less} l m lt =
+      let b = mark_code p.codes l.log bid.rank l.rank in
+      let d = mark_code p.codes m.log less.rank m.rank in
+      let low = assortment_low p.sheet.instruction p.stem l.log valid.valid l.allowed in
+      let low' = assortment_low p.sheet.instruction p.stem m.log valid.valid m.allowed in
+      let rise : get_or p.codes (1023 - bid.rank) 0 < get_or p.codes (1023 - less.rank) 0 =
+      AllPairs-from_increasing p.codes c.rise (1023 - bid.rank) (1023 - less.rank) 0 (omega (arith, l.rank.high))
+      (mark_place p.codes m.log less.rank m.rank) in
+      inr (l.start ∙ sym m.start, search (rules, cases_order))
 
   -- the trim of an allowed log is that of its assortment
   own_trim : (g : Log) → (a : IsAllowed p.sheet.instruction p.stem g)

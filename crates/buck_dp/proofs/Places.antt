@@ -16,10 +16,6 @@ next_start m here s pos on grid le = elim (cases_lt (here / m) (s / m)) [
   | inr less ↦ inl (let h : (s / m) * m ≤ (here / m) * m = mul-le-mul_right m less in omega arith)
 ]
 
--- past the top nothing ends within the length
-pub past_top : (m total s : ℕ) → 0 < m → (total / m + 1) * m ≤ s → s ≤ total → ⊥
-past_top m total s pos le within = omega arith
-
 -- the point after a place is at or after it
 pub after_covers : (m x : ℕ) → 0 < m → x ≤ point_after m x * m
 after_covers m x pos = omega arith

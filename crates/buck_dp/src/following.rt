@@ -1,13 +1,9 @@
 //! The choices of a stem's points, followed from the butt: the logs of the best cutting.
-ghost use Rattle.std.specs.Prelude.{◌≡◌, ℕ, List, ◌-◌, ◌*◌, ◌<◌, ◌≤◌, IfOk, length, slice_index};
-ghost use Rattle.buck_stem.specs.Stem.{IsStem};
-ghost use Rattle.buck_value.specs.Sheet.{IsSheet};
-ghost use Rattle.buck_value.specs.Allowed.{IsAllowed, worth_of, end_of};
-ghost use Rattle.buck_bid.specs.Offers.{AreOffers, codes_in, code_of};
-ghost use Rattle.buck_dp.specs.inner.Points.{ground_with, points_of, point_after};
-ghost use Rattle.buck_dp.specs.inner.Table.{IsTop};
-ghost use Rattle.buck_dp.specs.inner.Bid.{BidParts};
-ghost use Rattle.buck_dp.specs.inner.Searched.{AreSearched};
+ghost use Rattle.std.specs.Prelude.{◌≡◌, ℕ, ◌-◌, ◌*◌, ◌<◌, ◌≤◌, IfOk, length, get_or};
+ghost use Rattle.buck_stem.specs.Stem.{StemParts, IsStem};
+ghost use Rattle.buck_bid.specs.Offers.{AreOffers, codes_in};
+ghost use Rattle.buck_dp.specs.inner.Points.{ground_with};
+ghost use Rattle.buck_dp.specs.inner.Table.{IsChosen, log_at, told};
 
 use crate::ends::{module_of, point_after};
 use buck_bid::Offer;
@@ -19,10 +15,8 @@ use std::alloc::{AllocError, Global};
 fn log_at(sheet: &Sheet, offers: &[Offer], rank: u32, i: usize) -> Log
     requires offers { AreOffers sheet.now.instruction offers.now }
     requires rank { (rank ≤ 1023) × (1023 - rank < length offers.now) }
-    requires i { i ≤ 4001 }
-    ensures start { result.start ≡ i * sheet.now.instruction.module }
-    ensures code { code_of result.length result.assortment ≡ slice_index (codes_in offers.now) (1023 - rank) }
-    ensures assortment { result.assortment < 16 }
+    requires i { i * sheet.now.instruction.module ≤ 40000 }
+    ensures { (stem : StemParts) → result ≡ log_at (ground_with sheet.now stem (codes_in offers.now)) rank i }
 {
     let offer = offers[1023 - rank as usize];
     Log {
@@ -32,8 +26,9 @@ fn log_at(sheet: &Sheet, offers: &[Offer], rank: u32, i: usize) -> Log
     }
 }
 
-/// The logs of the best cutting, from the choices of all points: the rank of the first log of the best from there on,
-/// 0 where no log starts.
+/// The logs that the choices of all points tell from the butt on: a choice is the rank of the log that starts there, 0
+/// where none does.
+#[tactic(auto, using(crate::proofs::Values::told_at_first, crate::proofs::Values::told_next))]
 pub(crate) fn follow(
     alloc: Global,
     sheet: &Sheet,
@@ -41,19 +36,16 @@ pub(crate) fn follow(
     offers: &[Offer],
     choices: &[u32],
 ) -> Result<Vec<Log>, AllocError>
-    requires valid { IsSheet sheet.now }
     requires sound { IsStem stem.now }
     requires offers { AreOffers sheet.now.instruction offers.now }
-    requires found { (values : List BidParts)
-        × AreSearched (ground_with sheet.now stem.now (codes_in offers.now)) values choices.now 0 0 }
-    ensures { IfOk result (λ logs.
-        IsTop (IsAllowed sheet.now.instruction stem.now) (end_of sheet.now.instruction) (worth_of sheet.now stem.now) 0
-        logs.items) }
+    requires chosen { (i : ℕ) → 0 < get_or choices.now i 0
+        → IsChosen (ground_with sheet.now stem.now (codes_in offers.now)) i (get_or choices.now i 0) }
+    ensures { IfOk result (λ logs. logs.items
+        ≡ told (ground_with sheet.now stem.now (codes_in offers.now)) choices.now (length choices.now) 0) }
 {
-    let points = choices.len() - 1;
     let mut logs = Vec::new(alloc);
     let mut i = 0;
-    while i < points {
+    while i < choices.len() {
         let rank = choices[i];
         if rank == 0 {
             i += 1;

@@ -1,39 +1,35 @@
-//! What is kept from stem to stem: of an instruction how its logs are priced, and of a sheet price lists, and rows drawn
-//! from them.
-ghost use Rattle.std.specs.Prelude.{◌≡◌, ◌+◌, ◌<◌, ◌≤◌, ◌⊎◌, [], IfOk, length, slice_index};
-ghost use Rattle.buck_value.specs.Sheet.{SheetParts};
-ghost use Rattle.buck_apt.specs.Instruction.{InstructionParts};
-ghost use Rattle.buck_bid.specs.Limits.{AreLimits, IsBandOf};
-ghost use Rattle.buck_dp.specs.declared.index.Key.{Key};
+//! What is kept from stem to stem: price lists, and rows drawn from them.
+ghost use Rattle.std.specs.Prelude.{◌≡◌, ℕ, ◌<◌, ◌≤◌, ◌⊎◌, [], IfOk, IfSome, OnOk, IsTrue, length, slice_get, Some};
+ghost use Rattle.buck_value.specs.Sheet.{SheetParts, IsSheet};
+ghost use Rattle.buck_bid.specs.Offers.{codes_in};
 ghost use Rattle.buck_dp.specs.declared.menu.Menu.{Menu};
-ghost use Rattle.buck_dp.specs.inner.Index.{IsPlaceIn, part_of};
-ghost use Rattle.buck_dp.specs.inner.Kept.{ask_of, AreKept, IsKeptFor, IsAt, TermsOf, ListOf, RowOf};
-ghost use Rattle.buck_dp.specs.inner.Menu.{IsBandIn};
-ghost use Rattle.buck_dp.specs.inner.Quotes.{IsAsked};
+ghost use Rattle.buck_dp.specs.inner.Index.{IsKeptAt, IsPlaceIn, part_of, head_of};
+ghost use Rattle.buck_dp.specs.inner.Kept.{AreKept, IsKeptFor, IsAt, IsList, IsListAt};
+ghost use Rattle.buck_dp.specs.inner.Quotes.{AreQuotes, IsAsked};
 
-use crate::index::{Head, Index, Key, Place};
+use crate::index::{Head, Place, put_head};
 use crate::kinds::Group;
 use crate::menu::Menu;
-use crate::offering::{Cell, Reach, put_row};
-use crate::pricing::{Ask, MOST_OFFERS, Quote, Term, put_list, put_terms};
+use crate::offering::{Cell, put_row};
+use crate::pricing::{Ask, Quote, Term, put_list, terms_of};
+use crate::takers::Takers;
+use buck_apt::Instruction;
+use buck_bid::band_around;
 use buck_record::Memory;
 use buck_value::Sheet;
-use std::alloc::Global;
+use std::alloc::{AllocError, Global};
 
-/// So many terms are kept at most, and then all are dropped: 786 kB.
+/// Once there are more terms in all price lists, these are dropped: 1.4 MB with their quotes.
 const TERMS: usize = 16_384;
 
-/// So many quotes are kept at most, and then all are dropped: 459 kB.
-const QUOTES: usize = 16_384;
+/// Once there are more cells, all rows are dropped: 1.5 MB.
+const CELLS: usize = 36_352;
 
-/// So many cells are kept at most, and then all are dropped: 1.6 MB.
-const CELLS: usize = 49_152;
+/// So are they once there are more of them: 0.4 MB.
+const ROWS: usize = 16_384;
 
 /// So many diameters there are, from 0 to 1,500 mm.
 const DIAMETERS: usize = 1_501;
-
-/// So many places of bands are noted apart for each set of takers.
-const BANDS: usize = 512;
 
 /// A sheet, and what its instruction offers.
 #[derive(Clone, Copy)]
@@ -42,38 +38,57 @@ pub struct Market<'a> {
     pub menu: &'a Menu,
 }
 
-/// The terms of an instruction, and the price lists and the rows of a sheet, as far as they were asked for.
+/// The price list of some takers in a band: how their logs are priced, which hangs on the instruction alone, and their
+/// quotes under a sheet, once they are made.
+#[derive(Drop)]
+pub struct PriceList {
+    pub ask: Ask,
+    pub terms: Vec<Option<Term>>,
+    pub quotes: Vec<Quote>,
+    pub is_priced: bool,
+}
+
+/// The price lists and the rows of a sheet, as far as they were asked for: the cells of the rows, and where each row
+/// stands. Notes tell where that is told, by a slot for each set of takers and diameter. They are only hints, and need
+/// not be dropped with the rows.
 #[derive(Drop)]
 pub struct Kept {
-    terms: Vec<Option<Term>>,
-    asked: Index,
-    quotes: Vec<Quote>,
-    lists: Index,
+    lists: Vec<PriceList>,
     cells: Vec<Cell>,
-    rows: Index,
+    heads: Vec<Head>,
+    notes: Vec<usize>,
 }
 
-/// Drops all that is kept of a sort where there is no room for one more: at most so many are to be kept.
-fn make_room<T: Copy>(items: &mut Vec<T>, heads: &mut Index, most: usize)
-    ensures { ((items.new.items ≡ items.old.items) × (heads.new ≡ heads.old)) ⊎ (heads.new ≡ []) }
+/// Where a price list of some takers for a diameter stands among others.
+#[tactic(auto, using(std::proofs::lemmas::Option::get_or_from_slice_get))]
+fn find_list(lists: &[PriceList], group: Group, diameter: u32) -> Option<usize>
+    ensures { IfSome result (IsListAt lists.now group.takers diameter) }
 {
-    let full = items.len() > most.saturating_sub(MOST_OFFERS) || heads.is_full();
-    if full {
-        items.clear();
-        heads.clear();
+    for place in 0..lists.len() {
+        let ask = lists[place].ask;
+        if ask.takers == group.takers && ask.band.thinnest <= diameter && diameter < ask.band.past {
+            return Some(place);
+        }
     }
+    None
 }
 
-/// What is asked for of some takers in a band.
-fn ask_for(menu: &Menu, key: Key) -> Ask
-    requires band { IsBandIn menu.now key.at }
-    ensures ask { result ≡ ask_of menu.now key }
-    ensures band { (i : InstructionParts) → AreLimits i menu.now.limits.items
-        → IsBandOf i result.band.thinnest result.band.past }
-{
-    Ask {
-        takers: key.takers,
-        band: menu.band_at(key.at),
+impl PriceList {
+    /// Makes the quotes under a sheet, where they aren't made.
+    #[tactic(auto, using(crate::proofs::KeptLemmas::terms_asked))]
+    fn price(&mut self, sheet: &Sheet) -> Result<(), AllocError>
+        requires valid { IsSheet sheet.now }
+        requires list { (m : Menu) × IsList sheet.now m self.old }
+        ensures list { OnOk result ((m : Menu) → IsList sheet.now m self.old → IsList sheet.now m self.new) }
+        ensures priced { OnOk result (IsTrue self.new.is_priced) }
+        ensures ask { self.new.ask ≡ self.old.ask }
+    {
+        if self.is_priced {
+            return Ok(());
+        }
+        put_list(&mut self.quotes, sheet, self.terms.as_slice(), self.ask)?;
+        self.is_priced = true;
+        Ok(())
     }
 }
 
@@ -83,12 +98,10 @@ impl Kept {
         ensures { (s : SheetParts) (m : Menu) → AreKept s m result }
     {
         Kept {
-            terms: Vec::new(alloc),
-            asked: Index::new(alloc),
-            quotes: Vec::new(alloc),
-            lists: Index::new(alloc),
+            lists: Vec::new(alloc),
             cells: Vec::new(alloc),
-            rows: Index::new(alloc),
+            heads: Vec::new(alloc),
+            notes: Vec::new(alloc),
         }
     }
 
@@ -96,79 +109,82 @@ impl Kept {
     pub fn clear(&mut self)
         ensures { (s : SheetParts) (m : Menu) → AreKept s m self.new }
     {
-        self.terms.clear();
-        self.asked.clear();
-        self.clear_prices();
+        self.lists.clear();
+        self.cells.clear();
+        self.heads.clear();
     }
 
     /// Drops what hangs on prices.
     pub fn clear_prices(&mut self)
-        ensures terms { (self.new.terms.items ≡ self.old.terms.items) × (self.new.asked ≡ self.old.asked) }
-        ensures prices { (self.new.lists ≡ []) × (self.new.rows ≡ []) }
+        ensures { (s t : SheetParts) (m : Menu) → s.instruction ≡ t.instruction → AreKept s m self.old
+            → AreKept t m self.new }
     {
-        self.quotes.clear();
-        self.lists.clear();
-        self.cells.clear();
-        self.rows.clear();
-    }
-
-    /// Where the terms of some takers in a band stand, noted at a slot. They are made where they aren't there.
-    fn terms(
-        &mut self,
-        market: Market<'_>,
-        key: Key,
-        ask: Ask,
-        slot: usize,
-    ) -> Result<Place, Memory>
-        requires kept { IsKeptFor market self.old }
-        requires ask { ask ≡ ask_of market.menu.now key }
-        requires band { IsBandOf market.sheet.now.instruction ask.band.thinnest ask.band.past }
-        requires slot { slot ≤ 1000000000 }
-        ensures { IfOk result (λ p. IsKeptFor market.entry self.new
-            × IsAt (TermsOf market.entry.sheet.now.instruction market.entry.menu.now) self.new.terms.items key p) }
-    {
-        if let Some(place) = self.asked.find(key, slot) {
-            return Ok(place);
+        for place in 0..self.lists.len() {
+            let list = &mut self.lists[place];
+            list.is_priced = false;
         }
-        make_room(&mut self.terms, &mut self.asked, TERMS);
-        let offers = market.menu.offers.as_slice();
-        let place = put_terms(&mut self.terms, market.sheet.instruction(), offers, ask)?;
-        self.asked.keep(Head { key, place }, slot)
+        self.cells.clear();
+        self.heads.clear();
     }
 
-    /// Where the price list of a group in the band of a diameter stands. It is made where it isn't there.
-    pub fn list(&mut self, market: Market<'_>, group: Group, diameter: u32) -> Result<Place, Memory>
+    /// Drops the price lists where they have too many terms, so many each.
+    fn clear_lists_if_full(&mut self, offers: usize)
+        ensures { (s : SheetParts) (m : Menu) → AreKept s m self.old → AreKept s m self.new }
+    {
+        if self.lists.len() > TERMS / offers.max(1) {
+            self.lists.clear();
+        }
+    }
+
+    /// Drops the rows where there are too many.
+    fn clear_rows_if_full(&mut self)
+        ensures { (s : SheetParts) (m : Menu) → AreKept s m self.old → AreKept s m self.new }
+    {
+        if self.cells.len() > CELLS || self.heads.len() > ROWS {
+            self.cells.clear();
+            self.heads.clear();
+        }
+    }
+
+    /// Where the price list of a group for a diameter stands, perhaps without its quotes. It is put there first where it
+    /// isn't.
+    fn place_of(
+        &mut self,
+        alloc: Global,
+        market: Market<'_>,
+        group: Group,
+        diameter: u32,
+    ) -> Result<usize, Memory>
         requires kept { IsKeptFor market self.old }
         requires diameter { diameter ≤ 1500 }
-        ensures { IfOk result (λ p. IsKeptFor market.entry self.new × (key : Key) × (key.takers ≡ group.takers)
-            × IsAsked (ask_of market.entry.menu.now key) diameter
-            × IsAt (ListOf market.entry.sheet.now market.entry.menu.now) self.new.quotes.items key p) }
+        ensures { IfOk result (λ n. IsKeptFor market.entry self.new
+            × IsListAt self.new.lists.items group.takers diameter n) }
     {
-        let band = market.menu.band_of(diameter);
-        let key = Key {
-            takers: group.takers,
-            at: band,
-        };
-        let slot = usize::from(group.number) * BANDS + band % BANDS;
-        if let Some(place) = self.lists.find(key, slot) {
+        if let Some(place) = find_list(self.lists.as_slice(), group, diameter) {
             return Ok(place);
         }
-        let ask = ask_for(market.menu, key);
-        let terms = self.terms(market, key, ask, slot)?;
-        make_room(&mut self.quotes, &mut self.lists, QUOTES);
-        let place = put_list(
-            &mut self.quotes,
-            market.sheet,
-            &self.terms[terms.from..terms.past],
+        self.clear_lists_if_full(market.menu.offers.len());
+        let place = self.lists.len();
+        let instruction: &Instruction = market.sheet.instruction();
+        let ask = Ask {
+            takers: group.takers,
+            band: band_around(instruction, diameter),
+        };
+        let terms = terms_of(alloc, instruction, market.menu.offers.as_slice(), ask)?;
+        self.lists.push(PriceList {
             ask,
-        )?;
-        self.lists.keep(Head { key, place }, slot)
+            terms,
+            quotes: Vec::new(alloc),
+            is_priced: false,
+        })?;
+        Ok(place)
     }
 
-    /// Draws the row of a group at a diameter, to be kept at a slot.
+    /// Draws the row of a group at a diameter, noted at a slot.
     #[inline(never)]
-    fn draw_kept(
+    fn draw(
         &mut self,
+        alloc: Global,
         market: Market<'_>,
         group: Group,
         diameter: u32,
@@ -178,59 +194,68 @@ impl Kept {
         requires diameter { diameter ≤ 1500 }
         requires slot { slot ≤ 1000000000 }
         ensures { IfOk result (λ p. IsKeptFor market.entry self.new
-            × IsAt (RowOf market.entry.sheet.now market.entry.menu.now) self.new.cells.items
-            (record { takers = group.takers; at = diameter }) p) }
+            × IsAt market.entry.sheet.now market.entry.menu.now self.new.cells.items
+            (head_of group.takers diameter p)) }
     {
-        let key = Key {
-            takers: group.takers,
-            at: diameter as usize,
-        };
-        let list = self.list(market, group, diameter)?;
-        make_room(&mut self.cells, &mut self.rows, CELLS);
-        let all = Reach {
-            past: 0,
-            far: market.menu.most_steps,
-            room: market.menu.most_trim,
-        };
+        self.clear_rows_if_full();
+        let place = self.place_of(alloc, market, group, diameter)?;
+        let list = &mut self.lists[place];
+        list.price(market.sheet)?;
         let place = put_row(
             &mut self.cells,
-            &self.quotes[list.from..list.past],
+            list.quotes.as_slice(),
             diameter,
-            all,
+            market.menu.most_steps,
         )?;
-        self.rows.keep(Head { key, place }, slot)
+        let head = Head {
+            takers: group.takers,
+            diameter,
+            place,
+        };
+        put_head(&mut self.heads, &mut self.notes, head, slot)?;
+        Ok(place)
+    }
+
+    /// Where the row of some takers at a diameter stands whose head was noted at a slot. A note is only a hint: the head
+    /// tells whose its row is.
+    #[inline(always)]
+    fn find(&self, takers: Takers, diameter: u32, slot: usize) -> Option<Place>
+        ensures { IfSome result (IsKeptAt self.now.heads.items takers diameter) }
+    {
+        if slot >= self.notes.len() {
+            return None;
+        }
+        let note = self.notes[slot];
+        if note >= self.heads.len() {
+            return None;
+        }
+        let head = self.heads[note];
+        if head.takers != takers || head.diameter != diameter {
+            return None;
+        }
+        Some(head.place)
     }
 
     /// Where the row of a group at a diameter stands. It is drawn where it isn't there.
     #[inline(always)]
-    pub fn row(&mut self, market: Market<'_>, group: Group, diameter: u32) -> Result<Place, Memory>
+    pub fn row(
+        &mut self,
+        alloc: Global,
+        market: Market<'_>,
+        group: Group,
+        diameter: u32,
+    ) -> Result<Place, Memory>
         requires kept { IsKeptFor market self.old }
         requires diameter { diameter ≤ 1500 }
         ensures { IfOk result (λ p. IsKeptFor market.entry self.new
-            × IsAt (RowOf market.entry.sheet.now market.entry.menu.now) self.new.cells.items
-            (record { takers = group.takers; at = diameter }) p) }
+            × IsAt market.entry.sheet.now market.entry.menu.now self.new.cells.items
+            (head_of group.takers diameter p)) }
     {
-        let key = Key {
-            takers: group.takers,
-            at: diameter as usize,
-        };
         let slot = usize::from(group.number) * DIAMETERS + diameter as usize;
-        match self.rows.find(key, slot) {
+        match self.find(group.takers, diameter, slot) {
             Some(place) => Ok(place),
-            None => {
-                let place = self.draw_kept(market, group, diameter, slot)?;
-                Ok(place)
-            }
+            None => self.draw(alloc, market, group, diameter, slot),
         }
-    }
-
-    /// The quotes at a place.
-    #[inline(always)]
-    pub fn quotes(&self, place: Place) -> &[Quote]
-        requires { IsPlaceIn self.now.quotes.items place }
-        ensures { result.now ≡ part_of self.now.quotes.items place }
-    {
-        &self.quotes[place.from..place.past]
     }
 
     /// The cells at a place.
@@ -239,6 +264,6 @@ impl Kept {
         requires { IsPlaceIn self.now.cells.items place }
         ensures { result.now ≡ part_of self.now.cells.items place }
     {
-        &self.cells[place.from..place.past]
+        &self.cells[place.from..place.from + place.number]
     }
 }

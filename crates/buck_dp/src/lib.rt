@@ -15,7 +15,6 @@ mod offering;
 mod planner;
 mod planning;
 mod pricing;
-mod search;
 mod takers;
 
 pub use buck_record::Memory;

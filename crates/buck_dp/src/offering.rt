@@ -1,236 +1,177 @@
 //! What is done at one top: its value is settled, and its logs are offered to the points where they start.
-ghost use Rattle.std.specs.Prelude.{◌≡◌, ◌≢◌, ℕ, ◌+◌, ◌<◌, ◌≤◌, length, get_or, slice_get, Some, IfOk};
+ghost use Rattle.std.specs.Prelude.{◌≡◌, ℕ, ◌+◌, ◌<◌, ◌≤◌, ◌++◌, List, length, slice_get, Some, IfOk};
 ghost use Rattle.buck_dp.specs.declared.offering.Cell.{Cell};
-ghost use Rattle.buck_dp.specs.inner.Bid.{bid_of, plus, IsGreater};
-ghost use Rattle.buck_dp.specs.inner.Rows.{AreByLength, IsPlaced, IsNear, AreOffered, AreFit};
-ghost use Rattle.buck_dp.specs.inner.Logs.{bid_at};
+ghost use Rattle.buck_dp.specs.inner.Bid.{BidParts};
+ghost use Rattle.buck_dp.specs.inner.Points.{GroundParts};
+ghost use Rattle.buck_dp.specs.inner.Rows.{IsPlaced, AllFit, HasRoom};
+ghost use Rattle.buck_dp.specs.inner.Searched.{IsSearch, IsOpen, CanOffer, IsOffered};
 ghost use Rattle.buck_dp.specs.declared.pricing.Quote.{Quote};
-ghost use Rattle.buck_dp.specs.inner.Quotes.{row_of, IsSmall, cell_for};
+ghost use Rattle.buck_dp.specs.inner.Quotes.{cell_of, row_of, IsSmall};
 ghost use Rattle.buck_dp.specs.inner.Index.{IsBehind};
 
 use crate::bid::Bid;
 use crate::index::Place;
-use crate::pricing::{MOST_OFFERS, Quote};
+use crate::pricing::Quote;
 use std::alloc::AllocError;
 
-/// What a log brings that is so many steps long, and how many points after its top the next log can start. Of the
-/// points that its row reaches it starts at `back`, and the next one can start at `next`.
+/// What a log brings that is so many steps long and has so much trim in mm, and how many points after its top the next
+/// log can start. Of the points that its row reaches it starts at `back`, and the next one can start at `next`.
 #[derive(Clone, Copy, Debug)]
 pub struct Cell {
     pub bid: Bid,
     pub steps: u32,
+    pub trim: u32,
     pub rise: u32,
     pub back: usize,
     pub next: usize,
 }
 
-/// Which logs with one top are meant: those longer than `past` steps and of at most `far`, with a trim in mm that is at
-/// most `room`.
-#[derive(Clone, Copy, Debug, PartialEq, Eq)]
+/// The starts from point `first` on and before `stop` of logs with one top, and the room for a trim behind that in mm.
+#[derive(Clone, Copy, Debug)]
 pub struct Reach {
-    pub past: usize,
-    pub far: usize,
+    pub top: usize,
+    pub first: usize,
+    pub stop: usize,
     pub room: u32,
 }
 
-/// The starts from point `first` on and before `stop`.
-#[derive(Clone, Copy, Debug)]
-pub struct Starts {
-    pub first: usize,
-    pub stop: usize,
-}
-
-/// The cell of a quote at a diameter, if its logs are within reach.
+/// The cell of a quote at a diameter, in a row that reaches `far` points back.
 #[inline(always)]
-fn cell_at(quote: Quote, diameter: u32, reach: Reach) -> Option<Cell>
+fn cell_at(quote: Quote, diameter: u32, far: usize) -> Cell
     requires small { IsSmall quote }
     requires diameter { diameter ≤ 1500 }
-    requires far { reach.far ≤ 4294967295 }
-    ensures { result ≡ cell_for diameter reach quote }
+    requires far { (quote.steps ≤ far) × (far ≤ 4294967295) }
+    ensures { result ≡ cell_of far diameter quote }
 {
-    if quote.steps as usize <= reach.past {
-        return None;
-    }
-    if quote.steps as usize > reach.far {
-        return None;
-    }
-    if quote.trim > reach.room {
-        return None;
-    }
-    Some(Cell {
+    Cell {
         bid: quote.bid(diameter),
         steps: quote.steps,
+        trim: quote.trim,
         rise: quote.rise,
-        back: reach.far - quote.steps as usize,
-        next: reach.far + quote.rise as usize,
-    })
+        back: far - quote.steps as usize,
+        next: far + quote.rise as usize,
+    }
 }
 
-/// Puts the cells of a price list at a diameter behind others, for the logs within reach, and tells where.
+/// Puts the row of a price list at a diameter behind others, and tells where. It reaches `far` points back.
 pub fn put_row(
     cells: &mut Vec<Cell>,
     list: &[Quote],
     diameter: u32,
-    reach: Reach,
+    far: usize,
 ) -> Result<Place, AllocError>
-    requires small { (k : ℕ) (q : Quote) → slice_get list.now k ≡ Some q → IsSmall q }
+    requires list { (k : ℕ) (q : Quote) → slice_get list.now k ≡ Some q → IsSmall q × (q.steps ≤ far) }
     requires diameter { diameter ≤ 1500 }
-    requires far { reach.far ≤ 4294967295 }
-    ensures { IfOk result (IsBehind cells.old.items (row_of list.now diameter reach) cells.new.items) }
+    requires far { far ≤ 4294967295 }
+    ensures { IfOk result (IsBehind cells.old.items (row_of far diameter list.now) cells.new.items) }
 {
-    cells.reserve(list.len().max(MOST_OFFERS))?;
+    cells.reserve(list.len())?;
     let from = cells.len();
     for quote in list {
-        if let Some(cell) = cell_at(*quote, diameter, reach) {
-            cells.push_reserved(cell);
-        }
+        cells.push_reserved(cell_at(*quote, diameter, far));
     }
     Ok(Place {
         from,
-        past: cells.len(),
+        number: list.len(),
     })
 }
 
 /// Settles a point: its value is what was offered to it, or that of the next point if this is greater. The rank becomes
 /// the choice.
 pub(crate) fn settle(values: &mut [Bid], choices: &mut [u32], point: usize)
-    requires next { point + 1 < length values.old }
-    requires room { point < length choices.old }
-    requires even { (bid_at values.old (point + 1)).rank ≡ 0 }
-    ensures number { length values.new ≡ length values.old }
-    ensures room { length choices.new ≡ length choices.old }
-    ensures others { (k : ℕ) → k ≢ point → bid_at values.new k ≡ bid_at values.old k }
-    ensures other_choices { (k : ℕ) → k ≢ point → get_or choices.new k 0 ≡ get_or choices.old k 0 }
-    ensures greater { IsGreater (bid_at values.old point) (bid_at values.old (point + 1))
-        (bid_of (bid_at values.new point).worth (get_or choices.new point 0)) }
-    ensures even { (bid_at values.new point).rank ≡ 0 }
+    requires { (p : GroundParts) × IsSearch p values.old choices.old (point + 1) 0 }
+    ensures { (p : GroundParts) → IsSearch p values.old choices.old (point + 1) 0
+        → IsSearch p values.new choices.new point point }
 {
     let value = values[point].max(values[point + 1]);
     choices[point] = value.rank();
     values[point] = value.without_rank();
 }
 
-/// Offers a cell at the top `far` to the point where its log starts.
+/// Offers the bid of a log to the point where it starts, with what the point brings where the next one can start.
 #[inline(always)]
-fn offer_near(values: &mut [Bid], far: usize, cell: Cell)
-    requires near { (0 < cell.steps) × (cell.back + cell.steps ≡ far) × (cell.next ≡ far + cell.rise) }
-    requires there { far + cell.rise < length values.old }
-    requires even { (bid_at values.old (far + cell.rise)).rank ≡ 0 }
-    requires low { cell.bid.worth + (bid_at values.old (far + cell.rise)).worth ≤ 4000000000000000 }
-    ensures number { length values.new ≡ length values.old }
-    ensures others { (i : ℕ) → i + cell.steps ≢ far → bid_at values.new i ≡ bid_at values.old i }
-    ensures raised { (i : ℕ) → i + cell.steps ≡ far
-        → IsGreater (bid_at values.old i) (plus cell.bid (bid_at values.old (far + cell.rise))) (bid_at values.new i) }
+fn offer_bid(values: &mut [Bid], start: usize, next: usize, bid: Bid)
+    requires { CanOffer start next bid values.old }
+    ensures { IsOffered start next bid values.old values.new }
 {
-    let rest = values[cell.next];
-    values[cell.back] = values[cell.back].max(cell.bid.plus(rest));
+    let rest = values[next];
+    values[start] = values[start].max(bid.plus(rest));
 }
 
-/// Offers the cells of a row at the top `far` to the points where their logs start.
+/// Offers the cells of a row at the top `far` of values, which stand behind others, where their logs start.
 fn offer_back(values: &mut [Bid], far: usize, row: &[Cell])
-    requires fit { AreFit row.now far 0 far values.old }
-    requires near { (k : ℕ) (c : Cell) → slice_get row.now k ≡ Some c → IsNear far 0 far c }
-    requires back { (k : ℕ) (c : Cell) → slice_get row.now k ≡ Some c → IsPlaced far c }
-    ensures { AreOffered row.now far 0 far (length row.now) values.old values.new }
+    requires row { (k : ℕ) (c : Cell) → slice_get row.now k ≡ Some c → (0 < c.steps) × IsPlaced far c }
+    requires open { (p : GroundParts) × (choices : List ℕ) × (front : List BidParts) × (first : ℕ)
+        × (first ≤ length front) × AllFit p (length front + far) row.now
+        × IsOpen p choices (front ++ values.old) (length front + far) first (length front + far) row.now }
+    ensures { (p : GroundParts) (choices : List ℕ) (front : List BidParts) (first : ℕ)
+        → first ≤ length front → AllFit p (length front + far) row.now
+        → IsOpen p choices (front ++ values.old) (length front + far) first (length front + far) row.now
+        → IsSearch p (front ++ values.new) choices (length front + far) first }
 {
     for cell in row {
-        offer_near(values, far, *cell);
+        offer_bid(values, cell.back, cell.next, cell.bid);
     }
 }
 
-/// Offers the cells of a row at a top to the points where their logs start, which are all among these. The row reaches
-/// `far` points back.
-fn offer_whole(values: &mut [Bid], top: usize, starts: Starts, row: &[Cell], far: usize)
-    requires order { (starts.first ≤ starts.stop) × (starts.stop ≤ top) }
-    requires far { starts.first + far ≤ top }
-    requires inside { top ≤ length values.old }
-    requires fit { AreFit row.now top starts.first starts.stop values.old }
-    requires late { (k : ℕ) (c : Cell) → slice_get row.now k ≡ Some c → top < c.steps + starts.stop }
-    requires back { (k : ℕ) (c : Cell) → slice_get row.now k ≡ Some c → IsPlaced far c }
-    ensures { AreOffered row.now top starts.first starts.stop (length row.now) values.old values.new }
+/// Offers the cells of a row at a top, which fit behind it, to those points from `first` on where their logs start.
+fn offer_short(values: &mut [Bid], top: usize, first: usize, row: &[Cell])
+    requires some { (k : ℕ) (c : Cell) → slice_get row.now k ≡ Some c → 0 < c.steps }
+    requires open { (p : GroundParts) × (choices : List ℕ) × IsOpen p choices values.old top first top row.now
+        × AllFit p top row.now }
+    ensures { (p : GroundParts) (choices : List ℕ) → IsOpen p choices values.old top first top row.now
+        → AllFit p top row.now → IsSearch p values.new choices top first }
 {
+    let most = top - first;
+    for cell in row {
+        let steps = cell.steps as usize;
+        if steps <= most {
+            offer_bid(values, top - steps, top + cell.rise as usize, cell.bid);
+        }
+    }
+}
+
+/// Offers the cells of a row at a top, which fit behind it, to those points from `first` on where their logs start. The
+/// row reaches `far` points back.
+#[inline(always)]
+pub(crate) fn offer_all(values: &mut [Bid], top: usize, first: usize, row: &[Cell], far: usize)
+    requires row { (k : ℕ) (c : Cell) → slice_get row.now k ≡ Some c → (0 < c.steps) × IsPlaced far c }
+    requires open { (p : GroundParts) × (choices : List ℕ) × IsOpen p choices values.old top first top row.now
+        × AllFit p top row.now }
+    ensures { (p : GroundParts) (choices : List ℕ) → IsOpen p choices values.old top first top row.now
+        → AllFit p top row.now → IsSearch p values.new choices top first }
+{
+    if top - first < far {
+        offer_short(values, top, first, row);
+        return;
+    }
     let (_, reached) = values.split_at_mut(top - far);
     offer_back(reached, far, row);
 }
 
-/// Offers the cells of a row at a top to those of these starts where their logs start, which are all before `stop`.
-/// Once a log is too long, those after it are too.
-fn offer_row(values: &mut [Bid], top: usize, starts: Starts, row: &[Cell])
-    requires order { (starts.first ≤ starts.stop) × (starts.stop ≤ top) }
-    requires fit { AreFit row.now top starts.first starts.stop values.old }
-    requires late { (k : ℕ) (c : Cell) → slice_get row.now k ≡ Some c → top < c.steps + starts.stop }
-    requires rows { AreByLength row.now }
-    ensures { AreOffered row.now top starts.first starts.stop (length row.now) values.old values.new }
+/// Offers the cells of a row to the points where their logs start, as far as these are within reach and fit.
+pub(crate) fn offer_some(values: &mut [Bid], reach: Reach, row: &[Cell])
+    requires open { (p : GroundParts) × (choices : List ℕ)
+        × IsOpen p choices values.old reach.top reach.first reach.stop row.now × HasRoom p reach.top reach.room }
+    ensures { (p : GroundParts) (choices : List ℕ)
+        → IsOpen p choices values.old reach.top reach.first reach.stop row.now → HasRoom p reach.top reach.room
+        → IsSearch p values.new choices reach.top reach.first }
 {
-    let most = top - starts.first;
+    let most = reach.top - reach.first;
+    let past = reach.top - reach.stop;
     for cell in row {
         let steps = cell.steps as usize;
-        if steps > most {
-            return;
-        }
-        offer_near(
-            values,
-            top,
-            Cell {
-                back: top - steps,
-                next: top + cell.rise as usize,
-                ..*cell
-            },
-        );
-    }
-}
-
-/// Offers the cells of a row at a top to those of these starts where their logs start, which are all before `stop`. The
-/// row reaches `far` points back.
-pub(crate) fn offer_starts(values: &mut [Bid], top: usize, starts: Starts, row: &[Cell], far: usize)
-    requires order { (starts.first ≤ starts.stop) × (starts.stop ≤ top) }
-    requires inside { top ≤ length values.old }
-    requires fit { AreFit row.now top starts.first starts.stop values.old }
-    requires late { (k : ℕ) (c : Cell) → slice_get row.now k ≡ Some c → top < c.steps + starts.stop }
-    requires back { (k : ℕ) (c : Cell) → slice_get row.now k ≡ Some c → IsPlaced far c }
-    requires rows { AreByLength row.now }
-    ensures { AreOffered row.now top starts.first starts.stop (length row.now) values.old values.new }
-{
-    if top - starts.first >= far {
-        offer_whole(values, top, starts, row, far);
-        return;
-    }
-    offer_row(values, top, starts, row);
-}
-
-/// Offers the logs of a price list with the top `reach.far` to the points where they start.
-fn offer_quotes(values: &mut [Bid], list: &[Quote], diameter: u32, reach: Reach)
-    requires small { (k : ℕ) (q : Quote) → slice_get list.now k ≡ Some q → IsSmall q }
-    requires diameter { diameter ≤ 1500 }
-    requires far { reach.far ≤ 4294967295 }
-    requires fit { AreFit (row_of list.now diameter reach) reach.far 0 reach.far values.old }
-    ensures { AreOffered (row_of list.now diameter reach) reach.far 0 reach.far
-        (length (row_of list.now diameter reach)) values.old values.new }
-{
-    for quote in list {
-        if let Some(cell) = cell_at(*quote, diameter, reach) {
-            offer_near(values, reach.far, cell);
+        if steps <= most {
+            if steps > past {
+                if cell.trim <= reach.room {
+                    offer_bid(
+                        values,
+                        reach.top - steps,
+                        reach.top + cell.rise as usize,
+                        cell.bid,
+                    );
+                }
+            }
         }
     }
-}
-
-/// Offers the logs of a price list with one top, `reach.far` points behind the first start, to these starts.
-pub(crate) fn offer_list(
-    values: &mut [Bid],
-    starts: Starts,
-    list: &[Quote],
-    diameter: u32,
-    reach: Reach,
-)
-    requires order { (starts.first ≤ starts.stop) × (reach.past + starts.stop ≡ starts.first + reach.far) }
-    requires inside { starts.first + reach.far ≤ length values.old }
-    requires small { (k : ℕ) (q : Quote) → slice_get list.now k ≡ Some q → IsSmall q }
-    requires diameter { diameter ≤ 1500 }
-    requires far { reach.far ≤ 4294967295 }
-    requires fit { AreFit (row_of list.now diameter reach) (starts.first + reach.far) starts.first starts.stop values.old }
-    ensures { AreOffered (row_of list.now diameter reach) (starts.first + reach.far) starts.first starts.stop
-        (length (row_of list.now diameter reach)) values.old values.new }
-{
-    let (_, reached) = values.split_at_mut(starts.first);
-    offer_quotes(reached, list, diameter, reach);
 }

@@ -1,12 +1,14 @@
 //! Planners, and the best cutting of a stem.
-ghost use Rattle.std.specs.Prelude.{◌⊎◌, ◌≡◌, ◌<◌, ◌≤◌, IfOk, IfErr, OnOk, IsTrue, length, slice_index};
+ghost use Rattle.std.specs.Prelude.{◌≡◌, ◌<◌, ◌≤◌, IfOk, IfErr, OnOk, false, length, slice_index};
 ghost use Rattle.buck_value.specs.Sheet.{IsSheet};
 ghost use Rattle.buck_value.specs.Allowed.{IsAllowed};
 ghost use Rattle.buck_value.specs.declared.log.Log.{Log};
 ghost use Rattle.buck_dp.specs.Best.{IsFirstBest, cutting_worth};
 ghost use Rattle.buck_value.specs.Sheet.{SheetParts};
 ghost use Rattle.buck_dp.specs.declared.menu.Menu.{Menu};
-ghost use Rattle.buck_dp.specs.inner.Menu.{IsMenu};
+ghost use Rattle.buck_apt.specs.Instruction.{InstructionParts};
+ghost use Rattle.buck_dp.specs.inner.Takers.{AreKnown};
+ghost use Rattle.buck_dp.specs.inner.Kept.{AreKept};
 ghost use Rattle.buck_dp.specs.inner.Site.{IsReady};
 
 use crate::cutting::Cutting;
@@ -15,7 +17,6 @@ use crate::keeping::{Kept, Market};
 use crate::kinds::Kinds;
 use crate::menu::Menu;
 use crate::planning::{Memo, Site, fit_of, search_stem};
-use crate::search::Search;
 use buck_record::Memory;
 use buck_stem::{Profile, ProfileLists, Stem};
 use buck_value::Sheet;
@@ -51,13 +52,15 @@ impl Model for Planner {
 }
 
 /// Whether some assortment takes the stem's species.
+#[tactic(auto, using(buck_bid::proofs::ListLemmas::read_at, std::proofs::lemmas::Option::slice_get_within))]
 fn is_wanted(sheet: &Sheet, stem: &Stem) -> bool
-    ensures wanted { IsTrue result ⊎ ((g : Log) → IsAllowed sheet.now.instruction stem.now g → ⊥) }
+    ensures wanted { result ≡ false → (g : Log) → IsAllowed sheet.now.instruction stem.now g → ⊥ }
     ensures valid { IsSheet sheet.now }
 {
     let species = stem.species();
-    for assortment in sheet.instruction().assortments() {
-        if assortment.species() == species {
+    let all = sheet.instruction().assortments();
+    for place in 0..all.len() {
+        if all[place].species() == species {
             return true;
         }
     }
@@ -72,16 +75,18 @@ fn own_of(alloc: Global, sheet: &Sheet) -> Result<Own, Memory>
     let memo = Memo {
         kinds: Kinds::new(alloc),
         kept: Kept::new(alloc),
-        is_first: true,
         profile: ProfileLists::new(alloc),
-        search: Search::new(alloc),
+        parts: Vec::new(alloc),
+        values: Vec::new(alloc),
+        choices: Vec::new(alloc),
     };
     Ok(Own { menu, memo })
 }
 
 /// Drops what was found of wood and of prices.
 fn drop_found(memo: &mut Memo)
-    ensures { (s : SheetParts) (m : Menu) → IsMenu s.instruction m → IsReady s m memo.new }
+    ensures kinds { (i : InstructionParts) → AreKnown i memo.new.kinds }
+    ensures kept { (s : SheetParts) (m : Menu) → AreKept s m memo.new.kept }
 {
     memo.kinds.clear();
     memo.kept.clear();
@@ -117,19 +122,11 @@ fn cut_wanted(
         stem,
         profile: &profile,
         fit: fit_of(sheet, stem, menu.most_trim),
-        is_first: memo.is_first,
     };
     make_room(memo);
-    search_stem(site, memo)?;
-    let logs = follow(
-        alloc,
-        sheet,
-        stem,
-        menu.offers.as_slice(),
-        &memo.search.choices,
-    )?;
-    let worth = memo.search.worth();
-    memo.is_first = false;
+    search_stem(alloc, site, memo)?;
+    let logs = follow(alloc, sheet, stem, menu.offers.as_slice(), &memo.choices)?;
+    let worth = memo.values[0].worth();
     memo.profile = profile.into_lists();
     Ok((Cutting { logs }, worth))
 }
@@ -164,7 +161,6 @@ fn best_under(
 
 /// Makes what is kept for a sheet right for another one. What depends on the instruction alone stays where both have the
 /// same.
-#[tactic(auto, using(crate::proofs::KeptLemmas::prices_dropped))]
 fn turn_to(alloc: Global, own: &mut Own, from: &Sheet, to: &Sheet) -> Result<(), Memory>
     requires { IsReady from.now own.old.menu own.old.memo }
     ensures turned { OnOk result (IsReady to.now own.new.menu own.new.memo) }
@@ -172,7 +168,6 @@ fn turn_to(alloc: Global, own: &mut Own, from: &Sheet, to: &Sheet) -> Result<(),
 {
     if to.instruction().same(from.instruction()) {
         own.memo.kept.clear_prices();
-        own.memo.is_first = true;
         return Ok(());
     }
     *own = own_of(alloc, to)?;

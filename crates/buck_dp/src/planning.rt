@@ -1,34 +1,32 @@
 //! The search of a stem: from the top end down one top at a time, and for each the logs with it, by the parts of their
 //! starts.
-ghost use Rattle.std.specs.Prelude.{◌≡◌, ℕ, ◌+◌, ◌-◌, ◌*◌, ◌<◌, ◌≤◌, IfOk, OnOk, length};
+ghost use Rattle.std.specs.Prelude.{◌≡◌, ℕ, ◌+◌, ◌*◌, ◌<◌, ◌≤◌, IfOk, OnOk};
 ghost use Rattle.buck_stem.specs.Stem.{stem_length};
 ghost use Rattle.buck_dp.specs.inner.Points.{points_of};
-ghost use Rattle.buck_dp.specs.inner.Logs.{HasNoneOf};
-ghost use Rattle.buck_bid.specs.Offers.{codes_in};
-ghost use Rattle.buck_dp.specs.inner.Quotes.{IsRow};
-ghost use Rattle.buck_dp.specs.inner.Kept.{all_of};
-ghost use Rattle.buck_dp.specs.inner.Searched.{IsSearch};
-ghost use Rattle.buck_dp.specs.inner.Site.{IsSite, IsReady, IsPlan, IsDone, IsPartTo, IsNearest, IsDiameterAt, ground_of};
+ghost use Rattle.buck_dp.specs.inner.Logs.{HasNoLogs};
+ghost use Rattle.buck_dp.specs.inner.Site.{IsSite, IsReady, IsPlan, IsEven, HaveParts, IsNearest, IsPartTo, ground_of};
+ghost use Rattle.buck_dp.specs.declared.planning.Site.{Site};
+ghost use Rattle.buck_dp.specs.declared.planning.Part.{Part};
 ghost use Rattle.buck_dp.specs.inner.Takers.{AreKnown};
 
+use crate::bid::Bid;
+use crate::index::Place;
 use crate::keeping::{Kept, Market};
 use crate::kinds::{Group, Kinds};
-use crate::offering::{Cell, Reach};
-use crate::search::Search;
+use crate::offering::{Reach, offer_all, offer_some, settle};
 use crate::takers::Kind;
 use buck_record::Memory;
 use buck_stem::{Profile, ProfileLists, Stem};
 use buck_value::Sheet;
+use std::alloc::{AllocError, Global};
 
-/// A stem at its points, the sheet under which it is cut, and whether it is the first stem under that. Each trim fits
-/// behind the tops before point `fit`.
+/// A stem at its points, and the sheet under which it is cut. Each trim fits behind the tops before point `fit`.
 #[derive(Clone, Copy)]
 pub struct Site<'a> {
     pub market: Market<'a>,
     pub stem: &'a Stem,
     pub profile: &'a Profile<'a>,
     pub fit: usize,
-    pub is_first: bool,
 }
 
 /// What is kept from stem to stem.
@@ -36,11 +34,12 @@ pub struct Site<'a> {
 pub struct Memo {
     pub kinds: Kinds,
     pub kept: Kept,
-    /// Whether no stem was searched under the sheet.
-    pub is_first: bool,
     /// The lists of a plan. What they hold of the one before is of no account.
     pub profile: ProfileLists,
-    pub search: Search,
+    pub parts: Vec<Part>,
+    pub values: Vec<Bid>,
+    /// The rank of the first log of the best from each point on, 0 where none starts there.
+    pub choices: Vec<u32>,
 }
 
 /// The starts from point `first` on and before another: the same assortments take the wood from these to a top.
@@ -48,14 +47,6 @@ pub struct Memo {
 pub struct Part {
     pub first: usize,
     pub group: Group,
-}
-
-/// The starts nearest to the tops of a run, the first of these tops, and the first from which on all logs start there.
-#[derive(Clone, Copy)]
-pub struct Near {
-    pub part: Part,
-    pub last: usize,
-    pub low: usize,
 }
 
 /// The point before which each trim fits behind a top.
@@ -111,210 +102,182 @@ fn part_before(site: Site<'_>, kinds: &mut Kinds, top: usize, stop: usize) -> Re
     Ok(part)
 }
 
-/// The first top at or after the first of a run from which on all logs start in a part, the nearest to the run.
-fn low_of(site: Site<'_>, kinds: &mut Kinds, part: Part, last: usize) -> Result<usize, Memory>
-    requires site { IsSite site }
-    requires order { part.first ≤ last }
-    requires top { last < points_of (ground_of site) }
-    requires known { AreKnown site.market.sheet.now.instruction kinds.old }
-    ensures known { OnOk result (AreKnown site.entry.market.sheet.now.instruction kinds.new) }
-    ensures low { IfOk result (λ n. last ≤ n) }
-    ensures all { IfOk result (λ n. (t : ℕ) → n ≤ t → HasNoneOf (ground_of site.entry) part.first t) }
+/// Finds the parts of the starts of logs with the tops from `last` on and before `past`, which lie behind the steps of one
+/// run: from the nearest part on. No log starts before the last part.
+fn find_parts(site: Site<'_>, memo: &mut Memo, last: usize, past: usize) -> Result<(), Memory>
+    requires plan { IsPlan site memo.old past }
+    requires run { (0 < last) × (last < past) }
+    requires even { IsEven site last past }
+    ensures plan { OnOk result (IsPlan site.entry memo.new past) }
+    ensures parts { OnOk result (HaveParts site.entry last past memo.new.parts.items) }
 {
-    if part.first == 0 {
-        return Ok(last);
-    }
-    let behind = run_before(site, kinds, last, part.first)?;
-    if behind.group.takers.is_empty() {
-        return Ok(last);
-    }
-    Ok(last.max(part.first.saturating_add(site.market.menu.most_steps)))
-}
-
-/// The starts nearest to the tops of the run whose last top is given.
-fn near_part(site: Site<'_>, kinds: &mut Kinds, high: usize) -> Result<Near, Memory>
-    requires site { IsSite site }
-    requires high { (0 < high) × (high < points_of (ground_of site)) }
-    requires known { AreKnown site.market.sheet.now.instruction kinds.old }
-    ensures known { OnOk result (AreKnown site.entry.market.sheet.now.instruction kinds.new) }
-    ensures near { IfOk result (IsNearest site.entry high) }
-{
-    let last = site.profile.run_start(high - 1) + 1;
-    let part = part_before(site, kinds, last, last)?;
-    let low = low_of(site, kinds, part, last)?;
-    Ok(Near { part, last, low })
-}
-
-/// How many mm of a stem lie behind a top.
-#[inline(always)]
-#[tactic(auto, using(crate::proofs::SiteLemmas::point_reached))]
-fn left_behind(site: Site<'_>, top: usize) -> u32
-    requires site { IsSite site }
-    requires top { top < points_of (ground_of site) }
-    ensures { result + top * site.entry.market.sheet.now.instruction.module ≡ stem_length site.entry.stem.now.samples }
-{
-    site.stem.length() - top as u32 * site.market.sheet.instruction().module()
-}
-
-/// Offers the logs with the top that was settled last, which all start in one part and whose trims fit, from the row of
-/// that part at the top's diameter.
-#[inline(always)]
-fn offer_cells(site: Site<'_>, search: &mut Search, part: Part, diameter: u32, cells: &[Cell])
-    requires site { IsSite site }
-    requires search { IsSearch (ground_of site) search.old }
-    requires stop { search.old.stop ≡ search.old.from }
-    requires room { search.old.from < site.fit }
-    requires part { IsPartTo site search.old.from search.old.from part }
-    requires all { HasNoneOf (ground_of site) part.first search.old.from }
-    requires diameter { IsDiameterAt site search.old.from diameter }
-    requires cells { IsRow site.market.sheet.now (codes_in site.market.menu.now.offers.items)
-        (length site.market.menu.now.offers.items) part.group.takers diameter (all_of site.market.menu.now) cells.now }
-    ensures search { IsSearch (ground_of site.entry) search.new }
-    ensures from { search.new.from ≡ search.old.from }
-    ensures stop { search.new.stop ≡ 0 }
-{
-    search.offer_part(part.first, cells, site.market.menu.most_steps);
-    search.close_top();
-}
-
-/// Offers the logs with the top that was settled last, and goes on with the tops before it for as long as they have its
-/// diameter and all of their logs start in one part: one row serves them all. Each trim fits.
-#[inline(always)]
-fn offer_same(site: Site<'_>, search: &mut Search, near: Near, diameter: u32, cells: &[Cell])
-    requires site { IsSite site }
-    requires search { IsSearch (ground_of site) search.old }
-    requires stop { search.old.stop ≡ search.old.from }
-    requires room { search.old.from < site.fit }
-    requires low { near.low ≤ search.old.from }
-    requires near { IsNearest site search.old.from near }
-    requires diameter { IsDiameterAt site search.old.from diameter }
-    requires cells { IsRow site.market.sheet.now (codes_in site.market.menu.now.offers.items)
-        (length site.market.menu.now.offers.items) near.part.group.takers diameter (all_of site.market.menu.now)
-        cells.now }
-    ensures search { IsSearch (ground_of site.entry) search.new }
-    ensures from { (near.low ≤ search.new.from) × (search.new.from ≤ search.old.from) }
-    ensures stop { search.new.stop ≡ 0 }
-{
-    let diameters = site.profile.diameters();
-    offer_cells(site, search, near.part, diameter, cells);
-    while search.from > near.low && diameters[search.from - 1] == diameter {
-        search.settle_top();
-        offer_cells(site, search, near.part, diameter, cells);
-    }
-}
-
-/// Offers the logs with the top that was settled last from a row that is kept, and goes on with the tops that it serves.
-#[inline(always)]
-fn offer_kept(site: Site<'_>, memo: &mut Memo, near: Near) -> Result<(), Memory>
-    requires plan { IsPlan site memo.old }
-    requires stop { memo.old.search.stop ≡ memo.old.search.from }
-    requires room { memo.old.search.from < site.fit }
-    requires low { near.low ≤ memo.old.search.from }
-    requires near { IsNearest site memo.old.search.from near }
-    ensures { OnOk result (IsDone site.entry near.last memo.old.search.from memo.new) }
-{
-    let diameter = site.profile.diameters()[memo.search.from];
-    let place = memo.kept.row(site.market, near.part.group, diameter)?;
-    let cells = memo.kept.cells(place);
-    offer_same(site, &mut memo.search, near, diameter, cells);
-    Ok(())
-}
-
-/// Offers the logs with the top that was settled last that start in a part, from a price list.
-fn offer_part(site: Site<'_>, memo: &mut Memo, part: Part) -> Result<(), Memory>
-    requires plan { IsPlan site memo.old }
-    requires part { IsPartTo site memo.old.search.from memo.old.search.stop part }
-    ensures plan { OnOk result (IsPlan site.entry memo.new) }
-    ensures from { OnOk result (memo.new.search.from ≡ memo.old.search.from) }
-    ensures stop { OnOk result (memo.new.search.stop ≡ part.first) }
-{
-    let top = memo.search.from;
-    let diameters = site.profile.diameters();
-    let diameter = diameters[top];
-    let reach = Reach {
-        past: top - memo.search.stop,
-        far: top - part.first,
-        room: left_behind(site, top).min(site.market.menu.most_trim),
-    };
-    let place = memo.kept.list(site.market, part.group, diameter)?;
-    let list = memo.kept.quotes(place);
-    memo.search.offer_list(part.first, list, diameter, reach);
-    Ok(())
-}
-
-/// Offers the logs with the top that was settled last from the starts to which they aren't offered yet.
-fn offer_rest(site: Site<'_>, memo: &mut Memo) -> Result<(), Memory>
-    requires { IsPlan site memo.old }
-    ensures { OnOk result (IsDone site.entry memo.old.search.from memo.old.search.from memo.new) }
-{
-    let top = memo.search.from;
-    let low = top.saturating_sub(site.market.menu.most_steps);
-    while memo.search.stop > low {
-        let part = part_before(site, &mut memo.kinds, top, memo.search.stop)?;
+    let low = last.saturating_sub(site.market.menu.most_steps);
+    let mut stop = last;
+    memo.parts.clear();
+    while stop > low {
+        let part = part_before(site, &mut memo.kinds, last, stop)?;
         if part.group.takers.is_empty() {
-            memo.search.close_top();
             return Ok(());
         }
-        offer_part(site, memo, part)?;
+        memo.parts.push(part)?;
+        stop = part.first;
     }
-    memo.search.close_top();
     Ok(())
 }
 
-/// Offers the logs with the top that was settled last, of which the nearest starts are known. Where one row serves them, it
-/// goes on with the tops before it. For one top of the first stem under a sheet no row is drawn.
-fn offer_top(site: Site<'_>, memo: &mut Memo, near: Near) -> Result<(), Memory>
-    requires plan { IsPlan site memo.old }
-    requires stop { memo.old.search.stop ≡ memo.old.search.from }
-    requires low { near.last ≤ memo.old.search.from }
-    requires near { IsNearest site memo.old.search.from near }
-    ensures { OnOk result (IsDone site.entry near.last memo.old.search.from memo.new) }
+/// Settles the tops before `past` down to `last`, which no log has.
+fn settle_tops(memo: &mut Memo, past: usize, last: usize)
+    requires order { last ≤ past }
+    requires plan { (x : Site) × IsPlan x memo.old past × HasNoLogs (ground_of x) last past }
+    ensures { (x : Site) → IsPlan x memo.old past → HasNoLogs (ground_of x) last past → IsPlan x memo.new last }
 {
-    let top = memo.search.from;
-    if top < site.market.menu.least_steps {
-        memo.search.close_top();
-        return Ok(());
+    let values = memo.values.as_mut_slice();
+    let choices = memo.choices.as_mut_slice();
+    let mut top = past;
+    while top > last {
+        top -= 1;
+        settle(values, choices, top);
     }
-    if near.part.group.takers.is_empty() {
-        memo.search.close_top();
-        return Ok(());
+}
+
+/// Settles the tops before `past` down to `last`, and offers the logs with these, which all start in the nearest part
+/// and fit.
+#[inline(never)]
+fn search_near(
+    alloc: Global,
+    site: Site<'_>,
+    memo: &mut Memo,
+    near: Part,
+    past: usize,
+    last: usize,
+) -> Result<(), Memory>
+    requires order { last ≤ past }
+    requires plan { IsPlan site memo.old past }
+    requires near { (t : ℕ) → last ≤ t → t < past → IsNearest site near t }
+    ensures plan { OnOk result (IsPlan site.entry memo.new last) }
+    ensures parts { memo.new.parts ≡ memo.old.parts }
+{
+    let far = site.market.menu.most_steps;
+    let diameters = site.profile.diameters();
+    let kept = &mut memo.kept;
+    let values = memo.values.as_mut_slice();
+    let choices = memo.choices.as_mut_slice();
+    let mut top = past;
+    // The diameter whose row was used last. No stem has so great a one.
+    let mut known = u32::MAX;
+    let mut row = Place { from: 0, number: 0 };
+    while top > last {
+        top -= 1;
+        settle(values, choices, top);
+        let diameter = diameters[top];
+        if diameter != known {
+            row = kept.row(alloc, site.market, near.group, diameter)?;
+            known = diameter;
+        }
+        offer_all(values, top, near.first, kept.cells(row), far);
     }
-    if top < site.fit && near.low <= top {
-        let diameters = site.profile.diameters();
-        if !site.is_first || diameters[top - 1] == diameters[top] {
-            return offer_kept(site, memo, near);
+    Ok(())
+}
+
+/// Settles the tops before `past` down to `last`, and offers the logs with these part by part.
+#[tactic(auto, using(crate::proofs::SiteLemmas::point_reached))]
+fn search_parts(
+    alloc: Global,
+    site: Site<'_>,
+    memo: &mut Memo,
+    past: usize,
+    last: usize,
+) -> Result<(), Memory>
+    requires order { last ≤ past }
+    requires plan { IsPlan site memo.old past }
+    requires parts { HaveParts site last past memo.old.parts.items }
+    ensures plan { OnOk result (IsPlan site.entry memo.new last) }
+    ensures parts { memo.new.parts ≡ memo.old.parts }
+{
+    let module = site.market.sheet.instruction().module();
+    let diameters = site.profile.diameters();
+    let kept = &mut memo.kept;
+    let parts = memo.parts.as_slice();
+    let values = memo.values.as_mut_slice();
+    let choices = memo.choices.as_mut_slice();
+    let mut top = past;
+    while top > last {
+        top -= 1;
+        settle(values, choices, top);
+        let room = site.stem.length() - top as u32 * module;
+        let mut stop = top;
+        for part in parts {
+            let row = kept.row(alloc, site.market, part.group, diameters[top])?;
+            let reach = Reach {
+                top,
+                first: part.first,
+                stop,
+                room,
+            };
+            offer_some(values, reach, kept.cells(row));
+            stop = part.first;
         }
     }
-    offer_part(site, memo, near.part)?;
-    offer_rest(site, memo)
+    Ok(())
 }
 
-/// Searches the tops behind the steps of one run.
-#[inline(never)]
-fn search_run(site: Site<'_>, memo: &mut Memo) -> Result<(), Memory>
-    requires plan { IsPlan site memo.old }
-    requires from { 1 < memo.old.search.from }
-    requires stop { memo.old.search.stop ≡ 0 }
-    ensures { OnOk result (IsDone site.entry 1 (memo.old.search.from - 1) memo.new) }
+/// Searches the tops behind the steps of one run, those before `past`. Tells the first of them.
+fn search_run(alloc: Global, site: Site<'_>, memo: &mut Memo, past: usize) -> Result<usize, Memory>
+    requires plan { IsPlan site memo.old past }
+    requires past { 1 < past }
+    ensures { IfOk result (λ last. IsPlan site.entry memo.new last × (0 < last) × (last < past)) }
 {
-    let near = near_part(site, &mut memo.kinds, memo.search.from - 1)?;
-    while memo.search.from > near.last {
-        memo.search.settle_top();
-        offer_top(site, memo, near)?;
+    let last = site.profile.run_start(past - 2) + 1;
+    find_parts(site, memo, last, past)?;
+    let number = memo.parts.len();
+    if number == 0 {
+        settle_tops(memo, past, last);
+        return Ok(last);
     }
-    Ok(())
+    let near = memo.parts[0];
+    // From the top `least` on there are logs, and from `full` on all of them start in the nearest part.
+    let least = memo.parts[number - 1]
+        .first
+        .saturating_add(site.market.menu.least_steps);
+    let full = if number == 1 {
+        least
+    } else {
+        near.first.saturating_add(site.market.menu.most_steps)
+    };
+    let fitting = past.min(site.fit).max(last);
+    let nearest = fitting.min(full).max(last);
+    let some = nearest.min(least).max(last);
+    search_parts(alloc, site, memo, past, fitting)?;
+    search_near(alloc, site, memo, near, fitting, nearest)?;
+    search_parts(alloc, site, memo, nearest, some)?;
+    settle_tops(memo, some, last);
+    Ok(last)
+}
+
+/// Begins at the top end of a stem, behind its last point, whatever the lists hold. Tells how many points there are.
+fn start(site: Site<'_>, memo: &mut Memo) -> Result<usize, AllocError>
+    requires site { IsSite site }
+    requires ready { IsReady site.market.sheet.now site.market.menu.now memo.old }
+    ensures { IfOk result (λ top. IsPlan site.entry memo.new top × (0 < top)) }
+{
+    let points = site.profile.points();
+    memo.values.clear();
+    memo.values.resize(points + 1, Bid::none())?;
+    memo.choices.resize(points + 1, 0)?;
+    memo.choices[points] = 0;
+    Ok(points)
 }
 
 /// Searches a stem from the top end down to the butt.
-pub fn search_stem(site: Site<'_>, memo: &mut Memo) -> Result<(), Memory>
+pub fn search_stem(alloc: Global, site: Site<'_>, memo: &mut Memo) -> Result<(), Memory>
     requires site { IsSite site }
     requires ready { IsReady site.market.sheet.now site.market.menu.now memo.old }
-    ensures { OnOk result (IsDone site.entry 0 0 memo.new) }
+    ensures { OnOk result (IsPlan site.entry memo.new 0) }
 {
-    memo.search.start(site.market.sheet, site.stem)?;
-    while memo.search.from > 1 {
-        search_run(site, memo)?;
+    let mut top = start(site, memo)?;
+    while top > 1 {
+        top = search_run(alloc, site, memo, top)?;
     }
-    memo.search.settle_top();
+    settle_tops(memo, top, 0);
     Ok(())
 }

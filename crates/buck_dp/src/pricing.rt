@@ -1,5 +1,5 @@
 //! Price lists: what the logs of some takers are bid by length and trim, at each diameter of a band.
-ghost use Rattle.std.specs.Prelude.{◌≡◌, ℕ, ◌+◌, ◌-◌, ◌*◌, ◌/◌, ◌<◌, ◌≤◌, ◌⊎◌, ◌++◌, ◌∷◌, [], IfOk, IfSome, IfNone, IsTrue, List, Option, length, slice_get, slice_index, vec_len, vec_capacity};
+ghost use Rattle.std.specs.Prelude.{◌≡◌, ℕ, ◌+◌, ◌-◌, ◌*◌, ◌/◌, ◌<◌, ◌≤◌, ◌⊎◌, ◌++◌, ◌∷◌, [], IfOk, OnOk, IfSome, IfNone, IsTrue, List, Option, length, slice_get, slice_index};
 ghost use Rattle.buck_apt.specs.Instruction.{classes};
 ghost use Rattle.buck_value.specs.Sheet.{IsSheet};
 ghost use Rattle.buck_bid.specs.Offers.{codes_in, AreOffers};
@@ -8,19 +8,15 @@ ghost use Rattle.buck_bid.specs.Prices.{IsPricing, HasNoPrice};
 ghost use Rattle.buck_dp.specs.inner.Index.{IsBehind};
 ghost use Rattle.buck_dp.specs.inner.Points.{point_after};
 ghost use Rattle.buck_dp.specs.inner.Takers.{IsTaker};
-ghost use Rattle.buck_dp.specs.inner.Quotes.{quote_bid, priced_at, IsSmall, IsOver, IsLeading, IsPut, IsTermOf, IsNoTerm, AreTerms, AreQuotes};
+ghost use Rattle.buck_dp.specs.inner.Quotes.{quote_bid, priced_at, IsSmall, IsLed, IsLeading, IsPut, nobody_of, term_for, IsTermAt, AreTerms, AreQuotes};
 
 use crate::bid::Bid;
 use crate::ends::point_from;
-use crate::index::Place;
 use crate::takers::Takers;
 use buck_apt::Instruction;
 use buck_bid::{Band, Offer, Pricing, pricing_of};
 use buck_value::{Sheet, volume_of, worth_of_piece};
-use std::alloc::AllocError;
-
-/// No instruction offers more logs. Room for so many is made at once, of which a list or a row takes what it needs.
-pub const MOST_OFFERS: usize = 512;
+use std::alloc::{AllocError, Global};
 
 /// What an assortment bids for its logs of one length at each diameter of a band: a price per cubic metre or per piece,
 /// by the kind.
@@ -50,15 +46,6 @@ pub struct Ask {
 pub struct Term {
     pub class: usize,
     pub quote: Quote,
-}
-
-/// The quote that leads a price list. It outbids what is priced per cubic metre, where price by length is less than its
-/// bar, and what is priced per piece, where that is worth less than its least bid.
-#[derive(Clone, Copy)]
-struct Leader {
-    quote: Quote,
-    bar: u64,
-    least: u64,
 }
 
 impl Quote {
@@ -91,13 +78,7 @@ impl Term {
 #[tactic(auto, using(buck_bid::proofs::ListLemmas::read_at))]
 fn term_of(instruction: &Instruction, offer: Offer, rank: u32, pricing: Pricing) -> Term
     requires assortment { offer.assortment < length instruction.now.assortments }
-    ensures class { result.class ≡ pricing.class }
-    ensures kind { result.quote.kind ≡ pricing.kind }
-    ensures rank { result.quote.rank ≡ rank }
-    ensures length { result.quote.length ≡ offer.length }
-    ensures steps { result.quote.steps ≡ offer.length / instruction.now.module }
-    ensures trim { IfSome (slice_get instruction.now.assortments offer.assortment) (λ x. x.trim ≡ result.quote.trim) }
-    ensures rise { result.quote.rise ≡ point_after instruction.now.module result.quote.trim }
+    ensures { result ≡ term_for instruction.now offer rank pricing }
 {
     let module = instruction.module();
     let trim = instruction.assortments()[offer.assortment].trim();
@@ -120,8 +101,7 @@ fn term_at(instruction: &Instruction, offers: &[Offer], place: usize, ask: Ask) 
     requires offers { AreOffers instruction.now offers.now }
     requires band { IsBandOf instruction.now ask.band.thinnest ask.band.past }
     requires place { place < length offers.now }
-    ensures some { IfSome result (IsTermOf instruction.now (codes_in offers.now) ask place) }
-    ensures none { IfNone result (IsNoTerm instruction.now (codes_in offers.now) ask place) }
+    ensures { IsTermAt instruction.now (codes_in offers.now) ask place result }
 {
     let offer = offers[place];
     if !ask.takers.contains(offer.assortment) {
@@ -133,160 +113,118 @@ fn term_at(instruction: &Instruction, offers: &[Offer], place: usize, ask: Ask) 
     }
 }
 
-/// Puts the terms of some takers in a band behind others, offer by offer, and tells where.
-pub fn put_terms(
-    terms: &mut Vec<Option<Term>>,
+/// The terms of some takers in a band, offer by offer.
+#[tactic(auto, using(crate::proofs::QuoteLemmas::terms_put))]
+pub fn terms_of(
+    alloc: Global,
     instruction: &Instruction,
     offers: &[Offer],
     ask: Ask,
-) -> Result<Place, AllocError>
+) -> Result<Vec<Option<Term>>, AllocError>
     requires offers { AreOffers instruction.now offers.now }
     requires band { IsBandOf instruction.now ask.band.thinnest ask.band.past }
-    ensures { IfOk result (λ p. (more : List (Option Term)) × IsBehind terms.old.items more terms.new.items p
-        × AreTerms instruction.now (codes_in offers.now) ask (length offers.now) more) }
+    ensures { IfOk result (λ terms. AreTerms instruction.now (codes_in offers.now) ask (length offers.now) terms.items) }
 {
-    let from = terms.len();
+    let mut terms = Vec::new(alloc);
     for place in 0..offers.len() {
         let term = term_at(instruction, offers, place, ask);
         terms.push(term)?;
     }
-    Ok(Place {
-        from,
-        past: terms.len(),
-    })
+    Ok(terms)
 }
 
-/// A price for each millimetre of a log and each unit of its top's area.
-fn price_per_area(quote: Quote) -> u64
-    requires small { IsSmall quote }
-    ensures value { result ≡ quote.price * quote.length }
-    ensures low { result ≤ 600000000000 }
-{
-    u64::from(quote.price) * u64::from(quote.length)
-}
-
-/// A quote as a leader. A whole volume may be less than the true one by one cubic centimetre, hence the price that is
-/// taken off.
-fn leader_of(quote: Quote, ask: Ask) -> Leader
-    requires small { IsSmall quote }
-    requires band { (ask.band.thinnest < ask.band.past) × (ask.band.past ≤ 2001) }
-    ensures quote { result.quote ≡ quote }
-    ensures leads { IsLeading ask result }
-{
-    let least = quote.bid(ask.band.thinnest).worth();
-    if quote.kind != 1 {
-        let area = volume_of(ask.band.past - 1, 1) + 1;
-        return Leader {
-            quote,
-            bar: least / area,
-            least,
-        };
-    }
-    let area = volume_of(ask.band.thinnest, 1);
-    if area == 0 {
-        return Leader {
-            quote,
-            bar: 0,
-            least,
-        };
-    }
-    let most = area * price_per_area(quote);
-    Leader {
-        quote,
-        bar: most.saturating_sub(u64::from(quote.price)) / area,
-        least,
-    }
-}
-
-/// Whether a leader outbids a quote at another price.
+/// Whether a leader outbids a quote of its price kind at each diameter, for logs that are no longer and with no more trim.
+/// Priced per cubic metre it does wherever logs are 36 mm thick or more: there a millimetre of a log is more than the
+/// cubic centimetre that a whole volume may lack.
 #[inline(always)]
-fn is_led(quote: &Quote, price: u32, leader: &Leader) -> bool
-    ensures { IsTrue result → (ask : Ask) → IsLeading ask leader.now
-        → IsOver ask leader.now.quote (priced_at quote.now price) }
+fn is_led(leader: &Quote, quote: &Quote) -> bool
+    ensures { IsTrue result → IsLed leader.now quote.now }
 {
-    if leader.quote.trim > quote.trim {
+    if leader.trim > quote.trim || leader.steps > quote.steps {
         return false;
     }
-    if leader.quote.steps > quote.steps {
-        return false;
+    if leader.kind != 1 {
+        return quote.kind != 1 && quote.price < leader.price;
     }
-    if quote.kind == 1 {
-        return u64::from(price) * u64::from(quote.length) < leader.bar;
-    }
-    u64::from(price) * 1_000_000 < leader.least
+    quote.kind == 1
+        && u64::from(quote.price) * u64::from(quote.length) + u64::from(leader.price)
+            < u64::from(leader.price) * u64::from(leader.length)
 }
 
-/// Puts a quote behind others, of which those from a place on are its list's. It leads these, unless it has more trim.
-/// Where it outbids the last, it takes its place.
-fn put_quote(list: &mut Vec<Quote>, from: usize, leader: &mut Leader, quote: Quote, ask: Ask)
-    requires room { vec_len list.old < vec_capacity list.old }
-    requires small { IsSmall quote }
-    requires leader { IsLeading ask leader.old }
-    requires band { (ask.band.thinnest < ask.band.past) × (ask.band.past ≤ 2001) }
-    ensures put { IsPut ask quote from list.old.items list.new.items }
-    ensures next { (leader.new ≡ leader.old) ⊎ (leader.new.quote ≡ quote) }
-    ensures leader { IsLeading ask leader.new }
-    ensures number { vec_len list.new ≤ vec_len list.old + 1 }
-    ensures capacity { vec_capacity list.new ≡ vec_capacity list.old }
+/// Puts a quote behind others, unless their leader outbids it. It leads these then, unless it has more trim. Where it
+/// outbids the last, that goes.
+#[inline(always)]
+fn put_quote(
+    list: &mut Vec<Quote>,
+    leader: &mut Quote,
+    quote: Quote,
+    ask: Ask,
+) -> Result<(), AllocError>
+    ensures put { OnOk result (IsPut ask leader.old quote list.old.items list.new.items) }
+    ensures next { OnOk result ((leader.new ≡ leader.old) ⊎ ((leader.new ≡ quote) × IsLeading ask quote)) }
 {
-    if quote.trim > leader.quote.trim {
-        list.push_reserved(quote);
-        return;
+    if is_led(leader, &quote) {
+        return Ok(());
     }
-    *leader = leader_of(quote, ask);
-    let number = list.len();
-    if number > from {
-        let last = list[number - 1];
-        if is_led(&last, last.price, leader) {
-            list[number - 1] = quote;
-            return;
+    let mut number = list.len();
+    if quote.trim <= leader.trim && (quote.kind != 1 || ask.band.thinnest >= 36) {
+        *leader = quote;
+        if number > 0 {
+            let last = list[number - 1];
+            if is_led(&quote, &last) {
+                number -= 1;
+            }
         }
     }
-    list.push_reserved(quote);
+    list.truncate(number);
+    list.push(quote)?;
+    Ok(())
 }
 
-/// Puts a price list behind others: the quotes of some takers in a band, by their length, from their terms, without
-/// those that one outbids in the whole band whose log is no longer. Tells where.
-#[inline(never)]
-pub fn put_list(
-    quotes: &mut Vec<Quote>,
-    sheet: &Sheet,
-    terms: &[Option<Term>],
-    ask: Ask,
-) -> Result<Place, AllocError>
-    requires valid { IsSheet sheet.now }
-    requires band { (ask.band.thinnest < ask.band.past) × (ask.band.past ≤ 2001) }
-    requires terms { (codes : List ℕ) × AreTerms sheet.now.instruction codes ask (length terms.now) terms.now }
-    ensures { IfOk result (λ p. (list : List Quote) × IsBehind quotes.old.items list quotes.new.items p
-        × ((codes : List ℕ) → AreTerms sheet.now.instruction codes ask (length terms.now) terms.now
-        → AreQuotes sheet.now codes ask (length terms.now) list)) }
+/// Nobody, to lead quotes of a price kind.
+fn nobody(kind: u8) -> Quote
+    ensures { result ≡ nobody_of kind }
 {
-    quotes.reserve(terms.len().max(MOST_OFFERS))?;
-    let from = quotes.len();
-    let nobody = Quote {
-        kind: 0,
+    Quote {
+        kind,
         price: 0,
         rank: 0,
         length: 0,
         steps: 0,
         trim: u32::MAX,
         rise: 0,
-    };
-    let mut leader = leader_of(nobody, ask);
-    let prices = sheet.prices();
+    }
+}
+
+/// Puts a price list in the place of another: the quotes of some takers in a band, from their terms, without those that
+/// one of their price kind outbids in the whole band whose log is no longer.
+#[inline(never)]
+pub fn put_list(
+    quotes: &mut Vec<Quote>,
+    sheet: &Sheet,
+    terms: &[Option<Term>],
+    ask: Ask,
+) -> Result<(), AllocError>
+    requires valid { IsSheet sheet.now }
+    requires terms { (codes : List ℕ) × AreTerms sheet.now.instruction codes ask (length terms.now) terms.now }
+    ensures { OnOk result ((codes : List ℕ) → AreTerms sheet.now.instruction codes ask (length terms.now) terms.now
+        → AreQuotes sheet.now codes ask (length terms.now) quotes.new.items) }
+{
+    quotes.clear();
+    let mut cubic = nobody(1);
+    let mut piece = nobody(0);
     for term in terms {
         match term {
             None => {}
             Some(term) => {
-                if !is_led(&term.quote, prices[term.class], &leader) {
-                    let quote = term.quote_under(sheet);
-                    put_quote(quotes, from, &mut leader, quote, ask);
+                let quote = term.quote_under(sheet);
+                if quote.kind == 1 {
+                    put_quote(quotes, &mut cubic, quote, ask)?;
+                } else {
+                    put_quote(quotes, &mut piece, quote, ask)?;
                 }
             }
         }
     }
-    Ok(Place {
-        from,
-        past: quotes.len(),
-    })
+    Ok(())
 }

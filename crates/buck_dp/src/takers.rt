@@ -1,5 +1,5 @@
 //! Who takes some wood.
-ghost use Rattle.std.specs.Prelude.{◌≡◌, ℕ, ◌<◌, ◌↔◌, IsTrue, slice_get, Some};
+ghost use Rattle.std.specs.Prelude.{◌≡◌, ◌≢◌, ℕ, ◌<◌, ◌↔◌, IsTrue, slice_get, Some};
 ghost use Rattle.std.specs.Int.{bit_at};
 ghost use Rattle.buck_apt.specs.Instruction.{AssortmentParts};
 ghost use Rattle.buck_dp.specs.inner.Takers.{IsTaker, IsTakerOf, AreTakersOf};
@@ -47,8 +47,7 @@ impl Takers {
         requires place { place < 16 }
         requires clean { bit_at self.marks place ≡ 0 }
         ensures same { IsTaker result place ↔ IsTrue taken }
-        ensures others { (a : ℕ) → a < place → bit_at result.marks a ≡ bit_at self.marks a }
-        ensures later { (a : ℕ) → place < a → bit_at result.marks a ≡ bit_at self.marks a }
+        ensures others { (a : ℕ) → a ≢ place → bit_at result.marks a ≡ bit_at self.marks a }
     {
         if !taken {
             return self;
@@ -82,6 +81,7 @@ impl Takers {
 }
 
 /// The assortments that take wood of a kind.
+#[tactic(auto, using(std::proofs::lemmas::Option::slice_get_within))]
 pub fn takers_of(instruction: &Instruction, kind: Kind) -> Takers
     ensures { AreTakersOf instruction.now kind result }
 {

@@ -1,10 +1,10 @@
--- What stands among limits, offers and prices.
-use Rattle.std.proofs.Common.{◌≡◌, ℕ, ◌<◌, ◌≤◌, List, Option, Some, None, slice_get, Contains, IfNone, subst}
+-- What stands in bands, and among offers and prices.
+use Rattle.std.proofs.Common.{◌≡◌, ℕ, ◌<◌, ◌≤◌, List, Option, Some, None, slice_get, Contains, IfNone, subst, inl, inr, arith}
 use Rattle.buck_apt.specs.Instruction.{AssortmentParts, InstructionParts}
 use Rattle.buck_value.specs.Sheet.{SheetParts}
 use Rattle.buck_bid.specs.declared.offers.Offer.{Offer}
 use Rattle.buck_bid.specs.declared.prices.Pricing.{Pricing}
-use Rattle.buck_bid.specs.Limits.{AreLimits}
+use Rattle.buck_bid.specs.Limits.{IsBandOf}
 use Rattle.buck_bid.specs.Offers.{AreOffers, code_of, codes_in}
 use Rattle.buck_bid.specs.Prices.{HasNoPrice}
 use Rattle.buck_bid.specs.Quotes.{IsPricedAt}
@@ -13,8 +13,12 @@ use Rattle.buck_bid.specs.Quotes.{IsPricedAt}
 abbrev pub HasRow : InstructionParts → ℕ → Type 0
 HasRow i d = (a : ℕ) × (x : AssortmentParts) × (slice_get i.assortments a ≡ Some x) × Contains x.diameters d
 
-pub row_starts : (i : InstructionParts) (limits : List ℕ) (d : ℕ) → AreLimits i limits → HasRow i d → Contains limits d
-row_starts i limits d are (a, x, at, row) = are.rows a x d at row
+-- no row of an assortment begins within a band
+pub no_row_within : (i : InstructionParts) (low past d : ℕ) → IsBandOf i low past → HasRow i d → low < d → d < past → ⊥
+no_row_within i low past d band (a, x, at, row) above below = elim ((band.each a x at).rows d row) [
+  | inl le ↦ absurd (omega arith)
+  | inr ge ↦ absurd (omega arith)
+]
 
 pub no_offer : (i : InstructionParts) (offers others : List Offer) → AreOffers i offers → offers ≡ others
     → (a : ℕ) (x : AssortmentParts) (l : ℕ) → slice_get i.assortments a ≡ Some x → Contains x.lengths l

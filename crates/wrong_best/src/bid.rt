@@ -8,78 +8,51 @@ ghost use Rattle.buck_bid.specs.Offers.{code_of, codes_in};
 ghost use Rattle.buck_bid.specs.Quotes.{IsPricedAt, worth_for};
 
 use buck_apt::Instruction;
-use buck_bid::{Band, Offer, band_of, limits_of, offers_of, pricing_of};
+use buck_bid::{Band, Offer, band_around, offers_of, pricing_of};
 use buck_value::Sheet;
 use std::alloc::{AllocError, Global};
 
-/// No band starts where an assortment takes no more logs.
-pub fn limits_without_the_upper_diameter(
-    alloc: Global,
-    instruction: &Instruction,
-    place: usize,
-) -> Result<(), AllocError>
-    requires { place < length instruction.now.assortments }
+/// A band in which an assortment begins to take no more logs.
+pub fn band_over_an_upper_diameter(instruction: &Instruction, diameter: u32, wrong: Band)
+    requires diameter { diameter ≤ 1500 }
+    requires over { (a : ℕ) × (x : AssortmentParts) × (slice_get instruction.now.assortments a ≡ Some x)
+        × (wrong.thinnest < x.upper) × (x.upper < wrong.past) }
 {
-    let limits = limits_of(alloc, instruction)?;
-    let upper = instruction.assortments()[place].upper();
-    let right = limits.as_slice().contains(&upper);
-    let wrong = false;
-    prove!(right != wrong);
-    Ok(())
-}
-
-/// No band starts where an assortment has another row.
-pub fn limits_without_a_row(
-    alloc: Global,
-    instruction: &Instruction,
-    lowest: u32,
-) -> Result<(), AllocError>
-    requires { (a : ℕ) × (x : AssortmentParts) × (slice_get instruction.now.assortments a ≡ Some x)
-        × Contains x.diameters lowest }
-{
-    let limits = limits_of(alloc, instruction)?;
-    let right = limits.as_slice().contains(&lowest);
-    let wrong = false;
-    prove!(right != wrong);
-    Ok(())
-}
-
-/// A limit that two assortments have stands twice.
-pub fn limit_stands_twice(
-    alloc: Global,
-    instruction: &Instruction,
-    at: usize,
-) -> Result<(), AllocError> {
-    let limits = limits_of(alloc, instruction)?;
-    let limits = limits.as_slice();
-    if limits.len() >= 2 && at < limits.len() - 1 {
-        let right = limits[at];
-        let wrong = limits[at + 1];
-        prove!(right != wrong);
+    let right = band_around(instruction, diameter);
+    if right.thinnest == wrong.thinnest {
+        prove!(right.past != wrong.past);
     }
-    Ok(())
+}
+
+/// A band in which an assortment has another row from a diameter on.
+pub fn band_over_two_rows(instruction: &Instruction, diameter: u32, wrong: Band, lowest: u32)
+    requires diameter { diameter ≤ 1500 }
+    requires row { (a : ℕ) × (x : AssortmentParts) × (slice_get instruction.now.assortments a ≡ Some x)
+        × Contains x.diameters lowest }
+    requires over { (wrong.thinnest < lowest) × (lowest < wrong.past) }
+{
+    let right = band_around(instruction, diameter);
+    if right.thinnest == wrong.thinnest {
+        prove!(right.past != wrong.past);
+    }
 }
 
 /// The band above the diameter's own.
-pub fn band_above(limits: &[u32], diameter: u32, wrong: usize)
-    requires limits { (Contains limits.now 0) × (Contains limits.now 1504) }
-    requires rise { IsStrictlyIncreasing limits.now }
+pub fn band_above(instruction: &Instruction, diameter: u32, wrong: Band)
     requires diameter { diameter ≤ 1500 }
-    requires above { diameter < slice_index limits.now wrong }
+    requires above { diameter < wrong.thinnest }
 {
-    let right = band_of(limits, diameter);
-    prove!(right != wrong);
+    let right = band_around(instruction, diameter);
+    prove!(right.thinnest != wrong.thinnest);
 }
 
 /// The band below the diameter's own, where it starts at the diameter.
-pub fn band_below(limits: &[u32], diameter: u32, wrong: usize)
-    requires limits { (Contains limits.now 0) × (Contains limits.now 1504) }
-    requires rise { IsStrictlyIncreasing limits.now }
+pub fn band_below(instruction: &Instruction, diameter: u32, wrong: Band)
     requires diameter { diameter ≤ 1500 }
-    requires below { slice_index limits.now (wrong + 1) ≤ diameter }
+    requires below { wrong.past ≤ diameter }
 {
-    let right = band_of(limits, diameter);
-    prove!(right != wrong);
+    let right = band_around(instruction, diameter);
+    prove!(right.past != wrong.past);
 }
 
 /// Whether two lists of offers are equal.

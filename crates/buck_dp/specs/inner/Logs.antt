@@ -46,3 +46,7 @@ HasTakers p takers i t = (a : ℕ) (x : AssortmentParts) → slice_get p.sheet.i
 -- no log with a top starts before a point
 abbrev pub HasNoneOf : GroundParts → ℕ → ℕ → Type 0
 HasNoneOf p point top = (i e : ℕ) (bid : BidParts) → i < point → IsLogAt p i top e bid → ⊥
+
+-- no log has a top from `last` on and before `past`
+abbrev pub HasNoLogs : GroundParts → ℕ → ℕ → Type 0
+HasNoLogs p last past = (i t e : ℕ) (bid : BidParts) → last ≤ t → t < past → IsLogAt p i t e bid → ⊥

@@ -1,23 +1,23 @@
 -- What takers bid at a diameter, whatever the stem, and price lists and rows of that.
-use Rattle.std.specs.Prelude.{◌≡◌, ◌≢◌, ℕ, ◌+◌, ◌-◌, ◌*◌, ◌<◌, ◌≤◌, ◌⊎◌, List, [], ◌∷◌, ◌++◌, Option, length, slice_get, slice_index, slice_set, Some, None, ◌&&◌, if◌then◌else◌, nat_lt, nat_le, Bool}
+use Rattle.std.specs.Prelude.{◌≡◌, ◌≢◌, ℕ, ◌+◌, ◌-◌, ◌*◌, ◌/◌, ◌<◌, ◌≤◌, ◌⊎◌, List, [], ◌∷◌, ◌++◌, Option, length, map, slice_get, slice_index, take, Some, None}
 use Rattle.buck_apt.specs.Instruction.{InstructionParts, classes, AssortmentParts}
 use Rattle.buck_value.specs.Sheet.{SheetParts, IsSheet}
 use Rattle.buck_value.specs.Volume.{volume, worth_at}
 use Rattle.buck_dp.specs.inner.Points.{point_after}
 use Rattle.buck_dp.specs.declared.pricing.Quote.{Quote}
-use Rattle.buck_dp.specs.declared.pricing.Leader.{Leader}
 use Rattle.buck_dp.specs.declared.pricing.Term.{Term}
 use Rattle.buck_dp.specs.declared.pricing.Ask.{Ask}
 use Rattle.buck_dp.specs.inner.Bid.{BidParts, bid_of, IsAtMost}
 use Rattle.buck_value.specs.declared.sheet.TheConstants.{HIGHEST_PRICE}
-use Rattle.buck_value.specs.Allowed.{log_of}
+use Rattle.buck_value.specs.Allowed.{log_of, trim_in}
+use Rattle.buck_bid.specs.declared.offers.Offer.{Offer}
+use Rattle.buck_bid.specs.declared.prices.Pricing.{Pricing}
 use Rattle.buck_bid.specs.Offers.{HasMark}
 use Rattle.buck_bid.specs.Quotes.{IsPricedAt, worth_for}
 use Rattle.buck_dp.specs.declared.takers.Takers.{Takers}
 use Rattle.buck_dp.specs.inner.Takers.{IsTaker}
-use Rattle.std.specs.List.{filter_map}
 use Rattle.buck_dp.specs.declared.offering.Cell.{Cell}
-use Rattle.buck_dp.specs.declared.offering.Reach.{Reach}
+use Rattle.buck_dp.specs.inner.Rows.{IsPlaced}
 
 -- an assortment bids so much for logs of a length and a top diameter
 pub record IsBidOf (s : SheetParts) (codes : List ℕ) (a l d : ℕ) (bid : BidParts) : Type 0 where
@@ -80,21 +80,40 @@ priced_at q price = record {
   rise = q.rise;
 }
 
+-- the term of an offer that is priced so
+abbrev pub term_for : InstructionParts → Offer → ℕ → Pricing → Term
+term_for i o rank p =
+    let trim = trim_in (slice_get i.assortments o.assortment) in
+    record {
+      class = p.class;
+      quote = record {
+        kind = p.kind;
+        price = 0;
+        rank = rank;
+        length = o.length;
+        steps = o.length / i.«module»;
+        trim = trim;
+        rise = point_after i.«module» trim;
+      };
+    }
+
 -- a term is the quote of the rank of an offer under each sheet of an instruction
 pub record IsTermOf (i : InstructionParts) (codes : List ℕ) (ask : Ask) (place : ℕ) (t : Term) : Type 0 where
   pub class : t.class < classes i
   pub quotes : (s : SheetParts) → IsSheet s → s.instruction ≡ i
       → IsQuoteOf s codes ask place (priced_at t.quote (slice_index s.prices t.class))
 
--- under none a taker's bid has the rank of an offer
-abbrev pub IsNoTerm : InstructionParts → List ℕ → Ask → ℕ → Type 0
-IsNoTerm i codes ask place = (s : SheetParts) → IsSheet s → s.instruction ≡ i → HasNoBid s codes ask place
+-- or under none a taker's bid has the rank of an offer
+abbrev pub IsTermAt : InstructionParts → List ℕ → Ask → ℕ → Option Term → Type 0
+IsTermAt i codes ask place None = (s : SheetParts) → IsSheet s → s.instruction ≡ i → HasNoBid s codes ask place
+IsTermAt i codes ask place (Some t) = IsTermOf i codes ask place t
 
 -- the first n offers have their terms, each at its place
-pub record AreTerms (i : InstructionParts) (codes : List ℕ) (ask : Ask) (n : ℕ) (terms : List (Option Term)) : Type 0 where
+pub record AreTerms (i : InstructionParts) (codes : List ℕ) (ask : Ask) (n : ℕ)
+    (terms : List (Option Term)) : Type 0 where
   pub number : length terms ≡ n
   pub some : (k : ℕ) (t : Term) → slice_get terms k ≡ Some (Some t) → IsTermOf i codes ask k t
-  pub none : (k : ℕ) → slice_get terms k ≡ Some None → IsNoTerm i codes ask k
+  pub none : (k : ℕ) → slice_get terms k ≡ Some None → IsTermAt i codes ask k None
 
 -- a quote bids more worth than another at each diameter of a band, for logs that are no longer and with no more trim
 pub record IsOver (ask : Ask) (p q : Quote) : Type 0 where
@@ -102,19 +121,27 @@ pub record IsOver (ask : Ask) (p q : Quote) : Type 0 where
   pub trim : p.trim ≤ q.trim
   pub more : (d : ℕ) → IsAsked ask d → (quote_bid q d).worth < (quote_bid p d).worth
 
--- a leader outbids what is below its bar, or its least bid
-pub record IsLeading (ask : Ask) (l : Leader) : Type 0 where
-  pub below : (q : Quote) → q.kind ≡ 1 → q.price * q.length < l.bar → (d : ℕ) → IsAsked ask d
-      → (quote_bid q d).worth < (quote_bid l.quote d).worth
-  pub flat : (q : Quote) → q.kind ≢ 1 → q.price * 1000000 < l.least → (d : ℕ) → IsAsked ask d
-      → (quote_bid q d).worth < (quote_bid l.quote d).worth
+-- the first bids more than the second by its price, of the same kind, and by length where that is per cubic metre, for
+-- logs that are no longer and with no more trim
+pub record IsLed (p q : Quote) : Type 0 where
+  pub trim : p.trim ≤ q.trim
+  pub steps : p.steps ≤ q.steps
+  pub less : ((p.kind ≡ 1) × (q.kind ≡ 1) × (q.price * q.length + p.price < p.price * p.length))
+      ⊎ ((p.kind ≢ 1) × (q.kind ≢ 1) × (q.price < p.price))
 
--- a quote is put behind others, of which those from a place on are its list's, or in the place of the last of these, where
--- it is over that
-abbrev pub IsPut : Ask → Quote → ℕ → List Quote → List Quote → Type 0
-IsPut ask q from old new = (new ≡ old ++ q ∷ [])
-    ⊎ ((x : Quote) × (from < length old) × (slice_get old (length old - 1) ≡ Some x) × IsOver ask q x
-    × (new ≡ slice_set old (length old - 1) q))
+-- what can lead a list: it outbids what it leads
+abbrev pub IsLeading : Ask → Quote → Type 0
+IsLeading ask p = (p.kind ≢ 1) ⊎ (36 ≤ ask.band.thinnest)
+
+-- nobody, to lead quotes of a price kind
+abbrev pub nobody_of : ℕ → Quote
+nobody_of kind = record { kind = kind; price = 0; rank = 0; length = 0; steps = 0; trim = 4294967295; rise = 0 }
+
+-- a quote is put behind others, and what goes before it, it is over; or the leader of these outbids it, and they stay
+abbrev pub IsPut : Ask → Quote → Quote → List Quote → List Quote → Type 0
+IsPut ask leader q old new = ((m : ℕ) × (new ≡ take m old ++ q ∷ [])
+    × ((k : ℕ) (x : Quote) → m ≤ k → slice_get old k ≡ Some x → IsOver ask q x))
+    ⊎ (IsLed leader q × (new ≡ old))
 
 -- a quote bids no less for logs as long, or more worth for shorter ones, and takes no more trim
 pub record IsQuoted (quotes : List Quote) (d steps trim : ℕ) (bid : BidParts) : Type 0 where
@@ -125,50 +152,43 @@ pub record IsQuoted (quotes : List Quote) (d steps trim : ℕ) (bid : BidParts) 
       ⊎ ((quote.steps < steps) × (bid.worth < (quote_bid quote d).worth))
   pub trims : quote.trim ≤ trim
 
--- nothing in a list has a higher number than what stands before it
-abbrev pub Falls : {X : Type 0} → (X → ℕ) → List X → Type 0
-Falls {X} of xs = (j k : ℕ) (a b : X) → j ≤ k → slice_get xs j ≡ Some a → slice_get xs k ≡ Some b
-    → of b ≤ of a
-
--- the quotes of the first n offers, in their order: each is a taker's bid, and each bid of a taker is met
+-- the quotes of the first n offers: each is a taker's bid, and each bid of a taker is met
 pub record AreQuotes (s : SheetParts) (codes : List ℕ) (ask : Ask) (n : ℕ) (quotes : List Quote) : Type 0 where
   pub real : (k : ℕ) (q : Quote) → slice_get quotes k ≡ Some q → IsQuote s codes ask q
-  pub early : (k : ℕ) (q : Quote) → slice_get quotes k ≡ Some q → 1023 < q.rank + n
-  pub order : Falls (λ (q : Quote). q.rank) quotes
   pub met : (steps trim d : ℕ) (bid : BidParts) → IsAsked ask d → 1023 < bid.rank + n
       → IsTakersBid s codes ask.takers d steps trim bid → IsQuoted quotes d steps trim bid
 
--- a quote is for logs within reach
-abbrev pub IsWithin : Reach → Quote → Type 0
-IsWithin reach q = (reach.past < q.steps) × (q.steps ≤ reach.far) × (q.trim ≤ reach.room)
-
-abbrev pub is_within : Reach → Quote → Bool
-is_within reach q = nat_lt reach.past q.steps && nat_le q.steps reach.far && nat_le q.trim reach.room
-
--- the cell of a quote at a diameter
-abbrev pub cell_of : Reach → Quote → ℕ → Cell
-cell_of reach q d = record {
+-- the cell of a quote at a diameter, in a row that reaches so far back
+abbrev pub cell_of : ℕ → ℕ → Quote → Cell
+cell_of far d q = record {
   bid = quote_bid q d;
   steps = q.steps;
+  trim = q.trim;
   rise = q.rise;
-  back = reach.far - q.steps;
-  next = reach.far + q.rise;
+  back = far - q.steps;
+  next = far + q.rise;
 }
 
--- if its logs are within reach
-abbrev pub cell_for : ℕ → Reach → Quote → Option Cell
-cell_for d reach q = if is_within reach q then Some (cell_of reach q d) else None
-
 -- the cells of a price list, in its order
-abbrev pub row_of : List Quote → ℕ → Reach → List Cell
-row_of quotes d reach = filter_map (cell_for d reach) quotes
+abbrev pub row_of : ℕ → ℕ → List Quote → List Cell
+row_of far d quotes = map (cell_of far d) quotes
 
--- a row has the cells of a price list of some takers
-pub record IsRow (s : SheetParts) (codes : List ℕ) (n : ℕ) (takers : Takers) (d : ℕ) (reach : Reach)
-    (row : List Cell) : Type 0 where
-  pub ask : Ask
-  pub quotes : List Quote
-  pub own : ask.takers ≡ takers
-  pub asked : IsAsked ask d
-  pub list : AreQuotes s codes ask n quotes
-  pub is : row ≡ row_of quotes d reach
+-- a cell is a taker's bid
+pub record IsCell (s : SheetParts) (codes : List ℕ) (takers : Takers) (d far : ℕ) (c : Cell) : Type 0 where
+  pub bids : IsTakersBid s codes takers d c.steps c.trim c.bid
+  pub rise : c.rise ≡ point_after s.instruction.«module» c.trim
+  pub placed : IsPlaced far c
+
+-- a cell bids no less for logs as long, or more worth for shorter ones, and takes no more trim
+pub record IsMet (row : List Cell) (steps trim : ℕ) (bid : BidParts) : Type 0 where
+  pub place : ℕ
+  pub cell : Cell
+  pub there : slice_get row place ≡ Some cell
+  pub meets : ((cell.steps ≡ steps) × IsAtMost bid cell.bid) ⊎ ((cell.steps < steps) × (bid.worth < cell.bid.worth))
+  pub trims : cell.trim ≤ trim
+
+-- a row has what takers bid at a diameter, and reaches so far back: each of its cells is a taker's bid, and each bid of a
+-- taker is met
+pub record IsRow (s : SheetParts) (codes : List ℕ) (takers : Takers) (d far : ℕ) (row : List Cell) : Type 0 where
+  pub real : (k : ℕ) (c : Cell) → slice_get row k ≡ Some c → IsCell s codes takers d far c
+  pub met : (steps trim : ℕ) (bid : BidParts) → IsTakersBid s codes takers d steps trim bid → IsMet row steps trim bid

@@ -1,17 +1,18 @@
 -- The values of points while the search goes from the top end down.
-use Rattle.std.specs.Prelude.{◌≡◌, ℕ, ◌+◌, ◌<◌, ◌≤◌, ◌⊎◌, List, length, get_or}
-use Rattle.buck_dp.specs.inner.Points.{GroundParts, points_of, ends_of}
-use Rattle.buck_dp.specs.declared.search.Search.{Search}
-use Rattle.buck_dp.specs.inner.Bid.{BidParts, bid_of, none, IsAtMost, plus}
+use Rattle.std.specs.Prelude.{◌≡◌, ℕ, ◌+◌, ◌<◌, ◌≤◌, ◌≢◌, ◌⊎◌, List, length, get_or, slice_get, Some}
+use Rattle.buck_dp.specs.inner.Points.{GroundParts, ends_of}
+use Rattle.buck_dp.specs.inner.Bid.{BidParts, bid_of, none, IsAtMost, IsGreater, plus}
 use Rattle.buck_stem.specs.Stem.{IsStem}
 use Rattle.buck_value.specs.Sheet.{IsSheet}
 use Rattle.buck_dp.specs.inner.Logs.{IsLogAt, IsLow, bid_at}
+use Rattle.buck_dp.specs.declared.offering.Cell.{Cell}
+use Rattle.buck_dp.specs.inner.Rows.{IsNear, IsPart}
 
 -- a settled point: its value has the worth of the best from there on, and its choice is the rank of the first log of
 -- that, or 0 where none starts there
 pub record IsSettled (p : GroundParts) (values : List BidParts) (choices : List ℕ) (k : ℕ) : Type 0 where
   pub even : (bid_at values k).rank ≡ 0
-  pub falls : (bid_at values (k + 1)).worth ≤ (bid_at values k).worth
+  pub falls : (j : ℕ) → k ≤ j → (bid_at values j).worth ≤ (bid_at values k).worth
   pub each : (j e : ℕ) (bid : BidParts) → IsLogAt p k j e bid
       → IsAtMost (plus bid (bid_at values e)) (bid_of (bid_at values k).worth (get_or choices k 0))
   pub one : (((bid_at values k).worth ≡ (bid_at values (k + 1)).worth) × (get_or choices k 0 ≡ 0))
@@ -23,24 +24,51 @@ abbrev pub Reaches : List BidParts → ℕ → BidParts → Type 0
 Reaches values i bid = IsAtMost bid (bid_at values i)
     ⊎ ((k : ℕ) × (i < k) × (bid.worth < (bid_at values k).worth))
 
--- the points from `from` on are settled; to those before it the logs are offered that have their top behind point
--- `from`, and those that have it there and start at point `stop` or later
-pub record AreSearched (p : GroundParts) (values : List BidParts) (choices : List ℕ) (from stop : ℕ) : Type 0 where
-  pub number : length values ≡ ends_of p
-  pub room : length choices ≡ ends_of p
-  pub within : from < ends_of p
-  pub low : (k : ℕ) → from ≤ k → k < ends_of p → IsLow p k (bid_at values k).worth
-  pub settled : (k : ℕ) → from ≤ k → IsSettled p values choices k
-  pub each : (i j e : ℕ) (bid : BidParts) → i < from → (from < j) ⊎ ((from ≤ j) × (stop ≤ i)) → IsLogAt p i j e bid
-      → Reaches values i (plus bid (bid_at values e))
-  pub one : (i : ℕ) → i < from → (bid_at values i ≡ none)
-      ⊎ ((j : ℕ) × (e : ℕ) × (bid : BidParts) × (from ≤ j) × IsLogAt p i j e bid
-      × (bid_at values i ≡ plus bid (bid_at values e)))
+-- the value of point i is that of no log, or what one with its top at point `from` or later brings with what follows
+abbrev pub IsMade : GroundParts → List BidParts → ℕ → ℕ → Type 0
+IsMade p values from i = (bid_at values i ≡ none)
+    ⊎ ((j : ℕ) × (e : ℕ) × (bid : BidParts) × (from ≤ j) × IsLogAt p i j e bid
+    × (bid_at values i ≡ plus bid (bid_at values e)))
 
--- a search is right so far
-pub record IsSearch (p : GroundParts) (s : Search) : Type 0 where
+-- a search of a stem under a valid sheet is right so far: the points from `from` on are settled; to those before it the
+-- logs are offered that have their top behind point `from`, and those that have it there and start at point `stop` or
+-- later
+pub record IsSearch (p : GroundParts) (values : List BidParts) (choices : List ℕ) (from stop : ℕ) : Type 0 where
   pub valid : IsSheet p.sheet
   pub sound : IsStem p.stem
-  pub below : s.stop ≤ s.from
-  pub inside : 0 < s.stop → s.from < points_of p
-  pub searched : AreSearched p s.values.items s.choices.items s.from s.stop
+  pub below : stop ≤ from
+  pub within : from < ends_of p
+  pub number : length values ≡ ends_of p
+  pub room : length choices ≡ ends_of p
+  pub low : (k : ℕ) → k < ends_of p → IsLow p k (bid_at values k).worth
+  pub settled : (k : ℕ) → from ≤ k → IsSettled p values choices k
+  pub each : (i j e : ℕ) (bid : BidParts) → i < from → from ≤ j → (from < j) ⊎ (stop ≤ i) → IsLogAt p i j e bid
+      → Reaches values i (plus bid (bid_at values e))
+  pub one : (i : ℕ) → i < from → IsMade p values from i
+
+-- the logs of cells can be offered to the values of a search: those that have its last top and start in one part more
+pub record IsOpen (p : GroundParts) (choices : List ℕ) (values : List BidParts) (top first stop : ℕ)
+    (cells : List Cell) : Type 0 where
+  pub search : IsSearch p values choices top stop
+  pub part : IsPart p top first stop cells
+  pub order : first ≤ stop
+
+-- a bid can be offered to a point before another: what this one brings has no rank and is low enough
+pub record CanOffer (start next : ℕ) (bid : BidParts) (values : List BidParts) : Type 0 where
+  pub inside : start < length values
+  pub there : next < length values
+  pub even : (bid_at values next).rank ≡ 0
+  pub low : bid.worth + (bid_at values next).worth ≤ 4000000000000000
+
+-- a bid of a log that starts at a point is offered there, with what the point brings where the next one can start
+pub record IsOffered (start next : ℕ) (bid : BidParts) (old new : List BidParts) : Type 0 where
+  pub number : length new ≡ length old
+  pub others : (i : ℕ) → i ≢ start → bid_at new i ≡ bid_at old i
+  pub raised : IsGreater (bid_at old start) (plus bid (bid_at old next)) (bid_at new start)
+
+-- of the first n cells those are offered whose logs with the last top of a search start in one part
+pub record AreOffered (p : GroundParts) (choices : List ℕ) (top first stop : ℕ) (cells : List Cell) (n : ℕ)
+    (values : List BidParts) : Type 0 where
+  pub search : IsSearch p values choices top stop
+  pub done : (k : ℕ) (c : Cell) → k < n → slice_get cells k ≡ Some c → IsNear p top first stop c
+      → (i : ℕ) → i + c.steps ≡ top → IsAtMost (plus c.bid (bid_at values (top + c.rise))) (bid_at values i)

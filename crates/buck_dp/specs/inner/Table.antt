@@ -1,38 +1,32 @@
--- The best that can be cut from a place on.
-use Rattle.std.specs.Prelude.{◌≡◌, ℕ, ◌<◌, ◌⊎◌, List, [], ◌∷◌, sum_by, ◌+◌, ◌*◌}
+-- The logs that the choices of points tell.
+use Rattle.std.specs.Prelude.{ℕ, zero, suc, ◌+◌, ◌-◌, ◌*◌, ◌/◌, ◌%◌, ◌<◌, ◌≤◌, ◌==◌, if◌then◌else◌, List, [], ◌∷◌, length, get_or, slice_index}
 use Rattle.buck_value.specs.declared.log.Log.{Log}
-use Rattle.buck_dp.specs.Order.{IsLogBefore}
-use Rattle.buck_dp.specs.Cutting.{IsCutFrom}
-use Rattle.buck_value.specs.Allowed.{IsAllowed, worth_of, end_of}
-use Rattle.buck_bid.specs.Offers.{HasMark}
-use Rattle.buck_dp.specs.inner.Points.{GroundParts}
+use Rattle.buck_value.specs.Allowed.{IsAllowed, log_of, end_of}
+use Rattle.buck_dp.specs.inner.Points.{GroundParts, point_after}
 
--- the first is the second, or before it
-abbrev pub IsAtOrBefore : List Log → List Log → Type 0
-IsAtOrBefore [] [] = Unit {0}
-IsAtOrBefore [] (_ ∷ _) = ⊥
-IsAtOrBefore (_ ∷ _) [] = Unit {0}
-IsAtOrBefore (a ∷ as_) (b ∷ bs) = IsLogBefore a b ⊎ ((a ≡ b) × IsAtOrBefore as_ bs)
+-- the log of a rank from point i
+abbrev pub log_at : GroundParts → ℕ → ℕ → Log
+log_at p rank i =
+    log_of
+    (i * p.sheet.instruction.«module»)
+    (slice_index p.codes (1023 - rank) / 16)
+    (slice_index p.codes (1023 - rank) % 16)
 
--- the first is worth more, or as much and is the second or before it
-abbrev pub IsNoWorse : (Log → ℕ) → List Log → List Log → Type 0
-IsNoWorse worth_of gs hs =
-    (sum_by worth_of hs < sum_by worth_of gs)
-    ⊎ ((sum_by worth_of hs ≡ sum_by worth_of gs) × IsAtOrBefore gs hs)
+-- the point from which a cutting goes on after a log
+abbrev pub next_after : GroundParts → Log → ℕ
+next_after p g = point_after p.sheet.instruction.«module» (end_of p.sheet.instruction g)
 
--- the best from a place on: no other list that may be cut there is worth more, or as much and before it
-pub record IsTop (Allowed : Log → Type 0) (end_of worth_of : Log → ℕ) (from : ℕ) (gs : List Log) : Type 0 where
-  pub cut : IsCutFrom Allowed end_of from gs
-  pub top : (hs : List Log) → IsCutFrom Allowed end_of from hs → IsNoWorse worth_of gs hs
+-- a rank is that of a log that is allowed from point i
+pub record IsChosen (p : GroundParts) (i rank : ℕ) : Type 0 where
+  pub high : rank ≤ 1023
+  pub place : 1023 - rank < length p.codes
+  pub allowed : IsAllowed p.sheet.instruction p.stem (log_at p rank i)
+  pub later : i < next_after p (log_at p rank i)
 
--- the best from point i on: its worth, and the rank of its first log, or 0 where none starts there
-pub record IsBestFrom (p : GroundParts) (i worth choice : ℕ) (gs : List Log) : Type 0 where
-  pub top : IsTop (IsAllowed p.sheet.instruction p.stem) (end_of p.sheet.instruction) (worth_of p.sheet p.stem)
-      (i * p.sheet.instruction.«module») gs
-  pub worth_is : worth ≡ sum_by (worth_of p.sheet p.stem) gs
-  pub later : choice ≡ 0
-      → IsCutFrom (IsAllowed p.sheet.instruction p.stem) (end_of p.sheet.instruction)
-      ((i + 1) * p.sheet.instruction.«module») gs
-  pub here : 0 < choice
-      → (g : Log) × (rest : List Log) × (gs ≡ g ∷ rest) × (g.start ≡ i * p.sheet.instruction.«module»)
-      × HasMark p.codes g choice
+-- the logs that the choices tell from point i on, in at most so many steps: where the choice is 0, those from the next
+-- point on, else the log of that rank and those after it
+abbrev pub told : GroundParts → List ℕ → ℕ → ℕ → List Log
+told p choices zero i = []
+told p choices (suc n) i =
+    if get_or choices i 0 == 0 then told p choices n (i + 1)
+    else log_at p (get_or choices i 0) i ∷ told p choices n (next_after p (log_at p (get_or choices i 0) i))

@@ -1,8 +1,5 @@
-use Rattle.buck_bid.proofs.Words.{◌≡◌, ℕ, ◌<◌, take, slice_get, Some, Offer, codes_in}
+use Rattle.buck_bid.proofs.OfferLemmas.{HasCodes}
 use Rattle.buck_bid.proofs.offers.offers_of.Given as goal
 
-abbrev pub invariant-loop-code : goal.invariant-loop-code
-invariant-loop-code l = record {
-  same : codes_in l.offers.items ≡ take l.code-index l.code-items;
-  low : (k : ℕ) (o : Offer) → slice_get l.offers.items k ≡ Some o → o.assortment < 16;
-}
+abbrev pub invariant-loop-place : goal.invariant-loop-place
+invariant-loop-place l = HasCodes l.instruction l.place l.codes.items

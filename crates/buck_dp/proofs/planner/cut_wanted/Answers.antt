@@ -1,7 +1,6 @@
-use Rattle.buck_dp.proofs.Words.{◌≡◌, ◌∙◌, ℕ, subst, arith, rules, StemParts, IsStem, ProfileParts, profile_of, codes_in, ground_with}
-use Rattle.buck_dp.proofs.Lists.{worth_bounded, top_is_first_best}
-use Rattle.buck_dp.proofs.SiteLemmas.{all_searched}
-use Rattle.buck_dp.proofs.Values.{walk_worth}
+use Rattle.buck_dp.proofs.Words.{◌≡◌, ◌∙◌, ℕ, ap, none, get_or_default, BidParts, subst, arith, rules, StemParts, IsStem, ProfileParts, profile_of}
+use Rattle.buck_dp.proofs.Lists.{worth_bounded}
+use Rattle.buck_dp.proofs.Values.{chosen, told_first}
 use Rattle.buck_dp.proofs.planner.cut_wanted.Goals as goal
 
 -- the stem of a profile is sound
@@ -12,25 +11,29 @@ sound q r stem step is view valid = subst (λ (x : ProfileParts). IsStem x.stem)
 pub search_stem-requires-clause-site : goal.search_stem-requires-clause-site
 search_stem-requires-clause-site c = search (rules, sound)
 
-pub follow-requires-clause-found : goal.follow-requires-clause-found
-follow-requires-clause-found c =
-    let was = all_searched _ c.in_ok-search_stem.ensures.plan.site _ c.in_ok-search_stem.ensures in
-    (c.search_stem.new.memo.search.values.items, rw (c.as_slice.ensures.value, c.deref-2.ensures.value) was)
-
-pub worth-worth-requires : goal.worth-worth-requires
-worth-worth-requires c =
-    omega (arith, (all_searched _ c.in_ok-search_stem.ensures.plan.site _ c.in_ok-search_stem.ensures).number)
+pub follow-requires-clause-chosen : goal.follow-requires-clause-chosen
+follow-requires-clause-chosen c =
+    let search = c.in_ok-search_stem.ensures.search in
+    rw (c.as_slice.ensures.value, c.deref-2.ensures.value) (chosen _ search.valid _ _ search)
 
 pub returns-clause-first : goal.returns-clause-first
-returns-clause-first c = top_is_first_best c.args.sheet.now c.args.stem.now c.in_ok-logs.logs.items c.in_ok-logs.ensures
+returns-clause-first c =
+    let search = c.in_ok-search_stem.ensures.search in
+    (told_first _ search.valid _ _ search c.requires.ready.offers.offers.codes c.in_ok-logs.logs.items
+    (cc (c.in_ok-logs.ensures, c.as_slice.ensures.value, c.deref-2.ensures.value))).0
 
 pub returns-clause-worth : goal.returns-clause-worth
 returns-clause-worth c =
-    let was = all_searched _ c.in_ok-search_stem.ensures.plan.site _ c.in_ok-search_stem.ensures in
+    let search = c.in_ok-search_stem.ensures.search in
     c.worth-worth.ensures
-    ∙ walk_worth (ground_with c.args.sheet.now c.args.stem.now (codes_in c.args.menu.now.offers.items))
-    c.in_ok-search_stem.ensures.plan.site.valid c.requires.ready.offers.offers.codes _ _ was _ c.in_ok-logs.ensures
+    ∙ ap (λ (b : BidParts). b.worth) (c.index.ensures
+    ∙ get_or_default c.search_stem.new.memo.values.items 0 c.index.result.now none (omega (arith, search.number)))
+    ∙ (told_first _ search.valid _ _ search c.requires.ready.offers.offers.codes c.in_ok-logs.logs.items
+    (cc (c.in_ok-logs.ensures, c.as_slice.ensures.value, c.deref-2.ensures.value))).1
 
 pub returns-clause-high : goal.returns-clause-high
 returns-clause-high c =
-    grind (arith, sound, returns-clause-first, worth_bounded, returns-clause-worth)
+    let search = c.in_ok-search_stem.ensures.search in
+    let low = worth_bounded c.args.sheet.now c.args.stem.now c.in_ok-logs.logs.items search.valid search.sound
+    (returns-clause-first c).best.admissible in
+    omega (arith, low, returns-clause-worth c)

@@ -1,10 +1,11 @@
-use Rattle.buck_dp.proofs.Words.{rules, codes_in, ground_of}
+use Rattle.buck_dp.proofs.Words.{arith}
 use Rattle.buck_dp.proofs.planning.search_stem.Goals as goal
 
-pub loop-memo-init : goal.loop-memo-init
-loop-memo-init c =
-    let begun = c.in_ok-start.ensures.search (codes_in c.args.site.market.menu.now.offers.items) in search rules
+pub settle_tops-requires-clause-plan : goal.settle_tops-requires-clause-plan
+settle_tops-requires-clause-plan c =
+    (c.args.site, c.loop-top.invariant.plan, λ i t e bid low high log. omega (arith, log.later, c.loop-top-test.false))
 
 pub returns : goal.returns
 returns c =
-    let settled = c.settle_top.ensures.search (ground_of c.args.site) c.loop-memo.invariant.plan.search in search rules
+    c.settle_tops.ensures c.args.site c.loop-top.invariant.plan
+    (λ i t e bid low high log. omega (arith, log.later, c.loop-top-test.false))

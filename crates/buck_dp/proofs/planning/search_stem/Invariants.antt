@@ -1,12 +1,8 @@
-use Rattle.buck_dp.proofs.Words.{◌≡◌, ◌<◌, IsPlan}
+use Rattle.buck_dp.proofs.Words.{◌<◌, IsPlan}
 use Rattle.buck_dp.proofs.planning.search_stem.Given as goal
 
-abbrev pub invariant-loop-memo : goal.invariant-loop-memo
-invariant-loop-memo l = record {
-  plan : IsPlan l.site l.memo;
-  low : 0 < l.memo.search.from;
-  stop : l.memo.search.stop ≡ 0;
-}
+abbrev pub invariant-loop-top : goal.invariant-loop-top
+invariant-loop-top l = record { plan : IsPlan l.site l.memo l.top; some : 0 < l.top }
 
-abbrev pub decreases-loop-memo : goal.decreases-loop-memo
-decreases-loop-memo l = l.memo.search.from
+abbrev pub decreases-loop-top : goal.decreases-loop-top
+decreases-loop-top l = l.top

@@ -6,9 +6,5 @@ returns-clause-same c =
     let set = bit_at_set_same w16 c.args.self.marks c.args.place (omega (arith, c.requires.place)) in search rules
 
 pub returns-clause-others : goal.returns-clause-others
-returns-clause-others c a lt =
-    bit_at_set_other w16 c.args.self.marks c.args.place (omega (arith, c.requires.place)) a (λ e. omega arith)
-
-pub returns-clause-later : goal.returns-clause-later
-returns-clause-later c a lt =
-    bit_at_set_other w16 c.args.self.marks c.args.place (omega (arith, c.requires.place)) a (λ e. omega arith)
+returns-clause-others c a other =
+    bit_at_set_other w16 c.args.self.marks c.args.place (omega (arith, c.requires.place)) a other
