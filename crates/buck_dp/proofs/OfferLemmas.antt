@@ -1,18 +1,18 @@
 -- The search goes on by logs that are offered.
-use Rattle.buck_dp.proofs.Words.{◌≡◌, ℕ, ◌+◌, ◌-◌, ◌*◌, ◌<◌, ◌≤◌, ◌⊎◌, inl, inr, List, length, worth_low, mul-le-mul_right, slice_get, Some, sym, ◌∙◌, arith, rules, cases_lt, cases_order, cases_eq, slice_get_within, GroundParts, ends_of, IsSheet, Cell, BidParts, none, IsAtMost, plus, IsLogAt, bid_at, IsNear, IsPart, IsServed, IsBeaten, HasNoneOf, Reaches, IsSearch, CanOffer, IsOffered, AreOffered, IsStem, ◌++◌, get_or-append_right, get_or-append-add, get_or_append_left, length-append, same_Some}
-use Rattle.buck_dp.proofs.CellLemmas.{IsAtMost-refl, IsAtMost-trans, worth_at_most, greater_first, greater_second}
-use Rattle.buck_dp.proofs.TopLemmas.{settled_same, made_same}
+use Rattle.buck_dp.proofs.Words.{◌≡◌, ℕ, ◌+◌, ◌-◌, ◌*◌, ◌<◌, ◌≤◌, ◌⊎◌, inl, inr, List, length, worth_low, mul-le-mul_right, slice_get, Some, sym, ◌∙◌, arith, rules, cases_lt, cases_order, cases_eq, slice_get_within, GroundParts, ends_of, IsSheet, Cell, BidParts, none, IsAtMost, plus, IsLogAt, bid_at, IsNear, HasNoneOf, Reaches, IsSearch, CanOffer, IsOffered, AreOffered, IsStem, ◌++◌, get_or-append_right, get_or-append-add, get_or_append_left, length-append, same_Some}
+use Rattle.buck_dp.proofs.Logs.{start_is}
+use Rattle.buck_dp.proofs.TopLemmas.{IsAtMost-refl, IsAtMost-trans, worth_at_most, greater_first, greater_second, plus_more, settled_same, made_same}
 
 -- no log bids more than its steps allow
 log_low : (p : GroundParts) (i j e : ℕ) (bid : BidParts) → IsSheet p.sheet → IsLogAt p i j e bid
     → bid.worth + 70000000000 * (i * p.sheet.instruction.«module») ≤ 70000000000 * (e * p.sheet.instruction.«module»)
-log_low p i j e bid s log = search (rules, worth_low, mul-le-mul_right)
+log_low p i j e bid s log = search (rules, worth_low, mul-le-mul_right, start_is)
 
 -- what may lie behind the last point leaves little room
 ends_low : (p : GroundParts) → IsSheet p.sheet → IsStem p.stem → ends_of p * p.sheet.instruction.«module» ≤ 42000
 ends_low p s t = omega arith
 
-module _ (p : GroundParts) (v w : List BidParts) (ch : List ℕ) (t stop i e : ℕ) (bid : BidParts)
+module _ {p : GroundParts} {v w : List BidParts} {ch : List ℕ} {t stop i e : ℕ} {bid : BidParts}
     (was : IsSearch p v ch t stop) (log : IsLogAt p i t e bid) (offered : IsOffered i e bid v w) where
   -- settled values stay
   pub stays : (k : ℕ) → t ≤ k → bid_at w k ≡ bid_at v k
@@ -52,23 +52,23 @@ module _ (p : GroundParts) (v w : List BidParts) (ch : List ℕ) (t stop i e : �
   }
 
 -- what is offered to values is offered to these behind others
-pub offered_behind : (front v w : List BidParts) (start next : ℕ) (bid : BidParts) → IsOffered start next bid v w
+pub offered_behind : (front : List BidParts) {v w : List BidParts} {start next : ℕ} {bid : BidParts}
+    → IsOffered start next bid v w
     → IsOffered (length front + start) (length front + next) bid (front ++ v) (front ++ w)
-offered_behind front v w start next bid offered =
-    search (rules, cases_lt, get_or_append_left, get_or-append_right, length-append)
+offered_behind front offered = search (rules, cases_lt, get_or_append_left, get_or-append_right, length-append)
 
 -- and can be so offered
-pub can_behind : (front v : List BidParts) (start next : ℕ) (bid : BidParts)
+pub can_behind : (front : List BidParts) {v : List BidParts} {start next : ℕ} {bid : BidParts}
     → CanOffer (length front + start) (length front + next) bid (front ++ v) → CanOffer start next bid v
-can_behind front v start next bid can = search (rules, length-append, get_or-append-add)
+can_behind front can = search (rules, length-append, get_or-append-add)
 
 module _ {p : GroundParts} {ch : List ℕ} {t first stop : ℕ} {cells : List Cell} {n : ℕ} {v : List BidParts}
-    (part : IsPart p t first stop cells) (was : AreOffered p ch t first stop cells n v)
-    {c : Cell} (there : slice_get cells n ≡ Some c) where
+    (was : AreOffered p ch t first stop cells n v) {c : Cell} (there : slice_get cells n ≡ Some c) where
   -- a cell that is near can be offered
   pub cell_fits : {i e : ℕ} → IsNear p t first stop c → i + c.steps ≡ t → e ≡ t + c.rise → CanOffer i e c.bid v
   cell_fits {i = i} {e = e} near is after =
-      let log : IsLogAt p i t e c.bid = rw after (part.real n c there near i is) in
+      let log : IsLogAt p i t e c.bid =
+      rw after (was.part.real n c there near.2 i i (omega (arith, near.0)) (omega (arith, near.1)) (omega arith) is) in
       let now = was.search in
       record {
         inside = omega (arith, log.last, now.number);
@@ -84,21 +84,23 @@ module _ {p : GroundParts} {ch : List ℕ} {t first stop : ℕ} {cells : List Ce
 
   -- one that isn't is passed
   pub offered_less : (IsNear p t first stop c → ⊥) → AreOffered p ch t first stop cells (n + 1) v
-  offered_less far = record { search = was.search; done = grind (arith, cases_lt, same_Some, was.done, there) }
+  offered_less far = search (rules, cases_lt, same_Some, was.done, there)
 
   -- one cell more is offered
   pub offered_more : {i e : ℕ} {w : List BidParts} → IsNear p t first stop c
       → i + c.steps ≡ t → e ≡ t + c.rise → IsOffered i e c.bid v w → AreOffered p ch t first stop cells (n + 1) w
   offered_more {i = i} {e = e} {w = w} near is after offered =
-      let log : IsLogAt p i t e c.bid = rw after (part.real n c there near i is) in
+      let log : IsLogAt p i t e c.bid =
+      rw after (was.part.real n c there near.2 i i (omega (arith, near.0)) (omega (arith, near.1)) (omega arith) is) in
       record {
-        search = still_searched p v w ch t stop i e c.bid was.search log offered;
+        search = still_searched was.search log offered;
+        part = was.part;
+        order = was.order;
         done = λ k d lt at close j sum.
-            rw (stays p v w ch t stop i e c.bid was.search log offered (t + d.rise) (omega arith))
+            rw (stays was.search log offered (t + d.rise) (omega arith))
             (elim (cases_lt k n) [
               | inl before ↦
-                  IsAtMost-trans _ (bid_at v j) (bid_at w j) (was.done k d before at close j sum)
-                  (kept p v w ch t stop i e c.bid was.search log offered j)
+                  IsAtMost-trans _ _ _ (was.done k d before at close j sum) (kept was.search log offered j)
               | inr now ↦
                   let here : n ≡ k = omega arith in
                   let same : c ≡ d = same_Some c d (sym there ∙ rw here at) in
@@ -106,12 +108,12 @@ module _ {p : GroundParts} {ch : List ℕ} {t first stop : ℕ} {cells : List Ce
             ]);
       }
 
-module _ (p : GroundParts) (v : List BidParts) (ch : List ℕ) (t first stop : ℕ) (was : IsSearch p v ch t stop) where
+module _ {p : GroundParts} {v : List BidParts} {ch : List ℕ} {t stop : ℕ} (was : IsSearch p v ch t stop) where
   -- once the logs that start in one part more are offered, a search goes on before that
-  searched_to : first ≤ stop
+  searched_to : {first : ℕ} → first ≤ stop
       → ((i e : ℕ) (bid : BidParts) → first ≤ i → i < stop → IsLogAt p i t e bid → Reaches v i (plus bid (bid_at v e)))
       → IsSearch p v ch t first
-  searched_to order part =
+  searched_to {first} order part =
       let each : (i j e : ℕ) (bid : BidParts) → i < t → t ≤ j → (t < j) ⊎ (first ≤ i) → IsLogAt p i j e bid
       → Reaches v i (plus bid (bid_at v e)) =
       (λ i j e bid lt le which log. elim (cases_order t j) [
@@ -123,42 +125,40 @@ module _ (p : GroundParts) (v : List BidParts) (ch : List ℕ) (t first stop : �
       ]) in
       search rules
 
--- where no more logs have a top, all with it are offered
-pub closed : (p : GroundParts) (v : List BidParts) (ch : List ℕ) (t stop : ℕ) → IsSearch p v ch t stop
-    → HasNoneOf p stop t → IsSearch p v ch t 0
-closed p v ch t stop was none =
-    searched_to p v ch t 0 stop was (omega arith) (λ i e bid low lt log. absurd (none i e bid lt log))
+  -- where no more logs have a top, all with it are offered
+  pub closed : HasNoneOf p stop t → IsSearch p v ch t 0
+  closed none = searched_to (omega arith) (λ i e bid low lt log. absurd (none i e bid lt log))
 
-module _ {p : GroundParts} {ch : List ℕ} {t first stop : ℕ} {cells : List Cell} {v : List BidParts}
-    (part : IsPart p t first stop cells) (order : first ≤ stop)
-    (was : AreOffered p ch t first stop cells (length cells) v) where
-  -- a log that a cell serves reaches the values
-  reached_here : (i e : ℕ) (bid : BidParts) → IsServed p cells t first stop i e bid
+module _ {p : GroundParts} {ch : List ℕ} {t first stop n : ℕ} {cells : List Cell} {v : List BidParts}
+    (was : AreOffered p ch t first stop cells n v) (all : length cells ≤ n) where
+  -- a log of the part reaches the values
+  reached : (i e : ℕ) (bid : BidParts) → first ≤ i → i < stop → IsLogAt p i t e bid
       → Reaches v i (plus bid (bid_at v e))
-  reached_here i e bid s =
+  reached i e bid low lt log =
+      let s = was.part.served i e bid low lt log in
       let start : ℕ = t - s.cell.steps in
-      let less = (was.search.settled (t + s.cell.rise) (omega arith)).falls e s.leaves in
-      let done = was.done s.place s.cell (slice_get_within cells s.place s.cell s.there) s.there s.near in
-      elim s.serves [
-        | inl same ↦ let at = done i same.0 in inl (grind arith)
-        | inr later ↦
-            let at = done start (omega (arith, s.near.0)) in inr (start, omega (arith, later.0), grind arith)
-      ]
-
-  -- and so does one that is beaten
-  reached_later : (i e : ℕ) (bid : BidParts) → i < stop → IsBeaten p t stop e bid
-      → Reaches v i (plus bid (bid_at v e))
-  reached_later i e bid lt b =
-      let less = (was.search.settled b.next b.log.order).falls e b.leaves in
-      elim (was.search.each b.start t b.next b.other b.log.later (omega arith) (inr b.later) b.log) [
-        | inl at ↦ inr (b.start, omega (arith, b.later), grind (arith, b.more))
-        | inr o ↦ inr (o.0, omega (arith, b.later, o.1), omega (arith, b.more, o.2))
+      let is : start + s.cell.steps ≡ t = omega (arith, s.serves, log.later) in
+      let le : i ≤ start = omega (arith, s.serves, log.later) in
+      let own = was.part.real s.place s.cell s.there s.fits i start low lt le is in
+      let less = (was.search.settled (t + s.cell.rise) own.order).falls e s.leaves in
+      let at : Reaches v start (plus s.cell.bid (bid_at v (t + s.cell.rise))) =
+      elim (cases_lt start stop) [
+        | inl near ↦
+            inl (was.done s.place s.cell (omega (arith, all, slice_get_within cells s.place s.cell s.there)) s.there
+            (omega (arith, le, is, low), omega (arith, near, is), s.fits) start is)
+        | inr far ↦ was.search.each start t (t + s.cell.rise) s.cell.bid own.later (omega arith) (inr far) own
+      ] in
+      elim at [
+        | inr more ↦ inr (more.0, omega (arith, le, more.1), omega (arith, s.serves, more.2))
+        | inl here ↦ elim s.serves [
+          | inl same ↦
+              let at_start : i ≡ start = omega (arith, same.0, log.later) in
+              let more = plus_more bid s.cell.bid (bid_at v e) (bid_at v (t + s.cell.rise)) same.1 less in
+              inl (rw at_start (IsAtMost-trans _ _ _ more here))
+          | inr later ↦ inr (start, omega (arith, later.0, log.later), grind arith)
+        ]
       ]
 
   -- once all cells of a part are offered, all its logs are
   pub offered_part : IsSearch p v ch t first
-  offered_part =
-      searched_to p v ch t first stop was.search order (λ i e bid low lt log. elim (part.served i e bid low lt log) [
-        | inl s ↦ reached_here i e bid s
-        | inr b ↦ reached_later i e bid lt b
-      ])
+  offered_part = searched_to was.search was.order reached

@@ -1,111 +1,180 @@
 -- The quote of an offer.
-use Rattle.buck_dp.proofs.Words.{◌≡◌, ℕ, ◌+◌, ◌-◌, ◌*◌, ◌/◌, ◌<◌, ◌≤◌, List, length, slice_get, slice_index, Some, sym, subst, ap, ◌∙◌, arith, rules, mul-div_left, same_Some, slice_get_within, AssortmentParts, InstructionParts, SheetParts, IsSheet, price-le, Pricing, Offer, IsPricing, HasNoPrice, AreOffers, codes_in, IsPricedAt, worth_for, in_order, code_at, code_index, codes_number, whole_length, point_after, Quote, Ask, BidParts, IsTaker, IsTakersBid, quote_bid, priced_at, IsAsked, IsQuoteOf, term_for, IsTermAt, trim_in, None}
-use Rattle.buck_dp.proofs.CellLemmas.{same_bid}
+use Rattle.buck_dp.proofs.Words.{Contains-get_or, mul-div_left, quote_bid, quote_at, IsOfferOf, ◌≡◌, ℕ, ◌+◌, ◌-◌, ◌/◌, ◌%◌, ◌<◌, ◌≤◌, ◌⊎◌, inl, inr, suc, List, [], ◌∷◌, ◌++◌, Contains, length, get_or, slice_get, Some, refl, sym, subst, ap, ◌∙◌, arith, cases_lt, unwrap_or, nat_le, nat_tests, same_Some, All-contains, AssortmentParts, InstructionParts, sum_by-le, IsInstruction, IsAssortment, IsWithin, classes, sheet_of, price-le, mul-le-mul, last_position, row_at, Offer, offer_of, offer_at, AreOffers, IsBand, IsPriced, IsClassAt, HasNoPrice, point_after, Quote, Ask, IsTaker, IsTerm, AreTerms, nat_cmp, false, ◌*◌, All, length-append, get_or_default, slice_get_within, IsNoLater, IsPermutation, IsSorted}
+use Rattle.buck_apt.specs.Instruction.{classes_of}
+use Rattle.std.proofs.lemmas.List.Elements.{All-weaker, All-push, Contains-push, Contains-append_left, All-contains}
+use Rattle.buck_dp.proofs.ListLemmas.{on_module, has_at}
+use Rattle.buck_dp.proofs.TopLemmas.{same_bid}
+use Rattle.buck_dp.proofs.Logs.{whole_steps, one_step}
+use Rattle.std.proofs.Common.{Ordering}
+use Rattle.std.specs.Ordering.{ordering_then, is_lt}
+use Rattle.std.specs.Cmp.{ranks}
+use Rattle.std.proofs.lemmas.Cmp.{nat_cmp_total, on_total, then_total}
+use Rattle.std.proofs.lemmas.List.Sorted.{Contains-permutation, All-permutation, length_permutation, sorted_far, ranks_by}
 
--- a later offer is no shorter
-pub no_shorter : (i : InstructionParts) (offers : List Offer) (j k : ℕ) (o : Offer) → AreOffers i offers
-    → slice_get offers j ≡ Some o → k < length (codes_in offers)
-    → (j ≤ k → o.length ≤ slice_index (codes_in offers) k / 16)
-    × (k ≤ j → slice_index (codes_in offers) k / 16 ≤ o.length)
-no_shorter i offers j k o are at lt =
-    let own = code_index offers j o at in
-    let low = are.low j o at in
-    let codes : List ℕ = codes_in offers in (
-      λ le. omega (arith, own, low, in_order codes are.codes.rise j k le lt),
-      λ le. omega (
-        arith,
-        own,
-        low,
-        in_order codes are.codes.rise k j le
-            (omega (arith, codes_number offers, slice_get_within offers j o at)),
-      ),
-    )
+-- where no limit lies between two diameters, the last that is at most each is the same
+same_last : (xs : List ℕ) (low d past : ℕ) → low ≤ d → d < past → ((l : ℕ) → Contains xs l → (l ≤ low) ⊎ (past ≤ l))
+    → last_position (λ l. nat_le l d) xs ≡ last_position (λ l. nat_le l low) xs
+same_last [] low d past from lt apart = refl
+same_last (x ∷ xs) low d past from lt apart =
+    let here : nat_le x d ≡ nat_le x low = grind (arith, nat_tests, apart x (0, omega arith, refl)) in
+    rw (here, same_last xs low d past from lt (λ l has. apart l (suc has.0, omega (arith, has.1), has.2))) refl
 
-module _ (i : InstructionParts) (offers : List Offer) (ask : Ask) (place : ℕ) (o : Offer) (are : AreOffers i offers)
-    (at : slice_get offers place ≡ Some o) where
-  -- a taker's bid of the rank of the offer is for its logs
-  bid_own : (s : SheetParts) → IsSheet s → (steps trim d : ℕ) (bid : BidParts) → bid.rank + place ≡ 1023
-      → (b : IsTakersBid s (codes_in offers) ask.takers d steps trim bid)
-      → (o.length ≡ steps * s.instruction.«module») × (o.assortment ≡ b.a)
-  bid_own s valid steps trim d bid rank b = search (rules, same_Some, code_at, slice_get_within)
+-- so is the row of an assortment
+pub row_still : {x : AssortmentParts} {low past row : ℕ} → IsBand x low past → row ≡ row_at x low → (d : ℕ) → low ≤ d
+    → d < past → row_at x d ≡ row
+row_still {x} {low} {past} band row_is d from lt =
+    ap (λ o. unwrap_or o 0) (same_last x.diameters low d past from lt band.rows) ∙ sym row_is
 
-  -- nobody bids for its logs where its assortment isn't among the takers
-  pub no_taker : (IsTaker ask.takers o.assortment → ⊥) → IsTermAt i (codes_in offers) ask place None
-  no_taker none s valid is steps trim d bid asked rank b =
-      none (subst (λ a. IsTaker ask.takers a) (sym (bid_own s valid steps trim d bid rank b).1) b.taker)
+-- the offer at a place is a length of an assortment
+pub offer_real : {i : InstructionParts} {offers : List Offer} {place : ℕ} → AreOffers i offers → place < length offers
+    → IsOfferOf i (get_or offers place (offer_of 0 0))
+offer_real {i} {offers} {place} are lt = (are.all _).0 (Contains-get_or offers place (offer_of 0 0) lt)
 
-  -- nor where they have no price
-  pub no_price : HasNoPrice i o.assortment o.length ask.band.thinnest ask.band.past
-      → IsTermAt i (codes_in offers) ask place None
-  no_price none s valid is steps trim d bid asked rank b =
-      let own = bid_own s valid steps trim d bid rank b in
-      none s d is asked.0 asked.1
-      (subst (λ a. IsPricedAt s a o.length d) (sym own.1) (subst (λ n. IsPricedAt s b.a n d) (sym own.0) b.bids.at))
+-- an instruction has few classes
+pub classes_few : (i : InstructionParts) → IsInstruction i → classes i ≤ 16384
+classes_few i valid = omega (
+  arith,
+  sum_by-le classes_of 1024 i.assortments (All-weaker IsAssortment (λ a. classes_of a ≤ 1024)
+      (λ a v. mul-le-mul v.rows.1 v.columns.1) i.assortments valid.assortments_valid),
+  valid.assortments_number,
+)
 
-  module _ (p : Pricing) (taker : IsTaker ask.takers o.assortment)
-      (pricing : IsPricing i o.assortment o.length ask.band.thinnest ask.band.past p) (short : o.length ≤ 30000) where
-    few : place ≤ 1023
-    few = omega (arith, codes_number offers, slice_get_within offers place o at)
+module _ {i : InstructionParts} {offers : List Offer} {ask : Ask} {place : ℕ} {terms : List Quote}
+    (are : AreOffers i offers) (lt : place < length offers) (were : AreTerms i offers ask place terms) where
+  abbrev o : Offer
+  o = get_or offers place (offer_of 0 0)
 
-    abbrev quote_in : SheetParts → Quote
-    quote_in s = priced_at (term_for i o (1023 - place) p).quote (slice_index s.prices p.class)
+  -- the offer of the rank of the place
+  own : (rank : ℕ) → rank + place ≡ 1023 → offer_at offers rank ≡ o
+  own rank sum = ap (λ n. get_or offers n (offer_of 0 0)) (omega arith)
 
-    module _ (s : SheetParts) (valid : IsSheet s) (is : s.instruction ≡ i) where
-      abbrev q : Quote
-      q = quote_in s
+  -- nobody bids for its logs: the terms stay
+  pub none_put : (x : AssortmentParts) → slice_get i.assortments o.assortment ≡ Some x → HasNoPrice x o ask
+      → AreTerms i offers ask (place + 1) terms
+  none_put x exists none = record {
+    real = were.real;
+    met = λ version prices valid steps trim d bid asked past b. elim (cases_lt 1023 (bid.rank + place)) [
+      | inl before ↦ were.met version prices valid steps trim d bid asked before b
+      | inr now ↦
+          let e = own bid.rank (omega arith) in
+          let same = same_Some b.assortment x (rw e at (sym b.exists) ∙ exists) in
+          absurd (none d asked (rw e at b.taker) (rw (e, same) at b.priced))
+    ];
+  }
 
-      unit : s.instruction.«module» ≡ i.«module»
-      unit = ap (λ (j : InstructionParts). j.«module») is
+  -- its term is put behind the others
+  module _ (x : AssortmentParts) (exists : slice_get i.assortments o.assortment ≡ Some x)
+      (k : ℕ) (is : IsClassAt i x o ask k) where
+    abbrev term : Quote
+    term = record {
+      kind = x.price_kind;
+      class = k;
+      price = 0;
+      rank = 1023 - place;
+      length = o.length;
+      steps = o.length / i.«module»;
+      trim = x.trim;
+      rise = point_after i.«module» x.trim;
+    }
 
-      pos : 0 < i.«module»
-      pos = omega (arith, valid.valid.module_range, unit)
+    sum : 1023 - place + place ≡ 1023
+    sum = omega (arith, are.few)
 
-      whole : (q.steps * s.instruction.«module» ≡ o.length) × (0 < q.steps)
-      whole = subst (λ n. (q.steps * n ≡ o.length) × (0 < q.steps)) (sym unit)
-          (grind (arith, slice_get_within, whole_length, pos, code_index, codes_number))
+    term_is : IsTerm i offers ask term
+    term_is = record {
+      class = is.within;
+      quote = λ version prices valid.
+          let real = offer_real are lt in
+          let offered = rw (same_Some real.0 x (sym real.1 ∙ exists)) at real.2 in
+          let on : o.length % i.«module» ≡ 0 = on_module i o.assortment x o.length valid.valid exists offered in
+          let range : IsWithin 500 30000 o.length = search (arith, All-contains, has_at, valid.valid, exists, offered)
+          in
+          let e = own (1023 - place) sum in
+          record {
+            small = record {
+              length = range.1;
+              price = price-le (sheet_of version i prices) k valid;
+              rank = omega arith;
+            };
+            rise = refl;
+            bids = λ d asked. record {
+              rank = (omega arith, omega (arith, sum));
+              taker = subst (λ (b : Offer). IsTaker ask.takers b.assortment) (sym e) is.taker;
+              assortment = x;
+              exists = rw e exists;
+              priced = subst (λ (b : Offer). IsPriced x b d) (sym e) (is.priced d asked);
+              length = rw e (sym (whole_steps o.length i.«module» on));
+              some = one_step o.length i.«module» (omega (arith, range.0)) on;
+              own = refl;
+              worth = rw (e, is.index d asked) refl;
+            };
+          };
+    }
 
-      trim_at : (x : AssortmentParts) → slice_get s.instruction.assortments o.assortment ≡ Some x → x.trim ≡ q.trim
-      trim_at x there =
-          sym (ap trim_in there)
-          ∙ ap (λ (j : InstructionParts). trim_in (slice_get j.assortments o.assortment)) is
+    pub term_put : AreTerms i offers ask (place + 1) (terms ++ term ∷ [])
+    term_put = record {
+      real = All-push (λ t. IsTerm i offers ask t) terms term were.real term_is;
+      met = λ version prices valid steps trim d bid asked past b. elim (cases_lt 1023 (bid.rank + place)) [
+        | inl before ↦
+            let m = were.met version prices valid steps trim d bid asked before b in
+            (m.0, Contains-append_left terms (term ∷ []) m.0 m.1, m.2, m.3, m.4)
+        | inr now ↦
+            let e = own bid.rank (omega arith) in
+            let same = same_Some b.assortment x (rw e at (sym b.exists) ∙ exists) in (
+              term,
+              Contains-push terms term,
+              ap (λ n. n / i.«module») (rw e at b.length)
+                  ∙ mul-div_left steps (omega (arith, valid.valid.module_range)),
+              rw same at b.own,
+              same_bid (quote_bid (quote_at prices term) d) bid
+                  (sym (b.worth ∙ rw (e, same, is.index d asked) refl)) (omega arith),
+            )
+      ];
+    }
 
-      -- what the quote is worth at a diameter
-      worth_is : (d : ℕ) → IsAsked ask d → worth_for s o.assortment o.length d ≡ (quote_bid q d).worth
-      worth_is d asked = pricing.worth s d is asked.0 asked.1
+-- a list has the offers of the first n assortments, and of the next one those of its first k lengths
+pub record HasOffers (i : InstructionParts) (n k : ℕ) (offers : List Offer) : Type 0 where
+  pub few : length offers ≤ 32 * n + k
+  pub real : All (λ o. IsOfferOf i o) offers
+  pub whole : (a j l : ℕ) (x : AssortmentParts) → slice_get i.assortments a ≡ Some x → j < length x.lengths
+      → get_or x.lengths j l ≡ l → (a < n) ⊎ ((a ≡ n) × (j < k)) → Contains offers (offer_of l a)
 
-      quote_right : IsQuoteOf s (codes_in offers) ask place q
-      quote_right = record {
-        is = record {
-          small = record { length = short; price = price-le s p.class valid; rank = omega arith };
-          rise = ap (λ n. point_after n q.trim) (sym unit);
-          bids = λ d asked.
-              let there : IsPricedAt s o.assortment o.length d = pricing.priced s d is asked.0 asked.1 in
-              record {
-                a = o.assortment;
-                taker = taker;
-                assortment = there.assortment;
-                exists = there.exists;
-                some = whole.1;
-                bids = rw whole.0 (record {
-                  at = there;
-                  rank = record {
-                    high = omega arith;
-                    at = ap (slice_get (codes_in offers)) (let e : 1023 - q.rank ≡ place = omega (arith, few) in e)
-                        ∙ code_at offers place o at;
-                  };
-                  worth = sym (worth_is d asked);
-                });
-                own = trim_at there.assortment there.exists;
-              };
-        };
-        rank = omega (arith, few);
-        only = λ steps trim d bid asked rank' b.
-            let own = bid_own s valid steps trim d bid rank' b in
-            let long : q.steps ≡ steps = ap (λ n. n / i.«module») (own.0 ∙ ap (λ n. steps * n) unit)
-            ∙ mul-div_left steps pos in
-            search (rules, worth_is, long, trim_at, same_bid);
-      }
+-- one length more
+pub more_offers : {i : InstructionParts} {n k l : ℕ} {x : AssortmentParts} {offers : List Offer}
+    → slice_get i.assortments n ≡ Some x → k < length x.lengths → l ≡ get_or x.lengths k 0 → HasOffers i n k offers
+    → HasOffers i n (k + 1) (offers ++ offer_of l n ∷ [])
+more_offers {i} {n} {k} {l} {x} {offers} at lt is was =
+    let own : Contains x.lengths l = (k, lt, get_or_default x.lengths k l 0 lt ∙ sym is) in
+    let o : Offer = offer_of l n in
+    record {
+      few = omega (arith, was.few, length-append offers (o ∷ []));
+      real = All-push (λ o. IsOfferOf i o) offers o was.real (x, at, own);
+      whole = λ a j m y there inside has which.
+          let old = was.whole a j m y there inside has in
+          grind (arith, cases_lt, which, get_or_default, Contains-push offers o, old, Contains-append_left);
+    }
 
-    -- the term of an offer is its quote under each sheet of the instruction
-    pub term_right : IsTermAt i (codes_in offers) ask place (Some (term_for i o (1023 - place) p))
-    term_right = record { class = pricing.within; quotes = quote_right }
+-- by length, and then by assortment
+abbrev offer_cmp : Offer → Offer → Ordering
+offer_cmp a b = ordering_then (nat_cmp a.length b.length) (nat_cmp a.assortment b.assortment)
+
+-- what isn't before another offer is no earlier
+no_later : (a b : Offer) → is_lt (offer_cmp b a) ≡ false → IsNoLater a b
+no_later a b not = grind (arith, ranks)
+
+-- the offers of all assortments, once they are sorted
+pub offers_sorted : (i : InstructionParts) (n : ℕ) (found offers : List Offer) → length i.assortments ≤ n → n ≤ 16
+    → HasOffers i n 0 found → IsPermutation found offers → IsSorted offer_cmp offers → AreOffers i offers
+offers_sorted i n found offers whole few has moved sorted = record {
+  few = omega (arith, has.few, length_permutation found offers moved);
+  all = λ o. (
+    λ there. All-contains (IsOfferOf i) offers o (All-permutation (IsOfferOf i) found offers moved has.real) there,
+    λ is. Contains-permutation found offers o moved
+        (has.whole o.assortment is.2.0 o.length is.0 is.1 is.2.1 is.2.2
+        (inl (omega (arith, slice_get_within i.assortments o.assortment is.0 is.1)))),
+  );
+  order = λ j k le lt.
+      let long = on_total (λ (o : Offer). o.length) nat_cmp_total in
+      let total = then_total long (on_total (λ o. o.assortment) nat_cmp_total) in
+      no_later _ _ (sorted_far _ (ranks_by total (λ o. o)) offers sorted j k (offer_of 0 0) le lt);
+}

@@ -1,21 +1,11 @@
 //! Where logs end.
 ghost use Rattle.std.specs.Prelude.{◌≡◌, ◌≤◌};
 ghost use Rattle.buck_stem.specs.Stem.{IsStem};
-ghost use Rattle.buck_value.specs.Sheet.{IsSheet};
 ghost use Rattle.buck_value.specs.Allowed.{IsAllowed, end_of};
-ghost use Rattle.buck_dp.specs.inner.Points.{point_after};
+ghost use Rattle.buck_dp.specs.inner.Logs.{point_after};
 
 use buck_stem::Stem;
 use buck_value::{Log, Sheet};
-
-/// The module in mm: each log starts at a multiple of it.
-pub(crate) fn module_of(sheet: &Sheet) -> u32
-    ensures step { result ≡ sheet.now.instruction.module }
-    ensures range { (10 ≤ result) × (result ≤ 1000) }
-    ensures valid { IsSheet sheet.now }
-{
-    sheet.instruction().module()
-}
 
 /// Where an allowed log ends, in mm from the butt: it takes up its length and the trim allowance of its assortment.
 pub(crate) fn end_of(sheet: &Sheet, stem: &Stem, log: &Log) -> u32
@@ -43,5 +33,5 @@ pub(crate) fn point_after(sheet: &Sheet, stem: &Stem, log: &Log) -> usize
     requires allowed { IsAllowed sheet.now.instruction stem.now log.now }
     ensures { result ≡ point_after sheet.now.instruction.module (end_of sheet.now.instruction log.now) }
 {
-    point_from(module_of(sheet), end_of(sheet, stem, log)) as usize
+    point_from(sheet.instruction().module(), end_of(sheet, stem, log)) as usize
 }

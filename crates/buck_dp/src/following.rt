@@ -1,47 +1,47 @@
 //! The choices of a stem's points, followed from the butt: the logs of the best cutting.
-ghost use Rattle.std.specs.Prelude.{◌≡◌, ℕ, ◌-◌, ◌*◌, ◌<◌, ◌≤◌, IfOk, length, get_or};
-ghost use Rattle.buck_stem.specs.Stem.{StemParts, IsStem};
-ghost use Rattle.buck_bid.specs.Offers.{AreOffers, codes_in};
-ghost use Rattle.buck_dp.specs.inner.Points.{ground_with};
-ghost use Rattle.buck_dp.specs.inner.Table.{IsChosen, log_at, told};
+ghost use Rattle.std.specs.Prelude.{◌≡◌, ◌-◌, ◌*◌, ◌<◌, ◌≤◌, IfOk, length};
+ghost use Rattle.buck_dp.specs.inner.Offers.{IsRank};
+ghost use Rattle.buck_dp.specs.Best.{IsFirstBest, cutting_worth};
+ghost use Rattle.buck_dp.specs.inner.Logs.{log_at};
+ghost use Rattle.buck_dp.specs.inner.Searched.{IsSearch};
+ghost use Rattle.buck_dp.specs.inner.Site.{IsSite, ground_of};
 
-use crate::ends::{module_of, point_after};
-use buck_bid::Offer;
-use buck_stem::Stem;
-use buck_value::{Log, Sheet};
+use crate::bid::Bid;
+use crate::ends::point_after;
+use crate::planning::Site;
+use buck_value::Log;
 use std::alloc::{AllocError, Global};
 
 /// The log of the offer of a rank that starts at point `i`.
-fn log_at(sheet: &Sheet, offers: &[Offer], rank: u32, i: usize) -> Log
-    requires offers { AreOffers sheet.now.instruction offers.now }
-    requires rank { (rank ≤ 1023) × (1023 - rank < length offers.now) }
-    requires i { i * sheet.now.instruction.module ≤ 40000 }
-    ensures { (stem : StemParts) → result ≡ log_at (ground_with sheet.now stem (codes_in offers.now)) rank i }
+#[tactic(auto, unfolding(crate::specs::inner::Logs::log_at))]
+fn log_at(site: Site<'_>, rank: u32, i: usize) -> Log
+    requires site { IsSite site }
+    requires rank { IsRank site.market.menu.now.offers.items rank }
+    requires i { i * site.market.sheet.now.instruction.module ≤ 40000 }
+    ensures { result ≡ log_at (ground_of site.entry) rank i }
 {
+    let offers = site.market.menu.offers.as_slice();
     let offer = offers[1023 - rank as usize];
     Log {
-        start: i as u32 * module_of(sheet),
+        start: i as u32 * site.market.sheet.instruction().module(),
         length: offer.length,
-        assortment: offer.assortment as u8,
+        assortment: offer.assortment,
     }
 }
 
-/// The logs that the choices of all points tell from the butt on: a choice is the rank of the log that starts there, 0
-/// where none does.
-#[tactic(auto, using(crate::proofs::Values::told_at_first, crate::proofs::Values::told_next))]
+/// The first of the best cuttings of a stem that is searched down to the butt, and its worth: a choice is the rank of
+/// the log that starts at its point, 0 where none does.
 pub(crate) fn follow(
     alloc: Global,
-    sheet: &Sheet,
-    stem: &Stem,
-    offers: &[Offer],
+    site: Site<'_>,
+    values: &[Bid],
     choices: &[u32],
-) -> Result<Vec<Log>, AllocError>
-    requires sound { IsStem stem.now }
-    requires offers { AreOffers sheet.now.instruction offers.now }
-    requires chosen { (i : ℕ) → 0 < get_or choices.now i 0
-        → IsChosen (ground_with sheet.now stem.now (codes_in offers.now)) i (get_or choices.now i 0) }
-    ensures { IfOk result (λ logs. logs.items
-        ≡ told (ground_with sheet.now stem.now (codes_in offers.now)) choices.now (length choices.now) 0) }
+) -> Result<(Vec<Log>, u64), AllocError>
+    requires site { IsSite site }
+    requires search { IsSearch (ground_of site) values.now choices.now 0 0 }
+    ensures first { IfOk result (λ best. IsFirstBest site.entry.market.sheet.now site.entry.stem.now best.0.items) }
+    ensures worth { IfOk result (λ best.
+        best.1 ≡ cutting_worth site.entry.market.sheet.now site.entry.stem.now best.0.items) }
 {
     let mut logs = Vec::new(alloc);
     let mut i = 0;
@@ -50,10 +50,10 @@ pub(crate) fn follow(
         if rank == 0 {
             i += 1;
         } else {
-            let log = log_at(sheet, offers, rank, i);
+            let log = log_at(site, rank, i);
             logs.push(log)?;
-            i = point_after(sheet, stem, &log);
+            i = point_after(site.market.sheet, site.stem, &log);
         }
     }
-    Ok(logs)
+    Ok((logs, values[0].worth()))
 }

@@ -9,6 +9,7 @@ use buck_value::{Sheet, worth_if_allowed};
 
 /// The worth of a cutting under a sheet, in millionths of the price unit, where it is admissible, and `None` where it
 /// isn't; see [`admissible`] and [`worth`]. Any logs may be asked of. It takes no memory.
+#[tactic(auto, using(buck_value::proofs::Rates::worth_low))]
 pub fn worth_if_admissible(sheet: &Sheet, stem: &Stem, cutting: &Cutting) -> Option<u64>
     ensures admissible { IfSome result (λ _. IsAdmissible sheet.now stem.now cutting.now.logs.items) }
     ensures worth { IfSome result (λ w. w ≡ cutting_worth sheet.now stem.now cutting.now.logs.items) }
@@ -20,9 +21,7 @@ pub fn worth_if_admissible(sheet: &Sheet, stem: &Stem, cutting: &Cutting) -> Opt
         if log.start < from {
             return None;
         }
-        let Some(worth) = worth_if_allowed(sheet, stem, log) else {
-            return None;
-        };
+        let worth = worth_if_allowed(sheet, stem, log)?;
         total += worth;
         from = end_of(sheet, stem, log);
     }
@@ -43,8 +42,5 @@ pub fn worth(sheet: &Sheet, stem: &Stem, cutting: &Cutting) -> u64
     requires { IsAdmissible sheet.now stem.now cutting.now.logs.items }
     ensures { result ≡ cutting_worth sheet.now stem.now cutting.now.logs.items }
 {
-    match worth_if_admissible(sheet, stem, cutting) {
-        Some(worth) => worth,
-        None => unreachable!(),
-    }
+    worth_if_admissible(sheet, stem, cutting).unwrap()
 }

@@ -17,14 +17,14 @@ pub fn logs_of_a_cutting_are_allowed()
 {}
 
 /// An admissible cutting has at most 80 logs.
-#[tactic(auto, using(crate::proofs::Lists::at_most_80))]
+#[tactic(auto, using(crate::proofs::Lists::cut_bounded))]
 pub fn cuttings_are_short()
     ensures { (sheet : SheetParts) (stem : StemParts) (logs : List Log) → IsSheet sheet → IsStem stem
         → IsAdmissible sheet stem logs → length logs ≤ 80 }
 {}
 
 /// An admissible cutting is worth at most 2,800,000,000,000,000 millionths of the price unit.
-#[tactic(auto, using(crate::proofs::Lists::worth_bounded))]
+#[tactic(auto, using(crate::proofs::Lists::cut_bounded))]
 pub fn worth_is_bounded()
     ensures { (sheet : SheetParts) (stem : StemParts) (logs : List Log) → IsSheet sheet → IsStem stem
         → IsAdmissible sheet stem logs → cutting_worth sheet stem logs ≤ 2800000000000000 }
@@ -38,7 +38,7 @@ pub fn first_of_the_best_is_one()
 {}
 
 /// Where no assortment has a trim, the cuttings that are admissible are those that would be without any trim.
-#[tactic(auto, using(crate::proofs::Untrimmed::cut_without, crate::proofs::Untrimmed::cut_with))]
+#[tactic(auto, using(crate::proofs::Lists::cut_same))]
 pub fn no_trim_admits_the_same()
     ensures { (sheet : SheetParts) (stem : StemParts) (logs : List Log) → HasNoTrim sheet.instruction
         → (IsAdmissible sheet stem logs ↔ IsAdmissibleUntrimmed sheet stem logs) }

@@ -1,16 +1,13 @@
 //! What is done at one top: its value is settled, and its logs are offered to the points where they start.
-ghost use Rattle.std.specs.Prelude.{◌≡◌, ℕ, ◌+◌, ◌<◌, ◌≤◌, ◌++◌, List, length, slice_get, Some, IfOk};
+ghost use Rattle.std.specs.Prelude.{◌≡◌, ℕ, ◌+◌, ◌<◌, ◌≤◌, ◌++◌, All, List, length, slice_get, Some, OnOk};
 ghost use Rattle.buck_dp.specs.declared.offering.Cell.{Cell};
 ghost use Rattle.buck_dp.specs.inner.Bid.{BidParts};
-ghost use Rattle.buck_dp.specs.inner.Points.{GroundParts};
-ghost use Rattle.buck_dp.specs.inner.Rows.{IsPlaced, AllFit, HasRoom};
-ghost use Rattle.buck_dp.specs.inner.Searched.{IsSearch, IsOpen, CanOffer, IsOffered};
+ghost use Rattle.buck_dp.specs.inner.Logs.{GroundParts};
+ghost use Rattle.buck_dp.specs.inner.Searched.{IsPlaced, AllFit, HasRoom, IsSearch, AreOffered, CanOffer, IsOffered};
 ghost use Rattle.buck_dp.specs.declared.pricing.Quote.{Quote};
 ghost use Rattle.buck_dp.specs.inner.Quotes.{cell_of, row_of, IsSmall};
-ghost use Rattle.buck_dp.specs.inner.Index.{IsBehind};
 
 use crate::bid::Bid;
-use crate::index::Place;
 use crate::pricing::Quote;
 use std::alloc::AllocError;
 
@@ -53,27 +50,23 @@ fn cell_at(quote: Quote, diameter: u32, far: usize) -> Cell
     }
 }
 
-/// Puts the row of a price list at a diameter behind others, and tells where. It reaches `far` points back.
+/// Puts the row of a price list at a diameter behind others. It reaches `far` points back.
 pub fn put_row(
     cells: &mut Vec<Cell>,
     list: &[Quote],
     diameter: u32,
     far: usize,
-) -> Result<Place, AllocError>
-    requires list { (k : ℕ) (q : Quote) → slice_get list.now k ≡ Some q → IsSmall q × (q.steps ≤ far) }
+) -> Result<(), AllocError>
+    requires list { All (λ q. IsSmall q × (q.steps ≤ far)) list.now }
     requires diameter { diameter ≤ 1500 }
     requires far { far ≤ 4294967295 }
-    ensures { IfOk result (IsBehind cells.old.items (row_of far diameter list.now) cells.new.items) }
+    ensures { OnOk result (cells.new.items ≡ cells.old.items ++ row_of far diameter list.now) }
 {
     cells.reserve(list.len())?;
-    let from = cells.len();
     for quote in list {
         cells.push_reserved(cell_at(*quote, diameter, far));
     }
-    Ok(Place {
-        from,
-        number: list.len(),
-    })
+    Ok(())
 }
 
 /// Settles a point: its value is what was offered to it, or that of the next point if this is greater. The rank becomes
@@ -100,13 +93,13 @@ fn offer_bid(values: &mut [Bid], start: usize, next: usize, bid: Bid)
 
 /// Offers the cells of a row at the top `far` of values, which stand behind others, where their logs start.
 fn offer_back(values: &mut [Bid], far: usize, row: &[Cell])
-    requires row { (k : ℕ) (c : Cell) → slice_get row.now k ≡ Some c → (0 < c.steps) × IsPlaced far c }
+    requires row { (k : ℕ) (c : Cell) → slice_get row.now k ≡ Some c → IsPlaced far c }
     requires open { (p : GroundParts) × (choices : List ℕ) × (front : List BidParts) × (first : ℕ)
         × (first ≤ length front) × AllFit p (length front + far) row.now
-        × IsOpen p choices (front ++ values.old) (length front + far) first (length front + far) row.now }
+        × AreOffered p choices (length front + far) first (length front + far) row.now 0 (front ++ values.old) }
     ensures { (p : GroundParts) (choices : List ℕ) (front : List BidParts) (first : ℕ)
         → first ≤ length front → AllFit p (length front + far) row.now
-        → IsOpen p choices (front ++ values.old) (length front + far) first (length front + far) row.now
+        → AreOffered p choices (length front + far) first (length front + far) row.now 0 (front ++ values.old)
         → IsSearch p (front ++ values.new) choices (length front + far) first }
 {
     for cell in row {
@@ -116,10 +109,9 @@ fn offer_back(values: &mut [Bid], far: usize, row: &[Cell])
 
 /// Offers the cells of a row at a top, which fit behind it, to those points from `first` on where their logs start.
 fn offer_short(values: &mut [Bid], top: usize, first: usize, row: &[Cell])
-    requires some { (k : ℕ) (c : Cell) → slice_get row.now k ≡ Some c → 0 < c.steps }
-    requires open { (p : GroundParts) × (choices : List ℕ) × IsOpen p choices values.old top first top row.now
+    requires open { (p : GroundParts) × (choices : List ℕ) × AreOffered p choices top first top row.now 0 values.old
         × AllFit p top row.now }
-    ensures { (p : GroundParts) (choices : List ℕ) → IsOpen p choices values.old top first top row.now
+    ensures { (p : GroundParts) (choices : List ℕ) → AreOffered p choices top first top row.now 0 values.old
         → AllFit p top row.now → IsSearch p values.new choices top first }
 {
     let most = top - first;
@@ -135,10 +127,10 @@ fn offer_short(values: &mut [Bid], top: usize, first: usize, row: &[Cell])
 /// row reaches `far` points back.
 #[inline(always)]
 pub(crate) fn offer_all(values: &mut [Bid], top: usize, first: usize, row: &[Cell], far: usize)
-    requires row { (k : ℕ) (c : Cell) → slice_get row.now k ≡ Some c → (0 < c.steps) × IsPlaced far c }
-    requires open { (p : GroundParts) × (choices : List ℕ) × IsOpen p choices values.old top first top row.now
+    requires row { (k : ℕ) (c : Cell) → slice_get row.now k ≡ Some c → IsPlaced far c }
+    requires open { (p : GroundParts) × (choices : List ℕ) × AreOffered p choices top first top row.now 0 values.old
         × AllFit p top row.now }
-    ensures { (p : GroundParts) (choices : List ℕ) → IsOpen p choices values.old top first top row.now
+    ensures { (p : GroundParts) (choices : List ℕ) → AreOffered p choices top first top row.now 0 values.old
         → AllFit p top row.now → IsSearch p values.new choices top first }
 {
     if top - first < far {
@@ -152,9 +144,9 @@ pub(crate) fn offer_all(values: &mut [Bid], top: usize, first: usize, row: &[Cel
 /// Offers the cells of a row to the points where their logs start, as far as these are within reach and fit.
 pub(crate) fn offer_some(values: &mut [Bid], reach: Reach, row: &[Cell])
     requires open { (p : GroundParts) × (choices : List ℕ)
-        × IsOpen p choices values.old reach.top reach.first reach.stop row.now × HasRoom p reach.top reach.room }
+        × AreOffered p choices reach.top reach.first reach.stop row.now 0 values.old × HasRoom p reach.top reach.room }
     ensures { (p : GroundParts) (choices : List ℕ)
-        → IsOpen p choices values.old reach.top reach.first reach.stop row.now → HasRoom p reach.top reach.room
+        → AreOffered p choices reach.top reach.first reach.stop row.now 0 values.old → HasRoom p reach.top reach.room
         → IsSearch p values.new choices reach.top reach.first }
 {
     let most = reach.top - reach.first;

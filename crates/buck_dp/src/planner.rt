@@ -1,21 +1,13 @@
 //! Planners, and the best cutting of a stem.
-ghost use Rattle.std.specs.Prelude.{◌≡◌, ◌<◌, ◌≤◌, IfOk, IfErr, OnOk, false, length, slice_index};
-ghost use Rattle.buck_value.specs.Sheet.{IsSheet};
-ghost use Rattle.buck_value.specs.Allowed.{IsAllowed};
-ghost use Rattle.buck_value.specs.declared.log.Log.{Log};
+ghost use Rattle.std.specs.Prelude.{◌≡◌, ◌≤◌, IfOk, IfErr, OnOk};
+ghost use Rattle.buck_value.specs.Sheet.{IsSheet, SheetParts};
 ghost use Rattle.buck_dp.specs.Best.{IsFirstBest, cutting_worth};
-ghost use Rattle.buck_value.specs.Sheet.{SheetParts};
-ghost use Rattle.buck_dp.specs.declared.menu.Menu.{Menu};
-ghost use Rattle.buck_apt.specs.Instruction.{InstructionParts};
-ghost use Rattle.buck_dp.specs.inner.Takers.{AreKnown};
-ghost use Rattle.buck_dp.specs.inner.Kept.{AreKept};
 ghost use Rattle.buck_dp.specs.inner.Site.{IsReady};
 
 use crate::cutting::Cutting;
 use crate::following::follow;
 use crate::keeping::{Kept, Market};
-use crate::kinds::Kinds;
-use crate::menu::Menu;
+use crate::offers::Menu;
 use crate::planning::{Memo, Site, fit_of, search_stem};
 use buck_record::Memory;
 use buck_stem::{Profile, ProfileLists, Stem};
@@ -24,6 +16,9 @@ use std::alloc::Global;
 use std::marker::Model;
 use std::mem;
 use std::sync::Arc;
+
+/// Once so many kinds of wood were met, what was found is dropped.
+const KINDS: usize = 64;
 
 /// Plans stem after stem under one sheet. It keeps what it has found of the sheet, so that each stem is planned faster
 /// than by [`best`](crate::best), with the same answer.
@@ -51,29 +46,13 @@ impl Model for Planner {
     ghost invariant = { λ p. IsReady p.sheet.value p.own.value.menu p.own.value.memo };
 }
 
-/// Whether some assortment takes the stem's species.
-#[tactic(auto, using(buck_bid::proofs::ListLemmas::read_at, std::proofs::lemmas::Option::slice_get_within))]
-fn is_wanted(sheet: &Sheet, stem: &Stem) -> bool
-    ensures wanted { result ≡ false → (g : Log) → IsAllowed sheet.now.instruction stem.now g → ⊥ }
-    ensures valid { IsSheet sheet.now }
-{
-    let species = stem.species();
-    let all = sheet.instruction().assortments();
-    for place in 0..all.len() {
-        if all[place].species() == species {
-            return true;
-        }
-    }
-    false
-}
-
 /// What a planner under a sheet keeps before the first stem.
 fn own_of(alloc: Global, sheet: &Sheet) -> Result<Own, Memory>
     ensures { IfOk result (λ o. IsReady sheet.now o.menu o.memo) }
 {
     let menu = Menu::of(alloc, sheet.instruction())?;
     let memo = Memo {
-        kinds: Kinds::new(alloc),
+        kinds: Vec::new(alloc),
         kept: Kept::new(alloc),
         profile: ProfileLists::new(alloc),
         parts: Vec::new(alloc),
@@ -83,26 +62,8 @@ fn own_of(alloc: Global, sheet: &Sheet) -> Result<Own, Memory>
     Ok(Own { menu, memo })
 }
 
-/// Drops what was found of wood and of prices.
-fn drop_found(memo: &mut Memo)
-    ensures kinds { (i : InstructionParts) → AreKnown i memo.new.kinds }
-    ensures kept { (s : SheetParts) (m : Menu) → AreKept s m memo.new.kept }
-{
-    memo.kinds.clear();
-    memo.kept.clear();
-}
-
-/// Drops it where too many kinds of wood were met.
-fn make_room(memo: &mut Memo)
-    ensures { (s : SheetParts) (m : Menu) → IsReady s m memo.old → IsReady s m memo.new }
-{
-    if memo.kinds.are_many() {
-        drop_found(memo);
-    }
-}
-
-/// The first of the best cuttings of a stem that some assortment's species is, and its worth.
-fn cut_wanted(
+/// The first of the best cuttings of a stem under a sheet, and its worth.
+fn cut(
     alloc: Global,
     sheet: &Sheet,
     stem: &Stem,
@@ -114,6 +75,7 @@ fn cut_wanted(
     ensures first { IfOk result (λ found. IsFirstBest sheet.now stem.now found.0.logs.items) }
     ensures worth { IfOk result (λ found. found.1 ≡ cutting_worth sheet.now stem.now found.0.logs.items) }
     ensures high { IfOk result (λ found. found.1 ≤ 2800000000000000) }
+    ensures valid { IsSheet sheet.now }
 {
     let lists = mem::replace(&mut memo.profile, ProfileLists::new(alloc));
     let profile = Profile::make_with(lists, stem, sheet.instruction().module())?;
@@ -121,18 +83,15 @@ fn cut_wanted(
         market: Market { sheet, menu },
         stem,
         profile: &profile,
-        fit: fit_of(sheet, stem, menu.most_trim),
+        fit: fit_of(sheet, stem),
     };
-    make_room(memo);
     search_stem(alloc, site, memo)?;
-    let logs = follow(alloc, sheet, stem, menu.offers.as_slice(), &memo.choices)?;
-    let worth = memo.values[0].worth();
+    let (logs, worth) = follow(alloc, site, memo.values.as_slice(), memo.choices.as_slice())?;
     memo.profile = profile.into_lists();
     Ok((Cutting { logs }, worth))
 }
 
-/// The first of the best cuttings of a stem under a sheet, and its worth. A stem of a species that no assortment takes
-/// is left at once.
+/// The same. What was found is dropped where it is refused, or where too many kinds of wood were met.
 fn best_under(
     alloc: Global,
     sheet: &Sheet,
@@ -146,32 +105,12 @@ fn best_under(
     ensures high { IfOk result (λ found. found.1 ≤ 2800000000000000) }
     ensures valid { IsSheet sheet.now }
 {
-    if !is_wanted(sheet, stem) {
-        let none = Cutting {
-            logs: Vec::new(alloc),
-        };
-        return Ok((none, 0));
-    }
-    let planned = cut_wanted(alloc, sheet, stem, &own.menu, &mut own.memo);
-    if planned.is_err() {
-        drop_found(&mut own.memo);
+    let planned = cut(alloc, sheet, stem, &own.menu, &mut own.memo);
+    if planned.is_err() || own.memo.kinds.len() >= KINDS {
+        own.memo.kinds.clear();
+        own.memo.kept.clear();
     }
     planned
-}
-
-/// Makes what is kept for a sheet right for another one. What depends on the instruction alone stays where both have the
-/// same.
-fn turn_to(alloc: Global, own: &mut Own, from: &Sheet, to: &Sheet) -> Result<(), Memory>
-    requires { IsReady from.now own.old.menu own.old.memo }
-    ensures turned { OnOk result (IsReady to.now own.new.menu own.new.memo) }
-    ensures left { IfErr result (λ _. IsReady from.now own.new.menu own.new.memo) }
-{
-    if to.instruction().same(from.instruction()) {
-        own.memo.kept.clear_prices();
-        return Ok(());
-    }
-    *own = own_of(alloc, to)?;
-    Ok(())
 }
 
 /// The first of the best cuttings of a stem under a sheet, and its worth in millionths of the price unit.
@@ -220,12 +159,17 @@ impl Planner {
         best_under(alloc, &self.sheet, stem, self.own.as_mut())
     }
 
-    /// Plans under another sheet from now on. Refused as `Memory` alone: it then plans under the sheet as before.
+    /// Plans under another sheet from now on. Refused as `Memory` alone: it then plans under the sheet as before. What
+    /// depends on the instruction alone is kept where both have the same.
     pub fn renew(&mut self, alloc: Global, sheet: Arc<Sheet>) -> Result<(), Memory>
         ensures renewed { OnOk result (self.new ≡ sheet.value) }
         ensures left { IfErr result (λ _. self.new ≡ self.old) }
     {
-        turn_to(alloc, self.own.as_mut(), &self.sheet, &sheet)?;
+        if !sheet.instruction().same(self.sheet.instruction()) {
+            *self = Planner::make(alloc, sheet)?;
+            return Ok(());
+        }
+        self.own.memo.kept.clear_prices();
         self.sheet = sheet;
         Ok(())
     }

@@ -1,24 +1,22 @@
-//! The search of a stem: from the top end down one top at a time, and for each the logs with it, by the parts of their
-//! starts.
-ghost use Rattle.std.specs.Prelude.{◌≡◌, ℕ, ◌+◌, ◌*◌, ◌<◌, ◌≤◌, IfOk, OnOk};
-ghost use Rattle.buck_stem.specs.Stem.{stem_length};
-ghost use Rattle.buck_dp.specs.inner.Points.{points_of};
-ghost use Rattle.buck_dp.specs.inner.Logs.{HasNoLogs};
+//! The search of a stem from the top end down, one top at a time, and for each the logs with it, part by part.
+ghost use Rattle.std.specs.Prelude.{◌≡◌, ℕ, ◌+◌, ◌*◌, ◌<◌, ◌≤◌, ◌-◌, IfOk, OnOk};
+ghost use Rattle.buck_stem.specs.Stem.{IsStem, stem_length};
+ghost use Rattle.buck_dp.specs.inner.Logs.{points_of, AreKnown};
 ghost use Rattle.buck_dp.specs.inner.Site.{IsSite, IsReady, IsPlan, IsEven, HaveParts, IsNearest, IsPartTo, ground_of};
 ghost use Rattle.buck_dp.specs.declared.planning.Site.{Site};
 ghost use Rattle.buck_dp.specs.declared.planning.Part.{Part};
-ghost use Rattle.buck_dp.specs.inner.Takers.{AreKnown};
 
 use crate::bid::Bid;
-use crate::index::Place;
-use crate::keeping::{Kept, Market};
-use crate::kinds::{Group, Kinds};
+use crate::keeping::{Kept, Market, Place};
 use crate::offering::{Reach, offer_all, offer_some, settle};
-use crate::takers::Kind;
+use crate::takers::{Group, Known, group_of};
 use buck_record::Memory;
 use buck_stem::{Profile, ProfileLists, Stem};
 use buck_value::Sheet;
-use std::alloc::{AllocError, Global};
+use std::alloc::Global;
+
+/// No trim is longer than so many mm.
+const MOST_TRIM: u32 = 200;
 
 /// A stem at its points, and the sheet under which it is cut. Each trim fits behind the tops before point `fit`.
 #[derive(Clone, Copy)]
@@ -32,7 +30,7 @@ pub struct Site<'a> {
 /// What is kept from stem to stem.
 #[derive(Drop)]
 pub struct Memo {
-    pub kinds: Kinds,
+    pub kinds: Vec<Known>,
     pub kept: Kept,
     /// The lists of a plan. What they hold of the one before is of no account.
     pub profile: ProfileLists,
@@ -50,98 +48,67 @@ pub struct Part {
 }
 
 /// The point before which each trim fits behind a top.
-pub fn fit_of(sheet: &Sheet, stem: &Stem, most_trim: u32) -> usize
-    ensures { (t : ℕ) → t < result → t * sheet.now.instruction.module + most_trim ≤ stem_length stem.now.samples }
+pub fn fit_of(sheet: &Sheet, stem: &Stem) -> usize
+    ensures fit { (t : ℕ) → t < result → t * sheet.now.instruction.module + 200 ≤ stem_length stem.now.samples }
+    ensures sound { IsStem stem.now }
 {
-    let length = stem.length();
-    if length < most_trim {
-        return 0;
-    }
-    ((length - most_trim) / sheet.instruction().module()) as usize + 1
+    (stem.length().saturating_sub(MOST_TRIM) / sheet.instruction().module()) as usize
 }
 
 /// The starts before a point that have the grades of the last of them, and who takes their wood up to a top.
-fn run_before(site: Site<'_>, kinds: &mut Kinds, top: usize, stop: usize) -> Result<Part, Memory>
+fn run_before(
+    site: Site<'_>,
+    kinds: &mut Vec<Known>,
+    top: usize,
+    stop: usize,
+) -> Result<Part, Memory>
     requires site { IsSite site }
     requires order { (0 < stop) × (stop ≤ top) }
     requires top { top < points_of (ground_of site) }
-    requires known { AreKnown site.market.sheet.now.instruction kinds.old }
-    ensures known { OnOk result (AreKnown site.entry.market.sheet.now.instruction kinds.new) }
+    requires known { AreKnown site.market.sheet.now.instruction kinds.old.items }
+    ensures known { OnOk result (AreKnown site.entry.market.sheet.now.instruction kinds.new.items) }
     ensures part { IfOk result (IsPartTo site.entry top stop) }
 {
     let first = site.profile.run_start(stop - 1);
-    let kind = Kind {
-        species: site.stem.species(),
-        grades: site.profile.grades(stop - 1, top),
-    };
-    let group = kinds.group_of(site.market.sheet, kind)?;
+    let grades = site.profile.grades(stop - 1, top);
+    let group = group_of(kinds, site.market.sheet, site.stem.species(), grades)?;
     Ok(Part { first, group })
 }
 
-/// The starts before a point of which the same assortments take the wood up to a top.
-fn part_before(site: Site<'_>, kinds: &mut Kinds, top: usize, stop: usize) -> Result<Part, Memory>
-    requires site { IsSite site }
-    requires order { (0 < stop) × (stop ≤ top) }
-    requires top { top < points_of (ground_of site) }
-    requires known { AreKnown site.market.sheet.now.instruction kinds.old }
-    ensures known { OnOk result (AreKnown site.entry.market.sheet.now.instruction kinds.new) }
-    ensures part { IfOk result (IsPartTo site.entry top stop) }
-{
-    let low = top.saturating_sub(site.market.menu.most_steps);
-    let mut part = run_before(site, kinds, top, stop)?;
-    while part.first > low {
-        let next = run_before(site, kinds, top, part.first)?;
-        if !next.group.takers.same(part.group.takers) {
-            return Ok(part);
-        }
-        part = Part {
-            first: next.first,
-            group: part.group,
-        };
-    }
-    Ok(part)
-}
-
-/// Finds the parts of the starts of logs with the tops from `last` on and before `past`, which lie behind the steps of one
-/// run: from the nearest part on. No log starts before the last part.
-fn find_parts(site: Site<'_>, memo: &mut Memo, last: usize, past: usize) -> Result<(), Memory>
+/// Finds the parts of the starts of logs with the tops behind point `first` and before `past`, which lie behind the
+/// steps of one run: from the nearest part on. No log starts before the last part.
+fn find_parts(site: Site<'_>, memo: &mut Memo, first: usize, past: usize) -> Result<(), Memory>
     requires plan { IsPlan site memo.old past }
-    requires run { (0 < last) × (last < past) }
-    requires even { IsEven site last past }
+    requires run { first + 1 < past }
+    requires even { IsEven site first (past - 2) }
     ensures plan { OnOk result (IsPlan site.entry memo.new past) }
-    ensures parts { OnOk result (HaveParts site.entry last past memo.new.parts.items) }
+    ensures parts { OnOk result (HaveParts site.entry (first + 1) past memo.new.parts.items) }
 {
-    let low = last.saturating_sub(site.market.menu.most_steps);
-    let mut stop = last;
-    memo.parts.clear();
+    let mut stop = first + 1;
+    let low = stop.saturating_sub(site.market.menu.most_steps);
+    let top = past - 1;
+    let kinds = &mut memo.kinds;
+    let parts = &mut memo.parts;
+    parts.clear();
     while stop > low {
-        let part = part_before(site, &mut memo.kinds, last, stop)?;
+        let mut part = run_before(site, kinds, top, stop)?;
         if part.group.takers.is_empty() {
             return Ok(());
         }
-        memo.parts.push(part)?;
+        while part.first > low {
+            let next = run_before(site, kinds, top, part.first)?;
+            if next.group.takers != part.group.takers {
+                break;
+            }
+            part.first = next.first;
+        }
+        parts.push(part)?;
         stop = part.first;
     }
     Ok(())
 }
 
-/// Settles the tops before `past` down to `last`, which no log has.
-fn settle_tops(memo: &mut Memo, past: usize, last: usize)
-    requires order { last ≤ past }
-    requires plan { (x : Site) × IsPlan x memo.old past × HasNoLogs (ground_of x) last past }
-    ensures { (x : Site) → IsPlan x memo.old past → HasNoLogs (ground_of x) last past → IsPlan x memo.new last }
-{
-    let values = memo.values.as_mut_slice();
-    let choices = memo.choices.as_mut_slice();
-    let mut top = past;
-    while top > last {
-        top -= 1;
-        settle(values, choices, top);
-    }
-}
-
-/// Settles the tops before `past` down to `last`, and offers the logs with these, which all start in the nearest part
-/// and fit.
+/// Settles the tops before `past` down to `last`, and offers their logs, which all start in the nearest part and fit.
 #[inline(never)]
 fn search_near(
     alloc: Global,
@@ -227,11 +194,12 @@ fn search_run(alloc: Global, site: Site<'_>, memo: &mut Memo, past: usize) -> Re
     requires past { 1 < past }
     ensures { IfOk result (λ last. IsPlan site.entry memo.new last × (0 < last) × (last < past)) }
 {
-    let last = site.profile.run_start(past - 2) + 1;
-    find_parts(site, memo, last, past)?;
+    let first = site.profile.run_start(past - 2);
+    let last = first + 1;
+    find_parts(site, memo, first, past)?;
     let number = memo.parts.len();
     if number == 0 {
-        settle_tops(memo, past, last);
+        search_parts(alloc, site, memo, past, last)?;
         return Ok(last);
     }
     let near = memo.parts[0];
@@ -250,34 +218,26 @@ fn search_run(alloc: Global, site: Site<'_>, memo: &mut Memo, past: usize) -> Re
     search_parts(alloc, site, memo, past, fitting)?;
     search_near(alloc, site, memo, near, fitting, nearest)?;
     search_parts(alloc, site, memo, nearest, some)?;
-    settle_tops(memo, some, last);
+    memo.parts.clear();
+    search_parts(alloc, site, memo, some, last)?;
     Ok(last)
 }
 
-/// Begins at the top end of a stem, behind its last point, whatever the lists hold. Tells how many points there are.
-fn start(site: Site<'_>, memo: &mut Memo) -> Result<usize, AllocError>
+/// Searches a stem from the top end, behind its last point, down to the butt, whatever the lists hold.
+pub fn search_stem(alloc: Global, site: Site<'_>, memo: &mut Memo) -> Result<(), Memory>
     requires site { IsSite site }
     requires ready { IsReady site.market.sheet.now site.market.menu.now memo.old }
-    ensures { IfOk result (λ top. IsPlan site.entry memo.new top × (0 < top)) }
+    ensures { OnOk result (IsPlan site.entry memo.new 0) }
 {
     let points = site.profile.points();
     memo.values.clear();
     memo.values.resize(points + 1, Bid::none())?;
     memo.choices.resize(points + 1, 0)?;
     memo.choices[points] = 0;
-    Ok(points)
-}
-
-/// Searches a stem from the top end down to the butt.
-pub fn search_stem(alloc: Global, site: Site<'_>, memo: &mut Memo) -> Result<(), Memory>
-    requires site { IsSite site }
-    requires ready { IsReady site.market.sheet.now site.market.menu.now memo.old }
-    ensures { OnOk result (IsPlan site.entry memo.new 0) }
-{
-    let mut top = start(site, memo)?;
+    let mut top = points;
     while top > 1 {
         top = search_run(alloc, site, memo, top)?;
     }
-    settle_tops(memo, top, 0);
-    Ok(())
+    memo.parts.clear();
+    search_parts(alloc, site, memo, top, 0)
 }

@@ -1,28 +1,25 @@
 //! Price lists: what the logs of some takers are bid by length and trim, at each diameter of a band.
-ghost use Rattle.std.specs.Prelude.{◌≡◌, ℕ, ◌+◌, ◌-◌, ◌*◌, ◌/◌, ◌<◌, ◌≤◌, ◌⊎◌, ◌++◌, ◌∷◌, [], IfOk, OnOk, IfSome, IfNone, IsTrue, List, Option, length, slice_get, slice_index};
-ghost use Rattle.buck_apt.specs.Instruction.{classes};
+ghost use Rattle.std.specs.Prelude.{◌≡◌, ◌+◌, ◌<◌, ◌≤◌, ◌⊎◌, IfOk, OnOk, IfSome, IfNone, IsTrue, List, Contains, length, slice_get, Some};
 ghost use Rattle.buck_value.specs.Sheet.{IsSheet};
-ghost use Rattle.buck_bid.specs.Offers.{codes_in, AreOffers};
-ghost use Rattle.buck_bid.specs.Limits.{IsBandOf};
-ghost use Rattle.buck_bid.specs.Prices.{IsPricing, HasNoPrice};
-ghost use Rattle.buck_dp.specs.inner.Index.{IsBehind};
-ghost use Rattle.buck_dp.specs.inner.Points.{point_after};
-ghost use Rattle.buck_dp.specs.inner.Takers.{IsTaker};
-ghost use Rattle.buck_dp.specs.inner.Quotes.{quote_bid, priced_at, IsSmall, IsLed, IsLeading, IsPut, nobody_of, term_for, IsTermAt, AreTerms, AreQuotes};
+ghost use Rattle.buck_dp.specs.inner.Offers.{IsBand, IsBandOf, IsOfferOf, AreOffers};
+ghost use Rattle.buck_dp.specs.inner.Quotes.{quote_bid, IsSmall, IsLed, IsLeader, IsNext, IsClassAt, HasNoPrice, AreTerms, AreQuotes};
+ghost use Rattle.buck_dp.specs.declared.offers.Offer.{Offer};
 
 use crate::bid::Bid;
 use crate::ends::point_from;
+use crate::offers::Offer;
 use crate::takers::Takers;
-use buck_apt::Instruction;
-use buck_bid::{Band, Offer, Pricing, pricing_of};
-use buck_value::{Sheet, volume_of, worth_of_piece};
+use buck_apt::{Assortment, Class, Instruction};
+use buck_value::{Sheet, column_of, row_of, volume_of, worth_of_piece};
 use std::alloc::{AllocError, Global};
 
 /// What an assortment bids for its logs of one length at each diameter of a band: a price per cubic metre or per piece,
-/// by the kind.
-#[derive(Clone, Copy, Debug)]
+/// by the kind. A term is one without a price: what it bids under each sheet of an instruction.
+#[derive(Clone, Copy, Debug, Default)]
 pub struct Quote {
     pub kind: u8,
+    /// The place of its price's class among all.
+    pub class: u16,
     pub price: u32,
     pub rank: u32,
     /// The length in mm and in steps of the module.
@@ -40,14 +37,6 @@ pub struct Ask {
     pub band: Band,
 }
 
-/// What an assortment bids under each sheet of an instruction for its logs of one length in a band: its quote, but for
-/// the price, which is that of a class.
-#[derive(Clone, Copy, Debug)]
-pub struct Term {
-    pub class: usize,
-    pub quote: Quote,
-}
-
 impl Quote {
     /// The bid for a log of a top diameter.
     #[inline(always)]
@@ -61,94 +50,111 @@ impl Quote {
     }
 }
 
-impl Term {
-    /// The quote under a sheet of the instruction.
-    pub fn quote_under(self, sheet: &Sheet) -> Quote
-        requires { self.class < classes sheet.now.instruction }
-        ensures { result ≡ priced_at self.quote (slice_index sheet.now.prices self.class) }
-    {
-        Quote {
-            price: sheet.prices()[self.class],
-            ..self.quote
-        }
-    }
+/// The assortment of an offer.
+#[tactic(auto, using(std::proofs::lemmas::Option::slice_get_within))]
+fn assortment_of(instruction: &Instruction, offer: Offer) -> &Assortment
+    requires { IsOfferOf instruction.now offer }
+    ensures own { slice_get instruction.now.assortments offer.assortment ≡ Some result.now }
+    ensures few { offer.assortment < 16 }
+{
+    &instruction.assortments()[usize::from(offer.assortment)]
 }
 
-/// The term of an offer that is priced so.
-#[tactic(auto, using(buck_bid::proofs::ListLemmas::read_at))]
-fn term_of(instruction: &Instruction, offer: Offer, rank: u32, pricing: Pricing) -> Term
-    requires assortment { offer.assortment < length instruction.now.assortments }
-    ensures { result ≡ term_for instruction.now offer rank pricing }
+/// The place of the class of an offer's logs, or `None` where their assortment is no taker or has no price for them.
+#[tactic(auto, using(buck_value::proofs::Classes::column_none, buck_value::proofs::Classes::column_some))]
+fn class_at(
+    instruction: &Instruction,
+    assortment: &Assortment,
+    offer: Offer,
+    ask: Ask,
+) -> Option<usize>
+    requires own { slice_get instruction.now.assortments offer.assortment ≡ Some assortment.now }
+    requires few { offer.assortment < 16 }
+    requires band { IsBand assortment.now ask.band.thinnest ask.band.past }
+    ensures class { IfSome result (IsClassAt instruction.now assortment.now offer ask) }
+    ensures none { IfNone result (HasNoPrice assortment.now offer ask) }
 {
-    let module = instruction.module();
-    let trim = instruction.assortments()[offer.assortment].trim();
-    Term {
-        class: pricing.class,
-        quote: Quote {
-            kind: pricing.kind,
-            price: 0,
-            rank,
-            length: offer.length,
-            steps: offer.length / module,
-            trim,
-            rise: point_from(module, trim),
-        },
-    }
-}
-
-/// The term of the offer at a place, if its assortment is among the takers and has a price.
-fn term_at(instruction: &Instruction, offers: &[Offer], place: usize, ask: Ask) -> Option<Term>
-    requires offers { AreOffers instruction.now offers.now }
-    requires band { IsBandOf instruction.now ask.band.thinnest ask.band.past }
-    requires place { place < length offers.now }
-    ensures { IsTermAt instruction.now (codes_in offers.now) ask place result }
-{
-    let offer = offers[place];
-    if !ask.takers.contains(offer.assortment) {
+    let band = ask.band;
+    if !ask.takers.contains(usize::from(offer.assortment)) {
         return None;
     }
-    match pricing_of(instruction, offer, ask.band) {
-        None => None,
-        Some(pricing) => Some(term_of(instruction, offer, (1023 - place) as u32, pricing)),
+    if band.thinnest < assortment.diameters()[0] || assortment.upper() <= band.thinnest {
+        return None;
     }
+    let column = column_of(assortment, offer.length)?;
+    let row = row_of(assortment, band.thinnest);
+    if assortment.price(row, column) == 0 {
+        return None;
+    }
+    Some(instruction.index(Class {
+        assortment: offer.assortment,
+        row: row as u8,
+        column: column as u8,
+    }))
 }
 
-/// The terms of some takers in a band, offer by offer.
-#[tactic(auto, using(crate::proofs::QuoteLemmas::terms_put))]
+/// The terms of some takers in a band, in the order of the offers.
+#[tactic(auto, using(crate::proofs::PricingLemmas::offer_real, crate::proofs::PricingLemmas::classes_few))]
 pub fn terms_of(
     alloc: Global,
     instruction: &Instruction,
     offers: &[Offer],
     ask: Ask,
-) -> Result<Vec<Option<Term>>, AllocError>
+) -> Result<Vec<Quote>, AllocError>
     requires offers { AreOffers instruction.now offers.now }
     requires band { IsBandOf instruction.now ask.band.thinnest ask.band.past }
-    ensures { IfOk result (λ terms. AreTerms instruction.now (codes_in offers.now) ask (length offers.now) terms.items) }
+    ensures { IfOk result (λ terms. AreTerms instruction.now offers.now ask (length offers.now) terms.items) }
 {
+    let module = instruction.module();
     let mut terms = Vec::new(alloc);
     for place in 0..offers.len() {
-        let term = term_at(instruction, offers, place, ask);
-        terms.push(term)?;
+        let offer = offers[place];
+        let assortment = assortment_of(instruction, offer);
+        let Some(class) = class_at(instruction, assortment, offer, ask) else {
+            continue;
+        };
+        let trim = assortment.trim();
+        terms.push(Quote {
+            kind: assortment.price_kind(),
+            class: class as u16,
+            price: 0,
+            rank: (1023 - place) as u32,
+            length: offer.length,
+            steps: offer.length / module,
+            trim,
+            rise: point_from(module, trim),
+        })?;
     }
     Ok(terms)
 }
 
-/// Whether a leader outbids a quote of its price kind at each diameter, for logs that are no longer and with no more trim.
-/// Priced per cubic metre it does wherever logs are 36 mm thick or more: there a millimetre of a log is more than the
-/// cubic centimetre that a whole volume may lack.
+/// Whether a leader outbids a quote of its price kind, for logs that are no longer and have no more trim: per cubic
+/// metre from 36 mm on, where a millimetre of a log is more than the cubic centimetre that a whole volume may lack.
 #[inline(always)]
 fn is_led(leader: &Quote, quote: &Quote) -> bool
     ensures { IsTrue result → IsLed leader.now quote.now }
 {
-    if leader.trim > quote.trim || leader.steps > quote.steps {
-        return false;
+    let is_outbid = if leader.kind == 1 {
+        quote.kind == 1
+            && u64::from(quote.price) * u64::from(quote.length) + u64::from(leader.price)
+                < u64::from(leader.price) * u64::from(leader.length)
+    } else {
+        quote.kind != 1 && quote.price < leader.price
+    };
+    is_outbid && leader.trim <= quote.trim && leader.steps <= quote.steps
+}
+
+/// Drops the last of a list where a quote outbids it.
+#[inline(always)]
+fn drop_led(list: &mut Vec<Quote>, quote: &Quote)
+    ensures real { (x : Quote) → Contains list.new.items x → Contains list.old.items x }
+    ensures rest { (x : Quote) → Contains list.old.items x → Contains list.new.items x ⊎ IsLed quote.now x }
+{
+    if let Some(last) = list.last() {
+        if is_led(quote, last) {
+            list.pop();
+        }
     }
-    if leader.kind != 1 {
-        return quote.kind != 1 && quote.price < leader.price;
-    }
-    quote.kind == 1
-        && u64::from(quote.price) * u64::from(quote.length) + u64::from(leader.price)
-            < u64::from(leader.price) * u64::from(leader.length)
 }
 
 /// Puts a quote behind others, unless their leader outbids it. It leads these then, unless it has more trim. Where it
@@ -160,71 +166,107 @@ fn put_quote(
     quote: Quote,
     ask: Ask,
 ) -> Result<(), AllocError>
-    ensures put { OnOk result (IsPut ask leader.old quote list.old.items list.new.items) }
-    ensures next { OnOk result ((leader.new ≡ leader.old) ⊎ ((leader.new ≡ quote) × IsLeading ask quote)) }
+    requires leads { IsLeader ask list.old.items leader.old }
+    ensures next { OnOk result (IsNext ask quote list.old.items list.new.items) }
+    ensures leads { OnOk result (IsLeader ask list.new.items leader.new) }
 {
     if is_led(leader, &quote) {
         return Ok(());
     }
-    let mut number = list.len();
     if quote.trim <= leader.trim && (quote.kind != 1 || ask.band.thinnest >= 36) {
         *leader = quote;
-        if number > 0 {
-            let last = list[number - 1];
-            if is_led(&quote, &last) {
-                number -= 1;
-            }
-        }
+        drop_led(list, &quote);
     }
-    list.truncate(number);
     list.push(quote)?;
     Ok(())
 }
 
-/// Nobody, to lead quotes of a price kind.
-fn nobody(kind: u8) -> Quote
-    ensures { result ≡ nobody_of kind }
-{
-    Quote {
-        kind,
-        price: 0,
-        rank: 0,
-        length: 0,
-        steps: 0,
-        trim: u32::MAX,
-        rise: 0,
-    }
-}
-
-/// Puts a price list in the place of another: the quotes of some takers in a band, from their terms, without those that
-/// one of their price kind outbids in the whole band whose log is no longer.
+/// Puts a price list in the place of another: the quotes of some terms, without those that one of their price kind
+/// outbids in the whole band whose log is no longer.
 #[inline(never)]
 pub fn put_list(
     quotes: &mut Vec<Quote>,
     sheet: &Sheet,
-    terms: &[Option<Term>],
+    terms: &[Quote],
     ask: Ask,
 ) -> Result<(), AllocError>
     requires valid { IsSheet sheet.now }
-    requires terms { (codes : List ℕ) × AreTerms sheet.now.instruction codes ask (length terms.now) terms.now }
-    ensures { OnOk result ((codes : List ℕ) → AreTerms sheet.now.instruction codes ask (length terms.now) terms.now
-        → AreQuotes sheet.now codes ask (length terms.now) quotes.new.items) }
+    requires terms { (offers : List Offer) × AreTerms sheet.now.instruction offers ask (length offers) terms.now }
+    ensures { OnOk result ((offers : List Offer) → AreTerms sheet.now.instruction offers ask (length offers) terms.now
+        → AreQuotes sheet.now offers ask quotes.new.items) }
 {
     quotes.clear();
-    let mut cubic = nobody(1);
-    let mut piece = nobody(0);
+    let mut piece = Quote {
+        trim: u32::MAX,
+        ..Quote::default()
+    };
+    let mut cubic = Quote { kind: 1, ..piece };
+    let prices = sheet.prices();
     for term in terms {
-        match term {
-            None => {}
-            Some(term) => {
-                let quote = term.quote_under(sheet);
-                if quote.kind == 1 {
-                    put_quote(quotes, &mut cubic, quote, ask)?;
-                } else {
-                    put_quote(quotes, &mut piece, quote, ask)?;
-                }
-            }
+        let quote = Quote {
+            price: prices[term.class as usize],
+            ..*term
+        };
+        if quote.kind == 1 {
+            put_quote(quotes, &mut cubic, quote, ask)?;
+        } else {
+            put_quote(quotes, &mut piece, quote, ask)?;
         }
     }
     Ok(())
+}
+
+/// A limit above all diameters of a stem.
+const ABOVE_ALL: u32 = 1_504;
+
+/// Diameters in mm from `thinnest` on and below `past`, within which no assortment changes its row.
+#[derive(Clone, Copy, Debug)]
+pub struct Band {
+    pub thinnest: u32,
+    pub past: u32,
+}
+
+impl Band {
+    /// Cuts off what lies beyond a limit as seen from a diameter within.
+    fn cut(&mut self, limit: u32, diameter: u32)
+        requires inside { (self.old.thinnest ≤ diameter) × (diameter < self.old.past) }
+        ensures inside { (self.new.thinnest ≤ diameter) × (diameter < self.new.past) }
+        ensures narrower { (self.old.thinnest ≤ self.new.thinnest) × (self.new.past ≤ self.old.past) }
+        ensures apart { (limit ≤ self.new.thinnest) ⊎ (self.new.past ≤ limit) }
+    {
+        if limit <= diameter {
+            self.thinnest = self.thinnest.max(limit);
+        } else {
+            self.past = self.past.min(limit);
+        }
+    }
+
+    /// The same with each limit of an assortment: no row of that starts or ends in what is left.
+    fn cut_by(&mut self, assortment: &Assortment, diameter: u32)
+        requires inside { (self.old.thinnest ≤ diameter) × (diameter < self.old.past) }
+        ensures inside { (self.new.thinnest ≤ diameter) × (diameter < self.new.past) }
+        ensures narrower { (self.old.thinnest ≤ self.new.thinnest) × (self.new.past ≤ self.old.past) }
+        ensures band { IsBand assortment.now self.new.thinnest self.new.past }
+    {
+        self.cut(assortment.upper(), diameter);
+        for limit in assortment.diameters() {
+            self.cut(*limit, diameter);
+        }
+    }
+}
+
+/// The band of a diameter: those around it in mm within which no assortment changes its row, or takes no more logs.
+pub fn band_around(instruction: &Instruction, diameter: u32) -> Band
+    requires diameter { diameter ≤ 1500 }
+    ensures within { (result.thinnest ≤ diameter) × (diameter < result.past) }
+    ensures band { IsBandOf instruction.now result.thinnest result.past }
+{
+    let mut band = Band {
+        thinnest: 0,
+        past: ABOVE_ALL,
+    };
+    for assortment in instruction.assortments() {
+        band.cut_by(assortment, diameter);
+    }
+    band
 }

@@ -1,11 +1,10 @@
 //! Who takes some wood.
-ghost use Rattle.std.specs.Prelude.{◌≡◌, ◌≢◌, ℕ, ◌<◌, ◌↔◌, IsTrue, slice_get, Some};
-ghost use Rattle.std.specs.Int.{bit_at};
-ghost use Rattle.buck_apt.specs.Instruction.{AssortmentParts};
-ghost use Rattle.buck_dp.specs.inner.Takers.{IsTaker, IsTakerOf, AreTakersOf};
+ghost use Rattle.std.specs.Prelude.{ℕ, ◌<◌, ◌↔◌, IsTrue, IfOk};
+ghost use Rattle.buck_dp.specs.inner.Logs.{IsTaker, AreTakersOf, AreKnown};
 
-use buck_apt::{Assortment, Instruction};
-use buck_value::{Wood, takes};
+use buck_apt::Instruction;
+use buck_value::{Sheet, Wood, takes};
+use std::alloc::AllocError;
 
 /// Assortments that take some wood: bit a for the one at place a.
 #[derive(Clone, Copy, Debug, PartialEq, Eq)]
@@ -13,62 +12,12 @@ pub struct Takers {
     marks: u16,
 }
 
-/// The species and the grades of some wood, with bit g - 1 for grade g.
-#[derive(Clone, Copy, Debug, PartialEq, Eq)]
-pub struct Kind {
-    pub species: u8,
-    pub grades: u8,
-}
-
-/// Whether an assortment takes wood of a kind.
-fn is_taken(assortment: &Assortment, kind: Kind) -> bool
-    ensures { IsTrue result ↔ IsTakerOf assortment.now kind }
-{
-    takes(
-        assortment,
-        Wood {
-            species: kind.species,
-            grades: kind.grades,
-            trim: assortment.trim(),
-        },
-    )
-}
-
 impl Takers {
-    /// None.
-    fn none() -> Takers
-        ensures { result.marks ≡ 0 }
-    {
-        Takers { marks: 0 }
-    }
-
-    /// These, and one more where it takes the wood.
-    fn with_if(self, place: usize, taken: bool) -> Takers
-        requires place { place < 16 }
-        requires clean { bit_at self.marks place ≡ 0 }
-        ensures same { IsTaker result place ↔ IsTrue taken }
-        ensures others { (a : ℕ) → a ≢ place → bit_at result.marks a ≡ bit_at self.marks a }
-    {
-        if !taken {
-            return self;
-        }
-        Takers {
-            marks: self.marks | 1 << place,
-        }
-    }
-
     /// Whether nobody is among them.
     pub fn is_empty(self) -> bool
         ensures { IsTrue result → (a : ℕ) → IsTaker self a → ⊥ }
     {
         self.marks == 0
-    }
-
-    /// Whether they are the same.
-    pub fn same(self, other: Takers) -> bool
-        ensures { IsTrue result → self.marks ≡ other.marks }
-    {
-        self.marks == other.marks
     }
 
     /// Whether the assortment at a place is among them.
@@ -80,15 +29,75 @@ impl Takers {
     }
 }
 
-/// The assortments that take wood of a kind.
+/// The assortments that take wood of a species and of some grades, with bit g - 1 for grade g.
 #[tactic(auto, using(std::proofs::lemmas::Option::slice_get_within))]
-pub fn takers_of(instruction: &Instruction, kind: Kind) -> Takers
-    ensures { AreTakersOf instruction.now kind result }
+pub fn takers_of(instruction: &Instruction, species: u8, grades: u8) -> Takers
+    ensures { AreTakersOf instruction.now species grades result }
 {
     let all = instruction.assortments();
-    let mut takers = Takers::none();
+    let mut marks = 0;
     for place in 0..all.len() {
-        takers = takers.with_if(place, is_taken(&all[place], kind));
+        let wood = Wood {
+            species,
+            grades,
+            trim: all[place].trim(),
+        };
+        if takes(&all[place], wood) {
+            marks |= 1 << place;
+        }
     }
-    takers
+    Takers { marks }
+}
+
+/// A set of takers, and its number: the place of the first kind that has it.
+#[derive(Clone, Copy, Debug)]
+pub struct Group {
+    pub takers: Takers,
+    pub number: u16,
+}
+
+/// The species and the grades of some wood, with bit g - 1 for grade g, and who takes it.
+#[derive(Clone, Copy, Debug)]
+pub struct Known {
+    pub species: u8,
+    pub grades: u8,
+    pub group: Group,
+}
+
+/// The number of a set of takers among the kinds that were met: the next where none has it.
+fn number_of(kinds: &[Known], takers: Takers) -> u16 {
+    for known in kinds {
+        if known.group.takers == takers {
+            return known.group.number;
+        }
+    }
+    u16::try_from(kinds.len()).unwrap_or(u16::MAX)
+}
+
+/// Who takes wood of a species and of some grades.
+pub fn group_of(
+    kinds: &mut Vec<Known>,
+    sheet: &Sheet,
+    species: u8,
+    grades: u8,
+) -> Result<Group, AllocError>
+    requires known { AreKnown sheet.now.instruction kinds.old.items }
+    ensures known { AreKnown sheet.now.instruction kinds.new.items }
+    ensures right { IfOk result (λ g. AreTakersOf sheet.now.instruction species grades g.takers) }
+{
+    for place in 0..kinds.len() {
+        let known = kinds[place];
+        if known.species == species && known.grades == grades {
+            return Ok(known.group);
+        }
+    }
+    let takers = takers_of(sheet.instruction(), species, grades);
+    let number = number_of(kinds.as_slice(), takers);
+    let group = Group { takers, number };
+    kinds.push(Known {
+        species,
+        grades,
+        group,
+    })?;
+    Ok(group)
 }

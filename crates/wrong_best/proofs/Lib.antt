@@ -1,2 +1,1 @@
-pub mod Offered
 pub mod Ties

@@ -5,6 +5,5 @@
 //! says where the wrong body would answer otherwise.
 #![tactic(auto)]
 
-pub mod bid;
 pub mod dp;
 pub mod value;

@@ -1,24 +1,70 @@
 -- The logs of a stem at its points, what they bid, and who takes their wood.
-use Rattle.std.specs.Prelude.{◌≡◌, ℕ, ◌+◌, ◌*◌, ◌<◌, ◌≤◌, List, get_or, slice_get, Some}
+use Rattle.std.specs.Prelude.{◌≡◌, ℕ, ◌+◌, ◌*◌, ◌<◌, ◌≤◌, List, get_or, slice_get, Some, ◌-◌, ◌/◌, ◌↔◌}
 use Rattle.buck_value.specs.declared.log.Log.{Log}
-use Rattle.buck_value.specs.Allowed.{IsAllowed, worth_of, top_of, end_of}
-use Rattle.buck_bid.specs.Offers.{HasMark}
-use Rattle.buck_dp.specs.inner.Points.{GroundParts, points_of, ends_of, point_after}
+use Rattle.buck_value.specs.Allowed.{IsAllowed, worth_of, log_of, top_of, end_of}
+use Rattle.buck_dp.specs.inner.Offers.{IsRank, offer_at}
 use Rattle.buck_dp.specs.inner.Bid.{BidParts, none}
-use Rattle.buck_apt.specs.Instruction.{AssortmentParts}
-use Rattle.buck_stem.specs.Stem.{HasGradesOf}
+use Rattle.buck_apt.specs.Instruction.{AssortmentParts, InstructionParts}
+use Rattle.buck_stem.specs.Stem.{HasGradesOf, StemParts, stem_length}
 use Rattle.buck_dp.specs.declared.takers.Takers.{Takers}
-use Rattle.buck_dp.specs.inner.Takers.{IsTaker}
+use Rattle.buck_value.specs.Sheet.{SheetParts}
+use Rattle.buck_dp.specs.declared.offers.Offer.{Offer}
+use Rattle.std.specs.Int.{bit_at}
+use Rattle.buck_value.specs.Wood.{AllIn}
+use Rattle.buck_dp.specs.declared.takers.Known.{Known}
 
--- an allowed log from point i bids so much; its length ends at point j, and e is the first point after it
+-- the assortment at a place is among them
+abbrev pub IsTaker : Takers → ℕ → Type 0
+IsTaker takers a = bit_at takers.marks a ≡ 1
+
+-- those that take wood of a species and of the grades of a mask
+abbrev pub AreTakersOf : InstructionParts → ℕ → ℕ → Takers → Type 0
+AreTakersOf i species grades takers = (a : ℕ) (x : AssortmentParts) → slice_get i.assortments a ≡ Some x
+    → IsTaker takers a ↔ ((x.species ≡ species) × AllIn grades x.grades)
+
+-- the kinds of wood that were met have their takers
+abbrev pub AreKnown : InstructionParts → List Known → Type 0
+AreKnown i kinds = (k : ℕ) (x : Known) → slice_get kinds k ≡ Some x
+    → AreTakersOf i x.species x.grades x.group.takers
+
+-- a stem under a sheet, with what is offered, whose order settles ties
+pub record GroundParts : Type 0 where
+  pub sheet : SheetParts
+  pub stem : StemParts
+  pub offers : List Offer
+
+abbrev pub ground_with : SheetParts → StemParts → List Offer → GroundParts
+ground_with sheet stem offers = record { sheet = sheet; stem = stem; offers = offers }
+
+-- how many points there are, the places at which a log may start: the multiples of the module, the butt among them
+abbrev pub points_of : GroundParts → ℕ
+points_of p = stem_length p.stem.samples / p.sheet.instruction.«module» + 1
+
+-- how many places there are from which a cutting goes on: the points, and one past the last, since a trim may end
+-- between
+abbrev pub ends_of : GroundParts → ℕ
+ends_of p = points_of p + 1
+
+-- the first point at or after a place
+abbrev pub point_after : ℕ → ℕ → ℕ
+point_after step place = (place + (step - 1)) / step
+
+-- the log of the offer of a rank from point i
+unfoldable pub log_at : GroundParts → ℕ → ℕ → Log
+log_at p rank i =
+    log_of (i * p.sheet.instruction.«module») (offer_at p.offers rank).length (offer_at p.offers rank).assortment
+
+-- the point from which a cutting goes on after a log
+abbrev pub next_after : GroundParts → Log → ℕ
+next_after p g = point_after p.sheet.instruction.«module» (end_of p.sheet.instruction g)
+
+-- the log of a bid's rank from point i is allowed and worth the bid; its top is point j, and e the first after its end
 pub record IsLogAt (p : GroundParts) (i j e : ℕ) (bid : BidParts) : Type 0 where
-  pub log : Log
-  pub start : log.start ≡ i * p.sheet.instruction.«module»
-  pub top : top_of log ≡ j * p.sheet.instruction.«module»
-  pub ends : point_after p.sheet.instruction.«module» (end_of p.sheet.instruction log) ≡ e
-  pub allowed : IsAllowed p.sheet.instruction p.stem log
-  pub rank : HasMark p.codes log bid.rank
-  pub worth : bid.worth ≡ worth_of p.sheet p.stem log
+  pub rank : IsRank p.offers bid.rank
+  pub allowed : IsAllowed p.sheet.instruction p.stem (log_at p bid.rank i)
+  pub top : top_of (log_at p bid.rank i) ≡ j * p.sheet.instruction.«module»
+  pub ends : next_after p (log_at p bid.rank i) ≡ e
+  pub worth : bid.worth ≡ worth_of p.sheet p.stem (log_at p bid.rank i)
   pub later : i < j
   pub order : j ≤ e
   pub within : j < points_of p
@@ -46,7 +92,3 @@ HasTakers p takers i t = (a : ℕ) (x : AssortmentParts) → slice_get p.sheet.i
 -- no log with a top starts before a point
 abbrev pub HasNoneOf : GroundParts → ℕ → ℕ → Type 0
 HasNoneOf p point top = (i e : ℕ) (bid : BidParts) → i < point → IsLogAt p i top e bid → ⊥
-
--- no log has a top from `last` on and before `past`
-abbrev pub HasNoLogs : GroundParts → ℕ → ℕ → Type 0
-HasNoLogs p last past = (i t e : ℕ) (bid : BidParts) → last ≤ t → t < past → IsLogAt p i t e bid → ⊥

@@ -1,39 +1,63 @@
 -- What takers bid at a diameter, whatever the stem, and price lists and rows of that.
-use Rattle.std.specs.Prelude.{◌≡◌, ◌≢◌, ℕ, ◌+◌, ◌-◌, ◌*◌, ◌/◌, ◌<◌, ◌≤◌, ◌⊎◌, List, [], ◌∷◌, ◌++◌, Option, length, map, slice_get, slice_index, take, Some, None}
-use Rattle.buck_apt.specs.Instruction.{InstructionParts, classes, AssortmentParts}
-use Rattle.buck_value.specs.Sheet.{SheetParts, IsSheet}
+use Rattle.std.specs.Prelude.{◌≡◌, ◌≢◌, ℕ, ◌+◌, ◌-◌, ◌*◌, ◌<◌, ◌≤◌, ◌⊎◌, List, All, Contains, length, map, slice_get, slice_index, Some}
+use Rattle.buck_apt.specs.Instruction.{InstructionParts, classes, index_of, AssortmentParts}
+use Rattle.buck_apt.specs.declared.class.Class.{Class}
+use Rattle.buck_value.specs.Sheet.{SheetParts, IsSheet, price_of, sheet_of}
 use Rattle.buck_value.specs.Volume.{volume, worth_at}
-use Rattle.buck_dp.specs.inner.Points.{point_after}
+use Rattle.buck_dp.specs.inner.Logs.{point_after, IsTaker}
 use Rattle.buck_dp.specs.declared.pricing.Quote.{Quote}
-use Rattle.buck_dp.specs.declared.pricing.Term.{Term}
 use Rattle.buck_dp.specs.declared.pricing.Ask.{Ask}
-use Rattle.buck_dp.specs.inner.Bid.{BidParts, bid_of, IsAtMost}
+use Rattle.buck_dp.specs.inner.Bid.{BidParts, bid_of}
 use Rattle.buck_value.specs.declared.sheet.TheConstants.{HIGHEST_PRICE}
-use Rattle.buck_value.specs.Allowed.{log_of, trim_in}
-use Rattle.buck_bid.specs.declared.offers.Offer.{Offer}
-use Rattle.buck_bid.specs.declared.prices.Pricing.{Pricing}
-use Rattle.buck_bid.specs.Offers.{HasMark}
-use Rattle.buck_bid.specs.Quotes.{IsPricedAt, worth_for}
+use Rattle.buck_value.specs.Allowed.{row_at, column_of}
+use Rattle.buck_dp.specs.declared.offers.Offer.{Offer}
+use Rattle.buck_dp.specs.inner.Offers.{IsRank, offer_at}
 use Rattle.buck_dp.specs.declared.takers.Takers.{Takers}
-use Rattle.buck_dp.specs.inner.Takers.{IsTaker}
 use Rattle.buck_dp.specs.declared.offering.Cell.{Cell}
-use Rattle.buck_dp.specs.inner.Rows.{IsPlaced}
+use Rattle.buck_dp.specs.inner.Searched.{IsPlaced, Meets}
 
--- an assortment bids so much for logs of a length and a top diameter
-pub record IsBidOf (s : SheetParts) (codes : List ℕ) (a l d : ℕ) (bid : BidParts) : Type 0 where
-  pub at : IsPricedAt s a l d
-  pub rank : HasMark codes (log_of 0 l a) bid.rank
-  pub worth : bid.worth ≡ worth_for s a l d
+-- the class of an assortment's logs of an offer with a top diameter
+abbrev pub class_for : AssortmentParts → Offer → ℕ → Class
+class_for x o d = record { assortment = o.assortment; row = row_at x d; column = column_of x o.length }
 
--- a taker bids so much for logs of so many steps, with its trim
-pub record IsTakersBid (s : SheetParts) (codes : List ℕ) (takers : Takers) (d steps trim : ℕ) (bid : BidParts) : Type 0 where
-  pub a : ℕ
-  pub taker : IsTaker takers a
+-- what they are worth under a sheet, in millionths of the price unit
+abbrev pub worth_for : SheetParts → AssortmentParts → Offer → ℕ → ℕ
+worth_for s x o d = worth_at x.price_kind (price_of s (class_for x o d)) (volume d o.length)
+
+-- the assortment has a price for them
+pub record IsPriced (x : AssortmentParts) (o : Offer) (d : ℕ) : Type 0 where
+  pub offered : Contains x.lengths o.length
+  pub thick_enough : slice_index x.diameters 0 ≤ d
+  pub thin_enough : d < x.upper
+  pub priced : slice_index x.prices (row_at x d * length x.lengths + column_of x o.length) ≢ 0
+
+-- the diameters of a band
+abbrev pub IsAsked : Ask → ℕ → Type 0
+IsAsked ask d = (ask.band.thinnest ≤ d) × (d < ask.band.past)
+
+-- a taker has a price for them at each diameter that is asked for, that of one class
+pub record IsClassAt (i : InstructionParts) (x : AssortmentParts) (o : Offer) (ask : Ask) (class : ℕ) : Type 0 where
+  pub taker : IsTaker ask.takers o.assortment
+  pub within : class < classes i
+  pub index : (d : ℕ) → IsAsked ask d → index_of i (class_for x o d) ≡ class
+  pub priced : (d : ℕ) → IsAsked ask d → IsPriced x o d
+
+-- no taker has a price for them there
+abbrev pub HasNoPrice : AssortmentParts → Offer → Ask → Type 0
+HasNoPrice x o ask = (d : ℕ) → IsAsked ask d → IsTaker ask.takers o.assortment → IsPriced x o d → ⊥
+
+-- a taker bids so much for logs of so many steps and a top diameter, with its trim, by the offer of the bid's rank
+pub record IsTakersBid (s : SheetParts) (offers : List Offer) (takers : Takers) (d steps trim : ℕ)
+    (bid : BidParts) : Type 0 where
+  pub rank : IsRank offers bid.rank
+  pub taker : IsTaker takers (offer_at offers bid.rank).assortment
   pub assortment : AssortmentParts
-  pub exists : slice_get s.instruction.assortments a ≡ Some assortment
+  pub exists : slice_get s.instruction.assortments (offer_at offers bid.rank).assortment ≡ Some assortment
+  pub priced : IsPriced assortment (offer_at offers bid.rank) d
+  pub length : (offer_at offers bid.rank).length ≡ steps * s.instruction.«module»
   pub some : 0 < steps
-  pub bids : IsBidOf s codes a (steps * s.instruction.«module») d bid
   pub own : assortment.trim ≡ trim
+  pub worth : bid.worth ≡ worth_for s assortment (offer_at offers bid.rank) d
 
 -- what a quote bids for a log of a top diameter
 abbrev pub quote_bid : Quote → ℕ → BidParts
@@ -45,81 +69,15 @@ pub record IsSmall (q : Quote) : Type 0 where
   pub price : q.price ≤ HIGHEST_PRICE
   pub rank : q.rank < 1024
 
--- the diameters of a band
-abbrev pub IsAsked : Ask → ℕ → Type 0
-IsAsked ask d = (ask.band.thinnest ≤ d) × (d < ask.band.past)
-
 -- a quote is a taker's bid at each diameter of a band
-pub record IsQuote (s : SheetParts) (codes : List ℕ) (ask : Ask) (q : Quote) : Type 0 where
+pub record IsQuote (s : SheetParts) (offers : List Offer) (ask : Ask) (q : Quote) : Type 0 where
   pub small : IsSmall q
   pub rise : q.rise ≡ point_after s.instruction.«module» q.trim
-  pub bids : (d : ℕ) → IsAsked ask d → IsTakersBid s codes ask.takers d q.steps q.trim (quote_bid q d)
+  pub bids : (d : ℕ) → IsAsked ask d → IsTakersBid s offers ask.takers d q.steps q.trim (quote_bid q d)
 
--- a quote is the one of the rank of an offer
-pub record IsQuoteOf (s : SheetParts) (codes : List ℕ) (ask : Ask) (place : ℕ) (q : Quote) : Type 0 where
-  pub is : IsQuote s codes ask q
-  pub rank : q.rank + place ≡ 1023
-  pub only : (steps trim d : ℕ) (bid : BidParts) → IsAsked ask d → bid.rank + place ≡ 1023
-      → IsTakersBid s codes ask.takers d steps trim bid
-      → (q.steps ≡ steps) × (q.trim ≡ trim) × (bid ≡ quote_bid q d)
-
--- no taker's bid has the rank of an offer
-abbrev pub HasNoBid : SheetParts → List ℕ → Ask → ℕ → Type 0
-HasNoBid s codes ask place = (steps trim d : ℕ) (bid : BidParts) → IsAsked ask d → bid.rank + place ≡ 1023
-    → IsTakersBid s codes ask.takers d steps trim bid → ⊥
-
--- a quote at another price
-abbrev pub priced_at : Quote → ℕ → Quote
-priced_at q price = record {
-  kind = q.kind;
-  price = price;
-  rank = q.rank;
-  length = q.length;
-  steps = q.steps;
-  trim = q.trim;
-  rise = q.rise;
-}
-
--- the term of an offer that is priced so
-abbrev pub term_for : InstructionParts → Offer → ℕ → Pricing → Term
-term_for i o rank p =
-    let trim = trim_in (slice_get i.assortments o.assortment) in
-    record {
-      class = p.class;
-      quote = record {
-        kind = p.kind;
-        price = 0;
-        rank = rank;
-        length = o.length;
-        steps = o.length / i.«module»;
-        trim = trim;
-        rise = point_after i.«module» trim;
-      };
-    }
-
--- a term is the quote of the rank of an offer under each sheet of an instruction
-pub record IsTermOf (i : InstructionParts) (codes : List ℕ) (ask : Ask) (place : ℕ) (t : Term) : Type 0 where
-  pub class : t.class < classes i
-  pub quotes : (s : SheetParts) → IsSheet s → s.instruction ≡ i
-      → IsQuoteOf s codes ask place (priced_at t.quote (slice_index s.prices t.class))
-
--- or under none a taker's bid has the rank of an offer
-abbrev pub IsTermAt : InstructionParts → List ℕ → Ask → ℕ → Option Term → Type 0
-IsTermAt i codes ask place None = (s : SheetParts) → IsSheet s → s.instruction ≡ i → HasNoBid s codes ask place
-IsTermAt i codes ask place (Some t) = IsTermOf i codes ask place t
-
--- the first n offers have their terms, each at its place
-pub record AreTerms (i : InstructionParts) (codes : List ℕ) (ask : Ask) (n : ℕ)
-    (terms : List (Option Term)) : Type 0 where
-  pub number : length terms ≡ n
-  pub some : (k : ℕ) (t : Term) → slice_get terms k ≡ Some (Some t) → IsTermOf i codes ask k t
-  pub none : (k : ℕ) → slice_get terms k ≡ Some None → IsTermAt i codes ask k None
-
--- a quote bids more worth than another at each diameter of a band, for logs that are no longer and with no more trim
-pub record IsOver (ask : Ask) (p q : Quote) : Type 0 where
-  pub steps : p.steps ≤ q.steps
-  pub trim : p.trim ≤ q.trim
-  pub more : (d : ℕ) → IsAsked ask d → (quote_bid q d).worth < (quote_bid p d).worth
+-- a quote at the price of its class
+abbrev pub quote_at : List ℕ → Quote → Quote
+quote_at prices q = record q { price = slice_index prices q.class }
 
 -- the first bids more than the second by its price, of the same kind, and by length where that is per cubic metre, for
 -- logs that are no longer and with no more trim
@@ -133,30 +91,24 @@ pub record IsLed (p q : Quote) : Type 0 where
 abbrev pub IsLeading : Ask → Quote → Type 0
 IsLeading ask p = (p.kind ≢ 1) ⊎ (36 ≤ ask.band.thinnest)
 
--- nobody, to lead quotes of a price kind
-abbrev pub nobody_of : ℕ → Quote
-nobody_of kind = record { kind = kind; price = 0; rank = 0; length = 0; steps = 0; trim = 4294967295; rise = 0 }
+-- one of a list bids what a quote does: it is that, or outbids it
+abbrev pub IsCovered : Ask → List Quote → Quote → Type 0
+IsCovered ask list x = (p : Quote) × Contains list p × ((p ≡ x) ⊎ (IsLeading ask p × IsLed p x))
 
--- a quote is put behind others, and what goes before it, it is over; or the leader of these outbids it, and they stay
-abbrev pub IsPut : Ask → Quote → Quote → List Quote → List Quote → Type 0
-IsPut ask leader q old new = ((m : ℕ) × (new ≡ take m old ++ q ∷ [])
-    × ((k : ℕ) (x : Quote) → m ≤ k → slice_get old k ≡ Some x → IsOver ask q x))
-    ⊎ (IsLed leader q × (new ≡ old))
+-- who leads a list: what it outbids is covered
+abbrev pub IsLeader : Ask → List Quote → Quote → Type 0
+IsLeader ask list p = (x : Quote) → IsLed p x → IsCovered ask list x
 
--- a quote bids no less for logs as long, or more worth for shorter ones, and takes no more trim
-pub record IsQuoted (quotes : List Quote) (d steps trim : ℕ) (bid : BidParts) : Type 0 where
-  pub place : ℕ
-  pub quote : Quote
-  pub there : slice_get quotes place ≡ Some quote
-  pub meets : ((quote.steps ≡ steps) × IsAtMost bid (quote_bid quote d))
-      ⊎ ((quote.steps < steps) × (bid.worth < (quote_bid quote d).worth))
-  pub trims : quote.trim ≤ trim
+-- a quote comes to a list: the new one has what the list has, or that, and covers both
+pub record IsNext (ask : Ask) (q : Quote) (list new : List Quote) : Type 0 where
+  pub real : (x : Quote) → Contains new x → Contains list x ⊎ (q ≡ x)
+  pub met : (x : Quote) → IsCovered ask list x → IsCovered ask new x
+  pub own : IsCovered ask new q
 
--- the quotes of the first n offers: each is a taker's bid, and each bid of a taker is met
-pub record AreQuotes (s : SheetParts) (codes : List ℕ) (ask : Ask) (n : ℕ) (quotes : List Quote) : Type 0 where
-  pub real : (k : ℕ) (q : Quote) → slice_get quotes k ≡ Some q → IsQuote s codes ask q
-  pub met : (steps trim d : ℕ) (bid : BidParts) → IsAsked ask d → 1023 < bid.rank + n
-      → IsTakersBid s codes ask.takers d steps trim bid → IsQuoted quotes d steps trim bid
+-- a list has quotes of terms at their prices, and covers those of the first n
+pub record IsPruned (ask : Ask) (prices : List ℕ) (terms : List Quote) (n : ℕ) (list : List Quote) : Type 0 where
+  pub real : (q : Quote) → Contains list q → (t : Quote) × Contains terms t × (quote_at prices t ≡ q)
+  pub met : (k : ℕ) (t : Quote) → k < n → slice_get terms k ≡ Some t → IsCovered ask list (quote_at prices t)
 
 -- the cell of a quote at a diameter, in a row that reaches so far back
 abbrev pub cell_of : ℕ → ℕ → Quote → Cell
@@ -173,22 +125,33 @@ cell_of far d q = record {
 abbrev pub row_of : ℕ → ℕ → List Quote → List Cell
 row_of far d quotes = map (cell_of far d) quotes
 
+-- the quotes of an ask: each is a taker's bid, and each bid of a taker is met, with no more trim
+pub record AreQuotes (s : SheetParts) (offers : List Offer) (ask : Ask) (quotes : List Quote) : Type 0 where
+  pub real : All (λ q. IsQuote s offers ask q) quotes
+  pub met : (steps trim d : ℕ) (bid : BidParts) → IsAsked ask d → IsTakersBid s offers ask.takers d steps trim bid
+      → (q : Quote) × Contains quotes q × Meets (cell_of 0 d q) steps bid × (q.trim ≤ trim)
+
+-- a term has a class, and is a quote at each price of that
+pub record IsTerm (i : InstructionParts) (offers : List Offer) (ask : Ask) (t : Quote) : Type 0 where
+  pub class : t.class < classes i
+  pub quote : (version : ℕ) (prices : List ℕ) → IsSheet (sheet_of version i prices)
+      → IsQuote (sheet_of version i prices) offers ask (quote_at prices t)
+
+-- the terms of the first n offers: each bid of a taker is that of one at its price
+pub record AreTerms (i : InstructionParts) (offers : List Offer) (ask : Ask) (n : ℕ) (terms : List Quote) : Type 0 where
+  pub real : All (λ t. IsTerm i offers ask t) terms
+  pub met : (version : ℕ) (prices : List ℕ) → IsSheet (sheet_of version i prices) → (steps trim d : ℕ) (bid : BidParts)
+      → IsAsked ask d → 1023 < bid.rank + n → IsTakersBid (sheet_of version i prices) offers ask.takers d steps trim bid
+      → (t : Quote) × Contains terms t × (t.steps ≡ steps) × (t.trim ≡ trim) × (quote_bid (quote_at prices t) d ≡ bid)
+
 -- a cell is a taker's bid
-pub record IsCell (s : SheetParts) (codes : List ℕ) (takers : Takers) (d far : ℕ) (c : Cell) : Type 0 where
-  pub bids : IsTakersBid s codes takers d c.steps c.trim c.bid
+pub record IsCell (s : SheetParts) (offers : List Offer) (takers : Takers) (d far : ℕ) (c : Cell) : Type 0 where
+  pub bids : IsTakersBid s offers takers d c.steps c.trim c.bid
   pub rise : c.rise ≡ point_after s.instruction.«module» c.trim
   pub placed : IsPlaced far c
 
--- a cell bids no less for logs as long, or more worth for shorter ones, and takes no more trim
-pub record IsMet (row : List Cell) (steps trim : ℕ) (bid : BidParts) : Type 0 where
-  pub place : ℕ
-  pub cell : Cell
-  pub there : slice_get row place ≡ Some cell
-  pub meets : ((cell.steps ≡ steps) × IsAtMost bid cell.bid) ⊎ ((cell.steps < steps) × (bid.worth < cell.bid.worth))
-  pub trims : cell.trim ≤ trim
-
--- a row has what takers bid at a diameter, and reaches so far back: each of its cells is a taker's bid, and each bid of a
--- taker is met
-pub record IsRow (s : SheetParts) (codes : List ℕ) (takers : Takers) (d far : ℕ) (row : List Cell) : Type 0 where
-  pub real : (k : ℕ) (c : Cell) → slice_get row k ≡ Some c → IsCell s codes takers d far c
-  pub met : (steps trim : ℕ) (bid : BidParts) → IsTakersBid s codes takers d steps trim bid → IsMet row steps trim bid
+-- a row at a diameter: each of its cells is a taker's bid, and each bid of a taker is met, with no more trim
+pub record IsRow (s : SheetParts) (offers : List Offer) (takers : Takers) (d far : ℕ) (row : List Cell) : Type 0 where
+  pub real : All (λ c. IsCell s offers takers d far c) row
+  pub met : (steps trim : ℕ) (bid : BidParts) → IsTakersBid s offers takers d steps trim bid
+      → (c : Cell) × Contains row c × Meets c steps bid × (c.trim ≤ trim)

@@ -1,12 +1,52 @@
 -- The values of points while the search goes from the top end down.
-use Rattle.std.specs.Prelude.{◌≡◌, ℕ, ◌+◌, ◌<◌, ◌≤◌, ◌≢◌, ◌⊎◌, List, length, get_or, slice_get, Some}
-use Rattle.buck_dp.specs.inner.Points.{GroundParts, ends_of}
+use Rattle.std.specs.Prelude.{◌≡◌, ℕ, ◌+◌, ◌<◌, ◌≤◌, ◌≢◌, ◌⊎◌, List, length, get_or, slice_get, Some, ◌*◌, ◌-◌}
+use Rattle.buck_dp.specs.inner.Logs.{GroundParts, ends_of, IsLogAt, IsLow, bid_at}
 use Rattle.buck_dp.specs.inner.Bid.{BidParts, bid_of, none, IsAtMost, IsGreater, plus}
-use Rattle.buck_stem.specs.Stem.{IsStem}
+use Rattle.buck_stem.specs.Stem.{IsStem, stem_length}
 use Rattle.buck_value.specs.Sheet.{IsSheet}
-use Rattle.buck_dp.specs.inner.Logs.{IsLogAt, IsLow, bid_at}
 use Rattle.buck_dp.specs.declared.offering.Cell.{Cell}
-use Rattle.buck_dp.specs.inner.Rows.{IsNear, IsPart}
+
+-- a cell tells where its log and the next one start, from so far before its top on
+abbrev pub IsPlaced : ℕ → Cell → Type 0
+IsPlaced far c = (c.back + c.steps ≡ far) × (c.next ≡ far + c.rise)
+
+-- a trim in mm is the room behind a top
+abbrev pub HasRoom : GroundParts → ℕ → ℕ → Type 0
+HasRoom p top room = room + top * p.sheet.instruction.«module» ≡ stem_length p.stem.samples
+
+-- the log of a cell with a top fits there
+abbrev pub IsFitting : GroundParts → ℕ → Cell → Type 0
+IsFitting p top c = c.trim + top * p.sheet.instruction.«module» ≤ stem_length p.stem.samples
+
+-- so do those of all cells, which have some steps
+abbrev pub AllFit : GroundParts → ℕ → List Cell → Type 0
+AllFit p top cells = (k : ℕ) (c : Cell) → slice_get cells k ≡ Some c → (0 < c.steps) × IsFitting p top c
+
+-- the log of a cell with a top fits there, and starts at point `first` or later, and before `stop`
+abbrev pub IsNear : GroundParts → ℕ → ℕ → ℕ → Cell → Type 0
+IsNear p top first stop c = (c.steps + first ≤ top) × (top < c.steps + stop) × IsFitting p top c
+
+-- a cell bids no less for logs as long, or more worth for shorter ones
+abbrev pub Meets : Cell → ℕ → BidParts → Type 0
+Meets c steps bid = ((c.steps ≡ steps) × IsAtMost bid c.bid) ⊎ ((c.steps < steps) × (bid.worth < c.bid.worth))
+
+-- the log of a cell fits, and it bids no less than one from point i with the same top, or it starts later and bids more
+-- worth; and it leaves no less
+pub record IsServed (p : GroundParts) (cells : List Cell) (top i e : ℕ) (bid : BidParts) : Type 0 where
+  pub place : ℕ
+  pub cell : Cell
+  pub there : slice_get cells place ≡ Some cell
+  pub fits : IsFitting p top cell
+  pub serves : Meets cell (top - i) bid
+  pub leaves : top + cell.rise ≤ e
+
+-- the cells that fit are bids of logs with this top from each start behind one from point `first` on and before `stop`,
+-- and each log from these is served
+pub record IsPart (p : GroundParts) (top first stop : ℕ) (cells : List Cell) : Type 0 where
+  pub real : (k : ℕ) (c : Cell) → slice_get cells k ≡ Some c → IsFitting p top c
+      → (i start : ℕ) → first ≤ i → i < stop → i ≤ start → start + c.steps ≡ top
+      → IsLogAt p start top (top + c.rise) c.bid
+  pub served : (i e : ℕ) (bid : BidParts) → first ≤ i → i < stop → IsLogAt p i top e bid → IsServed p cells top i e bid
 
 -- a settled point: its value has the worth of the best from there on, and its choice is the rank of the first log of
 -- that, or 0 where none starts there
@@ -46,13 +86,6 @@ pub record IsSearch (p : GroundParts) (values : List BidParts) (choices : List �
       → Reaches values i (plus bid (bid_at values e))
   pub one : (i : ℕ) → i < from → IsMade p values from i
 
--- the logs of cells can be offered to the values of a search: those that have its last top and start in one part more
-pub record IsOpen (p : GroundParts) (choices : List ℕ) (values : List BidParts) (top first stop : ℕ)
-    (cells : List Cell) : Type 0 where
-  pub search : IsSearch p values choices top stop
-  pub part : IsPart p top first stop cells
-  pub order : first ≤ stop
-
 -- a bid can be offered to a point before another: what this one brings has no rank and is low enough
 pub record CanOffer (start next : ℕ) (bid : BidParts) (values : List BidParts) : Type 0 where
   pub inside : start < length values
@@ -66,9 +99,11 @@ pub record IsOffered (start next : ℕ) (bid : BidParts) (old new : List BidPart
   pub others : (i : ℕ) → i ≢ start → bid_at new i ≡ bid_at old i
   pub raised : IsGreater (bid_at old start) (plus bid (bid_at old next)) (bid_at new start)
 
--- of the first n cells those are offered whose logs with the last top of a search start in one part
+-- of the cells whose logs with the last top of a search start in one part more, the first n are offered to its values
 pub record AreOffered (p : GroundParts) (choices : List ℕ) (top first stop : ℕ) (cells : List Cell) (n : ℕ)
     (values : List BidParts) : Type 0 where
   pub search : IsSearch p values choices top stop
+  pub part : IsPart p top first stop cells
+  pub order : first ≤ stop
   pub done : (k : ℕ) (c : Cell) → k < n → slice_get cells k ≡ Some c → IsNear p top first stop c
       → (i : ℕ) → i + c.steps ≡ top → IsAtMost (plus c.bid (bid_at values (top + c.rise))) (bid_at values i)

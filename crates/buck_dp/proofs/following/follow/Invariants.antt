@@ -1,9 +1,11 @@
-use Rattle.buck_dp.proofs.Words.{◌-◌, length, ground_with, codes_in}
-use Rattle.buck_dp.proofs.Values.{AreToldTo}
+use Rattle.buck_dp.proofs.Words.{◌-◌, length, List, ◌++◌, Log, ground_of}
+use Rattle.buck_dp.proofs.Values.{IsBestAt}
 use Rattle.buck_dp.proofs.following.follow.Given as goal
 
+-- the logs so far, and behind them the best from the point on, are the best from the butt on
 abbrev pub invariant-loop-i : goal.invariant-loop-i
-invariant-loop-i l = AreToldTo (ground_with l.sheet l.stem (codes_in l.offers)) l.choices l.i l.logs.items
+invariant-loop-i l = (gs : List Log) → IsBestAt (ground_of l.site) l.values l.i gs
+    → IsBestAt (ground_of l.site) l.values 0 (l.logs.items ++ gs)
 
 abbrev pub decreases-loop-i : goal.decreases-loop-i
 decreases-loop-i l = length l.choices - l.i

@@ -1,4 +1,4 @@
-use Rattle.buck_dp.proofs.Words.{arith, refl, ◌≡◌, length, slice_get_read}
+use Rattle.buck_dp.proofs.Words.{arith, refl, slice_get_read}
 use Rattle.buck_dp.proofs.OfferLemmas.{cell_fits, offered_less, offered_more, offered_part}
 use Rattle.buck_dp.proofs.offering.offer_some.Goals.{then-steps-most+then-steps-past+then-cell-reach, then-steps-most+then-steps-past+else-cell-reach, then-steps-most+else-steps-past, else-steps-most}
 use Rattle.buck_dp.proofs.offering.offer_some.Goals as goal
@@ -6,31 +6,27 @@ use Rattle.buck_dp.proofs.offering.offer_some.Goals as goal
 pub offer_bid-requires : goal.offer_bid-requires
 offer_bid-requires c =
     let (p, ch, is, room) = c.requires.open in
-    let n = c.loop-cell.cell-index in
-    let there = slice_get_read c.args.row.now _ n c.cell-item.result refl c.loop-cell-test.true c.cell-item.is in
-    cell_fits is.part (c.loop-cell.invariant p ch is room) there (omega arith, omega arith, omega (arith, room))
+    let there = slice_get_read c.args.row.now _ _ _ refl c.loop-cell-test.true c.cell-item.is in
+    cell_fits (c.loop-cell.invariant p ch is room) there (omega arith, omega arith, omega (arith, room))
     (omega arith) refl
 
 pub loop-cell-preserved : goal.loop-cell-preserved
 loop-cell-preserved c p ch is room =
-    let n = c.loop-cell.cell-index in
-    let there = slice_get_read c.args.row.now _ n c.cell-item.result refl c.loop-cell-test.true c.cell-item.is in
+    let there = slice_get_read c.args.row.now _ _ _ refl c.loop-cell-test.true c.cell-item.is in
     let was = c.loop-cell.invariant p ch is room in
-    let less = offered_less is.part was there in
+    let less = offered_less was there in
     elim c.if-steps-most.branch [
       | then-steps-most+then-steps-past+then-cell-reach w ↦
           let most = w.if-steps-most.true in
-          rw w.values-is (offered_more is.part was there
+          rw w.values-is (offered_more was there
           (omega (arith, most), omega (arith, w.if-steps-past.true), omega (arith, room, w.if-cell-reach.true))
           (omega (arith, most)) refl w.offer_bid.ensures)
       | then-steps-most+then-steps-past+else-cell-reach w ↦
           rw w.values-is (less (λ near. omega (arith, near, room, w.if-cell-reach.false)))
       | then-steps-most+else-steps-past w ↦
-          rw w.values-is (less (λ near. omega (arith, near, is.search.below, w.if-steps-past.false)))
+          rw w.values-is (less (λ near. omega (arith, near, was.search.below, w.if-steps-past.false)))
       | else-steps-most w ↦ rw w.values-is (less (λ near. omega (arith, near, w.if-steps-most.false)))
     ]
 
 pub returns : goal.returns
-returns c p ch is room =
-    let all : length c.args.row.now ≡ c.loop-cell.cell-index = omega arith in
-    offered_part is.part is.order (rw all (c.loop-cell.invariant p ch is room))
+returns c p ch is room = offered_part (c.loop-cell.invariant p ch is room) (omega arith)

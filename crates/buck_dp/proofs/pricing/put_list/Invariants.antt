@@ -1,8 +1,9 @@
-use Rattle.buck_dp.proofs.Words.{ℕ, List, length, AreTerms}
-use Rattle.buck_dp.proofs.QuoteLemmas.{IsListSoFar}
+use Rattle.buck_dp.proofs.Words.{IsLeader, IsPruned}
 use Rattle.buck_dp.proofs.pricing.put_list.Given as goal
 
 abbrev pub invariant-loop-term : goal.invariant-loop-term
-invariant-loop-term l =
-    (codes : List ℕ) → AreTerms l.sheet.instruction codes l.ask (length l.terms) l.terms
-    → IsListSoFar l.sheet codes l.ask l.term-index l.quotes.items l.cubic l.piece
+invariant-loop-term l = record {
+  pruned : IsPruned l.ask l.prices l.terms l.term-index l.quotes.items;
+  cubic : IsLeader l.ask l.quotes.items l.cubic;
+  piece : IsLeader l.ask l.quotes.items l.piece;
+}

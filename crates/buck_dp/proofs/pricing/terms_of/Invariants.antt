@@ -1,5 +1,5 @@
-use Rattle.buck_dp.proofs.Words.{codes_in, AreTerms}
+use Rattle.buck_dp.proofs.Words.{AreTerms}
 use Rattle.buck_dp.proofs.pricing.terms_of.Given as goal
 
 abbrev pub invariant-loop-place : goal.invariant-loop-place
-invariant-loop-place l = AreTerms l.instruction (codes_in l.offers) l.ask l.place l.terms.items
+invariant-loop-place l = AreTerms l.instruction l.offers l.ask l.place l.terms.items

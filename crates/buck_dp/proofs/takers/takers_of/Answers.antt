@@ -1,5 +1,12 @@
-use Rattle.buck_dp.proofs.Words.{arith, read_at}
+use Rattle.buck_dp.proofs.Words.{◌<◌, arith, ap, length, stands, w16, bit_at_set_same, bit_at_set_other}
 use Rattle.buck_dp.proofs.takers.takers_of.Goals as goal
 
 pub loop-place-preserved : goal.loop-place-preserved
-loop-place-preserved c = grind (arith, read_at)
+loop-place-preserved c =
+    let place = c.loop-place.place in
+    let all = c.assortments-all.ensures in
+    let number = all.valid.assortments_number in
+    let within : place < 16 = omega (arith, c.loop-place-test.true, ap length all.items, number) in
+    let same = bit_at_set_same w16 c.loop-place.marks place within in
+    let others = bit_at_set_other w16 c.loop-place.marks place within in
+    grind (arith, stands, same, others)

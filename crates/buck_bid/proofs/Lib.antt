@@ -1,4 +1,0 @@
-pub mod Words
-pub mod ListLemmas
-pub mod Priced
-pub mod OfferLemmas

@@ -1,4 +1,0 @@
-pub mod Offers
-pub mod Limits
-pub mod Quotes
-pub mod Prices

@@ -1,0 +1,21 @@
+use Rattle.buck_dp.proofs.Words.{rules, get_or, arith, ap, length, stands}
+use Rattle.buck_dp.proofs.PricingLemmas.{more_offers, offers_sorted}
+use Rattle.buck_dp.proofs.offers.offers_of.Goals as goal
+
+pub loop-length-preserved : goal.loop-length-preserved
+loop-length-preserved c =
+    rw c.in_ok-push.ensures.items
+    (more_offers {x = c.index-all-assortment.result} (grind (arith, stands))
+    (grind (arith, c.lengths-length-items.ensures))
+    (ap (λ ls. get_or ls c.loop-length.length-index 0) c.lengths-length-items.ensures.lengths) c.loop-length.invariant)
+
+pub loop-assortment-preserved : goal.loop-assortment-preserved
+loop-assortment-preserved c = search (rules, stands)
+
+pub returns : goal.returns
+returns c =
+    let all = c.assortments-all.ensures in
+    let number = ap length all.items in
+    offers_sorted _ c.loop-assortment.assortment _ _ (omega (arith, number, c.loop-assortment-test.false))
+    (omega (arith, number, all.valid.assortments_number)) c.loop-assortment.invariant c.sort.ensures.permutation
+    c.in_ok-sort.ensures.sorted
