@@ -1,10 +1,10 @@
 -- The words that the proofs of this crate name, from where each is declared.
-pub use Rattle.buck_dp.proofs.Words.{◌↔◌, drop, sum_by, rules, add-one, mul-le-mul_right, get_or-take, get_or-drop, length-take-le, sum_by-cons, classes, None, ne_eqb, length-set, get_or_past, StemParts, IsStem, stem_length, IsAllowed, end_of, allowed_low, IsCutFrom, mul-le-mul, take_all, take-append-le, class_in, IfNone, sheet_of, mul-le-mul_left, sum_by_more, length-drop}
-pub use Rattle.std.proofs.Common.{◌≡◌, ℕ, zero, suc, ◌+◌, ◌-◌, ◌*◌, ◌/◌, ◌%◌, ◌<◌, ◌≤◌, inl, inr, List, [], ◌∷◌, map, length, take, slice_index, slice_get, Some, refl, sym, ◌∙◌, arith, eqb-true, eq-eqb, div-mul-le_self, ◌++◌, Option, set, get_or, append-nil, ap, ◌==◌, true, cond, replicate, ◌^◌, All, count_by, min, sum, false, ◌⊎◌, mul_comm, subst}
+pub use Rattle.buck_dp.proofs.Words.{◌↔◌, drop, sum_by, rules, add-one, mul-le-mul_right, sum_by-cons, classes, ne_eqb, length-set, get_or_past, StemParts, IsStem, stem_length, IsAllowed, end_of, allowed_low, IsCutFrom, mul-le-mul, take_all, take-append-le, sheet_of, mul-le-mul_left, sum_by_more, length-drop}
+pub use Rattle.std.proofs.Common.{◌≡◌, ℕ, zero, suc, ◌+◌, ◌-◌, ◌*◌, ◌/◌, ◌%◌, ◌<◌, ◌≤◌, inl, inr, List, [], ◌∷◌, map, length, take, slice_index, slice_get, Some, refl, sym, ◌∙◌, arith, eqb-true, eq-eqb, div-mul-le_self, ◌++◌, Option, set, get_or, append-nil, ap, ◌==◌, true, cond, replicate, ◌^◌, All, count_by, min, sum, false, ◌⊎◌, mul_comm, subst, None, IfNone}
 pub use Rattle.std.proofs.lemmas.Bool.{cases_Bool, cases_lt, cases_eq, and_parts, and_from, false_from_ne_true}
 pub use Rattle.std.proofs.lemmas.Nat.{same_from_place, div-mul-add, mod-mul-add, div-add-mod', div_below, mod_below, mul-add-lt}
 pub use Rattle.std.proofs.lemmas.Grind.{same_number_lists, common_steps}
-pub use Rattle.std.proofs.lemmas.List.{take-map, map-append, length_push, get_or-set_same, get_or-set_other, get_or-replicate, length-replicate, take-append-drop, take_more, take-take, get_or_append_left, get_or_push, get_or-map, length-map}
+pub use Rattle.std.proofs.lemmas.List.{take-map, map-append, length_push, get_or-set_same, get_or-set_other, get_or-replicate, length-replicate, take-append-drop, take_more, take-take, get_or_append_left, get_or_push, get_or-map, length-map, get_or-take, get_or-drop, length-take-le}
 pub use Rattle.std.proofs.lemmas.List.Elements.{recursion_from_All, All-nil, All-cons, All-weaker, All-take, All-append, All-get_or}
 pub use Rattle.std.proofs.lemmas.List.Sums.{sum_by-le-sum_by, sum_by_push, count_by-le-length, sum_by_more_le, sum_by-le, get_or-le-sum_by}
 pub use Rattle.std.proofs.lemmas.Option.{slice_get_within, slice_get-map, slice_get_cases, same_Some, none-some, slice_get_read, get_or_from_slice_get, slice_get-get_or, IfSome_then}
@@ -27,9 +27,9 @@ pub use denote.Ref.{Bor}
 pub use denote.Param.Members.{Shared}
 pub use Rattle.buck_value.specs.declared.log.Log.{Log}
 pub use Rattle.buck_book.specs.Counts.{class_logs_in, assortment_logs_in, count_of, assortment_count_of, calls_of, is_class, class_logs, assortment_logs}
-pub use Rattle.buck_value.specs.Allowed.{class_of}
+pub use Rattle.buck_value.specs.Allowed.{class_of, class_in}
 pub use Rattle.buck_value.proofs.Classes.{class_is_class}
-pub use Rattle.buck_dp.proofs.Bounds.{end_within}
+pub use Rattle.buck_dp.proofs.Lists.{end_within}
 pub use Rattle.std.proofs.Math.Nat.{min-le_left, add-mul, div-le_of_le-mul}
 pub use Rattle.buck_book.specs.Degree.{shared_of}
 pub use Rattle.buck_rule.specs.Relation.{Meets}

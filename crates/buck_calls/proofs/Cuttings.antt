@@ -6,7 +6,7 @@ use Rattle.buck_stem.specs.Stem.{StemParts}
 use Rattle.buck_value.specs.declared.log.Log.{Log}
 use Rattle.buck_value.specs.Sheet.{SheetParts}
 use Rattle.buck_value.specs.Allowed.{IsAllowed}
-use Rattle.buck_dp.proofs.Lists.{at_most_80}
+use Rattle.buck_dp.proofs.Lists.{cut_bounded}
 use Rattle.buck_book.specs.Entry.{EntryParts}
 use Rattle.buck_book.specs.History.{HistoryParts, in_force}
 use Rattle.buck_book.specs.Book.{entry_of}
@@ -17,7 +17,7 @@ use Rattle.buck_calls.specs.declared.showing.CutLog.{CutLog}
 use Rattle.buck_calls.specs.Shown.{IsCutUnder, ShowsLog}
 
 pub few : (sheet : SheetParts) (e : EntryParts) → IsCutUnder sheet e → length e.logs ≤ 80
-few sheet e k = at_most_80 sheet e.stem e.logs k.sheet_valid k.stem_valid k.admissible
+few sheet e k = (cut_bounded sheet e.stem e.logs k.sheet_valid k.stem_valid k.admissible).0
 
 pub allowed : (sheet : SheetParts) (e : EntryParts) → IsCutUnder sheet e
     → All (IsAllowed sheet.instruction e.stem) e.logs

@@ -12,12 +12,11 @@ use Rattle.buck_value.specs.declared.log.Log.{Log}
 use Rattle.buck_value.specs.Sheet.{SheetParts, IsSheet}
 use Rattle.buck_value.specs.Allowed.{IsAllowed, end_of, trim_of}
 use Rattle.buck_dp.specs.Cutting.{IsCutFrom}
-use Rattle.buck_dp.proofs.Bounds.{end_within}
 use Rattle.buck_figures.specs.Figures.{base_sheet}
 use Rattle.buck_book.specs.Entry.{EntryParts}
 use Rattle.buck_book.specs.declared.posting.Posting.TheVariants.{Cut}
 use Rattle.buck_dp.specs.Best.{IsAdmissible, IsFirstBest, cutting_worth}
-use Rattle.buck_dp.proofs.Lists.{each_allowed}
+use Rattle.buck_dp.proofs.Lists.{each_allowed, end_within}
 use Rattle.buck_book.proofs.Cuts.{few_logs}
 use Rattle.buck_figures.specs.inner.Counted.{AreOfPosting}
 use Rattle.buck_figures.specs.declared.figures.Piece.{Piece}
@@ -115,4 +114,4 @@ pub of_posting : (s : SheetParts) (e : EntryParts) (logs : List Log) → IsSheet
     → IsAdmissible s e.stem logs
     → AreOfPosting s.instruction (Cut e) logs
 of_posting s e logs valid stem cut =
-    (each_allowed s e.stem logs cut, few_logs s.instruction e.stem logs valid.valid stem cut)
+    (each_allowed s e.stem 0 logs cut, few_logs s.instruction e.stem logs valid.valid stem cut)

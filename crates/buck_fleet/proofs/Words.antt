@@ -1,6 +1,6 @@
 -- The words that the proofs of this crate name, from where each is declared.
-pub use Rattle.buck_dp.proofs.Words.{InstructionParts, SheetParts, rules, add-one, sum_by-cons, if◌then◌else◌, None, append_assoc, drop, drop-cons, StemParts, IfSome, vec_capacity}
-pub use Rattle.std.proofs.Common.{All, slice_index_or, slice_get, Some, nat_lt, Option, sum_by, Contains, ◌≡◌, ℕ, ◌+◌, ◌≤◌, List, [], ◌∷◌, ◌++◌, arith, sym, ◌∙◌, ◌-◌, ◌<◌, length, get_or, refl, ap, map, zero, suc, ◌==◌, cond, take, ◌≢◌, set, length-set, length-append, inl, inr, append-nil}
+pub use Rattle.buck_dp.proofs.Words.{InstructionParts, SheetParts, rules, add-one, sum_by-cons, append_assoc, drop, drop-cons, StemParts, vec_capacity}
+pub use Rattle.std.proofs.Common.{All, slice_index_or, slice_get, Some, nat_lt, Option, sum_by, Contains, ◌≡◌, ℕ, ◌+◌, ◌≤◌, List, [], ◌∷◌, ◌++◌, arith, sym, ◌∙◌, ◌-◌, ◌<◌, length, get_or, refl, ap, map, zero, suc, ◌==◌, cond, take, ◌≢◌, set, length-set, length-append, inl, inr, append-nil, if◌then◌else◌, None, IfSome}
 pub use Rattle.std.proofs.lemmas.Grind.{common_steps}
 pub use Rattle.buck_book.specs.declared.posting.Posting.{Posting}
 pub use Rattle.buck_book.specs.declared.posting.Posting.TheVariants.{Cut, Demand}

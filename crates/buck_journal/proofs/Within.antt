@@ -1,5 +1,5 @@
 -- The numbers of a lawful history lie within a journal's ranges.
-use Rattle.buck_journal.proofs.Words.{◌≡◌, ℕ, ◌+◌, ◌*◌, ◌<◌, ◌≤◌, true, List, [], ◌∷◌, length, take, get_or, slice_index, slice_get, Some, refl, sym, subst, arith, mul-le-mul_left, rules, common_steps, AllByRecursion, and_from, nat_tests, take_all, length-take-le, get_or_default, recursion_from_All, All-contains, slice_get_within, slice_get-get_or, within, all_within, InstructionParts, IsInstruction, IsWithin, TARGETS, SPECIES, SAMPLES, MOST_SAMPLES, STARTS, StemParts, IsStem, IsGrade, IsRisingFrom, Log, IsSheet, base_prices, sheet_of, IsAllowed, end_of, base_price-le, valid_of, IsCutFrom, worth_bounded, Posting, Cut, Demand, EntryParts, DemandParts, harvester_of, ends_of, calls_of, HistoryParts, IsLawful, Follows, PricesMeet, prices_at, sheet_at, ends-le, calls-le, few_logs, classes-le, Call, is_call, are_zones, is_log, are_logs, zone_numbers, log_numbers, version_at, AreSheetPrices, IsCutInRange, IsDemandInRange, IsInRange, AreInRange, IsOfBook, call_of_cut}
+use Rattle.buck_journal.proofs.Words.{◌≡◌, ℕ, ◌+◌, ◌*◌, ◌<◌, ◌≤◌, true, List, [], ◌∷◌, length, take, get_or, slice_index, slice_get, Some, refl, sym, subst, arith, mul-le-mul_left, rules, common_steps, AllByRecursion, and_from, nat_tests, take_all, length-take-le, get_or_default, recursion_from_All, All-contains, slice_get_within, slice_get-get_or, within, all_within, InstructionParts, IsInstruction, IsWithin, TARGETS, SPECIES, SAMPLES, MOST_SAMPLES, STARTS, StemParts, IsStem, IsGrade, IsRisingFrom, Log, IsSheet, base_prices, sheet_of, IsAllowed, end_of, base_price-le, valid_of, IsCutFrom, cut_bounded, Posting, Cut, Demand, EntryParts, DemandParts, harvester_of, ends_of, calls_of, HistoryParts, IsLawful, Follows, PricesMeet, prices_at, sheet_at, ends-le, calls-le, few_logs, classes-le, Call, is_call, are_zones, is_log, are_logs, zone_numbers, log_numbers, version_at, AreSheetPrices, IsCutInRange, IsDemandInRange, IsInRange, AreInRange, IsOfBook, call_of_cut}
 use Rattle.buck_journal.proofs.Faults.{prices_right}
 use Rattle.buck_journal.proofs.Replays.{in_span, Opened, opened}
 
@@ -99,7 +99,7 @@ module _ (h : HistoryParts) (v : IsInstruction h.instruction) (l : IsLawful h) w
           worth = omega (
             arith,
             f.holds.1,
-            worth_bounded (sheet_at i h.sheets e.version) e.stem e.logs sheet s f.holds.0.admissible,
+            (cut_bounded (sheet_at i h.sheets e.version) e.stem e.logs sheet s f.holds.0.admissible).1,
           );
         }
 

@@ -1,6 +1,6 @@
 -- The words that the proofs of this crate name, from where each is declared.
-pub use Rattle.buck_dp.proofs.Words.{rules, None, drop, take_all, append-nil, IsStem, IsGrade, append_assoc, cases_order, StemParts, IsAllowed, end_of, IsCutFrom, IsAdmissible, cutting_worth, Bool, sum_by, if◌then◌else◌, sum_by-cons, drop-cons, add-one, mul-le-mul_left, length-take-le, IsSheet, sheet_of, IfNone, IfSome}
-pub use Rattle.std.proofs.Common.{◌≡◌, ℕ, ◌+◌, ◌*◌, ◌≤◌, true, List, [], ◌∷◌, ◌++◌, Ok, length, map, refl, ap, arith, codes, eq-eqb, suc, false, Option, Some, inl, inr, slice_get, ◌-◌, take, sym, ◌∙◌, subst, ◌≢◌, zero, ◌<◌, Result, Err, ◌^◌, All, get_or, ◌⊎◌, slice_index, ◌&&◌, length-drop, ◌/◌}
+pub use Rattle.buck_dp.proofs.Words.{rules, drop, take_all, append-nil, IsStem, append_assoc, cases_order, StemParts, IsAllowed, end_of, IsCutFrom, IsAdmissible, cutting_worth, sum_by, sum_by-cons, drop-cons, add-one, mul-le-mul_left, IsSheet, sheet_of}
+pub use Rattle.std.proofs.Common.{◌≡◌, ℕ, ◌+◌, ◌*◌, ◌≤◌, true, List, [], ◌∷◌, ◌++◌, Ok, length, map, refl, ap, arith, codes, eq-eqb, suc, false, Option, Some, inl, inr, slice_get, ◌-◌, take, sym, ◌∙◌, subst, ◌≢◌, zero, ◌<◌, Result, Err, ◌^◌, All, get_or, ◌⊎◌, slice_index, ◌&&◌, length-drop, ◌/◌, None, Bool, if◌then◌else◌, IfNone, IfSome}
 pub use Rattle.std.specs.List.{AllByRecursion, flat_map, position_or_len}
 pub use Rattle.std.proofs.lemmas.Bool.{le-leb, and_from, cases_Bool, cases_eq, cases_lt, cond-true, lt-ltb}
 pub use Rattle.std.proofs.lemmas.Bool.Decides.{nat_tests}
@@ -23,7 +23,7 @@ pub use Rattle.buck_journal.specs.inner.Plain.{LeadsNumbers, LeadsWorth, begins,
 pub use Rattle.std.proofs.Math.Bool.{or-false}
 pub use Rattle.buck_record.specs.checking.Table.{is_at}
 pub use Rattle.std.proofs.lemmas.Grind.{common_steps}
-pub use Rattle.std.proofs.lemmas.List.{length-append, length_push, length-map, map-append, drop_all, get_or_default}
+pub use Rattle.std.proofs.lemmas.List.{length-append, length_push, length-map, map-append, drop_all, get_or_default, length-take-le}
 pub use Rattle.std.proofs.lemmas.Option.{slice_get_within, slice_get_cases, same_Some, slice_get-get_or}
 pub use Rattle.buck_apt.specs.Instruction.{InstructionParts, IsInstruction, AssortmentParts, IsClass, index_of, IsWithin}
 pub use Rattle.buck_book.specs.Posting.{planned_version, is_end, ends_of, cuts_since_end, harvester_of}
@@ -38,7 +38,7 @@ pub use Rattle.buck_journal.specs.inner.Sheets.{IsPriced, AreMade}
 pub use Rattle.buck_journal.specs.inner.Replay.{HoldsUnder, IsRightUnder, IsInOrderBefore, IsStopped, IsOrdered, IsOutvalued, IsDoubtful, NoneDoubtful, IsFirstDoubtful, IsFound, sheet_then, along, IsPassed, IsEndRight}
 pub use Rattle.std.proofs.lemmas.List.Elements.{All-from_recursion, All-append, All-cons, All-nil, recursion_from_All, All-contains}
 pub use Rattle.std.proofs.lemmas.List.Sums.{AllPass-from_list_all, suffix_len_is, list_all-from_AllPass}
-pub use Rattle.buck_stem.specs.Stem.{IsRisingFrom, stem_of}
+pub use Rattle.buck_stem.specs.Stem.{IsRisingFrom, stem_of, IsGrade}
 pub use Rattle.buck_journal.specs.inner.Limits.{AreSamples, AreZones}
 pub use Rattle.std.specs.Char.{is_ascii_digit}
 pub use Rattle.std.specs.Fmt.{decimal}
@@ -74,7 +74,7 @@ pub use Rattle.buck_journal.specs.declared.reading.fault.JournalFault.TheVariant
 pub use Rattle.buck_record.proofs.CheckLemmas.{after_front}
 pub use Rattle.buck_value.proofs.Prices.{base_price-le}
 pub use Rattle.buck_value.proofs.Classes.{valid_of}
-pub use Rattle.buck_dp.proofs.Lists.{worth_bounded}
+pub use Rattle.buck_dp.proofs.Lists.{cut_bounded}
 pub use Rattle.buck_book.specs.Entry.{EntryParts, DemandParts}
 pub use Rattle.buck_book.specs.Counts.{calls_of}
 pub use Rattle.buck_book.proofs.Counting.{calls-le}

@@ -1,6 +1,6 @@
 -- The words that the proofs of this crate name, from where each is declared.
-pub use Rattle.buck_dp.proofs.Words.{InstructionParts, IsInstruction, slice_set, rules, Bool, mul-le-mul_left, append_assoc, sheet_of, None}
-pub use Rattle.std.proofs.Common.{◌≡◌, ◌≢◌, ℕ, ◌+◌, ◌-◌, List, [], ◌∷◌, ◌++◌, Option, ap, ◌∙◌, arith, inl, inr, zero, suc, ◌*◌, ◌<◌, ◌≤◌, cond, length, set, sym, refl, subst, eq-eqb, length-set, get_or, replicate, ◌⊎◌, ⊎_elim, le_refl, slice_get, Some, append-nil, le_trans, map, Result, Ok, Err, OnOk, OnErr, sum_by}
+pub use Rattle.buck_dp.proofs.Words.{InstructionParts, IsInstruction, slice_set, rules, mul-le-mul_left, append_assoc, sheet_of}
+pub use Rattle.std.proofs.Common.{◌≡◌, ◌≢◌, ℕ, ◌+◌, ◌-◌, List, [], ◌∷◌, ◌++◌, Option, ap, ◌∙◌, arith, inl, inr, zero, suc, ◌*◌, ◌<◌, ◌≤◌, cond, length, set, sym, refl, subst, eq-eqb, length-set, get_or, replicate, ◌⊎◌, ⊎_elim, le_refl, slice_get, Some, append-nil, le_trans, map, Result, Ok, Err, OnOk, OnErr, sum_by, Bool, None}
 pub use Rattle.buck_value.specs.Sheet.{SheetParts, base_prices}
 pub use Rattle.buck_book.specs.declared.posting.Posting.{Posting}
 pub use Rattle.buck_book.specs.Plan.{PlanParts}

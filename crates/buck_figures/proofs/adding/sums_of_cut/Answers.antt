@@ -11,7 +11,8 @@ pub wood_of-wood-requires : goal.wood_of-wood-requires
 wood_of-wood-requires c =
     let same : c.as_slice-logs.result.now ≡ c.args.entry.now.logs = search rules in
     let stem : c.deref-2.result.now ≡ c.args.entry.now.stem = search rules in
-    rw (same, stem) (each_allowed c.args.base.now c.args.entry.now.stem c.args.entry.now.logs c.requires.admissible)
+    rw (same, stem)
+    (each_allowed c.args.base.now c.args.entry.now.stem 0 c.args.entry.now.logs c.requires.admissible)
 
 pub invariant_of-result : goal.invariant_of-result
 invariant_of-result c =

@@ -8,4 +8,4 @@ pieces_of-requires-clause-allowed c =
     let stem : c.deref-3.result.now ≡ c.args.entry.now.stem = search rules in
     let logs : c.as_slice.result.now ≡ c.args.entry.now.logs = search rules in
     rw (sheet, stem, logs)
-    (each_allowed c.args.planner.now c.args.entry.now.stem c.args.entry.now.logs c.requires.admissible)
+    (each_allowed c.args.planner.now c.args.entry.now.stem 0 c.args.entry.now.logs c.requires.admissible)
