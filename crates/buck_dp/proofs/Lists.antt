@@ -28,7 +28,7 @@ pub each_allowed : (sheet : SheetParts) (stem : StemParts) (from : ℕ) (logs : 
     → All (λ g. IsAllowed sheet.instruction stem g) logs
 each_allowed sheet stem from [] c = search rules
 each_allowed sheet stem from (g ∷ gs) c =
-    search (rules, All-cons, end_of, (each_allowed sheet stem (end_of sheet.instruction g) gs c.2))
+    search (rules, All-cons, (each_allowed sheet stem (end_of sheet.instruction g) gs c.2))
 
 -- an admissible cutting is short, and of little worth
 pub cut_bounded : (sheet : SheetParts) (stem : StemParts) (logs : List Log) → IsSheet sheet → IsStem stem

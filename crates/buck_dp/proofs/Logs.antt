@@ -136,12 +136,12 @@ module _ (p : GroundParts) (valid : IsSheet p.sheet) where
           allows = record {
             species = takes.0;
             on_module = mul-mod_left k unit;
-            length_offered = b.priced.offered;
+            length_offered = b.priced.0;
             within = omega (arith, top, b.own, fits);
             grades = λ x from to. takes.1 x (omega arith) (omega (arith, top));
-            thick_enough = rw top b.priced.thick_enough;
-            thin_enough = rw top b.priced.thin_enough;
-            priced = rw top b.priced.priced;
+            thick_enough = rw top b.priced.1.thick_enough;
+            thin_enough = rw top b.priced.1.thin_enough;
+            priced = rw top b.priced.1.priced;
           };
         } in
         let after : next_after p g ≡ t + point_after unit trim =

@@ -1,5 +1,5 @@
 -- The quote of an offer.
-use Rattle.buck_dp.proofs.Words.{Contains-get_or, mul-div_left, quote_bid, quote_at, IsOfferOf, ◌≡◌, ℕ, ◌+◌, ◌-◌, ◌/◌, ◌%◌, ◌<◌, ◌≤◌, ◌⊎◌, inl, inr, suc, List, [], ◌∷◌, ◌++◌, Contains, length, get_or, slice_get, Some, refl, sym, subst, ap, ◌∙◌, arith, cases_lt, unwrap_or, nat_le, nat_tests, same_Some, All-contains, AssortmentParts, InstructionParts, sum_by-le, IsInstruction, IsAssortment, IsWithin, classes, sheet_of, price-le, mul-le-mul, last_position, row_at, Offer, offer_of, offer_at, AreOffers, IsBand, IsPriced, IsClassAt, HasNoPrice, point_after, Quote, Ask, IsTaker, IsTerm, AreTerms, nat_cmp, false, ◌*◌, All, length-append, get_or_default, slice_get_within, IsNoLater, IsPermutation, IsSorted}
+use Rattle.buck_dp.proofs.Words.{◌↔◌, Contains-get_or, mul-div_left, quote_bid, quote_at, IsOfferOf, ◌≡◌, ℕ, ◌+◌, ◌-◌, ◌/◌, ◌%◌, ◌<◌, ◌≤◌, ◌⊎◌, inl, inr, suc, List, [], ◌∷◌, ◌++◌, Contains, length, get_or, slice_get, Some, refl, sym, subst, ap, ◌∙◌, arith, cases_lt, unwrap_or, nat_le, nat_tests, same_Some, All-contains, AssortmentParts, InstructionParts, sum_by-le, IsInstruction, IsAssortment, IsWithin, classes, sheet_of, price-le, mul-le-mul, last_position, row_at, Offer, offer_of, offer_at, AreOffers, IsBand, IsBought, IsPriced, IsClassAt, HasNoPrice, point_after, Quote, Ask, IsTaker, IsTerm, AreTerms, nat_cmp, false, ◌*◌, All, length-append, get_or_default, slice_get_within, IsNoLater, IsPermutation, IsSorted}
 use Rattle.buck_apt.specs.Instruction.{classes_of}
 use Rattle.std.proofs.lemmas.List.Elements.{All-weaker, All-push, Contains-push, Contains-append_left, All-contains}
 use Rattle.buck_dp.proofs.ListLemmas.{on_module, has_at}
@@ -24,6 +24,24 @@ pub row_still : {x : AssortmentParts} {low past row : ℕ} → IsBand x low past
     → d < past → row_at x d ≡ row
 row_still {x} {low} {past} band row_is d from lt =
     ap (λ o. unwrap_or o 0) (same_last x.diameters low d past from lt band.rows) ∙ sym row_is
+
+-- and so is whether it has a price
+pub bought_still : {x : AssortmentParts} {low past column : ℕ} → IsAssortment x → IsBand x low past → (d : ℕ) → low ≤ d
+    → d < past → IsBought x column d ↔ IsBought x column low
+bought_still {x} {low} valid band d from lt =
+    let row = row_still band refl d from lt in
+    let least = band.rows _ (Contains-get_or x.diameters 0 0 (omega (arith, valid.rows))) in (
+      (λ b. record {
+        thick_enough = grind (arith, least, b.thick_enough);
+        thin_enough = omega (arith, b.thin_enough);
+        priced = rw row at b.priced;
+      }),
+      (λ b. record {
+        thick_enough = omega (arith, b.thick_enough);
+        thin_enough = omega (arith, b.thin_enough, band.upper);
+        priced = rw row b.priced;
+      }),
+    )
 
 -- the offer at a place is a length of an assortment
 pub offer_real : {i : InstructionParts} {offers : List Offer} {place : ℕ} → AreOffers i offers → place < length offers

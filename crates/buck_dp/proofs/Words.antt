@@ -11,7 +11,7 @@ pub use Rattle.std.proofs.Math.Nat.{div-add-mod, mul-mod_left, div-mul-le_self, 
 pub use Rattle.buck_dp.specs.inner.Bid.{BidParts, bid_of, IsAtMost, IsGreater, plus, none}
 pub use Rattle.buck_stem.specs.Stem.{StemParts, IsStem, stem_length, diameter_at, grade_at, HasGrade}
 pub use Rattle.buck_value.specs.declared.log.Log.{Log}
-pub use Rattle.buck_value.specs.Allowed.{IsAllowed, end_of, trim_in, top_of, trim_of, last_position, row_at}
+pub use Rattle.buck_value.specs.Allowed.{IsAllowed, IsBought, end_of, trim_in, top_of, trim_of, last_position, row_at}
 pub use Rattle.buck_value.proofs.Rates.{worth_low}
 pub use Rattle.buck_dp.specs.Cutting.{IsCutFrom}
 pub use Rattle.buck_dp.specs.declared.offering.Cell.{Cell}

@@ -10,7 +10,7 @@ use crate::ends::point_from;
 use crate::offers::Offer;
 use crate::takers::Takers;
 use buck_apt::{Assortment, Class, Instruction};
-use buck_value::{Sheet, column_of, row_of, volume_of, worth_of_piece};
+use buck_value::{Sheet, bought_row, column_of, volume_of, worth_of_piece};
 use std::alloc::{AllocError, Global};
 
 /// What an assortment bids for its logs of one length at each diameter of a band: a price per cubic metre or per piece,
@@ -74,18 +74,11 @@ fn class_at(
     ensures class { IfSome result (IsClassAt instruction.now assortment.now offer ask) }
     ensures none { IfNone result (HasNoPrice assortment.now offer ask) }
 {
-    let band = ask.band;
     if !ask.takers.contains(usize::from(offer.assortment)) {
         return None;
     }
-    if band.thinnest < assortment.diameters()[0] || assortment.upper() <= band.thinnest {
-        return None;
-    }
     let column = column_of(assortment, offer.length)?;
-    let row = row_of(assortment, band.thinnest);
-    if assortment.price(row, column) == 0 {
-        return None;
-    }
+    let row = bought_row(assortment, column, ask.band.thinnest)?;
     Some(instruction.index(Class {
         assortment: offer.assortment,
         row: row as u8,

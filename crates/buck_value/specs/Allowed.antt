@@ -56,6 +56,12 @@ column_of a l = unwrap_or (position (λ x. x == l) a.lengths) 0
 abbrev pub class_place : AssortmentParts → StemParts → Log → ℕ
 class_place a stem g = row_at a (top_diameter stem g) * length a.lengths + column_of a g.length
 
+-- an assortment has a price for logs of a column with a top diameter
+pub record IsBought (a : AssortmentParts) (column d : ℕ) : Type 0 where
+  pub thick_enough : slice_index a.diameters 0 ≤ d
+  pub thin_enough : d < a.upper
+  pub priced : slice_index a.prices (row_at a d * length a.lengths + column) ≢ 0
+
 -- an assortment allows a log, where logs start at the multiples of `step`
 pub record Allows (step : ℕ) (a : AssortmentParts) (stem : StemParts) (g : Log) : Type 0 where
   pub species : a.species ≡ stem.species

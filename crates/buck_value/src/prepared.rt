@@ -11,7 +11,7 @@ ghost use Rattle.buck_value.specs.inner.Wood.{IsWood, IsToTop};
 use crate::log::Log;
 use crate::sheet::Sheet;
 use crate::wood::{Wood, takes};
-use crate::worth::{row_of, worth_in_class};
+use crate::worth::{bought_row, worth_in_class};
 use buck_apt::{Assortment, Class};
 use buck_record::Memory;
 use buck_stem::{Profile, Stem};
@@ -142,16 +142,7 @@ fn class_of_wood(
     if !takes(assortment, wood) {
         return None;
     }
-    if diameter < assortment.diameters()[0] {
-        return None;
-    }
-    if assortment.upper() <= diameter {
-        return None;
-    }
-    let row = row_of(assortment, diameter);
-    if assortment.price(row, column) == 0 {
-        return None;
-    }
+    let row = bought_row(assortment, column, diameter)?;
     Some(Class {
         assortment: place as u8,
         row: row as u8,

@@ -6,10 +6,10 @@
 //! top diameter is at or above the first lower limit and below the upper diameter, and the base price of its class
 //! isn't 0. Its row is the last whose lower limit is at most its top diameter, its column the place of its length.
 ghost use Rattle.std.specs.Prelude.{◌≡◌, ◌+◌, ◌*◌, ◌<◌, ◌≤◌, ◌↔◌, ◌%◌, ◌^◌, ◌==◌, IsTrue, Some, IfSome, IfNone, slice_get, length, position};
-ghost use Rattle.buck_apt.specs.Instruction.{IsClass};
+ghost use Rattle.buck_apt.specs.Instruction.{IsAssortment, IsClass};
 ghost use Rattle.buck_stem.specs.Stem.{IsStem, stem_length, HasGradesOf};
 ghost use Rattle.buck_value.specs.Sheet.{IsSheet, price_of};
-ghost use Rattle.buck_value.specs.Allowed.{IsAllowed, Allows, log_of, top_of, top_diameter, row_at, class_in, class_of, kind_in, worth_of};
+ghost use Rattle.buck_value.specs.Allowed.{IsAllowed, Allows, IsBought, log_of, top_of, top_diameter, row_at, class_in, class_of, kind_in, worth_of};
 ghost use Rattle.buck_value.specs.Volume.{volume, worth_at};
 ghost use Rattle.buck_value.specs.declared.sheet.TheConstants.{HIGHEST_PRICE};
 
@@ -55,6 +55,25 @@ pub fn row_of(assortment: &Assortment, diameter: u32) -> usize
         .filter(|limit| **limit <= diameter)
         .count()
         .saturating_sub(1)
+}
+
+/// The row in which an assortment buys logs of a column with this top diameter in mm, or `None` where that is below its
+/// first lower limit or not below its upper diameter, or where the base price of their class is 0.
+pub fn bought_row(assortment: &Assortment, column: usize, diameter: u32) -> Option<usize>
+    requires { column < length assortment.now.lengths }
+    ensures row { IfSome result (λ row. (row ≡ row_at assortment.now diameter) × (row < length assortment.now.diameters)) }
+    ensures bought { IfSome result (λ _. IsBought assortment.now column diameter) }
+    ensures none { IfNone result (IsBought assortment.now column diameter → ⊥) }
+    ensures valid { IsAssortment assortment.now }
+{
+    if diameter < assortment.diameters()[0] || assortment.upper() <= diameter {
+        return None;
+    }
+    let row = row_of(assortment, diameter);
+    if assortment.price(row, column) == 0 {
+        return None;
+    }
+    Some(row)
 }
 
 /// The column of a length, if the assortment has it.
@@ -129,16 +148,7 @@ fn measure_in(step: u32, assortment: &Assortment, stem: &Stem, log: &Log) -> Opt
         return None;
     }
     let top = top_of(stem, log);
-    if top < assortment.diameters()[0] {
-        return None;
-    }
-    if assortment.upper() <= top {
-        return None;
-    }
-    let row = row_of(assortment, top);
-    if assortment.price(row, column) == 0 {
-        return None;
-    }
+    let row = bought_row(assortment, column, top)?;
     let class = Class {
         assortment: log.assortment,
         row: row as u8,

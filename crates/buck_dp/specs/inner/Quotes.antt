@@ -1,5 +1,5 @@
 -- What takers bid at a diameter, whatever the stem, and price lists and rows of that.
-use Rattle.std.specs.Prelude.{◌≡◌, ◌≢◌, ℕ, ◌+◌, ◌-◌, ◌*◌, ◌<◌, ◌≤◌, ◌⊎◌, List, All, Contains, length, map, slice_get, slice_index, Some}
+use Rattle.std.specs.Prelude.{◌≡◌, ◌≢◌, ℕ, ◌+◌, ◌-◌, ◌*◌, ◌<◌, ◌≤◌, ◌⊎◌, List, All, Contains, map, slice_get, slice_index, Some}
 use Rattle.buck_apt.specs.Instruction.{InstructionParts, classes, index_of, AssortmentParts}
 use Rattle.buck_apt.specs.declared.class.Class.{Class}
 use Rattle.buck_value.specs.Sheet.{SheetParts, IsSheet, price_of, sheet_of}
@@ -9,7 +9,7 @@ use Rattle.buck_dp.specs.declared.pricing.Quote.{Quote}
 use Rattle.buck_dp.specs.declared.pricing.Ask.{Ask}
 use Rattle.buck_dp.specs.inner.Bid.{BidParts, bid_of}
 use Rattle.buck_value.specs.declared.sheet.TheConstants.{HIGHEST_PRICE}
-use Rattle.buck_value.specs.Allowed.{row_at, column_of}
+use Rattle.buck_value.specs.Allowed.{IsBought, row_at, column_of}
 use Rattle.buck_dp.specs.declared.offers.Offer.{Offer}
 use Rattle.buck_dp.specs.inner.Offers.{IsRank, offer_at}
 use Rattle.buck_dp.specs.declared.takers.Takers.{Takers}
@@ -24,12 +24,9 @@ class_for x o d = record { assortment = o.assortment; row = row_at x d; column =
 abbrev pub worth_for : SheetParts → AssortmentParts → Offer → ℕ → ℕ
 worth_for s x o d = worth_at x.price_kind (price_of s (class_for x o d)) (volume d o.length)
 
--- the assortment has a price for them
-pub record IsPriced (x : AssortmentParts) (o : Offer) (d : ℕ) : Type 0 where
-  pub offered : Contains x.lengths o.length
-  pub thick_enough : slice_index x.diameters 0 ≤ d
-  pub thin_enough : d < x.upper
-  pub priced : slice_index x.prices (row_at x d * length x.lengths + column_of x o.length) ≢ 0
+-- the assortment has them, and a price for them
+abbrev pub IsPriced : AssortmentParts → Offer → ℕ → Type 0
+IsPriced x o d = Contains x.lengths o.length × IsBought x (column_of x o.length) d
 
 -- the diameters of a band
 abbrev pub IsAsked : Ask → ℕ → Type 0

@@ -1,4 +1,4 @@
-use Rattle.std.proofs.Common.{◌≡◌, ◌≤◌, Some, position, ◌==◌, slice_index, refl, sym, ◌∙◌, arith, rules}
+use Rattle.std.proofs.Common.{◌≡◌, Some, position, ◌==◌, refl, sym, ◌∙◌, arith, rules}
 use Rattle.buck_value.specs.Allowed.{top_of}
 use Rattle.buck_value.proofs.Classes.{allows_by_tests, column_none, grades_fail, grades_pass}
 use Rattle.buck_value.proofs.worth.measure_in.Goals as goal
@@ -20,7 +20,7 @@ returns-clause-allowed c =
     let at : position (λ x. x == c.args.log.now.length) c.args.assortment.now.lengths ≡ Some c.in-Some.column =
     sym c.column_of.ensures ∙ c.in-Some.is in
     allows_by_tests c.args.step c.args.assortment.now c.args.stem.now c.args.log.now c.in-Some.column
-    c.row_of-row.result c.price.result c.top_of-top.result
+    c.top_of-top.result
     (sym c.species.ensures ∙ c.if-species.false ∙ c.species-2.ensures)
     c.if-log-step-ne0.false
     at
@@ -28,10 +28,4 @@ returns-clause-allowed c =
     (grades_pass c.args.stem.now.zones c.args.log.now.start (top_of c.args.log.now) (top_of c.args.log.now)
     c.args.assortment.now.grades c.grades.result.now
     c.if-not-has_grades_of.ensures c.grades.ensures refl)
-    c.top_of-top.ensures
-    (let low : slice_index c.diameters.result.now 0 ≤ c.top_of-top.result = c.if-top-diameters.false in
-    rw c.diameters.ensures.limits at low)
-    (omega (arith, c.upper.ensures))
-    c.row_of-row.ensures.row
-    c.price.ensures
-    c.if-price-eq0.false
+    c.top_of-top.ensures c.in_ok-row.ensures.bought
