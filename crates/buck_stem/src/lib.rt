@@ -3,6 +3,7 @@
 
 mod body;
 mod file;
+mod grades;
 mod points;
 mod same;
 mod stem;
@@ -12,5 +13,6 @@ pub use file::fault::StmFault;
 pub use file::parallel::read_stm_in_parts;
 pub use file::reading::read_stm;
 pub use file::slots;
+pub use grades::Grades;
 pub use points::profile::{Profile, ProfileLists};
 pub use stem::{Stem, StemFault};

@@ -4,6 +4,7 @@ ghost use Rattle.buck_stem.specs.Stem.{IsStem, diameter_at};
 ghost use Rattle.buck_stem.specs.points.Profile.{profile_of, points_of, IsMaskBetween};
 ghost use Rattle.buck_stem.specs.inner.ProfileTables.{AreDiameters, AreTables};
 
+use crate::grades::Grades;
 use crate::points::runs::{Runs, put_between, put_runs};
 use crate::stem::Stem;
 use buck_record::Memory;
@@ -38,7 +39,7 @@ pub struct ProfileLists {
     diameters: Vec<u32>,
     runs: Runs,
     /// The grades of the steps of one run up to those of another.
-    between: Vec<u8>,
+    between: Vec<Grades>,
 }
 
 impl ProfileLists {
@@ -124,14 +125,6 @@ impl<'a> Profile<'a> {
         self.lists.diameters[i]
     }
 
-    /// The grades of the step from point `i` to the next one: bit g - 1 for grade g.
-    pub fn step_grades(&self, i: usize) -> u8
-        requires { i + 1 < points_of self.now }
-        ensures { IsMaskBetween self.now i (i + 1) result }
-    {
-        self.lists.runs.masks[self.lists.runs.run_of[i] as usize]
-    }
-
     /// The grades from point `i` up to point `j`: bit g - 1 for grade g. They are found in constant time.
     pub fn grades(&self, i: usize, j: usize) -> u8
         requires { (i ≤ j) × (j < points_of self.now) }
@@ -142,7 +135,7 @@ impl<'a> Profile<'a> {
         }
         let first = self.lists.runs.run_of[i] as usize;
         let last = self.lists.runs.run_of[j - 1] as usize;
-        self.lists.between[self.lists.runs.masks.len() * last + first]
+        self.lists.between[self.lists.runs.masks.len() * last + first].mask()
     }
 
     /// A point from which on each step up to step `i` has the grades of step `i`: the first of its run.

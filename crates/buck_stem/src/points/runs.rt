@@ -1,10 +1,10 @@
 //! The steps of a stem in runs of the same grades.
-ghost use Rattle.std.specs.Prelude.{◌≡◌, ℕ, ◌+◌, ◌-◌, ◌*◌, ◌<◌, ◌≤◌, ◌⊎◌, ◌↔◌, IfOk, OnOk, List, length, slice_index};
-ghost use Rattle.std.specs.Int.{bit_at};
+ghost use Rattle.std.specs.Prelude.{◌≡◌, ℕ, ◌+◌, ◌-◌, ◌*◌, ◌<◌, ◌≤◌, IfOk, OnOk, List, length, slice_index};
 ghost use Rattle.buck_stem.specs.points.Profile.{profile_of, points_of};
 ghost use Rattle.buck_stem.specs.inner.Runs.{HoldRuns, ShowMask, IsUnion, AreUnions, AreRows};
 
-use crate::stem::{Stem, with_grade};
+use crate::grades::Grades;
+use crate::stem::Stem;
 use std::alloc::{AllocError, Global};
 
 /// Rows of neighbouring steps with the same grades.
@@ -13,13 +13,13 @@ pub(crate) struct Runs {
     /// The first step of each run.
     pub starts: Vec<u32>,
     /// The grades of each run.
-    pub masks: Vec<u8>,
+    pub masks: Vec<Grades>,
     /// The run of each step.
     pub run_of: Vec<u16>,
 }
 
 /// Adds the run of the steps that are not in one yet, up to `end`.
-fn push_run(runs: &mut Runs, mask: u8, end: usize) -> Result<(), AllocError>
+fn push_run(runs: &mut Runs, mask: Grades, end: usize) -> Result<(), AllocError>
     requires ahead { length runs.old.run_of.items < end }
     requires few { (end ≤ 4000) × (length runs.old.starts.items ≤ length runs.old.run_of.items) }
     ensures steps { OnOk result (length runs.new.run_of.items ≡ end) }
@@ -49,12 +49,12 @@ fn push_next(runs: &mut Runs, stem: &Stem, step: u32) -> Result<(), AllocError>
     let at = runs.run_of.len() as u32;
     let end = (stem.grade_end(at * step) / step).min(count);
     if at < end {
-        let mask = with_grade(0, stem.grade_at(at * step));
+        let mask = Grades::none().with(stem.grade_at(at * step));
         return push_run(runs, mask, end as usize);
     }
     push_run(
         runs,
-        stem.grades_between(at * step, (at + 1) * step),
+        Grades::of(stem.grades_between(at * step, (at + 1) * step)),
         at as usize + 1,
     )
 }
@@ -87,15 +87,8 @@ pub(crate) fn put_runs(runs: &mut Runs, stem: &Stem, step: u32) -> Result<(), Al
     Ok(())
 }
 
-/// The grades of the runs from `first` to `last`, from those up to the run before `last` and those of `last`.
-fn joined(above: u8, mask: u8) -> u8
-    ensures { (g : ℕ) → (bit_at result g ≡ 1) ↔ ((bit_at above g ≡ 1) ⊎ (bit_at mask g ≡ 1)) }
-{
-    above | mask
-}
-
 /// The grades of the runs from `first` to `last`, at the end of a square that holds the places before.
-fn union_at(between: &[u8], masks: &[u8], first: usize, last: usize) -> u8
+fn union_at(between: &[Grades], masks: &[Grades], first: usize, last: usize) -> Grades
     requires last { last < length masks.now }
     requires number { length between.now ≡ length masks.now * last + first }
     requires rows { AreUnions masks.now last between.now }
@@ -104,11 +97,11 @@ fn union_at(between: &[u8], masks: &[u8], first: usize, last: usize) -> u8
     if first >= last {
         return masks[last];
     }
-    joined(between[between.len() - masks.len()], masks[last])
+    between[between.len() - masks.len()].union(masks[last])
 }
 
 /// Adds the row of a last run to the square of the grades between runs.
-fn push_row(between: &mut Vec<u8>, masks: &[u8], last: usize) -> Result<(), AllocError>
+fn push_row(between: &mut Vec<Grades>, masks: &[Grades], last: usize) -> Result<(), AllocError>
     requires last { last < length masks.now }
     requires rows { AreRows masks.now last between.old.items }
     ensures { OnOk result (AreRows masks.now (last + 1) between.new.items) }
@@ -121,7 +114,7 @@ fn push_row(between: &mut Vec<u8>, masks: &[u8], last: usize) -> Result<(), Allo
 }
 
 /// Puts the square of the grades between runs in the place of another: those of runs `p` to `q` at place `p` of row `q`.
-pub(crate) fn put_between(between: &mut Vec<u8>, masks: &[u8]) -> Result<(), AllocError>
+pub(crate) fn put_between(between: &mut Vec<Grades>, masks: &[Grades]) -> Result<(), AllocError>
     requires { length masks.now ≤ 4000 }
     ensures { OnOk result (AreRows masks.now (length masks.now) between.new.items) }
 {

@@ -37,10 +37,11 @@ returns c =
     c.index-3.ensures ∙ ap (λ n. get_or between n c.index-3.result.now) place
     ∙ get_or_default between (length masks * last + first) c.index-3.result.now 0 below in
     let end : c.args.j - 1 + 1 ≡ c.args.j = omega arith in
-    subst (λ (q : ProfileParts). IsMask q.stem.zones (c.args.i * q.«module») (c.args.j * q.«module»)
+    rw c.mask.ensures
+    (subst (λ (q : ProfileParts). IsMask q.stem.zones (c.args.i * q.«module») (c.args.j * q.«module»)
     c.index-3.result.now) c.self.view_is
     (subst (λ j. IsMask p.stem.zones (c.args.i * p.«module») (j * p.«module») c.index-3.result.now) end
     (union_is_mask p.stem.zones p.«module» c.self.inside.lists.runs.starts.items masks run_of c.self.invariant.runs
     c.args.i (c.args.j - 1) c.index-3.result.now
     (omega (arith, c.self.invariant.module_range.0)) (omega arith) here
-    (subst (λ m. IsUnion masks first last m) (sym value) (c.self.invariant.rows.right last known first upto))))
+    (subst (λ m. IsUnion masks first last m) (sym value) (c.self.invariant.rows.right last known first upto)))))
