@@ -11,7 +11,7 @@ use crate::keeping::{Kept, Market, Place};
 use crate::offering::{Reach, offer_all, offer_some, settle};
 use crate::takers::{Group, Known, group_of};
 use buck_record::Memory;
-use buck_stem::{Profile, ProfileLists, Stem};
+use buck_stem::{Grades, Profile, ProfileLists, Stem};
 use buck_value::Sheet;
 use std::alloc::Global;
 
@@ -70,7 +70,7 @@ fn run_before(
     ensures part { IfOk result (IsPartTo site.entry top stop) }
 {
     let first = site.profile.run_start(stop - 1);
-    let grades = site.profile.grades(stop - 1, top);
+    let grades = Grades::of(site.profile.grades(stop - 1, top));
     let group = group_of(kinds, site.market.sheet, site.stem.species(), grades)?;
     Ok(Part { first, group })
 }

@@ -3,6 +3,7 @@ ghost use Rattle.std.specs.Prelude.{ℕ, ◌<◌, ◌↔◌, IsTrue, IfOk};
 ghost use Rattle.buck_dp.specs.inner.Logs.{IsTaker, AreTakersOf, AreKnown};
 
 use buck_apt::Instruction;
+use buck_stem::Grades;
 use buck_value::{Sheet, Wood, takes};
 use std::alloc::AllocError;
 
@@ -29,9 +30,9 @@ impl Takers {
     }
 }
 
-/// The assortments that take wood of a species and of some grades, with bit g - 1 for grade g.
+/// The assortments that take wood of a species and of some grades.
 #[tactic(auto, using(std::proofs::lemmas::Option::slice_get_within))]
-pub fn takers_of(instruction: &Instruction, species: u8, grades: u8) -> Takers
+pub fn takers_of(instruction: &Instruction, species: u8, grades: Grades) -> Takers
     ensures { AreTakersOf instruction.now species grades result }
 {
     let all = instruction.assortments();
@@ -56,11 +57,11 @@ pub struct Group {
     pub number: u16,
 }
 
-/// The species and the grades of some wood, with bit g - 1 for grade g, and who takes it.
+/// The species and the grades of some wood, and who takes it.
 #[derive(Clone, Copy, Debug)]
 pub struct Known {
     pub species: u8,
-    pub grades: u8,
+    pub grades: Grades,
     pub group: Group,
 }
 
@@ -79,7 +80,7 @@ pub fn group_of(
     kinds: &mut Vec<Known>,
     sheet: &Sheet,
     species: u8,
-    grades: u8,
+    grades: Grades,
 ) -> Result<Group, AllocError>
     requires known { AreKnown sheet.now.instruction kinds.old.items }
     ensures known { AreKnown sheet.now.instruction kinds.new.items }

@@ -14,7 +14,7 @@ use crate::wood::{Wood, takes};
 use crate::worth::{bought_row, worth_in_class};
 use buck_apt::{Assortment, Class};
 use buck_record::Memory;
-use buck_stem::{Profile, Stem};
+use buck_stem::{Grades, Profile, Stem};
 use std::alloc::Global;
 use std::marker::Model;
 
@@ -73,7 +73,7 @@ fn wood_of(stem: &Stem, profile: &Profile<'_>, i: usize, j: usize, trim: u32) ->
 {
     Wood {
         species: stem.species(),
-        grades: profile.grades(i, j),
+        grades: Grades::of(profile.grades(i, j)),
         trim,
     }
 }

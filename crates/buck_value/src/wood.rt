@@ -1,33 +1,24 @@
 //! Wood, and who takes it.
-ghost use Rattle.std.specs.Prelude.{◌≡◌, ◌-◌, ◌≤◌, ◌↔◌, IsTrue};
-ghost use Rattle.std.specs.Int.{bit_at};
+ghost use Rattle.std.specs.Prelude.{◌↔◌, IsTrue};
 ghost use Rattle.buck_value.specs.Wood.{AllIn, TakesWood};
 
 use buck_apt::Assortment;
+use buck_stem::Grades;
 
-/// The wood of logs: their species, their grades as a mask with bit g - 1 for grade g, and the trim in mm that is cut
-/// with them.
+/// The wood of logs: their species, their grades, and the trim in mm that is cut with them.
 #[derive(Clone, Copy, Debug, PartialEq, Eq)]
 pub struct Wood {
     pub species: u8,
-    pub grades: u8,
+    pub grades: Grades,
     pub trim: u32,
 }
 
-/// Whether a mask has the grade.
-fn has_grade(mask: u8, grade: u8) -> bool
-    requires { (1 ≤ grade) × (grade ≤ 8) }
-    ensures { IsTrue result ↔ (bit_at mask (grade - 1) ≡ 1) }
-{
-    mask >> (grade - 1) & 1 == 1
-}
-
-/// Whether each grade of a mask is one of these.
-fn are_in(mask: u8, grades: &[u8]) -> bool
-    ensures { IsTrue result ↔ AllIn mask grades.now }
+/// Whether each of some grades is one of these.
+fn are_in(grades: Grades, list: &[u8]) -> bool
+    ensures { IsTrue result ↔ AllIn grades list.now }
 {
     for grade in 1..9u8 {
-        if has_grade(mask, grade) && !grades.contains(&grade) {
+        if grades.contains(grade) && !list.contains(&grade) {
             return false;
         }
     }

@@ -9,7 +9,7 @@ returns-clause-part c =
       first = omega (arith, c.run_start-first.ensures.low);
       takers = λ i low high.
           let mask = c.run_start-first.ensures.same c.args.top _ (omega arith) (rw site.profile c.requires.top)
-          c.grades-grades.ensures i low (omega arith) in
+          c.grades.ensures i low (omega arith) in
           kind_takers (ground_of c.args.site) i c.args.top _ _ site.sound (rw site.profile at mask)
-          (rw c.species.ensures at c.in_ok-group.ensures.right);
+          (rw (c.species.ensures, c.of-grades.ensures) at c.in_ok-group.ensures.right);
     }
