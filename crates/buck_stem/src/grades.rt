@@ -58,7 +58,7 @@ impl Grades {
 
     /// These and one more.
     #[inline(always)]
-    pub fn with(self, grade: u8) -> Grades
+    pub(crate) fn with(self, grade: u8) -> Grades
         requires { IsGrade grade }
         ensures { (g : ℕ) → 1 ≤ g → ShowsGrade result g ↔ ((g ≡ grade) ⊎ ShowsGrade self g) }
     {
@@ -69,7 +69,7 @@ impl Grades {
 
     /// These and others.
     #[inline(always)]
-    pub fn union(self, other: Grades) -> Grades
+    pub(crate) fn union(self, other: Grades) -> Grades
         ensures { (g : ℕ) → (bit_at result g ≡ 1) ↔ ((bit_at self g ≡ 1) ⊎ (bit_at other g ≡ 1)) }
     {
         Grades {

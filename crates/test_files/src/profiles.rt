@@ -71,7 +71,7 @@ fn has_step(profile: &Profile<'_>, step: u16, mask: u8, start: usize) -> bool {
     if i + 1 >= profile.points() {
         return false;
     }
-    profile.step_grades(i) == mask && profile.run_start(i) == start
+    profile.grades(i, i + 1) == mask && profile.run_start(i) == start
 }
 
 /// The first row that differs, counted from 1; 0 where none does.

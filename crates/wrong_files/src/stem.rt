@@ -325,16 +325,6 @@ pub fn grades_from_an_earlier_point(profile: &Profile<'_>, i: usize, j: usize, g
     prove!(right != wrong);
 }
 
-/// The grades of an earlier step: a mask with a grade that no place of the step has.
-pub fn step_grades_of_an_earlier_step(profile: &Profile<'_>, i: usize, grade: u8, wrong: u8)
-    requires points { i + 1 < points_of profile.now }
-    requires shows { (1 ≤ grade) × (bit_at wrong (grade - 1) ≡ 1) }
-    requires none { HasGrade profile.now.stem.zones (i * profile.now.module) ((i + 1) * profile.now.module) grade → ⊥ }
-{
-    let right = profile.step_grades(i);
-    prove!(right != wrong);
-}
-
 /// The first step of an earlier run: a step with a grade that step `i` hasn't.
 pub fn run_start_of_an_earlier_run(profile: &Profile<'_>, i: usize, grade: u8, wrong: usize)
     requires points { (wrong ≤ i) × (i + 1 < points_of profile.now) }
