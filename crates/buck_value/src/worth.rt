@@ -61,7 +61,8 @@ pub fn row_of(assortment: &Assortment, diameter: u32) -> usize
 /// first lower limit or not below its upper diameter, or where the base price of their class is 0.
 pub fn bought_row(assortment: &Assortment, column: usize, diameter: u32) -> Option<usize>
     requires { column < length assortment.now.lengths }
-    ensures row { IfSome result (λ row. (row ≡ row_at assortment.now diameter) × (row < length assortment.now.diameters)) }
+    ensures row { IfSome result (λ row. row ≡ row_at assortment.now diameter) }
+    ensures within { IfSome result (λ row. row < length assortment.now.diameters) }
     ensures bought { IfSome result (λ _. IsBought assortment.now column diameter) }
     ensures none { IfNone result (IsBought assortment.now column diameter → ⊥) }
     ensures valid { IsAssortment assortment.now }

@@ -12,8 +12,8 @@ use buck_apt::{Assortment, Class, Instruction};
 use buck_record::Memory;
 use buck_stem::Stem;
 use buck_value::{
-    Log, Prepared, Sheet, Wood, class_of, log_valuation, log_worth, row_of, takes, volume_of,
-    worth_if_allowed, worth_of_piece,
+    Log, Prepared, Sheet, Wood, bought_row, class_of, log_valuation, log_worth, row_of, takes,
+    volume_of, worth_if_allowed, worth_of_piece,
 };
 use std::alloc::Global;
 use std::sync::Arc;
@@ -106,6 +106,15 @@ pub fn row_one_too_low(assortment: &Assortment)
 {
     let right = row_of(assortment, 200);
     let wrong = 0;
+    prove!(right != wrong);
+}
+
+/// Logs are bought up to the upper diameter, that diameter among them.
+pub fn bought_at_the_upper_diameter(assortment: &Assortment, column: usize)
+    requires { column < length assortment.now.lengths }
+{
+    let right = bought_row(assortment, column, assortment.upper()).is_some();
+    let wrong = true;
     prove!(right != wrong);
 }
 

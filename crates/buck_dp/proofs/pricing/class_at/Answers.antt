@@ -16,7 +16,7 @@ returns-clause-class c =
     record {
       taker = rw c.from.ensures at (c.contains.ensures.0 c.if-not-contains.false);
       within = c.index.ensures.within;
-      index = λ d asked. rw (row_still c.requires.band row.row.0 d asked.0 asked.1, column) (sym c.index.ensures.place);
+      index = λ d asked. rw (row_still c.requires.band row.row d asked.0 asked.1, column) (sym c.index.ensures.place);
       priced = λ d asked. (
         (column_some _ _ _ found).1,
         rw column ((bought_still row.valid c.requires.band d asked.0 asked.1).1 row.bought),

@@ -57,6 +57,6 @@ returns-clause-class c = λ step stem start w.
     let column : column_of a g.length ≡ c.args.column =
     column_is a c.args.column c.bought_row.ensures.valid c.requires.column in
     let rows : row ≡ row_at a (top_diameter stem g) =
-    row_is a step row stem c.args.wood c.args.diameter g c.in_ok-row.ensures.row.0 w in
+    row_is a step row stem c.args.wood c.args.diameter g c.in_ok-row.ensures.row w in
     ap (λ r. make_class c.args.place r c.args.column) rows
     ∙ ap (make_class c.args.place (row_at a (top_diameter stem g))) (sym column)
