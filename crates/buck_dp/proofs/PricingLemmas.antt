@@ -28,20 +28,18 @@ row_still {x} {low} {past} band row_is d from lt =
 -- and so is whether it has a price
 pub bought_still : {x : AssortmentParts} {low past column : ℕ} → IsAssortment x → IsBand x low past → (d : ℕ) → low ≤ d
     → d < past → IsBought x column d ↔ IsBought x column low
-bought_still {x} {low} valid band d from lt =
-    let row = row_still band refl d from lt in
-    let least = band.rows _ (Contains-get_or x.diameters 0 0 (omega (arith, valid.rows))) in (
-      (λ b. record {
-        thick_enough = grind (arith, least, b.thick_enough);
-        thin_enough = omega (arith, b.thin_enough);
-        priced = rw row at b.priced;
-      }),
-      (λ b. record {
-        thick_enough = omega (arith, b.thick_enough);
-        thin_enough = omega (arith, b.thin_enough, band.upper);
-        priced = rw row b.priced;
-      }),
-    )
+bought_still {x} {low} valid band d from lt = (
+  (λ b. record {
+    thick_enough = grind (arith, band.rows _ (Contains-get_or x.diameters 0 0 (omega (arith, valid.rows))), b);
+    thin_enough = omega (arith, b.thin_enough);
+    priced = rw (row_still band refl d from lt) at b.priced;
+  }),
+  (λ b. record {
+    thick_enough = omega (arith, b.thick_enough);
+    thin_enough = omega (arith, b.thin_enough, band.upper);
+    priced = rw (row_still band refl d from lt) b.priced;
+  }),
+)
 
 -- the offer at a place is a length of an assortment
 pub offer_real : {i : InstructionParts} {offers : List Offer} {place : ℕ} → AreOffers i offers → place < length offers

@@ -4,6 +4,9 @@ ghost use Rattle.buck_dp.specs.inner.Bid.{bid_of, none, most_worth, ranks, IsGre
 
 use std::marker::Model;
 
+/// The highest rank.
+pub const HIGHEST_RANK: u32 = 1023;
+
 /// So many ranks there are. A rank stands in the last digits of a bid's number, which hold so many values.
 const RANKS: u64 = 1024;
 

@@ -6,7 +6,7 @@ ghost use Rattle.buck_dp.specs.inner.Logs.{log_at};
 ghost use Rattle.buck_dp.specs.inner.Searched.{IsSearch};
 ghost use Rattle.buck_dp.specs.inner.Site.{IsSite, ground_of};
 
-use crate::bid::Bid;
+use crate::bid::{Bid, HIGHEST_RANK};
 use crate::ends::point_after;
 use crate::planning::Site;
 use buck_value::Log;
@@ -20,8 +20,7 @@ fn log_at(site: Site<'_>, rank: u32, i: usize) -> Log
     requires i { i * site.market.sheet.now.instruction.module ≤ 40000 }
     ensures { result ≡ log_at (ground_of site.entry) rank i }
 {
-    let offers = site.market.menu.offers.as_slice();
-    let offer = offers[1023 - rank as usize];
+    let offer = site.market.menu.offers[(HIGHEST_RANK - rank) as usize];
     Log {
         start: i as u32 * site.market.sheet.instruction().module(),
         length: offer.length,

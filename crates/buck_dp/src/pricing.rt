@@ -5,7 +5,7 @@ ghost use Rattle.buck_dp.specs.inner.Offers.{IsBand, IsBandOf, IsOfferOf, AreOff
 ghost use Rattle.buck_dp.specs.inner.Quotes.{quote_bid, IsSmall, IsLed, IsLeader, IsNext, IsClassAt, HasNoPrice, AreTerms, AreQuotes};
 ghost use Rattle.buck_dp.specs.declared.offers.Offer.{Offer};
 
-use crate::bid::Bid;
+use crate::bid::{Bid, HIGHEST_RANK};
 use crate::ends::point_from;
 use crate::offers::Offer;
 use crate::takers::Takers;
@@ -111,7 +111,7 @@ pub fn terms_of(
             kind: assortment.price_kind(),
             class: class as u16,
             price: 0,
-            rank: (1023 - place) as u32,
+            rank: HIGHEST_RANK - place as u32,
             length: offer.length,
             steps: offer.length / module,
             trim,

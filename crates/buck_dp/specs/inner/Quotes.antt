@@ -7,7 +7,7 @@ use Rattle.buck_value.specs.Volume.{volume, worth_at}
 use Rattle.buck_dp.specs.inner.Logs.{point_after, IsTaker}
 use Rattle.buck_dp.specs.declared.pricing.Quote.{Quote}
 use Rattle.buck_dp.specs.declared.pricing.Ask.{Ask}
-use Rattle.buck_dp.specs.inner.Bid.{BidParts, bid_of}
+use Rattle.buck_dp.specs.inner.Bid.{BidParts, bid_of, ranks}
 use Rattle.buck_value.specs.declared.sheet.TheConstants.{HIGHEST_PRICE}
 use Rattle.buck_value.specs.Allowed.{IsBought, row_at, column_of}
 use Rattle.buck_dp.specs.declared.offers.Offer.{Offer}
@@ -64,7 +64,7 @@ quote_bid q d = bid_of (worth_at q.kind q.price (volume d q.length)) q.rank
 pub record IsSmall (q : Quote) : Type 0 where
   pub length : q.length ≤ 30000
   pub price : q.price ≤ HIGHEST_PRICE
-  pub rank : q.rank < 1024
+  pub rank : q.rank < ranks
 
 -- a quote is a taker's bid at each diameter of a band
 pub record IsQuote (s : SheetParts) (offers : List Offer) (ask : Ask) (q : Quote) : Type 0 where
