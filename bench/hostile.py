@@ -10,7 +10,8 @@ postings, sheets and bytes; and over an instruction file of blanks, one of a byt
 read gives one byte, which takes some minutes. A line for each run says how long it took, the most memory that it held,
 also in lengths of what it read, its exit status and the first line that it wrote. It ends in status 1 where a run took
 longer than --seconds (forty times as long where each read gives one byte), held more than --times the length of what it
-read, was ended by a signal, or wrote another first line than the one that is known for it.
+read, with 16 MiB and 2 MiB for each stem file or journal beside that, was ended by a signal, or wrote another first line
+than the one that is known for it.
 
 --only WORD runs those whose name has the word, --size makes files of another length, --keep leaves them, and the same
 --seed makes the same files.
@@ -228,15 +229,22 @@ def pickers():
     return b"1 2 APT~901 1 10~902 1 1~903 1 0~910 1 8~" + all_of_them
 
 
+def wood(mask, size):
+    """A stem with the grades of a mask, of one of 16 diameters."""
+    grades = [g for g in range(1, 9) if mask >> (g - 1) & 1]
+    zones = b" ".join(b"%d %d" % (k, g) for k, g in enumerate(grades))
+    samples = b" ".join([b"%d" % (100 + 80 * size)] * 41)
+    return b"951 1 %d~952 1 1~953 1 %s~954 1 %s~" % (mask, samples, zones)
+
+
 def kinds_of_wood(_source, _size):
     """A stem for each set of grades and each of 16 diameters."""
-    stems = []
-    for at in range(255 * 16):
-        grades = [g for g in range(1, 9) if (at // 16 + 1) >> (g - 1) & 1]
-        zones = b" ".join(b"%d %d" % (k, g) for k, g in enumerate(grades))
-        samples = b" ".join([b"%d" % (100 + 80 * (at % 16))] * 41)
-        stems.append(b"951 1 %d~952 1 1~953 1 %s~954 1 %s~" % (at, samples, zones))
-    return b"1 2 STM~" + b"".join(stems)
+    return b"1 2 STM~" + b"".join(wood(mask, size) for mask in range(1, 256) for size in range(16))
+
+
+def one_of_each_kind(_source, _size):
+    """A stem for each set of grades, of 16 diameters by turns."""
+    return b"1 2 STM~" + b"".join(wood(mask, mask % 16) for mask in range(1, 256))
 
 
 def blanks(_source, size):
@@ -268,6 +276,7 @@ COMMANDS = [
     ("a journal of longest sheets", CHECK, JUDGED, longest_sheets, 0, "replay fault 1 1"),
     ("a journal of shortest sheets", CHECK, JUDGED, shortest_sheets, 0, "replay fault 1 1"),
     ("a new sheet for each kind of wood", FLEET, just(pickers()), kinds_of_wood, 0, None),
+    ("the same in 64 seats", FLEET + ["b"] * 63, just(pickers()), one_of_each_kind, 0, None),
 ]
 
 
@@ -340,7 +349,7 @@ def wrongs(found, line, seconds, most):
     faults = []
     if took > seconds:
         faults.append("slow")
-    if held * 1048576 > most + 16 * 1048576:
+    if held * 1048576 > most:
         faults.append("too much memory")
     if status < 0:
         faults.append("ended by a signal")
@@ -387,7 +396,9 @@ def main():
         paths = {key: os.path.join(given.folder, key) for key in files}
         for key, (prefix, make, size) in files.items():
             made(paths[key], prefix, make, given.seed, size)
-        length = sum(os.path.getsize(path) for path in paths.values())
+        length = sum(os.path.getsize(paths[word]) for word in [*words, stdin] if word in paths)
+        # Each seat has a planner, which keeps at most some 2 MiB.
+        most = given.times * length + (16 + 2 * words.count("b")) * 1048576
         if dripped:
             found = run_dripped(program, words, paths[stdin], given.folder)
         else:
@@ -396,7 +407,7 @@ def main():
             for path in paths.values():
                 os.remove(path)
         known = line if given.size >= LIMIT else None
-        faults = wrongs(found, known, given.seconds * (40 if dripped else 1), given.times * length)
+        faults = wrongs(found, known, given.seconds * (40 if dripped else 1), most)
         wrong += bool(faults)
         note = f"  <- {', '.join(faults)}" if faults else ""
         took, cpu, held, status, first = found
