@@ -10,8 +10,8 @@ postings, sheets and bytes; and over an instruction file of blanks, one of a byt
 read gives one byte, which takes some minutes. A line for each run says how long it took, the most memory that it held,
 also in lengths of what it read, its exit status and the first line that it wrote. It ends in status 1 where a run took
 longer than --seconds (forty times as long where each read gives one byte), held more than --times the length of what it
-read, with 16 MiB and 2 MiB for each stem file or journal beside that, was ended by a signal, or wrote another first line
-than the one that is known for it.
+read, with 16 MiB and 2 MiB for each stem file after the first beside that, was ended by a signal, or wrote another first
+line than the one that is known for it.
 
 --only WORD runs those whose name has the word, --size makes files of another length, --keep leaves them, and the same
 --seed makes the same files.
@@ -397,8 +397,8 @@ def main():
         for key, (prefix, make, size) in files.items():
             made(paths[key], prefix, make, given.seed, size)
         length = sum(os.path.getsize(paths[word]) for word in [*words, stdin] if word in paths)
-        # Each seat has a planner, which keeps at most some 2 MiB.
-        most = given.times * length + (16 + 2 * words.count("b")) * 1048576
+        # Each further seat has a planner of its own, which keeps at most some 2 MiB.
+        most = given.times * length + (16 + 2 * max(words.count("b") - 1, 0)) * 1048576
         if dripped:
             found = run_dripped(program, words, paths[stdin], given.folder)
         else:
