@@ -7,5 +7,5 @@ pub mod OfferLemmas
 pub mod TopLemmas
 pub mod QuoteLemmas
 pub mod PricingLemmas
-pub mod KeptLemmas
+pub mod MarketLemmas
 pub mod SiteLemmas

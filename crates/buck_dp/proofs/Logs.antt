@@ -1,7 +1,7 @@
 -- Logs of a stem as bids of its takers, and the other way.
-use Rattle.buck_dp.proofs.Words.{List, ◌⊎◌, ◌≡◌, ℕ, ◌+◌, ◌-◌, ◌*◌, ◌/◌, ◌%◌, ◌<◌, ◌≤◌, refl, sym, ap, ◌∙◌, arith, rules, length, get_or_default, add-mul, mul-le-mul_right, mul-mod_left, div-mul-le_self, mul-add-div_right, le-div, cases_order, All-contains, IsCell, Cell, IsPart, IsRow, stem_length, diameter_at, Log, IsSheet, IsAllowed, top_of, trim_in, trim_of, worth_of, GroundParts, point_after, Offer, offer_of, offer_at, IsRank, AreOffers, BidParts, bid_of, IsLogAt, log_at, next_after, IsTakersBid, Takers, HasTakers, allowed_low, IsLogBefore, cases_lt, lt-div-mul-add, div-le_of_le-mul, mul_comm, div-add-mod}
-use Rattle.buck_dp.proofs.ListLemmas.{on_module, all_at, place_of}
-use Rattle.buck_dp.proofs.Lists.{end_within, same_log}
+pub use Rattle.buck_dp.proofs.Words.{List, ◌⊎◌, ◌≡◌, ℕ, ◌+◌, ◌-◌, ◌*◌, ◌/◌, ◌%◌, ◌<◌, ◌≤◌, refl, sym, ap, ◌∙◌, arith, rules, length, get_or_default, add-mul, mul-le-mul_right, mul-mod_left, div-mul-le_self, mul-add-div_right, le-div, cases_order, All-contains, IsCell, Cell, IsPart, IsRow, stem_length, diameter_at, Log, IsSheet, IsAllowed, top_of, trim_in, trim_of, worth_of, GroundParts, point_after, Offer, offer_of, offer_at, IsRank, HIGHEST_RANK, AreOffers, BidParts, bid_of, IsLogAt, log_at, next_after, IsTakersBid, Takers, HasTakers, allowed_low, IsLogBefore, cases_lt, lt-div-mul-add, div-le_of_le-mul, mul_comm, div-add-mod, inl, inr, [], ◌∷◌, ◌++◌, append-nil, get_or, get_or_past, sum_by-cons, zero-mul, cutting_worth, end_of, IsFirstBest, IsAdmissible, IsBefore, points_of, ends_of, none, bid_at, IsSearch, IsCutFrom, append_assoc, ◌↔◌, Contains-get_or, mul-div_left, quote_bid, quote_at, IsOfferOf, suc, Contains, slice_get, Some, subst, unwrap_or, nat_le, nat_tests, same_Some, AssortmentParts, InstructionParts, sum_by-le, IsInstruction, IsAssortment, IsWithin, classes, sheet_of, price-le, mul-le-mul, last_position, row_at, IsBand, IsBought, IsPriced, IsClassAt, HasNoPrice, Quote, Ask, IsTaker, IsTerm, AreTerms, nat_cmp, false, All, length-append, slice_get_within, IsNoLater, IsPermutation, IsSorted, stands, column_some, column_is, All-weaker, All-push, Contains-push, Contains-append_left, Ordering}
+pub use Rattle.buck_dp.proofs.ListLemmas.{on_module, all_at, place_of, has_at}
+pub use Rattle.buck_dp.proofs.Lists.{end_within, same_log}
 
 -- a multiple of a step, in steps
 pub whole_steps : (l step : ℕ) → l % step ≡ 0 → l / step * step ≡ l
@@ -38,12 +38,12 @@ module _ (p : GroundParts) (valid : IsSheet p.sheet) where
   start_is rank i = refl
 
   -- of two logs from one point, the one of the higher rank is the other, or before it
-  pub ranks_before : AreOffers p.sheet.instruction p.offers → (i high low : ℕ) → low ≤ high → high ≤ 1023
-      → IsRank p.offers low
+  pub ranks_before : AreOffers p.sheet.instruction p.menu.offers.items → (i high low : ℕ) → low ≤ high
+      → high ≤ HIGHEST_RANK → IsRank p.menu.offers.items low
       → (log_at p high i ≡ log_at p low i) ⊎ IsLogBefore (log_at p high i) (log_at p low i)
   unfolding log_at
   ranks_before are i high low le most rank =
-      let order = are.order (1023 - high) (1023 - low) (omega arith) rank.1 in
+      let order = are.order (HIGHEST_RANK - high) (HIGHEST_RANK - low) (omega arith) rank.1 in
       grind (arith, order, (same_log (log_at p high i) (log_at p low i)), cases_order)
 
   pos : 0 < unit
@@ -57,7 +57,7 @@ module _ (p : GroundParts) (valid : IsSheet p.sheet) where
       ∙ mul-add-div_right pos j (trim_of p.sheet.instruction g + (unit - 1))
 
   -- each allowed log from a point is the one of a rank
-  pub log_there : (i : ℕ) (g : Log) → AreOffers p.sheet.instruction p.offers → g.start ≡ i * unit
+  pub log_there : (i : ℕ) (g : Log) → AreOffers p.sheet.instruction p.menu.offers.items → g.start ≡ i * unit
       → IsAllowed p.sheet.instruction p.stem g
       → (j : ℕ) × (bid : BidParts) × IsLogAt p i j (next_after p g) bid × (log_at p bid.rank i ≡ g)
   unfolding log_at
@@ -69,10 +69,10 @@ module _ (p : GroundParts) (valid : IsSheet p.sheet) where
       let top : top_of g ≡ (i + n) * unit = omega (arith, at, whole_steps g.length unit on, add-mul i n unit) in
       let o : Offer = offer_of g.length g.assortment in
       let found = (are.all o).1 (a.assortment, a.exists, a.allows.length_offered) in
-      let rank : ℕ = 1023 - found.0 in
-      let place : 1023 - rank ≡ found.0 = omega (arith, found.1, are.few) in
-      let own : offer_at p.offers rank ≡ o =
-      rw place (get_or_default p.offers found.0 (offer_of 0 0) o found.1 ∙ found.2) in
+      let rank : ℕ = HIGHEST_RANK - found.0 in
+      let place : HIGHEST_RANK - rank ≡ found.0 = omega (arith, found.1, are.few) in
+      let own : offer_at p.menu.offers.items rank ≡ o =
+      rw place (get_or_default p.menu.offers.items found.0 (offer_of 0 0) o found.1 ∙ found.2) in
       let same : log_at p rank i ≡ g = rw (own, ← at) refl in
       let in_stem = a.allows.within in (
         i + n,
@@ -96,7 +96,7 @@ module _ (p : GroundParts) (valid : IsSheet p.sheet) where
     pub log_bid : {i e : ℕ} {bid : BidParts} → HasTakers p takers i t → (l : IsLogAt p i t e bid)
         → (t * unit + l.allowed.assortment.trim ≤ stem_length p.stem.samples)
         × (e ≡ t + point_after unit l.allowed.assortment.trim)
-        × IsTakersBid p.sheet p.offers takers (diameter_at p.stem.samples (t * unit)) (t - i)
+        × IsTakersBid p.sheet p.menu.offers.items takers (diameter_at p.stem.samples (t * unit)) (t - i)
         l.allowed.assortment.trim bid
     unfolding log_at worth_of
     log_bid {i} {e} {bid} has l =
@@ -111,7 +111,7 @@ module _ (p : GroundParts) (valid : IsSheet p.sheet) where
             taker = (has g.assortment a.assortment a.exists).1 (a.allows.species, rw (← l.top) a.allows.grades);
             assortment = a.assortment;
             exists = a.exists;
-            priced = search (rules, a.allows);
+            priced = (a.allows.length_offered, a.allows.bought);
             length = omega (arith, l.top, add-mul i (t - i) unit, l.later, ap (λ n. n * unit) sum);
             some = omega (arith, l.later);
             own = refl;
@@ -122,14 +122,14 @@ module _ (p : GroundParts) (valid : IsSheet p.sheet) where
     -- a taker's bid that fits is that of a log from each start in the wood that it takes
     pub bid_log : {i k steps trim : ℕ} {bid : BidParts} → HasTakers p takers i t → i ≤ k → k + steps ≡ t
         → t * unit + trim ≤ stem_length p.stem.samples
-        → IsTakersBid p.sheet p.offers takers (diameter_at p.stem.samples (t * unit)) steps trim bid
+        → IsTakersBid p.sheet p.menu.offers.items takers (diameter_at p.stem.samples (t * unit)) steps trim bid
         → IsLogAt p k t (t + point_after unit trim) bid
     unfolding log_at worth_of
     bid_log {i} {k} {steps} {trim} {bid} has le is fits b =
         let g : Log = log_at p bid.rank k in
         let start : i * unit ≤ k * unit = mul-le-mul_right unit le in
         let top : top_of g ≡ t * unit = omega (arith, b.length, ap (λ n. n * unit) is, add-mul k steps unit) in
-        let takes = (has (offer_at p.offers bid.rank).assortment b.assortment b.exists).0 b.taker in
+        let takes = (has (offer_at p.menu.offers.items bid.rank).assortment b.assortment b.exists).0 b.taker in
         let allowed : IsAllowed p.sheet.instruction p.stem g = record {
           assortment = b.assortment;
           exists = b.exists;
@@ -139,9 +139,7 @@ module _ (p : GroundParts) (valid : IsSheet p.sheet) where
             length_offered = b.priced.0;
             within = omega (arith, top, b.own, fits);
             grades = λ x from to. takes.1 x (omega arith) (omega (arith, top));
-            thick_enough = rw top b.priced.1.thick_enough;
-            thin_enough = rw top b.priced.1.thin_enough;
-            priced = rw top b.priced.1.priced;
+            bought = rw top b.priced.1;
           };
         } in
         let after : next_after p g ≡ t + point_after unit trim =
@@ -161,9 +159,11 @@ module _ (p : GroundParts) (valid : IsSheet p.sheet) where
   -- a row is right for the starts in the wood of its takers
   pub row_part : {t first stop far : ℕ} {takers : Takers} {row : List Cell}
       → ((i : ℕ) → first ≤ i → i < stop → HasTakers p takers i t)
-      → IsRow p.sheet p.offers takers (diameter_at p.stem.samples (t * unit)) far row → IsPart p t first stop row
+      → IsRow p.sheet p.menu.offers.items takers (diameter_at p.stem.samples (t * unit)) far row
+      → IsPart p t first stop row
   row_part {t} {first} {stop} {far} {takers} {row} here drawn =
-      let is_cell : Cell → Type 0 = λ c. IsCell p.sheet p.offers takers (diameter_at p.stem.samples (t * unit)) far c in
+      let is_cell : Cell → Type 0 =
+      λ c. IsCell p.sheet p.menu.offers.items takers (diameter_at p.stem.samples (t * unit)) far c in
       record {
         real = λ k c at fits i start low high le e.
             let cell = all_at is_cell row drawn.real k c at in

@@ -1,11 +1,7 @@
 -- The quote of an offer.
-use Rattle.buck_dp.proofs.Words.{◌↔◌, Contains-get_or, mul-div_left, quote_bid, quote_at, IsOfferOf, ◌≡◌, ℕ, ◌+◌, ◌-◌, ◌/◌, ◌%◌, ◌<◌, ◌≤◌, ◌⊎◌, inl, inr, suc, List, [], ◌∷◌, ◌++◌, Contains, length, get_or, slice_get, Some, refl, sym, subst, ap, ◌∙◌, arith, cases_lt, unwrap_or, nat_le, nat_tests, same_Some, All-contains, AssortmentParts, InstructionParts, sum_by-le, IsInstruction, IsAssortment, IsWithin, classes, sheet_of, price-le, mul-le-mul, last_position, row_at, Offer, offer_of, offer_at, AreOffers, IsBand, IsBought, IsPriced, IsClassAt, HasNoPrice, point_after, Quote, Ask, IsTaker, IsTerm, AreTerms, nat_cmp, false, ◌*◌, All, length-append, get_or_default, slice_get_within, IsNoLater, IsPermutation, IsSorted}
 use Rattle.buck_apt.specs.Instruction.{classes_of}
-use Rattle.std.proofs.lemmas.List.Elements.{All-weaker, All-push, Contains-push, Contains-append_left, All-contains}
-use Rattle.buck_dp.proofs.ListLemmas.{on_module, has_at}
 use Rattle.buck_dp.proofs.TopLemmas.{same_bid}
-use Rattle.buck_dp.proofs.Logs.{whole_steps, one_step}
-use Rattle.std.proofs.Common.{Ordering}
+pub use Rattle.buck_dp.proofs.Logs.{on_module, has_at, ◌↔◌, Contains-get_or, mul-div_left, quote_bid, quote_at, IsOfferOf, ◌≡◌, ℕ, ◌+◌, ◌-◌, ◌/◌, ◌%◌, ◌<◌, ◌≤◌, ◌⊎◌, inl, inr, suc, List, [], ◌∷◌, ◌++◌, Contains, length, get_or, slice_get, Some, refl, sym, subst, ap, ◌∙◌, arith, cases_lt, unwrap_or, nat_le, nat_tests, same_Some, All-contains, AssortmentParts, InstructionParts, sum_by-le, IsInstruction, IsAssortment, IsWithin, classes, sheet_of, price-le, mul-le-mul, last_position, row_at, Offer, offer_of, offer_at, HIGHEST_RANK, AreOffers, IsBand, IsBought, IsPriced, IsClassAt, HasNoPrice, point_after, Quote, Ask, IsTaker, IsTerm, AreTerms, nat_cmp, false, ◌*◌, All, length-append, get_or_default, slice_get_within, IsNoLater, IsPermutation, IsSorted, rules, stands, column_some, column_is, All-weaker, All-push, Contains-push, Contains-append_left, Ordering, whole_steps, one_step}
 use Rattle.std.specs.Ordering.{ordering_then, is_lt}
 use Rattle.std.specs.Cmp.{ranks}
 use Rattle.std.proofs.lemmas.Cmp.{nat_cmp_total, on_total, then_total}
@@ -61,7 +57,7 @@ module _ {i : InstructionParts} {offers : List Offer} {ask : Ask} {place : ℕ} 
   o = get_or offers place (offer_of 0 0)
 
   -- the offer of the rank of the place
-  own : (rank : ℕ) → rank + place ≡ 1023 → offer_at offers rank ≡ o
+  own : (rank : ℕ) → rank + place ≡ HIGHEST_RANK → offer_at offers rank ≡ o
   own rank sum = ap (λ n. get_or offers n (offer_of 0 0)) (omega arith)
 
   -- nobody bids for its logs: the terms stay
@@ -69,7 +65,7 @@ module _ {i : InstructionParts} {offers : List Offer} {ask : Ask} {place : ℕ} 
       → AreTerms i offers ask (place + 1) terms
   none_put x exists none = record {
     real = were.real;
-    met = λ version prices valid steps trim d bid asked past b. elim (cases_lt 1023 (bid.rank + place)) [
+    met = λ version prices valid steps trim d bid asked past b. elim (cases_lt HIGHEST_RANK (bid.rank + place)) [
       | inl before ↦ were.met version prices valid steps trim d bid asked before b
       | inr now ↦
           let e = own bid.rank (omega arith) in
@@ -86,15 +82,12 @@ module _ {i : InstructionParts} {offers : List Offer} {ask : Ask} {place : ℕ} 
       kind = x.price_kind;
       class = k;
       price = 0;
-      rank = 1023 - place;
+      rank = HIGHEST_RANK - place;
       length = o.length;
       steps = o.length / i.«module»;
       trim = x.trim;
       rise = point_after i.«module» x.trim;
     }
-
-    sum : 1023 - place + place ≡ 1023
-    sum = omega (arith, are.few)
 
     term_is : IsTerm i offers ask term
     term_is = record {
@@ -105,16 +98,13 @@ module _ {i : InstructionParts} {offers : List Offer} {ask : Ask} {place : ℕ} 
           let on : o.length % i.«module» ≡ 0 = on_module i o.assortment x o.length valid.valid exists offered in
           let range : IsWithin 500 30000 o.length = search (arith, All-contains, has_at, valid.valid, exists, offered)
           in
-          let e = own (1023 - place) sum in
+          let e = own (HIGHEST_RANK - place) (omega (arith, are.few)) in
           record {
-            small = record {
-              length = range.1;
-              price = price-le (sheet_of version i prices) k valid;
-              rank = omega arith;
-            };
+            small =
+                record { length = range.1; price = price-le (sheet_of version i prices) k valid; rank = omega arith };
             rise = refl;
             bids = λ d asked. record {
-              rank = (omega arith, omega (arith, sum));
+              rank = (omega arith, omega (arith, are.few));
               taker = subst (λ (b : Offer). IsTaker ask.takers b.assortment) (sym e) is.taker;
               assortment = x;
               exists = rw e exists;
@@ -130,7 +120,7 @@ module _ {i : InstructionParts} {offers : List Offer} {ask : Ask} {place : ℕ} 
     pub term_put : AreTerms i offers ask (place + 1) (terms ++ term ∷ [])
     term_put = record {
       real = All-push (λ t. IsTerm i offers ask t) terms term were.real term_is;
-      met = λ version prices valid steps trim d bid asked past b. elim (cases_lt 1023 (bid.rank + place)) [
+      met = λ version prices valid steps trim d bid asked past b. elim (cases_lt HIGHEST_RANK (bid.rank + place)) [
         | inl before ↦
             let m = were.met version prices valid steps trim d bid asked before b in
             (m.0, Contains-append_left terms (term ∷ []) m.0 m.1, m.2, m.3, m.4)

@@ -1,8 +1,6 @@
 -- Price lists that grow, and rows drawn from them.
-use Rattle.buck_dp.proofs.Words.{slice_get-get_or, IsCovered, get_or, rules, ℕ, ◌+◌, ◌*◌, ◌<◌, ◌≤◌, ◌⊎◌, inl, inr, List, [], ◌∷◌, ◌++◌, All, Contains, length, length-map, get_or-map, map, refl, subst, ap, ◌∙◌, arith, ne_eqb, le_of_mul-le-mul_right, mul-le-mul, mul-le-mul_left, mul-le-mul_right, div-mul-le_self, All-map, All-contains, Contains-get_or, volume, SheetParts, IsSheet, Offer, Quote, Ask, quote_bid, quote_at, IsAsked, IsSmall, IsQuote, IsLed, IsLeading, IsNext, IsPruned, IsTerm, AreTerms, AreQuotes, cell_of, row_of, IsCell, IsRow, Menu, PriceList, IsMenu}
-use Rattle.std.proofs.lemmas.List.Elements.{Contains-push, Contains-push_cases, Contains-append_left}
-use Rattle.buck_dp.proofs.ListLemmas.{more_at, place_of}
-use Rattle.buck_dp.proofs.TopLemmas.{IsAtMost-refl, worth_at_most}
+pub use Rattle.buck_dp.proofs.ListLemmas.{more_at, place_of, push_each, pushed_at}
+pub use Rattle.buck_dp.proofs.TopLemmas.{slice_get-get_or, IsCovered, get_or, rules, ℕ, ◌+◌, ◌*◌, ◌<◌, ◌≤◌, ◌⊎◌, inl, inr, List, [], ◌∷◌, ◌++◌, All, Contains, length, length-map, get_or-map, map, refl, subst, ap, ◌∙◌, arith, ne_eqb, le_of_mul-le-mul_right, mul-le-mul, mul-le-mul_left, mul-le-mul_right, div-mul-le_self, All-map, All-contains, Contains-get_or, volume, SheetParts, IsSheet, Offer, Quote, Ask, quote_bid, quote_at, IsAsked, IsSmall, IsQuote, IsLed, IsLeading, IsNext, IsPruned, IsTerm, AreTerms, AreQuotes, cell_of, row_of, IsCell, IsRow, Menu, PriceList, IsMenu, Contains-push, Contains-push_cases, Contains-append_left, IsAtMost-refl, worth_at_most, slice_get_read, IsListAt, Takers, MarketParts, IsMarket, ◌≡◌, length-append, AllAre, sym, same_Some, length-drop, drop_at, drop-append-le, take-append-le, take_all, Head, Cell, IsAt, HasQuotes, HasTerms}
 
 -- there a millimetre of a log is more than the cubic centimetre that a whole volume may lack
 outbid : (d price l other k : ℕ) → 36 ≤ d → other * k + price < price * l → other * volume d k < price * volume d l

@@ -1,8 +1,7 @@
 -- Who takes the wood of a stem.
-use Rattle.buck_dp.proofs.Words.{IsAssortment, ◌≡◌, ℕ, ◌+◌, ◌-◌, ◌*◌, ◌/◌, ◌<◌, ◌≤◌, ◌⊎◌, inl, inr, List, [], ◌∷◌, ◌++◌, zero, suc, get_or, Contains, length, refl, sym, subst, arith, mul-le-mul_left, mul-le-mul_right, add-mul, rules, div-mul-le_self, le-div, le_of_mul-le-mul_right, min, div-lt_iff_lt-mul, cases_lt, append_assoc, append-nil, IsStem, grade_at, HasGrade, stem_length, diameter_at, IsMask, grade_at_is, mask_allows, IsSheet, slice_index, GroundParts, points_of, ends_of, Takers, IsTaker, AreTakersOf, BidParts, none, HasTakers, HasNoneOf, IsRow, IsPartTo, AreParts, HaveParts, IsEven, IsSearch, AreOffered, IsCell, log_at, AllFit, bid_at, IsNearest, IsSite, ground_of, Site, Part, Cell}
+pub use Rattle.buck_dp.proofs.Words.{slice_get, Some, IsPlaced, IsAssortment, ◌≡◌, ℕ, ◌+◌, ◌-◌, ◌*◌, ◌/◌, ◌<◌, ◌≤◌, ◌⊎◌, inl, inr, List, [], ◌∷◌, ◌++◌, zero, suc, get_or, Contains, length, refl, sym, subst, arith, mul-le-mul_left, mul-le-mul_right, add-mul, rules, div-mul-le_self, le-div, le_of_mul-le-mul_right, min, div-lt_iff_lt-mul, cases_lt, append_assoc, append-nil, IsStem, grade_at, HasGrade, stem_length, diameter_at, IsMask, grade_at_is, mask_allows, IsSheet, slice_index, GroundParts, points_of, ends_of, Takers, IsTaker, AreTakersOf, BidParts, none, HasTakers, HasNoneOf, IsRow, IsPartTo, AreParts, HaveParts, IsEven, IsSearch, AreOffered, IsCell, log_at, AllFit, bid_at, IsNearest, IsSite, Site, Part, Cell, ◌∙◌, MarketParts, Head, IsMarketOf, IsRowOf, take, drop, with_items_is, ap, get_or_past, ProfileParts, drop-cons, drop_all, add-one, HasRoom, Menu, common_steps}
 use Rattle.buck_stem.specs.points.Profile as grid
-use Rattle.buck_dp.proofs.ListLemmas.{all_at}
-use Rattle.buck_dp.proofs.Logs.{point_within, row_part}
+use Rattle.buck_dp.proofs.Logs.{all_at, point_within, row_part}
 
 module _ {p : GroundParts} {values : List BidParts} {choices : List ℕ} where
   -- a search is told by an equal top
@@ -14,6 +13,12 @@ module _ {p : GroundParts} {values : List BidParts} {choices : List ℕ} where
       → ((k : ℕ) → get_or values k none ≡ none) → ((k : ℕ) → points_of p ≤ k → get_or choices k 0 ≡ 0)
       → IsSearch p values choices (points_of p) 0
   begun valid sound number room none_yet no_choice = grind (arith, bid_at, ends_of, mul-le-mul_right)
+
+-- a row that is found under a sheet stands there
+pub row_under : (p : GroundParts) (m : MarketParts) (h : Head) {takers : Takers} {d : ℕ} → IsMarketOf p m
+    → IsRowOf m takers d h
+    → IsRow p.sheet p.menu.offers.items takers d p.menu.most_steps (take h.number (drop h.from m.cells))
+row_under p m h is row = search rules
 
 -- who takes wood of a stem's species and of the grades from a start to a top, takes the wood between them
 pub kind_takers : (p : GroundParts) (i t grades : ℕ) (takers : Takers) → IsStem p.stem
@@ -29,74 +34,65 @@ abbrev pub IsStop : ℕ → ℕ → ℕ → ℕ → Type 0
 IsStop last top stop s = (s ≡ stop) ⊎ ((s ≡ top) × (stop ≡ last))
 
 -- the parts of the starts from a point on are found for the tops behind point `first` and before `past`
-pub record AreFound (x : Site) (first past stop : ℕ) (parts : List Part) : Type 0 where
+pub record AreFound (p : GroundParts) (first past stop : ℕ) (parts : List Part) : Type 0 where
   pub within : stop ≤ first + 1
   pub each : (t : ℕ) → first + 1 ≤ t → t < past → (s : ℕ) × IsStop (first + 1) t stop s
-      × ((rest : List Part) → AreParts x t s rest → AreParts x t t (parts ++ rest))
+      × ((rest : List Part) → AreParts p t s rest → AreParts p t t (parts ++ rest))
 
-module _ (x : Site) (t : ℕ) where
+module _ (p : GroundParts) (t : ℕ) where
   -- before the last of the parts no log starts
   pub last_part : (stop k : ℕ) (parts : List Part) (part : Part) → part ≡ get_or parts k part → k + 1 ≡ length parts
-      → AreParts x t stop parts → HasNoneOf (ground_of x) part.first t
+      → AreParts p t stop parts → HasNoneOf p part.first t
   last_part stop k [] part at is are = absurd (omega arith)
   last_part stop zero (only ∷ []) part at is are =
-      subst (λ (n : Part). HasNoneOf (ground_of x) n.first t) (sym at) are.1
+      subst (λ (n : Part). HasNoneOf p n.first t) (sym at) are.1
   last_part stop zero (first ∷ next ∷ parts) part at is are = absurd (omega arith)
   last_part stop (suc k) (first ∷ parts) part at is are = last_part first.first k parts part at (omega arith) are.1
 
-module _ {x : Site} (is_site : IsSite x) where
+module _ {p : GroundParts} {x : Site} (is_site : IsSite p x) where
   abbrev unit : ℕ
-  unit = x.market.sheet.now.instruction.«module»
+  unit = p.sheet.instruction.«module»
 
   -- the length of the stem reaches each of its points, and these are few
-  pub point_reached : (t : ℕ) → t < points_of (ground_of x)
-      → (t * x.market.sheet.now.instruction.«module» ≤ stem_length x.stem.now.samples) × (t ≤ 4000)
+  pub point_reached : (t : ℕ) → t < points_of p
+      → (t * p.sheet.instruction.«module» ≤ stem_length p.stem.samples) × (t ≤ 4000)
   point_reached t lt = search (rules, point_within, mul-le-mul_left)
 
   -- where nobody takes the wood of a part, no log starts there or before
-  none_there : {t stop : ℕ} {part : Part} → IsPartTo x t stop part → ((a : ℕ) → IsTaker part.group.takers a → ⊥)
-      → HasNoneOf (ground_of x) stop t
+  none_there : {t stop : ℕ} {part : Part} → IsPartTo p t stop part → ((a : ℕ) → IsTaker part.group.takers a → ⊥)
+      → HasNoneOf p stop t
   unfolding log_at
   none_there {t} {stop} here none k e bid lt log =
       let has = here.takers (stop - 1) (omega (arith, here.first)) (omega (arith, here.first)) in
-      let is = log.allowed in
-      let start : k * unit ≤ (stop - 1) * unit = mul-le-mul_right unit (omega arith) in
-      none _ ((has _ is.assortment is.exists).1 (
-        is.allows.species,
-        λ y from to. is.allows.grades y (omega arith) (omega (arith, log.top)),
-      ))
+      grind (arith, mul-le-mul_right, log.allowed, log.top)
 
   -- no log is longer than the longest
-  none_far : (t stop : ℕ) → stop ≤ t - x.market.menu.now.most_steps → HasNoneOf (ground_of x) stop t
+  none_far : (t stop : ℕ) → stop ≤ t - p.menu.most_steps → HasNoneOf p stop t
   unfolding log_at
-  none_far t stop far k e bid lt log =
-      let pos : 0 < unit = omega (arith, is_site.valid.valid.module_range) in
-      let most : t ≤ k + x.market.menu.now.most_steps = le_of_mul-le-mul_right
-      (omega (arith, log.top, is_site.menu.long bid.rank log.rank, add-mul k x.market.menu.now.most_steps unit)) pos in
-      omega arith
+  none_far t stop far k e bid lt log = grind (arith, le_of_mul-le-mul_right, add-mul, log.top, bid.rank, log.rank)
 
   -- a top too near to the last of its parts has no logs
-  pub short_run : (t k : ℕ) (part : Part) (parts : List Part) → AreParts x t t parts → part ≡ get_or parts k part
-      → k + 1 ≡ length parts → t < part.first + x.market.menu.now.least_steps → HasNoneOf (ground_of x) t t
+  pub short_run : (t k : ℕ) (part : Part) (parts : List Part) → AreParts p t t parts → part ≡ get_or parts k part
+      → k + 1 ≡ length parts → t < part.first + p.menu.least_steps → HasNoneOf p t t
   unfolding log_at
   short_run t k part parts are at is near i e bid lt log = elim (cases_lt i part.first) [
-    | inl before ↦ last_part x t t k parts part at is are i e bid before log
+    | inl before ↦ last_part p t t k parts part at is are i e bid before log
     | inr from ↦
         let pos : 0 < unit = omega (arith, is_site.valid.valid.module_range) in
-        let least : i + x.market.menu.now.least_steps ≤ t = le_of_mul-le-mul_right
-        (omega (arith, log.top, is_site.menu.short bid.rank log.rank, add-mul i x.market.menu.now.least_steps unit))
+        let least : i + p.menu.least_steps ≤ t = le_of_mul-le-mul_right
+        (omega (arith, log.top, is_site.menu.short bid.rank log.rank, add-mul i p.menu.least_steps unit))
         pos in omega arith
   ]
 
   -- all logs with a top start in the nearest part, where that is the only one, or the others are too far
-  pub near_run : (t : ℕ) (near : Part) (parts : List Part) → AreParts x t t parts → near ≡ get_or parts 0 near
-      → 0 < length parts → t < x.fit → (length parts ≡ 1) ⊎ (near.first + x.market.menu.now.most_steps ≤ t)
-      → IsNearest x near t
+  pub near_run : (t : ℕ) (near : Part) (parts : List Part) → AreParts p t t parts → near ≡ get_or parts 0 near
+      → 0 < length parts → t < x.fit → (length parts ≡ 1) ⊎ (near.first + p.menu.most_steps ≤ t)
+      → IsNearest p x near t
   near_run t near [] are at some fits far = absurd (omega arith)
   near_run t near (first ∷ parts) are at some fits far = record {
-    part = subst (λ n. IsPartTo x t t n) (sym at) are.0;
+    part = subst (λ n. IsPartTo p t t n) (sym at) are.0;
     all = elim far [
-      | inl one ↦ last_part x t t 0 (first ∷ parts) near at (omega arith) are
+      | inl one ↦ last_part p t t 0 (first ∷ parts) near at (omega arith) are
       | inr away ↦ none_far t near.first (omega arith)
     ];
     fit = fits;
@@ -105,42 +101,44 @@ module _ {x : Site} (is_site : IsSite x) where
   module _ (ds : List ℕ)
       (right : (j : ℕ) → j < grid.points_of x.profile.now
       → slice_index ds j ≡ diameter_at x.profile.now.stem.samples (j * x.profile.now.«module»))
-      {t : ℕ} (lt : t < points_of (ground_of x)) {values : List BidParts} {choices : List ℕ} {row : List Cell} where
+      {t : ℕ} (lt : t < points_of p) {values : List BidParts} {choices : List ℕ} {row : List Cell} where
     -- the row of a part can be offered to its starts
-    pub part_open : {stop : ℕ} {part : Part} → IsSearch (ground_of x) values choices t stop → IsPartTo x t stop part
-        → IsRow x.market.sheet.now x.market.menu.now.offers.items part.group.takers (slice_index ds t)
-        x.market.menu.now.most_steps row
-        → AreOffered (ground_of x) choices t part.first stop row 0 values
+    pub part_open : {stop : ℕ} {part : Part} → IsSearch p values choices t stop → IsPartTo p t stop part
+        → IsRow p.sheet p.menu.offers.items part.group.takers (slice_index ds t)
+        p.menu.most_steps row
+        → AreOffered p choices t part.first stop row 0 values
     part_open {stop} {part} was here drawn = record {
       search = was;
-      part = row_part (ground_of x) is_site.valid here.takers (rw (rw is_site.profile at right t lt) at drawn);
+      part = row_part p is_site.valid here.takers (rw (rw is_site.profile at right t lt) at drawn);
       order = omega (arith, here.first);
       done = λ k c none. absurd (omega (arith, none));
     }
 
     -- so for the nearest part, where each trim fits
-    pub near_open : {near : Part} → IsSearch (ground_of x) values choices t t → IsNearest x near t
-        → IsRow x.market.sheet.now x.market.menu.now.offers.items near.group.takers (slice_index ds t)
-        x.market.menu.now.most_steps row
-        → AreOffered (ground_of x) choices t near.first t row 0 values × AllFit (ground_of x) t row
-    near_open {near} was nearest drawn = (
-      search (rules, part_open),
-      λ k c at.
-          let m = x.market in
-          let b = (all_at (λ c. IsCell m.sheet.now m.menu.now.offers.items near.group.takers (slice_index ds t)
-          m.menu.now.most_steps c) row drawn.real k c at).bids in
-          let valid = all_at IsAssortment _ is_site.valid.valid.assortments_valid _ b.assortment b.exists in
-          (b.some, omega (arith, is_site.fit t nearest.fit, valid.trim_range, b.own)),
-    )
+    pub near_open : {near : Part} → IsSearch p values choices t t → IsNearest p x near t
+        → IsRow p.sheet p.menu.offers.items near.group.takers (slice_index ds t)
+        p.menu.most_steps row
+        → AreOffered p choices t near.first t row 0 values × AllFit p t row
+        × ((k : ℕ) (c : Cell) → slice_get row k ≡ Some c → IsPlaced p.menu.most_steps c)
+    near_open {near} was nearest drawn =
+        let cell = all_at (λ c. IsCell p.sheet p.menu.offers.items near.group.takers (slice_index ds t)
+        p.menu.most_steps c) row drawn.real in (
+          search (rules, part_open),
+          λ k c at.
+              let b = (cell k c at).bids in
+              let valid = all_at IsAssortment _ is_site.valid.valid.assortments_valid _ b.assortment b.exists in
+              (b.some, omega (arith, is_site.fit t nearest.fit, valid.trim_range, b.own)),
+          λ k c at. (cell k c at).placed,
+        )
 
-  module _ {first past : ℕ} (even : IsEven x first (past - 2)) where
+  module _ {first past : ℕ} (even : IsEven x.profile.now first (past - 2)) where
     -- the grade of a place in the steps of a run stands in each of them
     moved : (l y : ℕ) → first ≤ l → l + 1 < past → first * unit ≤ y → y < (past - 1) * unit
-        → HasGrade x.stem.now.zones (l * unit) ((l + 1) * unit) (grade_at x.stem.now.zones y)
+        → HasGrade p.stem.zones (l * unit) ((l + 1) * unit) (grade_at p.stem.zones y)
     moved l y low lt from to =
         let pos : 0 < unit = omega (arith, is_site.valid.valid.module_range) in
         let k : ℕ = y / unit in
-        let r = grade_at_is x.stem.now y is_site.sound in
+        let r = grade_at_is p.stem y is_site.sound in
         let before : k < past - 1 = (div-lt_iff_lt-mul pos).1 to in
         let there = rw is_site.profile at (even.1 l low (omega arith)) in
         let here = rw is_site.profile at (even.1 k (le-div first y unit pos from) (omega arith)) in
@@ -148,7 +146,7 @@ module _ {x : Site} (is_site : IsSite x) where
 
     -- who takes the wood up to the last of its tops, from a start or from its first step, takes it up to each
     near_takers : (i t : ℕ) (takers : Takers) → first + 1 ≤ t → t < past → i < t
-        → HasTakers (ground_of x) takers (min i first) (past - 1) → HasTakers (ground_of x) takers i t
+        → HasTakers p takers (min i first) (past - 1) → HasTakers p takers i t
     near_takers i t takers up high before has = λ a y at.
         let h = has a y at in
         let e : t - 1 + 1 ≡ t = omega arith in
@@ -170,7 +168,7 @@ module _ {x : Site} (is_site : IsSite x) where
 
     -- a part that is found with the last top of a run is one of each of its tops
     part_on : (t stop s : ℕ) {part : Part} → first + 1 ≤ t → t < past → stop ≤ first + 1
-        → IsStop (first + 1) t stop s → IsPartTo x (past - 1) stop part → IsPartTo x t s part
+        → IsStop (first + 1) t stop s → IsPartTo p (past - 1) stop part → IsPartTo p t s part
     part_on t stop s {part} low high within which here = record {
       first = grind (arith, which, here.first);
       takers = λ i from to.
@@ -178,13 +176,13 @@ module _ {x : Site} (is_site : IsSite x) where
           (here.takers (min i first) (omega (arith, here.first)) (grind (arith, which, here.first)));
     }
 
-    pub none_found : AreFound x first past (first + 1) []
+    pub none_found : AreFound p first past (first + 1) []
     none_found = record { within = omega arith; each = λ t low high. (t, inr (refl, refl), λ rest are. are) }
 
-    module _ {stop : ℕ} {parts : List Part} (found : AreFound x first past stop parts) where
+    module _ {stop : ℕ} {parts : List Part} (found : AreFound p first past stop parts) where
       -- one part more is found
-      pub one_found : {part : Part} → IsPartTo x (past - 1) stop part
-          → AreFound x first past part.first (parts ++ part ∷ [])
+      pub one_found : {part : Part} → IsPartTo p (past - 1) stop part
+          → AreFound p first past part.first (parts ++ part ∷ [])
       one_found {part} here = record {
         within = omega (arith, here.first, found.within);
         each = λ t low high.
@@ -197,18 +195,18 @@ module _ {x : Site} (is_site : IsSite x) where
       }
 
       -- they are all, where no log starts before them
-      all_found : ((t s : ℕ) → first + 1 ≤ t → t < past → IsStop (first + 1) t stop s → HasNoneOf (ground_of x) s t)
-          → HaveParts x (first + 1) past parts
+      all_found : ((t s : ℕ) → first + 1 ≤ t → t < past → IsStop (first + 1) t stop s → HasNoneOf p s t)
+          → HaveParts p (first + 1) past parts
       all_found none t low high =
           let f = found.each t low high in
           rw append-nil at (f.2 [] (none t f.0 low high f.1))
 
       -- so where nobody takes the wood of the next part
-      pub empty_found : {part : Part} → IsPartTo x (past - 1) stop part
-          → ((a : ℕ) → IsTaker part.group.takers a → ⊥) → HaveParts x (first + 1) past parts
+      pub empty_found : {part : Part} → IsPartTo p (past - 1) stop part
+          → ((a : ℕ) → IsTaker part.group.takers a → ⊥) → HaveParts p (first + 1) past parts
       empty_found here none =
           all_found (λ t s low high which. none_there (part_on t stop s low high found.within which here) none)
 
       -- and where the next is too far away
-      pub far_found : stop ≤ first + 1 - x.market.menu.now.most_steps → HaveParts x (first + 1) past parts
+      pub far_found : stop ≤ first + 1 - p.menu.most_steps → HaveParts p (first + 1) past parts
       far_found far = all_found (λ t s low high which. none_far t s (grind (arith, which)))

@@ -1,7 +1,5 @@
 -- Searched values bound what may be cut from each point on, and the choices lead to the first of the best.
-use Rattle.buck_dp.proofs.Words.{◌≡◌, ℕ, ◌+◌, ◌*◌, ◌/◌, ◌<◌, ◌≤◌, ◌⊎◌, inl, inr, List, [], ◌∷◌, ◌++◌, append-nil, get_or, sym, ◌∙◌, ap, arith, add-mul, le-div, mul-le-mul_right, rules, cases_lt, refl, get_or_past, sum_by-cons, zero-mul, Log, IsAllowed, cutting_worth, worth_of, end_of, AreOffers, IsFirstBest, IsAdmissible, IsLogBefore, IsBefore, GroundParts, points_of, ends_of, BidParts, bid_of, none, IsLogAt, bid_at, IsSearch, log_at, next_after, IsCutFrom}
-use Rattle.buck_dp.proofs.Lists.{end_within}
-use Rattle.buck_dp.proofs.Logs.{log_there, ranks_before, start_is, whole_steps, after_first}
+pub use Rattle.buck_dp.proofs.Logs.{end_within, ◌≡◌, ℕ, ◌+◌, ◌*◌, ◌/◌, ◌<◌, ◌≤◌, ◌⊎◌, inl, inr, List, [], ◌∷◌, ◌++◌, append-nil, get_or, sym, ◌∙◌, ap, arith, add-mul, le-div, mul-le-mul_right, rules, cases_lt, refl, get_or_past, sum_by-cons, zero-mul, Log, IsAllowed, cutting_worth, worth_of, end_of, AreOffers, IsFirstBest, IsAdmissible, IsLogBefore, IsBefore, GroundParts, points_of, ends_of, BidParts, bid_of, none, IsLogAt, bid_at, IsSearch, log_at, next_after, IsCutFrom, ◌-◌, length, append_assoc, get_or_default, log_there, ranks_before, start_is, whole_steps, after_first}
 
 -- a list may be cut from a place on
 abbrev pub IsCut : GroundParts → ℕ → List Log → Type 0
@@ -23,8 +21,8 @@ pub record IsBestAt (p : GroundParts) (v : List BidParts) (i : ℕ) (gs : List L
   pub first : (hs : List Log) → IsCut p (i * p.sheet.instruction.«module») hs → worth p hs ≡ (bid_at v i).worth
       → (gs ≡ hs) ⊎ IsBefore gs hs
 
-module _ {p : GroundParts} {v : List BidParts} {ch : List ℕ} (offers : AreOffers p.sheet.instruction p.offers)
-    (was : IsSearch p v ch 0 0) where
+module _ {p : GroundParts} {v : List BidParts} {ch : List ℕ}
+    (offers : AreOffers p.sheet.instruction p.menu.offers.items) (was : IsSearch p v ch 0 0) where
   abbrev unit : ℕ
   unit = p.sheet.instruction.«module»
 

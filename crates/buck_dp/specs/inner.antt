@@ -4,5 +4,5 @@ pub mod Bid
 pub mod Logs
 pub mod Searched
 pub mod Quotes
-pub mod Kept
+pub mod Market
 pub mod Site

@@ -1,6 +1,7 @@
 //! Bids.
-ghost use Rattle.std.specs.Prelude.{◌≡◌, ◌+◌, ◌<◌, ◌≤◌};
-ghost use Rattle.buck_dp.specs.inner.Bid.{bid_of, none, most_worth, ranks, IsGreater};
+ghost use Rattle.std.specs.Prelude.{◌≡◌, ◌+◌, ◌≤◌};
+ghost use Rattle.buck_dp.specs.declared.bid.TheConstants.{HIGHEST_RANK};
+ghost use Rattle.buck_dp.specs.inner.Bid.{bid_of, none, most_worth, IsGreater};
 
 use std::marker::Model;
 
@@ -8,7 +9,7 @@ use std::marker::Model;
 pub const HIGHEST_RANK: u32 = 1023;
 
 /// So many ranks there are. A rank stands in the last digits of a bid's number, which hold so many values.
-const RANKS: u64 = 1024;
+const RANKS: u64 = HIGHEST_RANK as u64 + 1;
 
 /// What a log brings: its worth in millionths of the price unit, and its rank among the logs that start where it does,
 /// which settles ties. One number holds both, so that one comparison settles the worth and then the rank.
@@ -19,13 +20,14 @@ pub struct Bid {
 
 impl Model for Bid {
     ghost use Rattle.std.specs.Prelude.{◌+◌, ◌*◌, ◌/◌, ◌%◌};
-    ghost use Rattle.buck_dp.specs.inner.Bid.{BidParts, bid_of, ranks};
+    ghost use Rattle.buck_dp.specs.inner.Bid.{BidParts, bid_of};
+    ghost use Rattle.buck_dp.specs.declared.bid.TheConstants.{RANKS};
 
     ghost Value = { BidParts };
 
-    ghost view = { λ b. bid_of (b.key / ranks) (b.key % ranks) };
+    ghost view = { λ b. bid_of (b.key / RANKS) (b.key % RANKS) };
 
-    ghost inverse = { λ b. record { key = b.worth * ranks + b.rank } };
+    ghost inverse = { λ b. record { key = b.worth * RANKS + b.rank } };
 }
 
 impl Bid {
@@ -39,7 +41,7 @@ impl Bid {
     /// The bid of a worth and a rank.
     pub fn of(worth: u64, rank: u32) -> Bid
         requires worth { worth ≤ most_worth }
-        requires rank { rank < ranks }
+        requires rank { rank ≤ HIGHEST_RANK }
         ensures { result ≡ bid_of worth rank }
     {
         Bid {
@@ -57,7 +59,7 @@ impl Bid {
     /// The rank.
     pub fn rank(self) -> u32
         ensures rank { result ≡ self.rank }
-        ensures low { result < ranks }
+        ensures low { result ≤ HIGHEST_RANK }
     {
         (self.key % RANKS) as u32
     }

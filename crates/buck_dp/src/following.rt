@@ -1,28 +1,31 @@
 //! The choices of a stem's points, followed from the butt: the logs of the best cutting.
 ghost use Rattle.std.specs.Prelude.{◌≡◌, ◌-◌, ◌*◌, ◌<◌, ◌≤◌, IfOk, length};
+ghost use Rattle.buck_value.specs.Sheet.{IsSheet};
 ghost use Rattle.buck_dp.specs.inner.Offers.{IsRank};
 ghost use Rattle.buck_dp.specs.Best.{IsFirstBest, cutting_worth};
-ghost use Rattle.buck_dp.specs.inner.Logs.{log_at};
-ghost use Rattle.buck_dp.specs.inner.Searched.{IsSearch};
-ghost use Rattle.buck_dp.specs.inner.Site.{IsSite, ground_of};
+ghost use Rattle.buck_dp.specs.inner.Logs.{GroundParts, log_at};
+ghost use Rattle.buck_dp.specs.inner.Site.{IsMarketOf, IsPlan};
 
-use crate::bid::{Bid, HIGHEST_RANK};
+use crate::bid::HIGHEST_RANK;
 use crate::ends::point_after;
-use crate::planning::Site;
+use crate::market::Market;
+use crate::planning::{Search, Site};
 use buck_value::Log;
 use std::alloc::{AllocError, Global};
 
 /// The log of the offer of a rank that starts at point `i`.
 #[tactic(auto, unfolding(crate::specs::inner::Logs::log_at))]
-fn log_at(site: Site<'_>, rank: u32, i: usize) -> Log
-    requires site { IsSite site }
-    requires rank { IsRank site.market.menu.now.offers.items rank }
-    requires i { i * site.market.sheet.now.instruction.module ≤ 40000 }
-    ensures { result ≡ log_at (ground_of site.entry) rank i }
+fn log_at(market: &Market, rank: u32, i: usize) -> Log
+    ghost p: { GroundParts }
+    requires valid { IsSheet p.sheet }
+    requires market { IsMarketOf p market.now }
+    requires rank { IsRank p.menu.offers.items rank }
+    requires i { i * p.sheet.instruction.module ≤ 40000 }
+    ensures { result ≡ log_at p rank i }
 {
-    let offer = site.market.menu.offers[(HIGHEST_RANK - rank) as usize];
+    let offer = market.menu().offers[(HIGHEST_RANK - rank) as usize];
     Log {
-        start: i as u32 * site.market.sheet.instruction().module(),
+        start: i as u32 * market.sheet().instruction().module(),
         length: offer.length,
         assortment: offer.assortment,
     }
@@ -33,15 +36,14 @@ fn log_at(site: Site<'_>, rank: u32, i: usize) -> Log
 pub(crate) fn follow(
     alloc: Global,
     site: Site<'_>,
-    values: &[Bid],
-    choices: &[u32],
+    search: &Search,
 ) -> Result<(Vec<Log>, u64), AllocError>
-    requires site { IsSite site }
-    requires search { IsSearch (ground_of site) values.now choices.now 0 0 }
-    ensures first { IfOk result (λ best. IsFirstBest site.entry.market.sheet.now site.entry.stem.now best.0.items) }
-    ensures worth { IfOk result (λ best.
-        best.1 ≡ cutting_worth site.entry.market.sheet.now site.entry.stem.now best.0.items) }
+    ghost p: { GroundParts }
+    requires plan { IsPlan p site search.now 0 }
+    ensures first { IfOk result (λ best. IsFirstBest p.sheet p.stem best.0.items) }
+    ensures worth { IfOk result (λ best. best.1 ≡ cutting_worth p.sheet p.stem best.0.items) }
 {
+    let choices = search.choices.as_slice();
     let mut logs = Vec::new(alloc);
     let mut i = 0;
     while i < choices.len() {
@@ -49,10 +51,10 @@ pub(crate) fn follow(
         if rank == 0 {
             i += 1;
         } else {
-            let log = log_at(site, rank, i);
+            let log = log_at(&search.market, rank, i);
             logs.push(log)?;
-            i = point_after(site.market.sheet, site.stem, &log);
+            i = point_after(search.market.sheet(), site.stem, &log);
         }
     }
-    Ok((logs, values[0].worth()))
+    Ok((logs, search.values[0].worth()))
 }

@@ -1,5 +1,5 @@
 //! What is done at one top: its value is settled, and its logs are offered to the points where they start.
-ghost use Rattle.std.specs.Prelude.{◌≡◌, ℕ, ◌+◌, ◌<◌, ◌≤◌, ◌++◌, All, List, length, slice_get, Some, OnOk};
+ghost use Rattle.std.specs.Prelude.{◌≡◌, ℕ, ◌+◌, ◌<◌, ◌≤◌, ◌++◌, All, List, length, slice_get, Some, OnOk, OnErr};
 ghost use Rattle.buck_dp.specs.declared.offering.Cell.{Cell};
 ghost use Rattle.buck_dp.specs.inner.Bid.{BidParts};
 ghost use Rattle.buck_dp.specs.inner.Logs.{GroundParts};
@@ -60,7 +60,8 @@ pub fn put_row(
     requires list { All (λ q. IsSmall q × (q.steps ≤ far)) list.now }
     requires diameter { diameter ≤ 1500 }
     requires far { far ≤ 4294967295 }
-    ensures { OnOk result (cells.new.items ≡ cells.old.items ++ row_of far diameter list.now) }
+    ensures put { OnOk result (cells.new.items ≡ cells.old.items ++ row_of far diameter list.now) }
+    ensures left { OnErr result (cells.new.items ≡ cells.old.items) }
 {
     cells.reserve(list.len())?;
     for quote in list {
@@ -153,17 +154,9 @@ pub(crate) fn offer_some(values: &mut [Bid], reach: Reach, row: &[Cell])
     let past = reach.top - reach.stop;
     for cell in row {
         let steps = cell.steps as usize;
-        if steps <= most {
-            if steps > past {
-                if cell.trim <= reach.room {
-                    offer_bid(
-                        values,
-                        reach.top - steps,
-                        reach.top + cell.rise as usize,
-                        cell.bid,
-                    );
-                }
-            }
+        if steps <= most && steps > past && cell.trim <= reach.room {
+            let next = reach.top + cell.rise as usize;
+            offer_bid(values, reach.top - steps, next, cell.bid);
         }
     }
 }

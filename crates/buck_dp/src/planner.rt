@@ -2,115 +2,62 @@
 ghost use Rattle.std.specs.Prelude.{◌≡◌, ◌≤◌, IfOk, IfErr, OnOk};
 ghost use Rattle.buck_value.specs.Sheet.{IsSheet, SheetParts};
 ghost use Rattle.buck_dp.specs.Best.{IsFirstBest, cutting_worth};
-ghost use Rattle.buck_dp.specs.inner.Site.{IsReady};
 
 use crate::cutting::Cutting;
 use crate::following::follow;
-use crate::keeping::{Kept, Market};
-use crate::offers::Menu;
-use crate::planning::{Memo, Site, fit_of, search_stem};
+use crate::market::Market;
+use crate::planning::{Search, Site, fit_of};
 use buck_record::Memory;
 use buck_stem::{Profile, ProfileLists, Stem};
 use buck_value::Sheet;
 use std::alloc::Global;
 use std::marker::Model;
-use std::mem;
 use std::sync::Arc;
-
-/// Once so many kinds of wood were met, what was found is dropped.
-const KINDS: usize = 64;
 
 /// Plans stem after stem under one sheet. It keeps what it has found of the sheet, so that each stem is planned faster
 /// than by [`best`](crate::best), with the same answer.
 #[derive(Drop)]
 pub struct Planner {
-    sheet: Arc<Sheet>,
     own: Box<Own>,
 }
 
-/// What a planner keeps from stem to stem.
+/// What a planner keeps from stem to stem: its search, and the lists of a profile.
 #[derive(Drop)]
 struct Own {
-    menu: Menu,
-    memo: Memo,
+    search: Search,
+    lists: ProfileLists,
 }
 
 impl Model for Planner {
     ghost use Rattle.buck_value.specs.Sheet.{SheetParts};
-    ghost use Rattle.buck_dp.specs.inner.Site.{IsReady};
 
     ghost Value = { SheetParts };
 
-    ghost view = { λ p. p.sheet.value };
-
-    ghost invariant = { λ p. IsReady p.sheet.value p.own.value.menu p.own.value.memo };
+    ghost view = { λ p. p.own.value.search.market.sheet };
 }
 
-/// What a planner under a sheet keeps before the first stem.
-fn own_of(alloc: Global, sheet: &Sheet) -> Result<Own, Memory>
-    ensures { IfOk result (λ o. IsReady sheet.now o.menu o.memo) }
-{
-    let menu = Menu::of(alloc, sheet.instruction())?;
-    let memo = Memo {
-        kinds: Vec::new(alloc),
-        kept: Kept::new(alloc),
-        profile: ProfileLists::new(alloc),
-        parts: Vec::new(alloc),
-        values: Vec::new(alloc),
-        choices: Vec::new(alloc),
-    };
-    Ok(Own { menu, memo })
-}
-
-/// The first of the best cuttings of a stem under a sheet, and its worth.
-fn cut(
-    alloc: Global,
-    sheet: &Sheet,
-    stem: &Stem,
-    menu: &Menu,
-    memo: &mut Memo,
-) -> Result<(Cutting, u64), Memory>
-    requires ready { IsReady sheet.now menu.now memo.old }
-    ensures ready { OnOk result (IsReady sheet.now menu.now memo.new) }
-    ensures first { IfOk result (λ found. IsFirstBest sheet.now stem.now found.0.logs.items) }
-    ensures worth { IfOk result (λ found. found.1 ≡ cutting_worth sheet.now stem.now found.0.logs.items) }
+/// The first of the best cuttings of a stem, and its worth.
+fn cut(alloc: Global, own: &mut Own, stem: &Stem) -> Result<(Cutting, u64), Memory>
+    ensures same { own.new.search.market.sheet ≡ own.old.search.market.sheet }
+    ensures first { IfOk result (λ found. IsFirstBest own.old.search.market.sheet stem.now found.0.logs.items) }
+    ensures worth { IfOk result (λ found.
+        found.1 ≡ cutting_worth own.old.search.market.sheet stem.now found.0.logs.items) }
     ensures high { IfOk result (λ found. found.1 ≤ 2800000000000000) }
-    ensures valid { IsSheet sheet.now }
+    ensures valid { IsSheet own.old.search.market.sheet }
 {
-    let lists = mem::replace(&mut memo.profile, ProfileLists::new(alloc));
-    let profile = Profile::make_with(lists, stem, sheet.instruction().module())?;
+    let search = &mut own.search;
+    search.market.clear_if_worn();
+    let sheet = search.market.sheet();
+    let fit = fit_of(sheet, stem);
+    let profile = Profile::make_in(&mut own.lists, stem, sheet.instruction().module())?;
     let site = Site {
-        market: Market { sheet, menu },
         stem,
         profile: &profile,
-        fit: fit_of(sheet, stem),
+        fit,
     };
-    search_stem(alloc, site, memo)?;
-    let (logs, worth) = follow(alloc, site, memo.values.as_slice(), memo.choices.as_slice())?;
-    memo.profile = profile.into_lists();
+    search.search(alloc, site)?;
+    let (logs, worth) = follow(alloc, site, search)?;
     Ok((Cutting { logs }, worth))
-}
-
-/// The same. What was found is dropped where it is refused, or where too many kinds of wood were met.
-fn best_under(
-    alloc: Global,
-    sheet: &Sheet,
-    stem: &Stem,
-    own: &mut Own,
-) -> Result<(Cutting, u64), Memory>
-    requires own { IsReady sheet.now own.old.menu own.old.memo }
-    ensures own { IsReady sheet.now own.new.menu own.new.memo }
-    ensures first { IfOk result (λ found. IsFirstBest sheet.now stem.now found.0.logs.items) }
-    ensures worth { IfOk result (λ found. found.1 ≡ cutting_worth sheet.now stem.now found.0.logs.items) }
-    ensures high { IfOk result (λ found. found.1 ≤ 2800000000000000) }
-    ensures valid { IsSheet sheet.now }
-{
-    let planned = cut(alloc, sheet, stem, &own.menu, &mut own.memo);
-    if planned.is_err() || own.memo.kinds.len() >= KINDS {
-        own.memo.kinds.clear();
-        own.memo.kept.clear();
-    }
-    planned
 }
 
 /// The first of the best cuttings of a stem under a sheet, and its worth in millionths of the price unit.
@@ -118,8 +65,8 @@ fn best_under(
 /// The cutting is admissible, no admissible list of logs is worth more, and it comes before every other such one: at
 /// the first difference stands the lower start, then the shorter log, then the lower assortment, and a list that goes
 /// on comes before its own prefix. So a log worth nothing is cut where it is allowed. Where no log is allowed, the
-/// cutting is empty and worth 0. `Memory` where a list couldn't grow: the price lists of the sheet, the values of the
-/// points, and the logs. Stem after stem is planned faster by a [`Planner`](crate::Planner).
+/// cutting is empty and worth 0. `Memory` where a list couldn't grow: a copy of the prices, the price lists, the values
+/// of the points, and the logs. Stem after stem is planned faster by a [`Planner`](crate::Planner).
 ///
 /// Bucking as a longest path, solved by dynamic programming over the places of a stem: M. Näsberg, "Mathematical
 /// Programming Models for Optimal Log Bucking", Linköping, 1985.
@@ -127,8 +74,8 @@ pub fn best(alloc: Global, sheet: &Sheet, stem: &Stem) -> Result<(Cutting, u64),
     ensures first { IfOk result (λ found. IsFirstBest sheet.now stem.now found.0.logs.items) }
     ensures worth { IfOk result (λ found. found.1 ≡ cutting_worth sheet.now stem.now found.0.logs.items) }
 {
-    let mut own = own_of(alloc, sheet)?;
-    best_under(alloc, sheet, stem, &mut own)
+    let sheet = Arc::new(alloc, sheet.copy(alloc)?)?;
+    Planner::make(alloc, sheet)?.best(alloc, stem)
 }
 
 impl Planner {
@@ -136,15 +83,22 @@ impl Planner {
     pub fn make(alloc: Global, sheet: Arc<Sheet>) -> Result<Planner, Memory>
         ensures { IfOk result (λ p. p ≡ sheet.value) }
     {
-        let own = Box::new(alloc, own_of(alloc, &sheet)?)?;
-        Ok(Planner { sheet, own })
+        let search = Search {
+            market: Market::of(alloc, sheet)?,
+            parts: Vec::new(alloc),
+            values: Vec::new(alloc),
+            choices: Vec::new(alloc),
+        };
+        let lists = ProfileLists::new(alloc);
+        let own = Box::new(alloc, Own { search, lists })?;
+        Ok(Planner { own })
     }
 
     /// The sheet under which it plans.
     pub fn sheet(&self) -> &Arc<Sheet>
         ensures { result.now.value ≡ self.now }
     {
-        &self.sheet
+        self.own.search.market.sheet()
     }
 
     /// The first of the best cuttings of a stem under its sheet, and its worth in millionths of the price unit, as
@@ -156,7 +110,7 @@ impl Planner {
         ensures high { IfOk result (λ found. found.1 ≤ 2800000000000000) }
         ensures valid { IsSheet self.old }
     {
-        best_under(alloc, &self.sheet, stem, self.own.as_mut())
+        cut(alloc, &mut self.own, stem)
     }
 
     /// Plans under another sheet from now on. Refused as `Memory` alone: it then plans under the sheet as before. What
@@ -165,12 +119,11 @@ impl Planner {
         ensures renewed { OnOk result (self.new ≡ sheet.value) }
         ensures left { IfErr result (λ _. self.new ≡ self.old) }
     {
-        if !sheet.instruction().same(self.sheet.instruction()) {
+        if !sheet.instruction().same(self.sheet().instruction()) {
             *self = Planner::make(alloc, sheet)?;
             return Ok(());
         }
-        self.own.memo.kept.clear_prices();
-        self.sheet = sheet;
+        self.own.search.market.renew(sheet);
         Ok(())
     }
 }

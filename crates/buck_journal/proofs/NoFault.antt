@@ -37,9 +37,11 @@ allows_of step a stem g nn = record {
   length_offered = contains_of _ _ (λ no_. nn (λ al. no_ al.length_offered));
   within = le_of _ _ (λ no_. nn (λ al. no_ al.within));
   grades = λ x ge lt. contains_of _ _ (λ no_. nn (λ al. no_ (al.grades x ge lt)));
-  thick_enough = le_of _ _ (λ no_. nn (λ al. no_ al.thick_enough));
-  thin_enough = lt_of _ _ (λ no_. nn (λ al. no_ al.thin_enough));
-  priced = λ z. nn (λ al. al.priced z);
+  bought = record {
+    thick_enough = le_of _ _ (λ no_. nn (λ al. no_ al.bought.thick_enough));
+    thin_enough = lt_of _ _ (λ no_. nn (λ al. no_ al.bought.thin_enough));
+    priced = λ z. nn (λ al. al.bought.priced z);
+  };
 }
 
 allowed_of : (i : InstructionParts) (stem : StemParts) (g : Log) → Sure (IsAllowed i stem g)

@@ -1,5 +1,5 @@
 -- Which logs an assortment allows, as the code tests it, and their classes.
-use Rattle.std.proofs.Common.{◌≡◌, ℕ, ◌+◌, ◌*◌, ◌%◌, ◌<◌, ◌≤◌, ◌==◌, List, Contains, Option, Some, None, IsTrue, true, false, true≢false, length, get_or, slice_get, slice_index, unwrap_or, position, refl, sym, ◌∙◌, ap, subst, inl, inr, arith, eqb-true, eq-eqb, cond, nat_lt, nat_le}
+use Rattle.std.proofs.Common.{◌≡◌, ℕ, ◌+◌, ◌%◌, ◌<◌, ◌≤◌, ◌==◌, List, Contains, Option, Some, None, IsTrue, true, false, true≢false, length, get_or, slice_get, unwrap_or, position, refl, sym, ◌∙◌, ap, subst, inl, inr, arith, eqb-true, eq-eqb, cond, nat_lt, nat_le}
 use Rattle.std.proofs.lemmas.Option.{none-some, slice_get_within, get_or_from_slice_get}
 use Rattle.std.proofs.lemmas.Bool.{cases_lt}
 use Rattle.std.proofs.lemmas.Bool.Decides.{nat_tests}
@@ -14,7 +14,7 @@ use Rattle.buck_value.specs.declared.log.Log.{Log}
 use Rattle.buck_value.specs.Sheet.{SheetParts, price_of}
 use Rattle.buck_value.specs.Volume.{volume, worth_at}
 use Rattle.buck_value.proofs.Rows.{row_counted}
-use Rattle.buck_value.specs.Allowed.{IsAllowed, Allows, IsBought, worth_of, kind_in, class_in, class_of, top_diameter, row_at, class_place, column_of, top_of}
+use Rattle.buck_value.specs.Allowed.{IsAllowed, Allows, IsBought, worth_of, kind_in, class_in, class_of, top_diameter, row_at, column_of, top_of}
 
 pub column_some : (xs : List ℕ) (l i : ℕ) → position (λ x. x == l) xs ≡ Some i → (i < length xs) × Contains xs l
 column_some xs l i e =
@@ -65,23 +65,14 @@ pub allows_by_tests : (step : ℕ) (a : AssortmentParts) (stem : StemParts) (log
     → IsBought a column top
     → Allows step a stem log
 allows_by_tests step a stem log column top species grid at within grades is_top bought =
-    let place : row_at a top * length a.lengths + column ≡ class_place a stem log =
-    rw (is_top, column_is a log.length column at) refl in
     record {
       species = species;
       on_module = grid;
       length_offered = (column_some a.lengths log.length column at).1;
       within = within;
       grades = grades;
-      thick_enough = rw (← is_top) bought.thick_enough;
-      thin_enough = rw (← is_top) bought.thin_enough;
-      priced = λ z. bought.priced (ap (slice_index a.prices) place ∙ z);
+      bought = rw (← is_top, column_is a log.length column at) bought;
     }
-
--- and an assortment has a price for what it allows
-pub bought_of : {step : ℕ} (a : AssortmentParts) (stem : StemParts) (log : Log) → Allows step a stem log
-    → IsBought a (column_of a log.length) (top_diameter stem log)
-bought_of a stem log al = record { thick_enough = al.thick_enough; thin_enough = al.thin_enough; priced = al.priced }
 
 -- the assortment of an allowed log is valid
 pub valid_of : (i : InstructionParts) (stem : StemParts) (g : Log) → IsInstruction i → (a : IsAllowed i stem g)
@@ -127,7 +118,7 @@ allowed_low i stem g v a =
     let range : (500 ≤ g.length) × (g.length ≤ 30000) =
     All-contains (λ l. (500 ≤ l) × (l ≤ 30000))
     a.assortment.lengths g.length valid.lengths_range a.allows.length_offered in
-    let thin : top_diameter stem g < a.assortment.upper = a.allows.thin_enough in
+    let thin : top_diameter stem g < a.assortment.upper = a.allows.bought.thin_enough in
     (range.0, range.1, omega (arith, valid.upper_range))
 
 -- the class of a log is of its assortment

@@ -27,9 +27,7 @@ without_trim i stem g a = record {
     length_offered = a.allows.length_offered;
     within = (let le = a.allows.within in omega arith);
     grades = a.allows.grades;
-    thick_enough = a.allows.thick_enough;
-    thin_enough = a.allows.thin_enough;
-    priced = a.allows.priced;
+    bought = a.allows.bought;
   };
 }
 
@@ -44,8 +42,6 @@ with_trim i stem g none a = record {
     length_offered = a.allows.length_offered;
     within = (let le = a.allows.within in omega (arith, no_trim i g.assortment a.assortment none a.exists));
     grades = a.allows.grades;
-    thick_enough = a.allows.thick_enough;
-    thin_enough = a.allows.thin_enough;
-    priced = a.allows.priced;
+    bought = a.allows.bought;
   };
 }

@@ -52,10 +52,6 @@ pub record IsRow (a : AssortmentParts) (d row : ℕ) : Type 0 where
 abbrev pub column_of : AssortmentParts → ℕ → ℕ
 column_of a l = unwrap_or (position (λ x. x == l) a.lengths) 0
 
--- the place of a log's class in its assortment, row by row
-abbrev pub class_place : AssortmentParts → StemParts → Log → ℕ
-class_place a stem g = row_at a (top_diameter stem g) * length a.lengths + column_of a g.length
-
 -- an assortment has a price for logs of a column with a top diameter
 pub record IsBought (a : AssortmentParts) (column d : ℕ) : Type 0 where
   pub thick_enough : slice_index a.diameters 0 ≤ d
@@ -69,9 +65,7 @@ pub record Allows (step : ℕ) (a : AssortmentParts) (stem : StemParts) (g : Log
   pub length_offered : Contains a.lengths g.length
   pub within : top_of g + a.trim ≤ stem_length stem.samples
   pub grades : HasGradesOf stem.zones g.start (top_of g) a.grades
-  pub thick_enough : slice_index a.diameters 0 ≤ top_diameter stem g
-  pub thin_enough : top_diameter stem g < a.upper
-  pub priced : slice_index a.prices (class_place a stem g) ≢ 0
+  pub bought : IsBought a (column_of a g.length) (top_diameter stem g)
 
 -- the log's assortment is there and allows it; the prices in force have no part in it
 pub record IsAllowed (i : InstructionParts) (stem : StemParts) (g : Log) : Type 0 where

@@ -1,10 +1,10 @@
 -- Logs as if no assortment had a trim allowance, for the law that nothing else changes where each trim is 0. No other
 -- contract leads here.
-use Rattle.std.specs.Prelude.{◌≡◌, ◌≢◌, ℕ, ◌%◌, ◌<◌, ◌≤◌, All, Contains, slice_get, slice_index, Some}
+use Rattle.std.specs.Prelude.{◌≡◌, ℕ, ◌%◌, ◌≤◌, All, Contains, slice_get, Some}
 use Rattle.buck_apt.specs.Instruction.{InstructionParts, AssortmentParts}
 use Rattle.buck_stem.specs.Stem.{StemParts, stem_length, HasGradesOf}
 use Rattle.buck_value.specs.declared.log.Log.{Log}
-use Rattle.buck_value.specs.Allowed.{top_of, top_diameter, class_place}
+use Rattle.buck_value.specs.Allowed.{IsBought, column_of, top_of, top_diameter}
 
 -- no assortment has a trim
 abbrev pub HasNoTrim : InstructionParts → Type 0
@@ -17,9 +17,7 @@ pub record AllowsUntrimmed (step : ℕ) (a : AssortmentParts) (stem : StemParts)
   pub length_offered : Contains a.lengths g.length
   pub within : top_of g ≤ stem_length stem.samples
   pub grades : HasGradesOf stem.zones g.start (top_of g) a.grades
-  pub thick_enough : slice_index a.diameters 0 ≤ top_diameter stem g
-  pub thin_enough : top_diameter stem g < a.upper
-  pub priced : slice_index a.prices (class_place a stem g) ≢ 0
+  pub bought : IsBought a (column_of a g.length) (top_diameter stem g)
 
 -- the log's assortment is there and allows it
 pub record IsAllowedUntrimmed (i : InstructionParts) (stem : StemParts) (g : Log) : Type 0 where

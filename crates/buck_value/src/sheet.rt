@@ -70,6 +70,19 @@ impl Sheet {
         })
     }
 
+    /// The same sheet once more, for a caller that keeps one: with prices of its own, and the instruction shared.
+    /// Refused as `Memory` alone.
+    pub fn copy(&self, alloc: Global) -> Result<Sheet, Memory>
+        ensures { IfOk result (λ s. s ≡ self.now) }
+    {
+        let prices = Vec::from_slice(alloc, self.prices.as_slice())?;
+        Ok(Sheet {
+            version: self.version,
+            instruction: self.instruction.clone()?,
+            prices,
+        })
+    }
+
     /// The sheet of these prices, one for each class, assortment by assortment and row by row. Refused as `Count` where
     /// there are more or fewer, else as `Price` with the least place of a price outside its span, both ends of which
     /// are inside. It takes no memory; the prices are dropped where they are refused.

@@ -11,6 +11,7 @@ use std::test::Fail;
 fn refused_memory_of_sheets(rt: HostRuntime) -> Result<(), Fail> {
     let base = base_of(&rt, SAW)?;
     assert!(rt; base.version() == 0 && base.prices() == [400, 500, 600, 800].as_slice());
+    assert!(rt; base.copy(rt.alloc())?.same(&base));
     let refused = sheet_with(&rt, SAW, &[400, 500, 601, 800])?.err();
     assert!(rt; refused == Some(SheetFault::Price { at: 2 }));
     Ok(())

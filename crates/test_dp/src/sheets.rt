@@ -141,6 +141,22 @@ fn prices_within_their_spans(rt: HostRuntime) -> Result<(), Fail> {
     Ok(())
 }
 
+/// Whether a copy of the sheet of these prices is the same, and of version 1 as that is.
+fn is_copied(rt: &HostRuntime, text: &str, prices: &[u32]) -> Result<bool, Fail> {
+    let Ok(sheet) = sheet_with(rt, text, prices)? else {
+        return Ok(false);
+    };
+    let copy = sheet.copy(rt.alloc())?;
+    Ok(copy.same(&sheet) && copy.version() == 1)
+}
+
+#[test]
+fn copies(rt: HostRuntime) -> Result<(), Fail> {
+    let text = text_of(&rt, Saw::Half)?;
+    assert!(rt; is_copied(&rt, text.as_str(), &[200, 250, 300, 400])?);
+    Ok(())
+}
+
 #[test]
 fn texts_of_faults(rt: HostRuntime) -> Result<(), Fail> {
     let texts = format!(in rt.alloc(); "{}; {}", SheetFault::Count, SheetFault::Price { at: 2 })?;

@@ -16,8 +16,9 @@ const DIAMETERS: [(u32, &[u32]); 3] = [
 /// The lists of a profile of a longer stem.
 fn used_lists(alloc: Global) -> Result<ProfileLists, Fail> {
     let stem = stem_of(alloc, &[300; 9], &[(0, 2), (95, 3), (200, 5), (555, 1)])?;
-    let profile = Profile::make(alloc, &stem, 10)?;
-    Ok(profile.into_lists())
+    let mut lists = ProfileLists::new(alloc);
+    Profile::make_in(&mut lists, &stem, 10)?;
+    Ok(lists)
 }
 
 /// Whether the diameters at the multiples of a module are these, in new lists and in used ones.
@@ -29,7 +30,8 @@ fn has_diameters(alloc: Global, stem: &Stem, step: u32, wanted: &[u32]) -> Resul
     if profile.diameters() != wanted {
         return Ok(false);
     }
-    let again = Profile::make_with(used_lists(alloc)?, stem, step)?;
+    let mut lists = used_lists(alloc)?;
+    let again = Profile::make_in(&mut lists, stem, step)?;
     Ok(again.diameters() == wanted)
 }
 

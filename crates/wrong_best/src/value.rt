@@ -1,10 +1,10 @@
 //! Wrong answers about sheets, about which logs are allowed, and about their classes and worths.
-ghost use Rattle.std.specs.Prelude.{◌≡◌, ◌≢◌, ◌+◌, ◌<◌, ◌≤◌, ◌%◌, ◌/◌, [], ◌∷◌, length, slice_index, slice_get, Some, Contains};
+ghost use Rattle.std.specs.Prelude.{◌≡◌, ◌≢◌, ◌+◌, ◌*◌, ◌<◌, ◌≤◌, ◌%◌, ◌/◌, [], ◌∷◌, length, slice_index, slice_get, Some, Contains};
 ghost use Rattle.std.specs.Option.{option_map};
 ghost use Rattle.buck_apt.specs.Instruction.{IsClass, classes, index_of};
 ghost use Rattle.buck_stem.specs.Stem.{stem_length, diameter_at, grade_at, HasGradesOf};
 ghost use Rattle.buck_value.specs.Sheet.{IsPriceAt, base_prices, price_of, span};
-ghost use Rattle.buck_value.specs.Allowed.{IsAllowed, top_of, end_of, top_diameter, class_place, worth_of};
+ghost use Rattle.buck_value.specs.Allowed.{IsAllowed, top_of, end_of, top_diameter, row_at, column_of, worth_of};
 ghost use Rattle.buck_value.specs.Prepared.{points_of, lengths_of, log_at};
 ghost use Rattle.wrong_best.specs.Logs.{ItsAssortment, AreOfTwoRows, worth_with_length};
 
@@ -57,6 +57,19 @@ pub fn price_of_the_first_assortment(instruction: Arc<Instruction>, prices: Vec<
     let made = Sheet::with_prices(instruction, 1, prices);
     let right = made.is_ok();
     let wrong = true;
+    prove!(right != wrong);
+}
+
+/// A copy has the base prices.
+pub fn copy_at_base_prices(alloc: Global, sheet: &Sheet, class: Class, wrong: u32)
+    requires class { IsClass sheet.now.instruction class }
+    requires wrong { wrong ≡ slice_index (base_prices sheet.now.instruction) (index_of sheet.now.instruction class) }
+    requires moved { wrong ≢ price_of sheet.now class }
+{
+    let Ok(copy) = sheet.copy(alloc) else {
+        return;
+    };
+    let right = copy.price(class);
     prove!(right != wrong);
 }
 
@@ -203,7 +216,9 @@ pub fn upper_diameter_let_in(sheet: &Sheet, stem: &Stem, log: &Log)
 
 /// A log is let in whose class has the base price 0.
 pub fn base_price_0_let_in(sheet: &Sheet, stem: &Stem, log: &Log)
-    requires { ItsAssortment sheet.now log.now (λ a. slice_index a.prices (class_place a stem.now log.now) ≡ 0) }
+    requires { ItsAssortment sheet.now log.now (λ a.
+        slice_index a.prices (row_at a (top_diameter stem.now log.now) * length a.lengths + column_of a log.now.length)
+        ≡ 0) }
 {
     let right = log_valuation(sheet, stem, log).is_some();
     let wrong = true;

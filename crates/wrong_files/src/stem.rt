@@ -304,10 +304,10 @@ pub fn diameters_of_half_the_places(profile: &Profile<'_>)
 }
 
 /// A diameter of an earlier profile is kept.
-pub fn make_with_keeps_a_diameter(lists: ProfileLists, stem: &Stem)
+pub fn make_in_keeps_a_diameter(lists: &mut ProfileLists, stem: &Stem)
     requires { stem_length stem.now.samples ≡ 100 }
 {
-    let Ok(profile) = Profile::make_with(lists, stem, 100) else {
+    let Ok(profile) = Profile::make_in(lists, stem, 100) else {
         return;
     };
     let right = profile.diameters().len();

@@ -8,7 +8,7 @@ use Rattle.buck_apt.specs.Instruction.{AssortmentParts, InstructionParts}
 use Rattle.buck_stem.specs.Stem.{HasGradesOf, StemParts, stem_length}
 use Rattle.buck_dp.specs.declared.takers.Takers.{Takers}
 use Rattle.buck_value.specs.Sheet.{SheetParts}
-use Rattle.buck_dp.specs.declared.offers.Offer.{Offer}
+use Rattle.buck_dp.specs.declared.offers.Menu.{Menu}
 use Rattle.std.specs.Int.{bit_at}
 use Rattle.buck_value.specs.Wood.{AllIn}
 use Rattle.buck_dp.specs.declared.takers.Known.{Known}
@@ -31,10 +31,10 @@ AreKnown i kinds = (k : ℕ) (x : Known) → slice_get kinds k ≡ Some x
 pub record GroundParts : Type 0 where
   pub sheet : SheetParts
   pub stem : StemParts
-  pub offers : List Offer
+  pub menu : Menu
 
-abbrev pub ground_with : SheetParts → StemParts → List Offer → GroundParts
-ground_with sheet stem offers = record { sheet = sheet; stem = stem; offers = offers }
+abbrev pub ground_with : SheetParts → StemParts → Menu → GroundParts
+ground_with sheet stem menu = record { sheet = sheet; stem = stem; menu = menu }
 
 -- how many points there are, the places at which a log may start: the multiples of the module, the butt among them
 abbrev pub points_of : GroundParts → ℕ
@@ -52,7 +52,8 @@ point_after step place = (place + (step - 1)) / step
 -- the log of the offer of a rank from point i
 unfoldable pub log_at : GroundParts → ℕ → ℕ → Log
 log_at p rank i =
-    log_of (i * p.sheet.instruction.«module») (offer_at p.offers rank).length (offer_at p.offers rank).assortment
+    log_of (i * p.sheet.instruction.«module») (offer_at p.menu.offers.items rank).length
+    (offer_at p.menu.offers.items rank).assortment
 
 -- the point from which a cutting goes on after a log
 abbrev pub next_after : GroundParts → Log → ℕ
@@ -60,7 +61,7 @@ next_after p g = point_after p.sheet.instruction.«module» (end_of p.sheet.inst
 
 -- the log of a bid's rank from point i is allowed and worth the bid; its top is point j, and e the first after its end
 pub record IsLogAt (p : GroundParts) (i j e : ℕ) (bid : BidParts) : Type 0 where
-  pub rank : IsRank p.offers bid.rank
+  pub rank : IsRank p.menu.offers.items bid.rank
   pub allowed : IsAllowed p.sheet.instruction p.stem (log_at p bid.rank i)
   pub top : top_of (log_at p bid.rank i) ≡ j * p.sheet.instruction.«module»
   pub ends : next_after p (log_at p bid.rank i) ≡ e

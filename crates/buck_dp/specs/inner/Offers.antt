@@ -1,6 +1,7 @@
 -- The logs that an instruction offers, in the order that settles ties, and their ranks.
 use Rattle.std.specs.Prelude.{◌≡◌, ℕ, ◌-◌, ◌<◌, ◌≤◌, ◌⊎◌, ◌↔◌, Contains, List, length, get_or, slice_get, Some, ◌*◌}
 use Rattle.buck_apt.specs.Instruction.{AssortmentParts, InstructionParts}
+use Rattle.buck_dp.specs.declared.bid.TheConstants.{HIGHEST_RANK}
 use Rattle.buck_dp.specs.declared.offers.Offer.{Offer}
 use Rattle.buck_dp.specs.declared.offers.Menu.{Menu}
 
@@ -11,13 +12,13 @@ offer_of length assortment = record { length = length; assortment = assortment }
 abbrev pub IsOfferOf : InstructionParts → Offer → Type 0
 IsOfferOf i o = (x : AssortmentParts) × (slice_get i.assortments o.assortment ≡ Some x) × Contains x.lengths o.length
 
--- the offer of a rank, which is 1,023 less its place: the earlier, the higher
+-- the offer of a rank, which is the highest less its place: the earlier, the higher
 abbrev pub offer_at : List Offer → ℕ → Offer
-offer_at offers rank = get_or offers (1023 - rank) (offer_of 0 0)
+offer_at offers rank = get_or offers (HIGHEST_RANK - rank) (offer_of 0 0)
 
 -- an offer has the rank
 abbrev pub IsRank : List Offer → ℕ → Type 0
-IsRank offers rank = (rank ≤ 1023) × (1023 - rank < length offers)
+IsRank offers rank = (rank ≤ HIGHEST_RANK) × (HIGHEST_RANK - rank < length offers)
 
 -- the first is shorter, or as long and not of a higher assortment
 abbrev pub IsNoLater : Offer → Offer → Type 0

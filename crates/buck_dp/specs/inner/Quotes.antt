@@ -7,7 +7,8 @@ use Rattle.buck_value.specs.Volume.{volume, worth_at}
 use Rattle.buck_dp.specs.inner.Logs.{point_after, IsTaker}
 use Rattle.buck_dp.specs.declared.pricing.Quote.{Quote}
 use Rattle.buck_dp.specs.declared.pricing.Ask.{Ask}
-use Rattle.buck_dp.specs.inner.Bid.{BidParts, bid_of, ranks}
+use Rattle.buck_dp.specs.inner.Bid.{BidParts, bid_of}
+use Rattle.buck_dp.specs.declared.bid.TheConstants.{HIGHEST_RANK}
 use Rattle.buck_value.specs.declared.sheet.TheConstants.{HIGHEST_PRICE}
 use Rattle.buck_value.specs.Allowed.{IsBought, row_at, column_of}
 use Rattle.buck_dp.specs.declared.offers.Offer.{Offer}
@@ -64,7 +65,7 @@ quote_bid q d = bid_of (worth_at q.kind q.price (volume d q.length)) q.rank
 pub record IsSmall (q : Quote) : Type 0 where
   pub length : q.length ≤ 30000
   pub price : q.price ≤ HIGHEST_PRICE
-  pub rank : q.rank < ranks
+  pub rank : q.rank ≤ HIGHEST_RANK
 
 -- a quote is a taker's bid at each diameter of a band
 pub record IsQuote (s : SheetParts) (offers : List Offer) (ask : Ask) (q : Quote) : Type 0 where
@@ -138,7 +139,8 @@ pub record IsTerm (i : InstructionParts) (offers : List Offer) (ask : Ask) (t : 
 pub record AreTerms (i : InstructionParts) (offers : List Offer) (ask : Ask) (n : ℕ) (terms : List Quote) : Type 0 where
   pub real : All (λ t. IsTerm i offers ask t) terms
   pub met : (version : ℕ) (prices : List ℕ) → IsSheet (sheet_of version i prices) → (steps trim d : ℕ) (bid : BidParts)
-      → IsAsked ask d → 1023 < bid.rank + n → IsTakersBid (sheet_of version i prices) offers ask.takers d steps trim bid
+      → IsAsked ask d → HIGHEST_RANK < bid.rank + n
+      → IsTakersBid (sheet_of version i prices) offers ask.takers d steps trim bid
       → (t : Quote) × Contains terms t × (t.steps ≡ steps) × (t.trim ≡ trim) × (quote_bid (quote_at prices t) d ≡ bid)
 
 -- a cell is a taker's bid

@@ -17,20 +17,25 @@ pub struct Profile<'a> {
     stem: &'a Stem,
     /// The module in mm.
     step: u32,
-    lists: ProfileLists,
+    tables: Tables<'a>,
 }
 
 impl<'a> Model for Profile<'a> {
     ghost use Rattle.buck_stem.specs.points.Profile.{ProfileParts, profile_of};
-    ghost use Rattle.buck_stem.specs.inner.ProfileTables.{AreTables};
+    ghost use Rattle.buck_stem.specs.inner.ProfileTables.{AreTables, lists_of};
 
     ghost Value = { ProfileParts };
 
     ghost view = { λ p. profile_of p.stem.now p.step };
 
-    ghost invariant = { λ p.
-        AreTables (profile_of p.stem.now p.step) p.lists.diameters.items p.lists.runs.starts.items
-        p.lists.runs.masks.items p.lists.runs.run_of.items p.lists.between.items };
+    ghost invariant = { λ p. AreTables (profile_of p.stem.now p.step) (lists_of p.tables) };
+}
+
+/// The lists of a profile: its own, or those of a caller.
+#[derive(Drop)]
+enum Tables<'a> {
+    Own(ProfileLists),
+    Lent(&'a ProfileLists),
 }
 
 /// The lists of a profile, to be kept from stem to stem. What they hold of the stem before is of no account.
@@ -66,35 +71,51 @@ fn put_diameters(diameters: &mut Vec<u32>, stem: &Stem, step: u32) -> Result<(),
     stem.put_diameters(step, diameters)
 }
 
+/// Puts the tables of a stem in the place of others.
+fn put_tables(lists: &mut ProfileLists, stem: &Stem, step: u32) -> Result<(), AllocError>
+    requires { (10 ≤ step) × (step ≤ 1000) }
+    ensures { OnOk result (AreTables (profile_of stem.now step) lists.new) }
+{
+    put_diameters(&mut lists.diameters, stem, step)?;
+    put_runs(&mut lists.runs, stem, step)?;
+    put_between(&mut lists.between, lists.runs.masks.as_slice())
+}
+
 impl<'a> Profile<'a> {
-    /// The tables of a stem at the multiples of a module of `step` mm, 10 to 1,000. It borrows the stem. Refused as
-    /// `Memory` alone.
+    /// The tables of a stem at the multiples of a module of `step` mm, 10 to 1,000. It borrows the stem, and its lists
+    /// are its own. Refused as `Memory` alone.
     pub fn make(alloc: Global, stem: &'a Stem, step: u32) -> Result<Profile<'a>, Memory>
         requires { (10 ≤ step) × (step ≤ 1000) }
         ensures { IfOk result (λ p. p ≡ profile_of stem.now step) }
     {
-        Profile::make_with(ProfileLists::new(alloc), stem, step)
+        let mut lists = ProfileLists::new(alloc);
+        put_tables(&mut lists, stem, step)?;
+        let tables = Tables::Own(lists);
+        Ok(Profile { stem, step, tables })
     }
 
-    /// The same in lists of an earlier profile, which [`into_lists`](Profile::into_lists) gives back. Where it is
-    /// refused, their room is given up.
-    pub fn make_with(
-        mut lists: ProfileLists,
+    /// The same in lists of the caller's, which it borrows too. What they hold of the stem before is of no account.
+    pub fn make_in(
+        lists: &'a mut ProfileLists,
         stem: &'a Stem,
         step: u32,
     ) -> Result<Profile<'a>, Memory>
         requires { (10 ≤ step) × (step ≤ 1000) }
         ensures { IfOk result (λ p. p ≡ profile_of stem.now step) }
     {
-        put_diameters(&mut lists.diameters, stem, step)?;
-        put_runs(&mut lists.runs, stem, step)?;
-        put_between(&mut lists.between, lists.runs.masks.as_slice())?;
-        Ok(Profile { stem, step, lists })
+        put_tables(lists, stem, step)?;
+        let tables = Tables::Lent(lists);
+        Ok(Profile { stem, step, tables })
     }
 
-    /// Its lists, for the profile of another stem.
-    pub fn into_lists(self) -> ProfileLists {
-        self.lists
+    /// Its lists, whoever owns them.
+    fn lists(&self) -> &ProfileLists
+        ensures { AreTables self.now result.now }
+    {
+        match &self.tables {
+            Tables::Own(lists) => lists,
+            Tables::Lent(lists) => lists,
+        }
     }
 
     /// The diameters in mm at the points.
@@ -104,7 +125,7 @@ impl<'a> Profile<'a> {
             → slice_index result.now i ≡ diameter_at self.now.stem.samples (i * self.now.module) }
         ensures high { (i : ℕ) → i < points_of self.now → slice_index result.now i ≤ 1500 }
     {
-        self.lists.diameters.as_slice()
+        self.lists().diameters.as_slice()
     }
 
     /// How many points there are, the butt among them.
@@ -113,7 +134,7 @@ impl<'a> Profile<'a> {
         ensures valid { IsStem self.now.stem }
         ensures module_range { (10 ≤ self.now.module) × (self.now.module ≤ 1000) }
     {
-        self.lists.diameters.len()
+        self.lists().diameters.len()
     }
 
     /// The diameter in mm at point `i`, that is at `i * step` mm from the butt.
@@ -122,7 +143,7 @@ impl<'a> Profile<'a> {
         ensures diameter { result ≡ diameter_at self.now.stem.samples (i * self.now.module) }
         ensures high { result ≤ 1500 }
     {
-        self.lists.diameters[i]
+        self.lists().diameters[i]
     }
 
     /// The grades from point `i` up to point `j`: bit g - 1 for grade g. They are found in constant time.
@@ -133,9 +154,10 @@ impl<'a> Profile<'a> {
         if i == j {
             return 0;
         }
-        let first = self.lists.runs.run_of[i] as usize;
-        let last = self.lists.runs.run_of[j - 1] as usize;
-        self.lists.between[self.lists.runs.masks.len() * last + first].mask()
+        let lists = self.lists();
+        let first = lists.runs.run_of[i] as usize;
+        let last = lists.runs.run_of[j - 1] as usize;
+        lists.between[lists.runs.masks.len() * last + first].mask()
     }
 
     /// A point from which on each step up to step `i` has the grades of step `i`: the first of its run.
@@ -146,6 +168,7 @@ impl<'a> Profile<'a> {
             → (k : ℕ) → result ≤ k → k ≤ i → IsMaskBetween self.now k j mask }
         ensures even { (one : ℕ) × ((k : ℕ) → result ≤ k → k ≤ i → IsMaskBetween self.now k (k + 1) one) }
     {
-        self.lists.runs.starts[self.lists.runs.run_of[i] as usize] as usize
+        let runs = &self.lists().runs;
+        runs.starts[runs.run_of[i] as usize] as usize
     }
 }

@@ -1,23 +1,26 @@
-use Rattle.buck_dp.proofs.Words.{rules, arith, ap, ◌∙◌, ◌∷◌, append_assoc, get_or_default, none, BidParts}
-use Rattle.buck_dp.proofs.Values.{best_skipped, best_begun, best_first}
+use Rattle.buck_dp.proofs.Values.{rules, arith, ap, ◌∙◌, ◌∷◌, append_assoc, get_or_default, get_or, none, BidParts, best_skipped, best_begun, best_first}
 use Rattle.buck_dp.proofs.following.follow.Goals as goal
 
 pub loop-i-preserved-then-rank-eq0 : goal.loop-i-preserved-then-rank-eq0
-loop-i-preserved-then-rank-eq0 c =
+loop-i-preserved-then-rank-eq0 g c =
     search (rules, (best_skipped c.requires.site.menu.offers c.requires.search c.loop-i.i))
 
 pub loop-i-preserved : goal.loop-i-preserved
-loop-i-preserved c gs b =
-    let begun = (best_begun c.requires.site.menu.offers c.requires.search c.log_at-log.ensures (omega arith)).2 in
+loop-i-preserved g c gs b =
+    let is = c.as_slice-choices.ensures.value in
+    let begun = (best_begun c.requires.site.menu.offers c.requires.search (rw is at c.log_at-log.ensures)
+    (omega (arith, ap (λ xs. get_or xs c.loop-i.i 0) is))).2 in
+    let next = rw (c.deref.ensures, c.sheet.ensures.sheet, c.requires.market.0) at
+    c.point_after-i.ensures in
     rw (c.in_ok-push.ensures.items, append_assoc)
-    (c.loop-i.invariant (c.log_at-log.result ∷ gs) (begun gs (rw (← c.point_after-i.ensures) b)))
+    (c.loop-i.invariant (c.log_at-log.result ∷ gs) (begun gs (rw (← next) b)))
 
 pub returns-clause-first : goal.returns-clause-first
-returns-clause-first c =
+returns-clause-first g c =
     (best_first c.requires.site.menu.offers c.requires.search c.loop-i.invariant (omega arith)).0
 
 pub returns-clause-worth : goal.returns-clause-worth
-returns-clause-worth c =
-    let value = get_or_default c.args.values.now 0 _ none (omega (arith, c.requires.search.number)) in
-    c.worth.ensures ∙ ap (λ (b : BidParts). b.worth) (c.index-values-0.is ∙ value)
+returns-clause-worth g c =
+    let value = get_or_default c.args.search.now.values.items 0 _ none (omega (arith, c.requires.search.number)) in
+    c.worth.ensures ∙ ap (λ (b : BidParts). b.worth) (c.index.ensures ∙ value)
     ∙ (best_first c.requires.site.menu.offers c.requires.search c.loop-i.invariant (omega arith)).1

@@ -1,6 +1,14 @@
 use Rattle.buck_dp.proofs.Words.{rules, arith, ◌+◌, ◌++◌, ◌≡◌, length, sym}
 use Rattle.buck_dp.proofs.offering.offer_all.Goals as goal
 
+pub offer_back-requires-clause-open : goal.offer_back-requires-clause-open
+offer_back-requires-clause-open c =
+    let o = c.requires.«open» in
+    let parts = c.split_at_mut-reached in
+    let top : length parts.result.0.now + c.args.far ≡ c.args.top = omega (arith, parts.ensures.front_len) in
+    let all : parts.result.0.now ++ parts.result.1.now ≡ c.args.values.now = search rules in
+    (o.0, o.1, parts.result.0.now, c.args.first, omega (arith, parts.ensures.front_len), rw top o.3, rw (top, all) o.2)
+
 pub returns : goal.returns
 returns c p ch is fit =
     let parts = c.split_at_mut-reached in

@@ -1,6 +1,5 @@
-use Rattle.buck_dp.proofs.Words.{arith, refl, slice_get_read}
-use Rattle.buck_dp.proofs.OfferLemmas.{cell_fits, offered_less, offered_more, offered_part}
-use Rattle.buck_dp.proofs.offering.offer_some.Goals.{then-steps-most+then-steps-past+then-cell-reach, then-steps-most+then-steps-past+else-cell-reach, then-steps-most+else-steps-past, else-steps-most}
+use Rattle.buck_dp.proofs.OfferLemmas.{arith, refl, slice_get_read, cell_fits, offered_less, offered_more, offered_part}
+use Rattle.buck_dp.proofs.offering.offer_some.Goals.{then-steps-most+then-steps-past+then-cell-reach, else-steps-most}
 use Rattle.buck_dp.proofs.offering.offer_some.Goals as goal
 
 pub offer_bid-requires : goal.offer_bid-requires
@@ -21,11 +20,7 @@ loop-cell-preserved c p ch is room =
           rw w.values-is (offered_more was there
           (omega (arith, most), omega (arith, w.if-steps-past.true), omega (arith, room, w.if-cell-reach.true))
           (omega (arith, most)) refl w.offer_bid.ensures)
-      | then-steps-most+then-steps-past+else-cell-reach w ↦
-          rw w.values-is (less (λ near. omega (arith, near, room, w.if-cell-reach.false)))
-      | then-steps-most+else-steps-past w ↦
-          rw w.values-is (less (λ near. omega (arith, near, was.search.below, w.if-steps-past.false)))
-      | else-steps-most w ↦ rw w.values-is (less (λ near. omega (arith, near, w.if-steps-most.false)))
+      | else-steps-most w ↦ rw w.values-is (less (λ near. grind (arith, near, room, was.search.below, w.else-steps-most.branch)))
     ]
 
 pub returns : goal.returns

@@ -1,9 +1,8 @@
-use Rattle.buck_dp.proofs.Words.{arith}
-use Rattle.buck_dp.proofs.Lists.{cut_bounded}
+use Rattle.buck_dp.proofs.Lists.{rules, cut_bounded}
 use Rattle.buck_dp.proofs.planner.cut.Goals as goal
 
+pub search-requires : goal.search-requires
+search-requires c = search rules
+
 pub returns-clause-high : goal.returns-clause-high
-returns-clause-high c =
-    let search = c.in_ok-search_stem.ensures.search in
-    let best = c.in_ok-logs.ensures in
-    omega (arith, best.worth, (cut_bounded _ _ _ search.valid search.sound best.first.best.admissible).1)
+returns-clause-high c = search (rules, cut_bounded)

@@ -1,5 +1,4 @@
-use Rattle.buck_dp.proofs.Words.{arith, rules}
-use Rattle.buck_dp.proofs.QuoteLemmas.{pruned_on, list_right}
+use Rattle.buck_dp.proofs.QuoteLemmas.{arith, rules, pruned_on, list_right}
 use Rattle.buck_dp.proofs.pricing.put_list.Goals.{then-quote-eq1+in_ok-put_quote, else-quote-eq1+in_ok-put_quote-2}
 use Rattle.buck_dp.proofs.pricing.put_list.Goals as goal
 

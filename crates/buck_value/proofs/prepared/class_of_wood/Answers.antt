@@ -7,7 +7,7 @@ use Rattle.buck_value.specs.declared.wood.Wood.{Wood}
 use Rattle.buck_value.specs.declared.log.Log.{Log}
 use Rattle.buck_value.specs.Allowed.{log_of, top_of, top_diameter, row_at, column_of}
 use Rattle.buck_value.specs.inner.Wood.{IsWood}
-use Rattle.buck_value.proofs.Classes.{allows_by_tests, bought_of}
+use Rattle.buck_value.proofs.Classes.{allows_by_tests}
 use Rattle.buck_value.proofs.Grades.{mask_allows}
 use Rattle.buck_value.proofs.Stands.{found_at, column_is}
 use Rattle.buck_value.proofs.prepared.class_of_wood.Goals as goal
@@ -34,7 +34,7 @@ returns-in_err-row-clause-none c = rw c.from_residual.ensures (λ step stem star
     let a : AssortmentParts = c.args.assortment.now in
     let g : Log = log_of start (slice_index a.lengths c.args.column) c.args.place in
     let column = column_is a c.args.column c.bought_row.ensures.valid c.requires.column in
-    (rw c.in_err-row.was at c.bought_row.ensures.none) (rw (w.top, column) at (bought_of a stem g al)))
+    (rw c.in_err-row.was at c.bought_row.ensures.none) (rw (w.top, column) at al.bought))
 
 pub returns-clause-allowed : goal.returns-clause-allowed
 returns-clause-allowed c = λ step stem start w.

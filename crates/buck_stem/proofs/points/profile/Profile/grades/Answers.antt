@@ -1,24 +1,24 @@
 use Rattle.std.proofs.Common.{◌≡◌, ◌∙◌, ◌<◌, ◌≤◌, ◌*◌, ◌+◌, ◌-◌, ℕ, List, length, get_or, arith, subst, sym, ap}
 use Rattle.std.proofs.lemmas.List.{get_or_default}
-use Rattle.buck_stem.specs.points.Profile.{ProfileParts, profile_of, points_of, IsMask}
+use Rattle.buck_stem.specs.points.Profile.{ProfileParts, IsMask}
 use Rattle.buck_stem.specs.inner.Runs.{IsUnion}
+use Rattle.buck_stem.specs.inner.ProfileTables.{AreTables}
 use Rattle.buck_stem.proofs.RunLemmas.{row_below, union_is_mask}
 use Rattle.buck_stem.proofs.points.profile.Profile.grades.Goals as goal
 
 pub returns : goal.returns
 returns c =
-    let p : ProfileParts = profile_of c.self.inside.stem.now c.self.inside.step in
-    let lt : c.args.j < points_of p =
-    subst (λ (q : ProfileParts). c.args.j < points_of q) (sym c.self.view_is) c.requires.1 in
-    let masks : List ℕ = c.self.inside.lists.runs.masks.items in
-    let run_of : List ℕ = c.self.inside.lists.runs.run_of.items in
-    let between : List ℕ = c.self.inside.lists.between.items in
+    let p : ProfileParts = c.args.self.now in
+    let are : AreTables p c.lists-lists.result.now = c.lists-lists.ensures in
+    let masks : List ℕ = c.lists-lists.result.now.runs.masks.items in
+    let run_of : List ℕ = c.lists-lists.result.now.runs.run_of.items in
+    let between : List ℕ = c.lists-lists.result.now.between.items in
     let first : ℕ = get_or run_of c.args.i 0 in
     let last : ℕ = get_or run_of (c.args.j - 1) 0 in
-    let here : c.args.j - 1 < length run_of = omega (arith, c.self.invariant.steps_number) in
+    let here : c.args.j - 1 < length run_of = omega (arith, are.steps_number) in
     let known : last < length masks =
-    omega (arith, c.self.invariant.runs.masks_number, c.self.invariant.runs.known (c.args.j - 1) here) in
-    let upto : first ≤ last = c.self.invariant.runs.rising c.args.i (c.args.j - 1) (omega arith) here in
+    omega (arith, are.runs.masks_number, are.runs.known (c.args.j - 1) here) in
+    let upto : first ≤ last = are.runs.rising c.args.i (c.args.j - 1) (omega arith) here in
     let at_first : c.index.result.now ≡ first = c.index.ensures
     ∙ get_or_default run_of c.args.i c.index.result.now 0 (omega arith) in
     let at_last : c.index-2.result.now ≡ last = c.index-2.ensures
@@ -30,7 +30,7 @@ returns c =
     let below : length masks * last + first < length between =
     omega (
       arith,
-      c.self.invariant.rows.number,
+      are.rows.number,
       row_below (length masks) (length masks) last first (omega arith) known upto,
     ) in
     let value : c.index-3.result.now ≡ get_or between (length masks * last + first) 0 =
@@ -38,10 +38,8 @@ returns c =
     ∙ get_or_default between (length masks * last + first) c.index-3.result.now 0 below in
     let end : c.args.j - 1 + 1 ≡ c.args.j = omega arith in
     rw c.mask.ensures
-    (subst (λ (q : ProfileParts). IsMask q.stem.zones (c.args.i * q.«module») (c.args.j * q.«module»)
-    c.index-3.result.now) c.self.view_is
     (subst (λ j. IsMask p.stem.zones (c.args.i * p.«module») (j * p.«module») c.index-3.result.now) end
-    (union_is_mask p.stem.zones p.«module» c.self.inside.lists.runs.starts.items masks run_of c.self.invariant.runs
+    (union_is_mask p.stem.zones p.«module» c.lists-lists.result.now.runs.starts.items masks run_of are.runs
     c.args.i (c.args.j - 1) c.index-3.result.now
-    (omega (arith, c.self.invariant.module_range.0)) (omega arith) here
-    (subst (λ m. IsUnion masks first last m) (sym value) (c.self.invariant.rows.right last known first upto)))))
+    (omega (arith, are.module_range.0)) (omega arith) here
+    (subst (λ m. IsUnion masks first last m) (sym value) (are.rows.right last known first upto))))

@@ -1,0 +1,31 @@
+use Rattle.buck_dp.proofs.MarketLemmas.{length-map, rules, refl, length, AllAre, IsAt, row_found, row_put}
+use Rattle.buck_dp.proofs.market.Market.draw.Goals as goal
+
+-- the row is put behind the others
+put : (c : goal.After-push_reserved)
+    → AllAre (IsAt c.self.inside.sheet.value c.self.inside.menu c.put_row.new.cells.items)
+    c.push_reserved.new.self.items
+    × IsAt c.self.inside.sheet.value c.self.inside.menu c.put_row.new.cells.items (record {
+      takers = c.args.group.takers;
+      diameter = c.args.diameter;
+      from = c.len-3.result;
+      number = length c.as_slice-quotes.result.now;
+    })
+put c =
+    let found = row_found c.self.invariant (rw (← c.self.view_is) at c.in_ok-at.ensures.place) c.index.ensures in
+    row_put c.self.inside.sheet.value c.self.inside.menu _ c.self.invariant.rows
+    (rw c.in_ok-reserve.ensures.items at c.push_reserved.ensures.items) c.in_ok-put_row.ensures.put
+    (rw c.as_slice-quotes.ensures.value found.1) (search rules) (search (rules, length-map))
+
+pub put_row-requires-clause-list : goal.put_row-requires-clause-list
+put_row-requires-clause-list c =
+    rw c.as_slice-quotes.ensures.value
+    (row_found c.self.invariant (rw (← c.self.view_is) at c.in_ok-at.ensures.place) c.index.ensures).0
+
+pub invariant_of-self-2 : goal.invariant_of-self-2
+invariant_of-self-2 c =
+    let w = c.self.invariant in
+    record { valid = w.valid; menu = w.menu; kinds = w.kinds; terms = w.terms; quotes = w.quotes; rows = (put c).0 }
+
+pub returns-clause-row : goal.returns-clause-row
+returns-clause-row c = (refl, refl, (put c).1)

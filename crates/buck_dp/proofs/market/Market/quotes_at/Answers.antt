@@ -1,0 +1,31 @@
+use Rattle.buck_dp.proofs.MarketLemmas.{rules, AllAre, HasTerms, HasQuotes, IsListAt, list_put, list_found}
+use Rattle.buck_dp.proofs.market.Market.quotes_at.Goals as goal
+
+-- the quotes of the terms that are found are put behind the others
+put : (c : goal.In_ok-push)
+    → AllAre (HasQuotes c.self-2.inside.sheet.value c.self-2.inside.menu) c.push.new.self.items
+    × IsListAt c.push.new.self.items c.args.takers c.args.diameter c.len-place.result
+put c =
+    let k = c.self-2.inside in
+    let found = list_found (HasTerms k.sheet.value k.menu) k.terms.items c.self-2.invariant.terms
+    (rw (← c.self-2.view_is) at c.in_ok-at.ensures.place) c.index-terms.ensures in
+    let ok = c.in_ok-put_list.ensures k.menu.offers.items (rw (c.as_slice-2.ensures.value, c.deref.ensures) found.0) in
+    let p = list_put (HasQuotes k.sheet.value k.menu) _ c.self-2.invariant.quotes c.len-place.result
+    c.in_ok-push.ensures.items (search rules) (rw c.deref.ensures at ok) found.2 in
+    (p.0, rw found.1 at p.1)
+
+pub put_list-requires-clause-terms : goal.put_list-requires-clause-terms
+put_list-requires-clause-terms c =
+    let k = c.self-2.inside in (
+      k.menu.offers.items,
+      rw (c.as_slice-2.ensures.value, c.deref.ensures) (list_found (HasTerms k.sheet.value k.menu) k.terms.items
+          c.self-2.invariant.terms (rw (← c.self-2.view_is) at c.in_ok-at.ensures.place) c.index-terms.ensures).0,
+    )
+
+pub invariant_of-self-2 : goal.invariant_of-self-2
+invariant_of-self-2 c =
+    let w = c.self-2.invariant in
+    record { valid = w.valid; menu = w.menu; kinds = w.kinds; terms = w.terms; quotes = (put c).0; rows = w.rows }
+
+pub returns-clause-place : goal.returns-clause-place
+returns-clause-place c = (put c).1

@@ -1,0 +1,21 @@
+use Rattle.buck_dp.proofs.MarketLemmas.{rules, AllAre, HasTerms, IsListAt, list_put}
+use Rattle.buck_dp.proofs.market.Market.terms_at.Goals as goal
+
+-- the terms that are found are put behind the others
+put : (c : goal.In_ok-push)
+    → AllAre (HasTerms c.self.inside.sheet.value c.self.inside.menu) c.push.new.self.items
+    × IsListAt c.push.new.self.items c.args.takers c.args.diameter c.len-place.result
+put c =
+    list_put (HasTerms c.self.inside.sheet.value c.self.inside.menu) _ c.self.invariant.terms c.len-place.result
+    c.in_ok-push.ensures.items (search rules) (search (rules, c.in_ok-quotes.ensures)) c.band_around-band.ensures.within
+
+pub invariant_of-self : goal.invariant_of-self
+invariant_of-self c = rw c.in_err-push.ensures.items c.self.invariant
+
+pub invariant_of-self-2 : goal.invariant_of-self-2
+invariant_of-self-2 c =
+    let w = c.self.invariant in
+    record { valid = w.valid; menu = w.menu; kinds = w.kinds; terms = (put c).0; quotes = w.quotes; rows = w.rows }
+
+pub returns-clause-place : goal.returns-clause-place
+returns-clause-place c = (put c).1

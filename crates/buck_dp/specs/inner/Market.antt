@@ -1,0 +1,65 @@
+-- A sheet, what its instruction offers, and what was found of that so far.
+use Rattle.std.specs.Prelude.{◌≡◌, ℕ, ◌+◌, ◌<◌, ◌≤◌, List, length, slice_get, take, drop, Some}
+use Rattle.buck_value.specs.Sheet.{SheetParts, IsSheet}
+use Rattle.buck_dp.specs.declared.market.Head.{Head}
+use Rattle.buck_dp.specs.declared.market.PriceList.{PriceList}
+use Rattle.buck_dp.specs.declared.offers.Menu.{Menu}
+use Rattle.buck_dp.specs.declared.takers.Takers.{Takers}
+use Rattle.buck_dp.specs.declared.offering.Cell.{Cell}
+use Rattle.buck_dp.specs.inner.Quotes.{IsRow, IsAsked, AreTerms, AreQuotes}
+use Rattle.buck_dp.specs.inner.Offers.{IsMenu}
+use Rattle.buck_dp.specs.inner.Logs.{AreKnown}
+use Rattle.buck_dp.specs.declared.takers.Known.{Known}
+
+pub record MarketParts : Type 0 where
+  pub sheet : SheetParts
+  pub menu : Menu
+  pub kinds : List Known
+  pub terms : List PriceList
+  pub quotes : List PriceList
+  pub cells : List Cell
+  pub heads : List Head
+
+abbrev pub market_of : SheetParts → Menu → List Known → List PriceList → List PriceList → List Cell → List Head
+    → MarketParts
+market_of s m kinds terms quotes cells heads =
+    record { sheet = s; menu = m; kinds = kinds; terms = terms; quotes = quotes; cells = cells; heads = heads }
+
+-- the row that a head tells of stands at its place
+abbrev pub IsAt : SheetParts → Menu → List Cell → Head → Type 0
+IsAt s m cells h = (h.from + h.number ≤ length cells)
+    × IsRow s m.offers.items h.takers h.diameter m.most_steps (take h.number (drop h.from cells))
+
+-- so for the row of some takers at a diameter
+abbrev pub IsRowOf : MarketParts → Takers → ℕ → Head → Type 0
+IsRowOf x takers d h = (h.takers ≡ takers) × (h.diameter ≡ d) × IsAt x.sheet x.menu x.cells h
+
+-- the price list of some takers for a diameter stands at a place
+abbrev pub IsListAt : List PriceList → Takers → ℕ → ℕ → Type 0
+IsListAt lists takers d n = (n < length lists)
+    × ((l : PriceList) → slice_get lists n ≡ Some l → (l.ask.takers ≡ takers) × IsAsked l.ask d)
+
+-- a price list has the terms of an instruction for what a menu offers
+abbrev pub HasTerms : SheetParts → Menu → PriceList → Type 0
+HasTerms s m l = AreTerms s.instruction m.offers.items l.ask (length m.offers.items) l.quotes.items
+
+-- or the quotes of a sheet for that
+abbrev pub HasQuotes : SheetParts → Menu → PriceList → Type 0
+HasQuotes s m l = AreQuotes s m.offers.items l.ask l.quotes.items
+
+-- so is each of a list
+abbrev pub AllAre : {X : Type 0} → (X → Type 0) → List X → Type 0
+AllAre {X} P xs = (n : ℕ) (x : X) → slice_get xs n ≡ Some x → P x
+
+-- the sheet is valid, the menu its instruction's, and all that was found is right
+pub record IsMarket (x : MarketParts) : Type 0 where
+  pub valid : IsSheet x.sheet
+  pub menu : IsMenu x.sheet.instruction x.menu
+  pub kinds : AreKnown x.sheet.instruction x.kinds
+  pub terms : AllAre (HasTerms x.sheet x.menu) x.terms
+  pub quotes : AllAre (HasQuotes x.sheet x.menu) x.quotes
+  pub rows : AllAre (IsAt x.sheet x.menu x.cells) x.heads
+
+-- the second has the sheet and the menu of the first
+abbrev pub HasSame : MarketParts → MarketParts → Type 0
+HasSame x y = (y.sheet ≡ x.sheet) × (y.menu ≡ x.menu)

@@ -1,0 +1,279 @@
+//! A sheet, and what is kept of it from stem to stem: price lists, and rows drawn from them.
+ghost use Rattle.std.specs.Prelude.{◌≡◌, ℕ, ◌+◌, ◌≤◌, IfOk, IfSome, drop, length, slice_get, take, Some};
+ghost use Rattle.buck_value.specs.Sheet.{IsSheet};
+ghost use Rattle.buck_dp.specs.inner.Logs.{AreTakersOf};
+ghost use Rattle.buck_dp.specs.inner.Market.{IsMarket, HasSame, IsRowOf, IsListAt};
+
+use crate::offering::{Cell, put_row};
+use crate::offers::Menu;
+use crate::pricing::{Ask, Quote, band_around, put_list, terms_of};
+use crate::takers::{Group, Known, Takers, group_of};
+use buck_apt::Instruction;
+use buck_record::Memory;
+use buck_stem::Grades;
+use buck_value::Sheet;
+use std::alloc::{AllocError, Global};
+use std::marker::Model;
+use std::sync::Arc;
+
+/// Once there are more terms in all price lists, these are dropped: 0.9 MB with their quotes.
+const TERMS: usize = 16_384;
+
+/// Once there are more cells, all rows are dropped: 1.5 MB.
+const CELLS: usize = 36_352;
+
+/// So are they once there are more of them: 0.4 MB.
+const ROWS: usize = 16_384;
+
+/// Once so many kinds of wood were met, all that was found is dropped before the next stem.
+const KINDS: usize = 64;
+
+/// So many diameters there are, from 0 to 1,500 mm.
+const DIAMETERS: usize = 1_501;
+
+/// Where the row of some takers at a diameter stands: from where on in the list of all cells, and how many it has.
+#[derive(Clone, Copy, Debug)]
+pub struct Head {
+    pub takers: Takers,
+    pub diameter: u32,
+    pub from: usize,
+    pub number: usize,
+}
+
+/// A price list of some takers in a band: their quotes under a sheet, or, without prices, their terms.
+#[derive(Drop)]
+pub struct PriceList {
+    pub ask: Ask,
+    pub quotes: Vec<Quote>,
+}
+
+/// A sheet, what its instruction offers, and what was found of that so far: who takes which kinds of wood, how logs are
+/// priced, which hangs on the instruction alone, the quotes of that, the cells of the rows, and where each row stands.
+/// Notes tell where that is told, by a slot for each set of takers and diameter. They are only hints, and need not be
+/// dropped with the rows.
+#[derive(Drop)]
+pub struct Market {
+    sheet: Arc<Sheet>,
+    menu: Menu,
+    kinds: Vec<Known>,
+    terms: Vec<PriceList>,
+    quotes: Vec<PriceList>,
+    cells: Vec<Cell>,
+    heads: Vec<Head>,
+    notes: Vec<usize>,
+}
+
+impl Model for Market {
+    ghost use Rattle.buck_dp.specs.inner.Market.{MarketParts, market_of, IsMarket};
+
+    ghost Value = { MarketParts };
+
+    ghost view = { λ m.
+        market_of m.sheet.value m.menu m.kinds.items m.terms.items m.quotes.items m.cells.items m.heads.items };
+
+    ghost invariant = { λ m. IsMarket
+        (market_of m.sheet.value m.menu m.kinds.items m.terms.items m.quotes.items m.cells.items m.heads.items) };
+}
+
+/// Where the list of some takers for a diameter stands among others.
+#[tactic(auto, using(std::proofs::lemmas::Option::get_or_from_slice_get))]
+fn find_list(lists: &[PriceList], takers: Takers, diameter: u32) -> Option<usize>
+    ensures { IfSome result (IsListAt lists.now takers diameter) }
+{
+    for place in 0..lists.len() {
+        let ask = lists[place].ask;
+        if ask.takers == takers && ask.band.thinnest <= diameter && diameter < ask.band.past {
+            return Some(place);
+        }
+    }
+    None
+}
+
+impl Market {
+    /// The market of a sheet, before anything is asked for.
+    pub fn of(alloc: Global, sheet: Arc<Sheet>) -> Result<Market, Memory>
+        ensures { IfOk result (λ m. m.sheet ≡ sheet.value) }
+    {
+        let menu = Menu::of(alloc, sheet.instruction())?;
+        Ok(Market {
+            sheet,
+            menu,
+            kinds: Vec::new(alloc),
+            terms: Vec::new(alloc),
+            quotes: Vec::new(alloc),
+            cells: Vec::new(alloc),
+            heads: Vec::new(alloc),
+            notes: Vec::new(alloc),
+        })
+    }
+
+    /// The sheet.
+    pub fn sheet(&self) -> &Arc<Sheet>
+        ensures sheet { result.now.value ≡ self.now.sheet }
+        ensures right { IsMarket self.now }
+    {
+        &self.sheet
+    }
+
+    /// What its instruction offers.
+    pub fn menu(&self) -> &Menu
+        ensures { result.now ≡ self.now.menu }
+    {
+        &self.menu
+    }
+
+    /// Drops all that was found where too many kinds of wood were met.
+    pub fn clear_if_worn(&mut self)
+        ensures { HasSame self.old self.new }
+    {
+        if self.kinds.len() >= KINDS {
+            self.kinds.clear();
+            self.terms.clear();
+            self.quotes.clear();
+            self.cells.clear();
+            self.heads.clear();
+        }
+    }
+
+    /// Takes another sheet of the same instruction, and drops what hangs on prices.
+    pub fn renew(&mut self, sheet: Arc<Sheet>)
+        requires valid { IsSheet sheet.value }
+        requires same { sheet.value.instruction ≡ self.old.sheet.instruction }
+        ensures { self.new.sheet ≡ sheet.value }
+    {
+        self.quotes.clear();
+        self.cells.clear();
+        self.heads.clear();
+        self.sheet = sheet;
+    }
+
+    /// Drops the price lists where they have too many terms, so many each, and the rows where there are too many.
+    fn clear_if_full(&mut self)
+        ensures { HasSame self.old self.new }
+    {
+        if self.terms.len() > TERMS / self.menu.offers.len().max(1) {
+            self.terms.clear();
+            self.quotes.clear();
+        } else if self.cells.len() > CELLS || self.heads.len() > ROWS {
+            self.cells.clear();
+            self.heads.clear();
+        }
+    }
+
+    /// Who takes wood of a species and of some grades.
+    pub fn group(&mut self, species: u8, grades: Grades) -> Result<Group, AllocError>
+        ensures same { HasSame self.old self.new }
+        ensures takers { IfOk result (λ g. AreTakersOf self.old.sheet.instruction species grades g.takers) }
+    {
+        group_of(&mut self.kinds, &self.sheet, species, grades)
+    }
+
+    /// Where the terms of some takers for a diameter stand. They are found first where they aren't there.
+    fn terms_at(&mut self, alloc: Global, takers: Takers, diameter: u32) -> Result<usize, Memory>
+        requires { diameter ≤ 1500 }
+        ensures same { HasSame self.old self.new }
+        ensures place { IfOk result (IsListAt self.new.terms takers diameter) }
+    {
+        if let Some(place) = find_list(self.terms.as_slice(), takers, diameter) {
+            return Ok(place);
+        }
+        let instruction: &Instruction = self.sheet.instruction();
+        let band = band_around(instruction, diameter);
+        let ask = Ask { takers, band };
+        let quotes = terms_of(alloc, instruction, self.menu.offers.as_slice(), ask)?;
+        let place = self.terms.len();
+        self.terms.push(PriceList { ask, quotes })?;
+        Ok(place)
+    }
+
+    /// Where the quotes of some takers for a diameter stand. They are made first where they aren't there.
+    fn quotes_at(&mut self, alloc: Global, takers: Takers, diameter: u32) -> Result<usize, Memory>
+        requires { diameter ≤ 1500 }
+        ensures same { HasSame self.old self.new }
+        ensures place { IfOk result (IsListAt self.new.quotes takers diameter) }
+    {
+        if let Some(place) = find_list(self.quotes.as_slice(), takers, diameter) {
+            return Ok(place);
+        }
+        let at = self.terms_at(alloc, takers, diameter)?;
+        let terms = &self.terms[at];
+        let ask = terms.ask;
+        let mut quotes = Vec::with_capacity(alloc, terms.quotes.len())?;
+        put_list(&mut quotes, &self.sheet, terms.quotes.as_slice(), ask)?;
+        let place = self.quotes.len();
+        self.quotes.push(PriceList { ask, quotes })?;
+        Ok(place)
+    }
+
+    /// Draws the row of a group at a diameter, noted at a slot.
+    #[inline(never)]
+    fn draw(
+        &mut self,
+        alloc: Global,
+        group: Group,
+        diameter: u32,
+        slot: usize,
+    ) -> Result<Head, Memory>
+        requires diameter { diameter ≤ 1500 }
+        requires slot { slot ≤ 1000000000 }
+        ensures same { HasSame self.old self.new }
+        ensures row { IfOk result (IsRowOf self.new group.takers diameter) }
+    {
+        self.clear_if_full();
+        let at = self.quotes_at(alloc, group.takers, diameter)?;
+        let notes = &mut self.notes;
+        if slot >= notes.len() {
+            notes.resize(slot + 1, 0)?;
+        }
+        notes[slot] = self.heads.len();
+        self.heads.reserve(1)?;
+        let quotes = self.quotes[at].quotes.as_slice();
+        let head = Head {
+            takers: group.takers,
+            diameter,
+            from: self.cells.len(),
+            number: quotes.len(),
+        };
+        put_row(&mut self.cells, quotes, diameter, self.menu.most_steps)?;
+        self.heads.push_reserved(head);
+        Ok(head)
+    }
+
+    /// The head of the row of some takers at a diameter that was noted at a slot. A note is only a hint: the head tells
+    /// whose its row is.
+    #[inline(always)]
+    fn find(&self, takers: Takers, diameter: u32, slot: usize) -> Option<Head>
+        ensures { IfSome result (IsRowOf self.now takers diameter) }
+    {
+        let note = *self.notes.get(slot)?;
+        let head = *self.heads.get(note)?;
+        if head.takers != takers || head.diameter != diameter {
+            return None;
+        }
+        Some(head)
+    }
+
+    /// The head of the row of a group at a diameter. It is drawn where it isn't there.
+    #[inline(always)]
+    pub fn row(&mut self, alloc: Global, group: Group, diameter: u32) -> Result<Head, Memory>
+        requires { diameter ≤ 1500 }
+        ensures same { HasSame self.old self.new }
+        ensures row { IfOk result (IsRowOf self.new group.takers diameter) }
+    {
+        let slot = usize::from(group.number) * DIAMETERS + diameter as usize;
+        let head = match self.find(group.takers, diameter, slot) {
+            Some(head) => head,
+            None => self.draw(alloc, group, diameter, slot)?,
+        };
+        Ok(head)
+    }
+
+    /// The cells of a row.
+    #[inline(always)]
+    pub fn cells(&self, head: Head) -> &[Cell]
+        requires { head.from + head.number ≤ length self.now.cells }
+        ensures { result.now ≡ take head.number (drop head.from self.now.cells) }
+    {
+        &self.cells[head.from..head.from + head.number]
+    }
+}
