@@ -3,15 +3,15 @@
 
     python3 bench/hostile.py --bin PATH/buckfleet FOLDER
 
-Makes the files in FOLDER, one after the other, and runs the program in its bare form with each on standard input: once
-as the instruction, and once as the stems behind an instruction that is right. Then it runs the commands over the longest
-files that are accepted: instructions of the most classes, the most stems, the longest stems, and journals of the most
-postings, sheets and bytes; and over an instruction file of blanks, one of a byte too many, and both once more where each
-read gives one byte, which takes some minutes. A line for each run says how long it took, the most memory that it held,
-also in lengths of what it read, its exit status and the first line that it wrote. It ends in status 1 where a run took
-longer than --seconds (forty times as long where each read gives one byte), held more than --times the length of what it
-read, with 16 MiB and 2 MiB for each stem file after the first beside that, was ended by a signal, or wrote another first
-line than the one that is known for it.
+Makes the files in FOLDER, one after the other, and runs the program in its bare form with each on standard input:
+once as the instruction, and once as the stems behind an instruction that is right. Then it runs the commands over the
+longest files that are accepted: instructions of the most classes, the most stems, the longest stems, and journals of
+the most postings, sheets and bytes, one of them written by a fleet; and over an instruction file of blanks, one of a
+byte too many, and both once more where each read gives one byte, which takes some minutes. A line for each run says
+how long it took, the most memory that it held, also in lengths of what it read, its exit status and the first line
+that it wrote. It ends in status 1 where a run took longer than --seconds (forty times as long where each read gives
+one byte), held more than --times the length of what it read, with 16 MiB and 2 MiB for each stem file after the first
+beside that, was ended by a signal, or wrote another first line than the one that is known for it.
 
 --only WORD runs those whose name has the word, --size makes files of another length, --keep leaves them, and the same
 --seed makes the same files.
@@ -277,7 +277,10 @@ COMMANDS = [
     ("a journal of shortest sheets", CHECK, JUDGED, shortest_sheets, 0, "replay fault 1 1"),
     ("a new sheet for each kind of wood", FLEET, just(pickers()), kinds_of_wood, 0, None),
     ("the same in 64 seats", FLEET + ["b"] * 63, just(pickers()), one_of_each_kind, 0, None),
+    ("a journal of a sheet for each cut", ["check", "a", "j"], just(pickers()), one_of_each_kind, 0, "LAWFUL 16320"),
 ]
+# What the program is given first, and isn't judged by: a fleet of 64 seats writes its journal.
+FIRST = {"a journal of a sheet for each cut": FLEET + ["b"] * 63 + ["--journal", "j"]}
 
 
 def write(path, prefix, make, seed, size):
@@ -396,6 +399,9 @@ def main():
         paths = {key: os.path.join(given.folder, key) for key in files}
         for key, (prefix, make, size) in files.items():
             made(paths[key], prefix, make, given.seed, size)
+        if name in FIRST:
+            paths["j"] = os.path.join(given.folder, "j")
+            run(program, FIRST[name], os.devnull, given.folder)
         length = sum(os.path.getsize(paths[word]) for word in [*words, stdin] if word in paths)
         # Each further seat has a planner of its own, which keeps at most some 2 MiB.
         most = given.times * length + (16 + 2 * max(words.count("b") - 1, 0)) * 1048576
