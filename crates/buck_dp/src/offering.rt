@@ -134,7 +134,7 @@ pub(crate) fn offer_all(values: &mut [Bid], top: usize, first: usize, row: &[Cel
     ensures { (p : GroundParts) (choices : List ℕ) → AreOffered p choices top first top row.now 0 values.old
         → AllFit p top row.now → IsSearch p values.new choices top first }
 {
-    if top - first < far {
+    if top < first.saturating_add(far) {
         offer_short(values, top, first, row);
         return;
     }
