@@ -7,14 +7,16 @@
     python3 bench/measure.py --check --threads 1 2 4  # check of the journal that one harvester writes of the stems
     python3 bench/measure.py --keep FOLDER            # workloads stay in FOLDER, and those that are there are taken
 
-For each workload it prints, of the least of several runs: seconds, stems a second, nanoseconds for each pair of a
-position and a candidate log, and the peak memory. A second file of the same stems, but of a species that no assortment
-takes, tells what reading and writing alone cost; with --check, what reading its journal and walking along it cost.
+For each workload the programs are run by turns, several times. It prints of the least: seconds, stems a second, and
+nanoseconds for each pair of a position and a candidate log; the median of the seconds, and the peak memory. A second
+file of the same stems, but of a species that no assortment takes, tells what reading and writing alone cost; with
+--check, what reading its journal and walking along it cost.
 A file has at most 67,108,864 bytes: some 90,000 stems of the usual length, or 200,000 with --samples 40 100.
 """
 import argparse
 import os
 import re
+import statistics
 import subprocess
 import sys
 import tempfile
@@ -70,9 +72,13 @@ def workload(out, module, args):
     return apt, read, other
 
 
-def least(words, times):
-    runs = [run(words) for _ in range(times)]
-    return min(r[0] for r in runs), max(r[1] for r in runs)
+def by_turns(commands, times):
+    """Of each command the least and the median of its seconds, and its peak KiB. They are run by turns, so that what
+    else the machine does falls on all of them."""
+    rounds = [[run(words) for words in commands] for _ in range(times)]
+    for runs in zip(*rounds):
+        seconds = [taken for taken, _ in runs]
+        yield min(seconds), statistics.median(seconds), max(peak for _, peak in runs)
 
 
 def main():
@@ -99,11 +105,12 @@ def main():
             pairs = int(open(os.path.join(out, "pairs")).read())
             if args.check:
                 read, other = (journal_of(own, apt, stm) for stm in (read, other))
-            for name, words in programs:
-                seconds, memory = least(words + [apt, read], args.times)
-                idle, _ = least(words + [apt, other], args.times)
+            cut = by_turns([words + [apt, read] for _, words in programs], args.times)
+            left = by_turns([words + [apt, other] for _, words in programs], args.times)
+            for (name, _), (seconds, median, memory), (idle, _, _) in zip(programs, cut, left):
                 print(
-                    f"module {module:4}  {name:10}  {seconds:7.3f} s  {args.stems / seconds:9.0f} stems/s  "
+                    f"module {module:4}  {name:10}  {seconds:7.3f} s, median {median:.3f}  "
+                    f"{args.stems / seconds:9.0f} stems/s  "
                     f"{seconds * 1e9 / pairs:6.2f} ns a pair, {(seconds - idle) * 1e9 / pairs:6.2f} of it for the cutting  "
                     f"{memory / 1024:6.1f} MiB  (no candidate allowed: {idle:.3f} s)"
                 )
