@@ -5,13 +5,14 @@
 
 Makes the files in FOLDER, one after the other, and runs the program in its bare form with each on standard input:
 once as the instruction, and once as the stems behind an instruction that is right. Then it runs the commands over the
-longest files that are accepted: instructions of the most classes, the most stems, the longest stems, and journals of
-the most postings, sheets and bytes, one of them written by a fleet; and over an instruction file of blanks, one of a
-byte too many, and both once more where each read gives one byte, which takes some minutes. A line for each run says
-how long it took, the most memory that it held, also in lengths of what it read, its exit status and the first line
-that it wrote. It ends in status 1 where a run took longer than --seconds (forty times as long where each read gives
-one byte), held more than --times the length of what it read, with 16 MiB and 2 MiB for each stem file after the first
-beside that, was ended by a signal, or wrote another first line than the one that is known for it.
+longest files that are accepted: instructions of the most classes, the most stems, the longest stems, stems of the most
+zones, which take minutes of a processor, and journals of the most postings, sheets and bytes, one of them written by a
+fleet; and over an instruction file of blanks, one of a byte too many, and both once more where each read gives one byte,
+which takes some minutes. A line for each run says how long it took, the most memory that it held, also in lengths of
+what it read, its exit status and the first line that it wrote. It ends in status 1 where a run took longer than
+--seconds (forty times as long for stems of the most zones, and where each read gives one byte), held more than --times
+the length of what it read, with 16 MiB and 2 MiB for each stem file after the first beside that, was ended by a signal,
+or wrote another first line than the one that is known for it.
 
 --only WORD runs those whose name has the word, --size makes files of another length, --keep leaves them, and the same
 --seed makes the same files.
@@ -159,6 +160,13 @@ def longest_stems(_source, size):
     return after(b"1 2 STM~", LONGEST_STEM, size)
 
 
+def most_zones(_source, size):
+    """Stems of 40 m with the most zones, of eight grades in turn, that fall from 350 to 80 mm, or from up to 63 mm more."""
+    each = (b" ".join(b"%d" % (350 + more - 270 * k // 400) for k in range(401)) for more in range(64))
+    stems = (b"951 1 %d~952 1 1~953 1 %s~954 1 %s~" % (k, samples, ZONES) for k, samples in enumerate(each, 1))
+    return after(b"1 2 STM~", b"".join(stems), size)
+
+
 def one_stem(_source, size):
     """One stem, whose samples fill the file."""
     samples = longer([1500] * 401, size - 100)
@@ -268,6 +276,7 @@ COMMANDS = [
     ("most stems", BUCK, SAW, most_stems, 0, "STEM 1 0 0 0"),
     ("most stems by a fleet", FLEET, SAW, most_stems, 0, "full"),
     ("longest stems", BUCK, SAW, longest_stems, 0, "STEM 4294967295 40000 0 0"),
+    ("stems of the most zones", BUCK, just(pickers()), most_zones, 0, "STEM 1 40000 63 651794108"),
     ("one stem", BUCK, SAW, one_stem, 0, "STEM 1 40000 0 0"),
     ("a journal of cuts", CHECK, JUDGED, cuts_that_fill, 0, f"LAWFUL {LONGEST_JOURNAL}"),
     ("a journal of most postings", CHECK, JUDGED, just_postings, 0, f"LAWFUL {MOST_POSTINGS}"),
@@ -279,6 +288,8 @@ COMMANDS = [
     ("the same in 64 seats", FLEET + ["b"] * 63, just(pickers()), one_of_each_kind, 0, None),
     ("a journal of a sheet for each cut", ["check", "a", "j"], just(pickers()), one_of_each_kind, 0, "LAWFUL 16320"),
 ]
+# What takes minutes of a processor.
+LONG = ["stems of the most zones"]
 # What the program is given first, and isn't judged by: a fleet of 64 seats writes its journal.
 FIRST = {"a journal of a sheet for each cut": FLEET + ["b"] * 63 + ["--journal", "j"]}
 
@@ -413,7 +424,7 @@ def main():
             for path in paths.values():
                 os.remove(path)
         known = line if given.size >= LIMIT else None
-        faults = wrongs(found, known, given.seconds * (40 if dripped else 1), most)
+        faults = wrongs(found, known, given.seconds * (40 if dripped or name in LONG else 1), most)
         wrong += bool(faults)
         note = f"  <- {', '.join(faults)}" if faults else ""
         took, cpu, held, status, first = found
