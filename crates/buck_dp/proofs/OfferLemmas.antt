@@ -104,7 +104,7 @@ module _ {p : GroundParts} {ch : List ℕ} {t first stop : ℕ} {cells : List Ce
 
 module _ {p : GroundParts} {v : List BidParts} {ch : List ℕ} {t stop : ℕ} (was : IsSearch p v ch t stop) where
   -- once the logs that start in one part more are offered, a search goes on before that
-  searched_to : {first : ℕ} → first ≤ stop
+  pub searched_to : {first : ℕ} → first ≤ stop
       → ((i e : ℕ) (bid : BidParts) → first ≤ i → i < stop → IsLogAt p i t e bid → Reaches v i (plus bid (bid_at v e)))
       → IsSearch p v ch t first
   searched_to {first} order part =

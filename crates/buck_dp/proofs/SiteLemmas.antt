@@ -2,6 +2,7 @@
 pub use Rattle.buck_dp.proofs.Words.{slice_get, Some, IsPlaced, IsAssortment, ◌≡◌, ℕ, ◌+◌, ◌-◌, ◌*◌, ◌/◌, ◌<◌, ◌≤◌, ◌⊎◌, inl, inr, List, [], ◌∷◌, ◌++◌, zero, suc, get_or, Contains, length, refl, sym, subst, arith, mul-le-mul_left, mul-le-mul_right, add-mul, rules, div-mul-le_self, le-div, le_of_mul-le-mul_right, min, div-lt_iff_lt-mul, cases_lt, append_assoc, append-nil, IsStem, grade_at, HasGrade, stem_length, diameter_at, IsMask, grade_at_is, mask_allows, IsSheet, slice_index, GroundParts, points_of, ends_of, Takers, IsTaker, AreTakersOf, BidParts, none, HasTakers, HasNoneOf, IsRow, IsPartTo, AreParts, HaveParts, IsEven, IsSearch, AreOffered, IsCell, log_at, AllFit, bid_at, IsNearest, IsSite, Site, Part, Cell, ◌∙◌, MarketParts, Head, IsMarketOf, IsRowOf, take, drop, with_items_is, ap, get_or_past, ProfileParts, drop-cons, drop_all, add-one, HasRoom, Menu, common_steps}
 use Rattle.buck_stem.specs.points.Profile as grid
 use Rattle.buck_dp.proofs.Logs.{all_at, point_within, row_part}
+use Rattle.buck_dp.proofs.OfferLemmas.{IsLogAt}
 
 module _ {p : GroundParts} {values : List BidParts} {choices : List ℕ} where
   -- a search is told by an equal top
@@ -71,17 +72,21 @@ module _ {p : GroundParts} {x : Site} (is_site : IsSite p x) where
   unfolding log_at
   none_far t stop far k e bid lt log = grind (arith, le_of_mul-le-mul_right, add-mul, log.top, bid.rank, log.rank)
 
+  -- no log is shorter than the shortest
+  pub none_near : {i t e : ℕ} {bid : BidParts} → t < i + p.menu.least_steps → IsLogAt p i t e bid → ⊥
+  unfolding log_at
+  none_near {i} {t} {bid = bid} near log =
+      let pos : 0 < unit = omega (arith, is_site.valid.valid.module_range) in
+      let least : i + p.menu.least_steps ≤ t = le_of_mul-le-mul_right
+      (omega (arith, log.top, is_site.menu.short bid.rank log.rank, add-mul i p.menu.least_steps unit)) pos in
+      omega arith
+
   -- a top too near to the last of its parts has no logs
   pub short_run : (t k : ℕ) (part : Part) (parts : List Part) → AreParts p t t parts → part ≡ get_or parts k part
       → k + 1 ≡ length parts → t < part.first + p.menu.least_steps → HasNoneOf p t t
-  unfolding log_at
   short_run t k part parts are at is near i e bid lt log = elim (cases_lt i part.first) [
     | inl before ↦ last_part p t t k parts part at is are i e bid before log
-    | inr from ↦
-        let pos : 0 < unit = omega (arith, is_site.valid.valid.module_range) in
-        let least : i + p.menu.least_steps ≤ t = le_of_mul-le-mul_right
-        (omega (arith, log.top, is_site.menu.short bid.rank log.rank, add-mul i p.menu.least_steps unit))
-        pos in omega arith
+    | inr from ↦ none_near (omega arith) log
   ]
 
   -- all logs with a top start in the nearest part, where that is the only one, or the others are too far
@@ -101,7 +106,7 @@ module _ {p : GroundParts} {x : Site} (is_site : IsSite p x) where
   module _ (ds : List ℕ)
       (right : (j : ℕ) → j < grid.points_of x.profile.now
       → slice_index ds j ≡ diameter_at x.profile.now.stem.samples (j * x.profile.now.«module»))
-      {t : ℕ} (lt : t < points_of p) {values : List BidParts} {choices : List ℕ} {row : List Cell} where
+      {t : ℕ} (lt : t < points_of p) {values : List BidParts} {choices : List ℕ} (row : List Cell) where
     -- the row of a part can be offered to its starts
     pub part_open : {stop : ℕ} {part : Part} → IsSearch p values choices t stop → IsPartTo p t stop part
         → IsRow p.sheet p.menu.offers.items part.group.takers (slice_index ds t)

@@ -10,6 +10,7 @@ ghost use Rattle.buck_dp.specs.inner.Quotes.{cell_of, row_of, IsSmall};
 use crate::bid::Bid;
 use crate::pricing::Quote;
 use std::alloc::AllocError;
+use std::ops::Range;
 
 /// What a log brings that is so many steps long and has so much trim in mm, and how many points after its top the next
 /// log can start. Of the points that its row reaches it starts at `back`, and the next one can start at `next`.
@@ -21,15 +22,6 @@ pub struct Cell {
     pub rise: u32,
     pub back: usize,
     pub next: usize,
-}
-
-/// The starts from point `first` on and before `stop` of logs with one top, and the room for a trim behind that in mm.
-#[derive(Clone, Copy, Debug)]
-pub struct Reach {
-    pub top: usize,
-    pub first: usize,
-    pub stop: usize,
-    pub room: u32,
 }
 
 /// The cell of a quote at a diameter, in a row that reaches `far` points back.
@@ -142,21 +134,21 @@ pub(crate) fn offer_all(values: &mut [Bid], top: usize, first: usize, row: &[Cel
     offer_back(reached, far, row);
 }
 
-/// Offers the cells of a row to the points where their logs start, as far as these are within reach and fit.
-pub(crate) fn offer_some(values: &mut [Bid], reach: Reach, row: &[Cell])
+/// Offers the cells of a row at a top to those of the starts where their logs begin, as far as they fit in the room in
+/// mm behind it.
+pub fn offer_some(values: &mut [Bid], top: usize, starts: Range<usize>, room: u32, row: &[Cell])
     requires open { (p : GroundParts) × (choices : List ℕ)
-        × AreOffered p choices reach.top reach.first reach.stop row.now 0 values.old × HasRoom p reach.top reach.room }
+        × AreOffered p choices top starts.start starts.«end» row.now 0 values.old × HasRoom p top room }
     ensures { (p : GroundParts) (choices : List ℕ)
-        → AreOffered p choices reach.top reach.first reach.stop row.now 0 values.old → HasRoom p reach.top reach.room
-        → IsSearch p values.new choices reach.top reach.first }
+        → AreOffered p choices top starts.start starts.«end» row.now 0 values.old → HasRoom p top room
+        → IsSearch p values.new choices top starts.start }
 {
-    let most = reach.top - reach.first;
-    let past = reach.top - reach.stop;
+    let most = top - starts.start;
+    let past = top - starts.end;
     for cell in row {
         let steps = cell.steps as usize;
-        if steps <= most && steps > past && cell.trim <= reach.room {
-            let next = reach.top + cell.rise as usize;
-            offer_bid(values, reach.top - steps, next, cell.bid);
+        if steps <= most && steps > past && cell.trim <= room {
+            offer_bid(values, top - steps, top + cell.rise as usize, cell.bid);
         }
     }
 }

@@ -6,7 +6,7 @@ ghost use Rattle.buck_dp.specs.inner.Site.{IsSite, IsMarketOf, IsPlan, IsEven, H
 
 use crate::bid::Bid;
 use crate::market::Market;
-use crate::offering::{Reach, offer_all, offer_some, settle};
+use crate::offering::{offer_all, offer_some, settle};
 use crate::takers::Group;
 use buck_record::Memory;
 use buck_stem::{Grades, Profile, Stem};
@@ -156,6 +156,7 @@ impl Search {
         let diameters = site.profile.diameters();
         let market = &mut self.market;
         let module = market.sheet().instruction().module();
+        let least = market.menu().least_steps;
         let parts = self.parts.as_slice();
         let values = self.values.as_mut_slice();
         let choices = self.choices.as_mut_slice();
@@ -166,14 +167,11 @@ impl Search {
             let room = site.stem.length() - top as u32 * module;
             let mut stop = top;
             for part in parts {
-                let row = market.row(alloc, part.group, diameters[top])?;
-                let reach = Reach {
-                    top,
-                    first: part.first,
-                    stop,
-                    room,
-                };
-                offer_some(values, reach, market.cells(row));
+                // Where even the first start of a part is too near for the shortest log, none starts there.
+                if top - part.first >= least {
+                    let row = market.row(alloc, part.group, diameters[top])?;
+                    offer_some(values, top, part.first..stop, room, market.cells(row));
+                }
                 stop = part.first;
             }
         }

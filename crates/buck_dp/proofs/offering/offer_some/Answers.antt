@@ -1,5 +1,5 @@
 use Rattle.buck_dp.proofs.OfferLemmas.{arith, refl, slice_get_read, cell_fits, offered_less, offered_more, offered_part}
-use Rattle.buck_dp.proofs.offering.offer_some.Goals.{then-steps-most+then-steps-past+then-cell-reach, else-steps-most}
+use Rattle.buck_dp.proofs.offering.offer_some.Goals.{then-steps-most+then-steps-past+then-cell-room, else-steps-most}
 use Rattle.buck_dp.proofs.offering.offer_some.Goals as goal
 
 pub offer_bid-requires : goal.offer_bid-requires
@@ -15,12 +15,13 @@ loop-cell-preserved c p ch is room =
     let was = c.loop-cell.invariant p ch is room in
     let less = offered_less was there in
     elim c.if-steps-most.branch [
-      | then-steps-most+then-steps-past+then-cell-reach w ↦
+      | then-steps-most+then-steps-past+then-cell-room w ↦
           let most = w.if-steps-most.true in
           rw w.values-is (offered_more was there
-          (omega (arith, most), omega (arith, w.if-steps-past.true), omega (arith, room, w.if-cell-reach.true))
+          (omega (arith, most), omega (arith, w.if-steps-past.true), omega (arith, room, w.if-cell-room.true))
           (omega (arith, most)) refl w.offer_bid.ensures)
-      | else-steps-most w ↦ rw w.values-is (less (λ near. grind (arith, near, room, was.search.below, w.else-steps-most.branch)))
+      | else-steps-most w ↦
+          rw w.values-is (less (λ near. grind (arith, near, room, was.search.below, w.else-steps-most.branch)))
     ]
 
 pub returns : goal.returns

@@ -14,7 +14,7 @@ opened g c =
     let l = c.loop-top-2 in
     let same = c.in_ok-row.ensures.same in
     let was = c.loop-top.invariant.market in
-    near_open c.requires.0.site _ c.diameters-diameters.ensures.right (omega (arith, l.invariant.search.within))
+    near_open c.requires.0.site _ c.diameters-diameters.ensures.right (omega (arith, l.invariant.search.within)) _
     (c.settle.ensures g.p (at_top (omega (arith, c.loop-top-2-test.true)) l.invariant.search))
     (c.requires.1.1 (l.top - 1) (omega arith) (omega (arith, l.invariant.high, c.loop-top.invariant.high)))
     (rw (c.cells-cells.ensures, c.if-diameters-top.true) (row_under g.p c.row.new.self _
