@@ -105,7 +105,9 @@ uint8_t buckfleet_table(const uint8_t *apt, size_t apt_length, const uint8_t *jo
 enum {
     BUCKFLEET_STEADY = 0, /* base prices, always */
     BUCKFLEET_LINEAR = 1, /* base prices, moved by as much of the span as a class is off its target */
-    BUCKFLEET_STEP = 2    /* base prices, moved by the whole span where a class is off its target */
+    BUCKFLEET_STEP = 2,   /* base prices, moved by the whole span where a class is off its target */
+    BUCKFLEET_ROOT = 3    /* base prices, moved by the part d / (d + s) of the span: a class is d logs off its wanted
+                             number, of which the standard deviation is s */
 };
 
 /* How long two texts are that stand in `out`, one after the other. */

@@ -11,7 +11,7 @@ use Rattle.buck_book.specs.Entry.{EntryParts}
 use Rattle.buck_book.specs.History.{HistoryParts, in_force}
 use Rattle.buck_book.specs.Book.{entry_of}
 use Rattle.buck_book.proofs.Cuts.{each_allowed}
-use Rattle.buck_held.specs.declared.stored.StoredRule.{StoredRule}
+use Rattle.buck_rule.specs.declared.named.NamedRule.{NamedRule}
 use Rattle.buck_held.specs.Kept.{HasCut}
 use Rattle.buck_calls.specs.declared.showing.CutLog.{CutLog}
 use Rattle.buck_calls.specs.Shown.{IsCutUnder, ShowsLog}
@@ -24,7 +24,7 @@ pub allowed : (sheet : SheetParts) (e : EntryParts) → IsCutUnder sheet e
 allowed sheet e k = each_allowed sheet.instruction e.stem 0 e.logs k.admissible
 
 -- what was cut is a cutting under the sheet that was in force
-pub cut_under : (rule : StoredRule) (harvester : ℕ) (stem : StemParts) (before after : HistoryParts)
+pub cut_under : (rule : NamedRule) (harvester : ℕ) (stem : StemParts) (before after : HistoryParts)
     (entry : EntryParts) (sheet : SheetParts)
     → HasCut rule harvester stem before after entry → sheet ≡ in_force before → IsCutUnder sheet entry
 cut_under rule harvester stem before after entry sheet k same =

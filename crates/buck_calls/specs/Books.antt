@@ -6,8 +6,8 @@ use Rattle.buck_book.specs.declared.demand.DemandRefusal.{DemandRefusal}
 use Rattle.buck_book.specs.declared.demand.DemandRefusal.TheVariants as demand
 use Rattle.buck_book.specs.Entry.{EntryParts}
 use Rattle.buck_book.specs.History.{in_force}
-use Rattle.buck_held.specs.declared.stored.StoredRule.{StoredRule}
-use Rattle.buck_held.specs.declared.stored.StoredRule.TheVariants.{Steady, Linear, Step}
+use Rattle.buck_rule.specs.declared.named.NamedRule.{NamedRule}
+use Rattle.buck_rule.specs.declared.named.NamedRule.TheVariants.{Steady, Linear, Step, Root}
 use Rattle.buck_held.specs.declared.felling.Felled.{Felled}
 use Rattle.buck_held.specs.declared.felling.Zone.{Zone}
 use Rattle.buck_held.specs.declared.felling.FellFault.{FellFault}
@@ -37,8 +37,17 @@ refused = 1
 abbrev pub memory : ℕ
 memory = 3
 
-abbrev pub rule_of : ℕ → Option StoredRule
-rule_of n = if n == 0 then Some Steady else if n == 1 then Some Linear else if n == 2 then Some Step else None
+abbrev pub rule_of : ℕ → Option NamedRule
+rule_of n =
+    if n == 0
+    then Some Steady
+    else if n == 1
+    then Some Linear
+    else if n == 2
+    then Some Step
+    else if n == 3
+    then Some Root
+    else None
 
 -- a book is left, of which this holds and what it was before; where there was none, there is none, and that is said
 abbrev pub IsCallOf : (KeptParts → KeptParts → ℕ → Type 0) → Type 0 → Option KeptParts → Option KeptParts → ℕ → Type 0
@@ -46,7 +55,7 @@ IsCallOf Does Nothing None new status = (new ≡ None) × (status ≡ closed) ×
 IsCallOf Does Nothing (Some before) new status = (after : KeptParts) × (new ≡ Some after) × Does before after status
 
 -- a book of the instruction that a file has, with no posting
-abbrev pub HasOpened : List ℕ → StoredRule → ℕ → KeptParts → Type 0
+abbrev pub HasOpened : List ℕ → NamedRule → ℕ → KeptParts → Type 0
 HasOpened apt rule capacity kept =
     (instruction : InstructionParts) × (apt_of apt ≡ Ok instruction) × (kept ≡ opened rule instruction capacity)
 
@@ -59,12 +68,12 @@ IsOpenFault apt status =
 abbrev pub IsAllowed : Terms → Option KeptParts → Type 0
 IsAllowed terms old =
     (old ≡ None) × (0 < terms.capacity) × (terms.capacity ≤ MOST_POSTINGS)
-    × ((rule : StoredRule) × (rule_of terms.rule ≡ Some rule))
+    × ((rule : NamedRule) × (rule_of terms.rule ≡ Some rule))
 
 -- an opening: misused where the block holds a book or the terms aren't allowed
 abbrev pub AnswersOpen : List ℕ → Terms → Option KeptParts → Option KeptParts → ℕ → Type 0
 AnswersOpen apt terms old new status =
-    ((status ≡ 0) × IsAllowed terms old × ((rule : StoredRule) × (kept : KeptParts) × (rule_of terms.rule ≡ Some rule)
+    ((status ≡ 0) × IsAllowed terms old × ((rule : NamedRule) × (kept : KeptParts) × (rule_of terms.rule ≡ Some rule)
     × HasOpened apt rule terms.capacity kept × (new ≡ Some kept)))
     ⊎ ((new ≡ old) × (IsOpenFault apt status ⊎ ((status ≡ misused) × (IsAllowed terms old → ⊥))))
 

@@ -9,7 +9,7 @@ use Rattle.buck_engine.specs.declared.fault.EngineFault.TheVariants.{Memory}
 use Rattle.buck_engine.specs.declared.fleet.serving.Order.TheVariants.{InTurn}
 use Rattle.buck_engine.specs.fleet.Running.{AnswersFleet}
 use Rattle.buck_engine.specs.text.Report.{IsReport}
-use Rattle.buck_held.specs.declared.stored.StoredRule.{StoredRule}
+use Rattle.buck_rule.specs.declared.named.NamedRule.{NamedRule}
 use Rattle.buck_calls.specs.declared.turns.Texts.{Texts}
 use Rattle.buck_calls.specs.Books.{misused, rule_of}
 use Rattle.buck_calls.specs.Files.{IsToldOf}
@@ -44,7 +44,7 @@ AreMisused rule lengths bytes = (rule_of rule ≡ None) ⊎ ((lengths ≡ []) �
 -- and what can
 abbrev pub AreUsed : ℕ → List ℕ → List ℕ → Type 0
 AreUsed rule lengths bytes =
-    ((named : StoredRule) × (rule_of rule ≡ Some named)) × (0 < length lengths) × (sum lengths ≡ length bytes)
+    ((named : NamedRule) × (rule_of rule ≡ Some named)) × (0 < length lengths) × (sum lengths ≡ length bytes)
 
 -- the texts, or the line of the fault, which stands where the report would, and no journal; none where it is misused
 abbrev pub IsTurned : ℕ → List ℕ → List ℕ → List ℕ → List ℕ → ℕ → Type 0

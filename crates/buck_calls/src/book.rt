@@ -5,7 +5,7 @@ ghost use Rattle.buck_calls.specs.Books.{AnswersOpen, AnswersCut, AnswersRetarge
 use crate::showing::{Cut, show};
 use buck_apt::{AptFault, read_apt};
 use buck_book::{DemandRefusal, MOST_POSTINGS};
-use buck_held::{Block, FellFault, Felled, KeptBook, StoredRule, Zone};
+use buck_held::{Block, FellFault, Felled, KeptBook, NamedRule, Zone};
 use std::alloc::Global;
 use std::sync::Arc;
 
@@ -33,18 +33,19 @@ pub(crate) const FULL: u8 = 9;
 pub struct Terms {
     /// How many postings it may have, 1 to 1,000,000.
     pub capacity: u32,
-    /// The rule that makes its prices: 0 steady, 1 linear, 2 step.
+    /// The rule that makes its prices: 0 steady, 1 linear, 2 step, 3 root.
     pub rule: u8,
 }
 
 /// The rule of a number.
-pub(crate) fn rule_of(number: u8) -> Option<StoredRule>
+pub(crate) fn rule_of(number: u8) -> Option<NamedRule>
     ensures { result ≡ rule_of number }
 {
     match number {
-        0 => Some(StoredRule::Steady),
-        1 => Some(StoredRule::Linear),
-        2 => Some(StoredRule::Step),
+        0 => Some(NamedRule::Steady),
+        1 => Some(NamedRule::Linear),
+        2 => Some(NamedRule::Step),
+        3 => Some(NamedRule::Root),
         _ => None,
     }
 }
@@ -57,7 +58,7 @@ fn is_capacity(capacity: u32) -> bool
 }
 
 /// A book of an instruction file, with no posting; else the status of why there is none.
-fn opened(alloc: Global, apt: &[u8], rule: StoredRule, capacity: u32) -> Result<Box<KeptBook>, u8>
+fn opened(alloc: Global, apt: &[u8], rule: NamedRule, capacity: u32) -> Result<Box<KeptBook>, u8>
     requires { (0 < capacity) × (capacity ≤ MOST_POSTINGS) }
     ensures ok { IfOk result (λ kept. HasOpened apt.now rule capacity kept.value) }
     ensures refused { IfErr result (IsOpenFault apt.now) }

@@ -10,8 +10,7 @@ use crate::book::{DONE, MISUSED, rule_of};
 use crate::room::put_both;
 use crate::telling::put_fault;
 use buck_engine::{EngineFault, run_in_turn};
-use buck_held::StoredRule;
-use buck_rule::{Rule, Standing, linear, steady, step};
+use buck_rule::{NamedRule, Rule, Standing};
 use std::alloc::{AllocError, Global};
 
 /// How long two texts are that stand one after the other in the caller's room.
@@ -89,12 +88,12 @@ fn texts_by<'x, F: Fn(&Standing) -> u64 + Drop>(
     }
 }
 
-/// The same by a stored rule.
+/// The same by a named rule.
 fn texts_of<'x>(
     alloc: Global,
     apt: &mut &'x [u8],
     stms: &mut [&'x [u8]],
-    rule: StoredRule,
+    rule: NamedRule,
 ) -> Result<Turned, EngineFault>
     ensures ok { IfOk result (λ texts.
         AreTexts apt.old.now (map (λ file. file.now) stms.old) texts.journal.items texts.report.items) }
@@ -102,11 +101,12 @@ fn texts_of<'x>(
         AnswersFleet apt_of InTurn (λ _. Unit {0}) (Some apt.old.now) (map Some (map (λ file. file.now) stms.old))
         (Err fault)) }
 {
-    match rule {
-        StoredRule::Steady => texts_by(alloc, apt, stms, Rule::new(|s: &Standing| steady(s))),
-        StoredRule::Linear => texts_by(alloc, apt, stms, Rule::new(|s: &Standing| linear(s))),
-        StoredRule::Step => texts_by(alloc, apt, stms, Rule::new(|s: &Standing| step(s))),
-    }
+    texts_by(
+        alloc,
+        apt,
+        stms,
+        Rule::new(move |s: &Standing| rule.price(s)),
+    )
 }
 
 /// The texts of the first file's instruction and the stems of the others.
@@ -114,7 +114,7 @@ fn take_turns<'x>(
     alloc: Global,
     bytes: &'x [u8],
     lengths: &[usize],
-    rule: StoredRule,
+    rule: NamedRule,
 ) -> Result<Turned, EngineFault>
     requires some { 0 < length lengths.now }
     requires fill { sum lengths.now ≡ length bytes.now }
@@ -127,7 +127,7 @@ fn take_turns<'x>(
 }
 
 /// Cuts the stems of each stem file by a harvester of its own, in turn, as the program's `fleet --in-turn` does by a
-/// rule: 0 steady, 1 linear, 2 step. `files` has the bytes of the instruction file and of the stem files, one after the
+/// rule: 0 steady, 1 linear, 2 step, 3 root. `files` has the bytes of the instruction file and of the stem files, one after the
 /// other, and `lengths` the length of each. The journal goes to the start of `out`, and the report behind it; of a
 /// fault the line alone. Their lengths go to `texts`. The answer is the program's exit status, 6 where `out` is too
 /// small: then nothing else is written, or 8 where there is no such rule, no instruction file, or the lengths aren't

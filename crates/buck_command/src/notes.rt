@@ -29,6 +29,7 @@ fn steers(work: &Work<'_>) -> bool {
             NamedRule::Steady => false,
             NamedRule::Linear => true,
             NamedRule::Step => true,
+            NamedRule::Root => true,
         },
         _ => false,
     }

@@ -3,7 +3,6 @@ use crate::again::{Again, LIMIT, Trouble, Troubled};
 use crate::inputs::{Copied, DASH};
 use crate::subject::Subject;
 use buck_apt::{Instruction, read_apt};
-use buck_engine::NamedRule;
 use buck_journal::{Journal, read_journal};
 use buck_reason::{Shown, Source, apt_reason, journal_reason, stm_reason};
 use buck_record::Memory;
@@ -77,15 +76,6 @@ fn numbers_of(alloc: Global, line: &str) -> Result<Vec<u64>, AllocError> {
 /// A number as a place.
 fn place_of(number: u64) -> usize {
     usize::try_from(number).unwrap_or(usize::MAX)
-}
-
-/// The word that asks for a rule.
-fn rule_word(rule: NamedRule) -> &'static str {
-    match rule {
-        NamedRule::Steady => "steady",
-        NamedRule::Linear => "linear",
-        NamedRule::Step => "step",
-    }
 }
 
 impl<'a, A: Again> Inquest<'a, A> {
@@ -277,13 +267,7 @@ impl<'a, A: Again> Inquest<'a, A> {
             return Ok(None);
         };
         let source = history.source(self.name(1));
-        rule_reason(
-            alloc,
-            &source,
-            &history.instruction,
-            rule_word(rule),
-            numbers,
-        )
+        rule_reason(alloc, &source, &history.instruction, rule.name(), numbers)
     }
 
     /// Why a lawful journal isn't as asked.

@@ -1,6 +1,5 @@
 //! The words of the command line, and what they ask for.
 ghost use Rattle.std.specs.Prelude.{◌≡◌, IfSome};
-ghost use Rattle.buck_engine.specs.fleet.Named.{rule_name};
 ghost use Rattle.buck_command.specs.Words.{table_name};
 
 use crate::help;
@@ -122,7 +121,7 @@ fn rule<'a>(alloc: Global) -> Arg<'a> {
     Arg::new(alloc, "rule")
         .long("rule")
         .value_name("RULE")
-        .value_parser(["steady", "linear", "step"].as_slice())
+        .value_parser(["steady", "linear", "step", "root"].as_slice())
         .hide_possible_values(true)
 }
 
@@ -297,18 +296,6 @@ fn word<'a>(matches: &ArgMatches<'a>, id: &str) -> Result<&'a str, Unasked> {
     }
 }
 
-/// The rule of this name.
-fn named_rule(name: &str) -> Option<NamedRule>
-    ensures { IfSome result (λ rule. name.now ≡ rule_name rule) }
-{
-    match name {
-        "steady" => Some(NamedRule::Steady),
-        "linear" => Some(NamedRule::Linear),
-        "step" => Some(NamedRule::Step),
-        _ => None,
-    }
-}
-
 /// The table of this name.
 fn named_table(name: &str) -> Option<Table>
     ensures { IfSome result (λ table. name.now ≡ table_name table) }
@@ -393,7 +380,7 @@ fn asked_threads(words: &ArgMatches<'_>) -> Option<u8> {
 
 /// What the words after `fleet` ask for.
 fn fleet_task<'a>(alloc: Global, words: &ArgMatches<'a>) -> Result<FleetTask<'a>, Unasked> {
-    let Some(rule) = named_rule(word(words, "rule")?) else {
+    let Some(rule) = NamedRule::of_name(word(words, "rule")?) else {
         return Err(Unasked::Lost);
     };
     let Some(stms) = words.get_strs("STM") else {
@@ -425,7 +412,7 @@ const MOST_RUNS: usize = 10_000;
 fn named_rules(alloc: Global, names: &[&str]) -> Result<Vec<NamedRule>, Memory> {
     let mut rules = Vec::new(alloc);
     for name in names {
-        if let Some(rule) = named_rule(*name) {
+        if let Some(rule) = NamedRule::of_name(*name) {
             rules.push(rule)?;
         }
     }
@@ -503,7 +490,7 @@ fn sweep_task<'a>(alloc: Global, words: &ArgMatches<'a>) -> Result<SweepTask<'a>
 
 /// What the words after `live` ask for.
 fn live_task<'a>(words: &ArgMatches<'a>) -> Result<LiveTask<'a>, Unasked> {
-    let Some(rule) = named_rule(word(words, "rule")?) else {
+    let Some(rule) = NamedRule::of_name(word(words, "rule")?) else {
         return Err(Unasked::Lost);
     };
     let apt = word(words, "APT")?;
@@ -526,7 +513,7 @@ fn live_task<'a>(words: &ArgMatches<'a>) -> Result<LiveTask<'a>, Unasked> {
 fn asked_rule(name: Option<&str>) -> Result<Option<NamedRule>, Unasked> {
     match name {
         None => Ok(None),
-        Some(name) => match named_rule(name) {
+        Some(name) => match NamedRule::of_name(name) {
             Some(rule) => Ok(Some(rule)),
             None => Err(Unasked::Lost),
         },

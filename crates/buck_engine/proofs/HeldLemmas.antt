@@ -20,9 +20,10 @@ use Rattle.buck_book.specs.inner.Pricing.{standing_by}
 use Rattle.buck_book.proofs.Cuts.{class_logs-le}
 use Rattle.buck_book.proofs.Places.{one_place, place_lt}
 use Rattle.buck_book.proofs.Standings.{one_assortment, standing_is}
-use Rattle.buck_engine.specs.declared.fleet.serving.NamedRule.{NamedRule}
+use Rattle.buck_rule.specs.declared.named.NamedRule.{NamedRule}
 use Rattle.buck_engine.specs.declared.tie.held.Off.{Off}
-use Rattle.buck_engine.specs.tie.Ties.{IsByRule, IsOffRule, price_by}
+use Rattle.buck_rule.specs.Named.{price_by}
+use Rattle.buck_engine.specs.tie.Ties.{IsByRule, IsOffRule}
 use Rattle.buck_engine.specs.inner.Tie.{AreAllByRule, AreAssorted, AreByRuleBelow, CanHold, HeldParts, IsFirstOff, given_by, logs_in}
 
 -- one class more

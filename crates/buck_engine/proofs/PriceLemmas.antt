@@ -14,7 +14,7 @@ use Rattle.buck_book.specs.declared.posting.Posting.TheVariants.{Cut, Demand}
 use Rattle.buck_book.proofs.Ends.{ends_take-le}
 use Rattle.buck_journal.specs.reading.Journal.{JournalParts}
 use Rattle.buck_journal.specs.judging.Replay.{history_of, version_at, prices_then, Begins}
-use Rattle.buck_engine.specs.declared.fleet.serving.NamedRule.{NamedRule}
+use Rattle.buck_rule.specs.declared.named.NamedRule.{NamedRule}
 use Rattle.buck_engine.specs.declared.tie.held.Off.{Off}
 use Rattle.buck_engine.specs.declared.tie.fault.CheckFault.TheVariants.{Price}
 use Rattle.buck_engine.specs.tie.Ties.{ArePricesAt, FollowsRule, IsOffRule, IsPriceFaultAt}

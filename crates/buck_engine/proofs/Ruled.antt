@@ -14,9 +14,11 @@ use Rattle.buck_book.specs.Pricing.{Calls, AreAnswers}
 use Rattle.buck_book.proofs.Ends.{take_one_more, ends_with_end, cuts_without, true_false}
 use Rattle.buck_journal.specs.judging.Replay.{version_at}
 use Rattle.buck_turn.specs.Turn.{AreSheetsBy}
-use Rattle.buck_engine.specs.declared.fleet.serving.NamedRule.{NamedRule}
-use Rattle.buck_engine.specs.declared.fleet.serving.NamedRule.TheVariants.{Steady, Linear, Step}
-use Rattle.buck_engine.specs.tie.Ties.{FollowsRule, GivesBy, IsByRule, price_by}
+use Rattle.buck_rule.specs.declared.named.NamedRule.{NamedRule}
+use Rattle.buck_rule.specs.declared.named.NamedRule.TheVariants.{Steady, Linear, Step, Root}
+use Rattle.buck_rule.specs.Named.{price_by}
+use Rattle.buck_rule.specs.GivenBy.{GivesBy}
+use Rattle.buck_engine.specs.tie.Ties.{FollowsRule, IsByRule}
 
 -- on target
 even : (cut wanted under over base : ℕ) → cut ≡ wanted
@@ -38,6 +40,7 @@ nothing_cut : (rule : NamedRule) (s : Standing) → s.count ≡ 0 → s.counts �
 nothing_cut Steady s none no_log = refl
 nothing_cut Linear s none no_log = even (cut_share s) (wanted_share s) _ _ s.base (no_shares s none no_log)
 nothing_cut Step s none no_log = even (cut_share s) (wanted_share s) _ _ s.base (no_shares s none no_log)
+nothing_cut Root s none no_log = even (cut_share s) (wanted_share s) _ _ s.base (no_shares s none no_log)
 
 -- answers of such a closure
 by_rule : {F : Type 0} (g : Calls F) (f : F) (rule : NamedRule) (i : InstructionParts) (ps : List Posting)

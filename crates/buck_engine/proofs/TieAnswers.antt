@@ -18,7 +18,7 @@ use Rattle.buck_journal.specs.reading.Journal.{JournalParts, journal_of}
 use Rattle.buck_journal.specs.judging.Replay.{history_of}
 use Rattle.buck_engine.specs.declared.fault.EngineFault.{EngineFault}
 use Rattle.buck_engine.specs.declared.fault.EngineFault.TheVariants.{Memory}
-use Rattle.buck_engine.specs.declared.fleet.serving.NamedRule.{NamedRule}
+use Rattle.buck_rule.specs.declared.named.NamedRule.{NamedRule}
 use Rattle.buck_engine.specs.run.Reading.{IfStopped, IsStmFault, ReadsApt, Says}
 use Rattle.buck_engine.specs.run.Checking.{IsUnlawful}
 use Rattle.buck_engine.specs.text.Written.{AppendsSome, WritesText}

@@ -1,4 +1,3 @@
 pub mod Lent
 pub mod Running
 pub mod Serving
-pub mod Named

@@ -20,13 +20,14 @@ mod text;
 mod tie;
 
 pub use buck_apt::Settings;
+pub use buck_rule::NamedRule;
 pub use buck_tables::Table;
 pub use buck_view::Files;
 pub use fault::{EngineFault, TextFault, status};
 pub use fleet::lists::{Input, read_input};
 pub use fleet::onlooker::{Nobody, Onlooker};
 pub use fleet::running::run_fleet_files;
-pub use fleet::serving::{FleetTask, NamedRule, Order, serve_fleet};
+pub use fleet::serving::{FleetTask, Order, serve_fleet};
 pub use fleet::turning::run_in_turn;
 pub use run::bucking::{run_bare, run_buck};
 pub use run::checking::run_check;

@@ -13,14 +13,16 @@ use Rattle.buck_book.specs.Targets.{AreTargets}
 use Rattle.buck_book.specs.History.{HistoryParts, in_force, sheets_with, history_with}
 use Rattle.buck_book.specs.Pricing.{AreAnswers, AreAnswersWith, AreAnswersWithDemand}
 use Rattle.buck_book.specs.Book.{BookParts, ReadyParts, ReadyDemandParts, SameContent, IsReadyFor, IsReadyDemand, IsNext, entry_of, demand_of}
-use Rattle.buck_held.specs.declared.stored.StoredRule.{StoredRule}
-use Rattle.buck_held.specs.Kept.{ArePricesBy, GivesBy, HasAdded, HasCut, HasRetargeted, price_by}
+use Rattle.buck_rule.specs.declared.named.NamedRule.{NamedRule}
+use Rattle.buck_rule.specs.Named.{price_by}
+use Rattle.buck_rule.specs.GivenBy.{GivesBy}
+use Rattle.buck_held.specs.Kept.{ArePricesBy, HasAdded, HasCut, HasRetargeted}
 
 abbrev pub Calls : Type 0 → Type 1
 Calls F = Shared F (Bor Standing × Unit {0}) ℕ
 
 -- answers of a closure that answers by a rule are the rule's prices
-by_answers : {F : Type 0} (g : Calls F) (f : F) (rule : StoredRule) → GivesBy g f rule
+by_answers : {F : Type 0} (g : Calls F) (f : F) (rule : NamedRule) → GivesBy g f rule
     → (i : InstructionParts) (ps : List Posting) (prices : List ℕ) → AreAnswers g f i ps prices
     → ArePricesBy rule i ps prices
 by_answers g f rule gives i ps prices answers = λ c k.
@@ -34,7 +36,7 @@ same_history : (h k : HistoryParts) → h.instruction ≡ k.instruction → h.sh
     → h ≡ k
 same_history h k i s p = λ n. record { instruction = i n; sheets = s n; postings = p n }
 
-added : {F : Type 0} (g : Calls F) (f : F) (rule : StoredRule) → GivesBy g f rule
+added : {F : Type 0} (g : Calls F) (f : F) (rule : NamedRule) → GivesBy g f rule
     → (before mid after : HistoryParts) (x : Posting) (next : Option SheetParts)
     → mid ≡ before → IsNext before x next
     → IfSome next (λ s. AreAnswers g f before.instruction (before.postings ++ x ∷ []) s.prices)
@@ -54,7 +56,7 @@ added g f rule gives before mid after x next same is_next given instruction shee
 }
 
 -- a plan's commit
-pub has_cut : {F : Type 0} (g : Calls F) (rule : StoredRule) (b m a : BookParts F) (harvester : ℕ) (plan : PlanParts)
+pub has_cut : {F : Type 0} (g : Calls F) (rule : NamedRule) (b m a : BookParts F) (harvester : ℕ) (plan : PlanParts)
     (ready : ReadyParts) (entry : EntryParts)
     → (0 < harvester) × (harvester ≤ 64) → GivesBy g b.rule rule → IsPlan plan → plan.sheet ≡ in_force b.history
     → SameContent b m → IsReadyFor m ready plan
@@ -88,7 +90,7 @@ has_cut g rule b m a harvester plan ready entry who gives is_plan in_force_is co
     }
 
 -- a demand's commit
-pub has_retargeted : {F : Type 0} (g : Calls F) (rule : StoredRule) (b m a : BookParts F) (harvester : ℕ)
+pub has_retargeted : {F : Type 0} (g : Calls F) (rule : NamedRule) (b m a : BookParts F) (harvester : ℕ)
     (targets : List ℕ) (ready : ReadyDemandParts) (demand : DemandParts)
     → (0 < harvester) × (harvester ≤ 64) → GivesBy g b.rule rule → SameContent b m → IsReadyDemand m ready
     → ready.targets ≡ targets

@@ -7,7 +7,7 @@ use Rattle.buck_book.specs.declared.posting.Posting.TheVariants.{Demand}
 use Rattle.buck_book.specs.declared.demand.DemandRefusal.{DemandRefusal}
 use Rattle.buck_book.specs.Entry.{DemandParts}
 use Rattle.buck_book.specs.History.{HistoryParts, IsLawful, in_force, history_with, sheet_at, version_of}
-use Rattle.buck_held.specs.declared.stored.StoredRule.{StoredRule}
+use Rattle.buck_rule.specs.declared.named.NamedRule.{NamedRule}
 use Rattle.buck_held.specs.Kept.{HasAdded, HasRetargeted}
 use Rattle.buck_held.specs.inner.Resting.{IsSheetOf}
 
@@ -29,14 +29,14 @@ with_next h x (Some n) s k = record {
       (sym (get_or_append_left h.sheets (n.prices ∷ []) [] s.version k.there));
 }
 
-pub stays : (rule : StoredRule) (x : Posting) (before after : HistoryParts) (s : SheetParts)
+pub stays : (rule : NamedRule) (x : Posting) (before after : HistoryParts) (s : SheetParts)
     → HasAdded rule x before after
     → IsSheetOf before s → IsSheetOf after s
 stays rule x before after s added k =
     subst (λ h. IsSheetOf h s) (sym added.after_is) (with_next before x added.next s k)
 
 -- it stays so whether targets were put in force or refused
-pub stays_either : (rule : StoredRule) (harvester : ℕ) (targets : List ℕ) (before after : HistoryParts) (s : SheetParts)
+pub stays_either : (rule : NamedRule) (harvester : ℕ) (targets : List ℕ) (before after : HistoryParts) (s : SheetParts)
     (r : Result DemandParts DemandRefusal) → IsSheetOf before s
     → IfOk r (HasRetargeted rule harvester targets before after)
     → IfErr r (λ _. after ≡ before) → IsSheetOf after s

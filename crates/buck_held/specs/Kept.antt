@@ -1,13 +1,9 @@
 -- A kept book as clauses see it, and what each call leaves.
 use Rattle.std.specs.Prelude.{◌≡◌, ◌≤◌, ◌<◌, ℕ, List, [], ◌∷◌, ◌++◌, Option, IfSome, slice_index}
-use denote.Ref.{Bor}
-use denote.Param.Members.{Shared}
 use Rattle.buck_apt.specs.declared.class.Class.{Class}
 use Rattle.buck_apt.specs.Instruction.{InstructionParts, IsClass, index_of}
 use Rattle.buck_stem.specs.Stem.{StemParts}
-use Rattle.buck_rule.specs.declared.standing.Standing.{Standing}
-use Rattle.buck_rule.specs.Stored.{Answers}
-use Rattle.buck_rule.specs.Ready.{steady_of, linear_of, step_of}
+use Rattle.buck_rule.specs.Named.{price_by}
 use Rattle.buck_value.specs.Sheet.{SheetParts, base_prices}
 use Rattle.buck_book.specs.declared.posting.Posting.{Posting}
 use Rattle.buck_book.specs.declared.posting.Posting.TheVariants.{Cut, Demand}
@@ -18,33 +14,21 @@ use Rattle.buck_book.specs.History.{HistoryParts, standing_of, in_force, history
 use Rattle.buck_book.specs.declared.demand.DemandRefusal.{DemandRefusal}
 use Rattle.buck_book.specs.Refused.{IsDemandRefusal}
 use Rattle.buck_book.specs.Book.{entry_of, demand_of, IsNext}
-use Rattle.buck_held.specs.declared.stored.StoredRule.{StoredRule}
-use Rattle.buck_held.specs.declared.stored.StoredRule.TheVariants.{Steady, Linear, Step}
+use Rattle.buck_rule.specs.declared.named.NamedRule.{NamedRule}
 
--- what a stored rule gives for a class that stands so
-abbrev pub price_by : StoredRule → Standing → ℕ
-price_by Steady s = steady_of s
-price_by Linear s = linear_of s
-price_by Step s = step_of s
-
--- each price of a sheet is what a stored rule gives after some postings
-abbrev pub ArePricesBy : StoredRule → InstructionParts → List Posting → List ℕ → Type 0
+-- each price of a sheet is what a named rule gives after some postings
+abbrev pub ArePricesBy : NamedRule → InstructionParts → List Posting → List ℕ → Type 0
 ArePricesBy rule i ps prices =
     (c : Class) (k : IsClass i c)
     → slice_index prices (index_of i c) ≡ price_by rule (standing_of i k.assortment c ps)
 
--- a closure answers what a stored rule gives
-pub record GivesBy {F : Type 0} (g : Shared F (Bor Standing × Unit {0}) ℕ) (f : F) (rule : StoredRule) : Type 0 where
-  pub answers : Answers g f
-  pub by_rule : (s : Bor Standing) (price : ℕ) → g.post f (s, tt) price → price ≡ price_by rule s.now
-
 pub record KeptParts : Type 0 where
-  pub rule : StoredRule
+  pub rule : NamedRule
   pub history : HistoryParts
   pub capacity : ℕ  -- how many postings it may have
 
 -- a book with no posting and the base sheet
-abbrev pub opened : StoredRule → InstructionParts → ℕ → KeptParts
+abbrev pub opened : NamedRule → InstructionParts → ℕ → KeptParts
 opened rule instruction capacity = record {
   rule = rule;
   history = record { instruction = instruction; sheets = base_prices instruction ∷ []; postings = [] };
@@ -52,14 +36,14 @@ opened rule instruction capacity = record {
 }
 
 -- one posting more; where it is an end, the next sheet is there with the rule's prices, and there alone
-pub record HasAdded (rule : StoredRule) (x : Posting) (before after : HistoryParts) : Type 0 where
+pub record HasAdded (rule : NamedRule) (x : Posting) (before after : HistoryParts) : Type 0 where
   pub next : Option SheetParts
   pub next_is : IsNext before x next
   pub by_rule : IfSome next (λ s. ArePricesBy rule before.instruction (before.postings ++ x ∷ []) s.prices)
   pub after_is : after ≡ history_with before x next
 
 -- a harvester cut a stem: its entry has the first of the best cuttings under the sheet in force, and was added
-pub record HasCut (rule : StoredRule) (harvester : ℕ) (stem : StemParts) (before after : HistoryParts)
+pub record HasCut (rule : NamedRule) (harvester : ℕ) (stem : StemParts) (before after : HistoryParts)
     (entry : EntryParts) : Type 0 where
   pub who : (0 < harvester) × (harvester ≤ 64)
   pub plan : PlanParts
@@ -70,7 +54,7 @@ pub record HasCut (rule : StoredRule) (harvester : ℕ) (stem : StemParts) (befo
   pub added : HasAdded rule (Cut entry) before after
 
 -- a harvester put valid targets in force
-pub record HasRetargeted (rule : StoredRule) (harvester : ℕ) (targets : List ℕ) (before after : HistoryParts)
+pub record HasRetargeted (rule : NamedRule) (harvester : ℕ) (targets : List ℕ) (before after : HistoryParts)
     (demand : DemandParts) : Type 0 where
   pub who : (0 < harvester) × (harvester ≤ 64)
   pub valid : AreTargets before.instruction targets

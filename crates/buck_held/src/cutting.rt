@@ -2,16 +2,14 @@
 ghost use Rattle.std.specs.Prelude.{◌≡◌, ◌<◌, ◌≤◌, IfOk, IfErr, length};
 ghost use Rattle.buck_book.specs.History.{in_force};
 ghost use Rattle.buck_book.specs.Refused.{IsFull, IsDemandRefusal};
-ghost use Rattle.buck_rule.specs.Relation.{Meets};
-ghost use Rattle.buck_rule.specs.Standing.{IsInRange};
-ghost use Rattle.buck_held.specs.Kept.{GivesBy, HasCut, HasRetargeted, IsDemandRefused, price_by};
+ghost use Rattle.buck_rule.specs.GivenBy.{GivesBy};
+ghost use Rattle.buck_held.specs.Kept.{HasCut, HasRetargeted, IsDemandRefused};
 ghost use Rattle.buck_held.specs.inner.Resting.{IsSheetOf};
 
-use crate::stored::StoredRule;
 use buck_book::{Book, Demand, DemandRefusal, Entry, Plan, Refusal};
 use buck_dp::Planner;
 use buck_record::Memory;
-use buck_rule::{Rule, Standing, linear, steady, step};
+use buck_rule::{NamedRule, Rule, Standing};
 use buck_stem::Stem;
 use std::alloc::{AllocError, Global};
 use std::sync::Arc;
@@ -76,7 +74,7 @@ fn commit<F: Fn(&Standing) -> u64 + Drop>(
     book: &mut Book<F>,
     harvester: u32,
     plan: Plan,
-    rule: StoredRule,
+    rule: NamedRule,
 ) -> Result<Entry, CutRefusal>
     requires gives { GivesBy F.Fn book.old.rule rule }
     requires sheet { plan.sheet ≡ in_force book.old.history }
@@ -101,7 +99,7 @@ fn cut_by<F: Fn(&Standing) -> u64 + Drop>(
     alloc: Global,
     book: &mut Book<F>,
     planner: &mut Planner,
-    rule: StoredRule,
+    rule: NamedRule,
     felled: Felled,
 ) -> Result<Entry, CutRefusal>
     requires gives { GivesBy F.Fn book.old.rule rule }
@@ -122,7 +120,7 @@ fn cut_by<F: Fn(&Standing) -> u64 + Drop>(
 fn retarget_by<F: Fn(&Standing) -> u64 + Drop>(
     alloc: Global,
     book: &mut Book<F>,
-    rule: StoredRule,
+    rule: NamedRule,
     harvester: u32,
     targets: &Arc<Vec<u32>>,
 ) -> Result<Demand, DemandRefusal>
@@ -138,19 +136,6 @@ fn retarget_by<F: Fn(&Standing) -> u64 + Drop>(
     Ok(book.commit_demand(ready, harvester))
 }
 
-/// What a stored rule gives for a class that stands so. The standing is in range.
-fn price(rule: StoredRule, standing: &Standing) -> u64
-    requires { IsInRange standing.now }
-    ensures formula { result ≡ price_by rule standing.now }
-    ensures met { Meets standing.now result }
-{
-    match rule {
-        StoredRule::Steady => steady(standing),
-        StoredRule::Linear => linear(standing),
-        StoredRule::Step => step(standing),
-    }
-}
-
 /// A stem to be cut, and who cuts it.
 #[derive(Drop)]
 pub(crate) struct Felled {
@@ -163,7 +148,7 @@ pub(crate) fn cut(
     alloc: Global,
     book: Book<()>,
     planner: &mut Planner,
-    rule: StoredRule,
+    rule: NamedRule,
     felled: Felled,
 ) -> (Book<()>, Result<Entry, CutRefusal>)
     requires harvester { (0 < felled.harvester) × (felled.harvester ≤ 64) }
@@ -174,7 +159,7 @@ pub(crate) fn cut(
     ensures left { IfErr result.1 (λ _. result.0.history ≡ book.history) }
     ensures full { IfErr result.1 (λ e. e ≡ CutRefusal.Full → length book.history.postings ≡ book.capacity) }
 {
-    let mut ruled = book.with_rule(Rule::new(move |s: &Standing| price(rule, s)));
+    let mut ruled = book.with_rule(Rule::new(move |s: &Standing| rule.price(s)));
     let entry = cut_by(alloc, &mut ruled, planner, rule, felled);
     (ruled.with_rule(Rule::none()), entry)
 }
@@ -183,7 +168,7 @@ pub(crate) fn cut(
 pub(crate) fn retarget(
     alloc: Global,
     book: Book<()>,
-    rule: StoredRule,
+    rule: NamedRule,
     harvester: u32,
     targets: &Arc<Vec<u32>>,
 ) -> (Book<()>, Result<Demand, DemandRefusal>)
@@ -194,7 +179,7 @@ pub(crate) fn retarget(
     ensures left { IfErr result.1 (λ _. result.0.history ≡ book.history) }
     ensures refused { IfErr result.1 (IsDemandRefused book.history book.capacity targets.now.value.items) }
 {
-    let mut ruled = book.with_rule(Rule::new(move |s: &Standing| price(rule, s)));
+    let mut ruled = book.with_rule(Rule::new(move |s: &Standing| rule.price(s)));
     let demand = retarget_by(alloc, &mut ruled, rule, harvester, targets);
     (ruled.with_rule(Rule::none()), demand)
 }

@@ -5,12 +5,11 @@ ghost use Rattle.buck_held.specs.inner.Resting.{IsOpened};
 ghost use Rattle.buck_book.specs.declared.posting.TheConstants.{MOST_POSTINGS};
 
 use crate::cutting::{CutRefusal, Felled, cut, retarget};
-use crate::stored::StoredRule;
 use buck_apt::Instruction;
 use buck_book::{Book, Demand, DemandRefusal, Entry};
 use buck_dp::Planner;
 use buck_record::Memory;
-use buck_rule::{Rule, Standing, steady};
+use buck_rule::{NamedRule, Rule, Standing, steady};
 use buck_stem::Stem;
 use std::alloc::Global;
 use std::marker::Model;
@@ -20,7 +19,7 @@ use std::sync::Arc;
 /// the book's of the same version, which may be an earlier one than that in force.
 #[derive(Drop)]
 pub struct KeptBook {
-    rule: StoredRule,
+    rule: NamedRule,
     book: Option<Book<()>>,
     planner: Planner,
 }
@@ -53,7 +52,7 @@ impl KeptBook {
     pub fn open(
         alloc: Global,
         instruction: Arc<Instruction>,
-        rule: StoredRule,
+        rule: NamedRule,
         capacity: u32,
     ) -> Result<KeptBook, Memory>
         requires { (0 < capacity) × (capacity ≤ MOST_POSTINGS) }

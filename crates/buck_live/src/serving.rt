@@ -15,7 +15,7 @@ use buck_apt::{Instruction, Settings};
 use buck_engine::{
     EngineFault, Make, NamedRule, Open, conclude, open_inputs, read_instruction, write_text,
 };
-use buck_rule::{Rule, Standing, linear, steady, step};
+use buck_rule::{Rule, Standing};
 use std::alloc::Global;
 use std::io;
 use std::sync::Arc;
@@ -149,20 +149,9 @@ fn run_live_task<R: io::Read, O: Open + Make, W: Replies>(
     ensures { RunsLive O.opens O.makes O.File.remaining O.Made.contents opener.old opener.new task.now
         (R.remaining input.old) (W.contents out.old) (W.contents out.new) result }
 {
-    match task.rule {
-        NamedRule::Steady => {
-            let rule = Rule::new(|s: &Standing| steady(s));
-            live_files(alloc, task, rule, input, opener, out)
-        }
-        NamedRule::Linear => {
-            let rule = Rule::new(|s: &Standing| linear(s));
-            live_files(alloc, task, rule, input, opener, out)
-        }
-        NamedRule::Step => {
-            let rule = Rule::new(|s: &Standing| step(s));
-            live_files(alloc, task, rule, input, opener, out)
-        }
-    }
+    let named = task.rule;
+    let rule = Rule::new(move |s: &Standing| named.price(s));
+    live_files(alloc, task, rule, input, opener, out)
 }
 
 /// Answers the requests of the input, one a line, each before the next is read, and says on `errors` how it ended. The

@@ -16,9 +16,9 @@ use Rattle.buck_journal.specs.judging.Replay.{history_of}
 use Rattle.buck_turn.specs.Turn.{AreSheetsBy, HasCutInTurn}
 use Rattle.buck_figures.specs.declared.figures.Figures.{Figures}
 use Rattle.buck_figures.specs.Shown.{AreFigures}
-use Rattle.buck_engine.specs.declared.fleet.serving.NamedRule.{NamedRule}
-use Rattle.buck_engine.specs.fleet.Named.{rule_name}
-use Rattle.buck_engine.specs.tie.Ties.{GivesBy}
+use Rattle.buck_rule.specs.declared.named.NamedRule.{NamedRule}
+use Rattle.buck_rule.specs.Named.{rule_name}
+use Rattle.buck_rule.specs.GivenBy.{GivesBy}
 use Rattle.buck_engine.proofs.Ruled.{follows_rule}
 use Rattle.buck_sweep.specs.Table.{IsLine, cells, line_of, rate_of}
 use Rattle.buck_sweep.specs.inner.Lines.{HasCut, IsLineBy}

@@ -2,7 +2,7 @@
 use Rattle.std.specs.Prelude.{ℕ, ◌≤◌, List, map, All, Option, IfSome}
 use Rattle.std.specs.List.{flat_map}
 use Rattle.buck_apt.specs.Instruction.{IsWithin}
-use Rattle.buck_engine.specs.declared.fleet.serving.NamedRule.{NamedRule}
+use Rattle.buck_rule.specs.declared.named.NamedRule.{NamedRule}
 use Rattle.buck_sweep.specs.declared.combination.Combination.{Combination}
 
 -- a rule and a period with each limit

@@ -9,8 +9,8 @@ use Rattle.buck_figures.specs.Figures.{AreUnsteered, at_base_in, volume_in, wort
 use Rattle.buck_figures.specs.Points.{AreDegrees}
 use Rattle.buck_words.specs.Names.{quoted}
 use Rattle.buck_words.specs.Words.{half_up}
-use Rattle.buck_engine.specs.declared.fleet.serving.NamedRule.{NamedRule}
-use Rattle.buck_engine.specs.fleet.Named.{rule_name}
+use Rattle.buck_rule.specs.declared.named.NamedRule.{NamedRule}
+use Rattle.buck_rule.specs.Named.{rule_name}
 
 -- a comma, and then a number, where there is one
 abbrev pub cell : Option ℕ → List ℕ

@@ -3,7 +3,7 @@ ghost use Rattle.std.specs.Prelude.{◌≡◌, ◌<◌, ◌≤◌, IfOk, IfErr, 
 ghost use Rattle.buck_rule.specs.Stored.{Answers};
 ghost use Rattle.buck_book.specs.History.{IsLawful};
 ghost use Rattle.buck_journal.specs.judging.Replay.{history_of};
-ghost use Rattle.buck_engine.specs.tie.Ties.{GivesBy};
+ghost use Rattle.buck_rule.specs.GivenBy.{GivesBy};
 ghost use Rattle.buck_sweep.specs.inner.Lines.{HasCut, IsPart, IsRunLine, IsStop};
 ghost use Rattle.buck_sweep.specs.Sweep.{AreLines};
 ghost use Rattle.buck_book.specs.declared.posting.TheConstants.{MOST_POSTINGS};
@@ -16,7 +16,7 @@ use buck_engine::{EngineFault, Input, NamedRule};
 use buck_fleet::CutFault;
 use buck_journal::Journal;
 use buck_record::Memory;
-use buck_rule::{Rule, Standing, linear, steady, step};
+use buck_rule::{Rule, Standing};
 use buck_stem::Stem;
 use buck_turn::cut_in_turn;
 use buck_value::Sheet;
@@ -82,20 +82,8 @@ fn cut_by_name(
     ensures ok { IfOk result (λ j. HasCut named lists.now (history_of instruction.now.value j)) }
     ensures stop { IfErr result (IsStop lists.now) }
 {
-    match named {
-        NamedRule::Steady => {
-            let rule = Rule::new(|s: &Standing| steady(s));
-            cut_by_rule(alloc, instruction, named, rule, lists)
-        }
-        NamedRule::Linear => {
-            let rule = Rule::new(|s: &Standing| linear(s));
-            cut_by_rule(alloc, instruction, named, rule, lists)
-        }
-        NamedRule::Step => {
-            let rule = Rule::new(|s: &Standing| step(s));
-            cut_by_rule(alloc, instruction, named, rule, lists)
-        }
-    }
+    let rule = Rule::new(move |s: &Standing| named.price(s));
+    cut_by_rule(alloc, instruction, named, rule, lists)
 }
 
 /// The line of a combination, whose run cuts the lists in turn.

@@ -6,7 +6,7 @@ use crate::commanding::outcome_of_words;
 use buck_engine::{
     EngineFault, NamedRule, run_bare, run_buck, run_check, run_fleet_files, status, write_fault,
 };
-use buck_rule::{Rule, Standing, linear, steady, step};
+use buck_rule::{Rule, Standing};
 use std::alloc::Global;
 use std::sync::Wait;
 use std::thread::Threads;
@@ -75,11 +75,13 @@ fn run_fleet<T: Threads + Wait + Sync>(
     inputs: &Inputs,
     got: &mut Outcome,
 ) -> Result<(), EngineFault> {
-    match rule {
-        NamedRule::Steady => run_by(rt, alloc, Rule::new(|s: &Standing| steady(s)), inputs, got),
-        NamedRule::Linear => run_by(rt, alloc, Rule::new(|s: &Standing| linear(s)), inputs, got),
-        NamedRule::Step => run_by(rt, alloc, Rule::new(|s: &Standing| step(s)), inputs, got),
-    }
+    run_by(
+        rt,
+        alloc,
+        Rule::new(move |s: &Standing| rule.price(s)),
+        inputs,
+        got,
+    )
 }
 
 /// Runs the engine of a case over its files.

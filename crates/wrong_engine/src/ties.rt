@@ -6,7 +6,7 @@ ghost use Rattle.buck_stem.specs.Stem.{StemParts};
 ghost use Rattle.buck_stem.specs.file.Stm.{stm_of};
 ghost use Rattle.buck_journal.specs.reading.Journal.{JournalParts, journal_of};
 ghost use Rattle.buck_journal.specs.judging.Replay.{history_of};
-ghost use Rattle.buck_engine.specs.declared.fleet.serving.NamedRule.TheVariants.{Linear};
+ghost use Rattle.buck_rule.specs.declared.named.NamedRule.TheVariants.{Linear};
 ghost use Rattle.buck_engine.specs.tie.Ties.{FollowsRule, stems_by};
 
 use crate::opened::Missing;

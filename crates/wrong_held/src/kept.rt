@@ -4,13 +4,13 @@ ghost use Rattle.buck_book.specs.History.{version_of};
 
 use buck_apt::Instruction;
 use buck_book::DemandRefusal;
-use buck_held::{CutRefusal, FellFault, Felled, KeptBook, StoredRule, Zone};
+use buck_held::{CutRefusal, FellFault, Felled, KeptBook, NamedRule, Zone};
 use buck_stem::Stem;
 use std::alloc::Global;
 use std::sync::Arc;
 
 /// A book is opened with a posting.
-pub fn opened_with_a_posting(alloc: Global, instruction: Arc<Instruction>, rule: StoredRule) {
+pub fn opened_with_a_posting(alloc: Global, instruction: Arc<Instruction>, rule: NamedRule) {
     if let Ok(kept) = KeptBook::open(alloc, instruction, rule, 8) {
         let right = kept.book().len();
         let wrong = 1;
@@ -22,7 +22,7 @@ pub fn opened_with_a_posting(alloc: Global, instruction: Arc<Instruction>, rule:
 pub fn opened_with_another_capacity(
     alloc: Global,
     instruction: Arc<Instruction>,
-    rule: StoredRule,
+    rule: NamedRule,
     wrong: u32,
 )
     requires { wrong ≢ 8 }

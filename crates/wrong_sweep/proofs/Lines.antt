@@ -14,8 +14,8 @@ use Rattle.buck_book.specs.History.{HistoryParts}
 use Rattle.buck_figures.specs.Figures.{worth_in}
 use Rattle.buck_engine.specs.declared.fault.EngineFault.{EngineFault}
 use Rattle.buck_engine.specs.declared.fault.EngineFault.TheVariants.{Full}
-use Rattle.buck_engine.specs.declared.fleet.serving.NamedRule.{NamedRule}
-use Rattle.buck_engine.specs.fleet.Named.{rule_name}
+use Rattle.buck_rule.specs.declared.named.NamedRule.{NamedRule}
+use Rattle.buck_rule.specs.Named.{rule_name}
 use Rattle.buck_engine.specs.fleet.Running.{HaveTooMany}
 use Rattle.buck_engine.specs.run.Reading.{Says, apt_with}
 use Rattle.buck_engine.specs.tie.Ties.{FollowsRule}

@@ -6,8 +6,8 @@ use Rattle.buck_apt.specs.Instruction.{InstructionParts}
 use Rattle.buck_apt.specs.Settings.{own_numbers}
 use Rattle.buck_book.specs.History.{HistoryParts}
 use Rattle.buck_figures.specs.Figures.{volume_in, worth_in}
-use Rattle.buck_engine.specs.declared.fleet.serving.NamedRule.{NamedRule}
-use Rattle.buck_engine.specs.fleet.Named.{rule_name}
+use Rattle.buck_rule.specs.declared.named.NamedRule.{NamedRule}
+use Rattle.buck_rule.specs.Named.{rule_name}
 use Rattle.buck_engine.specs.run.Reading.{Says}
 use Rattle.buck_sweep.specs.declared.combination.Combination.{Combination}
 use Rattle.buck_sweep.specs.Sweep.{IsLineOver}

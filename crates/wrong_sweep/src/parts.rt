@@ -1,6 +1,6 @@
 //! Wrong bodies of a table whose runs are done in several threads at once.
 ghost use Rattle.std.specs.Prelude.{◌≡◌, ◌++◌, ℕ, List, Option, Some, map};
-ghost use Rattle.buck_engine.specs.declared.fleet.serving.NamedRule.TheVariants.{Steady, Step};
+ghost use Rattle.buck_rule.specs.declared.named.NamedRule.TheVariants.{Steady, Step};
 ghost use Rattle.buck_sweep.specs.Sweep.{IsLineOver};
 ghost use Rattle.wrong_sweep.specs.Texts.{StandsIn, own_run};
 

@@ -3,7 +3,7 @@ ghost use Rattle.std.specs.Prelude.{◌≡◌, ◌≤◌, ◌++◌, ℕ, List, [
 ghost use Rattle.buck_stem.specs.Stem.{StemParts};
 ghost use Rattle.buck_stem.specs.file.Stm.{stm_of};
 ghost use Rattle.buck_book.specs.History.{HistoryParts};
-ghost use Rattle.buck_engine.specs.declared.fleet.serving.NamedRule.TheVariants.{Steady, Step};
+ghost use Rattle.buck_rule.specs.declared.named.NamedRule.TheVariants.{Steady, Step};
 ghost use Rattle.buck_engine.specs.tie.Ties.{FollowsRule};
 ghost use Rattle.buck_sweep.specs.Sweep.{IsLineOver};
 ghost use Rattle.buck_sweep.specs.Table.{IsLine, cells};

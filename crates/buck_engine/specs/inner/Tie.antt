@@ -17,11 +17,12 @@ use Rattle.buck_book.specs.History.{HistoryParts}
 use Rattle.buck_book.specs.inner.Pricing.{StandingsParts, CanPrice, standing_by}
 use Rattle.buck_engine.specs.declared.fault.EngineFault.{EngineFault}
 use Rattle.buck_engine.specs.declared.fault.EngineFault.TheVariants.{Check, Memory, Seats}
-use Rattle.buck_engine.specs.declared.fleet.serving.NamedRule.{NamedRule}
+use Rattle.buck_rule.specs.declared.named.NamedRule.{NamedRule}
 use Rattle.buck_engine.specs.declared.tie.held.Off.{Off}
 use Rattle.buck_engine.specs.run.Reading.{Says}
 use Rattle.buck_engine.specs.tie.Answers.{IsInputFault}
-use Rattle.buck_engine.specs.tie.Ties.{IsUntied, price_by}
+use Rattle.buck_rule.specs.Named.{price_by}
+use Rattle.buck_engine.specs.tie.Ties.{IsUntied}
 
 -- the stems in lists of them
 abbrev pub stems_in_lists : List (Vec Stem Global) → List (List StemParts)

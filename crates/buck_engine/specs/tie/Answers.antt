@@ -9,7 +9,7 @@ use Rattle.buck_journal.specs.reading.Journal.{JournalParts, journal_of}
 use Rattle.buck_journal.specs.judging.Replay.{history_of}
 use Rattle.buck_engine.specs.declared.fault.EngineFault.{EngineFault}
 use Rattle.buck_engine.specs.declared.fault.EngineFault.TheVariants.{Seats, Check}
-use Rattle.buck_engine.specs.declared.fleet.serving.NamedRule.{NamedRule}
+use Rattle.buck_rule.specs.declared.named.NamedRule.{NamedRule}
 use Rattle.buck_engine.specs.run.Reading.{IsAccepted, IsAptFault, IsStmFault, ReadsApt, Says}
 use Rattle.buck_engine.specs.run.Checking.{IsJournalFault, IsLawfulLine, IsUnlawful}
 use Rattle.buck_engine.specs.fleet.Running.{AreAccepted}

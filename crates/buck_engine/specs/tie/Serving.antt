@@ -3,7 +3,7 @@ use Rattle.std.specs.Prelude.{◌≡◌, ℕ, List, [], ◌∷◌, map, Option, 
 use Rattle.std.specs.Io.KnownBytes.{Keeps}
 use Rattle.buck_engine.specs.declared.fault.EngineFault.{EngineFault}
 use Rattle.buck_engine.specs.declared.fault.EngineFault.TheVariants.{Read}
-use Rattle.buck_engine.specs.declared.fleet.serving.NamedRule.{NamedRule}
+use Rattle.buck_rule.specs.declared.named.NamedRule.{NamedRule}
 use Rattle.buck_engine.specs.declared.tie.serving.CheckTask.{CheckTask}
 use Rattle.buck_engine.specs.run.Opening.{AnswersInputs}
 use Rattle.buck_engine.specs.run.Reading.{ReadsApt, apt_with}

@@ -2,18 +2,14 @@
 use Rattle.std.specs.Prelude.{◌≡◌, ◌≢◌, ◌⊎◌, ℕ, ◌-◌, ◌<◌, ◌≤◌, List, [], length, take, Option, Some, slice_get, slice_index, slice_index_or, IfSome}
 use Rattle.std.specs.List.{flat_map}
 use Rattle.std.specs.Option.{option_to_list}
-use denote.Ref.{Bor}
 use Rattle.buck_apt.specs.declared.class.Class.{Class}
 use Rattle.buck_apt.specs.Instruction.{InstructionParts, IsClass, index_of}
 use Rattle.buck_stem.specs.Stem.{StemParts}
-use Rattle.buck_rule.specs.declared.standing.Standing.{Standing}
-use Rattle.buck_rule.specs.Ready.{steady_of, linear_of, step_of}
+use Rattle.buck_rule.specs.Named.{price_by}
 use Rattle.buck_book.specs.declared.posting.Posting.{Posting}
 use Rattle.buck_book.specs.History.{HistoryParts, standing_of}
-use Rattle.buck_book.specs.Pricing.{Calls}
 use Rattle.buck_journal.specs.judging.Replay.{Begins, version_at, prices_then}
-use Rattle.buck_engine.specs.declared.fleet.serving.NamedRule.{NamedRule}
-use Rattle.buck_engine.specs.declared.fleet.serving.NamedRule.TheVariants.{Steady, Linear, Step}
+use Rattle.buck_rule.specs.declared.named.NamedRule.{NamedRule}
 use Rattle.buck_engine.specs.declared.tie.fault.CheckFault.{CheckFault}
 use Rattle.buck_engine.specs.declared.tie.fault.CheckFault.TheVariants.{Other, Uncut, Surplus, Price}
 use Rattle.buck_engine.specs.fleet.Running.{stems_cut_by}
@@ -59,16 +55,6 @@ pub record IsStemsFault (files : List (List StemParts)) (h : HistoryParts) (faul
   pub from_one : 0 < harvester
   pub least : (other : ℕ) → 0 < other → other < harvester → CutsItsFile files h other
   pub differ : DifferBy harvester (stems_by harvester h) (stems_of_file files harvester) fault
-
--- what a rule gives for a class that stands so
-abbrev pub price_by : NamedRule → Standing → ℕ
-price_by Steady s = steady_of s
-price_by Linear s = linear_of s
-price_by Step s = step_of s
-
--- a closure answers what a rule gives
-pub record GivesBy {F : Type 0} (g : Calls F) (f : F) (rule : NamedRule) : Type 0 where
-  pub by_rule : (s : Bor Standing) (price : ℕ) → g.post f (s, tt) price → price ≡ price_by rule s.now
 
 -- the price of a class is what a rule gives after some postings
 abbrev pub IsByRule : NamedRule → (i : InstructionParts) → List Posting → List ℕ → (c : Class) → IsClass i c → Type 0

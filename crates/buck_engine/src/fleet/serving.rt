@@ -3,11 +3,10 @@ ghost use Rattle.std.specs.Prelude.{◌≡◌, Result};
 ghost use Rattle.std.specs.Option.{option_map};
 ghost use Rattle.buck_rule.specs.Stored.{AllAnswer};
 ghost use Rattle.buck_engine.specs.declared.fault.EngineFault.{EngineFault};
-ghost use Rattle.buck_engine.specs.fleet.Named.{rule_name};
 ghost use Rattle.buck_engine.specs.fleet.Serving.{RunsFleet};
 ghost use Rattle.buck_engine.specs.inner.Served.{MakesJournal, WritesMade};
 ghost use Rattle.buck_engine.specs.run.Serving.{TellsOutcome, status_after};
-ghost use Rattle.buck_engine.specs.tie.Ties.{GivesBy};
+ghost use Rattle.buck_rule.specs.GivenBy.{GivesBy};
 
 use crate::fault::EngineFault;
 use crate::fleet::onlooker::Onlooker;
@@ -18,35 +17,11 @@ use crate::run::opening::{Make, Open, open_inputs};
 use crate::run::serving::conclude;
 use crate::text::report::{Harvested, harvested_by};
 use buck_apt::Settings;
-use buck_rule::{Rule, Standing, linear, steady, step};
+use buck_rule::{NamedRule, Rule, Standing};
 use std::alloc::Global;
 use std::io;
 use std::sync::Wait;
 use std::thread::Threads;
-
-/// A price rule that has a name.
-#[derive(Clone, Copy, Debug, PartialEq, Eq, Drop)]
-pub enum NamedRule {
-    /// Base prices, always.
-    Steady,
-    /// Base prices, moved by as much of the span as a class is off its target.
-    Linear,
-    /// Base prices, moved by the whole span where a class is off its target.
-    Step,
-}
-
-impl NamedRule {
-    /// The word that asks for the rule.
-    pub fn name(self) -> &'static str
-        ensures { result.now ≡ rule_name self }
-    {
-        match self {
-            NamedRule::Steady => "steady",
-            NamedRule::Linear => "linear",
-            NamedRule::Step => "step",
-        }
-    }
-}
 
 /// In which order harvesters cut.
 #[derive(Clone, Copy, Debug, PartialEq, Eq, Drop)]
@@ -160,20 +135,9 @@ fn run_fleet_task<T: Threads + Wait + Sync, L: Onlooker + Sync, O: Open + Make, 
     ensures { RunsFleet O.opens O.makes O.File.remaining O.Made.contents opener.old opener.new task.now
         (W.contents writer.old) (W.contents writer.new) result }
 {
-    match task.rule {
-        NamedRule::Steady => {
-            let rule = Rule::new(|s: &Standing| steady(s));
-            fleet_files(rt, alloc, task, rule, onlooker, opener, writer)
-        }
-        NamedRule::Linear => {
-            let rule = Rule::new(|s: &Standing| linear(s));
-            fleet_files(rt, alloc, task, rule, onlooker, opener, writer)
-        }
-        NamedRule::Step => {
-            let rule = Rule::new(|s: &Standing| step(s));
-            fleet_files(rt, alloc, task, rule, onlooker, opener, writer)
-        }
-    }
+    let named = task.rule;
+    let rule = Rule::new(move |s: &Standing| named.price(s));
+    fleet_files(rt, alloc, task, rule, onlooker, opener, writer)
 }
 
 /// Runs a fleet over the files of a task, and says on `errors` how it ended. The answer is the exit status. While it

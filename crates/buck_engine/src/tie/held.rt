@@ -4,12 +4,11 @@ ghost use Rattle.buck_apt.specs.Instruction.{IsClass, classes, classes_of, class
 ghost use Rattle.buck_rule.specs.Standing.{IsInRange};
 ghost use Rattle.buck_book.specs.Targets.{targets_sum};
 ghost use Rattle.buck_book.specs.inner.Pricing.{IsClassOf, standing_by};
-ghost use Rattle.buck_engine.specs.tie.Ties.{price_by};
+ghost use Rattle.buck_rule.specs.Named.{price_by};
 ghost use Rattle.buck_engine.specs.inner.Tie.{AreByRuleBelow, IsFirstOff};
 
-use crate::fleet::serving::NamedRule;
 use buck_apt::{Assortment, Class, Instruction};
-use buck_rule::{Standing, linear, steady, step};
+use buck_rule::{NamedRule, Standing};
 use std::marker::Model;
 
 /// The prices of a sheet, the rule that they are held against, and how the classes stood when the sheet came: what was
@@ -81,18 +80,6 @@ fn targets_sum(assortment: &Assortment, first: usize, targets: &[u32]) -> u64
     sum_of(&targets[first..first + assortment.classes()])
 }
 
-/// What a rule gives for a class that stands so.
-fn price_by(rule: NamedRule, standing: &Standing) -> u64
-    requires { IsInRange standing.now }
-    ensures { result ≡ price_by rule standing.now }
-{
-    match rule {
-        NamedRule::Steady => steady(standing),
-        NamedRule::Linear => linear(standing),
-        NamedRule::Step => step(standing),
-    }
-}
-
 impl<'a> Held<'a> {
     /// What is wanted of the assortment at a place, given the classes before it.
     fn targets_sum(&self, assortment: &Assortment, at: u8, before: usize) -> u64
@@ -154,7 +141,8 @@ impl<'a> Held<'a> {
         requires place { place ≡ index_of self.now.standings.instruction class }
         ensures { result ≡ price_by self.now.rule (standing_by self.now.standings assortment.now class) }
     {
-        price_by(self.rule, &self.standing(assortment, targets, class, place))
+        self.rule
+            .price(&self.standing(assortment, targets, class, place))
     }
 }
 

@@ -11,13 +11,13 @@ ghost use Rattle.buck_engine.specs.tie.Ties.{ArePricesAt, FollowsRule, IsPriceFa
 ghost use Rattle.buck_engine.specs.inner.Tie.{AreAssorted, logs_in};
 ghost use Rattle.buck_book.specs.declared.posting.TheConstants.{MOST_POSTINGS};
 
-use crate::fleet::serving::NamedRule;
 use crate::tie::fault::CheckFault;
 use crate::tie::held::{Held, first_off};
 use buck_apt::Instruction;
 use buck_book::{Posting, Walk};
 use buck_journal::Journal;
 use buck_record::Memory;
+use buck_rule::NamedRule;
 use buck_stem::Stem;
 use buck_value::{Log, Sheet};
 use std::alloc::{AllocError, Global};

@@ -5,7 +5,7 @@ ghost use Rattle.buck_apt.specs.Apt.{apt_of};
 ghost use Rattle.buck_book.specs.History.{HistoryParts, IsLawful};
 ghost use Rattle.buck_journal.specs.judging.Replay.{history_of, IsFirstFault};
 ghost use Rattle.buck_engine.specs.declared.fault.EngineFault.TheVariants.{Seats, Write};
-ghost use Rattle.buck_engine.specs.declared.fleet.serving.NamedRule.{NamedRule};
+ghost use Rattle.buck_rule.specs.declared.named.NamedRule.{NamedRule};
 ghost use Rattle.buck_engine.specs.run.Reading.{IfStopped, apt_with};
 ghost use Rattle.buck_engine.specs.text.Written.{WritesText};
 ghost use Rattle.buck_engine.specs.tie.Answers.{AnswersCheckWith, AnswersTies, HaveRead};
@@ -14,7 +14,6 @@ ghost use Rattle.buck_engine.specs.inner.Tie.{IsTiedInputFault, IsUntiedFault, s
 ghost use Rattle.buck_book.specs.declared.posting.TheConstants.{MOST_POSTINGS};
 
 use crate::fault::EngineFault;
-use crate::fleet::serving::NamedRule;
 use crate::run::both::{Both, read_postings, read_postings_in_parts, replay_both, unlawful};
 use crate::run::checking::lawful_text;
 use crate::run::reading::read_instruction_with;
@@ -26,6 +25,7 @@ use crate::tie::prices::compare_prices;
 use buck_apt::{Instruction, Settings};
 use buck_journal::{Journal, ReplayFault};
 use buck_record::Memory;
+use buck_rule::NamedRule;
 use buck_stem::Stem;
 use std::alloc::Global;
 use std::io;

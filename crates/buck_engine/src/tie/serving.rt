@@ -9,13 +9,13 @@ ghost use Rattle.buck_engine.specs.tie.Answers.{AnswersCheckWith};
 ghost use Rattle.buck_engine.specs.tie.Serving.{ChecksFiles, RunsCheck};
 
 use crate::fault::EngineFault;
-use crate::fleet::serving::NamedRule;
 use crate::run::both::replay_both_in_parts;
 use crate::run::opening::{Open, open_inputs};
 use crate::run::serving::conclude;
 use crate::text::writing::write_text;
 use crate::tie::running::{read_tied_in_parts, text_of_ties};
 use buck_apt::Settings;
+use buck_rule::NamedRule;
 use std::alloc::Global;
 use std::io;
 use std::thread::Threads;

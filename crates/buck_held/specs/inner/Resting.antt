@@ -4,7 +4,7 @@ use Rattle.buck_apt.specs.Instruction.{InstructionParts}
 use Rattle.buck_value.specs.Sheet.{SheetParts, base_prices}
 use Rattle.buck_book.specs.Book.{BookParts}
 use Rattle.buck_book.specs.History.{HistoryParts, sheet_at}
-use Rattle.buck_held.specs.declared.stored.StoredRule.{StoredRule}
+use Rattle.buck_rule.specs.declared.named.NamedRule.{NamedRule}
 use Rattle.buck_held.specs.Kept.{KeptParts}
 
 abbrev pub Resting : Type 0
@@ -25,7 +25,7 @@ book_in None = record {
   sheet_room = 0;
 }
 
-abbrev pub kept_of : StoredRule → Resting → KeptParts
+abbrev pub kept_of : NamedRule → Resting → KeptParts
 kept_of rule b = record { rule = rule; history = b.history; capacity = b.capacity }
 
 -- it has no posting and the base sheet

@@ -13,8 +13,8 @@ use Rattle.buck_sweep.specs.declared.combination.Combination.{Combination}
 use Rattle.buck_figures.specs.declared.figures.Figures.{Figures}
 use Rattle.buck_engine.specs.declared.fault.EngineFault.{EngineFault}
 use Rattle.buck_engine.specs.declared.fault.EngineFault.TheVariants.{Full}
-use Rattle.buck_engine.specs.declared.fleet.serving.NamedRule.{NamedRule}
-use Rattle.buck_engine.specs.fleet.Named.{rule_name}
+use Rattle.buck_rule.specs.declared.named.NamedRule.{NamedRule}
+use Rattle.buck_rule.specs.Named.{rule_name}
 use Rattle.buck_engine.specs.fleet.Running.{IsCuttingFault}
 use Rattle.buck_engine.specs.tie.Ties.{FollowsRule}
 use Rattle.buck_sweep.specs.Table.{IsLeast, IsLine, cells, head_line, rate_of}

@@ -1,5 +1,5 @@
 use Rattle.std.proofs.Common.{rules, ◌≡◌}
-use Rattle.buck_engine.specs.declared.fleet.serving.NamedRule.TheVariants.{Steady, Step}
+use Rattle.buck_rule.specs.declared.named.NamedRule.TheVariants.{Steady, Step}
 use Rattle.wrong_sweep.proofs.Lines.{without_lines}
 use Rattle.wrong_sweep.proofs.parts.parts_swapped.Goals as goal
 

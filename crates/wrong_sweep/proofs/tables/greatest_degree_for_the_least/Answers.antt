@@ -1,5 +1,5 @@
 use Rattle.std.proofs.Common.{rules, ◌≡◌}
-use Rattle.buck_engine.specs.declared.fleet.serving.NamedRule.TheVariants.{Step}
+use Rattle.buck_rule.specs.declared.named.NamedRule.TheVariants.{Step}
 use Rattle.wrong_sweep.proofs.Lines.{without_wrong}
 use Rattle.wrong_sweep.specs.Texts.{HasGreatest}
 use Rattle.wrong_sweep.proofs.tables.greatest_degree_for_the_least.Goals as goal

@@ -1,5 +1,5 @@
 use Rattle.std.proofs.Common.{rules, ◌≡◌}
-use Rattle.buck_engine.specs.declared.fleet.serving.NamedRule.TheVariants.{Step}
+use Rattle.buck_rule.specs.declared.named.NamedRule.TheVariants.{Step}
 use Rattle.wrong_sweep.proofs.Lines.{without_line}
 use Rattle.wrong_sweep.proofs.tables.linear_rule_under_the_name_of_step.Goals as goal
 

@@ -1,5 +1,5 @@
 use Rattle.std.proofs.Common.{rules, ◌≡◌}
-use Rattle.buck_engine.specs.declared.fleet.serving.NamedRule.TheVariants.{Step}
+use Rattle.buck_rule.specs.declared.named.NamedRule.TheVariants.{Step}
 use Rattle.wrong_sweep.proofs.Lines.{without_numbers}
 use Rattle.wrong_sweep.proofs.tables.numbers_of_the_instruction.Goals as goal
 

@@ -1,5 +1,5 @@
 use Rattle.std.proofs.Common.{rules, ◌≡◌}
-use Rattle.buck_engine.specs.declared.fleet.serving.NamedRule.TheVariants.{Step}
+use Rattle.buck_rule.specs.declared.named.NamedRule.TheVariants.{Step}
 use Rattle.wrong_sweep.proofs.Lines.{without_wrong}
 use Rattle.wrong_sweep.specs.Texts.{IsInForce}
 use Rattle.wrong_sweep.proofs.tables.worths_under_the_prices_in_force.Goals as goal

@@ -3,7 +3,7 @@ use Rattle.buck_apt.specs.declared.class.Class.{Class}
 use Rattle.buck_apt.specs.Instruction.{index_of}
 use Rattle.buck_book.specs.inner.Pricing.{standing_by}
 use Rattle.buck_book.proofs.Relations.{in_row}
-use Rattle.buck_engine.specs.tie.Ties.{price_by}
+use Rattle.buck_rule.specs.Named.{price_by}
 use Rattle.buck_engine.specs.inner.Tie.{AreByRuleBelow}
 use Rattle.buck_engine.proofs.HeldLemmas.{held_more}
 use Rattle.buck_engine.proofs.tie.held.off_in_row.Goals as goal
