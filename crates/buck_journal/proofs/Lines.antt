@@ -1,5 +1,5 @@
 -- Lines of a file as they are written, and the items that are read of them.
-use Rattle.buck_journal.proofs.Words.{◌≡◌, ℕ, suc, ◌+◌, ◌-◌, ◌<◌, ◌≤◌, ◌^◌, true, false, List, [], ◌∷◌, ◌++◌, All, Some, Ok, get_or, length, take, drop, map, refl, sym, ap, ◌∙◌, subst, arith, append_assoc, codes, rules, common_steps, position_or_len, AllByRecursion, is_ascii_digit, decimal, digits_decimal, decimal_nonempty, cond-true, lt-ltb, nat_tests, append-nil, take_all, length-append, All-append, All-cons, All-nil, All-from_recursion, recursion_from_All, slice_split_at, AllPass-from_list_all, suffix_len_is, ItemParts, Slot, Leads, item_in, slot, file_slot, LeadsNumbers, LeadsWorth, is_white, trim, trim_start, trim_end, first_word, after_word, words, each_from, number_at_most, is_tilde, item_of, numbers_of, number_of, HasItems, spelled, numeral, number-decimal, numbers_again, words-spelled, words-trim_start, item_text}
+use Rattle.buck_journal.proofs.Words.{◌≡◌, ℕ, suc, ◌+◌, ◌-◌, ◌<◌, ◌≤◌, ◌^◌, true, false, List, [], ◌∷◌, ◌++◌, All, Some, Ok, get_or, length, take, drop, map, refl, sym, ap, ◌∙◌, subst, arith, append_assoc, codes, rules, common_steps, position_or_len, AllByRecursion, is_ascii_digit, decimal, digits_decimal, decimal_nonempty, cond-true, lt-ltb, nat_tests, append-nil, take_all, length-append, All-append, All-cons, All-nil, All-from_recursion, recursion_from_All, slice_split_at, AllPass-from_list_all, suffix_len_is, ItemParts, Slot, Leads, item_in, slot, file_slot, LeadsNumbers, LeadsWorth, is_white, trim, trim_start, trim_end, first_word, after_word, words, each_from, number_at_most, is_tilde, pieces, item_of, numbers_of, number_of, HasItems, spelled, numeral, number-decimal, numbers_again, words-spelled, words-trim_start, item_text}
 
 -- a text whose last byte isn't white, and one whose first isn't
 abbrev EndsDark : List ℕ → Type 0
@@ -140,11 +140,9 @@ plain_spelled [] h = All-nil IsPlain
 plain_spelled (n ∷ ns) h = search (rules, All-cons, All-append, plain_decimal, (plain_spelled ns h.1))
 
 -- a part that is an item, and a tilde, before the others
-part_says : (part piece left : List ℕ) (item : ItemParts) (items : List ItemParts) → All IsPlain part
-    → trim part ≡ piece → 0 < length piece → item_of piece ≡ Some item
-    → HasItems left items → HasItems (part ++ 126 ∷ left) (item ∷ items)
-unfolding each_from
-part_says part piece left item items plain trimmed some is h = grind (arith, slice_split_at, cond-true, lt-ltb)
+part_first : (part piece left : List ℕ) → All IsPlain part → trim part ≡ piece → 0 < length piece
+    → pieces (part ++ 126 ∷ left) ≡ piece ∷ pieces left
+part_first part piece left plain trimmed some = grind (arith, slice_split_at, cond-true, lt-ltb)
 
 -- the line of an item, and its numbers
 line_leads : (s : Slot) (head ns rest : List ℕ) → head ≡ decimal s.number ++ 32 ∷ decimal s.kind → s.number ≤ 65535
@@ -156,15 +154,16 @@ line_leads s head ns rest is n k small =
     let all : AllByRecursion (λ n. n < 2 ^ 64) (s.number ∷ s.kind ∷ ns) = (omega arith, (omega arith, small)) in
     let text : (10 ∷ piece) ++ 126 ∷ 10 ∷ rest ≡ 10 ∷ (item_text head ns ++ rest) = rw is (simp append_assoc) in
     record {
-      next = λ items h.
-          subst (λ t. HasItems t (item_in s (told ns) ∷ items)) text
-          (part_says (10 ∷ piece) piece (10 ∷ rest) (item_in s (told ns)) items
+      piece = piece;
+      first =
+          subst (λ t. pieces t ≡ piece ∷ pieces (10 ∷ rest)) text
+          (part_first (10 ∷ piece) piece (10 ∷ rest)
           (All-cons IsPlain 10 piece refl
           (All-append IsPlain (decimal s.number) (spelled (s.kind ∷ ns)) (plain_decimal s.number (omega arith))
           (plain_spelled (s.kind ∷ ns) all.1)))
           (ap trim_end (start_white 10 piece refl) ∙ told_trimmed (s.number ∷ s.kind ∷ ns) all)
-          (omega (arith, decimal_nonempty s.number (omega arith), length-append (decimal s.number) (spelled (s.kind ∷ ns))))
-          (item_told s.number s.kind ns n k small) h);
+          (omega (arith, decimal_nonempty s.number (omega arith), length-append (decimal s.number) (spelled (s.kind ∷ ns)))));
+      head = item_told s.number s.kind ns n k small;
       shorter = subst (λ t. length (10 ∷ rest) < length t) text (omega (arith, length-append piece (126 ∷ 10 ∷ rest)));
     }
 
@@ -194,10 +193,12 @@ kind_piece = (refl, refl)
 pub kind_leads : (text : List ℕ)
     → Leads (item_text (codes "1 2 JRN") [] ++ text) (item_in file_slot (codes "JRN")) (10 ∷ text)
 kind_leads text = record {
-  next = λ items h.
-      part_says (codes "1 2 JRN") (codes "1 2 JRN") (10 ∷ text) (item_in file_slot (codes "JRN")) items
+  piece = codes "1 2 JRN";
+  first =
+      part_first (codes "1 2 JRN") (codes "1 2 JRN") (10 ∷ text)
       (All-from_recursion IsPlain (codes "1 2 JRN") (refl, (refl, (refl, (refl, (refl, (refl, (refl, tt))))))))
-      kind_piece.0 (omega arith) kind_piece.1 h;
+      kind_piece.0 (omega arith);
+  head = kind_piece.1;
   shorter = omega arith;
 }
 

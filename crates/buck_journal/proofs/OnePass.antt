@@ -1,5 +1,5 @@
 -- A journal that is gone through item by item is read as what was found.
-use Rattle.buck_journal.proofs.Words.{◌≡◌, ℕ, ◌+◌, ◌<◌, ◌≤◌, Bool, true, false, List, [], ◌∷◌, ◌++◌, Some, Ok, Result, codes, length, slice_get, refl, arith, append_assoc, eq-eqb, bytes_eq, lt-ltb, and_from, append-nil, ItemParts, Slot, items_of, numbers_of, number_of, is_at, ◌>>=◌, check, Joins, Leads, item_in, slot, file_slot, TARGETS, stem_of, Log, Posting, Cut, Demand, Call, JournalFault, numbers_at, Form, says, item_at, list_form, call_form, call_at, head_form, samples_form, zones_form, logs_form, worth_at, follows, entry_of, stem_at, cut_at, demand_of, demand_at, posting_at, sheets_from, postings_from, journal_in, journal_of, LeadsNumbers, LeadsWorth, begins, ArePostings, AreParts, LeadsPostings, HasPostings, LeadsSheets}
+use Rattle.buck_journal.proofs.Words.{◌≡◌, ℕ, ◌+◌, ◌<◌, ◌≤◌, Bool, true, false, List, [], ◌∷◌, ◌++◌, Some, Ok, Result, codes, length, slice_get, refl, arith, append_assoc, eq-eqb, bytes_eq, lt-ltb, and_from, append-nil, ItemParts, Slot, items_of, numbers_of, number_of, is_at, ◌>>=◌, check, Joins, Leads, item_in, joined, leads_on, slot, file_slot, TARGETS, stem_of, Log, Posting, Cut, Demand, Call, JournalFault, numbers_at, Form, says, item_at, list_form, call_form, call_at, head_form, samples_form, zones_form, logs_form, worth_at, follows, entry_of, stem_at, cut_at, demand_of, demand_at, posting_at, sheets_from, postings_from, journal_in, journal_of, LeadsNumbers, LeadsWorth, begins, ArePostings, AreParts, LeadsPostings, HasPostings, LeadsSheets}
 use Rattle.buck_journal.specs.inner.Plain.{LeadsTo}
 
 -- ---- an item
@@ -55,7 +55,9 @@ cut_leads c head samples zones logs w text called named sampled zoned logged lef
       items = item_in (slot 981 1) l₁.rest ∷ item_in (slot 981 2) l₂.rest ∷ item_in (slot 981 3) l₃.rest
           ∷ item_in (slot 981 4) l₄.rest ∷ item_in (slot 981 5) l₅.rest ∷ item_in (slot 981 6) l₆.rest ∷ [];
       leads = λ more h.
-          l₁.leads.next _ (l₂.leads.next _ (l₃.leads.next _ (l₄.leads.next _ (l₅.leads.next _ (l₆.leads.next more h)))));
+          leads_on l₁.leads _
+          (leads_on l₂.leads _
+          (leads_on l₃.leads _ (leads_on l₄.leads _ (leads_on l₅.leads _ (leads_on l₆.leads more h)))));
       read = λ p more others after. record {
         begin = refl;
         read = λ k before few. rw (
@@ -78,7 +80,7 @@ pub demand_leads : (c : Call) (text called targets left n₁ : List ℕ)
 unfolding postings_from posting_at demand_at
 demand_leads c text called targets left n₁ l₁ s₁ l₂ s₂ = record {
   items = item_in (slot 982 1) l₁.rest ∷ item_in (slot 982 2) l₂.rest ∷ [];
-  leads = λ more h. l₁.leads.next _ (l₂.leads.next more h);
+  leads = λ more h. leads_on l₁.leads _ (leads_on l₂.leads more h);
   read = λ p more others after. record {
     begin = refl;
     read = λ k before few. rw (
@@ -96,7 +98,7 @@ pub sheet_leads : (text prices left : List ℕ)
 unfolding sheets_from postings_from
 sheet_leads text prices left l h = record {
   items = item_in (slot 971 1) l.rest ∷ [];
-  leads = λ more is. l.leads.next more is;
+  leads = leads_on l.leads;
   read = λ ps more others after. record {
     sheets_read = λ k. rw (
       item_says (slot 971 1) (list_form 0 20000000) l.rest prices prices l.read h (k + 1),
@@ -132,7 +134,8 @@ postings_join text front back ps qs joins l m =
       leads = record {
         items = xs ++ ys;
         leads = λ more h. rw (append_assoc xs ys more)
-            (joins xs (ys ++ more) (rw (append-nil xs) at (l.leads.leads [] l.none)) (m.leads.leads more h));
+            (joined text front back xs (ys ++ more) joins (rw (append-nil xs) at (l.leads.leads [] l.none))
+            (m.leads.leads more h));
         read = λ p more others h. rw (append_assoc xs ys more, append_assoc ps qs others)
             (l.leads.read p (ys ++ more) (qs ++ others) (m.leads.read p more others h));
       };
@@ -166,7 +169,7 @@ plain_journal bytes kind body rest pss ps first named l few h =
     l.read ps (ys ++ []) []
     (record { sheets_read = λ k. no_sheets k _ last.begin; postings_read = λ k. last.read k 0 (omega (arith, few)) }) in
     rw (
-      first.next _ (l.leads _ (h.leads.leads [] h.none)) 1,
+      leads_on first _ (l.leads _ (h.leads.leads [] h.none)) 1,
       named,
       all.sheets_read 1,
       all.postings_read (0 + 1),

@@ -49,11 +49,13 @@ pub use Rattle.buck_record.specs.bytes.White.{is_white, trim, words}
 unfoldable pub use Rattle.buck_record.specs.bytes.White.{trim_start, trim_end, first_word, after_word}
 pub use Rattle.buck_record.specs.Reading.{with_fault}
 unfoldable pub use Rattle.buck_record.specs.Reading.{each_from}
-pub use Rattle.buck_record.specs.bytes.Record.{is_tilde}
+pub use Rattle.buck_record.specs.bytes.Record.{is_tilde, pieces}
 unfoldable pub use Rattle.buck_record.specs.bytes.Record.{number_at_most, item_of, items_of, numbers_of, number_of}
 pub use Rattle.buck_record.specs.pass.Cursor.{HasItems, Joins, Leads, item_in}
 pub use Rattle.buck_record.specs.writing.Written.{spelled}
+pub use Rattle.buck_record.proofs.CursorLemmas.{leads_on}
 pub use Rattle.buck_record.proofs.NumberLemmas.{numeral}
+pub use Rattle.buck_record.proofs.PartLemmas.{joined}
 pub use Rattle.buck_record.proofs.RoundLemmas.{number-decimal, numbers_again, words-spelled}
 pub use Rattle.buck_record.proofs.WordLemmas.{words-trim_start}
 pub use Rattle.buck_value.specs.Sheet.{SheetParts, IsPriceAt, base_prices}

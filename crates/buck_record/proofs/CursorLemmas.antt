@@ -112,14 +112,20 @@ pub leads : (text piece left : List ℕ) (item : ItemParts) → IsCut text piece
     → item_of piece ≡ Some item → Leads text item left
 leads text piece left item c some head =
     let full : 0 < length (trim (before_first is_tilde text)) = rw (← c.trimmed) some in
-    let here = cut-piece text piece left c some in
     record {
-      next = λ items h k.
-          ap (each_from item_of k) here
-          ∙ each-cons k piece (pieces left)
-          ∙ rw (head, h (k + 1)) (put-some item k items);
+      piece = piece;
+      first = cut-piece text piece left c some;
+      head = head;
       shorter = cut-shorter text piece left c (not-nil text full);
     }
+
+-- the items of a text that begins with one
+pub leads_on : {text left : List ℕ} {item : ItemParts} → Leads text item left → (items : List ItemParts)
+    → HasItems left items → HasItems text (item ∷ items)
+leads_on {left} {item} l items h = λ k.
+    ap (each_from item_of k) l.first
+    ∙ each-cons k l.piece (pieces left)
+    ∙ rw (l.head, h (k + 1)) (put-some item k items)
 
 nil : (xs : List ℕ) → length xs ≡ 0 → xs ≡ []
 nil [] h = refl

@@ -6,10 +6,11 @@ use Rattle.std.proofs.Math.Seq.{split_at}
 use Rattle.std.proofs.lemmas.List.{map-append}
 use Rattle.std.proofs.lemmas.List.Elements.{filter-append}
 use Rattle.std.proofs.lemmas.List.Splits.{slice_split-cons_yes, length-slice_split}
+use Rattle.buck_record.specs.Item.{ItemParts}
 use Rattle.buck_record.specs.bytes.White.{is_filled, trim}
 use Rattle.buck_record.specs.Reading.{each_from, put_front}
 use Rattle.buck_record.specs.bytes.Record.{item_of, is_tilde, filled_parts, pieces}
-use Rattle.buck_record.specs.pass.Cursor.{Joins}
+use Rattle.buck_record.specs.pass.Cursor.{HasItems, Joins}
 
 -- ---- the pieces
 onto : (x : ℕ) (parts more : List (List ℕ)) → 0 < length parts
@@ -53,10 +54,10 @@ module _ {X Y : Type 0} (f : X → Option Y) (qs : List X) (ys : List Y) (back :
   each_both k (p ∷ ps) xs h =
       then (f p) k (each_from f (k + 1) ps) (each_from f (k + 1) (ps ++ qs)) xs h (λ zs r. each_both (k + 1) ps zs r)
 
-pub joins : (text front back : List ℕ) (y : ℕ) → text ≡ front ++ y ∷ back → is_tilde y ≡ true → Joins text front back
-joins text front back y is tilde = λ xs ys before behind k.
-    ap (each_from item_of k) (ap pieces is ∙ pieces_both front back y tilde)
-    ∙ each_both item_of (pieces back) ys behind k (pieces front) xs (before k)
+pub joined : (text front back : List ℕ) (xs ys : List ItemParts)
+    → Joins text front back → HasItems front xs → HasItems back ys → HasItems text (xs ++ ys)
+joined text front back xs ys is before behind = λ k.
+    ap (each_from item_of k) is ∙ each_both item_of (pieces back) ys behind k (pieces front) xs (before k)
 
 -- a text that is cut at a place
 pub joins_at : (text : List ℕ) (at : ℕ)
@@ -67,8 +68,8 @@ joins_at text at within tilde =
     let behind : drop (suc at) text ≡ take (length text - (at + 1)) (drop (at + 1) text) =
     ap (λ n. drop n text) (let e : suc at ≡ at + 1 = omega arith in e)
     ∙ sym (take_all (length text - (at + 1)) (drop (at + 1) text) (omega (arith, length-drop (at + 1) text))) in
-    joins text (take at text) (take (length text - (at + 1)) (drop (at + 1) text)) (get_or text at 0)
-    (split_at text at 0 within ∙ ap (λ back. take at text ++ get_or text at 0 ∷ back) behind) tilde
+    ap pieces (split_at text at 0 within ∙ ap (λ back. take at text ++ get_or text at 0 ∷ back) behind)
+    ∙ pieces_both (take at text) (take (length text - (at + 1)) (drop (at + 1) text)) (get_or text at 0) tilde
 
 -- the first part's share lies in the text
 pub share_within : (n threads : ℕ) → n / threads * (threads / 2) ≤ n

@@ -35,7 +35,6 @@ pub use numbered::{FaultNumbers, Numbered};
 pub use pass::cursor::{is_done, next_in};
 pub use pass::kept_numbers::numbers_into;
 pub use pass::parts::two_parts;
-pub use pass::short_heads::next_quick;
 pub use pass::small_numbers::append_numbers;
 pub use slot::Slot;
 pub use writing::line::{put_line, put_number, put_numbers};

@@ -11,6 +11,8 @@ use Rattle.buck_record.specs.bytes.White.{words}
 use Rattle.buck_record.specs.bytes.Record.{items_of, numbers_of, number_of, one_number, number_at_most}
 use Rattle.buck_record.specs.pass.Cursor.{HasItems, Joins, Leads, item_in}
 use Rattle.buck_record.specs.checking.Rules.{file_slot, within, all_within}
+use Rattle.buck_record.proofs.CursorLemmas.{leads_on}
+use Rattle.buck_record.proofs.PartLemmas.{joined}
 use Rattle.buck_stem.specs.declared.file.draft.Draft.{Draft}
 use Rattle.buck_stem.specs.declared.file.slots.TheConstants.{STEM, SPECIES, SAMPLES, MOST_SAMPLES}
 use Rattle.buck_stem.specs.Stem.{StemParts, stem_of, IsStem}
@@ -48,7 +50,7 @@ pub read_stems : (bytes text body : List ℕ) (stems : List StemParts)
     → stm_of bytes ≡ Ok stems
 read_stems bytes text body stems first says h =
     plain_files text h.0 stems h.2 bytes
-    (items-are bytes (item_in file_slot text ∷ h.0) (first.next h.0 h.1)) says
+    (items-are bytes (item_in file_slot text ∷ h.0) (leads_on first h.0 h.1)) says
 
 -- ---- two parts of a text
 both : (xs ys : List ItemParts) (stems more : List StemParts)
@@ -79,7 +81,7 @@ both xs ys (stem ∷ stems) more p q =
 pub stems_join : (text front back : List ℕ) (stems more : List StemParts)
     → Joins text front back → HasStems front stems → HasStems back more → HasStems text (stems ++ more)
 stems_join text front back stems more joins h g =
-    (h.0 ++ g.0, joins h.0 g.0 h.1 g.1, both h.0 g.0 stems more h.2 g.2)
+    (h.0 ++ g.0, joined text front back h.0 g.0 joins h.1 g.1, both h.0 g.0 stems more h.2 g.2)
 
 -- ---- the numbers of a stem
 abbrev draft : ℕ → ℕ → List ℕ → List ℕ → Draft
@@ -149,7 +151,7 @@ stem_leads text one two three left n s ns zones stem a b c z species thin number
     let named = item_in SPECIES b.0 ∷ sampled in
     let zs = z.says.numbers in (
       item_in STEM a.0 ∷ named,
-      a.2.next named (b.2.next sampled (c.2.next after (z.next items h))),
+      leads_on a.2 named (leads_on b.2 sampled (leads_on c.2 after (z.next items h))),
       record {
         number = a.0;
         species = b.0;

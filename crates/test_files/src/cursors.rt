@@ -1,6 +1,6 @@
 //! Items one after the other: a text that begins with an item is seen to, and a text without one is seen to be at its end.
 //! What is found is right by contract; that something is found, no contract says.
-use buck_record::{is_done, next_in, next_quick, slot};
+use buck_record::{is_done, next_in, slot};
 
 /// A slot, a text that begins with an item in it, its rest, and what is left.
 const FRONTS: [(u16, u16, &str, &str, &str); 14] = [
@@ -33,9 +33,6 @@ fn first_other(rows: &[(u16, u16, &str, &str, &str)]) -> usize {
         let (number, kind, text, rest, left) = rows[i];
         let slot = slot!(number, kind);
         if !is_found(next_in(slot, text.as_bytes()), rest, left) {
-            return i + 1;
-        }
-        if !is_found(next_quick(slot, text.as_bytes()), rest, left) {
             return i + 1;
         }
     }

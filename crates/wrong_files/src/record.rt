@@ -18,7 +18,7 @@ use buck_record::table::{count, front, groups, missing, rest, twice};
 use buck_record::{
     FaultNumbers, FormFault, Group, Listed, Numbered, Piece, RecordFault, Slot, append_numbers,
     is_done, items, next_in, number, numbers, numbers_into, pieces, pieces_at, put_line,
-    put_number, slot, wide,
+    put_number, slot, two_parts, wide,
 };
 use std::alloc::Global;
 
@@ -140,6 +140,30 @@ pub fn next_in_leaves_the_whole_text(slot: Slot, text: &[u8]) {
     if let Some((_, left)) = next_in(slot, text) {
         let right = left.len();
         let wrong = text.len();
+        prove!(right != wrong);
+    }
+}
+
+/// An item before one with no head is given another rest.
+pub fn next_in_any_rest_before_no_head() {
+    if let Some((right, _)) = next_in(LOWER, b"915 1 100~no head") {
+        let wrong = b"200".as_slice();
+        prove!(right != wrong);
+    }
+}
+
+/// What is left after an item is some text that can't be read.
+pub fn next_in_leaves_what_has_no_head() {
+    if let Some((_, right)) = next_in(LOWER, b"915 1 100~915 1 200") {
+        let wrong = b"x".as_slice();
+        prove!(right != wrong);
+    }
+}
+
+/// A text is cut into parts of which the first can't be read.
+pub fn two_parts_first_has_no_head() {
+    if let Some((right, _)) = two_parts(LOWER, b"915 1 100~915 1 200", 2) {
+        let wrong = b"x".as_slice();
         prove!(right != wrong);
     }
 }
@@ -440,6 +464,37 @@ pub fn put_number_without_a_blank(alloc: Global) {
     };
     let wrong: &[u8] = b"07";
     prove!(out.as_slice() != wrong);
+}
+
+/// A refused number leaves its blank behind.
+pub fn put_number_refused_after_its_blank(out: &mut Vec<u8>) {
+    let before = out.len();
+    if put_number(out, 7).is_err() {
+        let right = out.len();
+        let wrong = before + 1;
+        prove!(right != wrong);
+    }
+}
+
+/// A refused line empties the buffer.
+pub fn put_line_refused_empties(out: &mut Vec<u8>) {
+    if out.is_empty() {
+        return;
+    }
+    if put_line(out, b"LAWFUL", &[2]).is_err() {
+        let right = out.len();
+        let wrong = 0;
+        prove!(right != wrong);
+    }
+}
+
+/// A list that is refused memory keeps numbers of the text before.
+pub fn numbers_into_refused_keeps_the_last(held: &mut Vec<u32>) {
+    if numbers_into(b"12 900", held).is_err() {
+        let right = held.len();
+        let wrong = 1;
+        prove!(right != wrong);
+    }
 }
 
 /// A line has no line feed at its end.

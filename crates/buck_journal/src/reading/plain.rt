@@ -19,7 +19,7 @@ use crate::reading::slots::{
 use buck_apt::slots::TARGETS;
 use buck_book::{MOST_POSTINGS, Posting};
 use buck_record::rules::{FILE, one_to};
-use buck_record::{Slot, append_numbers, is_done, next_quick, numbers_into, wide};
+use buck_record::{Slot, append_numbers, is_done, next_in, numbers_into, wide};
 use buck_stem::Stem;
 use buck_stem::slots::{MOST_SAMPLES, SAMPLES};
 use buck_value::HIGHEST_PRICE;
@@ -34,7 +34,7 @@ fn next_numbers<'a>(
 ) -> Result<&'a [u8], JournalFault>
     ensures { IfOk result (λ left. LeadsNumbers slot text.now room.new.items left.now) }
 {
-    let Some((rest, left)) = next_quick(slot, text) else {
+    let Some((rest, left)) = next_in(slot, text) else {
         return Err(JournalFault::NotJournal);
     };
     if !numbers_into(rest, room)? {
@@ -49,7 +49,7 @@ fn next_samples<'a>(samples: &mut Vec<u16>, text: &'a [u8]) -> Result<&'a [u8], 
     ensures right { IfOk result (λ _. says samples_form 1 samples.new.items ≡ Ok samples.new.items) }
     ensures valid { IfOk result (λ _. AreSamples samples.new.items) }
 {
-    let Some((rest, left)) = next_quick(CUT_SAMPLES, text) else {
+    let Some((rest, left)) = next_in(CUT_SAMPLES, text) else {
         return Err(JournalFault::NotJournal);
     };
     samples.clear();
@@ -67,7 +67,7 @@ fn next_samples<'a>(samples: &mut Vec<u16>, text: &'a [u8]) -> Result<&'a [u8], 
 fn next_worth(text: &[u8]) -> Result<(u64, &[u8]), JournalFault>
     ensures { IfOk result (λ w. LeadsWorth text.now w.0 w.1.now) }
 {
-    let Some((rest, left)) = next_quick(WORTH, text) else {
+    let Some((rest, left)) = next_in(WORTH, text) else {
         return Err(JournalFault::NotJournal);
     };
     match wide(rest) {
@@ -199,7 +199,7 @@ pub(crate) fn opened<'a>(
 ) -> Result<(Vec<Vec<u32>>, &'a [u8]), JournalFault>
     ensures { IfOk result (λ w. BeginsJournal bytes.now (map (λ v. v.items) w.0.items) w.1.now) }
 {
-    let Some((kind, body)) = next_quick(FILE, bytes) else {
+    let Some((kind, body)) = next_in(FILE, bytes) else {
         return Err(JournalFault::NotJournal);
     };
     if kind != b"JRN".as_slice() {

@@ -1,5 +1,5 @@
 -- The items of a text, one after the other, with no list of them.
-use Rattle.std.specs.Prelude.{◌≡◌, ℕ, ◌<◌, List, ◌∷◌, ◌++◌, length, Ok}
+use Rattle.std.specs.Prelude.{◌≡◌, ℕ, ◌<◌, List, ◌∷◌, ◌++◌, length, Some, Ok}
 use Rattle.buck_record.specs.Item.{ItemParts}
 use Rattle.buck_record.specs.declared.slot.Slot.{Slot}
 use Rattle.buck_record.specs.Reading.{each_from}
@@ -9,14 +9,16 @@ use Rattle.buck_record.specs.bytes.Record.{item_of, pieces}
 abbrev pub HasItems : List ℕ → List ItemParts → Type 0
 HasItems text items = (k : ℕ) → each_from item_of k (pieces text) ≡ Ok items
 
--- the text begins with the item, and `left` has the others
+-- the text begins with the item, and `left` has the other pieces
 pub record Leads (text : List ℕ) (item : ItemParts) (left : List ℕ) : Type 0 where
-  pub next : (items : List ItemParts) → HasItems left items → HasItems text (item ∷ items)
+  pub piece : List ℕ
+  pub first : pieces text ≡ piece ∷ pieces left
+  pub head : item_of piece ≡ Some item
   pub shorter : length left < length text
 
--- the items of the text are those of one part and then those of another
+-- the pieces of the text are those of one part and then those of another
 abbrev pub Joins : List ℕ → List ℕ → List ℕ → Type 0
-Joins text front back = (xs ys : List ItemParts) → HasItems front xs → HasItems back ys → HasItems text (xs ++ ys)
+Joins text front back = pieces text ≡ pieces front ++ pieces back
 
 -- the item in a slot, with this rest
 abbrev pub item_in : Slot → List ℕ → ItemParts

@@ -1,12 +1,12 @@
 //! Items, one after the other, with no list of them.
-ghost use Rattle.std.specs.Prelude.{◌≡◌, ◌<◌, [], ◌∷◌, length, position, IfSome, IfNone, IsTrue};
+ghost use Rattle.std.specs.Prelude.{◌≡◌, ◌<◌, [], ◌∷◌, length, position, IfSome, IfNone, IsTrue, Some};
 ghost use Rattle.std.specs.List.{before_first, after_first};
-ghost use Rattle.buck_record.specs.bytes.Record.{is_tilde, pieces};
+ghost use Rattle.buck_record.specs.bytes.Record.{is_tilde, item_of, pieces};
 ghost use Rattle.buck_record.specs.pass.Cursor.{HasItems, Leads, item_in};
 
 use crate::bytes::reading::read_piece;
 use crate::bytes::white::trim;
-use crate::item::Piece;
+use crate::pass::short_heads::rest_of;
 use crate::slot::Slot;
 use bstr::ByteSlice;
 
@@ -45,29 +45,16 @@ pub(crate) fn cut_piece(text: &[u8]) -> Option<(&[u8], &[u8])>
     None
 }
 
-/// The item that a text begins with, and what is left of the text after the tilde that ends it. `None` where there is
-/// no item, or an empty piece, or one with no head.
-fn next_item(text: &[u8]) -> Option<(Piece<'_>, &[u8])>
-    ensures { IfSome result (λ w. Leads text.now w.0 w.1.now) }
+/// The rest of a piece whose head stands in this slot. A head as it is usually written is read straight on, any other
+/// word by word.
+fn rest_in(slot: Slot, piece: &[u8]) -> Option<&[u8]>
+    ensures { IfSome result (λ rest. item_of piece.now ≡ Some (item_in slot rest.now)) }
 {
-    let (part, left) = cut_part(text);
-    let piece = trim(part);
-    if piece.is_empty() {
-        return None;
+    match rest_of(slot, piece) {
+        Some(rest) => return Some(rest),
+        None => {}
     }
     let Some(item) = read_piece(piece) else {
-        return None;
-    };
-    Some((item, left))
-}
-
-/// The rest of the item that a text begins with, where that item stands in this slot, and what is left of the text
-/// after it: the items of the text are this one and then those of what is left. `None` where there is no item, or
-/// another, or an empty piece before it.
-pub fn next_in(slot: Slot, text: &[u8]) -> Option<(&[u8], &[u8])>
-    ensures { IfSome result (λ w. Leads text.now (item_in slot w.0.now) w.1.now) }
-{
-    let Some((item, left)) = next_item(text) else {
         return None;
     };
     if item.number != slot.number {
@@ -76,7 +63,24 @@ pub fn next_in(slot: Slot, text: &[u8]) -> Option<(&[u8], &[u8])>
     if item.kind != slot.kind {
         return None;
     }
-    Some((item.rest, left))
+    Some(item.rest)
+}
+
+/// The rest of the item that a text begins with, where that item stands in this slot, and what is left of the text
+/// after the tilde that ends it: whatever is left, the text is read as this item and then that. `None` where there is
+/// no item, or another, or an empty piece before it.
+pub fn next_in(slot: Slot, text: &[u8]) -> Option<(&[u8], &[u8])>
+    ensures { IfSome result (λ w. Leads text.now (item_in slot w.0.now) w.1.now) }
+{
+    let (part, left) = cut_part(text);
+    let piece = trim(part);
+    if piece.is_empty() {
+        return None;
+    }
+    let Some(rest) = rest_in(slot, piece) else {
+        return None;
+    };
+    Some((rest, left))
 }
 
 /// Whether a text is seen at once to have no item: it has white bytes, and at most one tilde at its end.

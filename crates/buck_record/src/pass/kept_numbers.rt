@@ -1,5 +1,5 @@
 //! The numbers of a text, in a list that is kept from text to text.
-ghost use Rattle.std.specs.Prelude.{◌≡◌, ◌+◌, ◌*◌, ◌≤◌, ◌<◌, ◌++◌, length, IsTrue, IsFalse, IfOk, IfSome, IfNone, None, Ok};
+ghost use Rattle.std.specs.Prelude.{◌≡◌, ◌+◌, ◌*◌, ◌≤◌, ◌<◌, ◌++◌, length, IsTrue, IsFalse, IfOk, IfSome, IfNone, OnErr, None, Ok, []};
 ghost use Rattle.std.specs.Vec.{vec_len, vec_capacity};
 ghost use Rattle.buck_record.specs.bytes.Record.{number_at_most, numbers_of};
 ghost use Rattle.buck_record.specs.bytes.White.{first_word};
@@ -99,10 +99,11 @@ fn append_each(text: &[u8], out: &mut Vec<u32>) -> bool
 
 /// Reads the numbers of a text, as [`numbers`](crate::numbers) has them, into a list, in the place of what it held.
 /// Answers whether each word of the text was a number. A list that is kept for the next text takes memory for that only
-/// where it is longer.
+/// where it is longer; one that is refused memory is left empty.
 pub fn numbers_into(text: &[u8], held: &mut Vec<u32>) -> Result<bool, AllocError>
     ensures read { IfOk result (λ all. IsTrue all → numbers_of text.now ≡ Ok held.new.items) }
     ensures refused { IfOk result (λ all. IsFalse all → AreSmall 4294967295 text.now → ⊥) }
+    ensures emptied { OnErr result (held.new.items ≡ []) }
 {
     held.clear();
     held.reserve(text.len() / 2 + 1)?;

@@ -3,7 +3,7 @@ ghost use Rattle.std.specs.Prelude.{◌≡◌, ◌<◌, ◌≤◌, length, slice
 ghost use Rattle.buck_record.specs.bytes.Record.{is_tilde};
 ghost use Rattle.buck_record.specs.pass.Cursor.{Joins};
 
-use crate::pass::short_heads::next_quick;
+use crate::pass::cursor::next_in;
 use crate::slot::Slot;
 use bstr::ByteSlice;
 
@@ -36,7 +36,7 @@ fn cut_before(slot: Slot, text: &[u8], near: usize) -> Option<(&[u8], &[u8])>
             return None;
         };
         let back = &text[end + 1..];
-        if next_quick(slot, back).is_some() {
+        if next_in(slot, back).is_some() {
             return Some((&text[..end], back));
         }
         from = end + 1;

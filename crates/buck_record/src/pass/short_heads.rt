@@ -1,11 +1,10 @@
-//! Items with a short head, one after the other.
+//! Pieces with a short head.
 ghost use Rattle.std.specs.Prelude.{◌≡◌, ◌<◌, length, IfSome, IsTrue, Some};
 ghost use Rattle.buck_record.specs.bytes.White.{trim_start, trim_end, trim};
 ghost use Rattle.buck_record.specs.bytes.Record.{item_of};
-ghost use Rattle.buck_record.specs.pass.Cursor.{Leads, item_in};
+ghost use Rattle.buck_record.specs.pass.Cursor.{item_in};
 
-use crate::bytes::white::{is_white, trim_start};
-use crate::pass::cursor::{cut_part, next_in};
+use crate::bytes::white::is_white;
 use crate::pass::short_words::front_quick;
 use crate::slot::Slot;
 
@@ -37,7 +36,7 @@ fn is_trimmed(text: &[u8]) -> bool
 /// The rest of a piece whose head stands in this slot, where number and kind are words of one to four digits, a single
 /// white byte stands after each, and none stands at the end.
 #[inline(always)]
-fn rest_of(slot: Slot, piece: &[u8]) -> Option<&[u8]>
+pub(crate) fn rest_of(slot: Slot, piece: &[u8]) -> Option<&[u8]>
     ensures { IfSome result (λ rest. item_of piece.now ≡ Some (item_in slot rest.now)) }
 {
     let Some((number, tail)) = front_quick(9999, piece) else {
@@ -59,31 +58,4 @@ fn rest_of(slot: Slot, piece: &[u8]) -> Option<&[u8]>
         return None;
     }
     Some(rest)
-}
-
-/// The item that a text begins with, as `rest_of` has it.
-#[inline(always)]
-fn next_short(slot: Slot, text: &[u8]) -> Option<(&[u8], &[u8])>
-    ensures { IfSome result (λ w. Leads text.now (item_in slot w.0.now) w.1.now) }
-{
-    let (part, left) = cut_part(text);
-    let piece = trim_start(part);
-    if !ends_dark(piece) {
-        return None;
-    }
-    let Some(rest) = rest_of(slot, piece) else {
-        return None;
-    };
-    Some((rest, left))
-}
-
-/// The same as [`next_in`], and sooner where the item stands as it is usually written: a number and a kind of at most
-/// four digits each, with a single blank after each, and a rest.
-pub fn next_quick(slot: Slot, text: &[u8]) -> Option<(&[u8], &[u8])>
-    ensures { IfSome result (λ w. Leads text.now (item_in slot w.0.now) w.1.now) }
-{
-    match next_short(slot, text) {
-        Some(found) => Some(found),
-        None => next_in(slot, text),
-    }
 }

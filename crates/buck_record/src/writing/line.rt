@@ -1,6 +1,7 @@
 //! Lines and items as they are written: words, then numbers, a blank before each.
-ghost use Rattle.std.specs.Prelude.{◌≡◌, ◌<◌, ◌≤◌, ◌++◌, ◌∷◌, OnOk};
+ghost use Rattle.std.specs.Prelude.{◌≡◌, ◌<◌, ◌≤◌, ◌++◌, ◌∷◌, OnOk, OnErr};
 ghost use Rattle.std.specs.Fmt.{decimal};
+ghost use Rattle.buck_record.specs.pass.Added.{IsLonger};
 ghost use Rattle.buck_record.specs.writing.Line.{line_of};
 ghost use Rattle.buck_record.specs.writing.Written.{spelled};
 
@@ -11,7 +12,8 @@ use itoa::Buffer;
 #[inline(always)]
 fn put_one(out: &mut Vec<u8>, number: u32) -> Result<(), Memory>
     requires { number < 10 }
-    ensures { OnOk result (out.new.items ≡ out.old.items ++ (32 ∷ decimal number)) }
+    ensures put { OnOk result (out.new.items ≡ out.old.items ++ (32 ∷ decimal number)) }
+    ensures kept { OnErr result (out.new.items ≡ out.old.items) }
 {
     out.extend_from_slice(&[b' ', b'0' + number as u8])?;
     Ok(())
@@ -22,7 +24,8 @@ fn put_one(out: &mut Vec<u8>, number: u32) -> Result<(), Memory>
 #[inline(always)]
 fn put_three(out: &mut Vec<u8>, number: u32) -> Result<(), Memory>
     requires { (100 ≤ number) × (number < 1000) }
-    ensures { OnOk result (out.new.items ≡ out.old.items ++ (32 ∷ decimal number)) }
+    ensures put { OnOk result (out.new.items ≡ out.old.items ++ (32 ∷ decimal number)) }
+    ensures kept { OnErr result (out.new.items ≡ out.old.items) }
 {
     let hundreds = b'0' + (number / 100) as u8;
     let tens = b'0' + (number / 10 % 10) as u8;
@@ -36,7 +39,8 @@ fn put_three(out: &mut Vec<u8>, number: u32) -> Result<(), Memory>
 #[inline(always)]
 fn put_four(out: &mut Vec<u8>, number: u32) -> Result<(), Memory>
     requires { (1000 ≤ number) × (number < 10000) }
-    ensures { OnOk result (out.new.items ≡ out.old.items ++ (32 ∷ decimal number)) }
+    ensures put { OnOk result (out.new.items ≡ out.old.items ++ (32 ∷ decimal number)) }
+    ensures kept { OnErr result (out.new.items ≡ out.old.items) }
 {
     let thousands = b'0' + (number / 1000) as u8;
     let hundreds = b'0' + (number / 100 % 10) as u8;
@@ -49,15 +53,17 @@ fn put_four(out: &mut Vec<u8>, number: u32) -> Result<(), Memory>
 /// Puts a number of any digits, after a blank.
 #[inline(never)]
 fn put_any(out: &mut Vec<u8>, number: u128) -> Result<(), Memory>
-    ensures { OnOk result (out.new.items ≡ out.old.items ++ (32 ∷ decimal number)) }
+    ensures put { OnOk result (out.new.items ≡ out.old.items ++ (32 ∷ decimal number)) }
+    ensures kept { OnErr result (out.new.items ≡ out.old.items) }
 {
     let mut buffer = Buffer::new();
-    out.push(b' ')?;
     let digits = if number < 1 << 64 {
         buffer.format(number as u64)
     } else {
         buffer.format(number)
     };
+    out.reserve(digits.len() + 1)?;
+    out.push_reserved(b' ');
     out.extend_from_slice(digits.as_bytes())?;
     Ok(())
 }
@@ -66,7 +72,8 @@ fn put_any(out: &mut Vec<u8>, number: u128) -> Result<(), Memory>
 #[inline(always)]
 fn put_small(out: &mut Vec<u8>, number: u32) -> Result<(), Memory>
     requires { number < 10000 }
-    ensures { OnOk result (out.new.items ≡ out.old.items ++ (32 ∷ decimal number)) }
+    ensures put { OnOk result (out.new.items ≡ out.old.items ++ (32 ∷ decimal number)) }
+    ensures kept { OnErr result (out.new.items ≡ out.old.items) }
 {
     if number < 10 {
         return put_one(out, number);
@@ -80,10 +87,11 @@ fn put_small(out: &mut Vec<u8>, number: u32) -> Result<(), Memory>
     put_four(out, number)
 }
 
-/// Puts a number in decimal, after a blank.
+/// Puts a number in decimal, after a blank. Refused as `Memory` with the buffer as it was.
 #[inline(always)]
 pub fn put_number(out: &mut Vec<u8>, number: u128) -> Result<(), Memory>
-    ensures { OnOk result (out.new.items ≡ out.old.items ++ (32 ∷ decimal number)) }
+    ensures put { OnOk result (out.new.items ≡ out.old.items ++ (32 ∷ decimal number)) }
+    ensures kept { OnErr result (out.new.items ≡ out.old.items) }
 {
     if number < 10_000 {
         return put_small(out, number as u32);
@@ -91,9 +99,10 @@ pub fn put_number(out: &mut Vec<u8>, number: u128) -> Result<(), Memory>
     put_any(out, number)
 }
 
-/// Puts numbers in decimal, each after a blank.
+/// Puts numbers in decimal, each after a blank. Refused as `Memory`, where some of them may have been put.
 pub fn put_numbers(out: &mut Vec<u8>, numbers: &[u128]) -> Result<(), Memory>
-    ensures { OnOk result (out.new.items ≡ out.old.items ++ spelled numbers.now) }
+    ensures put { OnOk result (out.new.items ≡ out.old.items ++ spelled numbers.now) }
+    ensures kept { OnErr result (IsLonger out.old.items out.new.items) }
 {
     for number in numbers {
         put_number(out, *number)?;
@@ -101,9 +110,10 @@ pub fn put_numbers(out: &mut Vec<u8>, numbers: &[u128]) -> Result<(), Memory>
     Ok(())
 }
 
-/// Puts a line: words, and numbers after them.
+/// Puts a line: words, and numbers after them. Refused as `Memory`, where a part of it may have been put.
 pub fn put_line(out: &mut Vec<u8>, words: &[u8], numbers: &[u128]) -> Result<(), Memory>
-    ensures { OnOk result (out.new.items ≡ out.old.items ++ line_of words.now numbers.now) }
+    ensures put { OnOk result (out.new.items ≡ out.old.items ++ line_of words.now numbers.now) }
+    ensures kept { OnErr result (IsLonger out.old.items out.new.items) }
 {
     out.extend_from_slice(words)?;
     put_numbers(out, numbers)?;

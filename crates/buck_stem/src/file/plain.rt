@@ -9,7 +9,7 @@ use crate::file::rules::{grades_within, is_count_of_zones, starts_rise, starts_w
 use crate::file::slots::{GRADES, MOST_SAMPLES, SAMPLES, SPECIES, STARTS, STEM, ZONES};
 use crate::stem::Stem;
 use buck_record::rules::FILE;
-use buck_record::{Slot, append_numbers, is_done, next_in, next_quick, number, numbers_into};
+use buck_record::{Slot, append_numbers, is_done, next_in, number, numbers_into};
 use std::alloc::{AllocError, Global};
 
 /// The one number of the item that a text begins with, where that stands in this slot, and what is left after it.
@@ -50,7 +50,7 @@ fn next_samples<'a>(room: &mut Vec<u16>, text: &'a [u8]) -> Result<Option<&'a [u
     ensures number { IfOk result (λ o. IfSome o (λ _.
         (1 ≤ length room.new.items) × (length room.new.items ≤ MOST_SAMPLES))) }
 {
-    let Some((rest, left)) = next_quick(SAMPLES, text) else {
+    let Some((rest, left)) = next_in(SAMPLES, text) else {
         return Ok(None);
     };
     room.clear();

@@ -1,4 +1,5 @@
 use Rattle.std.proofs.Common.{Some, subst, sym}
+use Rattle.buck_record.proofs.CursorLemmas.{leads_on}
 use Rattle.buck_stem.specs.inner.Plain.{SaysZones, LeadsZones}
 use Rattle.buck_stem.proofs.JoinLemmas.{no_zones}
 use Rattle.buck_stem.proofs.file.plain.next_zones.Goals as goal
@@ -13,5 +14,5 @@ returns c =
     record {
       item = Some c.in-Some.rest.now;
       says = says;
-      next = c.in-Some.ensures.next;
+      next = leads_on c.in-Some.ensures;
     }
