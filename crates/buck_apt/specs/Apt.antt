@@ -2,14 +2,14 @@
 -- before it pass, and within a line the first item in the order of the table, assortment by assortment. The table
 -- stands in src/slots: what each item says, the range of its numbers, and how many there may be, where that isn't one.
 -- The chain of the ten lines, `apt_of`, stands at the end of this page.
-use Rattle.std.specs.Prelude.{ℕ, Bool, not, ◌*◌, ◌%◌, ◌&&◌, ◌==◌, List, [], ◌∷◌, length, map, sum, slice_index, nat_le, nat_lt, find, position, Option, Some, None, Result, Ok, Err, codes, if◌then◌else◌}
+use Rattle.std.specs.Prelude.{ℕ, Bool, not, ◌*◌, ◌%◌, ◌&&◌, ◌==◌, List, [], ◌∷◌, ◌++◌, length, map, sum, slice_index, nat_le, nat_lt, find, position, Option, Some, None, Result, Ok, Err, codes, if◌then◌else◌}
 use Rattle.std.specs.List.{list_all}
 use Rattle.std.specs.Str.{bytes_eq}
 use Rattle.buck_record.specs.Item.{ItemParts}
 use Rattle.buck_record.specs.declared.slot.Slot.{Slot}
 use Rattle.buck_record.specs.Reading.{with_fault}
 use Rattle.buck_record.specs.bytes.Record.{items_of}
-use Rattle.buck_record.specs.checking.Table.{count_in, rest_in, first_missing, first_twice, groups_of}
+use Rattle.buck_record.specs.checking.Table.{only_in, count_in, rest_in, first_missing, first_twice, groups_of}
 use Rattle.buck_record.specs.checking.Check.{◌>>=◌, check, none_of, each, make_each}
 use Rattle.buck_record.specs.checking.Rules.{file_slot, of_slot, has_no_strays, numbers_in, one_to, all_in_range, counted_to, is_rising}
 use Rattle.buck_apt.specs.declared.slots.TheConstants.{MODULE, PERIOD, LIMIT, COUNT, NAME, LONGEST_NAME, SPECIES, GRADES, MOST_GRADES, PRICE_KIND, DIAMETERS, MOST_ROWS, UPPER, LENGTHS, MOST_COLUMNS, PRICES, TARGETS, MOST_TARGETS_TOGETHER, TRIM, HEAD, ALONE, MEMBERS, IN_ASSORTMENT}
@@ -229,10 +229,15 @@ within_limits file = do
   _ ← on_module file
   in_targets file
 
--- The instruction of the bytes, or the first refusal that applies: line 1 (an item without a head) to line 10.
+-- the slots of the table
+abbrev pub table : List Slot
+table = ALONE ++ NAME ∷ IN_ASSORTMENT
+
+-- The instruction of the bytes, or the first refusal that applies: line 1 (an item without a head) to line 10. Items
+-- that stand in no slot of the table are skipped.
 unfoldable pub apt_of : List ℕ → Result InstructionParts AptFault
 apt_of bytes = do
-  items ← with_fault Head (items_of bytes)
+  items ← with_fault Head (only_in table (items_of bytes))
   file ← draft_in items
   _ ← within_limits file
   Ok (instruction_of file)

@@ -6,6 +6,7 @@ mod class;
 mod draft;
 mod fault;
 mod instruction;
+pub mod laws;
 mod lines;
 mod reading;
 mod rules;

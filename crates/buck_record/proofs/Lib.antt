@@ -6,7 +6,6 @@ pub mod RecordLemmas
 pub mod KeptLemmas
 pub mod WordLemmas
 pub mod TableLemmas
-pub mod SlotLemmas
 pub mod RoundLemmas
 pub mod CheckLemmas
 pub mod RuleLemmas

@@ -7,6 +7,5 @@ pub mod RunLemmas
 pub mod Tables
 pub mod Diameters
 pub mod Along
-pub mod TableLemmas
 pub mod PlainLemmas
 pub mod JoinLemmas

@@ -4,6 +4,7 @@
 mod body;
 mod file;
 mod grades;
+pub mod laws;
 mod points;
 mod same;
 mod stem;

@@ -5,9 +5,10 @@
 use Rattle.std.specs.Prelude.{ℕ, Bool, ◌*◌, ◌&&◌, ◌==◌, ◌%◌, List, [], ◌∷◌, length, map, slice_index, nat_le, Result, Ok, codes}
 use Rattle.std.specs.Str.{bytes_eq}
 use Rattle.buck_record.specs.Item.{ItemParts}
+use Rattle.buck_record.specs.declared.slot.Slot.{Slot}
 use Rattle.buck_record.specs.Reading.{with_fault}
 use Rattle.buck_record.specs.bytes.Record.{items_of}
-use Rattle.buck_record.specs.checking.Table.{rest_in, first_missing, first_twice, groups_of}
+use Rattle.buck_record.specs.checking.Table.{only_in, rest_in, first_missing, first_twice, groups_of}
 use Rattle.buck_record.specs.checking.Check.{◌>>=◌, check, none_of, each, make_each}
 use Rattle.buck_record.specs.checking.Rules.{file_slot, of_slot, has_no_strays, numbers_in, all_in_range, counted_to, is_rising}
 use Rattle.buck_stem.specs.declared.file.slots.TheConstants.{STEM, SPECIES, SAMPLES, MOST_SAMPLES, ZONES, STARTS, GRADES, MOST_ZONES, NEEDED, MEMBERS}
@@ -116,10 +117,15 @@ checked drafts = do
   _ ← in_order drafts
   in_number drafts
 
--- The stems of the bytes, or the first refusal that applies: line 1 (an item without a head) to line 8.
+-- the slots of the table
+abbrev pub table : List Slot
+table = file_slot ∷ STEM ∷ MEMBERS
+
+-- The stems of the bytes, or the first refusal that applies: line 1 (an item without a head) to line 8. Items that
+-- stand in no slot of the table are skipped.
 unfoldable pub stm_of : List ℕ → Result (List StemParts) StmFault
 stm_of bytes = do
-  items ← with_fault Head (items_of bytes)
+  items ← with_fault Head (only_in table (items_of bytes))
   drafts ← drafts_in items
   _ ← checked drafts
   Ok (map parts_of drafts)

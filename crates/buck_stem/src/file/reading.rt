@@ -95,6 +95,7 @@ fn stems_in(alloc: Global, drafts: Listed<Draft>) -> Result<Vec<Stem>, StmFault>
 
 /// The stems of a file's bytes, or the first refusal that applies, line by line over lists of the table's items and their numbers.
 /// This takes items in any order, and it alone says why a file is refused.
+#[tactic(auto, unfolding(crate::specs::file::Stm::stm_of, crate::specs::inner::Stages::stems_in))]
 pub(crate) fn read_by_lines(alloc: Global, bytes: &[u8]) -> Result<Vec<Stem>, StmFault>
     ensures { Gives Memory (listed result) (stm_of bytes.now) }
 {
