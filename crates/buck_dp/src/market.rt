@@ -151,6 +151,7 @@ impl Market {
     fn clear_if_full(&mut self)
         ensures { HasSame self.old self.new }
     {
+        // Every menu has an offer; no clause says so, and the division wants it.
         if self.terms.len() > TERMS / self.menu.offers.len().max(1) {
             self.terms.clear();
             self.quotes.clear();

@@ -126,6 +126,7 @@ pub(crate) fn offer_all(values: &mut [Bid], top: usize, first: usize, row: &[Cel
     ensures { (p : GroundParts) (choices : List ℕ) → AreOffered p choices top first top row.now 0 values.old
         → AllFit p top row.now → IsSearch p values.new choices top first }
 {
+    // The sum never saturates: `far` is a row's reach along a stem, which no condition here bounds.
     if top < first.saturating_add(far) {
         offer_short(values, top, first, row);
         return;

@@ -46,6 +46,7 @@ fn steps_of(instruction: &Instruction, offers: &[Offer]) -> (usize, usize)
     ensures long { (r : ℕ) → IsRank offers.now r → (offer_at offers.now r).length ≤ result.1 * instruction.now.module }
     ensures few { result.1 ≤ 4294967295 }
 {
+    // Every instruction has an offer; that isn't a condition here, so the first and the last are asked for.
     let number = offers.len();
     if number == 0 {
         return (0, 0);

@@ -195,7 +195,8 @@ impl Search {
             return Ok(last);
         }
         let near = self.parts[0];
-        // From the top `least` on there are logs, and from `full` on all of them start in the nearest part.
+        // From the top `least` on there are logs, and from `full` on all of them start in the nearest part. Both are far
+        // below where the sums would saturate, which spares a condition on how many steps a menu has.
         let menu = self.market.menu();
         let far = self.parts[number - 1].first;
         let least = far.saturating_add(menu.least_steps);

@@ -72,6 +72,7 @@ fn number_of(kinds: &[Known], takers: Takers) -> u16 {
             return known.group.number;
         }
     }
+    // There are at most 65,280 kinds, 255 species with 256 sets of grades each.
     u16::try_from(kinds.len()).unwrap_or(u16::MAX)
 }
 

@@ -169,6 +169,7 @@ impl<'s, 't> Prepared<'s, 't> {
         ensures top { top_of (log_at self.now i assortment column) ≡ result * self.now.sheet.instruction.«module» }
         ensures low { result ≤ 10000 }
     {
+        // `points` brings that there are few of them, so that the sum below is low.
         prove!(i < self.points());
         let module = self.sheet.instruction().module();
         i + (self.assortment(assortment).lengths()[column] / module) as usize

@@ -89,6 +89,7 @@ fn end_within(stem: &Stem, log: &Log) -> u32
     requires { top_of log.now ≤ stem_length stem.now.samples }
     ensures { result ≡ top_of log.now }
 {
+    // `length` brings that a stem is short, so that the sum below fits.
     prove!(log.start <= stem.length());
     log.start + log.length
 }
@@ -275,9 +276,11 @@ pub fn valuation_of_allowed(sheet: &Sheet, stem: &Stem, log: &Log) -> Valuation
     ensures valid { IsSheet sheet.now }
     ensures stem { IsStem stem.now }
 {
+    // `length` brings that the stem is within its limits, which the clause `stem` passes on.
     let _valid = stem.length();
     let assortment = &sheet.instruction().assortments()[log.assortment as usize];
     let top = top_of(stem, log);
+    // The length of an allowed log is a column's, so the 0 never comes.
     let class = Class {
         assortment: log.assortment,
         row: row_of(assortment, top) as u8,
