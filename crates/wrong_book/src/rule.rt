@@ -1,5 +1,5 @@
 //! Wrong answers of price rules.
-use buck_rule::{Rule, Standing, linear, meets, steady, step};
+use buck_rule::{NamedRule, Rule, Standing, linear, meets, root, steady, step};
 
 /// A class under its target: one piece of four is wanted, and one log of another class was cut.
 const UNDER: Standing = Standing {
@@ -29,6 +29,16 @@ const EVEN: Standing = Standing {
     targets: 4,
     count: 1,
     counts: 4,
+};
+
+/// A class under its target by one standard deviation: two of sixteen logs are of it.
+const LACKING: Standing = Standing {
+    base: 600,
+    limit: 500,
+    target: 1,
+    targets: 4,
+    count: 2,
+    counts: 16,
 };
 
 /// A class over its target whose span is 1.
@@ -87,6 +97,74 @@ pub fn linear_rounded_up() {
     let standing = CHEAP;
     let right = linear(&standing);
     let wrong = 2;
+    prove!(right != wrong);
+}
+
+/// The part of the span is taken off a class under its target.
+#[tactic(auto, unfolding(buck_rule::specs::Root::root_up_to))]
+pub fn root_moved_the_wrong_way() {
+    let standing = UNDER;
+    let right = root(&standing);
+    let wrong = 600 - 300 * 1 / (1 + 4);
+    prove!(right != wrong);
+}
+
+/// Wanted and cut are swapped: the deviation is that of what was cut.
+#[tactic(auto, unfolding(buck_rule::specs::Root::root_up_to))]
+pub fn root_of_what_was_cut() {
+    let standing = LACKING;
+    let right = root(&standing);
+    let wrong = 600 + 300 * 8 / (8 + 6);
+    prove!(right != wrong);
+}
+
+/// The deviation is the root of the wanted number, without the one log.
+#[tactic(auto, unfolding(buck_rule::specs::Root::root_up_to))]
+pub fn root_without_the_one_log() {
+    let standing = OVER;
+    let right = root(&standing);
+    let wrong = 600 - 300 * 3 / (3 + 2);
+    prove!(right != wrong);
+}
+
+/// The deviation is rounded up.
+#[tactic(auto, unfolding(buck_rule::specs::Root::root_up_to))]
+pub fn root_of_a_deviation_rounded_up() {
+    let standing = OVER;
+    let right = root(&standing);
+    let wrong = 600 - 300 * 3 / (3 + 5);
+    prove!(right != wrong);
+}
+
+/// The part of the span is rounded up.
+#[tactic(auto, unfolding(buck_rule::specs::Root::root_up_to))]
+pub fn root_rounded_up() {
+    let standing = OVER;
+    let right = root(&standing);
+    let wrong = 471;
+    prove!(right != wrong);
+}
+
+/// The rule root by its name gives what linear does.
+#[tactic(auto, unfolding(buck_rule::specs::Root::root_up_to))]
+pub fn price_of_another_rule() {
+    let standing = UNDER;
+    let right = NamedRule::Root.price(&standing);
+    let wrong = 900;
+    prove!(right != wrong);
+}
+
+/// A word that no rule has is taken for the steady rule.
+pub fn rule_of_no_word() {
+    let right = NamedRule::of_name("rot");
+    let wrong = Some(NamedRule::Steady);
+    prove!(right != wrong);
+}
+
+/// A rule has the word of another.
+pub fn word_of_another_rule() {
+    let right = NamedRule::of_name("root");
+    let wrong = Some(NamedRule::Step);
     prove!(right != wrong);
 }
 
