@@ -227,6 +227,11 @@ def shortest_sheets(_source, size):
     return start + b"971 1 0~" * ((size - len(start)) // 8)
 
 
+def last_sheet_without_number(source, size):
+    """The same with a word in the last sheet that is no number, so that its items are listed before it is refused."""
+    return shortest_sheets(source, size)[:-2] + b"x~"
+
+
 def pickers():
     """Eight assortments of 32 lengths in periods of one stem, each of which takes all grades but one."""
     columns = b" ".join(b"%d" % (500 + 110 * k) for k in range(32))
@@ -284,6 +289,7 @@ COMMANDS = [
     ("a journal of most demands", CHECK, JUDGED, demands, 0, f"LAWFUL {MOST_POSTINGS}"),
     ("a journal of longest sheets", CHECK, JUDGED, longest_sheets, 0, "replay fault 1 1"),
     ("a journal of shortest sheets", CHECK, JUDGED, shortest_sheets, 0, "replay fault 1 1"),
+    ("the same, refused for its last sheet", CHECK, JUDGED, last_sheet_without_number, 0, f"journal fault 4 {LIMIT // 8}"),
     ("a new sheet for each kind of wood", FLEET, just(pickers()), kinds_of_wood, 0, None),
     ("the same in 64 seats", FLEET + ["b"] * 63, just(pickers()), one_of_each_kind, 0, None),
     ("a journal of a sheet for each cut", ["check", "a", "j"], just(pickers()), one_of_each_kind, 0, "LAWFUL 16320"),

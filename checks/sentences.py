@@ -15,6 +15,12 @@ import sys
 PAGE = pathlib.Path(__file__).resolve().parent.parent / "docs" / "FORMATS.md"
 PLACES = {"apt": "in the instruction file", "stm": "in file n after the instruction (with live: in the request)"}
 NUMBERS = {"a": "17", "b": "4", "c": "2109", "d": "0", "n": "3"}
+# What stands for an empty cell: no file has that fault at this item.
+WORDS = {
+    "*RANGE*": "see the documents",
+    "*ORDER*": "must have each number above the one before",
+    "*COUNT*": "one number",
+}
 
 
 def cells(line):
@@ -39,7 +45,8 @@ def lines_of(row, items):
             if item:
                 numbers["a"], numbers["b"] = item[1].strip("`").split()
                 text = text.replace("*ITEM*", f"Item {numbers['a']} {numbers['b']} ({item[2]})")
-                text = text.replace("*RANGE*", item[3]).replace("*ORDER*", item[4]).replace("*COUNT*", item[5])
+                for cell, (word, words) in zip(item[3:], WORDS.items()):
+                    text = text.replace(word, cell or words)
             text = re.sub(r"\*([abcd])\*", lambda found: numbers[found.group(1)], text).replace("in file n", f"in file {numbers['n']}")
             yield " ".join(numbers.get(word, word) for word in line.split()), text
 
