@@ -4,12 +4,15 @@
     python3 checks/house.py
 
 - Each product crate has a page, crates/NAME/README.md, of at most 80 lines, which names every module of its src/: in
-  backticks, a module below another one by its path, as `run/bucking`.
+  backticks, a module below another one by its path, as `run/bucking`. What it lists under "Modules" is a module or a room
+  of the crate, and names there and under "Public calls" stand in the crate.
 - Each crate's name begins with its kind: buck_ or buckfleet is the product, and KINDS the rest.
 - The files of crates/*/data that stand in examples/ too are equal to these: those of the same name, those of COPIES.
 - Links in documents lead to a file, and to a heading where they name one; a path of the repository that stands in
   backticks is there, and so is a file of a crate: `src/..`, `specs/..` and `proofs/..` behind the crate's name, or on
   its own page.
+- A name in backticks stands in some source, as `settle_run`; one with its module, type or crate, as `pricing::put_list`,
+  stands in a file of its own with these; and one with a stroke, as `file/plain`, is a file's or a folder's.
 - No line of src/ and specs/ of a product crate is wider than 120 columns, imports aside, but for as many as WIDE allows
   each crate.
 
@@ -17,6 +20,7 @@ The last line is 'N wrong', and the status is 0 where nothing is.
 """
 import os
 import re
+import subprocess
 import sys
 
 from pages import files_in, libraries
@@ -58,7 +62,13 @@ WIDE = {
 ROOMS = ("bench/", "checks/", "crates/", "docs/", "examples/", "include/", "scripts/")
 
 # And what says that it stands for several paths, or for one that isn't committed.
-NO_PATH = r"NAME|_X\b|[*{<]|\.\.|/out\b"
+NO_PATH = r"NAME|MODULE|_X\b|[*{<]|\.\.|\bout\b"
+
+# How the names of sources end.
+SOURCES = (".rt", ".antt", ".py", ".c", ".h")
+
+# Names of the toolchain that no source has.
+OTHERS = {"FnMut", "RT_JOBS"}
 
 
 def read(*words):
@@ -79,6 +89,23 @@ def modules(crate):
 def ticked(text):
     """What stands in backticks in a text."""
     return re.findall(r"`([^`\n]+)`", text)
+
+
+def words_of(text):
+    """The names in a source, its comments left out."""
+    return set(re.findall(r"\w+", re.sub(r"(?m)^\s*(//|--|# ).*$", "", text)))
+
+
+def files():
+    """The files of the repository, by their paths."""
+    words = ["git", "ls-files", "-co", "--exclude-standard"]
+    listed = subprocess.run(words, cwd=TOP, capture_output=True, text=True, check=True).stdout.split("\n")
+    return [path for path in listed if os.path.isfile(os.path.join(TOP, path))]
+
+
+def names(paths):
+    """The names that stand in some sources and in the paths of some files."""
+    return set().union(*(words_of(path) | (words_of(read(path)) if path.endswith(SOURCES) else set()) for path in paths))
 
 
 def wrong_names():
@@ -104,6 +131,19 @@ def wrong_pages():
             yield f"{page} has {lines} lines, {MOST_LINES} at most"
         named = set(ticked(text))
         yield from (f"{page} doesn't name the module `{name}`" for name in modules(crate) if name not in named)
+        yield from (f"{page} names `{word}`, which {crate} hasn't" for word in strangers(crate, text))
+
+
+def strangers(crate, text):
+    """What a crate's page lists under "Modules" and is no module or room, and names there and of calls that it hasn't."""
+    parts = dict(re.findall(r"(?ms)^## ([^\n]*)\n(.*?)(?=^## |\Z)", text))
+    listed = re.findall(r"(?m)(?:^- |\. |^Room )((?:`[^`]+`(?:, | and )?)+):", parts.get("Modules", ""))
+    rooms = {os.path.dirname(name) for name in modules(crate)}
+    yield from (word for words in listed for word in ticked(words) if word not in rooms.union(modules(crate)))
+    known = names(path for path in files() if path.startswith(f"crates/{crate}/")) | set(crates())
+    for word in ticked(parts.get("Modules", "") + parts.get("Public calls", "")):
+        if re.fullmatch(r"[A-Za-z]\w*(::\w+)*", word) and not words_of(word) <= known:
+            yield word
 
 
 def wrong_copies():
@@ -185,6 +225,28 @@ def wrong_files():
                     yield f"{path} names `{word}` of {crate}, which isn't there"
 
 
+def wrong_words():
+    """Names, and paths of names, in backticks that stand in no source, and paths of modules and pages that aren't there."""
+    paths = files()
+    parts = [os.path.splitext(path)[0].split("/") for path in paths]
+    ends = {"/".join(part[k:n]) for part in parts for n in range(len(part) + 1) for k in range(n)}
+    known, all_crates = names(paths) | OTHERS, crates()
+    sources = [(path.split("/")[1], names([path])) for path in paths if path.endswith(".rt")]
+
+    def is_there(word):
+        first, wanted = word.split("::")[0], words_of(word)
+        return any(wanted <= had for crate, had in sources if first == crate or first not in all_crates)
+
+    for path in documents():
+        for text in ticked(re.sub(r"(?ms)^```.*?^```", "", read(path))):
+            is_name = re.fullmatch(r"[A-Za-z]\w*", text)
+            is_path = re.fullmatch(r"\w+(/\w+)+", text)
+            inner = re.findall(r"(?<!\S)[A-Za-z]\w*(?:::\w+)+(?!\S)", text)
+            is_wrong = is_name and text not in known or is_path and text not in ends or not all(map(is_there, inner))
+            if is_wrong and not re.search(NO_PATH, text):
+                yield f"{path} names `{text}`, which isn't there"
+
+
 def wide_lines(crate):
     """The files of a crate with lines that are too wide, and how many there are in each."""
     for part, ending in (("src", ".rt"), ("specs", ".antt")):
@@ -205,7 +267,7 @@ def wrong_widths():
 
 
 def main():
-    looks = (wrong_names, wrong_pages, wrong_copies, wrong_links, wrong_files, wrong_widths)
+    looks = (wrong_names, wrong_pages, wrong_copies, wrong_links, wrong_files, wrong_words, wrong_widths)
     wrong = [line for look in looks for line in look()]
     for line in wrong:
         print(line)
