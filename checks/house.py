@@ -1,5 +1,5 @@
 #!/usr/bin/env python3
-"""Looks whether the house is in order: pages, copies, links, and lines that are too wide.
+"""Checks that the house is in order: pages, copies, links, names, and lines that are too wide.
 
     python3 checks/house.py
 
@@ -8,11 +8,10 @@
   of the crate, and names there and under "Public calls" stand in the crate.
 - Each crate's name begins with its kind: buck_ or buckfleet is the product, and KINDS the rest.
 - The files of crates/*/data that stand in examples/ too are equal to these: those of the same name, those of COPIES.
-- Links in documents lead to a file, and to a heading where they name one; a path of the repository that stands in
-  backticks is there, and so is a file of a crate: `src/..`, `specs/..` and `proofs/..` behind the crate's name, or on
-  its own page.
-- A name in backticks stands in some source, as `settle_run`; one with its module, type or crate, as `pricing::put_list`,
-  stands in a file of its own with these; and one with a stroke, as `file/plain`, is a file's or a folder's.
+- Links in documents lead to a file, and to a heading where they name one; a file of a crate that stands in backticks is
+  there: `src/..`, `specs/..` and `proofs/..` behind the crate's name, or on its own page.
+- A name that stands in backticks is one of some source, as `settle_run`; with its module, type or crate, as
+  `pricing::put_list`, one of a file that has these too. A path, as `file/plain`, is the end of one that is there.
 - No line of src/ and specs/ of a product crate is wider than 120 columns, imports aside, but for as many as WIDE allows
   each crate.
 
@@ -58,10 +57,7 @@ WIDE = {
     "buckfleet": 4,
 }
 
-# What a path begins with that is looked for where it stands in backticks.
-ROOMS = ("bench/", "checks/", "crates/", "docs/", "examples/", "include/", "scripts/")
-
-# And what says that it stands for several paths, or for one that isn't committed.
+# What says that a name or a path stands for several, or for a file that isn't committed.
 NO_PATH = r"NAME|MODULE|_X\b|[*{<]|\.\.|\bout\b"
 
 # How the names of sources end.
@@ -177,7 +173,7 @@ def anchors(text):
 
 
 def wrong_links():
-    """Links that lead nowhere, and paths in backticks that aren't there."""
+    """Links that lead nowhere."""
     for path in documents():
         text = read(path)
         for target in re.findall(r"\]\(([^)\s]+)\)", text):
@@ -189,12 +185,6 @@ def wrong_links():
                 yield f"{path} has a link to {target}, which isn't there"
             elif anchor and anchor not in anchors(read(to)):
                 yield f"{path} has a link to {target}, and {to} has no such heading"
-        for words in ticked(text):
-            for word in words.split():
-                name = word.rstrip("/.,:;")
-                is_path = name.startswith(ROOMS) and not re.search(NO_PATH, name)
-                if is_path and not os.path.exists(os.path.join(TOP, name)):
-                    yield f"{path} names `{name}`, which isn't there"
 
 
 def named_files(line, crate, known):
@@ -226,25 +216,26 @@ def wrong_files():
 
 
 def wrong_words():
-    """Names, and paths of names, in backticks that stand in no source, and paths of modules and pages that aren't there."""
+    """What stands in backticks in documents and isn't there: names, names with their module, type or crate, paths."""
     paths = files()
-    parts = [os.path.splitext(path)[0].split("/") for path in paths]
+    parts = [path.split("/") for path in paths + [os.path.splitext(path)[0] for path in paths]]
     ends = {"/".join(part[k:n]) for part in parts for n in range(len(part) + 1) for k in range(n)}
     known, all_crates = names(paths) | OTHERS, crates()
     sources = [(path.split("/")[1], names([path])) for path in paths if path.endswith(".rt")]
 
-    def is_there(word):
-        first, wanted = word.split("::")[0], words_of(word)
-        return any(wanted <= had for crate, had in sources if first == crate or first not in all_crates)
+    def is_there(word, is_alone):
+        if re.fullmatch(r"[A-Za-z]\w*(::\w+)+", word):
+            first, wanted = word.split("::")[0], words_of(word)
+            return any(wanted <= had for crate, had in sources if first == crate or first not in all_crates)
+        if re.fullmatch(r"\w\w+(/[\w.-]+)+", word):
+            return word in ends
+        return not is_alone or word in known or not re.fullmatch(r"[A-Za-z]\w*", word)
 
     for path in documents():
         for text in ticked(re.sub(r"(?ms)^```.*?^```", "", read(path))):
-            is_name = re.fullmatch(r"[A-Za-z]\w*", text)
-            is_path = re.fullmatch(r"\w+(/\w+)+", text)
-            inner = re.findall(r"(?<!\S)[A-Za-z]\w*(?:::\w+)+(?!\S)", text)
-            is_wrong = is_name and text not in known or is_path and text not in ends or not all(map(is_there, inner))
-            if is_wrong and not re.search(NO_PATH, text):
-                yield f"{path} names `{text}`, which isn't there"
+            for word in text.split():
+                if not is_there(word.rstrip("/.,:;"), word == text) and not re.search(NO_PATH, word):
+                    yield f"{path} names `{word}`, which isn't there"
 
 
 def wide_lines(crate):
