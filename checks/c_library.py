@@ -14,6 +14,8 @@ scripts/c_library proves and builds the library. Then
    morning's three files in turn, by each rule;
  - a morning's first stem file is cut stem by stem into a book, in C and in Python, by each rule: they print what a fleet
    of one harvester prints, with the same journal, which the program finds lawful and by the rule;
+ - the shared library shows the calls of the header alone, and its name has their version; the module in Python refuses each
+   number that a type of the library can't hold, and a book on another thread; names that aren't UTF-8 go through;
  - each worked case of crates/run_cases that an instruction file and a stem file or a journal make up is asked of the
    library too, by Python;
  - where a folder of more cases is named, each case of its own folder there, whose file `args` has the words of the
@@ -29,9 +31,11 @@ import shutil
 import subprocess
 import sys
 import tempfile
+import threading
 
 TOP = os.path.dirname(os.path.dirname(os.path.abspath(__file__)))
 FOLDER = os.path.join(TOP, "out", "c")
+STRICT = ("-std=c99", "-Wall", "-Wextra", "-Wconversion", "-Werror")
 PASSED = []
 FAILED = []
 
@@ -90,7 +94,7 @@ def at_the_edges(compiler, scratch):
 
 
 def examples(compiler, scratch, program):
-    in_c = compiled(compiler, scratch, "buck_files", "examples/c/buck_files.c", "-std=c99", "-Wall", "-Wextra", "-Werror")
+    in_c = compiled(compiler, scratch, "buck_files", "examples/c/buck_files.c", *STRICT)
     tell("examples/c is compiled", in_c is not None)
     in_python = [sys.executable, os.path.join(TOP, "examples", "python", "buck_files.py")]
     if not program:
@@ -174,9 +178,16 @@ def shown(program):
 
 def book_examples(compiler, scratch, program):
     """A morning's first file, cut stem by stem: what a fleet of one harvester prints, with a lawful journal."""
-    in_c = compiled(compiler, scratch, "cut_stems", "examples/c/cut_stems.c", "-std=c99", "-Wall", "-Wextra", "-Werror")
+    in_c = compiled(compiler, scratch, "cut_stems", "examples/c/cut_stems.c", *STRICT)
     tell("examples/c/cut_stems.c is compiled", in_c is not None)
     in_python = [sys.executable, os.path.join(TOP, "examples", "python", "cut_stems.py")]
+    spoilt = os.path.join(scratch, "spoilt.stm")
+    with open(spoilt, "w") as file:
+        file.write("1 2 STM~951 1 1~952 1 257~953 1 250 250~")
+    for name, words in (("c", [in_c]), ("python", in_python)):
+        if words[0]:
+            done = run([*words, "steady", example("morning.apt"), spoilt])
+            tell(f"{name}: a species of 257", done.returncode == 1 and b"ENTRY" not in done.stdout, str(done))
     files = [example("morning.apt"), example("morning_1.stm")]
     for rule in ("steady", "linear", "step"):
         wanted = None
@@ -194,6 +205,74 @@ def book_examples(compiler, scratch, program):
             if program and found[3]:
                 done = run([program, "check", "--rule", rule, files[0], journal, files[1]])
                 tell(f"{name}: its journal by {rule}", done.returncode == 0, done.stderr.decode(errors="replace"))
+
+
+def shared_names():
+    """The shared library shows its calls alone, under a name with their version."""
+    buckfleet = library()
+    shared = os.path.join(FOLDER, "libbuckfleet.so")
+    if shutil.which("nm"):
+        names = [line.split()[-1] for line in run(["nm", "-D", "--defined-only", shared], text=True).stdout.splitlines()]
+        other = [name for name in names if not name.startswith("buckfleet_")]
+        tell("the shared library shows its calls alone", names and not other, str(other[:5]))
+    tell("the shared library has a version", os.path.basename(os.path.realpath(shared)) == f"libbuckfleet.so.{buckfleet.VERSION}")
+
+
+def raised(kind, call, *given):
+    """Whether a call raises an error of this kind."""
+    try:
+        call(*given)
+    except kind:
+        return True
+    return False
+
+
+def numbers_in_python():
+    """Numbers that ctypes would cut off are refused before a call, and the book is as it was."""
+    buckfleet = library()
+    apt = read(example("morning.apt"))
+    stem = {"number": 1, "species": 1, "samples": [250] * 60, "zones": [(0, 1)]}
+    for capacity in (2**32 + 1, -1):
+        tell(f"python: capacity {capacity}", raised(ValueError, buckfleet.Book, apt, "linear", capacity))
+    tell("python: a rule that there isn't", raised(ValueError, buckfleet.Book, apt, "none"))
+    with buckfleet.Book(apt) as book:
+        for name, wrong in (
+            ("species", 257),
+            ("species", -1),
+            ("number", 2**32),
+            ("samples", [250] * 59 + [65786]),
+            ("samples", [-1]),
+            ("zones", [(2**32, 1)]),
+            ("zones", [(0, 257)]),
+        ):
+            spoilt = buckfleet.Stem(**{**stem, name: wrong})
+            tell(f"python: {name} {wrong}"[:60], raised(ValueError, book.cut, 1, spoilt))
+        tell("python: harvester", raised(ValueError, book.cut, 2**32 + 1, buckfleet.Stem(**stem)))
+        tell("python: a sample that is no whole number", raised(TypeError, book.cut, 1, buckfleet.Stem(1, 1, [250.5])))
+        tell("python: harvester of targets", raised(ValueError, book.retarget, 2**32 + 1, book.targets()))
+        tell("python: target", raised(ValueError, book.retarget, 1, [2**32, *book.targets()[1:]]))
+        tell("python: assortment", raised(ValueError, book.degree, 256))
+        tell("python: nothing was cut", book.standing().postings == 0)
+        elsewhere = []
+        other = threading.Thread(target=lambda: elsewhere.append(raised(RuntimeError, book.standing)))
+        other.start()
+        other.join()
+        tell("python: another thread", elsewhere == [True])
+    tell("python: a table that there isn't", raised(ValueError, buckfleet.table, apt, read(example("morning.jrn")), "none"))
+
+
+def names_in_any_bytes(scratch):
+    """Names that aren't UTF-8: of an assortment in cut_stems.py, and of a file on a page."""
+    apt = read(example("pine.apt")).replace(b"pine saw log", b"pine \xe5\xff log")
+    stm, journal = read(example("pine.stm")), os.path.join(scratch, "any.jrn")
+    with open(os.path.join(scratch, "any.apt"), "wb") as file:
+        file.write(apt)
+    words = [sys.executable, os.path.join(TOP, "examples", "python", "cut_stems.py"), "steady"]
+    done = run([*words, os.path.join(scratch, "any.apt"), example("pine.stm"), journal])
+    tell("python: a name that isn't UTF-8", done.returncode == 0 and b"pine \xe5\xff log" in done.stdout, done.stderr.decode()[-500:])
+    text = library().in_turn(apt, [stm], "steady")[0]
+    page = library().view(apt, text, ("\udcff.apt", b"\xff.jrn"))
+    tell("python: a page of files whose names aren't UTF-8", page.startswith(b"<!DOCTYPE html>"))
 
 
 def bytes_of(lines):
@@ -341,6 +420,9 @@ def main():
     with tempfile.TemporaryDirectory() as scratch:
         at_the_edges(compiler, scratch)
         examples(compiler, scratch, program if os.path.exists(program) else None)
+        names_in_any_bytes(scratch)
+    shared_names()
+    numbers_in_python()
     cases()
     if asked_for.cases and os.path.exists(program):
         more_cases(asked_for.cases, program)

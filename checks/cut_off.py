@@ -6,10 +6,12 @@
 A run of one harvester always writes the same journal. It is run to its end once, and then again and again over an old
 OUT, ended by SIGKILL at moments spread over the time that it takes, closer towards the end, where it writes. Each time
 OUT must be the old file or the new journal, whole. The last line is 'N moments: A old, B new, M neither', and the
-status is 0 where none is neither. A `.part` file that was left is written over by the next run, which is looked at too.
+status is 0 where none is neither. What an ended run left beside OUT must have a name that says what it is, and be a first
+part of the new journal; the next run leaves it alone, which is looked at too.
 """
 import argparse
 import pathlib
+import re
 import subprocess
 import sys
 import tempfile
@@ -62,11 +64,17 @@ def main():
             run(words, folder, took * (1.05 * share if moment % 2 else 0.8 + 0.25 * share))
             there = out.read_bytes()
             seen["old" if there == OLD else "new" if there == new else "neither"] += 1
+        parts = {path.name: path.read_bytes() for path in folder.iterdir()}
+        for name in ("a.apt", "o.jrn", "s.stm"):
+            del parts[name]
+        for name, text in parts.items():
+            if not re.fullmatch(r"o\.jrn\.\d+\.1\.part", name) or not new.startswith(text):
+                sys.exit(f"a run that was ended left {name}")
         out.write_bytes(OLD)
         run(words, folder)
-        left = sorted(path.name for path in folder.iterdir())
-        if out.read_bytes() != new or left != ["a.apt", "o.jrn", "s.stm"]:
-            sys.exit(f"a run to the end after them left {left}")
+        left = {path.name: path.read_bytes() for path in folder.iterdir()}
+        if out.read_bytes() != new or any(left.get(name) != text for name, text in parts.items()) or len(left) != len(parts) + 3:
+            sys.exit(f"a run to the end after them left {sorted(left)}")
         print(f"{asked.moments} moments: {seen['old']} old, {seen['new']} new, {seen['neither']} neither")
         sys.exit(1 if seen["neither"] else 0)
 

@@ -10,8 +10,7 @@
  * status. The others cut stems one by one into a book, which is kept in a block of the caller's memory.
  *
  * Pointers: what a call reads or writes lies in the caller's memory, and stays the caller's. No call keeps an address of
- * the caller's after it has returned. A pointer that comes with a length may be null where the length is 0; `written` may not be
- * null, and is aligned as its type is. What a call writes doesn't overlap what it reads.
+ * the caller's after it has returned. A pointer that comes with a length may be null where the length is 0.
  *
  * Room: a call that puts a text into `out` sets `*written` to its length. Where that is more than `out_length`, the
  * answer is BUCKFLEET_TOO_SMALL, and nothing else is written: ask again with that much room. `out` may be null and
@@ -20,7 +19,14 @@
  * Threads: all calls over the bytes of files may run at the same time in any threads; for books see there.
  *
  * Memory comes from the program's malloc, realloc and free. Where malloc refuses, the answer is BUCKFLEET_MEMORY with
- * the line `memory`; it may come in place of any other. No call is made from a signal handler.
+ * the line `memory`; it may come in place of any other.
+ *
+ * What a call does is not defined where one of these is broken:
+ *  - Every pointer but one whose length is 0 is not null, is aligned as its type is, and has as much memory as is said.
+ *  - What a call writes overlaps nothing that it reads, and nothing else that it writes: `out` not `*written`.
+ *  - Nothing else writes, while a call runs, what it reads, or reads or writes what it writes.
+ *  - malloc, realloc and free are of one allocator: where one is replaced, all three are.
+ *  - No call is made from a signal handler, nor from a forked child of a process with threads before it calls exec.
  */
 #ifndef BUCKFLEET_H
 #define BUCKFLEET_H
@@ -137,11 +143,10 @@ uint8_t buckfleet_in_turn(const uint8_t *files, size_t files_length, const size_
  * block may then be used again. A block that holds no book is known as such by every call, which answers
  * BUCKFLEET_CLOSED; so is one of any bytes that this library didn't write, short of a chance of 1 in 2^64.
  *
- * What the caller keeps: the block is not null, is aligned as its type is, and stays where it is, or is moved as a whole
- * while no call uses it. It is not copied: of two copies only one may be used. A book that isn't closed keeps its memory.
+ * What the caller keeps: the block stays where it is, or is moved as a whole while no call uses it. It is not copied: of two
+ * copies only one may be used. A book that isn't closed keeps its memory.
  *
- * Threads: a book is one thread's at a time. Calls of one book are made one after the other, by one thread, or by several
- * that hold a lock of their own around each call. Calls of different books may run at the same time.
+ * Threads: a book stays on the thread that opened it, up to its close. Calls of different books may run at the same time.
  *
  * Where a call answers anything but BUCKFLEET_OK, the book is as it was.
  */

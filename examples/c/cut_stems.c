@@ -13,6 +13,7 @@
 #include "buckfleet.h"
 
 #include <inttypes.h>
+#include <limits.h>
 #include <stdio.h>
 #include <stdlib.h>
 #include <string.h>
@@ -24,8 +25,10 @@ struct bytes {
     size_t length;
 };
 
-/* A stem as a stem file has it; a harvester has it from its sensors. */
+/* A stem as a stem file has it; a harvester has it from its sensors. Where a number is above what its type holds, or
+ * there are too many, it is another stem's, and not to be cut. */
 struct stem {
+    int is_spoilt;
     buckfleet_felled felled;
     uint16_t samples[MOST_SAMPLES];
     size_t samples_length;
@@ -48,24 +51,52 @@ static struct bytes file_of(const char *name) {
     return file;
 }
 
+/* The next number, of at most so much, and what stands behind it: the same place where there is none. */
+static unsigned long long number_at(struct stem *stem, const char *at, unsigned long long most, const char **behind) {
+    char *end;
+    unsigned long long number = strtoull(at, &end, 10);
+    *behind = end;
+    if (number > most)
+        stem->is_spoilt = 1;
+    return number > most ? 0 : number;
+}
+
+/* The most that a type of the library holds of an item's numbers; what other items say is nothing to us. */
+static unsigned long long most_of(unsigned long long item) {
+    switch (item) {
+    case 951:
+    case 954:
+        return UINT32_MAX;
+    case 952:
+        return UINT8_MAX;
+    case 953:
+        return UINT16_MAX;
+    default:
+        return ULLONG_MAX;
+    }
+}
+
 /* Reads the numbers of an item into a stem, up to the tilde. */
 static const char *item_into(struct stem *stem, const char *at) {
-    unsigned long item = strtoul(at, (char **)&at, 10), kind = strtoul(at, (char **)&at, 10), number;
-    char *behind;
+    unsigned long long item = number_at(stem, at, 65535, &at), kind = number_at(stem, at, 65535, &at), number;
+    const char *behind;
+    if (kind != 1)
+        item = 0;
     for (;; at = behind) {
-        number = strtoul(at, &behind, 10);
+        number = number_at(stem, at, most_of(item), &behind);
         if (behind == at)
             break;
-        if (item == 951 && kind == 1)
-            stem->felled.number = number;
-        else if (item == 952 && kind == 1)
-            stem->felled.species = number;
-        else if (item == 953 && kind == 1 && stem->samples_length < MOST_SAMPLES)
-            stem->samples[stem->samples_length++] = number;
-        else if (item == 954 && kind == 1 && stem->zones_length < MOST_ZONES) {
-            stem->zones[stem->zones_length].start = number;
-            stem->zones[stem->zones_length++].grade = strtoul(behind, &behind, 10);
-        }
+        if (item == 951)
+            stem->felled.number = (uint32_t)number;
+        else if (item == 952)
+            stem->felled.species = (uint8_t)number;
+        else if (item == 953 && stem->samples_length < MOST_SAMPLES)
+            stem->samples[stem->samples_length++] = (uint16_t)number;
+        else if (item == 954 && stem->zones_length < MOST_ZONES) {
+            stem->zones[stem->zones_length].start = (uint32_t)number;
+            stem->zones[stem->zones_length++].grade = (uint8_t)number_at(stem, behind, UINT8_MAX, &behind);
+        } else if (item == 953 || item == 954)
+            stem->is_spoilt = 1;
     }
     at = strchr(at, '~');
     return at ? at + 1 : "";
@@ -135,7 +166,7 @@ static uint8_t run(int count, char **words, const buckfleet_terms *terms, const 
     struct stem stem;
     uint8_t status = buckfleet_open(&book, apt->at, apt->length, terms);
     while (status == BUCKFLEET_OK && (stems = next_stem(stems, &stem)) != NULL)
-        status = cut(&book, &stem);
+        status = stem.is_spoilt ? BUCKFLEET_REFUSED : cut(&book, &stem);
     if (status == BUCKFLEET_OK)
         status = journal_of(&book, &journal);
     if (status == BUCKFLEET_OK)

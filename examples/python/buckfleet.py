@@ -12,12 +12,16 @@
         journal = book.journal()
 
 The first six take and give the bytes of files; a book is what is cut stem by stem. The shared library is looked for in
-$BUCKFLEET_LIBRARY, else beside this file, else in out/c of the repository. A call that is refused raises `Refused`, whose `line` is what the program says.
+$BUCKFLEET_LIBRARY, else beside this file, else in out/c of the repository. A call that is refused raises `Refused`, whose
+`line` is what the program says; a number that the library's types can't hold, or a word that isn't one of those wanted,
+raises `ValueError`, and nothing is asked of the library.
 """
 import ctypes
+import operator
 import os
+import threading
 from dataclasses import dataclass
-from typing import NamedTuple, Optional, Sequence, Tuple
+from typing import NamedTuple, Optional, Sequence, Tuple, Union
 
 OK, REFUSED, SEATS, MEMORY, UNLAWFUL, READ, TOO_SMALL, CLOSED, MISUSED, FULL = range(10)
 RULES = ("steady", "linear", "step")
@@ -69,6 +73,22 @@ for _name in (
     getattr(_lib, "buckfleet_" + _name).restype = ctypes.c_uint8
 
 
+def _number(kind, number: int, name: str) -> int:
+    """A number that a type of the library holds. ctypes itself cuts off what is above it."""
+    number = operator.index(number)
+    most = 256 ** ctypes.sizeof(kind) - 1
+    if not 0 <= number <= most:
+        raise ValueError(f"{name} is {number}, 0 to {most} wanted")
+    return number
+
+
+def _place(word: str, words: Sequence[str], name: str) -> int:
+    """The place of a word among those that there are."""
+    if word not in words:
+        raise ValueError(f"{name} is {word!r}, one of {', '.join(words)} wanted")
+    return words.index(word)
+
+
 def _asked(call, apt: bytes, other: bytes, *more) -> Tuple[int, bytes]:
     """The status and the text of a call over two files. The room grows to what the call asks for."""
     room = (ctypes.c_uint8 * 4096)()
@@ -113,10 +133,15 @@ def report(apt: bytes, journal: bytes) -> bytes:
     return _text(_lib.buckfleet_report, apt, journal)
 
 
-def view(apt: bytes, journal: bytes, names: Tuple[str, str]) -> bytes:
+def _bytes_of(name: Union[str, bytes]) -> bytes:
+    """The bytes of a name, which needn't be UTF-8."""
+    return name if isinstance(name, bytes) else name.encode("utf-8", "surrogateescape")
+
+
+def view(apt: bytes, journal: bytes, names: Tuple[Union[str, bytes], Union[str, bytes]]) -> bytes:
     """The page of a journal, or of the first fault of one that isn't lawful. The names are those of the two files, as
     they stand on the page."""
-    name = "\n".join(names).encode()
+    name = b"\n".join(map(_bytes_of, names))
     status, page = _asked(_lib.buckfleet_view, apt, journal, ctypes.c_char_p(name), ctypes.c_size_t(len(name)))
     if status not in (OK, UNLAWFUL):
         raise Refused(status, page.decode().rstrip("\n"))
@@ -125,7 +150,7 @@ def view(apt: bytes, journal: bytes, names: Tuple[str, str]) -> bytes:
 
 def table(apt: bytes, journal: bytes, what: str) -> bytes:
     """A table of a lawful journal: of its classes, postings, logs or degrees."""
-    return _text(_lib.buckfleet_table, apt, journal, ctypes.c_uint8(TABLES.index(what)))
+    return _text(_lib.buckfleet_table, apt, journal, ctypes.c_uint8(_place(what, TABLES, "table")))
 
 
 class _Texts(ctypes.Structure):
@@ -134,9 +159,9 @@ class _Texts(ctypes.Structure):
 
 def in_turn(apt: bytes, stms: Sequence[bytes], rule: str = "linear") -> Tuple[bytes, bytes]:
     """The journal and the report of harvesters that take turns, one for each stem file, by a rule."""
-    lengths = _list(ctypes.c_size_t, [len(file) for file in (apt, *stms)])
+    lengths = _list(ctypes.c_size_t, [len(file) for file in (apt, *stms)], "length")
     files = apt + b"".join(stms)
-    given = ctypes.c_char_p(files), ctypes.c_size_t(len(files)), *lengths, ctypes.c_uint8(RULES.index(rule))
+    given = ctypes.c_char_p(files), ctypes.c_size_t(len(files)), *lengths, ctypes.c_uint8(_place(rule, RULES, "rule"))
     room = (ctypes.c_uint8 * 4096)()
     while True:
         texts = _Texts()
@@ -231,9 +256,22 @@ class _Standing(ctypes.Structure):
     _fields_ = [(name, ctypes.c_uint32) for name in Standing._fields]
 
 
-def _list(kind, numbers):
+def _list(kind, numbers, name: str):
     """Numbers for a call, and how many."""
+    numbers = [_number(kind, number, name) for number in numbers]
     return (kind * len(numbers))(*numbers), ctypes.c_size_t(len(numbers))
+
+
+def _structure(kind, **fields):
+    """A structure of numbers by their names."""
+    kinds = dict(kind._fields_)
+    return kind(**{name: _number(kinds[name], number, name) for name, number in fields.items()})
+
+
+def _zones(zones):
+    """Zones for a call, and how many."""
+    zones = [_structure(_Zone, start=start, grade=grade) for start, grade in zones]
+    return (_Zone * len(zones))(*zones), ctypes.c_size_t(len(zones))
 
 
 def _told(status: int):
@@ -243,22 +281,27 @@ def _told(status: int):
 
 
 class Book:
-    """A book of one thread: what is cut stem by stem, and the prices that follow from it. A book that several threads
-    use needs a lock around each call."""
+    """A book of one thread: what is cut stem by stem, and the prices that follow from it. It stays on the thread that
+    opened it: a call from another raises `RuntimeError`."""
 
     def __init__(self, apt: bytes, rule: str = "steady", capacity: int = 1_000_000):
-        self._block = _Block(0, None)
-        terms = _Terms(capacity, RULES.index(rule))
-        status = _lib.buckfleet_open(
-            ctypes.byref(self._block), ctypes.c_char_p(apt), ctypes.c_size_t(len(apt)), ctypes.byref(terms)
-        )
+        self._kept = _Block(0, None)
+        self._thread = threading.get_ident()
+        terms = _structure(_Terms, capacity=capacity, rule=_place(rule, RULES, "rule"))
+        status = _lib.buckfleet_open(self._block(), ctypes.c_char_p(apt), ctypes.c_size_t(len(apt)), ctypes.byref(terms))
         if status == REFUSED:
             buck(apt, b"")  # it says the line of the fault
         _told(status)
 
+    def _block(self):
+        """The block, for a call from the book's thread."""
+        if threading.get_ident() != self._thread:
+            raise RuntimeError("a book stays on the thread that opened it")
+        return ctypes.byref(self._kept)
+
     def close(self):
         """Gives all memory back; the book is not to be used after it."""
-        _told(_lib.buckfleet_close(ctypes.byref(self._block)))
+        _told(_lib.buckfleet_close(self._block()))
 
     def __enter__(self):
         return self
@@ -268,14 +311,14 @@ class Book:
 
     def cut(self, harvester: int, stem: Stem) -> Cutting:
         """Cuts a stem under the prices in force, and commits the cutting."""
-        felled = _Felled(harvester, stem.number, stem.species)
+        felled = _structure(_Felled, harvester=harvester, number=stem.number, species=stem.species)
         cutting = _Cutting()
         _told(
             _lib.buckfleet_cut(
-                ctypes.byref(self._block),
+                self._block(),
                 ctypes.byref(felled),
-                *_list(ctypes.c_uint16, stem.samples),
-                *_list(_Zone, [_Zone(*zone) for zone in stem.zones]),
+                *_list(ctypes.c_uint16, stem.samples, "sample"),
+                *_zones(stem.zones),
                 ctypes.byref(cutting),
             )
         )
@@ -284,20 +327,20 @@ class Book:
 
     def retarget(self, harvester: int, targets: Sequence[int]):
         """Puts new targets in force: one for each class, assortment by assortment and row by row."""
-        block = ctypes.byref(self._block)
-        _told(_lib.buckfleet_retarget(block, ctypes.c_uint32(harvester), *_list(ctypes.c_uint32, targets)))
+        seat = ctypes.c_uint32(_number(ctypes.c_uint32, harvester, "harvester"))
+        _told(_lib.buckfleet_retarget(self._block(), seat, *_list(ctypes.c_uint32, targets, "target")))
 
     def standing(self) -> Standing:
         """How far the book is."""
         standing = _Standing()
-        _told(_lib.buckfleet_state(ctypes.byref(self._block), ctypes.byref(standing)))
+        _told(_lib.buckfleet_state(self._block(), ctypes.byref(standing)))
         return Standing(*(getattr(standing, name) for name in Standing._fields))
 
     def _items(self, call, kind):
         room = (kind * 0)()
         while True:
             written = ctypes.c_size_t(0)
-            status = call(ctypes.byref(self._block), room, ctypes.c_size_t(len(room)), ctypes.byref(written))
+            status = call(self._block(), room, ctypes.c_size_t(len(room)), ctypes.byref(written))
             if status != TOO_SMALL:
                 break
             room = (kind * written.value)()
@@ -319,7 +362,8 @@ class Book:
     def degree(self, assortment: int) -> Optional[int]:
         """The degree of apportionment of an assortment, in ten-thousandths."""
         degree = ctypes.c_uint32(0)
-        _told(_lib.buckfleet_degree(ctypes.byref(self._block), ctypes.c_uint8(assortment), ctypes.byref(degree)))
+        place = ctypes.c_uint8(_number(ctypes.c_uint8, assortment, "assortment"))
+        _told(_lib.buckfleet_degree(self._block(), place, ctypes.byref(degree)))
         return None if degree.value == NO_DEGREE else degree.value
 
     def journal(self) -> bytes:

@@ -42,11 +42,16 @@ def main():
                 cutting = book.cut(1, stem)
                 print("ENTRY", cutting.position, 1, *cutting[3:], stem.number, len(cutting.logs), cutting.worth)
             journal = book.journal()
-        report = buckfleet.report(apt, journal).decode(errors="surrogateescape")
+        report = buckfleet.report(apt, journal)
     except buckfleet.Refused as refused:
         print(refused.line, file=sys.stderr)
         return refused.status
-    sys.stdout.write(report[report.index("CLASS ") :])
+    except ValueError as error:
+        print(error, file=sys.stderr)
+        return buckfleet.REFUSED
+    # Names of assortments needn't be UTF-8.
+    sys.stdout.flush()
+    sys.stdout.buffer.write(report[report.index(b"CLASS ") :])
     if len(sys.argv) == 5:
         with open(sys.argv[4], "wb") as file:
             file.write(journal)

@@ -1,6 +1,7 @@
 //! Files opened once more, when something was wrong with them.
+use buck_engine::{Desk, is_standard};
 use buck_reason::Shown;
-use std::fs::{Metadata, OpenFile, OpenOptions};
+use std::fs::Metadata;
 use std::io::ErrorKind;
 use std::os::unix::fs::MetadataExt;
 use std::rt::Files;
@@ -20,8 +21,12 @@ pub enum Trouble {
     Forbidden,
     /// It has more bytes than a file may have.
     Long,
+    /// There is no space left for it.
+    Full,
     /// It is the input file at this place.
     Input(usize),
+    /// It is the file behind a standard stream.
+    Standard,
     /// Another reason.
     Other,
 }
@@ -33,6 +38,7 @@ impl Trouble {
             ErrorKind::NotFound | ErrorKind::NotADirectory => Trouble::Missing,
             ErrorKind::IsADirectory => Trouble::Folder,
             ErrorKind::PermissionDenied => Trouble::Forbidden,
+            ErrorKind::StorageFull | ErrorKind::QuotaExceeded => Trouble::Full,
             _ => Trouble::Other,
         }
     }
@@ -53,10 +59,12 @@ impl fmt::Display for Troubled<'_> {
             Trouble::Folder => write!(f, "is a folder"),
             Trouble::Forbidden => write!(f, "not allowed"),
             Trouble::Long => write!(f, "longer than {LIMIT} bytes"),
+            Trouble::Full => write!(f, "no space left"),
             Trouble::Input(place) => {
                 let name = self.inputs.get(place).copied().unwrap_or("");
                 write!(f, "is the input file {}", Shown(name.as_bytes()))
             }
+            Trouble::Standard => { write!(f, "is the file behind standard input, output or error") }
             Trouble::Other => write!(f, "can't be opened, read or written"),
         }
     }
@@ -73,19 +81,26 @@ pub trait Again {
     /// How many bytes the file of this name has, where it is a regular one.
     fn size(&mut self, name: &str) -> Option<u64>;
 
-    /// Why the file of this name can't be written, where these are the input files; none where it can.
+    /// Why the file of this name isn't to be written, where these are the input files; none where it may be. It isn't
+    /// opened for that, nor made.
     fn unwritten(&mut self, name: &str, inputs: &[&str]) -> Option<Trouble>;
+
+    /// Why the last file that couldn't be opened, made or written couldn't, where the system said so.
+    fn refused(&self) -> Option<ErrorKind> {
+        None
+    }
 }
 
 /// The files that a runtime has, opened once more by their paths.
 #[derive(Clone, Copy, Drop)]
 pub struct Second<'a, R> {
     rt: &'a R,
+    desk: &'a Desk,
 }
 
 impl<'a, R> Second<'a, R> {
-    pub fn of(rt: &'a R) -> Second<'a, R> {
-        Second { rt }
+    pub fn of(rt: &'a R, desk: &'a Desk) -> Second<'a, R> {
+        Second { rt, desk }
     }
 }
 
@@ -135,23 +150,20 @@ impl<'a, R: Files> Again for Second<'a, R> {
     }
 
     fn unwritten(&mut self, name: &str, inputs: &[&str]) -> Option<Trouble> {
-        let opened = OpenOptions::new()
-            .write(true)
-            .create(true)
-            .open(self.rt, name);
-        let file = match opened {
-            Ok(file) => file,
-            Err(error) => return Some(Trouble::of(error.kind())),
-        };
-        let Ok(found) = file.metadata() else {
-            return Some(Trouble::Other);
+        let Ok(found) = self.rt.metadata(name) else {
+            return None;
         };
         if !found.is_file() {
             return None;
         }
         match self.input_of(&found, inputs) {
             Some(place) => Some(Trouble::Input(place)),
+            None if is_standard(self.rt, &found) => Some(Trouble::Standard),
             None => None,
         }
+    }
+
+    fn refused(&self) -> Option<ErrorKind> {
+        self.desk.refused()
     }
 }

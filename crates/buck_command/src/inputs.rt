@@ -123,37 +123,31 @@ impl<'a, 'b, F: io::Read, R: io::Read> io::Read for Opened<'a, 'b, F, R> {
 #[derive(Drop)]
 pub(crate) struct Outlet<'a, W> {
     writer: RefCell<&'a mut W>,
-    /// Whether something couldn't be written.
-    failed: Cell<bool>,
-    /// Whether nobody reads any more what is written.
-    gone: Cell<bool>,
+    /// Why something couldn't be written, if it couldn't.
+    refused: Cell<Option<ErrorKind>>,
 }
 
 impl<'a, W> Outlet<'a, W> {
     pub(crate) fn of(writer: &'a mut W) -> Outlet<'a, W> {
         Outlet {
             writer: RefCell::new(writer),
-            failed: Cell::new(false),
-            gone: Cell::new(false),
+            refused: Cell::new(None),
         }
     }
 
-    /// Whether something couldn't be written.
-    pub(crate) fn is_unwritten(&self) -> bool {
-        self.failed.get()
+    /// Why something couldn't be written, if it couldn't.
+    pub(crate) fn refused(&self) -> Option<ErrorKind> {
+        self.refused.get()
     }
 
     /// Whether nobody reads any more what is written.
     pub(crate) fn is_gone(&self) -> bool {
-        self.gone.get()
+        self.refused.get() == Some(ErrorKind::BrokenPipe)
     }
 
     /// Keeps an error in mind.
     fn note(&self, error: &Error) {
-        self.failed.set(true);
-        if error.kind() == ErrorKind::BrokenPipe {
-            self.gone.set(true);
-        }
+        self.refused.set(Some(error.kind()));
     }
 }
 

@@ -15,9 +15,12 @@ use std::time::{Clock, Instant};
 pub struct Screen<S, C> {
     pub writer: S,
     pub clock: C,
+    /// Whether the rest of a line can be erased.
+    pub erases: bool,
 }
 
-/// One line for a person who looks on, where there is one: it is drawn anew in its place.
+/// One line for a person who looks on, where there is one: it is drawn anew in its place, or on a line of its own where
+/// the screen can't erase.
 #[derive(Drop)]
 pub struct Progress<S, C> {
     alloc: Global,
@@ -79,10 +82,15 @@ impl<S: io::Write + Copy, C: Clock + Copy> Progress<S, C> {
         if !self.is_long(&screen.clock) {
             return;
         }
-        if let Ok(drawn) = format!(in self.alloc; "\r{line}\x1b[K") {
+        let drawn = if screen.erases {
+            format!(in self.alloc; "\r{line}\x1b[K")
+        } else {
+            format!(in self.alloc; "{line}\n")
+        };
+        if let Ok(drawn) = drawn {
             let mut writer = screen.writer;
             let _ = writer.write_all(drawn.as_bytes());
-            self.is_drawn.store(true, Ordering::SeqCst);
+            self.is_drawn.store(screen.erases, Ordering::SeqCst);
         }
     }
 

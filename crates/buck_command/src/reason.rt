@@ -18,8 +18,8 @@ pub(crate) struct Inquest<'a, A> {
     pub(crate) subject: &'a Subject<'a>,
     /// What was read from standard input.
     pub(crate) copied: &'a Copied,
-    /// Whether standard output couldn't be written.
-    pub(crate) is_unwritten: bool,
+    /// Why standard output couldn't be written, if it couldn't.
+    pub(crate) unwritten: Option<io::ErrorKind>,
     pub(crate) again: &'a mut A,
 }
 
@@ -320,10 +320,16 @@ impl<'a, A: Again> Inquest<'a, A> {
     /// Why the output or the journal can't be written.
     fn write_reason(&mut self, alloc: Global) -> Result<Option<String>, Memory> {
         let out = match self.subject.out {
-            Some(out) if out != DASH && !self.is_unwritten => out,
-            _ => return self.troubled(alloc, OUTPUT, Trouble::Other),
+            Some(out) if out != DASH && self.unwritten.is_none() => out,
+            _ => {
+                let trouble = self.unwritten.map_or(Trouble::Other, Trouble::of);
+                return self.troubled(alloc, OUTPUT, trouble);
+            }
         };
-        let trouble = self.again.unwritten(out, self.subject.names.as_slice());
+        let trouble = match self.again.refused() {
+            Some(kind) => Some(Trouble::of(kind)),
+            None => self.again.unwritten(out, self.subject.names.as_slice()),
+        };
         self.troubled(alloc, out, trouble.unwrap_or(Trouble::Other))
     }
 

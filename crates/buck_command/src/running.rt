@@ -30,6 +30,20 @@ Usage: buckfleet fleet [OPTIONS] <APT> <STM>...
 For more information, try '--help'.
 ";
 
+/// The same, said of requests.
+const EATEN_LIVE: &[u8] = b"error: OUT is the name of an input file, which would be lost
+
+Usage: buckfleet live [OPTIONS] <APT>
+
+For more information, try '--help'.
+";
+
+/// What is said where a number of threads isn't one.
+const THREADLESS: &[u8] = b"error: a number of threads is 1 to 64, in digits alone
+
+For more information, try '--help'.
+";
+
 /// What is said where a period or a limit isn't one.
 const NUMBERLESS: &[u8] = b"error: a period is 1 to 1000 and a limit 0 to 1000, each in digits alone
 
@@ -151,6 +165,8 @@ fn refuse<R, W: io::Write, E: io::Write>(
         Unasked::Said(error) => return explain_words(alloc, streams, error),
         Unasked::Lost => LOST,
         Unasked::Eaten => EATEN,
+        Unasked::EatenLive => EATEN_LIVE,
+        Unasked::Threadless => THREADLESS,
         Unasked::Numberless => NUMBERLESS,
         Unasked::Many => MANY,
         Unasked::Memory => return conclude(&mut streams.errors, &Err(EngineFault::Memory)),

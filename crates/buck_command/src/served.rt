@@ -11,6 +11,7 @@ use crate::working::{Streams, serve_work};
 use buck_engine::{EngineFault, Make, Open, conclude, explain};
 use std::alloc::Global;
 use std::io;
+use std::io::ErrorKind;
 use std::sync::Wait;
 use std::thread::Threads;
 use std::time::Clock;
@@ -40,6 +41,24 @@ const UNWRITTEN: &str = "write fault\n";
 struct Ended {
     status: u8,
     line: FaultLine,
+}
+
+impl Ended {
+    /// Memory ran out.
+    fn short() -> Ended {
+        let mut line = FaultLine::none();
+        let status = conclude(&mut line, &Err(EngineFault::Memory));
+        Ended { status, line }
+    }
+
+    /// The same end, but where a file couldn't be opened for want of memory: that is no fault of the file.
+    fn told(self, refused: Option<ErrorKind>) -> Ended {
+        if refused == Some(ErrorKind::OutOfMemory) && self.line.text().starts_with("read fault") {
+            Ended::short()
+        } else {
+            self
+        }
+    }
 }
 
 /// Does the work between streams that are lent.
@@ -139,6 +158,7 @@ pub(crate) fn serve_told<
     let inlet = Inlet::of(&mut streams.input, Copied::none(alloc, copies));
     let outlet = Outlet::of(&mut streams.output);
     let ended = serve_lent(rt, alloc, request, files, &inlet, &outlet, &teller);
+    let ended = ended.told(again.refused());
     let copied = inlet.into_copied();
     let line = ended.line.text();
     if outlet.is_gone() && line == UNWRITTEN {
@@ -147,7 +167,7 @@ pub(crate) fn serve_told<
     let mut inquest = Inquest {
         subject: &subject,
         copied: &copied,
-        is_unwritten: outlet.is_unwritten(),
+        unwritten: outlet.refused(),
         again: &mut again,
     };
     if line.is_empty() {

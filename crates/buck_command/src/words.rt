@@ -262,10 +262,14 @@ pub enum Unasked {
     Said(Error),
     /// A word that must be there isn't, though the command line was accepted.
     Lost,
-    /// The journal's name is that of an input file.
+    /// The journal's name is that of an input file of a fleet.
     Eaten,
+    /// The same of requests.
+    EatenLive,
     /// A period or a limit isn't one.
     Numberless,
+    /// A number of threads isn't one.
+    Threadless,
     /// A table would have more lines than it may.
     Many,
     /// The instruction of requests is to be read from the input that has them.
@@ -344,9 +348,14 @@ fn is_input(journal: Option<&str>, apt: &str, stms: &[&str]) -> bool {
     }
 }
 
+/// Whether a word has no byte but digits.
+fn has_digits_alone(word: &str) -> bool {
+    word.as_bytes().iter().all(|byte| byte.is_ascii_digit())
+}
+
 /// The number that a word is: digits alone, leading zeros among them, as in files.
 fn number(word: &str) -> Option<u32> {
-    if !word.as_bytes().iter().all(|byte| byte.is_ascii_digit()) {
+    if !has_digits_alone(word) {
         return None;
     }
     word.parse::<u32>().ok()
@@ -374,8 +383,11 @@ fn settings(words: &ArgMatches<'_>) -> Result<Settings, Unasked> {
 }
 
 /// How many threads there may be at once, where that is said.
-fn asked_threads(words: &ArgMatches<'_>) -> Option<u8> {
-    words.get_one::<u8>("threads")
+fn asked_threads(words: &ArgMatches<'_>) -> Result<Option<u8>, Unasked> {
+    match words.get_str("threads") {
+        Some(word) if !has_digits_alone(word) => Err(Unasked::Threadless),
+        _ => Ok(words.get_one::<u8>("threads")),
+    }
 }
 
 /// What the words after `fleet` ask for.
@@ -484,7 +496,7 @@ fn sweep_task<'a>(alloc: Global, words: &ArgMatches<'a>) -> Result<SweepTask<'a>
         combinations,
         apt: word(words, "APT")?,
         stms: stem_files(alloc, stms)?,
-        threads: asked_threads(words),
+        threads: asked_threads(words)?,
     })
 }
 
@@ -499,7 +511,7 @@ fn live_task<'a>(words: &ArgMatches<'a>) -> Result<LiveTask<'a>, Unasked> {
         return Err(Unasked::Shared);
     }
     if is_input(journal, apt, &[]) {
-        return Err(Unasked::Eaten);
+        return Err(Unasked::EatenLive);
     }
     Ok(LiveTask {
         rule,
@@ -531,7 +543,7 @@ fn check_task<'a>(alloc: Global, words: &ArgMatches<'a>) -> Result<CheckTask<'a>
         settings: settings(words)?,
         apt,
         files: checked_files(alloc, journal, stms)?,
-        threads: asked_threads(words),
+        threads: asked_threads(words)?,
     })
 }
 
@@ -542,7 +554,7 @@ fn view_task<'a>(words: &ArgMatches<'a>, shown: Shown) -> Result<ViewTask<'a>, U
         journal: word(words, "JOURNAL")?,
         shown,
         settings: settings(words)?,
-        threads: asked_threads(words),
+        threads: asked_threads(words)?,
     })
 }
 
@@ -560,7 +572,7 @@ fn work_of<'a>(alloc: Global, name: &str, words: &ArgMatches<'a>) -> Result<Work
         "buck" => Ok(Work::Buck(BuckTask {
             apt: word(words, "APT")?,
             stm: word(words, "STM")?,
-            threads: asked_threads(words),
+            threads: asked_threads(words)?,
         })),
         "check" => Ok(Work::Check(check_task(alloc, words)?)),
         "report" => Ok(Work::Plain(Task::Report {

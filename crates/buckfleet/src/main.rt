@@ -11,11 +11,28 @@
 #![tactic(auto)]
 
 use buck_command::{Place, Screen, Second, Streams, run, say_help};
-use buck_engine::{Disk, EngineFault, conclude};
+use buck_engine::{Desk, Disk, EngineFault, conclude};
 use std::io::{BufReader, ErrorKind, IsTerminal};
+use std::os::fd::{AsRawFd, IntoRawFd};
 use std::process::ExitCode;
 use std::rt::Stderr;
-use std::{env, io};
+use std::{env, fs, io, process};
+
+/// How many standard streams there are: they have the first descriptors.
+const STREAMS: i32 = 3;
+
+/// Puts a folder, which can be neither read nor written, into the place of each standard stream that is closed: no file
+/// that is opened later is taken for one.
+fn fill_closed(rt: &HostRuntime) {
+    for _ in 0..STREAMS {
+        match fs::open(rt, "/") {
+            Ok(folder) if folder.as_raw_fd() < STREAMS => {
+                let _ = folder.into_raw_fd();
+            }
+            _ => return,
+        }
+    }
+}
 
 /// The words of the command line, or why they can't be had.
 fn words(rt: &HostRuntime) -> Result<Vec<String>, ErrorKind> {
@@ -28,6 +45,14 @@ fn words(rt: &HostRuntime) -> Result<Vec<String>, ErrorKind> {
     }
 }
 
+/// Whether the terminal can erase the rest of a line: one that has a name, and isn't dumb.
+fn erases(rt: &HostRuntime) -> bool {
+    match env::var(rt, "TERM") {
+        Ok(name) => !name.is_empty() && name.as_str() != "dumb",
+        Err(_) => false,
+    }
+}
+
 /// Where it is told how far the work is: on standard error, where that is a terminal.
 fn screen(rt: &HostRuntime) -> Option<Screen<Stderr, &HostRuntime>> {
     let errors = rt.stderr();
@@ -35,6 +60,7 @@ fn screen(rt: &HostRuntime) -> Option<Screen<Stderr, &HostRuntime>> {
         Some(Screen {
             writer: errors,
             clock: rt,
+            erases: erases(rt),
         })
     } else {
         None
@@ -50,6 +76,7 @@ fn is_bare(words: &Result<Vec<String>, ErrorKind>) -> bool {
 }
 
 fn main(rt: HostRuntime) -> ExitCode {
+    fill_closed(&rt);
     let Ok(input) = BufReader::new(rt.alloc(), rt.reader()) else {
         return ExitCode::from(conclude(&mut rt.stderr(), &Err(EngineFault::Memory)));
     };
@@ -63,9 +90,10 @@ fn main(rt: HostRuntime) -> ExitCode {
         return ExitCode::from(say_help(rt.alloc(), &mut streams));
     }
     let screen = screen(&rt);
+    let desk = Desk::of(process::id(rt.process()));
     let place = Place {
-        files: Disk::of(&rt, rt.alloc()),
-        again: Second::of(&rt),
+        files: Disk::of(&rt, rt.alloc(), &desk),
+        again: Second::of(&rt, &desk),
     };
     let status = run(&rt, rt.alloc(), &words, place, screen, &mut streams);
     ExitCode::from(status)

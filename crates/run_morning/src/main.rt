@@ -3,7 +3,9 @@
 //! the line of that fault stands on standard error: `apt fault 9 3050`.
 #![tactic(auto)]
 
-use buck_engine::{Disk, FleetTask, NamedRule, Nobody, Order, Settings, Task, serve, serve_fleet};
+use buck_engine::{
+    Desk, Disk, FleetTask, NamedRule, Nobody, Order, Settings, Task, serve, serve_fleet,
+};
 use std::alloc::{AllocError, Global};
 use std::io;
 use std::process::ExitCode;
@@ -43,7 +45,7 @@ fn harvested<T: Threads + Wait + Sync>(
         rt.alloc(),
         &task,
         &Nobody,
-        &mut Disk::of(rt, rt.alloc()),
+        &mut Disk::of(rt, rt.alloc(), &Desk::of(0)),
         &mut io::writer(rt),
         &mut rt.stderr(),
     )
@@ -55,7 +57,7 @@ fn served(rt: &HostRuntime, task: &Task<'_>) -> u8 {
         rt.alloc(),
         task,
         &mut rt.reader(),
-        &mut Disk::of(rt, rt.alloc()),
+        &mut Disk::of(rt, rt.alloc(), &Desk::of(0)),
         &mut io::writer(rt),
         &mut rt.stderr(),
     )

@@ -3,7 +3,7 @@
 //! another language, and looked at by a person.
 #![tactic(auto)]
 
-use buck_engine::{Disk, Settings, Shown, Table, ViewTask, serve_view};
+use buck_engine::{Desk, Disk, Settings, Shown, Table, ViewTask, serve_view};
 use std::io::Write;
 use std::process::ExitCode;
 use std::thread::Threads;
@@ -85,7 +85,7 @@ fn is_right<T: Threads + Sync>(threads: &T, rt: &HostRuntime, case: &Case) -> io
         threads,
         alloc,
         &task,
-        &mut Disk::of(rt, alloc),
+        &mut Disk::of(rt, alloc, &Desk::of(0)),
         &mut output,
         &mut errors,
     );

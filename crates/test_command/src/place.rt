@@ -256,6 +256,7 @@ pub fn run_words<T: Threads + Wait + Sync>(
     };
     let ticks = AtomicU64::new(0);
     let screen = Some(Screen {
+        erases: true,
         writer: Page { lines: &lines },
         clock: Ticking(&ticks),
     });

@@ -4,9 +4,10 @@ ghost use Rattle.std.specs.Io.{WritesAtMost};
 
 use crate::run::opening::{Make, Open};
 use std::alloc::Global;
-use std::fs::{Metadata, OpenFile, OpenOptions};
-use std::io::Write;
-use std::os::unix::fs::MetadataExt;
+use std::cell::Cell;
+use std::fs::{Metadata, OpenFile, OpenOptions, Permissions};
+use std::io::{ErrorKind, Write};
+use std::os::unix::fs::{MetadataExt, OpenOptionsExt, PermissionsExt};
 use std::rt::Files;
 use std::{fs, io, mem};
 
@@ -26,20 +27,58 @@ impl Node {
     }
 }
 
+/// The names by which the system has the files behind standard input, output and error.
+const STANDARD: [&str; 3] = ["/proc/self/fd/0", "/proc/self/fd/1", "/proc/self/fd/2"];
+
+/// Whether it is the file behind standard input, output or error. No where the system doesn't say.
+pub fn is_standard<R: Files>(rt: &R, found: &Metadata) -> bool {
+    STANDARD.iter().any(|name| match rt.metadata(*name) {
+        Ok(other) => Node::of(&other) == Node::of(found),
+        Err(_) => false,
+    })
+}
+
+/// What is known of the files of a run beside their bytes.
+#[derive(Drop)]
+pub struct Desk {
+    /// The number of the process, which stands in the names of the files that it makes beside others.
+    process: u32,
+    /// Why the last file that couldn't be opened, made or written couldn't.
+    refused: Cell<Option<ErrorKind>>,
+}
+
+impl Desk {
+    /// Nothing was refused to the process of this number.
+    pub fn of(process: u32) -> Desk {
+        Desk {
+            process,
+            refused: Cell::new(None),
+        }
+    }
+
+    /// Why the last file that couldn't be opened, made or written couldn't; none where there is no such file, or where the
+    /// system refused nothing.
+    pub fn refused(&self) -> Option<ErrorKind> {
+        self.refused.get()
+    }
+}
+
 /// The files that a runtime has, by their paths.
 #[derive(Drop)]
 pub struct Disk<'a, R> {
     rt: &'a R,
     alloc: Global,
+    desk: &'a Desk,
     /// The files that were opened to be read.
     read: Vec<Node>,
 }
 
 impl<'a, R> Disk<'a, R> {
-    pub fn of(rt: &'a R, alloc: Global) -> Disk<'a, R> {
+    pub fn of(rt: &'a R, alloc: Global, desk: &'a Desk) -> Disk<'a, R> {
         Disk {
             rt,
             alloc,
+            desk,
             read: Vec::new(alloc),
         }
     }
@@ -51,49 +90,29 @@ impl<'a, R> Disk<'a, R> {
     }
 }
 
+impl<'a, R: Files> Disk<'a, R> {
+    /// The file of this name, to be read. One that can't be kept in mind isn't opened, or it might be taken for one that
+    /// may be written.
+    fn opened(&mut self, name: &str) -> io::Result<R::File> {
+        let file = fs::open(self.rt, name)?;
+        let found = file.metadata()?;
+        self.read.push(Node::of(&found))?;
+        Ok(file)
+    }
+}
+
 impl<'a, R: Files> Open for Disk<'a, R> {
     type File = R::File;
 
     ghost opens = { λ _ _ _ _. ⊤ };
 
-    // A file that can't be kept in mind isn't opened, or it might be taken for one that may be written.
     fn open(&mut self, name: &str) -> Option<R::File> {
-        let Ok(file) = fs::open(self.rt, name) else {
-            return None;
-        };
-        let Ok(found) = file.metadata() else {
-            return None;
-        };
-        match self.read.push(Node::of(&found)) {
-            Ok(()) => Some(file),
-            Err(_) => None,
-        }
-    }
-}
-
-/// The names of a file that is to be replaced, and of the one that its new text stands in until then.
-#[derive(Drop)]
-struct Names {
-    file: String,
-    part: String,
-}
-
-impl<'a, R: Files> Disk<'a, R> {
-    /// The names by which a file is replaced: its own without links, and that one with `.part` behind it. None where
-    /// there is no memory for them, or where the second is a file that is read.
-    fn names_of(&self, name: &str) -> Option<Names> {
-        let Ok(path) = self.rt.canonicalize(self.alloc, name) else {
-            return None;
-        };
-        let Ok(file) = String::from_str(self.alloc, path.as_str()) else {
-            return None;
-        };
-        let Ok(part) = format!(in self.alloc; "{file}.part") else {
-            return None;
-        };
-        match self.rt.metadata(part.as_str()) {
-            Ok(found) if self.is_read(&found) => None,
-            _ => Some(Names { file, part }),
+        match self.opened(name) {
+            Ok(file) => Some(file),
+            Err(error) => {
+                self.desk.refused.set(Some(error.kind()));
+                None
+            }
         }
     }
 }
@@ -101,8 +120,8 @@ impl<'a, R: Files> Disk<'a, R> {
 /// How the next text gets into a file.
 #[derive(Drop)]
 enum Way {
-    /// By a file beside it, which then takes its place.
-    Beside(Names),
+    /// By a file beside it, which then takes its place: that of this name, without links.
+    Beside(String),
     /// In place, once it is emptied.
     Emptied,
     /// In place, behind what stands there.
@@ -110,65 +129,105 @@ enum Way {
 }
 
 /// A file that is written anew. A regular file keeps its text until the first write: what that one is to write goes into
-/// a file beside it, made anew and synced, which then takes its place at once. Where no file can be made there, it is
-/// emptied and written in place; what is no regular file is written in place.
+/// a new file beside it, which is synced and then takes its place at once. A file that has several names, or whose place
+/// no file can take, is emptied and written in place; what is no regular file is written in place.
 #[derive(Drop)]
 pub struct Renewed<'a, R: Files> {
     rt: &'a R,
+    alloc: Global,
+    desk: &'a Desk,
     file: R::File,
     way: Way,
 }
 
-impl<'a, R: Files> Renewed<'a, R> {
-    /// Lets a file be read and written by those who may do so with this one.
-    fn grant(&self, part: &R::File) -> io::Result<()> {
-        let found = self.file.metadata()?;
-        part.set_permissions(found.permissions())
-    }
+/// Who may read, write and run a file, of all bits of a mode.
+const MAY: u32 = 0o777;
 
-    /// An empty file of this name, made anew, for those who may read and write this one. None where it can't be made.
-    fn part_of(&self, name: &str) -> Option<R::File> {
-        let _ = self.rt.remove_file(name);
-        let made = OpenOptions::new()
-            .write(true)
-            .create_new(true)
-            .open(self.rt, name);
-        let Ok(part) = made else {
-            return None;
-        };
-        match self.grant(&part) {
-            Ok(()) => Some(part),
-            Err(_) => {
-                let _ = self.rt.remove_file(name);
-                None
-            }
+/// How many names of a file beside another are tried. Each that is taken is that of a run that was ended in the middle, or
+/// of another system's that has the same files.
+const NAMES: u32 = 100;
+
+/// A new file, and its name.
+#[derive(Drop)]
+struct Part<F> {
+    file: F,
+    name: String,
+}
+
+/// Whether two files have one owner and one group.
+fn are_alike(one: &Metadata, other: &Metadata) -> bool {
+    one.uid() == other.uid() && one.gid() == other.gid()
+}
+
+impl<'a, R: Files> Renewed<'a, R> {
+    /// Gives a file of this name the owner, the group and the permissions of this one.
+    fn grant(&self, part: &R::File, name: &str, found: &Metadata) -> io::Result<()> {
+        let made = part.metadata()?;
+        if !are_alike(&made, found) {
+            self.rt.lchown(name, Some(found.uid()), Some(found.gid()))?;
+        }
+        if made.mode() & MAY != found.mode() & MAY {
+            part.set_permissions(Permissions::from_mode(found.mode() & MAY))?;
+        }
+        let made = part.metadata()?;
+        if are_alike(&made, found) {
+            Ok(())
+        } else {
+            Err(io::Error::from(ErrorKind::PermissionDenied))
         }
     }
 
-    /// Writes a text into the file beside it, and puts that one into its place.
-    fn replace(&self, part: &mut R::File, names: &Names, text: &[u8]) -> io::Result<()> {
-        part.write_all(text)?;
-        part.sync_all()?;
-        self.rt.rename(names.part.as_str(), names.file.as_str())
-    }
-
-    /// Writes a text into a file beside it, which takes its place; in place where there can be no such file.
-    fn write_beside(&mut self, names: &Names, text: &[u8]) -> io::Result<usize>
-        ensures { WritesAtMost result text.now }
-    {
-        let Some(mut part) = self.part_of(names.part.as_str()) else {
-            return self.write_emptied(text);
-        };
-        match self.replace(&mut part, names, text) {
-            Ok(()) => {
-                self.file = part;
-                Ok(text.len())
-            }
+    /// A new file of this name, of the same owner and group, for those who may read and write this one.
+    fn made(&self, name: &str) -> io::Result<R::File> {
+        let found = self.file.metadata()?;
+        let mut options = OpenOptions::new();
+        options.mode(found.mode() & MAY);
+        options.write(true).create_new(true);
+        let part = options.open(self.rt, name)?;
+        match self.grant(&part, name, &found) {
+            Ok(()) => Ok(part),
             Err(error) => {
-                let _ = self.rt.remove_file(names.part.as_str());
+                let _ = self.rt.remove_file(name);
                 Err(error)
             }
         }
+    }
+
+    /// A new file beside this one, whose name says what it is.
+    fn part_of(&self, file: &str) -> io::Result<Part<R::File>> {
+        for number in 1..=NAMES {
+            let name = format!(in self.alloc; "{file}.{}.{number}.part", self.desk.process)?;
+            match self.made(name.as_str()) {
+                Ok(file) => return Ok(Part { file, name }),
+                Err(error) if error.kind() == ErrorKind::AlreadyExists => {}
+                Err(error) => return Err(error),
+            }
+        }
+        Err(io::Error::from(ErrorKind::AlreadyExists))
+    }
+
+    /// Writes a text into a new file beside this one, which takes its place; in place where there can be no such file, or
+    /// it can't take the place.
+    fn write_beside(&mut self, file: &str, text: &[u8]) -> io::Result<usize>
+        ensures { WritesAtMost result text.now }
+    {
+        let Ok(part) = self.part_of(file) else {
+            return self.write_emptied(text);
+        };
+        let Part {
+            file: mut made,
+            name,
+        } = part;
+        if let Err(error) = write_synced(&mut made, text) {
+            let _ = self.rt.remove_file(name.as_str());
+            return Err(error);
+        }
+        if self.rt.rename(name.as_str(), file).is_err() {
+            let _ = self.rt.remove_file(name.as_str());
+            return self.write_emptied(text);
+        }
+        self.file = made;
+        Ok(text.len())
     }
 
     /// Empties the file and writes a text into it.
@@ -178,16 +237,33 @@ impl<'a, R: Files> Renewed<'a, R> {
         self.file.set_len(0)?;
         self.file.write(text)
     }
+
+    /// Writes a text as it is due.
+    fn put(&mut self, text: &[u8]) -> io::Result<usize>
+        ensures { WritesAtMost result text.now }
+    {
+        let way = mem::replace(&mut self.way, Way::Further);
+        match way {
+            Way::Beside(file) => self.write_beside(file.as_str(), text),
+            Way::Emptied => self.write_emptied(text),
+            Way::Further => self.file.write(text),
+        }
+    }
+}
+
+/// Writes a whole text, and has the system keep it.
+fn write_synced<F: Write + OpenFile>(file: &mut F, text: &[u8]) -> io::Result<()> {
+    file.write_all(text)?;
+    file.sync_all()
 }
 
 impl<'a, R: Files> io::Write for Renewed<'a, R> {
     fn write(&mut self, buf: &[u8]) -> io::Result<usize> {
-        let way = mem::replace(&mut self.way, Way::Further);
-        match way {
-            Way::Beside(names) => self.write_beside(&names, buf),
-            Way::Emptied => self.write_emptied(buf),
-            Way::Further => self.file.write(buf),
+        let written = self.put(buf);
+        if let Err(error) = &written {
+            self.desk.refused.set(Some(error.kind()));
         }
+        written
     }
 
     fn flush(&mut self) -> io::Result<()> {
@@ -201,10 +277,36 @@ impl<'a, R: Files> Disk<'a, R> {
         if !found.is_file() {
             return Way::Further;
         }
-        match self.names_of(name) {
-            Some(names) => Way::Beside(names),
-            None => Way::Emptied,
+        if found.nlink() > 1 {
+            return Way::Emptied;
         }
+        let Ok(path) = self.rt.canonicalize(self.alloc, name) else {
+            return Way::Emptied;
+        };
+        match String::from_str(self.alloc, path.as_str()) {
+            Ok(file) => Way::Beside(file),
+            Err(_) => Way::Emptied,
+        }
+    }
+
+    /// The file of this name, to be written anew; none where it is one that is read, or stands behind a standard stream.
+    fn made(&self, name: &str) -> io::Result<Option<Renewed<'a, R>>> {
+        let file = OpenOptions::new()
+            .write(true)
+            .create(true)
+            .open(self.rt, name)?;
+        let found = file.metadata()?;
+        if found.is_file() && (self.is_read(&found) || is_standard(self.rt, &found)) {
+            return Ok(None);
+        }
+        let way = self.way_of(name, &found);
+        Ok(Some(Renewed {
+            rt: self.rt,
+            alloc: self.alloc,
+            desk: self.desk,
+            file,
+            way,
+        }))
     }
 }
 
@@ -214,24 +316,12 @@ impl<'a, R: Files> Make for Disk<'a, R> {
     ghost makes = { λ _ _ _ _. ⊤ };
 
     fn make(&mut self, name: &str) -> Option<Renewed<'a, R>> {
-        let opened = OpenOptions::new()
-            .write(true)
-            .create(true)
-            .open(self.rt, name);
-        let Ok(file) = opened else {
-            return None;
-        };
-        let Ok(found) = file.metadata() else {
-            return None;
-        };
-        if found.is_file() && self.is_read(&found) {
-            return None;
+        match self.made(name) {
+            Ok(made) => made,
+            Err(error) => {
+                self.desk.refused.set(Some(error.kind()));
+                None
+            }
         }
-        let way = self.way_of(name, &found);
-        Some(Renewed {
-            rt: self.rt,
-            file,
-            way,
-        })
     }
 }

@@ -29,7 +29,7 @@ pub trait Make {
     ghost makes: { Self → List ℕ → Option Self.Made → Self → Type 0 };
 
     /// The file of this name, to be written anew; an empty one is made where there is none. None where it can't be
-    /// opened or made, or is one of the files that are read.
+    /// opened or made, or is one of the files that are read or stand behind a standard stream.
     fn make(&mut self, name: &str) -> Option<Self::Made>
         ensures { makes self.old name.now result self.new };
 }
