@@ -184,6 +184,21 @@ def owner_that_cannot_be_kept():
 
 
 @row
+def folder_that_takes_no_file():
+    if os.getuid() != 0:
+        return "left out: not root"
+    journal, _ = wanted()
+    put("o.jrn")
+    os.chmod("o.jrn", 0o666)
+    status, _, errors = run(f"{WORDS} o.jrn {FILES}", user=65534, group=65534)
+    expect(status == 0 and held("o.jrn") == journal and left() == ["o.jrn"], errors)
+    status, _, errors = run(f"fleet --explain --in-turn --journal new.jrn {FILES}", user=65534, group=65534)
+    expect((status, errors) == (5, b"new.jrn: not allowed\nwrite fault\n"), errors)
+    status, _, errors = run(f"fleet --explain --in-turn --journal . {FILES}")
+    expect((status, errors) == (5, b".: is a folder\nwrite fault\n"), errors)
+
+
+@row
 def mode_of_out():
     journal, _ = wanted()
     for mode, mask in ((0o640, 0o022), (0o666, 0o077), (0o4755, 0o022), (0o600, 0o000)):
@@ -286,10 +301,19 @@ def parts_have_names_of_their_own():
 
 
 @row
+def old_journal_without_requests():
+    for ends in ("<&-", "<&- >&-", "<&- 2>&-", "< ."):
+        put("o.jrn")
+        status, output, errors = run("live --journal o.jrn morning.apt", ends)
+        line = b"" if "2>" in ends else b"read fault 1\n"
+        expect((status, output, errors) == (5, b"", line), (ends, status, output, errors))
+        expect(held("o.jrn") == OLD, f"OUT has another text with {ends}")
+
+
+@row
 def closed_input():
-    shutil.copy("morning.jrn", "old.jrn")
     for words, line in (
-        ("live --journal old.jrn morning.apt", b"read fault 1\n"),
+        ("live morning.apt", b"read fault 1\n"),
         ("buck - morning_1.stm", b"read fault 0\n"),
         ("buck morning.apt -", b"read fault 1\n"),
         ("", b"read fault 0\n"),

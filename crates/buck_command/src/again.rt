@@ -1,5 +1,5 @@
 //! Files opened once more, when something was wrong with them.
-use buck_engine::{Desk, is_standard};
+use buck_engine::{Desk, has_folder_input, is_standard};
 use buck_reason::Shown;
 use std::fs::Metadata;
 use std::io::ErrorKind;
@@ -89,6 +89,11 @@ pub trait Again {
     fn refused(&self) -> Option<ErrorKind> {
         None
     }
+
+    /// Whether standard input may be read: it is no folder.
+    fn has_input(&self) -> bool {
+        true
+    }
 }
 
 /// The files that a runtime has, opened once more by their paths.
@@ -165,5 +170,9 @@ impl<'a, R: Files> Again for Second<'a, R> {
 
     fn refused(&self) -> Option<ErrorKind> {
         self.desk.refused()
+    }
+
+    fn has_input(&self) -> bool {
+        !has_folder_input(self.rt)
     }
 }

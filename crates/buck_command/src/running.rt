@@ -233,7 +233,12 @@ pub fn run<
         Err(kind) => return refuse_words(streams, *kind),
     };
     match parse(alloc, words.as_slice()) {
-        Ok(Asked::Work(request)) => serve_told(rt, alloc, &request, files, screen, streams),
+        Ok(Asked::Work(mut request)) => {
+            if !files.again.has_input() {
+                request.keep_old_journal();
+            }
+            serve_told(rt, alloc, &request, files, screen, streams)
+        }
         Ok(Asked::Sentence(line)) => say_sentence(alloc, streams, line.as_str()),
         Err(why) => refuse(alloc, streams, &why),
     }

@@ -599,6 +599,15 @@ pub struct Request<'a> {
     pub explain: bool,
 }
 
+impl Request<'_> {
+    /// Keeps requests that can't be read from replacing an old journal by one of no posting.
+    pub(crate) fn keep_old_journal(&mut self) {
+        if let Work::Live(task) = &mut self.work {
+            task.journal = None;
+        }
+    }
+}
+
 /// The words of a fault line, with a blank before each.
 fn line_of(alloc: Global, words: &[&str]) -> Result<String, Error> {
     let mut line = String::new(alloc);

@@ -31,7 +31,7 @@ pub use fleet::serving::{FleetTask, Order, serve_fleet};
 pub use fleet::turning::run_in_turn;
 pub use run::bucking::{run_bare, run_buck};
 pub use run::checking::run_check;
-pub use run::disk::{Desk, Disk, Renewed, is_standard};
+pub use run::disk::{Desk, Disk, Renewed, has_folder_input, is_standard};
 pub use run::opening::{Make, Open, open_inputs};
 pub use run::parallel::{BuckTask, run_buck_in_parts, serve_buck};
 pub use run::reading::read_instruction;

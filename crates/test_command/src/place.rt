@@ -4,6 +4,7 @@ ghost use Rattle.std.specs.Prelude.{⊤};
 use buck_command::{Again, Place, Screen, Streams, Trouble, run};
 use buck_engine::{Make, Open};
 use std::alloc::Global;
+use std::cell::Cell;
 use std::io;
 use std::io::{Error, ErrorKind};
 use std::sync::atomic::{AtomicU64, Ordering};
@@ -70,11 +71,12 @@ impl io::Read for Repeated {
 /// The files `apt`, `twins` (an instruction), `stm`, `jrn`, `unlawful` (a journal) and `bad` (none of these); `two`,
 /// which has two stems, `empty`, which has none, `beech`, which has one of another species, and `many`, which has 1,000
 /// of no length and one number; `short` and `long`, of 999,000 and of 1,000,000 blanks; the
-/// files `out` and `full`, which can be made, the second with room for 99 bytes; and the names that were asked for, each
-/// with a blank after it.
+/// files `out` and `full`, which can be made, the second with room for 99 bytes; `heavy`, for which there is no memory;
+/// and the names that were asked for, each with a blank after it.
 #[derive(Drop)]
 pub struct Shelf<'a> {
     names: &'a Mutex<Vec<u8>>,
+    refused: &'a Cell<Option<ErrorKind>>,
 }
 
 impl<'a> Shelf<'a> {
@@ -102,6 +104,9 @@ impl<'a> Open for Shelf<'a> {
 
     fn open(&mut self, name: &str) -> Option<Repeated> {
         self.note(b"", name);
+        if name == "heavy" {
+            self.refused.set(Some(ErrorKind::OutOfMemory));
+        }
         shelved(name)
     }
 }
@@ -127,9 +132,11 @@ fn shelved(name: &str) -> Option<Repeated> {
 
 /// The same files once more, of which no name is kept.
 #[derive(Drop)]
-struct Anew;
+struct Anew<'a> {
+    refused: &'a Cell<Option<ErrorKind>>,
+}
 
-impl Again for Anew {
+impl Again for Anew<'_> {
     type Found = Repeated;
 
     fn again(&mut self, name: &str) -> Result<Repeated, Trouble> {
@@ -150,6 +157,10 @@ impl Again for Anew {
         } else {
             None
         }
+    }
+
+    fn refused(&self) -> Option<ErrorKind> {
+        self.refused.get()
     }
 }
 
@@ -250,9 +261,13 @@ pub fn run_words<T: Threads + Wait + Sync>(
         output: Vec::new(alloc),
         errors: Vec::new(alloc),
     };
+    let refused = Cell::new(None);
     let place = Place {
-        files: Shelf { names: &names },
-        again: Anew,
+        files: Shelf {
+            names: &names,
+            refused: &refused,
+        },
+        again: Anew { refused: &refused },
     };
     let ticks = AtomicU64::new(0);
     let screen = Some(Screen {

@@ -112,7 +112,7 @@ const STEADY: &str = "check fault 4 1 0 600 400\n";
 type Row = (&'static str, u8, &'static str, &'static str);
 
 /// What needs no journal: the bare form, `buck`, and words of no command.
-const WORDS: [Row; 23] = [
+const WORDS: [Row; 25] = [
     ("", 0, TEXT, ""),
     ("buck apt stm", 0, TEXT, "apt stm "),
     ("buck --quiet apt stm", 0, TEXT, "apt stm "),
@@ -121,10 +121,17 @@ const WORDS: [Row; 23] = [
     ("buck --threads 0 apt stm", 2, "error: ", ""),
     ("buck --threads 65 apt stm", 2, "error: ", ""),
     ("buck --threads two apt stm", 2, "error: ", ""),
+    (
+        "buck --threads +4 apt stm",
+        2,
+        "error: a number of threads",
+        "",
+    ),
     ("buck stm apt", 1, "apt fault 2\n", "stm apt "),
     ("buck apt bad", 1, "stm 1 fault 2\n", "apt bad "),
     ("buck none stm", 5, "read fault 0\n", "none "),
     ("buck apt none", 5, "read fault 1\n", "apt none "),
+    ("buck apt heavy", 3, "memory\n", "apt heavy "),
     ("--help", 0, "Cuts each stem", ""),
     ("buck --help", 0, "Cuts each stem", ""),
     ("--version", 0, "buckfleet 0.1.0 (logic ", ""),

@@ -27,8 +27,19 @@ impl Node {
     }
 }
 
-/// The names by which the system has the files behind standard input, output and error.
-const STANDARD: [&str; 3] = ["/proc/self/fd/0", "/proc/self/fd/1", "/proc/self/fd/2"];
+/// The name by which the system has the file behind standard input.
+const INPUT: &str = "/proc/self/fd/0";
+
+/// The same of standard input, output and error.
+const STANDARD: [&str; 3] = [INPUT, "/proc/self/fd/1", "/proc/self/fd/2"];
+
+/// Whether a folder stands behind standard input, of which nothing can be read.
+pub fn has_folder_input<R: Files>(rt: &R) -> bool {
+    match rt.metadata(INPUT) {
+        Ok(found) => found.is_dir(),
+        Err(_) => false,
+    }
+}
 
 /// Whether it is the file behind standard input, output or error. No where the system doesn't say.
 pub fn is_standard<R: Files>(rt: &R, found: &Metadata) -> bool {
@@ -56,8 +67,7 @@ impl Desk {
         }
     }
 
-    /// Why the last file that couldn't be opened, made or written couldn't; none where there is no such file, or where the
-    /// system refused nothing.
+    /// Why the last file that couldn't be opened, made or written couldn't; none where the system refused nothing.
     pub fn refused(&self) -> Option<ErrorKind> {
         self.refused.get()
     }
@@ -91,8 +101,8 @@ impl<'a, R> Disk<'a, R> {
 }
 
 impl<'a, R: Files> Disk<'a, R> {
-    /// The file of this name, to be read. One that can't be kept in mind isn't opened, or it might be taken for one that
-    /// may be written.
+    /// The file of this name, to be read. One that can't be kept in mind isn't opened, or it might be taken for one
+    /// that may be written.
     fn opened(&mut self, name: &str) -> io::Result<R::File> {
         let file = fs::open(self.rt, name)?;
         let found = file.metadata()?;
@@ -128,9 +138,9 @@ enum Way {
     Further,
 }
 
-/// A file that is written anew. A regular file keeps its text until the first write: what that one is to write goes into
-/// a new file beside it, which is synced and then takes its place at once. A file that has several names, or whose place
-/// no file can take, is emptied and written in place; what is no regular file is written in place.
+/// A file that is written anew. A regular file keeps its text until the first write: what that one is to write goes
+/// into a new file beside it, which is synced and then takes its place at once. A file that has several names, or whose
+/// place no file can take, is emptied and written in place; what is no regular file is written in place.
 #[derive(Drop)]
 pub struct Renewed<'a, R: Files> {
     rt: &'a R,
@@ -143,8 +153,8 @@ pub struct Renewed<'a, R: Files> {
 /// Who may read, write and run a file, of all bits of a mode.
 const MAY: u32 = 0o777;
 
-/// How many names of a file beside another are tried. Each that is taken is that of a run that was ended in the middle, or
-/// of another system's that has the same files.
+/// How many names of a file beside another are tried. Each that is taken is that of a run that was ended in the middle,
+/// or that of another system's which has the same files.
 const NAMES: u32 = 100;
 
 /// A new file, and its name.
@@ -206,8 +216,8 @@ impl<'a, R: Files> Renewed<'a, R> {
         Err(io::Error::from(ErrorKind::AlreadyExists))
     }
 
-    /// Writes a text into a new file beside this one, which takes its place; in place where there can be no such file, or
-    /// it can't take the place.
+    /// Writes a text into a new file beside this one, which takes its place; in place where there can be no such file,
+    /// or it can't take the place.
     fn write_beside(&mut self, file: &str, text: &[u8]) -> io::Result<usize>
         ensures { WritesAtMost result text.now }
     {
@@ -289,7 +299,7 @@ impl<'a, R: Files> Disk<'a, R> {
         }
     }
 
-    /// The file of this name, to be written anew; none where it is one that is read, or stands behind a standard stream.
+    /// The file of this name, to be written anew; none where it is read, or stands behind a standard stream.
     fn made(&self, name: &str) -> io::Result<Option<Renewed<'a, R>>> {
         let file = OpenOptions::new()
             .write(true)
