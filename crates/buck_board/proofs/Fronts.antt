@@ -1,6 +1,8 @@
 -- Each step on the front keeps its rule.
-use Rattle.std.proofs.Common.{◌≡◌, ℕ, zero, suc, ◌<◌, ◌≤◌, ◌^◌, List, [], ◌∷◌, ◌++◌, All, length, slice_index, slice_index_or, slice_set, max, sym, refl, ap, subst, le_trans, arith}
-use Rattle.std.proofs.lemmas.List.Elements.{All-set, All-append}
+use Rattle.std.proofs.Common.{◌≡◌, ℕ, zero, suc, ◌<◌, ◌≤◌, ◌^◌, List, [], ◌∷◌, ◌++◌, All, Contains, length, slice_index, slice_index_or, slice_set, max, sym, refl, ap, subst, ◌∙◌, inl, inr, le_trans, arith, length-set}
+use Rattle.std.proofs.lemmas.List.Elements.{All-set, All-append, Contains-push, Contains-append_left}
+use Rattle.std.proofs.lemmas.List.{get_or-set_same, get_or-set_other, get_or_default}
+use Rattle.std.proofs.lemmas.Bool.{cases_eq}
 use mathlib.Core.Option.{none, some, some-injective, some-ne-none}
 use lib.ListN.{get_elem?}
 use Rattle.atomic_table.specs.Table.{Me, keeps, step, Allows, Splits}
@@ -34,6 +36,30 @@ raised front next views seat up small rule =
           (λ k d within. le_trans (rule.newest k d within) up);
     }
 
+-- the seat that took the step has seen it
+has_seen : (views : List ℕ) (seat seen next : ℕ) → get_elem? views seat ≡ some seen
+    → Contains (slice_set views seat next) next
+has_seen views seat seen next is =
+    let at = elem_at views seat seen is in
+    (seat, rw length-set at.0, get_or-set_same views seat next next at.0)
+
+-- where a seat becomes two, the front is still seen
+still_seen : (views : List ℕ) (seat seen front : ℕ) → get_elem? views seat ≡ some seen → Contains views front
+    → Contains (slice_set views seat seen ++ seen ∷ []) front
+still_seen views seat seen front is there =
+    let at = elem_at views seat seen is in elim (cases_eq there.0 seat) [
+      | inl same ↦
+          let own : seen ≡ front = sym at.1 ∙ get_or_default views seat seen front at.0
+          ∙ ap (λ (k : ℕ). slice_index_or views k front) (sym same) ∙ there.2 in
+          subst (λ v. Contains (slice_set views seat seen ++ seen ∷ []) v) own (Contains-push _ seen)
+      | inr other ↦
+          Contains-append_left _ _ front (
+            there.0,
+            rw length-set there.1,
+            get_or-set_other views seat there.0 seen front other ∙ there.2,
+          )
+    ]
+
 -- a step that doesn't lower the front and keeps it below 2 ^ 32
 pub step_keeps : (slots id : ℕ) (me : Me (Unit {0}) ℕ) (f : ℕ → ℕ) (then : ℕ → Me (Unit {0}) ℕ → Type 0)
     → ((n : ℕ) → n < 2 ^ 32 → (n ≤ f n) × (f n < 2 ^ 32))
@@ -47,7 +73,7 @@ step_keeps slots id me f then up told s rule homes mine fits =
       f n,
       keeps,
       tt,
-      (f n, words, raised n (f n) s.views id rises.0 rises.1 seen),
+      (f n, words, raised n (f n) s.views id rises.0 rises.1 seen, has_seen s.views id me.0 (f n) mine),
       told n (seen_below n s.views id me.0 seen mine) seen.bounded,
     )
 
@@ -79,4 +105,4 @@ split_keeps id seen s rule mine =
     let all : All (λ v. v ≤ rule.0) (slice_set s.views id seen ++ seen ∷ []) = All-append (λ v. v ≤ rule.0)
     (slice_set s.views id seen) (seen ∷ []) (All-set (λ v. v ≤ rule.0) s.views id seen below rule.2.newest)
     (one seen below) in
-    (rule.0, rule.1, record { bounded = rule.2.bounded; newest = all })
+    (rule.0, rule.1, record { bounded = rule.2.bounded; newest = all }, still_seen s.views id seen rule.0 mine rule.3)

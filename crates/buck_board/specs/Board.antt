@@ -1,8 +1,10 @@
 -- What clauses say of a board, its seats and its snapshots.
-use Rattle.std.specs.Prelude.{◌≡◌, ℕ, ◌≤◌, max}
+use Rattle.std.specs.Prelude.{◌≡◌, ℕ}
+use Rattle.boxcar.specs.Table.{Shows}
 use Rattle.buck_value.specs.Sheet.{SheetParts}
 use Rattle.buck_board.specs.declared.board.Board.{Board}
 use Rattle.buck_board.specs.declared.front.Front.{Front}
+use Rattle.buck_board.specs.declared.put_up.PutUp.{PutUp}
 use Rattle.buck_board.specs.declared.seat.BoardSeat.{BoardSeat}
 use Rattle.buck_board.specs.declared.snapshot.Snapshot.{Snapshot}
 
@@ -22,11 +24,6 @@ IsSeatAt f s = s.place.table_id ≡ f.table.shared.table_id
 abbrev pub IsSeatOf : Board → BoardSeat → Type 0
 IsSeatOf b s = IsSeatAt b.front s
 
--- after a raise the seat has seen the greater of the version and the word that was found, which was no less than what
--- it had seen
-abbrev pub IsRaised : BoardSeat → ℕ → BoardSeat → Type 0
-IsRaised before version after = (word : ℕ) × (seen_by before ≤ word) × (seen_by after ≡ max word version)
-
 -- the snapshot was taken from this board
 abbrev pub IsSnapshotOf : Board → Snapshot → Type 0
 IsSnapshotOf b s = s.board.now ≡ b
@@ -36,3 +33,10 @@ version_of s = s.version
 
 abbrev pub sheet_of : Snapshot → SheetParts
 sheet_of s = s.sheet.now.value
+
+-- a sheet was put up on this board, and which one
+abbrev pub IsPutUpOn : Board → PutUp → Type 0
+IsPutUpOn b p = Shows b.later p.pushed
+
+abbrev pub sheet_put_up : PutUp → SheetParts
+sheet_put_up p = p.pushed.value.value

@@ -3,6 +3,7 @@ ghost use Rattle.std.specs.Prelude.{◌≡◌, ◌+◌, ◌≤◌, ◌<◌, All,
 ghost use Rattle.boxcar.specs.Table.{Shows};
 
 use crate::front::Front;
+use crate::put_up::PutUp;
 use crate::seat::BoardSeat;
 use crate::snapshot::Snapshot;
 use boxcar::Pushed;
@@ -24,7 +25,7 @@ pub struct Board {
 }
 
 impl Board {
-    ghost use Rattle.buck_board.specs.Board.{base_of, seen_by, IsSeatOf, IsSnapshotOf, version_of, sheet_of, IsRaised};
+    ghost use Rattle.buck_board.specs.Board.{base_of, seen_by, IsSeatOf, IsSnapshotOf, version_of, sheet_of, IsPutUpOn, sheet_put_up};
 
     /// A board with 1 to 64 seats that shows a sheet of version 0, the base sheet; each seat has seen version 0.
     /// `Memory` where there is none for the list, the front or the seats.
@@ -51,17 +52,28 @@ impl Board {
     /// place among all sheets. `Memory` where there is none for the list, and then the sheet is dropped and all else
     /// stays.
     pub fn put_up<R: Wait>(&self, rt: &R, _alloc: Global, sheet: Arc<Sheet>) -> Result<(), Memory> {
-        match self.later.push(rt, sheet) {
+        match self.put_up_shown(rt, sheet) {
             Ok(_) => Ok(()),
+            Err(fault) => Err(fault),
+        }
+    }
+
+    /// [`put_up`](Board::put_up), which answers what shows that the sheet was put up.
+    pub fn put_up_shown<R: Wait>(&self, rt: &R, sheet: Arc<Sheet>) -> Result<PutUp, Memory>
+        ensures board { IfOk result (IsPutUpOn self.now) }
+        ensures sheet { IfOk result (λ p. sheet_put_up p ≡ sheet.value) }
+    {
+        match self.later.push_shown(rt, sheet) {
+            Ok(pushed) => Ok(PutUp { pushed }),
             Err(_) => Err(Memory),
         }
     }
 
-    /// Raises the front to this version, where it is less. The seat has then seen the greater of the two.
+    /// Raises the front to this version, where it is less. The seat has then seen the greater of the two, so no less
+    /// than the version and than it had seen.
     pub fn raise(&self, seat: &mut BoardSeat, version: u32)
         requires { IsSeatOf self.now seat.old }
         ensures place { IsSeatOf self.now seat.new }
-        ensures raised { IsRaised seat.old version seat.new }
         ensures version { version ≤ seen_by seat.new }
         ensures seen { seen_by seat.old ≤ seen_by seat.new }
     {

@@ -14,7 +14,7 @@ pub struct Front {
 }
 
 impl Front {
-    ghost use Rattle.buck_board.specs.Board.{IsSeatAt, IsRaised};
+    ghost use Rattle.buck_board.specs.Board.{IsSeatAt};
 
     /// The word 0, with a first seat that has seen 0.
     pub fn open(alloc: Global) -> Result<(Front, BoardSeat), AllocError>
@@ -59,7 +59,8 @@ impl Front {
     pub fn raise(&self, seat: &mut BoardSeat, version: u32)
         requires { IsSeatAt self.now seat.old }
         ensures place { IsSeatAt self.now seat.new }
-        ensures raised { IsRaised seat.old version seat.new }
+        ensures version { version ≤ seat.new.seen }
+        ensures rises { seat.old.seen ≤ seat.new.seen }
     {
         // Raise: the word and the seat's view become the greater of the word and the version, and nothing else changes.
         let table = &self.table.shared;

@@ -3,11 +3,13 @@
 
 mod board;
 mod front;
+mod put_up;
 mod rule;
 mod seat;
 mod snapshot;
 
 pub use board::Board;
 pub use buck_record::Memory;
+pub use put_up::PutUp;
 pub use seat::BoardSeat;
 pub use snapshot::Snapshot;

@@ -1,9 +1,9 @@
 -- what stopped the lowest harvester that was stopped
-use Rattle.buck_fleet.proofs.Words.{◌≡◌, ℕ, ◌<◌, ◌≤◌, List, arith, refl, ap, ◌∙◌, All, Option, None, Some, IfSome, slice_get-get_or, Contains, RunFault, SeatParts, IsFirstStop}
+use Rattle.buck_fleet.proofs.Words.{◌≡◌, ℕ, ◌+◌, ◌<◌, ◌≤◌, List, arith, refl, ap, ◌∙◌, All, Option, None, Some, IfSome, slice_get-get_or, Contains, RunFault, SeatParts, IsFirstStop, MOST_SEATS}
 
 -- the harvester of a seat that was stopped; more than any harvester where it wasn't
 abbrev key : ℕ → Option RunFault → ℕ
-key h None = 65
+key h None = MOST_SEATS + 1
 key h (Some fault) = h
 
 abbrev pub key_of : SeatParts → ℕ

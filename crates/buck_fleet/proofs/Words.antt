@@ -6,10 +6,11 @@ pub use Rattle.buck_book.specs.declared.posting.Posting.{Posting}
 pub use Rattle.buck_book.specs.declared.posting.Posting.TheVariants.{Cut, Demand}
 pub use Rattle.buck_book.specs.Entry.{DemandParts}
 pub use Rattle.buck_book.specs.Plan.{PlanParts, IsPlan}
-pub use Rattle.buck_book.specs.History.{HistoryParts, version_of, in_force, IsLawful}
+pub use Rattle.buck_book.specs.History.{HistoryParts, version_of, in_force, IsLawful, sheets_with}
 pub use Rattle.buck_book.specs.Book.{entry_of, demand_of, IsFirst, sheets_from}
 pub use Rattle.buck_book.proofs.Ends.{ends-append, ends_with_end, take_one_more}
 pub use Rattle.buck_fleet.specs.declared.seat.Kept.{Kept}
+pub use Rattle.buck_fleet.specs.declared.seat.TheConstants.{MOST_SEATS}
 pub use Rattle.buck_fleet.specs.declared.seat.Reply.{Reply}
 pub use Rattle.buck_fleet.specs.declared.seat.DemandReply.{DemandReply}
 pub use Rattle.buck_fleet.specs.Seat.{SeatParts, Keeps, KeepsOne, seen_of, KeepsNothing}

@@ -6,3 +6,4 @@ pub mod Run
 pub mod Closed
 pub mod Refused
 pub mod Faults
+pub mod inner

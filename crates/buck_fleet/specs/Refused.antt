@@ -14,12 +14,15 @@ use Rattle.buck_fleet.specs.declared.fault.RetargetFault.TheVariants as retarget
 use Rattle.buck_fleet.specs.declared.fault.TryFault.{TryFault}
 use Rattle.buck_fleet.specs.declared.fault.TryFault.TheVariants.{Full, Stale, Memory}
 use Rattle.buck_book.specs.declared.posting.TheConstants.{MOST_POSTINGS}
+use Rattle.buck_fleet.specs.declared.seat.TheConstants.{MOST_SEATS}
 
 -- a number of seats outside 1 to 64 is refused first, then a capacity outside 1 to 1,000,000
 abbrev pub IsOpenFault : ℕ → ℕ → OpenFault → Type 0
-IsOpenFault seats capacity opening.Seats = (seats ≡ 0) ⊎ (64 < seats)
-IsOpenFault seats capacity opening.Capacity = (0 < seats) × (seats ≤ 64) × ((capacity ≡ 0) ⊎ (MOST_POSTINGS < capacity))
-IsOpenFault seats capacity opening.Memory = (0 < seats) × (seats ≤ 64) × (0 < capacity) × (capacity ≤ MOST_POSTINGS)
+IsOpenFault seats capacity opening.Seats = (seats ≡ 0) ⊎ (MOST_SEATS < seats)
+IsOpenFault seats capacity opening.Capacity =
+    (0 < seats) × (seats ≤ MOST_SEATS) × ((capacity ≡ 0) ⊎ (MOST_POSTINGS < capacity))
+IsOpenFault seats capacity opening.Memory =
+    (0 < seats) × (seats ≤ MOST_SEATS) × (0 < capacity) × (capacity ≤ MOST_POSTINGS)
 
 -- the plan is given back, and a sheet in force is another than the plan's
 abbrev pub GivesBack : PlanParts → TryFault → Type 0

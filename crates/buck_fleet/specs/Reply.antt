@@ -10,6 +10,7 @@ use Rattle.buck_fleet.specs.declared.seat.Path.{Path}
 use Rattle.buck_fleet.specs.declared.seat.Path.TheVariants.{Optimistic, Locked}
 use Rattle.buck_fleet.specs.declared.seat.Reply.{Reply}
 use Rattle.buck_fleet.specs.declared.seat.DemandReply.{DemandReply}
+use Rattle.buck_fleet.specs.declared.seat.TheConstants.{MOST_ATTEMPTS}
 use Rattle.buck_fleet.specs.Seat.{SeatParts, KeepsOne, seen_of}
 
 -- the first of the best cuttings of a stem, with its worth, under some sheet of the entry's version
@@ -39,8 +40,8 @@ pub record IsOfPlan (p : PlanParts) (e : EntryParts) : Type 0 where
 
 -- how many optimistic attempts a reply may name
 abbrev pub AreAttempts : Path → ℕ → Type 0
-AreAttempts Optimistic n = (1 ≤ n) × (n ≤ 3)
-AreAttempts Locked n = n ≤ 3
+AreAttempts Optimistic n = (1 ≤ n) × (n ≤ MOST_ATTEMPTS)
+AreAttempts Locked n = n ≤ MOST_ATTEMPTS
 
 -- a seat's reply for new targets, which was kept; the version that they begin has been seen
 pub record IsReplyToTargets (before after : SeatParts) (targets : List ℕ) (r : DemandReply) : Type 0 where

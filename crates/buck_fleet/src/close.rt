@@ -10,6 +10,7 @@ ghost use Rattle.buck_fleet.specs.Crew.{IsCrew, parts_of};
 ghost use Rattle.buck_fleet.specs.Closed.{ClosedParts, kept_by, lists_of, replies_from, replies_of, IsHandedOut, IsOneHistory, IsCloseFault, DifferFirstAt};
 ghost use Rattle.buck_fleet.specs.Faults.{close_numbers};
 ghost use Rattle.buck_book.specs.declared.posting.TheConstants.{MOST_POSTINGS};
+ghost use Rattle.buck_fleet.specs.declared.seat.TheConstants.{MOST_SEATS};
 
 use crate::desk::Desk;
 use crate::fleet::Fleet;
@@ -223,7 +224,7 @@ impl Closed {
 
     /// Why a fleet of this instruction doesn't close well.
     fn fault(&self, instruction: &Instruction) -> Option<CloseFault>
-        requires seats { length self.now.kept ≤ 64 }
+        requires seats { length self.now.kept ≤ MOST_SEATS }
         ensures same { IfNone result (self.now.history.instruction ≡ instruction.now) }
         ensures none { IfNone result ((h : ℕ) → 0 < h → h ≤ length self.now.kept
             → kept_by h self.now ≡ replies_of h self.now.history) }

@@ -8,7 +8,7 @@ ghost use Rattle.buck_fleet.specs.Reply.{IsReplyFor, AreAttempts};
 use crate::fault::{CutFault, TryFault};
 use crate::fleet::Fleet;
 use crate::gate::Gate;
-use crate::seat::{Path, Reply, Seat};
+use crate::seat::{MOST_ATTEMPTS, Path, Reply, Seat};
 use buck_book::Refusal;
 use buck_rule::Standing;
 use buck_stem::Stem;
@@ -37,7 +37,7 @@ impl<F: Fn(&Standing) -> u64 + Drop, L: Ledger> Fleet<F, L> {
         // Leave, where there is no memory for a plan: the call ends refused.
         let plan = seat.plan(alloc, desk.book.sheet(), stem)?;
         match desk.commit(rt, alloc, &self.board, seat, plan, attempts, Path::Locked) {
-            Ok(reply) => Ok(reply),
+            Ok((reply, _)) => Ok(reply),
             Err((Refusal::Stale { .. }, _)) => unreachable!(),
             // Leave: the call ends refused.
             Err((Refusal::Full, _)) => Err(CutFault::Full),
@@ -70,7 +70,7 @@ impl<F: Fn(&Standing) -> u64 + Drop, L: Ledger> Fleet<F, L> {
     {
         let mut attempts = 0u8;
         let mut before = 0u32;
-        for attempt in 1..4u8 {
+        for attempt in 1..MOST_ATTEMPTS + 1 {
             let Some(shown) = self.snapshot(&mut *seat) else {
                 break
             };
@@ -78,7 +78,7 @@ impl<F: Fn(&Standing) -> u64 + Drop, L: Ledger> Fleet<F, L> {
             if 1 < attempt && version <= before {
                 break;
             }
-            // Plan: without the lock.
+            // Plan: without the lock. Leave, where there is no memory for it: the call ends refused.
             let plan = seat.plan(alloc, shown.sheet(), &stem)?;
             gate.planned(rt, seat.harvester(), attempt, &plan);
             match self.try_commit(rt, alloc, &mut *seat, plan) {

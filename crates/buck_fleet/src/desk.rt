@@ -1,14 +1,16 @@
 //! The desk: what lies under the lock, and all that is done there.
-ghost use Rattle.std.specs.Prelude.{◌≡◌, ◌≢◌, ℕ, ◌+◌, ◌<◌, ◌≤◌, ◌++◌, ◌∷◌, [], length, IfOk, IfErr, OnOk, vec_len, vec_capacity};
+ghost use Rattle.std.specs.Prelude.{◌≡◌, ◌≢◌, ℕ, ◌+◌, ◌<◌, ◌≤◌, ◌++◌, ◌∷◌, [], Some, length, IfOk, IfErr, OnOk, vec_len, vec_capacity};
 ghost use Rattle.buck_rule.specs.Stored.{AllAnswer};
 ghost use Rattle.buck_board.specs.Board.{IsSeatOf, seen_by};
 ghost use Rattle.buck_book.specs.Plan.{IsPlan};
 ghost use Rattle.buck_book.specs.Book.{IsReadyFor};
+ghost use Rattle.buck_book.specs.History.{in_force};
 ghost use Rattle.buck_book.specs.Refused.{IsRefusal};
 ghost use Rattle.buck_fleet.specs.Reply.{IsReplyFor, IsOfPlan, IsReplyToTargets};
+ghost use Rattle.buck_fleet.specs.inner.Shown.{IsShown, GrowsAsShown};
 
 use crate::seat::{DemandReply, Kept, Own, Path, Reply, Seat};
-use buck_board::Board;
+use buck_board::{Board, PutUp};
 use buck_book::{Book, DemandRefusal, Plan, Posting, Ready, Refusal};
 use buck_dp::Cutting;
 use buck_record::Memory;
@@ -30,6 +32,25 @@ pub struct Desk<F, L: Ledger> {
     ghost no_amount: { rest.amount ≡ 0 },
 }
 
+/// Prepares the commit of a plan. A locked one was made under the sheet in force, and no sheets are compared.
+fn prepare<F: Fn(&Standing) -> u64 + Drop>(
+    alloc: Global,
+    book: &mut Book<F>,
+    plan: &Plan,
+    path: Path,
+) -> Result<Ready, Refusal>
+    requires answers { AllAnswer F.Fn }
+    requires in_force { path ≡ Path.Locked → plan.now.sheet ≡ in_force book.old.history }
+    ensures history { book.new.history ≡ book.old.history }
+    ensures ready { IfOk result (λ r. IsReadyFor book.new r plan.now) }
+    ensures refused { IfErr result (IsRefusal book.old plan.now) }
+{
+    match path {
+        Path::Optimistic => book.prepare(alloc, plan),
+        Path::Locked => book.prepare_in_force(alloc, plan),
+    }
+}
+
 /// Makes all that the commit of a plan needs, the room in the seat's kept list first, and puts the next sheet up, where
 /// it ends a period.
 fn prepare_cut<R: Wait, F: Fn(&Standing) -> u64 + Drop>(
@@ -39,14 +60,17 @@ fn prepare_cut<R: Wait, F: Fn(&Standing) -> u64 + Drop>(
     board: &Board,
     kept: &mut Vec<Kept>,
     plan: &Plan,
-) -> Result<(Ready, Arc<Stem>, Arc<Cutting>), Refusal>
-    requires { AllAnswer F.Fn }
+    path: Path,
+) -> Result<(Ready, Arc<Stem>, Arc<Cutting>, Option<PutUp>), Refusal>
+    requires answers { AllAnswer F.Fn }
+    requires in_force { path ≡ Path.Locked → plan.now.sheet ≡ in_force book.old.history }
     ensures history { book.new.history ≡ book.old.history }
     ensures kept { kept.new.items ≡ kept.old.items }
     ensures room { OnOk result (vec_len kept.new < vec_capacity kept.new) }
     ensures ready { IfOk result (λ r. IsReadyFor book.new r.0 plan.now) }
     ensures stem { IfOk result (λ r. r.1.value ≡ plan.now.stem) }
     ensures logs { IfOk result (λ r. r.2.value.logs.items ≡ plan.now.logs) }
+    ensures shown { IfOk result (λ r. IsShown board.now r.0.next r.3) }
     ensures best { OnOk result (IsPlan plan.now) }
     ensures refused { IfErr result (λ e. e ≢ Refusal.Memory → IsRefusal book.old plan.now e) }
 {
@@ -54,12 +78,12 @@ fn prepare_cut<R: Wait, F: Fn(&Standing) -> u64 + Drop>(
     let stem = plan.stem().clone()?;
     let cutting = plan.cutting().clone()?;
     // Try, of a plan that is outdated: nothing is added.
-    let ready = book.prepare(alloc, plan)?;
-    match ready.next_sheet() {
-        Some(sheet) => board.put_up(rt, alloc, sheet.clone()?)?,
-        None => {}
-    }
-    Ok((ready, stem, cutting))
+    let ready = prepare(alloc, book, plan, path)?;
+    let shown = match ready.next_sheet() {
+        Some(sheet) => Some(board.put_up_shown(rt, sheet.clone()?)?),
+        None => None,
+    };
+    Ok((ready, stem, cutting, shown))
 }
 
 /// Keeps a posting that was added to the history, in its seat's kept list and in the ledger, and raises the front to a
@@ -89,8 +113,9 @@ fn keep<L: Ledger>(
 }
 
 impl<F: Fn(&Standing) -> u64 + Drop, L: Ledger> Desk<F, L> {
-    /// Commits a plan for a seat, if its sheet is in force: adds its entry to the history and to the seat's kept list,
-    /// and raises the front to the version in force.
+    /// Commits a plan for a seat, if its sheet is in force: puts the next sheet up where it ends a period, adds its
+    /// entry to the history and to the seat's kept list, and raises the front to the version in force. Answers also
+    /// what shows that a sheet was put up: without it no sheet comes to the history.
     pub fn commit<R: Wait>(
         &mut self,
         rt: &R,
@@ -100,24 +125,28 @@ impl<F: Fn(&Standing) -> u64 + Drop, L: Ledger> Desk<F, L> {
         plan: Plan,
         attempts: u8,
         path: Path,
-    ) -> Result<Reply, (Refusal, Plan)>
+    ) -> Result<(Reply, Option<PutUp>), (Refusal, Plan)>
         requires answers { AllAnswer F.Fn }
         requires seat { IsSeatOf board.now seat.old.place }
+        requires in_force { path ≡ Path.Locked → plan.sheet ≡ in_force self.old.book.history }
         ensures seat { IsSeatOf board.now seat.new.place }
-        ensures reply { IfOk result (λ r. IsReplyFor seat.old seat.new plan.stem r × IsOfPlan plan r.entry) }
-        ensures told { IfOk result (λ r. (r.attempts ≡ attempts) × (r.path ≡ path)) }
+        ensures reply { IfOk result (λ r. IsReplyFor seat.old seat.new plan.stem r.0 × IsOfPlan plan r.0.entry) }
+        ensures told { IfOk result (λ r. (r.0.attempts ≡ attempts) × (r.0.path ≡ path)) }
+        ensures shown { IfOk result (λ r. GrowsAsShown board.now self.old.book.history self.new.book.history r.1) }
+        ensures history { IfErr result (λ e. self.new.book.history ≡ self.old.book.history) }
         ensures refused { IfErr result (λ e. e.0 ≢ Refusal.Memory → IsRefusal self.old.book plan e.0) }
         ensures plan { IfErr result (λ e. (e.1 ≡ plan) × (seat.new ≡ seat.old)) }
     {
         let Seat { harvester, own, .. } = seat;
         let Desk { book, calls, .. } = self;
-        let (ready, stem, cutting) = match prepare_cut(
+        let (ready, stem, cutting, shown) = match prepare_cut(
             rt,
             alloc,
             book,
             board,
             &mut own.kept,
             &plan,
+            path,
         ) {
             Ok(prepared) => prepared,
             Err(refusal) => return Err((refusal, plan)),
@@ -130,16 +159,17 @@ impl<F: Fn(&Standing) -> u64 + Drop, L: Ledger> Desk<F, L> {
             entry: Posting::Cut(entry.sharing(stem, cutting)),
         };
         keep(calls, board, own, cut, book.version());
-        Ok(Reply {
+        let reply = Reply {
             entry,
             position,
             attempts,
             path,
-        })
+        };
+        Ok((reply, shown))
     }
 
-    /// Puts new targets in force for a seat: adds the demand to the history and to the seat's kept list, and raises the
-    /// front to the version in force.
+    /// Puts new targets in force for a seat: puts the next sheet up, adds the demand to the history and to the seat's
+    /// kept list, and raises the front to the version in force. Answers also what shows that the sheet was put up.
     pub fn retarget<R: Wait>(
         &mut self,
         rt: &R,
@@ -147,11 +177,14 @@ impl<F: Fn(&Standing) -> u64 + Drop, L: Ledger> Desk<F, L> {
         board: &Board,
         seat: &mut Seat<L>,
         targets: &Arc<Vec<u32>>,
-    ) -> Result<DemandReply, DemandRefusal>
+    ) -> Result<(DemandReply, PutUp), DemandRefusal>
         requires answers { AllAnswer F.Fn }
         requires seat { IsSeatOf board.now seat.old.place }
         ensures seat { IsSeatOf board.now seat.new.place }
-        ensures reply { IfOk result (IsReplyToTargets seat.old seat.new targets.now.value.items) }
+        ensures reply { IfOk result (λ r. IsReplyToTargets seat.old seat.new targets.now.value.items r.0) }
+        ensures shown { IfOk result (λ r.
+            GrowsAsShown board.now self.old.book.history self.new.book.history (Some r.1)) }
+        ensures history { IfErr result (λ e. self.new.book.history ≡ self.old.book.history) }
         ensures left { IfErr result (λ e. seat.new ≡ seat.old) }
     {
         let Seat { harvester, own, .. } = seat;
@@ -159,7 +192,7 @@ impl<F: Fn(&Standing) -> u64 + Drop, L: Ledger> Desk<F, L> {
         own.kept.reserve(1)?;
         let copy = targets.clone()?;
         let ready = book.prepare_demand(alloc, targets)?;
-        board.put_up(rt, alloc, ready.next_sheet().clone()?)?;
+        let shown = board.put_up_shown(rt, ready.next_sheet().clone()?)?;
         let position = book.len() as u32;
         // Retarget: the demand is added.
         let demand = book.commit_demand(ready, *harvester);
@@ -168,6 +201,6 @@ impl<F: Fn(&Standing) -> u64 + Drop, L: Ledger> Desk<F, L> {
             entry: Posting::Demand(demand.sharing(copy)),
         };
         keep(calls, board, own, wanted, book.version());
-        Ok(DemandReply { demand, position })
+        Ok((DemandReply { demand, position }, shown))
     }
 }

@@ -1,7 +1,7 @@
 //! Fleets, and the calls of their seats.
 ghost use Rattle.std.specs.Prelude.{◌≡◌, ◌≤◌, IfOk, IfErr, IfSome, IfNone};
 ghost use Rattle.buck_rule.specs.Stored.{AllAnswer};
-ghost use Rattle.buck_board.specs.Board.{IsSnapshotOf, version_of};
+ghost use Rattle.buck_board.specs.Board.{IsSnapshotOf, version_of, sheet_of};
 ghost use Rattle.buck_fleet.specs.Seat.{KeepsNothing, seen_of};
 ghost use Rattle.buck_fleet.specs.Fleet.{IsSeatIn};
 ghost use Rattle.buck_fleet.specs.Reply.{IsReplyFor, IsOfPlan, IsReplyToTargets};
@@ -36,6 +36,7 @@ impl<F, L: Ledger> Model for Fleet<F, L> {
     ghost use Rattle.std.specs.Prelude.{◌≡◌, ◌≤◌, [], length, All};
     ghost use Rattle.buck_fleet.specs.Fleet.{FleetParts};
     ghost use Rattle.buck_fleet.specs.Closed.{lists_of};
+    ghost use Rattle.buck_fleet.specs.declared.seat.TheConstants.{MOST_SEATS};
 
     ghost Value = { FleetParts };
 
@@ -43,7 +44,7 @@ impl<F, L: Ledger> Model for Fleet<F, L> {
 
     ghost invariant = { λ f. record {
       empty : All (λ l. l ≡ []) (lists_of f.kept.items);
-      few : length f.kept.items ≤ 64;
+      few : length f.kept.items ≤ MOST_SEATS;
     } };
 }
 
@@ -60,6 +61,17 @@ impl<F, L: Ledger> Fleet<F, L> {
     {
         // Read: one load of the front.
         self.board.read(&mut seat.own.place)
+    }
+
+    /// Two snapshots of this fleet and of one version show one sheet, whichever seats took them and whenever. It does
+    /// nothing: what it gives is known of them from then on.
+    pub fn agree(&self, a: &Snapshot, b: &Snapshot)
+        requires a_here { IsSnapshotOf self.now.board a.now }
+        requires b_here { IsSnapshotOf self.now.board b.now }
+        requires version { version_of a.now ≡ version_of b.now }
+        ensures { sheet_of a.now ≡ sheet_of b.now }
+    {
+        self.board.agree(a, b)
     }
 
     /// Takes the lock. Most of what is done behind it is shorter than a wake, so a thread asks many times before it
@@ -97,7 +109,7 @@ impl<F: Fn(&Standing) -> u64 + Drop, L: Ledger> Fleet<F, L> {
     {
         let mut desk = self.lock(rt);
         match desk.commit(rt, alloc, &self.board, seat, plan, 1, Path::Optimistic) {
-            Ok(reply) => Ok(reply),
+            Ok((reply, _)) => Ok(reply),
             // Leave: the call ends refused.
             Err((refusal, plan)) => Err(match refusal {
                 Refusal::Full => TryFault::Full { plan },
@@ -125,6 +137,7 @@ impl<F: Fn(&Standing) -> u64 + Drop, L: Ledger> Fleet<F, L> {
     {
         let mut desk = self.lock(rt);
         // Leave, where it is refused: the call ends.
-        Ok(desk.retarget(rt, alloc, &self.board, seat, &targets)?)
+        let (reply, _) = desk.retarget(rt, alloc, &self.board, seat, &targets)?;
+        Ok(reply)
     }
 }

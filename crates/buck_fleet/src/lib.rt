@@ -19,4 +19,4 @@ pub use fleet::Fleet;
 pub use gate::{Gate, NoGate};
 pub use open::OpenFault;
 pub use run::run_fleet;
-pub use seat::{DemandReply, Kept, Path, Reply, Seat};
+pub use seat::{DemandReply, Kept, MOST_ATTEMPTS, MOST_SEATS, Path, Reply, Seat};

@@ -5,10 +5,11 @@ ghost use Rattle.buck_fleet.specs.Crew.{AreOpened};
 ghost use Rattle.buck_fleet.specs.Refused.{IsOpenFault};
 ghost use Rattle.buck_fleet.specs.Closed.{lists_of};
 ghost use Rattle.buck_fleet.specs.declared.open.OpenFault.TheVariants.{Memory};
+ghost use Rattle.buck_fleet.specs.declared.seat.TheConstants.{MOST_SEATS};
 
 use crate::desk::Desk;
 use crate::fleet::Fleet;
-use crate::seat::{Kept, Seat};
+use crate::seat::{Kept, MOST_SEATS, Seat};
 use buck_apt::Instruction;
 use buck_board::{Board, BoardSeat};
 use buck_book::{Book, MOST_POSTINGS};
@@ -58,7 +59,7 @@ fn seat_all<L: Ledger>(
     share: Share<L>,
     count: u32,
 ) -> Result<(Vec<Seat<L>>, Vec<Vec<Kept>>), Memory>
-    requires count { (0 < count) × (count ≤ 64) × (vec_len places ≡ count) }
+    requires count { (0 < count) × (count ≤ MOST_SEATS) × (vec_len places ≡ count) }
     requires places { All (IsSeatOf board.now) places.items }
     requires unseen { All (λ s. seen_by s ≡ 0) places.items }
     requires share { (share.parts ≡ 64) × (share.amount ≡ 0) }
@@ -70,7 +71,7 @@ fn seat_all<L: Ledger>(
     let mut kept = Vec::with_capacity(alloc, count as usize)?;
     let mut share = share;
     let mut places = places;
-    let mut parts = 65 - u64::from(count);
+    let mut parts = u64::from(MOST_SEATS - count) + 1;
     while let Some(place) = places.pop() {
         let harvester = seats.len() as u32 + 1;
         let own = share.split_off(parts, 0);
@@ -95,13 +96,14 @@ impl<F: Fn(&Standing) -> u64 + Drop, L: Ledger> Fleet<F, L> {
         capacity: u32,
     ) -> Result<(Fleet<F, L>, Vec<Seat<L>>), OpenFault>
         requires blank { (blank.name ≡ L.name) × (blank.parts ≡ L.parts) × (blank.parts ≡ 64) }
-        ensures room { IfOk result (λ _. (0 < seats) × (seats ≤ 64) × (0 < capacity) × (capacity ≤ MOST_POSTINGS)) }
+        ensures room { IfOk result (λ _.
+            (0 < seats) × (seats ≤ MOST_SEATS) × (0 < capacity) × (capacity ≤ MOST_POSTINGS)) }
         ensures instruction { IfOk result (λ r. r.0.instruction ≡ instruction.value) }
         ensures number { IfOk result (λ r. r.0.seats ≡ seats) }
         ensures seats { IfOk result (λ r. AreOpened r.0.board seats r.1.items) }
         ensures fault { IfErr result (IsOpenFault seats capacity) }
     {
-        if seats == 0 || seats > 64 {
+        if seats == 0 || seats > MOST_SEATS {
             return Err(OpenFault::Seats);
         }
         if capacity == 0 || capacity > MOST_POSTINGS {

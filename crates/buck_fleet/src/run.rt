@@ -8,7 +8,7 @@ ghost use Rattle.buck_fleet.specs.Run.{HasCut, HasRun, HaveRun, IsFirstStop, ste
 use crate::fault::RunFault;
 use crate::fleet::Fleet;
 use crate::gate::Gate;
-use crate::seat::Seat;
+use crate::seat::{MOST_SEATS, Seat};
 use buck_rule::Standing;
 use buck_stem::Stem;
 use std::alloc::Global;
@@ -53,7 +53,7 @@ fn first_stop<L: Ledger>(seats: &[Seat<L>]) -> Option<RunFault>
 {
     let first = seats.iter().min_by_key(|seat| match seat.stopped {
         Some(_) => seat.harvester,
-        None => 65,
+        None => MOST_SEATS + 1,
     })?;
     first.stopped
 }

@@ -2,6 +2,7 @@
 ghost use Rattle.std.specs.Prelude.{◌≡◌, ◌<◌, ◌≤◌, [], IfOk, length, None};
 ghost use Rattle.buck_board.specs.declared.seat.BoardSeat.{BoardSeat};
 ghost use Rattle.buck_fleet.specs.Seat.{seen_of};
+ghost use Rattle.buck_fleet.specs.declared.seat.TheConstants.{MOST_SEATS};
 
 use crate::fault::RunFault;
 use buck_board::BoardSeat;
@@ -14,6 +15,12 @@ use std::alloc::Global;
 use std::marker::Model;
 use std::sync::Arc;
 use std::sync::ledger::{Ledger, Share};
+
+/// How many seats a fleet may have.
+pub const MOST_SEATS: u32 = 64;
+
+/// How many plans a cut makes without the lock, before it makes one under it.
+pub const MOST_ATTEMPTS: u8 = 3;
 
 /// A posting that a seat was answered, with its position in the history, from 0.
 #[derive(Drop)]
@@ -77,6 +84,7 @@ pub struct Seat<L: Ledger> {
 impl<L: Ledger> Model for Seat<L> {
     ghost use Rattle.std.specs.Prelude.{◌≡◌, ◌<◌, ◌≤◌, length};
     ghost use Rattle.buck_fleet.specs.Seat.{SeatParts};
+    ghost use Rattle.buck_fleet.specs.declared.seat.TheConstants.{MOST_SEATS};
 
     ghost Value = { SeatParts };
 
@@ -89,13 +97,13 @@ impl<L: Ledger> Model for Seat<L> {
     } };
 
     ghost invariant = { λ s. (s.own.share.amount ≡ length s.own.kept.items) × (0 < s.own.share.parts)
-        × (0 < s.harvester) × (s.harvester ≤ 64) };
+        × (0 < s.harvester) × (s.harvester ≤ MOST_SEATS) };
 }
 
 impl<L: Ledger> Seat<L> {
     /// A seat that has kept nothing.
     pub(crate) fn make(alloc: Global, harvester: u32, place: BoardSeat, share: Share<L>) -> Seat<L>
-        requires harvester { (0 < harvester) × (harvester ≤ 64) }
+        requires harvester { (0 < harvester) × (harvester ≤ MOST_SEATS) }
         requires share { (0 < share.parts) × (share.amount ≡ 0) }
         ensures { result ≡ record {
           harvester = harvester;
@@ -161,5 +169,12 @@ impl<L: Ledger> Seat<L> {
         ensures { result.now ≡ self.now.kept }
     {
         self.own.kept.as_slice()
+    }
+
+    /// Why its last run stopped before the end of its list, if it did.
+    pub fn stopped(&self) -> Option<RunFault>
+        ensures { result ≡ self.now.stopped }
+    {
+        self.stopped
     }
 }

@@ -1,4 +1,4 @@
-use Rattle.buck_fleet.proofs.Words.{arith, refl, Cut}
+use Rattle.buck_fleet.proofs.Words.{arith, refl, ap, ◌∙◌, Cut, sheets_with}
 use Rattle.buck_fleet.proofs.Answered.{is_kept, no_less, reply_for}
 use Rattle.buck_fleet.proofs.desk.Desk.commit.Goals as goal
 
@@ -18,3 +18,10 @@ returns-clause-reply g c =
       same_parts = c.keep.ensures.parts;
       seen_rises = c.keep.ensures.rises;
     })
+
+pub returns-clause-shown : goal.returns-clause-shown
+returns-clause-shown g c =
+    let added = c.commit-entry.ensures in
+    let made = c.in-Ok.ensures in
+    let next = c.in-Ok.prepared.0.next in
+    (next, added.sheets ∙ ap (λ h. sheets_with h.sheets next) made.history, made.shown)

@@ -1,4 +1,4 @@
-use Rattle.buck_fleet.proofs.Words.{arith, refl, ap, ◌∙◌, Demand, demand_of}
+use Rattle.buck_fleet.proofs.Words.{arith, refl, ap, ◌∙◌, Demand, demand_of, rules, Some}
 use Rattle.buck_fleet.proofs.Answered.{is_kept, next, reply_to}
 use Rattle.buck_fleet.proofs.desk.Desk.retarget.Goals as goal
 
@@ -21,3 +21,8 @@ returns-clause-reply g c =
       same_parts = c.keep.ensures.parts;
       seen_rises = c.keep.ensures.rises;
     })
+
+pub returns-clause-shown : goal.returns-clause-shown
+returns-clause-shown g c =
+    let next = c.in_ok-ready.ready.next in
+    (Some next, search rules, search rules)
