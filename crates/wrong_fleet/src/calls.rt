@@ -1,10 +1,11 @@
 //! Wrong bodies of the calls of a seat.
 ghost use Rattle.std.specs.Prelude.{◌≡◌, ◌≢◌};
 ghost use Rattle.buck_rule.specs.Stored.{AllAnswer};
+ghost use Rattle.buck_board.specs.Board.{IsSnapshotOf, version_of};
 ghost use Rattle.buck_fleet.specs.Fleet.{IsSeatIn};
 
 use buck_book::Plan;
-use buck_fleet::{Fleet, Gate, Seat};
+use buck_fleet::{Fleet, Gate, Seat, Snapshot};
 use buck_rule::Standing;
 use buck_stem::Stem;
 use std::alloc::Global;
@@ -20,6 +21,22 @@ pub fn snapshot_always_none<F, L: Ledger>(fleet: &Fleet<F, L>, seat: &mut Seat<L
         let wrong = true;
         prove!(right != wrong);
     }
+}
+
+/// Two snapshots of one version, which any seats took, show unlike sheets.
+pub fn snapshots_of_one_version_unlike<F, L: Ledger>(
+    fleet: &Fleet<F, L>,
+    a: &Snapshot,
+    b: &Snapshot,
+)
+    requires a_here { IsSnapshotOf fleet.now.board a.now }
+    requires b_here { IsSnapshotOf fleet.now.board b.now }
+    requires version { version_of a.now ≡ version_of b.now }
+{
+    fleet.agree(a, b);
+    let right = a.sheet().same(b.sheet());
+    let wrong = false;
+    prove!(right != wrong);
 }
 
 /// A cut is entered for harvester 1, whose seat it wasn't.

@@ -69,7 +69,6 @@ pub fn close_highest_harvester_told<F: Drop, L: Ledger>(
 ) -> Closed
     requires crew { IsCrew fleet.seats seats.items }
     requires parts { parts_of seats.items ≡ L.parts }
-    requires few { fleet.seats ≤ 64 }
 {
     match fleet.close(seats) {
         Ok(closed) => closed,
@@ -97,7 +96,7 @@ pub fn close_last_reply_left_out<F: Drop, L: Ledger>(
 ) -> Closed
     requires crew { IsCrew fleet.seats seats.items }
     requires parts { parts_of seats.items ≡ L.parts }
-    requires few { (0 < fleet.seats) × (fleet.seats ≤ 64) }
+    requires some { 0 < fleet.seats }
 {
     match fleet.close(seats) {
         Ok(closed) => {
@@ -114,7 +113,7 @@ pub fn close_last_reply_left_out<F: Drop, L: Ledger>(
 pub fn close_one_position_off<F: Drop, L: Ledger>(fleet: Fleet<F, L>, seats: Vec<Seat<L>>) -> Closed
     requires crew { IsCrew fleet.seats seats.items }
     requires parts { parts_of seats.items ≡ L.parts }
-    requires few { (0 < fleet.seats) × (fleet.seats ≤ 64) }
+    requires some { 0 < fleet.seats }
 {
     match fleet.close(seats) {
         Ok(closed) => {
@@ -134,7 +133,7 @@ pub fn close_tells_calls_for_instruction<F: Drop, L: Ledger>(
 ) -> Closed
     requires crew { IsCrew fleet.seats seats.items }
     requires parts { parts_of seats.items ≡ L.parts }
-    requires few { (0 < fleet.seats) × (fleet.seats ≤ 64) }
+    requires some { 0 < fleet.seats }
 {
     match fleet.close(seats) {
         Ok(closed) => closed,
@@ -181,7 +180,6 @@ pub fn collect_in_another_place<F: Drop, L: Ledger>(
 ) -> Closed
     requires crew { IsCrew fleet.seats seats.items }
     requires parts { parts_of seats.items ≡ L.parts }
-    requires few { fleet.seats ≤ 64 }
     requires two { 1 < length seats.items }
 {
     let harvester = seats[1].harvester();

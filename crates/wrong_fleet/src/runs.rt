@@ -97,6 +97,32 @@ pub fn run_fleet_turned_around<
     Ok(seats)
 }
 
+/// The one seat, whose whole list was cut, says that it stopped.
+pub fn run_stopped_is_noted_after_all_was_cut<
+    F: Fn(&Standing) -> u64 + Drop + Send,
+    L: Ledger + Send + Sync,
+    R: Threads + Wait + Sync,
+    G: Gate + Sync,
+>(
+    rt: &R,
+    alloc: Global,
+    fleet: &Fleet<F, L>,
+    seats: Vec<Seat<L>>,
+    lists: &[Vec<Arc<Stem>>],
+    gate: &G,
+) -> Result<Vec<Seat<L>>, (RunFault, Vec<Seat<L>>)>
+    requires answers { AllAnswer F.Fn }
+    requires lists { length seats.items ≡ length lists.now }
+    requires seats { All (IsSeatIn fleet.now) seats.items }
+    requires some { 0 < length lists.now }
+{
+    let seats = run_fleet(rt, alloc, fleet, seats, lists, gate)?;
+    let right = seats[0].stopped().is_some();
+    let wrong = true;
+    prove!(right != wrong);
+    Ok(seats)
+}
+
 /// A fault is told although the one seat's whole list was cut.
 pub fn run_stopped_after_all_was_cut<
     F: Fn(&Standing) -> u64 + Drop + Send,
