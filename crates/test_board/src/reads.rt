@@ -102,6 +102,18 @@ fn first_wrong<R: Wait>(rt: &R, alloc: Global, rows: &[Row]) -> Result<usize, Fa
     Ok(0)
 }
 
+/// A seat that raises to less than it has seen has seen the front all the same.
+#[test]
+fn raise_to_less(rt: HostRuntime) -> Result<(), Fail> {
+    let instruction = saw_instruction(rt.alloc(), 1, 1000, "1 1 1 1")?;
+    let (board, mut one, mut two) = board_of(&rt, rt.alloc(), &instruction)?;
+    board.raise(&mut one, 3);
+    board.raise(&mut two, 5);
+    board.raise(&mut one, 2);
+    assert!(rt; one.seen() == 5 && two.seen() == 5);
+    Ok(())
+}
+
 #[test]
 fn board_reads(rt: HostRuntime) -> Result<(), Fail> {
     let alloc = rt.alloc();
