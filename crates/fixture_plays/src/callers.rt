@@ -37,7 +37,6 @@ fn close_day<F: Drop, L: Ledger>(
 ) -> Result<Evening, DayFault>
     requires crew { IsCrew fleet.seats seats.items }
     requires parts { parts_of seats.items ≡ L.parts }
-    requires few { fleet.seats ≤ 64 }
     ensures { IfOk result (λ e. (e.closed.history.instruction ≡ fleet.instruction) × IsLawful e.closed.history) }
 {
     match fleet.close(seats) {
