@@ -243,15 +243,19 @@ Exit statuses:
   5  the output can't be written";
 
 /// What a rule does.
-pub(crate) const RULE: &str = "The price rule: steady, linear or step";
+pub(crate) const RULE: &str = "The price rule: steady, linear, step or
+root";
 
 /// The same at length.
 pub(crate) const RULES: &str =
     "How prices follow what was cut: steady not at all, linear by how far a
-class is off its target, step by the whole span";
+class is off its target, step by the whole span, root by the part
+d / (d + s) of it: d is how many logs the class is off its wanted
+number, s the standard deviation of that number";
 
 /// What a rule is for in a check.
-pub(crate) const CHECKED_RULE: &str = "The rule that prices must follow: steady, linear or step";
+pub(crate) const CHECKED_RULE: &str = "The rule that prices must follow: steady, linear, step
+or root";
 
 /// What stands in the place of an instruction's period.
 pub(crate) const PERIOD: &str = "Stems in a period, 1 to 1000; else the instruction's own";
@@ -261,8 +265,8 @@ pub(crate) const LIMIT: &str = "How far prices may move, per mille, 0 to 1000; e
 instruction's own";
 
 /// Which rules are compared.
-pub(crate) const SWEPT_RULES: &str = "A price rule: steady, linear or step; once or more;
-else steady";
+pub(crate) const SWEPT_RULES: &str = "A price rule: steady, linear, step or root; once or
+more; else steady";
 
 /// Which periods are compared.
 pub(crate) const PERIODS: &str = "Stems in a period, each 1 to 1000; else the

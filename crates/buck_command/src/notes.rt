@@ -25,12 +25,7 @@ fn cuts_files(work: &Work<'_>) -> bool {
 /// Whether work moves prices by what was cut.
 fn steers(work: &Work<'_>) -> bool {
     match work {
-        Work::Fleet(task) => match task.rule {
-            NamedRule::Steady => false,
-            NamedRule::Linear => true,
-            NamedRule::Step => true,
-            NamedRule::Root => true,
-        },
+        Work::Fleet(task) => task.rule != NamedRule::Steady,
         _ => false,
     }
 }

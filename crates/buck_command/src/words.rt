@@ -121,13 +121,13 @@ fn rule<'a>(alloc: Global) -> Arg<'a> {
     Arg::new(alloc, "rule")
         .long("rule")
         .value_name("RULE")
-        .value_parser(["steady", "linear", "step", "root"].as_slice())
+        .value_parser(NamedRule::NAMES.as_slice())
         .hide_possible_values(true)
 }
 
 fn steady_rule<'a>(alloc: Global) -> Arg<'a> {
     rule(alloc)
-        .default_value("steady")
+        .default_value(NamedRule::Steady.name())
         .help(help::RULE)
         .long_help(help::RULES)
 }

@@ -316,11 +316,12 @@ const EXPLAINED: [Row; 14] = [
 ];
 
 /// Words, and what their reports have: after the stem the last class is over its target, and all others are under theirs.
-const RULES: [(&str, &str); 6] = [
+const RULES: [(&str, &str); 7] = [
     ("fleet apt stm", "\nCLASS 0 1 1 1 1 800 800\n"),
     ("fleet --rule steady apt stm", "\nCLASS 0 1 1 1 1 800 800\n"),
     ("fleet apt --rule linear stm", "\nCLASS 0 1 1 1 1 800 500\n"),
     ("fleet apt stm --rule=step", "\nCLASS 0 1 1 1 1 800 400\n"),
+    ("fleet --rule root apt stm", "\nCLASS 0 1 1 1 1 800 629\n"),
     (
         "fleet apt stm --rule=step --limit 0100",
         "\nCLASS 0 1 1 1 1 800 720\n",
