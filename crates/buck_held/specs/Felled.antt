@@ -1,5 +1,6 @@
 -- Felled stems as a caller in another language has them, and why one isn't cut.
 use Rattle.std.specs.Prelude.{◌≡◌, ℕ, ◌<◌, ◌≤◌, List, length, map}
+use Rattle.buck_apt.specs.Instruction.{IsWithin}
 use Rattle.buck_stem.specs.Stem.{StemParts, IsStem, stem_of}
 use Rattle.buck_held.specs.declared.felling.Felled.{Felled}
 use Rattle.buck_held.specs.declared.felling.Zone.{Zone}
@@ -21,9 +22,10 @@ IsStemFault stem Stem = IsStem stem → ⊥
 IsStemFault stem Full = ⊥
 IsStemFault stem Memory = Unit {0}
 
--- why a stem isn't cut
+-- why a stem isn't cut: the harvester is looked at first, then the stem, then the capacity
 abbrev pub IsFellFault : KeptParts → Felled → StemParts → FellFault → Type 0
 IsFellFault before felled stem Harvester = 0 < felled.harvester → felled.harvester ≤ 64 → ⊥
-IsFellFault before felled stem Stem = IsStem stem → ⊥
-IsFellFault before felled stem Full = length before.history.postings ≡ before.capacity
+IsFellFault before felled stem Stem = IsWithin 1 64 felled.harvester × (IsStem stem → ⊥)
+IsFellFault before felled stem Full =
+    IsWithin 1 64 felled.harvester × IsStem stem × (length before.history.postings ≡ before.capacity)
 IsFellFault before felled stem Memory = Unit {0}

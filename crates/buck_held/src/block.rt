@@ -37,6 +37,7 @@ impl Block {
 
     /// Puts a book into a block that holds none.
     pub fn put(&mut self, book: Box<KeptBook>)
+        requires { self.old.handle.held ≡ None }
         ensures { self.new.handle.held ≡ Some book.value }
     {
         self.handle = Handle::of(book);

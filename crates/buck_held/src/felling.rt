@@ -1,5 +1,6 @@
 //! Stems as a caller in another language has them, cut one by one.
 ghost use Rattle.std.specs.Prelude.{◌≡◌, IfOk, IfErr, map};
+ghost use Rattle.buck_stem.specs.Stem.{IsStem};
 ghost use Rattle.buck_held.specs.Kept.{HasCut, SameTerms};
 ghost use Rattle.buck_held.specs.Felled.{pair_of, stem_by, IsFellFault, IsStemFault};
 
@@ -69,6 +70,7 @@ fn stem_of(
     zones: &[Zone],
 ) -> Result<Arc<Stem>, FellFault>
     ensures made { IfOk result (λ stem. stem.value ≡ stem_by felled.now samples.now zones.now) }
+    ensures valid { IfOk result (λ stem. IsStem stem.value) }
     ensures refused { IfErr result (λ fault. IsStemFault (stem_by felled.now samples.now zones.now) fault) }
 {
     let Ok(zones) = zones_of(alloc, zones) else {

@@ -25,7 +25,9 @@ pub fn book_not_found_in_its_block(alloc: Global, block: &mut Block) -> Option<B
 }
 
 /// A book that is put into a block isn't there.
-pub fn book_lost_on_its_way_in(block: &mut Block, book: Box<KeptBook>) {
+pub fn book_lost_on_its_way_in(block: &mut Block, book: Box<KeptBook>)
+    requires { block.old.handle.held ≡ None }
+{
     block.put(book);
     let right = block.is_open();
     let wrong = false;

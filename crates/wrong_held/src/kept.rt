@@ -154,3 +154,49 @@ pub fn felled_stem_without_diameters(
     prove!(right != wrong);
     Ok(())
 }
+
+/// The capacity is looked at before the harvester: a full book says of harvester 65 that it is full.
+pub fn capacity_before_the_harvester(
+    alloc: Global,
+    kept: &mut KeptBook,
+    samples: &[u16],
+    zones: &[Zone],
+) {
+    let felled = Felled {
+        harvester: 65,
+        number: 1,
+        species: 1,
+    };
+    let outcome = kept.fell(alloc, &felled, samples, zones);
+    let is_full = matches!(outcome, Err(FellFault::Full));
+    prove!(!is_full);
+}
+
+/// The capacity is looked at before the stem: a full book says of a stem without diameters that it is full.
+pub fn capacity_before_the_stem(
+    alloc: Global,
+    kept: &mut KeptBook,
+    felled: &Felled,
+    zones: &[Zone],
+) {
+    let outcome = kept.fell(alloc, felled, &[], zones);
+    let is_full = matches!(outcome, Err(FellFault::Full));
+    prove!(!is_full);
+}
+
+/// The stem is looked at before the harvester: harvester 65 is told that its stem is outside the limits.
+pub fn stem_before_the_harvester(
+    alloc: Global,
+    kept: &mut KeptBook,
+    samples: &[u16],
+    zones: &[Zone],
+) {
+    let felled = Felled {
+        harvester: 65,
+        number: 1,
+        species: 1,
+    };
+    let outcome = kept.fell(alloc, &felled, samples, zones);
+    let is_stem = matches!(outcome, Err(FellFault::Stem));
+    prove!(!is_stem);
+}
