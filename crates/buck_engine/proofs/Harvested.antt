@@ -71,6 +71,7 @@ has_cut_lists i f b lists before after c same seats some opened run stopped (one
       same_instruction = one.same_instruction ∙ same;
       lawful = one.lawful;
       few = few;
+      firsts = one.handed_out.first_best;
       stems = λ k lt. (
           let new = opened.each k d lt in
           let has_run = run.runs k d (omega (arith, lt, long)) in

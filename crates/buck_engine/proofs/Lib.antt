@@ -20,3 +20,4 @@ pub mod Compared
 pub mod HeldLemmas
 pub mod PriceLemmas
 pub mod TieAnswers
+pub mod Statuses

@@ -10,12 +10,13 @@ use Rattle.buck_journal.specs.reading.Journal.{JournalParts, journal_of}
 use Rattle.buck_journal.specs.judging.Replay.{history_of, IsFirstFault}
 use Rattle.buck_journal.specs.declared.judging.fault.ReplayFault.{ReplayFault}
 use Rattle.buck_engine.specs.declared.fault.EngineFault.{EngineFault}
+use Rattle.buck_engine.specs.declared.fault.EngineFault.TheVariants.{Memory}
 use Rattle.buck_engine.specs.declared.run.showing.Shown.{Shown}
 use Rattle.buck_engine.specs.declared.run.showing.Shown.TheVariants.{Page, Table}
 use Rattle.buck_engine.specs.run.Reading.{ReadsApt, Says}
 use Rattle.buck_engine.specs.run.Showing.{Shows}
 use Rattle.buck_engine.specs.run.Checking.{IsUnlawful}
-use Rattle.buck_engine.specs.run.Viewing.{AppendsPage, AppendsTable, IsReadFault, ShowsAs}
+use Rattle.buck_engine.specs.run.Viewing.{AppendsPage, AppendsTable, HasPage, IsReadFault, ShowsAs}
 use Rattle.buck_engine.specs.text.Written.{IsWritten}
 use Rattle.buck_engine.specs.inner.View.{ShowsFault, ShowsHistory, WritesAs}
 
@@ -33,85 +34,100 @@ pub table_written : (old new : Option (List ℕ)) (text : List ℕ) (r : Result 
 table_written old new text (Ok u) written = (text, written)
 table_written old new text (Err fault) (is, some) = inr (is, (text, some))
 
--- what is shown of a lawful history
-pub lawful_shown : (Shown Left : Type 0) (h : HistoryParts) (old new : Option (List ℕ))
+-- the page and the table of a lawful history
+pub page_shown : (Shown Left : Type 0) (h : HistoryParts) (old new : Option (List ℕ))
     (r : Result (Unit {0}) EngineFault) → IsLawful h
-    → WritesAs Shown old new r → ShowsHistory Shown Left h old new r
-lawful_shown Shown Left h old new (Ok u) lawful shown = (lawful, shown)
-lawful_shown Shown Left h old new (Err fault) lawful fails = inl fails
+    → WritesAs Shown old new r → ShowsHistory HasPage Shown Left h old new r
+page_shown Shown Left h old new (Ok u) lawful shown = (lawful, shown)
+page_shown Shown Left h old new (Err fault) lawful fails = inl (fails, λ w. inl lawful)
+
+pub table_shown : (Shown Left : Type 0) (h : HistoryParts) (old new : Option (List ℕ))
+    (r : Result (Unit {0}) EngineFault) → IsLawful h
+    → WritesAs Shown old new r → ShowsHistory IsLawful Shown Left h old new r
+table_shown Shown Left h old new (Ok u) lawful shown = (lawful, shown)
+table_shown Shown Left h old new (Err fault) lawful fails = inl (fails, λ w. lawful)
 
 -- what is left of a history's first fault
 pub fault_shown : (Shown Left : Type 0) (h : HistoryParts) (old new : Option (List ℕ)) (why : ReplayFault)
     (fault : EngineFault) → IsFirstFault h why
-    → ShowsFault Left why old new fault → ShowsHistory Shown Left h old new (Err fault)
+    → ShowsFault Left why old new fault → ShowsHistory HasPage Shown Left h old new (Err fault)
 fault_shown Shown Left h old new why fault first (inl (is, left)) = inr (why, is, first, left)
-fault_shown Shown Left h old new why fault first (inr fails) = inl fails
+fault_shown Shown Left h old new why fault first (inr fails) = inl (fails, λ w. inr (why, first))
 
-kept : (reads : ReadsApt) (Shown Left : Type 0) (apt journal old : Option (List ℕ)) (fault : EngineFault)
+-- memory ran out before there was a page
+pub no_memory : (HasText : HistoryParts → Type 0) (Shown Left : Type 0) (h : HistoryParts) (old : Option (List ℕ))
+    → ShowsHistory HasText Shown Left h old old (Err Memory)
+no_memory HasText Shown Left h old = inl (inl (refl, Keeps-refl old), λ w. absurd (cc w))
+
+kept : (reads : ReadsApt) (HasText : HistoryParts → Type 0) (Shown Left : Type 0)
+    (apt journal old : Option (List ℕ)) (fault : EngineFault)
     → IsReadFault apt journal fault
-    → ShowsAs reads Shown Left apt journal old old (Err fault)
-kept reads Shown Left apt journal old fault (inl (inl is)) =
-    subst (λ (f : EngineFault). ShowsAs reads Shown Left apt journal old old (Err f)) (sym is)
+    → ShowsAs reads HasText Shown Left apt journal old old (Err fault)
+kept reads HasText Shown Left apt journal old fault (inl (inl is)) =
+    subst (λ (f : EngineFault). ShowsAs reads HasText Shown Left apt journal old old (Err f)) (sym is)
     (inl (inl refl), Keeps-refl old)
-kept reads Shown Left apt journal old fault (inl (inr (inl is))) =
-    subst (λ (f : EngineFault). ShowsAs reads Shown Left apt journal old old (Err f)) (sym is)
+kept reads HasText Shown Left apt journal old fault (inl (inr (inl is))) =
+    subst (λ (f : EngineFault). ShowsAs reads HasText Shown Left apt journal old old (Err f)) (sym is)
     (inl (inr (inl refl)), Keeps-refl old)
-kept reads Shown Left apt journal old fault (inl (inr (inr (why, is, says)))) =
-    subst (λ (f : EngineFault). ShowsAs reads Shown Left apt journal old old (Err f)) (sym is)
+kept reads HasText Shown Left apt journal old fault (inl (inr (inr (why, is, says)))) =
+    subst (λ (f : EngineFault). ShowsAs reads HasText Shown Left apt journal old old (Err f)) (sym is)
     (inl (inr (inr (why, refl, says))), Keeps-refl old)
-kept reads Shown Left apt journal old fault (inr (ok, inl is)) =
-    subst (λ (f : EngineFault). ShowsAs reads Shown Left apt journal old old (Err f)) (sym is)
+kept reads HasText Shown Left apt journal old fault (inr (ok, inl is)) =
+    subst (λ (f : EngineFault). ShowsAs reads HasText Shown Left apt journal old old (Err f)) (sym is)
     (inr (ok, inl refl), Keeps-refl old)
-kept reads Shown Left apt journal old fault (inr (ok, inr (inl is))) =
-    subst (λ (f : EngineFault). ShowsAs reads Shown Left apt journal old old (Err f)) (sym is)
+kept reads HasText Shown Left apt journal old fault (inr (ok, inr (inl is))) =
+    subst (λ (f : EngineFault). ShowsAs reads HasText Shown Left apt journal old old (Err f)) (sym is)
     (inr (ok, inr (inl refl)), Keeps-refl old)
-kept reads Shown Left apt journal old fault (inr (ok, inr (inr (why, is, says)))) =
-    subst (λ (f : EngineFault). ShowsAs reads Shown Left apt journal old old (Err f)) (sym is)
+kept reads HasText Shown Left apt journal old fault (inr (ok, inr (inr (why, is, says)))) =
+    subst (λ (f : EngineFault). ShowsAs reads HasText Shown Left apt journal old old (Err f)) (sym is)
     (inr (ok, inr (inr (why, refl, says))), Keeps-refl old)
 
 -- nothing is written where a file has a fault
-pub nothing_shown : (reads : ReadsApt) (Shown Left : Type 0) (apt journal old : Option (List ℕ)) (fault : EngineFault)
+pub nothing_shown : (reads : ReadsApt) (HasText : HistoryParts → Type 0) (Shown Left : Type 0)
+    (apt journal old : Option (List ℕ)) (fault : EngineFault)
     (r : Result (Unit {0}) EngineFault)
-    → IsErrAnd r (λ x. x ≡ fault) → IsReadFault apt journal fault → ShowsAs reads Shown Left apt journal old old r
-nothing_shown reads Shown Left apt journal old fault (Ok u) h a = absurd h
-nothing_shown reads Shown Left apt journal old fault (Err x) h a =
-    subst (λ (f : EngineFault). ShowsAs reads Shown Left apt journal old old (Err f)) (sym h)
-    (kept reads Shown Left apt journal old fault a)
+    → IsErrAnd r (λ x. x ≡ fault) → IsReadFault apt journal fault → ShowsAs reads HasText Shown Left apt journal old old r
+nothing_shown reads HasText Shown Left apt journal old fault (Ok u) h a = absurd h
+nothing_shown reads HasText Shown Left apt journal old fault (Err x) h a =
+    subst (λ (f : EngineFault). ShowsAs reads HasText Shown Left apt journal old old (Err f)) (sym h)
+    (kept reads HasText Shown Left apt journal old fault a)
 
 -- nor by a task, whatever it shows
 pub nothing_of_task : (reads : ReadsApt) (shown : Shown) (apt journal old : Option (List ℕ)) (fault : EngineFault)
     (r : Result (Unit {0}) EngineFault)
     → IsErrAnd r (λ x. x ≡ fault) → IsReadFault apt journal fault → Shows reads shown apt journal old old r
 nothing_of_task reads Page apt journal old fault r h a =
-    nothing_shown reads (AppendsPage old old) (AppendsPage old old) apt journal old fault r h a
+    nothing_shown reads HasPage (AppendsPage old old) (AppendsPage old old) apt journal old fault r h a
 nothing_of_task reads (Table table) apt journal old fault r h a =
-    nothing_shown reads (AppendsTable old old) (Keeps old old) apt journal old fault r h a
+    nothing_shown reads IsLawful (AppendsTable old old) (Keeps old old) apt journal old fault r h a
 
 -- what is shown of the history that the files have
-pub history_shown : (reads : ReadsApt) (Shown Left : Type 0) (apt journal old new : Option (List ℕ))
+pub history_shown : (reads : ReadsApt) (HasText : HistoryParts → Type 0) (Shown Left : Type 0)
+    (apt journal old new : Option (List ℕ))
     (i : InstructionParts) (j : JournalParts) (r : Result (Unit {0}) EngineFault)
-    → Says reads apt (Ok i) → Says journal_of journal (Ok j) → ShowsHistory Shown Left (history_of i j) old new r
-    → ShowsAs reads Shown Left apt journal old new r
-history_shown reads Shown Left apt journal old new i j (Ok u) a b (lawful, shown) =
+    → Says reads apt (Ok i) → Says journal_of journal (Ok j) → ShowsHistory HasText Shown Left (history_of i j) old new r
+    → ShowsAs reads HasText Shown Left apt journal old new r
+history_shown reads HasText Shown Left apt journal old new i j (Ok u) a b (lawful, shown) =
     (record { instruction = i; read = j; apt_says = a; journal_says = b; holds = lawful }, shown)
-history_shown reads Shown Left apt journal old new i j (Err fault) a b (inl (inl (memory, same))) =
-    subst (λ (f : EngineFault). ShowsAs reads Shown Left apt journal old new (Err f)) (sym memory)
+history_shown reads HasText Shown Left apt journal old new i j (Err fault) a b (inl (inl (memory, same), none)) =
+    subst (λ (f : EngineFault). ShowsAs reads HasText Shown Left apt journal old new (Err f)) (sym memory)
     (inl (inr (inl refl)), same)
-history_shown reads Shown Left apt journal old new i j (Err fault) a b (inl (inr (write, some))) =
-    subst (λ (f : EngineFault). ShowsAs reads Shown Left apt journal old new (Err f)) (sym write) some
-history_shown reads Shown Left apt journal old new i j (Err fault) a b (inr (why, is, first, left)) =
-    subst (λ (f : EngineFault). ShowsAs reads Shown Left apt journal old new (Err f)) (sym is)
+history_shown reads HasText Shown Left apt journal old new i j (Err fault) a b (inl (inr (write, some), has)) =
+    subst (λ (f : EngineFault). ShowsAs reads HasText Shown Left apt journal old new (Err f)) (sym write)
+    (record { instruction = i; read = j; apt_says = a; journal_says = b; holds = has write }, some)
+history_shown reads HasText Shown Left apt journal old new i j (Err fault) a b (inr (why, is, first, left)) =
+    subst (λ (f : EngineFault). ShowsAs reads HasText Shown Left apt journal old new (Err f)) (sym is)
     (record { instruction = i; read = j; apt_says = a; journal_says = b; holds = first }, left)
 
 -- nothing is left of it
 pub nothing_left : (Shown : Type 0) (h : HistoryParts) (old : Option (List ℕ)) (fault : EngineFault)
     → IsUnlawful h fault
-    → ShowsHistory Shown (Keeps old old) h old old (Err fault)
-nothing_left Shown h old fault (inl memory) = inl (inl (memory, Keeps-refl old))
+    → ShowsHistory IsLawful Shown (Keeps old old) h old old (Err fault)
+nothing_left Shown h old fault (inl memory) = inl (inl (memory, Keeps-refl old), λ w. absurd (cc (memory, w)))
 nothing_left Shown h old fault (inr (why, is, first)) = inr (why, is, first, Keeps-refl old)
 
-pub ruleset histories = (lawful_shown, fault_shown)
+pub ruleset histories = (page_shown, fault_shown, no_memory)
 
-pub ruleset lists = (lawful_shown, nothing_left)
+pub ruleset lists = (table_shown, nothing_left)
 
 pub ruleset shown = (nothing_shown, history_shown)

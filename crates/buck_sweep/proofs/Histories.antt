@@ -19,6 +19,7 @@ use Rattle.buck_figures.specs.Shown.{AreFigures}
 use Rattle.buck_rule.specs.declared.named.NamedRule.{NamedRule}
 use Rattle.buck_rule.specs.Named.{rule_name}
 use Rattle.buck_rule.specs.GivenBy.{GivesBy}
+use Rattle.buck_engine.specs.fleet.Running.{AreFirsts}
 use Rattle.buck_engine.proofs.Ruled.{follows_rule}
 use Rattle.buck_sweep.specs.Table.{IsLine, cells, line_of, rate_of}
 use Rattle.buck_sweep.specs.inner.Lines.{HasCut, IsLineBy}
@@ -77,9 +78,15 @@ if_line rule i j f (Err e) figures by = tt
 pub cut_is : {F : Type 0} (g : Calls F) (f : F) (rule : NamedRule) (lists : List (Vec (Arc Stem Global) Global))
     (h : HistoryParts) (i : InstructionParts) (j : JournalParts)
     → history_of h.instruction j ≡ h → h.instruction ≡ i → IsLawful h → length h.postings ≤ 1000000
-    → HasCutInTurn lists h
+    → AreFirsts h → HasCutInTurn lists h
     → GivesBy g f rule → AreSheetsBy g f h → HasCut rule lists (history_of i j)
-cut_is g f rule lists h i j is same lawful few cut gives by =
+cut_is g f rule lists h i j is same lawful few firsts cut gives by =
     subst (λ (x : InstructionParts). HasCut rule lists (history_of x j)) same
     (subst (λ (x : HistoryParts). HasCut rule lists x) (sym is)
-    (record { lawful = lawful; few = few; cut = cut; by_rule = follows_rule g f rule h gives lawful by }))
+    (record {
+      lawful = lawful;
+      few = few;
+      firsts = firsts;
+      cut = cut;
+      by_rule = follows_rule g f rule h gives lawful by;
+    }))

@@ -38,6 +38,7 @@ over apt stms i lists c line says long made run =
         instruction = says_with c.settings apt i run.history.instruction says run.instruction;
         lawful = run.has_cut.lawful;
         few = run.has_cut.few;
+        firsts = run.has_cut.firsts;
         stems = λ k lt. record {
           stems = stems_at lists k;
           stm_says = made k lt;

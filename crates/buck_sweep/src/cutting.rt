@@ -4,6 +4,7 @@ ghost use Rattle.buck_rule.specs.Stored.{Answers};
 ghost use Rattle.buck_book.specs.History.{IsLawful};
 ghost use Rattle.buck_journal.specs.judging.Replay.{history_of};
 ghost use Rattle.buck_rule.specs.GivenBy.{GivesBy};
+ghost use Rattle.buck_engine.specs.fleet.Running.{AreFirsts};
 ghost use Rattle.buck_sweep.specs.inner.Lines.{HasCut, IsPart, IsRunLine, IsStop};
 ghost use Rattle.buck_sweep.specs.Sweep.{AreLines};
 ghost use Rattle.buck_book.specs.declared.posting.TheConstants.{MOST_POSTINGS};
@@ -41,6 +42,7 @@ fn journal_of<F: Drop>(alloc: Global, book: Book<F>) -> Result<Journal, Memory>
     ensures history { IfOk result (λ j. history_of book.history.instruction j ≡ book.history) }
     ensures lawful { IsLawful book.history }
     ensures few { length book.history.postings ≤ MOST_POSTINGS }
+    ensures firsts { AreFirsts book.history }
 {
     let parts = book.into_parts();
     Ok(Journal {

@@ -1,8 +1,8 @@
 //! `run_sweep`: from the bytes of an instruction file and stem files to a table.
-ghost use Rattle.std.specs.Prelude.{◌≡◌, ◌<◌, ◌≤◌, map, drop, length, IfOk, IfErr};
+ghost use Rattle.std.specs.Prelude.{◌≡◌, ◌≢◌, ◌<◌, ◌≤◌, map, drop, length, IfOk, IfErr};
 ghost use Rattle.std.specs.Result.{IsErrAnd};
 ghost use Rattle.buck_record.specs.Reading.{listed};
-ghost use Rattle.buck_engine.specs.declared.fault.EngineFault.TheVariants.{Seats};
+ghost use Rattle.buck_engine.specs.declared.fault.EngineFault.TheVariants.{Seats, Write};
 ghost use Rattle.buck_engine.specs.run.Reading.{IfStopped};
 ghost use Rattle.buck_engine.specs.fleet.Running.{AreNoSeats};
 ghost use Rattle.buck_sweep.specs.Sweep.{AnswersSweep, IsSweepRun};
@@ -97,6 +97,8 @@ pub fn run_sweep<R: io::Read, W: io::Write>(
     ensures order { IfErr result (IfStopped (λ last. drop last stms.new ≡ drop last stms.old)) }
     // Where there are not 1 to 64 stem files, nothing was read of the instruction either.
     ensures unread { IfErr result (λ fault. fault ≡ Seats → apt.new ≡ apt.old) }
+    // Only a failed write touches the output.
+    ensures untouched { IfErr result (λ fault. fault ≢ Write → out.new ≡ out.old) }
 {
     let text = text_of(alloc, combinations, apt, stms)?;
     write_text(out, text.as_slice())
@@ -124,6 +126,8 @@ pub fn run_sweep_in_parts<T: Threads + Sync, R: io::Read, W: io::Write>(
     ensures order { IfErr result (IfStopped (λ last. drop last stms.new ≡ drop last stms.old)) }
     // Where there are not 1 to 64 stem files, nothing was read of the instruction either.
     ensures unread { IfErr result (λ fault. fault ≡ Seats → apt.new ≡ apt.old) }
+    // Only a failed write touches the output.
+    ensures untouched { IfErr result (λ fault. fault ≢ Write → out.new ≡ out.old) }
 {
     let threads = number_of_threads(rt, threads);
     let text = text_in_parts(rt, alloc, threads, combinations, apt, stms)?;

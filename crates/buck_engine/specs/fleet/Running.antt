@@ -1,5 +1,5 @@
 -- What a run of a fleet over an instruction file and stem files answers: a journal and a report of one history.
-use Rattle.std.specs.Prelude.{◌≡◌, ◌⊎◌, ◌<◌, ◌≤◌, ◌+◌, ℕ, List, [], length, map, sum_by, All, Option, Some, None, Result, Ok, Err, slice_index_or}
+use Rattle.std.specs.Prelude.{◌≡◌, ◌⊎◌, ◌<◌, ◌≤◌, ◌+◌, ℕ, List, [], length, map, sum_by, All, Option, Some, None, Result, Ok, Err, slice_get, slice_index_or}
 use Rattle.std.specs.declared.sync.Arc.{Arc}
 use Rattle.std.specs.declared.vec.Vec.{Vec}
 use Rattle.std.specs.declared.alloc.Global.{Global}
@@ -8,8 +8,10 @@ use Rattle.buck_apt.specs.Apt.{apt_of}
 use Rattle.buck_stem.specs.declared.stem.Stem.{Stem}
 use Rattle.buck_stem.specs.Stem.{StemParts}
 use Rattle.buck_stem.specs.file.Stm.{stm_of}
+use Rattle.buck_book.specs.declared.posting.Posting.{Posting}
 use Rattle.buck_book.specs.Posting.{harvester_of}
 use Rattle.buck_book.specs.History.{HistoryParts, IsLawful}
+use Rattle.buck_book.specs.Book.{IsFirst}
 use Rattle.buck_journal.specs.Written.{journal_text}
 use Rattle.buck_fleet.specs.Run.{stem_cut, stems_at}
 use Rattle.buck_fleet.specs.Closed.{replies_of}
@@ -34,13 +36,19 @@ pub record CutsFile (harvester : ℕ) (h : HistoryParts) (stm : Option (List ℕ
   pub stm_says : Says stm_of stm (Ok stems)
   pub are_cut : stems_cut_by harvester h ≡ map Some stems
 
--- a lawful history of the instruction that a file has, read so, of at most 1,000,000 postings, in which harvester k cut
--- exactly the stems that the k-th stem file has, in their order, and nobody else has a posting
+-- each cutting is the first of the best ones under the sheet of its version
+abbrev pub AreFirsts : HistoryParts → Type 0
+AreFirsts h = (k : ℕ) (x : Posting) → slice_get h.postings k ≡ Some x → IsFirst h x
+
+-- a lawful history of the instruction that a file has, read so, of at most 1,000,000 postings, each cutting the first
+-- of the best ones, in which harvester k cut exactly the stems that the k-th stem file has, in their order, and nobody
+-- else has a posting
 pub record IsHarvest (reads : ReadsApt) (apt : Option (List ℕ)) (stms : List (Option (List ℕ))) (h : HistoryParts)
     : Type 0 where
   pub instruction : Says reads apt (Ok h.instruction)
   pub lawful : IsLawful h
   pub few : length h.postings ≤ MOST_POSTINGS
+  pub firsts : AreFirsts h
   pub stems : (k : ℕ) → k < length stms → CutsFile (k + 1) h (slice_index_or stms k None)
   pub nobody_else : All (λ x. (0 < harvester_of x) × (harvester_of x ≤ length stms)) h.postings
 

@@ -12,16 +12,17 @@ use Rattle.buck_fleet.specs.Run.{stems_at}
 use Rattle.buck_engine.specs.declared.fault.EngineFault.{EngineFault}
 use Rattle.buck_engine.specs.declared.fault.EngineFault.TheVariants.{Write, Memory}
 use Rattle.buck_engine.specs.fleet.Lent.{OfWriter}
-use Rattle.buck_engine.specs.fleet.Running.{stems_cut_by, WroteAll, WroteSome}
+use Rattle.buck_engine.specs.fleet.Running.{AreFirsts, stems_cut_by, WroteAll, WroteSome}
 use Rattle.buck_book.specs.declared.posting.TheConstants.{MOST_POSTINGS}
 
--- a lawful history of an instruction, of at most 1,000,000 postings, in which harvester k + 1 cut exactly the stems of
--- the list at place k, and nobody else has a posting
+-- a lawful history of an instruction, of at most 1,000,000 postings, each cutting the first of the best ones, in which
+-- harvester k + 1 cut exactly the stems of the list at place k, and nobody else has a posting
 pub record HasCutLists (i : InstructionParts) (lists : List (Vec (Arc Stem Global) Global))
     (h : HistoryParts) : Type 0 where
   pub same_instruction : h.instruction ≡ i
   pub lawful : IsLawful h
   pub few : length h.postings ≤ MOST_POSTINGS
+  pub firsts : AreFirsts h
   pub stems : (k : ℕ) → k < length lists → stems_cut_by (k + 1) h ≡ map Some (stems_at lists k)
   pub nobody_else : All (λ x. (0 < harvester_of x) × (harvester_of x ≤ length lists)) h.postings
 

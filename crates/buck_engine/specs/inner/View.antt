@@ -22,9 +22,11 @@ WritesAs Shown old new (Err fault) = Fails old new fault
 abbrev pub ShowsFault : Type 0 → ReplayFault → Option (List ℕ) → Option (List ℕ) → EngineFault → Type 0
 ShowsFault Left why old new fault = ((fault ≡ Replay why) × Left) ⊎ Fails old new fault
 
--- a lawful history is shown, and of another what is left of its first fault
-abbrev pub ShowsHistory : Type 0 → Type 0 → HistoryParts → Option (List ℕ) → Option (List ℕ)
+-- a lawful history is shown, and of another what is left of its first fault; it fails to be written only where there is
+-- something to write
+abbrev pub ShowsHistory : (HistoryParts → Type 0) → Type 0 → Type 0 → HistoryParts → Option (List ℕ) → Option (List ℕ)
     → Result (Unit {0}) EngineFault → Type 0
-ShowsHistory Shown Left h old new (Ok _) = IsLawful h × Shown
-ShowsHistory Shown Left h old new (Err fault) =
-    Fails old new fault ⊎ ((why : ReplayFault) × (fault ≡ Replay why) × IsFirstFault h why × Left)
+ShowsHistory HasText Shown Left h old new (Ok _) = IsLawful h × Shown
+ShowsHistory HasText Shown Left h old new (Err fault) =
+    (Fails old new fault × (fault ≡ Write → HasText h))
+    ⊎ ((why : ReplayFault) × (fault ≡ Replay why) × IsFirstFault h why × Left)

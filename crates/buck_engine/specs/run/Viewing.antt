@@ -7,6 +7,7 @@ use Rattle.buck_apt.specs.Apt.{apt_of}
 use Rattle.buck_book.specs.History.{HistoryParts, IsLawful}
 use Rattle.buck_journal.specs.reading.Journal.{JournalParts, journal_of}
 use Rattle.buck_journal.specs.judging.Replay.{history_of, IsFirstFault}
+use Rattle.buck_journal.specs.declared.judging.fault.ReplayFault.{ReplayFault}
 use Rattle.buck_engine.specs.declared.fault.EngineFault.{EngineFault}
 use Rattle.buck_engine.specs.declared.fault.EngineFault.TheVariants.{Write, Replay}
 use Rattle.buck_engine.specs.run.Reading.{IsAccepted, IsAptFault, ReadsApt, Says}
@@ -26,14 +27,20 @@ abbrev pub IsReadFault : Option (List ℕ) → Option (List ℕ) → EngineFault
 IsReadFault apt journal fault = IsAptFault apt fault ⊎ (IsAccepted apt_of apt × IsJournalFault journal fault)
 
 -- what is there of the output after a run that shows a journal: what was written of a lawful one, what is left of one
--- that isn't lawful, and else nothing more than before, or where the output can't be written some first bytes of a text
-abbrev pub ShowsAs : ReadsApt → Type 0 → Type 0 → Option (List ℕ) → Option (List ℕ) → Option (List ℕ) → Option (List ℕ)
-    → Result (Unit {0}) EngineFault → Type 0
-ShowsAs reads Shown Left apt journal old new (Ok _) = HaveHistory reads IsLawful apt journal × Shown
-ShowsAs reads Shown Left apt journal old new (Err Write) = (text : List ℕ) × AppendsSome old new text
-ShowsAs reads Shown Left apt journal old new (Err (Replay why)) =
+-- that isn't lawful, and else nothing more than before; or, where the output can't be written, some first bytes of what
+-- the history shows, of which there is something to write
+abbrev pub ShowsAs : ReadsApt → (HistoryParts → Type 0) → Type 0 → Type 0 → Option (List ℕ) → Option (List ℕ)
+    → Option (List ℕ) → Option (List ℕ) → Result (Unit {0}) EngineFault → Type 0
+ShowsAs reads HasText Shown Left apt journal old new (Ok _) = HaveHistory reads IsLawful apt journal × Shown
+ShowsAs reads HasText Shown Left apt journal old new (Err Write) =
+    HaveHistory reads HasText apt journal × ((text : List ℕ) × AppendsSome old new text)
+ShowsAs reads HasText Shown Left apt journal old new (Err (Replay why)) =
     HaveHistory reads (λ h. IsFirstFault h why) apt journal × Left
-ShowsAs reads Shown Left apt journal old new (Err fault) = IsReadFault apt journal fault × Keeps old new
+ShowsAs reads HasText Shown Left apt journal old new (Err fault) = IsReadFault apt journal fault × Keeps old new
+
+-- a history has a page where it is lawful, and where it has a first fault
+abbrev pub HasPage : HistoryParts → Type 0
+HasPage h = IsLawful h ⊎ ((why : ReplayFault) × IsFirstFault h why)
 
 -- a page was written, which is UTF-8, and all of it
 abbrev pub AppendsPage : Option (List ℕ) → Option (List ℕ) → Type 0
@@ -47,10 +54,10 @@ AppendsTable old new = (text : List ℕ) × Appends old new text
 abbrev pub ShowsPage : ReadsApt → Option (List ℕ) → Option (List ℕ) → Option (List ℕ) → Option (List ℕ)
     → Result (Unit {0}) EngineFault → Type 0
 ShowsPage reads apt journal old new outcome =
-    ShowsAs reads (AppendsPage old new) (AppendsPage old new) apt journal old new outcome
+    ShowsAs reads HasPage (AppendsPage old new) (AppendsPage old new) apt journal old new outcome
 
 -- the table of a lawful journal is written, and else nothing
 abbrev pub ShowsTable : ReadsApt → Option (List ℕ) → Option (List ℕ) → Option (List ℕ) → Option (List ℕ)
     → Result (Unit {0}) EngineFault → Type 0
 ShowsTable reads apt journal old new outcome =
-    ShowsAs reads (AppendsTable old new) (Keeps old new) apt journal old new outcome
+    ShowsAs reads IsLawful (AppendsTable old new) (Keeps old new) apt journal old new outcome

@@ -1,9 +1,9 @@
 //! `run_fleet_files`: from the bytes of an instruction file and stem files to a journal and a report.
-ghost use Rattle.std.specs.Prelude.{◌≡◌, length, map, drop, IfOk, IfErr};
+ghost use Rattle.std.specs.Prelude.{◌≡◌, ◌≢◌, length, map, drop, IfOk, IfErr};
 ghost use Rattle.std.specs.Result.{IsErrAnd};
 ghost use Rattle.buck_apt.specs.Apt.{apt_of};
 ghost use Rattle.buck_rule.specs.Stored.{AllAnswer};
-ghost use Rattle.buck_engine.specs.declared.fault.EngineFault.TheVariants.{Seats};
+ghost use Rattle.buck_engine.specs.declared.fault.EngineFault.TheVariants.{Seats, Write};
 ghost use Rattle.buck_engine.specs.declared.fleet.serving.Order.TheVariants.{AtOnce};
 ghost use Rattle.buck_engine.specs.run.Reading.{IfStopped, apt_with};
 ghost use Rattle.buck_engine.specs.fleet.Lent.{of_lent};
@@ -107,6 +107,8 @@ pub fn run_fleet_files<
     ensures order { IfErr result (IfStopped (λ last. drop last stms.new ≡ drop last stms.old)) }
     // Where there are not 1 to 64 stem files, nothing was read of the instruction either.
     ensures unread { IfErr result (λ fault. fault ≡ Seats → apt.new ≡ apt.old) }
+    // Only a failed write touches the output.
+    ensures untouched { IfErr result (λ fault. fault ≢ Write → out.new ≡ out.old) }
 {
     let closed = cut_own_files(rt, alloc, apt, stms, rule);
     match journal {

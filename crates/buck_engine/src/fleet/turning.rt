@@ -1,12 +1,12 @@
 //! `run_in_turn`: from the bytes of an instruction file and stem files to a journal and a report of harvesters that
 //! take turns.
-ghost use Rattle.std.specs.Prelude.{◌≡◌, ◌<◌, ◌≤◌, length, map, drop, IfOk, IfErr};
+ghost use Rattle.std.specs.Prelude.{◌≡◌, ◌≢◌, ◌<◌, ◌≤◌, length, map, drop, IfOk, IfErr};
 ghost use Rattle.std.specs.Result.{IsErrAnd};
 ghost use Rattle.buck_apt.specs.Apt.{apt_of};
 ghost use Rattle.buck_rule.specs.Stored.{Answers};
 ghost use Rattle.buck_book.specs.History.{in_force};
 ghost use Rattle.buck_turn.specs.Turn.{AreInTurn, AreSheetsBy, stems_in_all};
-ghost use Rattle.buck_engine.specs.declared.fault.EngineFault.TheVariants.{Full, Seats};
+ghost use Rattle.buck_engine.specs.declared.fault.EngineFault.TheVariants.{Full, Seats, Write};
 ghost use Rattle.buck_engine.specs.declared.fleet.serving.Order.TheVariants.{InTurn};
 ghost use Rattle.buck_engine.specs.run.Reading.{IfStopped, apt_with};
 ghost use Rattle.buck_engine.specs.fleet.Lent.{of_lent};
@@ -205,6 +205,8 @@ pub fn run_in_turn<F: Fn(&Standing) -> u64 + Drop, R: io::Read, J: io::Write, W:
     ensures order { IfErr result (IfStopped (λ last. drop last stms.new ≡ drop last stms.old)) }
     // Where there are not 1 to 64 stem files, nothing was read of the instruction either.
     ensures unread { IfErr result (λ fault. fault ≡ Seats → apt.new ≡ apt.old) }
+    // Only a failed write touches the output.
+    ensures untouched { IfErr result (λ fault. fault ≢ Write → out.new ≡ out.old) }
 {
     let turned = cut_own_files_in_turn(alloc, apt, stms, rule);
     match journal {

@@ -1,6 +1,7 @@
 //! The writing of a history's journal and report.
-ghost use Rattle.std.specs.Prelude.{◌≡◌, IfOk};
+ghost use Rattle.std.specs.Prelude.{◌≡◌, ◌≢◌, IfOk, IfErr};
 ghost use Rattle.buck_journal.specs.Written.{journal_text};
+ghost use Rattle.buck_engine.specs.declared.fault.EngineFault.TheVariants.{Write};
 ghost use Rattle.buck_engine.specs.fleet.Lent.{no_writer, of_writer};
 ghost use Rattle.buck_engine.specs.inner.Fleet.{AreWritten};
 
@@ -18,7 +19,8 @@ pub(crate) fn write_report<W: io::Write>(
     history: &Harvested<'_>,
     out: &mut W,
 ) -> Result<(), EngineFault>
-    ensures { AreWritten history.now no_writer (W.contents out.old) (W.contents out.new) result }
+    ensures written { AreWritten history.now no_writer (W.contents out.old) (W.contents out.new) result }
+    ensures untouched { IfErr result (λ fault. fault ≢ Write → out.new ≡ out.old) }
 {
     let report = report_of(alloc, history)?;
     write_text(out, report.as_slice())
@@ -40,8 +42,9 @@ pub(crate) fn write_journal_and_report<J: io::Write, W: io::Write>(
     journal: &mut J,
     out: &mut W,
 ) -> Result<(), EngineFault>
-    ensures { AreWritten history.now (of_writer (J.contents journal.old) (J.contents journal.new))
+    ensures written { AreWritten history.now (of_writer (J.contents journal.old) (J.contents journal.new))
         (W.contents out.old) (W.contents out.new) result }
+    ensures untouched { IfErr result (λ fault. fault ≢ Write → out.new ≡ out.old) }
 {
     let text = text_of_journal(alloc, history)?;
     let report = report_of(alloc, history)?;

@@ -74,7 +74,7 @@ pub fn run_view_in_parts<T: Threads + Sync, R: io::Read, W: io::Write>(
     writer: &mut W,
 ) -> Result<(), EngineFault>
     // A page is written of a lawful journal, or the page of its first fault; where a file has a fault nothing is
-    // written.
+    // written; where the output can't be written, some first bytes of such a page may be.
     ensures run { ShowsPage apt_of (R.remaining apt.old) (R.remaining journal.old)
         (W.contents writer.old) (W.contents writer.new) result }
     // Where the instruction file has a fault, nothing was read of the journal.
@@ -104,6 +104,8 @@ pub fn run_table_in_parts<T: Threads + Sync, R: io::Read, W: io::Write>(
         (W.contents writer.old) (W.contents writer.new) result }
     // Where the instruction file has a fault, nothing was read of the journal.
     ensures order { IfErr result (IfStopped (λ last. last ≡ 0 → journal.new ≡ journal.old)) }
+    // Only a failed write touches the writer.
+    ensures untouched { IfErr result (λ fault. fault ≢ Write → writer.new ≡ writer.old) }
 {
     let both = read_own_in_parts(rt, alloc, threads, apt, journal)?;
     let replayed = replay_both_in_parts(rt, alloc, threads, &both);

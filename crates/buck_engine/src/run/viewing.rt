@@ -5,8 +5,9 @@ ghost use Rattle.buck_apt.specs.Apt.{apt_of};
 ghost use Rattle.buck_book.specs.History.{IsLawful};
 ghost use Rattle.buck_figures.specs.Figures.{base_sheet};
 ghost use Rattle.buck_journal.specs.judging.Replay.{history_of, IsFirstFault};
+ghost use Rattle.buck_engine.specs.declared.fault.EngineFault.TheVariants.{Write};
 ghost use Rattle.buck_engine.specs.run.Reading.{IfStopped};
-ghost use Rattle.buck_engine.specs.run.Viewing.{AppendsPage, AppendsTable, ShowsPage, ShowsTable};
+ghost use Rattle.buck_engine.specs.run.Viewing.{AppendsPage, AppendsTable, HasPage, ShowsPage, ShowsTable};
 ghost use Rattle.buck_engine.specs.inner.View.{ShowsFault, ShowsHistory, WritesAs};
 ghost use Rattle.buck_book.specs.declared.posting.TheConstants.{MOST_POSTINGS};
 
@@ -93,7 +94,7 @@ pub(crate) fn show_both<W: io::Write>(
     requires lawful { OnOk replayed (IsLawful (history_of both.now.instruction.value both.now.journal)) }
     requires refused { IfErr replayed (λ why.
         why ≢ ReplayFault.Memory → IsFirstFault (history_of both.now.instruction.value both.now.journal) why) }
-    ensures { ShowsHistory (AppendsPage (W.contents writer.old) (W.contents writer.new)) (AppendsPage (W.contents writer.old) (W.contents writer.new))
+    ensures { ShowsHistory HasPage (AppendsPage (W.contents writer.old) (W.contents writer.new)) (AppendsPage (W.contents writer.old) (W.contents writer.new))
         (history_of both.now.instruction.value both.now.journal) (W.contents writer.old) (W.contents writer.new) result }
 {
     match replayed {
@@ -116,7 +117,8 @@ pub fn run_view<R: io::Read, W: io::Write>(
     files: &Files<'_>,
     writer: &mut W,
 ) -> Result<(), EngineFault>
-    // A page is written of a lawful journal, or the page of its first fault; where a file has a fault nothing is written.
+    // A page is written of a lawful journal, or the page of its first fault; where a file has a fault nothing is
+    // written; where the output can't be written, some first bytes of such a page may be.
     ensures run { ShowsPage apt_of (R.remaining apt.old) (R.remaining journal.old)
         (W.contents writer.old) (W.contents writer.new) result }
     // Where the instruction file has a fault, nothing was read of the journal.
@@ -133,7 +135,8 @@ fn write_table<W: io::Write>(
     writer: &mut W,
     table: Result<Vec<u8>, Memory>,
 ) -> Result<(), EngineFault>
-    ensures { WritesAs (AppendsTable (W.contents writer.old) (W.contents writer.new)) (W.contents writer.old) (W.contents writer.new) result }
+    ensures written { WritesAs (AppendsTable (W.contents writer.old) (W.contents writer.new)) (W.contents writer.old) (W.contents writer.new) result }
+    ensures untouched { IfErr result (λ fault. fault ≢ Write → writer.new ≡ writer.old) }
 {
     let text = table?;
     write_text(writer, text.as_slice())
@@ -152,8 +155,9 @@ pub(crate) fn list_both<W: io::Write>(
     requires lawful { OnOk replayed (IsLawful (history_of both.now.instruction.value both.now.journal)) }
     requires refused { IfErr replayed (λ why.
         why ≢ ReplayFault.Memory → IsFirstFault (history_of both.now.instruction.value both.now.journal) why) }
-    ensures { ShowsHistory (AppendsTable (W.contents writer.old) (W.contents writer.new)) (Keeps (W.contents writer.old) (W.contents writer.new))
+    ensures shown { ShowsHistory IsLawful (AppendsTable (W.contents writer.old) (W.contents writer.new)) (Keeps (W.contents writer.old) (W.contents writer.new))
         (history_of both.now.instruction.value both.now.journal) (W.contents writer.old) (W.contents writer.new) result }
+    ensures untouched { IfErr result (λ fault. fault ≢ Write → writer.new ≡ writer.old) }
 {
     match replayed {
         Ok(()) => write_table(writer, table_in(alloc, both, table)),
@@ -179,6 +183,8 @@ pub fn run_table<R: io::Read, W: io::Write>(
         (W.contents writer.old) (W.contents writer.new) result }
     // Where the instruction file has a fault, nothing was read of the journal.
     ensures order { IfErr result (IfStopped (λ last. last ≡ 0 → journal.new ≡ journal.old)) }
+    // Only a failed write touches the writer.
+    ensures untouched { IfErr result (λ fault. fault ≢ Write → writer.new ≡ writer.old) }
 {
     let both = read_own(alloc, apt, journal)?;
     let replayed = replay_both(alloc, &both);

@@ -15,7 +15,7 @@ use Rattle.buck_engine.specs.declared.fault.EngineFault.{EngineFault}
 use Rattle.buck_engine.specs.declared.fault.EngineFault.TheVariants.{Full}
 use Rattle.buck_rule.specs.declared.named.NamedRule.{NamedRule}
 use Rattle.buck_rule.specs.Named.{rule_name}
-use Rattle.buck_engine.specs.fleet.Running.{IsCuttingFault}
+use Rattle.buck_engine.specs.fleet.Running.{AreFirsts, IsCuttingFault}
 use Rattle.buck_engine.specs.tie.Ties.{FollowsRule}
 use Rattle.buck_sweep.specs.Table.{IsLeast, IsLine, cells, head_line, rate_of}
 use Rattle.buck_sweep.specs.Sweep.{AreLines}
@@ -49,10 +49,12 @@ pub record IsLineBy (rule : NamedRule) (f : Figures) (line : List ℕ) : Type 0 
   pub is_least : IsLeast degrees least
   pub line_is : line ≡ line_by rule f degrees least
 
--- a lawful history of at most 1,000,000 postings, in which lists were cut in turn by a rule
+-- a lawful history of at most 1,000,000 postings, each cutting the first of the best ones, in which lists were cut in
+-- turn by a rule
 pub record HasCut (rule : NamedRule) (lists : List (Vec (Arc Stem Global) Global)) (h : HistoryParts) : Type 0 where
   pub lawful : IsLawful h
   pub few : length h.postings ≤ MOST_POSTINGS
+  pub firsts : AreFirsts h
   pub cut : HasCutInTurn lists h
   pub by_rule : FollowsRule rule h
 

@@ -7,4 +7,4 @@ returns-in_ok-journal_of-in-Ok-clause-ok g c =
     let cut = c.in-Ok.ensures in
     let journal = c.in_ok-journal_of-in-Ok.ensures in
     cut_is g.F.Fn c.args.rule c.args.named c.args.lists.now _ _ _ journal.history (search (rules, cut.instruction))
-    journal.lawful journal.few cut.cut c.requires.gives cut.given
+    journal.lawful journal.few journal.firsts cut.cut c.requires.gives cut.given

@@ -22,4 +22,4 @@ returns-in_ok-closed-in-Some-clause-run g c =
     (texts_written _ AtOnce (λ _. Unit {0}) _ _
     (of_writer (contents c.in-Some.journal.now) (contents c.write_journal_and_report.new.journal)) _ _ _ _ _
     (λ none. cut.seats (of_files g.R.Read.remaining c.args.stms.now none))
-    cut.ok tt c.harvested_by-in-Some.ensures c.write_journal_and_report.ensures)
+    cut.ok tt c.harvested_by-in-Some.ensures c.write_journal_and_report.ensures.written)

@@ -31,4 +31,4 @@ returns-in_ok-turned-in-Some-clause-run g c =
     (texts_written _ InTurn (AreSheetsBy g.F.Fn c.args.rule) _ _
     (of_writer (contents c.in-Some.journal.now) (contents c.write_journal_and_report.new.journal)) _ _ _ _ _
     (λ none. cut.seats (of_files g.R.Read.remaining c.args.stms.now none)) cut.ok (cut.in_turn, cut.given)
-    c.history-in-Some.ensures c.write_journal_and_report.ensures)
+    c.history-in-Some.ensures c.write_journal_and_report.ensures.written)

@@ -5,8 +5,8 @@ use Rattle.buck_journal.specs.judging.Replay.{IsFirstFault, history_of}
 use Rattle.buck_engine.proofs.Pages.{nothing_left}
 use Rattle.buck_engine.proofs.run.viewing.list_both.Goals as goal
 
-pub returns-in-Err : goal.returns-in-Err
-returns-in-Err g c =
+pub returns-in-Err-clause-shown : goal.returns-in-Err-clause-shown
+returns-in-Err-clause-shown g c =
     let h = history_of c.args.both.now.instruction.value c.args.both.now.journal in
     nothing_left (Unit {0}) h (g.W.Write.contents c.args.writer.now) c.unlawful.result
     (c.unlawful.ensures h
