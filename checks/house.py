@@ -38,7 +38,7 @@ MOST_COLUMNS = 120
 # crate that isn't named has none.
 WIDE = {
     "buck_record": 4,
-    "buck_told": 42,
+    "buck_told": 34,
     "buck_apt": 2,
     "buck_stem": 4,
     "buck_dp": 21,

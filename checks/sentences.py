@@ -1,26 +1,22 @@
 #!/usr/bin/env python3
-"""Holds what `buckfleet explain` says against the tables of docs/FORMATS.md.
+"""Holds the cases of sentences (crates/run_cases/data/sentences) to the tables of docs/FORMATS.md.
 
-    checks/sentences.py PROGRAM
+    python3 checks/sentences.py [--write]
 
-For each row of the table of sentences the program is asked for a line with numbers of its own, once for each item that
-the row may speak of, and for the same line with a field too few and a field too many. The last line is
-'N lines, M differ', and the status is 0 where none does.
+Each row of the table of sentences has a case for each of its lines, with numbers of its own, and a row that speaks of an
+item one for each item; a line with a field too few, too many or that is no number is a mistake in the words. The last
+line is 'N cases, M differ', and the status is 0 where none does; with --write the cases are written as they should be.
 """
 import pathlib
 import re
-import subprocess
 import sys
 
-PAGE = pathlib.Path(__file__).resolve().parent.parent / "docs" / "FORMATS.md"
-PLACES = {"apt": "in the instruction file", "stm": "in file n after the instruction (with live: in the request)"}
+TOP = pathlib.Path(__file__).resolve().parent.parent
+PAGE = TOP / "docs" / "FORMATS.md"
+CASES = TOP / "crates" / "run_cases" / "data" / "sentences"
+PLACES = {"apt": "in the instruction file", "stm": "in file 3 after the instruction (with live: in the request)"}
 NUMBERS = {"a": "17", "b": "4", "c": "2109", "d": "0", "n": "3"}
-# What stands for an empty cell: no file has that fault at this item.
-WORDS = {
-    "*RANGE*": "see the documents",
-    "*ORDER*": "must have each number above the one before",
-    "*COUNT*": "one number",
-}
+NO_LINE = ["error: there is no such fault line", "", "Usage: buckfleet explain <LINE>...", "", "For more information, try '--help'."]
 
 
 def cells(line):
@@ -36,7 +32,7 @@ def tables():
 
 
 def lines_of(row, items):
-    """Each line that a row tells of, and its sentence."""
+    """Each line that a row tells of, and its sentence, or none where there is no such line."""
     for line in re.findall(r"`([^`]*)`", row[0]):
         file = line.split()[0]
         named = [item for item in items if item[0].strip("`") == file] if "*ITEM*" in row[1] else [None]
@@ -44,31 +40,42 @@ def lines_of(row, items):
             numbers, text = dict(NUMBERS), row[1].replace("*PLACE*", PLACES.get(file, "")).replace("*KIND*", file.upper())
             if item:
                 numbers["a"], numbers["b"] = item[1].strip("`").split()
+                for part, cell in zip(("RANGE", "ORDER", "COUNT"), item[3:]):
+                    text = text.replace(f"*{part}*", cell) if cell or f"*{part}*" not in text else ""
                 text = text.replace("*ITEM*", f"Item {numbers['a']} {numbers['b']} ({item[2]})")
-                for cell, (word, words) in zip(item[3:], WORDS.items()):
-                    text = text.replace(word, cell or words)
-            text = re.sub(r"\*([abcd])\*", lambda found: numbers[found.group(1)], text).replace("in file n", f"in file {numbers['n']}")
+            text = re.sub(r"\*([abcd])\*", lambda found: numbers[found.group(1)], text)
             yield " ".join(numbers.get(word, word) for word in line.split()), text
 
 
-def said(program, line):
-    """What the program says of a line; nothing where it takes it for a mistake."""
-    run = subprocess.run([program, "explain", *line.split()], capture_output=True, text=True)
-    return run.stdout if run.returncode == 0 else "" if run.returncode == 2 and not run.stdout else f"status {run.returncode}"
+def wanted():
+    """Each line that is asked for, and its sentence."""
+    sentences, items = tables()
+    found = {line: text for row in sentences for line, text in lines_of(row, items)}
+    for row in sentences:
+        line = list(lines_of(row, items))[-1][0]
+        for other in (line + " 1", line + " x", line.rsplit(" ", 1)[0]):
+            found.setdefault(other, "")
+    return found
+
+
+def case(line, text):
+    """A case, as its file has it."""
+    ends = [f"prints\n|{text}"] if text else [f"says {said}" for said in NO_LINE] + ["ends 2"]
+    return "\n".join([f"== {line}", "run words", "word explain", f"word {line}", *ends, ""])
 
 
 def main():
-    program = sys.argv[1]
-    sentences, items = tables()
-    wanted = {line: text + "\n" for row in sentences for line, text in reversed(list(lines_of(row, items)))}
-    for line in list(wanted):
-        for other in (line + " 1", line.rsplit(" ", 1)[0], line + " x"):
-            wanted.setdefault(other, "")
-    wrong = [line for line, text in wanted.items() if said(program, line) != text]
-    for line in wrong:
-        print(f"{line}: {said(program, line)!r}, {wanted[line]!r} wanted")
-    print(f"{len(wanted)} lines, {len(wrong)} differ")
-    sys.exit(1 if wrong or not wanted else 0)
+    head = "# Fault lines and their sentences, from the tables of docs/FORMATS.md (checks/sentences.py --write).\n\n"
+    right = [case(line, text) for line, text in wanted().items()]
+    if "--write" in sys.argv[1:]:
+        CASES.write_text(head + "\n".join(right))
+    found = CASES.read_text().removeprefix(head).split("\n\n")
+    wrong = [it for it in right if it.rstrip("\n") not in {one.rstrip("\n") for one in found}]
+    for it in wrong:
+        print(it)
+    many = abs(len(found) - len(right))
+    print(f"{len(right)} cases, {len(wrong) + many} differ")
+    sys.exit(1 if wrong or many or not right else 0)
 
 
 if __name__ == "__main__":

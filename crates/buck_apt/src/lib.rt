@@ -3,6 +3,7 @@
 
 mod assortment;
 mod class;
+mod described;
 mod draft;
 mod fault;
 mod instruction;
@@ -16,6 +17,7 @@ pub mod slots;
 pub use assortment::Assortment;
 pub use buck_record::Memory;
 pub use class::Class;
+pub use described::ITEMS;
 pub use fault::AptFault;
 pub use instruction::Instruction;
 pub use reading::read_apt;

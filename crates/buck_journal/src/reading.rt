@@ -1,5 +1,6 @@
 //! From the bytes of a journal to its sheets and postings, or the first refusal.
 pub(crate) mod call;
+pub(crate) mod described;
 pub(crate) mod fault;
 pub(crate) mod items;
 pub(crate) mod journal;
@@ -7,4 +8,4 @@ pub(crate) mod parallel;
 pub(crate) mod parts;
 pub(crate) mod plain;
 pub(crate) mod postings;
-pub(crate) mod slots;
+pub mod slots;

@@ -1,29 +1,38 @@
 //! Numbers that are too few, too many, or wrong together.
 use crate::form::{Form, Seen, sibling};
-use crate::item::{Item, Key};
-use crate::rows::{Count, LENGTHS, LOWER, MODULE, NAME};
+use crate::item::Item;
 use crate::shown::Several;
 use crate::source::Source;
+use buck_apt::slots::{DIAMETERS, LENGTHS, MODULE, MOST_TARGETS_TOGETHER, NAME};
+use buck_record::{Count, Described, Slot};
 use std::alloc::{AllocError, Global};
 use std::fmt;
 
-/// How many numbers an item must have.
+/// How many numbers an item must have, of whose group so many rows and columns are.
 #[derive(Clone, Copy)]
-enum Wanted {
-    One,
-    UpTo(usize),
-    Pairs(usize),
-    /// One for each row and column.
-    Classes { rows: usize, columns: usize },
+pub(crate) struct Wanted {
+    pub(crate) row: &'static Described,
+    pub(crate) rows: usize,
+    pub(crate) columns: usize,
 }
 
 impl fmt::Display for Wanted {
     fn fmt<W: fmt::Write>(&self, f: &mut fmt::Formatter<W>) -> fmt::Result {
-        match *self {
-            Wanted::One => write!(f, "1 wanted"),
-            Wanted::UpTo(most) => write!(f, "1 to {most} wanted"),
-            Wanted::Pairs(most) => write!(f, "an even count up to {most} wanted"),
-            Wanted::Classes { rows, columns } => {
+        let Wanted { row, rows, columns } = *self;
+        match row.count {
+            Count::Any | Count::Text(_) => Ok(()),
+            Count::One | Count::Names => write!(f, "1 wanted"),
+            Count::Slots => write!(f, "{} wanted", row.slots.len()),
+            Count::UpTo(most) => write!(f, "1 to {most} wanted"),
+            Count::AtMost(most) => write!(f, "at most {most} wanted"),
+            Count::Pairs(most) => {
+                write!(f, "an even count up to {} wanted", most.saturating_mul(2))
+            }
+            Count::Triples(most) => {
+                let all = most.saturating_mul(3);
+                write!(f, "three for each log, at most {all}, wanted")
+            }
+            Count::Classes => {
                 let all = rows.saturating_mul(columns);
                 write!(f, "{all} wanted ({} of {columns})", Several(rows, "row"))
             }
@@ -34,20 +43,25 @@ impl fmt::Display for Wanted {
 impl Wanted {
     /// Whether so many are right.
     fn takes(&self, count: usize) -> bool {
-        match *self {
-            Wanted::One => count == 1,
-            Wanted::UpTo(most) => 1 <= count && count <= most,
-            Wanted::Pairs(most) => count % 2 == 0 && count <= most,
-            Wanted::Classes { rows, columns } => count == rows.saturating_mul(columns),
+        let Wanted { row, rows, columns } = *self;
+        match row.count {
+            Count::Any | Count::Text(_) => true,
+            Count::One | Count::Names => count == 1,
+            Count::Slots => count == row.slots.len(),
+            Count::UpTo(most) => 1 <= count && count <= most,
+            Count::AtMost(most) => count <= most,
+            Count::Pairs(most) => count % 2 == 0 && count / 2 <= most,
+            Count::Triples(most) => count % 3 == 0 && count / 3 <= most,
+            Count::Classes => count == rows.saturating_mul(columns),
         }
     }
 }
 
-/// How many items of a file are of one kind.
-pub(crate) fn count_of(source: &Source<'_>, key: Key) -> usize {
+/// How many items of a file stand in a slot.
+pub(crate) fn count_of(source: &Source<'_>, slot: Slot) -> usize {
     let mut count = 0usize;
     for item in source.items() {
-        if item.key() == Some(key) {
+        if item.is(slot) {
             count = count.saturating_add(1);
         }
     }
@@ -55,24 +69,10 @@ pub(crate) fn count_of(source: &Source<'_>, key: Key) -> usize {
 }
 
 /// How many numbers an item of a seen one's group has.
-fn size_of(form: &Form, source: &Source<'_>, seen: &Seen<'_>, key: Key) -> usize {
-    match sibling(form, source, seen, key) {
+fn size_of(form: &Form, source: &Source<'_>, seen: &Seen<'_>, slot: Slot) -> usize {
+    match sibling(form, source, seen, slot) {
         Some(item) => item.count(),
         None => 0,
-    }
-}
-
-/// How many numbers an item must have, where that is said of it.
-fn wanted_of(form: &Form, source: &Source<'_>, seen: &Seen<'_>) -> Option<Wanted> {
-    match seen.row.count {
-        Count::Any => None,
-        Count::One | Count::Names => Some(Wanted::One),
-        Count::UpTo(most) => Some(Wanted::UpTo(most)),
-        Count::Pairs(most) => Some(Wanted::Pairs(most)),
-        Count::Classes => Some(Wanted::Classes {
-            rows: size_of(form, source, seen, LOWER),
-            columns: size_of(form, source, seen, LENGTHS),
-        }),
     }
 }
 
@@ -83,8 +83,10 @@ pub(crate) fn miscounted(
     source: &Source<'_>,
     seen: &Seen<'_>,
 ) -> Result<Option<String>, AllocError> {
-    let Some(wanted) = wanted_of(form, source, seen) else {
-        return Ok(None);
+    let wanted = Wanted {
+        row: seen.row,
+        rows: size_of(form, source, seen, DIAMETERS),
+        columns: size_of(form, source, seen, LENGTHS),
     };
     let count = seen.item.count();
     if !wanted.takes(count) {
@@ -112,10 +114,10 @@ fn misnamed(
     Ok(Some(format!(in alloc; "{opening} {said}, {names} wanted, as many as names (911 1)\n")?))
 }
 
-/// The first number of the first item of a kind.
-fn first_number(source: &Source<'_>, key: Key) -> Option<u32> {
+/// The first number of the first item in a slot.
+fn first_number(source: &Source<'_>, slot: Slot) -> Option<u32> {
     for item in source.items() {
-        if item.key() == Some(key) {
+        if item.is(slot) {
             return item.word(1).number();
         }
     }
@@ -154,9 +156,6 @@ fn sum_of(item: &Item<'_>) -> u64 {
     sum
 }
 
-/// The most that the targets of an assortment may come to.
-const MOST_TARGETS: u64 = 1_000_000_000;
-
 /// Says that the targets of an assortment are too great together.
 pub(crate) fn too_great(
     alloc: Global,
@@ -164,9 +163,11 @@ pub(crate) fn too_great(
     seen: &Seen<'_>,
 ) -> Result<Option<String>, AllocError> {
     let sum = sum_of(&seen.item);
-    if sum <= MOST_TARGETS {
+    if sum <= MOST_TARGETS_TOGETHER {
         return Ok(None);
     }
     let opening = seen.opening(source, seen.item.at);
-    Ok(Some(format!(in alloc; "{opening} {sum} together, at most {MOST_TARGETS} wanted\n")?))
+    Ok(Some(format!(in alloc;
+        "{opening} {sum} together, at most {MOST_TARGETS_TOGETHER} wanted\n"
+    )?))
 }

@@ -4,10 +4,11 @@ use crate::form::{Form, Seen};
 use crate::item::Key;
 use crate::numbers::{no_number, out_of_order, out_of_range};
 use crate::placing::{headless, missing, other_kind, twice};
-use crate::rows::{APT, LENGTHS, STM, TARGETS, row_of};
+use crate::rows::key_of;
 use crate::source::Source;
 use crate::told::Told;
 use crate::whose::Kind;
+use buck_apt::slots::{LENGTHS, TARGETS};
 use std::alloc::{AllocError, Global};
 
 /// What is wrong with an item, where it is.
@@ -19,7 +20,7 @@ fn complaint(
     told: Told<'_>,
 ) -> Result<Option<String>, AllocError> {
     match told.at(0) {
-        5 => no_number(alloc, source, seen, told.place(3)),
+        5 => no_number(alloc, source, seen),
         6 => out_of_range(alloc, source, seen),
         7 => out_of_order(alloc, form, source, seen),
         8 => miscounted(alloc, form, source, seen),
@@ -43,7 +44,7 @@ fn first_wrong(
             continue;
         };
         open = form.group_after(open, item, row);
-        if row.key != key {
+        if key_of(row) != key {
             continue;
         }
         let seen = Seen {
@@ -67,7 +68,7 @@ fn of_items(
     key: Key,
     told: Told<'_>,
 ) -> Result<Option<String>, AllocError> {
-    let Some(row) = row_of(form.rows, key) else {
+    let Some(row) = form.row_of(key) else {
         return Ok(None);
     };
     match told.at(0) {
@@ -87,8 +88,8 @@ pub(crate) fn reason(
     match told.at(0) {
         1 => headless(alloc, source, told.place(1)),
         2 => other_kind(alloc, form, source),
-        9 => of_items(alloc, form, source, LENGTHS, told),
-        10 => of_items(alloc, form, source, TARGETS, told),
+        9 => of_items(alloc, form, source, Key::of(LENGTHS), told),
+        10 => of_items(alloc, form, source, Key::of(TARGETS), told),
         _ => match told.key() {
             Some(key) => of_items(alloc, form, source, key, told),
             None => Ok(None),
@@ -105,7 +106,7 @@ pub fn apt_reason(
 ) -> Result<Option<String>, AllocError> {
     let form = Form {
         name: "APT",
-        rows: &APT,
+        rows: [&buck_apt::ITEMS, &[]],
         kind: Kind::Assortment,
     };
     reason(alloc, &form, source, Told(fault))
@@ -119,7 +120,7 @@ pub fn stm_reason(
 ) -> Result<Option<String>, AllocError> {
     let form = Form {
         name: "STM",
-        rows: &STM,
+        rows: [&buck_stem::ITEMS, &[]],
         kind: Kind::Stem,
     };
     reason(alloc, &form, source, Told(fault))

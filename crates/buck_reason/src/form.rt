@@ -1,8 +1,9 @@
 //! Files whose items stand in groups: instructions and stem files.
 use crate::item::{Item, Key};
-use crate::rows::{Level, Row, Tag, row_of};
+use crate::rows::{Tag, key_of, row_of};
 use crate::source::{Here, Source};
 use crate::whose::{Group, Kind, Whose};
+use buck_record::{Described, Level, Slot};
 use std::fmt;
 
 /// A kind of file whose items stand in groups.
@@ -10,7 +11,8 @@ use std::fmt;
 pub(crate) struct Form {
     /// What its first item says.
     pub(crate) name: &'static str,
-    pub(crate) rows: &'static [Row],
+    /// Its items, and those that stand in it too.
+    pub(crate) rows: [&'static [Described]; 2],
     pub(crate) kind: Kind,
 }
 
@@ -18,7 +20,7 @@ pub(crate) struct Form {
 #[derive(Clone, Copy)]
 pub(crate) struct Seen<'a> {
     pub(crate) item: Item<'a>,
-    pub(crate) row: &'static Row,
+    pub(crate) row: &'static Described,
     pub(crate) whose: Whose<'a>,
 }
 
@@ -26,7 +28,7 @@ pub(crate) struct Seen<'a> {
 #[derive(Clone, Copy)]
 pub(crate) struct Opening<'a> {
     pub(crate) here: Here<'a>,
-    pub(crate) row: &'static Row,
+    pub(crate) row: &'static Described,
     pub(crate) whose: Whose<'a>,
 }
 
@@ -49,8 +51,17 @@ impl<'a> Seen<'a> {
 
 impl Form {
     /// The row of an item, if it has one.
-    pub(crate) fn row(&self, item: &Item<'_>) -> Option<&'static Row> {
-        row_of(self.rows, item.key()?)
+    pub(crate) fn row(&self, item: &Item<'_>) -> Option<&'static Described> {
+        self.row_of(item.key()?)
+    }
+
+    /// The row of a key, if there is one.
+    pub(crate) fn row_of(&self, key: Key) -> Option<&'static Described> {
+        let [own, more] = self.rows;
+        match row_of(own, key) {
+            Some(row) => Some(row),
+            None => row_of(more, key),
+        }
     }
 
     /// The group that stands open behind an item, where one stood open before it.
@@ -58,7 +69,7 @@ impl Form {
         &self,
         open: Option<Group<'a>>,
         item: Item<'a>,
-        row: &Row,
+        row: &Described,
     ) -> Option<Group<'a>> {
         if row.level != Level::Opener {
             return open;
@@ -68,15 +79,18 @@ impl Form {
             None => 0,
         };
         Some(Group {
+            kind: self.kind,
             place,
             opener: item,
         })
     }
 
     /// Whose an item is, where this group stands open.
-    pub(crate) fn whose<'a>(&self, open: Option<Group<'a>>, row: &Row) -> Whose<'a> {
-        let group = if row.level == Level::Head { None } else { open };
-        Whose(self.kind, group)
+    pub(crate) fn whose<'a>(&self, open: Option<Group<'a>>, row: &Described) -> Whose<'a> {
+        match open {
+            Some(group) if row.level != Level::Head => Whose::Of(group),
+            _ => Whose::Nobody,
+        }
     }
 }
 
@@ -85,7 +99,7 @@ pub(crate) fn member<'a>(
     form: &Form,
     source: &Source<'a>,
     opener: &Item<'a>,
-    key: Key,
+    slot: Slot,
 ) -> Option<Item<'a>> {
     for item in source.items_after(opener) {
         let Some(row) = form.row(&item) else {
@@ -94,7 +108,7 @@ pub(crate) fn member<'a>(
         if row.level == Level::Opener {
             return None;
         }
-        if row.key == key {
+        if key_of(row).is(slot) {
             return Some(item);
         }
     }
@@ -106,8 +120,10 @@ pub(crate) fn sibling<'a>(
     form: &Form,
     source: &Source<'a>,
     seen: &Seen<'a>,
-    key: Key,
+    slot: Slot,
 ) -> Option<Item<'a>> {
-    let Whose(_, group) = seen.whose;
-    member(form, source, &group?.opener, key)
+    match seen.whose {
+        Whose::Of(group) => member(form, source, &group.opener, slot),
+        _ => None,
+    }
 }

@@ -2,13 +2,28 @@
 ghost use Rattle.std.specs.Prelude.{◌<◌, length, IfSome};
 ghost use Rattle.std.specs.Iterator.{at_most};
 
-use buck_record::number;
+use buck_record::{Slot, number};
 
 /// The number and the kind of an item.
 #[derive(Clone, Copy, Debug, PartialEq, Eq)]
 pub struct Key {
     pub number: u16,
     pub kind: u16,
+}
+
+impl Key {
+    /// The head of a slot.
+    pub fn of(slot: Slot) -> Key {
+        Key {
+            number: slot.number,
+            kind: slot.kind,
+        }
+    }
+
+    /// Whether an item with this head stands in a slot.
+    pub fn is(self, slot: Slot) -> bool {
+        self.number == slot.number && self.kind == slot.kind
+    }
 }
 
 fn is_white(byte: u8) -> bool {
@@ -129,6 +144,14 @@ impl<'a> Item<'a> {
         Some(Key { number, kind })
     }
 
+    /// Whether it stands in a slot.
+    pub fn is(&self, slot: Slot) -> bool {
+        match self.key() {
+            Some(key) => key.is(slot),
+            None => false,
+        }
+    }
+
     /// The words behind the head.
     pub fn words(&self) -> Words<'a> {
         let mut words = self.all_words();
@@ -170,14 +193,16 @@ impl<'a> Item<'a> {
         count
     }
 
-    /// Whether each word behind the head is a number.
-    pub fn has_numbers(&self) -> bool {
+    /// The place of the first word behind the head that is no number, counted from 1, if there is one.
+    pub fn wrong_place(&self) -> Option<usize> {
+        let mut at = 1usize;
         for word in self.words() {
             if word.number().is_none() {
-                return false;
+                return Some(at);
             }
+            at = at.saturating_add(1);
         }
-        true
+        None
     }
 }
 

@@ -1,46 +1,42 @@
 //! Why a journal is refused.
+use crate::counts::Wanted;
+use crate::form::Seen;
 use crate::item::{Item, Key};
-use crate::numbers::first_fallen;
+use crate::numbers::{no_number, out_of_range, rising_text};
 use crate::placing::headless;
-use crate::rows::{CUT, DEMAND, JOURNAL, Row, SHEET, Tag, WORTH, row_of};
+use crate::rows::{Tag, key_of, row_of};
 use crate::shown::{Quoted, Several};
 use crate::source::Source;
 use crate::told::Told;
+use crate::whose::Whose;
+use buck_book::MOST_POSTINGS;
+use buck_journal::ITEMS;
+use buck_journal::slots::{CUT, DEMAND, SHEET, WORTH};
+use buck_record::{Described, Level, Order, Slot};
 use std::alloc::{AllocError, Global};
 use std::fmt;
 
-/// The items of a cut behind its first.
-const OF_CUT: [Key; 5] = [
-    Key {
-        number: 981,
-        kind: 2,
-    },
-    Key {
-        number: 981,
-        kind: 3,
-    },
-    Key {
-        number: 981,
-        kind: 4,
-    },
-    Key {
-        number: 981,
-        kind: 5,
-    },
-    WORTH,
-];
-
-/// The items of a demand behind its first.
-const OF_DEMAND: [Key; 1] = [Key {
-    number: 982,
-    kind: 2,
-}];
+/// The items of a posting behind its first, which has this head.
+fn members_of(key: Key) -> &'static [Described] {
+    let mut rest: &'static [Described] = &ITEMS;
+    for row in &ITEMS {
+        let [_, behind @ ..] = rest else {
+            break;
+        };
+        rest = behind;
+        if key_of(row) == key {
+            break;
+        }
+    }
+    let members = rest.iter().position(|row| row.level != Level::Member);
+    &rest[..members.unwrap_or(rest.len())]
+}
 
 /// What may stand at a place of a journal.
 #[derive(Clone, Copy)]
 struct Due {
     /// The items that the posting which stands open still lacks.
-    lacks: &'static [Key],
+    lacks: &'static [Described],
     /// How many postings were ended.
     postings: usize,
     /// Whether there was none yet.
@@ -69,9 +65,9 @@ impl Due {
                 },
                 in_sheets: self.in_sheets,
             },
-            [] if key == SHEET => self,
+            [] if key.is(SHEET) => self,
             [] => Due {
-                lacks: if key == CUT { &OF_CUT } else { &OF_DEMAND },
+                lacks: members_of(key),
                 postings: self.postings,
                 in_sheets: false,
             },
@@ -79,13 +75,13 @@ impl Due {
     }
 }
 
-/// An item by its name.
+/// The item of a slot by its name.
 #[derive(Clone, Copy)]
-struct Named(Key);
+struct Named(Slot);
 
 impl fmt::Display for Named {
     fn fmt<W: fmt::Write>(&self, f: &mut fmt::Formatter<W>) -> fmt::Result {
-        match row_of(&JOURNAL, self.0) {
+        match row_of(&ITEMS, Key::of(self.0)) {
             Some(row) => write!(f, "{}", Tag(row)),
             None => Ok(()),
         }
@@ -95,7 +91,7 @@ impl fmt::Display for Named {
 impl fmt::Display for Due {
     fn fmt<W: fmt::Write>(&self, f: &mut fmt::Formatter<W>) -> fmt::Result {
         match self.lacks {
-            [key, ..] => write!(f, "{} wanted", Named(*key)),
+            [row, ..] => write!(f, "{} wanted", Tag(row)),
             [] if self.in_sheets => write!(
                 f,
                 "{} or {} or {} wanted",
@@ -154,23 +150,6 @@ fn found_at<'a>(source: &Source<'a>, place: usize) -> Found<'a> {
     Found { item: None, due }
 }
 
-/// The name of an item, and in which posting it is.
-#[derive(Clone, Copy)]
-struct Opening<'a> {
-    row: &'static Row,
-    due: &'a Due,
-}
-
-impl fmt::Display for Opening<'_> {
-    fn fmt<W: fmt::Write>(&self, f: &mut fmt::Formatter<W>) -> fmt::Result {
-        if self.row.key == SHEET {
-            return write!(f, "{}:", Tag(self.row));
-        }
-        let posting = self.due.postings;
-        write!(f, "{} of posting {posting}:", Tag(self.row))
-    }
-}
-
 /// Says that a file is no journal.
 fn no_journal(alloc: Global, source: &Source<'_>) -> Result<Option<String>, AllocError> {
     for item in source.items() {
@@ -219,118 +198,53 @@ fn misplaced(
     )?))
 }
 
-/// The place of the first word that is no number, counted from 1.
-fn first_wrong_word(item: &Item<'_>) -> usize {
-    let mut place = 1usize;
-    for word in item.words() {
-        if word.number().is_none() {
-            return place;
-        }
-        place = place.saturating_add(1);
-    }
-    place
-}
-
-/// Says that a word is no number.
-fn no_number(
+/// Says that the worth is no number.
+fn worthless(
     alloc: Global,
     source: &Source<'_>,
-    item: &Item<'_>,
-    opening: Opening<'_>,
+    seen: &Seen<'_>,
 ) -> Result<Option<String>, AllocError> {
-    if opening.row.key == WORTH {
-        return Ok(Some(format!(in alloc;
-            "{}: {opening} {}, one number wanted\n",
-            source.here(item.at),
-            Quoted(item.rest())
-        )?));
-    }
-    let place = first_wrong_word(item);
-    let word = item.word(place);
-    let most = u32::MAX;
     Ok(Some(format!(in alloc;
-        "{}: {opening} {} at place {place}, digits alone wanted, at most {most}\n",
-        source.here(word.at),
-        Quoted(word.text)
+        "{} {}, one number wanted\n",
+        seen.opening(source, seen.item.at),
+        Quoted(seen.item.rest())
     )?))
 }
-
-/// How many numbers an item of a journal must have.
-fn wanted(key: Key) -> &'static str {
-    match (key.number, key.kind) {
-        (971, _) | (982, 2) => "at most 16384",
-        (981, 1) | (982, 1) => "3",
-        (981, 2) => "2",
-        (981, 3) => "1 to 401",
-        (981, 4) => "an even count up to 200",
-        _ => "three for each log, at most 240,",
-    }
-}
-
-/// How many numbers begin a posting.
-const CALL: usize = 3;
 
 /// Says that an item has too few or too many numbers, or is one posting too many.
 fn miscounted(
     alloc: Global,
     source: &Source<'_>,
-    item: &Item<'_>,
-    opening: Opening<'_>,
+    seen: &Seen<'_>,
 ) -> Result<Option<String>, AllocError> {
-    let here = source.here(item.at);
-    let key = opening.row.key;
+    let opening = seen.opening(source, seen.item.at);
+    let Seen { item, row, .. } = *seen;
     let count = item.count();
-    if (key == CUT || key == DEMAND) && count == CALL {
-        return Ok(Some(format!(in alloc; "{here}: {opening} at most 1000000 postings wanted\n")?));
+    if row.level == Level::Opener && count == row.slots.len() {
+        return Ok(Some(format!(in alloc; "{opening} at most {MOST_POSTINGS} postings wanted\n")?));
     }
-    Ok(Some(format!(in alloc;
-        "{here}: {opening} {}, {} wanted\n",
-        Several(count, "number"),
-        wanted(key)
-    )?))
-}
-
-/// Says that a number is out of its range, or isn't above the one before.
-fn out_of_range(
-    alloc: Global,
-    source: &Source<'_>,
-    item: &Item<'_>,
-    opening: Opening<'_>,
-) -> Result<Option<String>, AllocError> {
-    let mut place = 1usize;
-    for word in item.words() {
-        let range = opening.row.range(place);
-        let value = word.number().unwrap_or(0);
-        if value < range.least || range.most < value {
-            let least = range.least;
-            let most = range.most;
-            return Ok(Some(format!(in alloc;
-                "{}: {opening} {value} at place {place}, {least} to {most} wanted\n",
-                source.here(word.at)
-            )?));
-        }
-        place = place.saturating_add(1);
-    }
-    fallen_text(alloc, source, item, opening)
-}
-
-/// Says that a zone doesn't start behind the one before.
-fn fallen_text(
-    alloc: Global,
-    source: &Source<'_>,
-    item: &Item<'_>,
-    opening: Opening<'_>,
-) -> Result<Option<String>, AllocError> {
-    let Some(found) = first_fallen(item, 2) else {
-        return Ok(None);
+    let wanted = Wanted {
+        row,
+        rows: 0,
+        columns: 0,
     };
-    let value = found.value;
-    let place = found.place;
-    let before = found.before;
-    Ok(Some(format!(in alloc;
-        "{}: {opening} {value} at place {place}, more than {before} wanted\n",
-        source.here(found.at)
-    )?))
+    Ok(Some(format!(in alloc; "{opening} {}, {wanted}\n", Several(count, "number"))?))
+}
+
+/// Says that a number is out of its range, or that a zone doesn't start behind the one before.
+fn outside(
+    alloc: Global,
+    source: &Source<'_>,
+    seen: &Seen<'_>,
+) -> Result<Option<String>, AllocError> {
+    let said = out_of_range(alloc, source, seen)?;
+    if said.is_some() {
+        return Ok(said);
+    }
+    match seen.row.order {
+        Order::Rising(step) => rising_text(alloc, source, seen, step),
+        _ => Ok(None),
+    }
 }
 
 /// What is wrong with an item that stands in its place.
@@ -346,15 +260,20 @@ fn complaint(
     let Some(key) = item.key() else {
         return Ok(None);
     };
-    let Some(row) = row_of(&JOURNAL, key) else {
+    let Some(row) = row_of(&ITEMS, key) else {
         return Ok(None);
     };
-    let due = &found.due;
-    let opening = Opening { row, due };
+    let whose = if row.level == Level::Head {
+        Whose::Nobody
+    } else {
+        Whose::Posting(found.due.postings)
+    };
+    let seen = Seen { item, row, whose };
     match number {
-        4 => no_number(alloc, source, &item, opening),
-        5 => miscounted(alloc, source, &item, opening),
-        6 => out_of_range(alloc, source, &item, opening),
+        4 if key.is(WORTH) => worthless(alloc, source, &seen),
+        4 => no_number(alloc, source, &seen),
+        5 => miscounted(alloc, source, &seen),
+        6 => outside(alloc, source, &seen),
         _ => Ok(None),
     }
 }

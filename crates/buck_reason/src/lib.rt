@@ -3,7 +3,7 @@
 //! [`apt_reason`], [`stm_reason`] and [`journal_reason`] say it of the three kinds of file, and [`request_reason`] of a
 //! request, from the bytes and the numbers of the fault: in which line it is, of which item, and of whose. They take
 //! any bytes and any numbers.
-//! The items of a file with their names and ranges stand in one table for each kind.
+//! The items of a file with their names and ranges stand in the crate of its form; those of a request alone, `REQUEST`.
 #![tactic(auto)]
 
 mod counts;
@@ -25,6 +25,6 @@ pub use files::{apt_reason, stm_reason};
 pub use item::{Item, Items, Key, Word, Words};
 pub use journal::journal_reason;
 pub use requests::request_reason;
-pub use rows::NEW_TARGETS;
+pub use rows::{REQUEST, key_of};
 pub use shown::{Quoted, Several, Shown};
 pub use source::{Here, Source};

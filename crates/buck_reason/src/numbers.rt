@@ -1,9 +1,11 @@
 //! Numbers that are none, out of range or out of order.
 use crate::form::{Form, Seen, sibling};
 use crate::item::Item;
-use crate::rows::{LOWER, NAME, Order};
+use crate::rows::range_at;
 use crate::shown::Quoted;
 use crate::source::Source;
+use buck_apt::slots::DIAMETERS;
+use buck_record::{Count, Order};
 use std::alloc::{AllocError, Global};
 
 /// Says that a word is no number.
@@ -11,11 +13,10 @@ pub(crate) fn no_number(
     alloc: Global,
     source: &Source<'_>,
     seen: &Seen<'_>,
-    place: usize,
 ) -> Result<Option<String>, AllocError> {
-    if seen.item.has_numbers() {
+    let Some(place) = seen.item.wrong_place() else {
         return Ok(None);
-    }
+    };
     let word = seen.item.word(place);
     let opening = seen.opening(source, word.at);
     let most = u32::MAX;
@@ -24,9 +25,6 @@ pub(crate) fn no_number(
         Quoted(word.text)
     )?))
 }
-
-/// The most bytes of a name.
-const LONGEST_NAME: usize = 32;
 
 /// Whether a byte can't stand in a name.
 fn is_no_letter(byte: u8) -> bool {
@@ -38,20 +36,21 @@ fn wrong_name(
     alloc: Global,
     source: &Source<'_>,
     seen: &Seen<'_>,
+    most: usize,
 ) -> Result<Option<String>, AllocError> {
     let name = seen.item.rest();
     let opening = seen.opening(source, seen.item.at);
     let length = name.len();
-    if length < 1 || LONGEST_NAME < length {
+    if length < 1 || most < length {
         return Ok(Some(format!(in alloc;
-            "{opening} {length} bytes, 1 to 32 bytes, none of them a control byte, | or ~ wanted\n"
+            "{opening} {length} bytes, 1 to {most} bytes, none of them a control byte, | or ~ wanted\n"
         )?));
     }
     for byte in name {
         let byte = *byte;
         if is_no_letter(byte) {
             return Ok(Some(format!(in alloc;
-                "{opening} byte {byte}, 1 to 32 bytes, none of them a control byte, | or ~ wanted\n"
+                "{opening} byte {byte}, 1 to {most} bytes, none of them a control byte, | or ~ wanted\n"
             )?));
         }
     }
@@ -64,17 +63,15 @@ pub(crate) fn out_of_range(
     source: &Source<'_>,
     seen: &Seen<'_>,
 ) -> Result<Option<String>, AllocError> {
-    if seen.row.key == NAME {
-        return wrong_name(alloc, source, seen);
+    if let Count::Text(most) = seen.row.count {
+        return wrong_name(alloc, source, seen, most);
     }
     let mut place = 1usize;
     for word in seen.item.words() {
-        let range = seen.row.range(place);
+        let (least, most) = range_at(seen.row, place);
         let value = word.number().unwrap_or(0);
-        if value < range.least || range.most < value {
+        if value < least || most < value {
             let opening = seen.opening(source, word.at);
-            let least = range.least;
-            let most = range.most;
             return Ok(Some(format!(in alloc;
                 "{opening} {value} at place {place}, {least} to {most} wanted\n"
             )?));
@@ -105,15 +102,15 @@ fn smallest(item: &Item<'_>) -> Option<u32> {
 
 /// A number that isn't above one before it, and where it stands.
 #[derive(Clone, Copy)]
-pub(crate) struct Fallen {
-    pub(crate) value: u32,
-    pub(crate) place: usize,
-    pub(crate) before: u32,
-    pub(crate) at: usize,
+struct Fallen {
+    value: u32,
+    place: usize,
+    before: u32,
+    at: usize,
 }
 
 /// The first number that isn't above the one that stands so many before it, of the first and each so many after it.
-pub(crate) fn first_fallen(item: &Item<'_>, step: usize) -> Option<Fallen> {
+fn first_fallen(item: &Item<'_>, step: usize) -> Option<Fallen> {
     let mut place = 1usize;
     let mut before: Option<u32> = None;
     for word in item.words() {
@@ -144,13 +141,14 @@ pub(crate) fn out_of_order(
     seen: &Seen<'_>,
 ) -> Result<Option<String>, AllocError> {
     match seen.row.order {
-        Order::Free => Ok(None),
+        Order::Free | Order::First => Ok(None),
         Order::Rising(step) => rising_text(alloc, source, seen, step),
         Order::AboveLower => above_text(alloc, form, source, seen),
     }
 }
 
-fn rising_text(
+/// Says that a number isn't above the one that stands so many before it.
+pub(crate) fn rising_text(
     alloc: Global,
     source: &Source<'_>,
     seen: &Seen<'_>,
@@ -172,7 +170,7 @@ fn above_text(
     source: &Source<'_>,
     seen: &Seen<'_>,
 ) -> Result<Option<String>, AllocError> {
-    let Some(lower) = sibling(form, source, seen, LOWER) else {
+    let Some(lower) = sibling(form, source, seen, DIAMETERS) else {
         return Ok(None);
     };
     let Some(most) = greatest(&lower) else {

@@ -1,14 +1,16 @@
 //! Items of a file by their places.
-use crate::item::{Item, Key};
-use crate::rows::{CUT, DEMAND, SHEET, STEM};
+use crate::item::Item;
 use crate::source::Source;
+use buck_journal::slots::{CUT, DEMAND, SHEET};
+use buck_record::Slot;
+use buck_stem::slots::STEM;
 
 impl<'a> Source<'a> {
     /// The item of a kind that has so many of its kind before it, if there is one.
-    fn nth_of(&self, key: Key, before: usize) -> Option<Item<'a>> {
+    fn nth_of(&self, slot: Slot, before: usize) -> Option<Item<'a>> {
         let mut place = 0usize;
         for item in self.items() {
-            if item.key() != Some(key) {
+            if !item.is(slot) {
                 continue;
             }
             if place == before {
@@ -33,7 +35,7 @@ impl<'a> Source<'a> {
     pub fn stems(&self) -> usize {
         let mut stems = 0usize;
         for item in self.items() {
-            if item.key() == Some(STEM) {
+            if item.is(STEM) {
                 stems = stems.saturating_add(1);
             }
         }
@@ -48,7 +50,7 @@ impl<'a> Source<'a> {
             let Some(key) = item.key() else {
                 continue;
             };
-            if key == CUT || key == DEMAND {
+            if key.is(CUT) || key.is(DEMAND) {
                 begun = begun.saturating_add(1);
                 parts = 0;
             }

@@ -1,10 +1,12 @@
 //! Items that are missing, that stand twice, or that have no head.
 use crate::form::{Form, Opening, member};
 use crate::item::Item;
-use crate::rows::{FILE, Level, Row, Tag};
+use crate::rows::{Tag, key_of};
 use crate::shown::Quoted;
 use crate::source::{Here, Source};
 use crate::whose::Whose;
+use buck_record::rules::FILE;
+use buck_record::{Described, Level};
 use std::alloc::{AllocError, Global};
 
 /// Says that a piece has no head.
@@ -51,7 +53,7 @@ pub(crate) fn other_kind(
 ) -> Result<Option<String>, AllocError> {
     let name = form.name;
     for item in source.items() {
-        if item.key() != Some(FILE) {
+        if !item.is(FILE) {
             continue;
         }
         return Ok(Some(format!(in alloc;
@@ -70,7 +72,7 @@ pub(crate) fn other_kind(
 fn not_there(
     alloc: Global,
     here: Here<'_>,
-    row: &'static Row,
+    row: &'static Described,
     whose: Whose<'_>,
 ) -> Result<Option<String>, AllocError> {
     let opening = Opening { here, row, whose };
@@ -82,7 +84,7 @@ fn unopened(
     alloc: Global,
     form: &Form,
     source: &Source<'_>,
-    row: &'static Row,
+    row: &'static Described,
 ) -> Result<Option<String>, AllocError> {
     for item in source.items() {
         let Some(found) = form.row(&item) else {
@@ -100,7 +102,15 @@ fn unopened(
             )?));
         }
     }
-    not_there(alloc, source.whole(), row, Whose(form.kind, None))
+    not_there(alloc, source.whole(), row, Whose::Nobody)
+}
+
+/// Whether the group that an item begins has one that is described so.
+fn has_member(form: &Form, source: &Source<'_>, opener: &Item<'_>, row: &Described) -> bool {
+    match row.slots.first() {
+        Some(slot) => member(form, source, opener, *slot).is_some(),
+        None => false,
+    }
 }
 
 /// Says that an item is missing in the first group that doesn't have it.
@@ -108,7 +118,7 @@ fn missing_member(
     alloc: Global,
     form: &Form,
     source: &Source<'_>,
-    row: &'static Row,
+    row: &'static Described,
 ) -> Result<Option<String>, AllocError> {
     let mut open = None;
     for item in source.items() {
@@ -116,8 +126,8 @@ fn missing_member(
             continue;
         };
         open = form.group_after(open, item, found);
-        if found.level == Level::Opener && member(form, source, &item, row.key).is_none() {
-            return not_there(alloc, source.here(item.at), row, Whose(form.kind, open));
+        if found.level == Level::Opener && !has_member(form, source, &item, row) {
+            return not_there(alloc, source.here(item.at), row, form.whose(open, row));
         }
     }
     Ok(None)
@@ -128,10 +138,10 @@ pub(crate) fn missing(
     alloc: Global,
     form: &Form,
     source: &Source<'_>,
-    row: &'static Row,
+    row: &'static Described,
 ) -> Result<Option<String>, AllocError> {
     match row.level {
-        Level::Head => not_there(alloc, source.whole(), row, Whose(form.kind, None)),
+        Level::Head => not_there(alloc, source.whole(), row, Whose::Nobody),
         Level::Opener => unopened(alloc, form, source, row),
         Level::Member => missing_member(alloc, form, source, row),
     }
@@ -155,7 +165,7 @@ pub(crate) fn twice(
     alloc: Global,
     form: &Form,
     source: &Source<'_>,
-    row: &'static Row,
+    row: &'static Described,
 ) -> Result<Option<String>, AllocError> {
     let mut open = None;
     let mut first: Option<Item<'_>> = None;
@@ -167,7 +177,7 @@ pub(crate) fn twice(
         if found.level == Level::Opener && row.level == Level::Member {
             first = None;
         }
-        if found.key != row.key {
+        if key_of(found) != key_of(row) {
             continue;
         }
         if let Some(before) = first {

@@ -3,10 +3,13 @@ use crate::counts::count_of;
 use crate::files::reason;
 use crate::form::Form;
 use crate::item::Key;
-use crate::rows::{HARVESTER, Level, NEW_TARGETS, REQUEST, STEM, Tag, row_of};
+use crate::rows::{HARVESTER, NEW_TARGETS, REQUEST, Tag};
 use crate::source::Source;
 use crate::told::Told;
 use crate::whose::Kind;
+use buck_record::Level;
+use buck_stem::ITEMS;
+use buck_stem::slots::STEM;
 use std::alloc::{AllocError, Global};
 
 /// Whether an item of a stem stands before the stem's number.
@@ -27,11 +30,12 @@ fn is_unopened(form: &Form, source: &Source<'_>) -> bool {
 /// Says something of an item that a request has.
 fn of_item(
     alloc: Global,
+    form: &Form,
     source: &Source<'_>,
     key: Key,
     words: &str,
 ) -> Result<Option<String>, AllocError> {
-    let Some(row) = row_of(&REQUEST, key) else {
+    let Some(row) = form.row_of(key) else {
         return Ok(None);
     };
     Ok(Some(format!(in alloc; "{}: {}: {words}\n", source.whole(), Tag(row))?))
@@ -39,7 +43,7 @@ fn of_item(
 
 /// Whether it is refused since it asks for two things.
 fn is_second(source: &Source<'_>, key: Key) -> bool {
-    key == STEM || (key == NEW_TARGETS && count_of(source, NEW_TARGETS) == 1)
+    key.is(STEM) || (key.is(NEW_TARGETS) && count_of(source, NEW_TARGETS) == 1)
 }
 
 /// Why a request is refused, in lines of text, given the numbers of its fault: that of the kind of fault, and the
@@ -51,7 +55,7 @@ pub fn request_reason(
 ) -> Result<Option<String>, AllocError> {
     let form = Form {
         name: "",
-        rows: &REQUEST,
+        rows: [&REQUEST, &ITEMS],
         kind: Kind::Request,
     };
     let told = Told(fault);
@@ -59,21 +63,23 @@ pub fn request_reason(
         return reason(alloc, &form, source, told);
     };
     match told.at(0) {
-        3 if key == STEM && !is_unopened(&form, source) => Ok(Some(format!(in alloc;
+        3 if key.is(STEM) && !is_unopened(&form, source) => Ok(Some(format!(in alloc;
             "{}: a stem (951 1 and more) or new targets (982 2) wanted\n",
             source.whole()
         )?)),
         4 if is_second(source, key) => {
             of_item(
                 alloc,
+                &form,
                 source,
                 key,
                 "a second request in one line, one wanted",
             )
         }
-        7 if key == HARVESTER => {
+        7 if key.is(HARVESTER) => {
             of_item(
                 alloc,
+                &form,
                 source,
                 key,
                 "stands after other items, before them wanted",

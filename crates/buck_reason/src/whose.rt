@@ -18,6 +18,7 @@ pub enum Kind {
 /// An assortment or a stem of a file.
 #[derive(Clone, Copy)]
 pub struct Group<'a> {
+    pub kind: Kind,
     /// How many stand before it.
     pub place: usize,
     /// The item that it begins with.
@@ -32,19 +33,24 @@ fn first_bytes(number: &[u8]) -> &[u8] {
     }
 }
 
-/// Whose an item is, where it is one's: ` of assortment 1 "saw"`, ` of stem 412 (place 3)`.
+/// Whose an item is, where it is one's: ` of assortment 1 "saw"`, ` of stem 412 (place 3)`, ` of posting 4`.
 #[derive(Clone, Copy)]
-pub struct Whose<'a>(pub Kind, pub Option<Group<'a>>);
+pub enum Whose<'a> {
+    Nobody,
+    Of(Group<'a>),
+    Posting(usize),
+}
 
 impl fmt::Display for Whose<'_> {
     fn fmt<W: fmt::Write>(&self, f: &mut fmt::Formatter<W>) -> fmt::Result {
-        let Whose(kind, group) = *self;
-        let Some(group) = group else {
-            return Ok(());
+        let group = match *self {
+            Whose::Nobody => return Ok(()),
+            Whose::Posting(posting) => return write!(f, " of posting {posting}"),
+            Whose::Of(group) => group,
         };
         let place = group.place;
         let rest = group.opener.rest();
-        match kind {
+        match group.kind {
             Kind::Assortment => write!(f, " of assortment {place} {}", Quoted(rest)),
             Kind::Stem => {
                 let place = place.saturating_add(1);

@@ -4,13 +4,14 @@
 //! read the rest of an item. [`next_in`] and [`is_done`] go over a file with no list of its items, [`append_numbers`]
 //! reads small numbers in one pass, and [`two_parts`] cuts a file for threads.
 //! [`table`] looks items up by number and kind, [`check`] chains the checks of a reader that stands on this crate,
-//! [`rules`] has what such readers share, and [`laws`] says that what is written is read again. [`FormFault`] is what
+//! [`rules`] has what such readers share, [`Described`] is what is said of an item, and [`laws`] says that what is written is read again. [`FormFault`] is what
 //! their faults have in common, [`Numbered`] what is told of a fault, and [`text`] writes its text. [`put_number`],
 //! [`put_numbers`] and [`put_line`] write.
 #![tactic(auto)]
 
 mod bytes;
 mod checking;
+mod described;
 mod fault;
 mod form;
 mod group;
@@ -25,6 +26,7 @@ mod writing;
 
 pub use bytes::reading::{items, number, numbers, pieces, pieces_at, wide};
 pub use checking::{check, rules, table};
+pub use described::{Count, Described, Level, Order};
 pub use fault::RecordFault;
 pub use form::FormFault;
 pub use group::Group;

@@ -1,4 +1,5 @@
 //! The stem file: from its items to stems, or the first refusal.
+pub(crate) mod described;
 pub(crate) mod draft;
 pub(crate) mod fault;
 pub(crate) mod lines;

@@ -10,6 +10,7 @@ mod same;
 mod stem;
 
 pub use buck_record::Memory;
+pub use file::described::ITEMS;
 pub use file::fault::StmFault;
 pub use file::parallel::read_stm_in_parts;
 pub use file::reading::read_stm;

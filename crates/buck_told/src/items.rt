@@ -1,230 +1,90 @@
 //! The items of instruction files and stem files, as sentences speak of them.
+use buck_reason::{REQUEST, key_of};
+use buck_record::{Count, Described, Order, Slot};
+use std::fmt;
 
-/// An item of a file, and what is said of it.
-#[derive(Clone, Copy, Drop)]
-pub(crate) struct Item {
-    /// The kind of file that has it: the first word of a fault line.
-    pub(crate) file: &'static str,
-    pub(crate) number: &'static str,
-    pub(crate) kind: &'static str,
-    pub(crate) name: &'static str,
-    /// In which range its numbers must be.
-    pub(crate) range: &'static str,
-    /// In which order they must stand.
-    pub(crate) order: &'static str,
-    /// How many there must be.
-    pub(crate) count: &'static str,
+/// An item of a file, and the part of it that is spoken of, by its name in the table of sentences.
+#[derive(Clone, Copy)]
+pub(crate) struct Part<'a> {
+    pub(crate) item: &'static Described,
+    pub(crate) name: &'a str,
 }
 
-/// The items that have faults.
-pub(crate) static ITEMS: [Item; 22] = [
-    Item {
-        file: "apt",
-        number: "1",
-        kind: "2",
-        name: "kind of file",
-        range: "see the documents",
-        order: "must have each number above the one before",
-        count: "one number",
-    },
-    Item {
-        file: "apt",
-        number: "901",
-        kind: "1",
-        name: "module",
-        range: "10 to 1000",
-        order: "must have each number above the one before",
-        count: "one number",
-    },
-    Item {
-        file: "apt",
-        number: "902",
-        kind: "1",
-        name: "period",
-        range: "1 to 1000",
-        order: "must have each number above the one before",
-        count: "one number",
-    },
-    Item {
-        file: "apt",
-        number: "903",
-        kind: "1",
-        name: "limit",
-        range: "0 to 1000",
-        order: "must have each number above the one before",
-        count: "one number",
-    },
-    Item {
-        file: "apt",
-        number: "910",
-        kind: "1",
-        name: "number of assortments",
-        range: "1 to 16",
-        order: "must have each number above the one before",
-        count: "one number, as great as there are names (911 1)",
-    },
-    Item {
-        file: "apt",
-        number: "911",
-        kind: "1",
-        name: "name",
-        range: "1 to 32 bytes, none of them a control byte, | or ~",
-        order: "must have each number above the one before",
-        count: "one number",
-    },
-    Item {
-        file: "apt",
-        number: "912",
-        kind: "1",
-        name: "species",
-        range: "1 to 255",
-        order: "must have each number above the one before",
-        count: "one number",
-    },
-    Item {
-        file: "apt",
-        number: "913",
-        kind: "1",
-        name: "grades",
-        range: "1 to 8",
-        order: "must have each number above the one before",
-        count: "1 to 8 numbers",
-    },
-    Item {
-        file: "apt",
-        number: "914",
-        kind: "1",
-        name: "price kind",
-        range: "1 to 2",
-        order: "must have each number above the one before",
-        count: "one number",
-    },
-    Item {
-        file: "apt",
-        number: "915",
-        kind: "1",
-        name: "lower diameters",
-        range: "0 to 1500",
-        order: "must have each number above the one before",
-        count: "1 to 32 numbers",
-    },
-    Item {
-        file: "apt",
-        number: "915",
-        kind: "2",
-        name: "upper diameter",
-        range: "1 to 2000",
-        order: "must be above every lower diameter (915 1)",
-        count: "one number",
-    },
-    Item {
-        file: "apt",
-        number: "916",
-        kind: "1",
-        name: "lengths",
-        range: "500 to 30000",
-        order: "must have each number above the one before",
-        count: "1 to 32 numbers",
-    },
-    Item {
-        file: "apt",
-        number: "917",
-        kind: "1",
-        name: "base prices",
-        range: "0 to 10000000",
-        order: "must have each number above the one before",
-        count: "one number for each lower diameter and length",
-    },
-    Item {
-        file: "apt",
-        number: "918",
-        kind: "1",
-        name: "targets",
-        range: "0 to 1000000",
-        order: "must have each number above the one before",
-        count: "one number for each lower diameter and length",
-    },
-    Item {
-        file: "apt",
-        number: "919",
-        kind: "1",
-        name: "trim",
-        range: "0 to 200",
-        order: "must have each number above the one before",
-        count: "one number",
-    },
-    Item {
-        file: "stm",
-        number: "1",
-        kind: "2",
-        name: "kind of file",
-        range: "see the documents",
-        order: "must have each number above the one before",
-        count: "one number",
-    },
-    Item {
-        file: "stm",
-        number: "950",
-        kind: "1",
-        name: "harvester",
-        range: "1 to 64",
-        order: "must stand before the rest of the request",
-        count: "one number",
-    },
-    Item {
-        file: "stm",
-        number: "951",
-        kind: "1",
-        name: "stem number",
-        range: "0 to 4294967295",
-        order: "must have each number above the one before",
-        count: "one number",
-    },
-    Item {
-        file: "stm",
-        number: "952",
-        kind: "1",
-        name: "species",
-        range: "1 to 255",
-        order: "must have each number above the one before",
-        count: "one number",
-    },
-    Item {
-        file: "stm",
-        number: "953",
-        kind: "1",
-        name: "diameters",
-        range: "0 to 1500",
-        order: "must have each number above the one before",
-        count: "1 to 401 numbers",
-    },
-    Item {
-        file: "stm",
-        number: "954",
-        kind: "1",
-        name: "zones",
-        range: "by turns a start of 0 to 40000 and a grade of 1 to 8",
-        order: "must have each start above the one before",
-        count: "at most 200 numbers, by turns a start and a grade",
-    },
-    Item {
-        file: "stm",
-        number: "982",
-        kind: "2",
-        name: "targets",
-        range: "see the documents",
-        order: "must have each number above the one before",
-        count: "one number",
-    },
-];
+/// The item of a kind of file, by its number and its kind. A stem file's may stand in a request alone.
+pub(crate) fn item_of(file: &str, number: u16, kind: u16) -> Option<&'static Described> {
+    let (own, more): (&'static [Described], &'static [Described]) = if file == "stm" {
+        (&buck_stem::ITEMS, &REQUEST)
+    } else {
+        (&buck_apt::ITEMS, &[])
+    };
+    for item in own.iter().chain(more) {
+        let key = key_of(item);
+        if key.number == number && key.kind == kind {
+            return Some(item);
+        }
+    }
+    None
+}
 
-/// What is said of an item where a line speaks of none.
-pub(crate) const NO_ITEM: Item = Item {
-    file: "",
-    number: "",
-    kind: "",
-    name: "",
-    range: "",
-    order: "",
-    count: "",
-};
+impl Part<'_> {
+    /// Whether the item has it: some have no order.
+    pub(crate) fn is_there(&self) -> bool {
+        self.name != "order" || self.item.order != Order::Free
+    }
+
+    /// Writes in which range its numbers must be.
+    fn write_range<W: fmt::Write>(&self, f: &mut fmt::Formatter<W>) -> fmt::Result {
+        match (self.item.count, self.item.slots) {
+            (Count::Any, _) => write!(f, "see the documents"),
+            (Count::Text(most), _) => {
+                write!(f, "1 to {most} bytes, none of them a control byte, | or ~")
+            }
+            (_, [Slot { low, high, .. }]) => write!(f, "{low} to {high}"),
+            (_, [starts, grades, ..]) => write!(
+                f,
+                "by turns a start of {} to {} and a grade of {} to {}",
+                starts.low, starts.high, grades.low, grades.high
+            ),
+            (_, []) => Ok(()),
+        }
+    }
+
+    /// Writes in which order they must stand.
+    fn write_order<W: fmt::Write>(&self, f: &mut fmt::Formatter<W>) -> fmt::Result {
+        match self.item.order {
+            Order::Free => Ok(()),
+            Order::Rising(1) => write!(f, "must have each number above the one before"),
+            Order::Rising(_) => write!(f, "must have each start above the one before"),
+            Order::AboveLower => write!(f, "must be above every lower diameter (915 1)"),
+            Order::First => write!(f, "must stand before the rest of the request"),
+        }
+    }
+
+    /// Writes how many there must be.
+    fn write_count<W: fmt::Write>(&self, f: &mut fmt::Formatter<W>) -> fmt::Result {
+        match self.item.count {
+            Count::Names => write!(f, "one number, as great as there are names (911 1)"),
+            Count::UpTo(most) => write!(f, "1 to {most} numbers"),
+            Count::Pairs(most) => {
+                let most = most.saturating_mul(2);
+                write!(f, "at most {most} numbers, by turns a start and a grade")
+            }
+            Count::Classes => write!(f, "one number for each lower diameter and length"),
+            _ => write!(f, "one number"),
+        }
+    }
+}
+
+impl fmt::Display for Part<'_> {
+    fn fmt<W: fmt::Write>(&self, f: &mut fmt::Formatter<W>) -> fmt::Result {
+        match self.name {
+            "range" => self.write_range(f),
+            "order" => self.write_order(f),
+            "count" => self.write_count(f),
+            _ => {
+                let key = key_of(self.item);
+                write!(f, "Item {} {} ({})", key.number, key.kind, self.item.name)
+            }
+        }
+    }
+}

@@ -6,10 +6,7 @@
 
 mod items;
 mod line;
-mod row;
 mod rows;
-#[cfg(test)]
-mod tests;
 mod told;
 
 pub use told::sentence;

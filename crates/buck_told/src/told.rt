@@ -1,130 +1,121 @@
 //! The sentence of a fault line.
-use crate::items::{ITEMS, Item, NO_ITEM};
+use crate::items::{Part, item_of};
 use crate::line::{is_number, words_of};
-use crate::row::{Part, Row};
-use crate::rows::{ITEM_ROWS, rows_of};
+use crate::rows::{ROWS, Row};
 use std::alloc::{AllocError, Global};
 
-/// Whether a word of a line is the one wanted, where `#` is any number.
-fn is_wanted(wanted: &str, word: &str) -> bool {
-    if wanted == "#" {
-        is_number(word)
-    } else {
-        wanted == word
-    }
+/// A fault line, and the words of the row that it fits.
+#[derive(Clone, Copy)]
+struct Line<'a> {
+    words: &'a [&'a str],
+    row: &'static str,
 }
 
-/// Whether a line has the words of a row.
-fn fits(row: &Row, words: &[&str]) -> bool {
-    if row.line.len() != words.len() {
-        return false;
-    }
-    for k in 0..words.len() {
-        if !is_wanted(row.line[k], words[k]) {
-            return false;
+/// Whether a word of a row stands for any number.
+fn is_letter(word: &str) -> bool {
+    word.len() == 1 && word.bytes().all(|b| b.is_ascii_lowercase())
+}
+
+impl<'a> Line<'a> {
+    /// Whether the line has the words of the row.
+    fn fits(&self) -> bool {
+        let mut rest = self.words;
+        for wanted in self.row.split(' ') {
+            let [word, more @ ..] = rest else {
+                return false;
+            };
+            let is_right = if is_letter(wanted) {
+                is_number(word)
+            } else {
+                wanted == *word
+            };
+            if !is_right {
+                return false;
+            }
+            rest = more;
         }
+        rest.is_empty()
     }
-    true
+
+    /// The word that stands where the row has this one; nothing where it has none.
+    fn word(&self, wanted: &str) -> &'a str {
+        for (of_row, word) in self.row.split(' ').zip(self.words) {
+            if of_row == wanted {
+                return word;
+            }
+        }
+        ""
+    }
+
+    /// Whether it speaks of a stem file.
+    fn is_stm(&self) -> bool {
+        !self.word("stm").is_empty()
+    }
+
+    /// A part of the item that it speaks of, if there is one.
+    fn part<'b>(&self, name: &'b str) -> Option<Part<'b>> {
+        let file = if self.is_stm() { "stm" } else { "apt" };
+        let number = self.word("a").parse::<u16>().ok()?;
+        let kind = self.word("b").parse::<u16>().ok()?;
+        let item = item_of(file, number, kind)?;
+        Some(Part { item, name })
+    }
+
+    /// Puts a part of a sentence, by its name. The answer is whether there is one.
+    fn put(&self, out: &mut String, part: &str) -> Result<bool, AllocError> {
+        match part {
+            "kind" if self.is_stm() => out.push_str("STM")?,
+            "kind" => out.push_str("APT")?,
+            "place" if self.is_stm() => {
+                let file = self.word("n");
+                write!(
+                    out,
+                    "in file {file} after the instruction (with live: in the request)"
+                )?;
+            }
+            "place" => out.push_str("in the instruction file")?,
+            "item" | "range" | "order" | "count" => {
+                let Some(part) = self.part(part) else {
+                    return Ok(false);
+                };
+                write!(out, "{part}")?;
+                return Ok(part.is_there());
+            }
+            _ => out.push_str(self.word(part))?,
+        }
+        Ok(true)
+    }
+
+    /// Its sentence, which is put from these pieces. None where it can't be.
+    fn sentence(&self, alloc: Global, text: &str) -> Result<Option<Vec<u8>>, AllocError> {
+        let mut out = String::new(alloc);
+        for piece in text.split('{') {
+            match piece.split_once('}') {
+                Some((part, rest)) => {
+                    if !self.put(&mut out, part)? {
+                        return Ok(None);
+                    }
+                    out.push_str(rest)?;
+                }
+                None => out.push_str(piece)?,
+            }
+        }
+        Ok(Some(out.into_bytes()))
+    }
 }
 
-/// The first row that a line fits.
-fn row_of<'a>(rows: &'a [Row], words: &[&str]) -> Option<&'a Row> {
-    for row in rows {
-        if fits(row, words) {
-            return Some(row);
+/// The words of a row that a line has, if it has those of one.
+fn fitting(row: &Row, words: &[&str]) -> Option<&'static str> {
+    for line in row.lines {
+        let line = Line {
+            words: &*words,
+            row: line,
+        };
+        if line.fits() {
+            return Some(line.row);
         }
     }
     None
-}
-
-/// The word at a place of a line; nothing where there is none.
-fn word_at<'a>(words: &[&'a str], at: usize) -> &'a str {
-    if at < words.len() { words[at] } else { "" }
-}
-
-/// The number at a place after the word `fault`; nothing where there is none.
-fn number_at<'a>(words: &[&'a str], at: usize) -> &'a str {
-    let fault = if word_at(words, 0) == "stm" { 2 } else { 1 };
-    match at.checked_add(fault) {
-        Some(place) => word_at(words, place),
-        None => "",
-    }
-}
-
-/// The item that a line speaks of.
-fn item_of(words: &[&str]) -> Option<&'static Item> {
-    for item in &ITEMS {
-        if item.file == word_at(words, 0)
-            && item.number == number_at(words, 2)
-            && item.kind == number_at(words, 3)
-        {
-            return Some(item);
-        }
-    }
-    None
-}
-
-/// Puts words to a sentence.
-fn put(out: &mut Vec<u8>, text: &str) -> Result<(), AllocError> {
-    out.extend_from_slice(text.as_bytes())
-}
-
-/// Puts the name of an item, after its number and kind.
-fn put_item(out: &mut Vec<u8>, item: &Item) -> Result<(), AllocError> {
-    put(out, "Item ")?;
-    put(out, item.number)?;
-    put(out, " ")?;
-    put(out, item.kind)?;
-    put(out, " (")?;
-    put(out, item.name)?;
-    put(out, ")")
-}
-
-/// Puts in which file it is.
-fn put_place(out: &mut Vec<u8>, words: &[&str]) -> Result<(), AllocError> {
-    if word_at(words, 0) != "stm" {
-        return put(out, "in the instruction file");
-    }
-    put(out, "in file ")?;
-    put(out, word_at(words, 1))?;
-    put(out, " after the instruction (with live: in the request)")
-}
-
-/// What kind of file it is.
-fn kind_of(words: &[&str]) -> &'static str {
-    if word_at(words, 0) == "stm" {
-        "STM"
-    } else {
-        "APT"
-    }
-}
-
-/// Puts a part of a sentence.
-fn put_part(out: &mut Vec<u8>, words: &[&str], item: &Item, part: Part) -> Result<(), AllocError> {
-    match part {
-        Part::Says(text) => put(out, text),
-        Part::Number(at) => put(out, number_at(words, at)),
-        Part::Place => put_place(out, words),
-        Part::Kind => put(out, kind_of(words)),
-        Part::Item => put_item(out, item),
-        Part::Range => put(out, item.range),
-        Part::Order => put(out, item.order),
-        Part::Count => put(out, item.count),
-    }
-}
-
-/// The sentence that is put from these parts.
-fn put_together(
-    alloc: Global,
-    words: &[&str],
-    item: &Item,
-    parts: &[Part],
-) -> Result<Vec<u8>, AllocError> {
-    let mut out = Vec::new(alloc);
-    for part in parts {
-        put_part(&mut out, words, item, *part)?;
-    }
-    Ok(out)
 }
 
 /// The sentence of a fault line: what is wrong, with the numbers of the line put in, and what to do next. None where
@@ -134,19 +125,10 @@ fn put_together(
 pub fn sentence(alloc: Global, line: &str) -> Result<Option<Vec<u8>>, AllocError> {
     let words = words_of(alloc, line)?;
     let words = words.as_slice();
-    match row_of(rows_of(word_at(words, 0)), words) {
-        Some(row) => Ok(Some(put_together(alloc, words, &NO_ITEM, row.sentence)?)),
-        None => item_sentence(alloc, words),
+    for row in &ROWS {
+        if let Some(found) = fitting(row, words) {
+            return Line { words, row: found }.sentence(alloc, row.sentence);
+        }
     }
-}
-
-/// The sentence of a line that speaks of an item.
-fn item_sentence(alloc: Global, words: &[&str]) -> Result<Option<Vec<u8>>, AllocError> {
-    let Some(row) = row_of(&ITEM_ROWS, words) else {
-        return Ok(None);
-    };
-    let Some(item) = item_of(words) else {
-        return Ok(None);
-    };
-    Ok(Some(put_together(alloc, words, item, row.sentence)?))
+    Ok(None)
 }

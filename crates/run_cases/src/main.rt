@@ -17,7 +17,7 @@ use std::thread::Threads;
 use std::{fs, io};
 
 /// The files of cases, in the order in which they are run.
-const FILES: [&str; 11] = [
+const FILES: [&str; 13] = [
     "instructions_refused",
     "instructions_accepted",
     "instructions_cut_short",
@@ -29,6 +29,8 @@ const FILES: [&str; 11] = [
     "journals",
     "journals_cut_short",
     "commands",
+    "sentences",
+    "reasons",
 ];
 
 /// Prints a line for each file of cases, below it what differs.

@@ -2,10 +2,10 @@
 use buck_record::{Slot, slot};
 
 /// The prices of a sheet.
-pub(crate) const SHEET: Slot = slot!(971, 1);
+pub const SHEET: Slot = slot!(971, 1);
 
 /// The first item of a cut.
-pub(crate) const CUT: Slot = slot!(981, 1);
+pub const CUT: Slot = slot!(981, 1);
 
 /// The number and the species of a stem.
 pub(crate) const HEAD: Slot = slot!(981, 2);
@@ -20,10 +20,10 @@ pub(crate) const CUT_ZONES: Slot = slot!(981, 4);
 pub(crate) const LOGS: Slot = slot!(981, 5);
 
 /// The worth of a cutting.
-pub(crate) const WORTH: Slot = slot!(981, 6);
+pub const WORTH: Slot = slot!(981, 6);
 
 /// The first item of a demand.
-pub(crate) const DEMAND: Slot = slot!(982, 1);
+pub const DEMAND: Slot = slot!(982, 1);
 
 /// The targets of a demand.
-pub(crate) const DEMAND_TARGETS: Slot = slot!(982, 2);
+pub const DEMAND_TARGETS: Slot = slot!(982, 2);
