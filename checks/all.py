@@ -15,8 +15,6 @@ CHECKS = pathlib.Path(__file__).resolve().parent
 
 # What each is handed, with {} for the program.
 WORDS = {
-    "sentences": ["{}"],
-    "reasons": ["{}"],
     "edges": ["{}"],
     "live": ["--bin", "{}"],
     "guide": ["{}"],
