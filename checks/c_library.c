@@ -219,7 +219,7 @@ static void in_turn(void) {
     want(buckfleet_in_turn(NULL, 0, NULL, 0, BUCKFLEET_STEP, NULL, 0, &texts) == BUCKFLEET_MISUSED
              && texts.journal == 0 && texts.report == 0, "no files in turn");
     texts.journal = texts.report = 5;
-    want(buckfleet_in_turn(both, all, lengths, 2, 3, text, ROOM, &texts) == BUCKFLEET_MISUSED
+    want(buckfleet_in_turn(both, all, lengths, 2, BUCKFLEET_ROOT + 1, text, ROOM, &texts) == BUCKFLEET_MISUSED
              && texts.journal == 0 && texts.report == 0, "no such rule in turn");
     want(buckfleet_in_turn(both, all, lengths, 3, BUCKFLEET_STEP, text, ROOM, &texts) == BUCKFLEET_MISUSED, "lengths of more");
     want(buckfleet_in_turn(both, all, lengths, 1, BUCKFLEET_STEP, text, ROOM, &texts) == BUCKFLEET_MISUSED, "lengths of less");
@@ -227,6 +227,8 @@ static void in_turn(void) {
     want(all_are(text, 0, 0, ROOM), "nothing is written where it is misused");
     want(buckfleet_in_turn(apt.at, apt.length, lengths, 1, BUCKFLEET_STEP, text, ROOM, &texts) == BUCKFLEET_SEATS
              && texts.journal == 0 && texts.report > 0, "no stem file");
+    want(buckfleet_in_turn(both, all, lengths, 2, BUCKFLEET_ROOT, text, ROOM, &texts) == BUCKFLEET_OK
+             && texts.journal > 0 && texts.report > 0, "both texts by the last rule");
     want(buckfleet_in_turn(both, all, lengths, 2, BUCKFLEET_LINEAR, text, ROOM, &texts) == BUCKFLEET_OK
              && texts.journal > 0 && texts.report > 0, "both texts");
     want(buckfleet_check(apt.at, apt.length, text, texts.journal, line, sizeof line, &n) == BUCKFLEET_OK, "its journal is lawful");
@@ -435,7 +437,7 @@ static void no_book(buckfleet_book *book, const char *what) {
 static void refusals(buckfleet_book *book) {
     static uint16_t many[402];
     static buckfleet_cutting cutting, before;
-    buckfleet_terms none = { 0, 0 }, more = { 1000001, 0 }, other = { 1, 3 };
+    buckfleet_terms none = { 0, 0 }, more = { 1000001, 0 }, other = { 1, BUCKFLEET_ROOT + 1 };
     buckfleet_book empty = BUCKFLEET_NO_BOOK;
     buckfleet_felled felled = felled_at(0);
     buckfleet_zone zone = { 40001, 1 };

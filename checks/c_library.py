@@ -121,7 +121,7 @@ def examples(compiler, scratch, program):
                 tell(f"{name}: {word} {apt} {other}", found == wanted, f"{found} in the place of {wanted}")
     if program:
         shown(program)
-        for rule in ("steady", "linear", "step"):
+        for rule in ("steady", "linear", "step", "root"):
             files = [example(name) for name in ("morning.apt", "morning_1.stm", "morning_2.stm", "morning_3.stm")]
             same_turns(f"in turn by {rule}", program, rule, files)
     book_examples(compiler, scratch, program)
@@ -189,7 +189,7 @@ def book_examples(compiler, scratch, program):
             done = run([*words, "steady", example("morning.apt"), spoilt])
             tell(f"{name}: a species of 257", done.returncode == 1 and b"ENTRY" not in done.stdout, str(done))
     files = [example("morning.apt"), example("morning_1.stm")]
-    for rule in ("steady", "linear", "step"):
+    for rule in ("steady", "linear", "step", "root"):
         wanted = None
         for name, words in (("program", [program]), ("c", [in_c]), ("python", in_python)):
             if not words[0]:
@@ -360,7 +360,7 @@ def fleet_case(name, program, at, words):
     """Whether the harvesters of a case's fleet were asked in turn, of both."""
     given = argparse.ArgumentParser(add_help=False, exit_on_error=False)
     given.add_argument("--journal")
-    given.add_argument("--rule", default="linear", choices=("steady", "linear", "step"))
+    given.add_argument("--rule", default="linear", choices=("steady", "linear", "step", "root"))
     given.add_argument("files", nargs="*")
     try:
         given = given.parse_args(words)

@@ -39,7 +39,7 @@ extern "C" {
 #endif
 
 /* The version of these calls. It grows by one where one of them changes, or one is added. */
-#define BUCKFLEET_VERSION 4
+#define BUCKFLEET_VERSION 5
 
 /* How a call ended. Those up to 5 are exit statuses of the program `buckfleet`. */
 enum {
@@ -160,7 +160,7 @@ typedef struct buckfleet_book {
 /* What a book is opened with. */
 typedef struct buckfleet_terms {
     uint32_t capacity; /* how many postings it may have, 1 to 1,000,000: cuts and new targets */
-    uint8_t rule;      /* BUCKFLEET_STEADY, _LINEAR or _STEP */
+    uint8_t rule;      /* BUCKFLEET_STEADY, _LINEAR, _STEP or _ROOT */
 } buckfleet_terms;
 
 /* A felled stem, but for its diameters and its zones. */

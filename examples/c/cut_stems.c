@@ -1,7 +1,7 @@
 /*
  * Cuts the stems of a stem file one by one, as a harvester does that fells them, into a book of one harvester.
  *
- *     cut_stems steady|linear|step APT STM [JOURNAL]
+ *     cut_stems steady|linear|step|root APT STM [JOURNAL]
  *
  * It prints a line for each stem as it is cut, and then how all classes stand: what `buckfleet fleet --rule` prints of
  * these files. The journal goes into the file JOURNAL, where one is named.
@@ -179,14 +179,14 @@ static uint8_t run(int count, char **words, const buckfleet_terms *terms, const 
 }
 
 int main(int count, char **words) {
-    static const char *const RULES[] = { "steady", "linear", "step" };
+    static const char *const RULES[] = { "steady", "linear", "step", "root" };
     buckfleet_terms terms = { 1000000, 0 };
     struct bytes apt, stm;
     int status = BUCKFLEET_READ;
-    while (count > 3 && terms.rule < 3 && strcmp(words[1], RULES[terms.rule]) != 0)
+    while (count > 3 && terms.rule < 4 && strcmp(words[1], RULES[terms.rule]) != 0)
         terms.rule++;
-    if (count < 4 || count > 5 || terms.rule == 3) {
-        fputs("cut_stems steady|linear|step APT STM [JOURNAL]\n", stderr);
+    if (count < 4 || count > 5 || terms.rule == 4) {
+        fputs("cut_stems steady|linear|step|root APT STM [JOURNAL]\n", stderr);
         return 2;
     }
     apt = file_of(words[2]);

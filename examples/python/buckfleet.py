@@ -24,9 +24,9 @@ from dataclasses import dataclass
 from typing import NamedTuple, Optional, Sequence, Tuple, Union
 
 OK, REFUSED, SEATS, MEMORY, UNLAWFUL, READ, TOO_SMALL, CLOSED, MISUSED, FULL = range(10)
-RULES = ("steady", "linear", "step")
+RULES = ("steady", "linear", "step", "root")
 TABLES = ("classes", "postings", "logs", "degrees")
-VERSION = 4
+VERSION = 5
 MOST_LOGS = 80
 NO_DEGREE = 4294967295
 

@@ -1,6 +1,6 @@
 """Cuts the stems of a stem file one by one, as a harvester does that fells them, into a book of one harvester.
 
-    cut_stems.py steady|linear|step APT STM [JOURNAL]
+    cut_stems.py steady|linear|step|root APT STM [JOURNAL]
 
 It prints a line for each stem as it is cut, and then how all classes stand: what `buckfleet fleet --rule` prints of these
 files. The journal goes into the file JOURNAL, where one is named.
@@ -30,7 +30,7 @@ def stem_of(parts) -> buckfleet.Stem:
 
 def main():
     if len(sys.argv) not in (4, 5) or sys.argv[1] not in buckfleet.RULES:
-        print("cut_stems.py steady|linear|step APT STM [JOURNAL]", file=sys.stderr)
+        print("cut_stems.py steady|linear|step|root APT STM [JOURNAL]", file=sys.stderr)
         return 2
     with open(sys.argv[2], "rb") as file:
         apt = file.read()

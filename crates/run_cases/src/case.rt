@@ -138,11 +138,11 @@ fn engine_of(words: &str) -> Option<Engine> {
         "bare" => Some(Engine::Bare),
         "buck" => Some(Engine::Buck),
         "check" => Some(Engine::Check),
-        "fleet steady" => Some(Engine::Fleet(NamedRule::Steady)),
-        "fleet linear" => Some(Engine::Fleet(NamedRule::Linear)),
-        "fleet step" => Some(Engine::Fleet(NamedRule::Step)),
         "words" => Some(Engine::Words),
-        _ => None,
+        _ => {
+            let rule = NamedRule::of_name(words.strip_prefix("fleet ")?)?;
+            Some(Engine::Fleet(rule))
+        }
     }
 }
 

@@ -38,8 +38,8 @@ pub other_lengths : (rule : ℕ) (lengths bytes old new : List ℕ) (texts : Tex
 other_lengths rule lengths bytes old new texts result differ put is =
     never_turned rule lengths bytes old new texts result (λ used. differ used.2) put is
 
--- nor by a rule of the number 3
+-- nor by a rule of the number 4
 pub no_rule : (lengths bytes old new : List ℕ) (texts : Texts) (result : ℕ)
-    → ArePut (IsTurned 3 lengths bytes) old new texts result → result ≡ 0 → ⊥
+    → ArePut (IsTurned 4 lengths bytes) old new texts result → result ≡ 0 → ⊥
 no_rule lengths bytes old new texts result put is =
-    never_turned 3 lengths bytes old new texts result (λ used. none-some used.0.0 used.0.1) put is
+    never_turned 4 lengths bytes old new texts result (λ used. none-some used.0.0 used.0.1) put is

@@ -20,7 +20,7 @@ pub fn lengths_of_other_bytes(
     prove!(right != wrong);
 }
 
-/// A rule of the number 3 is taken for another one.
+/// A rule of the number 4 is taken for another one.
 #[tactic(auto, using(crate::proofs::Misuse::no_rule))]
 pub fn rule_of_no_number(
     alloc: Global,
@@ -29,7 +29,7 @@ pub fn rule_of_no_number(
     out: &mut [u8],
     texts: &mut Texts,
 ) {
-    let right = buckfleet_in_turn(alloc, files, lengths, 3, out, texts);
+    let right = buckfleet_in_turn(alloc, files, lengths, 4, out, texts);
     let wrong = 0;
     prove!(right != wrong);
 }
