@@ -70,7 +70,7 @@ pub(crate) fn number_after(postings: &[Posting], harvester: u32) -> usize {
 #[derive(Drop)]
 pub(crate) struct Ledger {
     pub(crate) wanted: Vec<u32>,
-    pub(crate) cut: Vec<u64>,
+    pub(crate) cut: Vec<u32>,
 }
 
 /// The targets of an instruction, class by class.
@@ -83,7 +83,7 @@ fn base_targets(alloc: Global, instruction: &Instruction) -> Result<Vec<u32>, Al
 }
 
 /// No log of each class.
-fn no_logs(alloc: Global, instruction: &Instruction) -> Result<Vec<u64>, AllocError> {
+fn no_logs(alloc: Global, instruction: &Instruction) -> Result<Vec<u32>, AllocError> {
     let mut cut = Vec::new(alloc);
     for _k in 0..instruction.classes() {
         cut.push(0)?;
@@ -92,7 +92,7 @@ fn no_logs(alloc: Global, instruction: &Instruction) -> Result<Vec<u64>, AllocEr
 }
 
 /// Counts the logs of a cut.
-fn count_logs(cut: &mut Vec<u64>, sheet: &Sheet, entry: &Entry) {
+fn count_logs(cut: &mut Vec<u32>, sheet: &Sheet, entry: &Entry) {
     for log in entry.cutting.logs.as_slice() {
         let Some(class) = class_of(sheet, &entry.stem, log.start, log.assortment, log.length) else {
             continue;

@@ -18,41 +18,17 @@ enum Why<'a> {
     Overlap { end: u32 },
 }
 
-/// Numbers with blanks between.
+/// Numbers with these words between.
 #[derive(Clone, Copy)]
-struct Apart<'a>(&'a [u32]);
+struct Apart<'a, T>(&'a [T], &'static str);
 
-impl fmt::Display for Apart<'_> {
+impl<T: fmt::Display> fmt::Display for Apart<'_, T> {
     fn fmt<W: fmt::Write>(&self, f: &mut fmt::Formatter<W>) -> fmt::Result {
-        let mut is_first = true;
-        for number in self.0 {
-            let number = *number;
-            if is_first {
-                write!(f, "{number}")?;
-            } else {
-                write!(f, " {number}")?;
-            }
-            is_first = false;
-        }
-        Ok(())
-    }
-}
-
-/// Grades, of which one will do.
-#[derive(Clone, Copy)]
-struct OneOf<'a>(&'a [u8]);
-
-impl fmt::Display for OneOf<'_> {
-    fn fmt<W: fmt::Write>(&self, f: &mut fmt::Formatter<W>) -> fmt::Result {
-        let mut is_first = true;
-        for number in self.0 {
-            let number = *number;
-            if is_first {
-                write!(f, "{number}")?;
-            } else {
-                write!(f, " or {number}")?;
-            }
-            is_first = false;
+        let Apart(numbers, between) = *self;
+        let mut before = "";
+        for number in numbers {
+            write!(f, "{before}{number}")?;
+            before = between;
         }
         Ok(())
     }
@@ -64,9 +40,13 @@ impl fmt::Display for Why<'_> {
             Why::Assortment { below } => write!(f, "an assortment below {below} wanted"),
             Why::Species { found, wanted } => write!(f, "species {found}, {wanted} wanted"),
             Why::Module(module) => write!(f, "a start that is a multiple of {module} wanted"),
-            Why::Lengths(lengths) => write!(f, "one of the lengths {} wanted", Apart(lengths)),
+            Why::Lengths(lengths) => write!(f, "one of the lengths {} wanted", Apart(lengths, " ")),
             Why::End { found, most } => write!(f, "ends at {found}, at most {most} wanted"),
-            Why::Grade { found, wanted } => write!(f, "grade {found}, {} wanted", OneOf(wanted)),
+            Why::Grade { found, wanted } => write!(
+                f,
+                "grade {found}, {} wanted",
+                Apart(wanted, " or ")
+            ),
             Why::Top { found, least, most } => {
                 write!(f, "{found} thick at its top, {least} to {most} wanted")
             }

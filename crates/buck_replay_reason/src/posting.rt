@@ -1,6 +1,6 @@
 //! Postings, and where they stand in their file.
 use buck_book::Posting;
-use buck_reason::{Item, Source};
+use buck_reason::Source;
 use std::fmt;
 
 /// A posting by its place and whose it is.
@@ -31,11 +31,21 @@ impl fmt::Display for Who<'_> {
     }
 }
 
-/// The place in a file of a part of a posting: its items are counted from 0.
-pub(crate) fn part_at(source: &Source<'_>, posting: usize, part: usize) -> usize {
-    match source.posting_item(posting, part) {
-        Some(item) => item.at,
-        None => 0,
+/// What is said first of a part of a posting, whose items are counted from 0: where it stands, and whose it is.
+#[derive(Clone, Copy)]
+pub(crate) struct Opening<'s, 'w> {
+    pub(crate) source: Source<'s>,
+    pub(crate) who: Who<'w>,
+    pub(crate) part: usize,
+}
+
+impl fmt::Display for Opening<'_, '_> {
+    fn fmt<W: fmt::Write>(&self, f: &mut fmt::Formatter<W>) -> fmt::Result {
+        let at = match self.source.posting_item(self.who.at, self.part) {
+            Some(item) => item.at,
+            None => 0,
+        };
+        write!(f, "{}: {}:", self.source.here(at), self.who)
     }
 }
 
@@ -45,9 +55,4 @@ pub(crate) fn price_at(source: &Source<'_>, version: u32, class: usize) -> usize
         Some(item) => item.word(class.saturating_add(1)).at,
         None => 0,
     }
-}
-
-/// The item that has the prices of a version.
-pub(crate) fn sheet_item<'a>(source: &Source<'a>, version: u32) -> Option<Item<'a>> {
-    source.sheet_item(version)
 }

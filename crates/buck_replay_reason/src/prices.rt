@@ -1,7 +1,8 @@
 //! Prices that aren't what they may be.
 use crate::class::ClassName;
 use crate::ledger::Ledger;
-use crate::posting::{price_at, sheet_item};
+use crate::posting::price_at;
+use crate::targets::sum_from;
 use buck_apt::Instruction;
 use buck_journal::Journal;
 use buck_reason::{Several, Source};
@@ -28,26 +29,13 @@ impl fmt::Display for Allowed {
     }
 }
 
-/// Numbers from a place on, so many of them, together.
-fn sum_from(numbers: &[u64], first: usize, many: usize) -> u64 {
-    let mut sum = 0u64;
-    for number in numbers.iter().skip(first).take(many) {
-        sum = sum.saturating_add(*number);
-    }
-    sum
-}
-
-/// The same of targets.
-fn targets_from(numbers: &[u32], first: usize, many: usize) -> u64 {
-    let mut sum = 0u64;
-    for number in numbers.iter().skip(first).take(many) {
-        sum = sum.saturating_add(u64::from(*number));
-    }
-    sum
-}
-
 /// What a thousandth of a base price is of it.
 const THOUSAND: u64 = 1000;
+
+/// The number at a place of a list.
+fn number_at(numbers: &[u32], place: usize) -> u64 {
+    u64::from(numbers.get(place).copied().unwrap_or(0))
+}
 
 /// The prices that a class may have by what was cut: its base price where it is on its target, up to the span more
 /// where it is under it, and down to the span less where it is over it.
@@ -59,16 +47,10 @@ fn allowed_prices(
 ) -> Allowed {
     let base = u64::from(class.base());
     let span = base.saturating_mul(u64::from(instruction.limit())) / THOUSAND;
-    let targets = targets_from(ledger.wanted.as_slice(), class.first, class.classes());
+    let targets = sum_from(ledger.wanted.as_slice(), class.first, class.classes());
     let counts = sum_from(ledger.cut.as_slice(), class.first, class.classes());
-    let cut = ledger
-        .cut
-        .get(place)
-        .copied()
-        .unwrap_or(0)
-        .saturating_mul(targets);
-    let target = u64::from(ledger.wanted.get(place).copied().unwrap_or(0));
-    let wanted = target.saturating_mul(counts);
+    let cut = number_at(ledger.cut.as_slice(), place).saturating_mul(targets);
+    let wanted = number_at(ledger.wanted.as_slice(), place).saturating_mul(counts);
     match cut.cmp(&wanted) {
         Ordering::Equal => Allowed::One(base),
         Ordering::Less => Allowed::Between(base, base.saturating_add(span)),
@@ -113,7 +95,7 @@ pub(crate) fn sheet_reason(
     version: u32,
 ) -> Result<Option<String>, Memory> {
     let classes = instruction.classes();
-    let Some(item) = sheet_item(source, version) else {
+    let Some(item) = source.sheet_item(version) else {
         return Ok(Some(format!(in alloc;
             "{}: prices (971 1) of version {version}: not there, {} wanted\n",
             source.whole(),

@@ -1,7 +1,7 @@
 //! Why a journal isn't lawful.
 use crate::ledger::{number_after, version_after};
 use crate::logs::wrong_log;
-use crate::posting::{Who, part_at};
+use crate::posting::{Opening, Who};
 use crate::prices::{price_reason, sheet_reason};
 use crate::targets::WrongTargets;
 use buck_apt::Instruction;
@@ -39,6 +39,15 @@ impl<'a> Unlawful<'a> {
         Some(Who { at, posting })
     }
 
+    /// What is said first of a part of a posting.
+    fn opening<'w>(&self, who: &Who<'w>, part: usize) -> Opening<'a, 'w> {
+        Opening {
+            source: self.source,
+            who: *who,
+            part,
+        }
+    }
+
     /// The postings before a place.
     fn before(&self, at: usize) -> &'a [Posting] {
         let journal = self.journal;
@@ -72,10 +81,8 @@ fn misnumbered(
     };
     let wanted = number_after(unlawful.before(who.at), harvester);
     format!(in alloc;
-        "{}: {who}: number {number}, {wanted} wanted\n",
-        unlawful
-            .source
-            .here(part_at(&unlawful.source, who.at, CALL))
+        "{} number {number}, {wanted} wanted\n",
+        unlawful.opening(who, CALL)
     )
 }
 
@@ -91,10 +98,8 @@ fn misversioned(
     };
     let wanted = version_after(unlawful.instruction, unlawful.before(who.at));
     format!(in alloc;
-        "{}: {who}: version {version}, {wanted} wanted\n",
-        unlawful
-            .source
-            .here(part_at(&unlawful.source, who.at, CALL))
+        "{} version {version}, {wanted} wanted\n",
+        unlawful.opening(who, CALL)
     )
 }
 
@@ -109,12 +114,7 @@ fn miscut(
     let Some(wrong) = wrong_log(&sheet, &entry.stem, entry.cutting.logs.as_slice()) else {
         return Ok(None);
     };
-    Ok(Some(format!(in alloc;
-        "{}: {who}: {wrong}\n",
-        unlawful
-            .source
-            .here(part_at(&unlawful.source, who.at, LOGS))
-    )?))
+    Ok(Some(format!(in alloc; "{} {wrong}\n", unlawful.opening(who, LOGS))?))
 }
 
 /// Says that a cut isn't worth what it says.
@@ -132,10 +132,8 @@ fn misvalued(
     };
     let found = entry.worth;
     Ok(Some(format!(in alloc;
-        "{}: {who}: worth {found}, {wanted} wanted\n",
-        unlawful
-            .source
-            .here(part_at(&unlawful.source, who.at, WORTH))
+        "{} worth {found}, {wanted} wanted\n",
+        unlawful.opening(who, WORTH)
     )?))
 }
 
@@ -152,10 +150,8 @@ fn outvalued(
     let (better, wanted) = best(alloc, &sheet, &entry.stem)?;
     let found = entry.worth;
     let mut out = format!(in alloc;
-        "{}: {who}: logs worth {found}, these worth {wanted} wanted:\n",
-        unlawful
-            .source
-            .here(part_at(&unlawful.source, who.at, LOGS))
+        "{} logs worth {found}, these worth {wanted} wanted:\n",
+        unlawful.opening(who, LOGS)
     )?;
     for log in better.logs.as_slice() {
         let start = log.start;
@@ -206,12 +202,7 @@ fn untargeted(
         instruction,
         targets,
     };
-    Ok(Some(format!(in alloc;
-        "{}: {who}: {wrong}\n",
-        unlawful
-            .source
-            .here(part_at(&unlawful.source, who.at, TARGETS))
-    )?))
+    Ok(Some(format!(in alloc; "{} {wrong}\n", unlawful.opening(who, TARGETS))?))
 }
 
 /// Says what is wrong with a posting.

@@ -1,5 +1,6 @@
 //! Targets that may not come into force.
 use buck_apt::Instruction;
+use buck_apt::slots::{MOST_TARGETS_TOGETHER, TARGETS};
 use buck_book::{TargetsFault, check_targets};
 use buck_reason::{Quoted, Several};
 use std::fmt;
@@ -19,7 +20,7 @@ struct Part<'a> {
 }
 
 /// The numbers from a place on together, so many of them.
-fn sum_from(numbers: &[u32], first: usize, many: usize) -> u64 {
+pub(crate) fn sum_from(numbers: &[u32], first: usize, many: usize) -> u64 {
     let mut sum = 0u64;
     for number in numbers.iter().skip(first).take(many) {
         sum = sum.saturating_add(u64::from(*number));
@@ -63,17 +64,20 @@ impl fmt::Display for WrongTargets<'_> {
                 let target = self.targets.get(at).copied().unwrap_or(0);
                 write!(
                     f,
-                    "targets (982 2): {target} at place {}, 0 to 1000000 wanted",
-                    at.saturating_add(1)
+                    "targets (982 2): {target} at place {}, {} to {} wanted",
+                    at.saturating_add(1),
+                    TARGETS.low,
+                    TARGETS.high
                 )
             }
             Err(TargetsFault::Sum { assortment }) => match self.part(assortment) {
                 None => Ok(()),
                 Some(part) => {
                     let sum = part.sum;
+                    let most = MOST_TARGETS_TOGETHER;
                     write!(
                         f,
-                        "targets (982 2) of assortment {assortment} {}: {sum} together, at most 1000000000 wanted",
+                        "targets (982 2) of assortment {assortment} {}: {sum} together, at most {most} wanted",
                         Quoted(part.name)
                     )
                 }

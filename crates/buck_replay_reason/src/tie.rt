@@ -1,5 +1,5 @@
 //! Why a journal isn't that of its stem files.
-use crate::posting::{Who, part_at};
+use crate::posting::{Opening, Who};
 use crate::stems::Difference;
 use buck_book::Posting;
 use buck_journal::Journal;
@@ -40,6 +40,15 @@ impl<'a> Tied<'a> {
             at = at.saturating_add(1);
         }
         None
+    }
+
+    /// What is said first of a posting.
+    fn opening<'w>(&self, who: &Who<'w>) -> Opening<'a, 'w> {
+        Opening {
+            source: self.source,
+            who: *who,
+            part: 0,
+        }
     }
 
     /// How many cuts the harvester has.
@@ -111,8 +120,8 @@ fn unfiled(alloc: Global, tied: &Tied<'_>, who: &Who<'_>) -> Result<String, Allo
     let harvester = tied.harvester;
     let are = if tied.files == 1 { "is" } else { "are" };
     format!(in alloc;
-        "{}: {who}: no cut of harvester {harvester} wanted, there {are} {}\n",
-        tied.source.here(part_at(&tied.source, who.at, 0)),
+        "{} no cut of harvester {harvester} wanted, there {are} {}\n",
+        tied.opening(who),
         Several(tied.files, "stem file")
     )
 }
@@ -127,8 +136,8 @@ fn surplus(
     all: usize,
 ) -> Result<String, AllocError> {
     format!(in alloc;
-        "{}: {who}: cut {place} of its harvester, {all} wanted, as many as stems in {}\n",
-        tied.source.here(part_at(&tied.source, who.at, 0)),
+        "{} cut {place} of its harvester, {all} wanted, as many as stems in {}\n",
+        tied.opening(who),
         Shown(file.name)
     )
 }
@@ -147,10 +156,7 @@ fn other(
         found: &entry.stem,
         wanted: wanted.stem,
     };
-    Ok(Some(format!(in alloc;
-        "{}: {who}: {difference} {wanted}\n",
-        tied.source.here(part_at(&tied.source, who.at, 0))
-    )?))
+    Ok(Some(format!(in alloc; "{} {difference} {wanted}\n", tied.opening(who))?))
 }
 
 /// Why the cuts of a harvester aren't the stems of its file, in a line of text, given the number of the kind of fault

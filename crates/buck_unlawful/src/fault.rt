@@ -5,32 +5,25 @@ use crate::head::{Files, close_head, open_head};
 use buck_apt::{Assortment, Instruction};
 use buck_book::Posting;
 use buck_journal::ReplayFault;
-use buck_record::Memory;
+use buck_record::{Memory, Numbered};
 use buck_words::{Apart, ClassText, Grouped, class_text};
 use std::alloc::Global;
 use std::fmt;
 
-/// What is wrong with a posting.
-#[derive(Drop)]
-struct Wrong {
-    /// The fault's number in the line that `replay` writes.
-    number: u8,
-    at: usize,
-    why: &'static str,
-}
-
-/// What is wrong with a posting, where the fault is one of a posting.
-fn wrong_posting(fault: &ReplayFault) -> Option<Wrong> {
-    let (number, at, why) = match fault {
-        ReplayFault::Numbering { at } => (3, *at, "its number is not the harvester&#8217;s next"),
-        ReplayFault::Version { at } => (4, *at, "it was not planned under the prices in force"),
-        ReplayFault::Cutting { at } => (5, *at, "its logs may not be cut from the stem"),
-        ReplayFault::Worth { at } => (6, *at, "its worth is not what its logs are worth"),
-        ReplayFault::Outvalued { at } => (7, *at, "another cutting of the stem is worth more"),
-        ReplayFault::Targets { at } => (9, *at, "its targets are not valid"),
-        ReplayFault::Sheet { .. } | ReplayFault::Price { .. } | ReplayFault::Memory => return None,
-    };
-    Some(Wrong { number, at, why })
+/// The posting that a fault is of, where it is of one, and what is wrong with it.
+fn wrong_posting(fault: &ReplayFault) -> Option<(usize, &'static str)> {
+    match fault {
+        ReplayFault::Numbering { at } => Some((
+            *at,
+            "its number is not the harvester&#8217;s next",
+        )),
+        ReplayFault::Version { at } => Some((*at, "it was not planned under the prices in force")),
+        ReplayFault::Cutting { at } => Some((*at, "its logs may not be cut from the stem")),
+        ReplayFault::Worth { at } => Some((*at, "its worth is not what its logs are worth")),
+        ReplayFault::Outvalued { at } => Some((*at, "another cutting of the stem is worth more")),
+        ReplayFault::Targets { at } => Some((*at, "its targets are not valid")),
+        ReplayFault::Sheet { .. } | ReplayFault::Price { .. } | ReplayFault::Memory => None,
+    }
 }
 
 /// An assortment, and a class of it.
@@ -103,10 +96,10 @@ fn write_sentence(
             )?;
         }
         _ => {
-            if let Some(wrong) = wrong_posting(fault) {
-                write!(out, "Posting {}", Grouped(wrong.at as u128))?;
-                write_who(out, postings.get(wrong.at))?;
-                write!(out, ": {}.", wrong.why)?;
+            if let Some((at, why)) = wrong_posting(fault) {
+                write!(out, "Posting {}", Grouped(at as u128))?;
+                write_who(out, postings.get(at))?;
+                write!(out, ": {why}.")?;
             }
         }
     }
@@ -115,14 +108,9 @@ fn write_sentence(
 
 /// Writes the fault as the line that `replay` writes.
 fn write_line(out: &mut String, fault: &ReplayFault) -> Result<(), Memory> {
-    match fault {
-        ReplayFault::Sheet { version } => write!(out, "replay fault 1 {version}")?,
-        ReplayFault::Price { version, class } => write!(out, "replay fault 2 {version} {class}")?,
-        _ => {
-            if let Some(wrong) = wrong_posting(fault) {
-                write!(out, "replay fault {} {}", wrong.number, wrong.at)?;
-            }
-        }
+    write!(out, "replay fault")?;
+    for number in fault.numbers().as_slice() {
+        write!(out, " {number}")?;
     }
     Ok(())
 }
