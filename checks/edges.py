@@ -380,7 +380,7 @@ def terminal_that_erases_nothing():
         surroundings = {key: value for key, value in os.environ.items() if key != "TERM"}
         if name:
             surroundings["TERM"] = name
-        status, _, errors = run("fleet --rule step morning.apt many.stm", terminal=True, env=surroundings)
+        status, _, errors = run("fleet --rule step morning.apt many.stm many.stm many.stm", terminal=True, env=surroundings)
         expect(status == 0, status)
         seen[name] = errors
     expect(b"\x1b[K" in seen["xterm"], "no line was drawn: the machine is too fast for this row")
