@@ -8,6 +8,8 @@ use Rattle.buck_engine.specs.declared.fault.EngineFault.TheVariants.{Read, Write
 use Rattle.buck_engine.specs.declared.fleet.serving.Order.{Order}
 use Rattle.buck_engine.specs.declared.fleet.serving.Order.TheVariants.{InTurn}
 use Rattle.buck_engine.specs.text.Report.{IsReport}
+use Rattle.buck_engine.specs.tie.Ties.{FollowsRule}
+use Rattle.buck_rule.specs.declared.named.NamedRule.{NamedRule}
 use Rattle.buck_engine.specs.Faults.{fault_line, memory_line, status_of}
 use Rattle.buck_engine.specs.run.Reading.{ReadsApt}
 use Rattle.buck_engine.specs.fleet.Lent.{OfWriter}
@@ -41,25 +43,25 @@ behind_nothing line status old new texts result none put =
     subst (λ n. IsPutAs line status old new n result) is put
 
 -- the fault's own line was put, or that of memory, with no journal before it
-pub turns_told : (rule : ℕ) (lengths bytes : List ℕ) (fault : EngineFault) (old new : List ℕ) (texts : Texts)
+pub turns_told : (rule : ℕ) (named : NamedRule) (lengths bytes : List ℕ) (fault : EngineFault) (old new : List ℕ) (texts : Texts)
     (result : ℕ)
-    → AreUsed rule lengths bytes → AreRefused lengths bytes fault → texts.journal ≡ 0
+    → AreUsed rule named lengths bytes → AreRefused lengths bytes fault → texts.journal ≡ 0
     → IsPutAs (fault_line fault) (status_of fault) old new texts.report result
     ⊎ IsPutAs memory_line 3 old new texts.report result
     → ArePut (IsTurned rule lengths bytes) old new texts result
-turns_told rule lengths bytes fault old new texts result used why none (inl put) = (
+turns_told rule named lengths bytes fault old new texts result used why none (inl put) = (
   [],
   fault_line fault,
   status_of fault,
-  inr (used, inr (refl, (fault, why, refl, refl))),
+  inr (named, used, inr (refl, (fault, why, refl, refl))),
   none,
   behind_nothing (fault_line fault) (status_of fault) old new texts result none put,
 )
-turns_told rule lengths bytes fault old new texts result used why none (inr put) = (
+turns_told rule named lengths bytes fault old new texts result used why none (inr put) = (
   [],
   memory_line,
   3,
-  inr (used, inr (refl, (Memory, inl refl, refl, refl))),
+  inr (named, used, inr (refl, (Memory, inl refl, refl, refl))),
   none,
   behind_nothing memory_line 3 old new texts result none put,
 )
@@ -70,13 +72,13 @@ known_each f [] = refl
 known_each f (x ∷ xs) = ap (λ ys. Some (f x) ∷ ys) (known_each f xs)
 
 -- what a run wrote into nothing are the texts of its history
-pub texts_written : {X : Type 0} (f : X → List ℕ) (apt : List ℕ) (stms : List X) (h : HistoryParts)
+pub texts_written : {X : Type 0} (rule : NamedRule) (f : X → List ℕ) (apt : List ℕ) (stms : List X) (h : HistoryParts)
     (before journal before_report report text : List ℕ)
-    → IsHarvest apt_of (Some apt) (map (λ x. Some (f x)) stms) h → IsInOrder InTurn (λ _. Unit {0}) h
+    → IsHarvest apt_of (Some apt) (map (λ x. Some (f x)) stms) h → IsInOrder InTurn (FollowsRule rule) h
     → before ≡ [] → journal ≡ before ++ journal_text h.sheets h.postings
     → before_report ≡ [] → report ≡ before_report ++ text → IsReport h text
-    → AreTexts apt (map f stms) journal report
-texts_written f apt stms h before journal before_report report text harvest turns none is none_yet is_report right = (
+    → AreTexts rule apt (map f stms) journal report
+texts_written rule f apt stms h before journal before_report report text harvest turns none is none_yet is_report right = (
   h,
   (subst (λ files. IsHarvest apt_of (Some apt) files h) (known_each f stms) harvest, turns),
   is ∙ ap (λ xs. xs ++ journal_text h.sheets h.postings) none,

@@ -9,6 +9,7 @@ use Rattle.buck_engine.specs.declared.fault.EngineFault.TheVariants.{Memory}
 use Rattle.buck_engine.specs.declared.fleet.serving.Order.TheVariants.{InTurn}
 use Rattle.buck_engine.specs.fleet.Running.{AnswersFleet}
 use Rattle.buck_engine.specs.text.Report.{IsReport}
+use Rattle.buck_engine.specs.tie.Ties.{FollowsRule}
 use Rattle.buck_rule.specs.declared.named.NamedRule.{NamedRule}
 use Rattle.buck_calls.specs.declared.turns.Texts.{Texts}
 use Rattle.buck_calls.specs.Books.{misused, rule_of}
@@ -19,16 +20,17 @@ use Rattle.buck_calls.specs.Room.{IsPutAs}
 abbrev pub AreFiles : List ℕ → List ℕ → List (List ℕ) → Type 0
 AreFiles lengths bytes files = (map (λ file. length file) files ≡ lengths) × (concat files ≡ bytes)
 
--- a journal and a report are those of one history of the files, whose harvesters took turns
-abbrev pub AreTexts : List ℕ → List (List ℕ) → List ℕ → List ℕ → Type 0
-AreTexts apt stms journal report =
-    (h : HistoryParts) × AnswersFleet apt_of InTurn (λ _. Unit {0}) (Some apt) (map Some stms) (Ok h)
+-- a journal and a report are those of one history of the files, whose harvesters took turns by a rule
+abbrev pub AreTexts : NamedRule → List ℕ → List (List ℕ) → List ℕ → List ℕ → Type 0
+AreTexts rule apt stms journal report =
+    (h : HistoryParts) × AnswersFleet apt_of InTurn (FollowsRule rule) (Some apt) (map Some stms) (Ok h)
     × (journal ≡ journal_text h.sheets h.postings) × IsReport h report
 
 -- the texts of one history of the first file's instruction and the stems of the others
-abbrev pub HaveTexts : List ℕ → List ℕ → List ℕ → List ℕ → Type 0
-HaveTexts lengths bytes journal report =
-    (apt : List ℕ) × (stms : List (List ℕ)) × AreFiles lengths bytes (apt ∷ stms) × AreTexts apt stms journal report
+abbrev pub HaveTexts : NamedRule → List ℕ → List ℕ → List ℕ → List ℕ → Type 0
+HaveTexts rule lengths bytes journal report =
+    (apt : List ℕ) × (stms : List (List ℕ)) × AreFiles lengths bytes (apt ∷ stms)
+    × AreTexts rule apt stms journal report
 
 -- why there is none: memory ran out, or the first file that has a fault, or what went wrong after all of them
 abbrev pub AreRefused : List ℕ → List ℕ → EngineFault → Type 0
@@ -41,16 +43,17 @@ AreRefused lengths bytes fault =
 abbrev pub AreMisused : ℕ → List ℕ → List ℕ → Type 0
 AreMisused rule lengths bytes = (rule_of rule ≡ None) ⊎ ((lengths ≡ []) ⊎ (sum lengths ≢ length bytes))
 
--- and what can
-abbrev pub AreUsed : ℕ → List ℕ → List ℕ → Type 0
-AreUsed rule lengths bytes =
-    ((named : NamedRule) × (rule_of rule ≡ Some named)) × (0 < length lengths) × (sum lengths ≡ length bytes)
+-- and what can, by the rule of a number
+abbrev pub AreUsed : ℕ → NamedRule → List ℕ → List ℕ → Type 0
+AreUsed rule named lengths bytes =
+    (rule_of rule ≡ Some named) × (0 < length lengths) × (sum lengths ≡ length bytes)
 
 -- the texts, or the line of the fault, which stands where the report would, and no journal; none where it is misused
 abbrev pub IsTurned : ℕ → List ℕ → List ℕ → List ℕ → List ℕ → ℕ → Type 0
 IsTurned rule lengths bytes journal report status =
     (AreMisused rule lengths bytes × (journal ≡ []) × (report ≡ []) × (status ≡ misused))
-    ⊎ (AreUsed rule lengths bytes × ((HaveTexts lengths bytes journal report × (status ≡ 0))
+    ⊎ ((named : NamedRule) × AreUsed rule named lengths bytes
+    × ((HaveTexts named lengths bytes journal report × (status ≡ 0))
     ⊎ ((journal ≡ []) × IsToldOf (AreRefused lengths bytes) report status)))
 
 -- a journal and a report were put one after the other, and their lengths are told

@@ -1,7 +1,7 @@
 //! The call by which harvesters take turns, over the bytes of an instruction file and stem files.
 ghost use Rattle.std.specs.Prelude.{◌≡◌, ◌<◌, ◌≤◌, ◌↔◌, Some, Err, IfOk, IfErr, IsTrue, map, length, sum};
 ghost use Rattle.buck_apt.specs.Apt.{apt_of};
-ghost use Rattle.buck_rule.specs.Stored.{Answers};
+ghost use Rattle.buck_rule.specs.GivenBy.{GivesBy};
 ghost use Rattle.buck_engine.specs.declared.fleet.serving.Order.TheVariants.{InTurn};
 ghost use Rattle.buck_engine.specs.fleet.Running.{AnswersFleet};
 ghost use Rattle.buck_calls.specs.Turns.{AreFiles, ArePut, AreRefused, AreTexts, HaveTexts, IsTurned};
@@ -64,16 +64,17 @@ fn files_of<'x>(
     Ok(files)
 }
 
-/// The texts of harvesters that take turns, by a rule.
+/// The texts of harvesters that take turns, by a closure, which answers what a named rule gives.
 fn texts_by<'x, F: Fn(&Standing) -> u64 + Drop>(
     alloc: Global,
     apt: &mut &'x [u8],
     stms: &mut [&'x [u8]],
     rule: Rule<F>,
+    named: NamedRule,
 ) -> Result<Turned, EngineFault>
-    requires answers { Answers F.Fn rule }
+    requires gives { GivesBy F.Fn rule named }
     ensures ok { IfOk result (λ texts.
-        AreTexts apt.old.now (map (λ file. file.now) stms.old) texts.journal.items texts.report.items) }
+        AreTexts named apt.old.now (map (λ file. file.now) stms.old) texts.journal.items texts.report.items) }
     ensures refused { IfErr result (λ fault.
         AnswersFleet apt_of InTurn (λ _. Unit {0}) (Some apt.old.now) (map Some (map (λ file. file.now) stms.old))
         (Err fault)) }
@@ -96,17 +97,13 @@ fn texts_of<'x>(
     rule: NamedRule,
 ) -> Result<Turned, EngineFault>
     ensures ok { IfOk result (λ texts.
-        AreTexts apt.old.now (map (λ file. file.now) stms.old) texts.journal.items texts.report.items) }
+        AreTexts rule apt.old.now (map (λ file. file.now) stms.old) texts.journal.items texts.report.items) }
     ensures refused { IfErr result (λ fault.
         AnswersFleet apt_of InTurn (λ _. Unit {0}) (Some apt.old.now) (map Some (map (λ file. file.now) stms.old))
         (Err fault)) }
 {
-    texts_by(
-        alloc,
-        apt,
-        stms,
-        Rule::new(move |s: &Standing| rule.price(s)),
-    )
+    let by = Rule::new(move |s: &Standing| rule.price(s));
+    texts_by(alloc, apt, stms, by, rule)
 }
 
 /// The texts of the first file's instruction and the stems of the others.
@@ -118,7 +115,7 @@ fn take_turns<'x>(
 ) -> Result<Turned, EngineFault>
     requires some { 0 < length lengths.now }
     requires fill { sum lengths.now ≡ length bytes.now }
-    ensures ok { IfOk result (λ texts. HaveTexts lengths.now bytes.now texts.journal.items texts.report.items) }
+    ensures ok { IfOk result (λ texts. HaveTexts rule lengths.now bytes.now texts.journal.items texts.report.items) }
     ensures refused { IfErr result (AreRefused lengths.now bytes.now) }
 {
     let (mut apt, stms) = bytes.split_at(lengths[0]);

@@ -1,4 +1,5 @@
 pub mod LineLemmas
 pub mod AnswerLemmas
+pub mod GivenLemmas
 pub mod RunLemmas
 pub mod ServedLemmas

@@ -1,15 +1,17 @@
 //! What is answered to a line of the input.
-ghost use Rattle.std.specs.Prelude.{◌≡◌, ◌≤◌, ◌<◌, ℕ, List, length, IfOk, IfErr, codes};
+ghost use Rattle.std.specs.Prelude.{◌≡◌, ◌≤◌, ◌<◌, ℕ, List, length, IfOk, IfErr, IfSome, codes};
 ghost use Rattle.std.specs.Option.{option_map};
 ghost use Rattle.buck_rule.specs.Stored.{Answers};
 ghost use Rattle.buck_record.specs.writing.Line.{line_of};
 ghost use Rattle.buck_book.specs.Book.{SameContent, IsReadyFor, demand_of};
 ghost use Rattle.buck_book.specs.History.{in_force};
 ghost use Rattle.buck_book.specs.Plan.{IsPlan};
+ghost use Rattle.buck_book.specs.Pricing.{AreAnswersWith};
 ghost use Rattle.buck_book.specs.declared.posting.Posting.TheVariants.{Demand};
 ghost use Rattle.buck_engine.specs.text.Bucking.{stem_lines};
 ghost use Rattle.buck_engine.specs.text.Report.{posting_line};
 ghost use Rattle.buck_live.specs.Answers.{AnswersLine, targets_numbers};
+ghost use Rattle.buck_live.specs.Live.{StaysByRule};
 ghost use Rattle.buck_live.specs.inner.Answering.{AnswersCut, AnswersDemand, AnswersOne, IsCommitFault, told};
 ghost use Rattle.buck_book.specs.declared.posting.TheConstants.{MOST_POSTINGS};
 
@@ -64,6 +66,8 @@ fn prepared<F: Fn(&Standing) -> u64 + Drop>(
     requires sheet { plan.now.sheet ≡ in_force book.old.history }
     ensures content { SameContent book.old book.new }
     ensures ready { IfOk result (λ r. IsReadyFor book.new r plan.now) }
+    ensures given { IfOk result (λ r. IfSome r.next (λ s.
+        AreAnswersWith F.Fn book.old.rule book.old.history plan.now s.prices)) }
     ensures refused { IfErr result (IsCommitFault book.old) }
 {
     match book.prepare_in_force(alloc, plan) {
@@ -75,6 +79,7 @@ fn prepared<F: Fn(&Standing) -> u64 + Drop>(
 }
 
 /// Cuts a stem under the sheet in force. The answer is its lines.
+#[tactic(auto, using(crate::proofs::GivenLemmas::stays))]
 fn cut<F: Fn(&Standing) -> u64 + Drop>(
     alloc: Global,
     book: &mut Book<F>,
@@ -87,7 +92,9 @@ fn cut<F: Fn(&Standing) -> u64 + Drop>(
     ensures rule { book.new.rule ≡ book.old.rule }
     ensures capacity { book.new.capacity ≡ book.old.capacity }
     ensures cut { AnswersCut book.old harvester stem result book.new.history }
+    ensures given { StaysByRule F.Fn book.old book.new }
 {
+    let _lawful = book.entries();
     let plan = plan(alloc, book, planner, stem)?;
     let ready = prepared(alloc, book, &plan)?;
     let text = stem_text(alloc, &plan)?;
@@ -127,6 +134,7 @@ fn refused_text(alloc: Global, fault: TargetsFault) -> Result<Vec<u8>, Memory>
 }
 
 /// Puts new targets in force, where they are valid. The answer is the demand's line, or that of the targets' fault.
+#[tactic(auto, using(crate::proofs::GivenLemmas::stays))]
 fn retarget<F: Fn(&Standing) -> u64 + Drop>(
     alloc: Global,
     book: &mut Book<F>,
@@ -138,7 +146,9 @@ fn retarget<F: Fn(&Standing) -> u64 + Drop>(
     ensures rule { book.new.rule ≡ book.old.rule }
     ensures capacity { book.new.capacity ≡ book.old.capacity }
     ensures taken { AnswersDemand book.old harvester targets result book.new.history }
+    ensures given { StaysByRule F.Fn book.old book.new }
 {
+    let _lawful = book.entries();
     let targets = Arc::new(alloc, targets.into_vec())?;
     match book.prepare_demand(alloc, &targets) {
         Ok(ready) => {
@@ -165,6 +175,7 @@ fn answer_request<F: Fn(&Standing) -> u64 + Drop>(
     ensures rule { book.new.rule ≡ book.old.rule }
     ensures capacity { book.new.capacity ≡ book.old.capacity }
     ensures answered { AnswersOne book.old.history request (told result) book.new.history }
+    ensures given { StaysByRule F.Fn book.old book.new }
 {
     let Request { harvester, asked } = request;
     match asked {
@@ -174,6 +185,7 @@ fn answer_request<F: Fn(&Standing) -> u64 + Drop>(
 }
 
 /// Answers a line, where it isn't too long or cut off.
+#[tactic(auto, using(crate::proofs::GivenLemmas::stays))]
 pub(crate) fn answer<F: Fn(&Standing) -> u64 + Drop>(
     alloc: Global,
     book: &mut Book<F>,
@@ -186,6 +198,7 @@ pub(crate) fn answer<F: Fn(&Standing) -> u64 + Drop>(
     ensures capacity { book.new.capacity ≡ book.old.capacity }
     ensures answered { AnswersLine book.old.history (option_map (λ l. l.now) line.entry)
         (told result) book.new.history }
+    ensures given { StaysByRule F.Fn book.old book.new }
 {
     let Some(line) = line else {
         return Err(EngineFault::Read { file: 1 });

@@ -5,7 +5,7 @@ ghost use Rattle.buck_book.specs.Book.{IsBook};
 ghost use Rattle.buck_journal.specs.Written.{journal_text};
 ghost use Rattle.buck_live.specs.Answers.{opening};
 ghost use Rattle.buck_live.specs.Lines.{longest_line};
-ghost use Rattle.buck_live.specs.Live.{IsLiveRun};
+ghost use Rattle.buck_live.specs.Live.{IsLiveRun, StaysByRule};
 ghost use Rattle.buck_live.specs.inner.Answering.{told};
 ghost use Rattle.buck_live.specs.inner.Running.{IsSaid, IsStep};
 
@@ -73,6 +73,7 @@ fn say<W: io::Write>(out: &mut W, answer: &Result<Vec<u8>, EngineFault>) -> Resu
 }
 
 /// Reads the next line and answers it.
+#[tactic(auto, using(crate::proofs::GivenLemmas::stays))]
 fn answer_next<F: Fn(&Standing) -> u64 + Drop, R: io::Read, W: Replies>(
     alloc: Global,
     book: &mut Book<F>,
@@ -89,6 +90,7 @@ fn answer_next<F: Fn(&Standing) -> u64 + Drop, R: io::Read, W: Replies>(
     ensures room { vec_capacity line.new ≡ vec_capacity line.old }
     ensures step { IsStep book.old.history (R.remaining input.old) (R.remaining input.new)
         (W.contents out.old) (W.contents out.new) result book.new.history }
+    ensures given { StaysByRule F.Fn book.old book.new }
 {
     let Ok(found) = read_bytes(input, line) else {
         return Err(EngineFault::Read { file: 1 });
@@ -100,6 +102,7 @@ fn answer_next<F: Fn(&Standing) -> u64 + Drop, R: io::Read, W: Replies>(
 }
 
 /// Reads all lines and answers each before it reads the next.
+#[tactic(auto, using(crate::proofs::GivenLemmas::stays))]
 fn answer_all<F: Fn(&Standing) -> u64 + Drop, R: io::Read, W: Replies>(
     alloc: Global,
     book: &mut Book<F>,
@@ -116,6 +119,7 @@ fn answer_all<F: Fn(&Standing) -> u64 + Drop, R: io::Read, W: Replies>(
     ensures room { vec_capacity line.new ≡ vec_capacity line.old }
     ensures run { IsLiveRun book.old.history (R.remaining input.old)
         (W.contents out.old) (W.contents out.new) result book.new.history }
+    ensures given { StaysByRule F.Fn book.old book.new }
 {
     'requests: for _ in 0..u64::MAX {
         match answer_next(alloc, book, planner, line, input, out) {
@@ -174,6 +178,8 @@ impl<F: Fn(&Standing) -> u64 + Drop> Live<F> {
         // Each line has its answer, by the history that came of those before it; a fault comes after the first lines.
         ensures run { IsLiveRun self.old.history (R.remaining input.old)
             (W.contents out.old) (W.contents out.new) result self.new.history }
+        // The prices that come into force are answers that the closure can give to how the classes then stand.
+        ensures given { StaysByRule F.Fn self.old self.new }
     {
         let Live {
             book,

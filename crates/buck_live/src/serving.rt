@@ -2,6 +2,8 @@
 ghost use Rattle.std.specs.Prelude.{◌≡◌, IfOk, IfErr, Result};
 ghost use Rattle.std.specs.Option.{option_map};
 ghost use Rattle.buck_rule.specs.Stored.{Answers};
+ghost use Rattle.buck_rule.specs.GivenBy.{GivesBy};
+ghost use Rattle.buck_turn.specs.Turn.{AreSheetsBy};
 ghost use Rattle.buck_engine.specs.declared.fault.EngineFault.{EngineFault};
 ghost use Rattle.buck_engine.specs.run.Serving.{TellsOutcome, status_after};
 ghost use Rattle.buck_engine.specs.fleet.Lent.{of_writer};
@@ -109,8 +111,8 @@ fn live_made<F: Fn(&Standing) -> u64 + Drop, R: io::Read, J: io::Write + Drop, W
     out: &mut W,
 ) -> Result<(), EngineFault>
     requires answers { Answers F.Fn rule }
-    ensures { IsLiveMade J.contents instruction (R.remaining input.old) journal
-        (W.contents out.old) (W.contents out.new) result }
+    ensures { IsLiveMade J.contents (AreSheetsBy F.Fn rule) instruction (R.remaining input.old)
+        (input.new ≡ input.old) journal (W.contents out.old) (W.contents out.new) result }
 {
     let mut live = opened(alloc, instruction, rule)?;
     let ran = live.run(alloc, input, out);
@@ -129,8 +131,9 @@ fn live_files<F: Fn(&Standing) -> u64 + Drop, R: io::Read, O: Open + Make, W: Re
     out: &mut W,
 ) -> Result<(), EngineFault>
     requires answers { Answers F.Fn rule }
+    requires gives { GivesBy F.Fn rule task.now.rule }
     ensures { RunsLive O.opens O.makes O.File.remaining O.Made.contents opener.old opener.new task.now
-        (R.remaining input.old) (W.contents out.old) (W.contents out.new) result }
+        (R.remaining input.old) (input.new ≡ input.old) (W.contents out.old) (W.contents out.new) result }
 {
     let (mut apt, _) = open_inputs(alloc, opener, task.apt, &[])?;
     let journal = make_journal(opener, task.journal)?;
@@ -147,7 +150,7 @@ fn run_live_task<R: io::Read, O: Open + Make, W: Replies>(
     out: &mut W,
 ) -> Result<(), EngineFault>
     ensures { RunsLive O.opens O.makes O.File.remaining O.Made.contents opener.old opener.new task.now
-        (R.remaining input.old) (W.contents out.old) (W.contents out.new) result }
+        (R.remaining input.old) (input.new ≡ input.old) (W.contents out.old) (W.contents out.new) result }
 {
     let named = task.rule;
     let rule = Rule::new(move |s: &Standing| named.price(s));
@@ -159,9 +162,9 @@ fn run_live_task<R: io::Read, O: Open + Make, W: Replies>(
 ///
 /// The instruction file is opened, then the file of the journal is made, where one is wanted, and then the instruction
 /// is read, with the numbers of the task in the place of its own. Faults until then are those of
-/// [`read_instruction`]; no request is read then. After the last request, or where the input can't be read or an answer
-/// can't be written, the journal of all that was cut is written. The output hears of each line and its answer before
-/// that is written.
+/// [`read_instruction`]; nothing is read of the input then. After the last request, or where the input can't be read or
+/// an answer can't be written, the journal of all that was cut is written. The output hears of each line and its answer
+/// before that is written.
 pub fn serve_live<R: io::Read, O: Open + Make, W: Replies, E: io::Write>(
     alloc: Global,
     task: &LiveTask<'_>,
@@ -172,7 +175,7 @@ pub fn serve_live<R: io::Read, O: Open + Make, W: Replies, E: io::Write>(
 ) -> u8
     ensures { (outcome : Result (Unit {0}) EngineFault)
         × RunsLive O.opens O.makes O.File.remaining O.Made.contents opener.old opener.new task.now
-        (R.remaining input.old) (W.contents output.old) (W.contents output.new) outcome
+        (R.remaining input.old) (input.new ≡ input.old) (W.contents output.old) (W.contents output.new) outcome
         × (result ≡ status_after outcome)
         × TellsOutcome (E.contents errors.old) (E.contents errors.new) outcome }
 {

@@ -28,7 +28,7 @@ next_given g f h x None l n given e = absurd (n e)
 next_given g f h x (Some s) l n given e =
     rw (sym l.sheets_number, get_or_push h.sheets s.prices [] (length h.sheets) refl) given
 
-one_more : {F : Type 0} (g : Calls F) (f : F) (h : HistoryParts) (x : Posting) (next : _) → IsLawful h → IsNext h x next
+pub one_more : {F : Type 0} (g : Calls F) (f : F) (h : HistoryParts) (x : Posting) (next : _) → IsLawful h → IsNext h x next
     → IfSome next (λ s. AreAnswers g f h.instruction (h.postings ++ x ∷ []) s.prices) → AreSheetsBy g f h
     → AreSheetsBy g f (history_with h x next)
 one_more g f h x next l n given by = record {
@@ -61,7 +61,7 @@ if_some : {A : Type 0} (P Q : A → Type 0) (o : Option A) → ((x : A) → P x 
 if_some P Q None f p = p
 if_some P Q (Some x) f p = f x p
 
-same_history : (h k : HistoryParts) → h.instruction ≡ k.instruction → h.sheets ≡ k.sheets → h.postings ≡ k.postings
+pub same_history : (h k : HistoryParts) → h.instruction ≡ k.instruction → h.sheets ≡ k.sheets → h.postings ≡ k.postings
     → h ≡ k
 same_history h k i s p = λ n. record { instruction = i n; sheets = s n; postings = p n }
 

@@ -8,7 +8,7 @@ pub done_fits : {X : Type 0} (Answer : List X → ℕ → Type 0) (old new : Lis
 done_fits Answer old new written result (items, status, a, put) done lt =
     omega (arith, sym done ∙ (put.too_small (omega (arith, put.number_is, lt))).1)
 
-fits_or_not : (a b : ℕ) → (a ≤ b) ⊎ (b < a)
+pub fits_or_not : (a b : ℕ) → (a ≤ b) ⊎ (b < a)
 fits_or_not a b = grind arith
 
 -- but for 6, the status is the answer's own

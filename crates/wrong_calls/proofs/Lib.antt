@@ -1,3 +1,4 @@
 pub mod Fits
 pub mod Statuses
 pub mod Misuse
+pub mod Turned

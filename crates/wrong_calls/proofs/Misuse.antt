@@ -1,6 +1,7 @@
 -- What is misused isn't answered as if it could be used.
 use Rattle.std.proofs.Common.{◌≡◌, ◌≢◌, ◌<◌, ℕ, ◌+◌, List, ◌++◌, length, sum, inl, inr, ◌∙◌, arith}
 use Rattle.std.proofs.lemmas.Option.{none-some}
+use Rattle.buck_rule.specs.declared.named.NamedRule.{NamedRule}
 use Rattle.buck_calls.specs.declared.turns.Texts.{Texts}
 use Rattle.buck_calls.specs.Room.{IsPut}
 use Rattle.buck_calls.specs.Pages.{IsListed}
@@ -19,13 +20,14 @@ pub never_listed : (table : ℕ) (apt journal old new : List ℕ) (written resul
 never_listed table apt journal old new written result lt put is =
     never_of (IsListed table apt journal) old new written result 0 (omega arith) (listed_0 table apt journal lt) put is
 
-turned_0 : (rule : ℕ) (lengths bytes journal report : List ℕ) (status : ℕ) → (AreUsed rule lengths bytes → ⊥)
+turned_0 : (rule : ℕ) (lengths bytes journal report : List ℕ) (status : ℕ)
+    → ((named : NamedRule) → AreUsed rule named lengths bytes → ⊥)
     → IsTurned rule lengths bytes journal report status → status ≡ 0 → ⊥
 turned_0 rule lengths bytes journal report status never (inl misused) is = omega (arith, misused.3, is)
-turned_0 rule lengths bytes journal report status never (inr used) is = never used.0
+turned_0 rule lengths bytes journal report status never (inr (named, used, told)) is = never named used
 
 never_turned : (rule : ℕ) (lengths bytes old new : List ℕ) (texts : Texts) (result : ℕ)
-    → (AreUsed rule lengths bytes → ⊥)
+    → ((named : NamedRule) → AreUsed rule named lengths bytes → ⊥)
     → ArePut (IsTurned rule lengths bytes) old new texts result → result ≡ 0 → ⊥
 never_turned rule lengths bytes old new texts result never (journal, report, status, answer, told, put) is =
     turned_0 rule lengths bytes journal report status never answer
@@ -36,10 +38,10 @@ pub other_lengths : (rule : ℕ) (lengths bytes old new : List ℕ) (texts : Tex
     → sum lengths ≢ length bytes
     → ArePut (IsTurned rule lengths bytes) old new texts result → result ≡ 0 → ⊥
 other_lengths rule lengths bytes old new texts result differ put is =
-    never_turned rule lengths bytes old new texts result (λ used. differ used.2) put is
+    never_turned rule lengths bytes old new texts result (λ named used. differ used.2) put is
 
 -- nor by a rule of the number 4
 pub no_rule : (lengths bytes old new : List ℕ) (texts : Texts) (result : ℕ)
     → ArePut (IsTurned 4 lengths bytes) old new texts result → result ≡ 0 → ⊥
 no_rule lengths bytes old new texts result put is =
-    never_turned 4 lengths bytes old new texts result (λ used. none-some used.0.0 used.0.1) put is
+    never_turned 4 lengths bytes old new texts result (λ named used. none-some named used.0) put is

@@ -1,18 +1,15 @@
 -- Which statuses can't come of two files.
-use Rattle.std.proofs.Common.{◌≡◌, ◌<◌, ℕ, List, [], ◌∷◌, Some, Result, Ok, Err, inl, inr, sym, ap, ◌∙◌, arith}
+use Rattle.std.proofs.Common.{◌≡◌, ℕ, List, Some, Result, Ok, Err, inl, inr, sym, ap, ◌∙◌, arith}
 use Rattle.buck_apt.specs.declared.fault.AptFault.{AptFault}
 use Rattle.buck_apt.specs.Apt.{apt_of}
-use Rattle.buck_apt.specs.Faults.{apt_numbers}
 use Rattle.buck_apt.specs.Instruction.{InstructionParts}
-use Rattle.buck_stem.specs.file.Faults.{stm_numbers}
 use Rattle.buck_stem.specs.Stem.{StemParts}
 use Rattle.buck_stem.specs.file.Stm.{stm_of}
-use Rattle.buck_journal.specs.Faults.{journal_numbers, replay_numbers}
-use Rattle.buck_fleet.specs.Faults.{close_numbers}
 use Rattle.buck_engine.specs.declared.fault.EngineFault.{EngineFault}
-use Rattle.buck_engine.specs.declared.fault.EngineFault.TheVariants.{Read, Write, Apt, Stm, Journal, Replay, Check, Seats, Full, Memory, Close}
-use Rattle.buck_engine.specs.Faults.{status_of, status_or}
+use Rattle.buck_engine.specs.declared.fault.EngineFault.TheVariants.{Apt, Stm}
+use Rattle.buck_engine.specs.Faults.{status_of}
 use Rattle.buck_engine.specs.run.Reading.{IsFileFault}
+use Rattle.buck_engine.proofs.Statuses.{never_0}
 use Rattle.buck_calls.specs.Room.{IsPut}
 use Rattle.buck_calls.specs.Files.{IsBucked}
 use Rattle.wrong_calls.proofs.Fits.{never_of}
@@ -24,24 +21,6 @@ tag (Err f) = 1
 -- what is read isn't refused
 not_both : {V F : Type 0} (r : Result V F) (v : V) (f : F) → r ≡ Ok v → r ≡ Err f → ⊥
 not_both {V} {F} r v f ok err = let e : 0 ≡ 1 = ap (λ (x : Result V F). tag x) (sym ok ∙ err) in omega (arith, e)
-
--- every fault has a status of its own
-status_or_some : (refused : ℕ) (numbers : List ℕ) → 0 < refused → status_or refused numbers ≡ 0 → ⊥
-status_or_some refused [] lt e = omega (arith, e)
-status_or_some refused (n ∷ ns) lt e = omega (arith, lt, e)
-
-never_0 : (fault : EngineFault) → status_of fault ≡ 0 → ⊥
-never_0 (Read file) e = omega (arith, e)
-never_0 Write e = omega (arith, e)
-never_0 (Apt fault) e = status_or_some 1 (apt_numbers fault) (omega arith) e
-never_0 (Stm file fault) e = status_or_some 1 (stm_numbers fault) (omega arith) e
-never_0 (Journal fault) e = status_or_some 1 (journal_numbers fault) (omega arith) e
-never_0 (Replay fault) e = status_or_some 4 (replay_numbers fault) (omega arith) e
-never_0 (Check fault) e = omega (arith, e)
-never_0 Seats e = omega (arith, e)
-never_0 Full e = omega (arith, e)
-never_0 Memory e = omega (arith, e)
-never_0 (Close fault) e = status_or_some 4 (close_numbers fault) (omega arith) e
 
 -- a file that is read has no fault of status 1
 file_never_1 : {V F : Type 0} (number : ℕ) (named : F → EngineFault) (reading : List ℕ → Result V F) (bytes : List ℕ)

@@ -1,15 +1,23 @@
 //! Wrong bodies of requests.
 #![tactic(auto, unfolding(buck_record::specs::bytes::Record::numbers_of, buck_record::specs::bytes::Record::number_at_most, buck_record::specs::bytes::Record::item_of, buck_record::specs::bytes::Record::items_of, buck_record::specs::bytes::White::words, buck_record::specs::bytes::White::first_word, buck_record::specs::bytes::White::after_word, buck_record::specs::bytes::White::trim_start, buck_record::specs::bytes::White::trim_end, buck_record::specs::Reading::each_from, buck_record::specs::checking::Table::rest_in, buck_record::specs::checking::Rules::numbers_in, buck_live::specs::Request::request_of, buck_live::specs::Request::requested, buck_live::specs::Request::present, buck_live::specs::Request::single, buck_live::specs::Request::named_harvester, buck_live::specs::Request::asked_in, buck_live::specs::Request::targets_in))]
 
-ghost use Rattle.std.specs.Prelude.{◌≡◌, ◌≢◌};
+ghost use Rattle.std.specs.Prelude.{◌≡◌, ◌≢◌, [], Some, Ok};
+ghost use Rattle.buck_apt.specs.Instruction.{InstructionParts};
 ghost use Rattle.buck_rule.specs.Stored.{Answers};
+ghost use Rattle.buck_rule.specs.declared.named.NamedRule.TheVariants.{Step};
+ghost use Rattle.buck_book.specs.History.{HistoryParts};
+ghost use Rattle.buck_turn.specs.Turn.{AreSheetsBy};
 ghost use Rattle.buck_journal.specs.Written.{journal_text};
+ghost use Rattle.buck_engine.specs.tie.Ties.{FollowsRule};
+ghost use Rattle.buck_live.specs.Answers.{opening};
+ghost use Rattle.buck_live.specs.Live.{IsLiveRun};
 
 use buck_apt::Instruction;
-use buck_engine::EngineFault;
-use buck_live::{Live, Replies, read_request};
-use buck_rule::Standing;
+use buck_engine::{EngineFault, Make, Open};
+use buck_live::{Live, LiveTask, Replies, read_request, serve_live};
+use buck_rule::{Rule, Standing};
 use std::alloc::Global;
+use std::sync::Arc;
 
 /// Each request is taken for one of the first harvester.
 pub fn everyone_is_the_first_harvester(alloc: Global) {
@@ -62,4 +70,68 @@ pub fn words_among_the_answers(
     right.hear(b"951 1 7", true, instruction, answer);
     let wrong = b"the request is cut off".as_slice();
     prove!(right.as_slice() != wrong);
+}
+
+/// The prices are in the relation, but another rule gave them: no history whose prices are the rule's answers has this
+/// journal.
+#[tactic(auto, using(crate::proofs::Ruled::another_rule))]
+pub fn requests_by_another_rule<'x, F: Fn(&Standing) -> u64 + Drop>(
+    alloc: Global,
+    instruction: Arc<Instruction>,
+    rule: Rule<F>,
+    requests: &'x [u8],
+    wrong: &[u8],
+)
+    requires answers { Answers F.Fn rule }
+    requires differ { (h : HistoryParts) → AreSheetsBy F.Fn rule h → wrong.now ≢ journal_text h.sheets h.postings }
+{
+    let Ok(mut live) = Live::open(alloc, instruction, rule) else {
+        return;
+    };
+    let mut input = requests;
+    let mut out = Vec::<u8>::new(alloc);
+    let _ = live.run(alloc, &mut input, &mut out);
+    if let Ok(right) = live.journal(alloc) {
+        prove!(right.as_slice() != wrong);
+    }
+}
+
+/// The task asks for the rule step, and another one makes the prices: no run of these requests that ends well and whose
+/// history keeps to step answers so.
+pub fn task_by_another_rule<'x, O: Open + Make>(
+    alloc: Global,
+    task: &LiveTask<'_>,
+    requests: &'x [u8],
+    opener: &mut O,
+    errors: &mut Vec<u8>,
+    wrong: &[u8],
+)
+    requires rule { task.now.rule ≡ Step }
+    requires other { (i : InstructionParts) (h : HistoryParts) → FollowsRule Step h
+        → IsLiveRun (opening i) (Some requests.now) (Some []) (Some wrong.now) (Ok tt) h → ⊥ }
+{
+    let mut input = requests;
+    let mut right = Vec::new(alloc);
+    let status = serve_live(alloc, task, &mut input, opener, &mut right, errors);
+    if status == 0 {
+        prove!(right.as_slice() != wrong);
+    }
+}
+
+/// Requests are read though the instruction is refused.
+pub fn requests_read_by_no_instruction<'x, O: Open + Make>(
+    alloc: Global,
+    task: &LiveTask<'_>,
+    requests: &'x [u8],
+    opener: &mut O,
+    output: &mut Vec<u8>,
+    errors: &mut Vec<u8>,
+) {
+    let mut input = requests;
+    let status = serve_live(alloc, task, &mut input, opener, output, errors);
+    let refused = 1;
+    if status == refused {
+        let is_read = input.len() != requests.len();
+        prove!(!is_read);
+    }
 }

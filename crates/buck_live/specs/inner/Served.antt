@@ -26,13 +26,15 @@ KeepsMade contents h (Some made) result =
     (left : _) × KeepsJournal (of_writer (contents made) (contents left)) h result
 
 -- requests were answered, or memory ran out before
-abbrev pub RanOrNot : InstructionParts → Option (List ℕ) → OfWriter → Option (List ℕ) → Option (List ℕ)
-    → Result (Unit {0}) EngineFault → Type 0
-RanOrNot i input OfJournal old new outcome =
-    ((outcome ≡ Err Memory) × OfJournal Keeps × Keeps old new) ⊎ IsLive i input OfJournal old new outcome
-
-abbrev pub IsLiveMade : {M : Type 0} → (M → Option (List ℕ)) → InstructionParts → Option (List ℕ) → Option M
+abbrev pub RanOrNot : (HistoryParts → Type 0) → InstructionParts → Option (List ℕ) → Type 0 → OfWriter
     → Option (List ℕ) → Option (List ℕ) → Result (Unit {0}) EngineFault → Type 0
-IsLiveMade contents i input None old new outcome = RanOrNot i input no_writer old new outcome
-IsLiveMade contents i input (Some made) old new outcome =
-    (left : _) × RanOrNot i input (of_writer (contents made) (contents left)) old new outcome
+RanOrNot ByRule i input Unread OfJournal old new outcome =
+    ((outcome ≡ Err Memory) × Unread × OfJournal Keeps × Keeps old new)
+    ⊎ IsLive ByRule i input OfJournal old new outcome
+
+abbrev pub IsLiveMade : {M : Type 0} → (M → Option (List ℕ)) → (HistoryParts → Type 0) → InstructionParts
+    → Option (List ℕ) → Type 0 → Option M → Option (List ℕ) → Option (List ℕ) → Result (Unit {0}) EngineFault → Type 0
+IsLiveMade contents ByRule i input Unread None old new outcome =
+    RanOrNot ByRule i input Unread no_writer old new outcome
+IsLiveMade contents ByRule i input Unread (Some made) old new outcome =
+    (left : _) × RanOrNot ByRule i input Unread (of_writer (contents made) (contents left)) old new outcome

@@ -1,0 +1,48 @@
+-- The texts of harvesters in turn are by the rule of the number.
+use Rattle.std.proofs.Common.{◌≡◌, ◌≢◌, ◌<◌, ℕ, ◌+◌, List, ◌++◌, Some, length, take, drop, inl, inr, sym, ap, subst, ◌∙◌, arith, take_all}
+use Rattle.std.proofs.lemmas.List.{take-append-le}
+use Rattle.buck_rule.specs.declared.named.NamedRule.{NamedRule}
+use Rattle.buck_rule.specs.declared.named.NamedRule.TheVariants.{Step}
+use Rattle.buck_engine.proofs.Statuses.{never_0}
+use Rattle.buck_calls.specs.declared.turns.Texts.{Texts}
+use Rattle.buck_calls.specs.Books.{rule_of}
+use Rattle.buck_calls.specs.Room.{IsPutAs}
+use Rattle.buck_calls.specs.Turns.{ArePut, HaveTexts, IsTurned}
+use Rattle.wrong_calls.proofs.Fits.{fits_or_not, own_status}
+
+step_is : (named : NamedRule) → rule_of 2 ≡ Some named → named ≡ Step
+step_is named e = cc e
+
+-- what is put with status 0 are such texts
+texts_by : (lengths bytes journal report : List ℕ) (status : ℕ) → IsTurned 2 lengths bytes journal report status
+    → status ≡ 0 → HaveTexts Step lengths bytes journal report
+texts_by lengths bytes journal report status (inl misused) is = absurd (omega (arith, misused.3, is))
+texts_by lengths bytes journal report status (inr (named, used, inl done)) is =
+    subst (λ n. HaveTexts n lengths bytes journal report) (step_is named used.0) done.0
+texts_by lengths bytes journal report status (inr (named, used, inr (none, fault, why, line, told))) is =
+    absurd (never_0 fault (sym told ∙ is))
+
+-- they stand at the start of the room
+at_start : (items old new right : List ℕ) (status written result : ℕ) → IsPutAs items status old new written result
+    → result ≡ 0 → right ≡ take written new → right ≡ items
+at_start items old new right status written result put is taken = elim (fits_or_not (length items) (length old)) [
+  | inl fits ↦
+      taken ∙ ap (λ n. take n new) put.number_is
+      ∙ ap (λ (xs : List ℕ). take (length items) xs) (put.fits fits).0
+      ∙ take-append-le (length items) items (drop (length items) old) (omega arith)
+      ∙ take_all (length items) items (omega arith)
+  | inr small ↦ absurd (omega (arith, is, (put.too_small small).1))
+]
+
+pub another_rule : (lengths bytes old new right wrong : List ℕ) (texts : Texts) (result long : ℕ)
+    → ArePut (IsTurned 2 lengths bytes) old new texts result → result ≡ 0
+    → long ≡ texts.journal + texts.report → right ≡ take long new
+    → ((journal report : List ℕ) → HaveTexts Step lengths bytes journal report → wrong ≢ journal ++ report)
+    → right ≡ wrong → ⊥
+another_rule lengths bytes old new right wrong texts result long (journal, report, status, answer, told, put) is both
+    taken other same =
+    let own = own_status (journal ++ report) status old new (texts.journal + texts.report) result
+    (omega (arith, is)) put ∙ is in
+    other journal report (texts_by lengths bytes journal report status answer own)
+    (sym same ∙ at_start (journal ++ report) old new right status (texts.journal + texts.report) result put is
+    (taken ∙ ap (λ n. take n new) both))

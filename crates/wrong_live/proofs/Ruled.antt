@@ -1,0 +1,129 @@
+-- Runs of requests by a rule, and what their statuses say.
+use Rattle.std.proofs.Common.{◌≡◌, ◌≢◌, ℕ, List, [], Option, Some, None, Result, Ok, Err, inl, inr, sym, ap, subst, ◌∙◌, arith}
+use Rattle.buck_apt.specs.Instruction.{InstructionParts}
+use Rattle.buck_rule.specs.declared.named.NamedRule.{NamedRule}
+use Rattle.buck_book.specs.History.{HistoryParts}
+use Rattle.buck_book.specs.Pricing.{Calls}
+use Rattle.buck_book.specs.Book.{BookParts}
+use Rattle.buck_turn.specs.Turn.{AreSheetsBy}
+use Rattle.buck_turn.proofs.Given.{none_given}
+use Rattle.buck_journal.specs.Written.{journal_text}
+use Rattle.buck_engine.specs.declared.fault.EngineFault.{EngineFault}
+use Rattle.buck_engine.specs.Faults.{status_of}
+use Rattle.buck_engine.specs.run.Serving.{status_after}
+use Rattle.buck_engine.specs.fleet.Lent.{OfWriter}
+use Rattle.buck_engine.specs.tie.Ties.{FollowsRule}
+use Rattle.buck_engine.proofs.Statuses.{never_0}
+use Rattle.buck_live.specs.declared.serving.LiveTask.{LiveTask}
+use Rattle.buck_live.specs.Answers.{opening}
+use Rattle.buck_live.specs.Live.{IsLiveRun, StaysByRule}
+use Rattle.buck_live.specs.Serving.{AnswersLive, IsLive, KeepsJournal, RunsApt, first_fault}
+
+-- the journal of a run is that of a history by the rule that it was opened with
+pub another_rule : {F : Type 0} (g : Calls F) (opened after : BookParts F) (rule : F) (i : InstructionParts)
+    (right wrong : List ℕ)
+    → opened.rule ≡ rule → opened.history ≡ opening i → after.rule ≡ opened.rule → StaysByRule g opened after
+    → right ≡ journal_text after.history.sheets after.history.postings
+    → ((h : HistoryParts) → AreSheetsBy g rule h → wrong ≢ journal_text h.sheets h.postings) → right ≡ wrong → ⊥
+another_rule g opened after rule i right wrong rule_is history kept stays is differ same =
+    let none : opened.history.postings ≡ [] = ap (λ (h : HistoryParts). h.postings) history in
+    differ after.history
+    (subst (λ f. AreSheetsBy g f after.history) (kept ∙ rule_is)
+    (stays (none_given g opened.rule opened.history none)))
+    (sym same ∙ is)
+
+-- no run over requests ends with status 1
+kept_1 : (OfJournal : OfWriter) (h : HistoryParts) (fault : EngineFault) → KeepsJournal OfJournal h (Err fault)
+    → status_of fault ≡ 1 → ⊥
+kept_1 OfJournal h fault (inl (memory, k)) e =
+    let is : 3 ≡ 1 = ap (λ f. status_of f) (sym memory) ∙ e in omega (arith, is)
+kept_1 OfJournal h fault (inr (write, k)) e =
+    let is : 5 ≡ 1 = ap (λ f. status_of f) (sym write) ∙ e in omega (arith, is)
+
+run_1 : (before after : HistoryParts) (input old new : Option (List ℕ)) (ran : Result (Unit {0}) EngineFault)
+    → IsLiveRun before input old new ran after → status_after ran ≡ 1 → ⊥
+run_1 before after input old new (Ok u) run e = omega (arith, e)
+run_1 before after input old new (Err fault) (inl (read, run)) e =
+    let is : 5 ≡ 1 = ap (λ f. status_of f) (sym read) ∙ e in omega (arith, is)
+run_1 before after input old new (Err fault) (inr (write, run)) e =
+    let is : 5 ≡ 1 = ap (λ f. status_of f) (sym write) ∙ e in omega (arith, is)
+
+first_1 : (OfJournal : OfWriter) (before after : HistoryParts) (input old new : Option (List ℕ))
+    (kept ran : Result (Unit {0}) EngineFault)
+    → KeepsJournal OfJournal after kept → IsLiveRun before input old new ran after
+    → status_after (first_fault kept ran) ≡ 1 → ⊥
+first_1 OfJournal before after input old new (Ok u) ran k run e = run_1 before after input old new ran run e
+first_1 OfJournal before after input old new (Err fault) ran k run e = kept_1 OfJournal after fault k e
+
+live_1 : (ByRule : HistoryParts → Type 0) (i : InstructionParts) (input : Option (List ℕ)) (OfJournal : OfWriter)
+    (old new : Option (List ℕ)) (outcome : Result (Unit {0}) EngineFault)
+    → IsLive ByRule i input OfJournal old new outcome → status_after outcome ≡ 1 → ⊥
+live_1 ByRule i input OfJournal old new outcome live e =
+    first_1 OfJournal (opening i) live.history input old new live.kept live.ran live.journal live.run
+    (ap (λ o. status_after o) (sym live.outcome_is) ∙ e)
+
+-- where the status is 1, nothing was read
+unread_1 : (task : LiveTask) (apt input : Option (List ℕ)) (Unread : Type 0) (OfJournal : OfWriter)
+    (old new : Option (List ℕ)) (outcome : Result (Unit {0}) EngineFault)
+    → AnswersLive task apt input Unread OfJournal old new outcome → status_after outcome ≡ 1 → Unread
+unread_1 task apt input Unread OfJournal old new outcome (inl refused) e = refused.unread
+unread_1 task apt input Unread OfJournal old new outcome (inr opened) e =
+    absurd (live_1 _ _ input OfJournal old new outcome opened.live e)
+
+pub unread : {O F M : Type 0} (makes : O → List ℕ → Option M → O → Type 0) (held : F → Option (List ℕ))
+    (contents : M → Option (List ℕ)) (start end : O) (task : LiveTask) (journal : Option (List ℕ))
+    (opened : Result (F × List F) EngineFault) (input : Option (List ℕ)) (Unread : Type 0) (old new : Option (List ℕ))
+    (outcome : Result (Unit {0}) EngineFault)
+    → RunsApt makes held contents start end task journal opened input Unread old new outcome
+    → status_after outcome ≡ 1 → Unread
+unread makes held contents start end task journal (Err fault) input Unread old new outcome runs e = runs.2
+unread makes held contents start end task None (Ok files) input Unread old new outcome runs e =
+    unread_1 task _ input Unread _ old new outcome runs.1 e
+unread makes held contents start end task (Some name) (Ok files) input Unread old new outcome
+    (None, made, runs) e = runs.1
+unread makes held contents start end task (Some name) (Ok files) input Unread old new outcome
+    (Some file, made, runs) e = unread_1 task _ input Unread _ old new outcome runs.1 e
+
+-- where it is 0, all requests were answered by the task's rule
+abbrev AnsweredBy : NamedRule → Option (List ℕ) → Option (List ℕ) → Option (List ℕ) → Type 0
+AnsweredBy rule input old new =
+    (i : InstructionParts) × (h : HistoryParts) × FollowsRule rule h × IsLiveRun (opening i) input old new (Ok tt) h
+
+fault_0 : (outcome : Result (Unit {0}) EngineFault) (fault : EngineFault) → outcome ≡ Err fault
+    → status_after outcome ≡ 0 → ⊥
+fault_0 outcome fault is e = never_0 fault (ap (λ o. status_after o) (sym is) ∙ e)
+
+first_0 : (kept ran : Result (Unit {0}) EngineFault) → status_after (first_fault kept ran) ≡ 0 → ran ≡ Ok tt
+first_0 (Ok u) (Ok tt) e = λ n. Ok tt
+first_0 (Ok u) (Err fault) e = absurd (never_0 fault e)
+first_0 (Err fault) ran e = absurd (never_0 fault e)
+
+answered_0 : (task : LiveTask) (apt input : Option (List ℕ)) (Unread : Type 0) (OfJournal : OfWriter)
+    (old new : Option (List ℕ)) (outcome : Result (Unit {0}) EngineFault)
+    → AnswersLive task apt input Unread OfJournal old new outcome → status_after outcome ≡ 0
+    → AnsweredBy task.rule input old new
+answered_0 task apt input Unread OfJournal old new outcome (inl refused) e =
+    absurd (fault_0 outcome refused.fault refused.outcome_is e)
+answered_0 task apt input Unread OfJournal old new outcome (inr opened) e =
+    let live = opened.live in
+    let ran = first_0 live.kept live.ran (ap (λ o. status_after o) (sym live.outcome_is) ∙ e) in (
+      _,
+      live.history,
+      live.by_rule,
+      subst (λ (r : Result (Unit {0}) EngineFault). IsLiveRun _ input old new r live.history) ran live.run,
+    )
+
+pub answered : {O F M : Type 0} (makes : O → List ℕ → Option M → O → Type 0) (held : F → Option (List ℕ))
+    (contents : M → Option (List ℕ)) (start end : O) (task : LiveTask) (journal : Option (List ℕ))
+    (opened : Result (F × List F) EngineFault) (input : Option (List ℕ)) (Unread : Type 0) (old new : Option (List ℕ))
+    (outcome : Result (Unit {0}) EngineFault)
+    → RunsApt makes held contents start end task journal opened input Unread old new outcome
+    → status_after outcome ≡ 0 → AnsweredBy task.rule input old new
+answered makes held contents start end task journal (Err fault) input Unread old new outcome runs e =
+    absurd (fault_0 outcome fault runs.0 e)
+answered makes held contents start end task None (Ok files) input Unread old new outcome runs e =
+    answered_0 task _ input Unread _ old new outcome runs.1 e
+answered makes held contents start end task (Some name) (Ok files) input Unread old new outcome
+    (None, made, runs) e = absurd (fault_0 outcome _ runs.0 e)
+answered makes held contents start end task (Some name) (Ok files) input Unread old new outcome
+    (Some file, made, runs) e = answered_0 task _ input Unread _ old new outcome runs.1 e
