@@ -1,16 +1,17 @@
 -- A run over an input that goes on.
-use Rattle.std.proofs.Common.{◌≡◌, ℕ, ◌⊎◌, inl, inr, List, [], ◌∷◌, ◌++◌, Option, Some, None, Ok, Err, length, take, refl, sym, ap, subst, ◌∙◌, append_assoc, append-nil, le_refl, take_all}
+use Rattle.std.proofs.Common.{◌≡◌, ℕ, inl, inr, List, [], ◌∷◌, ◌++◌, Option, Some, None, Result, Ok, Err, length, take, refl, sym, ap, subst, ◌∙◌, append_assoc, append-nil, le_refl, take_all}
 use Rattle.std.proofs.KnownBytes.{Appends-nil, Appends-trans}
 use Rattle.std.specs.Prelude.{IfSome}
+use Rattle.std.specs.Result.{IsErrAnd}
 use Rattle.std.specs.Io.KnownBytes.{Appends, Keeps}
 use Rattle.buck_book.specs.History.{HistoryParts}
 use Rattle.buck_engine.specs.declared.fault.EngineFault.{EngineFault}
 use Rattle.buck_engine.specs.run.Serving.{AppendsFirst}
 use Rattle.buck_live.specs.Lines.{lines_of}
 use Rattle.buck_live.specs.Answers.{AnswersLine, AnswersAll}
-use Rattle.buck_live.specs.Live.{HasAnswered, AnsweredAll, StoppedReading, StoppedWriting, IsLiveRun}
+use Rattle.buck_live.specs.Live.{AnsweredAll, StoppedReading, StoppedWriting, IsLiveRun}
 use Rattle.buck_live.specs.inner.Reading.{IsNext, IsLast, IsRead}
-use Rattle.buck_live.specs.inner.Running.{AreTaken, IsAt, HasStepped, HasFailed, IsStep}
+use Rattle.buck_live.specs.inner.Running.{IsSaid, AreTaken, IsAt, HasStepped, HasFailed, IsStep}
 use Rattle.buck_live.specs.declared.lines.End.{End}
 use Rattle.buck_live.specs.declared.lines.End.TheVariants.{Feed, Input}
 
@@ -80,6 +81,27 @@ all_said a b c text p q = (
   le_refl _,
   subst (Appends a c) (sym (take_all (length text) text (le_refl _))) (kept_after a b c text p q),
 )
+
+-- the next line was read and answered, and the answer not written, or not wholly
+pub unwritten : (before after : HistoryParts) (input left old was new read line : Option (List ℕ)) (end : End)
+    (text : List ℕ) (fault : EngineFault) (r : Result End EngineFault)
+    → IsErrAnd r (λ x. x ≡ fault) → IsRead input left read end → line ≡ read → AnswersLine before line text after
+    → was ≡ old → IsSaid was new text (Err fault) → IsStep before input left old new r after
+unwritten before after input left old was new read line end text fault (Ok e) is reading same answer heard said =
+    absurd is
+unwritten before after input left old was new read line end text fault (Err x) is reading same answer heard said =
+    inr (
+      is ∙ said.0,
+      record {
+        line = read;
+        left = left;
+        end = end;
+        text = text;
+        read = reading;
+        answer = subst (λ (l : Option (List ℕ)). AnswersLine before l text after) same answer;
+        written = subst (λ (o : Option (List ℕ)). AppendsFirst o new text) heard said.1;
+      },
+    )
 
 started_at : (input : Option (List ℕ)) → AreTaken input [] input
 started_at None = tt

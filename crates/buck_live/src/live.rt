@@ -73,7 +73,6 @@ fn say<W: io::Write>(out: &mut W, answer: &Result<Vec<u8>, EngineFault>) -> Resu
 }
 
 /// Reads the next line and answers it.
-#[tactic(auto, using(crate::proofs::GivenLemmas::stays))]
 fn answer_next<F: Fn(&Standing) -> u64 + Drop, R: io::Read, W: Replies>(
     alloc: Global,
     book: &mut Book<F>,

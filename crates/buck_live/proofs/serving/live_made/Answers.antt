@@ -1,4 +1,4 @@
-use Rattle.std.proofs.Common.{rules, ◌≡◌, [], refl, ap, subst, ◌∙◌}
+use Rattle.std.proofs.Common.{◌≡◌, [], refl, ap, subst, ◌∙◌}
 use Rattle.buck_book.specs.History.{HistoryParts}
 use Rattle.buck_turn.specs.Turn.{AreSheetsBy}
 use Rattle.buck_turn.proofs.Given.{none_given}
