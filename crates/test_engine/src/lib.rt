@@ -1,5 +1,5 @@
 //! Tests of the engines: readers, writers and openers that fail, memory that is refused, files at the limit of length,
-//! and what is said of faults.
+//! files that are cut at once, and what is said of faults.
 #![tactic(auto)]
 
 #[cfg(test)]
@@ -10,6 +10,8 @@ mod faults;
 mod journals;
 #[cfg(test)]
 mod lengths;
+#[cfg(test)]
+mod meetings;
 #[cfg(test)]
 mod memory;
 #[cfg(test)]

@@ -50,21 +50,26 @@ fn refused_memory_of_each_call(rt: HostRuntime) -> Result<(), Fail> {
     with_memory_all_along(&stage)
 }
 
-/// Whether a run that stopped so may have so many entries of four, which the two seats kept.
+/// Whether a run of two lists of four stems that stopped so may have these entries, which the two seats kept: where one
+/// harvester was refused memory, the other went on to the end of its list.
 fn may_have(closed: &Closed, stopped: Option<RunFault>) -> bool {
-    let entries = closed.entries().len();
-    let may = match stopped {
-        None => entries == 4,
-        Some(RunFault::Memory) => entries < 4,
+    let kept = closed.kept();
+    if kept.len() != 2 || !has_all_kept(closed) {
+        return false;
+    }
+    let (one, two) = (kept[0].len(), kept[1].len());
+    match stopped {
+        None => one == 4 && two == 4,
+        Some(RunFault::Memory) => one.min(two) < 4 && one.max(two) == 4,
         Some(RunFault::Full) => false,
-    };
-    may && has_all_kept(closed) && closed.kept().len() == 2
+    }
 }
 
-/// A run in which a harvester is refused memory: all seats come back, and the fleet closes well.
+/// A run in which a harvester is refused memory: it stops, and the other goes on; all seats come back, and the fleet
+/// closes well.
 #[test]
 fn refused_memory_of_a_run(rt: HostRuntime) -> Result<(), Fail> {
-    let lists = lists_of(rt.alloc(), 2, 2, 61)?;
+    let lists = lists_of(rt.alloc(), 2, 4, 61)?;
     let evening = steady_evening(&rt, rt.alloc(), 100, lists.as_slice(), &NoGate)?;
     assert!(rt; may_have(&evening.closed, evening.stopped));
     let _evening = with_memory_to_run(evening)?;

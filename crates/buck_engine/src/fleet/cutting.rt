@@ -23,7 +23,6 @@ use std::thread::Threads;
 fn close<F: Drop, L: Ledger>(fleet: Fleet<F, L>, seats: Vec<Seat<L>>) -> Result<Closed, EngineFault>
     requires crew { IsCrew fleet.seats seats.items }
     requires parts { parts_of seats.items ≡ L.parts }
-    requires few { fleet.seats ≤ 64 }
     ensures ok { IfOk result (λ closed. IsOneHistory fleet.instruction fleet.seats seats.items closed
         × (length closed.history.postings ≤ MOST_POSTINGS)) }
     ensures fault { IfErr result IsCuttingFault }
