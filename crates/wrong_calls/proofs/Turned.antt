@@ -1,6 +1,6 @@
 -- The texts of harvesters in turn are by the rule of the number.
-use Rattle.std.proofs.Common.{◌≡◌, ◌≢◌, ◌<◌, ℕ, ◌+◌, List, ◌++◌, Some, length, take, drop, inl, inr, sym, ap, subst, ◌∙◌, arith, take_all}
-use Rattle.std.proofs.lemmas.List.{take-append-le}
+use Rattle.std.proofs.Common.{◌≡◌, ◌≢◌, ◌<◌, ℕ, ◌+◌, List, ◌++◌, Some, length, take, drop, inl, inr, sym, ap, subst, ◌∙◌, arith}
+use Rattle.std.proofs.lemmas.List.{take-append-le, take_all}
 use Rattle.buck_rule.specs.declared.named.NamedRule.{NamedRule}
 use Rattle.buck_rule.specs.declared.named.NamedRule.TheVariants.{Step}
 use Rattle.buck_engine.proofs.Statuses.{never_0}
@@ -19,7 +19,7 @@ texts_by : (lengths bytes journal report : List ℕ) (status : ℕ) → IsTurned
 texts_by lengths bytes journal report status (inl misused) is = absurd (omega (arith, misused.3, is))
 texts_by lengths bytes journal report status (inr (named, used, inl done)) is =
     subst (λ n. HaveTexts n lengths bytes journal report) (step_is named used.0) done.0
-texts_by lengths bytes journal report status (inr (named, used, inr (none, fault, why, line, told))) is =
+texts_by lengths bytes journal report status (inr (named, used, inr (none, (fault, why, line, told)))) is =
     absurd (never_0 fault (sym told ∙ is))
 
 -- they stand at the start of the room

@@ -38,7 +38,6 @@ pub fn rule_of_no_number(
 
 /// The texts are those of another rule: no journal and report of one history by the rule step stand so, one behind the
 /// other.
-#[tactic(auto, using(crate::proofs::Turned::another_rule))]
 pub fn turns_by_another_rule(
     alloc: Global,
     files: &[u8],

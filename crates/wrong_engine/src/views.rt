@@ -1,5 +1,5 @@
 //! Wrong bodies of what shows a journal.
-ghost use Rattle.std.specs.Prelude.{◌≡◌, ◌≢◌, Ok};
+ghost use Rattle.std.specs.Prelude.{◌≡◌, Ok};
 ghost use Rattle.buck_apt.specs.Instruction.{InstructionParts};
 ghost use Rattle.buck_apt.specs.Apt.{apt_of};
 ghost use Rattle.buck_book.specs.History.{IsLawful};
@@ -11,25 +11,7 @@ use buck_engine::{
     EngineFault, Files, Settings, Shown, Table, ViewTask, run_table, run_view, serve_view,
 };
 use std::alloc::Global;
-use std::io;
 use std::thread::Threads;
-
-/// Takes all that is written, and counts the calls.
-#[derive(Drop)]
-pub(crate) struct Calls {
-    pub(crate) number: u64,
-}
-
-impl io::Write for Calls {
-    fn write(&mut self, buf: &[u8]) -> io::Result<usize> {
-        self.number = self.number.saturating_add(1);
-        Ok(buf.len())
-    }
-
-    fn flush(&mut self) -> io::Result<()> {
-        Ok(())
-    }
-}
 
 /// A journal that isn't lawful is shown as one that is.
 pub fn page_of_an_unlawful_journal<'x>(
@@ -80,56 +62,6 @@ pub fn table_written_before_the_fault<'x>(
     let outcome = run_table(alloc, &mut instruction, &mut postings, table, &mut out);
     let is_wrong = !out.is_empty() && matches!(outcome, Err(EngineFault::Replay(_)));
     prove!(!is_wrong);
-}
-
-/// The writer is called before the first fault of the journal is found, though with nothing to write.
-pub fn table_calls_the_writer_before_the_fault<'x>(
-    alloc: Global,
-    apt: &'x [u8],
-    journal: &'x [u8],
-    table: Table,
-) {
-    let mut instruction = apt;
-    let mut postings = journal;
-    let mut out = Calls { number: 0 };
-    let outcome = run_table(alloc, &mut instruction, &mut postings, table, &mut out);
-    let is_wrong = out.number != 0 && matches!(outcome, Err(EngineFault::Replay(_)));
-    prove!(!is_wrong);
-}
-
-/// A failed write is told of a page, though the journal is refused and there is no page.
-pub fn write_fault_without_a_page<'x, W: io::Write>(
-    alloc: Global,
-    apt: &'x [u8],
-    journal: &'x [u8],
-    files: &Files<'_>,
-    out: &mut W,
-)
-    requires refused { (j : JournalParts) → journal_of journal.now ≢ Ok j }
-{
-    let mut instruction = apt;
-    let mut postings = journal;
-    let outcome = run_view(alloc, &mut instruction, &mut postings, files, out);
-    let is_write = outcome == Err(EngineFault::Write);
-    prove!(!is_write);
-}
-
-/// A failed write is told of a table, though the journal isn't lawful and there is no table.
-pub fn write_fault_without_a_table<'x, W: io::Write>(
-    alloc: Global,
-    apt: &'x [u8],
-    journal: &'x [u8],
-    table: Table,
-    out: &mut W,
-)
-    requires unlawful { (i : InstructionParts) (j : JournalParts) → apt_of apt.now ≡ Ok i → journal_of journal.now ≡ Ok j
-        → ¬ IsLawful (history_of i j) }
-{
-    let mut instruction = apt;
-    let mut postings = journal;
-    let outcome = run_table(alloc, &mut instruction, &mut postings, table, out);
-    let is_write = outcome == Err(EngineFault::Write);
-    prove!(!is_write);
 }
 
 /// The head of a page is written before there is memory for the rest.
