@@ -1,6 +1,8 @@
 -- Runs of requests by a rule, and what their statuses say.
 use Rattle.std.proofs.Common.{◌≡◌, ◌≢◌, ℕ, List, [], Option, Some, None, Result, Ok, Err, inl, inr, sym, ap, subst, ◌∙◌, arith}
+use Rattle.std.specs.Option.{option_map}
 use Rattle.buck_apt.specs.Instruction.{InstructionParts}
+use Rattle.buck_apt.specs.Settings.{with_settings}
 use Rattle.buck_rule.specs.declared.named.NamedRule.{NamedRule}
 use Rattle.buck_book.specs.History.{HistoryParts}
 use Rattle.buck_book.specs.Pricing.{Calls}
@@ -17,7 +19,7 @@ use Rattle.buck_engine.proofs.Statuses.{never_0}
 use Rattle.buck_live.specs.declared.serving.LiveTask.{LiveTask}
 use Rattle.buck_live.specs.Answers.{opening}
 use Rattle.buck_live.specs.Live.{IsLiveRun, StaysByRule}
-use Rattle.buck_live.specs.Serving.{AnswersLive, IsLive, KeepsJournal, RunsApt, first_fault}
+use Rattle.buck_live.specs.Serving.{AnswersLive, IsLive, KeepsJournal, RunsApt, RunsLive, first_fault}
 
 -- the journal of a run is that of a history by the rule that it was opened with
 pub another_rule : {F : Type 0} (g : Calls F) (opened after : BookParts F) (rule : F) (i : InstructionParts)
@@ -70,19 +72,29 @@ unread_1 task apt input Unread OfJournal old new outcome (inl refused) e = refus
 unread_1 task apt input Unread OfJournal old new outcome (inr opened) e =
     absurd (live_1 _ _ input OfJournal old new outcome opened.live e)
 
-pub unread : {O F M : Type 0} (makes : O → List ℕ → Option M → O → Type 0) (held : F → Option (List ℕ))
+unread_apt : {O F M : Type 0} (makes : O → List ℕ → Option M → O → Type 0) (held : F → Option (List ℕ))
     (contents : M → Option (List ℕ)) (start end : O) (task : LiveTask) (journal : Option (List ℕ))
     (opened : Result (F × List F) EngineFault) (input : Option (List ℕ)) (Unread : Type 0) (old new : Option (List ℕ))
     (outcome : Result (Unit {0}) EngineFault)
     → RunsApt makes held contents start end task journal opened input Unread old new outcome
     → status_after outcome ≡ 1 → Unread
-unread makes held contents start end task journal (Err fault) input Unread old new outcome runs e = runs.2
-unread makes held contents start end task None (Ok files) input Unread old new outcome runs e =
+unread_apt makes held contents start end task journal (Err fault) input Unread old new outcome runs e = runs.2
+unread_apt makes held contents start end task None (Ok files) input Unread old new outcome runs e =
     unread_1 task _ input Unread _ old new outcome runs.1 e
-unread makes held contents start end task (Some name) (Ok files) input Unread old new outcome
+unread_apt makes held contents start end task (Some name) (Ok files) input Unread old new outcome
     (None, made, runs) e = runs.1
-unread makes held contents start end task (Some name) (Ok files) input Unread old new outcome
+unread_apt makes held contents start end task (Some name) (Ok files) input Unread old new outcome
     (Some file, made, runs) e = unread_1 task _ input Unread _ old new outcome runs.1 e
+
+pub unread : {O F M : Type 0} (opens : O → List ℕ → Option F → O → Type 0)
+    (makes : O → List ℕ → Option M → O → Type 0) (held : F → Option (List ℕ)) (contents : M → Option (List ℕ))
+    (start end : O) (task : LiveTask) (input : Option (List ℕ)) (Unread : Type 0) (old new : Option (List ℕ))
+    (outcome : Result (Unit {0}) EngineFault)
+    → RunsLive opens makes held contents start end task input Unread old new outcome
+    → status_after outcome ≡ 1 → Unread
+unread opens makes held contents start end task input Unread old new outcome runs e =
+    unread_apt makes held contents runs.between end task (option_map (λ s. s.now) task.journal) runs.opened
+    input Unread old new outcome runs.runs e
 
 -- where it is 0, all requests were answered by the task's rule
 abbrev AnsweredBy : NamedRule → Option (List ℕ) → Option (List ℕ) → Option (List ℕ) → Type 0
@@ -106,24 +118,35 @@ answered_0 task apt input Unread OfJournal old new outcome (inl refused) e =
     absurd (fault_0 outcome refused.fault refused.outcome_is e)
 answered_0 task apt input Unread OfJournal old new outcome (inr opened) e =
     let live = opened.live in
+    let i = with_settings task.settings opened.own in
     let ran = first_0 live.kept live.ran (ap (λ o. status_after o) (sym live.outcome_is) ∙ e) in (
-      _,
+      i,
       live.history,
       live.by_rule,
-      subst (λ (r : Result (Unit {0}) EngineFault). IsLiveRun _ input old new r live.history) ran live.run,
+      subst (λ (r : Result (Unit {0}) EngineFault). IsLiveRun (opening i) input old new r live.history) ran live.run,
     )
 
-pub answered : {O F M : Type 0} (makes : O → List ℕ → Option M → O → Type 0) (held : F → Option (List ℕ))
+answered_apt : {O F M : Type 0} (makes : O → List ℕ → Option M → O → Type 0) (held : F → Option (List ℕ))
     (contents : M → Option (List ℕ)) (start end : O) (task : LiveTask) (journal : Option (List ℕ))
     (opened : Result (F × List F) EngineFault) (input : Option (List ℕ)) (Unread : Type 0) (old new : Option (List ℕ))
     (outcome : Result (Unit {0}) EngineFault)
     → RunsApt makes held contents start end task journal opened input Unread old new outcome
     → status_after outcome ≡ 0 → AnsweredBy task.rule input old new
-answered makes held contents start end task journal (Err fault) input Unread old new outcome runs e =
+answered_apt makes held contents start end task journal (Err fault) input Unread old new outcome runs e =
     absurd (fault_0 outcome fault runs.0 e)
-answered makes held contents start end task None (Ok files) input Unread old new outcome runs e =
+answered_apt makes held contents start end task None (Ok files) input Unread old new outcome runs e =
     answered_0 task _ input Unread _ old new outcome runs.1 e
-answered makes held contents start end task (Some name) (Ok files) input Unread old new outcome
+answered_apt makes held contents start end task (Some name) (Ok files) input Unread old new outcome
     (None, made, runs) e = absurd (fault_0 outcome _ runs.0 e)
-answered makes held contents start end task (Some name) (Ok files) input Unread old new outcome
+answered_apt makes held contents start end task (Some name) (Ok files) input Unread old new outcome
     (Some file, made, runs) e = answered_0 task _ input Unread _ old new outcome runs.1 e
+
+pub answered : {O F M : Type 0} (opens : O → List ℕ → Option F → O → Type 0)
+    (makes : O → List ℕ → Option M → O → Type 0) (held : F → Option (List ℕ)) (contents : M → Option (List ℕ))
+    (start end : O) (task : LiveTask) (input : Option (List ℕ)) (Unread : Type 0) (old new : Option (List ℕ))
+    (outcome : Result (Unit {0}) EngineFault)
+    → RunsLive opens makes held contents start end task input Unread old new outcome
+    → status_after outcome ≡ 0 → AnsweredBy task.rule input old new
+answered opens makes held contents start end task input Unread old new outcome runs e =
+    answered_apt makes held contents runs.between end task (option_map (λ s. s.now) task.journal) runs.opened
+    input Unread old new outcome runs.runs e

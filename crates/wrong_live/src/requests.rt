@@ -74,7 +74,6 @@ pub fn words_among_the_answers(
 
 /// The prices are in the relation, but another rule gave them: no history whose prices are the rule's answers has this
 /// journal.
-#[tactic(auto, using(crate::proofs::Ruled::another_rule))]
 pub fn requests_by_another_rule<'x, F: Fn(&Standing) -> u64 + Drop>(
     alloc: Global,
     instruction: Arc<Instruction>,

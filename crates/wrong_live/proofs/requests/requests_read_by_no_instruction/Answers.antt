@@ -1,9 +1,10 @@
-use Rattle.std.proofs.Common.{rules, ◌≡◌, ◌∙◌, sym}
+use Rattle.std.proofs.Common.{◌≡◌, ◌∙◌, sym, refl}
 use Rattle.wrong_live.proofs.Ruled.{unread}
 use Rattle.wrong_live.proofs.requests.requests_read_by_no_instruction.Goals as goal
 
 pub prove-unreachable-requires : goal.prove-unreachable-requires
 prove-unreachable-requires g c =
     let runs = c.serve_live-status.ensures.1 in
-    let same = unread _ _ _ _ _ _ _ _ _ _ _ _ _ runs.runs (sym c.serve_live-status.ensures.2 ∙ c.if-prove.true) in
-    search (rules, same)
+    let same : c.serve_live-status.new.input ≡ c.args.requests =
+    unread _ _ _ _ _ _ _ _ _ _ _ _ runs (sym c.serve_live-status.ensures.2 ∙ c.if-status-refused.true) in
+    c.if-prove.true (rw same refl)

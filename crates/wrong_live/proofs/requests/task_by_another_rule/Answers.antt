@@ -10,7 +10,7 @@ prove-unreachable-requires g c =
     let runs = c.serve_live-status.ensures.1 in
     let same : c.serve_live-status.new.output.items ≡ c.args.wrong.now = search rules in
     let by =
-    answered _ _ _ _ _ _ _ _ _ _ _ _ _ runs.runs (sym c.serve_live-status.ensures.2 ∙ c.if-prove.true) in
+    answered _ _ _ _ _ _ _ _ _ _ _ _ runs (sym c.serve_live-status.ensures.2 ∙ c.if-status-eq0.true) in
     let Run = λ (old new : List ℕ). IsLiveRun (opening by.0) (Some c.args.requests.now) (Some old) (Some new) (Ok tt) by.1 in
     c.requires.other by.0 by.1 (subst (λ r. FollowsRule r by.1) c.requires.rule by.2)
     (subst (λ (new : List ℕ). Run [] new) same
