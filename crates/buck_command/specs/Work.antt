@@ -11,21 +11,22 @@ use Rattle.buck_sweep.specs.Serving.{RunsSweep}
 use Rattle.buck_command.specs.declared.working.Work.{Work}
 use Rattle.buck_command.specs.declared.working.Work.TheVariants.{Plain, Buck, Fleet, Check, View, Live, Sweep}
 
--- work is its task's run, over the input and the files, and what it writes is the output
+-- work is its task's run, over the input and the files, and what it writes is the output; what it is that nothing was
+-- read of the input is handed over
 abbrev pub DoesWork : {O F M : Type 0} → (O → List ℕ → Option F → O → Type 0) → (O → List ℕ → Option M → O → Type 0)
-    → (F → Option (List ℕ)) → (M → Option (List ℕ)) → O → O → Option (List ℕ) → Work
+    → (F → Option (List ℕ)) → (M → Option (List ℕ)) → O → O → Option (List ℕ) → Type 0 → Work
     → Option (List ℕ) → Option (List ℕ) → Result (Unit {0}) EngineFault → Type 0
-DoesWork opens makes held contents start end input (Plain task) old new outcome =
+DoesWork opens makes held contents start end input Unread (Plain task) old new outcome =
     RunsTask opens held start end input task old new outcome
-DoesWork opens makes held contents start end input (Buck task) old new outcome =
+DoesWork opens makes held contents start end input Unread (Buck task) old new outcome =
     RunsFiles AnswersBuck opens held start end task.apt.now task.stm.now old new outcome
-DoesWork opens makes held contents start end input (Fleet task) old new outcome =
+DoesWork opens makes held contents start end input Unread (Fleet task) old new outcome =
     RunsFleet opens makes held contents start end task old new outcome
-DoesWork opens makes held contents start end input (Check task) old new outcome =
+DoesWork opens makes held contents start end input Unread (Check task) old new outcome =
     RunsCheck opens held start end task old new outcome
-DoesWork opens makes held contents start end input (View task) old new outcome =
+DoesWork opens makes held contents start end input Unread (View task) old new outcome =
     RunsView opens held start end task old new outcome
-DoesWork opens makes held contents start end input (Live task) old new outcome =
-    RunsLive opens makes held contents start end task input old new outcome
-DoesWork opens makes held contents start end input (Sweep task) old new outcome =
+DoesWork opens makes held contents start end input Unread (Live task) old new outcome =
+    RunsLive opens makes held contents start end task input Unread old new outcome
+DoesWork opens makes held contents start end input Unread (Sweep task) old new outcome =
     RunsSweep opens held start end task old new outcome

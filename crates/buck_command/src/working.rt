@@ -74,7 +74,7 @@ pub fn serve_work<
 ) -> u8
     ensures { (outcome : Result (Unit {0}) EngineFault)
         × DoesWork O.opens O.makes O.File.remaining O.Made.contents files.old files.new
-        (R.remaining streams.old.input) work.now
+        (R.remaining streams.old.input) (streams.new.input ≡ streams.old.input) work.now
         (W.contents streams.old.output) (W.contents streams.new.output) outcome
         × (result ≡ status_after outcome)
         × TellsOutcome (E.contents streams.old.errors) (E.contents streams.new.errors) outcome }
