@@ -167,6 +167,27 @@ def most_zones(_source, size):
     return after(b"1 2 STM~", b"".join(stems), size)
 
 
+def many_rows():
+    """16 assortments of 32 lengths and 32 rows at limits of their own, each of which takes all grades but one."""
+    columns = b" ".join(b"%d" % (500 + 110 * k) for k in range(32))
+    prices = b" ".join(b"%d" % (400 + row + k) for row in range(32) for k in range(32))
+    targets = b" ".join([b"1"] * 1024)
+    all_of_them = b""
+    for place in range(16):
+        grades = b" ".join(b"%d" % g for g in range(1, 9) if g != place % 8 + 1)
+        limits = b" ".join(b"%d" % (32 * row + 2 * place) for row in range(32))
+        all_of_them += b"911 1 no%d~912 1 1~913 1 %s~914 1 1~915 1 %s~915 2 2000~" % (place, grades, limits)
+        all_of_them += b"916 1 %s~917 1 %s~918 1 %s~" % (columns, prices, targets)
+    return b"1 2 APT~901 1 10~902 1 1~903 1 0~910 1 16~" + all_of_them
+
+
+def stems_through_all_rows(_source, _size):
+    """100 stems of 40 m with the most zones that fall through some 500 limits, from 1,050 to 50 mm, or from up to 99 mm more."""
+    each = (b" ".join(b"%d" % (1050 + more - 1000 * k // 400) for k in range(401)) for more in range(100))
+    stems = (b"951 1 %d~952 1 1~953 1 %s~954 1 %s~" % (k, samples, ZONES) for k, samples in enumerate(each, 1))
+    return b"1 2 STM~" + b"".join(stems)
+
+
 def one_stem(_source, size):
     """One stem, whose samples fill the file."""
     samples = longer([1500] * 401, size - 100)
@@ -282,6 +303,7 @@ COMMANDS = [
     ("most stems by a fleet", FLEET, SAW, most_stems, 0, "full"),
     ("longest stems", BUCK, SAW, longest_stems, 0, "STEM 4294967295 40000 0 0"),
     ("stems of the most zones", BUCK, just(pickers()), most_zones, 0, "STEM 1 40000 63 651794108"),
+    ("stems of many rows", BUCK, just(many_rows()), stems_through_all_rows, 0, "STEM 1 40000 80 5050667557"),
     ("one stem", BUCK, SAW, one_stem, 0, "STEM 1 40000 0 0"),
     ("a journal of cuts", CHECK, JUDGED, cuts_that_fill, 0, f"LAWFUL {LONGEST_JOURNAL}"),
     ("a journal of most postings", CHECK, JUDGED, just_postings, 0, f"LAWFUL {MOST_POSTINGS}"),

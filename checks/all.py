@@ -1,5 +1,6 @@
 #!/usr/bin/env python3
-"""Runs every check that needs a built program, and says one line for each.
+"""Runs every check that needs a built program, that of the Python package and that of the reference in plain Python, and
+says one line for each.
 
     checks/all.py PROGRAM
 
@@ -13,14 +14,17 @@ import time
 
 CHECKS = pathlib.Path(__file__).resolve().parent
 
-# What each is handed, with {} for the program.
-WORDS = {
-    "edges": ["{}"],
-    "live": ["--bin", "{}"],
-    "guide": ["{}"],
-    "cut_off": ["{}"],
-    "valgrind": ["--bin", "{}"],
-}
+# Each check with the words that it is handed, with {} for the program.
+RUNS = [
+    ("edges", ["{}"]),
+    ("live", ["--bin", "{}"]),
+    ("guide", ["{}"]),
+    ("cut_off", ["{}"]),
+    ("valgrind", ["--bin", "{}"]),
+    ("reference", ["cases"]),
+    ("reference", ["compare", "{}", "--count", "300", "--seed", "1"]),
+    ("package", []),
+]
 
 
 def main():
@@ -29,7 +33,7 @@ def main():
         return 2
     program = str(pathlib.Path(sys.argv[1]).resolve())
     failed = 0
-    for name, words in WORDS.items():
+    for name, words in RUNS:
         began = time.monotonic()
         asked = [sys.executable, str(CHECKS / f"{name}.py"), *(word.format(program) for word in words)]
         done = subprocess.run(asked, stdout=subprocess.PIPE, stderr=subprocess.STDOUT, text=True, errors="replace")

@@ -199,13 +199,13 @@ static void shown(void) {
     want(buckfleet_view(NULL, 0, NULL, 0, NULL, 0, text, ROOM, &n) == BUCKFLEET_REFUSED, "a page of nothing");
     want(buckfleet_view(apt.at, apt.length, journal.at, journal.length, NULL, 0, text, ROOM, &n) == BUCKFLEET_OK
              && memcmp(text, "<!", 2) == 0, "a page without names");
-    for (number = BUCKFLEET_CLASSES; number <= BUCKFLEET_DEGREES; number++) {
+    for (number = BUCKFLEET_CLASSES; number <= BUCKFLEET_LACKING; number++) {
         want(buckfleet_table(NULL, 0, NULL, 0, number, text, ROOM, &n) == BUCKFLEET_REFUSED, "a table of nothing");
         want(buckfleet_table(apt.at, apt.length, journal.at, journal.length, number, text, ROOM, &n) == BUCKFLEET_OK
                  && n > 0, "a table");
     }
-    want(buckfleet_table(apt.at, apt.length, journal.at, journal.length, 4, NULL, 0, &n) == BUCKFLEET_MISUSED && n == 0,
-         "no such table");
+    want(buckfleet_table(apt.at, apt.length, journal.at, journal.length, BUCKFLEET_LACKING + 1, NULL, 0, &n)
+             == BUCKFLEET_MISUSED && n == 0, "no such table");
 }
 
 /* What can't be cut in turn, and the two texts of what can. */
@@ -329,7 +329,8 @@ enum { STEMS = 12, SAMPLES = 150, MOST_CLASSES = 16384 };
 
 /* What comes of a day in a book of its own. */
 struct day {
-    buckfleet_cutting cuttings[STEMS];
+    buckfleet_cutting previews[STEMS], cuttings[STEMS];
+    buckfleet_appraisal appraisals[STEMS];
     uint32_t prices[MOST_CLASSES], counts[MOST_CLASSES];
     size_t prices_length, counts_length;
     uint8_t journal[ROOM];
@@ -351,6 +352,23 @@ static uint8_t cut_at(buckfleet_book *book, int k, buckfleet_cutting *cutting) {
     return buckfleet_cut(book, &felled, tapered[k], SAMPLES, zones, k % 2 ? 2 : 0, cutting);
 }
 
+/* Looks at a stem before it is cut, and prices the logs that it would be cut into. */
+static uint8_t look_at(buckfleet_book *book, int k, buckfleet_cutting *preview, buckfleet_appraisal *appraisal) {
+    buckfleet_felled felled = felled_at(k);
+    buckfleet_named named[BUCKFLEET_MOST_LOGS];
+    size_t zones_length = k % 2 ? 2 : 0;
+    uint8_t status = buckfleet_preview(book, &felled, tapered[k], SAMPLES, zones, zones_length, preview);
+    uint32_t j;
+    if (status != BUCKFLEET_OK)
+        return status;
+    for (j = 0; j < preview->logs_number; j++) {
+        named[j].start = preview->logs[j].start;
+        named[j].length = preview->logs[j].length;
+        named[j].assortment = preview->logs[j].assortment;
+    }
+    return buckfleet_price_of(book, &felled, tapered[k], SAMPLES, zones, zones_length, named, preview->logs_number, appraisal);
+}
+
 static void taper(void) {
     int k, i;
     for (k = 0; k < STEMS; k++)
@@ -363,7 +381,9 @@ static uint8_t day_in(buckfleet_book *book, struct day *day) {
     uint8_t status = buckfleet_open(book, apt.at, apt.length, &terms);
     int k;
     for (k = 0; k < STEMS && status == BUCKFLEET_OK; k++) {
-        status = cut_at(book, k, &day->cuttings[k]);
+        status = look_at(book, k, &day->previews[k], &day->appraisals[k]);
+        if (status == BUCKFLEET_OK)
+            status = cut_at(book, k, &day->cuttings[k]);
         if (k == STEMS / 2 && status == BUCKFLEET_OK)
             status = buckfleet_targets(book, day->prices, MOST_CLASSES, &day->prices_length);
         if (k == STEMS / 2 && status == BUCKFLEET_OK)
@@ -410,19 +430,34 @@ static struct day *new_day(void) {
     return day;
 }
 
+/* Each stem was cut as its preview said, and the logs of the preview lose nothing. */
+static int is_foretold(const struct day *day) {
+    int k, is = 1;
+    for (k = 0; is && k < STEMS; k++)
+        is = same_cutting(&day->previews[k], &day->cuttings[k]) && day->appraisals[k].worth == day->cuttings[k].worth
+             && day->appraisals[k].best == day->cuttings[k].worth && day->appraisals[k].version == day->cuttings[k].version
+             && day->appraisals[k].log == day->cuttings[k].logs_number && day->appraisals[k].reason == BUCKFLEET_ADMISSIBLE;
+    return is;
+}
+
 /* A block that holds no book, whatever stands in it. */
 static void no_book(buckfleet_book *book, const char *what) {
     buckfleet_felled felled = felled_at(0);
     buckfleet_cutting cutting;
+    buckfleet_appraisal appraisal;
     buckfleet_standing standing;
     uint32_t degree = 17, numbers[1] = { 17 };
     uint8_t text[1] = { 17 };
     size_t n = 1;
     memset(&cutting, 17, sizeof cutting);
+    memset(&appraisal, 17, sizeof appraisal);
     memset(&standing, 17, sizeof standing);
     want(buckfleet_close(book) == BUCKFLEET_CLOSED, what);
     want(buckfleet_cut(book, &felled, NULL, 0, NULL, 0, &cutting) == BUCKFLEET_CLOSED, what);
+    want(buckfleet_preview(book, &felled, NULL, 0, NULL, 0, &cutting) == BUCKFLEET_CLOSED, what);
     want(all_are((uint8_t *)&cutting, 17, 0, sizeof cutting), "no cutting is written");
+    want(buckfleet_price_of(book, &felled, NULL, 0, NULL, 0, NULL, 0, &appraisal) == BUCKFLEET_CLOSED, what);
+    want(all_are((uint8_t *)&appraisal, 17, 0, sizeof appraisal), "no appraisal is written");
     want(buckfleet_retarget(book, 1, NULL, 0) == BUCKFLEET_CLOSED, what);
     want(buckfleet_state(book, &standing) == BUCKFLEET_CLOSED, what);
     want(all_are((uint8_t *)&standing, 17, 0, sizeof standing), "no standing is written");
@@ -467,6 +502,58 @@ static void refusals(buckfleet_book *book) {
     want(buckfleet_degree(book, 16, &degree) == BUCKFLEET_MISUSED && degree == 17, "no such assortment");
 }
 
+/* Looks at a stem that are refused: nothing is written. */
+static void refused_looks(buckfleet_book *book) {
+    static uint16_t many[402];
+    static buckfleet_cutting cutting, before;
+    buckfleet_appraisal appraisal, untouched;
+    buckfleet_felled felled = felled_at(0);
+    memset(&before, 17, sizeof before);
+    memset(&cutting, 17, sizeof cutting);
+    memset(&untouched, 17, sizeof untouched);
+    memset(&appraisal, 17, sizeof appraisal);
+    felled.harvester = 65;
+    want(buckfleet_preview(book, &felled, tapered[0], SAMPLES, NULL, 0, &cutting) == BUCKFLEET_MISUSED, "a look by 65");
+    want(buckfleet_price_of(book, &felled, tapered[0], SAMPLES, NULL, 0, NULL, 0, &appraisal) == BUCKFLEET_MISUSED,
+         "a price for 65");
+    felled.harvester = 1;
+    want(buckfleet_preview(book, &felled, many, 402, NULL, 0, &cutting) == BUCKFLEET_REFUSED, "a look at too many diameters");
+    want(buckfleet_price_of(book, &felled, NULL, 0, NULL, 0, NULL, 0, &appraisal) == BUCKFLEET_REFUSED,
+         "a price of no diameters");
+    want(memcmp(&cutting, &before, sizeof cutting) == 0, "no refused preview is written");
+    want(memcmp(&appraisal, &untouched, sizeof appraisal) == 0, "no refused appraisal is written");
+}
+
+/* A cutting that can't be: which log, and why. */
+static void priced(buckfleet_book *book, const buckfleet_named *named, size_t length, size_t log, uint8_t reason) {
+    buckfleet_appraisal appraisal;
+    buckfleet_felled felled = felled_at(1);
+    want(buckfleet_price_of(book, &felled, tapered[1], SAMPLES, zones, 2, named, length, &appraisal) == BUCKFLEET_OK,
+         "an own cutting");
+    want(appraisal.log == log && appraisal.reason == reason, "its log and its reason");
+    want(reason == BUCKFLEET_ADMISSIBLE || appraisal.worth == 0, "no worth of what can't be cut");
+    want(appraisal.worth <= appraisal.best, "nothing outvalues the best");
+}
+
+/* Own cuttings of the first log of the best one, and of logs that are nobody's. */
+static void own_cuttings(buckfleet_book *book, const struct day *day) {
+    const buckfleet_log *first = &day->cuttings[1].logs[0];
+    buckfleet_named named[2] = { { first->start, first->length, first->assortment }, { 0, 0, 255 } };
+    want(day->cuttings[1].logs_number > 0, "there is a log");
+    priced(book, NULL, 0, 0, BUCKFLEET_ADMISSIBLE);
+    priced(book, named, 1, 1, BUCKFLEET_ADMISSIBLE);
+    priced(book, named, 2, 1, BUCKFLEET_ORDER);
+    named[1].start = 15000;
+    priced(book, named, 2, 1, BUCKFLEET_ASSORTMENT);
+    named[1] = named[0];
+    named[1].start = 4294967000u;
+    priced(book, named, 2, 1, BUCKFLEET_END);
+    named[1].start++;
+    priced(book, named, 2, 1, BUCKFLEET_START);
+    named[0].length = 1;
+    priced(book, named, 2, 0, BUCKFLEET_LENGTH);
+}
+
 /* A list of a book with too little room, and just enough. */
 static void list(buckfleet_book *book, uint8_t (*of)(buckfleet_book *, uint32_t *, size_t, size_t *), size_t length,
                  const char *what) {
@@ -504,9 +591,12 @@ static void full_book(void) {
     buckfleet_book book = BUCKFLEET_NO_BOOK;
     buckfleet_terms one = { 1, BUCKFLEET_LINEAR };
     buckfleet_cutting cutting;
+    buckfleet_appraisal appraisal;
     want(buckfleet_open(&book, apt.at, apt.length, &one) == BUCKFLEET_OK, "a book of one");
     want(cut_at(&book, 0, &cutting) == BUCKFLEET_OK && cutting.position == 0 && cutting.number == 1, "its posting");
     want(cut_at(&book, 1, &cutting) == BUCKFLEET_FULL && cutting.position == 0, "it is full");
+    want(look_at(&book, 1, &cutting, &appraisal) == BUCKFLEET_OK && cutting.position == 1, "it still says what it would be");
+    want(appraisal.worth == cutting.worth && appraisal.best == cutting.worth, "and what that is worth");
     want(buckfleet_retarget(&book, 1, NULL, 0) == BUCKFLEET_FULL, "for targets too");
     want(buckfleet_close(&book) == BUCKFLEET_OK, "closed");
 }
@@ -586,7 +676,10 @@ static void books(void) {
     for (k = 0; k < STEMS; k++)
         logs += day->cuttings[k].logs_number;
     want(logs > 0 && day->cuttings[STEMS - 1].position == STEMS, "it has logs");
+    want(is_foretold(day), "each stem was cut as its preview said");
     refusals(&book);
+    refused_looks(&book);
+    own_cuttings(&book, day);
     lists(&book, day);
     want(buckfleet_close(&book) == BUCKFLEET_OK, "a close");
     no_book(&book, "a closed block");

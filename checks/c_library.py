@@ -14,8 +14,10 @@ scripts/c_library proves and builds the library. Then
    morning's three files in turn, by each rule;
  - a morning's first stem file is cut stem by stem into a book, in C and in Python, by each rule: they print what a fleet
    of one harvester prints, with the same journal, which the program finds lawful and by the rule;
- - the shared library shows the calls of the header alone, and its name has their version; the module in Python refuses each
-   number that a type of the library can't hold, and a book on another thread; names that aren't UTF-8 go through;
+  - a stem is looked at first, in C: it is cut as its preview showed, and two own cuttings are priced;
+  - the shared library shows the calls of the header alone, and its name has their version; names that aren't UTF-8 go
+    through;
+  - checks/package.py holds: the Python package's own tests, its installation, and the week of examples/python;
  - each worked case of crates/run_cases that an instruction file and a stem file or a journal make up is asked of the
    library too, by Python;
  - where a folder of more cases is named, each case of its own folder there, whose file `args` has the words of the
@@ -31,10 +33,10 @@ import shutil
 import subprocess
 import sys
 import tempfile
-import threading
 
 TOP = os.path.dirname(os.path.dirname(os.path.abspath(__file__)))
 FOLDER = os.path.join(TOP, "out", "c")
+PACKAGE = os.path.join(TOP, "python", "src")
 STRICT = ("-std=c99", "-Wall", "-Wextra", "-Wconversion", "-Werror")
 PASSED = []
 FAILED = []
@@ -48,6 +50,12 @@ def tell(name, is_right, more=""):
 
 def run(words, **more):
     return subprocess.run(words, capture_output=True, **more)
+
+
+def python(*words):
+    """The words that run a Python program over the package and the library."""
+    shared = os.path.join(FOLDER, "libbuckfleet.so")
+    return ["env", f"PYTHONPATH={PACKAGE}", f"BUCKFLEET_LIBRARY={shared}", sys.executable, os.path.join(TOP, *words)]
 
 
 def read(*words):
@@ -96,7 +104,7 @@ def at_the_edges(compiler, scratch):
 def examples(compiler, scratch, program):
     in_c = compiled(compiler, scratch, "buck_files", "examples/c/buck_files.c", *STRICT)
     tell("examples/c is compiled", in_c is not None)
-    in_python = [sys.executable, os.path.join(TOP, "examples", "python", "buck_files.py")]
+    in_python = python("examples", "python", "buck_files.py")
     if not program:
         print("there is no program to compare with: the examples are compared with stored texts and one another")
     for word, apt, other, stored in (
@@ -125,12 +133,13 @@ def examples(compiler, scratch, program):
             files = [example(name) for name in ("morning.apt", "morning_1.stm", "morning_2.stm", "morning_3.stm")]
             same_turns(f"in turn by {rule}", program, rule, files)
     book_examples(compiler, scratch, program)
+    looks(compiler, scratch)
     header = run([compiler, "-x", "c++", "-fsyntax-only", "-Wall", "-Wextra", "-Werror", os.path.join(FOLDER, "buckfleet.h")])
     tell("the header is C++ too", header.returncode == 0)
 
 
 def library():
-    sys.path.insert(0, os.path.join(TOP, "examples", "python"))
+    sys.path.insert(0, PACKAGE)
     os.environ["BUCKFLEET_LIBRARY"] = os.path.join(FOLDER, "libbuckfleet.so")
     import buckfleet
 
@@ -173,14 +182,14 @@ def shown(program):
         same_as(f"view {apt} {journal}", done, answer(buckfleet.view, *files, (apt, journal)), True)
         for what in buckfleet.TABLES:
             done = run([program, "table", apt, journal, what], cwd=os.path.join(TOP, "examples"))
-            same_as(f"table {apt} {journal} {what}", done, answer(buckfleet.table, *files, what), False)
+            same_as(f"table {apt} {journal} {what}", done, answer(buckfleet.table_text, *files, what), False)
 
 
 def book_examples(compiler, scratch, program):
     """A morning's first file, cut stem by stem: what a fleet of one harvester prints, with a lawful journal."""
     in_c = compiled(compiler, scratch, "cut_stems", "examples/c/cut_stems.c", *STRICT)
     tell("examples/c/cut_stems.c is compiled", in_c is not None)
-    in_python = [sys.executable, os.path.join(TOP, "examples", "python", "cut_stems.py")]
+    in_python = python("examples", "python", "cut_stems.py")
     spoilt = os.path.join(scratch, "spoilt.stm")
     with open(spoilt, "w") as file:
         file.write("1 2 STM~951 1 1~952 1 257~953 1 250 250~")
@@ -207,6 +216,22 @@ def book_examples(compiler, scratch, program):
                 tell(f"{name}: its journal by {rule}", done.returncode == 0, done.stderr.decode(errors="replace"))
 
 
+def looks(compiler, scratch):
+    """A stem that is looked at first: it is cut as its preview said, and own cuttings are priced."""
+    in_c = compiled(compiler, scratch, "look_first", "examples/c/look_first.c", *STRICT)
+    tell("examples/c/look_first.c is compiled", in_c is not None)
+    if in_c:
+        done = run([in_c, example("morning.apt")], text=True)
+        lines = [line.split() for line in done.stdout.splitlines()]
+        told = {words[0]: words[1:] for words in lines}
+        tell("look_first: it is cut as it was shown", done.returncode == 0 and told.get("CUT") == told.get("PREVIEW"), str(done))
+        own = [words[1:] for words in lines if words[0] == "OWN"]
+        first = next((words for words in lines if words[0] == "LOG"), None)
+        worth, best = (int(first[4]), int(told["PREVIEW"][3])) if first else (0, 0)
+        wanted = [["1", str(worth), "loses", str(best - worth)], ["not", "2", "order"]]
+        tell("look_first: own cuttings are priced", own == wanted, f"{own} in the place of {wanted}")
+
+
 def shared_names():
     """The shared library shows its calls alone, under a name with their version."""
     buckfleet = library()
@@ -218,47 +243,10 @@ def shared_names():
     tell("the shared library has a version", os.path.basename(os.path.realpath(shared)) == f"libbuckfleet.so.{buckfleet.VERSION}")
 
 
-def raised(kind, call, *given):
-    """Whether a call raises an error of this kind."""
-    try:
-        call(*given)
-    except kind:
-        return True
-    return False
-
-
-def numbers_in_python():
-    """Numbers that ctypes would cut off are refused before a call, and the book is as it was."""
-    buckfleet = library()
-    apt = read(example("morning.apt"))
-    stem = {"number": 1, "species": 1, "samples": [250] * 60, "zones": [(0, 1)]}
-    for capacity in (2**32 + 1, -1):
-        tell(f"python: capacity {capacity}", raised(ValueError, buckfleet.Book, apt, "linear", capacity))
-    tell("python: a rule that there isn't", raised(ValueError, buckfleet.Book, apt, "none"))
-    with buckfleet.Book(apt) as book:
-        for name, wrong in (
-            ("species", 257),
-            ("species", -1),
-            ("number", 2**32),
-            ("samples", [250] * 59 + [65786]),
-            ("samples", [-1]),
-            ("zones", [(2**32, 1)]),
-            ("zones", [(0, 257)]),
-        ):
-            spoilt = buckfleet.Stem(**{**stem, name: wrong})
-            tell(f"python: {name} {wrong}"[:60], raised(ValueError, book.cut, 1, spoilt))
-        tell("python: harvester", raised(ValueError, book.cut, 2**32 + 1, buckfleet.Stem(**stem)))
-        tell("python: a sample that is no whole number", raised(TypeError, book.cut, 1, buckfleet.Stem(1, 1, [250.5])))
-        tell("python: harvester of targets", raised(ValueError, book.retarget, 2**32 + 1, book.targets()))
-        tell("python: target", raised(ValueError, book.retarget, 1, [2**32, *book.targets()[1:]]))
-        tell("python: assortment", raised(ValueError, book.degree, 256))
-        tell("python: nothing was cut", book.standing().postings == 0)
-        elsewhere = []
-        other = threading.Thread(target=lambda: elsewhere.append(raised(RuntimeError, book.standing)))
-        other.start()
-        other.join()
-        tell("python: another thread", elsewhere == [True])
-    tell("python: a table that there isn't", raised(ValueError, buckfleet.table, apt, read(example("morning.jrn")), "none"))
+def package():
+    """The tests of the Python package hold."""
+    done = run(python("checks", "package.py"))
+    tell("checks/package.py", done.returncode == 0, done.stdout.decode(errors="replace"))
 
 
 def names_in_any_bytes(scratch):
@@ -267,7 +255,7 @@ def names_in_any_bytes(scratch):
     stm, journal = read(example("pine.stm")), os.path.join(scratch, "any.jrn")
     with open(os.path.join(scratch, "any.apt"), "wb") as file:
         file.write(apt)
-    words = [sys.executable, os.path.join(TOP, "examples", "python", "cut_stems.py"), "steady"]
+    words = [*python("examples", "python", "cut_stems.py"), "steady"]
     done = run([*words, os.path.join(scratch, "any.apt"), example("pine.stm"), journal])
     tell("python: a name that isn't UTF-8", done.returncode == 0 and b"pine \xe5\xff log" in done.stdout, done.stderr.decode()[-500:])
     text = library().in_turn(apt, [stm], "steady")[0]
@@ -399,7 +387,8 @@ def more_cases(folder, program):
         number += 1
         done = run([program, *words], cwd=at)
         given = [tuple(words[1:3])] if words[0] == "view" else words[3:]
-        same_as(f"case {name}", done, answer(getattr(buckfleet, words[0]), *files, *given), words[0] == "view")
+        call = buckfleet.table_text if words[0] == "table" else getattr(buckfleet, words[0])
+        same_as(f"case {name}", done, answer(call, *files, *given), words[0] == "view")
     print(f"{number} more cases were asked of the library and of the program")
 
 
@@ -422,7 +411,7 @@ def main():
         examples(compiler, scratch, program if os.path.exists(program) else None)
         names_in_any_bytes(scratch)
     shared_names()
-    numbers_in_python()
+    package()
     cases()
     if asked_for.cases and os.path.exists(program):
         more_cases(asked_for.cases, program)

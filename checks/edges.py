@@ -135,6 +135,25 @@ def out_that_is_a_pipe_or_nothing():
 
 
 @row
+def input_that_is_a_pipe_in_words():
+    _, _, errors = run("buck --explain - /dev/fd/3", "3< morning.apt < morning.apt")
+    expect(errors == b'/dev/fd/3, line 1: kind of file (1 2): "APT", STM wanted\nstm 1 fault 2\n', errors)
+    os.mkfifo("pipe")
+    with subprocess.Popen(["cp", "morning.apt", "pipe"]):
+        _, _, errors = run("buck --explain morning.apt pipe")
+    os.remove("pipe")
+    expect(errors == b'pipe, line 1: kind of file (1 2): "APT", STM wanted\nstm 1 fault 2\n', errors)
+
+
+@row
+def input_that_is_a_folder_in_words():
+    os.mkdir("folder")
+    status, _, errors = run("buck --explain morning.apt folder")
+    os.rmdir("folder")
+    expect((status, errors) == (5, b"folder: is a folder\nread fault 1\n"), errors)
+
+
+@row
 def input_of_the_name_of_a_part():
     journal, _ = wanted()
     put("o.jrn")
@@ -386,6 +405,30 @@ def terminal_that_erases_nothing():
     expect(b"\x1b[K" in seen["xterm"], "no line was drawn: the machine is too fast for this row")
     expect(b"\x1b" not in seen["dumb"] and b"\x1b" not in seen[None], "it erases")
     expect(b"stems planned" in seen["dumb"], "no line was written")
+
+
+@row
+def postings_of_two_journals():
+    """1,000,000 together are read, and then found unlawful; two more are too many."""
+    for many, line in ((500_000, b"replay 1 fault 1 0\n"), (500_001, b"full\n")):
+        put("many.jrn", b"1 2 JRN~" + b"982 1 1 1 0~982 2~" * many)
+        for words in ("view morning.apt many.jrn many.jrn", "table morning.apt many.jrn many.jrn logs"):
+            status, output, errors = run(words)
+            expect((status, errors) == (3 if line == b"full\n" else 4, line), (many, words, status, errors))
+            is_page = status == 4 and words.startswith("view")
+            expect((output != b"") == is_page, f"{words} prints {output[:60]}")
+    _, _, errors = run("view --explain morning.apt many.jrn many.jrn")
+    expect(errors == b"more than 1000000 postings together\nfull\n", errors)
+
+
+@row
+def journal_that_is_named_twice():
+    note = b"note: morning.jrn: a journal that is named twice counts twice\r\n"
+    for words in ("view morning.apt morning.jrn morning.jrn", "table morning.apt morning.jrn morning.jrn classes"):
+        expect(run(words, terminal=True)[::2] == (0, note), words)
+        expect(run(words.replace(" ", " --quiet ", 1), terminal=True)[::2] == (0, b""), f"{words}, quietly")
+        expect(run(words)[::2] == (0, b""), f"{words}, where nobody looks on")
+    expect(run("view morning.apt morning.jrn", terminal=True)[::2] == (0, b""), "one journal")
 
 
 @row

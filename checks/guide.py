@@ -404,13 +404,36 @@ def sentences(runs, order, few, rows):
 def morning(lab):
     """What README and the guide show of the morning's journal and of its pine saw logs."""
     files = [os.path.join(TOP, "examples", name) for name in ("morning.apt", "morning.jrn")]
-    postings, degrees = (list(lab.rows("table", *files, it)) for it in ("postings", "degrees"))
+    postings, parts, lacking = (list(lab.rows("table", *files, it)) for it in ("postings", "assortments", "lacking"))
     columns = ("worth_millionths", "base_worth_millionths", "best_base_worth_millionths")
     force, got, best = (sum(int(row[column] or 0) for row in postings) for column in columns)
-    pine = [row for row in degrees if row["assortment"] == "0"][-1]
+    pine = parts[0]
     both = [f"{best / 1e6:,.2f}", f"{got / 1e6:,.2f}", f"{100 * (best - got) / best:.2f} %"]
-    both += [f"{int(pine[column]) / 100:.2f} %" for column in ("degree", "base_degree")]
-    return both, both + [f"{(best - got) / 1e6:,.2f}", f"{force / 1e6:,.2f}"]
+    both += [f"{int(pine[column]) / 100:.2f} %" for column in ("degree", "unsteered_degree")]
+    told = [f"{(best - got) / 1e6:,.2f}", f"{force / 1e6:,.2f}"]
+    wood, unsteered = ([int(part[column]) for part in parts] for column in ("volume_cm3", "unsteered_volume_cm3"))
+    told.append(f"{sum(unsteered) / 1e6:.2f} m³ unsteered and {sum(wood) / 1e6:.2f} as cut")
+    shares = [100 * volumes[0] / sum(volumes) for volumes in (wood, unsteered)]
+    told.append(f"have {shares[0]:.1f} % of the volume instead of {shares[1]:.1f}")
+    for kind in ("diameter", "length"):
+        now, base = (int(pine[f"{column}{kind}_degree"]) / 100 for column in ("", "unsteered_"))
+        told += [f"*Of {kind}s*, {now:.2f} %", f"({base:.2f} % unsteered)"]
+    most = lacking[0]
+    metres, lacks, wants = (
+        int(most[column]) / unit for column, unit in (("length_mm", 1000), ("lacking_tenths", 10), ("wanted_tenths", 10))
+    )
+    told.append(f"{most['name'].capitalize()} of {metres} m lacks {lacks} of {wants} logs")
+    told.append(f"costs its assortment {int(most['degree_ten_thousandths']) / 100} points")
+    told.append(f"up by {100 * (int(most['price']) / int(most['base_price']) - 1):.1f} %")
+    rates = {}
+    for harvester in "123":
+        free, best = (
+            sum(int(row[column]) for row in postings if row["harvester"] == harvester and row["kind"] == "cut")
+            for column in ("grade_free_base_worth_millionths", "best_base_worth_millionths")
+        )
+        rates[harvester] = f"{100 * (free - best) / free:.2f}"
+    told.append(f"Grades cost harvester 3 {rates['3']} %, the others {rates['1']} and {rates['2']}.")
+    return both, both + told
 
 
 def sessions(program, folder, text):

@@ -1,5 +1,5 @@
 #!/usr/bin/env python3
-"""Checks that the house is in order: pages, copies, links, names, and lines that are too wide.
+"""Checks that the house is in order: pages, copies, links, names, citations, and lines that are too wide.
 
     python3 checks/house.py
 
@@ -12,6 +12,8 @@
   there: `src/..`, `specs/..` and `proofs/..` behind the crate's name, or on its own page.
 - A name that stands in backticks is one of some source, as `settle_run`; with its module, type or crate, as
   `pricing::put_list`, one of a file that has these too. A path, as `file/plain`, is the end of one that is there.
+- No source names a page in specs/inner/ of another crate.
+- Each caller and each edit says what its wrong body does; docs/WRONG_BODIES.md is as checks/wrong_bodies.py writes it.
 - No line of src/ and specs/ of a product crate is wider than 120 columns, imports aside, but for as many as WIDE allows
   each crate.
 
@@ -22,6 +24,7 @@ import re
 import subprocess
 import sys
 
+import wrong_bodies
 from pages import files_in, libraries
 from quick import TOP, crates
 
@@ -38,7 +41,7 @@ MOST_COLUMNS = 120
 # crate that isn't named has none.
 WIDE = {
     "buck_record": 4,
-    "buck_told": 34,
+    "buck_told": 38,
     "buck_apt": 2,
     "buck_stem": 4,
     "buck_dp": 21,
@@ -46,12 +49,11 @@ WIDE = {
     "buck_journal": 2,
     "buck_fleet": 3,
     "buck_turn": 1,
-    "buck_figures": 22,
     "buck_charts": 1,
     "buck_drawn": 1,
     "buck_unlawful": 10,
     "buck_view": 8,
-    "buck_engine": 17,
+    "buck_engine": 13,
     "buck_calls": 1,
     "buck_command": 1,
     "buckfleet": 4,
@@ -159,8 +161,9 @@ def wrong_copies():
 
 
 def documents():
-    """The documents of the repository, by their paths: those at its top, in docs/, and the pages of its crates."""
-    for folder in ("", "docs", *(f"crates/{crate}" for crate in sorted(os.listdir(os.path.join(TOP, "crates"))))):
+    """The documents of the repository, by their paths: those at its top and in some folders, and the pages of crates."""
+    crates_there = sorted(os.listdir(os.path.join(TOP, "crates")))
+    for folder in ("", "docs", "python", "checks/live_own", *(f"crates/{crate}" for crate in crates_there)):
         for name in sorted(os.listdir(os.path.join(TOP, folder))):
             if name.endswith(".md"):
                 yield os.path.join(folder, name)
@@ -238,6 +241,15 @@ def wrong_words():
                     yield f"{path} names `{word}`, which isn't there"
 
 
+def wrong_citations():
+    """Sources that name a page in specs/inner/ of another crate."""
+    for path in files():
+        if re.fullmatch(r"crates/.*\.(rt|antt)", path):
+            own = path.split("/")[1]
+            for crate in sorted(set(re.findall(r"\bRattle\.(\w+)\.specs\.inner\b", read(path))) - {own}):
+                yield f"{path} names a page in specs/inner/ of {crate}"
+
+
 def wide_lines(crate):
     """The files of a crate with lines that are too wide, and how many there are in each."""
     for part, ending in (("src", ".rt"), ("specs", ".antt")):
@@ -258,8 +270,8 @@ def wrong_widths():
 
 
 def main():
-    looks = (wrong_names, wrong_pages, wrong_copies, wrong_links, wrong_files, wrong_words, wrong_widths)
-    wrong = [line for look in looks for line in look()]
+    looks = (wrong_names, wrong_pages, wrong_copies, wrong_links, wrong_files, wrong_words, wrong_citations, wrong_widths)
+    wrong = [line for look in looks for line in look()] + wrong_bodies.looked_at()[1]
     for line in wrong:
         print(line)
     print(f"{len(wrong)} wrong")

@@ -6,9 +6,10 @@
 It reads the clauses of all public functions of the libraries, and goes from their words to all definitions that these
 lead to, within specs/. PROMISES says which calls a promise is about; the calls that it leaves over stand together at
 the end. A page is counted by the lines of the definitions that are reached, with their comments: the headline by
-itself, each promise beside those above it; a constant of the code that a definition names counts as a line of a page, too.
-Last come the types of the code that clauses and pages name. It ends in status 1 where docs/PROOFS.md has other numbers or types (--write puts these there), and where a clause leads into
-specs/inner/.
+itself, each promise beside those above it; a constant of the code that a definition names counts as a line of a page.
+Last come the types of the code that clauses and pages name. The counts are a table of docs/PROOFS.md. docs/HEADLINE.md
+has the clauses of the headline's calls and the definitions that they lead to, whole, views of types among them. It ends
+in status 1 if one of them is not as it would be written (--write writes both), and if a clause leads into specs/inner/.
 """
 import fnmatch
 import os
@@ -17,7 +18,16 @@ import sys
 
 from quick import TOP, crates
 
-HEADLINE = ("the headline", ["buck_fleet::Fleet::close"])
+# The calls that the headline is about: how a fleet is opened, what its seats are answered, how it is closed; the law.
+HEADLINE = [
+    "buck_fleet::Fleet::open",
+    "buck_fleet::Fleet::snapshot",
+    "buck_fleet::Fleet::cut",
+    "buck_fleet::Fleet::try_commit",
+    "buck_fleet::Fleet::retarget",
+    "buck_fleet::Fleet::close",
+    "buck_book::laws::prefix_is_lawful",
+]
 
 PROMISES = [
     ("the best cutting", ["buck_dp::best", "buck_dp::worth", "buck_dp::admissible", "buck_dp::Planner::best"]),
@@ -44,15 +54,28 @@ PROMISES = [
             "buck_engine::run_fleet_files",
             "buck_engine::run_in_turn",
             "buck_engine::serve_fleet",
-            "buck_command::serve_work",
         ],
     ),
+    ("before a harvest and after it", ["buck_sweep::*", "buck_draws::*", "buck_terms::*", "buck_trial::*", "buck_ledger::*"]),
+    ("the words of the program", ["buck_command::serve_work"]),
     ("the world and its runs", ["buck_world::*"]),
     ("the library that C calls", ["buck_calls::*", "buck_c::*"]),
     ("all other public calls", ["*"]),
 ]
 
-TYPES = "Beside the pages stand the types of the code that they and the clauses name, plain structs and enums in `src/`: "
+TYPES = "Types of the code that definitions and clauses name, plain structs and enums in `src/`: "
+
+# The table in docs/PROOFS.md stands between its head and the line on types.
+TABLE = "| Promise | Lines | Files of definitions, with the lines of each that the promise leads to |"
+
+HEADLINE_PAGE = """# The headline, whole
+
+`python3 checks/pages.py --write` writes this page. Don't edit it.
+
+For a sceptic: all that must be believed of this repository for [the headline](PROOFS.md#the-headline). First come the clauses of the calls that it is about, then every definition that they lead to, with its file and lines. A definition stands after the first one that names it, `Fleet::close` first: a name is explained just below, or was above. Nothing here is a body or a proof.
+
+The page has {lines} lines: {clauses} of the heads and clauses of {calls} calls, and {definitions} of definitions from {files} files. Among these are {types} types of the code: of a type that clauses see by a view, the view. What comes from the standard library (lists, options, results, numbers) is not repeated. `A.now` is a value at the end of a call, `A.old` and `A.new` are those of a `&mut` at its beginning and end.
+"""
 
 HEAD = r"(?:abbrev|unfoldable|pub record|record)\s+(?:pub\s+)?"
 
@@ -145,13 +168,12 @@ def clauses(lines, at):
     return "\n".join(found)
 
 
-def public_calls(crate):
-    """Each public function of a crate that has clauses: its name, its clauses, and where the names in them stand."""
+def public_heads(crate):
+    """Each public function of a crate: its name, the words of its file, the file's lines, and the line of its head."""
     files = list(files_in(crate, "src", ".rt"))
     modules, names = exported(files)
     for words, lines in files:
         module = modules.get(tuple(words))
-        taken = taken_by(lines, "ghost ")
         holder, is_trait = None, False
         for at, line in enumerate(lines):
             block = re.match(r"(impl|pub trait)\b(?:<.*?>(?= ))? *(?:[^{]* for )?(\w+)", line.replace("->", ""))
@@ -165,8 +187,13 @@ def public_calls(crate):
             outer = holder or call[2]
             if module or outer in names or "extern" in (call[1] or ""):
                 where = [module] if module else []
-                name = "::".join([crate] + where + ([holder] if holder else []) + [call[2]])
-                yield name, clauses(lines, at), taken
+                yield "::".join([crate] + where + ([holder] if holder else []) + [call[2]]), words, lines, at
+
+
+def public_calls(crate):
+    """Each public function of a crate that has clauses: its name, its clauses, and where the names in them stand."""
+    for name, _, lines, at in public_heads(crate):
+        yield name, clauses(lines, at), taken_by(lines, "ghost ")
 
 
 def reached(found, roots):
@@ -215,12 +242,15 @@ def roots_of(calls, patterns, left):
     return roots
 
 
-def spelled(place, promise, lengths):
-    """The line of docs/PROOFS.md on a promise."""
-    named = {name: re.sub(r"/specs/declared/(.*)/TheConstants", r"/src/\1", name.replace(".", "/")) for name in lengths}
-    pages = ", ".join(f"`{named[name]}` ({lengths[name]})" for name in lengths)
-    head = f"{place}. **{promise[0].upper()}{promise[1:]}**: {sum(lengths.values())} lines in {len(lengths)} pages"
-    return f"{head}, {'beside those above' if place > 1 else 'by itself'}: {pages}."
+def spelled(promise, lengths):
+    """The row of docs/PROOFS.md on a promise."""
+    by_folder = {}
+    for name, number in lengths.items():
+        named = re.sub(r"/specs/declared/(.*)/TheConstants", r"/src/\1", name.replace(".", "/"))
+        crate, part, rest = named.split("/", 2)
+        by_folder.setdefault(f"{crate}/{part}", []).append(f"`{rest}` {number}")
+    pages = "; ".join(f"`{folder}`: {', '.join(named)}" for folder, named in by_folder.items())
+    return f"| {promise[0].upper()}{promise[1:]} | {sum(lengths.values())} | {pages} |"
 
 
 def spelled_types(types):
@@ -230,8 +260,176 @@ def spelled_types(types):
     return f"{TYPES}{names}."
 
 
+def in_order(text):
+    """The words of a clause or a definition that may be names, in the order in which they come."""
+    return list(dict.fromkeys(re.findall(r"[^\s(){},;:→×.λ]+|[A-Za-z_]\w*", text) + words_of(text)))
+
+
+def types_in(lines):
+    """The types that a file declares: for each the lines of its declaration, of its view, and the words to follow."""
+    rust = {}
+    for use in re.findall(r"(?m)^(?:pub )?use ((?:crate|buck_\w+)[^;]*);", "\n".join(lines)):
+        rust.update({name: use.split("::")[0] for name in re.findall(r"\b[A-Z]\w*\b(?!::)", use)})
+    for at, line in enumerate(lines):
+        declared = re.match(r"pub (?:struct|enum) (\w+)", line)
+        if not declared:
+            continue
+        first, last = at, at
+        while first > 0 and re.match(r"///|#\[", lines[first - 1]):
+            first -= 1
+        while not re.search(r"^\}|;$|\}$", lines[last]):
+            last += 1
+        name, body = declared[1], lines[at : last + 1]
+        heads = [k for k, it in enumerate(lines) if re.match(rf"impl(<.*>)? Model for {name}\b", it)]
+        view = (0, -1)
+        if heads:
+            inside = range(heads[0] + 1, lines.index("}", heads[0]))
+            begins = next(k for k in inside if lines[k].strip() and "ghost use" not in lines[k])
+            ends = [k for k in inside if "ghost invariant" in lines[k]] or [inside.stop]
+            view = (begins, max(k for k in range(begins, ends[0]) if lines[k].strip()))
+            seen = set(re.findall(r"\.(\w+)", "\n".join(lines[view[0] : view[1] + 1])))
+            body = [it for it in body if (re.match(r"\s*(?:pub )?(\w+):", it) or ["", ""])[1] in seen]
+        ghost = taken_by([it.strip() for it in lines], "ghost ")
+        yield name, (first, last), view, rust, ghost, "\n".join(it for it in body if "///" not in it)
+
+
+class Reading:
+    """The definitions, types and calls of the libraries, and what each leads to."""
+
+    def __init__(self, found):
+        self.found, self.types, self.calls = found, {}, {}
+        for crate in libraries():
+            for words, lines in files_in(crate, "src", ".rt"):
+                for name, *rest in types_in(lines):
+                    self.types.setdefault((crate, name), ("/".join(words), lines, *rest))
+            for name, words, lines, at in public_heads(crate):
+                self.calls[name] = (crate, "/".join(words), lines, at)
+
+    def of_names(self, text, page, taken, stands=()):
+        """What the names in a text stand for: definitions of its own page or of others, and types of the code."""
+        for word in in_order(text):
+            if word in stands:
+                yield "definition", page, word
+            elif word in taken:
+                declared = re.match(r"(buck_\w+)\.specs\.declared\.(?:\w+\.)*?([A-Z]\w*)", taken[word])
+                if declared and (declared[1], declared[2]) in self.types:
+                    yield "type", declared[1], declared[2]
+                elif taken[word] in self.found:
+                    yield "definition", taken[word], word
+
+    def of_types(self, text, crate, rust):
+        """The types of the product that a declaration names."""
+        for word in in_order(text):
+            at = rust.get(word, crate)
+            key = (crate if at == "crate" else at, word)
+            if key in self.types:
+                yield "type", *key
+
+    def head(self, name):
+        """The lines of a call's comment, head and clauses."""
+        _, _, lines, at = self.calls[name]
+        first, last = at, at
+        while re.match(r"\s*(///|#\[)", lines[first - 1]):
+            first -= 1
+        while not re.match(r"\s*\{\}?$", lines[last + 1]):
+            last += 1
+        return first, last
+
+    def leads_to(self, node):
+        """What a call, a type or a definition leads to, in the order in which it is named."""
+        if node[0] == "call":
+            crate, _, lines, at = self.calls[node[1]]
+            first, last = self.head(node[1])
+            text = clauses(lines, at)
+            yield from self.of_names(text, None, taken_by(lines, "ghost "))
+            names = "\n".join(lines)
+            rust = {}
+            for use in re.findall(r"(?m)^use ((?:crate|buck_\w+)[^;]*);", names):
+                rust.update({name: use.split("::")[0] for name in re.findall(r"\b[A-Z]\w*\b(?!::)", use)})
+            signature = "\n".join(lines[at : last + 1]).split("requires")[0]
+            holder = node[1].split("::")[-2]
+            for it in self.of_types(f"{holder} {signature}", crate, rust):
+                if self.types[it[1:]][3] != (0, -1):
+                    yield it
+        elif node[0] == "type":
+            _, lines, _, view, rust, ghost, body = self.types[node[1:]]
+            yield from self.of_names("\n".join(lines[view[0] : view[1] + 1]), None, ghost)
+            yield from self.of_types(body, node[1], rust)
+        else:
+            lines, taken, stands = self.found[node[1]]
+            if node[2] in stands:
+                head, _, last = stands[node[2]]
+                yield from self.of_names("\n".join(lines[head : last + 1]), node[1], taken, stands)
+            elif node[2] in taken:
+                yield from self.of_names(node[2], node[1], taken)
+
+    def ordered(self):
+        """All that the headline leads to, each after the first that names it, what closing leads to first."""
+        order = []
+
+        def visit(node):
+            if node not in order:
+                order.append(node)
+                for other in self.leads_to(node):
+                    visit(other)
+
+        for name in sorted(HEADLINE, key=lambda name: not name.endswith("::close")):
+            visit(("call", name))
+        return order
+
+    def shown(self, node):
+        """Of a node its title, its file, and the ranges of its lines; nothing of a name that a page hands on."""
+        if node[0] == "call":
+            crate, file, lines, _ = self.calls[node[1]]
+            return node[1].split("::", 1)[1], f"crates/{crate}/src/{file}.rt", lines, [self.head(node[1])]
+        if node[0] == "type":
+            file, lines, (first, last), view, *_ = self.types[node[1:]]
+            if view != (0, -1):
+                last = next(k for k in range(first, last) if not lines[k].startswith("///")) - 1
+            ranges = [(first, last), view]
+            return node[2], f"crates/{node[1]}/src/{file}.rt", lines, [it for it in ranges if it[0] <= it[1]]
+        lines, _, stands = self.found[node[1]]
+        if node[2] not in stands:
+            return None
+        crate, _, file = node[1].split(".", 2)
+        constants = re.fullmatch(r"declared\.(.*)\.TheConstants", file)
+        part, name, ending = ("src", constants[1], "rt") if constants else ("specs", file, "antt")
+        return node[2], f"crates/{crate}/{part}/{name.replace('.', '/')}.{ending}", lines, [stands[node[2]][1:]]
+
+
+def headline(found):
+    """The page docs/HEADLINE.md, how many lines of the sources it has, and from how many files."""
+    reading = Reading(found)
+    order = [(node, reading.shown(node)) for node in reading.ordered()]
+    order = [(node, it) for node, it in order if it]
+    calls = [it for node, it in order if node[0] == "call"]
+    calls.sort(key=lambda it: [name.split("::", 1)[1] for name in HEADLINE].index(it[0]))
+    others = [it for node, it in order if node[0] != "call"]
+
+    def size(parts):
+        return sum(last - first + 1 for *_, ranges in parts for first, last in ranges)
+
+    numbers = {"lines": size(calls + others), "clauses": size(calls), "calls": len(calls), "definitions": size(others)}
+    files = {it[1] for it in others}
+    numbers |= {"files": len(files), "types": sum(node[0] == "type" for node, _ in order)}
+    text = HEADLINE_PAGE.format(**numbers)
+    for title, parts in (("The clauses", calls), ("The definitions", others)):
+        text += f"\n## {title}\n"
+        for name, file, lines, ranges in parts:
+            spans = [f"{first + 1} to {last + 1}" if first < last else f"{first + 1}" for first, last in ranges]
+            where = f"lines {' and '.join(spans)}"
+            code = []
+            for first, last in ranges:
+                part = lines[first : last + 1]
+                margin = min(len(line) - len(line.lstrip()) for line in part if line)
+                code += ([""] if code else []) + [line[margin:] for line in part]
+            body = "\n".join(code)
+            text += f"\n### `{name}`\n\n{file}, {where}\n\n```\n{body}\n```\n"
+    return text, numbers["lines"], len(files | {it[1] for it in calls})
+
+
 def lines_wanted():
-    """The lines that docs/PROOFS.md must have, and what leads into specs/inner/."""
+    """The table that docs/PROOFS.md must have, the page of the headline, and what leads into specs/inner/."""
     found = {}
     calls = []
     for crate in libraries():
@@ -240,39 +438,37 @@ def lines_wanted():
         for words, lines in files_in(crate, "src", ".rt"):
             found[".".join([crate, "specs", "declared"] + words + ["TheConstants"])] = constants(lines)
         calls += public_calls(crate)
-    counts = [counted(found, set(), roots_of(calls, HEADLINE[1], set()))]
-    known = set()
+    whole, number, files = headline(found)
+    row = f"| The headline, by itself | {number} | whole on [HEADLINE](HEADLINE.md), from {files} files |"
+    wanted, types, known, inner = [TABLE, "|---|---|---|", row], set(), set(), []
     left = {name for name, _, _ in calls}
-    for _, patterns in PROMISES:
+    for promise, patterns in PROMISES:
         about = [call for call in calls if call[0] in left]
-        counts.append(counted(found, known, roots_of(about, patterns, left)))
-    wanted, types, inner = [], set(), []
-    for place, (lengths, named) in enumerate(counts):
-        promise = ([HEADLINE] + PROMISES)[place][0]
-        wanted.append(spelled(place, promise, lengths))
+        lengths, named = counted(found, known, roots_of(about, patterns, left))
+        wanted.append(spelled(promise, lengths))
         types |= named
         inner += [f"{promise} leads to {name}" for name in lengths if ".inner." in name]
-    return wanted + [spelled_types(types)], inner
+    return wanted + ["", spelled_types(types)], whole, inner
 
 
 def main():
-    path = os.path.join(TOP, "docs", "PROOFS.md")
-    with open(path) as text:
+    wanted, whole, wrong = lines_wanted()
+    print("\n".join(wanted))
+    with open(os.path.join(TOP, "docs", "PROOFS.md")) as text:
         told = text.read().split("\n")
-    wanted, wrong = lines_wanted()
-    for line in wanted:
-        print(line + "\n")
-        head = line.split(":")[0]
-        at = [k for k, other in enumerate(told) if other.split(":")[0] == head]
-        if line in told:
-            continue
-        if "--write" in sys.argv and len(at) == 1:
-            told[at[0]] = line
-        else:
-            wrong.append(f"docs/PROOFS.md has another line: {head}")
-    if "--write" in sys.argv:
-        with open(path, "w") as text:
-            text.write("\n".join(told))
+    first = told.index(TABLE) if TABLE in told else None
+    last = next((k for k, line in enumerate(told) if line.startswith(TYPES)), None)
+    if first is None or last is None:
+        wrong.append("docs/PROOFS.md has no place for the table: its head and the line on types")
+        first, last, wanted = 0, -1, []
+    pages = {"PROOFS.md": "\n".join(told[:first] + wanted + told[last + 1 :]), "HEADLINE.md": whole}
+    for name, text in pages.items():
+        path = os.path.join(TOP, "docs", name)
+        if "--write" in sys.argv:
+            with open(path, "w") as file:
+                file.write(text)
+        elif not os.path.isfile(path) or open(path).read() != text:
+            wrong.append(f"docs/{name} is not as it would be written (--write)")
     for line in wrong:
         print(line)
     return 1 if wrong else 0

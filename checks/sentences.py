@@ -4,8 +4,9 @@
     python3 checks/sentences.py [--write]
 
 Each row of the table of sentences has a case for each of its lines, with numbers of its own, and a row that speaks of an
-item one for each item; a line with a field too few, too many or that is no number is a mistake in the words. The last
-line is 'N cases, M differ', and the status is 0 where none does; with --write the cases are written as they should be.
+item one for each item; a line of a journal has another with the journal's number, and one of an instruction another of an
+owner's instruction. A line with a field too few, too many or that is no number is a mistake in the words. The last line
+is 'N cases, M differ', and the status is 0 where none does; with --write the cases are written as they should be.
 """
 import pathlib
 import re
@@ -15,6 +16,7 @@ TOP = pathlib.Path(__file__).resolve().parent.parent
 PAGE = TOP / "docs" / "FORMATS.md"
 CASES = TOP / "crates" / "run_cases" / "data" / "sentences"
 PLACES = {"apt": "in the instruction file", "stm": "in file 3 after the instruction (with live: in the request)"}
+JOURNALS = ("journal", "replay")
 NUMBERS = {"a": "17", "b": "4", "c": "2109", "d": "0", "n": "3"}
 NO_LINE = ["error: there is no such fault line", "", "Usage: buckfleet explain <LINE>...", "", "For more information, try '--help'."]
 
@@ -35,6 +37,7 @@ def lines_of(row, items):
     """Each line that a row tells of, and its sentence, or none where there is no such line."""
     for line in re.findall(r"`([^`]*)`", row[0]):
         file = line.split()[0]
+        found = []
         named = [item for item in items if item[0].strip("`") == file] if "*ITEM*" in row[1] else [None]
         for item in named:
             numbers, text = dict(NUMBERS), row[1].replace("*PLACE*", PLACES.get(file, "")).replace("*KIND*", file.upper())
@@ -44,7 +47,14 @@ def lines_of(row, items):
                     text = text.replace(f"*{part}*", cell) if cell or f"*{part}*" not in text else ""
                 text = text.replace("*ITEM*", f"Item {numbers['a']} {numbers['b']} ({item[2]})")
             text = re.sub(r"\*([abcd])\*", lambda found: numbers[found.group(1)], text)
-            yield " ".join(numbers.get(word, word) for word in line.split()), text
+            words = [numbers.get(word, word) for word in line.split()]
+            if file in JOURNALS:
+                found.append((" ".join([file, NUMBERS["n"], *words[1:]]), f"Of journal {NUMBERS['n']}: {text}"))
+            found.append((" ".join(words), text))
+        if file == "apt":
+            line, text = [it for it in found if it[1]][-1]
+            yield line.replace("apt", "own", 1), f"Of the owner's instruction: {text}"
+        yield from found
 
 
 def wanted():

@@ -39,7 +39,7 @@ extern "C" {
 #endif
 
 /* The version of these calls. It grows by one where one of them changes, or one is added. */
-#define BUCKFLEET_VERSION 5
+#define BUCKFLEET_VERSION 7
 
 /* How a call ended. Those up to 5 are exit statuses of the program `buckfleet`. */
 enum {
@@ -84,10 +84,12 @@ uint8_t buckfleet_report(const uint8_t *apt, size_t apt_length, const uint8_t *j
 
 /* What stands in a table. */
 enum {
-    BUCKFLEET_CLASSES = 0,  /* a line for each class */
-    BUCKFLEET_POSTINGS = 1, /* for each cut and each demand */
-    BUCKFLEET_LOGS = 2,     /* for each log */
-    BUCKFLEET_DEGREES = 3   /* for each assortment at each point of its curve of degrees */
+    BUCKFLEET_CLASSES = 0,     /* a line for each class */
+    BUCKFLEET_POSTINGS = 1,    /* for each cut and each demand */
+    BUCKFLEET_LOGS = 2,        /* for each log */
+    BUCKFLEET_DEGREES = 3,     /* for each assortment at each point of its curve of degrees */
+    BUCKFLEET_ASSORTMENTS = 4, /* for each assortment: as cut and unsteered */
+    BUCKFLEET_LACKING = 5      /* for each class that lacks logs, the most first */
 };
 
 /*
@@ -100,9 +102,10 @@ uint8_t buckfleet_view(const uint8_t *apt, size_t apt_length, const uint8_t *jou
                        const uint8_t *names, size_t names_length, uint8_t *out, size_t out_length, size_t *written);
 
 /*
- * Lists a journal as a table for a spreadsheet, as `buckfleet table` does: BUCKFLEET_CLASSES, _POSTINGS, _LOGS or
- * _DEGREES. The table of a lawful journal goes to `out`, or the line of the fault. The answer is the program's exit status
- * (0, 1, 3, 4 or 5), BUCKFLEET_TOO_SMALL, or BUCKFLEET_MISUSED with `*written` 0 where there is no such table.
+ * Lists a journal as a table for a spreadsheet, as `buckfleet table` does: BUCKFLEET_CLASSES, _POSTINGS, _LOGS,
+ * _DEGREES, _ASSORTMENTS or _LACKING. The table of a lawful journal goes to `out`, or the line of the fault. The answer is
+ * the program's exit status (0, 1, 3, 4 or 5), BUCKFLEET_TOO_SMALL, or BUCKFLEET_MISUSED with `*written` 0 where there is
+ * no such table.
  */
 uint8_t buckfleet_table(const uint8_t *apt, size_t apt_length, const uint8_t *journal, size_t journal_length,
                         uint8_t table, uint8_t *out, size_t out_length, size_t *written);
@@ -201,6 +204,36 @@ typedef struct buckfleet_cutting {
     buckfleet_log logs[BUCKFLEET_MOST_LOGS]; /* from the butt on; what stands behind them is as it was */
 } buckfleet_cutting;
 
+/* A log that an operator would rather cut. */
+typedef struct buckfleet_named {
+    uint32_t start;     /* mm from the butt */
+    uint32_t length;    /* mm, trim excluded */
+    uint8_t assortment; /* its place in the instruction, from 0 */
+} buckfleet_named;
+
+/* Why a log can't be cut where it stands. Where several apply to a log, the first of these is told. */
+enum {
+    BUCKFLEET_ADMISSIBLE = 0, /* all logs can be cut */
+    BUCKFLEET_ORDER = 1,      /* it starts before the log before it ends, trim included */
+    BUCKFLEET_ASSORTMENT = 2, /* the instruction has no such assortment */
+    BUCKFLEET_SPECIES = 3,    /* the stem is of another species than its assortment */
+    BUCKFLEET_START = 4,      /* its start is no multiple of the module */
+    BUCKFLEET_LENGTH = 5,     /* its length is none of its assortment's */
+    BUCKFLEET_END = 6,        /* its end, trim included, lies past the stem's */
+    BUCKFLEET_GRADE = 7,      /* some place along it has a grade that its assortment doesn't take */
+    BUCKFLEET_DIAMETER = 8,   /* its top diameter is below the first lower limit, or not below the upper diameter */
+    BUCKFLEET_PRICE = 9       /* the base price of its class is 0: nobody buys it */
+};
+
+/* What a cutting that an operator names is worth. What it loses against the best one is `best` less `worth`. */
+typedef struct buckfleet_appraisal {
+    uint64_t worth;   /* of all logs together, millionths of the price unit; 0 where one can't be cut */
+    uint64_t best;    /* of the logs of the best cutting together, millionths of the price unit */
+    size_t log;       /* the place of the first log that can't be cut, from 0; the number of logs where all can be */
+    uint32_t version; /* of the prices in force, from 0 */
+    uint8_t reason;   /* BUCKFLEET_ADMISSIBLE, or why that log can't be cut */
+} buckfleet_appraisal;
+
 /* How far a book is. */
 typedef struct buckfleet_standing {
     uint32_t postings;    /* how many it has: cuts and new targets */
@@ -233,6 +266,25 @@ uint8_t buckfleet_close(buckfleet_book *book);
 uint8_t buckfleet_cut(buckfleet_book *book, const buckfleet_felled *felled, const uint16_t *samples,
                       size_t samples_length, const buckfleet_zone *zones, size_t zones_length,
                       buckfleet_cutting *cutting);
+
+/*
+ * Shows how a stem would be cut now: the cutting that buckfleet_cut would give, with its position and its number. It is
+ * committed to nothing: the book is as it was. A book at its capacity shows it too. BUCKFLEET_REFUSED where the stem is
+ * outside the limits of buckfleet_cut, BUCKFLEET_MISUSED where the harvester is, BUCKFLEET_CLOSED and BUCKFLEET_MEMORY;
+ * `*cutting` is then as it was.
+ */
+uint8_t buckfleet_preview(buckfleet_book *book, const buckfleet_felled *felled, const uint16_t *samples,
+                          size_t samples_length, const buckfleet_zone *zones, size_t zones_length,
+                          buckfleet_cutting *cutting);
+
+/*
+ * Says what logs of a stem are worth under the prices in force, or which of them can't be cut and why, beside the worth
+ * of the best cutting. `logs` are from the butt on; any numbers may stand in them, and there may be none. The book is as
+ * it was. The answers are those of buckfleet_preview; `*appraisal` is as it was but for BUCKFLEET_OK.
+ */
+uint8_t buckfleet_price_of(buckfleet_book *book, const buckfleet_felled *felled, const uint16_t *samples,
+                           size_t samples_length, const buckfleet_zone *zones, size_t zones_length,
+                           const buckfleet_named *logs, size_t logs_length, buckfleet_appraisal *appraisal);
 
 /*
  * Puts new targets in force for a harvester, 1 to 64: one for each class, in pieces, assortment by assortment and row by

@@ -3,7 +3,8 @@
     buck_files.py buck APT STM
     buck_files.py check|report APT JOURNAL
 
-It prints what `buckfleet` prints to these words, and ends with its status.
+It prints what `buckfleet` prints to these words, and ends with its status. It needs the package of python/: install it
+by `pip install ./python`, or run it with PYTHONPATH=python/src.
 """
 import sys
 
@@ -16,12 +17,8 @@ def main():
     if len(sys.argv) != 4 or sys.argv[1] not in CALLS:
         print("buck_files.py buck|check|report APT FILE", file=sys.stderr)
         return 2
-    files = []
-    for name in sys.argv[2:]:
-        with open(name, "rb") as file:
-            files.append(file.read())
     try:
-        sys.stdout.buffer.write(CALLS[sys.argv[1]](*files))
+        sys.stdout.buffer.write(CALLS[sys.argv[1]](*sys.argv[2:]))
     except buckfleet.Refused as refused:
         print(refused.line, file=sys.stderr)
         return refused.status

@@ -2,16 +2,17 @@
 
     cut_stems.py steady|linear|step|root APT STM [JOURNAL]
 
-It prints a line for each stem as it is cut, and then how all classes stand: what `buckfleet fleet --rule` prints of these
-files. The journal goes into the file JOURNAL, where one is named.
+It prints a line for each stem as it is cut, and then how all classes stand: what `buckfleet fleet --rule` prints of
+these files. If JOURNAL is named, the journal goes into that file. It needs the package of python/, as buck_files.py
+does.
 """
 import sys
 
 import buckfleet
 
 
-def stems_of(stm: bytes):
-    """The stems of a stem file, one by one; a harvester has them from its sensors."""
+def items_of(stm: bytes):
+    """The stems of a stem file, one by one, each as the numbers of its items."""
     parts = {}
     for item in stm.split(b"~"):
         number, kind, *words = item.split() or (b"", b"")
@@ -28,17 +29,20 @@ def stem_of(parts) -> buckfleet.Stem:
     return buckfleet.Stem(parts[b"951"][0], parts[b"952"][0], parts[b"953"], list(zip(zones[::2], zones[1::2])))
 
 
+def stems_of(path):
+    """The stems of a stem file; a harvester has them from its sensors."""
+    with open(path, "rb") as file:
+        return [stem_of(parts) for parts in items_of(file.read()) if b"951" in parts]
+
+
 def main():
     if len(sys.argv) not in (4, 5) or sys.argv[1] not in buckfleet.RULES:
         print("cut_stems.py steady|linear|step|root APT STM [JOURNAL]", file=sys.stderr)
         return 2
-    with open(sys.argv[2], "rb") as file:
-        apt = file.read()
-    with open(sys.argv[3], "rb") as file:
-        stems = [stem_of(parts) for parts in stems_of(file.read()) if b"951" in parts]
+    rule, apt, stm = sys.argv[1:4]
     try:
-        with buckfleet.Book(apt, sys.argv[1]) as book:
-            for stem in stems:
+        with buckfleet.Book(apt, rule) as book:
+            for stem in stems_of(stm):
                 cutting = book.cut(1, stem)
                 print("ENTRY", cutting.position, 1, *cutting[3:], stem.number, len(cutting.logs), cutting.worth)
             journal = book.journal()

@@ -17,8 +17,10 @@ use Rattle.buck_apt.specs.declared.slots.TheConstants.{MODULE, PERIOD, LIMIT, CO
 use Rattle.buck_apt.specs.declared.draft.Draft.{Draft}
 use Rattle.buck_apt.specs.declared.draft.FileDraft.{FileDraft}
 use Rattle.buck_apt.specs.Instruction.{IsAssortment, IsWithin, IsNameByte, IsOnModule}
-use Rattle.buck_apt.specs.Apt.{is_name, is_name_byte, all_above, is_number_of, none_found, first_off_module, draft_range, draft_order, draft_count, in_range, in_order, in_number, on_module, in_targets, within_limits, assortment_of}
-use Rattle.buck_apt.specs.inner.Ready.{IsReadyDraft, IsReadyFile}
+use Rattle.buck_apt.specs.Apt.{is_name, is_name_byte, all_above, is_number_of, none_found, first_off_module, draft_range, draft_order, draft_count, in_range, in_order, in_number, on_module, in_targets, within_limits, assortment_of, draft_in}
+use Rattle.buck_apt.specs.inner.Ready.{WereRead, IsReadyDraft, IsReadyFile}
+use Rattle.buck_apt.proofs.NameLemmas.{IsNamed, AreNamed, draft_in_named}
+use Rattle.buck_record.specs.Item.{ItemParts}
 
 -- the one number of an item
 one_of : (item : Slot) (ns : List ℕ) → AreRanged item ns → length ns ≡ 1
@@ -53,7 +55,7 @@ rising_at (n ∷ []) h k lt = absurd (omega arith)
 rising_at (m ∷ n ∷ ns) h zero lt = ltb-true _ _ (both (nat_lt m n) _ h).0
 rising_at (m ∷ n ∷ ns) h (suc k) lt = rising_at (n ∷ ns) (both (nat_lt m n) _ h).1 k (omega arith)
 
-rising_ok : (ns : List ℕ) → is_rising ns ≡ true → IsStrictlyIncreasing ns
+pub rising_ok : (ns : List ℕ) → is_rising ns ≡ true → IsStrictlyIncreasing ns
 rising_ok ns h = λ k lt. rw add-one (rising_at ns h k (omega arith))
 
 above_ok : (lows highs : List ℕ) → all_above lows highs ≡ true → length highs ≡ 1
@@ -82,10 +84,10 @@ position_none : {X : Type 0} (p : X → Bool) (xs : List X) → position p xs �
 position_none p xs h = λ k d lt. fails_before_first p xs k d (omega (arith, place-none p xs h))
 
 -- an assortment that passed
-draft_ready : (d : Draft) → draft_range d ≡ Ok tt → draft_order d ≡ Ok tt → draft_count d ≡ Ok tt
+draft_ready : (d : Draft) → IsNamed d → draft_range d ≡ Ok tt → draft_order d ≡ Ok tt → draft_count d ≡ Ok tt
     → sum d.tables.targets ≤ MOST_TARGETS_TOGETHER → IsReadyDraft d
 unfolding draft_range draft_order draft_count
-draft_ready d in_ranges ordered counted_all few =
+draft_ready d named in_ranges ordered counted_all few =
     let r1 = passed (is_name d.name) _ _ in_ranges in
     let r2 = ranged Range SPECIES d.wood.species _ r1.1 in
     let r3 = ranged Range GRADES d.wood.grades _ r2.1 in
@@ -121,6 +123,7 @@ draft_ready d in_ranges ordered counted_all few =
       valid = record {
         name_length = within_ok 1 LONGEST_NAME (length d.name) name.0;
         name_bytes = λ k b lt. name_byte_ok _ (AllPass-from_list_all is_name_byte d.name name.1 k b lt);
+        name_trimmed = named;
         species = one_of SPECIES d.wood.species r2.0 species;
         grades_number = c2.0;
         grades_range = r3.0;
@@ -198,17 +201,18 @@ pub module_above_zero : (s : FileDraft) → in_range s ≡ Ok tt → in_number s
 module_above_zero s ranged counted = let head = head_ready s ranged counted in omega (arith, head.module_range)
 
 -- a file that passed each of the last five lines
-each_line_ready : (s : FileDraft) → in_range s ≡ Ok tt → in_order s ≡ Ok tt → in_number s ≡ Ok tt → on_module s ≡ Ok tt
+each_line_ready : (s : FileDraft) → AreNamed s → in_range s ≡ Ok tt → in_order s ≡ Ok tt → in_number s ≡ Ok tt → on_module s ≡ Ok tt
     → in_targets s ≡ Ok tt → IsReadyFile s
 unfolding in_order on_module in_targets
-each_line_ready s ranged ordered counted stepped wanted =
+each_line_ready s named ranged ordered counted stepped wanted =
+    let names = All-from_recursion IsNamed s.drafts named in
     let head = head_ready s ranged counted in
     let orders = each_ok draft_order s.drafts ordered in
     let few =
     position_none (λ d. nat_lt MOST_TARGETS_TOGETHER (sum d.tables.targets)) s.drafts
     (none_found_ok _ Targets wanted) in
     let ready : All IsReadyDraft s.drafts =
-    λ k d lt. draft_ready _ (head.ranges k d lt) (orders k d lt) (head.counts k d lt)
+    λ k d lt. draft_ready _ (names k d lt) (head.ranges k d lt) (orders k d lt) (head.counts k d lt)
     (ltb-false _ _ (few k d lt)) in
     record {
       «module» = head.«module»;
@@ -228,11 +232,16 @@ each_line_ready s ranged ordered counted stepped wanted =
     }
 
 -- a file that passed them in one chain
-pub file_ready : (s : FileDraft) → within_limits s ≡ Ok tt → IsReadyFile s
+file_ready : (s : FileDraft) → AreNamed s → within_limits s ≡ Ok tt → IsReadyFile s
 unfolding within_limits
-file_ready s passes =
+file_ready s named passes =
     let ranged = then_ok (in_range s) _ passes in
     let ordered = then_ok (in_order s) _ ranged.1 in
     let counted = then_ok (in_number s) _ ordered.1 in
     let stepped = then_ok (on_module s) _ counted.1 in
-    each_line_ready s ranged.0 ordered.0 counted.0 stepped.0 stepped.1
+    each_line_ready s named ranged.0 ordered.0 counted.0 stepped.0 stepped.1
+
+-- the file of items that were read
+pub items_ready : (s : FileDraft) (items : List ItemParts) → WereRead items → draft_in items ≡ Ok s
+    → within_limits s ≡ Ok tt → IsReadyFile s
+items_ready s items read is passes = file_ready s (draft_in_named items s read is) passes

@@ -13,6 +13,7 @@ mod reading;
 mod rules;
 mod settings;
 pub mod slots;
+mod text;
 
 pub use assortment::Assortment;
 pub use buck_record::Memory;
@@ -22,3 +23,4 @@ pub use fault::AptFault;
 pub use instruction::Instruction;
 pub use reading::read_apt;
 pub use settings::Settings;
+pub use text::instruction_text;

@@ -12,3 +12,5 @@ pub mod Books
 pub mod Alone
 pub mod Relations
 pub mod Degrees
+pub mod Handed
+pub mod Given

@@ -1,12 +1,8 @@
 -- How classes stand, and the prices that are answered to that.
-use Rattle.buck_book.proofs.Words.{◌≡◌, ℕ, ◌+◌, ◌*◌, ◌<◌, ◌≤◌, inl, inr, List, [], ◌∷◌, ◌++◌, length, slice_index, slice_get, Some, sym, ◌∙◌, ap, arith, mul-le-mul_left, common_steps, cases_lt, get_or_push, get_or_append_left, length_push, sum_by_more, slice_get_within, get_or_from_slice_get, same_Some, Bor, Shared, Class, InstructionParts, AssortmentParts, IsInstruction, IsClass, classes, classes_of, classes_before, index_of, Standing, IsInRange, Meets, SheetParts, sheet_of, base_prices, IsPriceAt, IsInSpan, IsSheetFault, SheetFault, Count, Price, base_price-le, Posting, targets_of, targets_sum, standing_at, standing_of, AreCounts, Running, Tells, IsSheetAfter, standings_of, Section, StandingsParts, CanPrice, IsSection, IsClassOf, StandsAt, IsAnswer, ArePriced, AreBelow, standing_by}
+use Rattle.buck_book.proofs.Words.{◌≡◌, ℕ, ◌+◌, ◌*◌, ◌<◌, ◌≤◌, inl, inr, List, [], ◌∷◌, ◌++◌, length, slice_index, slice_get, Some, sym, ◌∙◌, arith, mul-le-mul_left, common_steps, cases_lt, get_or_push, get_or_append_left, length_push, sum_by_more, slice_get_within, get_or_from_slice_get, Bor, Shared, Class, InstructionParts, AssortmentParts, IsInstruction, IsClass, classes, classes_of, classes_before, index_of, Standing, IsInRange, Meets, SheetParts, sheet_of, base_prices, IsPriceAt, IsInSpan, IsSheetFault, SheetFault, Count, Price, base_price-le, Posting, targets_of, targets_sum, standing_at, standing_of, AreCounts, Running, Tells, IsSheetAfter, standings_of, Section, StandingsParts, CanPrice, IsSection, IsClassOf, StandsAt, IsAnswer, ArePriced, AreBelow, standing_by}
 use Rattle.std.specs.Fn.{FnReturnsAt}
 use Rattle.buck_book.proofs.Places.{number_at, inner_is, inner_lt, place_lt, in_assortment, ClassAt, class_at}
 use Rattle.buck_book.proofs.Wanted.{valid_at, part_within, target_within, target_low}
-
--- a class has one assortment
-pub one_assortment : (i : InstructionParts) (c : Class) (k l : IsClass i c) → k.assortment ≡ l.assortment
-one_assortment i c k l = same_Some k.assortment l.assortment (sym k.exists ∙ l.exists)
 
 -- the base price of a class, by its place among all
 pub base_is : (i : InstructionParts) (c : Class) → IsInstruction i → (k : IsClass i c)
@@ -25,12 +21,6 @@ meets_low s price r m = grind (arith, meets_within, mul-le-mul_left)
 -- a class of an assortment is a class of the instruction
 abbrev pub class_in : (i : InstructionParts) (a : AssortmentParts) (c : Class) → IsClassOf i a c → IsClass i c
 class_in i a c k = record { assortment = a; exists = k.exists; row = k.row; column = k.column }
-
--- a class has a target and a count of its own, and so has its assortment a count
-pub has_counts : (s : StandingsParts) (a : AssortmentParts) (c : Class) → IsClassOf s.instruction a c → CanPrice s
-    → (index_of s.instruction c < length s.by_class) × (c.assortment < length s.by_assortment)
-    × (index_of s.instruction c < length s.targets)
-has_counts s a c k can = grind (arith, place_lt, slice_get_within)
 
 -- how a class stands by what was read is how it stands
 pub stands_by : (s : StandingsParts) (a : AssortmentParts) (c : Class) (base limit target targets count counts : ℕ)

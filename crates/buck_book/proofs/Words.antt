@@ -33,7 +33,8 @@ pub use Rattle.buck_dp.proofs.Lists.{end_within}
 pub use Rattle.std.proofs.Math.Nat.{min-le_left, add-mul, div-le_of_le-mul}
 pub use Rattle.buck_book.specs.Degree.{shared_of}
 pub use Rattle.buck_rule.specs.Relation.{Meets}
-pub use Rattle.buck_book.specs.Walk.{IsWrongPrice, WalkParts, walk_of, passed}
+pub use Rattle.buck_book.specs.Pricing.{Calls, AreAnswers}
+pub use Rattle.buck_book.specs.Walk.{StandsAfter, IsWrongPrice, WalkParts, walk_of, passed}
 pub use Rattle.buck_book.specs.declared.pricing.Section.{Section}
 pub use Rattle.buck_book.specs.declared.running.Running.{Running}
 pub use Rattle.buck_book.specs.inner.Pricing.{StandingsParts, IsSection, IsClassOf, standing_by, CanPrice, StandsAt, IsAnswer, ArePriced, AreBelow, IsFirstWrong}

@@ -8,6 +8,7 @@ pub mod CutsAlone
 pub mod Pricing
 pub mod Book
 pub mod Refused
+pub mod Replies
 pub mod Walk
 pub mod inner
 pub mod Degree

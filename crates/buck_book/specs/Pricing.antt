@@ -1,5 +1,5 @@
 -- Prices that a closure answers to how the classes stand.
-use Rattle.std.specs.Prelude.{ℕ, List, slice_index}
+use Rattle.std.specs.Prelude.{◌≡◌, ℕ, ◌+◌, List, take, slice_get, slice_index, Some}
 use Rattle.std.specs.Fn.{FnReturnsAt}
 use denote.Ref.{Bor}
 use denote.Param.Members.{Shared}
@@ -8,7 +8,7 @@ use Rattle.buck_apt.specs.Instruction.{InstructionParts, IsClass, index_of}
 use Rattle.buck_rule.specs.declared.standing.Standing.{Standing}
 use Rattle.buck_book.specs.declared.posting.Posting.{Posting}
 use Rattle.buck_book.specs.Plan.{PlanParts}
-use Rattle.buck_book.specs.History.{HistoryParts, standing_of}
+use Rattle.buck_book.specs.History.{HistoryParts, IsEnd, prices_after, standing_of}
 use Rattle.buck_book.specs.Book.{postings_with, postings_with_demand}
 
 -- what a closure's calls may do
@@ -30,3 +30,10 @@ AreAnswersWith g f h p prices =
 abbrev pub AreAnswersWithDemand : {F : Type 0} → Calls F → F → HistoryParts → List ℕ → List ℕ → Type 0
 AreAnswersWithDemand g f h targets prices =
     (harvester : ℕ) → AreAnswers g f h.instruction (postings_with_demand h harvester targets) prices
+
+-- the prices of each sheet that came after an end are answers that a closure can give to how the classes then stood
+pub record AreSheetsBy {F : Type 0} (g : Calls F) (f : F) (h : HistoryParts) : Type 0 where
+  pub answers : (k : ℕ) (x : Posting)
+      → slice_get h.postings k ≡ Some x
+      → IsEnd h.instruction (take k h.postings) x
+      → AreAnswers g f h.instruction (take (k + 1) h.postings) (prices_after h k)

@@ -2,6 +2,8 @@
 use Rattle.std.specs.Prelude.{◌≡◌, ◌≢◌, ℕ, ◌<◌, List, length}
 use Rattle.buck_book.specs.declared.ready.Refusal.{Refusal}
 use Rattle.buck_book.specs.declared.ready.Refusal.TheVariants.{Full, Stale, Memory}
+use Rattle.buck_book.specs.declared.ready.CutFault.{CutFault}
+use Rattle.buck_book.specs.declared.ready.CutFault.TheVariants as cut
 use Rattle.buck_book.specs.declared.demand.DemandRefusal.{DemandRefusal}
 use Rattle.buck_book.specs.declared.demand.DemandRefusal.TheVariants as demand
 use Rattle.buck_book.specs.Plan.{PlanParts}
@@ -21,6 +23,11 @@ abbrev pub IsRefusal : {F : Type 0} → BookParts F → PlanParts → Refusal �
 IsRefusal b p Full = IsFull b
 IsRefusal b p (Stale sheet) = IsBelow b × (sheet.value ≡ in_force b.history) × (p.sheet ≢ in_force b.history)
 IsRefusal b p Memory = IsBelow b
+
+-- a plan that is known to be under the sheet in force is refused as `Full` exactly by a full book
+abbrev pub IsRefusalInForce : {F : Type 0} → BookParts F → CutFault → Type 0
+IsRefusalInForce b cut.Full = IsFull b
+IsRefusalInForce b cut.Memory = IsBelow b
 
 -- a full book refuses all targets as `Full`; below its capacity it refuses those that aren't valid, with what is wrong
 abbrev pub IsDemandRefusal : {F : Type 0} → BookParts F → List ℕ → DemandRefusal → Type 0

@@ -2,6 +2,7 @@
 use Rattle.std.specs.Prelude.{◌≡◌, ℕ, ◌<◌, List, take, slice_index}
 use Rattle.buck_apt.specs.declared.class.Class.{Class}
 use Rattle.buck_apt.specs.Instruction.{InstructionParts, IsClass, index_of}
+use Rattle.buck_rule.specs.declared.standing.Standing.{Standing}
 use Rattle.buck_rule.specs.Relation.{Meets}
 use Rattle.buck_value.specs.Allowed.{IsAllowed, end_of}
 use Rattle.buck_dp.specs.Cutting.{IsCutFrom}
@@ -27,6 +28,11 @@ passed w = take w.at w.postings
 abbrev pub IsCountable : InstructionParts → Posting → Type 0
 IsCountable i (Cut e) = IsCutFrom (IsAllowed i e.stem) (end_of i) 0 e.logs
 IsCountable i (Demand d) = AreTargets i d.targets
+
+-- how the class at a place among all classes stands after some postings
+abbrev pub StandsAfter : InstructionParts → List Posting → ℕ → Standing → Type 0
+StandsAfter i ps place s =
+    (c : Class) (k : IsClass i c) → index_of i c ≡ place → s ≡ standing_of i k.assortment c ps
 
 -- the price of a class keeps the price relation after some postings
 abbrev pub MeetsAfter : (i : InstructionParts) → List Posting → List ℕ → (c : Class) → IsClass i c → Type 0

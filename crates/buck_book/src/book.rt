@@ -10,15 +10,16 @@ ghost use Rattle.buck_book.specs.Counts.{AreClassCounts, count_of, calls_of};
 ghost use Rattle.buck_book.specs.History.{IsLawful, IsEnd, IsNextSheet, version_of, in_force, sheets_with};
 ghost use Rattle.buck_book.specs.Pricing.{AreAnswers, AreAnswersWith, AreAnswersWithDemand};
 ghost use Rattle.buck_book.specs.Book.{sheets_from, IsBook, entry_of, demand_of, IsNext, IsReadyFor, IsReadyDemand, SameContent};
-ghost use Rattle.buck_book.specs.Refused.{IsFull, IsBelow, IsRefusal, IsDemandRefusal};
+ghost use Rattle.buck_book.specs.Refused.{IsFull, IsBelow, IsRefusal, IsRefusalInForce, IsDemandRefusal};
 ghost use Rattle.buck_book.specs.declared.posting.Posting.{Posting};
 ghost use Rattle.buck_book.specs.declared.posting.TheConstants.{MOST_POSTINGS};
 
 use crate::demand::{DemandRefusal, ReadyDemand};
 use crate::entry::Entry;
+use crate::parts::Parts;
 use crate::plan::Plan;
 use crate::posting::{Demand, Posting};
-use crate::ready::{Ready, Refusal};
+use crate::ready::{CutFault, Ready, Refusal};
 use crate::running::Running;
 use crate::targets::check_targets;
 use buck_apt::{Class, Instruction};
@@ -57,21 +58,6 @@ impl<F> Model for Book<F> {
         (book_of b.rule b.instruction.value (map (λ a. a.value.prices) b.sheets.items)
         b.postings.items b.capacity (vec_capacity b.postings) (vec_capacity b.sheets))
         (map (λ a. a.value) b.sheets.items) b.running b.calls.items };
-}
-
-/// What a book held: a lawful history, the targets in force at its end, and how many logs were cut in each class.
-#[derive(Drop)]
-pub struct Parts {
-    /// The instruction of the history.
-    pub instruction: Arc<Instruction>,
-    /// The sheets, by version.
-    pub sheets: Vec<Arc<Sheet>>,
-    /// The postings, in the order of their commits.
-    pub entries: Vec<Posting>,
-    /// What is wanted of each class at the end, assortment by assortment and row by row.
-    pub targets: Arc<Vec<u32>>,
-    /// How many logs were cut in each class, in the same order.
-    pub counts: Vec<u32>,
 }
 
 /// Adds a posting to a book's lists, and the next sheet, if there is one, where there is memory for both.
@@ -186,13 +172,7 @@ impl<F: Drop> Book<F> {
 
     /// All that a caller may want of the day: the lawful history, the targets in force, and the class counts.
     pub fn into_parts(self) -> Parts
-        ensures instruction { result.instruction.value ≡ self.history.instruction }
-        ensures sheets { map (λ a. a.value) result.sheets.items
-            ≡ sheets_from 0 self.history.instruction self.history.sheets }
-        ensures entries { result.entries.items ≡ self.history.postings }
-        ensures targets { result.targets.value.items ≡ targets_of self.history.instruction self.history.postings }
-        ensures valid { AreTargets self.history.instruction result.targets.value.items }
-        ensures counts { AreClassCounts self.history.instruction self.history.postings result.counts.items }
+        ensures history { result ≡ self.history }
         ensures kept { IsBook self }
     {
         let running = self.running;
@@ -369,23 +349,36 @@ impl<F: Fn(&Standing) -> u64> Book<F> {
             let in_force = self.sheet().clone()?;
             return Err(Refusal::Stale { in_force });
         }
-        self.prepare_in_force(alloc, plan)
+        Ok(self.make_ready(alloc, plan)?)
     }
 
     /// [`prepare`](Book::prepare) of a plan that is known to be under the sheet in force, as where nobody else commits:
-    /// no sheets are compared, and it is never `Stale`.
-    pub fn prepare_in_force(&mut self, alloc: Global, plan: &Plan) -> Result<Ready, Refusal>
+    /// no sheets are compared, and it is refused as `Full` or `Memory` alone.
+    pub fn prepare_in_force(&mut self, alloc: Global, plan: &Plan) -> Result<Ready, CutFault>
         requires answers { Answers F.Fn self.old.rule }
         requires in_force { plan.now.sheet ≡ in_force self.old.history }
         ensures content { SameContent self.old self.new }
         ensures ready { IfOk result (λ r. IsReadyFor self.new r plan.now) }
         ensures given { IfOk result (λ r. IfSome r.next (λ s.
             AreAnswersWith F.Fn self.old.rule self.old.history plan.now s.prices)) }
-        ensures refused { IfErr result (IsRefusal self.old plan.now) }
+        ensures refused { IfErr result (IsRefusalInForce self.old) }
     {
         if self.is_full() {
-            return Err(Refusal::Full);
+            return Err(CutFault::Full);
         }
+        Ok(self.make_ready(alloc, plan)?)
+    }
+
+    /// Makes all that the commit of a plan needs, below the capacity and under the sheet in force.
+    fn make_ready(&mut self, alloc: Global, plan: &Plan) -> Result<Ready, Memory>
+        requires answers { Answers F.Fn self.old.rule }
+        requires below { IsBelow self.old }
+        requires in_force { plan.now.sheet ≡ in_force self.old.history }
+        ensures content { SameContent self.old self.new }
+        ensures ready { IfOk result (λ r. IsReadyFor self.new r plan.now) }
+        ensures given { IfOk result (λ r. IfSome r.next (λ s.
+            AreAnswersWith F.Fn self.old.rule self.old.history plan.now s.prices)) }
+    {
         let next = self.next_sheet(alloc, plan)?;
         let ready = Ready {
             stem: plan.stem().clone()?,

@@ -46,6 +46,15 @@ pub enum Posting {
     Demand(Demand),
 }
 
+/// A posting with its position in the history, as it is kept for the harvester who was answered it.
+#[derive(Drop)]
+pub struct Kept {
+    /// How many postings stand before it.
+    pub position: u32,
+    /// The entry or the demand.
+    pub entry: Posting,
+}
+
 impl Demand {
     /// A second demand of the same value, made of equal targets.
     pub fn sharing(&self, targets: Arc<Vec<u32>>) -> Demand

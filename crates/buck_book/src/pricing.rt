@@ -57,6 +57,25 @@ impl Running {
             counts: u64::from(self.by_assortment[section.at]),
         }
     }
+
+    /// How the class at a place among all classes stands.
+    #[tactic(auto, using(crate::proofs::Standings::before_next))]
+    pub fn standing_at(&self, instruction: &Instruction, place: usize) -> Standing
+        requires can { CanPrice (standings_of instruction.now self.now) }
+        requires within { place < classes instruction.now }
+        ensures { StandsAt (standings_of instruction.now self.now) place result }
+    {
+        let mut before = 0;
+        for at in 0..instruction.assortments().len() {
+            let section = self.section(instruction, at, before);
+            let inner = place - before;
+            if inner < section.assortment.classes() {
+                return self.standing(instruction, &section, inner);
+            }
+            before += section.assortment.classes();
+        }
+        unreachable!()
+    }
 }
 
 /// The prices of all classes: the rule's answers to how the classes stand.

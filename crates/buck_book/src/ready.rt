@@ -2,6 +2,7 @@
 ghost use Rattle.std.specs.Prelude.{◌≡◌};
 ghost use Rattle.std.specs.Option.{option_map};
 ghost use Rattle.buck_book.specs.declared.ready.Refusal.TheVariants.{Memory};
+ghost use Rattle.buck_book.specs.declared.ready.CutFault.TheVariants as cutting;
 
 use buck_dp::Cutting;
 use buck_record::Memory;
@@ -80,5 +81,32 @@ impl From<Memory> for Refusal {
 
     fn from(_error: Memory) -> Refusal {
         Refusal::Memory
+    }
+}
+
+/// Why a stem wasn't cut, where its plan can't be stale. The history is then as before.
+#[derive(Clone, Copy, PartialEq, Eq, Debug, Drop, Error)]
+pub enum CutFault {
+    /// The history is at its capacity.
+    #[error("the history is at its capacity")]
+    Full,
+    /// A growth was refused.
+    #[error("out of memory")]
+    Memory,
+}
+
+impl From<AllocError> for CutFault {
+    ghost from_gives = { λ _ e. e ≡ cutting.Memory };
+
+    fn from(_error: AllocError) -> CutFault {
+        CutFault::Memory
+    }
+}
+
+impl From<Memory> for CutFault {
+    ghost from_gives = { λ _ e. e ≡ cutting.Memory };
+
+    fn from(_error: Memory) -> CutFault {
+        CutFault::Memory
     }
 }

@@ -2,19 +2,23 @@
 ghost use Rattle.std.specs.Prelude.{◌≡◌, ◌+◌, ◌<◌, ◌≤◌, ◌==◌, ◌↔◌, IsTrue, IfOk, IfSome, IfNone, length, slice_get, Some};
 ghost use Rattle.std.specs.Option.{option_map};
 ghost use Rattle.buck_apt.specs.Instruction.{IsInstruction, classes};
+ghost use Rattle.buck_rule.specs.Standing.{IsInRange};
+ghost use Rattle.buck_rule.specs.Stored.{Answers};
 ghost use Rattle.buck_book.specs.Posting.{ends_of, cuts_since_end, targets_of};
 ghost use Rattle.buck_book.specs.Targets.{AreTargets};
 ghost use Rattle.buck_book.specs.Counts.{AreClassCounts, calls_of};
 ghost use Rattle.buck_book.specs.History.{PricesMeet};
-ghost use Rattle.buck_book.specs.Walk.{walk_of, passed, IsWrongPrice, IsCountable};
+ghost use Rattle.buck_book.specs.Pricing.{AreAnswers};
+ghost use Rattle.buck_book.specs.Walk.{walk_of, passed, StandsAfter, IsWrongPrice, IsCountable};
 ghost use Rattle.buck_book.specs.inner.Running.{calls_in};
 ghost use Rattle.buck_book.specs.declared.posting.TheConstants.{MOST_POSTINGS};
 
 use crate::posting::Posting;
-use crate::pricing::first_wrong;
+use crate::pricing::{first_wrong, prices_by};
 use crate::running::Running;
 use buck_apt::Instruction;
 use buck_record::Memory;
+use buck_rule::{Rule, Standing};
 use buck_value::Sheet;
 use std::alloc::Global;
 use std::collections::BTreeMap;
@@ -59,6 +63,13 @@ impl<'a> Walk<'a> {
             running: Running::opening(alloc, instruction)?,
             calls: BTreeMap::new(alloc),
         })
+    }
+
+    /// The instruction of the history.
+    pub fn instruction(&self) -> &'a Instruction
+        ensures { result.now ≡ self.now.instruction }
+    {
+        self.instruction
     }
 
     /// How many postings were passed.
@@ -115,6 +126,32 @@ impl<'a> Walk<'a> {
         ensures { result ≡ calls_of harvester (passed self.now) + 1 }
     {
         self.calls.get(&harvester).copied().unwrap_or(0) + 1
+    }
+
+    /// How a class stands here, by its place among all classes: against the targets in force, and by what was cut up to
+    /// here.
+    #[tactic(auto, using(crate::proofs::Told::prices_can))]
+    pub fn standing(&self, class: usize) -> Standing
+        requires { class < classes self.now.instruction }
+        ensures stands { StandsAfter self.now.instruction (passed self.now) class result }
+        ensures range { IsInRange result }
+    {
+        self.running.standing_at(self.instruction, class)
+    }
+
+    /// The prices that a rule gives here, class by class. Refused as `Memory` alone.
+    #[tactic(auto, using(crate::proofs::Told::prices_can))]
+    pub fn prices<F: Fn(&Standing) -> u64>(
+        &self,
+        alloc: Global,
+        rule: &Rule<F>,
+    ) -> Result<Vec<u32>, Memory>
+        requires { Answers F.Fn rule.now }
+        ensures number { IfOk result (λ prices. length prices.items ≡ classes self.now.instruction) }
+        ensures answers { IfOk result (λ prices.
+            AreAnswers F.Fn rule.now self.now.instruction (passed self.now) prices.items) }
+    {
+        Ok(prices_by(alloc, rule, self.instruction, &self.running)?)
     }
 
     /// The first class whose price, of one for each class, doesn't keep the price relation with the targets in force

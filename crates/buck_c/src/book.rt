@@ -4,9 +4,10 @@ ghost use Rattle.buck_calls.specs.Room.{IsPut};
 ghost use Rattle.buck_calls.specs.Books.{AnswersOpen, AnswersCut, AnswersRetarget, IsCallOf, closed};
 ghost use Rattle.buck_calls.specs.States.{AnswersDegree, AnswersState, HasCounts, HasPrices, HasTargets, IsShownBy};
 ghost use Rattle.buck_calls.specs.Journals.{HasJournal};
+ghost use Rattle.buck_calls.specs.Looked.{AnswersPreview, AnswersPrice};
 
-use buck_calls::{Cut, State, Terms};
-use buck_held::{Block, Felled, Zone};
+use buck_calls::{Appraised, Cut, State, Terms};
+use buck_held::{Block, Felled, NamedLog, Zone};
 use std::alloc::Global;
 
 /// [`buckfleet_open`](buck_calls::buckfleet_open), for C.
@@ -40,6 +41,40 @@ pub extern "C" fn buckfleet_cut(
         book.old.handle.held book.new.handle.held result }
 {
     buck_calls::buckfleet_cut(alloc, book, felled, samples, zones, cut)
+}
+
+/// [`buckfleet_preview`](buck_calls::buckfleet_preview), for C.
+#[unsafe(no_mangle)]
+pub extern "C" fn buckfleet_preview(
+    alloc: Global,
+    book: &mut Block,
+    felled: &Felled,
+    samples: &[u16],
+    zones: &[Zone],
+    cut: &mut Cut,
+) -> u8
+    ensures same { book.new.handle.held ≡ book.old.handle.held }
+    ensures preview { AnswersPreview felled.now samples.now zones.now book.old.handle.held cut.old cut.new result }
+{
+    buck_calls::buckfleet_preview(alloc, book, felled, samples, zones, cut)
+}
+
+/// [`buckfleet_price_of`](buck_calls::buckfleet_price_of), for C.
+#[unsafe(no_mangle)]
+pub extern "C" fn buckfleet_price_of(
+    alloc: Global,
+    book: &mut Block,
+    felled: &Felled,
+    samples: &[u16],
+    zones: &[Zone],
+    logs: &[NamedLog],
+    appraisal: &mut Appraised,
+) -> u8
+    ensures same { book.new.handle.held ≡ book.old.handle.held }
+    ensures price { AnswersPrice felled.now samples.now zones.now logs.now book.old.handle.held
+        appraisal.old appraisal.new result }
+{
+    buck_calls::buckfleet_price_of(alloc, book, felled, samples, zones, logs, appraisal)
 }
 
 /// [`buckfleet_retarget`](buck_calls::buckfleet_retarget), for C.

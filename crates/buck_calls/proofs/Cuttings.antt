@@ -11,8 +11,8 @@ use Rattle.buck_book.specs.Entry.{EntryParts}
 use Rattle.buck_book.specs.History.{HistoryParts, in_force}
 use Rattle.buck_book.specs.Book.{entry_of}
 use Rattle.buck_book.proofs.Cuts.{each_allowed}
-use Rattle.buck_rule.specs.declared.named.NamedRule.{NamedRule}
-use Rattle.buck_held.specs.Kept.{HasCut}
+use Rattle.buck_cutter.specs.Cut.{OfPrices, HasCut}
+use Rattle.buck_held.specs.Looked.{IsPreview}
 use Rattle.buck_calls.specs.declared.showing.CutLog.{CutLog}
 use Rattle.buck_calls.specs.Shown.{IsCutUnder, ShowsLog}
 
@@ -24,10 +24,10 @@ pub allowed : (sheet : SheetParts) (e : EntryParts) → IsCutUnder sheet e
 allowed sheet e k = each_allowed sheet.instruction e.stem 0 e.logs k.admissible
 
 -- what was cut is a cutting under the sheet that was in force
-pub cut_under : (rule : NamedRule) (harvester : ℕ) (stem : StemParts) (before after : HistoryParts)
+pub cut_under : (P : OfPrices) (harvester : ℕ) (stem : StemParts) (before after : HistoryParts)
     (entry : EntryParts) (sheet : SheetParts)
-    → HasCut rule harvester stem before after entry → sheet ≡ in_force before → IsCutUnder sheet entry
-cut_under rule harvester stem before after entry sheet k same =
+    → HasCut P harvester stem before after entry → sheet ≡ in_force before → IsCutUnder sheet entry
+cut_under P harvester stem before after entry sheet k same =
     subst (λ e. IsCutUnder sheet e) (sym k.entry_is)
     (subst (λ s. IsCutUnder s (entry_of before harvester k.plan)) (k.sheet_in_force ∙ sym same)
     (record {
@@ -35,6 +35,18 @@ cut_under rule harvester stem before after entry sheet k same =
       stem_valid = k.is_plan.stem_valid;
       admissible =
           k.is_plan.first_best.best.admissible;
+    }))
+
+-- so is what would be cut
+pub preview_under : (h : HistoryParts) (harvester : ℕ) (stem : StemParts) (entry : EntryParts) (sheet : SheetParts)
+    → IsPreview h harvester stem entry → sheet ≡ in_force h → IsCutUnder sheet entry
+preview_under h harvester stem entry sheet k same =
+    subst (λ e. IsCutUnder sheet e) (sym k.entry_is)
+    (subst (λ s. IsCutUnder s (entry_of h harvester k.plan)) (k.planned.sheet_in_force ∙ sym same)
+    (record {
+      sheet_valid = k.planned.is_plan.sheet_valid;
+      stem_valid = k.planned.is_plan.stem_valid;
+      admissible = k.planned.is_plan.first_best.best.admissible;
     }))
 
 -- the first n logs are shown

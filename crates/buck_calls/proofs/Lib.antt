@@ -1,6 +1,5 @@
 pub mod Told
 pub mod Cuttings
-pub mod Prices
 pub mod Paged
 pub mod Splits
 pub mod Turned

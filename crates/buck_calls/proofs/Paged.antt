@@ -6,7 +6,7 @@ use Rattle.buck_apt.specs.Apt.{apt_of}
 use Rattle.buck_book.specs.History.{HistoryParts}
 use Rattle.buck_journal.specs.declared.judging.fault.ReplayFault.{ReplayFault}
 use Rattle.buck_engine.specs.declared.fault.EngineFault.{EngineFault}
-use Rattle.buck_engine.specs.declared.fault.EngineFault.TheVariants.{Read, Write, Apt, Stm, Journal, Replay, Check, Seats, Full, Memory, Close}
+use Rattle.buck_engine.specs.declared.fault.EngineFault.TheVariants.{Read, Write, Apt, Stm, Journal, JournalOf, Replay, ReplayOf, Check, Seats, Full, Memory, Close}
 use Rattle.buck_engine.specs.run.Viewing.{IsReadFault, ShowsAs}
 use Rattle.buck_calls.specs.Pages.{IsTableFault}
 
@@ -19,7 +19,9 @@ read_fault HasText Shown Left apt journal old new Write s w r = absurd (w refl)
 read_fault HasText Shown Left apt journal old new (Apt x) s w r = s.0
 read_fault HasText Shown Left apt journal old new (Stm n x) s w r = s.0
 read_fault HasText Shown Left apt journal old new (Journal x) s w r = s.0
+read_fault HasText Shown Left apt journal old new (JournalOf n x) s w r = s.0
 read_fault HasText Shown Left apt journal old new (Replay why) s w r = absurd (r why refl)
+read_fault HasText Shown Left apt journal old new (ReplayOf n x) s w r = s.0
 read_fault HasText Shown Left apt journal old new (Check x) s w r = s.0
 read_fault HasText Shown Left apt journal old new Seats s w r = s.0
 read_fault HasText Shown Left apt journal old new Full s w r = s.0
@@ -34,7 +36,9 @@ table_fault HasText Shown Left apt journal old new Write s w = absurd (w refl)
 table_fault HasText Shown Left apt journal old new (Apt x) s w = inl s.0
 table_fault HasText Shown Left apt journal old new (Stm n x) s w = inl s.0
 table_fault HasText Shown Left apt journal old new (Journal x) s w = inl s.0
+table_fault HasText Shown Left apt journal old new (JournalOf n x) s w = inl s.0
 table_fault HasText Shown Left apt journal old new (Replay why) s w = inr (why, refl, s.0)
+table_fault HasText Shown Left apt journal old new (ReplayOf n x) s w = inl s.0
 table_fault HasText Shown Left apt journal old new (Check x) s w = inl s.0
 table_fault HasText Shown Left apt journal old new Seats s w = inl s.0
 table_fault HasText Shown Left apt journal old new Full s w = inl s.0

@@ -1,10 +1,10 @@
 -- How a run of harvesters in turn ends.
-use Rattle.std.proofs.Common.{◌≡◌, ◌≢◌, ◌⊎◌, ℕ, ◌+◌, List, [], ◌∷◌, ◌++◌, map, ap, Option, Some, Err, Ok, refl, sym, ◌∙◌, subst, inl, inr, arith}
+use Rattle.std.proofs.Common.{◌≡◌, ◌≢◌, ◌⊎◌, ℕ, ◌+◌, List, [], ◌∷◌, ◌++◌, map, ap, Option, Some, Err, refl, sym, ◌∙◌, subst, inl, inr, arith}
 use Rattle.buck_apt.specs.Apt.{apt_of}
 use Rattle.buck_book.specs.History.{HistoryParts}
 use Rattle.buck_journal.specs.Written.{journal_text}
 use Rattle.buck_engine.specs.declared.fault.EngineFault.{EngineFault}
-use Rattle.buck_engine.specs.declared.fault.EngineFault.TheVariants.{Read, Write, Apt, Stm, Journal, Replay, Check, Seats, Full, Memory, Close}
+use Rattle.buck_engine.specs.declared.fault.EngineFault.TheVariants.{Read, Write, Apt, Stm, Journal, JournalOf, Replay, ReplayOf, Check, Seats, Full, Memory, Close}
 use Rattle.buck_engine.specs.declared.fleet.serving.Order.{Order}
 use Rattle.buck_engine.specs.declared.fleet.serving.Order.TheVariants.{InTurn}
 use Rattle.buck_engine.specs.text.Report.{IsReport}
@@ -28,7 +28,9 @@ run_fault reads order ByRule apt stms OfJournal old new Write r w = absurd (w re
 run_fault reads order ByRule apt stms OfJournal old new (Apt x) r w = r.run.0
 run_fault reads order ByRule apt stms OfJournal old new (Stm n x) r w = r.run.0
 run_fault reads order ByRule apt stms OfJournal old new (Journal x) r w = r.run.0
+run_fault reads order ByRule apt stms OfJournal old new (JournalOf n x) r w = r.run.0
 run_fault reads order ByRule apt stms OfJournal old new (Replay x) r w = r.run.0
+run_fault reads order ByRule apt stms OfJournal old new (ReplayOf n x) r w = r.run.0
 run_fault reads order ByRule apt stms OfJournal old new (Check x) r w = r.run.0
 run_fault reads order ByRule apt stms OfJournal old new Seats r w = r.run.0
 run_fault reads order ByRule apt stms OfJournal old new Full r w = r.run.0

@@ -12,7 +12,8 @@ use Rattle.buck_held.specs.declared.felling.Felled.{Felled}
 use Rattle.buck_held.specs.declared.felling.Zone.{Zone}
 use Rattle.buck_held.specs.declared.felling.FellFault.{FellFault}
 use Rattle.buck_held.specs.declared.felling.FellFault.TheVariants as fell
-use Rattle.buck_held.specs.Kept.{KeptParts, opened, HasCut, HasRetargeted, IsDemandRefused, SameTerms}
+use Rattle.buck_cutter.specs.Cut.{HasCut, HasRetargeted}
+use Rattle.buck_held.specs.Kept.{ArePricesBy, KeptParts, opened, IsDemandRefused, SameTerms}
 use Rattle.buck_held.specs.Felled.{stem_by, IsFellFault}
 use Rattle.buck_calls.specs.declared.book.Terms.{Terms}
 use Rattle.buck_calls.specs.declared.showing.Cut.{Cut}
@@ -93,7 +94,8 @@ abbrev pub AnswersCut : Felled → List ℕ → List Zone → Cut → Cut → Ke
 AnswersCut felled samples zones old new before after status =
     SameTerms before after
     × (((status ≡ 0) × ((entry : EntryParts)
-    × HasCut before.rule felled.harvester (stem_by felled samples zones) before.history after.history entry
+    × HasCut (ArePricesBy before.rule) felled.harvester (stem_by felled samples zones) before.history after.history
+    entry
     × ShowsCut (in_force before.history) (length before.history.postings) entry new))
     ⊎ ((after ≡ before) × (new ≡ old) × ((fault : FellFault)
     × IsFellFault before felled (stem_by felled samples zones) fault
@@ -103,7 +105,8 @@ AnswersCut felled samples zones old new before after status =
 abbrev pub AnswersRetarget : ℕ → List ℕ → KeptParts → KeptParts → ℕ → Type 0
 AnswersRetarget harvester targets before after status =
     SameTerms before after
-    × (((status ≡ 0) × ((d : _) × HasRetargeted before.rule harvester targets before.history after.history d))
+    × (((status ≡ 0) × ((d : _)
+    × HasRetargeted (ArePricesBy before.rule) harvester targets before.history after.history d))
     ⊎ ((after ≡ before) × (((status ≡ misused) × (0 < harvester → harvester ≤ 64 → ⊥))
     ⊎ ((status ≡ memory) ⊎ ((fault : DemandRefusal) × IsDemandRefused before.history before.capacity targets fault
     × (status ≡ status_of_demand fault))))))

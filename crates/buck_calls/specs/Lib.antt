@@ -1,6 +1,7 @@
 pub mod Room
 pub mod Files
 pub mod Shown
+pub mod Looked
 pub mod Books
 pub mod States
 pub mod Journals

@@ -39,6 +39,6 @@ IsTableFault apt journal fault =
 -- a table of a lawful journal, or why there is none; none where there is no table of that number
 abbrev pub IsListed : ℕ → List ℕ → List ℕ → List ℕ → ℕ → Type 0
 IsListed table apt journal text status =
-    ((3 < table) × (text ≡ []) × (status ≡ misused))
-    ⊎ ((table ≤ 3) × ((IsOfLawful apt journal × (status ≡ 0))
+    ((5 < table) × (text ≡ []) × (status ≡ misused))
+    ⊎ ((table ≤ 5) × ((IsOfLawful apt journal × (status ≡ 0))
     ⊎ IsToldOf (IsTableFault (Some apt) (Some journal)) text status))

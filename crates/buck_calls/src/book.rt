@@ -5,7 +5,8 @@ ghost use Rattle.buck_calls.specs.Books.{AnswersOpen, AnswersCut, AnswersRetarge
 use crate::showing::{Cut, show};
 use buck_apt::{AptFault, read_apt};
 use buck_book::{DemandRefusal, MOST_POSTINGS};
-use buck_held::{Block, FellFault, Felled, KeptBook, NamedRule, Zone};
+use buck_held::{Block, FellFault, Felled, KeptBook, Zone};
+use buck_rule::NamedRule;
 use std::alloc::Global;
 use std::sync::Arc;
 
@@ -116,7 +117,7 @@ pub fn buckfleet_close(alloc: Global, book: &mut Block) -> u8
 }
 
 /// The status of a felled stem that wasn't cut.
-fn status_of_fell(fault: FellFault) -> u8
+pub(crate) fn status_of_fell(fault: FellFault) -> u8
     ensures { result ≡ status_of_fell fault }
 {
     match fault {

@@ -1,6 +1,5 @@
 //! The call that C makes for the journal of a book.
-ghost use Rattle.std.specs.Prelude.{◌≡◌, IfOk};
-ghost use Rattle.buck_journal.specs.Written.{journal_text};
+ghost use Rattle.std.specs.Prelude.{◌≡◌};
 ghost use Rattle.buck_calls.specs.Room.{IsPut};
 ghost use Rattle.buck_calls.specs.Journals.{HasJournal};
 ghost use Rattle.buck_calls.specs.States.{IsShownBy};
@@ -8,25 +7,14 @@ ghost use Rattle.buck_calls.specs.States.{IsShownBy};
 use crate::book::{CLOSED, DONE};
 use crate::room::put;
 use crate::telling::put_memory;
-use buck_book::Book;
 use buck_held::{Block, KeptBook};
-use buck_journal::journal_text;
-use buck_record::Memory;
 use std::alloc::Global;
-
-/// The text of a book's journal.
-fn text_of<F: Drop>(alloc: Global, book: &Book<F>) -> Result<Vec<u8>, Memory>
-    ensures { IfOk result (λ text. text.items ≡ journal_text book.now.history.sheets book.now.history.postings) }
-{
-    let text = journal_text(alloc, book.sheets(), book.entries())?;
-    Ok(text)
-}
 
 /// Puts the journal of a book in the caller's room.
 fn put_journal(alloc: Global, kept: &KeptBook, out: &mut [u8], written: &mut usize) -> u8
     ensures { IsPut (HasJournal kept.now) out.old out.new written.new result }
 {
-    match text_of(alloc, kept.book()) {
+    match kept.journal(alloc) {
         Ok(text) => put(text.as_slice(), DONE, out, written),
         Err(_) => put_memory(out, written),
     }

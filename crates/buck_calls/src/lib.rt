@@ -8,6 +8,7 @@
 mod book;
 mod files;
 mod journal;
+mod looking;
 mod pages;
 mod room;
 mod showing;
@@ -18,6 +19,7 @@ mod turns;
 pub use book::{Terms, buckfleet_close, buckfleet_cut, buckfleet_open, buckfleet_retarget};
 pub use files::{buckfleet_buck, buckfleet_check, buckfleet_report, buckfleet_version};
 pub use journal::buckfleet_journal;
+pub use looking::{Appraised, buckfleet_preview, buckfleet_price_of};
 pub use pages::{buckfleet_table, buckfleet_view};
 pub use showing::{Cut, CutLog};
 pub use state::{

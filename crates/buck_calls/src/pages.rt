@@ -11,16 +11,10 @@ use buck_engine::{EngineFault, Files, Table, run_table, run_view, status};
 use std::alloc::Global;
 
 /// The names of two files, which stand before and after a line feed.
-fn files_of(names: &[u8]) -> Files<'_> {
+fn names_of(names: &[u8]) -> (&[u8], &[u8]) {
     match names.iter().position(|byte| *byte == b'\n') {
-        Some(at) => Files {
-            instruction: &names[..at],
-            journal: &names[at + 1..],
-        },
-        None => Files {
-            instruction: names,
-            journal: &[],
-        },
+        Some(at) => (&names[..at], &names[at + 1..]),
+        None => (names, &[]),
     }
 }
 
@@ -49,13 +43,15 @@ fn page_of<'x>(
 
 /// The table of a number.
 fn table_of(number: u8) -> Option<Table>
-    ensures { IsSome result ↔ number ≤ 3 }
+    ensures { IsSome result ↔ number ≤ 5 }
 {
     match number {
         0 => Some(Table::Classes),
         1 => Some(Table::Postings),
         2 => Some(Table::Logs),
         3 => Some(Table::Degrees),
+        4 => Some(Table::Assortments),
+        5 => Some(Table::Lacking),
         _ => None,
     }
 }
@@ -96,16 +92,22 @@ pub fn buckfleet_view(
 ) -> u8
     ensures { IsPut (IsViewed apt.now journal.now) out.old out.new written.new result }
 {
-    match page_of(alloc, apt, journal, &files_of(names)) {
+    let (instruction, name) = names_of(names);
+    let journals = [name];
+    let files = Files {
+        instruction,
+        journals: journals.as_slice(),
+    };
+    match page_of(alloc, apt, journal, &files) {
         Ok((page, status)) => put(page.as_slice(), status, out, written),
         Err(fault) => put_fault(alloc, &fault, out, written),
     }
 }
 
-/// Lists a journal as a table, as the program's `table` does: its classes (0), its postings (1), its logs (2) or its
-/// degrees (3). The table of a lawful journal, or the line of a fault, goes to the start of
-/// `out`, and its length to `written`. The answer is the program's exit status, 6 where `out` is too small, or 8 where
-/// there is no such table: then no text is put.
+/// Lists a journal as a table, as the program's `table` does: its classes (0), its postings (1), its logs (2), its
+/// degrees (3), its assortments (4) or the classes that lack logs (5). The table of a lawful journal, or the line of a
+/// fault, goes to the start of `out`, and its length to `written`. The answer is the program's exit status, 6 where
+/// `out` is too small, or 8 where there is no such table: then no text is put.
 pub fn buckfleet_table(
     alloc: Global,
     apt: &[u8],

@@ -3,6 +3,8 @@
 
 mod charts;
 mod matrix;
+mod prices;
 
-pub use charts::{write_degree_chart, write_price_chart};
+pub use charts::write_degree_chart;
 pub use matrix::write_matrices;
+pub use prices::write_price_chart;

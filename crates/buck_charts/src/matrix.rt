@@ -1,18 +1,23 @@
 //! Matrices of the classes of an assortment: a row for each lower limit of the top diameter, a column for each length.
-ghost use Rattle.std.specs.Prelude.{◌≡◌, ◌<◌, ◌≤◌, ◌*◌, length, max};
+ghost use Rattle.std.specs.Prelude.{◌≡◌, ◌<◌, ◌≤◌, ◌*◌, ◌^◌, length, max};
 ghost use Rattle.std.specs.Int.{div_ceil};
 
 use buck_apt::Assortment;
 use buck_figures::{Figures, part, sum_of};
 use buck_record::Memory;
 use buck_words::{
-    Difference, Fixed, Grouped, Known, Signed, change_of, difference_of, length_text, permille,
-    row_of, tens,
+    Difference, Fixed, Grouped, Known, Several, Signed, change_of, difference_of, half_up,
+    length_text, permille, row_of, tens,
 };
 use std::fmt;
 
 /// A matrix of more columns says one figure in a cell, and the rest in its title.
 const WIDE: usize = 12;
+
+/// Two matrices stand side by side up to so many columns, where so many pixels are wide enough for each.
+const BESIDE: usize = 4;
+
+const HALF: u64 = 480;
 
 /// Which differences, in per mille, have which of the three shades: each from its step on.
 #[derive(Clone, Copy)]
@@ -148,24 +153,6 @@ fn write_price_legend(out: &mut String, steps: &Steps) -> Result<(), Memory> {
     Ok(write!(out, " raised, in %</p>")?)
 }
 
-/// A number of logs out of some.
-#[derive(Clone, Copy)]
-struct Share {
-    logs: u64,
-    of: u64,
-}
-
-impl Share {
-    /// In per mille, if there are any to be out of.
-    fn permille(&self) -> Option<u128> {
-        if self.of == 0 {
-            None
-        } else {
-            Some(permille(u128::from(self.logs), u128::from(self.of)))
-        }
-    }
-}
-
 /// A share in percent, from per mille.
 fn share_text(share: Option<u128>) -> Known {
     match share {
@@ -174,11 +161,37 @@ fn share_text(share: Option<u128>) -> Known {
     }
 }
 
-/// What a cell of shares says: what was cut and what is wanted.
+/// What was cut and what is wanted: some logs, of all that were cut of the assortment, and their target, of all its
+/// targets.
 #[derive(Clone, Copy)]
 struct Shares {
-    cut: Share,
-    wanted: Share,
+    count: u64,
+    cut: u64,
+    target: u64,
+    wanted: u64,
+    ghost some: { 0 < wanted },
+    ghost low: { (cut < 2 ^ 60) × (target < 2 ^ 60) },
+}
+
+impl Shares {
+    /// The share of what was cut, in per mille, if anything was.
+    fn of_cut(&self) -> Option<u128> {
+        if self.cut == 0 {
+            return None;
+        }
+        Some(permille(u128::from(self.count), u128::from(self.cut)))
+    }
+
+    /// The share of what is wanted, in per mille.
+    fn of_wanted(&self) -> u128 {
+        permille(u128::from(self.target), u128::from(self.wanted))
+    }
+
+    /// How many logs would have been wanted of as many as were cut.
+    fn wanted_logs(&self) -> Fixed {
+        let tenths = 10 * u128::from(self.target) * u128::from(self.cut);
+        Fixed::of(half_up(tenths, u128::from(self.wanted)), 1)
+    }
 }
 
 /// Writes a cell of shares, given its main figure.
@@ -189,19 +202,19 @@ fn write_cell<T: fmt::Display + Drop>(
     wide: bool,
     figure: T,
 ) -> Result<(), Memory> {
-    let cut = share_text(shares.cut.permille());
-    let wanted = share_text(shares.wanted.permille());
-    let count = Grouped(u128::from(shares.cut.logs));
-    let target = Grouped(u128::from(shares.wanted.logs));
+    let cut = share_text(shares.of_cut());
+    let wanted = Fixed::of(shares.of_wanted(), 1);
+    let count = Grouped(u128::from(shares.count));
+    let logs = shares.wanted_logs();
     if wide {
         write!(
             out,
-            "<td class=\"{shade}\" title=\"{cut} / {wanted} %; {count} / {target} logs\">{figure}</td>"
+            "<td class=\"{shade}\" title=\"{cut} / {wanted} %; {count} / {logs} logs\">{figure}</td>"
         )?;
     } else {
         write!(
             out,
-            "<td class=\"{shade}\"><b>{figure}</b><s>{cut} / {wanted}</s><s>{count} / {target}</s></td>"
+            "<td class=\"{shade}\"><b>{figure}</b><s>{cut} / {wanted}</s><s>{count} / {logs}</s></td>"
         )?;
     }
     Ok(())
@@ -220,18 +233,15 @@ fn write_share(
     } else {
         Shade::Sum
     };
-    let cut = shares.cut.permille();
-    let (Some(n), Some(wanted)) = (cut, shares.wanted.permille()) else {
-        let figure = if wide { share_text(cut) } else { Known(None) };
-        return write_cell(out, shares, unshaded, wide, figure);
+    let Some(cut) = shares.of_cut() else {
+        return write_cell(out, shares, unshaded, wide, Known(None));
     };
-    let difference = difference_of(wanted, n);
+    let difference = difference_of(shares.of_wanted(), cut);
     let shade = match steps {
         Some(steps) => steps.shade(difference),
         None => unshaded,
     };
-    let figure = Signed::of(difference, 1);
-    write_cell(out, shares, shade, wide, figure)
+    write_cell(out, shares, shade, wide, Signed::of(difference, 1))
 }
 
 /// How many digits a number has.
@@ -248,19 +258,7 @@ fn digits(n: u64) -> u64
     20
 }
 
-/// The least width of a matrix in pixels, given how many digits the widest figure of a cell has.
-fn least_width(columns: usize, digits: u64) -> u64
-    requires { (columns ≤ 32) × (digits ≤ 40) }
-{
-    let cells = columns as u64 + 1;
-    if columns > WIDE {
-        84 + 28 * cells
-    } else {
-        84 + (26 + 7 * digits).max(68) * cells
-    }
-}
-
-/// A matrix of the classes of an assortment.
+/// A matrix of the classes of an assortment that has a target.
 #[derive(Drop)]
 struct Matrix<'a> {
     assortment: &'a Assortment,
@@ -270,6 +268,42 @@ struct Matrix<'a> {
     wanted: u64,
     cut: u64,
     limit: u32,
+    ghost some: { 0 < wanted },
+    ghost low: { (cut < 2 ^ 60) × (length targets.now ≤ 1024) × (length counts.now ≤ 1024) },
+}
+
+impl Matrix<'_> {
+    /// Whether it is a wide one.
+    fn is_wide(&self) -> bool {
+        self.assortment.lengths().len() > WIDE
+    }
+
+    /// The least width in pixels. A narrower window scrolls; paper takes the width that it has.
+    fn least_width(&self) -> u64 {
+        let cells = self.assortment.lengths().len() as u64 + 1;
+        if self.is_wide() {
+            84 + 28 * cells
+        } else {
+            84 + (36 + 14 * digits(self.cut)).max(72) * cells
+        }
+    }
+
+    /// Whether it stands beside another one: where there are few columns, and half the page is wide enough.
+    fn is_beside(&self) -> bool {
+        self.assortment.lengths().len() <= BESIDE && self.least_width() <= HALF
+    }
+
+    /// What a cell of shares says of these logs.
+    fn shares(&self, count: u64, target: u64) -> Shares
+        requires { target < 2 ^ 60 }
+    {
+        Shares {
+            count,
+            cut: self.cut,
+            target,
+            wanted: self.wanted,
+        }
+    }
 }
 
 /// Writes the head of a matrix, down to its lengths, given what it shows and how to read it.
@@ -281,7 +315,7 @@ fn open_matrix(
 ) -> Result<(), Memory> {
     let lengths = matrix.assortment.lengths();
     let tight = if lengths.len() > WIDE { " tight" } else { "" };
-    let width = least_width(lengths.len(), digits(matrix.cut) + digits(matrix.wanted));
+    let width = matrix.least_width();
     write!(
         out,
         "<figure><figcaption>{what} <small>{read}</small></figcaption><div class=\"scroll\">\
@@ -308,13 +342,36 @@ fn row_in(numbers: &[u32], columns: usize, row: usize) -> &[u32]
     }
 }
 
-/// All numbers of a column together, of some that stand row by row.
-fn column_sum(numbers: &[u32], columns: usize, column: usize) -> u64
-    requires { 0 < columns }
+/// A row or a column of the classes of an assortment.
+#[derive(Clone, Copy)]
+enum Line {
+    Row(usize),
+    Column(usize),
+}
+
+impl Line {
+    /// Whether the class at a place of an assortment of so many columns stands in it.
+    fn has(self, at: usize, columns: usize) -> bool
+        requires { 0 < columns }
+    {
+        match self {
+            Line::Row(row) => at / columns == row,
+            Line::Column(column) => at % columns == column,
+        }
+    }
+}
+
+/// All numbers of a row or a column together, of some that stand row by row.
+fn sum_in(numbers: &[u32], columns: usize, line: Line) -> u64
+    requires some { 0 < columns }
+    requires few { length numbers.now ≤ 1024 }
+    ensures { result < 2 ^ 60 }
 {
-    let mut all: u64 = 0;
-    for number in numbers.iter().skip(column).step_by(columns) {
-        all = all.saturating_add(u64::from(*number));
+    let mut all = 0;
+    for (at, number) in numbers.iter().enumerate() {
+        if line.has(at, columns) {
+            all += u64::from(*number);
+        }
     }
     all
 }
@@ -329,27 +386,6 @@ fn filled(targets: &[u32], counts: &[u32]) -> u64
         .filter(|pair| *pair.0 > 0 || *pair.1 > 0)
         .count();
     (some as u64).max(1)
-}
-
-impl Matrix<'_> {
-    /// Whether it is a wide one.
-    fn is_wide(&self) -> bool {
-        self.assortment.lengths().len() > WIDE
-    }
-
-    /// What a cell of shares says of these logs.
-    fn shares(&self, count: u64, target: u64) -> Shares {
-        Shares {
-            cut: Share {
-                logs: count,
-                of: self.cut,
-            },
-            wanted: Share {
-                logs: target,
-                of: self.wanted,
-            },
-        }
-    }
 }
 
 /// Writes a cell of a class that the mill doesn't buy.
@@ -384,7 +420,11 @@ fn write_share_row(
             write_share(out, &shares, Some(steps), wide)?;
         }
     }
-    let shares = matrix.shares(sum_of(counts), sum_of(targets));
+    let line = Line::Row(row);
+    let shares = matrix.shares(
+        sum_in(matrix.counts, columns, line),
+        sum_in(matrix.targets, columns, line),
+    );
     write_share(out, &shares, None, wide)?;
     Ok(write!(out, "</tr>")?)
 }
@@ -395,19 +435,16 @@ fn write_share_foot(out: &mut String, matrix: &Matrix<'_>) -> Result<(), Memory>
     let wide = matrix.is_wide();
     write!(out, "<tr><th scope=\"row\" class=\"sum\">all</th>")?;
     for column in 0..columns {
-        let count = column_sum(matrix.counts, columns, column);
-        let target = column_sum(matrix.targets, columns, column);
+        let line = Line::Column(column);
+        let count = sum_in(matrix.counts, columns, line);
+        let target = sum_in(matrix.targets, columns, line);
         write_share(out, &matrix.shares(count, target), None, wide)?;
     }
     if wide {
         write!(out, "<td class=\"sum\"></td></tr>")?;
     } else {
-        write!(
-            out,
-            "<td class=\"sum whole\"><s>{} / {}</s></td></tr>",
-            Grouped(u128::from(matrix.cut)),
-            Grouped(u128::from(matrix.wanted))
-        )?;
+        let logs = Several::of(u128::from(matrix.cut), "log");
+        write!(out, "<td class=\"sum whole\"><s>{logs}</s></td></tr>")?;
     }
     Ok(())
 }
@@ -415,9 +452,9 @@ fn write_share_foot(out: &mut String, matrix: &Matrix<'_>) -> Result<(), Memory>
 /// Writes the matrix of shares: what was cut against what is wanted.
 fn write_shares(out: &mut String, matrix: &Matrix<'_>) -> Result<(), Memory> {
     let read = if matrix.is_wide() {
-        "difference in points"
+        "points"
     } else {
-        "difference in points; cut / wanted, % and logs"
+        "points; cut / wanted, % and logs"
     };
     let steps = share_steps(filled(matrix.targets, matrix.counts));
     open_matrix(out, matrix, "Shares: cut against wanted", read)?;
@@ -430,9 +467,7 @@ fn write_shares(out: &mut String, matrix: &Matrix<'_>) -> Result<(), Memory> {
     }
     write_share_foot(out, matrix)?;
     write!(out, "</tbody></table></div>")?;
-    if matrix.wanted == 0 {
-        write!(out, "<p class=\"keys\">Nothing is wanted of it.</p>")?;
-    } else if matrix.cut == 0 {
+    if matrix.cut == 0 {
         write!(out, "<p class=\"keys\">Nothing was cut of it.</p>")?;
     } else {
         write_share_legend(out, &steps)?;
@@ -536,28 +571,27 @@ fn write_prices(out: &mut String, matrix: &Matrix<'_>) -> Result<(), Memory> {
     Ok(write!(out, "</figure>")?)
 }
 
-/// Writes the matrices of the assortment at a place: side by side where there are few columns, else one under the
-/// other.
+/// Writes the matrices of the assortment at a place, where it has a target: side by side where they are narrow, else
+/// one under the other.
 pub fn write_matrices(out: &mut String, figures: &Figures<'_>, at: usize) -> Result<(), Memory>
-    requires { at < length figures.now.instruction.now.assortments }
+    requires exists { at < length figures.now.instruction.now.assortments }
 {
-    let assortment = &figures.instruction.assortments()[at];
     let targets = part(figures.instruction, figures.targets.as_slice(), at);
     let counts = part(figures.instruction, figures.counts.as_slice(), at);
+    let wanted = sum_of(targets);
+    if wanted == 0 {
+        return Ok(());
+    }
     let matrix = Matrix {
-        assortment,
+        assortment: &figures.instruction.assortments()[at],
         targets,
         counts,
         prices: part(figures.instruction, figures.prices, at),
-        wanted: sum_of(targets),
+        wanted,
         cut: sum_of(counts),
         limit: figures.instruction.limit(),
     };
-    let one = if assortment.lengths().len() > 5 {
-        " one"
-    } else {
-        ""
-    };
+    let one = if matrix.is_beside() { "" } else { " one" };
     write!(out, "<div class=\"matrices{one}\">")?;
     write_shares(out, &matrix)?;
     write_prices(out, &matrix)?;

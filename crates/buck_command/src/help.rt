@@ -123,12 +123,20 @@ own as by fleet --in-turn, of which no journal is kept. A line says how many
 sheets there were, the degree of each assortment and the least of them, what was
 cut is worth at base prices, what the best cuttings are worth at these, what
 steering cost in ten-thousandths of that, and the volume. A LIST is one number,
-or several with one comma between; at most 10000 combinations. See \"The table of
-a sweep\" in docs/FORMATS.md.
+or several with one comma between; at most 10000 runs. See \"The table of a
+sweep\" in docs/FORMATS.md.
+
+The k-th item 918 1 of FILE has the targets of assortment k, row by row; other
+items are skipped, so that an instruction file will do. With --draws each
+combination is also run on N shuffled orders of the same stems, each stem with
+its harvester, and six columns more have the least, the mean and the greatest of
+what these came to: a lead that is less than they differ may be chance. The same
+seed gives the same orders, for each line the same ones.
 
 Examples:
   buckfleet sweep --rule linear --period 1,5,20 morning.apt morning_1.stm
   buckfleet sweep --rule steady --rule step morning.apt morning_1.stm
+  buckfleet sweep --targets tuesday.txt --draws 20 morning.apt morning_1.stm
 
 Exit statuses:
   0  the table was printed
@@ -138,6 +146,52 @@ Exit statuses:
   5  a file can't be read, or the output can't be written
 After 1, 3 and 5, and after too many stem files, one line on standard error says
 what went wrong; explain says it in words.";
+
+/// What comes of an appraisal, and how it ends.
+pub(crate) const APPRAISE: &str =
+    "Prints CSV: what the cuts of the journals bring under a contract, and what the
+best cuttings under it would have brought: a line for each harvester, for each
+assortment, and for all. OWN is the contract, written as an instruction file: it
+may have other prices, price kinds and diameters than APT, but the same module
+and, assortment by assortment, the same species, grades, lengths and trim. A log
+that it doesn't buy is worth 0. The journals are of APT, and must be lawful for
+it. See \"The table of an appraisal\" in docs/FORMATS.md.
+
+Examples:
+  buckfleet appraise morning.apt morning.jrn own.apt
+  buckfleet appraise mill.apt monday.jrn tuesday.jrn own.apt > week.csv
+
+Exit statuses:
+  0  the table was printed
+  1  a file is refused
+  2  the words of the command line are wrong
+  3  memory ran out
+  4  a journal is not lawful
+  5  a file can't be read, or the output can't be written
+After 1, 3, 4 and 5 one line on standard error says what went wrong; explain
+says it in words.";
+
+/// What comes of a comparison of journals, and how it ends.
+pub(crate) const COMPARE: &str =
+    "Prints CSV: a line for each figure of all, of each assortment, and of each
+harvester of either run: that of the first journal, that of the second, and the
+second less the first. Both are of one instruction, of the same stems or not. Of
+two numbers the first belongs to the first journal. See \"The table of a
+comparison\" in docs/FORMATS.md.
+
+Examples:
+  buckfleet compare morning.apt linear.jrn step.jrn
+  buckfleet compare --period 5,1 mill.apt monday.jrn tuesday.jrn
+
+Exit statuses:
+  0  the table was printed
+  1  a file is refused
+  2  the words of the command line are wrong
+  3  memory ran out
+  4  a journal is not lawful
+  5  a file can't be read, or the output can't be written
+After 1, 3, 4 and 5 one line on standard error says what went wrong; explain
+says it in words.";
 
 /// What comes of requests, and how a run over them ends.
 pub(crate) const LIVE: &str =
@@ -187,15 +241,17 @@ says it in words.";
 
 /// What comes of a page, and how it ends.
 pub(crate) const VIEW: &str =
-    "Prints one HTML page: what was cut, how near the proportions wanted it came and
-how that developed, what steering by prices cost beside the best cuttings at
-base prices, which prices moved, and how single stems were cut. It loads
-nothing, and holds no date. Of a journal that is not lawful the page of its
-first fault is printed, and the status is 4.
+    "Prints one HTML page: what steering by prices did to the wood beside the best
+cuttings at base prices, how near the proportions wanted it came, which classes
+lack most logs and what their prices do about it, what grades and steering cost,
+and how single stems were cut. Several journals, as those of a week, are of one
+instruction; their logs and sums are added. The page loads nothing, and holds no
+date. Of a journal that is not lawful the page of its first fault is printed,
+and the status is 4.
 
 Examples:
   buckfleet view morning.apt morning.jrn > morning.html
-  buckfleet view -q morning.apt morning.jrn > morning.html
+  buckfleet view mill.apt monday.jrn tuesday.jrn > week.html
 
 Exit statuses:
   0  the page was printed
@@ -210,12 +266,14 @@ says it in words.";
 /// The same of a table.
 pub(crate) const TABLE: &str =
     "Prints CSV: a first line of the columns, and then a line for each class, posting
-or log, or for each assortment at each point of its degree. Of a journal that is
-not lawful nothing is printed. See \"Tables of a journal\" in docs/FORMATS.md.
+or log, for each assortment at each point of its degree (degrees) or in all
+(assortments), or for each class that lacks logs, most first (lacking). Several
+journals are of one instruction. Where one is not lawful nothing is printed. See
+\"Tables of a journal\" in docs/FORMATS.md.
 
 Examples:
   buckfleet table morning.apt morning.jrn classes > classes.csv
-  buckfleet table morning.apt morning.jrn degrees > degrees.csv
+  buckfleet table mill.apt monday.jrn tuesday.jrn lacking > lacking.csv
 
 Exit statuses:
   0  the table was printed
@@ -276,6 +334,9 @@ instruction's own";
 pub(crate) const LIMITS: &str = "How far prices may move, per mille, each 0 to 1000; else
 the instruction's own";
 
+/// What is said of OUT.
+pub(crate) const OUT: &str = "The file that the journal is written into";
+
 /// What is told on a terminal, and how it is kept off.
 pub(crate) const QUIET: &str = "Tell nothing on a terminal but what went wrong";
 
@@ -292,3 +353,22 @@ pub(crate) const IN_TURN: &str = "One stem each, round by round, in one thread";
 /// The same at length.
 pub(crate) const IN_TURNS: &str = "One stem each, round by round, in the order of the files; who has
 none left is passed over. One thread, and the same history each time";
+/// The same of two journals.
+pub(crate) const COMPARED_PERIODS: &str = "Stems in a period, 1 to 1000, or one number for each
+journal; else the instruction's own";
+
+/// The same.
+pub(crate) const COMPARED_LIMITS: &str =
+    "How far prices may move, per mille, 0 to 1000, or one number
+for each journal; else the instruction's own";
+
+/// Which targets are put in.
+pub(crate) const TARGETS: &str = "A file with the targets, in the place of the instruction's";
+
+/// How many orders are drawn.
+pub(crate) const DRAWS: &str = "How many orders of the stems are drawn by chance, 1 to 1000;
+else none";
+
+/// From which seed.
+pub(crate) const SEED: &str = "From which number the draws begin, 0 to
+18446744073709551615; else 1";

@@ -11,33 +11,27 @@ use std::io::{Error, ErrorKind};
 /// The name by which standard input is read, and standard output written.
 pub(crate) const DASH: &str = "-";
 
-/// What was read from a stream, as far as it is wanted and there is memory for it.
+/// What was read of an input, as far as there was memory to keep it, and how its reading ended.
 #[derive(Drop)]
 pub(crate) struct Copied {
     bytes: Vec<u8>,
-    wanted: bool,
+    is_whole: bool,
     count: u64,
+    /// Why no more of it could be read, if it couldn't.
+    pub(crate) refused: Option<ErrorKind>,
 }
 
 impl Copied {
-    pub(crate) fn none(alloc: Global, wanted: bool) -> Copied {
-        Copied {
-            bytes: Vec::new(alloc),
-            wanted,
-            count: 0,
-        }
-    }
-
     fn keep(&mut self, bytes: &[u8]) {
         self.count = self.count.saturating_add(bytes.len() as u64);
-        if self.wanted && self.bytes.extend_from_slice(bytes).is_err() {
-            self.wanted = false;
+        if self.is_whole && self.bytes.extend_from_slice(bytes).is_err() {
+            self.is_whole = false;
         }
     }
 
     /// What was read, where all of it was kept.
     pub(crate) fn bytes(&self) -> Option<&[u8]> {
-        if self.wanted {
+        if self.is_whole {
             Some(self.bytes.as_slice())
         } else {
             None
@@ -50,32 +44,78 @@ impl Copied {
     }
 }
 
-/// Standard input, which two may read in turn, and what was read from it.
+/// What was read of the inputs of a run, in the order in which they were opened, where that is wanted.
+#[derive(Drop)]
+pub(crate) struct Kept {
+    alloc: Global,
+    is_wanted: Cell<bool>,
+    inputs: RefCell<Vec<Copied>>,
+}
+
+impl Kept {
+    pub(crate) fn none(alloc: Global, is_wanted: bool) -> Kept {
+        Kept {
+            alloc,
+            is_wanted: Cell::new(is_wanted),
+            inputs: RefCell::new(Vec::new(alloc)),
+        }
+    }
+
+    /// Another input is opened. The answer is its place, where what is read of it is to be kept.
+    pub(crate) fn begin(&self) -> Option<usize> {
+        if !self.is_wanted.get() {
+            return None;
+        }
+        let mut inputs = self.inputs.try_borrow_mut().ok()?;
+        let place = inputs.len();
+        let copied = Copied {
+            bytes: Vec::new(self.alloc),
+            is_whole: true,
+            count: 0,
+            refused: None,
+        };
+        if inputs.push(copied).is_err() {
+            // Those that are opened after it would stand in wrong places.
+            self.is_wanted.set(false);
+            return None;
+        }
+        Some(place)
+    }
+
+    /// Keeps what was read of the input at a place, or why nothing could be.
+    pub(crate) fn keep(&self, place: Option<usize>, read: Result<&[u8], ErrorKind>) {
+        let (Some(place), Ok(mut inputs)) = (place, self.inputs.try_borrow_mut()) else {
+            return;
+        };
+        if let Some(copied) = inputs.get_mut(place) {
+            match read {
+                Ok(bytes) => copied.keep(bytes),
+                Err(kind) => copied.refused = Some(kind),
+            }
+        }
+    }
+}
+
+/// Standard input, which two may read in turn, and what was read of all inputs.
 #[derive(Drop)]
 pub(crate) struct Inlet<'a, R> {
     reader: RefCell<&'a mut R>,
-    copied: RefCell<Copied>,
+    pub(crate) kept: Kept,
 }
 
 impl<'a, R> Inlet<'a, R> {
-    pub(crate) fn of(reader: &'a mut R, copied: Copied) -> Inlet<'a, R> {
+    pub(crate) fn of(reader: &'a mut R, kept: Kept) -> Inlet<'a, R> {
         Inlet {
             reader: RefCell::new(reader),
-            copied: RefCell::new(copied),
+            kept,
         }
     }
 
-    /// Keeps what was read.
-    fn keep(&self, bytes: &[u8]) {
-        if let Ok(mut copied) = self.copied.try_borrow_mut() {
-            copied.keep(bytes);
-        }
-    }
-
-    /// What was read.
-    pub(crate) fn into_copied(self) -> Copied {
-        let Inlet { reader: _, copied } = self;
-        copied.into_inner()
+    /// What was read of the inputs.
+    pub(crate) fn into_copies(self) -> Vec<Copied> {
+        let Inlet { reader: _, kept } = self;
+        let Kept { inputs, .. } = kept;
+        inputs.into_inner()
     }
 }
 
@@ -87,14 +127,10 @@ pub(crate) struct Drawn<'a, 'b, R> {
 
 impl<'a, 'b, R: io::Read> io::Read for Drawn<'a, 'b, R> {
     fn read(&mut self, buf: &mut [u8]) -> io::Result<usize> {
-        let Ok(mut reader) = self.inlet.reader.try_borrow_mut() else {
-            return Err(Error::from(ErrorKind::Other));
-        };
-        let count = reader.read(buf)?;
-        if let Some((read, _)) = buf.split_at_checked(count) {
-            self.inlet.keep(read);
+        match self.inlet.reader.try_borrow_mut() {
+            Ok(mut reader) => reader.read(buf),
+            Err(_) => Err(Error::from(ErrorKind::Other)),
         }
-        Ok(count)
     }
 }
 

@@ -4,10 +4,10 @@
 //! disk. [`serve_work`] is what it does once it knows the [`Work`].
 #![tactic(auto)]
 
-mod again;
+mod commands;
 mod help;
 mod inputs;
-mod line;
+mod known;
 mod notes;
 mod progress;
 mod reason;
@@ -19,7 +19,7 @@ mod teller;
 mod words;
 mod working;
 
-pub use again::{Again, Second, Trouble};
+pub use known::{Known, KnownFiles, Trouble};
 pub use progress::Screen;
 pub use running::{run, say_help};
 pub use served::Place;

@@ -1,12 +1,13 @@
 //! What is noted behind work that was done: nothing went wrong, but it is seldom meant.
-use crate::again::Again;
+use crate::known::Known;
 use crate::reason::Inquest;
 use crate::working::Work;
 use buck_apt::Instruction;
-use buck_engine::{NamedRule, Task};
+use buck_engine::Task;
 use buck_notes::{Marks, first_again, first_namesake, first_untaken, is_too_long, is_unsteered};
 use buck_reason::{Quoted, Several, Shown};
 use buck_record::Memory;
+use buck_rule::NamedRule;
 use buck_stem::read_stm;
 use std::alloc::{AllocError, Global};
 use std::fmt;
@@ -73,7 +74,7 @@ impl Felled {
     }
 }
 
-impl<'a, A: Again> Inquest<'a, A> {
+impl<'a, A: Known> Inquest<'a, A> {
     /// The stem at a place of all that were cut.
     fn stem_at(&self, felled: &Felled, at: usize) -> Where<'a> {
         let (file, place) = felled.place_of(at);
@@ -84,8 +85,8 @@ impl<'a, A: Again> Inquest<'a, A> {
         }
     }
 
-    /// The stems of all files that were cut; none where they can't be read once more.
-    fn felled(&mut self, alloc: Global) -> Result<Option<Felled>, Memory> {
+    /// The stems of all files that were cut; none where they weren't kept.
+    fn felled(&self, alloc: Global) -> Result<Option<Felled>, Memory> {
         let mut felled = Felled {
             marks: Marks::none(alloc),
             files: Vec::new(alloc),
@@ -93,10 +94,10 @@ impl<'a, A: Again> Inquest<'a, A> {
         let first = self.subject.others;
         let end = first.saturating_add(self.subject.stem_files().max(1));
         for file in first..end {
-            let Ok(bytes) = self.bytes(alloc, file) else {
+            let Some(source) = self.source(file) else {
                 return Ok(None);
             };
-            let Ok(stems) = read_stm(alloc, bytes.as_slice()) else {
+            let Ok(stems) = read_stm(alloc, source.bytes) else {
                 return Ok(None);
             };
             felled.marks.add(stems.as_slice())?;
@@ -162,11 +163,11 @@ impl<'a, A: Again> Inquest<'a, A> {
     }
 
     /// That a journal is too long to be read again.
-    fn journal_note(&mut self, alloc: Global) -> Result<String, AllocError> {
+    fn journal_note(&self, alloc: Global) -> Result<String, AllocError> {
         let Some(name) = self.subject.out else {
             return Ok(String::new(alloc));
         };
-        let bytes = self.again.size(name).unwrap_or(0);
+        let bytes = self.known.size(name).unwrap_or(0);
         if !is_too_long(bytes) {
             return Ok(String::new(alloc));
         }
@@ -176,9 +177,24 @@ impl<'a, A: Again> Inquest<'a, A> {
         )
     }
 
+    /// That a journal is named twice.
+    fn twice_note(&self, alloc: Global) -> Result<String, AllocError> {
+        let names = self.subject.names.as_slice();
+        for at in 1..names.len().min(self.subject.journals.saturating_add(1)) {
+            let name = names[at];
+            if names[1..at].contains(&name) {
+                let name = Shown(name.as_bytes());
+                return format!(in alloc;
+                    "note: {name}: a journal that is named twice counts twice\n"
+                );
+            }
+        }
+        Ok(String::new(alloc))
+    }
+
     /// What is noted of the stems of files.
     fn stem_notes(
-        &mut self,
+        &self,
         alloc: Global,
         instruction: &Instruction,
         is_steered: bool,
@@ -196,8 +212,9 @@ impl<'a, A: Again> Inquest<'a, A> {
     }
 
     /// What is noted behind some work, a line for each note. Refused as `Memory` alone.
-    pub(crate) fn notes(&mut self, alloc: Global, work: &Work<'_>) -> Result<String, Memory> {
+    pub(crate) fn notes(&self, alloc: Global, work: &Work<'_>) -> Result<String, Memory> {
         let mut out = self.journal_note(alloc)?;
+        out.push_str(self.twice_note(alloc)?.as_str())?;
         let Some(instruction) = self.instruction(alloc) else {
             return Ok(out);
         };

@@ -3,6 +3,7 @@
 ghost use Rattle.std.specs.Prelude.{◌≡◌};
 ghost use Rattle.std.specs.Option.{option_map};
 
+use crate::inputs::Kept;
 use buck_engine::{Make, Onlooker, Open};
 use buck_reason::Shown;
 use std::alloc::Global;
@@ -142,26 +143,45 @@ impl<S: io::Write + Copy, C: Clock + Copy> Onlooker for Progress<S, C> {
     }
 }
 
-/// Files that another opener opens, and that are told of when they were read.
+/// Files that another opener opens, that are told of when they were read, and of which it is kept what was.
 #[derive(Drop)]
-pub struct Watched<'a, O, S, C> {
-    files: O,
-    progress: &'a Progress<S, C>,
+pub(crate) struct Watched<'a, O, S, C> {
+    pub(crate) files: O,
+    pub(crate) progress: &'a Progress<S, C>,
+    pub(crate) kept: &'a Kept,
 }
 
-impl<'a, O, S, C> Watched<'a, O, S, C> {
-    pub fn of(files: O, progress: &'a Progress<S, C>) -> Watched<'a, O, S, C> {
-        Watched { files, progress }
-    }
-}
-
-/// A file that is told of when it was read to its end.
+/// A file that is told of when it was read to its end, and of which it is kept what was.
 #[derive(Drop)]
-pub struct WatchedFile<'a, R, S, C> {
+pub(crate) struct WatchedFile<'a, R, S, C> {
     file: R,
     name: Option<String>,
     bytes: u64,
     progress: &'a Progress<S, C>,
+    kept: &'a Kept,
+    /// Its place among those of which it is kept.
+    place: Option<usize>,
+}
+
+impl<'a, O, S, C> Watched<'a, O, S, C> {
+    /// A file that was opened.
+    pub(crate) fn file<R>(
+        &self,
+        file: R,
+        name: Option<String>,
+        place: Option<usize>,
+    ) -> WatchedFile<'a, R, S, C>
+        ensures { result.file ≡ file }
+    {
+        WatchedFile {
+            file,
+            name,
+            bytes: 0,
+            progress: self.progress,
+            kept: self.kept,
+            place,
+        }
+    }
 }
 
 impl<'a, R: io::Read, S: io::Write + Copy, C: Clock + Copy> io::Read for WatchedFile<'a, R, S, C> {
@@ -169,19 +189,28 @@ impl<'a, R: io::Read, S: io::Write + Copy, C: Clock + Copy> io::Read for Watched
     ghost remaining = { λ f. R.remaining f.file };
 
     fn read(&mut self, buf: &mut [u8]) -> io::Result<usize> {
-        let count = self.file.read(buf)?;
-        self.note(count);
-        Ok(count)
+        match self.file.read(buf) {
+            Ok(count) => {
+                let (read, _) = buf.split_at_checked(count).unwrap_or((&[], &[]));
+                self.note(read);
+                Ok(count)
+            }
+            Err(error) => {
+                self.kept.keep(self.place, Err(error.kind()));
+                Err(error)
+            }
+        }
     }
 }
 
 impl<'a, R, S: io::Write + Copy, C: Clock + Copy> WatchedFile<'a, R, S, C> {
-    /// Counts the bytes of a read, or tells that there are no more.
-    fn note(&mut self, count: usize)
+    /// Keeps and counts the bytes of a read, or tells that there are no more.
+    fn note(&mut self, read: &[u8])
         ensures { self.new.file ≡ self.old.file }
     {
-        if count > 0 {
-            self.bytes = self.bytes.saturating_add(count as u64);
+        if !read.is_empty() {
+            self.kept.keep(self.place, Ok(read));
+            self.bytes = self.bytes.saturating_add(read.len() as u64);
             return;
         }
         if let Some(name) = &self.name {
@@ -200,12 +229,8 @@ impl<'a, O: Open, S: io::Write + Copy, C: Clock + Copy> Open for Watched<'a, O, 
         let Some(file) = self.files.open(name) else {
             return None;
         };
-        Some(WatchedFile {
-            file,
-            name: String::from_str(self.progress.alloc, name).ok(),
-            bytes: 0,
-            progress: self.progress,
-        })
+        let name = String::from_str(self.progress.alloc, name).ok();
+        Some(self.file(file, name, self.kept.begin()))
     }
 }
 

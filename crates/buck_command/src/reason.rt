@@ -1,26 +1,28 @@
-//! Why a run failed, in words, from its fault line and from its files, which are read once more.
-use crate::again::{Again, LIMIT, Trouble, Troubled};
+//! Why a run failed, in words, from its fault and from what was read.
 use crate::inputs::{Copied, DASH};
+use crate::known::{Known, LIMIT, Trouble, Troubled};
 use crate::subject::Subject;
-use buck_apt::{Instruction, read_apt};
-use buck_journal::{Journal, read_journal};
+use buck_apt::{AptFault, Instruction, Settings, read_apt};
+use buck_engine::{CheckFault, EngineFault};
+use buck_journal::{Journal, JournalFault, ReplayFault, read_journal};
 use buck_reason::{Shown, Source, apt_reason, journal_reason, stm_reason};
 use buck_record::Memory;
-use buck_replay_reason::{Tied, Unlawful, replay_reason, rule_reason, tie_reason};
-use buck_stem::read_stm;
-use std::alloc::{AllocError, Global};
-use std::io;
+use buck_replay_reason::{Mispriced, Tied, Unlawful, WrongTargets, replay_reason, rule_reason};
+use buck_stem::{StmFault, read_stm};
+use buck_terms::{OwnFault, TargetsFault, TermsFault, all_numbers};
+use std::alloc::Global;
+use std::io::ErrorKind;
 use std::sync::Arc;
 
-/// What is known of a run that failed.
+/// What is known of a run that ended.
 #[derive(Drop)]
 pub(crate) struct Inquest<'a, A> {
     pub(crate) subject: &'a Subject<'a>,
-    /// What was read from standard input.
-    pub(crate) copied: &'a Copied,
+    /// What was read of its inputs, in the order in which they were opened.
+    pub(crate) copies: &'a [Copied],
     /// Why standard output couldn't be written, if it couldn't.
-    pub(crate) unwritten: Option<io::ErrorKind>,
-    pub(crate) again: &'a mut A,
+    pub(crate) unwritten: Option<ErrorKind>,
+    pub(crate) known: &'a A,
 }
 
 /// The name of standard input.
@@ -32,28 +34,6 @@ const BEHIND: &str = "standard input, after the |";
 /// The name of standard output.
 const OUTPUT: &str = "standard output";
 
-/// All bytes of a file, or why they can't be had.
-fn read_all<R: io::Read>(alloc: Global, reader: &mut R) -> Result<Vec<u8>, Trouble> {
-    let mut bytes = Vec::new(alloc);
-    let mut chunk = [0u8; 65_536];
-    for _ in 0..LIMIT + 2 {
-        let count = match reader.read(&mut chunk) {
-            Ok(count) => count,
-            Err(error) => return Err(Trouble::of(error.kind())),
-        };
-        if count == 0 {
-            return Ok(bytes);
-        }
-        if (bytes.len() as u64).saturating_add(count as u64) > LIMIT {
-            return Err(Trouble::Long);
-        }
-        if bytes.extend_from_slice(&chunk[..count]).is_err() {
-            return Err(Trouble::Other);
-        }
-    }
-    Err(Trouble::Other)
-}
-
 /// The bytes before and behind the first bar; none behind where there is no bar.
 fn halves(bytes: &[u8]) -> (&[u8], Option<&[u8]>) {
     match bytes.iter().position(|b| *b == b'|') {
@@ -62,23 +42,15 @@ fn halves(bytes: &[u8]) -> (&[u8], Option<&[u8]>) {
     }
 }
 
-/// The numbers of a line.
-fn numbers_of(alloc: Global, line: &str) -> Result<Vec<u64>, AllocError> {
-    let mut numbers = Vec::new(alloc);
-    for word in line.split_ascii_whitespace() {
-        if let Ok(number) = word.parse::<u64>() {
-            numbers.push(number)?;
-        }
-    }
-    Ok(numbers)
+/// An instruction, and a journal with the file that it was read from.
+#[derive(Drop)]
+struct History<'a> {
+    instruction: Arc<Instruction>,
+    source: Source<'a>,
+    journal: Journal,
 }
 
-/// A number as a place.
-fn place_of(number: u64) -> usize {
-    usize::try_from(number).unwrap_or(usize::MAX)
-}
-
-impl<'a, A: Again> Inquest<'a, A> {
+impl<'a, A: Known> Inquest<'a, A> {
     /// The name of the file of a number, as it is said.
     pub(crate) fn name(&self, file: usize) -> &'a str {
         if self.subject.is_bare() {
@@ -92,190 +64,181 @@ impl<'a, A: Again> Inquest<'a, A> {
         }
     }
 
-    /// What was read from standard input, as a list of its own.
-    fn copy(&self, alloc: Global, file: usize) -> Result<Vec<u8>, Trouble> {
-        let Some(copied) = self.copied.bytes() else {
-            return Err(Trouble::Other);
-        };
-        let bytes = if self.subject.is_bare() {
-            let (before, behind) = halves(copied);
-            if file == 0 {
-                before
-            } else {
-                behind.unwrap_or(&[])
-            }
-        } else {
-            copied
-        };
-        Vec::from_slice(alloc, bytes).map_err(|_| Trouble::Other)
-    }
-
-    /// Whether a file stands on standard input.
-    fn is_input(&self, file: usize) -> bool {
+    /// The bytes of the file of a number, where all of them were kept; none behind a bar that isn't there.
+    fn bytes(&self, file: usize) -> Option<&'a [u8]> {
+        let copies = self.copies;
         if self.subject.is_bare() {
-            return true;
+            let (before, behind) = halves(copies.first()?.bytes()?);
+            return if file == 0 { Some(before) } else { behind };
         }
-        match self.subject.names.get(file) {
-            Some(name) => *name == DASH,
-            None => false,
+        copies.get(file)?.bytes()
+    }
+
+    /// The file of a number, where its bytes are there.
+    pub(crate) fn source(&self, file: usize) -> Option<Source<'a>> {
+        Some(Source::of_file(self.name(file).as_bytes(), self.bytes(file)?))
+    }
+
+    /// Why the instruction is refused.
+    fn apt_reason(&self, alloc: Global, fault: &AptFault) -> Result<Option<String>, Memory> {
+        match self.source(0) {
+            Some(source) => Ok(apt_reason(alloc, &source, fault)?),
+            None => Ok(None),
         }
     }
 
-    /// The bytes of the file of a number, or why they can't be had.
-    pub(crate) fn bytes(&mut self, alloc: Global, file: usize) -> Result<Vec<u8>, Trouble> {
-        if self.is_input(file) {
-            return self.copy(alloc, file);
-        }
-        let name = self.name(file);
-        let mut found = self.again.again(name)?;
-        read_all(alloc, &mut found)
-    }
-
-    /// Why a file of a form is refused.
-    fn form_reason(
-        &mut self,
+    /// Why a stem file is refused.
+    fn stm_reason(
+        &self,
         alloc: Global,
         file: usize,
-        family: &str,
-        numbers: &[u64],
+        fault: &StmFault,
     ) -> Result<Option<String>, Memory> {
-        let Ok(bytes) = self.bytes(alloc, file) else {
-            return Ok(None);
-        };
-        let source = Source::of_file(self.name(file).as_bytes(), bytes.as_slice());
-        match family {
-            "apt" => Ok(apt_reason(alloc, &source, numbers)?),
-            "stm" => Ok(stm_reason(alloc, &source, numbers)?),
-            _ => Ok(journal_reason(alloc, &source, numbers)?),
-        }
-    }
-
-    /// Why a stem file is refused, given its number and those of its fault.
-    fn stm_reason(&mut self, alloc: Global, numbers: &[u64]) -> Result<Option<String>, Memory> {
-        let [file, rest @ ..] = numbers else {
-            return Ok(None);
-        };
-        if self.subject.is_bare() && !self.has_bar() {
-            return Ok(Some(format!(in alloc;
+        match self.source(file) {
+            Some(source) => Ok(stm_reason(alloc, &source, fault)?),
+            None if self.subject.is_bare() && self.bytes(0).is_some() => Ok(Some(format!(in alloc;
                 "standard input: no | between the instruction and the stems\n"
-            )?));
+            )?)),
+            None => Ok(None),
         }
-        self.form_reason(alloc, place_of(*file), "stm", rest)
     }
 
-    /// Whether there is a bar in what was read from standard input.
-    fn has_bar(&self) -> bool {
-        match self.copied.bytes() {
-            Some(bytes) => {
-                let (_, behind) = halves(bytes);
-                behind.is_some()
-            }
-            None => true,
+    /// Why a journal is refused.
+    fn journal_reason(
+        &self,
+        alloc: Global,
+        file: usize,
+        fault: &JournalFault,
+    ) -> Result<Option<String>, Memory> {
+        match self.source(file) {
+            Some(source) => Ok(journal_reason(alloc, &source, fault)?),
+            None => Ok(None),
         }
     }
 
     /// The instruction of the run, with the numbers that are put in.
-    pub(crate) fn instruction(&mut self, alloc: Global) -> Option<Instruction> {
-        let bytes = self.bytes(alloc, 0).ok()?;
-        let own = read_apt(alloc, bytes.as_slice()).ok()?;
-        match self.subject.settings {
+    pub(crate) fn instruction(&self, alloc: Global) -> Option<Instruction> {
+        self.instruction_with(alloc, self.subject.settings)
+    }
+
+    /// The instruction file's, with these numbers put in, if there are any.
+    fn instruction_with(&self, alloc: Global, settings: Option<&Settings>) -> Option<Instruction> {
+        let own = read_apt(alloc, self.bytes(0)?).ok()?;
+        match settings {
             Some(settings) => Some(own.with(settings)),
             None => Some(own),
         }
     }
 
-    /// The instruction of the run, and the bytes and the journal of the file behind it.
-    fn history(&mut self, alloc: Global) -> Result<Option<History>, Memory> {
-        let Some(instruction) = self.instruction(alloc) else {
+    /// The numbers that are put in for the journal of a file.
+    fn settings_of(&self, file: usize) -> Option<&'a Settings> {
+        match self.subject.second {
+            Some(settings) if file == 2 => Some(settings),
+            _ => self.subject.settings,
+        }
+    }
+
+    /// The instruction of the run, and the journal of the file of a number.
+    fn history(&self, alloc: Global, file: usize) -> Result<Option<History<'a>>, Memory> {
+        let instruction = self.instruction_with(alloc, self.settings_of(file));
+        let (Some(instruction), Some(source)) = (instruction, self.source(file)) else {
             return Ok(None);
         };
-        let Ok(bytes) = self.bytes(alloc, 1) else {
+        let Ok(journal) = read_journal(alloc, source.bytes) else {
             return Ok(None);
-        };
-        let Ok(journal) = read_journal(alloc, bytes.as_slice()) else {
-            return Ok(None);
-        };
-        let Ok(instruction) = Arc::new(alloc, instruction) else {
-            return Err(Memory);
         };
         Ok(Some(History {
-            instruction,
-            bytes,
+            instruction: Arc::new(alloc, instruction)?,
+            source,
             journal,
         }))
     }
 
-    /// Why a journal isn't lawful.
-    fn replay_reason(&mut self, alloc: Global, numbers: &[u64]) -> Result<Option<String>, Memory> {
-        let Some(history) = self.history(alloc)? else {
+    /// Why the journal of a file isn't lawful.
+    fn replay_reason(
+        &self,
+        alloc: Global,
+        file: usize,
+        fault: &ReplayFault,
+    ) -> Result<Option<String>, Memory> {
+        let Some(history) = self.history(alloc, file)? else {
             return Ok(None);
         };
         let unlawful = Unlawful {
-            source: history.source(self.name(1)),
+            source: history.source,
             instruction: &history.instruction,
             journal: &history.journal,
         };
-        replay_reason(alloc, &unlawful, numbers)
+        replay_reason(alloc, &unlawful, fault)
     }
 
-    /// Why a journal isn't that of its stem files, given the number of the fault, the harvester and the place.
-    fn tie_reason(
-        &mut self,
-        alloc: Global,
-        number: u64,
-        harvester: u64,
-        place: u64,
-    ) -> Result<Option<String>, Memory> {
-        let Some(history) = self.history(alloc)? else {
-            return Ok(None);
-        };
-        let file = place_of(harvester).saturating_add(1);
-        let has_file = file < self.subject.names.len();
-        let mut bytes = Vec::new(alloc);
-        let mut stems = Vec::new(alloc);
-        if has_file {
-            bytes = match self.bytes(alloc, file) {
-                Ok(bytes) => bytes,
-                Err(_) => return Ok(None),
-            };
-            stems = match read_stm(alloc, bytes.as_slice()) {
-                Ok(stems) => stems,
-                Err(_) => return Ok(None),
-            };
+    /// A journal that is held against the stem file of a harvester; none where what was read of that isn't there.
+    fn tied<'b>(&self, history: &'b History<'a>, harvester: u32) -> Option<Tied<'b>> {
+        let number = (harvester as usize).saturating_add(1);
+        let file = self.source(number);
+        if file.is_none() && number < self.subject.names.len() {
+            return None;
         }
-        let stem_source = Source::of_file(self.name(file).as_bytes(), bytes.as_slice());
-        let tied = Tied {
-            source: history.source(self.name(1)),
+        Some(Tied {
+            source: history.source,
             journal: &history.journal,
-            harvester: u32::try_from(harvester).unwrap_or(0),
-            file: if has_file {
-                Some((stem_source, stems.as_slice()))
-            } else {
-                None
-            },
+            harvester,
+            file,
             files: self.subject.stem_files(),
-        };
-        tie_reason(alloc, &tied, number, place_of(place))
+        })
     }
 
-    /// Why a journal isn't that of its rule, given the numbers behind that of the fault.
-    fn rule_reason(&mut self, alloc: Global, numbers: &[u64]) -> Result<Option<String>, Memory> {
-        let Some(rule) = self.subject.rule else {
-            return Ok(None);
-        };
-        let Some(history) = self.history(alloc)? else {
-            return Ok(None);
-        };
-        let source = history.source(self.name(1));
-        rule_reason(alloc, &source, &history.instruction, rule.name(), numbers)
+    /// Why a journal isn't that of its rule.
+    fn rule_reason(
+        &self,
+        alloc: Global,
+        history: &History<'a>,
+        mispriced: &Mispriced,
+    ) -> Result<Option<String>, Memory> {
+        match self.subject.rule {
+            Some(rule) => rule_reason(
+                alloc,
+                &history.source,
+                &history.instruction,
+                rule.name(),
+                mispriced,
+            ),
+            None => Ok(None),
+        }
     }
 
     /// Why a lawful journal isn't as asked.
-    fn check_reason(&mut self, alloc: Global, numbers: &[u64]) -> Result<Option<String>, Memory> {
-        match numbers {
-            [4, rest @ ..] => self.rule_reason(alloc, rest),
-            [number, harvester, place] => self.tie_reason(alloc, *number, *harvester, *place),
-            _ => Ok(None),
+    fn check_reason(&self, alloc: Global, fault: &CheckFault) -> Result<Option<String>, Memory> {
+        let Some(history) = self.history(alloc, 1)? else {
+            return Ok(None);
+        };
+        match *fault {
+            CheckFault::Other { harvester, place } => match self.tied(&history, harvester) {
+                Some(tied) => tied.other(alloc, place),
+                None => Ok(None),
+            },
+            CheckFault::Uncut { harvester, place } => match self.tied(&history, harvester) {
+                Some(tied) => tied.uncut(alloc, place),
+                None => Ok(None),
+            },
+            CheckFault::Surplus { harvester, place } => match self.tied(&history, harvester) {
+                Some(tied) => tied.surplus(alloc, place),
+                None => Ok(None),
+            },
+            CheckFault::Price {
+                version,
+                class,
+                price,
+                wanted,
+            } => {
+                let mispriced = Mispriced {
+                    version,
+                    class,
+                    price,
+                    wanted,
+                };
+                self.rule_reason(alloc, &history, &mispriced)
+            }
         }
     }
 
@@ -294,31 +257,22 @@ impl<'a, A: Again> Inquest<'a, A> {
     }
 
     /// Why a file can't be read.
-    fn read_reason(&mut self, alloc: Global, numbers: &[u64]) -> Result<Option<String>, Memory> {
-        let [file] = numbers else {
-            return Ok(None);
-        };
-        let file = place_of(*file);
-        let is_named = self.subject.is_bare() || file < self.subject.names.len();
-        let trouble = if !is_named {
-            Trouble::Other
-        } else if self.is_input(file) {
-            if self.copied.count() > LIMIT {
-                Trouble::Long
-            } else {
-                Trouble::Other
+    fn read_reason(&self, alloc: Global, file: usize) -> Result<Option<String>, Memory> {
+        let trouble = match self.copies.get(file) {
+            Some(copied) if copied.count() > LIMIT => Trouble::Long,
+            // A folder stands in the place of an input that is closed.
+            Some(_) if self.name(file) == INPUT => Trouble::Other,
+            Some(copied) => copied.refused.map_or(Trouble::Other, Trouble::of),
+            None if file < self.subject.names.len() => {
+                self.known.refused().map_or(Trouble::Other, Trouble::of)
             }
-        } else {
-            match self.bytes(alloc, file) {
-                Ok(_) => Trouble::Other,
-                Err(trouble) => trouble,
-            }
+            None => Trouble::Other,
         };
         self.troubled(alloc, self.name(file), trouble)
     }
 
     /// Why the output or the journal can't be written.
-    fn write_reason(&mut self, alloc: Global) -> Result<Option<String>, Memory> {
+    fn write_reason(&self, alloc: Global) -> Result<Option<String>, Memory> {
         let out = match self.subject.out {
             Some(out) if out != DASH && self.unwritten.is_none() => out,
             _ => {
@@ -326,9 +280,9 @@ impl<'a, A: Again> Inquest<'a, A> {
                 return self.troubled(alloc, OUTPUT, trouble);
             }
         };
-        let trouble = match self.again.refused() {
+        let trouble = match self.known.refused() {
             Some(kind) => Some(Trouble::of(kind)),
-            None => self.again.unwritten(out, self.subject.names.as_slice()),
+            None => self.known.unwritten(out, self.subject.names.as_slice()),
         };
         self.troubled(alloc, out, trouble.unwrap_or(Trouble::Other))
     }
@@ -339,50 +293,121 @@ impl<'a, A: Again> Inquest<'a, A> {
         Ok(Some(format!(in alloc; "{files} stem files, 1 to 64 wanted\n")?))
     }
 
-    /// That there are too many stems.
-    fn full_reason(&mut self, alloc: Global) -> Result<Option<String>, Memory> {
+    /// That there are too many stems, or postings.
+    fn full_reason(&self, alloc: Global) -> Result<Option<String>, Memory> {
+        if self.subject.journals > 1 {
+            return Ok(Some(format!(in alloc; "more than 1000000 postings together\n")?));
+        }
         let mut stems = 0usize;
-        for file in self.subject.others..self.subject.names.len() {
-            let Ok(bytes) = self.bytes(alloc, file) else {
+        let first = self.subject.others;
+        for file in first..first.saturating_add(self.subject.stem_files()) {
+            let Some(source) = self.source(file) else {
                 return Ok(None);
             };
-            let source = Source::of_file(self.name(file).as_bytes(), bytes.as_slice());
             stems = stems.saturating_add(source.stems());
         }
         Ok(Some(format!(in alloc; "{stems} stems, at most 1000000 wanted\n")?))
     }
 
-    /// What was wrong in a run that ended with this fault line, in lines of text; none where that isn't known. Refused
-    /// as `Memory` alone.
-    pub(crate) fn reason(&mut self, alloc: Global, line: &str) -> Result<Option<String>, Memory> {
-        let numbers = numbers_of(alloc, line)?;
-        let numbers = numbers.as_slice();
-        match line.split_ascii_whitespace().next().unwrap_or("") {
-            "apt" => self.form_reason(alloc, 0, "apt", numbers),
-            "stm" => self.stm_reason(alloc, numbers),
-            "journal" => self.form_reason(alloc, 1, "journal", numbers),
-            "replay" => self.replay_reason(alloc, numbers),
-            "check" => self.check_reason(alloc, numbers),
-            "read" => self.read_reason(alloc, numbers),
-            "write" => self.write_reason(alloc),
-            "seats" => self.seats_reason(alloc),
-            "full" => self.full_reason(alloc),
-            _ => Ok(None),
+    /// The number of the last file.
+    fn last_file(&self) -> usize {
+        self.subject.names.len().saturating_sub(1)
+    }
+
+    /// Why an owner's instruction, which is the last file, is refused.
+    fn own_reason(&self, alloc: Global, fault: &OwnFault) -> Result<Option<String>, Memory> {
+        let file = self.last_file();
+        let name = Shown(self.name(file).as_bytes());
+        match fault {
+            OwnFault::Refused(fault) => match self.source(file) {
+                Some(source) => Ok(apt_reason(alloc, &source, fault)?),
+                None => Ok(None),
+            },
+            OwnFault::Whole { number, kind } => Ok(Some(format!(in alloc;
+                "{name}: item {number} {kind} is not that of the instruction\n"
+            )?)),
+            OwnFault::Part {
+                number,
+                kind,
+                assortment,
+            } => Ok(Some(format!(in alloc;
+                "{name}: item {number} {kind} of assortment {assortment} is not that of the instruction\n"
+            )?)),
         }
     }
-}
 
-/// An instruction, and a journal with the bytes that it was read from.
-#[derive(Drop)]
-struct History {
-    instruction: Arc<Instruction>,
-    bytes: Vec<u8>,
-    journal: Journal,
-}
+    /// Which of the targets of the last file may not be put in.
+    fn wrong_targets(&self, alloc: Global) -> Result<Option<String>, Memory> {
+        let file = self.last_file();
+        let (Some(instruction), Some(bytes)) = (self.instruction(alloc), self.bytes(file)) else {
+            return Ok(None);
+        };
+        let Ok(targets) = all_numbers(alloc, bytes) else {
+            return Ok(None);
+        };
+        let name = Shown(self.name(file).as_bytes());
+        let wrong = WrongTargets {
+            instruction: &instruction,
+            targets: targets.as_slice(),
+        };
+        Ok(Some(format!(in alloc; "{name}: {wrong}\n")?))
+    }
 
-impl History {
-    /// The journal's file, of this name.
-    fn source<'b>(&'b self, name: &'b str) -> Source<'b> {
-        Source::of_file(name.as_bytes(), self.bytes.as_slice())
+    /// Why a file of targets, which is the last one, is refused.
+    fn targets_reason(
+        &self,
+        alloc: Global,
+        fault: &TargetsFault,
+    ) -> Result<Option<String>, Memory> {
+        let name = Shown(self.name(self.last_file()).as_bytes());
+        match fault {
+            TargetsFault::Count => Ok(Some(format!(in alloc;
+                "{name}: one list of targets (918 1) for each assortment, with a number for each class, wanted\n"
+            )?)),
+            TargetsFault::Head { item } => {
+                Ok(Some(format!(in alloc; "{name}: item {item} has no head\n")?))
+            }
+            TargetsFault::Digits { list, .. } => Ok(Some(format!(in alloc;
+                "{name}: list {list} of targets has a word that is no number\n"
+            )?)),
+            TargetsFault::Range { .. } | TargetsFault::Sum { .. } => self.wrong_targets(alloc),
+            TargetsFault::Memory => Ok(None),
+        }
+    }
+
+    /// What was wrong in a run that ended with this fault, in lines of text; none where that isn't known. Refused as
+    /// `Memory` alone.
+    pub(crate) fn reason(
+        &self,
+        alloc: Global,
+        fault: &TermsFault,
+    ) -> Result<Option<String>, Memory> {
+        match fault {
+            TermsFault::Run(fault) => self.run_reason(alloc, fault),
+            TermsFault::Targets(fault) => self.targets_reason(alloc, fault),
+            TermsFault::Own(fault) => self.own_reason(alloc, fault),
+        }
+    }
+
+    /// The same of a fault that any run may have.
+    fn run_reason(&self, alloc: Global, fault: &EngineFault) -> Result<Option<String>, Memory> {
+        match fault {
+            EngineFault::Read { file } => self.read_reason(alloc, *file as usize),
+            EngineFault::Write => self.write_reason(alloc),
+            EngineFault::Apt(fault) => self.apt_reason(alloc, fault),
+            EngineFault::Stm { file, fault } => self.stm_reason(alloc, *file as usize, fault),
+            EngineFault::Journal(fault) => self.journal_reason(alloc, 1, fault),
+            EngineFault::JournalOf { journal, fault } => {
+                self.journal_reason(alloc, *journal as usize, fault)
+            }
+            EngineFault::Replay(fault) => self.replay_reason(alloc, 1, fault),
+            EngineFault::ReplayOf { journal, fault } => {
+                self.replay_reason(alloc, *journal as usize, fault)
+            }
+            EngineFault::Check(fault) => self.check_reason(alloc, fault),
+            EngineFault::Seats => self.seats_reason(alloc),
+            EngineFault::Full => self.full_reason(alloc),
+            EngineFault::Close(_) | EngineFault::Memory => Ok(None),
+        }
     }
 }

@@ -3,7 +3,7 @@ use buck_apt::Instruction;
 use buck_engine::EngineFault;
 use buck_live::{Asked, read_request};
 use buck_reason::{Source, request_reason};
-use buck_record::{Memory, Numbered};
+use buck_record::Memory;
 use buck_replay_reason::WrongTargets;
 use std::alloc::Global;
 
@@ -54,11 +54,7 @@ pub(crate) fn refusal(
         }
         Ok(_) => Ok(None),
         Err(EngineFault::Read { .. }) => unread(alloc, source, fits),
-        Err(EngineFault::Stm { fault, .. }) => {
-            let numbers = fault.numbers();
-            let numbers = numbers.as_slice();
-            Ok(request_reason(alloc, source, numbers)?)
-        }
+        Err(EngineFault::Stm { fault, .. }) => Ok(request_reason(alloc, source, fault)?),
         Err(EngineFault::Full) => Ok(Some(format!(in alloc;
             "{}: 1000000 postings stand in the book, no more are taken\n",
             source.whole()

@@ -1,8 +1,9 @@
 //! Whole runs, from the words to the exit status.
-use crate::again::Again;
+use crate::commands::{help_text, mistake};
+use crate::known::Known;
 use crate::progress::Screen;
 use crate::served::{Place, serve_told};
-use crate::words::{Asked, Unasked, help_text, parse};
+use crate::words::{Asked, parse};
 use crate::working::Streams;
 use buck_engine::{EngineFault, Make, Open, conclude, explain};
 use buck_reason::Shown;
@@ -19,68 +20,8 @@ use std::{fmt, io};
 const NO_TEXT: &[u8] =
     b"error: a word of the command line is not UTF-8 text\n\nUsage: buckfleet [COMMAND]\n";
 
-/// What is said where a word that was accepted can't be had.
-const LOST: &[u8] = b"error: a word of the command line was lost\n\nUsage: buckfleet [COMMAND]\n";
-
-/// What is said where the journal's name is that of an input file.
-const EATEN: &[u8] = b"error: OUT is the name of an input file, which would be lost
-
-Usage: buckfleet fleet [OPTIONS] <APT> <STM>...
-
-For more information, try '--help'.
-";
-
-/// The same, said of requests.
-const EATEN_LIVE: &[u8] = b"error: OUT is the name of an input file, which would be lost
-
-Usage: buckfleet live [OPTIONS] <APT>
-
-For more information, try '--help'.
-";
-
-/// What is said where a number of threads isn't one.
-const THREADLESS: &[u8] = b"error: a number of threads is 1 to 64, in digits alone
-
-For more information, try '--help'.
-";
-
-/// What is said where a period or a limit isn't one.
-const NUMBERLESS: &[u8] = b"error: a period is 1 to 1000 and a limit 0 to 1000, each in digits alone
-
-For more information, try '--help'.
-";
-
-/// What is said where a table would have more lines than it may.
-const MANY: &[u8] = b"error: a table has a line for each combination, and at most 10000
-
-Usage: buckfleet sweep [OPTIONS] <APT> <STM>...
-
-For more information, try '--help'.
-";
-
-/// What is said where the instruction is to be read from the input that has the requests.
-const SHARED: &[u8] = b"error: standard input has the requests
-
-Usage: buckfleet live [OPTIONS] <APT>
-
-For more information, try '--help'.
-";
-
-/// What is said where a word stands before the command that it belongs to.
-const EARLY: &[u8] = b"error: --explain stands behind the name of a command
-
-Usage: buckfleet [COMMAND]
-
-For more information, try '--help'.
-";
-
 /// What is said where there is no such fault line.
-const NO_LINE: &[u8] = b"error: there is no such fault line
-
-Usage: buckfleet explain <LINE>...
-
-For more information, try '--help'.
-";
+const NO_LINE: &str = "there is no such fault line";
 
 /// Lines as they may go to a terminal, which no word that stands in them can steer.
 #[derive(Clone, Copy)]
@@ -155,27 +96,6 @@ pub fn say_help<R, W: io::Write, E: io::Write>(
     }
 }
 
-/// Says why the words ask for no work. The answer is the exit status.
-fn refuse<R, W: io::Write, E: io::Write>(
-    alloc: Global,
-    streams: &mut Streams<R, W, E>,
-    why: &Unasked,
-) -> u8 {
-    let text = match why {
-        Unasked::Said(error) => return explain_words(alloc, streams, error),
-        Unasked::Lost => LOST,
-        Unasked::Eaten => EATEN,
-        Unasked::EatenLive => EATEN_LIVE,
-        Unasked::Threadless => THREADLESS,
-        Unasked::Numberless => NUMBERLESS,
-        Unasked::Many => MANY,
-        Unasked::Memory => return conclude(&mut streams.errors, &Err(EngineFault::Memory)),
-        Unasked::Shared => SHARED,
-        Unasked::Early => EARLY,
-    };
-    explain(&mut streams.output, &mut streams.errors, text, true)
-}
-
 /// Says the sentence of a fault line and ends the line. The answer is the exit status.
 fn say_sentence<R, W: io::Write, E: io::Write>(
     alloc: Global,
@@ -189,7 +109,9 @@ fn say_sentence<R, W: io::Write, E: io::Write>(
             text.as_slice(),
             false,
         ),
-        Ok(None) => explain(&mut streams.output, &mut streams.errors, NO_LINE, true),
+        Ok(None) => match mistake(alloc, "explain", NO_LINE) {
+            Ok(error) | Err(error) => explain_words(alloc, streams, &error),
+        },
         Err(_) => conclude(&mut streams.errors, &Err(EngineFault::Memory)),
     }
 }
@@ -210,11 +132,11 @@ fn sentence_line(alloc: Global, line: &str) -> Result<Option<Vec<u8>>, AllocErro
 ///
 /// How far long work is, is told on the screen, where there is one and the words don't ask for quiet. What is wrong
 /// where a run fails is said in words before the line of its fault: on the errors where the words ask for it, and else
-/// on the screen. For that, `again` opens a file once more.
+/// on the screen. For that, what is read is kept, but requests.
 pub fn run<
     T: Threads + Wait + Sync,
     O: Open + Make + Drop,
-    A: Again + Drop,
+    A: Known + Drop,
     S: io::Write + Copy + Drop + Sync,
     C: Clock + Copy + Drop + Sync,
     R: io::Read,
@@ -234,12 +156,12 @@ pub fn run<
     };
     match parse(alloc, words.as_slice()) {
         Ok(Asked::Work(mut request)) => {
-            if !files.again.has_input() {
+            if !files.known.has_input() {
                 request.keep_old_journal();
             }
             serve_told(rt, alloc, &request, files, screen, streams)
         }
         Ok(Asked::Sentence(line)) => say_sentence(alloc, streams, line.as_str()),
-        Err(why) => refuse(alloc, streams, &why),
+        Err(error) => explain_words(alloc, streams, &error),
     }
 }

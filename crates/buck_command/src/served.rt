@@ -1,14 +1,17 @@
 //! Work that is done between the streams of a run, and what is said of it.
-use crate::again::Again;
-use crate::inputs::{Copied, Drawn, Inlet, Outlet, Shared, Spoken, Streamed};
-use crate::line::FaultLine;
+ghost use Rattle.std.specs.Prelude.{◌≡◌};
+ghost use Rattle.buck_terms.specs.Telling.{terms_status_after};
+
+use crate::inputs::{Drawn, Inlet, Kept, Outlet, Shared, Spoken, Streamed};
+use crate::known::Known;
 use crate::progress::{Progress, Screen, Watched};
 use crate::reason::Inquest;
 use crate::subject::Subject;
 use crate::teller::Teller;
 use crate::words::Request;
 use crate::working::{Streams, serve_work};
-use buck_engine::{EngineFault, Make, Open, conclude, explain};
+use buck_engine::{EngineFault, Make, Open, conclude, status};
+use buck_terms::{TermsFault, conclude_terms};
 use std::alloc::Global;
 use std::io;
 use std::io::ErrorKind;
@@ -21,43 +24,32 @@ use std::time::Clock;
 pub struct Place<O, A> {
     /// Opens the files that are read, and makes those that are written.
     pub files: O,
-    /// Opens a file once more, when something was wrong with it.
-    pub again: A,
+    /// What is known of them beside their bytes.
+    pub known: A,
 }
 
-/// What is said where standard input is named twice.
-const TWICE: &[u8] = b"error: - stands for standard input, which can be read but once
+/// The most bytes of the line of a fault: the longest that there is has less.
+const MOST: usize = 128;
 
-Usage: buckfleet [COMMAND]
-
-For more information, try '--help'.
-";
-
-/// The line of a run whose output nobody reads any more.
-const UNWRITTEN: &str = "write fault\n";
-
-/// How a run ended: its status, and the line of its fault.
-#[derive(Drop)]
-struct Ended {
-    status: u8,
-    line: FaultLine,
+/// Says how a run ended, as [`conclude_terms`] does, in one write: the line stays whole where several runs say theirs in one
+/// place.
+fn end<E: io::Write>(errors: &mut E, outcome: &Result<(), TermsFault>) -> u8
+    ensures { result ≡ terms_status_after outcome.now }
+{
+    let mut line = [0u8; MOST];
+    let mut room = line.as_mut_slice();
+    let status = conclude_terms(&mut room, outcome);
+    let length = MOST.saturating_sub(room.len());
+    let _ = errors.write_all(&line[..length]);
+    status
 }
 
-impl Ended {
-    /// Memory ran out.
-    fn short() -> Ended {
-        let mut line = FaultLine::none();
-        let status = conclude(&mut line, &Err(EngineFault::Memory));
-        Ended { status, line }
-    }
-
-    /// The same end, but where a file couldn't be opened for want of memory: that is no fault of the file.
-    fn told(self, refused: Option<ErrorKind>) -> Ended {
-        if refused == Some(ErrorKind::OutOfMemory) && self.line.text().starts_with("read fault") {
-            Ended::short()
-        } else {
-            self
-        }
+/// How a run ended, where a file that couldn't be opened for want of memory is no fault of the file.
+fn told(outcome: Result<(), TermsFault>, refused: Option<ErrorKind>) -> Result<(), TermsFault> {
+    match outcome {
+        Err(TermsFault::Run(EngineFault::Read { .. })) if refused == Some(ErrorKind::OutOfMemory) =>
+            { Err(TermsFault::Run(EngineFault::Memory)) }
+        _ => outcome,
     }
 }
 
@@ -78,7 +70,7 @@ fn serve_lent<
     inlet: &Inlet<'_, R>,
     outlet: &Outlet<'_, W>,
     teller: &Teller<'_, E, S, C>,
-) -> Ended {
+) -> Result<(), TermsFault> {
     let screen = if request.quiet { None } else { teller.screen };
     let progress = Progress::on(alloc, screen);
     let streamed = Streamed {
@@ -86,36 +78,41 @@ fn serve_lent<
         inlet,
         outlet,
     };
-    let mut watched = Watched::of(streamed, &progress);
-    let mut streams = Streams {
-        input: Drawn { inlet },
-        output: Spoken {
-            output: Shared { outlet },
-            teller,
-        },
-        errors: FaultLine::none(),
+    let mut watched = Watched {
+        files: streamed,
+        progress: &progress,
+        kept: &inlet.kept,
     };
-    let status = serve_work(
+    // Requests go on for as long as somebody fells: they are not kept.
+    let place = if request.work.is_bare() {
+        inlet.kept.begin()
+    } else {
+        None
+    };
+    let mut input = watched.file(Drawn { inlet }, None, place);
+    let mut output = Spoken {
+        output: Shared { outlet },
+        teller,
+    };
+    let outcome = serve_work(
         rt,
         alloc,
         &request.work,
         &progress,
         &mut watched,
-        &mut streams,
+        &mut input,
+        &mut output,
     );
     progress.end();
-    Ended {
-        status,
-        line: streams.errors,
-    }
+    outcome
 }
 
 /// Says on the screen what is noted behind the work, where that isn't to be quiet.
-fn say_notes<A: Again, E: io::Write, S: io::Write + Copy + Drop, C: Copy + Drop>(
+fn say_notes<A: Known, E: io::Write, S: io::Write + Copy + Drop, C: Copy + Drop>(
     alloc: Global,
     request: &Request<'_>,
     teller: &Teller<'_, E, S, C>,
-    inquest: &mut Inquest<'_, A>,
+    inquest: &Inquest<'_, A>,
 ) {
     if request.quiet || teller.screen.is_none() {
         return;
@@ -131,7 +128,7 @@ fn say_notes<A: Again, E: io::Write, S: io::Write + Copy + Drop, C: Copy + Drop>
 pub(crate) fn serve_told<
     T: Threads + Wait + Sync,
     O: Open + Make + Drop,
-    A: Again + Drop,
+    A: Known + Drop,
     S: io::Write + Copy + Drop + Sync,
     C: Clock + Copy + Drop + Sync,
     R: io::Read,
@@ -148,35 +145,31 @@ pub(crate) fn serve_told<
     let Ok(subject) = Subject::of(alloc, &request.work) else {
         return conclude(&mut streams.errors, &Err(EngineFault::Memory));
     };
-    if subject.has_input_twice() {
-        return explain(&mut streams.output, &mut streams.errors, TWICE, true);
-    }
-    let Place { files, mut again } = place;
+    let Place { files, known } = place;
     let teller = Teller::of(alloc, &mut streams.errors, request.explain, screen);
-    // Requests go on for as long as somebody fells: they are not kept.
-    let copies = teller.is_told() && !request.work.has_requests();
-    let inlet = Inlet::of(&mut streams.input, Copied::none(alloc, copies));
+    let inlet = Inlet::of(&mut streams.input, Kept::none(alloc, teller.is_told()));
     let outlet = Outlet::of(&mut streams.output);
-    let ended = serve_lent(rt, alloc, request, files, &inlet, &outlet, &teller);
-    let ended = ended.told(again.refused());
-    let copied = inlet.into_copied();
-    let line = ended.line.text();
-    if outlet.is_gone() && line == UNWRITTEN {
-        return ended.status;
+    let outcome = serve_lent(rt, alloc, request, files, &inlet, &outlet, &teller);
+    let outcome = told(outcome, known.refused());
+    if outlet.is_gone() && matches!(&outcome, Err(TermsFault::Run(EngineFault::Write))) {
+        return status(&EngineFault::Write);
     }
-    let mut inquest = Inquest {
+    let copies = inlet.into_copies();
+    let inquest = Inquest {
         subject: &subject,
-        copied: &copied,
+        copies: copies.as_slice(),
         unwritten: outlet.refused(),
-        again: &mut again,
+        known: &known,
     };
-    if line.is_empty() {
-        say_notes(alloc, request, &teller, &mut inquest);
-    } else if teller.is_told() {
-        if let Ok(Some(text)) = inquest.reason(alloc, line) {
-            teller.say(text.as_str());
+    match &outcome {
+        Ok(()) => say_notes(alloc, request, &teller, &inquest),
+        Err(fault) if teller.is_told() => {
+            if let Ok(Some(text)) = inquest.reason(alloc, fault) {
+                teller.say(text.as_str());
+            }
         }
+        Err(_) => {}
     }
-    teller.write(ended.line.as_bytes());
-    ended.status
+    drop(teller);
+    end(&mut streams.errors, &outcome)
 }

@@ -2,7 +2,9 @@
 use crate::inputs::DASH;
 use crate::working::Work;
 use buck_apt::Settings;
-use buck_engine::{NamedRule, Task};
+use buck_engine::Task;
+use buck_ledger::AppraiseTask;
+use buck_rule::NamedRule;
 use std::alloc::{AllocError, Global};
 
 /// What some work is about.
@@ -12,61 +14,100 @@ pub(crate) struct Subject<'a> {
     pub(crate) names: Vec<&'a str>,
     /// How many of them come before the stem files.
     pub(crate) others: usize,
+    /// How many of them come behind these.
+    pub(crate) behind: usize,
+    /// How many of them are journals that are shown.
+    pub(crate) journals: usize,
     /// The name of the file that a journal goes into, where one is wanted.
     pub(crate) out: Option<&'a str>,
     /// The rule that a journal is held against, where it is.
     pub(crate) rule: Option<NamedRule>,
     /// The numbers that are put in the place of the instruction's own, where there are such.
     pub(crate) settings: Option<&'a Settings>,
-}
-
-/// Some names behind the first one.
-fn names_of<'a>(
-    alloc: Global,
-    apt: &'a str,
-    others: &[&'a str],
-) -> Result<Vec<&'a str>, AllocError> {
-    let mut names = Vec::new(alloc);
-    names.push(apt)?;
-    names.extend_from_slice(others)?;
-    Ok(names)
+    /// The same for a second journal, where it has numbers of its own.
+    pub(crate) second: Option<&'a Settings>,
 }
 
 impl<'a> Subject<'a> {
-    /// What two files are about, the second of which is a journal or stems.
-    fn of_two(
-        alloc: Global,
-        apt: &'a str,
-        other: &'a str,
-        others: usize,
-        settings: Option<&'a Settings>,
-    ) -> Result<Subject<'a>, AllocError> {
-        Ok(Subject {
-            names: names_of(alloc, apt, &[other])?,
-            others,
+    /// What no file is about.
+    fn bare(alloc: Global) -> Subject<'a> {
+        Subject {
+            names: Vec::new(alloc),
+            others: 1,
+            behind: 0,
+            journals: 0,
             out: None,
             rule: None,
-            settings,
+            settings: None,
+            second: None,
+        }
+    }
+
+    /// What an instruction file and others are about.
+    fn of_files(alloc: Global, apt: &'a str, files: &[&'a str]) -> Result<Subject<'a>, AllocError> {
+        let mut subject = Subject::bare(alloc);
+        subject.names.push(apt)?;
+        subject.names.extend_from_slice(files)?;
+        Ok(subject)
+    }
+
+    /// What stem files are about, with a file of targets behind them, if there is one.
+    fn of_stems(
+        alloc: Global,
+        apt: &'a str,
+        stms: &[&'a str],
+        targets: Option<&'a str>,
+    ) -> Result<Subject<'a>, AllocError> {
+        let mut subject = Subject::of_files(alloc, apt, stms)?;
+        if let Some(targets) = targets {
+            subject.names.push(targets)?;
+            subject.behind = 1;
+        }
+        Ok(subject)
+    }
+
+    /// What journals are about that are shown.
+    fn of_journals(
+        alloc: Global,
+        apt: &'a str,
+        journals: &[&'a str],
+        settings: &'a Settings,
+    ) -> Result<Subject<'a>, AllocError> {
+        Ok(Subject {
+            others: journals.len() + 1,
+            journals: journals.len(),
+            settings: Some(settings),
+            ..Subject::of_files(alloc, apt, journals)?
         })
+    }
+
+    /// The same with the contract of an owner behind them.
+    fn of_appraisal(alloc: Global, task: &'a AppraiseTask<'a>) -> Result<Subject<'a>, AllocError> {
+        let journals = task.journals.as_slice();
+        let mut subject = Subject::of_journals(alloc, task.apt, journals, &task.settings)?;
+        subject.names.push(task.own)?;
+        subject.others = subject.names.len();
+        Ok(subject)
     }
 
     /// What a task is about.
     fn of_task(alloc: Global, task: &'a Task<'a>) -> Result<Subject<'a>, AllocError> {
         match task {
-            Task::Bare => Ok(Subject {
-                names: Vec::new(alloc),
-                others: 1,
-                out: None,
-                rule: None,
-                settings: None,
+            Task::Bare => Ok(Subject::bare(alloc)),
+            Task::Buck { apt, stm } => Subject::of_files(alloc, *apt, &[*stm]),
+            Task::Check { apt, journal } => Ok(Subject {
+                others: 2,
+                ..Subject::of_files(alloc, *apt, &[*journal])?
             }),
-            Task::Buck { apt, stm } => Subject::of_two(alloc, *apt, *stm, 1, None),
-            Task::Check { apt, journal } => Subject::of_two(alloc, *apt, *journal, 2, None),
             Task::Report {
                 apt,
                 journal,
                 settings,
-            } => Subject::of_two(alloc, *apt, *journal, 2, Some(settings)),
+            } => Ok(Subject {
+                others: 2,
+                settings: Some(settings),
+                ..Subject::of_files(alloc, *apt, &[*journal])?
+            }),
         }
     }
 
@@ -74,38 +115,34 @@ impl<'a> Subject<'a> {
     pub(crate) fn of(alloc: Global, work: &'a Work<'a>) -> Result<Subject<'a>, AllocError> {
         match work {
             Work::Plain(task) => Subject::of_task(alloc, task),
-            Work::Buck(task) => Subject::of_two(alloc, task.apt, task.stm, 1, None),
+            Work::Buck(task) => Subject::of_files(alloc, task.apt, &[task.stm]),
             Work::Fleet(task) => Ok(Subject {
-                names: names_of(alloc, task.apt, task.stms.as_slice())?,
-                others: 1,
                 out: task.journal,
-                rule: None,
                 settings: Some(&task.settings),
+                ..Subject::of_files(alloc, task.apt, task.stms.as_slice())?
             }),
             Work::Check(task) => Ok(Subject {
-                names: names_of(alloc, task.apt, task.files.as_slice())?,
                 others: 2,
-                out: None,
                 rule: task.rule,
                 settings: Some(&task.settings),
+                ..Subject::of_files(alloc, task.apt, task.files.as_slice())?
             }),
             Work::View(task) => {
-                let settings = Some(&task.settings);
-                Subject::of_two(alloc, task.apt, task.journal, 2, settings)
+                Subject::of_journals(alloc, task.apt, task.journals.as_slice(), &task.settings)
             }
             Work::Live(task) => Ok(Subject {
-                names: names_of(alloc, task.apt, &[])?,
-                others: 1,
                 out: task.journal,
-                rule: None,
                 settings: Some(&task.settings),
+                ..Subject::of_files(alloc, task.apt, &[])?
             }),
-            Work::Sweep(task) => Ok(Subject {
-                names: names_of(alloc, task.apt, task.stms.as_slice())?,
-                others: 1,
-                out: None,
-                rule: None,
-                settings: None,
+            Work::Sweep(task) => Subject::of_files(alloc, task.apt, task.stms.as_slice()),
+            Work::Trial(task) => {
+                Subject::of_stems(alloc, task.apt, task.stms.as_slice(), task.targets)
+            }
+            Work::Appraise(task) => Subject::of_appraisal(alloc, task),
+            Work::Compare(task) => Ok(Subject {
+                second: Some(&task.second),
+                ..Subject::of_journals(alloc, task.apt, &task.journals, &task.first)?
             }),
         }
     }
@@ -128,6 +165,9 @@ impl<'a> Subject<'a> {
 
     /// How many stem files there are.
     pub(crate) fn stem_files(&self) -> usize {
-        self.names.len().saturating_sub(self.others)
+        self.names
+            .len()
+            .saturating_sub(self.others)
+            .saturating_sub(self.behind)
     }
 }

@@ -50,19 +50,12 @@ impl<'a, E: io::Write, S: io::Write + Copy + Drop, C: Copy + Drop> Teller<'a, E,
         }
     }
 
-    /// Says bytes on the errors.
-    pub(crate) fn write(&self, bytes: &[u8]) {
-        if let Ok(mut errors) = self.errors.try_borrow_mut() {
-            let _ = errors.write_all(bytes);
-        }
-    }
-
     /// Says what was wrong.
     pub(crate) fn say(&self, text: &str) {
-        if self.explain {
-            self.write(text.as_bytes());
-        } else {
+        if !self.explain {
             self.show(text);
+        } else if let Ok(mut errors) = self.errors.try_borrow_mut() {
+            let _ = errors.write_all(text.as_bytes());
         }
     }
 

@@ -1,284 +1,57 @@
 //! The words of the command line, and what they ask for.
-ghost use Rattle.std.specs.Prelude.{◌≡◌, IfSome};
+ghost use Rattle.std.specs.Prelude.{◌≡◌, ◌<◌, ◌≤◌, IfOk, IfSome, vec_len};
 ghost use Rattle.buck_command.specs.Words.{table_name};
 
-use crate::help;
+use crate::commands::{PROGRAM, mistake, program};
 use crate::inputs::DASH;
+use crate::subject::Subject;
 use crate::working::Work;
-use buck_engine::{
-    BuckTask, CheckTask, FleetTask, NamedRule, Order, Settings, Shown, Table, Task, ViewTask,
-};
+use buck_engine::{BuckTask, CheckTask, FleetTask, Order, Settings, Shown, Table, Task, ViewTask};
+use buck_ledger::{AppraiseTask, CompareTask};
 use buck_live::LiveTask;
 use buck_record::Memory;
-use buck_sweep::{SweepTask, combinations};
-use clap::{Arg, ArgAction, ArgMatches, Command, Error, value_parser};
-use std::alloc::Global;
+use buck_rule::NamedRule;
+use buck_sweep::{Combination, SweepTask, combinations};
+use buck_trial::{Draws, TrialTask};
+use clap::{ArgMatches, Error};
+use std::alloc::{AllocError, Global};
 
-fn file<'a>(alloc: Global, name: &'a str, help: &'a str) -> Arg<'a> {
-    Arg::new(alloc, name)
-        .required(true)
-        .action(ArgAction::Set)
-        .help(help)
-}
-
-fn quiet<'a>(alloc: Global) -> Arg<'a> {
-    Arg::new(alloc, "quiet")
-        .short('q')
-        .long("quiet")
-        .action(ArgAction::SetTrue)
-        .help(help::QUIET)
-}
-
-fn explained<'a>(alloc: Global) -> Arg<'a> {
-    Arg::new(alloc, "explain")
-        .long("explain")
-        .action(ArgAction::SetTrue)
-        .help(help::EXPLAINED)
-}
-
-fn threads<'a>(alloc: Global) -> Arg<'a> {
-    Arg::new(alloc, "threads")
-        .long("threads")
-        .value_name("N")
-        .value_parser(value_parser!(u8).range(1..65))
-        .help(help::THREADS)
-}
-
-/// A command with the two options that put numbers in the place of the instruction's own.
-fn with_numbers<'a>(alloc: Global, command: Command<'a>) -> Result<Command<'a>, Error> {
-    let period = Arg::new(alloc, "period")
-        .long("period")
-        .value_name("N")
-        .help(help::PERIOD);
-    let limit = Arg::new(alloc, "limit")
-        .long("limit")
-        .value_name("N")
-        .help(help::LIMIT);
-    Ok(command.arg(period)?.arg(limit)?)
-}
-
-fn buck<'a>(alloc: Global) -> Result<Command<'a>, Error> {
-    Ok(
-        Command::new(alloc, "buck")
-            .about("Cuts each stem of a stem file into logs of the greatest worth")
-            .after_long_help(help::BUCK)
-            .arg(threads(alloc))?
-            .arg(quiet(alloc))?
-            .arg(file(alloc, "APT", "The instruction file"))?
-            .arg(file(alloc, "STM", "The stem file"))?,
-    )
-}
-
-fn check<'a>(alloc: Global) -> Result<Command<'a>, Error> {
-    let command = Command::new(alloc, "check")
-        .about("Says whether a journal is lawful for an instruction")
-        .after_long_help(help::CHECK)
-        .arg(rule(alloc).help(help::CHECKED_RULE))?;
-    Ok(
-        with_numbers(alloc, command)?
-            .arg(threads(alloc))?
-            .arg(quiet(alloc))?
-            .arg(file(alloc, "APT", "The instruction file"))?
-            .arg(file(alloc, "JOURNAL", "The journal"))?
-            .arg(
-                file(alloc, "STM", "The stem files, one for each harvester")
-                    .required(false)
-                    .num_args(0..),
-            )?,
-    )
-}
-
-fn view<'a>(alloc: Global) -> Result<Command<'a>, Error> {
-    let command = Command::new(alloc, "view")
-        .about("Shows a journal as a page for a browser")
-        .after_long_help(help::VIEW);
-    Ok(
-        with_numbers(alloc, command)?
-            .arg(threads(alloc))?
-            .arg(quiet(alloc))?
-            .arg(file(alloc, "APT", "The instruction file"))?
-            .arg(file(alloc, "JOURNAL", "The journal"))?,
-    )
-}
-
-fn table<'a>(alloc: Global) -> Result<Command<'a>, Error> {
-    let command = Command::new(alloc, "table")
-        .about("Shows a journal as a table for a spreadsheet")
-        .after_long_help(help::TABLE);
-    Ok(
-        with_numbers(alloc, command)?
-            .arg(threads(alloc))?
-            .arg(quiet(alloc))?
-            .arg(file(alloc, "APT", "The instruction file"))?
-            .arg(file(alloc, "JOURNAL", "The journal"))?
-            .arg(file(alloc, "TABLE", "Which table").value_parser([
-                "classes", "postings", "logs", "degrees",
-            ].as_slice()))?,
-    )
-}
-
-fn rule<'a>(alloc: Global) -> Arg<'a> {
-    Arg::new(alloc, "rule")
-        .long("rule")
-        .value_name("RULE")
-        .value_parser(NamedRule::NAMES.as_slice())
-        .hide_possible_values(true)
-}
-
-fn steady_rule<'a>(alloc: Global) -> Arg<'a> {
-    rule(alloc)
-        .default_value(NamedRule::Steady.name())
-        .help(help::RULE)
-        .long_help(help::RULES)
-}
-
-fn journal<'a>(alloc: Global) -> Arg<'a> {
-    Arg::new(alloc, "journal")
-        .long("journal")
-        .value_name("OUT")
-        .help("The file that the journal is written into")
-}
-
-fn in_turn<'a>(alloc: Global) -> Arg<'a> {
-    Arg::new(alloc, "in-turn")
-        .long("in-turn")
-        .action(ArgAction::SetTrue)
-        .help(help::IN_TURN)
-        .long_help(help::IN_TURNS)
-}
-
-fn fleet<'a>(alloc: Global) -> Result<Command<'a>, Error> {
-    let command = Command::new(alloc, "fleet")
-        .about("Cuts stem files by a fleet of harvesters, one for each file")
-        .after_long_help(help::FLEET)
-        .arg(in_turn(alloc))?
-        .arg(steady_rule(alloc))?;
-    Ok(
-        with_numbers(alloc, command)?
-            .arg(journal(alloc))?
-            .arg(quiet(alloc))?
-            .arg(file(alloc, "APT", "The instruction file"))?
-            .arg(file(alloc, "STM", "The stem files, one for each harvester").num_args(1..))?,
-    )
-}
-
-/// A list of numbers, each of which a run puts in the place of the instruction's own.
-fn numbers<'a>(alloc: Global, name: &'a str, help: &'a str) -> Arg<'a> {
-    Arg::new(alloc, name)
-        .long(name)
-        .value_name("LIST")
-        .help(help)
-}
-
-fn sweep<'a>(alloc: Global) -> Result<Command<'a>, Error> {
-    Ok(
-        Command::new(alloc, "sweep")
-            .about("Compares rules, periods and limits on the same stems")
-            .after_long_help(help::SWEEP)
-            .arg(
-                rule(alloc)
-                    .action(ArgAction::Append)
-                    .help(help::SWEPT_RULES),
-            )?
-            .arg(numbers(alloc, "period", help::PERIODS))?
-            .arg(numbers(alloc, "limit", help::LIMITS))?
-            .arg(threads(alloc))?
-            .arg(quiet(alloc))?
-            .arg(file(alloc, "APT", "The instruction file"))?
-            .arg(file(alloc, "STM", "The stem files, one for each harvester").num_args(1..))?,
-    )
-}
-
-fn report<'a>(alloc: Global) -> Result<Command<'a>, Error> {
-    let command = Command::new(alloc, "report")
-        .about("Prints the report of a journal, as fleet printed it")
-        .after_long_help(help::REPORT);
-    Ok(
-        with_numbers(alloc, command)?
-            .arg(quiet(alloc))?
-            .arg(file(alloc, "APT", "The instruction file"))?
-            .arg(file(alloc, "JOURNAL", "The journal"))?,
-    )
-}
-
-fn live<'a>(alloc: Global) -> Result<Command<'a>, Error> {
-    let command = Command::new(alloc, "live")
-        .about("Cuts stems as they are felled, each answered before the next is read")
-        .after_long_help(help::LIVE)
-        .arg(steady_rule(alloc))?;
-    Ok(
-        with_numbers(alloc, command)?
-            .arg(journal(alloc))?
-            .arg(quiet(alloc))?
-            .arg(file(alloc, "APT", "The instruction file"))?,
-    )
-}
-
-fn line<'a>(alloc: Global) -> Result<Command<'a>, Error> {
-    Ok(
-        Command::new(alloc, "explain")
-            .about("Says what a fault line means, and what to do next")
-            .after_long_help(help::EXPLAIN)
-            .arg(file(alloc, "LINE", "The words of the fault line").num_args(1..))?,
-    )
-}
-
-/// A command that has another one, whose faults can be asked for in words.
-fn with_told<'a>(
-    alloc: Global,
-    command: Command<'a>,
-    other: Result<Command<'a>, Error>,
-) -> Result<Command<'a>, Error> {
-    let other = other?.arg(explained(alloc))?;
-    Ok(command.subcommand(other)?)
-}
-
-fn command<'a>(alloc: Global) -> Result<Command<'a>, Error> {
-    let program = Command::new(alloc, "buckfleet")
-        .version(help::version())
-        .about(help::PROGRAM)
-        .after_long_help(help::COMMANDS)
-        .arg(explained(alloc))?;
-    let program = with_told(alloc, program, buck(alloc))?;
-    let program = with_told(alloc, program, fleet(alloc))?;
-    let program = with_told(alloc, program, sweep(alloc))?;
-    let program = with_told(alloc, program, live(alloc))?;
-    let program = with_told(alloc, program, check(alloc))?;
-    let program = with_told(alloc, program, report(alloc))?;
-    let program = with_told(alloc, program, view(alloc))?;
-    let program = with_told(alloc, program, table(alloc))?;
-    Ok(program.subcommand(line(alloc)?)?)
-}
-
-/// What the program can be asked for, as help.
-pub fn help_text(alloc: Global) -> Result<String, Error> {
-    Ok(command(alloc)?.render_help()?)
-}
-
-/// Why words ask for no work.
+/// Why words that `clap` takes ask for no work.
 #[derive(Drop)]
-pub enum Unasked {
-    /// Help or the version is to be said, or what is wrong with the words.
-    Said(Error),
-    /// A word that must be there isn't, though the command line was accepted.
-    Lost,
-    /// The journal's name is that of an input file of a fleet.
-    Eaten,
-    /// The same of requests.
-    EatenLive,
-    /// A period or a limit isn't one.
-    Numberless,
-    /// A number of threads isn't one.
-    Threadless,
-    /// A table would have more lines than it may.
-    Many,
-    /// The instruction of requests is to be read from the input that has them.
-    Shared,
-    /// A word that belongs behind a command's name stands before it.
-    Early,
+enum Unasked {
+    /// What is wrong with them.
+    Wrong(&'static str),
     /// A growth was refused.
     Memory,
 }
+
+/// What is said where a word that was accepted can't be had.
+const LOST: &str = "a word of the command line was lost";
+
+/// What is said where the journal's name is that of an input file.
+const EATEN: &str = "OUT is the name of an input file, which would be lost";
+
+/// What is said where a number of threads isn't one.
+const THREADLESS: &str = "a number of threads is 1 to 64, in digits alone";
+
+/// What is said where a period or a limit isn't one.
+const NUMBERLESS: &str = "a period is 1 to 1000 and a limit 0 to 1000, each in digits alone";
+
+/// What is said where a table would have more runs than it may.
+const MANY: &str = "there is a run for each combination and for each of its draws, at most 10000";
+
+/// What is said where draws can't be made.
+const DRAWLESS: &str =
+    "draws are 1 to 1000 and a seed 0 to 18446744073709551615, each in digits alone, and a seed is for draws";
+
+/// What is said where the instruction is to be read from the input that has the requests.
+const SHARED: &str = "standard input has the requests";
+
+/// What is said where standard input is named twice.
+const TWICE: &str = "- stands for standard input, which can be read but once";
+
+/// What is said where a word stands before the command that it belongs to.
+const EARLY: &str = "--explain stands behind the name of a command";
 
 impl From<Memory> for Unasked {
     fn from(_memory: Memory) -> Unasked {
@@ -286,9 +59,9 @@ impl From<Memory> for Unasked {
     }
 }
 
-impl From<Error> for Unasked {
-    fn from(error: Error) -> Unasked {
-        Unasked::Said(error)
+impl From<AllocError> for Unasked {
+    fn from(_error: AllocError) -> Unasked {
+        Unasked::Memory
     }
 }
 
@@ -296,7 +69,7 @@ impl From<Error> for Unasked {
 fn word<'a>(matches: &ArgMatches<'a>, id: &str) -> Result<&'a str, Unasked> {
     match matches.get_str(id) {
         Some(text) => Ok(text),
-        None => Err(Unasked::Lost),
+        None => Err(Unasked::Wrong(LOST)),
     }
 }
 
@@ -309,34 +82,20 @@ fn named_table(name: &str) -> Option<Table>
         "postings" => Some(Table::Postings),
         "logs" => Some(Table::Logs),
         "degrees" => Some(Table::Degrees),
+        "assortments" => Some(Table::Assortments),
+        "lacking" => Some(Table::Lacking),
         _ => None,
     }
 }
 
-/// Adds the names of stem files to some names.
-fn add_names<'a>(names: &mut Vec<&'a str>, words: &[&'a str]) -> Result<(), Error> {
-    for word in words {
-        names.push(*word)?;
-    }
-    Ok(())
-}
-
-/// The names of the stem files.
-fn stem_files<'a>(alloc: Global, words: &[&'a str]) -> Result<Vec<&'a str>, Error> {
-    let mut names = Vec::new(alloc);
-    add_names(&mut names, words)?;
-    Ok(names)
-}
-
-/// The names of the journal and of the stem files behind it.
-fn checked_files<'a>(
+/// Names of files, behind the first ones.
+fn names<'a>(
     alloc: Global,
-    journal: &'a str,
-    stms: &[&'a str],
-) -> Result<Vec<&'a str>, Error> {
-    let mut names = Vec::new(alloc);
-    names.push(journal)?;
-    add_names(&mut names, stms)?;
+    first: &[&'a str],
+    rest: &[&'a str],
+) -> Result<Vec<&'a str>, AllocError> {
+    let mut names = Vec::from_slice(alloc, first)?;
+    names.extend_from_slice(rest)?;
     Ok(names)
 }
 
@@ -367,7 +126,7 @@ fn number_after(words: &ArgMatches<'_>, option: &str) -> Result<Option<u32>, Una
         None => Ok(None),
         Some(word) => match number(word) {
             Some(number) => Ok(Some(number)),
-            None => Err(Unasked::Numberless),
+            None => Err(Unasked::Wrong(NUMBERLESS)),
         },
     }
 }
@@ -378,30 +137,36 @@ fn settings(words: &ArgMatches<'_>) -> Result<Settings, Unasked> {
     let limit = number_after(words, "limit")?;
     match Settings::of(period, limit) {
         Some(settings) => Ok(settings),
-        None => Err(Unasked::Numberless),
+        None => Err(Unasked::Wrong(NUMBERLESS)),
     }
 }
 
 /// How many threads there may be at once, where that is said.
 fn asked_threads(words: &ArgMatches<'_>) -> Result<Option<u8>, Unasked> {
     match words.get_str("threads") {
-        Some(word) if !has_digits_alone(word) => Err(Unasked::Threadless),
+        Some(word) if !has_digits_alone(word) => Err(Unasked::Wrong(THREADLESS)),
         _ => Ok(words.get_one::<u8>("threads")),
+    }
+}
+
+/// The names of the stem files that the words have.
+fn asked_stems<'a>(alloc: Global, words: &ArgMatches<'a>) -> Result<Vec<&'a str>, Unasked> {
+    match words.get_strs("STM") {
+        Some(stms) => Ok(names(alloc, &[], stms)?),
+        None => Err(Unasked::Wrong(LOST)),
     }
 }
 
 /// What the words after `fleet` ask for.
 fn fleet_task<'a>(alloc: Global, words: &ArgMatches<'a>) -> Result<FleetTask<'a>, Unasked> {
     let Some(rule) = NamedRule::of_name(word(words, "rule")?) else {
-        return Err(Unasked::Lost);
+        return Err(Unasked::Wrong(LOST));
     };
-    let Some(stms) = words.get_strs("STM") else {
-        return Err(Unasked::Lost);
-    };
+    let stms = asked_stems(alloc, words)?;
     let apt = word(words, "APT")?;
     let journal = words.get_str("journal");
-    if is_input(journal, apt, stms) {
-        return Err(Unasked::Eaten);
+    if is_input(journal, apt, stms.as_slice()) {
+        return Err(Unasked::Wrong(EATEN));
     }
     Ok(FleetTask {
         order: if words.get_flag("in-turn") {
@@ -413,11 +178,11 @@ fn fleet_task<'a>(alloc: Global, words: &ArgMatches<'a>) -> Result<FleetTask<'a>
         settings: settings(words)?,
         journal,
         apt,
-        stms: stem_files(alloc, stms)?,
+        stms,
     })
 }
 
-/// The most lines of runs that a table may have.
+/// The most runs that a table may have.
 const MOST_RUNS: usize = 10_000;
 
 /// The rules of these names; where there is none, the steady one.
@@ -456,7 +221,7 @@ fn numbers_after(
         None => Ok(own_number(alloc)?),
         Some(list) => match numbers_in(alloc, list)? {
             Some(numbers) => Ok(numbers),
-            None => Err(Unasked::Numberless),
+            None => Err(Unasked::Wrong(NUMBERLESS)),
         },
     }
 }
@@ -468,17 +233,68 @@ fn own_number(alloc: Global) -> Result<Vec<Option<u32>>, Memory> {
     Ok(numbers)
 }
 
-/// What the words after `sweep` ask for.
-fn sweep_task<'a>(alloc: Global, words: &ArgMatches<'a>) -> Result<SweepTask<'a>, Unasked> {
+/// The most orders that are drawn.
+const MOST_DRAWS: u32 = 1_000;
+
+/// The number of draws that a word is.
+fn draws_word(word: &str) -> Result<u16, Unasked> {
+    match number(word) {
+        Some(number) if number >= 1 && number <= MOST_DRAWS => Ok(number as u16),
+        _ => Err(Unasked::Wrong(DRAWLESS)),
+    }
+}
+
+/// The seed that a word is, 1 where there is none.
+fn seed_word(word: Option<&str>) -> Result<u64, Unasked> {
+    let Some(word) = word else {
+        return Ok(1);
+    };
+    if !has_digits_alone(word) {
+        return Err(Unasked::Wrong(DRAWLESS));
+    }
+    match word.parse::<u64>() {
+        Ok(seed) => Ok(seed),
+        Err(_) => Err(Unasked::Wrong(DRAWLESS)),
+    }
+}
+
+/// The orders that are to be drawn, where there are some.
+fn asked_draws(words: &ArgMatches<'_>) -> Result<Option<Draws>, Unasked> {
+    let seed = words.get_str("seed");
+    match words.get_str("draws") {
+        Some(word) => Ok(Some(Draws {
+            number: draws_word(word)?,
+            seed: seed_word(seed)?,
+        })),
+        None if seed.is_some() => Err(Unasked::Wrong(DRAWLESS)),
+        None => Ok(None),
+    }
+}
+
+/// How many runs there are for each line of a table.
+fn runs_each(draws: &Option<Draws>) -> usize {
+    match draws {
+        Some(draws) => usize::from(draws.number).saturating_add(1),
+        None => 1,
+    }
+}
+
+/// The runs that the words after `sweep` ask for.
+fn asked_combinations(
+    alloc: Global,
+    words: &ArgMatches<'_>,
+    draws: &Option<Draws>,
+) -> Result<Vec<Combination>, Unasked> {
     let rules = named_rules(alloc, words.get_strs("rule").unwrap_or(&[]))?;
     let periods = numbers_after(alloc, words, "period")?;
     let limits = numbers_after(alloc, words, "limit")?;
-    let lines = rules
+    let runs = rules
         .len()
         .saturating_mul(periods.len())
-        .saturating_mul(limits.len());
-    if lines > MOST_RUNS {
-        return Err(Unasked::Many);
+        .saturating_mul(limits.len())
+        .saturating_mul(runs_each(draws));
+    if runs > MOST_RUNS {
+        return Err(Unasked::Wrong(MANY));
     }
     let made = combinations(
         alloc,
@@ -486,32 +302,50 @@ fn sweep_task<'a>(alloc: Global, words: &ArgMatches<'a>) -> Result<SweepTask<'a>
         periods.as_slice(),
         limits.as_slice(),
     );
-    let Some(combinations) = made? else {
-        return Err(Unasked::Numberless);
-    };
-    let Some(stms) = words.get_strs("STM") else {
-        return Err(Unasked::Lost);
-    };
-    Ok(SweepTask {
+    match made? {
+        Some(combinations) => Ok(combinations),
+        None => Err(Unasked::Wrong(NUMBERLESS)),
+    }
+}
+
+/// What the words after `sweep` ask for: where they name targets or draws, a trial.
+fn sweep_work<'a>(alloc: Global, words: &ArgMatches<'a>) -> Result<Work<'a>, Unasked> {
+    let draws = asked_draws(words)?;
+    let combinations = asked_combinations(alloc, words, &draws)?;
+    let targets = words.get_str("targets");
+    let apt = word(words, "APT")?;
+    let stms = asked_stems(alloc, words)?;
+    let threads = asked_threads(words)?;
+    if draws.is_none() && targets.is_none() {
+        return Ok(Work::Sweep(SweepTask {
+            combinations,
+            apt,
+            stms,
+            threads,
+        }));
+    }
+    Ok(Work::Trial(TrialTask {
         combinations,
-        apt: word(words, "APT")?,
-        stms: stem_files(alloc, stms)?,
-        threads: asked_threads(words)?,
-    })
+        apt,
+        stms,
+        targets,
+        draws,
+        threads,
+    }))
 }
 
 /// What the words after `live` ask for.
 fn live_task<'a>(words: &ArgMatches<'a>) -> Result<LiveTask<'a>, Unasked> {
     let Some(rule) = NamedRule::of_name(word(words, "rule")?) else {
-        return Err(Unasked::Lost);
+        return Err(Unasked::Wrong(LOST));
     };
     let apt = word(words, "APT")?;
     let journal = words.get_str("journal");
     if apt == DASH {
-        return Err(Unasked::Shared);
+        return Err(Unasked::Wrong(SHARED));
     }
     if is_input(journal, apt, &[]) {
-        return Err(Unasked::EatenLive);
+        return Err(Unasked::Wrong(EATEN));
     }
     Ok(LiveTask {
         rule,
@@ -527,7 +361,7 @@ fn asked_rule(name: Option<&str>) -> Result<Option<NamedRule>, Unasked> {
         None => Ok(None),
         Some(name) => match NamedRule::of_name(name) {
             Some(rule) => Ok(Some(rule)),
-            None => Err(Unasked::Lost),
+            None => Err(Unasked::Wrong(LOST)),
         },
     }
 }
@@ -542,19 +376,38 @@ fn check_task<'a>(alloc: Global, words: &ArgMatches<'a>) -> Result<CheckTask<'a>
         rule,
         settings: settings(words)?,
         apt,
-        files: checked_files(alloc, journal, stms)?,
+        files: names(alloc, &[journal], stms)?,
         threads: asked_threads(words)?,
     })
 }
 
+/// The names of 1 to 64 journals that the words have.
+fn asked_journals<'a>(alloc: Global, words: &ArgMatches<'a>) -> Result<Vec<&'a str>, Unasked>
+    ensures { IfOk result (λ names. (0 < vec_len names) × (vec_len names ≤ 64)) }
+{
+    let journals = names(alloc, &[], words.get_strs("JOURNAL").unwrap_or(&[]))?;
+    if journals.is_empty() || journals.len() > 64 {
+        return Err(Unasked::Wrong(LOST));
+    }
+    Ok(journals)
+}
+
 /// What the words after `view` and `table` ask for.
-fn view_task<'a>(words: &ArgMatches<'a>, shown: Shown) -> Result<ViewTask<'a>, Unasked> {
+fn view_task<'a>(
+    alloc: Global,
+    words: &ArgMatches<'a>,
+    shown: Shown,
+) -> Result<ViewTask<'a>, Unasked> {
+    let apt = word(words, "APT")?;
+    let settings = settings(words)?;
+    let threads = asked_threads(words)?;
+    let journals = asked_journals(alloc, words)?;
     Ok(ViewTask {
-        apt: word(words, "APT")?,
-        journal: word(words, "JOURNAL")?,
+        apt,
+        journals,
         shown,
-        settings: settings(words)?,
-        threads: asked_threads(words)?,
+        settings,
+        threads,
     })
 }
 
@@ -562,8 +415,58 @@ fn view_task<'a>(words: &ArgMatches<'a>, shown: Shown) -> Result<ViewTask<'a>, U
 fn table_word(words: &ArgMatches<'_>) -> Result<Table, Unasked> {
     match named_table(word(words, "TABLE")?) {
         Some(table) => Ok(table),
-        None => Err(Unasked::Lost),
+        None => Err(Unasked::Wrong(LOST)),
     }
+}
+
+/// What the words after `appraise` ask for.
+fn appraise_task<'a>(alloc: Global, words: &ArgMatches<'a>) -> Result<AppraiseTask<'a>, Unasked> {
+    Ok(AppraiseTask {
+        settings: settings(words)?,
+        apt: word(words, "APT")?,
+        journals: asked_journals(alloc, words)?,
+        own: word(words, "OWN")?,
+        threads: asked_threads(words)?,
+    })
+}
+
+/// Of one or two numbers, that of the journal at a place.
+fn number_of(numbers: &[Option<u32>], place: usize) -> Result<Option<u32>, Unasked> {
+    match numbers {
+        [one] => Ok(*one),
+        [first, _] if place == 0 => Ok(*first),
+        [_, second] => Ok(*second),
+        _ => Err(Unasked::Wrong(NUMBERLESS)),
+    }
+}
+
+/// The numbers that are put in the place of the instruction's own for the journal at a place.
+fn settings_at(
+    periods: &[Option<u32>],
+    limits: &[Option<u32>],
+    place: usize,
+) -> Result<Settings, Unasked> {
+    let period = number_of(periods, place)?;
+    let limit = number_of(limits, place)?;
+    match Settings::of(period, limit) {
+        Some(settings) => Ok(settings),
+        None => Err(Unasked::Wrong(NUMBERLESS)),
+    }
+}
+
+/// What the words after `compare` ask for.
+fn compare_task<'a>(alloc: Global, words: &ArgMatches<'a>) -> Result<CompareTask<'a>, Unasked> {
+    let periods = numbers_after(alloc, words, "period")?;
+    let limits = numbers_after(alloc, words, "limit")?;
+    let periods = periods.as_slice();
+    let limits = limits.as_slice();
+    Ok(CompareTask {
+        first: settings_at(periods, limits, 0)?,
+        second: settings_at(periods, limits, 1)?,
+        apt: word(words, "APT")?,
+        journals: [word(words, "JOURNAL")?, word(words, "OTHER")?],
+        threads: asked_threads(words)?,
+    })
 }
 
 /// The work that the words after a command's name ask for.
@@ -581,11 +484,16 @@ fn work_of<'a>(alloc: Global, name: &str, words: &ArgMatches<'a>) -> Result<Work
             settings: settings(words)?,
         })),
         "fleet" => Ok(Work::Fleet(fleet_task(alloc, words)?)),
-        "sweep" => Ok(Work::Sweep(sweep_task(alloc, words)?)),
+        "sweep" => sweep_work(alloc, words),
         "live" => Ok(Work::Live(live_task(words)?)),
-        "view" => Ok(Work::View(view_task(words, Shown::Page)?)),
-        "table" => Ok(Work::View(view_task(words, Shown::Table(table_word(words)?))?)),
-        _ => Err(Unasked::Lost),
+        "view" => Ok(Work::View(view_task(alloc, words, Shown::Page)?)),
+        "table" => {
+            let shown = Shown::Table(table_word(words)?);
+            Ok(Work::View(view_task(alloc, words, shown)?))
+        }
+        "appraise" => Ok(Work::Appraise(appraise_task(alloc, words)?)),
+        "compare" => Ok(Work::Compare(compare_task(alloc, words)?)),
+        _ => Err(Unasked::Wrong(LOST)),
     }
 }
 
@@ -609,7 +517,7 @@ impl Request<'_> {
 }
 
 /// The words of a fault line, with a blank before each.
-fn line_of(alloc: Global, words: &[&str]) -> Result<String, Error> {
+fn line_of(alloc: Global, words: &[&str]) -> Result<String, AllocError> {
     let mut line = String::new(alloc);
     for word in words {
         line.push(' ')?;
@@ -632,27 +540,39 @@ fn request_of<'a>(alloc: Global, name: &str, words: &ArgMatches<'a>) -> Result<A
     if name == "explain" {
         return match words.get_strs("LINE") {
             Some(line) => Ok(Asked::Sentence(line_of(alloc, line)?)),
-            None => Err(Unasked::Lost),
+            None => Err(Unasked::Wrong(LOST)),
         };
     }
+    let work = work_of(alloc, name, words)?;
+    if Subject::of(alloc, &work)?.has_input_twice() {
+        return Err(Unasked::Wrong(TWICE));
+    }
     Ok(Asked::Work(Request {
-        work: work_of(alloc, name, words)?,
+        work,
         quiet: words.get_flag("quiet"),
         explain: words.get_flag("explain"),
     }))
 }
 
-/// What the program's words ask for, the first of which is the program's name.
-pub fn parse<'a>(alloc: Global, words: &'a [String]) -> Result<Asked<'a>, Unasked> {
-    let matches = command(alloc)?.try_get_matches_from(words)?;
+/// What the program's words ask for, the first of which is the program's name; else help or the version, or what is
+/// wrong with them.
+pub fn parse<'a>(alloc: Global, words: &'a [String]) -> Result<Asked<'a>, Error> {
+    let matches = program(alloc)?.try_get_matches_from(words)?;
     let explain = matches.get_flag("explain");
-    match matches.subcommand() {
-        Some(_) if explain => Err(Unasked::Early),
-        Some((name, words)) => request_of(alloc, name, words),
-        None => Ok(Asked::Work(Request {
-            work: Work::Plain(Task::Bare),
-            quiet: false,
-            explain,
-        })),
+    let (name, asked) = match matches.subcommand() {
+        Some(_) if explain => (PROGRAM, Err(Unasked::Wrong(EARLY))),
+        Some((name, words)) => (name, request_of(alloc, name, words)),
+        None => {
+            return Ok(Asked::Work(Request {
+                work: Work::Plain(Task::Bare),
+                quiet: false,
+                explain,
+            }));
+        }
+    };
+    match asked {
+        Ok(asked) => Ok(asked),
+        Err(Unasked::Wrong(message)) => Err(mistake(alloc, name, message)?),
+        Err(Unasked::Memory) => Err(Error::from(AllocError)),
     }
 }

@@ -1,15 +1,16 @@
 //! What is to be done, and doing it.
-ghost use Rattle.std.specs.Prelude.{◌≡◌, Result};
-ghost use Rattle.buck_engine.specs.declared.fault.EngineFault.{EngineFault};
-ghost use Rattle.buck_engine.specs.run.Serving.{TellsOutcome, status_after};
+ghost use Rattle.std.specs.Prelude.{◌≡◌};
 ghost use Rattle.buck_command.specs.Work.{DoesWork};
 
 use buck_engine::{
     BuckTask, CheckTask, FleetTask, Make, Onlooker, Open, Task, ViewTask, serve, serve_buck,
     serve_check, serve_fleet, serve_view,
 };
+use buck_ledger::{AppraiseTask, CompareTask, serve_appraise, serve_compare};
 use buck_live::{LiveTask, Replies, serve_live};
 use buck_sweep::{SweepTask, serve_sweep};
+use buck_terms::TermsFault;
+use buck_trial::{TrialTask, serve_trial};
 use std::alloc::Global;
 use std::io;
 use std::sync::Wait;
@@ -32,15 +33,18 @@ pub enum Work<'a> {
     Live(LiveTask<'a>),
     /// Rules, periods and limits are to be compared, in several threads at once.
     Sweep(SweepTask<'a>),
+    /// The same with other targets, or with orders that are drawn.
+    Trial(TrialTask<'a>),
+    /// Journals are to be appraised under an owner's instruction.
+    Appraise(AppraiseTask<'a>),
+    /// Two journals are to be set side by side.
+    Compare(CompareTask<'a>),
 }
 
 impl Work<'_> {
-    /// Whether standard input has requests.
-    pub(crate) fn has_requests(&self) -> bool {
-        match self {
-            Work::Live(_) => true,
-            _ => false,
-        }
+    /// Whether both files stand on standard input.
+    pub(crate) fn is_bare(&self) -> bool {
+        matches!(self, Work::Plain(Task::Bare))
     }
 }
 
@@ -55,87 +59,38 @@ pub struct Streams<R, W, E> {
     pub errors: E,
 }
 
-/// Does the work, and says how it ended. The answer is the exit status. Each fault and what is written before it are
-/// those of [`serve`], [`serve_buck`], [`serve_fleet`], [`serve_check`], [`serve_view`], [`serve_live`] and [`serve_sweep`].
+/// Does the work. Each fault and what is written before it are those of [`serve`], [`serve_buck`], [`serve_fleet`],
+/// [`serve_check`], [`serve_view`], [`serve_live`], [`serve_sweep`], [`serve_trial`],
+/// [`serve_appraise`] and [`serve_compare`].
 pub fn serve_work<
     T: Threads + Wait + Sync,
     L: Onlooker + Sync,
     O: Open + Make,
     R: io::Read,
     W: Replies,
-    E: io::Write,
 >(
     rt: &T,
     alloc: Global,
     work: &Work<'_>,
     onlooker: &L,
     files: &mut O,
-    streams: &mut Streams<R, W, E>,
-) -> u8
-    ensures { (outcome : Result (Unit {0}) EngineFault)
-        × DoesWork O.opens O.makes O.File.remaining O.Made.contents files.old files.new
-        (R.remaining streams.old.input) (streams.new.input ≡ streams.old.input) work.now
-        (W.contents streams.old.output) (W.contents streams.new.output) outcome
-        × (result ≡ status_after outcome)
-        × TellsOutcome (E.contents streams.old.errors) (E.contents streams.new.errors) outcome }
+    input: &mut R,
+    output: &mut W,
+) -> Result<(), TermsFault>
+    ensures { DoesWork O.opens O.makes O.File.remaining O.Made.contents files.old files.new
+        (R.remaining input.old) (input.new ≡ input.old) work.now
+        (W.contents output.old) (W.contents output.new) result }
 {
     match work {
-        Work::Plain(task) => serve(
-            alloc,
-            task,
-            &mut streams.input,
-            files,
-            &mut streams.output,
-            &mut streams.errors,
-        ),
-        Work::Buck(task) => serve_buck(
-            rt,
-            alloc,
-            task,
-            files,
-            &mut streams.output,
-            &mut streams.errors,
-        ),
-        Work::Fleet(task) => serve_fleet(
-            rt,
-            alloc,
-            task,
-            onlooker,
-            files,
-            &mut streams.output,
-            &mut streams.errors,
-        ),
-        Work::Check(task) => serve_check(
-            rt,
-            alloc,
-            task,
-            files,
-            &mut streams.output,
-            &mut streams.errors,
-        ),
-        Work::View(task) => serve_view(
-            rt,
-            alloc,
-            task,
-            files,
-            &mut streams.output,
-            &mut streams.errors,
-        ),
-        Work::Live(task) => serve_live(
-            alloc,
-            task,
-            &mut streams.input,
-            files,
-            &mut streams.output,
-            &mut streams.errors,
-        ),
-        Work::Sweep(task) => serve_sweep(
-            rt,
-            alloc,
-            task,
-            files,
-            &mut streams.output,
-            &mut streams.errors,
-        ),
+        Work::Plain(task) => Ok(serve(alloc, task, input, files, output)?),
+        Work::Buck(task) => Ok(serve_buck(rt, alloc, task, files, output)?),
+        Work::Fleet(task) => Ok(serve_fleet(rt, alloc, task, onlooker, files, output)?),
+        Work::Check(task) => Ok(serve_check(rt, alloc, task, files, output)?),
+        Work::View(task) => Ok(serve_view(rt, alloc, task, files, output)?),
+        Work::Live(task) => Ok(serve_live(alloc, task, input, files, output)?),
+        Work::Sweep(task) => Ok(serve_sweep(rt, alloc, task, files, output)?),
+        Work::Trial(task) => serve_trial(rt, alloc, task, files, output),
+        Work::Appraise(task) => serve_appraise(rt, alloc, task, files, output),
+        Work::Compare(task) => Ok(serve_compare(rt, alloc, task, files, output)?),
     }
 }

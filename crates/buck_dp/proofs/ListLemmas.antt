@@ -1,5 +1,6 @@
 -- Lists that grow, and what stands in lists.
-pub use Rattle.buck_dp.proofs.Words.{All, All-contains, ◌≡◌, ℕ, ◌+◌, ◌%◌, ◌<◌, List, [], ◌∷◌, ◌++◌, Contains, length, length-append, slice_get, Some, refl, sym, arith, slice_get_within, slice_get_read, get_or_from_slice_get, get_or_push, AssortmentParts, InstructionParts, IsInstruction, inl, inr, Contains-push_cases, stands, IsBand}
+use Rattle.buck_dp.proofs.Words.{All, All-contains, ◌≡◌, ℕ, ◌+◌, ◌%◌, ◌<◌, List, [], ◌∷◌, ◌++◌, Contains, length, length-append, slice_get, Some, refl, sym, arith, slice_get_within, slice_get_read, get_or_from_slice_get, get_or_push}
+use Rattle.buck_dp.proofs.Words.{AssortmentParts, InstructionParts, IsInstruction, inl, inr, Contains-push_cases}
 
 -- what stands at a place of a list is in it
 pub has_at : {X : Type 0} (xs : List X) (k : ℕ) (x : X) → slice_get xs k ≡ Some x → Contains xs x

@@ -1,5 +1,6 @@
 -- That the logs of a cutting are allowed, how many there can be, and that one cutting alone is the first of the best.
-pub use Rattle.buck_dp.proofs.Words.{rules, All-cons, ◌≡◌, ◌≤◌, ◌⊎◌, inl, inr, ℕ, List, [], ◌∷◌, All, length, refl, arith, StemParts, IsStem, Log, SheetParts, IsSheet, IsAllowed, end_of, IsBefore, IsAdmissible, IsFirstBest, cutting_worth, IsCutFrom, ◌↔◌, ap, InstructionParts, top_of, trim_in, HasNoTrim, IsAllowedUntrimmed, no_trim, without_trim, with_trim, ◌+◌, ◌*◌, sum_by-cons, stem_length, worth_of, worth_low, allowed_low}
+use Rattle.buck_dp.proofs.Words.{rules, All-cons, ◌≡◌, ◌≤◌, ◌⊎◌, inl, inr, ℕ, List, [], ◌∷◌, All, length, refl, arith, StemParts, IsStem, Log, SheetParts, IsSheet, IsAllowed, end_of, IsBefore, IsAdmissible, IsFirstBest, cutting_worth}
+use Rattle.buck_dp.proofs.Words.{IsCutFrom, ◌↔◌, ap, InstructionParts, top_of, trim_in, HasNoTrim, IsAllowedUntrimmed, no_trim, without_trim, with_trim, ◌+◌, ◌*◌, sum_by-cons, stem_length, worth_of, worth_low, allowed_low}
 
 -- an allowed log lies within its stem
 pub end_within : (i : InstructionParts) (stem : StemParts) (d : Log) → (a : IsAllowed i stem d)

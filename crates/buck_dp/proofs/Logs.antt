@@ -1,11 +1,9 @@
 -- Logs of a stem as bids of its takers, and the other way.
-pub use Rattle.buck_dp.proofs.Words.{List, ◌⊎◌, ◌≡◌, ℕ, ◌+◌, ◌-◌, ◌*◌, ◌/◌, ◌%◌, ◌<◌, ◌≤◌, refl, sym, ap, ◌∙◌, arith, rules, length, get_or_default, add-mul, mul-le-mul_right, mul-mod_left, div-mul-le_self, mul-add-div_right, le-div, cases_order, All-contains, IsCell, Cell, IsPart, IsRow, stem_length, diameter_at, Log, IsSheet, IsAllowed, top_of, trim_in, trim_of, worth_of, GroundParts, point_after, Offer, offer_of, offer_at, IsRank, HIGHEST_RANK, AreOffers, BidParts, bid_of, IsLogAt, log_at, next_after, IsTakersBid, Takers, HasTakers, allowed_low, IsLogBefore, cases_lt, lt-div-mul-add, div-le_of_le-mul, mul_comm, div-add-mod, inl, inr, [], ◌∷◌, ◌++◌, append-nil, get_or, get_or_past, sum_by-cons, zero-mul, cutting_worth, end_of, IsFirstBest, IsAdmissible, IsBefore, points_of, ends_of, none, bid_at, IsSearch, IsCutFrom, append_assoc, ◌↔◌, Contains-get_or, mul-div_left, quote_bid, quote_at, IsOfferOf, suc, Contains, slice_get, Some, subst, unwrap_or, nat_le, nat_tests, same_Some, AssortmentParts, InstructionParts, sum_by-le, IsInstruction, IsAssortment, IsWithin, classes, sheet_of, price-le, mul-le-mul, last_position, row_at, IsBand, IsBought, IsPriced, IsClassAt, HasNoPrice, Quote, Ask, IsTaker, IsTerm, AreTerms, nat_cmp, false, All, length-append, slice_get_within, IsNoLater, IsPermutation, IsSorted, stands, column_some, column_is, All-weaker, All-push, Contains-push, Contains-append_left, Ordering}
-pub use Rattle.buck_dp.proofs.ListLemmas.{on_module, all_at, place_of, has_at}
-pub use Rattle.buck_dp.proofs.Lists.{end_within, same_log}
-
--- a multiple of a step, in steps
-pub whole_steps : (l step : ℕ) → l % step ≡ 0 → l / step * step ≡ l
-whole_steps l step on = omega (arith, div-add-mod l step, mul_comm step (l / step))
+use Rattle.buck_dp.proofs.Words.{whole_steps, List, ◌⊎◌, ◌≡◌, ℕ, ◌+◌, ◌-◌, ◌*◌, ◌/◌, ◌%◌, ◌<◌, ◌≤◌, refl, sym, ap, ◌∙◌, arith, rules, length, get_or_default, add-mul, mul-le-mul_right, mul-mod_left, div-mul-le_self, mul-add-div_right}
+use Rattle.buck_dp.proofs.Words.{le-div, cases_order, All-contains, IsCell, Cell, IsPart, IsRow, stem_length, diameter_at, Log, IsSheet, IsAllowed, top_of, trim_in, trim_of, worth_of, GroundParts, point_after, Offer, offer_of, offer_at}
+use Rattle.buck_dp.proofs.Words.{IsRank, HIGHEST_RANK, AreOffers, BidParts, bid_of, IsLogAt, log_at, next_after, IsTakersBid, Takers, HasTakers, allowed_low, IsLogBefore, cases_lt, lt-div-mul-add, div-le_of_le-mul}
+use Rattle.buck_dp.proofs.ListLemmas.{on_module, all_at, place_of}
+use Rattle.buck_dp.proofs.Lists.{end_within, same_log}
 
 -- a length is at least one step
 pub one_step : (l step : ℕ) → 0 < l → l % step ≡ 0 → 0 < l / step

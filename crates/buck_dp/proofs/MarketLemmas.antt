@@ -1,9 +1,12 @@
 -- Lists and rows that are kept.
-pub use Rattle.buck_dp.proofs.QuoteLemmas.{length-map, push_each, pushed_at, All, get_or, slice_get_read, IsListAt, Takers, MarketParts, IsMarket, IsAsked, row_of, length, ◌≡◌, ◌≤◌, refl, arith, ℕ, List, [], ◌∷◌, ◌++◌, length-append, AllAre, sym, rules, same_Some, length-drop, drop_at, drop-append-le, take-append-le, take_all, Head, Cell, PriceList, IsRow, IsAt, HasQuotes, IsSmall, SheetParts, Menu, HasTerms, row_right, quote_short}
+use Rattle.buck_dp.proofs.Words.{All, get_or, slice_get_read, IsListAt, Takers, MarketParts, IsMarket, IsAsked, row_of, length, ◌≡◌, ◌≤◌, arith, ℕ, List, [], ◌∷◌, ◌++◌, length-append, AllAre, sym, rules, same_Some, length-drop, drop_at}
+use Rattle.buck_dp.proofs.Words.{Quote, drop-append-le, take-append-le, take_all, Head, Cell, PriceList, IsRow, IsAt, HasQuotes, IsSmall, SheetParts, Menu}
+use Rattle.buck_dp.proofs.ListLemmas.{push_each, pushed_at}
+use Rattle.buck_dp.proofs.QuoteLemmas.{row_right, quote_short}
 
-module _ (P : PriceList → Type 0) (lists : List PriceList) (are : AllAre P lists) where
+module _ {X : Type 0} (P : PriceList X → Type 0) (lists : List (PriceList X)) (are : AllAre P lists) where
   -- a list that is put behind others is found there, and all are right
-  pub list_put : {new : List PriceList} {l : PriceList} {d : ℕ} (n : ℕ) → new ≡ lists ++ l ∷ [] → length lists ≡ n → P l
+  pub list_put : {new : List (PriceList X)} {l : PriceList X} {d : ℕ} (n : ℕ) → new ≡ lists ++ l ∷ [] → length lists ≡ n → P l
       → IsAsked l.ask d → AllAre P new × IsListAt new l.ask.takers d n
   list_put {new} {l} {d} n is at right asked =
       let there : IsListAt (lists ++ l ∷ []) l.ask.takers d n =
@@ -11,15 +14,15 @@ module _ (P : PriceList → Type 0) (lists : List PriceList) (are : AllAre P lis
       rw is (push_each P lists l are right, there)
 
   -- the list that is found is right, as the code reads it
-  pub list_found : {l : PriceList} {n d : ℕ} {takers : Takers} → IsListAt lists takers d n → l ≡ get_or lists n l
+  pub list_found : {l : PriceList X} {n d : ℕ} {takers : Takers} → IsListAt lists takers d n → l ≡ get_or lists n l
       → P l × (l.ask.takers ≡ takers) × IsAsked l.ask d
   list_found {l} {n} there is = search (rules, slice_get_read)
 
 -- the quotes that are found make a row, and it has what their takers bid
-pub row_found : {x : MarketParts} {l : PriceList} {n d : ℕ} {takers : Takers} → IsMarket x
+pub row_found : {x : MarketParts} {l : PriceList Quote} {n d : ℕ} {takers : Takers} → IsMarket x
     → IsListAt x.quotes takers d n → l ≡ get_or x.quotes n l
-    → All (λ q. IsSmall q × (q.steps ≤ x.menu.most_steps)) l.quotes.items
-    × IsRow x.sheet x.menu.offers.items takers d x.menu.most_steps (row_of x.menu.most_steps d l.quotes.items)
+    → All (λ q. IsSmall q × (q.term.steps ≤ x.menu.most_steps)) l.list.items
+    × IsRow x.sheet x.menu.offers.items takers d x.menu.most_steps (row_of x.menu.most_steps d l.list.items)
 row_found {x} {l} {n} {d} is_market there is =
     let found = list_found (HasQuotes x.sheet x.menu) x.quotes is_market.quotes there is in (
       quote_short x.sheet x.menu l d is_market.valid is_market.menu found.0 found.2,

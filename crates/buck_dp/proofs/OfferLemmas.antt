@@ -1,6 +1,9 @@
 -- The search goes on by logs that are offered.
+use Rattle.buck_dp.proofs.Words.{◌≡◌, ℕ, ◌+◌, ◌-◌, ◌*◌, ◌<◌, ◌≤◌, ◌⊎◌, inl, inr, List, length, worth_low, mul-le-mul_right, slice_get, Some, sym, ◌∙◌, arith, rules, cases_lt, cases_order, cases_eq, slice_get_within, GroundParts, ends_of}
+use Rattle.buck_dp.proofs.Words.{IsSheet, Cell, BidParts, none, IsAtMost, plus, IsLogAt, bid_at, IsNear, HasNoneOf, Reaches, IsSearch, CanOffer, IsOffered, AreOffered, IsStem, ◌++◌, get_or-append_right, get_or-append-add}
+use Rattle.buck_dp.proofs.Words.{get_or_append_left, length-append, same_Some}
 use Rattle.buck_dp.proofs.Logs.{start_is}
-pub use Rattle.buck_dp.proofs.TopLemmas.{◌≡◌, ℕ, ◌+◌, ◌-◌, ◌*◌, ◌<◌, ◌≤◌, ◌⊎◌, inl, inr, List, length, worth_low, mul-le-mul_right, slice_get, Some, sym, ◌∙◌, arith, rules, cases_lt, cases_order, cases_eq, slice_get_within, GroundParts, ends_of, IsSheet, Cell, BidParts, none, IsAtMost, plus, IsLogAt, bid_at, IsNear, HasNoneOf, Reaches, IsSearch, CanOffer, IsOffered, AreOffered, IsStem, ◌++◌, get_or-append_right, get_or-append-add, get_or_append_left, length-append, same_Some, refl, slice_get_read, IsAtMost-refl, IsAtMost-trans, worth_at_most, greater_first, greater_second, plus_more, settled_same, made_same}
+use Rattle.buck_dp.proofs.TopLemmas.{IsAtMost-refl, IsAtMost-trans, worth_at_most, greater_first, greater_second, plus_more, settled_same, made_same}
 
 -- no log bids more than its steps allow
 log_low : (p : GroundParts) (i j e : ℕ) (bid : BidParts) → IsSheet p.sheet → IsLogAt p i j e bid

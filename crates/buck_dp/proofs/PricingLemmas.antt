@@ -1,7 +1,12 @@
 -- The quote of an offer.
 use Rattle.buck_apt.specs.Instruction.{classes_of}
+use Rattle.buck_dp.proofs.Words.{whole_steps, ◌↔◌, Contains-get_or, mul-div_left, quote_bid, quote_at, IsOfferOf, ◌≡◌, ℕ, ◌+◌, ◌-◌, ◌/◌, ◌%◌, ◌<◌, ◌≤◌, ◌⊎◌, inl, inr, suc, List, [], ◌∷◌, ◌++◌, Contains, length, get_or, slice_get, Some}
+use Rattle.buck_dp.proofs.Words.{refl, sym, subst, ap, ◌∙◌, arith, cases_lt, unwrap_or, nat_le, nat_tests, same_Some, All-contains, AssortmentParts, InstructionParts, sum_by-le, IsInstruction, IsAssortment, IsWithin, classes, sheet_of}
+use Rattle.buck_dp.proofs.Words.{price-le, mul-le-mul, last_position, row_at, Offer, offer_of, offer_at, HIGHEST_RANK, AreOffers, IsBand, IsBought, IsPriced, IsClassAt, HasNoPrice, point_after, Term, Ask, IsTaker, IsTerm, AreTerms}
+use Rattle.buck_dp.proofs.Words.{nat_cmp, false, ◌*◌, All, length-append, get_or_default, slice_get_within, IsNoLater, IsPermutation, IsSorted, All-weaker, All-push, Contains-push, Contains-append_left, Ordering}
+use Rattle.buck_dp.proofs.ListLemmas.{on_module, has_at}
+use Rattle.buck_dp.proofs.Logs.{one_step}
 use Rattle.buck_dp.proofs.TopLemmas.{same_bid}
-pub use Rattle.buck_dp.proofs.Logs.{on_module, has_at, ◌↔◌, Contains-get_or, mul-div_left, quote_bid, quote_at, IsOfferOf, ◌≡◌, ℕ, ◌+◌, ◌-◌, ◌/◌, ◌%◌, ◌<◌, ◌≤◌, ◌⊎◌, inl, inr, suc, List, [], ◌∷◌, ◌++◌, Contains, length, get_or, slice_get, Some, refl, sym, subst, ap, ◌∙◌, arith, cases_lt, unwrap_or, nat_le, nat_tests, same_Some, All-contains, AssortmentParts, InstructionParts, sum_by-le, IsInstruction, IsAssortment, IsWithin, classes, sheet_of, price-le, mul-le-mul, last_position, row_at, Offer, offer_of, offer_at, HIGHEST_RANK, AreOffers, IsBand, IsBought, IsPriced, IsClassAt, HasNoPrice, point_after, Quote, Ask, IsTaker, IsTerm, AreTerms, nat_cmp, false, ◌*◌, All, length-append, get_or_default, slice_get_within, IsNoLater, IsPermutation, IsSorted, rules, stands, column_some, column_is, All-weaker, All-push, Contains-push, Contains-append_left, Ordering, whole_steps, one_step}
 use Rattle.std.specs.Ordering.{ordering_then, is_lt}
 use Rattle.std.specs.Cmp.{ranks}
 use Rattle.std.proofs.lemmas.Cmp.{nat_cmp_total, on_total, then_total}
@@ -51,7 +56,7 @@ classes_few i valid = omega (
   valid.assortments_number,
 )
 
-module _ {i : InstructionParts} {offers : List Offer} {ask : Ask} {place : ℕ} {terms : List Quote}
+module _ {i : InstructionParts} {offers : List Offer} {ask : Ask} {place : ℕ} {terms : List Term}
     (are : AreOffers i offers) (lt : place < length offers) (were : AreTerms i offers ask place terms) where
   abbrev o : Offer
   o = get_or offers place (offer_of 0 0)
@@ -77,11 +82,10 @@ module _ {i : InstructionParts} {offers : List Offer} {ask : Ask} {place : ℕ} 
   -- its term is put behind the others
   module _ (x : AssortmentParts) (exists : slice_get i.assortments o.assortment ≡ Some x)
       (k : ℕ) (is : IsClassAt i x o ask k) where
-    abbrev term : Quote
+    abbrev term : Term
     term = record {
       kind = x.price_kind;
       class = k;
-      price = 0;
       rank = HIGHEST_RANK - place;
       length = o.length;
       steps = o.length / i.«module»;

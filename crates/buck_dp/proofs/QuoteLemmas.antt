@@ -1,6 +1,9 @@
 -- Price lists that grow, and rows drawn from them.
-pub use Rattle.buck_dp.proofs.ListLemmas.{more_at, place_of, push_each, pushed_at}
-pub use Rattle.buck_dp.proofs.TopLemmas.{slice_get-get_or, IsCovered, get_or, rules, ℕ, ◌+◌, ◌*◌, ◌<◌, ◌≤◌, ◌⊎◌, inl, inr, List, [], ◌∷◌, ◌++◌, All, Contains, length, length-map, get_or-map, map, refl, subst, ap, ◌∙◌, arith, ne_eqb, le_of_mul-le-mul_right, mul-le-mul, mul-le-mul_left, mul-le-mul_right, div-mul-le_self, All-map, All-contains, Contains-get_or, volume, SheetParts, IsSheet, Offer, Quote, Ask, quote_bid, quote_at, IsAsked, IsSmall, IsQuote, IsLed, IsLeading, IsNext, IsPruned, IsTerm, AreTerms, AreQuotes, cell_of, row_of, IsCell, IsRow, Menu, PriceList, IsMenu, Contains-push, Contains-push_cases, Contains-append_left, IsAtMost-refl, worth_at_most, slice_get_read, IsListAt, Takers, MarketParts, IsMarket, ◌≡◌, length-append, AllAre, sym, same_Some, length-drop, drop_at, drop-append-le, take-append-le, take_all, Head, Cell, IsAt, HasQuotes, HasTerms}
+use Rattle.buck_dp.proofs.Words.{slice_get-get_or, IsCovered, get_or, rules, ℕ, ◌+◌, ◌*◌, ◌<◌, ◌≤◌, ◌⊎◌, inl, inr, List, [], ◌∷◌, ◌++◌, All, Contains, length, length-map, get_or-map, map, refl, subst, ap, ◌∙◌, arith, ne_eqb}
+use Rattle.buck_dp.proofs.Words.{Term, le_of_mul-le-mul_right, mul-le-mul, mul-le-mul_left, mul-le-mul_right, div-mul-le_self, All-map, All-contains, Contains-get_or, volume, SheetParts, IsSheet, Offer, Quote, Ask, quote_bid, quote_at, IsAsked}
+use Rattle.buck_dp.proofs.Words.{IsSmall, IsQuote, IsLed, IsLeading, IsNext, IsPruned, IsTerm, AreTerms, AreQuotes, cell_of, row_of, IsCell, IsRow, Menu, PriceList, IsMenu, Contains-push, Contains-push_cases, Contains-append_left}
+use Rattle.buck_dp.proofs.ListLemmas.{more_at, place_of}
+use Rattle.buck_dp.proofs.TopLemmas.{IsAtMost-refl, worth_at_most}
 
 -- there a millimetre of a log is more than the cubic centimetre that a whole volume may lack
 outbid : (d price l other k : ℕ) → 36 ≤ d → other * k + price < price * l → other * volume d k < price * volume d l
@@ -33,8 +36,8 @@ put_behind ask old list q real rest = record {
 }
 
 -- a list is pruned still with the quote of a term more
-pub pruned_on : {ask : Ask} {prices : List ℕ} {terms list new : List Quote} {n : ℕ} (d : Quote) → n < length terms
-    → IsNext ask (quote_at prices (get_or terms n d)) list new → IsPruned ask prices terms n list
+pub pruned_on : {ask : Ask} {prices : List ℕ} {terms : List Term} {list new : List Quote} {n : ℕ} (d : Term)
+    → n < length terms → IsNext ask (quote_at prices (get_or terms n d)) list new → IsPruned ask prices terms n list
     → IsPruned ask prices terms (n + 1) new
 pruned_on {ask} {prices} {terms} {new = new} {n} d lt next was = record {
   real = λ q has. elim (next.real q has) [
@@ -51,11 +54,11 @@ Contains-map f xs x has =
     (has.0, omega (arith, length-map xs f, has.1), get_or-map f xs has.0 x (f x) has.1 ∙ ap f has.2)
 
 -- a pruned list of all terms at their prices is a price list
-pub list_right : {s : SheetParts} {offers : List Offer} {ask : Ask} {n : ℕ} {terms list : List Quote} → IsSheet s
-    → AreTerms s.instruction offers ask (length offers) terms → IsPruned ask s.prices terms n list → length terms ≤ n
+pub list_right : {s : SheetParts} {offers : List Offer} {ask : Ask} {n : ℕ} {terms : List Term} {list : List Quote}
+    → IsSheet s → AreTerms s.instruction offers ask (length offers) terms → IsPruned ask s.prices terms n list → length terms ≤ n
     → AreQuotes s offers ask list
 list_right {s} {offers} {ask} {terms = terms} {list} valid are pruned all =
-    let right : (t : Quote) → Contains terms t → IsQuote s offers ask (quote_at s.prices t) =
+    let right : (t : Term) → Contains terms t → IsQuote s offers ask (quote_at s.prices t) =
     λ t has.
     (All-contains (λ t. IsTerm s.instruction offers ask t) terms t are.real has).quote s.version s.prices valid in
     record {
@@ -73,28 +76,28 @@ list_right {s} {offers} {ask} {terms = terms} {list} valid are pruned all =
           );
     }
 
-module _ (s : SheetParts) (m : Menu) (l : PriceList) (d : ℕ) (valid : IsSheet s) (menu : IsMenu s.instruction m)
-    (quotes : AreQuotes s m.offers.items l.ask l.quotes.items)
+module _ (s : SheetParts) (m : Menu) (l : PriceList Quote) (d : ℕ) (valid : IsSheet s) (menu : IsMenu s.instruction m)
+    (quotes : AreQuotes s m.offers.items l.ask l.list.items)
     (asked : IsAsked l.ask d) where
   -- no quote is for longer logs than the menu has
-  short_one : (q : Quote) → IsQuote s m.offers.items l.ask q → IsSmall q × (q.steps ≤ m.most_steps)
+  short_one : (q : Quote) → IsQuote s m.offers.items l.ask q → IsSmall q × (q.term.steps ≤ m.most_steps)
   short_one q is =
       let b = is.bids d asked in
-      let long : q.steps * s.instruction.«module» ≤ m.most_steps * s.instruction.«module» =
-      omega (arith, b.length, menu.long q.rank b.rank) in
+      let long : q.term.steps * s.instruction.«module» ≤ m.most_steps * s.instruction.«module» =
+      omega (arith, b.length, menu.long q.term.rank b.rank) in
       (is.small, le_of_mul-le-mul_right long (omega (arith, valid.valid.module_range)))
 
-  pub quote_short : All (λ q. IsSmall q × (q.steps ≤ m.most_steps)) l.quotes.items
+  pub quote_short : All (λ q. IsSmall q × (q.term.steps ≤ m.most_steps)) l.list.items
   quote_short = λ k q lt. short_one _ (quotes.real k q lt)
 
   -- the row that is made of a price list has what takers bid at a diameter of the band
-  pub row_right : IsRow s m.offers.items l.ask.takers d m.most_steps (row_of m.most_steps d l.quotes.items)
+  pub row_right : IsRow s m.offers.items l.ask.takers d m.most_steps (row_of m.most_steps d l.list.items)
   row_right = record {
-    real = All-map (λ c. IsCell s m.offers.items l.ask.takers d m.most_steps c) (cell_of m.most_steps d) l.quotes.items
+    real = All-map (λ c. IsCell s m.offers.items l.ask.takers d m.most_steps c) (cell_of m.most_steps d) l.list.items
         (λ k q lt.
         let is = quotes.real k q lt in
         record { bids = is.bids d asked; rise = is.rise; placed = (omega (arith, (short_one _ is).1), refl) });
     met = λ steps trim bid b.
         let o = quotes.met steps trim d bid asked b in
-        (cell_of m.most_steps d o.0, Contains-map (cell_of m.most_steps d) l.quotes.items o.0 o.1, o.2, o.3);
+        (cell_of m.most_steps d o.0, Contains-map (cell_of m.most_steps d) l.list.items o.0 o.1, o.2, o.3);
   }

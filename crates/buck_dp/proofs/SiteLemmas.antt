@@ -1,8 +1,11 @@
 -- Who takes the wood of a stem.
-pub use Rattle.buck_dp.proofs.Words.{slice_get, Some, IsPlaced, IsAssortment, ◌≡◌, ℕ, ◌+◌, ◌-◌, ◌*◌, ◌/◌, ◌<◌, ◌≤◌, ◌⊎◌, inl, inr, List, [], ◌∷◌, ◌++◌, zero, suc, get_or, Contains, length, refl, sym, subst, arith, mul-le-mul_left, mul-le-mul_right, add-mul, rules, div-mul-le_self, le-div, le_of_mul-le-mul_right, min, div-lt_iff_lt-mul, cases_lt, append_assoc, append-nil, IsStem, grade_at, HasGrade, stem_length, diameter_at, IsMask, grade_at_is, mask_allows, IsSheet, slice_index, GroundParts, points_of, ends_of, Takers, IsTaker, AreTakersOf, BidParts, none, HasTakers, HasNoneOf, IsRow, IsPartTo, AreParts, HaveParts, IsEven, IsSearch, AreOffered, IsCell, log_at, AllFit, bid_at, IsNearest, IsSite, Site, Part, Cell, ◌∙◌, MarketParts, Head, IsMarketOf, IsRowOf, take, drop, with_items_is, ap, get_or_past, ProfileParts, drop-cons, drop_all, add-one, HasRoom, Menu, common_steps}
+use Rattle.buck_dp.proofs.Words.{slice_get, Some, IsPlaced, IsAssortment, ◌≡◌, ℕ, ◌+◌, ◌-◌, ◌*◌, ◌/◌, ◌<◌, ◌≤◌, ◌⊎◌, inl, inr, List, [], ◌∷◌, ◌++◌, zero, suc, get_or, Contains, length, refl, sym, subst, arith, mul-le-mul_left}
+use Rattle.buck_dp.proofs.Words.{mul-le-mul_right, add-mul, rules, div-mul-le_self, le-div, le_of_mul-le-mul_right, min, div-lt_iff_lt-mul, cases_lt, append_assoc, append-nil, IsStem, grade_at, HasGrade, stem_length, diameter_at, IsMask}
+use Rattle.buck_dp.proofs.Words.{grade_at_is, mask_allows, IsSheet, slice_index, GroundParts, points_of, ends_of, Takers, IsTaker, AreTakersOf, BidParts, none, HasTakers, HasNoneOf, IsRow, IsPartTo, AreParts, HaveParts, IsEven, IsSearch}
+use Rattle.buck_dp.proofs.Words.{AreOffered, IsCell, log_at, AllFit, bid_at, IsNearest, IsSite, Site, Part, Cell, MarketParts, Head, IsMarketOf, IsRowOf, take, drop, IsLogAt}
+use Rattle.buck_dp.proofs.ListLemmas.{all_at}
+use Rattle.buck_dp.proofs.Logs.{point_within, row_part}
 use Rattle.buck_stem.specs.points.Profile as grid
-use Rattle.buck_dp.proofs.Logs.{all_at, point_within, row_part}
-use Rattle.buck_dp.proofs.OfferLemmas.{IsLogAt}
 
 module _ {p : GroundParts} {values : List BidParts} {choices : List ℕ} where
   -- a search is told by an equal top
@@ -136,7 +139,7 @@ module _ {p : GroundParts} {x : Site} (is_site : IsSite p x) where
           λ k c at. (cell k c at).placed,
         )
 
-  module _ {first past : ℕ} (even : IsEven x.profile.now first (past - 2)) where
+  module _ {first past : ℕ} (even : IsEven x.profile.now first (past - 1 - 1)) where
     -- the grade of a place in the steps of a run stands in each of them
     moved : (l y : ℕ) → first ≤ l → l + 1 < past → first * unit ≤ y → y < (past - 1) * unit
         → HasGrade p.stem.zones (l * unit) ((l + 1) * unit) (grade_at p.stem.zones y)

@@ -1,5 +1,6 @@
 -- The search goes on by a top.
-pub use Rattle.buck_dp.proofs.Words.{◌≡◌, ◌≢◌, ℕ, ◌+◌, ◌<◌, ◌≤◌, inl, inr, List, get_or, refl, ◌∙◌, arith, mul-le-mul_right, rules, cases_lt, cases_eq, GroundParts, BidParts, bid_of, none, IsGreater, plus, bid_at, IsSettled, IsMade, get_or-set_other, slice_set, length-set, get_or_read, IsSearch, IsAtMost, ◌-◌, ◌*◌, ◌⊎◌, length, worth_low, slice_get, Some, sym, cases_order, slice_get_within, ends_of, IsSheet, Cell, IsLogAt, IsNear, HasNoneOf, Reaches, CanOffer, IsOffered, AreOffered, IsStem, ◌++◌, get_or-append_right, get_or-append-add, get_or_append_left, length-append, same_Some, slice_get_read, slice_get-get_or, IsCovered, [], ◌∷◌, All, Contains, length-map, get_or-map, map, subst, ap, ne_eqb, le_of_mul-le-mul_right, mul-le-mul, mul-le-mul_left, div-mul-le_self, All-map, All-contains, Contains-get_or, volume, SheetParts, Offer, Quote, Ask, quote_bid, quote_at, IsAsked, IsSmall, IsQuote, IsLed, IsLeading, IsNext, IsPruned, IsTerm, AreTerms, AreQuotes, cell_of, row_of, IsCell, IsRow, Menu, PriceList, IsMenu, Contains-push, Contains-push_cases, Contains-append_left, IsListAt, Takers, MarketParts, IsMarket, AllAre, length-drop, drop_at, drop-append-le, take-append-le, take_all, Head, IsAt, HasQuotes, HasTerms}
+use Rattle.buck_dp.proofs.Words.{◌≡◌, ◌≢◌, ℕ, ◌+◌, ◌<◌, ◌≤◌, inl, inr, List, get_or, refl, ◌∙◌, arith, mul-le-mul_right, rules, cases_lt, cases_eq, GroundParts, BidParts, bid_of, none, IsGreater, plus, bid_at, IsSettled, IsMade}
+use Rattle.buck_dp.proofs.Words.{get_or-set_other, slice_set, length-set, get_or_read, IsSearch, IsAtMost}
 
 pub IsAtMost-refl : (a : BidParts) → IsAtMost a a
 IsAtMost-refl a = inr (refl, omega arith)

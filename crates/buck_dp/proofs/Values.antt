@@ -1,5 +1,9 @@
 -- Searched values bound what may be cut from each point on, and the choices lead to the first of the best.
-pub use Rattle.buck_dp.proofs.Logs.{end_within, ◌≡◌, ℕ, ◌+◌, ◌*◌, ◌/◌, ◌<◌, ◌≤◌, ◌⊎◌, inl, inr, List, [], ◌∷◌, ◌++◌, append-nil, get_or, sym, ◌∙◌, ap, arith, add-mul, le-div, mul-le-mul_right, rules, cases_lt, refl, get_or_past, sum_by-cons, zero-mul, Log, IsAllowed, cutting_worth, worth_of, end_of, AreOffers, IsFirstBest, IsAdmissible, IsLogBefore, IsBefore, GroundParts, points_of, ends_of, BidParts, bid_of, none, IsLogAt, bid_at, IsSearch, log_at, next_after, IsCutFrom, ◌-◌, length, append_assoc, get_or_default, log_there, ranks_before, start_is, whole_steps, after_first}
+use Rattle.buck_dp.proofs.Words.{whole_steps, ◌≡◌, ℕ, ◌+◌, ◌*◌, ◌/◌, ◌<◌, ◌≤◌, ◌⊎◌, inl, inr, List, [], ◌∷◌, ◌++◌, append-nil, get_or, sym, ◌∙◌, ap, arith, add-mul, le-div, mul-le-mul_right, rules, cases_lt, refl, get_or_past, sum_by-cons}
+use Rattle.buck_dp.proofs.Words.{zero-mul, Log, IsAllowed, cutting_worth, worth_of, end_of, AreOffers, IsFirstBest, IsAdmissible, IsLogBefore, IsBefore, GroundParts, points_of, ends_of, BidParts, bid_of, none, IsLogAt, bid_at, IsSearch}
+use Rattle.buck_dp.proofs.Words.{log_at, next_after, IsCutFrom}
+use Rattle.buck_dp.proofs.Lists.{end_within}
+use Rattle.buck_dp.proofs.Logs.{log_there, ranks_before, start_is, after_first}
 
 -- a list may be cut from a place on
 abbrev pub IsCut : GroundParts → ℕ → List Log → Type 0

@@ -6,7 +6,7 @@ ghost use Rattle.buck_dp.specs.inner.Market.{IsMarket, HasSame, IsRowOf, IsListA
 
 use crate::offering::{Cell, put_row};
 use crate::offers::Menu;
-use crate::pricing::{Ask, Quote, band_around, put_list, terms_of};
+use crate::pricing::{Ask, Quote, Term, band_around, put_list, terms_of};
 use crate::takers::{Group, Known, Takers, group_of};
 use buck_apt::Instruction;
 use buck_record::Memory;
@@ -40,11 +40,11 @@ pub struct Head {
     pub number: usize,
 }
 
-/// A price list of some takers in a band: their quotes under a sheet, or, without prices, their terms.
+/// A price list of some takers in a band: their quotes under a sheet, or their terms.
 #[derive(Drop)]
-pub struct PriceList {
+pub struct PriceList<T> {
     pub ask: Ask,
-    pub quotes: Vec<Quote>,
+    pub list: Vec<T>,
 }
 
 /// A sheet, what its instruction offers, and what was found of that so far: who takes which kinds of wood, how logs are
@@ -56,8 +56,8 @@ pub struct Market {
     sheet: Arc<Sheet>,
     menu: Menu,
     kinds: Vec<Known>,
-    terms: Vec<PriceList>,
-    quotes: Vec<PriceList>,
+    terms: Vec<PriceList<Term>>,
+    quotes: Vec<PriceList<Quote>>,
     cells: Vec<Cell>,
     heads: Vec<Head>,
     notes: Vec<usize>,
@@ -77,7 +77,7 @@ impl Model for Market {
 
 /// Where the list of some takers for a diameter stands among others.
 #[tactic(auto, using(std::proofs::lemmas::Option::get_or_from_slice_get))]
-fn find_list(lists: &[PriceList], takers: Takers, diameter: u32) -> Option<usize>
+fn find_list<T>(lists: &[PriceList<T>], takers: Takers, diameter: u32) -> Option<usize>
     ensures { IfSome result (IsListAt lists.now takers diameter) }
 {
     for place in 0..lists.len() {
@@ -181,9 +181,9 @@ impl Market {
         let instruction: &Instruction = self.sheet.instruction();
         let band = band_around(instruction, diameter);
         let ask = Ask { takers, band };
-        let quotes = terms_of(alloc, instruction, self.menu.offers.as_slice(), ask)?;
+        let list = terms_of(alloc, instruction, self.menu.offers.as_slice(), ask)?;
         let place = self.terms.len();
-        self.terms.push(PriceList { ask, quotes })?;
+        self.terms.push(PriceList { ask, list })?;
         Ok(place)
     }
 
@@ -199,10 +199,10 @@ impl Market {
         let at = self.terms_at(alloc, takers, diameter)?;
         let terms = &self.terms[at];
         let ask = terms.ask;
-        let mut quotes = Vec::with_capacity(alloc, terms.quotes.len())?;
-        put_list(&mut quotes, &self.sheet, terms.quotes.as_slice(), ask)?;
+        let mut list = Vec::with_capacity(alloc, terms.list.len())?;
+        put_list(&mut list, &self.sheet, terms.list.as_slice(), ask)?;
         let place = self.quotes.len();
-        self.quotes.push(PriceList { ask, quotes })?;
+        self.quotes.push(PriceList { ask, list })?;
         Ok(place)
     }
 
@@ -228,7 +228,7 @@ impl Market {
         }
         notes[slot] = self.heads.len();
         self.heads.reserve(1)?;
-        let quotes = self.quotes[at].quotes.as_slice();
+        let quotes = self.quotes[at].list.as_slice();
         let head = Head {
             takers: group.takers,
             diameter,

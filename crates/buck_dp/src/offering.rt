@@ -29,16 +29,16 @@ pub struct Cell {
 fn cell_at(quote: Quote, diameter: u32, far: usize) -> Cell
     requires small { IsSmall quote }
     requires diameter { diameter ≤ 1500 }
-    requires far { (quote.steps ≤ far) × (far ≤ 4294967295) }
+    requires far { (quote.term.steps ≤ far) × (far ≤ 4294967295) }
     ensures { result ≡ cell_of far diameter quote }
 {
     Cell {
         bid: quote.bid(diameter),
-        steps: quote.steps,
-        trim: quote.trim,
-        rise: quote.rise,
-        back: far - quote.steps as usize,
-        next: far + quote.rise as usize,
+        steps: quote.term.steps,
+        trim: quote.term.trim,
+        rise: quote.term.rise,
+        back: far - quote.term.steps as usize,
+        next: far + quote.term.rise as usize,
     }
 }
 
@@ -49,7 +49,7 @@ pub fn put_row(
     diameter: u32,
     far: usize,
 ) -> Result<(), AllocError>
-    requires list { All (λ q. IsSmall q × (q.steps ≤ far)) list.now }
+    requires list { All (λ q. IsSmall q × (q.term.steps ≤ far)) list.now }
     requires diameter { diameter ≤ 1500 }
     requires far { far ≤ 4294967295 }
     ensures put { OnOk result (cells.new.items ≡ cells.old.items ++ row_of far diameter list.now) }

@@ -1,6 +1,7 @@
 //! The search of a stem from the top end down, one top at a time, and for each the logs with it, part by part.
 ghost use Rattle.std.specs.Prelude.{◌≡◌, ℕ, ◌+◌, ◌*◌, ◌<◌, ◌≤◌, ◌-◌, IfOk, OnOk};
 ghost use Rattle.buck_stem.specs.Stem.{IsStem, stem_length};
+ghost use Rattle.buck_stem.specs.points.Profile.{IsMaskBetween};
 ghost use Rattle.buck_dp.specs.inner.Logs.{GroundParts, points_of};
 ghost use Rattle.buck_dp.specs.inner.Site.{IsSite, IsMarketOf, IsPlan, IsEven, HaveParts, IsNearest, IsPartTo};
 
@@ -49,44 +50,51 @@ pub fn fit_of(sheet: &Sheet, stem: &Stem) -> usize
     (stem.length().saturating_sub(MOST_TRIM) / sheet.instruction().module()) as usize
 }
 
-/// The starts before a point that have the grades of the last of them, and who takes their wood up to a top.
-fn run_before(site: Site<'_>, market: &mut Market, top: usize, stop: usize) -> Result<Part, Memory>
+/// The starts before a point that have the grades of the last of them, and who takes their wood up to a top. `grades`
+/// are those from the last of them up to the top.
+fn run_before(site: Site<'_>, market: &mut Market, stop: usize, grades: u8) -> Result<Part, Memory>
     ghost p: { GroundParts }
     requires site { IsSite p site }
-    requires order { (0 < stop) × (stop ≤ top) × (top < points_of p) }
+    requires order { (0 < stop) × (stop < points_of p) }
     requires market { IsMarketOf p market.old }
     ensures market { IsMarketOf p market.new }
-    ensures part { IfOk result (IsPartTo p top stop) }
+    ensures first { IfOk result (λ part. part.first < stop) }
+    ensures even { IfOk result (λ part. IsEven site.entry.profile.now part.first (stop - 1)) }
+    ensures part { IfOk result (λ part. (top : ℕ) → stop ≤ top → top < points_of p
+        → IsMaskBetween site.entry.profile.now (stop - 1) top grades
+        → IsPartTo p top stop part × IsMaskBetween site.entry.profile.now part.first top grades) }
 {
     let first = site.profile.run_start(stop - 1);
-    let grades = Grades::of(site.profile.grades(stop - 1, top));
-    let group = market.group(site.stem.species(), grades)?;
+    let group = market.group(site.stem.species(), Grades::of(grades))?;
     Ok(Part { first, group })
 }
 
 impl Search {
-    /// Finds the parts of the starts of logs with the tops behind point `first` and before `past`, which lie behind the
-    /// steps of one run: from the nearest part on. No log starts before the last part.
-    fn find_parts(&mut self, site: Site<'_>, first: usize, past: usize) -> Result<(), Memory>
+    /// Finds the parts of the starts of logs with the tops before `past` that lie behind the steps of one run: from the
+    /// nearest part on. No log starts before the last part. Tells the first step of the run.
+    fn find_parts(&mut self, site: Site<'_>, past: usize) -> Result<usize, Memory>
         ghost p: { GroundParts }
         requires plan { IsPlan p site self.old past }
-        requires run { first + 1 < past }
-        requires even { IsEven site.profile.now first (past - 2) }
+        requires past { 1 < past }
         ensures market { IsMarketOf p self.new.market }
-        ensures plan { OnOk result (IsPlan p site.entry self.new past) }
-        ensures parts { OnOk result (HaveParts p (first + 1) past self.new.parts.items) }
+        ensures first { IfOk result (λ first. first + 1 < past) }
+        ensures plan { IfOk result (λ _. IsPlan p site.entry self.new past) }
+        ensures parts { IfOk result (λ first. HaveParts p (first + 1) past self.new.parts.items) }
     {
         let top = past - 1;
-        let low = (first + 1).saturating_sub(self.market.menu().most_steps);
         let market = &mut self.market;
         let parts = &mut self.parts;
         parts.clear();
-        let mut part = run_before(site, market, top, first + 1)?;
+        let mut grades = site.profile.grades(top - 1, top);
+        let mut part = run_before(site, market, top, grades)?;
+        let first = part.first;
+        let low = (first + 1).saturating_sub(market.menu().most_steps);
         while part.first > low {
             if part.group.takers.is_empty() {
-                return Ok(());
+                return Ok(first);
             }
-            let next = run_before(site, market, top, part.first)?;
+            grades = site.profile.grades_from(part.first - 1, grades);
+            let next = run_before(site, market, part.first, grades)?;
             if next.group.takers == part.group.takers {
                 part.first = next.first;
             } else {
@@ -95,7 +103,7 @@ impl Search {
             }
         }
         parts.push(part)?;
-        Ok(())
+        Ok(first)
     }
 
     /// Settles the tops before `past` down to `last`, and offers their logs, which all start in the nearest part and
@@ -186,9 +194,8 @@ impl Search {
         ensures market { IsMarketOf p self.new.market }
         ensures run { IfOk result (λ last. IsPlan p site.entry self.new last × (0 < last) × (last < past)) }
     {
-        let first = site.profile.run_start(past - 2);
+        let first = self.find_parts(site, past)?;
         let last = first + 1;
-        self.find_parts(site, first, past)?;
         let number = self.parts.len();
         if number == 0 {
             self.settle_parts(alloc, site, past, last)?;

@@ -13,14 +13,13 @@ use buck_apt::{Assortment, Class, Instruction};
 use buck_value::{Sheet, bought_row, column_of, volume_of, worth_of_piece};
 use std::alloc::{AllocError, Global};
 
-/// What an assortment bids for its logs of one length at each diameter of a band: a price per cubic metre or per piece,
-/// by the kind. A term is one without a price: what it bids under each sheet of an instruction.
+/// What an assortment bids for its logs of one length at each diameter of a band, but for the price, which is that of
+/// the class in a sheet: per cubic metre or per piece, by the kind.
 #[derive(Clone, Copy, Debug, Default)]
-pub struct Quote {
+pub struct Term {
     pub kind: u8,
     /// The place of its price's class among all.
     pub class: u16,
-    pub price: u32,
     pub rank: u32,
     /// The length in mm and in steps of the module.
     pub length: u32,
@@ -28,6 +27,13 @@ pub struct Quote {
     /// The trim in mm, and how many points after the top the next log can start.
     pub trim: u32,
     pub rise: u32,
+}
+
+/// A term at a price.
+#[derive(Clone, Copy, Debug, Default)]
+pub struct Quote {
+    pub term: Term,
+    pub price: u32,
 }
 
 /// What a price list is asked for.
@@ -45,8 +51,11 @@ impl Quote {
         requires diameter { diameter ≤ 2000 }
         ensures { result ≡ quote_bid self diameter }
     {
-        let volume = volume_of(diameter, self.length);
-        Bid::of(worth_of_piece(self.kind, self.price, volume), self.rank)
+        let volume = volume_of(diameter, self.term.length);
+        Bid::of(
+            worth_of_piece(self.term.kind, self.price, volume),
+            self.term.rank,
+        )
     }
 }
 
@@ -93,7 +102,7 @@ pub fn terms_of(
     instruction: &Instruction,
     offers: &[Offer],
     ask: Ask,
-) -> Result<Vec<Quote>, AllocError>
+) -> Result<Vec<Term>, AllocError>
     requires offers { AreOffers instruction.now offers.now }
     requires band { IsBandOf instruction.now ask.band.thinnest ask.band.past }
     ensures { IfOk result (λ terms. AreTerms instruction.now offers.now ask (length offers.now) terms.items) }
@@ -107,10 +116,9 @@ pub fn terms_of(
             continue;
         };
         let trim = assortment.trim();
-        terms.push(Quote {
+        terms.push(Term {
             kind: assortment.price_kind(),
             class: class as u16,
-            price: 0,
             rank: HIGHEST_RANK - place as u32,
             length: offer.length,
             steps: offer.length / module,
@@ -124,17 +132,18 @@ pub fn terms_of(
 /// Whether a leader outbids a quote of its price kind, for logs that are no longer and have no more trim: per cubic
 /// metre from 36 mm on, where a millimetre of a log is more than the cubic centimetre that a whole volume may lack.
 #[inline(always)]
-fn is_led(leader: &Quote, quote: &Quote) -> bool
-    ensures { IsTrue result → IsLed leader.now quote.now }
+fn is_led(leader: Quote, quote: Quote) -> bool
+    ensures { IsTrue result → IsLed leader quote }
 {
-    let is_outbid = if leader.kind == 1 {
-        quote.kind == 1
-            && u64::from(quote.price) * u64::from(quote.length) + u64::from(leader.price)
-                < u64::from(leader.price) * u64::from(leader.length)
+    let (lead, term) = (leader.term, quote.term);
+    let is_outbid = if lead.kind == 1 {
+        term.kind == 1
+            && u64::from(quote.price) * u64::from(term.length) + u64::from(leader.price)
+                < u64::from(leader.price) * u64::from(lead.length)
     } else {
-        quote.kind != 1 && quote.price < leader.price
+        term.kind != 1 && quote.price < leader.price
     };
-    is_outbid && leader.trim <= quote.trim && leader.steps <= quote.steps
+    is_outbid && lead.trim <= term.trim && lead.steps <= term.steps
 }
 
 /// Drops the last of a list where a quote outbids it.
@@ -144,7 +153,7 @@ fn drop_led(list: &mut Vec<Quote>, quote: &Quote)
     ensures rest { (x : Quote) → Contains list.old.items x → Contains list.new.items x ⊎ IsLed quote.now x }
 {
     if let Some(last) = list.last() {
-        if is_led(quote, last) {
+        if is_led(*quote, *last) {
             list.pop();
         }
     }
@@ -163,10 +172,10 @@ fn put_quote(
     ensures next { OnOk result (IsNext ask quote list.old.items list.new.items) }
     ensures leads { OnOk result (IsLeader ask list.new.items leader.new) }
 {
-    if is_led(leader, &quote) {
+    if is_led(*leader, quote) {
         return Ok(());
     }
-    if quote.trim <= leader.trim && (quote.kind != 1 || ask.band.thinnest >= 36) {
+    if quote.term.trim <= leader.term.trim && (quote.term.kind != 1 || ask.band.thinnest >= 36) {
         *leader = quote;
         drop_led(list, &quote);
     }
@@ -180,7 +189,7 @@ fn put_quote(
 pub fn put_list(
     quotes: &mut Vec<Quote>,
     sheet: &Sheet,
-    terms: &[Quote],
+    terms: &[Term],
     ask: Ask,
 ) -> Result<(), AllocError>
     requires valid { IsSheet sheet.now }
@@ -189,18 +198,17 @@ pub fn put_list(
         → AreQuotes sheet.now offers ask quotes.new.items) }
 {
     quotes.clear();
-    let mut piece = Quote {
-        trim: u32::MAX,
-        ..Quote::default()
-    };
-    let mut cubic = Quote { kind: 1, ..piece };
+    let mut piece = Quote::default();
+    piece.term.trim = u32::MAX;
+    let mut cubic = piece;
+    cubic.term.kind = 1;
     let prices = sheet.prices();
     for term in terms {
         let quote = Quote {
+            term: *term,
             price: prices[term.class as usize],
-            ..*term
         };
-        if quote.kind == 1 {
+        if term.kind == 1 {
             put_quote(quotes, &mut cubic, quote, ask)?;
         } else {
             put_quote(quotes, &mut piece, quote, ask)?;

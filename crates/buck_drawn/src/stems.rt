@@ -1,12 +1,12 @@
 //! Stems from the side, with the logs that were cut of them.
-ghost use Rattle.std.specs.Prelude.{◌≡◌, ◌<◌, ◌≤◌, ◌^◌, length};
+ghost use Rattle.std.specs.Prelude.{◌<◌, ◌≤◌, ◌^◌, length};
 ghost use Rattle.buck_stem.specs.Stem.{stem_length};
 ghost use Rattle.buck_figures.specs.Shown.{IsShown};
 
 use buck_apt::Instruction;
 use buck_book::{Entry, Posting};
 use buck_dp::Planner;
-use buck_figures::{Cut, Figures, Piece, cut_at};
+use buck_figures::{Cut, Figures, Piece, Place, cut_at, place_of, posting_at};
 use buck_record::Memory;
 use buck_stem::Stem;
 use buck_value::Log;
@@ -33,7 +33,7 @@ enum Reason {
 /// A stem that is drawn, and all reasons why.
 #[derive(Drop)]
 struct Pick<'a> {
-    position: usize,
+    place: Place,
     entry: &'a Entry,
     first: bool,
     longest: bool,
@@ -78,34 +78,34 @@ impl fmt::Display for Pick<'_> {
     }
 }
 
-/// The cut at a place among the postings, if there is one.
-fn entry_at<'a>(figures: &Figures<'a>, position: Option<usize>) -> Option<(usize, &'a Entry)> {
-    let position = position?;
-    match figures.postings.get(position) {
-        Some(Posting::Cut(entry)) => Some((position, entry)),
+/// The cut at a position through all journals, if there is one, and its place.
+fn entry_at<'a>(figures: &Figures<'a>, position: Option<usize>) -> Option<(Place, &'a Entry)> {
+    let place = place_of(figures, position?)?;
+    match posting_at(figures, place) {
+        Some(Posting::Cut(entry)) => Some((place, entry)),
         _ => None,
     }
 }
 
-/// Picks the cut at a place, if there is one: once, with each reason.
+/// Picks the cut at a position through all journals, if there is one: once, with each reason.
 fn add_pick<'a>(
     picks: &mut Vec<Pick<'a>>,
     figures: &Figures<'a>,
     position: Option<usize>,
     reason: Reason,
 ) -> Result<(), Memory> {
-    let Some((position, entry)) = entry_at(figures, position) else {
+    let Some((place, entry)) = entry_at(figures, position) else {
         return Ok(());
     };
     for other in picks.as_mut_slice() {
-        if other.position == position {
+        if other.place == place {
             other.note(reason);
             return Ok(());
         }
     }
     if picks.len() < MOST_STEMS {
         let mut new = Pick {
-            position,
+            place,
             entry,
             first: false,
             longest: false,
@@ -118,19 +118,22 @@ fn add_pick<'a>(
     Ok(())
 }
 
-/// Whether a posting is a cut.
-fn is_cut(posting: &Posting) -> bool {
-    match posting {
-        Posting::Cut(_) => true,
-        Posting::Demand(_) => false,
+/// The position of the first cut through all journals: the least of the harvesters' first.
+fn first_cut(figures: &Figures<'_>) -> Option<usize> {
+    let mut first: Option<usize> = None;
+    for own in figures.harvesters.values() {
+        first = match (first, own.first) {
+            (Some(one), Some(other)) => Some(one.min(other)),
+            (one, other) => one.or(other),
+        };
     }
+    first
 }
 
 /// Which stems are drawn: the first, the longest, the one where steering cost most, then each harvester's first.
 fn picked<'a>(alloc: Global, figures: &Figures<'a>) -> Result<Vec<Pick<'a>>, Memory> {
     let mut picks = Vec::new(alloc);
-    let first = figures.postings.iter().position(is_cut);
-    add_pick(&mut picks, figures, first, Reason::First)?;
+    add_pick(&mut picks, figures, first_cut(figures), Reason::First)?;
     add_pick(&mut picks, figures, figures.longest, Reason::Longest)?;
     add_pick(&mut picks, figures, figures.dearest, Reason::Dearest)?;
     for own in figures.harvesters.values() {
@@ -394,36 +397,6 @@ fn write_grades(out: &mut String, stem: &Stem, scale: &Scale) -> Result<(), Memo
     write_grade(out, grade, from, whole, scale)
 }
 
-/// Writes why a stem is drawn, and what there is to say of it.
-fn write_caption(out: &mut String, pick: &Pick<'_>, cut: &Cut<'_>) -> Result<(), Memory> {
-    let entry = cut.entry;
-    let stem = &entry.stem;
-    let logs = Several::of(cut.pieces.len() as u128, "log");
-    write!(
-        out,
-        "<figcaption><b>{pick}</b> <small>stem&nbsp;{}{DOT}{}&nbsp;m{DOT}harvester&nbsp;{}{DOT}posting&nbsp;{}{DOT}{logs}{DOT}",
-        stem.number(),
-        Metres(u128::from(stem.length())),
-        entry.harvester,
-        Grouped(cut.position as u128)
-    )?;
-    let cost = cut.best - cut.at_base;
-    let worth = Millionths(u128::from(cut.at_base));
-    if cost == 0 {
-        write!(
-            out,
-            "worth {worth} at base prices, as much as unsteered</small></figcaption>"
-        )?;
-    } else {
-        write!(
-            out,
-            "worth {worth} at base prices, {} less than unsteered</small></figcaption>",
-            Millionths(u128::from(cost))
-        )?;
-    }
-    Ok(())
-}
-
 /// Writes a stem from the side: all of it in grey, and its logs above that.
 fn write_drawing(
     alloc: Global,
@@ -479,9 +452,52 @@ fn write_metres(out: &mut String, scale: &Scale) -> Result<(), Memory> {
 #[derive(Drop)]
 struct Drawing<'a> {
     instruction: &'a Instruction,
+    /// How many journals are shown together.
+    journals: usize,
     pick: &'a Pick<'a>,
     cut: &'a Cut<'a>,
     scale: Scale,
+}
+
+/// Writes why a stem is drawn, and what there is to say of it; of several journals, in which it stands.
+fn write_caption(out: &mut String, drawing: &Drawing<'_>) -> Result<(), Memory> {
+    let Drawing {
+        pick,
+        cut,
+        journals,
+        ..
+    } = drawing;
+    let entry = cut.entry;
+    let stem = &entry.stem;
+    write!(
+        out,
+        "<figcaption><b>{pick}</b> <small>stem&nbsp;{}{DOT}{}&nbsp;m{DOT}harvester&nbsp;{}{DOT}posting&nbsp;{}",
+        stem.number(),
+        Metres(u128::from(stem.length())),
+        entry.harvester,
+        Grouped(cut.place.at as u128)
+    )?;
+    if *journals > 1 {
+        let number = (cut.place.journal as u64).saturating_add(1);
+        write!(out, " of journal&nbsp;{number}")?;
+    }
+    let logs = Several::of(cut.pieces.len() as u128, "log");
+    write!(out, "{DOT}{logs}{DOT}")?;
+    let cost = cut.best - cut.at_base;
+    let worth = Millionths(u128::from(cut.at_base));
+    if cost == 0 {
+        write!(
+            out,
+            "worth {worth} at base prices, as much as unsteered</small></figcaption>"
+        )?;
+    } else {
+        write!(
+            out,
+            "worth {worth} at base prices, {} less than unsteered</small></figcaption>",
+            Millionths(u128::from(cost))
+        )?;
+    }
+    Ok(())
 }
 
 /// Writes what stands beside a stem: labels under its logs, and the cutting unsteered, where that is another one.
@@ -520,7 +536,7 @@ fn write_stem(alloc: Global, out: &mut String, drawing: &Drawing<'_>) -> Result<
     let cut = drawing.cut;
     let entry = cut.entry;
     write!(out, "<figure class=\"stem\">")?;
-    write_caption(out, drawing.pick, cut)?;
+    write_caption(out, drawing)?;
     write!(
         out,
         "<div class=\"rows\"><div class=\"rowname\">as cut<br><small>m, top&nbsp;mm</small></div><div>"
@@ -568,9 +584,10 @@ pub fn write_stems(
     write_lead(out, figures, picks.len())?;
     let scale = scale_of(picks.as_slice());
     for pick in picks.as_slice() {
-        if let Some(cut) = cut_at(alloc, figures, planner, pick.position)? {
+        if let Some(cut) = cut_at(alloc, figures, planner, pick.place)? {
             let drawing = Drawing {
                 instruction: figures.instruction,
+                journals: figures.journals.len(),
                 pick,
                 cut: &cut,
                 scale,

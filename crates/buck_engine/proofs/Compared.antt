@@ -12,8 +12,7 @@ use Rattle.buck_book.specs.declared.posting.Posting.{Posting}
 use Rattle.buck_book.specs.declared.posting.Posting.TheVariants.{Cut, Demand}
 use Rattle.buck_book.specs.Posting.{harvester_of}
 use Rattle.buck_book.specs.History.{HistoryParts}
-use Rattle.buck_fleet.specs.Run.{stem_cut}
-use Rattle.buck_fleet.specs.Closed.{replies_from}
+use Rattle.buck_book.specs.Replies.{stem_cut, replies_from}
 use Rattle.buck_engine.specs.declared.tie.fault.CheckFault.TheVariants.{Other}
 use Rattle.buck_engine.specs.tie.Ties.{AreAlikeBefore, DifferBy, stems_by}
 use Rattle.buck_engine.specs.inner.Tie.{stem_of_own, stems_cut_in}

@@ -12,12 +12,13 @@ use Rattle.buck_stem.specs.Stem.{StemParts}
 use Rattle.buck_stem.specs.declared.stem.Stem.{Stem}
 use Rattle.buck_book.specs.declared.posting.Posting.{Posting}
 use Rattle.buck_board.specs.declared.board.Board.{Board}
-use Rattle.buck_fleet.specs.declared.seat.Kept.{Kept}
+use Rattle.buck_book.specs.declared.posting.Kept.{Kept}
 use Rattle.buck_fleet.specs.Seat.{SeatParts}
 use Rattle.buck_fleet.specs.Fleet.{FleetParts}
 use Rattle.buck_fleet.specs.Crew.{AreOpened}
-use Rattle.buck_fleet.specs.Run.{stem_cut, stems_at, HaveRun, HasRun}
-use Rattle.buck_fleet.specs.Closed.{ClosedParts, kept_by, replies_from, replies_of, IsOneHistory}
+use Rattle.buck_fleet.specs.Run.{HaveRun, HasRun}
+use Rattle.buck_book.specs.Replies.{stem_cut, stems_at, replies_from, replies_of}
+use Rattle.buck_fleet.specs.Closed.{ClosedParts, kept_by, IsOneHistory}
 use Rattle.buck_engine.specs.inner.Fleet.{HasCutLists}
 use Rattle.buck_engine.proofs.Owned.{owned, all_of_them}
 

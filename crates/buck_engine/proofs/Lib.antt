@@ -16,8 +16,8 @@ pub mod Parts
 pub mod Served
 pub mod LastSheet
 pub mod Pages
+pub mod Several
 pub mod Compared
-pub mod HeldLemmas
 pub mod PriceLemmas
 pub mod TieAnswers
 pub mod Statuses

@@ -13,7 +13,7 @@ use Rattle.buck_apt.specs.Apt.{apt_of}
 use Rattle.buck_stem.specs.Stem.{StemParts}
 use Rattle.buck_stem.specs.declared.stem.Stem.{Stem}
 use Rattle.buck_stem.specs.file.Stm.{stm_of}
-use Rattle.buck_fleet.specs.Run.{stems_of, stems_at}
+use Rattle.buck_book.specs.Replies.{stems_of, stems_at}
 use Rattle.buck_engine.specs.declared.fault.EngineFault.{EngineFault}
 use Rattle.buck_turn.specs.Turn.{stems_in_all}
 use Rattle.buck_engine.specs.declared.fault.EngineFault.TheVariants.{Full, Memory}

@@ -1,5 +1,5 @@
 -- Files that are opened one after the other.
-use Rattle.std.proofs.Common.{◌≡◌, ℕ, ◌+◌, ◌<◌, List, [], ◌∷◌, ◌++◌, length, take, get_or, Option, Some, map, arith, ap, ◌∙◌, refl, sym, subst}
+use Rattle.std.proofs.Common.{◌≡◌, ℕ, suc, ◌+◌, ◌<◌, List, [], ◌∷◌, ◌++◌, length, take, get_or, Option, Some, map, arith, ap, ◌∙◌, refl, sym, subst}
 use Rattle.std.proofs.lemmas.List.{get_or-map, length-map, take_more}
 use Rattle.buck_engine.specs.run.Opening.{OpensEach}
 
@@ -29,3 +29,13 @@ opens_next opens text old mid new xs d k files after file lt is one more =
     subst (λ (ns : List (List ℕ)). OpensEach opens old new ns after) (sym next)
     (subst (OpensEach opens old new (take k names ++ text (get_or xs k d) ∷ [])) (sym more)
     (opens_more opens old mid new (take k names) (text (get_or xs k d)) files file is one))
+
+-- there are as many files as names
+pub as_many : {O F : Type 0} (opens : O → List ℕ → Option F → O → Type 0) (old new : O) (names : List (List ℕ))
+    (files : List F)
+    → OpensEach opens old new names files → length files ≡ length names
+as_many opens old new [] [] each = refl
+as_many opens old new [] (f ∷ files) each = absurd each
+as_many opens old new (n ∷ names) [] each = absurd each
+as_many opens old new (n ∷ names) (f ∷ files) (between, first, rest) =
+    ap suc (as_many opens between new names files rest)

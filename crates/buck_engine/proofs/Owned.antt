@@ -4,7 +4,7 @@ use Rattle.std.proofs.lemmas.Bool.Decides.{nat_tests}
 use Rattle.std.specs.Prelude.{All}
 use Rattle.buck_book.specs.declared.posting.Posting.{Posting}
 use Rattle.buck_book.specs.Posting.{harvester_of}
-use Rattle.buck_fleet.specs.Closed.{replies_from}
+use Rattle.buck_book.specs.Replies.{replies_from}
 
 -- how many postings the harvesters 1 to n have
 abbrev pub owned : ℕ → ℕ → List Posting → ℕ

@@ -11,10 +11,7 @@ use Rattle.buck_journal.specs.judging.Replay.{history_of, IsFirstFault}
 use Rattle.buck_journal.specs.declared.judging.fault.ReplayFault.{ReplayFault}
 use Rattle.buck_engine.specs.declared.fault.EngineFault.{EngineFault}
 use Rattle.buck_engine.specs.declared.fault.EngineFault.TheVariants.{Memory}
-use Rattle.buck_engine.specs.declared.run.showing.Shown.{Shown}
-use Rattle.buck_engine.specs.declared.run.showing.Shown.TheVariants.{Page, Table}
 use Rattle.buck_engine.specs.run.Reading.{ReadsApt, Says}
-use Rattle.buck_engine.specs.run.Showing.{Shows}
 use Rattle.buck_engine.specs.run.Checking.{IsUnlawful}
 use Rattle.buck_engine.specs.run.Viewing.{AppendsPage, AppendsTable, HasPage, IsReadFault, ShowsAs}
 use Rattle.buck_engine.specs.text.Written.{IsWritten}
@@ -91,15 +88,6 @@ nothing_shown reads HasText Shown Left apt journal old fault (Ok u) h a = absurd
 nothing_shown reads HasText Shown Left apt journal old fault (Err x) h a =
     subst (λ (f : EngineFault). ShowsAs reads HasText Shown Left apt journal old old (Err f)) (sym h)
     (kept reads HasText Shown Left apt journal old fault a)
-
--- nor by a task, whatever it shows
-pub nothing_of_task : (reads : ReadsApt) (shown : Shown) (apt journal old : Option (List ℕ)) (fault : EngineFault)
-    (r : Result (Unit {0}) EngineFault)
-    → IsErrAnd r (λ x. x ≡ fault) → IsReadFault apt journal fault → Shows reads shown apt journal old old r
-nothing_of_task reads Page apt journal old fault r h a =
-    nothing_shown reads HasPage (AppendsPage old old) (AppendsPage old old) apt journal old fault r h a
-nothing_of_task reads (Table table) apt journal old fault r h a =
-    nothing_shown reads IsLawful (AppendsTable old old) (Keeps old old) apt journal old fault r h a
 
 -- what is shown of the history that the files have
 pub history_shown : (reads : ReadsApt) (HasText : HistoryParts → Type 0) (Shown Left : Type 0)

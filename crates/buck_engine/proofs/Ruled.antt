@@ -13,7 +13,7 @@ use Rattle.buck_book.specs.History.{HistoryParts, IsLawful, IsEnd, standing_of}
 use Rattle.buck_book.specs.Pricing.{Calls, AreAnswers}
 use Rattle.buck_book.proofs.Ends.{take_one_more, ends_with_end, cuts_without, true_false}
 use Rattle.buck_journal.specs.judging.Replay.{version_at}
-use Rattle.buck_turn.specs.Turn.{AreSheetsBy}
+use Rattle.buck_book.specs.Pricing.{AreSheetsBy}
 use Rattle.buck_rule.specs.declared.named.NamedRule.{NamedRule}
 use Rattle.buck_rule.specs.declared.named.NamedRule.TheVariants.{Steady, Linear, Step, Root}
 use Rattle.buck_rule.specs.Named.{price_by}
@@ -43,7 +43,7 @@ nothing_cut Step s none no_log = even (cut_share s) (wanted_share s) _ _ s.base 
 nothing_cut Root s none no_log = even (cut_share s) (wanted_share s) _ _ s.base (no_shares s none no_log)
 
 -- answers of such a closure
-by_rule : {F : Type 0} (g : Calls F) (f : F) (rule : NamedRule) (i : InstructionParts) (ps : List Posting)
+pub by_rule : {F : Type 0} (g : Calls F) (f : F) (rule : NamedRule) (i : InstructionParts) (ps : List Posting)
     (prices : List ℕ)
     → GivesBy g f rule → AreAnswers g f i ps prices → (c : Class) (k : IsClass i c) → IsByRule rule i ps prices c k
 by_rule g f rule i ps prices gives answers = λ c k.

@@ -5,7 +5,7 @@ use Rattle.std.specs.Io.KnownBytes.{Keeps}
 use Rattle.std.proofs.KnownBytes.{Keeps-refl}
 use Rattle.buck_book.specs.History.{HistoryParts}
 use Rattle.buck_engine.specs.declared.fault.EngineFault.{EngineFault}
-use Rattle.buck_engine.specs.declared.fault.EngineFault.TheVariants.{Read, Write, Apt, Stm, Journal, Replay, Check, Seats, Full, Memory, Close}
+use Rattle.buck_engine.specs.declared.fault.EngineFault.TheVariants.{Read, Write, Apt, Stm, Journal, JournalOf, Replay, ReplayOf, Check, Seats, Full, Memory, Close}
 use Rattle.buck_engine.specs.declared.fleet.serving.Order.{Order}
 use Rattle.buck_engine.specs.declared.fleet.serving.Order.TheVariants.{AtOnce, InTurn}
 use Rattle.buck_engine.specs.run.Reading.{IsFileFault, ReadsApt}
@@ -30,17 +30,8 @@ file_fault number named reading file fault none (inr (inr (why, is, e))) = subst
 pub no_answer : {T : Type 0} (Answers : Result T EngineFault → Type 0) (Whole Part : T → Type 0) (Nothing : Type 0)
     (fault : EngineFault)
     → IsNoWrite fault → Answers (Err fault) → Nothing → IsRun Answers Whole Part Nothing (Err fault)
-no_answer Answers Whole Part Nothing (Read file) other a kept = (a, kept)
 no_answer Answers Whole Part Nothing Write other a kept = absurd other
-no_answer Answers Whole Part Nothing (Apt why) other a kept = (a, kept)
-no_answer Answers Whole Part Nothing (Stm file why) other a kept = (a, kept)
-no_answer Answers Whole Part Nothing (Journal why) other a kept = (a, kept)
-no_answer Answers Whole Part Nothing (Replay why) other a kept = (a, kept)
-no_answer Answers Whole Part Nothing (Check why) other a kept = (a, kept)
-no_answer Answers Whole Part Nothing Seats other a kept = (a, kept)
-no_answer Answers Whole Part Nothing Full other a kept = (a, kept)
-no_answer Answers Whole Part Nothing Memory other a kept = (a, kept)
-no_answer Answers Whole Part Nothing (Close why) other a kept = (a, kept)
+no_answer Answers Whole Part Nothing fault other a kept = (a, kept)
 
 -- the same of a fleet
 pub fleet_fault : (apt : Option (List ℕ)) (stms : List (Option (List ℕ))) (fault : EngineFault)
@@ -88,15 +79,7 @@ of_history reads order ByRule apt stms OfJournal old new h (Err Memory) seats is
       run =
           ((inr (inl (inr (inl refl))), memory_not_full order stms), kept);
     }
-of_history reads order ByRule apt stms OfJournal old new h (Err (Read file)) seats is turns never = absurd never
-of_history reads order ByRule apt stms OfJournal old new h (Err (Apt why)) seats is turns never = absurd never
-of_history reads order ByRule apt stms OfJournal old new h (Err (Stm file why)) seats is turns never = absurd never
-of_history reads order ByRule apt stms OfJournal old new h (Err (Journal why)) seats is turns never = absurd never
-of_history reads order ByRule apt stms OfJournal old new h (Err (Replay why)) seats is turns never = absurd never
-of_history reads order ByRule apt stms OfJournal old new h (Err (Check why)) seats is turns never = absurd never
-of_history reads order ByRule apt stms OfJournal old new h (Err Seats) seats is turns never = absurd never
-of_history reads order ByRule apt stms OfJournal old new h (Err Full) seats is turns never = absurd never
-of_history reads order ByRule apt stms OfJournal old new h (Err (Close why)) seats is turns never = absurd never
+of_history reads order ByRule apt stms OfJournal old new h (Err fault) seats is turns never = absurd never
 
 -- the same, where they are those of the same history by another name
 pub texts_written : (reads : ReadsApt) (order : Order) (ByRule : HistoryParts → Type 0) (apt : Option (List ℕ))

@@ -1,78 +1,66 @@
 -- A fleet whose files were opened.
 use Rattle.std.proofs.Common.{◌≡◌, ℕ, List, Option, Some, None, Result, Ok, length, map, subst}
 use Rattle.std.proofs.lemmas.List.{length-map}
-use Rattle.std.specs.Result.{IsErrAnd}
+use Rattle.std.specs.Option.{option_map}
+use Rattle.std.specs.Io.KnownBytes.{Keeps}
 use Rattle.std.proofs.KnownBytes.{Keeps-refl}
 use Rattle.buck_book.specs.History.{HistoryParts}
 use Rattle.buck_engine.specs.declared.fault.EngineFault.{EngineFault}
-use Rattle.buck_engine.specs.declared.fault.EngineFault.TheVariants.{Seats}
-use Rattle.buck_engine.specs.fleet.Running.{AreNoSeats, IsFleetFault, IsFullInOrder, IsHarvest, IsInOrder}
+use Rattle.buck_engine.specs.declared.fleet.serving.FleetTask.{FleetTask}
 use Rattle.buck_engine.specs.declared.fleet.serving.Order.{Order}
-use Rattle.buck_engine.specs.fleet.Lent.{no_writer, of_writer}
-use Rattle.buck_engine.specs.fleet.Serving.{RunsInputs}
-use Rattle.buck_engine.specs.run.Reading.{ReadsApt}
-use Rattle.buck_engine.specs.inner.Served.{MakesJournal, WritesMade}
-use Rattle.buck_engine.proofs.Runs.{no_texts, texts_written}
+use Rattle.buck_engine.specs.fleet.Lent.{OfWriter, no_writer, of_made, of_writer}
+use Rattle.buck_engine.specs.fleet.Running.{AreNoSeats, IsFleetRun}
+use Rattle.buck_engine.specs.fleet.Serving.{RunsFleet, RunsInputs}
+use Rattle.buck_engine.specs.run.Opening.{AnswersInputs, MakesJournal}
+use Rattle.buck_engine.specs.run.Reading.{ReadsApt, apt_with}
+use Rattle.buck_engine.specs.tie.Ties.{FollowsRule}
 
 -- as many seats as files
 pub of_files : {F : Type 0} (held : F → Option (List ℕ)) (files : List F) → AreNoSeats (length (map held files))
     → AreNoSeats (length files)
 of_files held files none = subst AreNoSeats (length-map files held) none
 
--- there is no history
-pub not_harvested : {O F M : Type 0} (makes : O → List ℕ → Option M → O → Type 0) (held : F → Option (List ℕ))
-    (contents : M → Option (List ℕ))
-    (start end : O) (reads : ReadsApt) (order : Order) (ByRule : HistoryParts → Type 0) (journal : Option (List ℕ))
-    (files : F × List F) (made : Option M) (old : Option (List ℕ)) (fault : EngineFault)
-    (r : Result (Unit {0}) EngineFault)
-    → MakesJournal makes start end journal (Ok made) → (AreNoSeats (length files.1) → fault ≡ Seats)
-    → IsErrAnd r (λ x. x ≡ fault)
-    → IsFleetFault (held files.0) (map held files.1) fault → IsFullInOrder order (map held files.1) fault
-    → RunsInputs makes held contents start end reads order ByRule journal (Ok files) old old r
-not_harvested makes held contents start end reads order ByRule None files None old fault r m seats h a full =
-    (m, no_texts reads order ByRule _ _ no_writer old fault r (λ none. seats (of_files held files.1 none)) h a full tt)
-not_harvested makes held contents start end reads order ByRule None files (Some made) old fault r m seats h a full =
-    absurd m
-not_harvested makes held contents start end reads order ByRule (Some name) files None old fault r m seats h a full =
-    absurd m
-not_harvested makes held contents start end reads order ByRule (Some name) files (Some made)
-    old fault r m seats h a full = (
-      Some made,
-      m,
-      (
-        made,
-        no_texts reads order ByRule _ _ (of_writer (contents made) (contents made)) old fault r
-            (λ none. seats (of_files held files.1 none)) h a full (Keeps-refl (contents made)),
-      ),
-    )
+-- nothing was written into the file that was made
+pub nothing_made : {M : Type 0} (contents : M → Option (List ℕ)) (made : Option M) (P : OfWriter → Type 0)
+    → ((o : OfWriter) → o Keeps → P o) → of_made contents made P
+nothing_made contents None P so = so no_writer tt
+nothing_made contents (Some made) P so = (made, so (of_writer (contents made) (contents made)) (Keeps-refl _))
 
--- the texts of the history were written
-pub harvest_written : {O F M : Type 0} (makes : O → List ℕ → Option M → O → Type 0) (held : F → Option (List ℕ))
-    (contents : M → Option (List ℕ))
-    (start end : O) (reads : ReadsApt) (order : Order) (ByRule : HistoryParts → Type 0) (journal : Option (List ℕ))
-    (files : F × List F) (made : Option M) (old new : Option (List ℕ)) (h shown : HistoryParts)
-    (r : Result (Unit {0}) EngineFault)
-    → MakesJournal makes start end journal (Ok made) → (AreNoSeats (length files.1) → ⊥)
-    → IsHarvest reads (held files.0) (map held files.1) h → IsInOrder order ByRule h → shown ≡ h
-    → WritesMade contents shown made old new r
+pub made_so : {M : Type 0} (contents : M → Option (List ℕ)) (made : Option M) (P Q : OfWriter → Type 0)
+    → ((o : OfWriter) → P o → Q o) → of_made contents made P → of_made contents made Q
+made_so contents None P Q so p = so no_writer p
+made_so contents (Some made) P Q so (left, p) = (left, so (of_writer (contents made) (contents left)) p)
+
+-- the journal goes into the file that was made for it
+inputs_run : {O F M : Type 0} (makes : O → List ℕ → Option M → O → Type 0) (held : F → Option (List ℕ))
+    (contents : M → Option (List ℕ)) (start end : O) (reads : ReadsApt) (order : Order)
+    (ByRule : HistoryParts → Type 0) (journal : Option (List ℕ)) (files : F × List F) (made : Option M)
+    (old new : Option (List ℕ)) (r : Result (Unit {0}) EngineFault)
+    → MakesJournal makes start end journal (Ok made)
+    → of_made contents made (λ o. IsFleetRun reads order ByRule (held files.0) (map held files.1) o old new r)
     → RunsInputs makes held contents start end reads order ByRule journal (Ok files) old new r
-harvest_written makes held contents start end reads order ByRule None files None old new h shown r m seats is turns same
-    w = (
-      m,
-      texts_written reads order ByRule _ _ no_writer old new h shown r (λ none. seats (of_files held files.1 none))
-          is turns same w,
-    )
-harvest_written makes held contents start end reads order ByRule None files (Some made)
-    old new h shown r m seats is turns same w = absurd m
-harvest_written makes held contents start end reads order ByRule (Some name)
-    files None old new h shown r m seats is turns same w = absurd m
-harvest_written makes held contents start end reads order ByRule (Some name) files (Some made)
-    old new h shown r m seats is turns same (left, w) = (
-      Some made,
-      m,
-      (
-        left,
-        texts_written reads order ByRule _ _ (of_writer (contents made) (contents left)) old new h shown r
-            (λ none. seats (of_files held files.1 none)) is turns same w,
-      ),
-    )
+inputs_run makes held contents start end reads order ByRule None files None old new r m run = (m, run)
+inputs_run makes held contents start end reads order ByRule None files (Some made) old new r m run = absurd m
+inputs_run makes held contents start end reads order ByRule (Some name) files None old new r m run = absurd m
+inputs_run makes held contents start end reads order ByRule (Some name) files (Some made) old new r m run =
+    (Some made, m, run)
+
+-- the fleet of a task ran over the files that were opened
+pub fleet_ran : {O F M : Type 0} (opens : O → List ℕ → Option F → O → Type 0)
+    (makes : O → List ℕ → Option M → O → Type 0) (held : F → Option (List ℕ)) (contents : M → Option (List ℕ))
+    (start between end : O) (task : FleetTask) (apt : F) (files stems : List F) (made : Option M)
+    (old new : Option (List ℕ)) (r : Result (Unit {0}) EngineFault)
+    → AnswersInputs opens start between task.apt.now (map (λ s. s.now) task.stms.items) (Ok (apt, files))
+    → MakesJournal makes between end (option_map (λ s. s.now) task.journal) (Ok made) → stems ≡ files
+    → of_made contents made
+    (λ o. IsFleetRun (apt_with task.settings) task.order (FollowsRule task.rule) (held apt) (map held stems) o old new r)
+    → RunsFleet opens makes held contents start end task old new r
+fleet_ran opens makes held contents start between end task apt files stems made old new r opened m same run = record {
+  opened = Ok (apt, files);
+  between = between;
+  answers = opened;
+  runs = inputs_run makes held contents between end (apt_with task.settings) task.order (FollowsRule task.rule) _
+      (apt, files) made old new r m
+      (subst (λ (l : List _). of_made contents made (λ o. IsFleetRun (apt_with task.settings) task.order
+      (FollowsRule task.rule) (held apt) (map held l) o old new r)) same run);
+}

@@ -5,7 +5,7 @@ use Rattle.buck_stem.specs.file.Faults.{stm_numbers}
 use Rattle.buck_journal.specs.Faults.{journal_numbers, replay_numbers}
 use Rattle.buck_fleet.specs.Faults.{close_numbers}
 use Rattle.buck_engine.specs.declared.fault.EngineFault.{EngineFault}
-use Rattle.buck_engine.specs.declared.fault.EngineFault.TheVariants.{Read, Write, Apt, Stm, Journal, Replay, Check, Seats, Full, Memory, Close}
+use Rattle.buck_engine.specs.declared.fault.EngineFault.TheVariants.{Read, Write, Apt, Stm, Journal, JournalOf, Replay, ReplayOf, Check, Seats, Full, Memory, Close}
 use Rattle.buck_engine.specs.Faults.{status_of, status_or}
 
 -- a fault never has the status of a run that went well
@@ -19,7 +19,9 @@ never_0 Write e = omega (arith, e)
 never_0 (Apt fault) e = status_or_some 1 (apt_numbers fault) (omega arith) e
 never_0 (Stm file fault) e = status_or_some 1 (stm_numbers fault) (omega arith) e
 never_0 (Journal fault) e = status_or_some 1 (journal_numbers fault) (omega arith) e
+never_0 (JournalOf journal fault) e = status_or_some 1 (journal_numbers fault) (omega arith) e
 never_0 (Replay fault) e = status_or_some 4 (replay_numbers fault) (omega arith) e
+never_0 (ReplayOf journal fault) e = status_or_some 4 (replay_numbers fault) (omega arith) e
 never_0 (Check fault) e = omega (arith, e)
 never_0 Seats e = omega (arith, e)
 never_0 Full e = omega (arith, e)

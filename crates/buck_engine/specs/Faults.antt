@@ -8,7 +8,7 @@ use Rattle.buck_journal.specs.Faults.{journal_numbers, replay_numbers}
 use Rattle.buck_fleet.specs.Faults.{close_numbers}
 use Rattle.buck_engine.specs.tie.Told.{check_numbers}
 use Rattle.buck_engine.specs.declared.fault.EngineFault.{EngineFault}
-use Rattle.buck_engine.specs.declared.fault.EngineFault.TheVariants.{Read, Write, Apt, Stm, Journal, Replay, Check, Seats, Full, Memory, Close}
+use Rattle.buck_engine.specs.declared.fault.EngineFault.TheVariants.{Read, Write, Apt, Stm, Journal, JournalOf, Replay, ReplayOf, Check, Seats, Full, Memory, Close}
 
 abbrev pub memory_line : List ℕ
 memory_line = codes "memory\n"
@@ -26,7 +26,9 @@ fault_line Write = codes "write fault\n"
 fault_line (Apt fault) = numbered_line (codes "apt") [] (apt_numbers fault)
 fault_line (Stm file fault) = numbered_line (codes "stm") (file ∷ []) (stm_numbers fault)
 fault_line (Journal fault) = numbered_line (codes "journal") [] (journal_numbers fault)
+fault_line (JournalOf journal fault) = numbered_line (codes "journal") (journal ∷ []) (journal_numbers fault)
 fault_line (Replay fault) = numbered_line (codes "replay") [] (replay_numbers fault)
+fault_line (ReplayOf journal fault) = numbered_line (codes "replay") (journal ∷ []) (replay_numbers fault)
 fault_line (Check fault) = line_of (codes "check fault") (check_numbers fault)
 fault_line Seats = codes "seats\n"
 fault_line Full = codes "full\n"
@@ -45,7 +47,9 @@ status_of Write = 5
 status_of (Apt fault) = status_or 1 (apt_numbers fault)
 status_of (Stm file fault) = status_or 1 (stm_numbers fault)
 status_of (Journal fault) = status_or 1 (journal_numbers fault)
+status_of (JournalOf journal fault) = status_or 1 (journal_numbers fault)
 status_of (Replay fault) = status_or 4 (replay_numbers fault)
+status_of (ReplayOf journal fault) = status_or 4 (replay_numbers fault)
 status_of (Check fault) = 4
 status_of Seats = 2
 status_of Full = 3

@@ -4,4 +4,5 @@ pub mod Checking
 pub mod Opening
 pub mod Serving
 pub mod Viewing
+pub mod Several
 pub mod Showing

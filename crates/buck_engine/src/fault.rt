@@ -30,16 +30,22 @@ pub enum EngineFault {
     /// The bytes of the journal are refused.
     #[error("the journal is refused: {0}")]
     Journal(JournalFault),
+    /// The same of one of several journals, by its number, from 1.
+    #[error("journal {journal} is refused: {fault}")]
+    JournalOf { journal: u32, fault: JournalFault },
     /// The journal isn't lawful for the instruction.
     #[error("the journal is not lawful: {0}")]
     Replay(ReplayFault),
+    /// The same of one of several journals, by its number, from 1.
+    #[error("journal {journal} is not lawful: {fault}")]
+    ReplayOf { journal: u32, fault: ReplayFault },
     /// The journal is lawful, but not that of the stem files or of the rule.
     #[error("the journal is lawful, but not as asked: {0}")]
     Check(CheckFault),
     /// There are not 1 to 64 stem files.
     #[error("not 1 to 64 stem files")]
     Seats,
-    /// There are more stems than a history has room for: 1,000,000.
+    /// There are more stems than a history has room for, or more postings in several journals together: 1,000,000.
     #[error("the history is full")]
     Full,
     /// The fleet's history and what its harvesters were answered differ.
@@ -124,7 +130,9 @@ pub fn status(fault: &EngineFault) -> u8
         EngineFault::Apt(fault) => status_or(1, fault),
         EngineFault::Stm { fault, .. } => status_or(1, fault),
         EngineFault::Journal(fault) => status_or(1, fault),
+        EngineFault::JournalOf { fault, .. } => status_or(1, fault),
         EngineFault::Replay(fault) => status_or(4, fault),
+        EngineFault::ReplayOf { fault, .. } => status_or(4, fault),
         EngineFault::Check(_) => 4,
         EngineFault::Close(fault) => status_or(4, fault),
         EngineFault::Seats => 2,

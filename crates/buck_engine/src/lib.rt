@@ -4,10 +4,10 @@
 //! [`run_fleet_files`], which cuts stem files by a fleet, one harvester for each, and writes the fleet's journal and
 //! its report, [`report_text`], and [`run_in_turn`], whose harvesters take turns; [`run_check`] checks such a journal,
 //! [`run_check_with`] also ties it to stem files and to a rule, [`run_report`] writes its report, and [`run_view`] and
-//! [`run_table`] show it. [`write_fault`] and [`status`] are the line and the exit status of a fault. [`serve`] is a
-//! whole run of the program, from its [`Task`] to its exit status, over files that an [`Open`] opens, as [`Disk`];
+//! [`run_table`] show it. [`write_fault`] and [`status`] are the line and the exit status of a fault, and [`conclude`]
+//! says how a run ended. [`serve`] is a whole run, by its [`Task`], over files that an [`Open`] opens, as [`Disk`];
 //! [`serve_buck`] one that cuts stems in several threads, [`serve_check`] one that ties a journal, [`serve_view`] one
-//! that shows a journal, which both replay in several threads, and [`serve_fleet`] one of a fleet, at which an
+//! that shows journals, which both replay in several threads, and [`serve_fleet`] one of a fleet, at which an
 //! [`Onlooker`] may look on. The engines named `in_parts` do in several threads what the others do in one.
 //! [`laws`] says that there is one text.
 #![tactic(auto)]
@@ -20,7 +20,6 @@ mod text;
 mod tie;
 
 pub use buck_apt::Settings;
-pub use buck_rule::NamedRule;
 pub use buck_tables::Table;
 pub use buck_view::Files;
 pub use fault::{EngineFault, TextFault, status};
@@ -29,16 +28,20 @@ pub use fleet::onlooker::{Nobody, Onlooker};
 pub use fleet::running::run_fleet_files;
 pub use fleet::serving::{FleetTask, Order, serve_fleet};
 pub use fleet::turning::run_in_turn;
+pub use run::asked::{Shown, ViewTask};
 pub use run::bucking::{run_bare, run_buck};
 pub use run::checking::run_check;
 pub use run::disk::{Desk, Disk, Renewed, has_folder_input, is_standard};
-pub use run::opening::{Make, Open, open_inputs};
+pub use run::opening::{Make, Open, make_journal, open_inputs};
 pub use run::parallel::{BuckTask, run_buck_in_parts, serve_buck};
-pub use run::reading::read_instruction;
+pub use run::reading::{read_file, read_instruction};
 pub use run::replayed::{run_check_in_parts, run_table_in_parts, run_view_in_parts};
 pub use run::reporting::run_report;
 pub use run::serving::{Task, conclude, explain, serve};
-pub use run::showing::{Shown, ViewTask, serve_view};
+pub use run::several::{
+    Several as Journals, Unlawful as FirstUnlawful, read_several, replay_several,
+};
+pub use run::showing::serve_view;
 pub use run::threads::number_of_threads;
 pub use run::viewing::{run_table, run_view};
 pub use text::bucking::{buck_text, put_logs, put_stem};

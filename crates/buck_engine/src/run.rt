@@ -1,5 +1,6 @@
 //! Files that are opened and read, the engines over them, and whole runs of the program: all of one thread, but for
 //! those in parts.
+pub(crate) mod asked;
 pub(crate) mod both;
 pub(crate) mod bucking;
 pub(crate) mod checking;
@@ -10,6 +11,7 @@ pub(crate) mod reading;
 pub(crate) mod replayed;
 pub(crate) mod reporting;
 pub(crate) mod serving;
+pub(crate) mod several;
 pub(crate) mod showing;
 pub(crate) mod threads;
 pub(crate) mod viewing;

@@ -15,9 +15,9 @@ use Rattle.buck_value.specs.Allowed.{IsAllowed, worth_of}
 use Rattle.buck_book.specs.declared.posting.Posting.{Posting}
 use Rattle.buck_book.specs.declared.posting.Posting.TheVariants.{Cut, Demand}
 use Rattle.buck_book.specs.Counts.{assortment_logs_in}
-use Rattle.buck_figures.specs.Figures.{base_sheet, log_volume, cuts_in, length_in, worth_in, at_base_in}
+use Rattle.buck_figures.specs.Figures.{IsUnsteered, base_sheet, log_volume, cuts_in, length_in, worth_in, at_base_in}
 use Rattle.buck_figures.specs.Sums.{AreSums}
-use Rattle.buck_figures.specs.Assorted.{AreParts, part_volume_in, part_at_base_in, sum_in_part}
+use Rattle.buck_figures.specs.Assorted.{AreParts, part_volume_in, part_logged_in, part_at_base_in, sum_in_part}
 use Rattle.buck_figures.specs.Greatest.{lengths_of, costs_of}
 use Rattle.buck_figures.specs.declared.figures.Part.{Part}
 use Rattle.buck_figures.specs.declared.sums.Sums.{Sums}
@@ -84,10 +84,11 @@ pub parts_more : (s : SheetParts) (stem : StemParts) (logs : List Log) (k p : �
     → k < length logs → g ≡ get_or logs k g → p ≡ g.assortment → slice_get now p ≡ Some was → IsWoodOf s stem (g ∷ []) w
     → part.logs ≡ was.logs + 1
     → part.volume ≡ was.volume + w.volume
+    → part.logged ≡ was.logged + w.logged
     → part.at_base ≡ was.at_base + w.at_base
     → ArePartsWith s stem (take k logs) before now
     → ArePartsWith s stem (take (k + 1) logs) before (set now p part)
-parts_more s stem logs k p g w before now was part lt is place there wood more_logs more_volume more_worth parts =
+parts_more s stem logs k p g w before now was part lt is place there wood more_logs more_volume more_logged more_worth parts =
     record {
       same_number = length-set now p part ∙ parts.same_number;
       each = λ a x y hx hy. elim (eqb_tells g.assortment a) [
@@ -110,6 +111,15 @@ parts_more s stem logs k p g w before now was part lt is place there wood more_l
                     sum_by-cons (log_volume stem) g [],
                     part_hit (log_volume stem) a logs k g lt is e.0,
                   );
+              logged = ap (λ (z : Part). z.logged) here
+                  ∙ omega (
+                    arith,
+                    more_logged,
+                    old.logged,
+                    wood.logged,
+                    sum_by-cons (λ (z : Log). z.length) g [],
+                    part_hit (λ (z : Log). z.length) a logs k g lt is e.0,
+                  );
               at_base = ap (λ (z : Part). z.at_base) here
                   ∙ omega (
                     arith,
@@ -130,6 +140,7 @@ parts_more s stem logs k p g w before now was part lt is place there wood more_l
             record {
               logs = omega (arith, old.logs, part_miss (λ z. 1) a logs k g lt is e.0);
               volume = omega (arith, old.volume, part_miss (log_volume stem) a logs k g lt is e.0);
+              logged = omega (arith, old.logged, part_miss (λ (z : Log). z.length) a logs k g lt is e.0);
               at_base = omega (arith, old.at_base, part_miss (worth_of s stem) a logs k g lt is e.0);
             })
       ];
@@ -138,7 +149,7 @@ parts_more s stem logs k p g w before now was part lt is place there wood more_l
 -- the parts with one posting more
 parts_on : (i : InstructionParts) (s : SheetParts) (ps : List Posting) (x : Posting) (before after : List Part)
     → s ≡ base_sheet i
-    → AreParts i ps before → ArePartsOn s x before after → AreParts i (ps ++ x ∷ []) after
+    → AreParts i ps before → ArePartsOn s x (logs_of x) before after → AreParts i (ps ++ x ∷ []) after
 parts_on i s ps (Cut e) before after same parts more = record {
   one_each = more.same_number ∙ parts.one_each;
   each = λ a q there.
@@ -150,6 +161,7 @@ parts_on i s ps (Cut e) before after same parts more = record {
       record {
         logs = omega (arith, on.logs, old.logs, sum_by_push (λ x. assortment_logs_in a x) ps (Cut e));
         volume = omega (arith, on.volume, old.volume, sum_by_push (part_volume_in a) ps (Cut e));
+        logged = omega (arith, on.logged, old.logged, sum_by_push (part_logged_in a) ps (Cut e));
         at_base = omega (arith, on.at_base, old.at_base, worth, sum_by_push (part_at_base_in i a) ps (Cut e));
       };
 }
@@ -160,23 +172,35 @@ parts_on i s ps (Demand d) before after same parts more = record {
       record {
         logs = omega (arith, old.logs, sum_by_push (λ x. assortment_logs_in a x) ps (Demand d));
         volume = omega (arith, old.volume, sum_by_push (part_volume_in a) ps (Demand d));
+        logged = omega (arith, old.logged, sum_by_push (part_logged_in a) ps (Demand d));
         at_base = omega (arith, old.at_base, sum_by_push (part_at_base_in i a) ps (Demand d));
       };
 }
 
-few_on : (i : InstructionParts) (s : SheetParts) (x : Posting) (most : ℕ) (before after : List Part)
-    → AreOfPosting i x (logs_of x)
-    → AreFew most before → ArePartsOn s x before after → AreFew (most + 80) after
-few_on i s (Cut e) most before after own few more = λ a q there.
+-- what is added unsteered is the unsteered posting's
+unsteered_parts : (i : InstructionParts) (s : SheetParts) (x u : Posting) (logs : List Log) (before after : List Part)
+    → IsUnsteered i x u → logs ≡ logs_of u
+    → ArePartsOn s x logs before after → ArePartsOn s u (logs_of u) before after
+unsteered_parts i s (Cut e) (Cut u) logs before after is same parts =
+    subst (λ (t : StemParts). ArePartsWith s t u.logs before after) (sym is.1)
+    (subst (λ l. ArePartsWith s e.stem l before after) same parts)
+unsteered_parts i s (Demand d) (Demand u) logs before after is same parts = parts
+unsteered_parts i s (Cut e) (Demand u) logs before after is same parts = absurd is
+unsteered_parts i s (Demand d) (Cut u) logs before after is same parts = absurd is
+
+few_on : (i : InstructionParts) (s : SheetParts) (x : Posting) (logs : List Log) (most : ℕ) (before after : List Part)
+    → AreOfPosting i x logs
+    → AreFew most before → ArePartsOn s x logs before after → AreFew (most + 80) after
+few_on i s (Cut e) logs most before after own few more = λ a q there.
     let was = found_before before after a q more.same_number there in
     omega (
       arith,
       few a (get_or before a q) was,
       (more.each a (get_or before a q) q was there).logs,
-      count_by-le-length (λ (g : Log). g.assortment == a) e.logs,
+      count_by-le-length (λ (g : Log). g.assortment == a) logs,
       own.1,
     )
-few_on i s (Demand d) most before after own few more = λ a q there.
+few_on i s (Demand d) logs most before after own few more = λ a q there.
     omega (arith, few a q (ap (λ l. slice_get l a) (sym more) ∙ there))
 
 -- the numbers that the greatest are chosen of
@@ -208,18 +232,19 @@ costs_more i ps us x u one cost number sums is =
 
 -- what some postings come to with one more
 pub account_more : (i : InstructionParts) (s : SheetParts) (ps us : List Posting) (x : Posting) (at cost : ℕ)
-    (one : Sums) (before after : Account)
-    → s ≡ base_sheet i → length ps ≡ at → IsAccount i ps us before → IsTallyWith i ps us x one after.tally
+    (one : Sums) (logs : List Log) (before after : Account)
+    → s ≡ base_sheet i → length ps ≡ at → IsAccount i ps us before → IsTallyWith i ps us x one logs after.tally
     → AreAtMost (80 * length ps + 80) after.tally.counts.items
     → AreAtMost (80 * length ps + 80) after.tally.unsteered.items
-    → AreOfPosting i x (logs_of x) → ArePartsOn s x before.parts.items after.parts.items
+    → AreOfPosting i x (logs_of x) → ArePartsOn s x (logs_of x) before.parts.items after.parts.items
+    → AreOfPosting i x logs → ArePartsOn s x logs before.unsteered_parts.items after.unsteered_parts.items
     → ((ns : List ℕ) → length ns ≡ at → IsGreatest ns before.longest
     → IsGreatest (ns ++ (one.stems + one.length) ∷ []) after.longest)
     → cost + one.at_base ≡ one.best
     → ((ns : List ℕ) → length ns ≡ at → IsGreatest ns before.dearest → IsGreatest (ns ++ cost ∷ []) after.dearest)
     → IsAccountWith i ps us x after
-account_more i s ps us x at cost one before after same is account one_more counts unsteered own parts longer is_cost
-    dearer =
+account_more i s ps us x at cost one logs before after same is account one_more counts unsteered own parts own' parts'
+    longer is_cost dearer =
     let u = one_more.unsteered in
     let number : length us ≡ length ps = account.are_unsteered.same_number in
     let long : length (ps ++ x ∷ []) ≡ length ps + 1 = length-append ps (x ∷ []) in
@@ -235,7 +260,19 @@ account_more i s ps us x at cost one before after same is account one_more count
             λ a p there. omega (
               arith,
               long,
-              few_on i s x (80 * length ps) before.parts.items after.parts.items own account.parts_few parts a p there,
+              few_on i s x (logs_of x) (80 * length ps) before.parts.items after.parts.items own account.parts_few parts
+                  a p there,
+            );
+        unsteered_parts =
+            parts_on i s us u before.unsteered_parts.items after.unsteered_parts.items same account.unsteered_parts
+            (unsteered_parts i s x u logs before.unsteered_parts.items after.unsteered_parts.items
+            one_more.is_unsteered one_more.logs_are parts');
+        unsteered_parts_few =
+            λ a p there. omega (
+              arith,
+              long,
+              few_on i s x logs (80 * length ps) before.unsteered_parts.items after.unsteered_parts.items own'
+                  account.unsteered_parts_few parts' a p there,
             );
         longest =
             rw (lengths_more i ps x u one one_more.sums)

@@ -27,7 +27,7 @@ each_no_better i j us lawful unsteered k x u at at' =
     one_no_better i x u (passable i j lawful k x at).0 (unsteered.each k x u at at')
 
 -- the sums of two lists, one of which has nowhere the greater number
-sums_no_more : (n m : Posting → ℕ) (ps us : List Posting) → length us ≡ length ps
+pub sums_no_more : (n m : Posting → ℕ) (ps us : List Posting) → length us ≡ length ps
     → ((k : ℕ) (x u : Posting) → slice_get ps k ≡ Some x → slice_get us k ≡ Some u → n x ≤ m u)
     → sum_by n ps ≤ sum_by m us
 sums_no_more n m [] us number each = omega arith

@@ -2,7 +2,7 @@
 use Rattle.std.proofs.Common.{◌≡◌, ℕ, zero, suc, ◌+◌, ◌≤◌, List, [], ◌∷◌, ◌++◌, All, length, take, get_or, sym, subst, ap, ◌∙◌, inl, inr, arith}
 use Rattle.std.specs.Prelude.{slice_get, Some}
 use Rattle.std.proofs.lemmas.Bool.{cases_Bool}
-use Rattle.std.proofs.lemmas.Option.{slice_get_cases, slice_get_within, slice_get-get_or}
+use Rattle.std.proofs.lemmas.Option.{slice_get_cases, slice_get_within, slice_get-get_or, get_or_from_slice_get}
 use Rattle.std.proofs.lemmas.List.Elements.{All-from_get_or}
 use Rattle.buck_apt.specs.Instruction.{InstructionParts, IsInstruction, classes}
 use Rattle.buck_value.proofs.Prices.{length-base_prices}
@@ -14,9 +14,11 @@ use Rattle.buck_book.specs.Walk.{IsCountable}
 use Rattle.buck_book.proofs.Ends.{take_one_more, ends_with_end, ends_without, ends_take-le, true_false}
 use Rattle.buck_journal.specs.reading.Journal.{JournalParts}
 use Rattle.buck_journal.specs.judging.Replay.{history_of}
-use Rattle.buck_figures.specs.Shown.{IsShowable}
+use Rattle.buck_figures.specs.Journals.{postings_of}
+use Rattle.buck_figures.specs.Shown.{AreShowable, IsShowable}
 use Rattle.buck_figures.specs.inner.Adding.{IsCuttable}
 use Rattle.buck_figures.specs.inner.Course.{ArePassable}
+use Rattle.buck_figures.proofs.JournalLemmas.{of_all}
 
 passable_by : (i : InstructionParts) (sheets : List (List ℕ)) (x : Posting) → Holds i sheets x
     → IsCuttable i x × IsCountable i x
@@ -76,3 +78,21 @@ module _ (i : InstructionParts) (j : JournalParts) (l : IsLawful (history_of i j
       where
         none : Posting
         none = Demand (record { harvester = 0; number = 0; version = 0; targets = [] })
+
+-- each posting of lawful journals can be passed
+pub lawful_at : (i : InstructionParts) (js : List JournalParts) → All (λ j. IsLawful (history_of i j)) js
+    → (k : ℕ) (j : JournalParts) → slice_get js k ≡ Some j → IsLawful (history_of i j)
+lawful_at i js lawful k j there =
+    subst (λ (read : JournalParts). IsLawful (history_of i read)) (get_or_from_slice_get js k j j there)
+    (lawful k j (slice_get_within js k j there))
+
+pub all_passable : (i : InstructionParts) (js : List JournalParts) → All (λ j. IsLawful (history_of i j)) js
+    → ArePassable i (postings_of js)
+all_passable i js lawful =
+    of_all (λ x. IsCuttable i x × IsCountable i x) js
+    (λ k j there. passable i j (lawful_at i js lawful k j there))
+
+-- and each can be shown
+pub all_showable : (i : InstructionParts) (js : List JournalParts) → All (λ j. IsLawful (history_of i j)) js
+    → IsInstruction i → All (λ j. AreShowable i j) js
+all_showable i js lawful valid = λ k j lt. showable i (get_or js k j) (lawful k j lt) valid

@@ -2,8 +2,16 @@ pub mod SumLemmas
 pub mod TallyLemmas
 pub mod CountLemmas
 pub mod GreatestLemmas
+pub mod JournalLemmas
 pub mod AccountLemmas
 pub mod LawfulLemmas
 pub mod CourseLemmas
 pub mod FiguresLemmas
 pub mod CostLemmas
+pub mod RowLemmas
+pub mod GradeLemmas
+pub mod LackLemmas
+pub mod LackingLemmas
+pub mod OrderLemmas
+pub mod GradeFreeLemmas
+pub mod WholeLemmas

@@ -44,14 +44,14 @@ append_empty [] = refl
 append_empty (p ∷ ps) = ap (λ l. p ∷ l) (append_empty ps)
 
 -- a harvester's postings with one more of it, or of another
-own_more : (h : ℕ) (ps : List Posting) (x : Posting) → h ≡ harvester_of x
+pub own_more : (h : ℕ) (ps : List Posting) (x : Posting) → h ≡ harvester_of x
     → own_of h (ps ++ x ∷ []) ≡ own_of h ps ++ x ∷ []
 own_more h ps x is = elim (eqb_tells (harvester_of x) h) [
   | inl e ↦ filter-append (λ y. harvester_of y == h) ps (x ∷ []) ∙ ap (λ b. own_of h ps ++ cond b (x ∷ []) []) e.0
   | inr e ↦ absurd (e.1 (sym is))
 ]
 
-own_same : (h : ℕ) (ps : List Posting) (x : Posting) → h ≢ harvester_of x → own_of h (ps ++ x ∷ []) ≡ own_of h ps
+pub own_same : (h : ℕ) (ps : List Posting) (x : Posting) → h ≢ harvester_of x → own_of h (ps ++ x ∷ []) ≡ own_of h ps
 own_same h ps x ne = elim (eqb_tells (harvester_of x) h) [
   | inl e ↦ absurd (ne (sym e.1))
   | inr e ↦ filter-append (λ y. harvester_of y == h) ps (x ∷ []) ∙ ap (λ b. own_of h ps ++ cond b (x ∷ []) []) e.0
@@ -189,7 +189,7 @@ pub tally_more : (i : InstructionParts) (ps us : List Posting) (x : Posting) (at
     → ((k : ℕ) → k ≢ h → get nat_cmp after.owns k ≡ get nat_cmp before.owns k)
     → AreCountsOn i x (logs_of x) before.counts.items after.counts.items
     → AreCountsOn i x logs before.unsteered.items after.unsteered.items
-    → IsTallyWith i ps us x one after
+    → IsTallyWith i ps us x one logs after
 tally_more i ps us x at h one logs cut before after number place is tally passed together added others counts
     unsteered =
     let u = passed.unsteered in
@@ -198,6 +198,7 @@ tally_more i ps us x at h one logs cut before after number place is tally passed
     record {
       unsteered = u;
       is_unsteered = passed.is_unsteered;
+      logs_are = passed.logs_are;
       sums = passed.sums;
       tally = record {
         total = sums_join i ps (x ∷ []) us (u ∷ []) before.total one after.total tally.total passed.sums together;

@@ -1,8 +1,12 @@
+pub mod Journals
 pub mod Figures
 pub mod Sums
 pub mod Owns
 pub mod Assorted
 pub mod Greatest
+pub mod Degrees
+pub mod Lacking
+pub mod Grades
 pub mod Points
 pub mod Pieces
 pub mod Shown

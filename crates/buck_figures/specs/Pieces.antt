@@ -1,5 +1,5 @@
 -- Logs as they were cut.
-use Rattle.std.specs.Prelude.{◌≡◌, ◌≢◌, ℕ, List, length, slice_get, slice_index, Option, Some, None}
+use Rattle.std.specs.Prelude.{◌≡◌, ◌≢◌, ℕ, ◌<◌, ◌≤◌, List, length, slice_get, slice_index, Option, Some, None}
 use Rattle.buck_apt.specs.Instruction.{IsClass, index_of}
 use Rattle.buck_stem.specs.Stem.{StemParts}
 use Rattle.buck_value.specs.declared.log.Log.{Log}
@@ -13,6 +13,9 @@ use Rattle.buck_book.specs.History.{prices_at}
 use Rattle.buck_book.specs.declared.posting.Posting.{Posting}
 use Rattle.buck_figures.specs.declared.figures.Piece.{Piece}
 use Rattle.buck_figures.specs.declared.figures.Cut.{Cut}
+use Rattle.buck_figures.specs.declared.figures.Place.{Place}
+use Rattle.buck_journal.specs.reading.Journal.{JournalParts}
+use Rattle.buck_figures.specs.Journals.{StandsAt, entries_in, postings_of, sheets_in}
 
 -- a log of a stem, cut under some prices, one for each class, beside a sheet of base prices
 pub record IsPiece (base : SheetParts) (prices : List ℕ) (stem : StemParts) (g : Log) (p : Piece) : Type 0 where
@@ -29,7 +32,8 @@ pub record IsPiece (base : SheetParts) (prices : List ℕ) (stem : StemParts) (g
   pub base_worth : p.base_worth ≡ worth_of base stem g
 
 -- each log of a cutting
-pub record ArePieces (base : SheetParts) (prices : List ℕ) (stem : StemParts) (logs : List Log) (pieces : List Piece) : Type 0 where
+pub record ArePieces (base : SheetParts) (prices : List ℕ) (stem : StemParts) (logs : List Log) (pieces : List Piece)
+    : Type 0 where
   pub same_number : length pieces ≡ length logs
   pub each : (k : ℕ) (g : Log) (p : Piece)
       → slice_get logs k ≡ Some g
@@ -44,11 +48,21 @@ pub record IsCut (base : SheetParts) (prices : List ℕ) (e : EntryParts) (c : C
   pub unsteered : IsFirstBest base e.stem c.unsteered.logs.items
   pub best : c.best ≡ cutting_worth base e.stem c.unsteered.logs.items
 
--- what is told of a place among some postings: the cut that stands there, which was planned under the sheet of its
--- version; nothing where no cut does
-abbrev pub IsToldAt : SheetParts → List (List ℕ) → List Posting → ℕ → Option Cut → Type 0
-IsToldAt base sheets ps position None = (e : EntryParts) → slice_get ps position ≢ Some (as_posting e)
-IsToldAt base sheets ps position (Some c) =
-    (c.position ≡ position)
-    × (slice_get ps position ≡ Some (as_posting c.entry.now))
-    × IsCut base (prices_at sheets c.entry.now.version) c.entry.now c
+-- the posting at a place of some journals
+abbrev pub posting_in : List JournalParts → Place → Option Posting
+posting_in js place = slice_get (entries_in (slice_get js place.journal)) place.at
+
+-- what is told of a place among the postings of some journals: the cut that stands there, which was planned under the
+-- sheet of its version; nothing where no cut does
+abbrev pub IsToldAt : SheetParts → List JournalParts → Place → Option Cut → Type 0
+IsToldAt base js place None = (e : EntryParts) → posting_in js place ≢ Some (as_posting e)
+IsToldAt base js place (Some c) =
+    (c.place ≡ place)
+    × (posting_in js place ≡ Some (as_posting c.entry.now))
+    × IsCut base (prices_at (sheets_in (slice_get js place.journal)) c.entry.now.version) c.entry.now c
+
+-- the place of the posting at a position through all journals; none past the last
+abbrev pub IsPlaceAt : List JournalParts → ℕ → Option Place → Type 0
+IsPlaceAt js position None = length (postings_of js) ≤ position
+IsPlaceAt js position (Some place) =
+    StandsAt js place.journal place.at position × (place.at < length (entries_in (slice_get js place.journal)))

@@ -7,3 +7,5 @@ pub mod Greatest
 pub mod Account
 pub mod Course
 pub mod Making
+pub mod Lacking
+pub mod Grades

@@ -7,7 +7,7 @@ ghost use Rattle.buck_figures.specs.inner.Account.{IsAccount, IsAccountWith, Goe
 use crate::assorted::{add_parts, no_parts};
 use crate::figures::Part;
 use crate::greatest::Greatest;
-use crate::tally::{Tally, add_posting, no_tally};
+use crate::tally::{Tally, add_posting, logs_in, logs_of, no_tally};
 use buck_book::Posting;
 use buck_dp::Planner;
 use buck_record::Memory;
@@ -20,6 +20,8 @@ pub(crate) struct Account {
     pub tally: Tally,
     /// One for each assortment.
     pub parts: Vec<Part>,
+    /// The same of the best cuttings at base prices.
+    pub unsteered_parts: Vec<Part>,
     pub longest: Greatest,
     pub dearest: Greatest,
 }
@@ -31,6 +33,7 @@ pub(crate) fn no_account(alloc: Global, base: &Sheet) -> Result<Account, Memory>
     Ok(Account {
         tally: no_tally(alloc, base)?,
         parts: no_parts(alloc, base)?,
+        unsteered_parts: no_parts(alloc, base)?,
         longest: Greatest::none(),
         dearest: Greatest::none(),
     })
@@ -48,11 +51,19 @@ pub(crate) fn account_posting(
     requires cuttable { IsCuttable planner.old.instruction posting.now }
     requires before { GoesOn planner.old.instruction at account.old }
     ensures same { planner.new ≡ planner.old }
-    ensures passed { OnOk result ((ps us : List Posting) → length ps ≡ at → IsAccount planner.old.instruction ps us account.old
+    ensures passed { OnOk result ((ps us : List Posting) → length ps ≡ at
+        → IsAccount planner.old.instruction ps us account.old
         → IsAccountWith planner.old.instruction ps us posting.now account.new) }
 {
-    let sums = add_posting(alloc, &mut account.tally, planner, at, posting)?;
-    add_parts(&mut account.parts, planner.sheet(), posting);
+    let (sums, unsteered) = add_posting(alloc, &mut account.tally, planner, at, posting)?;
+    let base = planner.sheet();
+    add_parts(&mut account.parts, base, posting, logs_of(posting));
+    add_parts(
+        &mut account.unsteered_parts,
+        base,
+        posting,
+        logs_in(&unsteered),
+    );
     let length = u128::from(sums.stems) + sums.length;
     account.longest = account.longest.with(at, length);
     account.dearest = account.dearest.with(at, sums.cost());

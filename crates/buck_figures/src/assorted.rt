@@ -1,7 +1,7 @@
 //! What the logs of each assortment come to.
 ghost use Rattle.std.specs.Prelude.{◌≡◌, ◌+◌, ◌<◌, ◌≤◌, ◌^◌, All, IfOk, length};
 ghost use Rattle.buck_value.specs.Allowed.{IsAllowed};
-ghost use Rattle.buck_figures.specs.inner.Adding.{IsLow, logs_of};
+ghost use Rattle.buck_figures.specs.inner.Adding.{IsLow};
 ghost use Rattle.buck_figures.specs.inner.Assorted.{AreFew, AreNone, ArePartsOn, ArePartsWith};
 ghost use Rattle.buck_figures.specs.inner.Counted.{AreOfPosting};
 
@@ -18,6 +18,7 @@ impl Part {
     const NONE: Part = Part {
         logs: 0,
         volume: 0,
+        logged: 0,
         at_base: 0,
     };
 
@@ -27,11 +28,13 @@ impl Part {
         requires low { IsLow wood.now }
         ensures logs { result.logs ≡ self.logs + 1 }
         ensures volume { result.volume ≡ self.volume + wood.now.volume }
+        ensures logged { result.logged ≡ self.logged + wood.now.logged }
         ensures at_base { result.at_base ≡ self.at_base + wood.now.at_base }
     {
         Part {
             logs: self.logs + 1,
             volume: self.volume + wood.volume,
+            logged: self.logged + wood.logged,
             at_base: self.at_base + wood.at_base,
         }
     }
@@ -60,15 +63,15 @@ fn add_logs(parts: &mut Vec<Part>, base: &Sheet, stem: &Stem, logs: &[Log])
     }
 }
 
-/// Adds the logs of a posting, if it is a cut, each to its assortment.
-pub(crate) fn add_parts(parts: &mut Vec<Part>, base: &Sheet, posting: &Posting)
+/// Adds the logs into which a posting's stem is cut, if it is a cut, each to its assortment.
+pub(crate) fn add_parts(parts: &mut Vec<Part>, base: &Sheet, posting: &Posting, logs: &[Log])
     requires number { length parts.old.items ≡ length base.now.instruction.assortments }
-    requires logs { AreOfPosting base.now.instruction posting.now (logs_of posting.now) }
+    requires logs { AreOfPosting base.now.instruction posting.now logs.now }
     requires low { AreFew 80000000 parts.old.items }
-    ensures { ArePartsOn base.now posting.now parts.old.items parts.new.items }
+    ensures { ArePartsOn base.now posting.now logs.now parts.old.items parts.new.items }
 {
     match posting {
-        Posting::Cut(entry) => add_logs(parts, base, &entry.stem, entry.cutting.logs.as_slice()),
+        Posting::Cut(entry) => add_logs(parts, base, &entry.stem, logs),
         Posting::Demand(_) => {}
     }
 }

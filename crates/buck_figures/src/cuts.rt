@@ -3,11 +3,11 @@ ghost use Rattle.std.specs.Prelude.{◌≡◌, ◌<◌, ◌≤◌, All, IfOk, le
 ghost use Rattle.buck_apt.specs.Instruction.{classes};
 ghost use Rattle.buck_value.specs.Allowed.{IsAllowed};
 ghost use Rattle.buck_value.specs.Volume.{worth_at};
-ghost use Rattle.buck_dp.specs.Best.{IsAdmissible};
+ghost use Rattle.buck_dp.specs.Best.{IsAdmissible, IsFirstBest};
 ghost use Rattle.buck_book.specs.History.{prices_at};
 ghost use Rattle.buck_figures.specs.Pieces.{IsPiece, ArePieces, IsCut};
 
-use crate::figures::{Cut, Piece};
+use crate::figures::{Cut, Piece, Place};
 use buck_book::Entry;
 use buck_dp::{Planner, worth};
 use buck_record::Memory;
@@ -76,14 +76,14 @@ fn cut_under<'a>(
     alloc: Global,
     planner: &mut Planner,
     prices: &[u32],
-    position: usize,
+    place: Place,
     entry: &'a Entry,
 ) -> Result<Cut<'a>, Memory>
     requires admissible { IsAdmissible planner.old entry.now.stem entry.now.logs }
     requires prices { length prices.now ≡ classes planner.old.instruction }
     ensures same { planner.new ≡ planner.old }
     ensures cut { IfOk result (IsCut planner.old prices.now entry.now) }
-    ensures position { IfOk result (λ c. c.position ≡ position) }
+    ensures place { IfOk result (λ c. c.place ≡ place) }
 {
     let (unsteered, best) = planner.best(alloc, &entry.stem)?;
     let base = planner.sheet();
@@ -96,7 +96,7 @@ fn cut_under<'a>(
     )?;
     let at_base = worth(base, &entry.stem, &entry.cutting);
     Ok(Cut {
-        position,
+        place,
         entry,
         pieces,
         at_base,
@@ -111,16 +111,40 @@ pub fn cut_of<'a>(
     alloc: Global,
     planner: &mut Planner,
     sheets: &[Vec<u32>],
-    position: usize,
+    place: Place,
     entry: &'a Entry,
 ) -> Result<Cut<'a>, Memory>
     requires admissible { IsAdmissible planner.old entry.now.stem entry.now.logs }
     requires version { entry.now.version < length sheets.now }
-    requires prices { length (prices_at (map (λ w. w.items) sheets.now) entry.now.version) ≡ classes planner.old.instruction }
+    requires prices { length (prices_at (map (λ w. w.items) sheets.now) entry.now.version)
+        ≡ classes planner.old.instruction }
     ensures same { planner.new ≡ planner.old }
-    ensures cut { IfOk result (IsCut planner.old (prices_at (map (λ w. w.items) sheets.now) entry.now.version) entry.now) }
-    ensures position { IfOk result (λ c. c.position ≡ position) }
+    ensures cut { IfOk result (IsCut planner.old (prices_at (map (λ w. w.items) sheets.now) entry.now.version)
+        entry.now) }
+    ensures place { IfOk result (λ c. c.place ≡ place) }
 {
     let prices = sheets[entry.version as usize].as_slice();
-    cut_under(alloc, planner, prices, position, entry)
+    cut_under(alloc, planner, prices, place, entry)
+}
+
+/// The logs of the best cutting at base prices of a cut's stem, at base prices. The planner is that of the cut.
+pub fn unsteered_pieces(
+    alloc: Global,
+    planner: &Planner,
+    cut: &Cut<'_>,
+) -> Result<Vec<Piece>, Memory>
+    requires { IsFirstBest planner.now cut.now.entry.now.stem cut.now.unsteered.logs.items }
+    ensures { IfOk result (λ pieces.
+        ArePieces planner.now planner.now.prices cut.now.entry.now.stem cut.now.unsteered.logs.items pieces.items) }
+{
+    let base = planner.sheet();
+    let prices = base.prices();
+    let entry = cut.entry;
+    pieces_of(
+        alloc,
+        base,
+        prices,
+        &entry.stem,
+        cut.unsteered.logs.as_slice(),
+    )
 }

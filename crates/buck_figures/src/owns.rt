@@ -21,7 +21,8 @@ pub struct Own {
 
 /// What a harvester's postings come to with one more, which is a cut at a place or a demand.
 fn own_with(before: Option<Own>, harvester: u32, sums: &Sums, cut: Option<usize>) -> Own
-    requires low { IfSome before (λ o. (o.sums.stems + sums.now.stems ≤ MOST_POSTINGS) × (o.sums.demands + sums.now.demands ≤ MOST_POSTINGS)) }
+    requires low { IfSome before (λ o. (o.sums.stems + sums.now.stems ≤ MOST_POSTINGS)
+        × (o.sums.demands + sums.now.demands ≤ MOST_POSTINGS)) }
     ensures { IsAdded before harvester sums.now cut (Some result) }
 {
     match before {
@@ -52,8 +53,10 @@ pub fn add_own(
     sums: &Sums,
     cut: Option<usize>,
 ) -> Result<(), Memory>
-    requires low { IfSome (get nat_cmp owns.old harvester) (λ o. (o.sums.stems + sums.now.stems ≤ MOST_POSTINGS) × (o.sums.demands + sums.now.demands ≤ MOST_POSTINGS)) }
-    ensures own { OnOk result (IsAdded (get nat_cmp owns.old harvester) harvester sums.now cut (get nat_cmp owns.new harvester)) }
+    requires low { IfSome (get nat_cmp owns.old harvester) (λ o. (o.sums.stems + sums.now.stems ≤ MOST_POSTINGS)
+        × (o.sums.demands + sums.now.demands ≤ MOST_POSTINGS)) }
+    ensures own { OnOk result (IsAdded (get nat_cmp owns.old harvester) harvester sums.now cut
+        (get nat_cmp owns.new harvester)) }
     ensures others { OnOk result ((h : ℕ) → h ≢ harvester → get nat_cmp owns.new h ≡ get nat_cmp owns.old h) }
 {
     let own = own_with(owns.get(&harvester).copied(), harvester, sums, cut);

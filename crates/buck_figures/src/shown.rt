@@ -1,29 +1,32 @@
-//! The cuts of a journal, log by log.
+//! The cuts of some journals, log by log.
 ghost use Rattle.std.specs.Prelude.{◌≡◌, IfOk, map};
 ghost use Rattle.buck_figures.specs.Pieces.{IsToldAt};
 ghost use Rattle.buck_figures.specs.Shown.{IsShown};
 
 use crate::cuts::cut_of;
-use crate::figures::{Cut, Figures};
+use crate::figures::{Cut, Figures, Place};
 use buck_book::Posting;
 use buck_dp::Planner;
 use buck_record::Memory;
 use std::alloc::Global;
 
-/// The cut at a place among the postings log by log, if there is one. The planner plans at base prices.
+/// The cut at a place log by log, if there is one. The planner plans at base prices.
 pub fn cut_at<'a>(
     alloc: Global,
     figures: &Figures<'a>,
     planner: &mut Planner,
-    position: usize,
+    place: Place,
 ) -> Result<Option<Cut<'a>>, Memory>
     requires { IsShown figures.now planner.old }
     ensures same { planner.new ≡ planner.old }
-    ensures told { IfOk result (IsToldAt planner.old (map (λ w. w.items) figures.now.sheets.now) figures.now.postings.now position) }
+    ensures told { IfOk result (IsToldAt planner.old figures.now.journals.now place) }
 {
-    match figures.postings.get(position) {
+    let Some(journal) = figures.journals.get(place.journal) else {
+        return Ok(None);
+    };
+    match journal.entries.get(place.at) {
         Some(Posting::Cut(entry)) => {
-            let cut = cut_of(alloc, planner, figures.sheets, position, entry)?;
+            let cut = cut_of(alloc, planner, journal.sheets.as_slice(), place, entry)?;
             Ok(Some(cut))
         }
         Some(Posting::Demand(_)) => Ok(None),

@@ -32,7 +32,7 @@ pub(crate) struct Tally {
 }
 
 /// The logs into which a stem was cut, if it is a cut.
-fn logs_of(posting: &Posting) -> &[Log]
+pub(crate) fn logs_of(posting: &Posting) -> &[Log]
     ensures { result.now ≡ logs_of posting.now }
 {
     match posting {
@@ -42,7 +42,7 @@ fn logs_of(posting: &Posting) -> &[Log]
 }
 
 /// The logs of a cutting, if there is one.
-fn logs_in(cutting: &Option<Cutting>) -> &[Log]
+pub(crate) fn logs_in(cutting: &Option<Cutting>) -> &[Log]
     ensures { result.now ≡ logs_in_some cutting.now }
 {
     match cutting {
@@ -61,25 +61,31 @@ fn cut_place(at: usize, posting: &Posting) -> Option<usize>
     }
 }
 
-/// Adds a posting at a place. The answer is what it comes to.
+/// Adds a posting at a place. The answer is what it comes to, and the best cutting of its stem at base prices, if it is
+/// a cut.
 pub(crate) fn add_posting(
     alloc: Global,
     tally: &mut Tally,
     planner: &mut Planner,
     at: usize,
     posting: &Posting,
-) -> Result<Sums, Memory>
+) -> Result<(Sums, Option<Cutting>), Memory>
     requires base { planner.old ≡ base_sheet planner.old.instruction }
     requires cuttable { IsCuttable planner.old.instruction posting.now }
     requires total { IsBelow tally.old.total }
     requires owns { (h : ℕ) → IfSome (get nat_cmp tally.old.owns h) (λ o. IsBelow o.sums) }
-    requires counts { (length tally.old.counts.items ≡ classes planner.old.instruction) × AreAtMost 80000000 tally.old.counts.items }
-    requires unsteered { (length tally.old.unsteered.items ≡ classes planner.old.instruction) × AreAtMost 80000000 tally.old.unsteered.items }
+    requires counts { (length tally.old.counts.items ≡ classes planner.old.instruction)
+        × AreAtMost 80000000 tally.old.counts.items }
+    requires unsteered { (length tally.old.unsteered.items ≡ classes planner.old.instruction)
+        × AreAtMost 80000000 tally.old.unsteered.items }
     ensures same { planner.new ≡ planner.old }
-    ensures added { IfOk result (λ s. (ps us : List Posting) → length ps ≡ at → IsTally planner.old.instruction ps us tally.old
-        → IsTallyWith planner.old.instruction ps us posting.now s tally.new) }
+    ensures added { IfOk result (λ r. (ps us : List Posting) → length ps ≡ at
+        → IsTally planner.old.instruction ps us tally.old
+        → IsTallyWith planner.old.instruction ps us posting.now r.0 (logs_in_some r.1) tally.new) }
     ensures own { OnOk result (AreOfPosting planner.old.instruction posting.now (logs_of posting.now)) }
-    ensures low { OnOk result ((most : ℕ) → AreAtMost most tally.old.counts.items → AreAtMost most tally.old.unsteered.items
+    ensures unsteered { IfOk result (λ r. AreOfPosting planner.old.instruction posting.now (logs_in_some r.1)) }
+    ensures low { OnOk result ((most : ℕ) → AreAtMost most tally.old.counts.items
+        → AreAtMost most tally.old.unsteered.items
         → AreAtMost (most + 80) tally.new.counts.items × AreAtMost (most + 80) tally.new.unsteered.items) }
 {
     let (sums, unsteered) = sums_of(alloc, planner, posting)?;
@@ -89,7 +95,7 @@ pub(crate) fn add_posting(
     let base = planner.sheet();
     count_posting(&mut tally.counts, base, posting, logs_of(posting));
     count_posting(&mut tally.unsteered, base, posting, logs_in(&unsteered));
-    Ok(sums)
+    Ok((sums, unsteered))
 }
 
 /// What no posting comes to.

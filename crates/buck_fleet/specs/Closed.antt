@@ -1,17 +1,17 @@
 -- What a closed fleet hands out, and the headline: the history is one of a single thread, and holds each seat's
 -- replies.
-use Rattle.std.specs.Prelude.{◌≡◌, ◌≢◌, ℕ, ◌+◌, ◌-◌, ◌<◌, ◌≤◌, ◌==◌, List, [], ◌∷◌, length, map, take, cond, All, slice_get, slice_index_or, Some}
+use Rattle.std.specs.Prelude.{◌≡◌, ◌≢◌, ℕ, ◌-◌, ◌<◌, ◌≤◌, List, [], length, map, take, All, slice_get, slice_index_or, Some}
 use Rattle.std.specs.List.{sum_by}
 use Rattle.std.specs.declared.vec.Vec.{Vec}
 use Rattle.std.specs.declared.alloc.Global.{Global}
 use Rattle.buck_apt.specs.Instruction.{InstructionParts}
 use Rattle.buck_book.specs.declared.posting.Posting.{Posting}
-use Rattle.buck_book.specs.Posting.{harvester_of}
 use Rattle.buck_book.specs.History.{HistoryParts, IsLawful}
 use Rattle.buck_book.specs.Book.{IsFirst}
+use Rattle.buck_book.specs.Replies.{replies_of}
 use Rattle.buck_fleet.specs.declared.close.CloseFault.{CloseFault}
 use Rattle.buck_fleet.specs.declared.close.CloseFault.TheVariants.{Instruction, Calls}
-use Rattle.buck_fleet.specs.declared.seat.Kept.{Kept}
+use Rattle.buck_book.specs.declared.posting.Kept.{Kept}
 use Rattle.buck_fleet.specs.Seat.{SeatParts}
 
 pub record ClosedParts : Type 0 where
@@ -25,17 +25,6 @@ lists_of = map (λ (v : Vec Kept Global). v.items)
 -- a harvester's kept list
 abbrev pub kept_by : ℕ → ClosedParts → List Kept
 kept_by h c = slice_index_or c.kept (h - 1) []
-
--- a harvester's postings of a history, in order, each with its position; the first posting has this position
-abbrev pub replies_from : ℕ → ℕ → List Posting → List Kept
-replies_from h position [] = []
-replies_from h position (x ∷ more) =
-    cond (harvester_of x == h)
-    ((record { position = position; entry = x }) ∷ replies_from h (position + 1) more)
-    (replies_from h (position + 1) more)
-
-abbrev pub replies_of : ℕ → HistoryParts → List Kept
-replies_of h history = replies_from h 0 history.postings
 
 -- whatever `close` answers: the kept lists are those of the n seats, and there are as many postings as they hold; each
 -- cutting is the first of the best under the sheet of its version

@@ -5,8 +5,8 @@ use Rattle.buck_fleet.specs.declared.open.OpenFault.{OpenFault}
 use Rattle.buck_fleet.specs.declared.open.OpenFault.TheVariants as opening
 use Rattle.buck_book.specs.declared.demand.DemandRefusal.{DemandRefusal}
 use Rattle.buck_book.specs.declared.demand.DemandRefusal.TheVariants as demanding
-use Rattle.buck_fleet.specs.declared.fault.CutFault.{CutFault}
-use Rattle.buck_fleet.specs.declared.fault.CutFault.TheVariants as cutting
+use Rattle.buck_book.specs.declared.ready.CutFault.{CutFault}
+use Rattle.buck_book.specs.declared.ready.CutFault.TheVariants as cutting
 use Rattle.buck_fleet.specs.declared.fault.RunFault.{RunFault}
 use Rattle.buck_fleet.specs.declared.fault.RunFault.TheVariants as running
 use Rattle.buck_fleet.specs.declared.fault.RetargetFault.{RetargetFault}

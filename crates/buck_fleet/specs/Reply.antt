@@ -5,7 +5,7 @@ use Rattle.buck_value.specs.Sheet.{SheetParts}
 use Rattle.buck_book.specs.declared.posting.Posting.TheVariants as posting
 use Rattle.buck_book.specs.Entry.{EntryParts}
 use Rattle.buck_book.specs.Plan.{PlanParts, IsPlan, plan_of}
-use Rattle.buck_fleet.specs.declared.seat.Kept.{Kept}
+use Rattle.buck_book.specs.declared.posting.Kept.{Kept}
 use Rattle.buck_fleet.specs.declared.seat.Path.{Path}
 use Rattle.buck_fleet.specs.declared.seat.Path.TheVariants.{Optimistic, Locked}
 use Rattle.buck_fleet.specs.declared.seat.Reply.{Reply}

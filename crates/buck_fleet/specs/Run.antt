@@ -3,31 +3,18 @@ use Rattle.std.specs.Prelude.{◌≡◌, ℕ, ◌<◌, ◌≤◌, List, [], ◌+
 use Rattle.std.specs.declared.sync.Arc.{Arc}
 use Rattle.std.specs.declared.vec.Vec.{Vec}
 use Rattle.std.specs.declared.alloc.Global.{Global}
-use Rattle.std.specs.Arc.{arc_value}
 use Rattle.buck_stem.specs.declared.stem.Stem.{Stem}
 use Rattle.buck_stem.specs.Stem.{StemParts}
 use Rattle.buck_book.specs.declared.posting.Posting.{Posting}
 use Rattle.buck_book.specs.declared.posting.Posting.TheVariants.{Cut, Demand}
 use Rattle.buck_book.specs.Posting.{harvester_of}
+use Rattle.buck_book.specs.Replies.{stem_cut, stems_at}
 use Rattle.buck_fleet.specs.declared.fault.RunFault.{RunFault}
-use Rattle.buck_fleet.specs.declared.seat.Kept.{Kept}
+use Rattle.buck_book.specs.declared.posting.Kept.{Kept}
 use Rattle.buck_fleet.specs.Seat.{SeatParts, Keeps}
 use Rattle.buck_fleet.specs.Fleet.{FleetParts, IsSeatIn}
 use Rattle.buck_fleet.specs.Crew.{IsCrew, parts_of}
 use Rattle.buck_fleet.specs.Reply.{IsFirstBestSomewhere}
-
--- the stem that a posting cut
-abbrev pub stem_cut : Posting → Option StemParts
-stem_cut (Cut e) = Some e.stem
-stem_cut (Demand d) = None
-
--- the stems of a harvester's list
-abbrev pub stems_of : List (Arc Stem Global) → List StemParts
-stems_of = map (λ (a : Arc Stem Global). arc_value a)
-
--- those of the list at a place
-abbrev pub stems_at : List (Vec (Arc Stem Global) Global) → ℕ → List StemParts
-stems_at lists i = slice_index_or (map (λ (v : Vec (Arc Stem Global) Global). stems_of v.items) lists) i []
 
 -- a cut, by the first of the best cuttings under some sheet of its version
 abbrev pub IsFirstBestCut : Posting → Type 0

@@ -7,16 +7,17 @@ ghost use Rattle.buck_book.specs.Counts.{AreClassCounts};
 ghost use Rattle.buck_book.specs.History.{IsLawful, in_force};
 ghost use Rattle.buck_book.specs.Book.{sheets_from};
 ghost use Rattle.buck_fleet.specs.Crew.{IsCrew, parts_of};
-ghost use Rattle.buck_fleet.specs.Closed.{ClosedParts, kept_by, lists_of, replies_from, replies_of, IsHandedOut, IsOneHistory, IsCloseFault, DifferFirstAt};
+ghost use Rattle.buck_book.specs.Replies.{replies_from, replies_of};
+ghost use Rattle.buck_fleet.specs.Closed.{ClosedParts, kept_by, lists_of, IsHandedOut, IsOneHistory, IsCloseFault, DifferFirstAt};
 ghost use Rattle.buck_fleet.specs.Faults.{close_numbers};
 ghost use Rattle.buck_book.specs.declared.posting.TheConstants.{MOST_POSTINGS};
 ghost use Rattle.buck_fleet.specs.declared.seat.TheConstants.{MOST_SEATS};
 
 use crate::desk::Desk;
 use crate::fleet::Fleet;
-use crate::seat::{Kept, Seat};
+use crate::seat::Seat;
 use buck_apt::Instruction;
-use buck_book::{Parts, Posting};
+use buck_book::{Kept, Parts, Posting};
 use buck_record::{FaultNumbers, Numbered};
 use buck_value::Sheet;
 use std::marker::Model;
@@ -59,38 +60,11 @@ pub struct Closed {
 }
 
 impl Model for Closed {
-    ghost use Rattle.std.specs.Prelude.{◌≡◌, ◌≤◌, length, map};
-    ghost use Rattle.buck_book.specs.Posting.{targets_of};
-    ghost use Rattle.buck_book.specs.Targets.{AreTargets};
-    ghost use Rattle.buck_book.specs.Counts.{AreClassCounts};
-    ghost use Rattle.buck_book.specs.History.{IsLawful};
-    ghost use Rattle.buck_book.specs.Book.{sheets_from};
     ghost use Rattle.buck_fleet.specs.Closed.{ClosedParts, lists_of};
-    ghost use Rattle.buck_book.specs.declared.posting.TheConstants.{MOST_POSTINGS};
 
     ghost Value = { ClosedParts };
 
-    ghost view = { λ c. record {
-      history = record {
-        instruction = c.parts.instruction.value;
-        sheets = map (λ a. a.value.prices) c.parts.sheets.items;
-        postings = c.parts.entries.items;
-      };
-      kept = lists_of c.kept.items;
-    } };
-
-    ghost invariant = { λ c.
-        IsLawful (record {
-          instruction = c.parts.instruction.value;
-          sheets = map (λ a. a.value.prices) c.parts.sheets.items;
-          postings = c.parts.entries.items;
-        })
-        × (map (λ a. a.value) c.parts.sheets.items
-        ≡ sheets_from 0 c.parts.instruction.value (map (λ a. a.value.prices) c.parts.sheets.items))
-        × (c.parts.targets.value.items ≡ targets_of c.parts.instruction.value c.parts.entries.items)
-        × AreTargets c.parts.instruction.value c.parts.targets.value.items
-        × AreClassCounts c.parts.instruction.value c.parts.entries.items c.parts.counts.items
-        × (length c.parts.entries.items ≤ MOST_POSTINGS) };
+    ghost view = { λ c. record { history = c.parts; kept = lists_of c.kept.items } };
 }
 
 /// Puts each seat's kept list in its harvester's place, and takes its share in.
@@ -168,11 +142,18 @@ fn first_difference(entries: &[Posting], kept: &[Kept], harvester: u32) -> Optio
 }
 
 impl Closed {
+    /// The history, as a book hands it out.
+    pub fn parts(&self) -> &Parts
+        ensures { result.now ≡ self.now.history }
+    {
+        &self.parts
+    }
+
     /// The instruction that the history is lawful for.
     pub fn instruction(&self) -> &Arc<Instruction>
         ensures { result.now.value ≡ self.now.history.instruction }
     {
-        &self.parts.instruction
+        self.parts.instruction()
     }
 
     /// The sheets, by version.
@@ -181,14 +162,14 @@ impl Closed {
             ≡ sheets_from 0 self.now.history.instruction self.now.history.sheets }
         ensures lawful { IsLawful self.now.history }
     {
-        self.parts.sheets.as_slice()
+        self.parts.sheets()
     }
 
     /// The sheet of the last version.
     pub fn last_sheet(&self) -> &Arc<Sheet>
         ensures { result.now.value ≡ in_force self.now.history }
     {
-        &self.parts.sheets[self.parts.sheets.len() - 1]
+        self.parts.last_sheet()
     }
 
     /// The postings, in the order of their commits, at most 1,000,000.
@@ -197,7 +178,7 @@ impl Closed {
         ensures lawful { IsLawful self.now.history }
         ensures few { length self.now.history.postings ≤ MOST_POSTINGS }
     {
-        self.parts.entries.as_slice()
+        self.parts.entries()
     }
 
     /// The targets in force at the end, class by class: those of the last demand, else the instruction's.
@@ -205,14 +186,14 @@ impl Closed {
         ensures targets { result.now ≡ targets_of self.now.history.instruction self.now.history.postings }
         ensures valid { AreTargets self.now.history.instruction result.now }
     {
-        self.parts.targets.as_slice()
+        self.parts.targets()
     }
 
     /// How many logs were cut in each class, in the same order.
     pub fn counts(&self) -> &[u32]
         ensures { AreClassCounts self.now.history.instruction self.now.history.postings result.now }
     {
-        self.parts.counts.as_slice()
+        self.parts.counts()
     }
 
     /// What each seat kept, by harvester.
@@ -230,12 +211,12 @@ impl Closed {
             → kept_by h self.now ≡ replies_of h self.now.history) }
         ensures some { IfSome result (IsCloseFault instruction.now (length self.now.kept) self.now) }
     {
-        if !self.parts.instruction.same(instruction) {
+        if !self.parts.instruction().same(instruction) {
             return Some(CloseFault::Instruction);
         }
         for (i, kept) in self.kept.iter().enumerate() {
             let harvester = i as u32 + 1;
-            match first_difference(self.parts.entries.as_slice(), kept.as_slice(), harvester) {
+            match first_difference(self.parts.entries(), kept.as_slice(), harvester) {
                 Some(number) => return Some(CloseFault::Calls { harvester, number }),
                 None => {}
             }

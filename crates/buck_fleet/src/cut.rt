@@ -5,11 +5,11 @@ ghost use Rattle.buck_fleet.specs.Seat.{KeepsNothing, seen_of};
 ghost use Rattle.buck_fleet.specs.Fleet.{IsSeatIn};
 ghost use Rattle.buck_fleet.specs.Reply.{IsReplyFor, AreAttempts};
 
-use crate::fault::{CutFault, TryFault};
+use crate::fault::TryFault;
 use crate::fleet::Fleet;
 use crate::gate::Gate;
 use crate::seat::{MOST_ATTEMPTS, Path, Reply, Seat};
-use buck_book::Refusal;
+use buck_book::CutFault;
 use buck_rule::Standing;
 use buck_stem::Stem;
 use std::alloc::Global;
@@ -36,13 +36,9 @@ impl<F: Fn(&Standing) -> u64 + Drop, L: Ledger> Fleet<F, L> {
         let mut desk = self.lock(rt);
         // Leave, where there is no memory for a plan: the call ends refused.
         let plan = seat.plan(alloc, desk.book.sheet(), stem)?;
-        match desk.commit(rt, alloc, &self.board, seat, plan, attempts, Path::Locked) {
-            Ok((reply, _)) => Ok(reply),
-            Err((Refusal::Stale { .. }, _)) => unreachable!(),
-            // Leave: the call ends refused.
-            Err((Refusal::Full, _)) => Err(CutFault::Full),
-            Err((Refusal::Memory, _)) => Err(CutFault::Memory),
-        }
+        // Leave, where it is refused.
+        let (reply, _) = desk.commit_locked(rt, alloc, &self.board, seat, plan)?;
+        Ok(Reply { attempts, ..reply })
     }
 
     /// Cuts a stem for a seat of this fleet. Up to three times it plans against the newest sheet without the lock,

@@ -5,13 +5,13 @@ ghost use Rattle.buck_board.specs.Board.{IsSeatOf, seen_by};
 ghost use Rattle.buck_book.specs.Plan.{IsPlan};
 ghost use Rattle.buck_book.specs.Book.{IsReadyFor};
 ghost use Rattle.buck_book.specs.History.{in_force};
-ghost use Rattle.buck_book.specs.Refused.{IsRefusal};
+ghost use Rattle.buck_book.specs.Refused.{IsRefusal, IsRefusalInForce};
 ghost use Rattle.buck_fleet.specs.Reply.{IsReplyFor, IsOfPlan, IsReplyToTargets};
 ghost use Rattle.buck_fleet.specs.inner.Shown.{IsShown, GrowsAsShown};
 
-use crate::seat::{DemandReply, Kept, Own, Path, Reply, Seat};
+use crate::seat::{DemandReply, Own, Path, Reply, Seat};
 use buck_board::{Board, PutUp};
-use buck_book::{Book, DemandRefusal, Plan, Posting, Ready, Refusal};
+use buck_book::{Book, CutFault, DemandRefusal, Kept, Plan, Posting, Ready, Refusal};
 use buck_dp::Cutting;
 use buck_record::Memory;
 use buck_rule::Standing;
@@ -32,58 +32,30 @@ pub struct Desk<F, L: Ledger> {
     ghost no_amount: { rest.amount ≡ 0 },
 }
 
-/// Prepares the commit of a plan. A locked one was made under the sheet in force, and no sheets are compared.
-fn prepare<F: Fn(&Standing) -> u64 + Drop>(
-    alloc: Global,
-    book: &mut Book<F>,
-    plan: &Plan,
-    path: Path,
-) -> Result<Ready, Refusal>
-    requires answers { AllAnswer F.Fn }
-    requires in_force { path ≡ Path.Locked → plan.now.sheet ≡ in_force book.old.history }
-    ensures history { book.new.history ≡ book.old.history }
-    ensures ready { IfOk result (λ r. IsReadyFor book.new r plan.now) }
-    ensures refused { IfErr result (IsRefusal book.old plan.now) }
-{
-    match path {
-        Path::Optimistic => book.prepare(alloc, plan),
-        Path::Locked => book.prepare_in_force(alloc, plan),
-    }
-}
-
-/// Makes all that the commit of a plan needs, the room in the seat's kept list first, and puts the next sheet up, where
-/// it ends a period.
-fn prepare_cut<R: Wait, F: Fn(&Standing) -> u64 + Drop>(
+/// Makes all that the commit of a prepared plan needs beside the book, the room in the seat's kept list first, and puts
+/// the next sheet up, where it ends a period.
+fn prepare_rest<R: Wait>(
     rt: &R,
-    alloc: Global,
-    book: &mut Book<F>,
     board: &Board,
     kept: &mut Vec<Kept>,
     plan: &Plan,
-    path: Path,
-) -> Result<(Ready, Arc<Stem>, Arc<Cutting>, Option<PutUp>), Refusal>
-    requires answers { AllAnswer F.Fn }
-    requires in_force { path ≡ Path.Locked → plan.now.sheet ≡ in_force book.old.history }
-    ensures history { book.new.history ≡ book.old.history }
+    ready: &Ready,
+) -> Result<(Arc<Stem>, Arc<Cutting>, Option<PutUp>), Memory>
     ensures kept { kept.new.items ≡ kept.old.items }
     ensures room { OnOk result (vec_len kept.new < vec_capacity kept.new) }
-    ensures ready { IfOk result (λ r. IsReadyFor book.new r.0 plan.now) }
-    ensures stem { IfOk result (λ r. r.1.value ≡ plan.now.stem) }
-    ensures logs { IfOk result (λ r. r.2.value.logs.items ≡ plan.now.logs) }
-    ensures shown { IfOk result (λ r. IsShown board.now r.0.next r.3) }
+    ensures stem { IfOk result (λ r. r.0.value ≡ plan.now.stem) }
+    ensures logs { IfOk result (λ r. r.1.value.logs.items ≡ plan.now.logs) }
+    ensures shown { IfOk result (λ r. IsShown board.now ready.now.next r.2) }
     ensures best { OnOk result (IsPlan plan.now) }
-    ensures refused { IfErr result (λ e. e ≢ Refusal.Memory → IsRefusal book.old plan.now e) }
 {
     kept.reserve(1)?;
     let stem = plan.stem().clone()?;
     let cutting = plan.cutting().clone()?;
-    // Try, of a plan that is outdated: nothing is added.
-    let ready = prepare(alloc, book, plan, path)?;
     let shown = match ready.next_sheet() {
         Some(sheet) => Some(board.put_up_shown(rt, sheet.clone()?)?),
         None => None,
     };
-    Ok((ready, stem, cutting, shown))
+    Ok((stem, cutting, shown))
 }
 
 /// Keeps a posting that was added to the history, in its seat's kept list and in the ledger, and raises the front to a
@@ -113,43 +85,33 @@ fn keep<L: Ledger>(
 }
 
 impl<F: Fn(&Standing) -> u64 + Drop, L: Ledger> Desk<F, L> {
-    /// Commits a plan for a seat, if its sheet is in force: puts the next sheet up where it ends a period, adds its
+    /// Adds the entry of a plan that the book has prepared: puts the next sheet up where it ends a period, adds the
     /// entry to the history and to the seat's kept list, and raises the front to the version in force. Answers also
-    /// what shows that a sheet was put up: without it no sheet comes to the history.
-    pub fn commit<R: Wait>(
+    /// what shows that a sheet was put up: without it no sheet comes to the history. The plan is given back where a
+    /// growth was refused.
+    fn add<R: Wait>(
         &mut self,
         rt: &R,
-        alloc: Global,
         board: &Board,
         seat: &mut Seat<L>,
         plan: Plan,
-        attempts: u8,
+        ready: Ready,
         path: Path,
-    ) -> Result<(Reply, Option<PutUp>), (Refusal, Plan)>
-        requires answers { AllAnswer F.Fn }
+    ) -> Result<(Reply, Option<PutUp>), Plan>
+        requires ready { IsReadyFor self.old.book ready plan }
         requires seat { IsSeatOf board.now seat.old.place }
-        requires in_force { path ≡ Path.Locked → plan.sheet ≡ in_force self.old.book.history }
         ensures seat { IsSeatOf board.now seat.new.place }
         ensures reply { IfOk result (λ r. IsReplyFor seat.old seat.new plan.stem r.0 × IsOfPlan plan r.0.entry) }
-        ensures told { IfOk result (λ r. (r.0.attempts ≡ attempts) × (r.0.path ≡ path)) }
+        ensures path { IfOk result (λ r. r.0.path ≡ path) }
         ensures shown { IfOk result (λ r. GrowsAsShown board.now self.old.book.history self.new.book.history r.1) }
-        ensures history { IfErr result (λ e. self.new.book.history ≡ self.old.book.history) }
-        ensures refused { IfErr result (λ e. e.0 ≢ Refusal.Memory → IsRefusal self.old.book plan e.0) }
-        ensures plan { IfErr result (λ e. (e.1 ≡ plan) × (seat.new ≡ seat.old)) }
+        ensures history { IfErr result (λ p. self.new.book.history ≡ self.old.book.history) }
+        ensures plan { IfErr result (λ p. (p ≡ plan) × (seat.new ≡ seat.old)) }
     {
         let Seat { harvester, own, .. } = seat;
         let Desk { book, calls, .. } = self;
-        let (ready, stem, cutting, shown) = match prepare_cut(
-            rt,
-            alloc,
-            book,
-            board,
-            &mut own.kept,
-            &plan,
-            path,
-        ) {
-            Ok(prepared) => prepared,
-            Err(refusal) => return Err((refusal, plan)),
+        let (stem, cutting, shown) = match prepare_rest(rt, board, &mut own.kept, &plan, &ready) {
+            Ok(made) => made,
+            Err(_) => return Err(plan),
         };
         let position = book.len() as u32;
         // Try, or Locked: the entry is added.
@@ -162,10 +124,67 @@ impl<F: Fn(&Standing) -> u64 + Drop, L: Ledger> Desk<F, L> {
         let reply = Reply {
             entry,
             position,
-            attempts,
+            attempts: 0,
             path,
         };
         Ok((reply, shown))
+    }
+
+    /// Commits a plan for a seat, if its sheet is in force, as a plan that was made without the lock.
+    pub fn commit<R: Wait>(
+        &mut self,
+        rt: &R,
+        alloc: Global,
+        board: &Board,
+        seat: &mut Seat<L>,
+        plan: Plan,
+    ) -> Result<(Reply, Option<PutUp>), (Refusal, Plan)>
+        requires answers { AllAnswer F.Fn }
+        requires seat { IsSeatOf board.now seat.old.place }
+        ensures seat { IsSeatOf board.now seat.new.place }
+        ensures reply { IfOk result (λ r. IsReplyFor seat.old seat.new plan.stem r.0 × IsOfPlan plan r.0.entry) }
+        ensures path { IfOk result (λ r. r.0.path ≡ Path.Optimistic) }
+        ensures shown { IfOk result (λ r. GrowsAsShown board.now self.old.book.history self.new.book.history r.1) }
+        ensures history { IfErr result (λ e. self.new.book.history ≡ self.old.book.history) }
+        ensures refused { IfErr result (λ e. IsRefusal self.old.book plan e.0) }
+        ensures plan { IfErr result (λ e. (e.1 ≡ plan) × (seat.new ≡ seat.old)) }
+    {
+        // Try, of a plan that is outdated: nothing is added.
+        let ready = match self.book.prepare(alloc, &plan) {
+            Ok(ready) => ready,
+            Err(refusal) => return Err((refusal, plan)),
+        };
+        match self.add(rt, board, seat, plan, ready, Path::Optimistic) {
+            Ok(added) => Ok(added),
+            Err(plan) => Err((Refusal::Memory, plan)),
+        }
+    }
+
+    /// Commits a plan for a seat that was made under the lock, which has been held since: no sheets are compared.
+    pub fn commit_locked<R: Wait>(
+        &mut self,
+        rt: &R,
+        alloc: Global,
+        board: &Board,
+        seat: &mut Seat<L>,
+        plan: Plan,
+    ) -> Result<(Reply, Option<PutUp>), CutFault>
+        requires answers { AllAnswer F.Fn }
+        requires seat { IsSeatOf board.now seat.old.place }
+        requires in_force { plan.sheet ≡ in_force self.old.book.history }
+        ensures seat { IsSeatOf board.now seat.new.place }
+        ensures reply { IfOk result (λ r. IsReplyFor seat.old seat.new plan.stem r.0) }
+        ensures path { IfOk result (λ r. r.0.path ≡ Path.Locked) }
+        ensures shown { IfOk result (λ r. GrowsAsShown board.now self.old.book.history self.new.book.history r.1) }
+        ensures history { IfErr result (λ e. self.new.book.history ≡ self.old.book.history) }
+        ensures refused { IfErr result (IsRefusalInForce self.old.book) }
+        ensures left { IfErr result (λ e. seat.new ≡ seat.old) }
+    {
+        let ready = self.book.prepare_in_force(alloc, &plan)?;
+        match self.add(rt, board, seat, plan, ready, Path::Locked) {
+            Ok(added) => Ok(added),
+            Err(_) => Err(CutFault::Memory),
+        }
     }
 
     /// Puts new targets in force for a seat: puts the next sheet up, adds the demand to the history and to the seat's

@@ -1,12 +1,9 @@
 //! Why the calls of a seat are refused. The history and the kept list are then as before.
 ghost use Rattle.std.specs.Prelude.{◌≡◌};
 ghost use Rattle.buck_fleet.specs.Refused.{stop_of, retarget_fault_of};
-ghost use Rattle.buck_fleet.specs.declared.fault.CutFault.TheVariants.{Memory};
 
-use buck_book::{DemandRefusal, Plan, TargetsFault};
-use buck_record::Memory;
+use buck_book::{CutFault, DemandRefusal, Plan, TargetsFault};
 use buck_value::Sheet;
-use std::alloc::AllocError;
 use std::fmt::{self, Debug, Formatter};
 use std::sync::Arc;
 use thiserror::Error;
@@ -34,33 +31,6 @@ impl Debug for TryFault {
             }
             TryFault::Memory { .. } => f.write_str("Memory"),
         }
-    }
-}
-
-/// Why a stem wasn't cut.
-#[derive(Clone, Copy, PartialEq, Eq, Debug, Drop, Error)]
-pub enum CutFault {
-    /// The history is at its capacity.
-    #[error("the history is at its capacity")]
-    Full,
-    /// A growth was refused.
-    #[error("out of memory")]
-    Memory,
-}
-
-impl From<AllocError> for CutFault {
-    ghost from_gives = { λ _ e. e ≡ Memory };
-
-    fn from(_error: AllocError) -> CutFault {
-        CutFault::Memory
-    }
-}
-
-impl From<Memory> for CutFault {
-    ghost from_gives = { λ _ e. e ≡ Memory };
-
-    fn from(_error: Memory) -> CutFault {
-        CutFault::Memory
     }
 }
 

@@ -9,10 +9,10 @@ ghost use Rattle.buck_fleet.specs.Refused.{GivesBack};
 
 use crate::desk::Desk;
 use crate::fault::{RetargetFault, TryFault};
-use crate::seat::{DemandReply, Kept, Path, Reply, Seat};
+use crate::seat::{DemandReply, Path, Reply, Seat};
 use buck_apt::Instruction;
 use buck_board::{Board, Snapshot};
-use buck_book::{Plan, Refusal};
+use buck_book::{Kept, Plan, Refusal};
 use buck_rule::Standing;
 use std::alloc::Global;
 use std::hint::spin_loop;
@@ -108,8 +108,11 @@ impl<F: Fn(&Standing) -> u64 + Drop, L: Ledger> Fleet<F, L> {
         ensures left { IfErr result (λ e. KeepsNothing seat.old seat.new) }
     {
         let mut desk = self.lock(rt);
-        match desk.commit(rt, alloc, &self.board, seat, plan, 1, Path::Optimistic) {
-            Ok((reply, _)) => Ok(reply),
+        match desk.commit(rt, alloc, &self.board, seat, plan) {
+            Ok((reply, _)) => Ok(Reply {
+                attempts: 1,
+                ..reply
+            }),
             // Leave: the call ends refused.
             Err((refusal, plan)) => Err(match refusal {
                 Refusal::Full => TryFault::Full { plan },

@@ -13,10 +13,11 @@ mod run;
 mod seat;
 
 pub use buck_board::Snapshot;
+pub use buck_book::{CutFault, Kept};
 pub use close::{CloseFault, Closed};
-pub use fault::{CutFault, RetargetFault, RunFault, TryFault};
+pub use fault::{RetargetFault, RunFault, TryFault};
 pub use fleet::Fleet;
 pub use gate::{Gate, NoGate};
 pub use open::OpenFault;
 pub use run::run_fleet;
-pub use seat::{DemandReply, Kept, MOST_ATTEMPTS, MOST_SEATS, Path, Reply, Seat};
+pub use seat::{DemandReply, MOST_ATTEMPTS, MOST_SEATS, Path, Reply, Seat};

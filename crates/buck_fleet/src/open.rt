@@ -9,10 +9,10 @@ ghost use Rattle.buck_fleet.specs.declared.seat.TheConstants.{MOST_SEATS};
 
 use crate::desk::Desk;
 use crate::fleet::Fleet;
-use crate::seat::{Kept, MOST_SEATS, Seat};
+use crate::seat::{MOST_SEATS, Seat};
 use buck_apt::Instruction;
 use buck_board::{Board, BoardSeat};
-use buck_book::{Book, MOST_POSTINGS};
+use buck_book::{Book, Kept, MOST_POSTINGS};
 use buck_record::Memory;
 use buck_rule::{Rule, Standing};
 use std::alloc::{AllocError, Global};

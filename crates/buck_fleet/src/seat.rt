@@ -6,7 +6,7 @@ ghost use Rattle.buck_fleet.specs.declared.seat.TheConstants.{MOST_SEATS};
 
 use crate::fault::RunFault;
 use buck_board::BoardSeat;
-use buck_book::{Demand, Entry, Plan, Posting};
+use buck_book::{Demand, Entry, Kept, Plan};
 use buck_dp::Planner;
 use buck_record::Memory;
 use buck_stem::Stem;
@@ -21,15 +21,6 @@ pub const MOST_SEATS: u32 = 64;
 
 /// How many plans a cut makes without the lock, before it makes one under it.
 pub const MOST_ATTEMPTS: u8 = 3;
-
-/// A posting that a seat was answered, with its position in the history, from 0.
-#[derive(Drop)]
-pub struct Kept {
-    /// How many postings stand before it.
-    pub position: u32,
-    /// The entry or the demand.
-    pub entry: Posting,
-}
 
 /// How an entry came to be.
 #[derive(Clone, Copy, PartialEq, Eq, Debug, Drop)]

@@ -1,4 +1,3 @@
 pub mod Walks
 pub mod Boxes
-pub mod Adding
-pub mod Sheets
+pub mod Ruled

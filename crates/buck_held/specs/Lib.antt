@@ -1,4 +1,5 @@
 pub mod Kept
 pub mod Felled
+pub mod Looked
 pub mod Block
 pub mod inner

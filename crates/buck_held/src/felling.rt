@@ -1,12 +1,12 @@
 //! Stems as a caller in another language has them, cut one by one.
 ghost use Rattle.std.specs.Prelude.{◌≡◌, IfOk, IfErr, map};
 ghost use Rattle.buck_stem.specs.Stem.{IsStem};
-ghost use Rattle.buck_held.specs.Kept.{HasCut, SameTerms};
+ghost use Rattle.buck_cutter.specs.Cut.{HasCut};
+ghost use Rattle.buck_held.specs.Kept.{ArePricesBy, SameTerms};
 ghost use Rattle.buck_held.specs.Felled.{pair_of, stem_by, IsFellFault, IsStemFault};
 
-use crate::cutting::CutRefusal;
 use crate::kept::KeptBook;
-use buck_book::Entry;
+use buck_book::{CutFault, Entry};
 use buck_stem::{Stem, StemFault};
 use std::alloc::{AllocError, Global};
 use std::sync::Arc;
@@ -63,7 +63,7 @@ fn zones_of(alloc: Global, zones: &[Zone]) -> Result<Vec<(u32, u8)>, AllocError>
 }
 
 /// The stem of these parts.
-fn stem_of(
+pub(crate) fn stem_of(
     alloc: Global,
     felled: &Felled,
     samples: &[u16],
@@ -101,7 +101,7 @@ impl KeptBook {
         zones: &[Zone],
     ) -> Result<Entry, FellFault>
         ensures terms { SameTerms self.old self.new }
-        ensures cut { IfOk result (HasCut self.old.rule felled.now.harvester
+        ensures cut { IfOk result (HasCut (ArePricesBy self.old.rule) felled.now.harvester
             (stem_by felled.now samples.now zones.now) self.old.history self.new.history) }
         ensures left { IfErr result (λ _. self.new ≡ self.old) }
         ensures refused { IfErr result (IsFellFault self.old felled.now (stem_by felled.now samples.now zones.now)) }
@@ -116,8 +116,8 @@ impl KeptBook {
         let stem = stem_of(alloc, felled, samples, zones)?;
         match self.cut(alloc, harvester, stem) {
             Ok(entry) => Ok(entry),
-            Err(CutRefusal::Full) => Err(FellFault::Full),
-            Err(CutRefusal::Memory) => Err(FellFault::Memory),
+            Err(CutFault::Full) => Err(FellFault::Full),
+            Err(CutFault::Memory) => Err(FellFault::Memory),
         }
     }
 }

@@ -1,54 +1,60 @@
-//! The book of one thread with its planner and a rule that has a name.
+//! The book of one thread, kept between calls, with a rule that has a name.
 ghost use Rattle.std.specs.Prelude.{◌≡◌, ◌<◌, ◌≤◌, IfOk, IfErr, length};
-ghost use Rattle.buck_held.specs.Kept.{opened, HasCut, HasRetargeted, IsDemandRefused, SameTerms};
-ghost use Rattle.buck_held.specs.inner.Resting.{IsOpened};
+ghost use Rattle.buck_journal.specs.Written.{journal_text};
+ghost use Rattle.buck_cutter.specs.Cut.{HasCut, HasRetargeted, opening};
+ghost use Rattle.buck_held.specs.Kept.{ArePricesBy, IsDemandRefused, SameTerms, opened};
+ghost use Rattle.buck_held.specs.Looked.{IsPlannedNow};
 ghost use Rattle.buck_book.specs.declared.posting.TheConstants.{MOST_POSTINGS};
+ghost use Rattle.buck_book.specs.declared.ready.CutFault.TheVariants.{Full};
 
-use crate::cutting::{CutRefusal, Felled, cut, retarget};
+use crate::cutting::{cut, retarget};
 use buck_apt::Instruction;
-use buck_book::{Book, Demand, DemandRefusal, Entry};
-use buck_dp::Planner;
+use buck_book::{Book, CutFault, Demand, DemandRefusal, Entry, Plan};
+use buck_cutter::Cutter;
 use buck_record::Memory;
-use buck_rule::{NamedRule, Rule, Standing, steady};
+use buck_rule::{NamedRule, Rule, Standing};
 use buck_stem::Stem;
 use std::alloc::Global;
 use std::marker::Model;
 use std::sync::Arc;
 
-/// A book that rests between its calls, the planner of its next stem, and the name of its rule. The planner's sheet is
-/// the book's of the same version, which may be an earlier one than that in force.
+/// A book that rests between its calls, without its rule, and the name of that.
 #[derive(Drop)]
 pub struct KeptBook {
     rule: NamedRule,
-    book: Option<Book<()>>,
-    planner: Planner,
+    cutter: Option<Cutter<()>>,
 }
 
 impl Model for KeptBook {
     ghost use Rattle.std.specs.Prelude.{IsSome};
     ghost use Rattle.buck_held.specs.Kept.{KeptParts};
-    ghost use Rattle.buck_held.specs.inner.Resting.{IsSheetOf, book_in, kept_of};
+    ghost use Rattle.buck_held.specs.inner.Resting.{book_in, kept_of};
 
     ghost Value = { KeptParts };
 
-    ghost view = { λ k. kept_of k.rule (book_in k.book) };
+    ghost view = { λ k. kept_of k.rule (book_in k.cutter) };
 
-    ghost invariant = { λ k. IsSome k.book × IsSheetOf (book_in k.book).history k.planner };
+    ghost invariant = { λ k. IsSome k.cutter };
 }
 
-/// A book that asks no rule until it has one, with the base sheet.
-fn resting(alloc: Global, instruction: Arc<Instruction>, capacity: u32) -> Result<Book<()>, Memory>
+/// A book with no posting and the base sheet, at rest.
+fn resting(
+    alloc: Global,
+    instruction: Arc<Instruction>,
+    rule: NamedRule,
+    capacity: u32,
+) -> Result<Cutter<()>, Memory>
     requires { (0 < capacity) × (capacity ≤ MOST_POSTINGS) }
-    ensures { IfOk result (λ b. IsOpened instruction.value capacity b) }
+    ensures history { IfOk result (λ c. c.history ≡ opening instruction.value) }
+    ensures capacity { IfOk result (λ c. c.capacity ≡ capacity) }
 {
-    let rule = Rule::new(|s: &Standing| steady(s));
-    let book = Book::open(alloc, instruction, rule, capacity)?;
-    Ok(book.with_rule(Rule::none()))
+    let by = Rule::new(move |s: &Standing| rule.price(s));
+    let cutter = Cutter::open(alloc, instruction, by, capacity)?;
+    Ok(cutter.with_rule(Rule::none()))
 }
 
 impl KeptBook {
     /// A book with no posting, which may have from 1 to 1,000,000. Refused as `Memory` alone.
-    #[tactic(auto, using(crate::proofs::Sheets::in_force_is))]
     pub fn open(
         alloc: Global,
         instruction: Arc<Instruction>,
@@ -58,13 +64,10 @@ impl KeptBook {
         requires { (0 < capacity) × (capacity ≤ MOST_POSTINGS) }
         ensures { IfOk result (λ k. k ≡ opened rule instruction.value capacity) }
     {
-        let book = resting(alloc, instruction, capacity)?;
-        let _lawful = book.entries();
-        let planner = Planner::make(alloc, book.sheet().clone()?)?;
+        let cutter = resting(alloc, instruction, rule, capacity)?;
         Ok(KeptBook {
             rule,
-            book: Some(book),
-            planner,
+            cutter: Some(cutter),
         })
     }
 
@@ -73,33 +76,52 @@ impl KeptBook {
         ensures history { result.now.history ≡ self.now.history }
         ensures capacity { result.now.capacity ≡ self.now.capacity }
     {
-        match &self.book {
-            Some(book) => book,
+        match &self.cutter {
+            Some(cutter) => cutter.book(),
             None => unreachable!(),
         }
     }
 
-    /// Cuts a stem for a harvester from 1 to 64 under the sheet in force, commits the cutting, and answers its entry.
-    /// The planner is renewed where another sheet came into force. Refused as `Full` at the capacity, and as `Memory`
-    /// where a growth was refused; the history is then as before.
-    pub fn cut(
-        &mut self,
-        alloc: Global,
-        harvester: u32,
-        stem: Arc<Stem>,
-    ) -> Result<Entry, CutRefusal>
-        requires harvester { (0 < harvester) × (harvester ≤ 64) }
-        ensures terms { SameTerms self.old self.new }
-        ensures cut { IfOk result (HasCut self.old.rule harvester stem.value self.old.history self.new.history) }
-        ensures left { IfErr result (λ _. self.new ≡ self.old) }
-        ensures full { IfErr result (λ e. e ≡ CutRefusal.Full → length self.old.history.postings ≡ self.old.capacity) }
+    /// The text of its journal. Refused as `Memory` alone.
+    pub fn journal(&self, alloc: Global) -> Result<Vec<u8>, Memory>
+        ensures { IfOk result (λ text.
+            text.items ≡ journal_text self.now.history.sheets self.now.history.postings) }
     {
-        let Some(book) = self.book.take() else {
+        match &self.cutter {
+            Some(cutter) => cutter.journal(alloc),
+            None => unreachable!(),
+        }
+    }
+
+    /// How a stem would be cut now: its plan under the sheet in force. The book stays as it was. Refused as `Memory`
+    /// alone.
+    pub fn preview(&mut self, alloc: Global, stem: Arc<Stem>) -> Result<Plan, Memory>
+        ensures same { self.new ≡ self.old }
+        ensures planned { IfOk result (IsPlannedNow self.old.history stem.value) }
+    {
+        let Some(mut cutter) = self.cutter.take() else {
             unreachable!()
         };
-        let felled = Felled { harvester, stem };
-        let (book, entry) = cut(alloc, book, &mut self.planner, self.rule, felled);
-        self.book = Some(book);
+        let plan = cutter.preview(alloc, stem);
+        self.cutter = Some(cutter);
+        plan
+    }
+
+    /// Cuts a stem for a harvester from 1 to 64 under the sheet in force, commits the cutting, and answers its entry.
+    /// Refused as `Full` at the capacity, and as `Memory` where a growth was refused; the history is then as before.
+    pub fn cut(&mut self, alloc: Global, harvester: u32, stem: Arc<Stem>) -> Result<Entry, CutFault>
+        requires harvester { (0 < harvester) × (harvester ≤ 64) }
+        ensures terms { SameTerms self.old self.new }
+        ensures cut { IfOk result
+            (HasCut (ArePricesBy self.old.rule) harvester stem.value self.old.history self.new.history) }
+        ensures left { IfErr result (λ _. self.new ≡ self.old) }
+        ensures full { IfErr result (λ e. e ≡ Full → length self.old.history.postings ≡ self.old.capacity) }
+    {
+        let Some(cutter) = self.cutter.take() else {
+            unreachable!()
+        };
+        let (cutter, entry) = cut(alloc, cutter, self.rule, stem, harvester);
+        self.cutter = Some(cutter);
         entry
     }
 
@@ -115,15 +137,16 @@ impl KeptBook {
         requires harvester { (0 < harvester) × (harvester ≤ 64) }
         ensures terms { SameTerms self.old self.new }
         ensures retargeted { IfOk result
-            (HasRetargeted self.old.rule harvester targets.now.value.items self.old.history self.new.history) }
+            (HasRetargeted (ArePricesBy self.old.rule) harvester targets.now.value.items
+            self.old.history self.new.history) }
         ensures left { IfErr result (λ _. self.new ≡ self.old) }
         ensures refused { IfErr result (IsDemandRefused self.old.history self.old.capacity targets.now.value.items) }
     {
-        let Some(book) = self.book.take() else {
+        let Some(cutter) = self.cutter.take() else {
             unreachable!()
         };
-        let (book, demand) = retarget(alloc, book, self.rule, harvester, targets);
-        self.book = Some(book);
+        let (cutter, demand) = retarget(alloc, cutter, self.rule, targets, harvester);
+        self.cutter = Some(cutter);
         demand
     }
 }

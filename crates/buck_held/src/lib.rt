@@ -6,10 +6,10 @@ mod cutting;
 mod felling;
 mod handle;
 mod kept;
+mod looking;
 
 pub use block::Block;
-pub use buck_rule::NamedRule;
-pub use cutting::CutRefusal;
 pub use felling::{FellFault, Felled, Zone};
 pub use handle::Handle;
 pub use kept::KeptBook;
+pub use looking::{Appraisal, NamedLog};

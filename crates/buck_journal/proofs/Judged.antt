@@ -1,7 +1,7 @@
 -- What comes of a history of which the first doubtful posting is known.
-use Rattle.buck_journal.proofs.Words.{◌≡◌, ◌≢◌, ℕ, ◌+◌, ◌<◌, ◌≤◌, inl, inr, true, false, List, length, take, subst, slice_get, Option, Some, None, refl, arith, rules, common_steps, cases_lt, slice_get_within, Posting, Cut, Demand, planned_version, HistoryParts, Follows, sheet_at, ReplayFault, Outvalued, Memory, Result, Ok, Err, IfOk, IfErr, OnOk, IsLawful, IsOrdered, version_at, IsRightBefore, IsContentFault, IsFirstFault, IsPriced, IsRightUnder, IsInOrderBefore, IsStopped, IsOutvalued, IsDoubtful, NoneDoubtful, IsFirstDoubtful, IsFound}
+use Rattle.buck_journal.proofs.Words.{◌≡◌, ℕ, ◌+◌, ◌<◌, ◌≤◌, inl, inr, true, false, List, length, take, subst, slice_get, Option, Some, None, refl, arith, rules, common_steps, cases_lt, slice_get_within, IsInstruction, Posting, Cut, Demand, planned_version, HistoryParts, Follows, sheet_at, ReplayFault, Outvalued, Result, Ok, Err, IfOk, IfErr, OnOk, IsLawful, IsOrdered, version_at, IsRightBefore, IsContentFault, IsFirstFault, IsPriced, IsRightUnder, IsInOrderBefore, IsWrongAt, IsOutvalued, IsDoubtful, NoneDoubtful, IsFirstDoubtful, IsFound}
 use Rattle.std.specs.Option.{is_some}
-use Rattle.buck_journal.proofs.Replays.{opened, lawful_when}
+use Rattle.buck_journal.proofs.Replays.{opened, ordered_within, lawful_when}
 
 module _ (h : HistoryParts) where
   -- the next posting isn't doubtful either
@@ -72,32 +72,33 @@ module _ (h : HistoryParts) where
   outvalued_there at (Demand d) r more = absurd more
 
   -- the first doubtful posting in order has the first fault
-  pub first_is_met : (until at : ℕ) → until ≤ length h.postings → IsInOrderBefore h until → at < until
+  doubtful_is_met : (until at : ℕ) → until ≤ length h.postings → IsInOrderBefore h until → at < until
       → IsFirstDoubtful h 0 at → IsFirstFault h (Outvalued at)
-  first_is_met until at le before lt first =
+  doubtful_is_met until at le before lt first =
       let r = before.postings at first.next lt first.there in
       let more = first.wrong (priced_before until le before at first.next lt first.there) in
       grind (arith, right_before, outvalued_there, first.next, first.there, first.before, before.sheets, r.of_version, r.numbered)
 
-  -- where none is, the fault at which the walk stopped is the first
-  stop_is_met : (until : ℕ) (fault : ReplayFault) → IsInOrderBefore h until
-      → NoneDoubtful h 0 until → IsStopped h until fault → IsFirstFault h fault
-  stop_is_met until fault before none stopped = grind (arith, right_before)
+  pub first_is_met : (until at : ℕ) (outcome : Result (Unit {0}) ReplayFault) → IsOrdered h until outcome → at < until
+      → IsFirstDoubtful h 0 at → IsFirstFault h (Outvalued at)
+  first_is_met until at outcome o lt first =
+      doubtful_is_met until at (ordered_within h until outcome o) o.right lt first
 
-  -- and what the walk came to is the answer
-  pub answer_of_walk : {W : Type 0} (until : ℕ) (end : Result W ReplayFault) → IsOrdered h until end
-      → NoneDoubtful h 0 until → OnOk end (IsLawful h) × IfErr end (λ e. e ≢ Memory → IsFirstFault h e)
-  answer_of_walk until (Ok w) o none = grind (arith, lawful_when, right_before, o.ended, o.right)
-  answer_of_walk until (Err fault) o none = (tt, λ told. stop_is_met until fault o.right none (o.stopped told))
+  -- where none is, what is wrong at the end of the order is the first
+  stop_is_met : (until : ℕ) (fault : ReplayFault) → IsInOrderBefore h until
+      → NoneDoubtful h 0 until → IsWrongAt h until fault → IsFirstFault h fault
+  stop_is_met until fault before none wrong = grind (arith, right_before)
+
+  -- and what came of the journal there is the answer
+  pub answer_of_walk : (until : ℕ) (outcome : Result (Unit {0}) ReplayFault) → IsInstruction h.instruction
+      → IsOrdered h until outcome → NoneDoubtful h 0 until
+      → OnOk outcome (IsLawful h) × IfErr outcome (IsFirstFault h)
+  answer_of_walk until (Ok w) valid o none = grind (arith, lawful_when, right_before, o.ended, o.right)
+  answer_of_walk until (Err fault) valid o none = (tt, stop_is_met until fault o.right none o.stopped)
 
 -- what a thread found
 pub told : {X E : Type 0} (P : X → Type 0) (r : Result X E) (x : X) → IfOk r P → r ≡ Ok x → P x
 told P r x ok same = subst (λ q. IfOk q P) same ok
-
--- and what is known of what a walk ended with is known where that is the answer
-pub told_end : {X E : Type 0} (P : X → Type 0) (end r : Result X E) → IfOk end P → IfOk r (λ x. end ≡ Ok x) → IfOk r P
-told_end P end (Ok x) ok same = told P end x ok same
-told_end P end (Err e) ok same = tt
 
 -- what a walk and a search beside it come to
 pub ruleset joined = (told, found_further, found_before, none_before)

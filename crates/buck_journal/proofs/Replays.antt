@@ -104,28 +104,54 @@ module _ (h : HistoryParts) (w : WalkParts) (same : w ≡ walk_of h.instruction 
         search (rules, sheet_stays),
       )
 
-  pub walk_ends : {E : Type 0} (r : Result WalkParts E) → w.at ≤ length w.postings → None ≡ slice_get w.postings w.at
-      → IfOk r (λ v. v ≡ w) → IfOk r (λ v. v ≡ walk_of h.instruction h.postings (length h.postings))
-  walk_ends (Err e) le none is = tt
-  walk_ends (Ok v) le none is = grind (arith, at_end)
-
--- what comes of a walk: it has stopped at a posting, or behind the last
-pub stopped_at : (W : Type 0) (h : HistoryParts) (k : ℕ) (x : Posting) (fault : ReplayFault) → k ≤ length h.postings
-    → Some x ≡ slice_get h.postings k
+-- what comes of a walk: something is wrong at a posting, or else behind the last
+stopped_at : (h : HistoryParts) (k : ℕ) (x : Posting) (fault : ReplayFault) → Some x ≡ slice_get h.postings k
     → IsInOrderBefore h k
-    → (fault ≢ Memory → IsFaultAt h k x fault)
-    → IsOrdered {W = W} h k (Err fault)
-stopped_at W h k x fault le there before wrong = grind arith
+    → IsFaultAt h k x fault
+    → IsOrdered h k (Err fault)
+stopped_at h k x fault there before wrong =
+    record { right = before; ended = tt; stopped = inl (x, sym there, wrong) }
 
-pub ended_at : {W : Type 0} (h : HistoryParts) (k : ℕ) (end : Result W ReplayFault) → k ≤ length h.postings
+ended_at : (h : HistoryParts) (k : ℕ) (outcome : Result (Unit {0}) ReplayFault) → k ≤ length h.postings
     → None ≡ slice_get h.postings k
-    → IsInstruction h.instruction
     → IsInOrderBefore h k
-    → OnOk end (IsEndRight h k)
-    → IfErr end (IsFaultAtEnd h k)
-    → IsOrdered h k end
-ended_at h k (Ok w) le none valid before right wrong = search (rules, at_end)
-ended_at h k (Err e) le none valid before right wrong = search (rules, at_end)
+    → OnOk outcome (IsEndRight h k)
+    → IfErr outcome (IsFaultAtEnd h k)
+    → IsOrdered h k outcome
+ended_at h k (Ok w) le none before right wrong =
+    record { right = before; ended = (at_end h.postings k le none, right); stopped = tt }
+ended_at h k (Err e) le none before right wrong =
+    record { right = before; ended = tt; stopped = inr (at_end h.postings k le none, wrong) }
+
+-- what comes of a walk through a history
+module _ (h : HistoryParts) (w : WalkParts) (same : w ≡ walk_of h.instruction h.postings w.at)
+    (before : IsInOrderBefore (along w h.sheets) w.at) where
+  pub stopped_on : (x : Posting) (fault : ReplayFault) → Some x ≡ slice_get w.postings w.at
+      → (fault ≢ Memory → IsFaultAt (along w h.sheets) w.at x fault) → fault ≢ Memory → IsOrdered h w.at (Err fault)
+  stopped_on x fault there wrong told =
+      subst (λ k. IsOrdered k w.at (Err fault)) (along_is h w same)
+      (stopped_at (along w h.sheets) w.at x fault there before (wrong told))
+
+  pub ended_on : (outcome : Result (Unit {0}) ReplayFault) → w.at ≤ length w.postings → None ≡ slice_get w.postings w.at
+      → OnOk outcome (IsEndRight (along w h.sheets) w.at) → IfErr outcome (IsFaultAtEnd (along w h.sheets) w.at)
+      → IsOrdered h w.at outcome
+  ended_on outcome le none right wrong =
+      subst (λ k. IsOrdered k w.at outcome) (along_is h w same)
+      (ended_at (along w h.sheets) w.at outcome le none before right wrong)
+
+-- what is known of what came of a walk
+pub ok_then : {X E : Type 0} (P Q : X → Type 0) (r : Result X E) → IfOk r P → ((x : X) → P x → Q x) → IfOk r Q
+ok_then P Q (Ok x) known more = more x known
+ok_then P Q (Err e) known more = tt
+
+-- it has come no further than to the end
+pub ordered_within : (h : HistoryParts) (k : ℕ) (outcome : Result (Unit {0}) ReplayFault) → IsOrdered h k outcome
+    → k ≤ length h.postings
+ordered_within h k (Ok w) o = omega (arith, o.ended.0)
+ordered_within h k (Err e) o = elim o.stopped [
+  | inl w ↦ omega (arith, slice_get_within h.postings k w.0 w.1)
+  | inr w ↦ omega (arith, w.0)
+]
 
 -- all postings may follow, and all sheets are right
 pub lawful_when : (h : HistoryParts) → IsInstruction h.instruction → IsRightBefore h (length h.postings)

@@ -35,7 +35,8 @@ pub use Rattle.buck_journal.specs.judging.Replay.{version_at, prices_then, Begin
 pub use Rattle.std.specs.Prelude.{IfOk, IfErr, OnOk, Contains}
 pub use Rattle.buck_journal.specs.declared.judging.fault.ReplayFault.TheVariants.{Outvalued, Memory, Sheet, Price, Numbering, Version, Cutting, Worth, Targets}
 pub use Rattle.buck_journal.specs.inner.Sheets.{IsPriced, AreMade}
-pub use Rattle.buck_journal.specs.inner.Replay.{HoldsUnder, IsRightUnder, IsInOrderBefore, IsStopped, IsOrdered, IsOutvalued, IsDoubtful, NoneDoubtful, IsFirstDoubtful, IsFound, sheet_then, along, IsPassed, IsEndRight}
+pub use Rattle.buck_journal.specs.judging.Order.{HoldsUnder, IsRightUnder, IsInOrderBefore, IsEndRight, IsWrongAt, IsOrdered}
+pub use Rattle.buck_journal.specs.inner.Replay.{IsOutvalued, IsDoubtful, NoneDoubtful, IsFirstDoubtful, IsFound, sheet_then, along, IsPassed}
 pub use Rattle.std.proofs.lemmas.List.Elements.{All-from_recursion, All-append, All-cons, All-nil, recursion_from_All, All-contains}
 pub use Rattle.std.proofs.lemmas.List.Sums.{AllPass-from_list_all, suffix_len_is, list_all-from_AllPass}
 pub use Rattle.buck_stem.specs.Stem.{IsRisingFrom, stem_of, IsGrade}

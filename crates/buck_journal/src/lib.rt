@@ -8,7 +8,7 @@ mod writing;
 
 pub use buck_record::Memory;
 pub use judging::fault::ReplayFault;
-pub use judging::replaying::{replay, replay_in_parts, replay_to_end};
+pub use judging::replaying::{Stop, replay, replay_in_order, replay_in_parts, replay_to_end};
 pub use reading::described::ITEMS;
 pub use reading::fault::JournalFault;
 pub use reading::journal::{Journal, read_journal};

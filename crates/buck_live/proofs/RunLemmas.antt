@@ -1,7 +1,6 @@
 -- A run over an input that goes on.
 use Rattle.std.proofs.Common.{◌≡◌, ℕ, inl, inr, List, [], ◌∷◌, ◌++◌, Option, Some, None, Result, Ok, Err, length, take, refl, sym, ap, subst, ◌∙◌, append_assoc, append-nil, le_refl, take_all}
 use Rattle.std.proofs.KnownBytes.{Appends-nil, Appends-trans}
-use Rattle.std.specs.Prelude.{IfSome}
 use Rattle.std.specs.Result.{IsErrAnd}
 use Rattle.std.specs.Io.KnownBytes.{Appends, Keeps}
 use Rattle.buck_book.specs.History.{HistoryParts}
@@ -10,8 +9,8 @@ use Rattle.buck_engine.specs.run.Serving.{AppendsFirst}
 use Rattle.buck_live.specs.Lines.{lines_of}
 use Rattle.buck_live.specs.Answers.{AnswersLine, AnswersAll}
 use Rattle.buck_live.specs.Live.{AnsweredAll, StoppedReading, StoppedWriting, IsLiveRun}
-use Rattle.buck_live.specs.inner.Reading.{IsNext, IsLast, IsRead}
-use Rattle.buck_live.specs.inner.Running.{IsSaid, AreTaken, IsAt, HasStepped, HasFailed, IsStep}
+use Rattle.buck_live.specs.inner.Reading.{AreTaken, HasLines, IsRead}
+use Rattle.buck_live.specs.inner.Running.{IsSaid, IsAt, HasStepped, IsStep}
 use Rattle.buck_live.specs.declared.lines.End.{End}
 use Rattle.buck_live.specs.declared.lines.End.TheVariants.{Feed, Input}
 
@@ -36,37 +35,21 @@ all_then h m after (l ∷ lines) line text last (between, first, rest, one, more
 )
 
 taken_then : (input mid left : Option (List ℕ)) (lines : List (Option (List ℕ))) (line : Option (List ℕ))
-    → AreTaken input lines mid → IsNext mid line left → AreTaken input (lines ++ line ∷ []) left
-taken_then None mid left lines line taken next = tt
-taken_then (Some x) None left lines line taken next = absurd taken
-taken_then (Some x) (Some y) None lines line taken next = absurd next
-taken_then (Some x) (Some y) (Some z) lines line taken next =
-    taken ∙ ap (λ (l : List (Option (List ℕ))). lines ++ l) next ∙ sym (append_assoc lines (line ∷ []) (lines_of z))
-
-taken_last : (input mid : Option (List ℕ)) (lines : List (Option (List ℕ))) (line : Option (List ℕ))
-    → AreTaken input lines mid → IsLast mid line → IfSome input (λ bytes. lines_of bytes ≡ (lines ++ line ∷ []) ++ [])
-taken_last None mid lines line taken next = tt
-taken_last (Some x) None lines line taken next = absurd taken
-taken_last (Some x) (Some y) lines line taken next =
-    taken ∙ ap (λ (l : List (Option (List ℕ))). lines ++ l) next ∙ sym (append-nil (lines ++ line ∷ []))
+    → AreTaken input lines mid → AreTaken mid (line ∷ []) left → AreTaken input (lines ++ line ∷ []) left
+taken_then input mid left lines line taken next =
+    λ more there. rw (append_assoc lines (line ∷ []) more) (taken (line ∷ more) (next more there))
 
 -- what is left
-left_of : (input mid : Option (List ℕ)) (lines : List (Option (List ℕ))) → AreTaken input lines mid
-    → (left : List (Option (List ℕ))) × IfSome input (λ bytes. lines_of bytes ≡ lines ++ left)
-left_of None mid lines taken = ([], tt)
-left_of (Some x) None lines taken = absurd taken
-left_of (Some x) (Some y) lines taken = (lines_of y, taken)
+left_of : (input : Option (List ℕ)) → (left : List (Option (List ℕ))) × HasLines input left
+left_of None = ([], tt)
+left_of (Some x) = (lines_of x, refl)
 
 left_after : (input mid left : Option (List ℕ)) (lines : List (Option (List ℕ))) (line : Option (List ℕ)) (end : End)
     → AreTaken input lines mid → IsRead mid left line end
-    → (more : List (Option (List ℕ))) × IfSome input (λ bytes. lines_of bytes ≡ lines ++ line ∷ more)
-left_after None mid left lines line end taken read = ([], tt)
-left_after (Some x) None left lines line end taken read = absurd taken
-left_after (Some x) (Some y) None lines line Feed taken read = absurd read
-left_after (Some x) (Some y) (Some z) lines line Feed taken read =
-    (lines_of z, taken ∙ ap (λ (l : List (Option (List ℕ))). lines ++ l) read)
-left_after (Some x) (Some y) left lines line Input taken read =
-    ([], taken ∙ ap (λ (l : List (Option (List ℕ))). lines ++ l) read)
+    → (more : List (Option (List ℕ))) × HasLines input (lines ++ line ∷ more)
+left_after input mid left lines line Feed taken read =
+    let more = left_of left in (more.0, taken (line ∷ more.0) (read more.0 more.1))
+left_after input mid left lines line Input taken read = ([], taken (line ∷ []) read)
 
 kept_after : (a b c : Option (List ℕ)) (bs : List ℕ) → Appends a b bs → Keeps b c → Appends a c bs
 kept_after None b c bs p q = tt
@@ -92,10 +75,10 @@ unwritten before after input left old was new read line end text fault (Ok e) is
 unwritten before after input left old was new read line end text fault (Err x) is reading same answer heard said =
     inr (
       is ∙ said.0,
+      left,
+      end,
       record {
         line = read;
-        left = left;
-        end = end;
         text = text;
         read = reading;
         answer = subst (λ (l : Option (List ℕ)). AnswersLine before l text after) same answer;
@@ -103,18 +86,14 @@ unwritten before after input left old was new read line end text fault (Err x) i
       },
     )
 
-started_at : (input : Option (List ℕ)) → AreTaken input [] input
-started_at None = tt
-started_at (Some x) = refl
-
 -- before the first line
 pub started : (h : HistoryParts) (input old : Option (List ℕ)) → IsAt h input input old old h
 started h input old =
-    record { lines = []; text = []; answers = (refl, refl); taken = started_at input; written = Appends-nil old }
+    record { lines = []; text = []; answers = (refl, refl); taken = λ more there. there; written = Appends-nil old }
 
 -- a line was answered, and more come
 pub stepped : (h now after : HistoryParts) (input mid left old was new : Option (List ℕ))
-    → IsAt h input mid old was now → HasStepped now mid left was new Feed after → IsAt h input left old new after
+    → IsAt h input mid old was now → HasStepped now mid left Feed (Appends was new) after → IsAt h input left old new after
 stepped h now after input mid left old was new at step = record {
   lines = at.lines ++ step.line ∷ [];
   text = at.text ++ step.text;
@@ -125,13 +104,13 @@ stepped h now after input mid left old was new at step = record {
 
 -- the last line was answered
 pub ended : (h now after : HistoryParts) (input mid left old was new : Option (List ℕ))
-    → IsAt h input mid old was now → HasStepped now mid left was new Input after → AnsweredAll h input old new after
+    → IsAt h input mid old was now → HasStepped now mid left Input (Appends was new) after → AnsweredAll h input old new after
 ended h now after input mid left old was new at step = record {
   text = at.text ++ step.text;
   answered = record {
     lines = at.lines ++ step.line ∷ [];
     answers = all_then h now after at.lines step.line at.text step.text at.answers step.answer;
-    read = taken_last input mid at.lines step.line at.taken step.read;
+    read = rw (append-nil (at.lines ++ step.line ∷ [])) (at.taken (step.line ∷ []) step.read);
   };
   written = Appends-trans old was new at.text step.text at.written step.written;
 }
@@ -140,19 +119,20 @@ ended h now after input mid left old was new at step = record {
 pub unread : (h now : HistoryParts) (input mid old was new : Option (List ℕ))
     → IsAt h input mid old was now → Keeps was new → StoppedReading h input old new now
 unread h now input mid old was new at kept =
-    let left = left_of input mid at.lines at.taken in
+    let left = left_of mid in
     record {
       left = left.0;
       text = at.text;
-      answered = record { lines = at.lines; answers = at.answers; read = left.1 };
+      answered = record { lines = at.lines; answers = at.answers; read = at.taken left.0 left.1 };
       written = kept_after old was new at.text at.written kept;
     }
 
 -- an answer can't be written
-unsaid : (h now after : HistoryParts) (input mid old was new : Option (List ℕ))
-    → IsAt h input mid old was now → HasFailed now mid was new after → StoppedWriting h input old new after
-unsaid h now after input mid old was new at step =
-    let left = left_after input mid step.left at.lines step.line step.end at.taken step.read in
+unsaid : (h now after : HistoryParts) (input mid left old was new : Option (List ℕ)) (end : End)
+    → IsAt h input mid old was now → HasStepped now mid left end (AppendsFirst was new) after
+    → StoppedWriting h input old new after
+unsaid h now after input mid left old was new end at step =
+    let left = left_after input mid left at.lines step.line end at.taken step.read in
     record {
       line = step.line;
       left = left.0;
@@ -175,5 +155,5 @@ stopped h now after input mid left old was new fault at step = elim step [
         reading.0,
         subst (StoppedReading h input old new) (sym reading.1) (unread h now input mid old was new at reading.2),
       )
-  | inr writing ↦ inr (writing.0, unsaid h now after input mid old was new at writing.1)
+  | inr writing ↦ inr (writing.0, unsaid h now after input mid writing.1 old was new writing.2 at writing.3)
 ]

@@ -1,40 +1,23 @@
 -- Runs of requests over files that were opened and made.
-use Rattle.std.proofs.Common.{◌≡◌, ℕ, inl, inr, List, [], ◌∷◌, Option, Some, None, Result, Ok, Err, map, refl, ap, subst, ◌+◌, ◌∙◌}
+use Rattle.std.proofs.Common.{◌≡◌, ℕ, inl, inr, List, Option, Some, None, Result, Ok, Err, refl, ap, subst, ◌∙◌}
 use Rattle.std.specs.Result.{IsErrAnd}
 use Rattle.std.proofs.KnownBytes.{Keeps-refl}
 use Rattle.std.specs.Io.KnownBytes.{Keeps}
 use Rattle.buck_apt.specs.Apt.{apt_of}
 use Rattle.buck_apt.specs.Instruction.{InstructionParts}
 use Rattle.buck_apt.specs.Settings.{with_settings}
-use Rattle.buck_value.specs.Sheet.{SheetParts}
-use Rattle.buck_book.specs.Book.{sheets_from}
 use Rattle.buck_book.specs.History.{HistoryParts, IsLawful}
 use Rattle.buck_engine.specs.declared.fault.EngineFault.{EngineFault}
 use Rattle.buck_engine.specs.declared.fault.EngineFault.TheVariants.{Memory}
+use Rattle.buck_engine.specs.run.Opening.{MakesJournal}
 use Rattle.buck_engine.specs.run.Reading.{IsAptFault, Says}
 use Rattle.buck_engine.specs.fleet.Lent.{OfWriter, no_writer, of_writer}
 use Rattle.buck_engine.specs.tie.Ties.{FollowsRule}
-use Rattle.buck_live.specs.Answers.{opening}
+use Rattle.buck_cutter.specs.Cut.{opening}
 use Rattle.buck_live.specs.Live.{IsLiveRun}
 use Rattle.buck_live.specs.Serving.{KeepsJournal, IsLive, AnswersLive, RunsApt, first_fault}
 use Rattle.buck_live.specs.declared.serving.LiveTask.{LiveTask}
-use Rattle.buck_live.specs.inner.Served.{MakesJournal, KeepsMade, RanOrNot, IsLiveMade}
-
-prices_from : (version : ℕ) (i : InstructionParts) (prices : List (List ℕ))
-    → map (λ (s : SheetParts). s.prices) (sheets_from version i prices) ≡ prices
-prices_from version i [] = refl
-prices_from version i (p ∷ ps) = ap (λ (l : List (List ℕ)). p ∷ l) (prices_from (version + 1) i ps)
-
-prices_in : {A : Type 0} (value : A → SheetParts) (sheets : List A)
-    → map (λ s. (value s).prices) sheets ≡ map (λ (d : SheetParts). d.prices) (map value sheets)
-prices_in value [] = refl
-prices_in value (s ∷ ss) = ap (λ (l : List (List ℕ)). (value s).prices ∷ l) (prices_in value ss)
-
--- the prices of sheets
-pub prices_of : {A : Type 0} (value : A → SheetParts) (sheets : List A) (i : InstructionParts) (prices : List (List ℕ))
-    → map value sheets ≡ sheets_from 0 i prices → map (λ s. (value s).prices) sheets ≡ prices
-prices_of value sheets i prices is = prices_in value sheets ∙ ap (map (λ (d : SheetParts). d.prices)) is
-    ∙ prices_from 0 i prices
+use Rattle.buck_live.specs.inner.Served.{KeepsMade, RanOrNot, IsLiveMade}
 
 -- no request was read, since memory ran out
 pub not_opened : {M : Type 0} (contents : M → Option (List ℕ)) (ByRule : HistoryParts → Type 0) (i : InstructionParts)

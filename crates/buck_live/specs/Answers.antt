@@ -1,21 +1,15 @@
 -- What is answered to a line of the input by the history so far, and which history comes of it.
 use Rattle.std.specs.Prelude.{◌≡◌, ◌⊎◌, ◌<◌, ℕ, List, [], ◌∷◌, ◌++◌, length, Option, Some, None, Result, Ok, Err, codes}
 use Rattle.buck_record.specs.writing.Line.{line_of}
-use Rattle.buck_apt.specs.Instruction.{InstructionParts}
 use Rattle.buck_stem.specs.declared.file.fault.StmFault.{StmFault}
 use Rattle.buck_stem.specs.Stem.{StemParts}
-use Rattle.buck_value.specs.declared.log.Log.{Log}
-use Rattle.buck_value.specs.Sheet.{SheetParts, base_prices}
-use Rattle.buck_dp.specs.Best.{IsFirstBest, cutting_worth}
-use Rattle.buck_book.specs.declared.posting.Posting.{Posting}
-use Rattle.buck_book.specs.declared.posting.Posting.TheVariants.{Cut, Demand}
+use Rattle.buck_book.specs.declared.posting.Posting.TheVariants.{Demand}
 use Rattle.buck_book.specs.declared.targets.TargetsFault.{TargetsFault}
 use Rattle.buck_book.specs.declared.targets.TargetsFault.TheVariants.{Count, Range, Sum}
-use Rattle.buck_book.specs.Entry.{EntryParts}
-use Rattle.buck_book.specs.Plan.{plan_of}
-use Rattle.buck_book.specs.Targets.{AreTargets, IsTargetsFault}
-use Rattle.buck_book.specs.History.{HistoryParts, history_with, in_force}
-use Rattle.buck_book.specs.Book.{IsNext, entry_of, demand_of}
+use Rattle.buck_book.specs.Entry.{EntryParts, DemandParts}
+use Rattle.buck_book.specs.Targets.{IsTargetsFault}
+use Rattle.buck_book.specs.History.{HistoryParts, in_force}
+use Rattle.buck_cutter.specs.Cut.{AnyPrices, HasCut, HasRetargeted}
 use Rattle.buck_engine.specs.declared.fault.EngineFault.TheVariants.{Read, Stm, Full}
 use Rattle.buck_engine.specs.Faults.{fault_line, memory_line}
 use Rattle.buck_engine.specs.text.Bucking.{stem_lines}
@@ -26,36 +20,20 @@ use Rattle.buck_live.specs.declared.request.Asked.TheVariants.{Stem, Targets}
 use Rattle.buck_live.specs.declared.request.Request.{Request}
 use Rattle.buck_book.specs.declared.posting.TheConstants.{MOST_POSTINGS}
 
--- the history before any posting
-abbrev pub opening : InstructionParts → HistoryParts
-opening i = record { instruction = i; sheets = base_prices i ∷ []; postings = [] }
-
--- a posting was added, and the next sheet where it is an end
-pub record IsPosted (before : HistoryParts) (x : Posting) (after : HistoryParts) : Type 0 where
-  pub next : Option SheetParts
-  pub next_is : IsNext before x next
-  pub added : after ≡ history_with before x next
-
--- the cut of a stem into these logs by the sheet in force
-abbrev pub cut_of : HistoryParts → ℕ → StemParts → List Log → EntryParts
-cut_of h harvester stem logs =
-    entry_of h harvester (plan_of stem (in_force h) logs (cutting_worth (in_force h) stem logs))
-
--- a stem was cut by the first of the best cuttings under the sheet in force; its lines are answered, with the worths of
--- that sheet
-pub record CutsStem (before : HistoryParts) (harvester : ℕ) (stem : StemParts) (text : List ℕ) (after : HistoryParts)
-    : Type 0 where
-  pub logs : List Log
-  pub first_best : IsFirstBest (in_force before) stem logs
-  pub text_is : text ≡ stem_lines (in_force before) (record { stem = stem; logs = logs })
-  pub posted : IsPosted before (Cut (cut_of before harvester stem logs)) after
+-- a stem was cut, by the first of the best cuttings under the sheet in force; its lines are answered, with the worths
+-- of that sheet
+pub record CutsStem (before : HistoryParts) (harvester : ℕ) (stem : StemParts) (text : List ℕ)
+    (after : HistoryParts) : Type 0 where
+  pub entry : EntryParts
+  pub cut : HasCut AnyPrices harvester stem before after entry
+  pub text_is : text ≡ stem_lines (in_force before) (record { stem = stem; logs = entry.logs })
 
 -- new targets came into force; the line of the demand is answered, with its position
 pub record TakesTargets (before : HistoryParts) (harvester : ℕ) (targets : List ℕ) (text : List ℕ)
     (after : HistoryParts) : Type 0 where
-  pub valid : AreTargets before.instruction targets
-  pub text_is : text ≡ posting_line (length before.postings) (Demand (demand_of before harvester targets))
-  pub posted : IsPosted before (Demand (demand_of before harvester targets)) after
+  pub demand : DemandParts
+  pub taken : HasRetargeted AnyPrices harvester targets before after demand
+  pub text_is : text ≡ posting_line (length before.postings) (Demand demand)
 
 -- the number of a fault of targets, and its fields
 abbrev pub targets_numbers : TargetsFault → List ℕ

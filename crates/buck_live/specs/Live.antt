@@ -2,17 +2,10 @@
 use Rattle.std.specs.Prelude.{◌≡◌, ◌⊎◌, ◌≤◌, ℕ, List, [], ◌∷◌, ◌++◌, length, take, Option, Result, Ok, Err, IfSome}
 use Rattle.std.specs.Io.KnownBytes.{Appends}
 use Rattle.buck_book.specs.History.{HistoryParts}
-use Rattle.buck_book.specs.Pricing.{Calls}
-use Rattle.buck_book.specs.Book.{BookParts}
-use Rattle.buck_turn.specs.Turn.{AreSheetsBy}
 use Rattle.buck_engine.specs.declared.fault.EngineFault.{EngineFault}
 use Rattle.buck_engine.specs.declared.fault.EngineFault.TheVariants.{Read, Write}
 use Rattle.buck_live.specs.Lines.{lines_of}
 use Rattle.buck_live.specs.Answers.{AnswersLine, AnswersAll}
-
--- a book stays by its rule: where the prices of each sheet after an end were answers of its closure, they still are
-abbrev pub StaysByRule : {F : Type 0} → Calls F → BookParts F → BookParts F → Type 0
-StaysByRule g before after = AreSheetsBy g before.rule before.history → AreSheetsBy g after.rule after.history
 
 -- the lines of an input were answered by a text, in their order, but for the last of them, which were not
 pub record HasAnswered (before : HistoryParts) (input : Option (List ℕ)) (left : List (Option (List ℕ)))

@@ -14,7 +14,7 @@ use Rattle.buck_engine.specs.run.Reading.{IsAptFault, Says}
 use Rattle.buck_engine.specs.fleet.Lent.{OfWriter, no_writer, of_writer}
 use Rattle.buck_engine.specs.text.Written.{AppendsSome}
 use Rattle.buck_engine.specs.tie.Ties.{FollowsRule}
-use Rattle.buck_live.specs.Answers.{opening}
+use Rattle.buck_cutter.specs.Cut.{opening}
 use Rattle.buck_live.specs.Live.{IsLiveRun}
 use Rattle.buck_live.specs.declared.serving.LiveTask.{LiveTask}
 

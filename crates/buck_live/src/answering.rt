@@ -1,48 +1,26 @@
 //! What is answered to a line of the input.
-ghost use Rattle.std.specs.Prelude.{◌≡◌, ◌≤◌, ◌<◌, ℕ, List, length, IfOk, IfErr, IfSome, codes};
+ghost use Rattle.std.specs.Prelude.{◌≡◌, ◌≤◌, ◌<◌, ℕ, List, length, IfOk, codes};
 ghost use Rattle.std.specs.Option.{option_map};
 ghost use Rattle.buck_rule.specs.Stored.{Answers};
 ghost use Rattle.buck_record.specs.writing.Line.{line_of};
-ghost use Rattle.buck_book.specs.Book.{SameContent, IsReadyFor, demand_of};
-ghost use Rattle.buck_book.specs.History.{in_force};
-ghost use Rattle.buck_book.specs.Plan.{IsPlan};
-ghost use Rattle.buck_book.specs.Pricing.{AreAnswersWith};
+ghost use Rattle.buck_book.specs.Book.{demand_of};
 ghost use Rattle.buck_book.specs.declared.posting.Posting.TheVariants.{Demand};
+ghost use Rattle.buck_cutter.specs.Cut.{StaysByRule};
 ghost use Rattle.buck_engine.specs.text.Bucking.{stem_lines};
 ghost use Rattle.buck_engine.specs.text.Report.{posting_line};
 ghost use Rattle.buck_live.specs.Answers.{AnswersLine, targets_numbers};
-ghost use Rattle.buck_live.specs.Live.{StaysByRule};
-ghost use Rattle.buck_live.specs.inner.Answering.{AnswersCut, AnswersDemand, AnswersOne, IsCommitFault, told};
+ghost use Rattle.buck_live.specs.inner.Answering.{AnswersOne, told};
 ghost use Rattle.buck_book.specs.declared.posting.TheConstants.{MOST_POSTINGS};
 
 use crate::request::{Asked, Request, read_request};
-use buck_book::{Book, DemandRefusal, Plan, Ready, Refusal, TargetsFault};
-use buck_dp::Planner;
+use buck_book::{Book, CutFault, DemandRefusal, Plan, TargetsFault};
+use buck_cutter::Cutter;
 use buck_engine::{EngineFault, put_logs, put_stem};
 use buck_record::{Listed, Memory, put_line};
 use buck_rule::Standing;
 use buck_stem::{Stem, StmFault};
 use std::alloc::Global;
 use std::sync::Arc;
-
-/// Plans a stem under the sheet in force.
-fn plan<F: Drop>(
-    alloc: Global,
-    book: &Book<F>,
-    planner: &mut Planner,
-    stem: Stem,
-) -> Result<Plan, EngineFault>
-    ensures stem { IfOk result (λ p. p.stem ≡ stem) }
-    ensures sheet { IfOk result (λ p. p.sheet ≡ in_force book.now.history) }
-    ensures plan { IfOk result IsPlan }
-    ensures refused { IfErr result (λ e. e ≡ EngineFault.Memory) }
-{
-    let stem = Arc::new(alloc, stem)?;
-    if !planner.sheet().same(book.sheet()) {
-        planner.renew(alloc, book.sheet().clone()?)?;
-    }
-    Ok(Plan::make_with(alloc, planner, stem)?)
-}
 
 /// The lines of a stem that is cut as planned.
 fn stem_text(alloc: Global, plan: &Plan) -> Result<Vec<u8>, Memory>
@@ -56,50 +34,30 @@ fn stem_text(alloc: Global, plan: &Plan) -> Result<Vec<u8>, Memory>
     Ok(text)
 }
 
-/// Prepares the commit of a plan that was made under the sheet in force.
-fn prepared<F: Fn(&Standing) -> u64 + Drop>(
-    alloc: Global,
-    book: &mut Book<F>,
-    plan: &Plan,
-) -> Result<Ready, EngineFault>
-    requires answers { Answers F.Fn book.old.rule }
-    requires sheet { plan.now.sheet ≡ in_force book.old.history }
-    ensures content { SameContent book.old book.new }
-    ensures ready { IfOk result (λ r. IsReadyFor book.new r plan.now) }
-    ensures given { IfOk result (λ r. IfSome r.next (λ s.
-        AreAnswersWith F.Fn book.old.rule book.old.history plan.now s.prices)) }
-    ensures refused { IfErr result (IsCommitFault book.old) }
-{
-    match book.prepare_in_force(alloc, plan) {
-        Ok(ready) => Ok(ready),
-        Err(Refusal::Stale { .. }) => unreachable!(),
-        Err(Refusal::Full) => Err(EngineFault::Full),
-        Err(Refusal::Memory) => Err(EngineFault::Memory),
-    }
-}
-
 /// Cuts a stem under the sheet in force. The answer is its lines.
-#[tactic(auto, using(crate::proofs::GivenLemmas::stays))]
+#[tactic(auto, using(buck_cutter::proofs::Adding::as_before))]
 fn cut<F: Fn(&Standing) -> u64 + Drop>(
     alloc: Global,
-    book: &mut Book<F>,
-    planner: &mut Planner,
+    cutter: &mut Cutter<F>,
     harvester: u32,
     stem: Stem,
 ) -> Result<Vec<u8>, EngineFault>
-    requires answers { Answers F.Fn book.old.rule }
+    requires answers { Answers F.Fn cutter.old.rule }
+    requires capacity { cutter.old.capacity ≡ MOST_POSTINGS }
     requires harvester { (0 < harvester) × (harvester ≤ 64) }
-    ensures rule { book.new.rule ≡ book.old.rule }
-    ensures capacity { book.new.capacity ≡ book.old.capacity }
-    ensures cut { AnswersCut book.old harvester stem result book.new.history }
-    ensures given { StaysByRule F.Fn book.old book.new }
+    ensures rule { cutter.new.rule ≡ cutter.old.rule }
+    ensures capacity { cutter.new.capacity ≡ cutter.old.capacity }
+    ensures cut { AnswersOne cutter.old.history (record { harvester = harvester; asked = Asked.Stem stem })
+        (told result) cutter.new.history }
+    ensures given { StaysByRule F.Fn cutter.old cutter.new }
 {
-    let _lawful = book.entries();
-    let plan = plan(alloc, book, planner, stem)?;
-    let ready = prepared(alloc, book, &plan)?;
+    let plan = cutter.preview(alloc, Arc::new(alloc, stem)?)?;
     let text = stem_text(alloc, &plan)?;
-    let _ = book.commit(ready, harvester, plan);
-    Ok(text)
+    match cutter.commit(alloc, plan, harvester) {
+        Ok(_) => Ok(text),
+        Err(CutFault::Full) => Err(EngineFault::Full),
+        Err(CutFault::Memory) => Err(EngineFault::Memory),
+    }
 }
 
 /// The line of the demand that a harvester commits next.
@@ -134,28 +92,26 @@ fn refused_text(alloc: Global, fault: TargetsFault) -> Result<Vec<u8>, Memory>
 }
 
 /// Puts new targets in force, where they are valid. The answer is the demand's line, or that of the targets' fault.
-#[tactic(auto, using(crate::proofs::GivenLemmas::stays))]
+#[tactic(auto, using(buck_cutter::proofs::Adding::as_before))]
 fn retarget<F: Fn(&Standing) -> u64 + Drop>(
     alloc: Global,
-    book: &mut Book<F>,
+    cutter: &mut Cutter<F>,
     harvester: u32,
     targets: Listed<u32>,
 ) -> Result<Vec<u8>, EngineFault>
-    requires answers { Answers F.Fn book.old.rule }
+    requires answers { Answers F.Fn cutter.old.rule }
+    requires capacity { cutter.old.capacity ≡ MOST_POSTINGS }
     requires harvester { (0 < harvester) × (harvester ≤ 64) }
-    ensures rule { book.new.rule ≡ book.old.rule }
-    ensures capacity { book.new.capacity ≡ book.old.capacity }
-    ensures taken { AnswersDemand book.old harvester targets result book.new.history }
-    ensures given { StaysByRule F.Fn book.old book.new }
+    ensures rule { cutter.new.rule ≡ cutter.old.rule }
+    ensures capacity { cutter.new.capacity ≡ cutter.old.capacity }
+    ensures taken { AnswersOne cutter.old.history (record { harvester = harvester; asked = Asked.Targets targets })
+        (told result) cutter.new.history }
+    ensures given { StaysByRule F.Fn cutter.old cutter.new }
 {
-    let _lawful = book.entries();
     let targets = Arc::new(alloc, targets.into_vec())?;
-    match book.prepare_demand(alloc, &targets) {
-        Ok(ready) => {
-            let text = demand_text(alloc, book, harvester)?;
-            let _ = book.commit_demand(ready, harvester);
-            Ok(text)
-        }
+    let text = demand_text(alloc, cutter.book(), harvester)?;
+    match cutter.retarget(alloc, &targets, harvester) {
+        Ok(_) => Ok(text),
         Err(DemandRefusal::Full) => Err(EngineFault::Full),
         Err(DemandRefusal::Targets(fault)) => Ok(refused_text(alloc, fault)?),
         Err(DemandRefusal::Memory) => Err(EngineFault::Memory),
@@ -165,47 +121,45 @@ fn retarget<F: Fn(&Standing) -> u64 + Drop>(
 /// Does what is asked for, where the history has room.
 fn answer_request<F: Fn(&Standing) -> u64 + Drop>(
     alloc: Global,
-    book: &mut Book<F>,
-    planner: &mut Planner,
+    cutter: &mut Cutter<F>,
     request: Request,
 ) -> Result<Vec<u8>, EngineFault>
-    requires answers { Answers F.Fn book.old.rule }
-    requires capacity { book.old.capacity ≡ MOST_POSTINGS }
+    requires answers { Answers F.Fn cutter.old.rule }
+    requires capacity { cutter.old.capacity ≡ MOST_POSTINGS }
     requires harvester { (0 < request.harvester) × (request.harvester ≤ 64) }
-    ensures rule { book.new.rule ≡ book.old.rule }
-    ensures capacity { book.new.capacity ≡ book.old.capacity }
-    ensures answered { AnswersOne book.old.history request (told result) book.new.history }
-    ensures given { StaysByRule F.Fn book.old book.new }
+    ensures rule { cutter.new.rule ≡ cutter.old.rule }
+    ensures capacity { cutter.new.capacity ≡ cutter.old.capacity }
+    ensures answered { AnswersOne cutter.old.history request (told result) cutter.new.history }
+    ensures given { StaysByRule F.Fn cutter.old cutter.new }
 {
     let Request { harvester, asked } = request;
     match asked {
-        Asked::Stem(stem) => cut(alloc, book, planner, harvester, stem),
-        Asked::Targets(targets) => retarget(alloc, book, harvester, targets),
+        Asked::Stem(stem) => cut(alloc, cutter, harvester, stem),
+        Asked::Targets(targets) => retarget(alloc, cutter, harvester, targets),
     }
 }
 
 /// Answers a line, where it isn't too long or cut off.
-#[tactic(auto, using(crate::proofs::GivenLemmas::stays))]
+#[tactic(auto, using(buck_cutter::proofs::Adding::as_before))]
 pub(crate) fn answer<F: Fn(&Standing) -> u64 + Drop>(
     alloc: Global,
-    book: &mut Book<F>,
-    planner: &mut Planner,
+    cutter: &mut Cutter<F>,
     line: Option<&[u8]>,
 ) -> Result<Vec<u8>, EngineFault>
-    requires answers { Answers F.Fn book.old.rule }
-    requires capacity { book.old.capacity ≡ MOST_POSTINGS }
-    ensures rule { book.new.rule ≡ book.old.rule }
-    ensures capacity { book.new.capacity ≡ book.old.capacity }
-    ensures answered { AnswersLine book.old.history (option_map (λ l. l.now) line.entry)
-        (told result) book.new.history }
-    ensures given { StaysByRule F.Fn book.old book.new }
+    requires answers { Answers F.Fn cutter.old.rule }
+    requires capacity { cutter.old.capacity ≡ MOST_POSTINGS }
+    ensures rule { cutter.new.rule ≡ cutter.old.rule }
+    ensures capacity { cutter.new.capacity ≡ cutter.old.capacity }
+    ensures answered { AnswersLine cutter.old.history (option_map (λ l. l.now) line.entry)
+        (told result) cutter.new.history }
+    ensures given { StaysByRule F.Fn cutter.old cutter.new }
 {
     let Some(line) = line else {
         return Err(EngineFault::Read { file: 1 });
     };
     match read_request(alloc, line) {
         Ok(None) => Ok(Vec::new(alloc)),
-        Ok(Some(request)) => answer_request(alloc, book, planner, request),
+        Ok(Some(request)) => answer_request(alloc, cutter, request),
         Err(StmFault::Memory) => Err(EngineFault::Memory),
         Err(fault) => Err(EngineFault::Stm { file: 1, fault }),
     }

@@ -1,7 +1,7 @@
 //! Stems that are cut as they are felled: requests, one a line, each answered before the next is read.
 //!
 //! [`read_request`] says what a line asks for. [`Live`] is a book of one thread that answers lines, and [`serve_live`]
-//! a whole run of the program, from its [`LiveTask`] to its exit status.
+//! a whole run, by its [`LiveTask`].
 #![tactic(auto)]
 
 mod answering;

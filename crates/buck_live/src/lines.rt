@@ -1,9 +1,9 @@
 //! The lines of the input, each read to its end and no further.
-ghost use Rattle.std.specs.Prelude.{◌≡◌, ◌≤◌, IfOk, length, nat_lt, vec_capacity};
+ghost use Rattle.std.specs.Prelude.{◌≡◌, ◌≤◌, IfOk, vec_capacity};
 ghost use Rattle.std.specs.Option.{option_map};
 ghost use Rattle.buck_record.specs.bytes.White.{is_white};
 ghost use Rattle.buck_live.specs.Lines.{is_finished, last_byte, longest_line};
-ghost use Rattle.buck_live.specs.inner.Reading.{IsRead, ReadsByte, held_with, line_of};
+ghost use Rattle.buck_live.specs.inner.Reading.{HoldsMore, IsRead, ReadsByte, line_of};
 
 use std::io;
 
@@ -44,8 +44,7 @@ fn next_byte<R: io::Read>(input: &mut R) -> io::Result<Option<u8>>
 /// Holds a further byte of a line, where a line may have so many. The answer is whether it may.
 fn hold(line: &mut Vec<u8>, byte: u8) -> bool
     requires room { longest_line ≤ vec_capacity line.old }
-    ensures held { line.new.items ≡ held_with byte line.old.items }
-    ensures fits { result ≡ nat_lt (length line.old.items) longest_line }
+    ensures held { HoldsMore byte line.old.items line.new.items result }
     ensures capacity { vec_capacity line.new ≡ vec_capacity line.old }
 {
     if line.len() < LONGEST {

@@ -3,9 +3,9 @@ ghost use Rattle.std.specs.Prelude.{◌≡◌, ◌≤◌, IfOk, vec_capacity};
 ghost use Rattle.buck_rule.specs.Stored.{Answers};
 ghost use Rattle.buck_book.specs.Book.{IsBook};
 ghost use Rattle.buck_journal.specs.Written.{journal_text};
-ghost use Rattle.buck_live.specs.Answers.{opening};
+ghost use Rattle.buck_cutter.specs.Cut.{StaysByRule, opening};
 ghost use Rattle.buck_live.specs.Lines.{longest_line};
-ghost use Rattle.buck_live.specs.Live.{IsLiveRun, StaysByRule};
+ghost use Rattle.buck_live.specs.Live.{IsLiveRun};
 ghost use Rattle.buck_live.specs.inner.Answering.{told};
 ghost use Rattle.buck_live.specs.inner.Running.{IsSaid, IsStep};
 
@@ -13,10 +13,9 @@ use crate::answering::answer;
 use crate::lines::{End, LONGEST, read_bytes, whole};
 use crate::replies::Replies;
 use buck_apt::Instruction;
-use buck_book::{Book, MOST_POSTINGS};
-use buck_dp::Planner;
+use buck_book::MOST_POSTINGS;
+use buck_cutter::Cutter;
 use buck_engine::{EngineFault, write_fault, write_text};
-use buck_journal::journal_text;
 use buck_record::Memory;
 use buck_rule::{Rule, Standing};
 use std::alloc::Global;
@@ -27,8 +26,7 @@ use std::sync::Arc;
 /// A book of one thread that answers requests as they come. Its history is lawful at every moment.
 #[derive(Drop)]
 pub struct Live<F> {
-    book: Book<F>,
-    planner: Planner,
+    cutter: Cutter<F>,
     line: Vec<u8>,
 }
 
@@ -40,9 +38,9 @@ impl<F> Model for Live<F> {
 
     ghost Value = { BookParts F };
 
-    ghost view = { λ l. l.book };
+    ghost view = { λ l. l.cutter };
 
-    ghost invariant = { λ l. (longest_line ≤ vec_capacity l.line) × (l.book.capacity ≡ MOST_POSTINGS) };
+    ghost invariant = { λ l. (longest_line ≤ vec_capacity l.line) × (l.cutter.capacity ≡ MOST_POSTINGS) };
 }
 
 /// Writes an answer: a text, or the line of a fault.
@@ -75,67 +73,62 @@ fn say<W: io::Write>(out: &mut W, answer: &Result<Vec<u8>, EngineFault>) -> Resu
 /// Reads the next line and answers it.
 fn answer_next<F: Fn(&Standing) -> u64 + Drop, R: io::Read, W: Replies>(
     alloc: Global,
-    book: &mut Book<F>,
-    planner: &mut Planner,
+    cutter: &mut Cutter<F>,
     line: &mut Vec<u8>,
     input: &mut R,
     out: &mut W,
 ) -> Result<End, EngineFault>
-    requires answers { Answers F.Fn book.old.rule }
-    requires capacity { book.old.capacity ≡ MOST_POSTINGS }
+    requires answers { Answers F.Fn cutter.old.rule }
+    requires capacity { cutter.old.capacity ≡ MOST_POSTINGS }
     requires room { longest_line ≤ vec_capacity line.old }
-    ensures rule { book.new.rule ≡ book.old.rule }
-    ensures capacity { book.new.capacity ≡ book.old.capacity }
+    ensures rule { cutter.new.rule ≡ cutter.old.rule }
+    ensures capacity { cutter.new.capacity ≡ cutter.old.capacity }
     ensures room { vec_capacity line.new ≡ vec_capacity line.old }
-    ensures step { IsStep book.old.history (R.remaining input.old) (R.remaining input.new)
-        (W.contents out.old) (W.contents out.new) result book.new.history }
-    ensures given { StaysByRule F.Fn book.old book.new }
+    ensures step { IsStep cutter.old.history (R.remaining input.old) (R.remaining input.new)
+        (W.contents out.old) (W.contents out.new) result cutter.new.history }
+    ensures given { StaysByRule F.Fn cutter.old cutter.new }
 {
     let Ok(found) = read_bytes(input, line) else {
         return Err(EngineFault::Read { file: 1 });
     };
-    let answer = answer(alloc, book, planner, whole(line.as_slice(), found));
-    out.hear(line.as_slice(), found.fits, book.instruction(), &answer);
+    let answer = answer(alloc, cutter, whole(line.as_slice(), found));
+    out.hear(
+        line.as_slice(),
+        found.fits,
+        cutter.book().instruction(),
+        &answer,
+    );
     say(out, &answer)?;
     Ok(found.end)
 }
 
 /// Reads all lines and answers each before it reads the next.
-#[tactic(auto, using(crate::proofs::GivenLemmas::stays))]
+#[tactic(auto, using(buck_cutter::proofs::Adding::as_before))]
 fn answer_all<F: Fn(&Standing) -> u64 + Drop, R: io::Read, W: Replies>(
     alloc: Global,
-    book: &mut Book<F>,
-    planner: &mut Planner,
+    cutter: &mut Cutter<F>,
     line: &mut Vec<u8>,
     input: &mut R,
     out: &mut W,
 ) -> Result<(), EngineFault>
-    requires answers { Answers F.Fn book.old.rule }
-    requires capacity { book.old.capacity ≡ MOST_POSTINGS }
+    requires answers { Answers F.Fn cutter.old.rule }
+    requires capacity { cutter.old.capacity ≡ MOST_POSTINGS }
     requires room { longest_line ≤ vec_capacity line.old }
-    ensures rule { book.new.rule ≡ book.old.rule }
-    ensures capacity { book.new.capacity ≡ book.old.capacity }
+    ensures rule { cutter.new.rule ≡ cutter.old.rule }
+    ensures capacity { cutter.new.capacity ≡ cutter.old.capacity }
     ensures room { vec_capacity line.new ≡ vec_capacity line.old }
-    ensures run { IsLiveRun book.old.history (R.remaining input.old)
-        (W.contents out.old) (W.contents out.new) result book.new.history }
-    ensures given { StaysByRule F.Fn book.old book.new }
+    ensures run { IsLiveRun cutter.old.history (R.remaining input.old)
+        (W.contents out.old) (W.contents out.new) result cutter.new.history }
+    ensures given { StaysByRule F.Fn cutter.old cutter.new }
 {
     'requests: for _ in 0..u64::MAX {
-        match answer_next(alloc, book, planner, line, input, out) {
+        match answer_next(alloc, cutter, line, input, out) {
             Err(fault) => return Err(fault),
             Ok(End::Input) => return Ok(()),
             Ok(End::Feed) => {}
         }
     }
     Err(EngineFault::Read { file: 1 })
-}
-
-/// The journal of a book.
-fn journal_of<F: Drop>(alloc: Global, book: &Book<F>) -> Result<Vec<u8>, Memory>
-    ensures { IfOk result (λ text.
-        text.items ≡ journal_text book.now.history.sheets book.now.history.postings) }
-{
-    journal_text(alloc, book.sheets(), book.entries())
 }
 
 impl<F: Fn(&Standing) -> u64 + Drop> Live<F> {
@@ -148,14 +141,9 @@ impl<F: Fn(&Standing) -> u64 + Drop> Live<F> {
         ensures rule { IfOk result (λ l. l.rule ≡ rule) }
         ensures history { IfOk result (λ l. l.history ≡ opening instruction.value) }
     {
-        let book = Book::open(alloc, instruction, rule, MOST_POSTINGS)?;
-        let planner = Planner::make(alloc, book.sheet().clone()?)?;
+        let cutter = Cutter::open(alloc, instruction, rule, MOST_POSTINGS)?;
         let line = Vec::with_capacity(alloc, LONGEST)?;
-        Ok(Live {
-            book,
-            planner,
-            line,
-        })
+        Ok(Live { cutter, line })
     }
 
     /// Reads requests, one a line, and answers each before it reads the next: no byte of the input is asked for while
@@ -180,13 +168,8 @@ impl<F: Fn(&Standing) -> u64 + Drop> Live<F> {
         // The prices that come into force are answers that the closure can give to how the classes then stand.
         ensures given { StaysByRule F.Fn self.old self.new }
     {
-        let Live {
-            book,
-            planner,
-            line,
-        } = self;
-        let ran = answer_all(alloc, book, planner, line, input, out);
-        let _kept = book.len();
+        let ran = answer_all(alloc, &mut self.cutter, &mut self.line, input, out);
+        let _kept = self.cutter.book().len();
         ran
     }
 }
@@ -197,6 +180,6 @@ impl<F: Drop> Live<F> {
         ensures { IfOk result (λ text.
             text.items ≡ journal_text self.now.history.sheets self.now.history.postings) }
     {
-        journal_of(alloc, &self.book)
+        self.cutter.journal(alloc)
     }
 }

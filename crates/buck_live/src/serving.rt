@@ -1,23 +1,21 @@
-//! Whole runs of requests, from the task to the exit status.
-ghost use Rattle.std.specs.Prelude.{◌≡◌, IfOk, IfErr, Result};
-ghost use Rattle.std.specs.Option.{option_map};
+//! Whole runs of requests.
+ghost use Rattle.std.specs.Prelude.{◌≡◌, IfOk, IfErr};
 ghost use Rattle.buck_rule.specs.Stored.{Answers};
 ghost use Rattle.buck_rule.specs.GivenBy.{GivesBy};
-ghost use Rattle.buck_turn.specs.Turn.{AreSheetsBy};
+ghost use Rattle.buck_book.specs.Pricing.{AreSheetsBy};
 ghost use Rattle.buck_engine.specs.declared.fault.EngineFault.{EngineFault};
-ghost use Rattle.buck_engine.specs.run.Serving.{TellsOutcome, status_after};
 ghost use Rattle.buck_engine.specs.fleet.Lent.{of_writer};
-ghost use Rattle.buck_live.specs.Answers.{opening};
+ghost use Rattle.buck_cutter.specs.Cut.{opening};
 ghost use Rattle.buck_live.specs.Serving.{KeepsJournal, RunsLive, first_fault};
-ghost use Rattle.buck_live.specs.inner.Served.{IsLiveMade, KeepsMade, MakesJournal};
+ghost use Rattle.buck_live.specs.inner.Served.{IsLiveMade, KeepsMade};
 
 use crate::live::Live;
 use crate::replies::Replies;
 use buck_apt::{Instruction, Settings};
 use buck_engine::{
-    EngineFault, Make, NamedRule, Open, conclude, open_inputs, read_instruction, write_text,
+    EngineFault, Make, Open, make_journal, open_inputs, read_instruction, write_text,
 };
-use buck_rule::{Rule, Standing};
+use buck_rule::{NamedRule, Rule, Standing};
 use std::alloc::Global;
 use std::io;
 use std::sync::Arc;
@@ -33,19 +31,6 @@ pub struct LiveTask<'a> {
     pub journal: Option<&'a str>,
     /// The name of the instruction file.
     pub apt: &'a str,
-}
-
-/// Makes the file of the journal, where one is wanted. One that can't be made is `Write`.
-fn make_journal<M: Make>(maker: &mut M, name: Option<&str>) -> Result<Option<M::Made>, EngineFault>
-    ensures { MakesJournal M.makes maker.old maker.new (option_map (λ s. s.now) name.entry) result }
-{
-    match name {
-        None => Ok(None),
-        Some(name) => match maker.make(name) {
-            None => Err(EngineFault::Write),
-            Some(made) => Ok(Some(made)),
-        },
-    }
 }
 
 /// Writes the journal of a book.
@@ -141,8 +126,14 @@ fn live_files<F: Fn(&Standing) -> u64 + Drop, R: io::Read, O: Open + Make, W: Re
     live_made(alloc, instruction, rule, input, journal, out)
 }
 
-/// Does what the task asks for, by its rule.
-fn run_live_task<R: io::Read, O: Open + Make, W: Replies>(
+/// Answers the requests of the input, one a line, each before the next is read.
+///
+/// The instruction file is opened, then the file of the journal is made, where one is wanted, and then the instruction
+/// is read, with the numbers of the task in the place of its own. Faults until then are those of
+/// [`read_instruction`]; nothing is read of the input then. After the last request, or where the input can't be read or
+/// an answer can't be written, the journal of all that was cut is written. The output hears of each line and its answer
+/// before that is written.
+pub fn serve_live<R: io::Read, O: Open + Make, W: Replies>(
     alloc: Global,
     task: &LiveTask<'_>,
     input: &mut R,
@@ -155,30 +146,4 @@ fn run_live_task<R: io::Read, O: Open + Make, W: Replies>(
     let named = task.rule;
     let rule = Rule::new(move |s: &Standing| named.price(s));
     live_files(alloc, task, rule, input, opener, out)
-}
-
-/// Answers the requests of the input, one a line, each before the next is read, and says on `errors` how it ended. The
-/// answer is the exit status.
-///
-/// The instruction file is opened, then the file of the journal is made, where one is wanted, and then the instruction
-/// is read, with the numbers of the task in the place of its own. Faults until then are those of
-/// [`read_instruction`]; nothing is read of the input then. After the last request, or where the input can't be read or
-/// an answer can't be written, the journal of all that was cut is written. The output hears of each line and its answer
-/// before that is written.
-pub fn serve_live<R: io::Read, O: Open + Make, W: Replies, E: io::Write>(
-    alloc: Global,
-    task: &LiveTask<'_>,
-    input: &mut R,
-    opener: &mut O,
-    output: &mut W,
-    errors: &mut E,
-) -> u8
-    ensures { (outcome : Result (Unit {0}) EngineFault)
-        × RunsLive O.opens O.makes O.File.remaining O.Made.contents opener.old opener.new task.now
-        (R.remaining input.old) (input.new ≡ input.old) (W.contents output.old) (W.contents output.new) outcome
-        × (result ≡ status_after outcome)
-        × TellsOutcome (E.contents errors.old) (E.contents errors.new) outcome }
-{
-    let outcome = run_live_task(alloc, task, input, opener, output);
-    conclude(errors, &outcome)
 }

@@ -57,17 +57,6 @@ impl Wanted {
     }
 }
 
-/// How many items of a file stand in a slot.
-pub(crate) fn count_of(source: &Source<'_>, slot: Slot) -> usize {
-    let mut count = 0usize;
-    for item in source.items() {
-        if item.is(slot) {
-            count = count.saturating_add(1);
-        }
-    }
-    count
-}
-
 /// How many numbers an item of a seen one's group has.
 fn size_of(form: &Form, source: &Source<'_>, seen: &Seen<'_>, slot: Slot) -> usize {
     match sibling(form, source, seen, slot) {
@@ -105,7 +94,7 @@ fn misnamed(
     source: &Source<'_>,
     seen: &Seen<'_>,
 ) -> Result<Option<String>, AllocError> {
-    let names = count_of(source, NAME);
+    let names = source.count_of(NAME);
     let said = seen.item.word(1).number().unwrap_or(0);
     if usize::try_from(said) == Ok(names) {
         return Ok(None);
@@ -114,29 +103,22 @@ fn misnamed(
     Ok(Some(format!(in alloc; "{opening} {said}, {names} wanted, as many as names (911 1)\n")?))
 }
 
-/// The first number of the first item in a slot.
-fn first_number(source: &Source<'_>, slot: Slot) -> Option<u32> {
-    for item in source.items() {
-        if item.is(slot) {
-            return item.word(1).number();
-        }
-    }
-    None
-}
-
 /// Says that a length is no multiple of the module.
 pub(crate) fn uneven(
     alloc: Global,
     source: &Source<'_>,
     seen: &Seen<'_>,
-    length: u64,
+    length: u32,
 ) -> Result<Option<String>, AllocError> {
-    let Some(module) = first_number(source, MODULE) else {
+    let Some(module) = source
+        .first_of(MODULE)
+        .and_then(|item| item.word(1).number())
+    else {
         return Ok(None);
     };
     let mut place = 1usize;
     for word in seen.item.words() {
-        if word.number().map(u64::from) == Some(length) {
+        if word.number() == Some(length) {
             let opening = seen.opening(source, word.at);
             return Ok(Some(format!(in alloc;
                 "{opening} {length} at place {place}, a multiple of the module {module} wanted\n"
@@ -149,11 +131,9 @@ pub(crate) fn uneven(
 
 /// The numbers of an item together.
 fn sum_of(item: &Item<'_>) -> u64 {
-    let mut sum = 0u64;
-    for word in item.words() {
-        sum = sum.saturating_add(u64::from(word.number().unwrap_or(0)));
-    }
-    sum
+    item.words().fold(0u64, |sum, word| {
+        sum.saturating_add(u64::from(word.number().unwrap_or(0)))
+    })
 }
 
 /// Says that the targets of an assortment are too great together.

@@ -6,10 +6,26 @@ use crate::numbers::{no_number, out_of_order, out_of_range};
 use crate::placing::{headless, missing, other_kind, twice};
 use crate::rows::key_of;
 use crate::source::Source;
-use crate::told::Told;
 use crate::whose::Kind;
+use buck_apt::AptFault;
 use buck_apt::slots::{LENGTHS, TARGETS};
+use buck_stem::StmFault;
 use std::alloc::{AllocError, Global};
+
+/// What is wrong with the items of a kind.
+#[derive(Clone, Copy)]
+enum Wrong {
+    Missing,
+    Twice,
+    Digits,
+    Range,
+    Order,
+    Count,
+    /// This length isn't a multiple of the module.
+    Module(u32),
+    /// Targets are too great together.
+    Targets,
+}
 
 /// What is wrong with an item, where it is.
 fn complaint(
@@ -17,16 +33,16 @@ fn complaint(
     form: &Form,
     source: &Source<'_>,
     seen: &Seen<'_>,
-    told: Told<'_>,
+    wrong: Wrong,
 ) -> Result<Option<String>, AllocError> {
-    match told.at(0) {
-        5 => no_number(alloc, source, seen),
-        6 => out_of_range(alloc, source, seen),
-        7 => out_of_order(alloc, form, source, seen),
-        8 => miscounted(alloc, form, source, seen),
-        9 => uneven(alloc, source, seen, told.at(1)),
-        10 => too_great(alloc, source, seen),
-        _ => Ok(None),
+    match wrong {
+        Wrong::Missing | Wrong::Twice => Ok(None),
+        Wrong::Digits => no_number(alloc, source, seen),
+        Wrong::Range => out_of_range(alloc, source, seen),
+        Wrong::Order => out_of_order(alloc, form, source, seen),
+        Wrong::Count => miscounted(alloc, form, source, seen),
+        Wrong::Module(length) => uneven(alloc, source, seen, length),
+        Wrong::Targets => too_great(alloc, source, seen),
     }
 }
 
@@ -36,7 +52,7 @@ fn first_wrong(
     form: &Form,
     source: &Source<'_>,
     key: Key,
-    told: Told<'_>,
+    wrong: Wrong,
 ) -> Result<Option<String>, AllocError> {
     let mut open = None;
     for item in source.items() {
@@ -52,7 +68,7 @@ fn first_wrong(
             row,
             whose: form.whose(open, row),
         };
-        let said = complaint(alloc, form, source, &seen, told)?;
+        let said = complaint(alloc, form, source, &seen, wrong)?;
         if said.is_some() {
             return Ok(said);
         }
@@ -60,68 +76,83 @@ fn first_wrong(
     Ok(None)
 }
 
-/// What is wrong with the items of a kind, whose fault has this number.
+/// What is wrong with the items of a kind of a file.
 fn of_items(
     alloc: Global,
     form: &Form,
     source: &Source<'_>,
     key: Key,
-    told: Told<'_>,
+    wrong: Wrong,
 ) -> Result<Option<String>, AllocError> {
     let Some(row) = form.row_of(key) else {
         return Ok(None);
     };
-    match told.at(0) {
-        3 => missing(alloc, form, source, row),
-        4 => twice(alloc, form, source, row),
-        _ => first_wrong(alloc, form, source, key, told),
+    match wrong {
+        Wrong::Missing => missing(alloc, form, source, row),
+        Wrong::Twice => twice(alloc, form, source, row),
+        _ => first_wrong(alloc, form, source, key, wrong),
     }
 }
 
-/// Why a file of a form is refused.
-pub(crate) fn reason(
-    alloc: Global,
-    form: &Form,
-    source: &Source<'_>,
-    told: Told<'_>,
-) -> Result<Option<String>, AllocError> {
-    match told.at(0) {
-        1 => headless(alloc, source, told.place(1)),
-        2 => other_kind(alloc, form, source),
-        9 => of_items(alloc, form, source, Key::of(LENGTHS), told),
-        10 => of_items(alloc, form, source, Key::of(TARGETS), told),
-        _ => match told.key() {
-            Some(key) => of_items(alloc, form, source, key, told),
-            None => Ok(None),
-        },
-    }
-}
-
-/// Why an instruction file is refused, in lines of text, given the numbers of its fault: that of the kind of fault, and
-/// the fields. None where nothing in the file is as the fault says. Refused where a growth was.
+/// Why an instruction file is refused, in lines of text, given its fault. None where nothing in the file is as the
+/// fault says. Refused where a growth was.
 pub fn apt_reason(
     alloc: Global,
     source: &Source<'_>,
-    fault: &[u64],
+    fault: &AptFault,
 ) -> Result<Option<String>, AllocError> {
     let form = Form {
         name: "APT",
         rows: [&buck_apt::ITEMS, &[]],
         kind: Kind::Assortment,
     };
-    reason(alloc, &form, source, Told(fault))
+    let (key, wrong) = match *fault {
+        AptFault::Head { item } => return headless(alloc, source, item),
+        AptFault::NotApt => return other_kind(alloc, &form, source),
+        AptFault::Missing { number, kind } => (Key { number, kind }, Wrong::Missing),
+        AptFault::Twice { number, kind } => (Key { number, kind }, Wrong::Twice),
+        AptFault::Digits { number, kind, .. } => (Key { number, kind }, Wrong::Digits),
+        AptFault::Range { number, kind } => (Key { number, kind }, Wrong::Range),
+        AptFault::Order { number, kind } => (Key { number, kind }, Wrong::Order),
+        AptFault::Count { number, kind } => (Key { number, kind }, Wrong::Count),
+        AptFault::Module { length } => (Key::of(LENGTHS), Wrong::Module(length)),
+        AptFault::Targets { .. } => (Key::of(TARGETS), Wrong::Targets),
+        AptFault::Memory => return Ok(None),
+    };
+    of_items(alloc, &form, source, key, wrong)
+}
+
+/// The same of stems, in a file or in a request.
+pub(crate) fn stems_reason(
+    alloc: Global,
+    form: &Form,
+    source: &Source<'_>,
+    fault: &StmFault,
+) -> Result<Option<String>, AllocError> {
+    let (key, wrong) = match *fault {
+        StmFault::Head { item } => return headless(alloc, source, item),
+        StmFault::NotStm => return other_kind(alloc, form, source),
+        StmFault::Missing { number, kind } => (Key { number, kind }, Wrong::Missing),
+        StmFault::Twice { number, kind } => (Key { number, kind }, Wrong::Twice),
+        StmFault::Digits { number, kind, .. } => (Key { number, kind }, Wrong::Digits),
+        StmFault::Range { number, kind } => (Key { number, kind }, Wrong::Range),
+        StmFault::Order { number, kind } => (Key { number, kind }, Wrong::Order),
+        StmFault::Count { number, kind } => (Key { number, kind }, Wrong::Count),
+        StmFault::Memory => return Ok(None),
+    };
+    of_items(alloc, form, source, key, wrong)
 }
 
 /// The same of a stem file.
 pub fn stm_reason(
     alloc: Global,
     source: &Source<'_>,
-    fault: &[u64],
+    fault: &StmFault,
 ) -> Result<Option<String>, AllocError> {
     let form = Form {
         name: "STM",
         rows: [&buck_stem::ITEMS, &[]],
         kind: Kind::Stem,
     };
-    reason(alloc, &form, source, Told(fault))
+    stems_reason(alloc, &form, source, fault)
 }

@@ -64,6 +64,20 @@ impl Form {
         }
     }
 
+    /// The first item that begins a group, or stands in one, with its row.
+    pub(crate) fn first_grouped<'a>(
+        &self,
+        source: &Source<'a>,
+    ) -> Option<(Item<'a>, &'static Described)> {
+        for item in source.items() {
+            match self.row(&item) {
+                Some(row) if row.level != Level::Head => return Some((item, row)),
+                _ => {}
+            }
+        }
+        None
+    }
+
     /// The group that stands open behind an item, where one stood open before it.
     pub(crate) fn group_after<'a>(
         &self,

@@ -171,38 +171,21 @@ impl<'a> Item<'a> {
 
     /// The word at a place behind the head, counted from 1; the last byte where there is none.
     pub fn word(&self, place: usize) -> Word<'a> {
-        let mut at = 1usize;
-        for word in self.words() {
-            if at == place {
-                return word;
-            }
-            at = at.saturating_add(1);
-        }
-        Word {
+        self.words().nth(place.saturating_sub(1)).unwrap_or(Word {
             text: &[],
             at: self.at.saturating_add(self.text.len()).saturating_sub(1),
-        }
+        })
     }
 
     /// How many words there are behind the head.
     pub fn count(&self) -> usize {
-        let mut count = 0usize;
-        for _word in self.words() {
-            count = count.saturating_add(1);
-        }
-        count
+        self.words().count()
     }
 
     /// The place of the first word behind the head that is no number, counted from 1, if there is one.
     pub fn wrong_place(&self) -> Option<usize> {
-        let mut at = 1usize;
-        for word in self.words() {
-            if word.number().is_none() {
-                return Some(at);
-            }
-            at = at.saturating_add(1);
-        }
-        None
+        let before = self.words().position(|word| word.number().is_none())?;
+        Some(before.saturating_add(1))
     }
 }
 

@@ -7,11 +7,10 @@ use crate::placing::headless;
 use crate::rows::{Tag, key_of, row_of};
 use crate::shown::{Quoted, Several};
 use crate::source::Source;
-use crate::told::Told;
 use crate::whose::Whose;
 use buck_book::MOST_POSTINGS;
-use buck_journal::ITEMS;
 use buck_journal::slots::{CUT, DEMAND, SHEET, WORTH};
+use buck_journal::{ITEMS, JournalFault};
 use buck_record::{Described, Level, Order, Slot};
 use std::alloc::{AllocError, Global};
 use std::fmt;
@@ -152,7 +151,7 @@ fn found_at<'a>(source: &Source<'a>, place: usize) -> Found<'a> {
 
 /// Says that a file is no journal.
 fn no_journal(alloc: Global, source: &Source<'_>) -> Result<Option<String>, AllocError> {
-    for item in source.items() {
+    if let Some(item) = source.items().next() {
         return Ok(Some(format!(in alloc;
             "{}: {}, 1 2 JRN~ wanted\n",
             source.here(item.at),
@@ -164,20 +163,19 @@ fn no_journal(alloc: Global, source: &Source<'_>) -> Result<Option<String>, Allo
 
 /// Where the last byte stands that says something.
 fn end_of(source: &Source<'_>) -> usize {
-    let mut end = 0usize;
-    for item in source.items() {
-        end = item.at.saturating_add(item.text.len());
+    match source.items().last() {
+        Some(item) => item.at.saturating_add(item.text.len()),
+        None => 0,
     }
-    end
 }
 
 /// Says that a journal ends too soon, or that another item must stand at a place.
 fn misplaced(
     alloc: Global,
     source: &Source<'_>,
-    found: &Found<'_>,
     place: usize,
 ) -> Result<Option<String>, AllocError> {
+    let found = found_at(source, place);
     let due = &found.due;
     let Some(item) = found.item else {
         let posting = due.postings;
@@ -198,12 +196,28 @@ fn misplaced(
     )?))
 }
 
-/// Says that the worth is no number.
-fn worthless(
+/// The item at a place of a journal, where it stands in its place.
+fn seen_at<'a>(source: &Source<'a>, place: usize) -> Option<Seen<'a>> {
+    let found = found_at(source, place);
+    let item = found.item?;
+    let row = row_of(&ITEMS, item.key()?)?;
+    let whose = if row.level == Level::Head {
+        Whose::Nobody
+    } else {
+        Whose::Posting(found.due.postings)
+    };
+    Some(Seen { item, row, whose })
+}
+
+/// Says that a word is no number, or all of a worth.
+fn unnumbered(
     alloc: Global,
     source: &Source<'_>,
     seen: &Seen<'_>,
 ) -> Result<Option<String>, AllocError> {
+    if !seen.item.is(WORTH) {
+        return no_number(alloc, source, seen);
+    }
     Ok(Some(format!(in alloc;
         "{} {}, one number wanted\n",
         seen.opening(source, seen.item.at),
@@ -247,50 +261,29 @@ fn outside(
     }
 }
 
-/// What is wrong with an item that stands in its place.
-fn complaint(
-    alloc: Global,
-    source: &Source<'_>,
-    found: &Found<'_>,
-    number: u64,
-) -> Result<Option<String>, AllocError> {
-    let Some(item) = found.item else {
-        return Ok(None);
-    };
-    let Some(key) = item.key() else {
-        return Ok(None);
-    };
-    let Some(row) = row_of(&ITEMS, key) else {
-        return Ok(None);
-    };
-    let whose = if row.level == Level::Head {
-        Whose::Nobody
-    } else {
-        Whose::Posting(found.due.postings)
-    };
-    let seen = Seen { item, row, whose };
-    match number {
-        4 if key.is(WORTH) => worthless(alloc, source, &seen),
-        4 => no_number(alloc, source, &seen),
-        5 => miscounted(alloc, source, &seen),
-        6 => outside(alloc, source, &seen),
-        _ => Ok(None),
-    }
-}
-
-/// Why a journal is refused, in lines of text, given the numbers of its fault: that of the kind of fault, and the item.
-/// None where nothing in the journal is as the fault says. Refused where a growth was.
+/// Why a journal is refused, in lines of text, given its fault. None where nothing in the journal is as the fault says.
+/// Refused where a growth was.
 pub fn journal_reason(
     alloc: Global,
     source: &Source<'_>,
-    fault: &[u64],
+    fault: &JournalFault,
 ) -> Result<Option<String>, AllocError> {
-    let told = Told(fault);
-    let place = told.place(1);
-    match told.at(0) {
-        1 => headless(alloc, source, place),
-        2 => no_journal(alloc, source),
-        3 => misplaced(alloc, source, &found_at(source, place), place),
-        number => complaint(alloc, source, &found_at(source, place), number),
+    match *fault {
+        JournalFault::Head { item } => headless(alloc, source, item),
+        JournalFault::NotJournal => no_journal(alloc, source),
+        JournalFault::Shape { item } => misplaced(alloc, source, item),
+        JournalFault::Digits { item } => match seen_at(source, item) {
+            Some(seen) => unnumbered(alloc, source, &seen),
+            None => Ok(None),
+        },
+        JournalFault::Count { item } => match seen_at(source, item) {
+            Some(seen) => miscounted(alloc, source, &seen),
+            None => Ok(None),
+        },
+        JournalFault::Range { item } => match seen_at(source, item) {
+            Some(seen) => outside(alloc, source, &seen),
+            None => Ok(None),
+        },
+        JournalFault::Memory => Ok(None),
     }
 }

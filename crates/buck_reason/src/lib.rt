@@ -1,8 +1,8 @@
 //! Why a file is refused, in words: what stands there, and what is wanted.
 //!
 //! [`apt_reason`], [`stm_reason`] and [`journal_reason`] say it of the three kinds of file, and [`request_reason`] of a
-//! request, from the bytes and the numbers of the fault: in which line it is, of which item, and of whose. They take
-//! any bytes and any numbers.
+//! request, from the bytes and the fault: in which line it is, of which item, and of whose. They take any bytes and any
+//! fault.
 //! The items of a file with their names and ranges stand in the crate of its form; those of a request alone, `REQUEST`.
 #![tactic(auto)]
 
@@ -18,7 +18,6 @@ mod requests;
 mod rows;
 mod shown;
 mod source;
-mod told;
 mod whose;
 
 pub use files::{apt_reason, stm_reason};

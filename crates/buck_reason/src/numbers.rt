@@ -83,21 +83,12 @@ pub(crate) fn out_of_range(
 
 /// The greatest number of an item, if it has one.
 fn greatest(item: &Item<'_>) -> Option<u32> {
-    let mut most = None;
-    for word in item.words() {
-        most = most.max(word.number());
-    }
-    most
+    item.words().filter_map(|word| word.number()).max()
 }
 
 /// The least number of an item, if it has one.
 fn smallest(item: &Item<'_>) -> Option<u32> {
-    let mut least: Option<u32> = None;
-    for word in item.words() {
-        let number = word.number().unwrap_or(0);
-        least = Some(least.unwrap_or(number).min(number));
-    }
-    least
+    item.words().map(|word| word.number().unwrap_or(0)).min()
 }
 
 /// A number that isn't above one before it, and where it stands.

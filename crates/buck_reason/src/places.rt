@@ -8,17 +8,17 @@ use buck_stem::slots::STEM;
 impl<'a> Source<'a> {
     /// The item of a kind that has so many of its kind before it, if there is one.
     fn nth_of(&self, slot: Slot, before: usize) -> Option<Item<'a>> {
-        let mut place = 0usize;
-        for item in self.items() {
-            if !item.is(slot) {
-                continue;
-            }
-            if place == before {
-                return Some(item);
-            }
-            place = place.saturating_add(1);
-        }
-        None
+        self.items().filter(|item| item.is(slot)).nth(before)
+    }
+
+    /// The first item of a kind, if there is one.
+    pub(crate) fn first_of(&self, slot: Slot) -> Option<Item<'a>> {
+        self.nth_of(slot, 0)
+    }
+
+    /// How many items of a kind there are.
+    pub(crate) fn count_of(&self, slot: Slot) -> usize {
+        self.items().filter(|item| item.is(slot)).count()
     }
 
     /// The item that has the prices of a version, if there is one.
@@ -33,13 +33,7 @@ impl<'a> Source<'a> {
 
     /// How many stems begin in it.
     pub fn stems(&self) -> usize {
-        let mut stems = 0usize;
-        for item in self.items() {
-            if item.is(STEM) {
-                stems = stems.saturating_add(1);
-            }
-        }
-        stems
+        self.count_of(STEM)
     }
 
     /// An item of a posting: the posting's place among all, and the item's in it, are counted from 0.

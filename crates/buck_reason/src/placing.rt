@@ -15,14 +15,10 @@ pub(crate) fn headless(
     source: &Source<'_>,
     place: usize,
 ) -> Result<Option<String>, AllocError> {
-    let mut at = 1usize;
-    for item in source.items() {
-        if at == place {
-            return Ok(Some(headless_text(alloc, source, &item, place)?));
-        }
-        at = at.saturating_add(1);
+    match source.items().nth(place.saturating_sub(1)) {
+        Some(item) => Ok(Some(headless_text(alloc, source, &item, place)?)),
+        None => Ok(None),
     }
-    Ok(None)
 }
 
 /// The bytes that some programs put before a text.
@@ -52,10 +48,7 @@ pub(crate) fn other_kind(
     source: &Source<'_>,
 ) -> Result<Option<String>, AllocError> {
     let name = form.name;
-    for item in source.items() {
-        if !item.is(FILE) {
-            continue;
-        }
+    if let Some(item) = source.first_of(FILE) {
         return Ok(Some(format!(in alloc;
             "{}: kind of file (1 2): {}, {name} wanted\n",
             source.here(item.at),
@@ -86,23 +79,15 @@ fn unopened(
     source: &Source<'_>,
     row: &'static Described,
 ) -> Result<Option<String>, AllocError> {
-    for item in source.items() {
-        let Some(found) = form.row(&item) else {
-            continue;
-        };
-        if found.level == Level::Opener {
-            break;
-        }
-        if found.level == Level::Member {
-            return Ok(Some(format!(in alloc;
-                "{}: {}: stands before the first {}, after it wanted\n",
-                source.here(item.at),
-                Tag(found),
-                Tag(row)
-            )?));
-        }
+    match form.first_grouped(source) {
+        Some((item, found)) if found.level == Level::Member => Ok(Some(format!(in alloc;
+            "{}: {}: stands before the first {}, after it wanted\n",
+            source.here(item.at),
+            Tag(found),
+            Tag(row)
+        )?)),
+        _ => not_there(alloc, source.whole(), row, Whose::Nobody),
     }
-    not_there(alloc, source.whole(), row, Whose::Nobody)
 }
 
 /// Whether the group that an item begins has one that is described so.

@@ -49,10 +49,5 @@ pub(crate) fn range_at(row: &Described, place: usize) -> (u32, u32) {
 
 /// What is said of an item, if something is.
 pub(crate) fn row_of(rows: &'static [Described], key: Key) -> Option<&'static Described> {
-    for row in rows {
-        if key_of(row) == key {
-            return Some(row);
-        }
-    }
-    None
+    rows.iter().find(|row| key_of(row) == key)
 }

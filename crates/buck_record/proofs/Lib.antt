@@ -15,6 +15,8 @@ pub mod LaneLemmas
 pub mod FourLemmas
 pub mod AddLemmas
 pub mod CursorLemmas
-pub mod QuickLemmas
 pub mod PartLemmas
 pub mod Three
+pub mod LineLemmas
+pub mod SpacedLemmas
+pub mod TrimLemmas

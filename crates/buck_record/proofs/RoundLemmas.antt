@@ -13,7 +13,8 @@ use Rattle.std.proofs.lemmas.List.Sums.{AllPass-from_list_all}
 use Rattle.buck_record.specs.bytes.White.{is_white, is_filled, words}
 use Rattle.buck_record.specs.Reading.{each_from}
 use Rattle.buck_record.specs.bytes.Record.{number_at_most, numbers_of}
-use Rattle.buck_record.specs.writing.Written.{spelled}
+use Rattle.buck_record.specs.writing.Written.{spelled, blank}
+unfoldable use Rattle.buck_record.specs.writing.Written.{spaced}
 use Rattle.buck_record.proofs.NumberLemmas.{numeral, number-some}
 
 pub number-decimal : (most n : ℕ) → n ≤ most → most < 2 ^ 64 → number_at_most most (decimal n) ≡ Some n
@@ -22,11 +23,11 @@ number-decimal most n le bound =
     number-some most (decimal n) (digits_decimal numeral n (omega arith)) (decimal_nonempty n (omega arith))
     (omega (arith, value)) ∙ ap (λ v. Some v) value
 
-digit_dark : (c : ℕ) → is_ascii_digit c ≡ true → is_white c ≡ false
+pub digit_dark : (c : ℕ) → is_ascii_digit c ≡ true → is_white c ≡ false
 digit_dark c h = grind (arith, nat_tests)
 
 -- no white byte in digits
-dark : (n : ℕ) → n < 2 ^ 64 → All (λ b. is_white b ≡ false) (decimal n)
+pub dark : (n : ℕ) → n < 2 ^ 64 → All (λ b. is_white b ≡ false) (decimal n)
 dark n lt =
     λ k d l. digit_dark (get_or (decimal n) k d)
     (AllPass-from_list_all is_ascii_digit (decimal n) (digits_decimal numeral n lt) k d l)
@@ -35,21 +36,34 @@ filled-front : (word : List ℕ) (others : List (List ℕ)) → 0 < length word
     → filter is_filled (word ∷ others) ≡ word ∷ filter is_filled others
 filled-front word others h = cond-true _ _ _ (lt-ltb _ _ h)
 
-split-spelled : (n : ℕ) (ns : List ℕ) → n < 2 ^ 64 → AllByRecursion (λ n. n < 2 ^ 64) ns
-    → filter is_filled (slice_split is_white (decimal n ++ spelled ns)) ≡ decimal n ∷ map decimal ns
-split-spelled n [] lt h =
+-- each byte before a number is white
+abbrev pub AreWhite : (ℕ → ℕ) → Type 0
+AreWhite white = (k : ℕ) → is_white (white k) ≡ true
+
+-- the words of numbers, of which the first has lost the byte before it
+pub split-spaced : (white : ℕ → ℕ) → AreWhite white → (n k : ℕ) (ns : List ℕ) → n < 2 ^ 64
+    → AllByRecursion (λ n. n < 2 ^ 64) ns
+    → filter is_filled (slice_split is_white (decimal n ++ spaced white k ns)) ≡ decimal n ∷ map decimal ns
+unfolding spaced
+split-spaced white w n k [] lt h =
     ap (λ bs. filter is_filled (slice_split is_white bs)) (append-nil (decimal n))
     ∙ ap (filter is_filled) (slice_split_none is_white (decimal n) (dark n lt))
     ∙ filled-front (decimal n) [] (decimal_nonempty n lt)
-split-spelled n (m ∷ ms) lt h =
-    ap (filter is_filled) (slice_split_at is_white (decimal n) 32 (decimal m ++ spelled ms) (dark n lt) refl)
-    ∙ filled-front (decimal n) (slice_split is_white (decimal m ++ spelled ms)) (decimal_nonempty n lt)
-    ∙ ap (λ ws. decimal n ∷ ws) (split-spelled m ms h.0 h.1)
+split-spaced white w n k (m ∷ ms) lt h =
+    ap (filter is_filled)
+    (slice_split_at is_white (decimal n) (white k) (decimal m ++ spaced white (k + 1) ms) (dark n lt) (w k))
+    ∙ filled-front (decimal n) (slice_split is_white (decimal m ++ spaced white (k + 1) ms)) (decimal_nonempty n lt)
+    ∙ ap (λ ws. decimal n ∷ ws) (split-spaced white w m (k + 1) ms h.0 h.1)
+
+spelled_spaced : (k : ℕ) (ns : List ℕ) → spelled ns ≡ spaced blank k ns
+unfolding spaced
+spelled_spaced k [] = refl
+spelled_spaced k (n ∷ ns) = ap (λ text. 32 ∷ (decimal n ++ text)) (spelled_spaced (k + 1) ns)
 
 pub words-spelled : (ns : List ℕ) → AllByRecursion (λ n. n < 2 ^ 64) ns → words (spelled ns) ≡ map decimal ns
 unfolding words
 words-spelled [] h = refl
-words-spelled (n ∷ ns) h = split-spelled n ns h.0 h.1
+words-spelled (n ∷ ns) h = rw (spelled_spaced 1 ns) (split-spaced blank (λ k. refl) n 1 ns h.0 h.1)
 
 each-decimal : (most k : ℕ) (ns : List ℕ) → most < 2 ^ 64 → AllByRecursion (λ n. n ≤ most) ns
     → each_from (number_at_most most) k (map decimal ns) ≡ Ok ns
@@ -61,7 +75,7 @@ pub from_all : (P : ℕ → Type 0) (ns : List ℕ) → All P ns → AllByRecurs
 from_all P [] h = tt
 from_all P (n ∷ ns) h = (h 0 0 (omega arith), from_all P ns (λ k d lt. h (suc k) d (omega arith)))
 
-smaller : (ns : List ℕ) → AllByRecursion (λ n. n ≤ 4294967295) ns → AllByRecursion (λ n. n < 2 ^ 64) ns
+pub smaller : (ns : List ℕ) → AllByRecursion (λ n. n ≤ 4294967295) ns → AllByRecursion (λ n. n < 2 ^ 64) ns
 smaller [] h = tt
 smaller (n ∷ ns) h = (omega (arith, h.0), smaller ns h.1)
 

@@ -6,7 +6,7 @@
 //! [`table`] looks items up by number and kind, [`check`] chains the checks of a reader that stands on this crate,
 //! [`rules`] has what such readers share, [`Described`] is what is said of an item, and [`laws`] says that what is written is read again. [`FormFault`] is what
 //! their faults have in common, [`Numbered`] what is told of a fault, and [`text`] writes its text. [`put_number`],
-//! [`put_numbers`] and [`put_line`] write.
+//! [`put_after`], [`put_numbers`] and [`put_line`] write.
 #![tactic(auto)]
 
 mod bytes;
@@ -39,5 +39,5 @@ pub use pass::kept_numbers::numbers_into;
 pub use pass::parts::two_parts;
 pub use pass::small_numbers::append_numbers;
 pub use slot::Slot;
-pub use writing::line::{put_line, put_number, put_numbers};
+pub use writing::line::{put_after, put_line, put_number, put_numbers};
 pub use writing::text;

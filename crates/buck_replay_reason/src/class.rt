@@ -9,10 +9,8 @@ pub(crate) struct ClassName<'a> {
     /// The place of the assortment, counted from 0.
     place: usize,
     assortment: &'a Assortment,
-    /// The place of the assortment's first class among all.
-    pub(crate) first: usize,
     /// The place of the class in its assortment.
-    pub(crate) at: usize,
+    at: usize,
 }
 
 impl<'a> ClassName<'a> {
@@ -27,7 +25,6 @@ impl<'a> ClassName<'a> {
                 return Some(ClassName {
                     place,
                     assortment,
-                    first,
                     at,
                 });
             }
@@ -35,16 +32,6 @@ impl<'a> ClassName<'a> {
             place = place.saturating_add(1);
         }
         None
-    }
-
-    /// How many classes its assortment has.
-    pub(crate) fn classes(&self) -> usize {
-        self.assortment.classes()
-    }
-
-    /// Its base price.
-    pub(crate) fn base(&self) -> u32 {
-        self.assortment.prices().get(self.at).copied().unwrap_or(0)
     }
 }
 

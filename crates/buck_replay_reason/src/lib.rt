@@ -1,11 +1,10 @@
 //! Why a journal isn't lawful, or not that of its stem files and rule, in words: what stands there, and what is wanted.
 //!
-//! [`replay_reason`], [`tie_reason`] and [`rule_reason`] say it from what was read and the numbers of the fault. They
-//! take any journal and any numbers.
+//! [`replay_reason`], [`rule_reason`] and the methods of [`Tied`] say it from what was read and the fault. They take
+//! any journal and any fault.
 #![tactic(auto)]
 
 mod class;
-mod ledger;
 mod logs;
 mod posting;
 mod prices;
@@ -14,7 +13,7 @@ mod stems;
 mod targets;
 mod tie;
 
-pub use prices::rule_reason;
+pub use prices::{Mispriced, rule_reason};
 pub use replay::{Unlawful, replay_reason};
 pub use targets::WrongTargets;
-pub use tie::{Tied, tie_reason};
+pub use tie::Tied;

@@ -1,16 +1,18 @@
 //! Prices that aren't what they may be.
+ghost use Rattle.buck_rule.specs.Standing.{IsInRange};
+
 use crate::class::ClassName;
-use crate::ledger::Ledger;
 use crate::posting::price_at;
-use crate::targets::sum_from;
+use crate::replay::Unlawful;
 use buck_apt::Instruction;
+use buck_book::Walk;
 use buck_journal::Journal;
 use buck_reason::{Several, Source};
 use buck_record::Memory;
+use buck_rule::{Standing, step};
 use std::alloc::Global;
 use std::cmp::Ordering;
 use std::fmt;
-use std::sync::Arc;
 
 /// The prices that a class may have.
 #[derive(Clone, Copy)]
@@ -29,32 +31,18 @@ impl fmt::Display for Allowed {
     }
 }
 
-/// What a thousandth of a base price is of it.
-const THOUSAND: u64 = 1000;
-
-/// The number at a place of a list.
-fn number_at(numbers: &[u32], place: usize) -> u64 {
-    u64::from(numbers.get(place).copied().unwrap_or(0))
-}
-
-/// The prices that a class may have by what was cut: its base price where it is on its target, up to the span more
-/// where it is under it, and down to the span less where it is over it.
-fn allowed_prices(
-    instruction: &Instruction,
-    ledger: &Ledger,
-    class: &ClassName<'_>,
-    place: usize,
-) -> Allowed {
-    let base = u64::from(class.base());
-    let span = base.saturating_mul(u64::from(instruction.limit())) / THOUSAND;
-    let targets = sum_from(ledger.wanted.as_slice(), class.first, class.classes());
-    let counts = sum_from(ledger.cut.as_slice(), class.first, class.classes());
-    let cut = number_at(ledger.cut.as_slice(), place).saturating_mul(targets);
-    let wanted = number_at(ledger.wanted.as_slice(), place).saturating_mul(counts);
-    match cut.cmp(&wanted) {
+/// The prices that a class may have as it stands: its base price where it is on its target, up to the span more where
+/// it is under it, and down to the span less where it is over it.
+fn allowed_prices(standing: &Standing) -> Allowed
+    requires { IsInRange standing.now }
+{
+    let base = standing.base;
+    let furthest = step(standing);
+    let cut = standing.count * standing.targets;
+    match cut.cmp(&(standing.target * standing.counts)) {
         Ordering::Equal => Allowed::One(base),
-        Ordering::Less => Allowed::Between(base, base.saturating_add(span)),
-        Ordering::Greater => Allowed::Between(base.saturating_sub(span), base),
+        Ordering::Less => Allowed::Between(base, furthest),
+        Ordering::Greater => Allowed::Between(furthest, base),
     }
 }
 
@@ -63,23 +51,26 @@ fn price_of(journal: &Journal, version: u32, class: usize) -> Option<u32> {
     journal.sheets.get(version as usize)?.get(class).copied()
 }
 
-/// Says that a price of a version may not be what it is.
+/// Says that a price of the version in force may not be what it is, at the place where that came into force.
 pub(crate) fn price_reason(
     alloc: Global,
-    source: &Source<'_>,
-    instruction: &Arc<Instruction>,
-    journal: &Journal,
-    version: u32,
+    unlawful: &Unlawful<'_>,
+    walk: &Walk<'_>,
     place: usize,
 ) -> Result<Option<String>, Memory> {
+    let instruction = walk.instruction();
+    let version = walk.version();
     let Some(class) = ClassName::of(instruction, place) else {
         return Ok(None);
     };
-    let Some(price) = price_of(journal, version, place) else {
+    let Some(price) = price_of(unlawful.journal, version, place) else {
         return Ok(None);
     };
-    let ledger = Ledger::at_version(alloc, instruction, journal.entries.as_slice(), version)?;
-    let allowed = allowed_prices(instruction, &ledger, &class, place);
+    if place >= instruction.classes() {
+        return Ok(None);
+    }
+    let allowed = allowed_prices(&walk.standing(place));
+    let source = &unlawful.source;
     Ok(Some(format!(in alloc;
         "{}: price of version {version}, class {place} ({class}): {price}, {allowed} wanted\n",
         source.here(price_at(source, version, place))
@@ -89,11 +80,14 @@ pub(crate) fn price_reason(
 /// Says that the prices of a version are missing, are not one for each class, or are too many.
 pub(crate) fn sheet_reason(
     alloc: Global,
-    source: &Source<'_>,
-    instruction: &Instruction,
-    journal: &Journal,
+    unlawful: &Unlawful<'_>,
     version: u32,
 ) -> Result<Option<String>, Memory> {
+    let Unlawful {
+        source,
+        instruction,
+        journal,
+    } = *unlawful;
     let classes = instruction.classes();
     let Some(item) = source.sheet_item(version) else {
         return Ok(Some(format!(in alloc;
@@ -119,26 +113,31 @@ pub(crate) fn sheet_reason(
     )?))
 }
 
-/// Why the journal of a file isn't that of a rule, in a line of text, given the numbers of its fault behind the number
-/// of the kind of fault: the version, the class, the price and the rule's. Refused as `Memory` alone.
+/// A price of a journal that isn't what a rule gives.
+#[derive(Clone, Copy)]
+pub struct Mispriced {
+    pub version: u32,
+    /// The place of the class among all.
+    pub class: usize,
+    pub price: u32,
+    /// What the rule gives.
+    pub wanted: u64,
+}
+
+/// Why the journal of a file isn't that of a rule, in a line of text. Refused as `Memory` alone.
 pub fn rule_reason(
     alloc: Global,
     source: &Source<'_>,
     instruction: &Instruction,
     rule: &str,
-    fault: &[u64],
+    mispriced: &Mispriced,
 ) -> Result<Option<String>, Memory> {
-    let [version, class, price, wanted] = fault else {
-        return Ok(None);
-    };
-    let price = *price;
-    let wanted = *wanted;
-    let Ok(version) = u32::try_from(*version) else {
-        return Ok(None);
-    };
-    let Ok(place) = usize::try_from(*class) else {
-        return Ok(None);
-    };
+    let Mispriced {
+        version,
+        class: place,
+        price,
+        wanted,
+    } = *mispriced;
     let Some(class) = ClassName::of(instruction, place) else {
         return Ok(None);
     };

@@ -1,17 +1,16 @@
 //! Why a journal isn't lawful.
-use crate::ledger::{number_after, version_after};
 use crate::logs::wrong_log;
 use crate::posting::{Opening, Who};
 use crate::prices::{price_reason, sheet_reason};
 use crate::targets::WrongTargets;
 use buck_apt::Instruction;
-use buck_book::{Entry, Posting};
+use buck_book::{Entry, MOST_POSTINGS, Posting, Walk};
 use buck_dp::{best, worth_if_admissible};
-use buck_journal::Journal;
+use buck_journal::{Journal, ReplayFault, replay_in_order};
 use buck_reason::{Quoted, Source};
 use buck_record::Memory;
 use buck_value::Sheet;
-use std::alloc::{AllocError, Global};
+use std::alloc::Global;
 use std::sync::Arc;
 
 /// A journal that isn't lawful: its file, what was read from it, and its instruction.
@@ -39,6 +38,15 @@ impl<'a> Unlawful<'a> {
         Some(Who { at, posting })
     }
 
+    /// The cut at a place, by its name.
+    fn cut(&self, at: usize) -> Option<(Who<'a>, &'a Entry)> {
+        let who = self.who(at)?;
+        match who.posting {
+            Posting::Cut(entry) => Some((who, entry)),
+            Posting::Demand(_) => None,
+        }
+    }
+
     /// What is said first of a part of a posting.
     fn opening<'w>(&self, who: &Who<'w>, part: usize) -> Opening<'a, 'w> {
         Opening {
@@ -48,18 +56,8 @@ impl<'a> Unlawful<'a> {
         }
     }
 
-    /// The postings before a place.
-    fn before(&self, at: usize) -> &'a [Posting] {
-        let journal = self.journal;
-        match journal.entries.as_slice().split_at_checked(at) {
-            Some((before, _)) => before,
-            None => &[],
-        }
-    }
-
-    /// The sheet in force at a posting, if it is there.
-    fn sheet(&self, alloc: Global, at: usize) -> Result<Option<Sheet>, Memory> {
-        let version = version_after(self.instruction, self.before(at));
+    /// The sheet of a version, if it is there.
+    fn sheet(&self, alloc: Global, version: u32) -> Result<Option<Sheet>, Memory> {
         let journal = self.journal;
         let Some(prices) = journal.sheets.get(version as usize) else {
             return Ok(None);
@@ -73,58 +71,62 @@ impl<'a> Unlawful<'a> {
 fn misnumbered(
     alloc: Global,
     unlawful: &Unlawful<'_>,
-    who: &Who<'_>,
-) -> Result<String, AllocError> {
-    let (number, harvester) = match who.posting {
-        Posting::Cut(entry) => (entry.number, entry.harvester),
-        Posting::Demand(demand) => (demand.number, demand.harvester),
+    walk: &Walk<'_>,
+    at: usize,
+) -> Result<Option<String>, Memory> {
+    let Some(who) = unlawful.who(at) else {
+        return Ok(None);
     };
-    let wanted = number_after(unlawful.before(who.at), harvester);
-    format!(in alloc;
+    let number = match who.posting {
+        Posting::Cut(entry) => entry.number,
+        Posting::Demand(demand) => demand.number,
+    };
+    let wanted = walk.next_number(who.posting.harvester());
+    Ok(Some(format!(in alloc;
         "{} number {number}, {wanted} wanted\n",
-        unlawful.opening(who, CALL)
-    )
+        unlawful.opening(&who, CALL)
+    )?))
 }
 
 /// Says that a posting doesn't have the version in force.
 fn misversioned(
     alloc: Global,
     unlawful: &Unlawful<'_>,
-    who: &Who<'_>,
-) -> Result<String, AllocError> {
+    walk: &Walk<'_>,
+    at: usize,
+) -> Result<Option<String>, Memory> {
+    let Some(who) = unlawful.who(at) else {
+        return Ok(None);
+    };
     let version = match who.posting {
         Posting::Cut(entry) => entry.version,
         Posting::Demand(demand) => demand.version,
     };
-    let wanted = version_after(unlawful.instruction, unlawful.before(who.at));
-    format!(in alloc;
+    let wanted = walk.version();
+    Ok(Some(format!(in alloc;
         "{} version {version}, {wanted} wanted\n",
-        unlawful.opening(who, CALL)
-    )
+        unlawful.opening(&who, CALL)
+    )?))
 }
 
 /// Says that the logs of a cut can't be cut.
-fn miscut(
-    alloc: Global,
-    unlawful: &Unlawful<'_>,
-    who: &Who<'_>,
-    entry: &Entry,
-) -> Result<Option<String>, Memory> {
+fn miscut(alloc: Global, unlawful: &Unlawful<'_>, at: usize) -> Result<Option<String>, Memory> {
+    let Some((who, entry)) = unlawful.cut(at) else {
+        return Ok(None);
+    };
     let sheet = Sheet::base(alloc, unlawful.instruction.clone()?)?;
     let Some(wrong) = wrong_log(&sheet, &entry.stem, entry.cutting.logs.as_slice()) else {
         return Ok(None);
     };
-    Ok(Some(format!(in alloc; "{} {wrong}\n", unlawful.opening(who, LOGS))?))
+    Ok(Some(format!(in alloc; "{} {wrong}\n", unlawful.opening(&who, LOGS))?))
 }
 
 /// Says that a cut isn't worth what it says.
-fn misvalued(
-    alloc: Global,
-    unlawful: &Unlawful<'_>,
-    who: &Who<'_>,
-    entry: &Entry,
-) -> Result<Option<String>, Memory> {
-    let Some(sheet) = unlawful.sheet(alloc, who.at)? else {
+fn misvalued(alloc: Global, unlawful: &Unlawful<'_>, at: usize) -> Result<Option<String>, Memory> {
+    let Some((who, entry)) = unlawful.cut(at) else {
+        return Ok(None);
+    };
+    let Some(sheet) = unlawful.sheet(alloc, entry.version)? else {
         return Ok(None);
     };
     let Some(wanted) = worth_if_admissible(&sheet, &entry.stem, &entry.cutting) else {
@@ -133,25 +135,23 @@ fn misvalued(
     let found = entry.worth;
     Ok(Some(format!(in alloc;
         "{} worth {found}, {wanted} wanted\n",
-        unlawful.opening(who, WORTH)
+        unlawful.opening(&who, WORTH)
     )?))
 }
 
 /// Says that logs of a stem are worth more, and which.
-fn outvalued(
-    alloc: Global,
-    unlawful: &Unlawful<'_>,
-    who: &Who<'_>,
-    entry: &Entry,
-) -> Result<Option<String>, Memory> {
-    let Some(sheet) = unlawful.sheet(alloc, who.at)? else {
+fn outvalued(alloc: Global, unlawful: &Unlawful<'_>, at: usize) -> Result<Option<String>, Memory> {
+    let Some((who, entry)) = unlawful.cut(at) else {
+        return Ok(None);
+    };
+    let Some(sheet) = unlawful.sheet(alloc, entry.version)? else {
         return Ok(None);
     };
     let (better, wanted) = best(alloc, &sheet, &entry.stem)?;
     let found = entry.worth;
     let mut out = format!(in alloc;
         "{} logs worth {found}, these worth {wanted} wanted:\n",
-        unlawful.opening(who, LOGS)
+        unlawful.opening(&who, LOGS)
     )?;
     for log in better.logs.as_slice() {
         let start = log.start;
@@ -174,98 +174,58 @@ fn outvalued(
     Ok(Some(out))
 }
 
-/// Says what is wrong with a cut, whose fault has this number.
-fn cut_reason(
-    alloc: Global,
-    unlawful: &Unlawful<'_>,
-    who: &Who<'_>,
-    entry: &Entry,
-    number: u64,
-) -> Result<Option<String>, Memory> {
-    match number {
-        5 => miscut(alloc, unlawful, who, entry),
-        6 => misvalued(alloc, unlawful, who, entry),
-        7 => outvalued(alloc, unlawful, who, entry),
-        _ => Ok(None),
-    }
-}
-
 /// Says that new targets may not come into force.
-fn untargeted(
-    alloc: Global,
-    unlawful: &Unlawful<'_>,
-    who: &Who<'_>,
-    targets: &[u32],
-) -> Result<Option<String>, Memory> {
-    let instruction = unlawful.instruction;
-    let wrong = WrongTargets {
-        instruction,
-        targets,
-    };
-    Ok(Some(format!(in alloc; "{} {wrong}\n", unlawful.opening(who, TARGETS))?))
-}
-
-/// Says what is wrong with a posting.
-fn posting_reason(
-    alloc: Global,
-    unlawful: &Unlawful<'_>,
-    who: &Who<'_>,
-    number: u64,
-) -> Result<Option<String>, Memory> {
-    match number {
-        3 => Ok(Some(misnumbered(alloc, unlawful, who)?)),
-        4 => Ok(Some(misversioned(alloc, unlawful, who)?)),
-        _ => match who.posting {
-            Posting::Cut(entry) => cut_reason(alloc, unlawful, who, entry, number),
-            Posting::Demand(demand) => untargeted(alloc, unlawful, who, demand.targets.as_slice()),
-        },
-    }
-}
-
-/// Says what is wrong with the prices of a version.
-fn prices_reason(
-    alloc: Global,
-    unlawful: &Unlawful<'_>,
-    version: u64,
-    class: Option<u64>,
-) -> Result<Option<String>, Memory> {
-    let Unlawful {
-        source,
-        instruction,
-        journal,
-    } = unlawful;
-    let Ok(version) = u32::try_from(version) else {
+fn untargeted(alloc: Global, unlawful: &Unlawful<'_>, at: usize) -> Result<Option<String>, Memory> {
+    let Some(who) = unlawful.who(at) else {
         return Ok(None);
     };
-    let Some(class) = class else {
-        return sheet_reason(alloc, source, instruction, journal, version);
+    let Posting::Demand(demand) = who.posting else {
+        return Ok(None);
     };
-    match usize::try_from(class) {
-        Ok(class) => price_reason(alloc, source, instruction, journal, version, class),
-        Err(_) => Ok(None),
+    let wrong = WrongTargets {
+        instruction: unlawful.instruction,
+        targets: demand.targets.as_slice(),
+    };
+    Ok(Some(format!(in alloc; "{} {wrong}\n", unlawful.opening(&who, TARGETS))?))
+}
+
+/// Says what is wrong at the place where a way through a journal has stopped.
+fn stop_reason(
+    alloc: Global,
+    unlawful: &Unlawful<'_>,
+    walk: &Walk<'_>,
+    fault: &ReplayFault,
+) -> Result<Option<String>, Memory> {
+    match *fault {
+        ReplayFault::Sheet { version } => sheet_reason(alloc, unlawful, version),
+        ReplayFault::Price { class, .. } => price_reason(alloc, unlawful, walk, class),
+        ReplayFault::Numbering { at } => misnumbered(alloc, unlawful, walk, at),
+        ReplayFault::Version { at } => misversioned(alloc, unlawful, walk, at),
+        ReplayFault::Cutting { at } => miscut(alloc, unlawful, at),
+        ReplayFault::Worth { at } => misvalued(alloc, unlawful, at),
+        ReplayFault::Outvalued { at } => outvalued(alloc, unlawful, at),
+        ReplayFault::Targets { at } => untargeted(alloc, unlawful, at),
+        ReplayFault::Memory => Ok(None),
     }
 }
 
-/// Why a journal isn't lawful, in lines of text, given the numbers of its fault: that of the kind of fault, and the
-/// fields. For a cut that others outvalue the best one is shown. None where nothing is as the fault says. Refused as
-/// `Memory` alone.
+/// Why a journal isn't lawful, in lines of text, given its fault. For a cut that others outvalue the best one is shown.
+/// None where that isn't its fault. Refused as `Memory` alone.
 pub fn replay_reason(
     alloc: Global,
     unlawful: &Unlawful<'_>,
-    fault: &[u64],
+    fault: &ReplayFault,
 ) -> Result<Option<String>, Memory> {
-    match fault {
-        [1, version] => prices_reason(alloc, unlawful, *version, None),
-        [2, version, class] => prices_reason(alloc, unlawful, *version, Some(*class)),
-        [number, at] => {
-            let Ok(at) = usize::try_from(*at) else {
-                return Ok(None);
-            };
-            match unlawful.who(at) {
-                Some(who) => posting_reason(alloc, unlawful, &who, *number),
-                None => Ok(None),
-            }
-        }
+    if let ReplayFault::Outvalued { at } = fault {
+        return outvalued(alloc, unlawful, *at);
+    }
+    let journal = unlawful.journal;
+    if journal.entries.len() > MOST_POSTINGS as usize {
+        return Ok(None);
+    }
+    let stop = replay_in_order(alloc, unlawful.instruction, journal)?;
+    match stop.outcome {
+        Err(found) if found == *fault => stop_reason(alloc, unlawful, &stop.walk, fault),
         _ => Ok(None),
     }
 }

@@ -20,7 +20,7 @@ struct Part<'a> {
 }
 
 /// The numbers from a place on together, so many of them.
-pub(crate) fn sum_from(numbers: &[u32], first: usize, many: usize) -> u64 {
+fn sum_from(numbers: &[u32], first: usize, many: usize) -> u64 {
     let mut sum = 0u64;
     for number in numbers.iter().skip(first).take(many) {
         sum = sum.saturating_add(u64::from(*number));

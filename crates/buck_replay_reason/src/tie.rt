@@ -5,9 +5,8 @@ use buck_book::Posting;
 use buck_journal::Journal;
 use buck_reason::{Several, Shown, Source};
 use buck_record::Memory;
-use buck_stem::Stem;
-use std::alloc::{AllocError, Global};
-use std::fmt;
+use buck_stem::read_stm;
+use std::alloc::Global;
 
 /// A journal that was held against stem files, where the cuts of a harvester differ from its file.
 #[derive(Clone, Copy)]
@@ -16,28 +15,32 @@ pub struct Tied<'a> {
     pub journal: &'a Journal,
     /// The harvester, from 1.
     pub harvester: u32,
-    /// Its file and the stems there, where it has one.
-    pub file: Option<(Source<'a>, &'a [Stem])>,
+    /// Its file, where it has one.
+    pub file: Option<Source<'a>>,
     /// How many stem files there are.
     pub files: usize,
 }
 
 impl<'a> Tied<'a> {
+    /// Whether a posting is a cut of the harvester.
+    fn is_cut(&self, posting: &Posting) -> bool {
+        match posting {
+            Posting::Cut(entry) => entry.harvester == self.harvester,
+            Posting::Demand(_) => false,
+        }
+    }
+
     /// The harvester's cut at a place, counted from 1.
     fn cut(&self, place: usize) -> Option<Who<'a>> {
-        let mut at = 0usize;
-        let mut cut = 0usize;
         let journal = self.journal;
-        for posting in journal.entries.as_slice() {
-            if let Posting::Cut(entry) = posting {
-                if entry.harvester == self.harvester {
-                    cut = cut.saturating_add(1);
-                    if cut == place {
-                        return Some(Who { at, posting });
-                    }
+        let mut left = place;
+        for (at, posting) in journal.entries.as_slice().iter().enumerate() {
+            if self.is_cut(posting) {
+                left = left.saturating_sub(1);
+                if left == 0 {
+                    return Some(Who { at, posting });
                 }
             }
-            at = at.saturating_add(1);
         }
         None
     }
@@ -53,35 +56,12 @@ impl<'a> Tied<'a> {
 
     /// How many cuts the harvester has.
     fn cuts(&self) -> usize {
-        let mut cuts = 0usize;
         let journal = self.journal;
-        for posting in journal.entries.as_slice() {
-            if let Posting::Cut(entry) = posting {
-                if entry.harvester == self.harvester {
-                    cuts = cuts.saturating_add(1);
-                }
-            }
-        }
-        cuts
-    }
-}
-
-/// The place of a stem in its file, counted from 1.
-#[derive(Clone, Copy)]
-struct Spot<'a> {
-    file: Source<'a>,
-    stem: &'a Stem,
-    place: usize,
-}
-
-impl fmt::Display for Spot<'_> {
-    fn fmt<W: fmt::Write>(&self, f: &mut fmt::Formatter<W>) -> fmt::Result {
-        let place = self.place;
-        write!(
-            f,
-            "({}, stem at place {place})",
-            self.file.here(stem_at(&self.file, place))
-        )
+        let postings = journal.entries.as_slice();
+        postings
+            .iter()
+            .filter(|posting| self.is_cut(posting))
+            .count()
     }
 }
 
@@ -93,94 +73,75 @@ fn stem_at(file: &Source<'_>, place: usize) -> usize {
     }
 }
 
-/// Says that a stem of a file wasn't cut.
-fn uncut(
-    alloc: Global,
-    tied: &Tied<'_>,
-    file: &Source<'_>,
-    stems: &[Stem],
-    place: usize,
-) -> Result<Option<String>, AllocError> {
-    let Some(stem) = stems.get(place.saturating_sub(1)) else {
-        return Ok(None);
-    };
-    let number = stem.number();
-    let harvester = tied.harvester;
-    let all = stems.len();
-    Ok(Some(format!(in alloc;
-        "{}: stem {number} (place {place}): {} of harvester {harvester} in {}, {all} wanted\n",
-        file.here(stem_at(file, place)),
-        Several(tied.cuts(), "cut"),
-        Shown(tied.source.name)
-    )?))
-}
-
-/// Says that a harvester without a file has a cut.
-fn unfiled(alloc: Global, tied: &Tied<'_>, who: &Who<'_>) -> Result<String, AllocError> {
-    let harvester = tied.harvester;
-    let are = if tied.files == 1 { "is" } else { "are" };
-    format!(in alloc;
-        "{} no cut of harvester {harvester} wanted, there {are} {}\n",
-        tied.opening(who),
-        Several(tied.files, "stem file")
-    )
-}
-
-/// Says that a harvester has a cut too many.
-fn surplus(
-    alloc: Global,
-    tied: &Tied<'_>,
-    who: &Who<'_>,
-    file: &Source<'_>,
-    place: usize,
-    all: usize,
-) -> Result<String, AllocError> {
-    format!(in alloc;
-        "{} cut {place} of its harvester, {all} wanted, as many as stems in {}\n",
-        tied.opening(who),
-        Shown(file.name)
-    )
-}
-
-/// Says how a stem that was cut differs from the one in its place.
-fn other(
-    alloc: Global,
-    tied: &Tied<'_>,
-    who: &Who<'_>,
-    wanted: Spot<'_>,
-) -> Result<Option<String>, AllocError> {
-    let Posting::Cut(entry) = who.posting else {
-        return Ok(None);
-    };
-    let difference = Difference {
-        found: &entry.stem,
-        wanted: wanted.stem,
-    };
-    Ok(Some(format!(in alloc; "{} {difference} {wanted}\n", tied.opening(who))?))
-}
-
-/// Why the cuts of a harvester aren't the stems of its file, in a line of text, given the number of the kind of fault
-/// and the place, counted from 1. None where nothing is as the fault says. Refused as `Memory` alone.
-pub fn tie_reason(
-    alloc: Global,
-    tied: &Tied<'_>,
-    number: u64,
-    place: usize,
-) -> Result<Option<String>, Memory> {
-    if number == 2 {
-        return match tied.file {
-            Some((file, stems)) => Ok(uncut(alloc, tied, &file, stems, place)?),
-            None => Ok(None),
+impl<'a> Tied<'a> {
+    /// Says how the harvester's cut at a place, counted from 1, differs from the stem that stands there in its file.
+    /// None where nothing is so. Refused as `Memory` alone.
+    pub fn other(&self, alloc: Global, place: usize) -> Result<Option<String>, Memory> {
+        let (Some(who), Some(file)) = (self.cut(place), self.file) else {
+            return Ok(None);
         };
+        let Ok(stems) = read_stm(alloc, file.bytes) else {
+            return Ok(None);
+        };
+        let (Posting::Cut(entry), Some(stem)) = (who.posting, stems.get(place.saturating_sub(1)))
+        else {
+            return Ok(None);
+        };
+        let difference = Difference {
+            found: &entry.stem,
+            wanted: stem,
+        };
+        Ok(Some(format!(in alloc;
+            "{} {difference} ({}, stem at place {place})\n",
+            self.opening(&who),
+            file.here(stem_at(&file, place))
+        )?))
     }
-    let Some(who) = tied.cut(place) else {
-        return Ok(None);
-    };
-    let Some((file, stems)) = tied.file else {
-        return Ok(Some(unfiled(alloc, tied, &who)?));
-    };
-    match stems.get(place.saturating_sub(1)) {
-        Some(stem) if number == 1 => Ok(other(alloc, tied, &who, Spot { file, stem, place })?),
-        _ => Ok(Some(surplus(alloc, tied, &who, &file, place, stems.len())?)),
+
+    /// Says that the stem at a place of the harvester's file, counted from 1, wasn't cut. None where nothing is so.
+    /// Refused as `Memory` alone.
+    pub fn uncut(&self, alloc: Global, place: usize) -> Result<Option<String>, Memory> {
+        let Some(file) = self.file else {
+            return Ok(None);
+        };
+        let Ok(stems) = read_stm(alloc, file.bytes) else {
+            return Ok(None);
+        };
+        let Some(stem) = stems.get(place.saturating_sub(1)) else {
+            return Ok(None);
+        };
+        let number = stem.number();
+        let harvester = self.harvester;
+        let all = stems.len();
+        Ok(Some(format!(in alloc;
+            "{}: stem {number} (place {place}): {} of harvester {harvester} in {}, {all} wanted\n",
+            file.here(stem_at(&file, place)),
+            Several(self.cuts(), "cut"),
+            Shown(self.source.name)
+        )?))
+    }
+
+    /// Says that the harvester's cut at a place, counted from 1, is one too many. None where nothing is so. Refused as
+    /// `Memory` alone.
+    pub fn surplus(&self, alloc: Global, place: usize) -> Result<Option<String>, Memory> {
+        let Some(who) = self.cut(place) else {
+            return Ok(None);
+        };
+        let opening = self.opening(&who);
+        match self.file {
+            Some(file) => Ok(Some(format!(in alloc;
+                "{opening} cut {place} of its harvester, {} wanted, as many as stems in {}\n",
+                file.stems(),
+                Shown(file.name)
+            )?)),
+            None => {
+                let harvester = self.harvester;
+                let are = if self.files == 1 { "is" } else { "are" };
+                Ok(Some(format!(in alloc;
+                    "{opening} no cut of harvester {harvester} wanted, there {are} {}\n",
+                    Several(self.files, "stem file")
+                )?))
+            }
+        }
     }
 }

@@ -1,11 +1,12 @@
 -- The least of some degrees, and of one more.
-use Rattle.std.proofs.Common.{◌≡◌, ℕ, ◌+◌, ◌≤◌, ◌<◌, length, take, get_or, List, [], ◌∷◌, ◌++◌, Option, Some, None, IfSome, Bool, true, false, cond, nat_le, refl, sym, subst, arith}
+use Rattle.std.proofs.Common.{◌≡◌, ℕ, ◌+◌, ◌≤◌, ◌<◌, length, take, get_or, List, [], ◌∷◌, ◌++◌, Option, Some, None, IfSome, Bool, true, false, cond, nat_le, refl, sym, ap, subst, ◌∙◌, arith}
 use Rattle.std.specs.List.{AllByRecursion, Contains}
+use Rattle.std.proofs.lemmas.List.{map-append, take_more}
 use Rattle.std.proofs.lemmas.List.Elements.{Contains-append_left, Contains-append_right}
 use Rattle.std.proofs.lemmas.Bool.Decides.{nat_tests}
-use Rattle.buck_sweep.specs.Table.{IsLeast}
+use Rattle.buck_figures.specs.declared.degrees.Degrees.{Degrees}
+use Rattle.buck_sweep.specs.Table.{IsLeast, wholes_of}
 use Rattle.buck_sweep.specs.inner.Lines.{lesser}
-use Rattle.buck_sweep.proofs.Heads.{next_taken}
 
 not_below_none : (m : ℕ) (ds : List (Option ℕ)) → AllByRecursion (λ d. d ≡ None) ds
     → AllByRecursion (λ d. IfSome d (λ n. m ≤ n)) ds
@@ -50,10 +51,13 @@ least_more ds (Some a) (Some b) (there, all) =
     ]) refl
 
 -- the next one is taken
-pub least_taken : (ds : List (Option ℕ)) (k : ℕ) (d least r : Option ℕ) → k < length ds
-    → r ≡ lesser least (get_or ds k d) → IsLeast (take k ds) least
-    → IsLeast (take (k + 1) ds) r
+pub least_taken : (ds : List Degrees) (k : ℕ) (d : Degrees) (least r : Option ℕ) → k < length ds
+    → r ≡ lesser least (get_or ds k d).whole → IsLeast (wholes_of (take k ds)) least
+    → IsLeast (wholes_of (take (k + 1) ds)) r
 least_taken ds k d least r lt is so_far =
-    subst (λ (o : Option ℕ). IsLeast (take (k + 1) ds) o) (sym is)
-    (subst (λ (xs : List (Option ℕ)). IsLeast xs (lesser least (get_or ds k d))) (sym (next_taken ds k d lt))
-    (least_more (take k ds) least (get_or ds k d) so_far))
+    let one = (get_or ds k d).whole in
+    let next : wholes_of (take (k + 1) ds) ≡ wholes_of (take k ds) ++ one ∷ [] =
+    ap wholes_of (take_more ds k d lt) ∙ map-append (λ x. x.whole) (take k ds) (get_or ds k d ∷ []) in
+    subst (λ (o : Option ℕ). IsLeast (wholes_of (take (k + 1) ds)) o) (sym is)
+    (subst (λ (xs : List (Option ℕ)). IsLeast xs (lesser least one)) (sym next)
+    (least_more (wholes_of (take k ds)) least one so_far))

@@ -1,28 +1,28 @@
 -- Tables over files.
-use Rattle.std.proofs.Common.{◌≡◌, ℕ, ◌<◌, ◌≤◌, inr, List, length, All, Option, Result, Ok, Err, IfOk, IfErr, sym, ap, subst, ◌∙◌, arith}
+use Rattle.std.proofs.Common.{◌≡◌, ◌≢◌, ℕ, ◌<◌, ◌≤◌, inr, List, length, All, Option, Result, Ok, Err, refl, sym, ap, subst, ◌∙◌, arith}
 use Rattle.std.specs.Result.{IsErrAnd}
 use Rattle.std.specs.declared.sync.Arc.{Arc}
 use Rattle.std.specs.declared.vec.Vec.{Vec}
 use Rattle.std.specs.declared.alloc.Global.{Global}
 use Rattle.std.specs.Io.KnownBytes.{Appends, Keeps}
 use Rattle.std.proofs.KnownBytes.{Keeps-refl}
-use Rattle.buck_record.specs.Reading.{listed}
 use Rattle.buck_apt.specs.Apt.{apt_of}
 use Rattle.buck_apt.specs.Instruction.{InstructionParts}
 use Rattle.buck_stem.specs.declared.stem.Stem.{Stem}
 use Rattle.buck_book.specs.Posting.{harvester_of}
-use Rattle.buck_fleet.specs.Run.{stems_at}
+use Rattle.buck_book.specs.Replies.{stems_at}
 use Rattle.buck_engine.specs.declared.fault.EngineFault.{EngineFault}
-use Rattle.buck_engine.specs.declared.fault.EngineFault.TheVariants.{Seats}
+use Rattle.buck_engine.specs.declared.fault.EngineFault.TheVariants.{Full, Seats, Write}
 use Rattle.buck_engine.specs.run.Reading.{Says}
-use Rattle.buck_engine.specs.fleet.Running.{AreAccepted, AreListsOf, AreNoSeats}
-use Rattle.buck_engine.specs.text.Written.{AppendsSome, IsWritten}
+use Rattle.buck_engine.specs.fleet.Running.{AreListsOf, AreNoSeats, IsFleetFault}
+use Rattle.buck_engine.specs.text.Written.{AppendsSome, WritesText}
 use Rattle.buck_engine.proofs.Lists.{accepted, too_many}
 use Rattle.buck_engine.proofs.Numbers.{says_with}
 use Rattle.buck_engine.proofs.Runs.{fleet_fault, no_answer}
 use Rattle.buck_sweep.specs.declared.combination.Combination.{Combination}
 use Rattle.buck_sweep.specs.Sweep.{AnswersSweep, IsLineOver, IsSweepRun, IsTable}
-use Rattle.buck_sweep.specs.inner.Lines.{IsRunLine, IsStop, IsTableOf}
+use Rattle.buck_sweep.specs.Runs.{IsRunLine}
+use Rattle.buck_sweep.specs.inner.Lines.{AnswersTable, IsTableOf}
 use Rattle.buck_sweep.proofs.Tables.{lines_mapped}
 
 -- the line of a run over the lists that files have is a line over the files
@@ -53,56 +53,50 @@ over apt stms i lists c line says long made run =
       is_line = run.is_line;
     }
 
--- what is answered to files that have an instruction and lists
-pub answered : (cs : List Combination) (apt : Option (List ℕ)) (stms : List (Option (List ℕ))) (n : ℕ)
-    (i : InstructionParts) (lists : List (Vec (Arc Stem Global) Global)) (r : Result (Vec ℕ Global) EngineFault)
-    → n ≡ length stms → Says apt_of apt (Ok i) → length lists ≡ n → AreListsOf n stms lists
-    → IfOk r (λ text. IsTableOf i lists cs text.items) → IfErr r (IsStop lists) → AnswersSweep cs apt stms (listed r)
-answered cs apt stms n i lists (Ok text) same says long made of fault =
-    let all : AreListsOf (length stms) stms lists = subst (λ (m : ℕ). AreListsOf m stms lists) same made in
-    record {
-      instruction = i;
-      lines = of.lines;
-      apt_says = says;
-      are_lines =
-          lines_mapped (IsRunLine i lists) (IsLineOver apt stms)
-          (λ c line. over apt stms i lists c line says (long ∙ same) all) cs of.lines of.are_lines;
-      text_is = of.text_is;
-    }
-answered cs apt stms n i lists (Err e) same says long made of fault = (
-  inr (inr ((i, says), inr (subst (λ (m : ℕ). AreAccepted m stms) same (accepted n stms lists made), fault.0))),
-  too_many {X = Unit {0}} stms lists n (Err e) (long ∙ same) same made fault.1,
-)
-
 -- nothing is written where there is no table
 pub not_swept : (cs : List Combination) (apt : Option (List ℕ)) (stms : List (Option (List ℕ))) (old : Option (List ℕ))
     (fault : EngineFault) (r : Result (Unit {0}) EngineFault)
-    → (AreNoSeats (length stms) → fault ≡ Seats) → IsErrAnd r (λ x. x ≡ fault) → AnswersSweep cs apt stms (Err fault)
-    → IsSweepRun cs apt stms old old r
-not_swept cs apt stms old fault (Ok u) seats h a = absurd h
-not_swept cs apt stms old fault (Err x) seats h a =
+    → (AreNoSeats (length stms) → fault ≡ Seats) → IsErrAnd r (λ x. x ≡ fault) → IsFleetFault apt stms fault
+    → (fault ≢ Full) → IsSweepRun cs apt stms old old r
+not_swept cs apt stms old fault (Ok u) seats h a full = absurd h
+not_swept cs apt stms old fault (Err x) seats h a full =
     subst (λ (f : EngineFault). IsSweepRun cs apt stms old old (Err f)) (sym h)
     (record {
       seats = λ none. ap (λ (f : EngineFault). Err f) (seats none);
       run = no_answer (AnswersSweep cs apt stms) (Appends old old) (AppendsSome old old) (Keeps old old) fault
-          (fleet_fault apt stms fault a.0) a (Keeps-refl old);
+          (fleet_fault apt stms fault a) (a, λ is. absurd (full is)) (Keeps-refl old);
     })
 
--- a table was written, or some first bytes of it
-pub swept : (cs : List Combination) (apt : Option (List ℕ)) (stms : List (Option (List ℕ))) (old new : Option (List ℕ))
-    (text shown : List ℕ) (r : Result (Unit {0}) EngineFault)
-    → (AreNoSeats (length stms) → ⊥) → IsTable cs apt stms text → shown ≡ text → IsWritten old new shown r
-    → IsSweepRun cs apt stms old new r
-swept cs apt stms old new text shown (Ok u) seats table is all =
-    record {
-      seats = λ none. absurd (seats none);
-      run =
-          (text, table, subst (λ (t : List ℕ). Appends old new t) is all);
-    }
-swept cs apt stms old new text shown (Err e) seats table is (write, some) =
-    subst (λ (f : EngineFault). IsSweepRun cs apt stms old new (Err f)) (sym write)
-    (record {
-      seats = λ none. absurd (seats none);
-      run =
-          (text, table, subst (λ (t : List ℕ). AppendsSome old new t) is some);
-    })
+-- the table over lists that files have is a table over the files
+pub swept : (cs : List Combination) (apt : Option (List ℕ)) (stms : List (Option (List ℕ))) (n : ℕ)
+    (i : InstructionParts) (lists : List (Vec (Arc Stem Global) Global)) (old new : Option (List ℕ))
+    (r : Result (Unit {0}) EngineFault)
+    → (AreNoSeats (length stms) → ⊥) → n ≡ length stms → Says apt_of apt (Ok i) → length lists ≡ n
+    → AreListsOf n stms lists → WritesText (AnswersTable i lists cs) old new r → IsSweepRun cs apt stms old new r
+swept cs apt stms n i lists old new r seats same says long made run =
+    record { seats = λ none. absurd (seats none); run = of r run } where
+      all : AreListsOf (length stms) stms lists
+      all = subst (λ (m : ℕ). AreListsOf m stms lists) same made
+
+      table : (text : List ℕ) → IsTableOf i lists cs text → IsTable cs apt stms text
+      table text of = record {
+        instruction = i;
+        lines = of.lines;
+        apt_says = says;
+        are_lines =
+            lines_mapped (IsRunLine i lists) (IsLineOver apt stms)
+            (λ c line. over apt stms i lists c line says (long ∙ same) all) cs of.lines of.are_lines;
+        text_is = of.text_is;
+      }
+
+      of : (r : Result (Unit {0}) EngineFault) → WritesText (AnswersTable i lists cs) old new r
+          → WritesText (AnswersSweep cs apt stms) old new r
+      of (Ok u) x = (x.0, table x.0 x.1, x.2)
+      of (Err Write) x = (x.0, table x.0 x.1, x.2)
+      of (Err fault) x = (
+        (
+          inr (inr ((i, says), inr (accepted (length stms) stms lists all, x.0.0))),
+          too_many {X = Unit {0}} stms lists (length stms) (Err fault) (long ∙ same) refl all x.0.1,
+        ),
+        x.1,
+      )

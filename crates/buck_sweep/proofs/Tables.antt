@@ -1,22 +1,9 @@
 -- The lines of a table, one after the other.
 use Rattle.std.proofs.Common.{◌≡◌, ℕ, ◌+◌, ◌<◌, ◌*◌, List, [], ◌∷◌, ◌++◌, length, take, drop, get_or, refl, sym, ap, subst, ◌∙◌, append_assoc, append-nil, arith}
 use Rattle.std.proofs.Math.Seq.{take-add}
+use Rattle.std.proofs.lemmas.List.{take_more}
 use Rattle.buck_sweep.specs.declared.combination.Combination.{Combination}
 use Rattle.buck_sweep.specs.Sweep.{AreLines}
-use Rattle.buck_sweep.proofs.Heads.{one_taken}
-
--- one line more
-pub lines_more : (IsOne : Combination → List ℕ → Type 0) (cs : List Combination) (c : Combination) (text line : List ℕ)
-    → AreLines IsOne cs text → IsOne c line → AreLines IsOne (cs ++ c ∷ []) (text ++ line)
-lines_more IsOne [] c text line none one =
-    (line, [], ap (λ (t : List ℕ). t ++ line) none ∙ sym (append-nil line), one, refl)
-lines_more IsOne (d ∷ cs) c text line (first, rest, is, said, more) one = (
-  first,
-  rest ++ line,
-  ap (λ (t : List ℕ). t ++ line) is ∙ append_assoc first rest line,
-  said,
-  lines_more IsOne cs c rest line more one,
-)
 
 -- what holds of each line
 pub lines_mapped : (P Q : Combination → List ℕ → Type 0) → ((c : Combination) (line : List ℕ) → P c line → Q c line)
@@ -25,15 +12,6 @@ pub lines_mapped : (P Q : Combination → List ℕ → Type 0) → ((c : Combina
 lines_mapped P Q f [] text none = none
 lines_mapped P Q f (c ∷ cs) text (first, rest, is, said, more) =
     (first, rest, is, f c first said, lines_mapped P Q f cs rest more)
-
--- the line of the next one
-pub lines_taken : (IsOne : Combination → List ℕ → Type 0) (cs : List Combination) (k : ℕ) (c : Combination)
-    (text line new : List ℕ) → k < length cs → c ≡ get_or cs k c
-    → AreLines IsOne (take k cs) text → IsOne c line → new ≡ text ++ line → AreLines IsOne (take (k + 1) cs) new
-lines_taken IsOne cs k c text line new lt is so_far one e =
-    subst (λ (t : List ℕ). AreLines IsOne (take (k + 1) cs) t) (sym e)
-    (subst (λ (ds : List Combination). AreLines IsOne ds (text ++ line)) (sym (one_taken cs k c lt is))
-    (lines_more IsOne (take k cs) c text line so_far one))
 
 -- the lines of some, and then of others
 pub lines_both : (IsOne : Combination → List ℕ → Type 0) (cs ds : List Combination) (text more : List ℕ)
@@ -46,6 +24,16 @@ lines_both IsOne (c ∷ cs) ds text more (first, rest, is, said, others) next = 
   said,
   lines_both IsOne cs ds rest more others next,
 )
+
+-- the line of the next one
+pub lines_taken : (IsOne : Combination → List ℕ → Type 0) (cs : List Combination) (k : ℕ) (c : Combination)
+    (text line new : List ℕ) → k < length cs → c ≡ get_or cs k c
+    → AreLines IsOne (take k cs) text → IsOne c line → new ≡ text ++ line → AreLines IsOne (take (k + 1) cs) new
+lines_taken IsOne cs k c text line new lt is so_far one e =
+    subst (λ (t : List ℕ). AreLines IsOne (take (k + 1) cs) t) (sym e)
+    (subst (λ (ds : List Combination). AreLines IsOne ds (text ++ line))
+    (sym (take_more cs k c lt ∙ ap (λ d. take k cs ++ d ∷ []) (sym is)))
+    (lines_both IsOne (take k cs) (c ∷ []) text line so_far (line, [], sym (append-nil line), one, refl)))
 
 -- of the next run of so many neighbours
 pub part_put : (IsOne : Combination → List ℕ → Type 0) (cs part : List Combination) (size k : ℕ)

@@ -1,5 +1,6 @@
 pub mod Combinations
 pub mod Table
 pub mod Sweep
+pub mod Runs
 pub mod Serving
 pub mod inner

@@ -4,8 +4,8 @@ ghost use Rattle.buck_sweep.specs.Combinations.{AreNumbers, combinations_of, wit
 ghost use Rattle.buck_sweep.specs.inner.Combining.{IsAdded};
 
 use buck_apt::Settings;
-use buck_engine::NamedRule;
 use buck_record::Memory;
+use buck_rule::NamedRule;
 use std::alloc::Global;
 
 /// A run of a table: its rule, and the numbers that are put in the place of the instruction's own.

@@ -1,23 +1,20 @@
 //! The run of a combination: its journal, and its line.
 ghost use Rattle.std.specs.Prelude.{◌≡◌, ◌<◌, ◌≤◌, IfOk, IfErr, length, map};
-ghost use Rattle.buck_rule.specs.Stored.{Answers};
 ghost use Rattle.buck_book.specs.History.{IsLawful};
 ghost use Rattle.buck_journal.specs.judging.Replay.{history_of};
-ghost use Rattle.buck_rule.specs.GivenBy.{GivesBy};
 ghost use Rattle.buck_engine.specs.fleet.Running.{AreFirsts};
-ghost use Rattle.buck_sweep.specs.inner.Lines.{HasCut, IsPart, IsRunLine, IsStop};
-ghost use Rattle.buck_sweep.specs.Sweep.{AreLines};
+ghost use Rattle.buck_sweep.specs.Runs.{HasCut, IsRunLine, IsStop};
+ghost use Rattle.buck_sweep.specs.inner.Lines.{IsPart};
 ghost use Rattle.buck_book.specs.declared.posting.TheConstants.{MOST_POSTINGS};
 
 use crate::combination::Combination;
 use crate::figures::line_of;
 use buck_apt::Instruction;
-use buck_book::Book;
-use buck_engine::{EngineFault, Input, NamedRule};
-use buck_fleet::CutFault;
+use buck_book::{Book, CutFault};
+use buck_engine::{EngineFault, Input};
 use buck_journal::Journal;
 use buck_record::Memory;
-use buck_rule::{Rule, Standing};
+use buck_rule::{NamedRule, Rule, Standing};
 use buck_stem::Stem;
 use buck_turn::cut_in_turn;
 use buck_value::Sheet;
@@ -45,35 +42,14 @@ fn journal_of<F: Drop>(alloc: Global, book: Book<F>) -> Result<Journal, Memory>
     ensures firsts { AreFirsts book.history }
 {
     let parts = book.into_parts();
+    let sheets = prices_of(alloc, parts.sheets())?;
     Ok(Journal {
-        sheets: prices_of(alloc, parts.sheets.as_slice())?,
-        entries: parts.entries,
+        sheets,
+        entries: parts.into_entries(),
     })
 }
 
-/// The journal of lists of stems that were cut in turn by a closure, which answers what the rule of a name gives.
-#[tactic(auto, using(crate::proofs::Histories::cut_is))]
-fn cut_by_rule<F: Fn(&Standing) -> u64 + Drop>(
-    alloc: Global,
-    instruction: &Arc<Instruction>,
-    named: NamedRule,
-    rule: Rule<F>,
-    lists: &[Vec<Arc<Stem>>],
-) -> Result<Journal, EngineFault>
-    requires answers { Answers F.Fn rule }
-    requires gives { GivesBy F.Fn rule named }
-    requires few { length lists.now ≤ 64 }
-    ensures ok { IfOk result (λ j. HasCut named lists.now (history_of instruction.now.value j)) }
-    ensures stop { IfErr result (IsStop lists.now) }
-{
-    match cut_in_turn(alloc, instruction.clone()?, rule, lists) {
-        Ok(book) => Ok(journal_of(alloc, book)?),
-        Err(CutFault::Full) => Err(EngineFault::Full),
-        Err(CutFault::Memory) => Err(EngineFault::Memory),
-    }
-}
-
-/// The same by the rule of a name.
+/// The journal of lists of stems that were cut in turn by the rule of a name.
 fn cut_by_name(
     alloc: Global,
     instruction: &Arc<Instruction>,
@@ -85,11 +61,16 @@ fn cut_by_name(
     ensures stop { IfErr result (IsStop lists.now) }
 {
     let rule = Rule::new(move |s: &Standing| named.price(s));
-    cut_by_rule(alloc, instruction, named, rule, lists)
+    match cut_in_turn(alloc, instruction.clone()?, rule, lists) {
+        Ok(book) => Ok(journal_of(alloc, book)?),
+        Err(CutFault::Full) => Err(EngineFault::Full),
+        Err(CutFault::Memory) => Err(EngineFault::Memory),
+    }
 }
 
-/// The line of a combination, whose run cuts the lists in turn.
-pub(crate) fn run_line(
+/// The line of a combination, whose run cuts the lists in turn; see [`run_sweep`](crate::run_sweep). Refused as `Full`
+/// where there are more stems than 1,000,000, and as `Memory` where a growth was refused.
+pub fn run_line(
     alloc: Global,
     input: &Input,
     combination: &Combination,
@@ -113,9 +94,7 @@ pub(crate) fn lines_of(
     combinations: &[Combination],
 ) -> Result<Vec<u8>, EngineFault>
     requires few { length input.now.lists.items ≤ 64 }
-    ensures ok { IfOk result (λ text.
-        AreLines (IsRunLine input.now.instruction input.now.lists.items) combinations.now text.items) }
-    ensures stop { IfErr result (IsStop input.now.lists.items) }
+    ensures { IsPart input.now.instruction input.now.lists.items combinations.now result }
 {
     let mut text = Vec::new(alloc);
     for combination in combinations {
@@ -135,9 +114,7 @@ pub(crate) fn lines_in_parts<T: Threads + Sync>(
 ) -> Result<Vec<u8>, EngineFault>
     requires few { length input.now.lists.items ≤ 64 }
     requires size { 0 < size }
-    ensures ok { IfOk result (λ text.
-        AreLines (IsRunLine input.now.instruction input.now.lists.items) combinations.now text.items) }
-    ensures stop { IfErr result (IsStop input.now.lists.items) }
+    ensures { IsPart input.now.instruction input.now.lists.items combinations.now result }
 {
     let make = |_: usize, part: &[Combination]| -> Result<Vec<u8>, EngineFault>
         requires { length input.now.lists.items ≤ 64 }

@@ -1,54 +1,50 @@
 //! The line of a run, from its journal.
-ghost use Rattle.std.specs.Prelude.{◌≡◌, ◌++◌, ◌≤◌, ◌<◌, IfOk, OnOk, length};
+ghost use Rattle.std.specs.Prelude.{◌≡◌, ◌++◌, ◌≤◌, IfOk, OnOk, length};
 ghost use Rattle.buck_apt.specs.Instruction.{classes};
-ghost use Rattle.buck_book.specs.Degree.{IsDegreeBy};
 ghost use Rattle.buck_book.specs.History.{IsLawful};
 ghost use Rattle.buck_journal.specs.judging.Replay.{history_of};
 ghost use Rattle.buck_figures.specs.Figures.{base_sheet};
-ghost use Rattle.buck_sweep.specs.Table.{IsLeast, IsLine, rate_of};
-ghost use Rattle.buck_sweep.specs.inner.Lines.{AreDegreesBy, IsLineBy, lesser, line_by};
+ghost use Rattle.buck_sweep.specs.Table.{IsLeast, IsLine, apart_of, cells, rate_of, volumes_of, wholes_of};
+ghost use Rattle.buck_sweep.specs.inner.Lines.{AreAllDegrees, lesser, line_by, versions_of};
 ghost use Rattle.buck_book.specs.declared.posting.TheConstants.{MOST_POSTINGS};
 
-use crate::table::put_cells;
+use crate::table::{put_cell, put_cells};
 use buck_apt::Instruction;
-use buck_book::degree_at;
 use buck_dp::Planner;
-use buck_engine::NamedRule;
-use buck_figures::{Figures, Sums, figures_of};
+use buck_figures::{Degrees, Figures, Part, Sums, degrees_at, figures_of};
 use buck_journal::Journal;
 use buck_record::Memory;
+use buck_rule::NamedRule;
 use buck_value::Sheet;
 use buck_words::half_up;
 use std::alloc::Global;
+use std::slice::from_ref;
 use std::sync::Arc;
 
-/// The degree of the assortment at a place, given what is wanted and what was cut of each class.
-fn degree_of(instruction: &Instruction, targets: &[u32], counts: &[u32], at: usize) -> Option<u128>
-    requires exists { at < length instruction.now.assortments }
-    requires targets { length targets.now ≡ classes instruction.now }
-    requires counts { length counts.now ≡ classes instruction.now }
-    ensures { IsDegreeBy instruction.now targets.now counts.now at result }
+/// A number that is there, widened.
+fn widened(number: Option<u32>) -> Option<u128>
+    ensures { result ≡ number }
 {
-    match degree_at(instruction, targets, counts, at) {
-        Some(degree) => Some(u128::from(degree)),
+    match number {
+        Some(number) => Some(u128::from(number)),
         None => None,
     }
 }
 
-/// The degree of each assortment, given what is wanted and what was cut of each class.
+/// The degrees of each assortment, given what is wanted and what was cut of each class.
 fn degrees_of(
     alloc: Global,
     instruction: &Instruction,
     targets: &[u32],
     counts: &[u32],
-) -> Result<Vec<Option<u128>>, Memory>
+) -> Result<Vec<Degrees>, Memory>
     requires targets { length targets.now ≡ classes instruction.now }
     requires counts { length counts.now ≡ classes instruction.now }
-    ensures { IfOk result (λ degrees. AreDegreesBy instruction.now targets.now counts.now degrees.items) }
+    ensures { IfOk result (λ degrees. AreAllDegrees instruction.now targets.now counts.now degrees.items) }
 {
     let mut degrees = Vec::new(alloc);
     for at in 0..instruction.assortments().len() {
-        degrees.push(degree_of(instruction, targets, counts, at))?;
+        degrees.push(degrees_at(instruction, targets, counts, at))?;
     }
     Ok(degrees)
 }
@@ -65,12 +61,12 @@ fn lesser(one: Option<u128>, other: Option<u128>) -> Option<u128>
 }
 
 /// The least of the degrees that are there.
-fn least_of(degrees: &[Option<u128>]) -> Option<u128>
-    ensures { IsLeast degrees.now result }
+fn least_of(degrees: &[Degrees]) -> Option<u128>
+    ensures { IsLeast (wholes_of degrees.now) result }
 {
     let mut least = None;
     for degree in degrees {
-        least = lesser(least, *degree);
+        least = lesser(least, widened(degree.whole));
     }
     least
 }
@@ -86,12 +82,53 @@ fn rate_of(sums: &Sums) -> u128
     half_up(10_000 * sums.cost(), sums.best)
 }
 
+/// Puts the degree of each assortment.
+fn put_wholes(out: &mut Vec<u8>, degrees: &[Degrees]) -> Result<(), Memory>
+    ensures { OnOk result (out.new.items ≡ out.old.items ++ cells (wholes_of degrees.now)) }
+{
+    for degree in degrees {
+        put_cell(out, widened(degree.whole))?;
+    }
+    Ok(())
+}
+
+/// Puts the degrees of diameters and of lengths of each assortment.
+fn put_apart(out: &mut Vec<u8>, degrees: &[Degrees]) -> Result<(), Memory>
+    ensures { OnOk result (out.new.items ≡ out.old.items ++ cells (apart_of degrees.now)) }
+{
+    for degree in degrees {
+        put_cell(out, widened(degree.diameter))?;
+        put_cell(out, widened(degree.length))?;
+    }
+    Ok(())
+}
+
+/// Puts the volume of the logs of each assortment, as cut and of the best cuttings at base prices.
+fn put_volumes(out: &mut Vec<u8>, cut: &[Part], unsteered: &[Part]) -> Result<(), Memory>
+    requires { length unsteered.now ≡ length cut.now }
+    ensures { OnOk result (out.new.items ≡ out.old.items ++ cells (volumes_of cut.now unsteered.now)) }
+{
+    for at in 0..cut.len() {
+        put_cell(out, Some(cut[at].volume))?;
+        put_cell(out, Some(unsteered[at].volume))?;
+    }
+    Ok(())
+}
+
+/// How many sheets the first journal has.
+fn versions_of(figures: &Figures<'_>) -> u128
+    ensures { result ≡ versions_of figures.now.journals.now }
+{
+    let first = &figures.journals[0];
+    first.sheets.len() as u128
+}
+
 /// Puts the line of a run by a rule of this name, with the degrees of the assortments and the least of them.
 fn put_line(
     out: &mut Vec<u8>,
     rule: NamedRule,
     figures: &Figures<'_>,
-    degrees: &[Option<u128>],
+    degrees: &[Degrees],
     least: Option<u128>,
 ) -> Result<(), Memory>
     ensures { OnOk result (out.new.items ≡ out.old.items ++ line_by rule figures.now degrees.now least) }
@@ -101,9 +138,9 @@ fn put_line(
     out.extend_from_slice(rule.name().as_bytes())?;
     let period = u128::from(instruction.period());
     let limit = u128::from(instruction.limit());
-    let versions = figures.sheets.len() as u128;
+    let versions = versions_of(figures);
     put_cells(out, &[Some(period), Some(limit), Some(versions)])?;
-    put_cells(out, degrees)?;
+    put_wholes(out, degrees)?;
     let rate = rate_of(total);
     put_cells(
         out,
@@ -115,21 +152,11 @@ fn put_line(
             Some(total.volume),
         ],
     )?;
+    let cut = figures.assortments.as_slice();
+    put_volumes(out, cut, figures.unsteered_assortments.as_slice())?;
+    put_apart(out, degrees)?;
     out.extend_from_slice(b"\n")?;
     Ok(())
-}
-
-/// The line of a run by a rule of this name, from its figures.
-fn line_by(alloc: Global, rule: NamedRule, figures: &Figures<'_>) -> Result<Vec<u8>, Memory>
-    ensures { IfOk result (λ line. IsLineBy rule figures.now line.items) }
-{
-    let mut line = Vec::new(alloc);
-    let targets = figures.targets.as_slice();
-    let counts = figures.counts.as_slice();
-    let degrees = degrees_of(alloc, figures.instruction, targets, counts)?;
-    let degrees = degrees.as_slice();
-    put_line(&mut line, rule, figures, degrees, least_of(degrees))?;
-    Ok(line)
 }
 
 /// A planner at base prices.
@@ -152,6 +179,16 @@ pub(crate) fn line_of(
     ensures { IfOk result (λ line. IsLine rule (history_of instruction.now.value journal.now) line.items) }
 {
     let mut planner = base_planner(alloc, instruction)?;
-    let figures = figures_of(alloc, &mut planner, instruction, journal)?;
-    line_by(alloc, rule, &figures)
+    let figures = figures_of(alloc, &mut planner, instruction, from_ref(journal))?;
+    let targets = figures.targets.as_slice();
+    let degrees = degrees_of(
+        alloc,
+        figures.instruction,
+        targets,
+        figures.counts.as_slice(),
+    )?;
+    let degrees = degrees.as_slice();
+    let mut line = Vec::new(alloc);
+    put_line(&mut line, rule, &figures, degrees, least_of(degrees))?;
+    Ok(line)
 }

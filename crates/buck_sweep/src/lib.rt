@@ -1,8 +1,8 @@
 //! What a rule, a period and a limit come to on the same stems: a table with a line for each combination of them.
 //!
 //! [`combinations`] says which runs a table has. [`run_sweep`] makes it from the bytes of an instruction file and stem
-//! files, [`run_sweep_in_parts`] with the runs in several threads at once, and [`serve_sweep`] is a whole run of the
-//! program, from its [`SweepTask`] to its exit status.
+//! files, [`run_sweep_in_parts`] with the runs in several threads at once, and [`serve_sweep`] is a whole run, by its
+//! [`SweepTask`].
 #![tactic(auto)]
 
 mod combination;
@@ -13,7 +13,8 @@ mod serving;
 mod table;
 
 pub use buck_apt::Settings;
-pub use buck_engine::NamedRule;
 pub use combination::{Combination, combinations};
+pub use cutting::run_line;
 pub use running::{run_sweep, run_sweep_in_parts};
 pub use serving::{SweepTask, serve_sweep};
+pub use table::put_head;

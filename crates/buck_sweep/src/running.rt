@@ -1,12 +1,12 @@
 //! `run_sweep`: from the bytes of an instruction file and stem files to a table.
-ghost use Rattle.std.specs.Prelude.{◌≡◌, ◌≢◌, ◌<◌, ◌≤◌, map, drop, length, IfOk, IfErr};
-ghost use Rattle.std.specs.Result.{IsErrAnd};
+ghost use Rattle.std.specs.Prelude.{◌≡◌, ◌≢◌, map, drop, IfErr};
 ghost use Rattle.buck_record.specs.Reading.{listed};
 ghost use Rattle.buck_engine.specs.declared.fault.EngineFault.TheVariants.{Seats, Write};
 ghost use Rattle.buck_engine.specs.run.Reading.{IfStopped};
-ghost use Rattle.buck_engine.specs.fleet.Running.{AreNoSeats};
-ghost use Rattle.buck_sweep.specs.Sweep.{AnswersSweep, IsSweepRun};
-ghost use Rattle.buck_sweep.specs.inner.Lines.{IsPart, IsStop, IsTableOf};
+ghost use Rattle.buck_engine.specs.text.Written.{WritesText};
+ghost use Rattle.buck_engine.specs.fleet.Running.{IsCuttingFault};
+ghost use Rattle.buck_sweep.specs.Sweep.{IsSweepRun};
+ghost use Rattle.buck_sweep.specs.inner.Lines.{AnswersTable, IsPart};
 
 use crate::combination::Combination;
 use crate::cutting::{lines_in_parts, lines_of};
@@ -24,9 +24,7 @@ fn table_of(
     lines: Result<Vec<u8>, EngineFault>,
 ) -> Result<Vec<u8>, EngineFault>
     requires lines { IsPart input.now.instruction input.now.lists.items combinations.now lines }
-    ensures ok { IfOk result (λ text.
-        IsTableOf input.now.instruction input.now.lists.items combinations.now text.items) }
-    ensures stop { IfErr result (IsStop input.now.lists.items) }
+    ensures { AnswersTable input.now.instruction input.now.lists.items combinations.now (listed result) }
 {
     let lines = lines?;
     let mut text = Vec::new(alloc);
@@ -35,42 +33,22 @@ fn table_of(
     Ok(text)
 }
 
-/// The table of some combinations over files.
-fn text_of<R: io::Read>(
+/// Writes the table of some combinations, given what came of their lines.
+fn write_table<W: io::Write>(
     alloc: Global,
+    input: &Input,
     combinations: &[Combination],
-    apt: &mut R,
-    stms: &mut [R],
-) -> Result<Vec<u8>, EngineFault>
-    ensures seats { AreNoSeats (length stms.old) → IsErrAnd result (λ fault. fault ≡ Seats) }
-    ensures answer { AnswersSweep combinations.now (R.remaining apt.old) (map R.remaining stms.old) (listed result) }
-    ensures order { IfErr result (IfStopped (λ last. drop last stms.new ≡ drop last stms.old)) }
-    ensures unread { IfErr result (λ fault. fault ≡ Seats → apt.new ≡ apt.old) }
+    lines: Result<Vec<u8>, EngineFault>,
+    out: &mut W,
+) -> Result<(), EngineFault>
+    requires lines { IsPart input.now.instruction input.now.lists.items combinations.now lines }
+    ensures run { WritesText (AnswersTable input.now.instruction input.now.lists.items combinations.now)
+        (W.contents out.old) (W.contents out.new) result }
+    ensures fault { IfErr result (λ fault. fault ≢ Write → IsCuttingFault fault) }
+    ensures untouched { IfErr result (λ fault. fault ≢ Write → out.new ≡ out.old) }
 {
-    let input = read_input(alloc, apt, stms)?;
-    let lines = lines_of(alloc, &input, combinations);
-    table_of(alloc, &input, combinations, lines)
-}
-
-/// The same, for which the runs are done in at most so many threads at once.
-fn text_in_parts<T: Threads + Sync, R: io::Read>(
-    rt: &T,
-    alloc: Global,
-    threads: usize,
-    combinations: &[Combination],
-    apt: &mut R,
-    stms: &mut [R],
-) -> Result<Vec<u8>, EngineFault>
-    requires threads { 0 < threads }
-    ensures seats { AreNoSeats (length stms.old) → IsErrAnd result (λ fault. fault ≡ Seats) }
-    ensures answer { AnswersSweep combinations.now (R.remaining apt.old) (map R.remaining stms.old) (listed result) }
-    ensures order { IfErr result (IfStopped (λ last. drop last stms.new ≡ drop last stms.old)) }
-    ensures unread { IfErr result (λ fault. fault ≡ Seats → apt.new ≡ apt.old) }
-{
-    let input = read_input(alloc, apt, stms)?;
-    let size = combinations.len().div_ceil(threads).max(1);
-    let lines = lines_in_parts(rt, alloc, &input, combinations, size);
-    table_of(alloc, &input, combinations, lines)
+    let text = table_of(alloc, input, combinations, lines)?;
+    write_text(out, text.as_slice())
 }
 
 /// Reads an instruction file and stem files, cuts the stems of the k-th stem file by harvester k, in turn, once for
@@ -100,8 +78,9 @@ pub fn run_sweep<R: io::Read, W: io::Write>(
     // Only a failed write touches the output.
     ensures untouched { IfErr result (λ fault. fault ≢ Write → out.new ≡ out.old) }
 {
-    let text = text_of(alloc, combinations, apt, stms)?;
-    write_text(out, text.as_slice())
+    let input = read_input(alloc, apt, stms)?;
+    let lines = lines_of(alloc, &input, combinations);
+    write_table(alloc, &input, combinations, lines, out)
 }
 
 /// [`run_sweep`], for which the runs are done in several threads at once: in as many as are told, from 1 to 64, or,
@@ -116,20 +95,18 @@ pub fn run_sweep_in_parts<T: Threads + Sync, R: io::Read, W: io::Write>(
     stms: &mut [R],
     out: &mut W,
 ) -> Result<(), EngineFault>
-    // What is written is the table of the combinations, of the instruction and the stems that the files have, each line
-    // that of a run by its rule; a fault is that of the first file that has one, or comes after all of them, and
-    // nothing is written; a write fault leaves a prefix of the table. Where there are not 1 to 64 stem files, that is
-    // the fault; it is `Full` only where there are more stems than 1,000,000.
+    // As [`run_sweep`] says.
     ensures run { IsSweepRun combinations.now (R.remaining apt.old) (map R.remaining stms.old)
         (W.contents out.old) (W.contents out.new) result }
-    // Where a file has a fault, nothing was read of those after it.
     ensures order { IfErr result (IfStopped (λ last. drop last stms.new ≡ drop last stms.old)) }
-    // Where there are not 1 to 64 stem files, nothing was read of the instruction either.
     ensures unread { IfErr result (λ fault. fault ≡ Seats → apt.new ≡ apt.old) }
-    // Only a failed write touches the output.
     ensures untouched { IfErr result (λ fault. fault ≢ Write → out.new ≡ out.old) }
 {
-    let threads = number_of_threads(rt, threads);
-    let text = text_in_parts(rt, alloc, threads, combinations, apt, stms)?;
-    write_text(out, text.as_slice())
+    let input = read_input(alloc, apt, stms)?;
+    let size = combinations
+        .len()
+        .div_ceil(number_of_threads(rt, threads))
+        .max(1);
+    let lines = lines_in_parts(rt, alloc, &input, combinations, size);
+    write_table(alloc, &input, combinations, lines, out)
 }

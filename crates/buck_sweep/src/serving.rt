@@ -1,12 +1,10 @@
-//! Whole runs of a table, from the task to the exit status.
-ghost use Rattle.std.specs.Prelude.{◌≡◌, Result};
-ghost use Rattle.buck_engine.specs.declared.fault.EngineFault.{EngineFault};
-ghost use Rattle.buck_engine.specs.run.Serving.{TellsOutcome, status_after};
+//! Whole runs of a table.
+ghost use Rattle.std.specs.Prelude.{◌≡◌};
 ghost use Rattle.buck_sweep.specs.Serving.{RunsSweep};
 
 use crate::combination::Combination;
 use crate::running::run_sweep_in_parts;
-use buck_engine::{EngineFault, Open, conclude, open_inputs};
+use buck_engine::{EngineFault, Open, open_inputs};
 use std::alloc::Global;
 use std::io;
 use std::thread::Threads;
@@ -24,8 +22,12 @@ pub struct SweepTask<'a> {
     pub threads: Option<u8>,
 }
 
-/// Opens all input files by their names, in order, and then makes the table.
-fn sweep_files<T: Threads + Sync, O: Open, W: io::Write>(
+/// Makes the table that a task asks for over the files of its names, in several threads at once.
+///
+/// The files are opened in the order of the words before one of them is read; one that can't be opened is `Read` with
+/// its number. Each fault and what is written before it are those of [`run_sweep`](crate::run_sweep), whatever the
+/// number of threads.
+pub fn serve_sweep<T: Threads + Sync, O: Open, W: io::Write>(
     rt: &T,
     alloc: Global,
     task: &SweepTask<'_>,
@@ -46,28 +48,4 @@ fn sweep_files<T: Threads + Sync, O: Open, W: io::Write>(
         stms.as_mut_slice(),
         out,
     )
-}
-
-/// Makes the table that a task asks for over the files of its names, in several threads at once, and says on `errors`
-/// how it ended. The answer is the exit status.
-///
-/// The files are opened in the order of the words before one of them is read; one that can't be opened is `Read` with
-/// its number. Each fault and what is written before it are those of [`run_sweep`](crate::run_sweep), whatever the
-/// number of threads.
-pub fn serve_sweep<T: Threads + Sync, O: Open, W: io::Write, E: io::Write>(
-    rt: &T,
-    alloc: Global,
-    task: &SweepTask<'_>,
-    opener: &mut O,
-    output: &mut W,
-    errors: &mut E,
-) -> u8
-    ensures { (outcome : Result (Unit {0}) EngineFault)
-        × RunsSweep O.opens O.File.remaining opener.old opener.new task.now
-        (W.contents output.old) (W.contents output.new) outcome
-        × (result ≡ status_after outcome)
-        × TellsOutcome (E.contents errors.old) (E.contents errors.new) outcome }
-{
-    let outcome = sweep_files(rt, alloc, task, opener, output);
-    conclude(errors, &outcome)
 }

@@ -1,6 +1,6 @@
 //! The lines of a table: the names of its columns, and then one for each run.
 ghost use Rattle.std.specs.Prelude.{◌≡◌, ◌++◌, OnOk};
-ghost use Rattle.buck_sweep.specs.Table.{cell, cells, degree_head, degree_heads, head_line};
+ghost use Rattle.buck_sweep.specs.Table.{cell, cells, column, degree_heads, head_line, pair_heads};
 
 use buck_apt::{Assortment, Instruction};
 use buck_record::Memory;
@@ -30,23 +30,23 @@ pub(crate) fn put_cells(out: &mut Vec<u8>, numbers: &[Option<u128>]) -> Result<(
     Ok(())
 }
 
-/// Puts the name of the column that has an assortment's degree: its number, and its name.
-fn put_degree_head(
+/// Puts the name of a column that says this of an assortment: with its number, and its name.
+fn put_name(
     alloc: Global,
     out: &mut Vec<u8>,
+    what: &[u8],
     at: u8,
     assortment: &Assortment,
 ) -> Result<(), Memory>
-    ensures { OnOk result (out.new.items ≡ out.old.items ++ degree_head at assortment.now) }
+    ensures { OnOk result (out.new.items ≡ out.old.items ++ column what.now at assortment.now) }
 {
     let mut name = Vec::new(alloc);
     let mut buffer = Buffer::new();
-    name.extend_from_slice(b"degree_")?;
+    name.extend_from_slice(what)?;
     name.extend_from_slice(buffer.format(at).as_bytes())?;
     name.extend_from_slice(b" ")?;
     name.extend_from_slice(assortment.name())?;
     put_quoted(out, name.as_slice())?;
-    out.push(b',')?;
     Ok(())
 }
 
@@ -60,23 +60,58 @@ fn put_degree_heads(
 {
     let assortments = instruction.assortments();
     for at in 0..assortments.len() {
-        put_degree_head(alloc, out, at as u8, &assortments[at])?;
+        put_name(alloc, out, b"degree_", at as u8, &assortments[at])?;
+        out.push(b',')?;
     }
     Ok(())
 }
 
-/// Puts the first line of a table, which names its columns.
-pub(crate) fn put_head(
+/// What two columns say.
+#[derive(Clone, Copy)]
+struct Pair<'a> {
+    first: &'a [u8],
+    second: &'a [u8],
+}
+
+/// Puts the names of the columns that say these of each assortment.
+fn put_pair_heads(
     alloc: Global,
     out: &mut Vec<u8>,
+    pair: Pair<'_>,
     instruction: &Instruction,
 ) -> Result<(), Memory>
+    ensures { OnOk result (out.new.items ≡ out.old.items
+        ++ pair_heads pair.entry.first.now pair.entry.second.now 0 instruction.now.assortments) }
+{
+    let assortments = instruction.assortments();
+    for at in 0..assortments.len() {
+        out.push(b',')?;
+        put_name(alloc, out, pair.first, at as u8, &assortments[at])?;
+        out.push(b',')?;
+        put_name(alloc, out, pair.second, at as u8, &assortments[at])?;
+    }
+    Ok(())
+}
+
+/// Puts the first line of a table, which names its columns. Refused as `Memory` alone.
+pub fn put_head(alloc: Global, out: &mut Vec<u8>, instruction: &Instruction) -> Result<(), Memory>
     ensures { OnOk result (out.new.items ≡ out.old.items ++ head_line instruction.now) }
 {
     out.extend_from_slice(b"rule,period,limit,versions,")?;
     put_degree_heads(alloc, out, instruction)?;
     out.extend_from_slice(
-        b"least_degree,base_worth_millionths,best_base_worth_millionths,cost_ten_thousandths,volume_cm3\n",
+        b"least_degree,base_worth_millionths,best_base_worth_millionths,cost_ten_thousandths,volume_cm3",
     )?;
+    let volumes = Pair {
+        first: b"volume_cm3_",
+        second: b"unsteered_volume_cm3_",
+    };
+    put_pair_heads(alloc, out, volumes, instruction)?;
+    let degrees = Pair {
+        first: b"diameter_degree_",
+        second: b"length_degree_",
+    };
+    put_pair_heads(alloc, out, degrees, instruction)?;
+    out.push(b'\n')?;
     Ok(())
 }

@@ -7,6 +7,7 @@
 mod items;
 mod line;
 mod rows;
+mod several;
 mod told;
 
-pub use told::sentence;
+pub use several::sentence;

@@ -6,12 +6,13 @@ pub(crate) struct Row {
     /// The words of a line; a letter stands for any number.
     pub(crate) lines: &'static [&'static str],
     /// `{a}` stands for the number in the place of that letter. The rest is of the item that `a` and `b` name: `{item}`
-    /// itself, its `{range}`, `{order}` and `{count}`; or of the file: its `{kind}`, and its `{place}` among the files.
+    /// itself, its `{range}`, `{order}` and `{count}`, or that alone in which an owner's instruction may not differ, as
+    /// a `{whole}` or in a `{part}`; or of the file: its `{kind}`, and its `{place}` among the files.
     pub(crate) sentence: &'static str,
 }
 
 /// All of them. Of two that fit, the first is meant.
-pub(crate) static ROWS: [Row; 39] = [
+pub(crate) static ROWS: [Row; 43] = [
     Row {
         lines: &["apt fault 1 a", "stm n fault 1 a"],
         sentence: "Item {a} {place}, counted from 1, does not begin with two numbers: look there for a tilde (~) that is lost or too many, or for text that does not belong there (--explain says where).",
@@ -143,6 +144,22 @@ pub(crate) static ROWS: [Row; 39] = [
     Row {
         lines: &["targets fault 3 a"],
         sentence: "The new targets of assortment {a}, counted from 0, come to more than 1000000000 together: only proportions matter, so make all of them smaller.",
+    },
+    Row {
+        lines: &["targets fault 4 a"],
+        sentence: "Item {a} of the file of targets, counted from 1, does not begin with two numbers: the file is damaged or is no file of items.",
+    },
+    Row {
+        lines: &["targets fault 5 a b"],
+        sentence: "List {a} of the targets (918 1), counted from 0, has a word at place {b} that is not a plain number: write digits alone.",
+    },
+    Row {
+        lines: &["own fault 11 a b"],
+        sentence: "{whole} of the owner's instruction is not that of the instruction named first: write the owner's prices into a copy of that one.",
+    },
+    Row {
+        lines: &["own fault 12 a b c"],
+        sentence: "{part} of assortment {c}, counted from 0, of the owner's instruction is not that of the instruction named first: write the owner's prices into a copy of that one.",
     },
     Row {
         lines: &["read fault 0"],

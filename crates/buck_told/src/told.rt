@@ -2,7 +2,14 @@
 use crate::items::{Part, item_of};
 use crate::line::{is_number, words_of};
 use crate::rows::{ROWS, Row};
+use buck_reason::key_of;
 use std::alloc::{AllocError, Global};
+
+/// The items of the whole in which an owner's instruction may not differ: the module and the number of assortments.
+const WHOLE: [u16; 2] = [901, 910];
+
+/// Those of an assortment: species, grades, lengths and trim.
+const PART: [u16; 4] = [912, 913, 916, 919];
 
 /// A fault line, and the words of the row that it fits.
 #[derive(Clone, Copy)]
@@ -61,6 +68,18 @@ impl<'a> Line<'a> {
         Some(Part { item, name })
     }
 
+    /// Puts the item that it speaks of, if its number is one of these.
+    fn put_one_of(&self, out: &mut String, numbers: &[u16]) -> Result<bool, AllocError> {
+        let Some(part) = self.part("item") else {
+            return Ok(false);
+        };
+        if !numbers.contains(&key_of(part.item).number) {
+            return Ok(false);
+        }
+        write!(out, "{part}")?;
+        Ok(true)
+    }
+
     /// Puts a part of a sentence, by its name. The answer is whether there is one.
     fn put(&self, out: &mut String, part: &str) -> Result<bool, AllocError> {
         match part {
@@ -81,6 +100,8 @@ impl<'a> Line<'a> {
                 write!(out, "{part}")?;
                 return Ok(part.is_there());
             }
+            "whole" => return self.put_one_of(out, &WHOLE),
+            "part" => return self.put_one_of(out, &PART),
             _ => out.push_str(self.word(part))?,
         }
         Ok(true)
@@ -122,7 +143,7 @@ fn fitting(row: &Row, words: &[&str]) -> Option<&'static str> {
 /// there is no such line: other words, a field too few or too many, an item that the file doesn't have.
 ///
 /// The words of the line are set apart by white bytes. A number has at most 20 digits, and may have leading zeros.
-pub fn sentence(alloc: Global, line: &str) -> Result<Option<Vec<u8>>, AllocError> {
+pub(crate) fn sentence(alloc: Global, line: &str) -> Result<Option<Vec<u8>>, AllocError> {
     let words = words_of(alloc, line)?;
     let words = words.as_slice();
     for row in &ROWS {

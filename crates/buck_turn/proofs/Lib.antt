@@ -1,3 +1,3 @@
 pub mod Counted
-pub mod Given
 pub mod Rounds
+pub mod Taking

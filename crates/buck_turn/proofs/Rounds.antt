@@ -1,12 +1,11 @@
 -- One posting more: what a harvester cut, and how rounds go on.
 use Rattle.std.proofs.Common.{◌≡◌, ℕ, zero, suc, Bool, true, false, ◌+◌, ◌<◌, ◌≤◌, ◌==◌, ◌⊎◌, inl, inr, cond, List, [], ◌∷◌, ◌++◌, length, map, take, get_or, refl, sym, ap, subst, ◌∙◌, arith, take_all, append-nil}
 use Rattle.std.proofs.lemmas.Bool.Decides.{nat_tests}
-use Rattle.std.proofs.Math.Seq.{take-suc}
-use Rattle.std.proofs.lemmas.List.{get_or-map, length-map, map-append}
+use Rattle.std.proofs.lemmas.List.{get_or-map, length-map, length-take-le, map-append, take_more}
 use Rattle.std.proofs.lemmas.List.Elements.{All-from_recursion}
 use Rattle.std.proofs.lemmas.List.Sums.{sum_by_push}
 use Rattle.std.specs.List.{AllByRecursion}
-use Rattle.std.specs.Prelude.{Option, Some, nat_lt}
+use Rattle.std.specs.Prelude.{Option, Some}
 use Rattle.std.specs.declared.sync.Arc.{Arc}
 use Rattle.std.specs.declared.vec.Vec.{Vec}
 use Rattle.std.specs.declared.alloc.Global.{Global}
@@ -19,11 +18,10 @@ use Rattle.buck_book.specs.Entry.{EntryParts}
 use Rattle.buck_book.specs.Posting.{harvester_of, number_of}
 use Rattle.buck_book.specs.Counts.{calls_of}
 use Rattle.buck_book.specs.History.{HistoryParts}
-use Rattle.buck_fleet.specs.declared.seat.Kept.{Kept}
-use Rattle.buck_fleet.specs.Closed.{replies_from}
-use Rattle.buck_fleet.specs.Run.{stem_cut, stems_at, stems_of}
+use Rattle.buck_book.specs.declared.posting.Kept.{Kept}
+use Rattle.buck_book.specs.Replies.{replies_from, stem_cut, stems_at, stems_of}
 use Rattle.buck_turn.specs.Turn.{ComesBefore, AreInTurn, HasCutInTurn}
-use Rattle.buck_turn.specs.inner.Rounds.{turns_of, HasCutFirst, HasCutRounds, IsWithinRound, IsCutOf}
+use Rattle.buck_turn.specs.inner.Rounds.{HasCutFirst, HasCutRounds, IsWithinRound}
 
 -- the stems that a harvester cut, where the first posting has this position
 abbrev stems_from : ℕ → ℕ → List Posting → List (Option StemParts)
@@ -54,18 +52,9 @@ more_calls : (h : ℕ) (ps : List Posting) (x : Posting)
     → calls_of h (ps ++ x ∷ []) ≡ calls_of h ps + cond (harvester_of x == h) 1 0
 more_calls h ps x = sum_by_push (λ (y : Posting). cond (harvester_of y == h) 1 0) ps x
 
--- the first elements of a list that has so many, and the next one
-length_of_first : {A : Type 0} (xs : List A) (n : ℕ) → n ≤ length xs → length (take n xs) ≡ n
-length_of_first [] zero le = refl
-length_of_first [] (suc n) le = absurd (omega (arith, le))
-length_of_first (x ∷ xs) zero le = refl
-length_of_first (x ∷ xs) (suc n) le = ap suc (length_of_first xs n (omega (arith, le)))
-
 one_more : {A : Type 0} (xs : List A) (n : ℕ) (x : A) → n < length xs → x ≡ get_or xs n x
     → take (n + 1) xs ≡ take n xs ++ x ∷ []
-one_more xs n x lt is =
-    let next : n + 1 ≡ suc n = omega arith in
-    ap (λ (k : ℕ). take k xs) next ∙ take-suc xs n x lt ∙ ap (λ (y : _). take n xs ++ y ∷ []) (sym is)
+one_more xs n x lt is = take_more xs n x lt ∙ ap (λ (y : _). take n xs ++ y ∷ []) (sym is)
 
 all_with_last : {A : Type 0} (P : A → Type 0) (xs : List A) (z : A) → AllByRecursion P xs → P z
     → AllByRecursion P (xs ++ z ∷ [])
@@ -83,16 +72,6 @@ in_turn_with_last [] z are before = (tt, tt)
 in_turn_with_last (x ∷ ps) z are before =
     (all_with_last (ComesBefore x) ps z are.0 before.0, in_turn_with_last ps z are.1 before.1)
 
--- a harvester had its turn in this round, or not yet
-had_turn : (rounds k j : ℕ) → j < k → turns_of rounds k j ≡ rounds + 1
-had_turn rounds k j lt =
-    (let yes : nat_lt j k ≡ true = grind (arith, nat_tests, lt) in ap (λ (b : Bool). cond b (rounds + 1) rounds) yes)
-
-no_turn : (rounds k j : ℕ) → k ≤ j → turns_of rounds k j ≡ rounds
-no_turn rounds k j le =
-    (let no_one : nat_lt j k ≡ false = grind (arith, nat_tests, le) in
-    ap (λ (b : Bool). cond b (rounds + 1) rounds) no_one)
-
 -- its next stem, and another's
 cut_one_more : (n : ℕ) (stems : List StemParts) (h : ℕ) (ps : List Posting) (e : EntryParts) (stem : StemParts)
     → n < length stems → stem ≡ get_or stems n stem → e.harvester ≡ h → e.stem ≡ stem → HasCutFirst n stems h ps
@@ -109,8 +88,8 @@ cut_one_more n stems h ps e stem lt at harvester same cut =
           ∙ ap (map Some) (sym first);
       calls = more_calls h ps (Cut e)
           ∙ ap (λ (b : Bool). calls_of h ps + cond b 1 0) yes
-          ∙ (let a = length_of_first stems n (omega (arith, lt)) in let b =
-          length_of_first stems (n + 1) (omega (arith, lt)) in omega (arith, a, b, cut.calls));
+          ∙ (let a = length-take-le n stems (omega (arith, lt)) in let b =
+          length-take-le (n + 1) stems (omega (arith, lt)) in omega (arith, a, b, cut.calls));
     }
 
 cut_by_another : (n : ℕ) (stems : List StemParts) (h : ℕ) (ps : List Posting) (x : Posting)
@@ -121,8 +100,8 @@ cut_by_another n stems h ps x other cut = record {
   calls = more_calls h ps x ∙ ap (λ (b : Bool). calls_of h ps + cond b 1 0) other ∙ (omega (arith, cut.calls));
 }
 
-three_ways : (j k : ℕ) → (j < k) ⊎ ((j ≡ k) ⊎ (k < j))
-three_ways j k = grind arith
+two_ways : (j k : ℕ) → j < k + 1 → (j < k) ⊎ (j ≡ k)
+two_ways j k low = grind arith
 
 before_next : (rounds k : ℕ) (z : Posting) → number_of z ≡ rounds + 1 → harvester_of z ≡ k + 1 → (x : Posting)
     → IsWithinRound rounds k x → ComesBefore x z
@@ -140,95 +119,71 @@ within_next rounds k x within = elim within [
 -- before the first round
 pub nothing_cut : (lists : List (Vec (Arc Stem Global) Global)) → HasCutRounds 0 0 lists []
 nothing_cut lists = record {
-  each = λ j lt. record {
-    stems_are = ap (λ (n : ℕ). map Some (take n (stems_at lists j))) (sym (no_turn 0 0 j (omega arith)));
-    calls = ap (λ (n : ℕ). length (take n (stems_at lists j))) (sym (no_turn 0 0 j (omega arith)));
-  };
+  had_turn = λ j low. absurd (omega (arith, low));
+  no_turn = λ j le lt. record { stems_are = refl; calls = refl };
   own = tt;
   in_turn = tt;
   within = tt;
 }
 
 -- the harvester at place k cuts its next stem
-pub turn_taken : (rounds k : ℕ) (lists : List (Vec (Arc Stem Global) Global)) (ps after : List Posting)
-    (stem : StemParts)
+turn_taken : (rounds k : ℕ) (lists : List (Vec (Arc Stem Global) Global)) (ps : List Posting) (stem : StemParts)
+    (e : EntryParts)
     → k < length lists → rounds < length (stems_at lists k) → stem ≡ get_or (stems_at lists k) rounds stem
-    → HasCutRounds rounds k lists ps → IsCutOf (k + 1) stem ps after → HasCutRounds rounds (k + 1) lists after
-turn_taken rounds k lists ps after stem lt long at so_far cut =
-    let e = cut.entry in
-    let mine : HasCutFirst rounds (stems_at lists k) (k + 1) ps =
-    subst (λ (n : ℕ). HasCutFirst n (stems_at lists k) (k + 1) ps) (no_turn rounds k k (omega arith))
-    (so_far.each k lt) in
+    → HasCutRounds rounds k lists ps → e.harvester ≡ k + 1 → e.stem ≡ stem → e.number ≡ calls_of (k + 1) ps + 1
+    → HasCutRounds rounds (k + 1) lists (ps ++ Cut e ∷ [])
+turn_taken rounds k lists ps stem e lt long at so_far same_harvester same_stem number_is_next =
+    let mine = so_far.no_turn k (omega arith) lt in
     let number : e.number ≡ rounds + 1 =
-    (let a = length_of_first (stems_at lists k) rounds (omega (arith, long)) in
-    omega (arith, cut.number_is_next, mine.calls, a)) in
-    subst (HasCutRounds rounds (k + 1) lists) (sym cut.added) (record {
-      each = λ j low. elim (three_ways j k) [
-        | inl less ↦ (
-            let other : (e.harvester == j + 1) ≡ false = grind (arith, nat_tests, cut.same_harvester, less) in
-            let turns : turns_of rounds k j ≡ turns_of rounds (k + 1) j = had_turn rounds k j less
-            ∙ sym (had_turn rounds (k + 1) j (omega (arith, less))) in
-            subst (λ (n : ℕ). HasCutFirst n (stems_at lists j) (j + 1) (ps ++ Cut e ∷ [])) turns
-            (cut_by_another _ _ (j + 1) ps (Cut e) other (so_far.each j low)))
-        | inr (inl same) ↦ (
-            let turns : rounds + 1 ≡ turns_of rounds (k + 1) k = sym (had_turn rounds (k + 1) k (omega arith)) in
-            let here : HasCutFirst (turns_of rounds (k + 1) k) (stems_at lists k) (k + 1) (ps ++ Cut e ∷ []) =
-            subst (λ (n : ℕ). HasCutFirst n (stems_at lists k) (k + 1) (ps ++ Cut e ∷ [])) turns
-            (cut_one_more rounds _ (k + 1) ps e stem long at cut.same_harvester cut.same_stem mine) in
-            subst (λ (i : ℕ). HasCutFirst (turns_of rounds (k + 1) i) (stems_at lists i) (i + 1) (ps ++ Cut e ∷ []))
-            (sym same) here)
-        | inr (inr more) ↦ (
-            let other : (e.harvester == j + 1) ≡ false = grind (arith, nat_tests, cut.same_harvester, more) in
-            let turns : turns_of rounds k j ≡ turns_of rounds (k + 1) j = no_turn rounds k j (omega (arith, more))
-            ∙ sym (no_turn rounds (k + 1) j (omega (arith, more))) in
-            subst (λ (n : ℕ). HasCutFirst n (stems_at lists j) (j + 1) (ps ++ Cut e ∷ [])) turns
-            (cut_by_another _ _ (j + 1) ps (Cut e) other (so_far.each j low)))
+    (let a = length-take-le rounds (stems_at lists k) (omega (arith, long)) in
+    omega (arith, number_is_next, mine.calls, a)) in
+    record {
+      had_turn = λ j low. elim (two_ways j k low) [
+        | inl less ↦ cut_by_another _ _ (j + 1) ps (Cut e) (grind (arith, nat_tests, same_harvester, less))
+            (so_far.had_turn j less)
+        | inr same ↦
+            subst (λ (i : ℕ). HasCutFirst (rounds + 1) (stems_at lists i) (i + 1) (ps ++ Cut e ∷ [])) (sym same)
+            (cut_one_more rounds _ (k + 1) ps e stem long at same_harvester same_stem mine)
       ];
+      no_turn = λ j le low. cut_by_another _ _ (j + 1) ps (Cut e) (grind (arith, nat_tests, same_harvester, le))
+          (so_far.no_turn j (omega (arith, le)) low);
       own = all_with_last _ ps (Cut e) so_far.own
-          (omega (arith, cut.same_harvester), omega (arith, cut.same_harvester, lt));
+          (omega (arith, same_harvester), omega (arith, same_harvester, lt));
       in_turn =
           in_turn_with_last ps (Cut e) so_far.in_turn
-          (all_of_weaker _ _ (before_next rounds k (Cut e) number cut.same_harvester) ps so_far.within);
+          (all_of_weaker _ _ (before_next rounds k (Cut e) number same_harvester) ps so_far.within);
       within = all_with_last _ ps (Cut e) (all_of_weaker _ _ (within_next rounds k) ps so_far.within)
-          (inr (number, omega (arith, cut.same_harvester)));
-    })
+          (inr (number, omega (arith, same_harvester)));
+    }
 
 -- the harvester at place k has no stem left
-pub turn_passed : (rounds k : ℕ) (lists : List (Vec (Arc Stem Global) Global)) (ps : List Posting)
-    → length (stems_at lists k) ≤ rounds → HasCutRounds rounds k lists ps → HasCutRounds rounds (k + 1) lists ps
-turn_passed rounds k lists ps short so_far = record {
-  each = λ j low. elim (three_ways j k) [
-    | inl less ↦
-        subst (λ (n : ℕ). HasCutFirst n (stems_at lists j) (j + 1) ps)
-        (had_turn rounds k j less ∙ sym (had_turn rounds (k + 1) j (omega (arith, less)))) (so_far.each j low)
-    | inr (inl same) ↦ (
-        let few : length (stems_at lists j) ≤ rounds =
-        subst (λ (i : ℕ). length (stems_at lists i) ≤ rounds) (sym same) short in
-        let all : take (turns_of rounds k j) (stems_at lists j) ≡ take (turns_of rounds (k + 1) j) (stems_at lists j) =
-        ap (λ (n : ℕ). take n (stems_at lists j)) (no_turn rounds k j (omega (arith, same)))
-        ∙ take_all rounds (stems_at lists j) few
-        ∙ sym (take_all (rounds + 1) (stems_at lists j) (omega (arith, few)))
-        ∙ ap (λ (n : ℕ). take n (stems_at lists j)) (sym (had_turn rounds (k + 1) j (omega (arith, same)))) in
-        record {
-          stems_are = (so_far.each j low).stems_are ∙ ap (map Some) all;
-          calls = (so_far.each j low).calls ∙ ap (λ (l : List StemParts). length l) all;
+turn_passed : (rounds k : ℕ) (lists : List (Vec (Arc Stem Global) Global)) (ps : List Posting)
+    → k < length lists → length (stems_at lists k) ≤ rounds → HasCutRounds rounds k lists ps
+    → HasCutRounds rounds (k + 1) lists ps
+turn_passed rounds k lists ps lt short so_far =
+    let mine = so_far.no_turn k (omega arith) lt in
+    let all : take rounds (stems_at lists k) ≡ take (rounds + 1) (stems_at lists k) =
+    take_all rounds (stems_at lists k) short ∙ sym (take_all (rounds + 1) (stems_at lists k) (omega (arith, short))) in
+    record {
+      had_turn = λ j low. elim (two_ways j k low) [
+        | inl less ↦ so_far.had_turn j less
+        | inr same ↦ subst (λ (i : ℕ). HasCutFirst (rounds + 1) (stems_at lists i) (i + 1) ps) (sym same) (record {
+          stems_are = mine.stems_are ∙ ap (map Some) all;
+          calls = mine.calls ∙ ap (λ (l : List StemParts). length l) all;
         })
-    | inr (inr more) ↦
-        subst (λ (n : ℕ). HasCutFirst n (stems_at lists j) (j + 1) ps)
-        (no_turn rounds k j (omega (arith, more)) ∙ sym (no_turn rounds (k + 1) j (omega (arith, more))))
-        (so_far.each j low)
-  ];
-  own = so_far.own;
-  in_turn = so_far.in_turn;
-  within = all_of_weaker _ _ (within_next rounds k) ps so_far.within;
-}
+      ];
+      no_turn = λ j le low. so_far.no_turn j (omega (arith, le)) low;
+      own = so_far.own;
+      in_turn = so_far.in_turn;
+      within = all_of_weaker _ _ (within_next rounds k) ps so_far.within;
+    }
 
 -- all had their turn
 pub round_done : (rounds : ℕ) (lists : List (Vec (Arc Stem Global) Global)) (ps : List Posting)
     → HasCutRounds rounds (length lists) lists ps → HasCutRounds (rounds + 1) 0 lists ps
 round_done rounds lists ps done = record {
-  each = λ j low. subst (λ (n : ℕ). HasCutFirst n (stems_at lists j) (j + 1) ps)
-      (had_turn rounds (length lists) j low ∙ sym (no_turn (rounds + 1) 0 j (omega arith))) (done.each j low);
+  had_turn = λ j low. absurd (omega (arith, low));
+  no_turn = λ j le lt. done.had_turn j lt;
   own = done.own;
   in_turn = done.in_turn;
   within = all_of_weaker _ _ later ps done.within;
@@ -244,15 +199,14 @@ pub all_cut : (rounds : ℕ) (lists : List (Vec (Arc Stem Global) Global)) (h : 
     → ((k : ℕ) → k < length lists → length (stems_at lists k) ≤ rounds) → HasCutRounds rounds 0 lists h.postings
     → HasCutInTurn lists h
 all_cut rounds lists h long done = record {
-  stems = λ k lt. (done.each k lt).stems_are
-      ∙ ap (λ (n : ℕ). map Some (take n (stems_at lists k))) (no_turn rounds 0 k (omega arith))
+  stems = λ k lt. (done.no_turn k (omega arith) lt).stems_are
       ∙ ap (map Some) (take_all rounds (stems_at lists k) (long k lt));
   nobody_else = All-from_recursion _ h.postings done.own;
   in_turn = done.in_turn;
 }
 
 -- the stems of the list at a place, and the stem at a place of them
-list_at : (lists : List (Vec (Arc Stem Global) Global)) (k : ℕ) (list : Vec (Arc Stem Global) Global) → k < length lists
+pub list_at : (lists : List (Vec (Arc Stem Global) Global)) (k : ℕ) (list : Vec (Arc Stem Global) Global) → k < length lists
     → list ≡ get_or lists k list → stems_at lists k ≡ stems_of list.items
 list_at [] k list lt is = absurd (omega (arith, lt))
 list_at (x ∷ xs) zero list lt is = ap (λ (v : Vec (Arc Stem Global) Global). stems_of v.items) (sym is)
@@ -264,35 +218,35 @@ stem_at list n a lt is = ap (λ (b : Arc Stem Global). arc_value b) is
     ∙ sym (get_or-map arc_value list n a (arc_value a) lt)
 
 -- the harvester at place k cuts the next stem of its list, or has none left
-pub turn_of : (rounds k : ℕ) (lists : List (Vec (Arc Stem Global) Global)) (ps after : List Posting)
-    (list : Vec (Arc Stem Global) Global) (a : Arc Stem Global)
+pub turn_of : (rounds k : ℕ) (lists : List (Vec (Arc Stem Global) Global)) (ps : List Posting)
+    (list : Vec (Arc Stem Global) Global) (a : Arc Stem Global) (e : EntryParts)
     → k < length lists → list ≡ get_or lists k list → rounds < length list.items → a ≡ get_or list.items rounds a
-    → HasCutRounds rounds k lists ps → IsCutOf (k + 1) (arc_value a) ps after → HasCutRounds rounds (k + 1) lists after
-turn_of rounds k lists ps after list a lt is long there so_far cut =
+    → HasCutRounds rounds k lists ps → e.harvester ≡ k + 1 → e.stem ≡ arc_value a → e.number ≡ calls_of (k + 1) ps + 1
+    → HasCutRounds rounds (k + 1) lists (ps ++ Cut e ∷ [])
+turn_of rounds k lists ps list a e lt is long there so_far same_harvester same_stem number_is_next =
     let same = list_at lists k list lt is in
-    turn_taken rounds k lists ps after (arc_value a) lt
+    turn_taken rounds k lists ps (arc_value a) e lt
     (subst (λ (l : List StemParts). rounds < length l) (sym same)
     (omega (arith, long, length-map list.items arc_value)))
     (subst (λ (l : List StemParts). arc_value a ≡ get_or l rounds (arc_value a)) (sym same)
     (stem_at list.items rounds a long there))
-    so_far cut
+    so_far same_harvester same_stem number_is_next
 
 pub no_turn_of : (rounds k : ℕ) (lists : List (Vec (Arc Stem Global) Global)) (ps : List Posting)
     (list : Vec (Arc Stem Global) Global)
     → k < length lists → list ≡ get_or lists k list → length list.items ≤ rounds → HasCutRounds rounds k lists ps
     → HasCutRounds rounds (k + 1) lists ps
 no_turn_of rounds k lists ps list lt is short so_far =
-    turn_passed rounds k lists ps
+    turn_passed rounds k lists ps lt
     (subst (λ (l : List StemParts). length l ≤ rounds) (sym (list_at lists k list lt is))
     (omega (arith, short, length-map list.items arc_value))) so_far
 
 pub longer : (lists : List (Vec (Arc Stem Global) Global)) (k most more : ℕ) (list : Vec (Arc Stem Global) Global)
     → k < length lists → list ≡ get_or lists k list → most ≤ more → length list.items ≤ more
     → ((j : ℕ) → j < k → length (stems_at lists j) ≤ most) → (j : ℕ) → j < k + 1 → length (stems_at lists j) ≤ more
-longer lists k most more list lt is le long so_far j low = elim (three_ways j k) [
+longer lists k most more list lt is le long so_far j low = elim (two_ways j k low) [
   | inl less ↦ omega (arith, so_far j less, le)
-  | inr (inl same) ↦ subst (λ (i : ℕ). length (stems_at lists i) ≤ more) (sym same)
+  | inr same ↦ subst (λ (i : ℕ). length (stems_at lists i) ≤ more) (sym same)
       (subst (λ (l : List StemParts). length l ≤ more) (sym (list_at lists k list lt is))
       (omega (arith, long, length-map list.items arc_value)))
-  | inr (inr above) ↦ absurd (omega (arith, low, above))
 ]

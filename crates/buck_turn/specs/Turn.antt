@@ -1,5 +1,5 @@
--- Who cuts when, where harvesters take turns: one stem each, round by round; and by which prices.
-use Rattle.std.specs.Prelude.{◌≡◌, ℕ, ◌+◌, ◌<◌, ◌≤◌, ◌⊎◌, List, [], ◌∷◌, length, map, take, sum_by, slice_get, All, Some}
+-- Who cuts when, where harvesters take turns: one stem each, round by round.
+use Rattle.std.specs.Prelude.{◌≡◌, ℕ, ◌+◌, ◌<◌, ◌≤◌, ◌⊎◌, List, [], ◌∷◌, length, map, sum_by, All, Some}
 use Rattle.std.specs.List.{AllByRecursion}
 use Rattle.std.specs.declared.sync.Arc.{Arc}
 use Rattle.std.specs.declared.vec.Vec.{Vec}
@@ -7,10 +7,8 @@ use Rattle.std.specs.declared.alloc.Global.{Global}
 use Rattle.buck_stem.specs.declared.stem.Stem.{Stem}
 use Rattle.buck_book.specs.declared.posting.Posting.{Posting}
 use Rattle.buck_book.specs.Posting.{harvester_of, number_of}
-use Rattle.buck_book.specs.History.{HistoryParts, IsEnd, prices_after}
-use Rattle.buck_book.specs.Pricing.{Calls, AreAnswers}
-use Rattle.buck_fleet.specs.Closed.{replies_of}
-use Rattle.buck_fleet.specs.Run.{stem_cut, stems_at}
+use Rattle.buck_book.specs.History.{HistoryParts}
+use Rattle.buck_book.specs.Replies.{replies_of, stem_cut, stems_at}
 
 -- one posting comes before another: in an earlier round, or in the same round for a harvester of a lower number. A
 -- harvester's calls are numbered from 1, so that the number of its call is the round.
@@ -35,10 +33,3 @@ pub record HasCutInTurn (lists : List (Vec (Arc Stem Global) Global)) (h : Histo
 -- how many stems the lists have together
 abbrev pub stems_in_all : List (Vec (Arc Stem Global) Global) → ℕ
 stems_in_all lists = sum_by (λ list. length list.items) lists
-
--- the prices of each sheet that came after an end are answers that a closure can give to how the classes then stood
-pub record AreSheetsBy {F : Type 0} (g : Calls F) (f : F) (h : HistoryParts) : Type 0 where
-  pub answers : (k : ℕ) (x : Posting)
-      → slice_get h.postings k ≡ Some x
-      → IsEnd h.instruction (take k h.postings) x
-      → AreAnswers g f h.instruction (take (k + 1) h.postings) (prices_after h k)

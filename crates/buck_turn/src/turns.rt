@@ -1,126 +1,63 @@
 //! From lists of stems to the book in which they were cut by turns.
-ghost use Rattle.std.specs.Prelude.{◌≡◌, ℕ, ◌+◌, ◌<◌, ◌≤◌, [], length, IfOk, IfErr, OnOk, IsErrOf};
+ghost use Rattle.std.specs.Prelude.{◌≡◌, ℕ, ◌+◌, ◌<◌, ◌≤◌, length, IfOk, IfErr, OnOk};
 ghost use Rattle.buck_rule.specs.Stored.{Answers};
-ghost use Rattle.buck_book.specs.History.{in_force};
-ghost use Rattle.buck_fleet.specs.Run.{stems_at};
-ghost use Rattle.buck_fleet.specs.declared.fault.CutFault.TheVariants.{Full};
-ghost use Rattle.buck_turn.specs.Turn.{AreSheetsBy, HasCutInTurn, stems_in_all};
-ghost use Rattle.buck_turn.specs.inner.Rounds.{HasCutRounds, IsCutOf, cut_in};
+ghost use Rattle.buck_book.specs.Replies.{stems_at};
+ghost use Rattle.buck_book.specs.declared.ready.CutFault.TheVariants.{Full};
+ghost use Rattle.buck_book.specs.Pricing.{AreSheetsBy};
+ghost use Rattle.buck_turn.specs.Turn.{HasCutInTurn, stems_in_all};
+ghost use Rattle.buck_turn.specs.inner.Rounds.{IsAt};
 
 use buck_apt::Instruction;
-use buck_book::{Book, MOST_POSTINGS, Plan, Refusal};
-use buck_dp::Planner;
-use buck_fleet::CutFault;
-use buck_record::Memory;
+use buck_book::{Book, CutFault, MOST_POSTINGS};
+use buck_cutter::Cutter;
 use buck_rule::{Rule, Standing};
 use buck_stem::Stem;
 use std::alloc::Global;
 use std::sync::Arc;
 
-/// Plans a stem under the sheet in force.
-fn plan<F: Drop>(
-    alloc: Global,
-    book: &Book<F>,
-    planner: &mut Planner,
-    stem: &Arc<Stem>,
-) -> Result<Plan, Memory>
-    ensures stem { IfOk result (λ p. p.stem ≡ stem.now.value) }
-    ensures sheet { IfOk result (λ p. p.sheet ≡ in_force book.now.history) }
-{
-    if !planner.sheet().same(book.sheet()) {
-        planner.renew(alloc, book.sheet().clone()?)?;
-    }
-    Plan::make_with(alloc, planner, stem.clone()?)
-}
-
-/// Cuts a stem for a harvester from 1 to 64.
-fn cut<F: Fn(&Standing) -> u64 + Drop>(
-    alloc: Global,
-    book: &mut Book<F>,
-    planner: &mut Planner,
-    stem: &Arc<Stem>,
-    harvester: u32,
-) -> Result<(), CutFault>
-    requires answers { Answers F.Fn book.old.rule }
-    requires given { AreSheetsBy F.Fn book.old.rule book.old.history }
-    requires harvester { (0 < harvester) × (harvester ≤ 64) }
-    ensures rule { book.new.rule ≡ book.old.rule }
-    ensures instruction { book.new.history.instruction ≡ book.old.history.instruction }
-    ensures capacity { book.new.capacity ≡ book.old.capacity }
-    ensures cut { OnOk result (IsCutOf harvester stem.now.value book.old.history.postings book.new.history.postings) }
-    ensures given { OnOk result (AreSheetsBy F.Fn book.new.rule book.new.history) }
-    ensures full { IfErr result (λ fault. fault ≡ Full → length book.old.history.postings ≡ book.old.capacity) }
-{
-    let _lawful = book.entries();
-    let plan = plan(alloc, book, planner, stem)?;
-    match book.prepare_in_force(alloc, &plan) {
-        Ok(ready) => {
-            let _ = book.commit(ready, harvester, plan);
-            Ok(())
-        }
-        Err(Refusal::Stale { .. }) => unreachable!(),
-        Err(Refusal::Full) => Err(CutFault::Full),
-        Err(Refusal::Memory) => Err(CutFault::Memory),
-    }
-}
-
 /// The turn of the harvester whose list stands at a place: it cuts the stem at the round's place of its list, where
 /// that is so long.
 fn turn<F: Fn(&Standing) -> u64 + Drop>(
     alloc: Global,
-    book: &mut Book<F>,
-    planner: &mut Planner,
+    cutter: &mut Cutter<F>,
     lists: &[Vec<Arc<Stem>>],
     round: usize,
     place: usize,
 ) -> Result<(), CutFault>
-    requires answers { Answers F.Fn book.old.rule }
-    requires given { AreSheetsBy F.Fn book.old.rule book.old.history }
-    requires capacity { book.old.capacity ≡ MOST_POSTINGS }
+    requires answers { Answers F.Fn cutter.old.rule }
     requires few { length lists.now ≤ 64 }
     requires place { place < length lists.now }
-    requires rounds { HasCutRounds round place lists.now book.old.history.postings }
-    requires number { length book.old.history.postings ≡ cut_in round place lists.now }
-    ensures rule { book.new.rule ≡ book.old.rule }
-    ensures instruction { book.new.history.instruction ≡ book.old.history.instruction }
-    ensures capacity { book.new.capacity ≡ book.old.capacity }
-    ensures given { OnOk result (AreSheetsBy F.Fn book.new.rule book.new.history) }
-    ensures rounds { OnOk result (HasCutRounds round (place + 1) lists.now book.new.history.postings) }
-    ensures number { OnOk result (length book.new.history.postings ≡ cut_in round (place + 1) lists.now) }
+    requires at { IsAt F.Fn lists.now round place cutter.old }
+    ensures rule { cutter.new.rule ≡ cutter.old.rule }
+    ensures instruction { cutter.new.history.instruction ≡ cutter.old.history.instruction }
+    ensures at { OnOk result (IsAt F.Fn lists.now round (place + 1) cutter.new) }
     ensures full { IfErr result (λ fault. fault ≡ Full → MOST_POSTINGS < stems_in_all lists.now) }
 {
     let list = &lists[place];
     if round >= list.len() {
         return Ok(());
     }
-    cut(alloc, book, planner, &list[round], place as u32 + 1)?;
+    let _ = cutter.cut(alloc, list[round].clone()?, place as u32 + 1)?;
     Ok(())
 }
 
 /// Cuts one stem of each list that is so long: the one at this place.
 fn cut_round<F: Fn(&Standing) -> u64 + Drop>(
     alloc: Global,
-    book: &mut Book<F>,
-    planner: &mut Planner,
+    cutter: &mut Cutter<F>,
     lists: &[Vec<Arc<Stem>>],
     round: usize,
 ) -> Result<(), CutFault>
-    requires answers { Answers F.Fn book.old.rule }
-    requires given { AreSheetsBy F.Fn book.old.rule book.old.history }
-    requires capacity { book.old.capacity ≡ MOST_POSTINGS }
+    requires answers { Answers F.Fn cutter.old.rule }
     requires few { length lists.now ≤ 64 }
-    requires rounds { HasCutRounds round 0 lists.now book.old.history.postings }
-    requires number { length book.old.history.postings ≡ cut_in round 0 lists.now }
-    ensures rule { book.new.rule ≡ book.old.rule }
-    ensures instruction { book.new.history.instruction ≡ book.old.history.instruction }
-    ensures capacity { book.new.capacity ≡ book.old.capacity }
-    ensures given { OnOk result (AreSheetsBy F.Fn book.new.rule book.new.history) }
-    ensures rounds { OnOk result (HasCutRounds (round + 1) 0 lists.now book.new.history.postings) }
-    ensures number { OnOk result (length book.new.history.postings ≡ cut_in (round + 1) 0 lists.now) }
+    requires at { IsAt F.Fn lists.now round 0 cutter.old }
+    ensures rule { cutter.new.rule ≡ cutter.old.rule }
+    ensures instruction { cutter.new.history.instruction ≡ cutter.old.history.instruction }
+    ensures at { OnOk result (IsAt F.Fn lists.now (round + 1) 0 cutter.new) }
     ensures full { IfErr result (λ fault. fault ≡ Full → MOST_POSTINGS < stems_in_all lists.now) }
 {
     for k in 0..lists.len() {
-        turn(alloc, book, planner, lists, round, k)?;
+        turn(alloc, cutter, lists, round, k)?;
     }
     Ok(())
 }
@@ -155,10 +92,9 @@ pub fn cut_in_turn<F: Fn(&Standing) -> u64 + Drop>(
     ensures given { IfOk result (λ b. AreSheetsBy F.Fn rule b.history) }
     ensures full { IfErr result (λ fault. fault ≡ Full → MOST_POSTINGS < stems_in_all lists.now) }
 {
-    let mut book = Book::open(alloc, instruction, rule, MOST_POSTINGS)?;
-    let mut planner = Planner::make(alloc, book.sheet().clone()?)?;
+    let mut cutter = Cutter::open(alloc, instruction, rule, MOST_POSTINGS)?;
     for round in 0..longest(lists) {
-        cut_round(alloc, &mut book, &mut planner, lists, round)?;
+        cut_round(alloc, &mut cutter, lists, round)?;
     }
-    Ok(book)
+    Ok(cutter.into_book())
 }

@@ -1,6 +1,4 @@
 //! The page of a journal that isn't lawful.
-ghost use Rattle.std.specs.Prelude.{◌≡◌, ◌<◌, ◌≤◌, length};
-
 use crate::head::{Files, close_head, open_head};
 use buck_apt::{Assortment, Instruction};
 use buck_book::Posting;
@@ -106,32 +104,74 @@ fn write_sentence(
     Ok(())
 }
 
+/// A journal by its number, from 1, among so many that are shown together.
+#[derive(Clone, Copy)]
+struct Which {
+    number: usize,
+    of: usize,
+}
+
+/// Writes that a journal isn't lawful, and which one, where there are several.
+fn write_heading(out: &mut String, which: Which) -> Result<(), Memory> {
+    let Which { number, of } = which;
+    if of > 1 {
+        write!(out, "Journal {number} of {of} is not lawful")?;
+    } else {
+        write!(out, "This journal is not lawful")?;
+    }
+    Ok(())
+}
+
+/// Writes the names of the instruction and of the journal at a place.
+fn write_files(out: &mut String, files: &Files<'_>, at: usize) -> Result<(), Memory> {
+    if let Some(journal) = files.journals.get(at) {
+        write!(
+            out,
+            "<p class=\"files\">Instruction {}, journal {}</p>",
+            Apart(files.instruction),
+            Apart(journal)
+        )?;
+    }
+    Ok(())
+}
+
 /// Writes the fault as the line that `replay` writes.
-fn write_line(out: &mut String, fault: &ReplayFault) -> Result<(), Memory> {
-    write!(out, "replay fault")?;
+fn write_line(out: &mut String, which: Which, fault: &ReplayFault) -> Result<(), Memory> {
+    if which.of > 1 {
+        write!(out, "replay {} fault", which.number)?;
+    } else {
+        write!(out, "replay fault")?;
+    }
     for number in fault.numbers().as_slice() {
         write!(out, " {number}")?;
     }
     Ok(())
 }
 
-/// The page of a journal that isn't lawful, given its fault, which is none of memory, and the names of both files. It
-/// shows no figure. Refused as `Memory` alone.
+/// The page of the first journal that isn't lawful, given its fault, which is none of memory, the names of all files,
+/// and the place of the journal among its kind. It shows no figure. Refused as `Memory` alone.
 pub fn fault_page(
     alloc: Global,
     instruction: &Instruction,
     postings: &[Posting],
     fault: &ReplayFault,
     files: &Files<'_>,
+    at: usize,
 ) -> Result<String, Memory> {
+    let which = Which {
+        number: at.saturating_add(1),
+        of: files.journals.len(),
+    };
     let mut out = String::new(alloc);
     open_head(&mut out)?;
     write!(&mut out, "Not lawful")?;
     close_head(&mut out)?;
+    write_heading(&mut out, which)?;
+    write!(&mut out, "</h1>")?;
+    write_files(&mut out, files, at)?;
     write!(
         &mut out,
-        "This journal is not lawful</h1>{files}\
-         <p class=\"verdict bad\"><svg viewBox=\"0 0 20 20\" width=\"20\" height=\"20\" aria-hidden=\"true\">\
+        "<p class=\"verdict bad\"><svg viewBox=\"0 0 20 20\" width=\"20\" height=\"20\" aria-hidden=\"true\">\
          <circle cx=\"10\" cy=\"10\" r=\"10\"/><path d=\"M6,6L14,14M14,6L6,14\"/></svg><span><b>"
     )?;
     write_sentence(&mut out, instruction, postings, fault)?;
@@ -140,7 +180,7 @@ pub fn fault_page(
         "</b> It is the first fault in the order of the postings; nothing after it was looked at, and no figure of \
          this journal is shown. <code>"
     )?;
-    write_line(&mut out, fault)?;
+    write_line(&mut out, which, fault)?;
     write!(&mut out, "</code></span></p></header>\n</body>\n</html>\n")?;
     Ok(out)
 }

@@ -4,21 +4,26 @@ use buck_record::Memory;
 use buck_words::Apart;
 use std::fmt;
 
-/// The names of the two files, as they were given.
+/// The names of the files, as they were given: the instruction's, and those of the journals in their order.
 #[derive(Clone, Copy)]
 pub struct Files<'a> {
     pub instruction: &'a [u8],
-    pub journal: &'a [u8],
+    pub journals: &'a [&'a [u8]],
 }
 
 impl fmt::Display for Files<'_> {
     fn fmt<W: fmt::Write>(&self, f: &mut fmt::Formatter<W>) -> fmt::Result {
+        let s = if self.journals.len() == 1 { "" } else { "s" };
         write!(
             f,
-            "<p class=\"files\">Instruction {}, journal {}</p>",
-            Apart(self.instruction),
-            Apart(self.journal)
-        )
+            "<p class=\"files\">Instruction {}, journal{s}",
+            Apart(self.instruction)
+        )?;
+        for (at, journal) in self.journals.iter().enumerate() {
+            let apart = if at == 0 { " " } else { ", " };
+            write!(f, "{apart}{}", Apart(journal))?;
+        }
+        write!(f, "</p>")
     }
 }
 

@@ -140,6 +140,15 @@ figure{min-width:0}
 .notes dl{display:grid;grid-template-columns:9em 1fr;gap:6px 16px;font-size:13px}
 .notes dd{color:var(--soft);max-width:80ch}
 code{font-family:ui-monospace,"Liberation Mono",monospace;font-size:.92em}
-@media screen and (max-width:760px){.scroll th:first-child{position:sticky;left:0;background:var(--ground)}body{padding:24px 16px 40px}h1{font-size:26px}.top,.charts,.matrices{grid-template-columns:1fr}.notes dl{grid-template-columns:1fr;gap:0}.notes dd{margin-bottom:8px}.rows{grid-template-columns:56px 1fr}.list .wide{display:none}.list tbody th{min-width:7em}}
-@media print{@page{margin:13mm}body{max-width:none;padding:0;font-size:12px;background:#fff}:root{--ground:#fff}*{-webkit-print-color-adjust:exact;print-color-adjust:exact}figure,.tile,.account,tr,dt,dd,.verdict{break-inside:avoid}h2,.lead{break-after:avoid}section{break-inside:avoid}#stems{break-inside:auto}section{margin-top:28px}.scroll{overflow:visible}.matrix{min-width:0!important}.matrix .corner{width:64px}.matrix td{white-space:normal}.plot svg{height:120px}.matrices{grid-template-columns:1fr}.wide{width:14%}.matrix th,.matrix td{padding:2px 4px;font-size:11px}.tight th,.tight td{font-size:7px;padding:1px}s,.keys,small,.lead{font-size:10px}}
+.list .groups th{padding-bottom:2px;color:var(--ink);white-space:nowrap;text-align:right;border-bottom:0}
+.list .groups td{border-bottom:0}
+.list .first{padding-left:28px}
+.list .none{text-align:left;font-size:13px}
+.list .groups+tr th,#lacking tbody th{white-space:nowrap}
+.stacks{margin:4px 0 16px;row-gap:4px}
+.rows .stack{height:18px}
+.stack rect{stroke:var(--ground);stroke-width:1;vector-effect:non-scaling-stroke}
+.begin{stroke-dasharray:none}
+@media screen and (max-width:760px){.scroll th:first-child{position:sticky;left:0;background:var(--ground)}body{padding:24px 16px 40px}h1{font-size:26px}.top,.charts,.matrices{grid-template-columns:1fr}.notes dl{grid-template-columns:1fr;gap:0}.notes dd{margin-bottom:8px}.rows{grid-template-columns:56px 1fr}.list .wide{display:none}.list tbody th{min-width:7em}.list .groups th{text-align:left;padding-left:28px}}
+@media print{@page{margin:13mm}body{max-width:none;padding:0;font-size:12px;background:#fff}:root{--ground:#fff}*{-webkit-print-color-adjust:exact;print-color-adjust:exact}figure,.tile,.account,tr,dt,dd,.verdict{break-inside:avoid}h2,.lead{break-after:avoid}section{break-inside:avoid}#stems{break-inside:auto}section{margin-top:28px}.scroll{overflow:visible}.matrix{min-width:0!important}.matrix .corner{width:64px}.matrix td{white-space:normal}.plot svg{height:120px}.matrices{grid-template-columns:1fr}.wide{width:14%}.matrix th,.matrix td{padding:2px 4px;font-size:11px}.tight th,.tight td{font-size:7px;padding:1px}s,.keys,small,.lead,.list thead th,.list thead td,.list .none{font-size:10px}}
 "#;

@@ -1,5 +1,7 @@
 -- Which logs an assortment allows, as the code tests it, and their classes.
-use Rattle.std.proofs.Common.{◌≡◌, ℕ, ◌+◌, ◌%◌, ◌<◌, ◌≤◌, ◌==◌, List, Contains, Option, Some, None, IsTrue, true, false, true≢false, length, get_or, slice_get, unwrap_or, position, refl, sym, ◌∙◌, ap, subst, inl, inr, arith, eqb-true, eq-eqb, cond, nat_lt, nat_le}
+use Rattle.std.proofs.Common.{◌≡◌, ℕ, ◌+◌, ◌*◌, ◌/◌, ◌%◌, add-mul, ◌<◌, ◌≤◌, ◌==◌, List, Contains, Option, Some, None, IsTrue, true, false, true≢false, length, get_or, slice_get, unwrap_or, position, refl, sym, ◌∙◌, ap, subst, inl, inr, arith, eqb-true, eq-eqb, cond, nat_lt, nat_le}
+use Rattle.std.proofs.lemmas.Nat.{div-add-mod'}
+use Rattle.std.proofs.Math.Nat.{mul-mod_left}
 use Rattle.std.proofs.lemmas.Option.{none-some, slice_get_within, get_or_from_slice_get}
 use Rattle.std.proofs.lemmas.Bool.{cases_lt}
 use Rattle.std.proofs.lemmas.Bool.Decides.{nat_tests}
@@ -7,7 +9,7 @@ use Rattle.std.proofs.lemmas.List.Quantifiers.{position-Some}
 use Rattle.std.proofs.lemmas.List.Elements.{All-get_or, All-contains}
 use Rattle.std.proofs.lemmas.List.Sums.{fails_before_first, count_by-le-length}
 use Rattle.std.specs.List.{position_or_len}
-use Rattle.buck_apt.specs.Instruction.{InstructionParts, AssortmentParts, IsAssortment, IsInstruction, IsClass}
+use Rattle.buck_apt.specs.Instruction.{InstructionParts, AssortmentParts, IsAssortment, IsInstruction, IsClass, IsOnModule}
 use Rattle.buck_apt.specs.declared.class.Class.{Class}
 use Rattle.buck_stem.specs.Stem.{StemParts, stem_length, HasGradesOf, grade_at}
 use Rattle.buck_value.specs.declared.log.Log.{Log}
@@ -53,6 +55,25 @@ pub grades_pass : (zones : List (ℕ × ℕ)) (a b e : ℕ) (grades gs : List �
     → HasGradesOf zones a b grades
 grades_pass zones a b e grades gs iff same end x le lt =
     subst (λ g. Contains g (grade_at zones x)) same (iff.0 refl x le (omega arith))
+
+-- a multiple of a step, in steps
+pub whole_steps : (l step : ℕ) → l % step ≡ 0 → l / step * step ≡ l
+whole_steps l step on = omega (arith, div-add-mod' l step, on)
+
+-- a log of an assortment's length from a multiple of the module on ends at one
+pub ends_on : (step : ℕ) (a : AssortmentParts) (g : Log) (column : ℕ) → IsOnModule step a → g.start % step ≡ 0
+    → position (λ x. x == g.length) a.lengths ≡ Some column → top_of g % step ≡ 0
+ends_on step a g column lengths on at =
+    let long : g.length % step ≡ 0 =
+    All-contains (λ l. l % step ≡ 0) a.lengths g.length lengths (column_some a.lengths g.length column at).1 in
+    ap (λ n. n % step)
+    (omega (
+      arith,
+      whole_steps g.start step on,
+      whole_steps g.length step long,
+      add-mul (g.start / step) (g.length / step) step,
+    ))
+    ∙ mul-mod_left (g.start / step + g.length / step) step
 
 -- what the code has tested makes the log allowed
 pub allows_by_tests : (step : ℕ) (a : AssortmentParts) (stem : StemParts) (log : Log) (column top : ℕ)

@@ -14,7 +14,7 @@ pub struct Wood {
 }
 
 /// Whether each of some grades is one of these.
-fn are_in(grades: Grades, list: &[u8]) -> bool
+pub(crate) fn are_in(grades: Grades, list: &[u8]) -> bool
     ensures { IsTrue result ↔ AllIn grades list.now }
 {
     for grade in 1..9u8 {

@@ -5,9 +5,10 @@
 //! grade along its length is one of the assortment's, its
 //! top diameter is at or above the first lower limit and below the upper diameter, and the base price of its class
 //! isn't 0. Its row is the last whose lower limit is at most its top diameter, its column the place of its length.
-ghost use Rattle.std.specs.Prelude.{◌≡◌, ◌+◌, ◌*◌, ◌<◌, ◌≤◌, ◌↔◌, ◌%◌, ◌^◌, ◌==◌, IsTrue, Some, IfSome, IfNone, slice_get, length, position};
-ghost use Rattle.buck_apt.specs.Instruction.{IsAssortment, IsClass};
+ghost use Rattle.std.specs.Prelude.{◌≡◌, ◌+◌, ◌*◌, ◌<◌, ◌≤◌, ◌↔◌, ◌%◌, ◌==◌, IsTrue, Some, IfSome, IfNone, slice_get, length, position};
+ghost use Rattle.buck_apt.specs.Instruction.{IsAssortment, IsClass, IsOnModule};
 ghost use Rattle.buck_stem.specs.Stem.{IsStem, stem_length, HasGradesOf};
+ghost use Rattle.buck_stem.specs.points.Profile.{profile_of};
 ghost use Rattle.buck_value.specs.Sheet.{IsSheet, price_of};
 ghost use Rattle.buck_value.specs.Allowed.{IsAllowed, Allows, IsBought, log_of, top_of, top_diameter, row_at, class_in, class_of, kind_in, worth_of};
 ghost use Rattle.buck_value.specs.Volume.{volume, worth_at};
@@ -15,8 +16,9 @@ ghost use Rattle.buck_value.specs.declared.sheet.TheConstants.{HIGHEST_PRICE};
 
 use crate::log::Log;
 use crate::sheet::Sheet;
+use crate::wood::are_in;
 use buck_apt::{Assortment, Class};
-use buck_stem::Stem;
+use buck_stem::{Grades, Profile, Stem};
 
 /// The volume in cm³ of a cylinder, rounded down, from its diameter and its length in mm. A quarter of pi is 0.7854.
 pub fn volume_of(diameter: u32, length: u32) -> u64
@@ -102,25 +104,67 @@ fn top_of(stem: &Stem, log: &Log) -> u32
     stem.diameter_at(end_within(stem, log))
 }
 
-/// Whether each grade along the length of a log is one of these.
-fn has_grades_of(stem: &Stem, log: &Log, grades: &[u8]) -> bool
-    requires { top_of log.now ≤ stem_length stem.now.samples }
+/// The same, from the stem's tables for a module where there are any.
+fn top_in(step: u32, stem: &Stem, tables: Option<&Profile<'_>>, log: &Log) -> u32
+    requires step { 0 < step }
+    requires tables { IfSome tables (λ q. q.now ≡ profile_of stem.now step) }
+    requires end { top_of log.now % step ≡ 0 }
+    requires within { top_of log.now ≤ stem_length stem.now.samples }
+    ensures { result ≡ top_diameter stem.now log.now }
+{
+    match tables {
+        None => top_of(stem, log),
+        Some(tables) => tables.diameter((end_within(stem, log) / step) as usize),
+    }
+}
+
+/// Whether each grade along the length of a log is one of these, from the stem's tables for a module where there are
+/// any.
+fn has_grades_in(
+    step: u32,
+    stem: &Stem,
+    tables: Option<&Profile<'_>>,
+    log: &Log,
+    grades: &[u8],
+) -> bool
+    requires step { 0 < step }
+    requires tables { IfSome tables (λ q. q.now ≡ profile_of stem.now step) }
+    requires start { log.now.start % step ≡ 0 }
+    requires end { top_of log.now % step ≡ 0 }
+    requires within { top_of log.now ≤ stem_length stem.now.samples }
+    requires valid { IsStem stem.now }
     ensures { IsTrue result
         ↔ HasGradesOf stem.now.zones log.now.start (top_of log.now) grades.now }
 {
-    stem.has_grades_of(log.start, end_within(stem, log), grades)
+    let end = end_within(stem, log);
+    match tables {
+        None => stem.has_grades_of(log.start, end, grades),
+        Some(tables) => {
+            let mask = tables.grades((log.start / step) as usize, (end / step) as usize);
+            are_in(Grades::of(mask), grades)
+        }
+    }
 }
 
 /// The class and the top diameter in mm of a log that is allowed.
 #[derive(Clone, Copy)]
-struct Measured {
-    class: Class,
+pub(crate) struct Measured {
+    pub(crate) class: Class,
     top: u32,
 }
 
-/// The class and the top diameter of a log of an assortment, or `None` where that doesn't allow it.
-fn measure_in(step: u32, assortment: &Assortment, stem: &Stem, log: &Log) -> Option<Measured>
-    requires { 0 < step }
+/// The class and the top diameter of a log of an assortment, or `None` where that doesn't allow it. They are read from
+/// the stem's tables where there are any.
+fn measure_in(
+    step: u32,
+    assortment: &Assortment,
+    stem: &Stem,
+    tables: Option<&Profile<'_>>,
+    log: &Log,
+) -> Option<Measured>
+    requires step { 0 < step }
+    requires lengths { IsOnModule step assortment.now }
+    requires tables { IfSome tables (λ q. q.now ≡ profile_of stem.now step) }
     ensures allowed { IfSome result (λ _. Allows step assortment.now stem.now log.now) }
     ensures class { IfSome result (λ m. m.class ≡ class_in (Some assortment.now) stem.now log.now) }
     ensures top { IfSome result (λ m. m.top ≡ top_diameter stem.now log.now) }
@@ -146,10 +190,10 @@ fn measure_in(step: u32, assortment: &Assortment, stem: &Stem, log: &Log) -> Opt
     if whole - end < assortment.trim() {
         return None;
     }
-    if !has_grades_of(stem, log, assortment.grades()) {
+    if !has_grades_in(step, stem, tables, log, assortment.grades()) {
         return None;
     }
-    let top = top_of(stem, log);
+    let top = top_in(step, stem, tables, log);
     let row = bought_row(assortment, column, top)?;
     let class = Class {
         assortment: log.assortment,
@@ -159,8 +203,15 @@ fn measure_in(step: u32, assortment: &Assortment, stem: &Stem, log: &Log) -> Opt
     Some(Measured { class, top })
 }
 
-/// The class and the top diameter of a log, or `None` where it isn't allowed.
-fn measure(sheet: &Sheet, stem: &Stem, log: &Log) -> Option<Measured>
+/// The class and the top diameter of a log, or `None` where it isn't allowed, from the stem's tables for the sheet's
+/// module where there are any.
+pub(crate) fn measure(
+    sheet: &Sheet,
+    stem: &Stem,
+    tables: Option<&Profile<'_>>,
+    log: &Log,
+) -> Option<Measured>
+    requires { IfSome tables (λ q. q.now ≡ profile_of stem.now sheet.now.instruction.«module») }
     ensures allowed { IfSome result (λ _. IsAllowed sheet.now.instruction stem.now log.now) }
     ensures class { IfSome result (λ m. m.class ≡ class_of sheet.now.instruction stem.now log.now) }
     ensures top { IfSome result (λ m. m.top ≡ top_diameter stem.now log.now) }
@@ -174,7 +225,7 @@ fn measure(sheet: &Sheet, stem: &Stem, log: &Log) -> Option<Measured>
     if place >= all.len() {
         return None;
     }
-    measure_in(instruction.module(), &all[place], stem, log)
+    measure_in(instruction.module(), &all[place], stem, tables, log)
 }
 
 /// The class of the log that starts `start` mm from the butt, is `length` mm long and of the assortment at this place,
@@ -201,14 +252,14 @@ pub fn class_of(
         length,
         assortment,
     };
-    match measure(sheet, stem, &log) {
+    match measure(sheet, stem, None, &log) {
         None => None,
         Some(found) => Some(found.class),
     }
 }
 
 /// What a log of a class, a top diameter and a length in mm is worth.
-pub(crate) fn worth_in_class(sheet: &Sheet, class: Class, top: u32, length: u32) -> u64
+fn worth_in_class(sheet: &Sheet, class: Class, top: u32, length: u32) -> u64
     requires class { IsClass sheet.now.instruction class }
     requires top { top ≤ 2000 }
     requires length { length ≤ 30000 }
@@ -230,6 +281,33 @@ pub struct Valuation {
     pub worth: u64,
 }
 
+/// The class, the top diameter and the worth of a log, or `None` where it isn't allowed, from the stem's tables for the
+/// sheet's module where there are any.
+pub(crate) fn valuation_by(
+    sheet: &Sheet,
+    stem: &Stem,
+    tables: Option<&Profile<'_>>,
+    log: &Log,
+) -> Option<Valuation>
+    requires { IfSome tables (λ q. q.now ≡ profile_of stem.now sheet.now.instruction.«module») }
+    ensures allowed { IfSome result (λ _. IsAllowed sheet.now.instruction stem.now log.now) }
+    ensures class { IfSome result (λ v. v.class ≡ class_of sheet.now.instruction stem.now log.now) }
+    ensures top { IfSome result (λ v. v.top ≡ top_diameter stem.now log.now) }
+    ensures worth { IfSome result (λ v. v.worth ≡ worth_of sheet.now stem.now log.now) }
+    ensures none { IfNone result (IsAllowed sheet.now.instruction stem.now log.now → ⊥) }
+    ensures valid { IsSheet sheet.now }
+    ensures stem { IfSome result (λ _. IsStem stem.now) }
+{
+    match measure(sheet, stem, tables, log) {
+        None => None,
+        Some(found) => Some(Valuation {
+            class: found.class,
+            top: found.top,
+            worth: worth_in_class(sheet, found.class, found.top, log.length),
+        }),
+    }
+}
+
 /// The class, the top diameter and the worth of a log under a sheet, or `None` where it isn't allowed; see
 /// [`class_of`] and [`log_worth`]. Any log may be asked for. It takes no memory.
 pub fn log_valuation(sheet: &Sheet, stem: &Stem, log: &Log) -> Option<Valuation>
@@ -241,14 +319,7 @@ pub fn log_valuation(sheet: &Sheet, stem: &Stem, log: &Log) -> Option<Valuation>
     ensures valid { IsSheet sheet.now }
     ensures stem { IfSome result (λ _. IsStem stem.now) }
 {
-    match measure(sheet, stem, log) {
-        None => None,
-        Some(found) => Some(Valuation {
-            class: found.class,
-            top: found.top,
-            worth: worth_in_class(sheet, found.class, found.top, log.length),
-        }),
-    }
+    valuation_by(sheet, stem, None, log)
 }
 
 /// What a log is worth under a sheet, in millionths of the price unit, or `None` where it isn't allowed; see
@@ -260,10 +331,7 @@ pub fn worth_if_allowed(sheet: &Sheet, stem: &Stem, log: &Log) -> Option<u64>
     ensures valid { IsSheet sheet.now }
     ensures stem { IfSome result (λ _. IsStem stem.now) }
 {
-    match log_valuation(sheet, stem, log) {
-        None => None,
-        Some(found) => Some(found.worth),
-    }
+    Some(log_valuation(sheet, stem, log)?.worth)
 }
 
 /// The class, the top diameter and the worth of a log that is allowed under a sheet, as [`log_valuation`] has them of

@@ -1,7 +1,17 @@
-//! The page that a mill opens, of a journal that is lawful; that of one that isn't is passed on.
+//! The page that a mill opens, of journals that are lawful; that of one that isn't is passed on.
 #![tactic(auto)]
 
-mod sections;
+mod assortment;
+mod degrees;
+mod harvesters;
+mod lacking;
+mod list;
+mod notes;
+mod opening;
+mod rates;
+mod targets;
+mod whole;
+mod wood;
 
 pub use buck_unlawful::{Files, fault_page};
-pub use sections::page;
+pub use whole::page;

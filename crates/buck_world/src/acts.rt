@@ -12,7 +12,7 @@ use crate::fault::StepFault;
 use crate::harvester::Harvester;
 use crate::stage::Stage;
 use crate::turns::{answer, at, idle, set};
-use buck_book::{Book, DemandRefusal, Plan, Refusal};
+use buck_book::{Book, CutFault, DemandRefusal, Plan, Refusal};
 use buck_record::Memory;
 use buck_rule::Standing;
 use buck_stem::Stem;
@@ -115,8 +115,8 @@ pub fn act<F: Fn(&Standing) -> u64 + Drop>(
                     let _entry = book.commit(ready, h, plan);
                     Ok(())
                 }
-                Err(Refusal::Memory) => Err(StepFault::Memory),
-                Err(_) => unreachable!(),
+                Err(CutFault::Full) => Err(StepFault::Full),
+                Err(CutFault::Memory) => Err(StepFault::Memory),
             }
         }
         Event::Retarget {

@@ -10,7 +10,7 @@
 //! statuses.
 #![tactic(auto)]
 
-use buck_command::{Place, Screen, Second, Streams, run, say_help};
+use buck_command::{KnownFiles, Place, Screen, Streams, run, say_help};
 use buck_engine::{Desk, Disk, EngineFault, conclude};
 use std::io::{BufReader, ErrorKind, IsTerminal};
 use std::os::fd::{AsRawFd, IntoRawFd};
@@ -93,7 +93,7 @@ fn main(rt: HostRuntime) -> ExitCode {
     let desk = Desk::of(process::id(rt.process()));
     let place = Place {
         files: Disk::of(&rt, rt.alloc(), &desk),
-        again: Second::of(&rt, &desk),
+        known: KnownFiles::of(&rt, &desk),
     };
     let status = run(&rt, rt.alloc(), &words, place, screen, &mut streams);
     ExitCode::from(status)

@@ -1,7 +1,7 @@
 //! Cases, line by line, as their files have them.
 use crate::running::Outcome;
-use buck_engine::NamedRule;
 use buck_record::Memory;
+use buck_rule::NamedRule;
 use std::alloc::Global;
 
 /// What runs a case.

@@ -3,20 +3,22 @@ ghost use Rattle.std.specs.Prelude.{⊤};
 
 use crate::case::{Inputs, Named};
 use crate::running::Outcome;
-use buck_command::{Again, Place, Screen, Streams, Trouble, run};
+use buck_command::{Known, Place, Screen, Streams, Trouble, run};
 use buck_engine::{Make, Open};
 use std::alloc::Global;
+use std::cell::Cell;
 use std::io;
 use std::io::{Error, ErrorKind};
 use std::sync::{Mutex, Wait};
 use std::thread::Threads;
 use std::time::{Clock, Duration};
 
-/// The files of a case, and what is written into the one that is made.
+/// The files of a case, what is written into the one that is made, and why the last one couldn't be opened.
 #[derive(Clone, Copy, Drop)]
 struct Shelf<'a> {
     files: &'a [Named],
     made: &'a Mutex<Vec<u8>>,
+    refused: &'a Cell<Option<ErrorKind>>,
 }
 
 impl<'a> Shelf<'a> {
@@ -37,7 +39,11 @@ impl<'a> Open for Shelf<'a> {
     ghost opens = { λ _ _ _ _. ⊤ };
 
     fn open(&mut self, name: &str) -> Option<&'a [u8]> {
-        self.find(name)
+        let file = self.find(name);
+        if file.is_none() {
+            self.refused.set(Some(ErrorKind::NotFound));
+        }
+        file
     }
 }
 
@@ -51,19 +57,17 @@ impl<'a> Make for Shelf<'a> {
     }
 }
 
-impl<'a> Again for Shelf<'a> {
-    type Found = &'a [u8];
-
-    fn again(&mut self, name: &str) -> Result<&'a [u8], Trouble> {
-        self.find(name).ok_or(Trouble::Missing)
-    }
-
-    fn size(&mut self, _name: &str) -> Option<u64> {
+impl<'a> Known for Shelf<'a> {
+    fn size(&self, _name: &str) -> Option<u64> {
         None
     }
 
-    fn unwritten(&mut self, _name: &str, _inputs: &[&str]) -> Option<Trouble> {
+    fn unwritten(&self, _name: &str, _inputs: &[&str]) -> Option<Trouble> {
         None
+    }
+
+    fn refused(&self) -> Option<ErrorKind> {
+        self.refused.get()
     }
 }
 
@@ -112,9 +116,11 @@ pub fn outcome_of_words<T: Threads + Wait + Sync>(
     inputs: &Inputs,
 ) -> Outcome {
     let made = Mutex::new(Vec::new(alloc));
+    let refused = Cell::new(None);
     let shelf = Shelf {
         files: inputs.files.as_slice(),
         made: &made,
+        refused: &refused,
     };
     let mut streams = Streams {
         input: inputs.input.as_slice(),
@@ -123,7 +129,7 @@ pub fn outcome_of_words<T: Threads + Wait + Sync>(
     };
     let place = Place {
         files: shelf,
-        again: shelf,
+        known: shelf,
     };
     let screen: Option<Screen<Sheet<'_>, Still>> = None;
     let words = words.clone().map_err(|_| ErrorKind::OutOfMemory);

@@ -4,9 +4,9 @@ ghost use Rattle.buck_rule.specs.Stored.{AllAnswer};
 use crate::case::{Case, Engine, Inputs};
 use crate::commanding::outcome_of_words;
 use buck_engine::{
-    EngineFault, NamedRule, run_bare, run_buck, run_check, run_fleet_files, status, write_fault,
+    EngineFault, run_bare, run_buck, run_check, run_fleet_files, status, write_fault,
 };
-use buck_rule::{Rule, Standing};
+use buck_rule::{NamedRule, Rule, Standing};
 use std::alloc::Global;
 use std::sync::Wait;
 use std::thread::Threads;

@@ -4,8 +4,9 @@
 #![tactic(auto)]
 
 use buck_engine::{
-    Desk, Disk, FleetTask, NamedRule, Nobody, Order, Settings, Task, serve, serve_fleet,
+    Desk, Disk, FleetTask, Nobody, Order, Settings, Task, conclude, serve, serve_fleet,
 };
+use buck_rule::NamedRule;
 use std::alloc::{AllocError, Global};
 use std::io;
 use std::process::ExitCode;
@@ -40,27 +41,27 @@ fn harvested<T: Threads + Wait + Sync>(
     let Ok(task) = harvest(rt.alloc(), order, stms) else {
         return 3;
     };
-    serve_fleet(
+    let outcome = serve_fleet(
         threads,
         rt.alloc(),
         &task,
         &Nobody,
         &mut Disk::of(rt, rt.alloc(), &Desk::of(0)),
         &mut io::writer(rt),
-        &mut rt.stderr(),
-    )
+    );
+    conclude(&mut rt.stderr(), &outcome)
 }
 
 /// The status of a task over files.
 fn served(rt: &HostRuntime, task: &Task<'_>) -> u8 {
-    serve(
+    let outcome = serve(
         rt.alloc(),
         task,
         &mut rt.reader(),
         &mut Disk::of(rt, rt.alloc(), &Desk::of(0)),
         &mut io::writer(rt),
-        &mut rt.stderr(),
-    )
+    );
+    conclude(&mut rt.stderr(), &outcome)
 }
 
 fn main(rt: HostRuntime) -> ExitCode {

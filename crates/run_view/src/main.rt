@@ -3,7 +3,8 @@
 //! another language, and looked at by a person.
 #![tactic(auto)]
 
-use buck_engine::{Desk, Disk, Settings, Shown, Table, ViewTask, serve_view};
+use buck_engine::{Desk, Disk, Settings, Shown, Table, ViewTask, conclude, serve_view};
+use std::alloc::{AllocError, Global};
 use std::io::Write;
 use std::process::ExitCode;
 use std::thread::Threads;
@@ -14,6 +15,8 @@ use std::{fs, io};
 struct Case {
     apt: &'static str,
     journal: &'static str,
+    /// A second journal, where several are shown.
+    next: Option<&'static str>,
     shown: Shown,
     status: u8,
     /// What is to stand on the errors.
@@ -26,6 +29,7 @@ fn page(apt: &'static str, journal: &'static str, stored: &'static str) -> Case 
     Case {
         apt,
         journal,
+        next: None,
         shown: Shown::Page,
         status: 0,
         told: "",
@@ -38,6 +42,7 @@ fn table(table: Table, stored: &'static str) -> Case {
     Case {
         apt: "morning.apt",
         journal: "morning.jrn",
+        next: None,
         shown: Shown::Table(table),
         status: 0,
         told: "",
@@ -46,8 +51,9 @@ fn table(table: Table, stored: &'static str) -> Case {
 }
 
 /// A morning of three harvesters; one whose targets were changed twice, with trims, and with names that are hostile or no
-/// UTF-8; a journal without a posting, and one with a demand alone; one that isn't lawful; and the tables of the morning.
-fn cases() -> [Case; 9] {
+/// UTF-8; a journal without a posting, and one with a demand alone; one that isn't lawful; one lawful and one that isn't;
+/// and the tables of the morning, and of two such mornings.
+fn cases() -> [Case; 13] {
     [
         page("morning.apt", "morning.jrn", "morning.html"),
         page("targets.apt", "targets.jrn", "targets.html"),
@@ -56,39 +62,80 @@ fn cases() -> [Case; 9] {
         Case {
             apt: "morning.apt",
             journal: "bad.jrn",
+            next: None,
             shown: Shown::Page,
             status: 4,
             told: "replay fault 6 0\n",
             stored: "bad.html",
         },
+        Case {
+            apt: "morning.apt",
+            journal: "morning.jrn",
+            next: Some("bad.jrn"),
+            shown: Shown::Page,
+            status: 4,
+            told: "replay 2 fault 6 0\n",
+            stored: "second_bad.html",
+        },
         table(Table::Classes, "classes.csv"),
         table(Table::Postings, "postings.csv"),
         table(Table::Logs, "logs.csv"),
         table(Table::Degrees, "degrees.csv"),
+        table(Table::Assortments, "assortments.csv"),
+        table(Table::Lacking, "lacking.csv"),
+        Case {
+            apt: "morning.apt",
+            journal: "morning.jrn",
+            next: Some("morning.jrn"),
+            shown: Shown::Table(Table::Assortments),
+            status: 0,
+            told: "",
+            stored: "two_mornings.csv",
+        },
     ]
+}
+
+/// The journals of a case.
+fn journals_of(alloc: Global, case: &Case) -> Result<Vec<&'static str>, AllocError> {
+    let mut names = Vec::new(alloc);
+    names.push(case.journal)?;
+    if let Some(next) = case.next {
+        names.push(next)?;
+    }
+    Ok(names)
 }
 
 /// Whether a case ends as it is to end, with the stored bytes.
 fn is_right<T: Threads + Sync>(threads: &T, rt: &HostRuntime, case: &Case) -> io::Result<bool> {
     let alloc = rt.alloc();
     let stored = fs::read(rt, case.stored)?;
+    let Ok(journals) = journals_of(alloc, case) else {
+        return Err(io::ErrorKind::OutOfMemory.into());
+    };
+    // Of no journal, or of more than 64, there is no task.
+    if journals.is_empty() {
+        return Ok(false);
+    }
+    if journals.len() > 64 {
+        return Ok(false);
+    }
     let task = ViewTask {
         apt: case.apt,
-        journal: case.journal,
+        journals,
         shown: case.shown,
         settings: Settings::own(),
         threads: None,
     };
     let mut output = Vec::new(alloc);
     let mut errors = Vec::new(alloc);
-    let status = serve_view(
+    let outcome = serve_view(
         threads,
         alloc,
         &task,
         &mut Disk::of(rt, alloc, &Desk::of(0)),
         &mut output,
-        &mut errors,
     );
+    let status = conclude(&mut errors, &outcome);
     Ok(
         status == case.status
             && errors.as_slice() == case.told.as_bytes()

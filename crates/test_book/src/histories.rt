@@ -123,7 +123,7 @@ fn is_as_told<F: Drop>(book: Book<F>, row: History) -> bool {
     if !begins_with(&book, row.2) || !has_postings(&book, row.4) {
         return false;
     }
-    book.into_parts().counts.as_slice() == row.3.as_slice()
+    book.into_parts().counts() == row.3.as_slice()
 }
 
 /// Whether the history of a row is as it was worked out.

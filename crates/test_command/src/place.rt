@@ -1,7 +1,7 @@
 //! Files, streams and a screen in memory.
 ghost use Rattle.std.specs.Prelude.{⊤};
 
-use buck_command::{Again, Place, Screen, Streams, Trouble, run};
+use buck_command::{Known, Place, Screen, Streams, Trouble, run};
 use buck_engine::{Make, Open};
 use std::alloc::Global;
 use std::cell::Cell;
@@ -104,10 +104,13 @@ impl<'a> Open for Shelf<'a> {
 
     fn open(&mut self, name: &str) -> Option<Repeated> {
         self.note(b"", name);
+        let file = shelved(name);
         if name == "heavy" {
             self.refused.set(Some(ErrorKind::OutOfMemory));
+        } else if file.is_none() {
+            self.refused.set(Some(ErrorKind::NotFound));
         }
-        shelved(name)
+        file
     }
 }
 
@@ -130,20 +133,14 @@ fn shelved(name: &str) -> Option<Repeated> {
     }
 }
 
-/// The same files once more, of which no name is kept.
+/// What is known of the same files.
 #[derive(Drop)]
-struct Anew<'a> {
+struct Beside<'a> {
     refused: &'a Cell<Option<ErrorKind>>,
 }
 
-impl Again for Anew<'_> {
-    type Found = Repeated;
-
-    fn again(&mut self, name: &str) -> Result<Repeated, Trouble> {
-        shelved(name).ok_or(Trouble::Missing)
-    }
-
-    fn size(&mut self, name: &str) -> Option<u64> {
+impl Known for Beside<'_> {
+    fn size(&self, name: &str) -> Option<u64> {
         if name == "out" {
             Some(67_108_865)
         } else {
@@ -151,7 +148,7 @@ impl Again for Anew<'_> {
         }
     }
 
-    fn unwritten(&mut self, name: &str, _inputs: &[&str]) -> Option<Trouble> {
+    fn unwritten(&self, name: &str, _inputs: &[&str]) -> Option<Trouble> {
         if name == "no" {
             Some(Trouble::Folder)
         } else {
@@ -267,7 +264,7 @@ pub fn run_words<T: Threads + Wait + Sync>(
             names: &names,
             refused: &refused,
         },
-        again: Anew { refused: &refused },
+        known: Beside { refused: &refused },
     };
     let ticks = AtomicU64::new(0);
     let screen = Some(Screen {

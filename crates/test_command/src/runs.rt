@@ -249,9 +249,9 @@ const PAGES: [Row; 22] = [
     ("check --limit 0 apt jrn", 4, UNMOVED, "apt jrn "),
     ("report --limit 0 apt jrn", 4, UNMOVED, "apt jrn "),
     ("table --limit 0 apt jrn logs", 4, UNMOVED, "apt jrn "),
-    ("view --help", 0, "Shows a journal as a page", ""),
-    ("table --help", 0, "Shows a journal as a table", ""),
-    ("view apt jrn classes", 2, "error: ", ""),
+    ("view --help", 0, "Shows journals as a page", ""),
+    ("table --help", 0, "Shows journals as a table", ""),
+    ("view apt jrn none", 5, READ_2, "apt jrn none "),
     ("table apt jrn", 2, "error: ", ""),
     ("table apt jrn stems", 2, "error: ", ""),
     (
@@ -467,19 +467,19 @@ fn sentences_of_lines(rt: HostRuntime) -> Result<(), Fail> {
 
 /// The table of three harvesters, with two stems, one and two, by each rule with two periods.
 const SWEPT: &str =
-    "rule,period,limit,versions,\"degree_0 saw\",least_degree,base_worth_millionths,best_base_worth_millionths,cost_ten_thousandths,volume_cm3
-steady,1,500,6,2500,2500,785400000,785400000,0,981750
-steady,2,500,3,2500,2500,785400000,785400000,0,981750
-step,1,500,6,5000,5000,647954400,785400000,1750,883574
-step,2,500,3,5000,5000,647954400,785400000,1750,883574
-linear,1,500,6,4500,4500,716677200,785400000,875,932662
-linear,2,500,3,5000,5000,647954400,785400000,1750,883574
+    "rule,period,limit,versions,\"degree_0 saw\",least_degree,base_worth_millionths,best_base_worth_millionths,cost_ten_thousandths,volume_cm3,\"volume_cm3_0 saw\",\"unsteered_volume_cm3_0 saw\",\"diameter_degree_0 saw\",\"length_degree_0 saw\"
+steady,1,500,6,2500,2500,785400000,785400000,0,981750,981750,981750,5000,5000
+steady,2,500,3,2500,2500,785400000,785400000,0,981750,981750,981750,5000,5000
+step,1,500,6,5000,5000,647954400,785400000,1750,883574,883574,981750,5000,9000
+step,2,500,3,5000,5000,647954400,785400000,1750,883574,883574,981750,5000,9000
+linear,1,500,6,4500,4500,716677200,785400000,875,932662,932662,981750,5000,7000
+linear,2,500,3,5000,5000,647954400,785400000,1750,883574,883574,981750,5000,9000
 ";
 
 /// The table of no stem.
 const UNSWEPT: &str =
-    "rule,period,limit,versions,\"degree_0 saw\",least_degree,base_worth_millionths,best_base_worth_millionths,cost_ten_thousandths,volume_cm3
-steady,1,500,1,,,0,0,0,0
+    "rule,period,limit,versions,\"degree_0 saw\",least_degree,base_worth_millionths,best_base_worth_millionths,cost_ten_thousandths,volume_cm3,\"volume_cm3_0 saw\",\"unsteered_volume_cm3_0 saw\",\"diameter_degree_0 saw\",\"length_degree_0 saw\"
+steady,1,500,1,,,0,0,0,0,0,0,,
 ";
 
 /// Which rules, periods and limits are compared, and on which stems.

@@ -7,6 +7,8 @@ mod fixtures;
 #[cfg(test)]
 mod memory;
 #[cfg(test)]
+mod own;
+#[cfg(test)]
 mod sheets;
 #[cfg(test)]
 mod slow;

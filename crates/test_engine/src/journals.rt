@@ -22,7 +22,7 @@ const NONE: &str = "981 5~981 6 0~\n";
 /// The names of the files.
 const FILES: Files<'_> = Files {
     instruction: b"apt",
-    journal: b"jrn",
+    journals: &[b"jrn"],
 };
 
 /// What is made of a journal.

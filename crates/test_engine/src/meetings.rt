@@ -3,7 +3,8 @@ ghost use Rattle.std.specs.Prelude.{⊤};
 
 use crate::streams::Sink;
 use crate::work::apt_and_stm;
-use buck_engine::{FleetTask, Make, NamedRule, Onlooker, Open, Order, Settings, serve_fleet};
+use buck_engine::{FleetTask, Make, Onlooker, Open, Order, Settings, serve_fleet};
+use buck_rule::NamedRule;
 use std::sync::atomic::{AtomicBool, AtomicU64, Ordering};
 use std::test::Fail;
 use std::thread;
@@ -81,17 +82,9 @@ fn files_on_one_thread(rt: HostRuntime) -> Result<(), Fail> {
         come: AtomicU64::new(0),
         is_late: AtomicBool::new(false),
     };
-    let (mut output, mut errors) = (Sink::of(usize::MAX), Sink::of(usize::MAX));
-    let status = serve_fleet(
-        &rt,
-        rt.alloc(),
-        &task,
-        &meeting,
-        &mut Shelf,
-        &mut output,
-        &mut errors,
-    );
-    assert!(rt; status == 0 && errors.bytes().is_empty());
+    let mut output = Sink::of(usize::MAX);
+    let outcome = serve_fleet(&rt, rt.alloc(), &task, &meeting, &mut Shelf, &mut output);
+    assert!(rt; outcome.is_ok());
     assert!(rt; !meeting.is_late.load(Ordering::SeqCst));
     Ok(())
 }

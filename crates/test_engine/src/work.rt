@@ -3,10 +3,10 @@ ghost use Rattle.std.specs.Prelude.{◌≤◌};
 
 use crate::streams::{Sink, Source};
 use buck_engine::{
-    EngineFault, NamedRule, run_bare, run_buck, run_buck_in_parts, run_check, run_check_with,
-    run_fleet_files, run_in_turn,
+    EngineFault, run_bare, run_buck, run_buck_in_parts, run_check, run_check_with, run_fleet_files,
+    run_in_turn,
 };
-use buck_rule::{Rule, Standing, step};
+use buck_rule::{NamedRule, Rule, Standing, step};
 use std::alloc::Global;
 use std::sync::Wait;
 use std::thread::Threads;

@@ -6,4 +6,5 @@
 #![tactic(auto)]
 
 pub mod dp;
+pub mod own;
 pub mod value;

@@ -82,7 +82,7 @@ pub fn same_without_instruction(one: &Sheet, two: &Sheet)
     prove!(right != wrong);
 }
 
-/// The base price in the place of the price in force.
+/// The base price is told in the place of the price in force.
 pub fn worth_by_base_price(sheet: &Sheet, class: Class, wrong: u32)
     requires class { IsClass sheet.now.instruction class }
     requires wrong { wrong ≡ slice_index (base_prices sheet.now.instruction) (index_of sheet.now.instruction class) }
@@ -311,7 +311,7 @@ pub fn volume_with_trim(sheet: &Sheet, stem: &Stem, log: &Log, wrong: u64)
     prove!(right != wrong);
 }
 
-/// Two assortments, where there is one.
+/// Two assortments are counted where there is one.
 pub fn assortments_one_more(prepared: &Prepared<'_, '_>)
     requires { length prepared.now.sheet.instruction.assortments ≡ 1 }
 {
@@ -320,7 +320,7 @@ pub fn assortments_one_more(prepared: &Prepared<'_, '_>)
     prove!(right != wrong);
 }
 
-/// One point more than lie within the stem.
+/// One point more is counted than lie within the stem.
 pub fn points_one_more(prepared: &Prepared<'_, '_>)
     requires long { stem_length prepared.now.stem.samples ≡ 4000 }
     requires by_100 { prepared.now.sheet.instruction.«module» ≡ 100 }

@@ -12,8 +12,8 @@ ghost use Rattle.wrong_book.specs.Books.{IsNoAnswerWith, IsNoAnswerWithDemand};
 
 use buck_apt::{Class, Instruction};
 use buck_book::{
-    Book, Demand, DemandRefusal, Entry, Memory, Plan, Posting, Ready, ReadyDemand, Refusal,
-    TargetsFault, check_targets,
+    Book, CutFault, Demand, DemandRefusal, Entry, Memory, Plan, Posting, Ready, ReadyDemand,
+    Refusal, TargetsFault, check_targets,
 };
 use buck_rule::{Rule, Standing};
 use buck_stem::Stem;
@@ -147,7 +147,7 @@ pub fn parts_without_counts<F: Drop>(book: Book<F>)
     requires { 0 < classes book.history.instruction }
 {
     let parts = book.into_parts();
-    let right = parts.counts.is_empty();
+    let right = parts.counts().is_empty();
     let wrong = true;
     prove!(right != wrong);
 }
@@ -181,21 +181,6 @@ pub fn in_force_past_capacity<F: Fn(&Standing) -> u64 + Drop>(
     prove!(right != wrong);
 }
 
-/// A plan that is under the sheet in force is refused as stale.
-pub fn in_force_is_stale<F: Fn(&Standing) -> u64 + Drop>(
-    alloc: Global,
-    book: &mut Book<F>,
-    plan: &Plan,
-)
-    requires answers { Answers F.Fn book.old.rule }
-    requires in_force { plan.now.sheet ≡ in_force book.old.history }
-{
-    let refused = book.prepare_in_force(alloc, plan);
-    let right = matches!(&refused, Err(Refusal::Stale { in_force: _ }));
-    let wrong = true;
-    prove!(right != wrong);
-}
-
 /// A book below its capacity refuses a plan under the sheet in force as full.
 pub fn in_force_full_below_the_capacity<F: Fn(&Standing) -> u64 + Drop>(
     alloc: Global,
@@ -207,7 +192,7 @@ pub fn in_force_full_below_the_capacity<F: Fn(&Standing) -> u64 + Drop>(
     requires below { length book.old.history.postings < book.old.capacity }
 {
     let refused = book.prepare_in_force(alloc, plan);
-    let right = matches!(&refused, Err(Refusal::Full));
+    let right = matches!(&refused, Err(CutFault::Full));
     let wrong = true;
     prove!(right != wrong);
 }
@@ -619,7 +604,6 @@ pub fn targets_without_end<F: Fn(&Standing) -> u64 + Drop>(
 }
 
 /// A next sheet at each stem, whatever the period.
-
 pub fn next_sheet_at_each_stem<F: Fn(&Standing) -> u64 + Drop>(
     alloc: Global,
     book: &mut Book<F>,

@@ -6,12 +6,13 @@ ghost use Rattle.buck_book.specs.Posting.{ends_of};
 ghost use Rattle.buck_book.specs.Targets.{AreTargets};
 ghost use Rattle.buck_book.specs.History.{IsLawful, PricesMeet, prices_at, sheet_at};
 ghost use Rattle.buck_journal.specs.judging.Replay.{history_of};
+ghost use Rattle.buck_book.specs.declared.posting.TheConstants.{MOST_POSTINGS};
 
 use buck_apt::Instruction;
 use buck_book::{Demand, Entry, Posting};
 use buck_dp::Cutting;
 use buck_journal::laws::faults_are_unlawful;
-use buck_journal::{Journal, ReplayFault, replay};
+use buck_journal::{Journal, ReplayFault, replay, replay_in_order};
 use std::alloc::Global;
 use std::sync::Arc;
 
@@ -257,4 +258,39 @@ pub fn last_sheet_before_their_number(
     );
     let wrong = true;
     prove!(right != wrong);
+}
+
+/// A way in order ends well before the last posting.
+pub fn order_ends_too_soon(
+    alloc: Global,
+    instruction: &Arc<Instruction>,
+    journal: &Journal,
+    wrong: usize,
+) -> Result<(), buck_record::Memory>
+    requires few { length journal.now.entries ≤ MOST_POSTINGS }
+    requires before { wrong < length journal.now.entries }
+{
+    let stop = replay_in_order(alloc, instruction, journal)?;
+    if stop.outcome.is_ok() {
+        let right = stop.walk.at();
+        prove!(right != wrong);
+    }
+    Ok(())
+}
+
+/// A way in order goes past a first call with the number 2.
+pub fn order_goes_past_a_wrong_number(
+    alloc: Global,
+    instruction: &Arc<Instruction>,
+    journal: &Journal,
+    entry: &Entry,
+) -> Result<(), buck_record::Memory>
+    requires only { journal.now.entries ≡ Posting.Cut entry.now ∷ [] }
+    requires number { entry.now.number ≡ 2 }
+{
+    let stop = replay_in_order(alloc, instruction, journal)?;
+    let right = stop.outcome.is_ok();
+    let wrong = true;
+    prove!(right != wrong);
+    Ok(())
 }

@@ -5,11 +5,14 @@ ghost use Rattle.buck_book.specs.Posting.{cuts_since_end};
 ghost use Rattle.buck_book.specs.Counts.{calls_of};
 ghost use Rattle.buck_book.specs.History.{PricesMeet};
 ghost use Rattle.buck_book.specs.Targets.{AreTargets};
-ghost use Rattle.buck_book.specs.Walk.{passed};
+ghost use Rattle.buck_rule.specs.Stored.{Answers};
+ghost use Rattle.buck_book.specs.Pricing.{AreAnswers};
+ghost use Rattle.buck_book.specs.Walk.{StandsAfter, passed};
 ghost use Rattle.wrong_book.specs.Books.{IsRightPriceAt};
 
 use buck_apt::Instruction;
 use buck_book::{Demand, Memory, Posting, Walk};
+use buck_rule::{Rule, Standing};
 use buck_value::Sheet;
 use std::alloc::Global;
 
@@ -109,4 +112,43 @@ pub fn wrong_price_not_seen(walk: &Walk<'_>, prices: &[u32])
     let right = walk.wrong_price(prices).is_none();
     let wrong = true;
     prove!(right != wrong);
+}
+
+/// How another class stands is told, or how the class stood before: against other targets, or by other counts.
+pub fn standing_of_another_place(walk: &Walk<'_>, class: usize, wrong: &Standing)
+    requires exists { class < classes walk.now.instruction }
+    requires another { StandsAfter walk.now.instruction (passed walk.now) class wrong.now → ⊥ }
+{
+    let right = walk.standing(class);
+    prove!(right != *wrong);
+}
+
+/// A price that the closure can't answer to how its class stands here, as where it is asked of how it stood before.
+pub fn prices_of_another_place<F: Fn(&Standing) -> u64>(
+    alloc: Global,
+    walk: &Walk<'_>,
+    rule: &Rule<F>,
+    wrong: &[u32],
+) -> Result<(), Memory>
+    requires answers { Answers F.Fn rule.now }
+    requires another { AreAnswers F.Fn rule.now walk.now.instruction (passed walk.now) wrong.now → ⊥ }
+{
+    let right = walk.prices(alloc, rule)?;
+    prove!(right.as_slice() != wrong);
+    Ok(())
+}
+
+/// A class without a price.
+pub fn prices_without_one_class<F: Fn(&Standing) -> u64>(
+    alloc: Global,
+    walk: &Walk<'_>,
+    rule: &Rule<F>,
+    wrong: &[u32],
+) -> Result<(), Memory>
+    requires answers { Answers F.Fn rule.now }
+    requires short { length wrong.now < classes walk.now.instruction }
+{
+    let right = walk.prices(alloc, rule)?;
+    prove!(right.as_slice() != wrong);
+    Ok(())
 }

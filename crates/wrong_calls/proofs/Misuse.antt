@@ -8,14 +8,14 @@ use Rattle.buck_calls.specs.Pages.{IsListed}
 use Rattle.buck_calls.specs.Turns.{ArePut, AreUsed, IsTurned}
 use Rattle.wrong_calls.proofs.Fits.{own_status, never_of}
 
-listed_0 : (table : ℕ) (apt journal : List ℕ) → 3 < table → (text : List ℕ) (status : ℕ)
+listed_0 : (table : ℕ) (apt journal : List ℕ) → 5 < table → (text : List ℕ) (status : ℕ)
     → IsListed table apt journal text status
     → status ≡ 0 → ⊥
 listed_0 table apt journal lt text status (inl misused) is = omega (arith, misused.2, is)
 listed_0 table apt journal lt text status (inr listed) is = omega (arith, listed.0, lt)
 
--- no table of a greater number than 3 is put
-pub never_listed : (table : ℕ) (apt journal old new : List ℕ) (written result : ℕ) → 3 < table
+-- no table of a greater number than 5 is put
+pub never_listed : (table : ℕ) (apt journal old new : List ℕ) (written result : ℕ) → 5 < table
     → IsPut (IsListed table apt journal) old new written result → result ≡ 0 → ⊥
 never_listed table apt journal old new written result lt put is =
     never_of (IsListed table apt journal) old new written result 0 (omega arith) (listed_0 table apt journal lt) put is

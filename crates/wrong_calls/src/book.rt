@@ -61,7 +61,7 @@ pub fn book_lost_by_a_cut(
     prove!(right != wrong);
 }
 
-/// What is written of a cutting that was refused.
+/// Numbers are written of a cutting that was refused.
 pub fn refused_cut_shown(
     alloc: Global,
     book: &mut Block,

@@ -53,13 +53,13 @@ pub fn length_of_no_text_one_off(
     out: &mut [u8],
     right: &mut usize,
 ) {
-    if buckfleet_table(alloc, apt, journal, 4, out, right) == 8 {
+    if buckfleet_table(alloc, apt, journal, 6, out, right) == 8 {
         let wrong = 1;
         prove!(*right != wrong);
     }
 }
 
-/// There is a table of the number 4.
+/// There is a table of the number 6.
 #[tactic(auto, using(crate::proofs::Misuse::never_listed))]
 pub fn table_of_no_number(
     alloc: Global,
@@ -68,7 +68,7 @@ pub fn table_of_no_number(
     out: &mut [u8],
     written: &mut usize,
 ) {
-    let right = buckfleet_table(alloc, apt, journal, 4, out, written);
+    let right = buckfleet_table(alloc, apt, journal, 6, out, written);
     let wrong = 0;
     prove!(right != wrong);
 }

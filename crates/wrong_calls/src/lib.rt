@@ -7,4 +7,5 @@
 
 pub mod book;
 pub mod files;
+pub mod looking;
 pub mod turns;

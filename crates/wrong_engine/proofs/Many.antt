@@ -7,8 +7,7 @@ use Rattle.buck_stem.specs.Stem.{StemParts}
 use Rattle.buck_book.specs.declared.posting.Posting.{Posting}
 use Rattle.buck_book.specs.Posting.{harvester_of}
 use Rattle.buck_book.specs.History.{HistoryParts}
-use Rattle.buck_fleet.specs.Run.{stem_cut}
-use Rattle.buck_fleet.specs.Closed.{replies_from, replies_of}
+use Rattle.buck_book.specs.Replies.{stem_cut, replies_from, replies_of}
 use Rattle.buck_stem.specs.file.Stm.{stm_of}
 use Rattle.buck_engine.specs.declared.fault.EngineFault.{EngineFault}
 use Rattle.buck_engine.specs.declared.fault.EngineFault.TheVariants.{Full}

@@ -1,8 +1,10 @@
 //! Wrong bodies of the work that the words of the command line ask for.
 ghost use Rattle.std.specs.Prelude.{◌≡◌, ◌≢◌, ◌+◌, ◌<◌, length, None};
 
-use buck_command::{Streams, Work, serve_work};
-use buck_engine::{FleetTask, Make, NamedRule, Nobody, Open, Order, Settings, Task};
+use buck_command::{Work, serve_work};
+use buck_engine::{FleetTask, Make, Nobody, Open, Order, Settings, Task};
+use buck_rule::NamedRule;
+use buck_terms::conclude_terms;
 use std::alloc::Global;
 use std::sync::Wait;
 use std::thread::Threads;
@@ -78,13 +80,18 @@ pub fn fleet_output_and_errors_swapped<T: Threads + Wait + Sync>(rt: &T, alloc: 
         stms: Vec::new(alloc),
     });
     let mut files = Bare { made: 0 };
-    let mut streams = Streams {
-        input: b"".as_slice(),
-        output: Vec::<u8>::new(alloc),
-        errors: Vec::<u8>::new(alloc),
-    };
-    let _ = serve_work(rt, alloc, &work, &Nobody, &mut files, &mut streams);
-    let is_said = !streams.output.is_empty();
+    let mut input = b"".as_slice();
+    let mut output = Vec::<u8>::new(alloc);
+    let _ = serve_work(
+        rt,
+        alloc,
+        &work,
+        &Nobody,
+        &mut files,
+        &mut input,
+        &mut output,
+    );
+    let is_said = !output.is_empty();
     prove!(!is_said);
 }
 
@@ -99,12 +106,17 @@ pub fn out_made_before_the_inputs<T: Threads + Wait + Sync>(rt: &T, alloc: Globa
         stms: Vec::new(alloc),
     });
     let mut files = Bare { made: 0 };
-    let mut streams = Streams {
-        input: b"".as_slice(),
-        output: Vec::<u8>::new(alloc),
-        errors: Vec::<u8>::new(alloc),
-    };
-    let _ = serve_work(rt, alloc, &work, &Nobody, &mut files, &mut streams);
+    let mut input = b"".as_slice();
+    let mut output = Vec::<u8>::new(alloc);
+    let _ = serve_work(
+        rt,
+        alloc,
+        &work,
+        &Nobody,
+        &mut files,
+        &mut input,
+        &mut output,
+    );
     let right = files.made;
     let wrong = "out.jrn".len();
     prove!(right != wrong);
@@ -121,12 +133,19 @@ pub fn out_of_another_name<T: Threads + Wait + Sync>(rt: &T, alloc: Global) {
         stms: Vec::new(alloc),
     });
     let mut files = Full { opened: 0, made: 0 };
-    let mut streams = Streams {
-        input: b"".as_slice(),
-        output: Vec::<u8>::new(alloc),
-        errors: Vec::<u8>::new(alloc),
-    };
-    let status = serve_work(rt, alloc, &work, &Nobody, &mut files, &mut streams);
+    let mut input = b"".as_slice();
+    let mut output = Vec::<u8>::new(alloc);
+    let outcome = serve_work(
+        rt,
+        alloc,
+        &work,
+        &Nobody,
+        &mut files,
+        &mut input,
+        &mut output,
+    );
+    let mut errors = Vec::<u8>::new(alloc);
+    let status = conclude_terms(&mut errors, &outcome);
     let memory = 3;
     if status != memory {
         let right = files.made;
@@ -142,12 +161,17 @@ pub fn file_opened_twice<T: Threads + Wait + Sync>(rt: &T, alloc: Global) {
         stm: "stems.stm",
     });
     let mut files = Full { opened: 0, made: 0 };
-    let mut streams = Streams {
-        input: b"".as_slice(),
-        output: Vec::<u8>::new(alloc),
-        errors: Vec::<u8>::new(alloc),
-    };
-    let _ = serve_work(rt, alloc, &work, &Nobody, &mut files, &mut streams);
+    let mut input = b"".as_slice();
+    let mut output = Vec::<u8>::new(alloc);
+    let _ = serve_work(
+        rt,
+        alloc,
+        &work,
+        &Nobody,
+        &mut files,
+        &mut input,
+        &mut output,
+    );
     let right = files.opened;
     let wrong = 3;
     prove!(right != wrong);

@@ -1,8 +1,12 @@
 //! Wrong bodies of a fleet over files.
-ghost use Rattle.std.specs.Prelude.{◌≡◌, ◌<◌, List, Ok, length};
+ghost use Rattle.std.specs.Prelude.{◌≡◌, ◌≢◌, ◌<◌, List, ℕ, Ok, length};
 ghost use Rattle.buck_stem.specs.Stem.{StemParts};
 ghost use Rattle.buck_stem.specs.file.Stm.{stm_of};
+ghost use Rattle.buck_book.specs.History.{HistoryParts};
+ghost use Rattle.buck_engine.specs.fleet.Running.{AreFirsts};
+ghost use Rattle.buck_engine.specs.text.Report.{ending_of, report_of};
 
+use crate::views::Calls;
 use buck_engine::{EngineFault, run_fleet_files};
 use buck_rule::{Rule, Standing, steady};
 use std::alloc::Global;
@@ -131,4 +135,56 @@ pub fn too_many_stems_accepted<'x, T: Threads + Wait + Sync>(
     );
     let is_refused = right.is_err();
     prove!(is_refused);
+}
+
+/// Another one of the best cuttings is cut, as the last of ties: no history whose cuttings are the first of the best has
+/// this report.
+pub fn fleet_cut_by_the_last_of_ties<'x, T: Threads + Wait + Sync>(
+    rt: &T,
+    alloc: Global,
+    apt: &'x [u8],
+    stms: &mut [&'x [u8]],
+    wrong: &[u8],
+)
+    requires differ { (h : HistoryParts) (counts : List ℕ) → AreFirsts h
+        → wrong.now ≢ report_of h.postings (ending_of h counts) }
+{
+    let rule = Rule::new(|s: &Standing| steady(s));
+    let mut instruction = apt;
+    let mut right = Vec::new(alloc);
+    let outcome = run_fleet_files(
+        rt,
+        alloc,
+        &mut instruction,
+        stms,
+        rule,
+        None::<&mut Vec<u8>>,
+        &mut right,
+    );
+    if outcome.is_ok() {
+        prove!(right.as_slice() != wrong);
+    }
+}
+
+/// The writer is called before a stem file is refused, though with nothing to write.
+pub fn fleet_calls_the_writer_before_all_is_read<'x, T: Threads + Wait + Sync>(
+    rt: &T,
+    alloc: Global,
+    apt: &'x [u8],
+    stms: &mut [&'x [u8]],
+) {
+    let rule = Rule::new(|s: &Standing| steady(s));
+    let mut instruction = apt;
+    let mut out = Calls { number: 0 };
+    let outcome = run_fleet_files(
+        rt,
+        alloc,
+        &mut instruction,
+        stms,
+        rule,
+        None::<&mut Vec<u8>>,
+        &mut out,
+    );
+    let is_wrong = out.number != 0 && matches!(outcome, Err(EngineFault::Stm { .. }));
+    prove!(!is_wrong);
 }

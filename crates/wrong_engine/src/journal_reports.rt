@@ -54,7 +54,7 @@ pub fn report_written_before_the_fault<'x>(alloc: Global, apt: &'x [u8], journal
 }
 
 /// The journal is opened first, in the place of the instruction file.
-pub fn report_files_swapped(alloc: Global, output: &mut Vec<u8>, errors: &mut Vec<u8>) {
+pub fn report_files_swapped(alloc: Global, output: &mut Vec<u8>) {
     let task = Task::Report {
         apt: "pine.apt",
         journal: "stems.jrn",
@@ -62,7 +62,7 @@ pub fn report_files_swapped(alloc: Global, output: &mut Vec<u8>, errors: &mut Ve
     };
     let mut input = b"".as_slice();
     let mut files = Missing { asked: 0 };
-    let _ = serve(alloc, &task, &mut input, &mut files, output, errors);
+    let _ = serve(alloc, &task, &mut input, &mut files, output);
     let right = files.asked;
     let wrong = "stems.jrn".len();
     prove!(right != wrong);

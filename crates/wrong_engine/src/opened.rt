@@ -6,8 +6,9 @@ ghost use Rattle.buck_stem.specs.file.Stm.{stm_of};
 ghost use Rattle.buck_engine.specs.run.Bucking.{is_bar};
 
 use buck_engine::{
-    FleetTask, Make, NamedRule, Nobody, Open, Order, Settings, Task, serve, serve_fleet,
+    FleetTask, Make, Nobody, Open, Order, Settings, Task, conclude, serve, serve_fleet,
 };
+use buck_rule::NamedRule;
 use std::alloc::Global;
 use std::sync::Wait;
 use std::thread::Threads;
@@ -30,35 +31,35 @@ impl Open for Missing {
 }
 
 /// The stem file is opened first, in the place of the instruction file.
-pub fn run_task_files_swapped(alloc: Global, output: &mut Vec<u8>, errors: &mut Vec<u8>) {
+pub fn run_task_files_swapped(alloc: Global, output: &mut Vec<u8>) {
     let task = Task::Buck {
         apt: "pine.apt",
         stm: "stems.stm",
     };
     let mut input = b"".as_slice();
     let mut files = Missing { asked: 0 };
-    let _ = serve(alloc, &task, &mut input, &mut files, output, errors);
+    let _ = serve(alloc, &task, &mut input, &mut files, output);
     let right = files.asked;
     let wrong = "stems.stm".len();
     prove!(right != wrong);
 }
 
 /// The journal is opened first, in the place of the instruction file.
-pub fn check_files_swapped(alloc: Global, output: &mut Vec<u8>, errors: &mut Vec<u8>) {
+pub fn check_files_swapped(alloc: Global, output: &mut Vec<u8>) {
     let task = Task::Check {
         apt: "pine.apt",
         journal: "stems.jrn",
     };
     let mut input = b"".as_slice();
     let mut files = Missing { asked: 0 };
-    let _ = serve(alloc, &task, &mut input, &mut files, output, errors);
+    let _ = serve(alloc, &task, &mut input, &mut files, output);
     let right = files.asked;
     let wrong = "stems.jrn".len();
     prove!(right != wrong);
 }
 
 /// The line of a fault goes to the output.
-pub fn serve_fault_line_on_the_output(alloc: Global, errors: &mut Vec<u8>) {
+pub fn serve_fault_line_on_the_output(alloc: Global) {
     let task = Task::Buck {
         apt: "pine.apt",
         stm: "stems.stm",
@@ -66,7 +67,7 @@ pub fn serve_fault_line_on_the_output(alloc: Global, errors: &mut Vec<u8>) {
     let mut input = b"".as_slice();
     let mut files = Missing { asked: 0 };
     let mut output = Vec::new(alloc);
-    let _ = serve(alloc, &task, &mut input, &mut files, &mut output, errors);
+    let _ = serve(alloc, &task, &mut input, &mut files, &mut output);
     let is_said = !output.is_empty();
     prove!(!is_said);
 }
@@ -101,7 +102,8 @@ pub fn open_both_missing_stems_as_file_0(alloc: Global, output: &mut Vec<u8>) {
     let mut input = b"".as_slice();
     let mut files = First { is_asked: false };
     let mut errors = Vec::new(alloc);
-    let _ = serve(alloc, &task, &mut input, &mut files, output, &mut errors);
+    let outcome = serve(alloc, &task, &mut input, &mut files, output);
+    let _ = conclude(&mut errors, &outcome);
     let wrong = b"read fault 0\n".as_slice();
     prove!(errors.as_slice() != wrong);
 }
@@ -119,7 +121,8 @@ pub fn run_task_bare_opens_files(
     let mut reader = input;
     let mut files = First { is_asked: false };
     let wrong = 1;
-    let right = serve(alloc, &Task::Bare, &mut reader, &mut files, output, errors);
+    let outcome = serve(alloc, &Task::Bare, &mut reader, &mut files, output);
+    let right = conclude(errors, &outcome);
     prove!(right != wrong);
 }
 
@@ -163,6 +166,7 @@ pub fn journal_left_out_where_it_cannot_be_made<T: Threads + Wait + Sync>(
         stms: Vec::new(alloc),
     };
     let wrong = 0;
-    let right = serve_fleet(rt, alloc, &task, &Nobody, &mut Full, output, errors);
+    let outcome = serve_fleet(rt, alloc, &task, &Nobody, &mut Full, output);
+    let right = conclude(errors, &outcome);
     prove!(right != wrong);
 }

@@ -11,8 +11,9 @@ ghost use Rattle.buck_engine.specs.tie.Ties.{FollowsRule, stems_by};
 
 use crate::opened::Missing;
 use buck_engine::{
-    CheckFault, CheckTask, EngineFault, NamedRule, Settings, run_check_with, serve_check, status,
+    CheckFault, CheckTask, EngineFault, Settings, run_check_with, serve_check, status,
 };
+use buck_rule::NamedRule;
 use std::alloc::Global;
 use std::thread::Threads;
 
@@ -151,7 +152,6 @@ pub fn tied_check_files_swapped<T: Threads + Sync>(
     alloc: Global,
     files: Vec<&str>,
     output: &mut Vec<u8>,
-    errors: &mut Vec<u8>,
 ) {
     let task = CheckTask {
         rule: None,
@@ -161,7 +161,7 @@ pub fn tied_check_files_swapped<T: Threads + Sync>(
         threads: Some(2),
     };
     let mut opener = Missing { asked: 0 };
-    let _ = serve_check(rt, alloc, &task, &mut opener, output, errors);
+    let _ = serve_check(rt, alloc, &task, &mut opener, output);
     let right = opener.asked;
     let wrong = "stems.jrn".len();
     prove!(right != wrong);

@@ -4,9 +4,12 @@ ghost use Rattle.buck_rule.specs.Stored.{Answers};
 ghost use Rattle.buck_stem.specs.Stem.{StemParts};
 ghost use Rattle.buck_stem.specs.file.Stm.{stm_of};
 ghost use Rattle.buck_book.specs.History.{HistoryParts};
-ghost use Rattle.buck_turn.specs.Turn.{AreInTurn, AreSheetsBy};
+ghost use Rattle.buck_book.specs.Pricing.{AreSheetsBy};
+ghost use Rattle.buck_turn.specs.Turn.{AreInTurn};
+ghost use Rattle.buck_engine.specs.fleet.Running.{AreFirsts};
 ghost use Rattle.buck_engine.specs.text.Report.{ending_of, report_of};
 
+use crate::views::Calls;
 use buck_engine::{EngineFault, run_in_turn};
 use buck_rule::{Rule, Standing, steady};
 use std::alloc::Global;
@@ -162,4 +165,52 @@ pub fn turns_full_at_once<'x>(alloc: Global, apt: &'x [u8], stm: &'x [u8], out: 
     );
     let is_full = outcome == Err(EngineFault::Full);
     prove!(!is_full);
+}
+
+/// Another one of the best cuttings is cut, as the last of ties: no history whose cuttings are the first of the best has
+/// this report.
+pub fn turns_cut_by_the_last_of_ties<'x>(
+    alloc: Global,
+    apt: &'x [u8],
+    stms: &mut [&'x [u8]],
+    wrong: &[u8],
+)
+    requires differ { (h : HistoryParts) (counts : List ℕ) → AreFirsts h
+        → wrong.now ≢ report_of h.postings (ending_of h counts) }
+{
+    let rule = Rule::new(|s: &Standing| steady(s));
+    let mut instruction = apt;
+    let mut right = Vec::new(alloc);
+    let outcome = run_in_turn(
+        alloc,
+        &mut instruction,
+        stms,
+        rule,
+        None::<&mut Vec<u8>>,
+        &mut right,
+    );
+    if outcome.is_ok() {
+        prove!(right.as_slice() != wrong);
+    }
+}
+
+/// The writer is called before a stem file is refused, though with nothing to write.
+pub fn turns_call_the_writer_before_all_is_read<'x>(
+    alloc: Global,
+    apt: &'x [u8],
+    stms: &mut [&'x [u8]],
+) {
+    let rule = Rule::new(|s: &Standing| steady(s));
+    let mut instruction = apt;
+    let mut out = Calls { number: 0 };
+    let outcome = run_in_turn(
+        alloc,
+        &mut instruction,
+        stms,
+        rule,
+        None::<&mut Vec<u8>>,
+        &mut out,
+    );
+    let is_wrong = out.number != 0 && matches!(outcome, Err(EngineFault::Stm { .. }));
+    prove!(!is_wrong);
 }

@@ -1,10 +1,10 @@
 //! Wrong bodies of instructions and their reader.
-#![tactic(auto, unfolding(buck_record::specs::bytes::Record::numbers_of, buck_record::specs::bytes::Record::number_at_most, buck_record::specs::bytes::Record::item_of, buck_record::specs::bytes::Record::items_of, buck_record::specs::bytes::White::words, buck_record::specs::bytes::White::first_word, buck_record::specs::bytes::White::after_word, buck_record::specs::bytes::White::trim_start, buck_record::specs::bytes::White::trim_end, buck_record::specs::Reading::each_from, buck_record::specs::checking::Table::rest_in, buck_record::specs::checking::Table::groups_of, buck_record::specs::checking::Rules::numbers_in, buck_record::specs::checking::Check::each, buck_record::specs::checking::Check::make_each, buck_apt::specs::Apt::apt_of, buck_apt::specs::Apt::draft_in, buck_apt::specs::Apt::within_limits, buck_apt::specs::Apt::wood_of, buck_apt::specs::Apt::sizes_of, buck_apt::specs::Apt::tables_of, buck_apt::specs::Apt::group_present, buck_apt::specs::Apt::present, buck_apt::specs::Apt::group_single, buck_apt::specs::Apt::single, buck_apt::specs::Apt::numbers_or, buck_apt::specs::Apt::draft_of, buck_apt::specs::Apt::file_draft_of, buck_apt::specs::Apt::draft_range, buck_apt::specs::Apt::in_range, buck_apt::specs::Apt::draft_order, buck_apt::specs::Apt::in_order, buck_apt::specs::Apt::draft_count, buck_apt::specs::Apt::in_number, buck_apt::specs::Apt::on_module, buck_apt::specs::Apt::in_targets))]
+#![tactic(auto, unfolding(buck_record::specs::bytes::Record::numbers_of, buck_record::specs::bytes::Record::number_at_most, buck_record::specs::bytes::Record::item_of, buck_record::specs::bytes::Record::items_of, buck_record::specs::bytes::White::words, buck_record::specs::bytes::White::first_word, buck_record::specs::bytes::White::after_word, buck_record::specs::bytes::White::trim_start, buck_record::specs::bytes::White::trim_end, buck_record::specs::Reading::each_from, buck_record::specs::checking::Table::rest_in, buck_record::specs::checking::Table::groups_of, buck_record::specs::checking::Rules::numbers_in, buck_record::specs::checking::Check::each, buck_record::specs::checking::Check::make_each, buck_apt::specs::Apt::apt_of, buck_apt::specs::Apt::draft_in, buck_apt::specs::Apt::within_limits, buck_apt::specs::Apt::wood_of, buck_apt::specs::Apt::sizes_of, buck_apt::specs::Apt::tables_of, buck_apt::specs::Apt::group_present, buck_apt::specs::Apt::present, buck_apt::specs::Apt::group_single, buck_apt::specs::Apt::single, buck_apt::specs::Apt::numbers_or, buck_apt::specs::Apt::draft_of, buck_apt::specs::Apt::file_draft_of, buck_apt::specs::Apt::draft_range, buck_apt::specs::Apt::in_range, buck_apt::specs::Apt::draft_order, buck_apt::specs::Apt::in_order, buck_apt::specs::Apt::draft_count, buck_apt::specs::Apt::in_number, buck_apt::specs::Apt::on_module, buck_apt::specs::Apt::in_targets, buck_record::specs::writing::Written::spaced, buck_apt::specs::Text::wood_text, buck_apt::specs::Text::sizes_text, buck_apt::specs::Text::tables_text, buck_apt::specs::Text::assortment_text, buck_apt::specs::Text::text_of))]
 
 ghost use Rattle.std.specs.Prelude.{◌≡◌, ◌≢◌, ◌<◌, ◌+◌, ◌*◌, length, slice_get, slice_index, sum};
 ghost use Rattle.buck_apt.specs.Instruction.{IsClass, classes_before, place_in};
 
-use buck_apt::{AptFault, Assortment, Class, Instruction, read_apt};
+use buck_apt::{AptFault, Assortment, Class, Instruction, instruction_text, read_apt};
 use std::alloc::Global;
 
 /// An instruction of one assortment with one class.
@@ -107,7 +107,7 @@ pub fn classes_are_rows(alloc: Global) {
     }
 }
 
-/// A class's target for its price.
+/// A class's target is told as its price.
 pub fn price_is_target(assortment: &Assortment, row: usize, column: usize)
     requires class { (row < length assortment.now.diameters) × (column < length assortment.now.lengths) }
     requires differ { slice_index assortment.now.prices (row * length assortment.now.lengths + column)
@@ -118,7 +118,7 @@ pub fn price_is_target(assortment: &Assortment, row: usize, column: usize)
     prove!(right != wrong);
 }
 
-/// The target of the row's first column.
+/// The target of the row's first column is told for each column.
 pub fn target_of_first_column(assortment: &Assortment, row: usize, column: usize)
     requires class { (row < length assortment.now.diameters) × (column < length assortment.now.lengths) }
     requires differ { slice_index assortment.now.targets (row * length assortment.now.lengths + column)
@@ -148,7 +148,7 @@ pub fn classes_without_the_first_assortment(alloc: Global) {
     prove!(right != wrong);
 }
 
-/// The place of a class within its assortment alone.
+/// A class is placed within its assortment alone, without the classes of the assortments before.
 pub fn index_without_offset(instruction: &Instruction, class: Class, wrong: usize)
     requires class { IsClass instruction.now class }
     requires wrong { wrong ≡ place_in (slice_get instruction.now.assortments class.assortment) class.row class.column }
@@ -211,4 +211,33 @@ pub fn classes_that_differ(alloc: Global) {
         targets_sum_is_nothing(assortment);
         copy_without_targets(alloc, assortment);
     }
+}
+
+/// The number of assortments in a text is the limit.
+pub fn text_count_is_the_limit(alloc: Global) {
+    let Ok(instruction) = read_apt(alloc, ONE_CLASS) else {
+        return;
+    };
+    let Ok(right) = instruction_text(alloc, &instruction) else {
+        return;
+    };
+    let wrong: &[u8] =
+        b"1 2 APT~\n901 1 100~\n902 1 7~\n903 1 500~\n910 1 500~\n911 1 SAW~\n912 1 1~\n913 1 1~\n914 1 2~\n915 1 100~\n915 2 900~\n916 1 3000~\n917 1\n600~\n918 1\n4~\n";
+    prove!(right.as_slice() != wrong);
+}
+
+/// A trim allowance of 1 mm is left out of a text.
+pub fn text_without_a_trim_of_1(alloc: Global) {
+    let Ok(instruction) = read_apt(
+        alloc,
+        b"1 2 APT~901 1 100~902 1 7~903 1 500~910 1 1~911 1 SAW~912 1 1~913 1 1~914 1 2~915 1 100~915 2 900~916 1 3000~917 1 600~918 1 4~919 1 1~",
+    ) else {
+        return;
+    };
+    let Ok(right) = instruction_text(alloc, &instruction) else {
+        return;
+    };
+    let wrong: &[u8] =
+        b"1 2 APT~\n901 1 100~\n902 1 7~\n903 1 500~\n910 1 1~\n911 1 SAW~\n912 1 1~\n913 1 1~\n914 1 2~\n915 1 100~\n915 2 900~\n916 1 3000~\n917 1\n600~\n918 1\n4~\n";
+    prove!(right.as_slice() != wrong);
 }

@@ -17,7 +17,7 @@ use buck_record::rules::{
 use buck_record::table::{count, front, groups, missing, rest, twice};
 use buck_record::{
     FaultNumbers, FormFault, Group, Listed, Numbered, Piece, RecordFault, Slot, append_numbers,
-    is_done, items, next_in, number, numbers, numbers_into, pieces, pieces_at, put_line,
+    is_done, items, next_in, number, numbers, numbers_into, pieces, pieces_at, put_after, put_line,
     put_number, slot, two_parts, wide,
 };
 use std::alloc::Global;
@@ -208,7 +208,7 @@ pub fn other_words_refused(held: &mut Vec<u16>)
     prove!(right != wrong);
 }
 
-/// Such words are refused for a list that is kept.
+/// Words of other forms than one to four digits are refused, for a list that is kept.
 pub fn other_words_of_a_kept_list_refused(held: &mut Vec<u32>) {
     let Ok(right) = numbers_into(b"00012", held) else {
         return;
@@ -254,7 +254,7 @@ pub fn twice_accepted() {
     prove!(right != wrong);
 }
 
-/// The items before the first in a slot, and that one too.
+/// Of the items before the first in a slot, that one is given too.
 pub fn front_with_the_first() {
     let right = front(&TWO_KINDS, UPPER).len();
     let wrong = 2;
@@ -311,7 +311,7 @@ fn each_at_most_8(numbers: &[u32]) -> Result<(), RecordFault>
     each(numbers, |number| at_most_8(*number))
 }
 
-/// The fault of the last element that has one.
+/// The fault of the last element that has one is told.
 pub fn each_names_the_last() {
     let right = each_at_most_8(&[8, 9, 10]);
     let wrong = Err(RecordFault::Digits { place: 10 });
@@ -463,6 +463,16 @@ pub fn put_number_without_a_blank(alloc: Global) {
         return;
     };
     let wrong: &[u8] = b"07";
+    prove!(out.as_slice() != wrong);
+}
+
+/// A number that is to stand after a line feed stands after a blank.
+pub fn put_after_a_blank_always(alloc: Global) {
+    let mut out = Vec::new(alloc);
+    let Ok(()) = put_after(&mut out, b'\n', 7) else {
+        return;
+    };
+    let wrong: &[u8] = b" 7";
     prove!(out.as_slice() != wrong);
 }
 

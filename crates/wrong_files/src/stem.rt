@@ -3,7 +3,7 @@
 
 ghost use Rattle.std.specs.Int.{bit_at};
 ghost use Rattle.std.specs.Prelude.{◌≡◌, ◌≢◌, ◌<◌, ◌≤◌, ◌+◌, ◌-◌, ◌*◌, ◌/◌, [], ◌∷◌, Contains, IfSome};
-ghost use Rattle.buck_stem.specs.points.Profile.{points_of, profile_of};
+ghost use Rattle.buck_stem.specs.points.Profile.{IsMaskBetween, points_of, profile_of};
 ghost use Rattle.buck_stem.specs.Stem.{stem_of, stem_length, diameter_at, grade_at, HasGrade};
 
 use buck_stem::{Profile, ProfileLists, Stem, StemFault, StmFault, read_stm, read_stm_in_parts};
@@ -201,7 +201,7 @@ pub fn same_without_zones(one: &Stem, other: &Stem)
     prove!(right != wrong);
 }
 
-/// The sample itself, without the least so far.
+/// A diameter is that of the sample itself, and not the least so far.
 pub fn diameter_of_the_raw_sample(alloc: Global) {
     let Some(stem) = stem(alloc, &[300, 280, 290], &[]) else {
         return;
@@ -283,7 +283,7 @@ pub fn points_without_the_butt(profile: &Profile<'_>, wrong: usize)
     prove!(right != wrong);
 }
 
-/// The diameter at an earlier point.
+/// The diameter at an earlier point is told.
 pub fn diameter_of_an_earlier_point(profile: &Profile<'_>, i: usize, earlier: usize)
     requires points { (earlier < i) × (i < points_of profile.now) }
     requires differ { diameter_at profile.now.stem.samples (earlier * profile.now.module)
@@ -322,6 +322,17 @@ pub fn grades_from_an_earlier_point(profile: &Profile<'_>, i: usize, j: usize, g
     requires none { HasGrade profile.now.stem.zones (i * profile.now.module) (j * profile.now.module) grade → ⊥ }
 {
     let right = profile.grades(i, j);
+    prove!(right != wrong);
+}
+
+/// The grades from a point on without those of the step there: a mask that lacks one of these.
+pub fn grades_without_the_step(profile: &Profile<'_>, i: usize, grades: u8, grade: u8, wrong: u8)
+    requires points { i + 1 < points_of profile.now }
+    requires rest { IsMaskBetween profile.now (i + 1) (i + 1) grades }
+    requires shows { (1 ≤ grade) × HasGrade profile.now.stem.zones (i * profile.now.module) ((i + 1) * profile.now.module) grade }
+    requires lacks { bit_at wrong (grade - 1) ≢ 1 }
+{
+    let right = profile.grades_from(i, grades);
     prove!(right != wrong);
 }
 

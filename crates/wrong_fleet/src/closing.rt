@@ -3,7 +3,8 @@
 ghost use Rattle.std.specs.Prelude.{◌≡◌, ◌≢◌, ◌<◌, ◌≤◌, IsTrue, length};
 ghost use Rattle.buck_book.specs.Posting.{harvester_of};
 ghost use Rattle.buck_fleet.specs.Crew.{IsCrew, parts_of};
-ghost use Rattle.buck_fleet.specs.Closed.{kept_by, replies_of};
+ghost use Rattle.buck_fleet.specs.Closed.{kept_by};
+ghost use Rattle.buck_book.specs.Replies.{replies_of};
 
 use buck_apt::Instruction;
 use buck_book::Posting;

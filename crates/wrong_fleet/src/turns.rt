@@ -3,8 +3,7 @@ ghost use Rattle.std.specs.Prelude.{◌≤◌, length};
 ghost use Rattle.buck_rule.specs.Stored.{Answers};
 
 use buck_apt::Instruction;
-use buck_book::Posting;
-use buck_fleet::CutFault;
+use buck_book::{CutFault, Posting};
 use buck_rule::{Rule, Standing};
 use buck_stem::Stem;
 use buck_turn::cut_in_turn;

@@ -3,8 +3,9 @@ ghost use Rattle.std.specs.Prelude.{◌≡◌, ◌≢◌, ◌<◌, ◌≤◌, �
 ghost use Rattle.buck_book.specs.History.{version_of};
 
 use buck_apt::Instruction;
-use buck_book::DemandRefusal;
-use buck_held::{CutRefusal, FellFault, Felled, KeptBook, NamedRule, Zone};
+use buck_book::{CutFault, DemandRefusal};
+use buck_held::{FellFault, Felled, KeptBook, Zone};
+use buck_rule::NamedRule;
 use buck_stem::Stem;
 use std::alloc::Global;
 use std::sync::Arc;
@@ -80,7 +81,7 @@ pub fn cut_of_another_harvester(
     harvester: u32,
     stem: Arc<Stem>,
     wrong: u32,
-) -> Result<(), CutRefusal>
+) -> Result<(), CutFault>
     requires harvester { (0 < harvester) × (harvester ≤ 64) }
     requires differ { wrong ≢ harvester }
 {
@@ -96,7 +97,7 @@ pub fn cut_with_the_version_after_it(
     kept: &mut KeptBook,
     harvester: u32,
     stem: Arc<Stem>,
-) -> Result<(), CutRefusal>
+) -> Result<(), CutFault>
     requires harvester { (0 < harvester) × (harvester ≤ 64) }
 {
     let wrong = kept.book().version() + 1;

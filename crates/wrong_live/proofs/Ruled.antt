@@ -7,8 +7,8 @@ use Rattle.buck_rule.specs.declared.named.NamedRule.{NamedRule}
 use Rattle.buck_book.specs.History.{HistoryParts}
 use Rattle.buck_book.specs.Pricing.{Calls}
 use Rattle.buck_book.specs.Book.{BookParts}
-use Rattle.buck_turn.specs.Turn.{AreSheetsBy}
-use Rattle.buck_turn.proofs.Given.{none_given}
+use Rattle.buck_book.specs.Pricing.{AreSheetsBy}
+use Rattle.buck_book.proofs.Given.{none_given}
 use Rattle.buck_journal.specs.Written.{journal_text}
 use Rattle.buck_engine.specs.declared.fault.EngineFault.{EngineFault}
 use Rattle.buck_engine.specs.Faults.{status_of}
@@ -17,8 +17,8 @@ use Rattle.buck_engine.specs.fleet.Lent.{OfWriter}
 use Rattle.buck_engine.specs.tie.Ties.{FollowsRule}
 use Rattle.buck_engine.proofs.Statuses.{never_0}
 use Rattle.buck_live.specs.declared.serving.LiveTask.{LiveTask}
-use Rattle.buck_live.specs.Answers.{opening}
-use Rattle.buck_live.specs.Live.{IsLiveRun, StaysByRule}
+use Rattle.buck_cutter.specs.Cut.{StaysByRule, opening}
+use Rattle.buck_live.specs.Live.{IsLiveRun}
 use Rattle.buck_live.specs.Serving.{AnswersLive, IsLive, KeepsJournal, RunsApt, RunsLive, first_fault}
 
 -- the journal of a run is that of a history by the rule that it was opened with

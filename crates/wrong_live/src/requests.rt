@@ -6,14 +6,14 @@ ghost use Rattle.buck_apt.specs.Instruction.{InstructionParts};
 ghost use Rattle.buck_rule.specs.Stored.{Answers};
 ghost use Rattle.buck_rule.specs.declared.named.NamedRule.TheVariants.{Step};
 ghost use Rattle.buck_book.specs.History.{HistoryParts};
-ghost use Rattle.buck_turn.specs.Turn.{AreSheetsBy};
+ghost use Rattle.buck_book.specs.Pricing.{AreSheetsBy};
 ghost use Rattle.buck_journal.specs.Written.{journal_text};
 ghost use Rattle.buck_engine.specs.tie.Ties.{FollowsRule};
-ghost use Rattle.buck_live.specs.Answers.{opening};
+ghost use Rattle.buck_cutter.specs.Cut.{opening};
 ghost use Rattle.buck_live.specs.Live.{IsLiveRun};
 
 use buck_apt::Instruction;
-use buck_engine::{EngineFault, Make, Open};
+use buck_engine::{EngineFault, Make, Open, conclude};
 use buck_live::{Live, LiveTask, Replies, read_request, serve_live};
 use buck_rule::{Rule, Standing};
 use std::alloc::Global;
@@ -111,7 +111,8 @@ pub fn task_by_another_rule<'x, O: Open + Make>(
 {
     let mut input = requests;
     let mut right = Vec::new(alloc);
-    let status = serve_live(alloc, task, &mut input, opener, &mut right, errors);
+    let outcome = serve_live(alloc, task, &mut input, opener, &mut right);
+    let status = conclude(errors, &outcome);
     if status == 0 {
         prove!(right.as_slice() != wrong);
     }
@@ -127,7 +128,8 @@ pub fn requests_read_by_no_instruction<'x, O: Open + Make>(
     errors: &mut Vec<u8>,
 ) {
     let mut input = requests;
-    let status = serve_live(alloc, task, &mut input, opener, output, errors);
+    let outcome = serve_live(alloc, task, &mut input, opener, output);
+    let status = conclude(errors, &outcome);
     let refused = 1;
     if status == refused {
         let is_read = input.len() != requests.len();

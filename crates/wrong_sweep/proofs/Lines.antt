@@ -10,7 +10,6 @@ use Rattle.buck_apt.specs.Settings.{SettingsParts, with_settings}
 use Rattle.buck_record.specs.checking.Check.{◌>>=◌}
 use Rattle.buck_stem.specs.Stem.{StemParts}
 use Rattle.buck_stem.specs.file.Stm.{stm_of}
-use Rattle.buck_book.specs.History.{HistoryParts}
 use Rattle.buck_figures.specs.Figures.{worth_in}
 use Rattle.buck_engine.specs.declared.fault.EngineFault.{EngineFault}
 use Rattle.buck_engine.specs.declared.fault.EngineFault.TheVariants.{Full}
@@ -18,10 +17,9 @@ use Rattle.buck_rule.specs.declared.named.NamedRule.{NamedRule}
 use Rattle.buck_rule.specs.Named.{rule_name}
 use Rattle.buck_engine.specs.fleet.Running.{HaveTooMany}
 use Rattle.buck_engine.specs.run.Reading.{Says, apt_with}
-use Rattle.buck_engine.specs.tie.Ties.{FollowsRule}
 use Rattle.buck_sweep.specs.declared.combination.Combination.{Combination}
 use Rattle.buck_sweep.specs.Sweep.{AreLines, IsLineOver, IsSweepRun, IsTable}
-use Rattle.buck_sweep.specs.Table.{IsLine, back_of, cell, cells, head_line, line_of}
+use Rattle.buck_sweep.specs.Table.{IsLine, apart_of, back_of, cell, cells, head_line, line_of, volumes_of, wholes_of}
 use Rattle.wrong_sweep.specs.Texts.{HasInstead, StandsIn, Wrongs, own_run}
 
 -- the table that a run wrote, where it ended well
@@ -63,13 +61,13 @@ lines_in c d apt stms text t =
 pub without_line : (rule : NamedRule) (cs : List Combination) (apt : Option (List ℕ)) (stms : List (Option (List ℕ)))
     (old text wrong : List ℕ) (r : Result (Unit {0}) EngineFault) (u : Unit {0})
     → IsSweepRun cs apt stms (Some old) (Some text) r → old ≡ [] → r ≡ Ok u
-    → ((h : HistoryParts) (line : List ℕ) → FollowsRule rule h → IsLine rule h line → StandsIn line wrong → ⊥)
+    → ((line : List ℕ) → IsLineOver apt stms (own_run rule) line → StandsIn line wrong → ⊥)
     → text ≡ wrong → cs ≡ own_run rule ∷ [] → ⊥
 without_line rule cs apt stms old text wrong r u run none well other same these =
     let t = subst (λ (l : List Combination). IsTable l apt stms text) these
     (table cs apt stms old text r u run none well) in
     let (line, one, there) = line_in (own_run rule) apt stms text t in
-    other one.history line one.by_rule one.is_line (subst (λ (x : List ℕ). StandsIn line x) same there)
+    other line one (subst (λ (x : List ℕ). StandsIn line x) same there)
 
 -- no table of two runs is a text without their lines, one behind the other
 pub without_lines : (first second : NamedRule) (cs : List Combination) (apt : Option (List ℕ))
@@ -133,8 +131,11 @@ numbers_in rule p l bytes stms line over =
     let period : h.instruction.period ≡ p = ap (λ (i : InstructionParts). i.period) read.1 in
     let limit : h.instruction.limit ≡ l = ap (λ (i : InstructionParts). i.limit) read.1 in
     let n = length h.sheets in
+    let a = one.assorted in
     let rest : List ℕ =
-    cells one.degrees ++ (cells (one.least ∷ back_of h (sum_by worth_in one.unsteered)) ++ codes "\n") in (
+    cells (wholes_of a.degrees)
+    ++ (cells (a.least ∷ back_of h (sum_by worth_in one.unsteered))
+    ++ (cells (volumes_of a.cut a.unsteered) ++ (cells (apart_of a.degrees) ++ codes "\n"))) in (
       [],
       cells (Some n ∷ []) ++ rest,
       one.line_is

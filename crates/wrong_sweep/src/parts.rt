@@ -4,7 +4,7 @@ ghost use Rattle.buck_rule.specs.declared.named.NamedRule.TheVariants.{Steady, S
 ghost use Rattle.buck_sweep.specs.Sweep.{IsLineOver};
 ghost use Rattle.wrong_sweep.specs.Texts.{StandsIn, own_run};
 
-use buck_engine::NamedRule;
+use buck_rule::NamedRule;
 use buck_sweep::{Combination, Settings, run_sweep_in_parts};
 use std::alloc::Global;
 use std::thread::Threads;

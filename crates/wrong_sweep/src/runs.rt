@@ -1,6 +1,6 @@
 //! Wrong bodies of which runs a table has.
 use buck_apt::Instruction;
-use buck_engine::NamedRule;
+use buck_rule::NamedRule;
 use buck_sweep::combinations;
 use std::alloc::Global;
 

@@ -5,13 +5,16 @@ ghost use Rattle.buck_stem.specs.file.Stm.{stm_of};
 ghost use Rattle.buck_book.specs.History.{HistoryParts};
 ghost use Rattle.buck_rule.specs.declared.named.NamedRule.TheVariants.{Steady, Step};
 ghost use Rattle.buck_engine.specs.tie.Ties.{FollowsRule};
+ghost use Rattle.buck_engine.specs.fleet.Running.{AreFirsts};
 ghost use Rattle.buck_sweep.specs.Sweep.{IsLineOver};
 ghost use Rattle.buck_sweep.specs.Table.{IsLine, cells};
-ghost use Rattle.wrong_sweep.specs.Texts.{HasGreatest, HasInstead, IsInForce, StandsIn, own_run};
+ghost use Rattle.wrong_sweep.specs.Texts.{HasGreatest, HasInstead, HasSwappedDegrees, HasSwappedVolumes, IsInForce, StandsIn, own_run};
 
-use buck_engine::{EngineFault, NamedRule};
+use buck_engine::EngineFault;
+use buck_rule::NamedRule;
 use buck_sweep::{Combination, Settings, run_sweep};
 use std::alloc::Global;
+use std::io;
 
 /// A line is of the instruction's own period, or of its own limit, and not of those that were asked for.
 pub fn numbers_of_the_instruction<'x>(
@@ -101,6 +104,38 @@ pub fn greatest_degree_for_the_least<'x>(
     }
 }
 
+/// The volumes of the best cuttings stand where those as cut belong, and the other way round.
+pub fn volumes_swapped<'x>(alloc: Global, apt: &'x [u8], stms: &mut [&'x [u8]], wrong: &[u8])
+    requires instead { HasInstead Step (HasSwappedVolumes Step) (Some apt.now) (map (λ s. Some s.now) stms.old) wrong.now }
+{
+    let runs = [Combination {
+        rule: NamedRule::Step,
+        settings: Settings::own(),
+    }];
+    let mut instruction = apt;
+    let mut right = Vec::new(alloc);
+    let outcome = run_sweep(alloc, &runs, &mut instruction, stms, &mut right);
+    if let Ok(()) = outcome {
+        prove!(right.as_slice() != wrong);
+    }
+}
+
+/// The degrees of lengths stand where those of diameters belong, and the other way round.
+pub fn degrees_apart_swapped<'x>(alloc: Global, apt: &'x [u8], stms: &mut [&'x [u8]], wrong: &[u8])
+    requires instead { HasInstead Step (HasSwappedDegrees Step) (Some apt.now) (map (λ s. Some s.now) stms.old) wrong.now }
+{
+    let runs = [Combination {
+        rule: NamedRule::Step,
+        settings: Settings::own(),
+    }];
+    let mut instruction = apt;
+    let mut right = Vec::new(alloc);
+    let outcome = run_sweep(alloc, &runs, &mut instruction, stms, &mut right);
+    if let Ok(()) = outcome {
+        prove!(right.as_slice() != wrong);
+    }
+}
+
 /// Two lines are swapped, or one of them is left out: a text without the line of a run by the steady rule and, right
 /// behind it, that of a run by the rule step.
 pub fn lines_swapped<'x>(alloc: Global, apt: &'x [u8], stms: &mut [&'x [u8]], wrong: &[u8])
@@ -162,5 +197,59 @@ pub fn columns_written_before_all_is_read<'x>(
     let mut out = Vec::new(alloc);
     let outcome = run_sweep(alloc, runs, &mut instruction, stms, &mut out);
     let is_wrong = !out.is_empty() && matches!(outcome, Err(EngineFault::Stm { .. }));
+    prove!(!is_wrong);
+}
+
+/// Another one of the best cuttings is cut, as the last of ties: no history whose cuttings are the first of the best has
+/// a line in such a text.
+pub fn sweep_cut_by_the_last_of_ties<'x>(
+    alloc: Global,
+    apt: &'x [u8],
+    stms: &mut [&'x [u8]],
+    wrong: &[u8],
+)
+    requires other { (h : HistoryParts) (line : List ℕ) → AreFirsts h → IsLine Step h line
+        → StandsIn line wrong.now → ⊥ }
+{
+    let runs = [Combination {
+        rule: NamedRule::Step,
+        settings: Settings::own(),
+    }];
+    let mut instruction = apt;
+    let mut right = Vec::new(alloc);
+    let outcome = run_sweep(alloc, &runs, &mut instruction, stms, &mut right);
+    if let Ok(()) = outcome {
+        prove!(right.as_slice() != wrong);
+    }
+}
+
+/// Takes all that is written, and counts the calls.
+#[derive(Drop)]
+struct Calls {
+    number: u64,
+}
+
+impl io::Write for Calls {
+    fn write(&mut self, buf: &[u8]) -> io::Result<usize> {
+        self.number = self.number.saturating_add(1);
+        Ok(buf.len())
+    }
+
+    fn flush(&mut self) -> io::Result<()> {
+        Ok(())
+    }
+}
+
+/// The writer is called before a stem file is refused, though with nothing to write.
+pub fn sweep_calls_the_writer_before_all_is_read<'x>(
+    alloc: Global,
+    runs: &[Combination],
+    apt: &'x [u8],
+    stms: &mut [&'x [u8]],
+) {
+    let mut instruction = apt;
+    let mut out = Calls { number: 0 };
+    let outcome = run_sweep(alloc, runs, &mut instruction, stms, &mut out);
+    let is_wrong = out.number != 0 && matches!(outcome, Err(EngineFault::Stm { .. }));
     prove!(!is_wrong);
 }

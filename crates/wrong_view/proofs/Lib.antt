@@ -1,2 +1,4 @@
 pub mod Texts
 pub mod Postings
+pub mod Shortest
+pub mod Held

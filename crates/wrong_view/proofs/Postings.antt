@@ -7,26 +7,31 @@ use Rattle.std.proofs.lemmas.Bool.{cases_lt, ltb-true}
 use Rattle.std.proofs.lemmas.Option.{slice_get_read}
 use Rattle.std.proofs.lemmas.List.Sums.{sum_by-cons}
 use Rattle.buck_apt.specs.Instruction.{InstructionParts, classes, index_of}
-use Rattle.buck_value.specs.Sheet.{price_of}
+use Rattle.buck_value.specs.Sheet.{SheetParts, price_of}
 use Rattle.buck_value.specs.Allowed.{class_of}
 use Rattle.buck_book.specs.declared.posting.Posting.{Posting}
 use Rattle.buck_book.specs.declared.posting.Posting.TheVariants.{Cut, Demand}
 use Rattle.buck_book.specs.Entry.{EntryParts, DemandParts}
 use Rattle.buck_book.specs.Counts.{AreClassCounts, class_logs_in}
-use Rattle.buck_book.specs.Degree.{IsDegreeBy, part_of}
+use Rattle.buck_book.specs.Degree.{part_of}
 use Rattle.buck_book.specs.History.{prices_at}
+use Rattle.buck_book.specs.Posting.{ends_of}
 use Rattle.buck_book.proofs.Alone.{class_at}
 use Rattle.buck_book.proofs.Ends.{true_false}
 use Rattle.buck_dp.specs.Best.{cutting_worth}
 use Rattle.buck_journal.specs.reading.Journal.{JournalParts}
 use Rattle.buck_figures.specs.Figures.{base_sheet, as_posting, AreUnsteered, IsUnsteered, at_base_in, worth_in}
+use Rattle.buck_figures.specs.Degrees.{AreDegreesBy}
+use Rattle.buck_figures.specs.Journals.{entries_in, postings_of}
 use Rattle.buck_figures.specs.Greatest.{IsFirstGreatest, lengths_of, costs_of}
-use Rattle.buck_figures.specs.Pieces.{IsCut}
+use Rattle.buck_figures.specs.Pieces.{IsCut, IsToldAt}
 use Rattle.buck_figures.specs.Points.{IsPoint, point_after}
 use Rattle.buck_figures.specs.Shown.{AreFigures}
+use Rattle.buck_figures.specs.declared.degrees.Degrees.{Degrees}
 use Rattle.buck_figures.specs.declared.figures.Cut.{Cut as Told}
 use Rattle.buck_figures.specs.declared.figures.Figures.{Figures}
 use Rattle.buck_figures.specs.declared.figures.Piece.{Piece}
+use Rattle.buck_figures.specs.declared.figures.Place.{Place}
 use Rattle.buck_figures.specs.declared.figures.Point.{Point}
 use Rattle.wrong_view.specs.Cuts.{AreAsLong, IsOffBase, IsOutvalued}
 
@@ -43,9 +48,10 @@ told_false false isnt fails = true_false fails
 abbrev pub journal_with : JournalParts → List Posting → JournalParts
 journal_with j ps = record { sheets = j.sheets; entries = ps }
 
-pub told : (i : InstructionParts) (j : JournalParts) (ps : List Posting) (f : Figures)
-    → j.entries ≡ ps → AreFigures i j f → AreFigures i (journal_with j ps) f
-told i j ps f same figures = subst (λ xs. AreFigures i (journal_with j xs) f) same figures
+pub told : (i : InstructionParts) (j : JournalParts) (js : List JournalParts) (ps : List Posting) (f : Figures)
+    → js ≡ j ∷ [] → j.entries ≡ ps → AreFigures i js f → AreFigures i (journal_with j ps ∷ []) f
+told i j js ps f alone same figures =
+    subst (λ xs. AreFigures i (journal_with j xs ∷ []) f) same (subst (λ ks. AreFigures i ks f) alone figures)
 
 -- sums over one posting, and over two
 pub one : (n : Posting → ℕ) (x : Posting) → sum_by n (x ∷ []) ≡ n x
@@ -63,12 +69,21 @@ found_there held shown k p same within is =
 
 -- what a point says
 pub point_is : (i : InstructionParts) (j : JournalParts) (ps : List Posting) (f : Figures) (k before at : ℕ) (p : Point)
-    → (figures : AreFigures i (journal_with j ps) f) → slice_get f.points.items k ≡ Some p
+    → (figures : AreFigures i (journal_with j ps ∷ []) f) → slice_get f.points.items k ≡ Some p
     → point_after (length ps) k ≡ before → point_after (length ps) (k + 1) ≡ at
-    → IsPoint i ps figures.without before at p
+    → IsPoint i (journal_with j ps ∷ []) figures.without before at p
 point_is i j ps f k before at p figures there is_before is_at =
-    subst (λ b. IsPoint i ps figures.without b at p) is_before
-    (subst (λ a. IsPoint i ps figures.without (point_after (length ps) k) a p) is_at (figures.points.each k p there))
+    subst (λ b. IsPoint i (journal_with j ps ∷ []) figures.without b at p) is_before
+    (subst (λ a. IsPoint i (journal_with j ps ∷ []) figures.without (point_after (length ps) k) a p) is_at (figures.points.each k p there))
+
+pub version_is : (i : InstructionParts) (j : JournalParts) (us : List Posting) (before at : ℕ) (p : Point)
+    → IsPoint i (j ∷ []) us before at p → p.version ≡ ends_of i (take at j.entries)
+version_is i j us before at p is =
+    let first : p.journal ≡ 0 = omega (arith, is.stands.0) in
+    let none : 0 + is.here ≡ at = subst (λ k. length (postings_of (take k (j ∷ []))) + is.here ≡ at) first is.stands.2 in
+    let here : is.here ≡ at = omega (arith, none) in
+    is.version ∙ ap (λ k. ends_of i (take is.here (entries_in (slice_get (j ∷ []) k)))) first
+    ∙ ap (λ n. ends_of i (take n j.entries)) here
 
 -- the best cutting of the one stem that was cut is worth no less than another one
 best_of_one : (i : InstructionParts) (d : DemandParts) (e : EntryParts) (us : List Posting) → IsOutvalued i e
@@ -83,7 +98,7 @@ best_of_one i d e (u ∷ v ∷ w ∷ us) out all = absurd (omega (arith, all.sam
 
 pub outvalued : (i : InstructionParts) (j : JournalParts) (d : DemandParts) (e : EntryParts) (f : Figures)
     → IsOutvalued i e
-    → AreFigures i (journal_with j (Demand d ∷ Cut e ∷ [])) f → f.total.at_base < f.total.best
+    → AreFigures i (journal_with j (Demand d ∷ Cut e ∷ []) ∷ []) f → f.total.at_base < f.total.best
 outvalued i j d e f out figures =
     omega (
       arith,
@@ -126,27 +141,31 @@ zero_whole wanted cut degree is =
     let zero : wanted * 0 ≡ 0 = omega arith in
     ap (λ k. cond (k == 0) None degree) (ap (λ k. wanted * k) is ∙ zero)
 
-pub no_degree : (i : InstructionParts) (d : DemandParts) (targets counts : List ℕ) (at : ℕ) (degree : Option ℕ)
+pub no_degree : (i : InstructionParts) (d : DemandParts) (targets counts : List ℕ) (at : ℕ) (degrees : Degrees)
     → AreClassCounts i (Demand d ∷ []) counts
-    → IsDegreeBy i targets counts at degree → degree ≡ None
-no_degree i d targets counts at degree are is =
+    → AreDegreesBy i targets counts at degrees → degrees.whole ≡ None
+no_degree i d targets counts at degrees are is =
     let none : sum (part_of i is.assortment at counts) ≡ 0 = nothing _ _ counts (none_at i d counts are) in
-    is.degree_is
+    is.degrees.whole
     ∙ zero_whole (sum (part_of i is.assortment at targets)) (sum (part_of i is.assortment at counts)) _ none
 
-pub none_first : (degrees : List (Option ℕ)) → ((d : Option ℕ) → slice_get degrees 0 ≡ Some d → d ≡ None)
-    → get_or degrees 0 None ≡ None
+abbrev pub whole_of : Degrees → Option ℕ
+whole_of d = d.whole
+
+pub none_first : (degrees : List Degrees) → ((d : Degrees) → slice_get degrees 0 ≡ Some d → d.whole ≡ None)
+    → whole_of (get_or degrees 0 (record { whole = None; diameter = None; length = None })) ≡ None
 none_first [] none = refl
 none_first (d ∷ degrees) none = none d refl
 
 -- of two stems of one length the last isn't the longest
-pub not_last : (i : InstructionParts) (j : JournalParts) (f : Figures) (two : AreAsLong j.entries) (at : ℕ)
-    → AreFigures i j f
+pub not_last : (i : InstructionParts) (j : JournalParts) (js : List JournalParts) (f : Figures) (two : AreAsLong j.entries)
+    (at : ℕ)
+    → js ≡ j ∷ [] → AreFigures i js f
     → f.longest ≡ Some at → at ≡ 1 → ⊥
-not_last i j f two at figures is last =
+not_last i j js f two at alone figures is last =
     let a = two.cuts.first in
     let b = two.cuts.second in
-    let told : AreFigures i (journal_with j (Cut a ∷ Cut b ∷ [])) f = told i j _ f two.cuts.are figures in
+    let told : AreFigures i (journal_with j (Cut a ∷ Cut b ∷ []) ∷ []) f = told i j js _ f alone two.cuts.are figures in
     let greatest : IsFirstGreatest (lengths_of (Cut a ∷ Cut b ∷ [])) (Some 1) =
     subst (λ k. IsFirstGreatest (lengths_of (Cut a ∷ Cut b ∷ [])) (Some k)) last
     (subst (λ o. IsFirstGreatest (lengths_of (Cut a ∷ Cut b ∷ [])) o) is told.longest) in
@@ -165,10 +184,10 @@ none_greatest : (ns : List ℕ) (at : Option ℕ) → ((k : ℕ) → slice_index
 none_greatest ns None none first there = true_false (sym there)
 none_greatest ns (Some at) none first there = omega (arith, none at, first.0)
 
-pub no_dearest : (i : InstructionParts) (j : JournalParts) (d : DemandParts) (f : Figures) → j.entries ≡ Demand d ∷ []
-    → AreFigures i j f → is_some f.dearest ≡ true → ⊥
-no_dearest i j d f only figures =
-    let told : AreFigures i (journal_with j (Demand d ∷ [])) f = told i j _ f only figures in
+pub no_dearest : (i : InstructionParts) (j : JournalParts) (js : List JournalParts) (d : DemandParts) (f : Figures)
+    → js ≡ j ∷ [] → j.entries ≡ Demand d ∷ [] → AreFigures i js f → is_some f.dearest ≡ true → ⊥
+no_dearest i j js d f alone only figures =
+    let told : AreFigures i (journal_with j (Demand d ∷ []) ∷ []) f = told i j js _ f alone only figures in
     none_greatest _ f.dearest (no_cost i d told.without told.are_unsteered) told.dearest
 
 -- the cut that stands behind a demand
@@ -180,6 +199,15 @@ entry_in e (Some (Demand d)) = e
 pub is_entry : (ps : List Posting) (d : DemandParts) (e f : EntryParts) → ps ≡ Demand d ∷ Cut e ∷ []
     → slice_get ps 1 ≡ Some (as_posting f) → f ≡ e
 is_entry ps d e f same there = ap (entry_in f) (sym there ∙ ap (λ qs. slice_get qs 1) same)
+
+-- a cut that stands first is told
+pub told_there : (base : SheetParts) (j : JournalParts) (js : List JournalParts) (e : EntryParts) (o : Option Told)
+    → js ≡ j ∷ [] → j.entries ≡ Cut e ∷ [] → IsToldAt base js (record { journal = 0; at = 0 }) o → is_some o ≡ true
+told_there base j js e None alone only is =
+    let first : Place = record { journal = 0; at = 0 } in
+    let none : IsToldAt base (j ∷ []) first None = subst (λ ks. IsToldAt base ks first None) alone is in
+    absurd (none e (ap (λ ps. slice_get ps 0) only))
+told_there base j js e (Some cut) alone only is = refl
 
 -- a log's price that was off its base
 pub off_base : (i : InstructionParts) (sheets : List (List ℕ)) (e : EntryParts) (c : Told) (p : Piece)

@@ -2,6 +2,7 @@
 use Rattle.std.specs.Prelude.{◌≡◌, ◌≢◌, ℕ, ◌<◌, List, [], ◌∷◌, slice_index}
 use Rattle.buck_apt.specs.declared.class.Class.{Class}
 use Rattle.buck_apt.specs.Instruction.{InstructionParts, index_of}
+use Rattle.buck_apt.specs.Grades.{grade_free}
 use Rattle.buck_stem.specs.Stem.{stem_length}
 use Rattle.buck_value.specs.declared.log.Log.{Log}
 use Rattle.buck_value.specs.Sheet.{price_of}
@@ -12,6 +13,7 @@ use Rattle.buck_book.specs.declared.posting.Posting.TheVariants.{Cut, Demand}
 use Rattle.buck_book.specs.Counts.{class_logs}
 use Rattle.buck_book.specs.History.{prices_at}
 use Rattle.buck_book.specs.Entry.{EntryParts, DemandParts}
+use Rattle.buck_journal.specs.reading.Journal.{JournalParts}
 use Rattle.buck_figures.specs.Figures.{base_sheet}
 
 -- another cutting of a cut's stem is worth more at base prices
@@ -59,3 +61,29 @@ pub record AreOfTwoStems (ps : List Posting) : Type 0 where
 pub record AreAsLong (ps : List Posting) : Type 0 where
   pub cuts : AreTwoCuts ps
   pub same : stem_length cuts.first.stem.samples ≡ stem_length cuts.second.stem.samples
+
+-- without grades a cutting of a cut's stem is worth more at base prices than each with them
+pub record IsHeldByGrades (i : InstructionParts) (e : EntryParts) : Type 0 where
+  pub logs : List Log
+  pub admissible : IsAdmissible (base_sheet (grade_free i)) e.stem logs
+  pub more : (held : List Log)
+      → IsAdmissible (base_sheet i) e.stem held
+      → cutting_worth (base_sheet i) e.stem held < cutting_worth (base_sheet (grade_free i)) e.stem logs
+
+-- a journal of one cut
+abbrev pub day_of : List (List ℕ) → EntryParts → JournalParts
+day_of sheets e = record { sheets = sheets; entries = Cut e ∷ [] }
+
+-- two journals of one cut each
+pub record AreADayEach (js : List JournalParts) : Type 0 where
+  pub first : EntryParts
+  pub second : EntryParts
+  pub first_sheets : List (List ℕ)
+  pub second_sheets : List (List ℕ)
+  pub are : js ≡ day_of first_sheets first ∷ day_of second_sheets second ∷ []
+
+-- of stems 1 and 2
+pub record AreOfStemsEach (js : List JournalParts) : Type 0 where
+  pub days : AreADayEach js
+  pub one : days.first.stem.number ≡ 1
+  pub two : days.second.stem.number ≡ 2

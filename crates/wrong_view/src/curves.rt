@@ -8,9 +8,10 @@ ghost use Rattle.wrong_view.specs.Cuts.{IsAfterDemand};
 use buck_apt::Instruction;
 use buck_book::{Demand, Entry, Posting};
 use buck_dp::Planner;
-use buck_figures::{degree_in, figures_of};
+use buck_figures::{degrees_in, figures_of};
 use buck_journal::Journal;
 use std::alloc::Global;
+use std::slice::from_ref;
 
 /// The degree at the end in the place of that at the point: there is one before anything was cut.
 pub fn degree_of_the_wrong_point(
@@ -24,13 +25,13 @@ pub fn degree_of_the_wrong_point(
     requires lawful { IsLawful (history_of instruction.now journal.now) }
     requires after_a_demand { IsAfterDemand journal.now.entries entry.now }
 {
-    let Ok(figures) = figures_of(alloc, planner, instruction, journal) else {
+    let Ok(figures) = figures_of(alloc, planner, instruction, from_ref(journal)) else {
         return;
     };
     let Some(point) = figures.points.get(0) else {
         return;
     };
-    let right = degree_in(point.degrees.as_slice(), 0).is_some();
+    let right = degrees_in(point.degrees.as_slice(), 0).whole.is_some();
     let wrong = true;
     prove!(right != wrong);
 }
@@ -47,7 +48,7 @@ pub fn version_before_the_point(
     requires lawful { IsLawful (history_of instruction.now journal.now) }
     requires only { journal.now.entries ≡ Posting.Demand demand.now ∷ [] }
 {
-    let Ok(figures) = figures_of(alloc, planner, instruction, journal) else {
+    let Ok(figures) = figures_of(alloc, planner, instruction, from_ref(journal)) else {
         return;
     };
     let Some(point) = figures.points.get(0) else {
@@ -70,7 +71,7 @@ pub fn demand_not_marked(
     requires lawful { IsLawful (history_of instruction.now journal.now) }
     requires only { journal.now.entries ≡ Posting.Demand demand.now ∷ [] }
 {
-    let Ok(figures) = figures_of(alloc, planner, instruction, journal) else {
+    let Ok(figures) = figures_of(alloc, planner, instruction, from_ref(journal)) else {
         return;
     };
     let Some(point) = figures.points.get(0) else {
@@ -93,7 +94,7 @@ pub fn demand_marked_again(
     requires lawful { IsLawful (history_of instruction.now journal.now) }
     requires after_a_demand { IsAfterDemand journal.now.entries entry.now }
 {
-    let Ok(figures) = figures_of(alloc, planner, instruction, journal) else {
+    let Ok(figures) = figures_of(alloc, planner, instruction, from_ref(journal)) else {
         return;
     };
     let Some(point) = figures.points.get(1) else {
@@ -115,7 +116,7 @@ pub fn point_for_each_of_many_postings(
     requires lawful { IsLawful (history_of instruction.now journal.now) }
     requires many { length journal.now.entries ≡ 201 }
 {
-    let Ok(figures) = figures_of(alloc, planner, instruction, journal) else {
+    let Ok(figures) = figures_of(alloc, planner, instruction, from_ref(journal)) else {
         return;
     };
     let right = figures.points.len();
@@ -134,7 +135,7 @@ pub fn last_postings_after_the_last_point(
     requires lawful { IsLawful (history_of instruction.now journal.now) }
     requires many { length journal.now.entries ≡ 399 }
 {
-    let Ok(figures) = figures_of(alloc, planner, instruction, journal) else {
+    let Ok(figures) = figures_of(alloc, planner, instruction, from_ref(journal)) else {
         return;
     };
     let Some(point) = figures.points.get(199) else {

@@ -1,19 +1,31 @@
 //! Cuts told otherwise than they were.
-ghost use Rattle.std.specs.Prelude.{◌≡◌, [], ◌∷◌, length, map};
+ghost use Rattle.std.specs.Prelude.{◌≡◌, [], ◌∷◌, length};
 ghost use Rattle.buck_figures.specs.Shown.{IsShown};
 ghost use Rattle.wrong_view.specs.Cuts.{AreOfTwoStems, IsAfterDemand, IsOffBase, IsOutvalued};
 
 use buck_book::{Demand, Entry, Posting};
 use buck_dp::Planner;
-use buck_figures::{Figures, cut_at};
+use buck_figures::{Figures, Place, cut_at};
+use buck_journal::Journal;
 use std::alloc::Global;
 
+/// The places of the first two postings of a journal.
+const FIRST: Place = Place { journal: 0, at: 0 };
+
+const SECOND: Place = Place { journal: 0, at: 1 };
+
 /// The cut after the one that is asked for is told.
-pub fn cut_of_the_next_place(alloc: Global, figures: &Figures<'_>, planner: &mut Planner)
+pub fn cut_of_the_next_place(
+    alloc: Global,
+    figures: &Figures<'_>,
+    planner: &mut Planner,
+    journal: &Journal,
+)
     requires shown { IsShown figures.now planner.old }
-    requires two { AreOfTwoStems figures.now.postings.now }
+    requires of { figures.now.journals.now ≡ journal.now ∷ [] }
+    requires two { AreOfTwoStems journal.now.entries }
 {
-    let Ok(Some(cut)) = cut_at(alloc, figures, planner, 0) else {
+    let Ok(Some(cut)) = cut_at(alloc, figures, planner, FIRST) else {
         return;
     };
     let entry = cut.entry;
@@ -27,12 +39,14 @@ pub fn demand_told_as_a_cut(
     alloc: Global,
     figures: &Figures<'_>,
     planner: &mut Planner,
+    journal: &Journal,
     demand: &Demand,
 )
     requires shown { IsShown figures.now planner.old }
-    requires only { figures.now.postings.now ≡ Posting.Demand demand.now ∷ [] }
+    requires of { figures.now.journals.now ≡ journal.now ∷ [] }
+    requires only { journal.now.entries ≡ Posting.Demand demand.now ∷ [] }
 {
-    let Ok(told) = cut_at(alloc, figures, planner, 0) else {
+    let Ok(told) = cut_at(alloc, figures, planner, FIRST) else {
         return;
     };
     let right = told.is_some();
@@ -41,11 +55,19 @@ pub fn demand_told_as_a_cut(
 }
 
 /// A cut isn't told.
-pub fn cut_not_told(alloc: Global, figures: &Figures<'_>, planner: &mut Planner, entry: &Entry)
+#[tactic(auto, using(crate::proofs::Postings::told_there))]
+pub fn cut_not_told(
+    alloc: Global,
+    figures: &Figures<'_>,
+    planner: &mut Planner,
+    journal: &Journal,
+    entry: &Entry,
+)
     requires shown { IsShown figures.now planner.old }
-    requires only { figures.now.postings.now ≡ Posting.Cut entry.now ∷ [] }
+    requires of { figures.now.journals.now ≡ journal.now ∷ [] }
+    requires only { journal.now.entries ≡ Posting.Cut entry.now ∷ [] }
 {
-    let Ok(told) = cut_at(alloc, figures, planner, 0) else {
+    let Ok(told) = cut_at(alloc, figures, planner, FIRST) else {
         return;
     };
     let right = told.is_none();
@@ -54,12 +76,19 @@ pub fn cut_not_told(alloc: Global, figures: &Figures<'_>, planner: &mut Planner,
 }
 
 /// A log of a cut isn't told.
-pub fn last_log_not_told(alloc: Global, figures: &Figures<'_>, planner: &mut Planner, entry: &Entry)
+pub fn last_log_not_told(
+    alloc: Global,
+    figures: &Figures<'_>,
+    planner: &mut Planner,
+    journal: &Journal,
+    entry: &Entry,
+)
     requires shown { IsShown figures.now planner.old }
-    requires only { figures.now.postings.now ≡ Posting.Cut entry.now ∷ [] }
+    requires of { figures.now.journals.now ≡ journal.now ∷ [] }
+    requires only { journal.now.entries ≡ Posting.Cut entry.now ∷ [] }
     requires logs { length entry.now.logs ≡ 2 }
 {
-    let Ok(Some(cut)) = cut_at(alloc, figures, planner, 0) else {
+    let Ok(Some(cut)) = cut_at(alloc, figures, planner, FIRST) else {
         return;
     };
     let right = cut.pieces.len();
@@ -68,12 +97,19 @@ pub fn last_log_not_told(alloc: Global, figures: &Figures<'_>, planner: &mut Pla
 }
 
 /// The cut is told as the best one at base prices.
-pub fn best_is_the_cut(alloc: Global, figures: &Figures<'_>, planner: &mut Planner, entry: &Entry)
+pub fn best_is_the_cut(
+    alloc: Global,
+    figures: &Figures<'_>,
+    planner: &mut Planner,
+    journal: &Journal,
+    entry: &Entry,
+)
     requires shown { IsShown figures.now planner.old }
-    requires after_a_demand { IsAfterDemand figures.now.postings.now entry.now }
+    requires of { figures.now.journals.now ≡ journal.now ∷ [] }
+    requires after_a_demand { IsAfterDemand journal.now.entries entry.now }
     requires outvalued { IsOutvalued figures.now.instruction.now entry.now }
 {
-    let Ok(Some(cut)) = cut_at(alloc, figures, planner, 1) else {
+    let Ok(Some(cut)) = cut_at(alloc, figures, planner, SECOND) else {
         return;
     };
     let right = cut.best;
@@ -86,13 +122,15 @@ pub fn piece_at_its_base_price(
     alloc: Global,
     figures: &Figures<'_>,
     planner: &mut Planner,
+    journal: &Journal,
     entry: &Entry,
 )
     requires shown { IsShown figures.now planner.old }
-    requires after_a_demand { IsAfterDemand figures.now.postings.now entry.now }
-    requires off { IsOffBase figures.now.instruction.now (map (λ w. w.items) figures.now.sheets.now) entry.now }
+    requires of { figures.now.journals.now ≡ journal.now ∷ [] }
+    requires after_a_demand { IsAfterDemand journal.now.entries entry.now }
+    requires off { IsOffBase figures.now.instruction.now journal.now.sheets entry.now }
 {
-    let Ok(Some(cut)) = cut_at(alloc, figures, planner, 1) else {
+    let Ok(Some(cut)) = cut_at(alloc, figures, planner, SECOND) else {
         return;
     };
     let Some(piece) = cut.pieces.get(0) else {

@@ -14,6 +14,7 @@ use buck_dp::Planner;
 use buck_figures::{Sums, figures_of, number_at};
 use buck_journal::Journal;
 use std::alloc::Global;
+use std::slice::from_ref;
 
 /// What postings come to of which one stem was cut.
 const ONE: Sums = Sums {
@@ -55,7 +56,7 @@ pub fn demand_counted_as_a_stem(
     requires lawful { IsLawful (history_of instruction.now journal.now) }
     requires only { journal.now.entries ≡ Posting.Demand demand.now ∷ [] }
 {
-    let Ok(figures) = figures_of(alloc, planner, instruction, journal) else {
+    let Ok(figures) = figures_of(alloc, planner, instruction, from_ref(journal)) else {
         return;
     };
     let right = figures.total.stems;
@@ -76,7 +77,7 @@ pub fn at_base_by_the_prices_in_force(
     requires after_a_demand { IsAfterDemand journal.now.entries entry.now }
     requires differ { cutting_worth (base_sheet instruction.now) entry.now.stem entry.now.logs ≢ entry.now.worth }
 {
-    let Ok(figures) = figures_of(alloc, planner, instruction, journal) else {
+    let Ok(figures) = figures_of(alloc, planner, instruction, from_ref(journal)) else {
         return;
     };
     let right = figures.total.at_base;
@@ -97,7 +98,7 @@ pub fn unsteered_taken_as_cut(
     requires after_a_demand { IsAfterDemand journal.now.entries entry.now }
     requires outvalued { IsOutvalued instruction.now entry.now }
 {
-    let Ok(figures) = figures_of(alloc, planner, instruction, journal) else {
+    let Ok(figures) = figures_of(alloc, planner, instruction, from_ref(journal)) else {
         return;
     };
     let right = figures.total.best;
@@ -118,7 +119,7 @@ pub fn count_of_the_last_cut_forgotten(
     requires class { IsClass instruction.now class }
     requires only { IsOneCutInto instruction.now journal.now.entries class }
 {
-    let Ok(figures) = figures_of(alloc, planner, instruction, journal) else {
+    let Ok(figures) = figures_of(alloc, planner, instruction, from_ref(journal)) else {
         return;
     };
     let right = number_at(figures.counts.as_slice(), instruction.index(class));
@@ -139,7 +140,7 @@ pub fn targets_at_the_opening(
     requires only { journal.now.entries ≡ Posting.Demand demand.now ∷ [] }
     requires wanted { 0 < slice_index demand.now.targets 0 }
 {
-    let Ok(figures) = figures_of(alloc, planner, instruction, journal) else {
+    let Ok(figures) = figures_of(alloc, planner, instruction, from_ref(journal)) else {
         return;
     };
     let right = number_at(figures.targets.as_slice(), 0);
@@ -160,11 +161,14 @@ pub fn prices_at_the_opening(
     requires only { journal.now.entries ≡ Posting.Demand demand.now ∷ [] }
     requires differ { slice_index (prices_at journal.now.sheets 1) 0 ≢ slice_index (prices_at journal.now.sheets 0) 0 }
 {
-    let Ok(figures) = figures_of(alloc, planner, instruction, journal) else {
+    let Ok(figures) = figures_of(alloc, planner, instruction, from_ref(journal)) else {
+        return;
+    };
+    let Some(opening) = journal.sheets.get(0) else {
         return;
     };
     let right = number_at(figures.prices, 0);
-    let wrong = number_at(figures.sheets[0].as_slice(), 0);
+    let wrong = number_at(opening.as_slice(), 0);
     prove!(right != wrong);
 }
 
@@ -181,7 +185,7 @@ pub fn first_cut_is_the_first_posting(
     requires after_a_demand { IsAfterDemand journal.now.entries entry.now }
     requires harvester { entry.now.harvester ≡ 1 }
 {
-    let Ok(figures) = figures_of(alloc, planner, instruction, journal) else {
+    let Ok(figures) = figures_of(alloc, planner, instruction, from_ref(journal)) else {
         return;
     };
     let Some(own) = figures.harvesters.get(&1).copied() else {
@@ -203,7 +207,7 @@ pub fn sums_of_all_for_each_harvester(
     requires lawful { IsLawful (history_of instruction.now journal.now) }
     requires two { AreOfTwoHarvesters journal.now.entries }
 {
-    let Ok(figures) = figures_of(alloc, planner, instruction, journal) else {
+    let Ok(figures) = figures_of(alloc, planner, instruction, from_ref(journal)) else {
         return;
     };
     let Some(own) = figures.harvesters.get(&1).copied() else {
@@ -227,7 +231,7 @@ pub fn logs_of_all_for_each_assortment(
     requires only { journal.now.entries ≡ Posting.Cut entry.now ∷ [] }
     requires others { assortment_logs 0 entry.now.logs < length entry.now.logs }
 {
-    let Ok(figures) = figures_of(alloc, planner, instruction, journal) else {
+    let Ok(figures) = figures_of(alloc, planner, instruction, from_ref(journal)) else {
         return;
     };
     let Some(part) = figures.assortments.get(0) else {
@@ -249,7 +253,7 @@ pub fn longest_is_the_last_of_equals(
     requires lawful { IsLawful (history_of instruction.now journal.now) }
     requires two { AreAsLong journal.now.entries }
 {
-    let Ok(figures) = figures_of(alloc, planner, instruction, journal) else {
+    let Ok(figures) = figures_of(alloc, planner, instruction, from_ref(journal)) else {
         return;
     };
     let Some(right) = figures.longest else {
@@ -271,7 +275,7 @@ pub fn dearest_where_steering_cost_nothing(
     requires lawful { IsLawful (history_of instruction.now journal.now) }
     requires only { journal.now.entries ≡ Posting.Demand demand.now ∷ [] }
 {
-    let Ok(figures) = figures_of(alloc, planner, instruction, journal) else {
+    let Ok(figures) = figures_of(alloc, planner, instruction, from_ref(journal)) else {
         return;
     };
     let right = figures.dearest.is_some();

@@ -4,6 +4,8 @@ use Rattle.buck_value.specs.Sheet.{SheetParts, IsSheet}
 use Rattle.buck_dp.specs.declared.market.Head.{Head}
 use Rattle.buck_dp.specs.declared.market.PriceList.{PriceList}
 use Rattle.buck_dp.specs.declared.offers.Menu.{Menu}
+use Rattle.buck_dp.specs.declared.pricing.Term.{Term}
+use Rattle.buck_dp.specs.declared.pricing.Quote.{Quote}
 use Rattle.buck_dp.specs.declared.takers.Takers.{Takers}
 use Rattle.buck_dp.specs.declared.offering.Cell.{Cell}
 use Rattle.buck_dp.specs.inner.Quotes.{IsRow, IsAsked, AreTerms, AreQuotes}
@@ -15,13 +17,13 @@ pub record MarketParts : Type 0 where
   pub sheet : SheetParts
   pub menu : Menu
   pub kinds : List Known
-  pub terms : List PriceList
-  pub quotes : List PriceList
+  pub terms : List (PriceList Term)
+  pub quotes : List (PriceList Quote)
   pub cells : List Cell
   pub heads : List Head
 
-abbrev pub market_of : SheetParts → Menu → List Known → List PriceList → List PriceList → List Cell → List Head
-    → MarketParts
+abbrev pub market_of : SheetParts → Menu → List Known → List (PriceList Term) → List (PriceList Quote) → List Cell
+    → List Head → MarketParts
 market_of s m kinds terms quotes cells heads =
     record { sheet = s; menu = m; kinds = kinds; terms = terms; quotes = quotes; cells = cells; heads = heads }
 
@@ -35,17 +37,17 @@ abbrev pub IsRowOf : MarketParts → Takers → ℕ → Head → Type 0
 IsRowOf x takers d h = (h.takers ≡ takers) × (h.diameter ≡ d) × IsAt x.sheet x.menu x.cells h
 
 -- the price list of some takers for a diameter stands at a place
-abbrev pub IsListAt : List PriceList → Takers → ℕ → ℕ → Type 0
-IsListAt lists takers d n = (n < length lists)
-    × ((l : PriceList) → slice_get lists n ≡ Some l → (l.ask.takers ≡ takers) × IsAsked l.ask d)
+abbrev pub IsListAt : {X : Type 0} → List (PriceList X) → Takers → ℕ → ℕ → Type 0
+IsListAt {X} lists takers d n = (n < length lists)
+    × ((l : PriceList X) → slice_get lists n ≡ Some l → (l.ask.takers ≡ takers) × IsAsked l.ask d)
 
 -- a price list has the terms of an instruction for what a menu offers
-abbrev pub HasTerms : SheetParts → Menu → PriceList → Type 0
-HasTerms s m l = AreTerms s.instruction m.offers.items l.ask (length m.offers.items) l.quotes.items
+abbrev pub HasTerms : SheetParts → Menu → PriceList Term → Type 0
+HasTerms s m l = AreTerms s.instruction m.offers.items l.ask (length m.offers.items) l.list.items
 
 -- or the quotes of a sheet for that
-abbrev pub HasQuotes : SheetParts → Menu → PriceList → Type 0
-HasQuotes s m l = AreQuotes s m.offers.items l.ask l.quotes.items
+abbrev pub HasQuotes : SheetParts → Menu → PriceList Quote → Type 0
+HasQuotes s m l = AreQuotes s m.offers.items l.ask l.list.items
 
 -- so is each of a list
 abbrev pub AllAre : {X : Type 0} → (X → Type 0) → List X → Type 0

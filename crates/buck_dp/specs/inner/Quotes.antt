@@ -5,6 +5,7 @@ use Rattle.buck_apt.specs.declared.class.Class.{Class}
 use Rattle.buck_value.specs.Sheet.{SheetParts, IsSheet, price_of, sheet_of}
 use Rattle.buck_value.specs.Volume.{volume, worth_at}
 use Rattle.buck_dp.specs.inner.Logs.{point_after, IsTaker}
+use Rattle.buck_dp.specs.declared.pricing.Term.{Term}
 use Rattle.buck_dp.specs.declared.pricing.Quote.{Quote}
 use Rattle.buck_dp.specs.declared.pricing.Ask.{Ask}
 use Rattle.buck_dp.specs.inner.Bid.{BidParts, bid_of}
@@ -59,35 +60,35 @@ pub record IsTakersBid (s : SheetParts) (offers : List Offer) (takers : Takers) 
 
 -- what a quote bids for a log of a top diameter
 abbrev pub quote_bid : Quote → ℕ → BidParts
-quote_bid q d = bid_of (worth_at q.kind q.price (volume d q.length)) q.rank
+quote_bid q d = bid_of (worth_at q.term.kind q.price (volume d q.term.length)) q.term.rank
 
 -- a quote within the limits of an instruction
 pub record IsSmall (q : Quote) : Type 0 where
-  pub length : q.length ≤ 30000
+  pub length : q.term.length ≤ 30000
   pub price : q.price ≤ HIGHEST_PRICE
-  pub rank : q.rank ≤ HIGHEST_RANK
+  pub rank : q.term.rank ≤ HIGHEST_RANK
 
 -- a quote is a taker's bid at each diameter of a band
 pub record IsQuote (s : SheetParts) (offers : List Offer) (ask : Ask) (q : Quote) : Type 0 where
   pub small : IsSmall q
-  pub rise : q.rise ≡ point_after s.instruction.«module» q.trim
-  pub bids : (d : ℕ) → IsAsked ask d → IsTakersBid s offers ask.takers d q.steps q.trim (quote_bid q d)
+  pub rise : q.term.rise ≡ point_after s.instruction.«module» q.term.trim
+  pub bids : (d : ℕ) → IsAsked ask d → IsTakersBid s offers ask.takers d q.term.steps q.term.trim (quote_bid q d)
 
--- a quote at the price of its class
-abbrev pub quote_at : List ℕ → Quote → Quote
-quote_at prices q = record q { price = slice_index prices q.class }
+-- a term at the price of its class
+abbrev pub quote_at : List ℕ → Term → Quote
+quote_at prices t = record { term = t; price = slice_index prices t.class }
 
 -- the first bids more than the second by its price, of the same kind, and by length where that is per cubic metre, for
 -- logs that are no longer and with no more trim
 pub record IsLed (p q : Quote) : Type 0 where
-  pub trim : p.trim ≤ q.trim
-  pub steps : p.steps ≤ q.steps
-  pub less : ((p.kind ≡ 1) × (q.kind ≡ 1) × (q.price * q.length + p.price < p.price * p.length))
-      ⊎ ((p.kind ≢ 1) × (q.kind ≢ 1) × (q.price < p.price))
+  pub trim : p.term.trim ≤ q.term.trim
+  pub steps : p.term.steps ≤ q.term.steps
+  pub less : ((p.term.kind ≡ 1) × (q.term.kind ≡ 1) × (q.price * q.term.length + p.price < p.price * p.term.length))
+      ⊎ ((p.term.kind ≢ 1) × (q.term.kind ≢ 1) × (q.price < p.price))
 
 -- what can lead a list: it outbids what it leads
 abbrev pub IsLeading : Ask → Quote → Type 0
-IsLeading ask p = (p.kind ≢ 1) ⊎ (36 ≤ ask.band.thinnest)
+IsLeading ask p = (p.term.kind ≢ 1) ⊎ (36 ≤ ask.band.thinnest)
 
 -- one of a list bids what a quote does: it is that, or outbids it
 abbrev pub IsCovered : Ask → List Quote → Quote → Type 0
@@ -104,19 +105,19 @@ pub record IsNext (ask : Ask) (q : Quote) (list new : List Quote) : Type 0 where
   pub own : IsCovered ask new q
 
 -- a list has quotes of terms at their prices, and covers those of the first n
-pub record IsPruned (ask : Ask) (prices : List ℕ) (terms : List Quote) (n : ℕ) (list : List Quote) : Type 0 where
-  pub real : (q : Quote) → Contains list q → (t : Quote) × Contains terms t × (quote_at prices t ≡ q)
-  pub met : (k : ℕ) (t : Quote) → k < n → slice_get terms k ≡ Some t → IsCovered ask list (quote_at prices t)
+pub record IsPruned (ask : Ask) (prices : List ℕ) (terms : List Term) (n : ℕ) (list : List Quote) : Type 0 where
+  pub real : (q : Quote) → Contains list q → (t : Term) × Contains terms t × (quote_at prices t ≡ q)
+  pub met : (k : ℕ) (t : Term) → k < n → slice_get terms k ≡ Some t → IsCovered ask list (quote_at prices t)
 
 -- the cell of a quote at a diameter, in a row that reaches so far back
 abbrev pub cell_of : ℕ → ℕ → Quote → Cell
 cell_of far d q = record {
   bid = quote_bid q d;
-  steps = q.steps;
-  trim = q.trim;
-  rise = q.rise;
-  back = far - q.steps;
-  next = far + q.rise;
+  steps = q.term.steps;
+  trim = q.term.trim;
+  rise = q.term.rise;
+  back = far - q.term.steps;
+  next = far + q.term.rise;
 }
 
 -- the cells of a price list, in its order
@@ -127,21 +128,21 @@ row_of far d quotes = map (cell_of far d) quotes
 pub record AreQuotes (s : SheetParts) (offers : List Offer) (ask : Ask) (quotes : List Quote) : Type 0 where
   pub real : All (λ q. IsQuote s offers ask q) quotes
   pub met : (steps trim d : ℕ) (bid : BidParts) → IsAsked ask d → IsTakersBid s offers ask.takers d steps trim bid
-      → (q : Quote) × Contains quotes q × Meets (cell_of 0 d q) steps bid × (q.trim ≤ trim)
+      → (q : Quote) × Contains quotes q × Meets (cell_of 0 d q) steps bid × (q.term.trim ≤ trim)
 
 -- a term has a class, and is a quote at each price of that
-pub record IsTerm (i : InstructionParts) (offers : List Offer) (ask : Ask) (t : Quote) : Type 0 where
+pub record IsTerm (i : InstructionParts) (offers : List Offer) (ask : Ask) (t : Term) : Type 0 where
   pub class : t.class < classes i
   pub quote : (version : ℕ) (prices : List ℕ) → IsSheet (sheet_of version i prices)
       → IsQuote (sheet_of version i prices) offers ask (quote_at prices t)
 
 -- the terms of the first n offers: each bid of a taker is that of one at its price
-pub record AreTerms (i : InstructionParts) (offers : List Offer) (ask : Ask) (n : ℕ) (terms : List Quote) : Type 0 where
+pub record AreTerms (i : InstructionParts) (offers : List Offer) (ask : Ask) (n : ℕ) (terms : List Term) : Type 0 where
   pub real : All (λ t. IsTerm i offers ask t) terms
   pub met : (version : ℕ) (prices : List ℕ) → IsSheet (sheet_of version i prices) → (steps trim d : ℕ) (bid : BidParts)
       → IsAsked ask d → HIGHEST_RANK < bid.rank + n
       → IsTakersBid (sheet_of version i prices) offers ask.takers d steps trim bid
-      → (t : Quote) × Contains terms t × (t.steps ≡ steps) × (t.trim ≡ trim) × (quote_bid (quote_at prices t) d ≡ bid)
+      → (t : Term) × Contains terms t × (t.steps ≡ steps) × (t.trim ≡ trim) × (quote_bid (quote_at prices t) d ≡ bid)
 
 -- a cell is a taker's bid
 pub record IsCell (s : SheetParts) (offers : List Offer) (takers : Takers) (d far : ℕ) (c : Cell) : Type 0 where

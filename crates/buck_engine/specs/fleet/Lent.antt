@@ -23,3 +23,8 @@ of_lent contents None left Holds = Unit {0}
 of_lent contents (Some lent) (inl none) Holds = ⊥
 of_lent contents (Some lent) (inr (inl left)) Holds = Holds (contents lent.now) (contents left.0.now)
 of_lent contents (Some lent) (inr (inr never)) Holds = ⊥
+
+-- the same of a file that may have been made for a call
+abbrev pub of_made : {T : Type 0} → (T → Option (List ℕ)) → Option T → (OfWriter → Type 0) → Type 0
+of_made contents None Holds = Holds no_writer
+of_made contents (Some made) Holds = (left : _) × Holds (of_writer (contents made) (contents left))

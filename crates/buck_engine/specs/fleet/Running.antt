@@ -13,8 +13,7 @@ use Rattle.buck_book.specs.Posting.{harvester_of}
 use Rattle.buck_book.specs.History.{HistoryParts, IsLawful}
 use Rattle.buck_book.specs.Book.{IsFirst}
 use Rattle.buck_journal.specs.Written.{journal_text}
-use Rattle.buck_fleet.specs.Run.{stem_cut, stems_at}
-use Rattle.buck_fleet.specs.Closed.{replies_of}
+use Rattle.buck_book.specs.Replies.{stem_cut, stems_at, replies_of}
 use Rattle.buck_turn.specs.Turn.{AreInTurn}
 use Rattle.buck_engine.specs.declared.fleet.serving.Order.{Order}
 use Rattle.buck_engine.specs.declared.fleet.serving.Order.TheVariants.{AtOnce, InTurn}

@@ -8,7 +8,7 @@ use Rattle.buck_apt.specs.Instruction.{InstructionParts}
 use Rattle.buck_stem.specs.declared.stem.Stem.{Stem}
 use Rattle.buck_book.specs.Posting.{harvester_of}
 use Rattle.buck_book.specs.History.{HistoryParts, IsLawful}
-use Rattle.buck_fleet.specs.Run.{stems_at}
+use Rattle.buck_book.specs.Replies.{stems_at}
 use Rattle.buck_engine.specs.declared.fault.EngineFault.{EngineFault}
 use Rattle.buck_engine.specs.declared.fault.EngineFault.TheVariants.{Write, Memory}
 use Rattle.buck_engine.specs.fleet.Lent.{OfWriter}

@@ -1,8 +1,8 @@
--- Which files are opened.
+-- Which files are opened and made.
 use Rattle.std.specs.Prelude.{◌≡◌, ◌⊎◌, ◌<◌, ◌+◌, ℕ, min, List, [], ◌∷◌, length, take, slice_index_or, Option, Some, None, Result, Ok, Err}
 use Rattle.std.specs.declared.vec.Vec.{Vec}
 use Rattle.buck_engine.specs.declared.fault.EngineFault.{EngineFault}
-use Rattle.buck_engine.specs.declared.fault.EngineFault.TheVariants.{Read, Memory}
+use Rattle.buck_engine.specs.declared.fault.EngineFault.TheVariants.{Read, Write, Memory}
 
 -- both files are opened by their names, that of the instruction first
 pub record OpensBoth {O F : Type 0} (opens : O → List ℕ → Option F → O → Type 0) (old new : O)
@@ -71,3 +71,13 @@ AnswersInputs opens old new apt stms (Err fault) =
 abbrev pub both_listed : {X Y A E : Type 0} → Result (X × Vec Y A) E → Result (X × List Y) E
 both_listed (Ok both) = Ok (both.0, both.1.items)
 both_listed (Err e) = Err e
+
+-- where a journal is wanted, its file is made by its name; where that can't be, it is a write fault
+abbrev pub MakesJournal : {O M : Type 0} → (O → List ℕ → Option M → O → Type 0) → O → O → Option (List ℕ)
+    → Result (Option M) EngineFault → Type 0
+MakesJournal makes old new None (Ok None) = new ≡ old
+MakesJournal makes old new None (Ok (Some made)) = ⊥
+MakesJournal makes old new None (Err fault) = ⊥
+MakesJournal makes old new (Some name) (Ok None) = ⊥
+MakesJournal makes old new (Some name) (Ok (Some made)) = makes old name (Some made) new
+MakesJournal makes old new (Some name) (Err fault) = (fault ≡ Write) × makes old name None new

@@ -3,7 +3,7 @@ ghost use Rattle.std.specs.Prelude.{◌≡◌, ◌≢◌, ◌<◌, ◌≤◌, le
 ghost use Rattle.std.specs.Result.{IsErrAnd};
 ghost use Rattle.buck_apt.specs.Apt.{apt_of};
 ghost use Rattle.buck_stem.specs.file.Stm.{stm_of};
-ghost use Rattle.buck_fleet.specs.Run.{stems_of};
+ghost use Rattle.buck_book.specs.Replies.{stems_of};
 ghost use Rattle.buck_engine.specs.declared.fault.EngineFault.TheVariants.{Full, Seats};
 ghost use Rattle.buck_engine.specs.run.Reading.{IfStopped, IsAccepted, IsStmFault, Says, apt_with};
 ghost use Rattle.buck_engine.specs.fleet.Running.{AreListsOf, AreNoSeats, IsFleetFault, IsListFault};

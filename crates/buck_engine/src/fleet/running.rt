@@ -14,7 +14,6 @@ use crate::fleet::cutting::cut_lists;
 use crate::fleet::lists::{Input, number_of_stems, read_input_with};
 use crate::fleet::onlooker::{Nobody, Onlooker};
 use crate::fleet::writing::{write_journal_and_report, write_report};
-use crate::text::report::harvested_by;
 use buck_apt::Settings;
 use buck_fleet::Closed;
 use buck_rule::{Rule, Standing};
@@ -50,25 +49,6 @@ pub(crate) fn cut_files<
     let Input { instruction, lists } = read_input_with(alloc, apt, stms, settings)?;
     onlooker.cutting(number_of_stems(lists.as_slice()));
     cut_lists(rt, alloc, instruction, rule, lists.as_slice(), onlooker)
-}
-
-/// The same with the instruction's own numbers, while nobody looks on.
-fn cut_own_files<F: Fn(&Standing) -> u64 + Drop + Send, T: Threads + Wait + Sync, R: io::Read>(
-    rt: &T,
-    alloc: Global,
-    apt: &mut R,
-    stms: &mut [R],
-    rule: Rule<F>,
-) -> Result<Closed, EngineFault>
-    requires answers { AllAnswer F.Fn }
-    ensures seats { AreNoSeats (length stms.old) → IsErrAnd result (λ fault. fault ≡ Seats) }
-    ensures ok { IfOk result (λ closed.
-        IsHarvest apt_of (R.remaining apt.old) (map R.remaining stms.old) closed.history) }
-    ensures refused { IfErr result (IsFleetFault (R.remaining apt.old) (map R.remaining stms.old)) }
-    ensures order { IfErr result (IfStopped (λ last. drop last stms.new ≡ drop last stms.old)) }
-    ensures unread { IfErr result (λ fault. fault ≡ Seats → apt.new ≡ apt.old) }
-{
-    cut_files(rt, alloc, apt, stms, rule, &Settings::own(), &Nobody)
 }
 
 /// Reads an instruction file and stem files, cuts the stems of the k-th stem file by harvester k of a fleet, each in a
@@ -110,15 +90,15 @@ pub fn run_fleet_files<
     // Only a failed write touches the output.
     ensures untouched { IfErr result (λ fault. fault ≢ Write → out.new ≡ out.old) }
 {
-    let closed = cut_own_files(rt, alloc, apt, stms, rule);
+    let closed = cut_files(rt, alloc, apt, stms, rule, &Settings::own(), &Nobody);
     match journal {
         None => {
             let closed = closed?;
-            write_report(alloc, &harvested_by(&closed), out)
+            write_report(alloc, closed.parts(), out)
         }
         Some(journal) => {
             let closed = closed?;
-            write_journal_and_report(alloc, &harvested_by(&closed), journal, out)
+            write_journal_and_report(alloc, closed.parts(), journal, out)
         }
     }
 }

@@ -2,12 +2,13 @@
 ghost use Rattle.std.specs.Prelude.{◌≡◌, ◌≢◌, IfOk, IfErr};
 ghost use Rattle.buck_journal.specs.Written.{journal_text};
 ghost use Rattle.buck_engine.specs.declared.fault.EngineFault.TheVariants.{Write};
-ghost use Rattle.buck_engine.specs.fleet.Lent.{no_writer, of_writer};
+ghost use Rattle.buck_engine.specs.fleet.Lent.{no_writer, of_made, of_writer};
 ghost use Rattle.buck_engine.specs.inner.Fleet.{AreWritten};
 
 use crate::fault::EngineFault;
-use crate::text::report::{Harvested, report_of};
+use crate::text::report::report_of;
 use crate::text::writing::write_text;
+use buck_book::Parts;
 use buck_journal::journal_text;
 use buck_record::Memory;
 use std::alloc::Global;
@@ -16,7 +17,7 @@ use std::io;
 /// Writes the report of a history.
 pub(crate) fn write_report<W: io::Write>(
     alloc: Global,
-    history: &Harvested<'_>,
+    history: &Parts,
     out: &mut W,
 ) -> Result<(), EngineFault>
     ensures written { AreWritten history.now no_writer (W.contents out.old) (W.contents out.new) result }
@@ -27,18 +28,17 @@ pub(crate) fn write_report<W: io::Write>(
 }
 
 /// The text of a history's journal.
-fn text_of_journal(alloc: Global, history: &Harvested<'_>) -> Result<Vec<u8>, Memory>
+fn text_of_journal(alloc: Global, history: &Parts) -> Result<Vec<u8>, Memory>
     ensures { IfOk result (λ text. text.items ≡ journal_text history.now.sheets history.now.postings) }
 {
-    let text = journal_text(alloc, history.sheets, history.postings)?;
-    Ok(text)
+    journal_text(alloc, history.sheets(), history.entries())
 }
 
 /// Writes the journal of a history, and then its report. Both texts are there before the first byte is written.
 #[tactic(auto, using(crate::proofs::Harvests::texts))]
 pub(crate) fn write_journal_and_report<J: io::Write, W: io::Write>(
     alloc: Global,
-    history: &Harvested<'_>,
+    history: &Parts,
     journal: &mut J,
     out: &mut W,
 ) -> Result<(), EngineFault>
@@ -51,5 +51,21 @@ pub(crate) fn write_journal_and_report<J: io::Write, W: io::Write>(
     match write_text(journal, text.as_slice()) {
         Ok(()) => write_text(out, report.as_slice()),
         Err(fault) => Err(fault),
+    }
+}
+
+/// Writes the journal of a history into the file that was made for it, where there is one, and then its report.
+pub(crate) fn write_made<J: io::Write + Drop, W: io::Write>(
+    alloc: Global,
+    history: &Parts,
+    journal: Option<J>,
+    out: &mut W,
+) -> Result<(), EngineFault>
+    ensures { of_made J.contents journal
+        (λ kept. AreWritten history.now kept (W.contents out.old) (W.contents out.new) result) }
+{
+    match journal {
+        None => write_report(alloc, history, out),
+        Some(mut journal) => write_journal_and_report(alloc, history, &mut journal, out),
     }
 }

@@ -5,15 +5,15 @@ ghost use Rattle.buck_book.specs.History.{HistoryParts, IsLawful};
 ghost use Rattle.buck_journal.specs.reading.Journal.{journal_of};
 ghost use Rattle.buck_journal.specs.judging.Replay.{history_of, IsFirstFault};
 ghost use Rattle.buck_engine.specs.run.Checking.{IsJournalFault, IsUnlawful};
-ghost use Rattle.buck_engine.specs.run.Reading.{IfStopped, Says, apt_with};
+ghost use Rattle.buck_engine.specs.run.Reading.{IfStopped, Says};
 ghost use Rattle.buck_engine.specs.run.Viewing.{IsReadFault};
 ghost use Rattle.buck_engine.specs.inner.Reading.{AreRefused};
 ghost use Rattle.buck_book.specs.declared.posting.TheConstants.{MOST_POSTINGS};
 
 use crate::fault::EngineFault;
-use crate::run::reading::{read_file, read_instruction_with};
+use crate::run::reading::{read_file, read_instruction};
 use crate::run::threads::number_of_threads;
-use buck_apt::{Instruction, Settings};
+use buck_apt::Instruction;
 use buck_journal::{
     Journal, JournalFault, ReplayFault, read_journal, read_journal_in_parts, replay,
     replay_in_parts,
@@ -89,30 +89,8 @@ pub(crate) struct Both {
     pub journal: Journal,
 }
 
-/// The instruction and the journal that two files have, with a run's numbers in the place of the instruction's own. The
-/// instruction file is refused where it must be before the journal is read.
-pub(crate) fn read_both<R: io::Read>(
-    alloc: Global,
-    apt: &mut R,
-    journal: &mut R,
-    settings: &Settings,
-) -> Result<Both, EngineFault>
-    ensures instruction { IfOk result (λ both.
-        Says (apt_with settings.now) (R.remaining apt.old) (Ok both.instruction.value)) }
-    ensures journal { IfOk result (λ both. Says journal_of (R.remaining journal.old) (Ok both.journal)) }
-    ensures few { IfOk result (λ both. length both.journal.entries ≤ MOST_POSTINGS) }
-    ensures refused { IfErr result (IsReadFault (R.remaining apt.old) (R.remaining journal.old)) }
-    ensures order { IfErr result (IfStopped (λ last. last ≡ 0 → journal.new ≡ journal.old)) }
-{
-    let instruction = Arc::new(alloc, read_instruction_with(alloc, apt, settings)?)?;
-    let journal = read_postings(alloc, journal)?;
-    Ok(Both {
-        instruction,
-        journal,
-    })
-}
-
-/// The same with the instruction's own numbers.
+/// The instruction and the journal that two files have. The instruction file is refused where it must be before the
+/// journal is read.
 pub(crate) fn read_own<R: io::Read>(
     alloc: Global,
     apt: &mut R,
@@ -124,35 +102,15 @@ pub(crate) fn read_own<R: io::Read>(
     ensures refused { IfErr result (IsReadFault (R.remaining apt.old) (R.remaining journal.old)) }
     ensures order { IfErr result (IfStopped (λ last. last ≡ 0 → journal.new ≡ journal.old)) }
 {
-    read_both(alloc, apt, journal, &Settings::own())
-}
-
-/// The same as `read_both`, with the postings read in several threads at once: in as many as are told, or as the machine
-/// has.
-pub(crate) fn read_both_in_parts<T: Threads + Sync, R: io::Read>(
-    rt: &T,
-    alloc: Global,
-    threads: Option<u8>,
-    apt: &mut R,
-    journal: &mut R,
-    settings: &Settings,
-) -> Result<Both, EngineFault>
-    ensures instruction { IfOk result (λ both.
-        Says (apt_with settings.now) (R.remaining apt.old) (Ok both.instruction.value)) }
-    ensures journal { IfOk result (λ both. Says journal_of (R.remaining journal.old) (Ok both.journal)) }
-    ensures few { IfOk result (λ both. length both.journal.entries ≤ MOST_POSTINGS) }
-    ensures refused { IfErr result (IsReadFault (R.remaining apt.old) (R.remaining journal.old)) }
-    ensures order { IfErr result (IfStopped (λ last. last ≡ 0 → journal.new ≡ journal.old)) }
-{
-    let instruction = Arc::new(alloc, read_instruction_with(alloc, apt, settings)?)?;
-    let journal = read_postings_in_parts(rt, alloc, threads, journal)?;
+    let instruction = Arc::new(alloc, read_instruction(alloc, apt)?)?;
+    let journal = read_postings(alloc, journal)?;
     Ok(Both {
         instruction,
         journal,
     })
 }
 
-/// The same with the instruction's own numbers.
+/// The same, the postings read in several threads at once: in as many as are told, or as the machine has.
 pub(crate) fn read_own_in_parts<T: Threads + Sync, R: io::Read>(
     rt: &T,
     alloc: Global,
@@ -166,7 +124,12 @@ pub(crate) fn read_own_in_parts<T: Threads + Sync, R: io::Read>(
     ensures refused { IfErr result (IsReadFault (R.remaining apt.old) (R.remaining journal.old)) }
     ensures order { IfErr result (IfStopped (λ last. last ≡ 0 → journal.new ≡ journal.old)) }
 {
-    read_both_in_parts(rt, alloc, threads, apt, journal, &Settings::own())
+    let instruction = Arc::new(alloc, read_instruction(alloc, apt)?)?;
+    let journal = read_postings_in_parts(rt, alloc, threads, journal)?;
+    Ok(Both {
+        instruction,
+        journal,
+    })
 }
 
 /// Whether the journal is lawful for the instruction.

@@ -1,7 +1,8 @@
 //! Files by their names.
 ghost use Rattle.std.specs.Prelude.{◌≡◌, ◌+◌, ℕ, List, Option, map, min};
+ghost use Rattle.std.specs.Option.{option_map};
 ghost use Rattle.buck_record.specs.Reading.{listed};
-ghost use Rattle.buck_engine.specs.run.Opening.{AnswersAll, AnswersInputs, AnswersOpening, both_listed};
+ghost use Rattle.buck_engine.specs.run.Opening.{AnswersAll, AnswersInputs, AnswersOpening, MakesJournal, both_listed};
 
 use crate::fault::EngineFault;
 use std::alloc::Global;
@@ -95,4 +96,20 @@ pub fn open_inputs<O: Open>(
     };
     let stems = open_all(alloc, opener, stms)?;
     Ok((instruction, stems))
+}
+
+/// Makes the file of the journal, where one is wanted. One that can't be made is `Write`.
+pub fn make_journal<M: Make>(
+    maker: &mut M,
+    name: Option<&str>,
+) -> Result<Option<M::Made>, EngineFault>
+    ensures { MakesJournal M.makes maker.old maker.new (option_map (λ s. s.now) name.entry) result }
+{
+    match name {
+        None => Ok(None),
+        Some(name) => match maker.make(name) {
+            None => Err(EngineFault::Write),
+            Some(made) => Ok(Some(made)),
+        },
+    }
 }

@@ -1,17 +1,15 @@
 //! `run_buck_in_parts`: a bucking whose stems are read and cut in several threads at once.
-ghost use Rattle.std.specs.Prelude.{◌≡◌, ◌≢◌, ◌<◌, IfErr, Result};
-ghost use Rattle.buck_engine.specs.declared.fault.EngineFault.{EngineFault};
+ghost use Rattle.std.specs.Prelude.{◌≡◌, ◌≢◌, ◌<◌, IfErr};
 ghost use Rattle.buck_engine.specs.declared.fault.EngineFault.TheVariants.{Write};
 ghost use Rattle.buck_engine.specs.text.Written.{WritesText};
 ghost use Rattle.buck_engine.specs.run.Reading.{IfStopped};
 ghost use Rattle.buck_engine.specs.run.Bucking.{AnswersBuck};
-ghost use Rattle.buck_engine.specs.run.Serving.{RunsFiles, TellsOutcome, status_after};
+ghost use Rattle.buck_engine.specs.run.Serving.{RunsFiles};
 ghost use Rattle.buck_engine.specs.inner.Text.{joined_in};
 
 use crate::fault::EngineFault;
 use crate::run::opening::{Open, open_both};
 use crate::run::reading::{read_instruction, read_stems_in_parts};
-use crate::run::serving::conclude;
 use crate::run::threads::number_of_threads;
 use crate::text::bucking::buck_text_in_parts;
 use crate::text::writing::write_pieces;
@@ -72,8 +70,10 @@ pub fn run_buck_in_parts<T: Threads + Sync, R: io::Read, W: io::Write>(
     write_pieces(writer, pieces.as_slice())
 }
 
-/// Opens both files by their names, the instruction file first, and then runs over them.
-fn buck_files<T: Threads + Sync, O: Open, W: io::Write>(
+/// Bucks the stems of a task's files in several threads at once. The files are opened, the instruction file first,
+/// before one of them is read; one that can't be opened is `Read` with its number. Each fault and what is written before
+/// it are those of [`run_buck`](crate::run_buck).
+pub fn serve_buck<T: Threads + Sync, O: Open, W: io::Write>(
     rt: &T,
     alloc: Global,
     task: &BuckTask<'_>,
@@ -92,25 +92,4 @@ fn buck_files<T: Threads + Sync, O: Open, W: io::Write>(
         &mut stems,
         writer,
     )
-}
-
-/// Bucks the stems of a task's files in several threads at once, and says on `errors` how it ended. The answer is the
-/// exit status. The files are opened, the instruction file first, before one of them is read; one that can't be opened
-/// is `Read` with its number. Each fault and what is written before it are those of [`run_buck`](crate::run_buck).
-pub fn serve_buck<T: Threads + Sync, O: Open, W: io::Write, E: io::Write>(
-    rt: &T,
-    alloc: Global,
-    task: &BuckTask<'_>,
-    opener: &mut O,
-    output: &mut W,
-    errors: &mut E,
-) -> u8
-    ensures { (outcome : Result (Unit {0}) EngineFault)
-        × RunsFiles AnswersBuck O.opens O.File.remaining opener.old opener.new task.now.apt.now task.now.stm.now
-        (W.contents output.old) (W.contents output.new) outcome
-        × (result ≡ status_after outcome)
-        × TellsOutcome (E.contents errors.old) (E.contents errors.new) outcome }
-{
-    let outcome = buck_files(rt, alloc, task, opener, output);
-    conclude(errors, &outcome)
 }

@@ -18,7 +18,7 @@ const LIMIT: usize = 67_108_864;
 
 /// All bytes of the file of this number. `Read` where the reader fails or gives more than 67,108,864 bytes, and
 /// `Memory` where a growth was refused.
-pub(crate) fn read_file<R: io::Read>(
+pub fn read_file<R: io::Read>(
     alloc: Global,
     reader: &mut R,
     file: u32,

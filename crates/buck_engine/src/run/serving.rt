@@ -1,4 +1,4 @@
-//! Whole runs of the program, from its task to its exit status.
+//! Whole runs of the program, and how the program ends after one.
 ghost use Rattle.std.specs.Prelude.{◌≡◌, true, false, Result};
 ghost use Rattle.std.specs.Io.KnownBytes.{Keeps};
 ghost use Rattle.buck_engine.specs.declared.fault.EngineFault.{EngineFault};
@@ -92,7 +92,11 @@ fn report_files<O: Open, W: io::Write>(
 }
 
 /// Does what the task asks for.
-fn run_task<R: io::Read, O: Open, W: io::Write>(
+///
+/// The files of a task are opened in the order of its words before one of them is read; one that can't be opened is
+/// `Read` with its number. Each fault and what is written before it are those of [`run_buck`], [`run_bare`],
+/// [`run_check`] and [`run_report`](crate::run_report).
+pub fn serve<R: io::Read, O: Open, W: io::Write>(
     alloc: Global,
     task: &Task<'_>,
     input: &mut R,
@@ -149,29 +153,6 @@ pub fn conclude<E: io::Write>(errors: &mut E, outcome: &Result<(), EngineFault>)
 {
     tell(errors, outcome);
     status_after(outcome)
-}
-
-/// Does what the task asks for, and says on `errors` how it ended. The answer is the exit status.
-///
-/// The files of a task are opened in the order of its words before one of them is read; one that can't be opened is
-/// `Read` with its number. Each fault and what is written before it are those of [`run_buck`], [`run_bare`],
-/// [`run_check`] and [`run_report`](crate::run_report).
-pub fn serve<R: io::Read, O: Open, W: io::Write, E: io::Write>(
-    alloc: Global,
-    task: &Task<'_>,
-    input: &mut R,
-    opener: &mut O,
-    output: &mut W,
-    errors: &mut E,
-) -> u8
-    ensures { (outcome : Result (Unit {0}) EngineFault)
-        × RunsTask O.opens O.File.remaining opener.old opener.new (R.remaining input.old) task.now
-        (W.contents output.old) (W.contents output.new) outcome
-        × (result ≡ status_after outcome)
-        × TellsOutcome (E.contents errors.old) (E.contents errors.new) outcome }
-{
-    let outcome = run_task(alloc, task, input, opener, output);
-    conclude(errors, &outcome)
 }
 
 /// Says a text about the command line: what is wrong with the words on `errors`, with status 2, and what was asked

@@ -1,9 +1,10 @@
 //! A journal shown: as the page that a mill opens, or as a table for a spreadsheet.
-ghost use Rattle.std.specs.Prelude.{◌≡◌, ◌≢◌, ◌≤◌, length, OnOk, IfOk, IfErr};
+ghost use Rattle.std.specs.Prelude.{◌≡◌, ◌≢◌, ◌<◌, ◌≤◌, All, length, OnOk, IfOk, IfErr};
 ghost use Rattle.std.specs.Io.KnownBytes.{Keeps};
 ghost use Rattle.buck_apt.specs.Apt.{apt_of};
 ghost use Rattle.buck_book.specs.History.{IsLawful};
 ghost use Rattle.buck_figures.specs.Figures.{base_sheet};
+ghost use Rattle.buck_figures.specs.Journals.{postings_of};
 ghost use Rattle.buck_journal.specs.judging.Replay.{history_of, IsFirstFault};
 ghost use Rattle.buck_engine.specs.declared.fault.EngineFault.TheVariants.{Write};
 ghost use Rattle.buck_engine.specs.run.Reading.{IfStopped};
@@ -17,13 +18,14 @@ use crate::text::writing::write_text;
 use buck_apt::Instruction;
 use buck_dp::Planner;
 use buck_figures::figures_of;
-use buck_journal::ReplayFault;
+use buck_journal::{Journal, ReplayFault};
 use buck_record::Memory;
 use buck_tables::{Table, table_of};
 use buck_value::Sheet;
 use buck_view::{Files, fault_page, page};
 use std::alloc::Global;
 use std::io;
+use std::slice::from_ref;
 use std::sync::Arc;
 
 /// A planner at base prices.
@@ -34,29 +36,44 @@ fn base_planner(alloc: Global, instruction: &Arc<Instruction>) -> Result<Planner
     Ok(Planner::make(alloc, Arc::new(alloc, base)?)?)
 }
 
-/// The page of a lawful journal.
-fn page_of(alloc: Global, both: &Both, files: &Files<'_>) -> Result<String, Memory>
-    requires few { length both.now.journal.entries ≤ MOST_POSTINGS }
-    requires lawful { IsLawful (history_of both.now.instruction.value both.now.journal) }
+/// The page of lawful journals.
+pub(crate) fn page_of(
+    alloc: Global,
+    instruction: &Arc<Instruction>,
+    journals: &[Journal],
+    files: &Files<'_>,
+) -> Result<String, Memory>
+    requires some { 0 < length journals.now }
+    requires few { length (postings_of journals.now) ≤ MOST_POSTINGS }
+    requires lawful { All (λ j. IsLawful (history_of instruction.now.value j)) journals.now }
 {
-    let mut planner = base_planner(alloc, &both.instruction)?;
-    let figures = figures_of(alloc, &mut planner, &both.instruction, &both.journal)?;
+    let mut planner = base_planner(alloc, instruction)?;
+    let figures = figures_of(alloc, &mut planner, instruction, journals)?;
     page(alloc, &figures, &mut planner, files)
 }
 
-/// A table of a lawful journal.
-fn table_in(alloc: Global, both: &Both, table: Table) -> Result<Vec<u8>, Memory>
-    requires few { length both.now.journal.entries ≤ MOST_POSTINGS }
-    requires lawful { IsLawful (history_of both.now.instruction.value both.now.journal) }
+/// A table of lawful journals.
+pub(crate) fn table_in(
+    alloc: Global,
+    instruction: &Arc<Instruction>,
+    journals: &[Journal],
+    table: Table,
+) -> Result<Vec<u8>, Memory>
+    requires some { 0 < length journals.now }
+    requires few { length (postings_of journals.now) ≤ MOST_POSTINGS }
+    requires lawful { All (λ j. IsLawful (history_of instruction.now.value j)) journals.now }
 {
-    let mut planner = base_planner(alloc, &both.instruction)?;
-    let figures = figures_of(alloc, &mut planner, &both.instruction, &both.journal)?;
+    let mut planner = base_planner(alloc, instruction)?;
+    let figures = figures_of(alloc, &mut planner, instruction, journals)?;
     table_of(alloc, &figures, &mut planner, table)
 }
 
 /// Writes a page, once all of it is there.
 #[tactic(auto, using(crate::proofs::Pages::page_written))]
-fn write_page<W: io::Write>(writer: &mut W, page: Result<String, Memory>) -> Result<(), EngineFault>
+pub(crate) fn write_page<W: io::Write>(
+    writer: &mut W,
+    page: Result<String, Memory>,
+) -> Result<(), EngineFault>
     ensures { WritesAs (AppendsPage (W.contents writer.old) (W.contents writer.new)) (W.contents writer.old) (W.contents writer.new) result }
 {
     let text = page?;
@@ -74,7 +91,7 @@ fn write_fault_page<W: io::Write>(
     ensures { ShowsFault (AppendsPage (W.contents writer.old) (W.contents writer.new)) fault (W.contents writer.old) (W.contents writer.new) result }
 {
     let postings = both.journal.entries.as_slice();
-    let text = fault_page(alloc, &both.instruction, postings, &fault, files);
+    let text = fault_page(alloc, &both.instruction, postings, &fault, files, 0);
     match write_page(writer, text) {
         Ok(()) => EngineFault::Replay(fault),
         Err(fault) => fault,
@@ -98,7 +115,10 @@ pub(crate) fn show_both<W: io::Write>(
         (history_of both.now.instruction.value both.now.journal) (W.contents writer.old) (W.contents writer.new) result }
 {
     match replayed {
-        Ok(()) => write_page(writer, page_of(alloc, both, files)),
+        Ok(()) => {
+            let text = page_of(alloc, &both.instruction, from_ref(&both.journal), files);
+            write_page(writer, text)
+        }
         Err(ReplayFault::Memory) => Err(EngineFault::Memory),
         Err(fault) => Err(write_fault_page(alloc, both, fault, files, writer)),
     }
@@ -131,7 +151,7 @@ pub fn run_view<R: io::Read, W: io::Write>(
 
 /// Writes a table, once all of it is there.
 #[tactic(auto, using(crate::proofs::Pages::table_written))]
-fn write_table<W: io::Write>(
+pub(crate) fn write_table<W: io::Write>(
     writer: &mut W,
     table: Result<Vec<u8>, Memory>,
 ) -> Result<(), EngineFault>
@@ -160,7 +180,10 @@ pub(crate) fn list_both<W: io::Write>(
     ensures untouched { IfErr result (λ fault. fault ≢ Write → writer.new ≡ writer.old) }
 {
     match replayed {
-        Ok(()) => write_table(writer, table_in(alloc, both, table)),
+        Ok(()) => {
+            let text = table_in(alloc, &both.instruction, from_ref(&both.journal), table);
+            write_table(writer, text)
+        }
         Err(why) => Err(unlawful(why)),
     }
 }

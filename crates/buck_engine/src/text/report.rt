@@ -7,13 +7,11 @@ ghost use Rattle.buck_engine.specs.inner.Report.{IsClassIn};
 use crate::fault::TextFault;
 use crate::text::bucking::{put_named_line, put_total};
 use buck_apt::{Assortment, Class, Instruction};
-use buck_book::{Posting, degree_at};
+use buck_book::{Parts, Posting, degree_at};
 use buck_fleet::Closed;
 use buck_record::{Memory, put_line, put_numbers};
-use buck_value::Sheet;
 use std::alloc::Global;
 use std::marker::Model;
-use std::sync::Arc;
 
 /// How all classes stand at the end.
 #[derive(Drop)]
@@ -43,34 +41,6 @@ impl<'a> Model for Ending<'a> {
       counts = e.counts.now;
       prices = e.prices.now;
     }) };
-}
-
-/// A history, and how all classes stand at its end.
-#[derive(Drop)]
-pub(crate) struct Harvested<'a> {
-    pub(crate) sheets: &'a [Arc<Sheet>],
-    pub(crate) postings: &'a [Posting],
-    pub(crate) ending: Ending<'a>,
-}
-
-impl<'a> Model for Harvested<'a> {
-    ghost use Rattle.std.specs.Prelude.{map};
-    ghost use Rattle.buck_book.specs.History.{HistoryParts};
-    ghost use Rattle.buck_engine.specs.inner.Report.{EndsSo};
-
-    ghost Value = { HistoryParts };
-
-    ghost view = { λ h. record {
-      instruction = h.ending.instruction;
-      sheets = map (λ a. a.value.prices) h.sheets.now;
-      postings = h.postings.now;
-    } };
-
-    ghost invariant = { λ h. EndsSo (record {
-      instruction = h.ending.instruction;
-      sheets = map (λ a. a.value.prices) h.sheets.now;
-      postings = h.postings.now;
-    }) h.ending };
 }
 
 /// Puts the line of a posting at a position, as [`report_text`] does. `Memory` where a growth was refused.
@@ -297,26 +267,16 @@ pub fn degree(closed: &Closed, assortment: usize) -> Option<u32>
 }
 
 /// The report of a history; see [`report_text`].
-pub(crate) fn report_of(alloc: Global, history: &Harvested<'_>) -> Result<Vec<u8>, TextFault>
-    ensures { IfOk result (λ text. IsReport history.now text.items) }
+pub(crate) fn report_of(alloc: Global, parts: &Parts) -> Result<Vec<u8>, TextFault>
+    ensures { IfOk result (λ text. IsReport parts.now text.items) }
 {
-    report_with(alloc, &history.ending, history.postings)
-}
-
-/// The history of a closed fleet.
-pub(crate) fn harvested_by(closed: &Closed) -> Harvested<'_>
-    ensures { result ≡ closed.now.history }
-{
-    Harvested {
-        sheets: closed.sheets(),
-        postings: closed.entries(),
-        ending: Ending {
-            instruction: closed.instruction(),
-            targets: closed.targets(),
-            counts: closed.counts(),
-            prices: closed.last_sheet().prices(),
-        },
-    }
+    let ending = Ending {
+        instruction: parts.instruction(),
+        targets: parts.targets(),
+        counts: parts.counts(),
+        prices: parts.last_sheet().prices(),
+    };
+    report_with(alloc, &ending, parts.entries())
 }
 
 /// The report of a closed fleet: what was cut and demanded, how each class stands at the end, and the totals.
@@ -335,5 +295,5 @@ pub(crate) fn harvested_by(closed: &Closed) -> Harvested<'_>
 pub fn report_text(alloc: Global, closed: &Closed) -> Result<Vec<u8>, TextFault>
     ensures { IfOk result (λ text. IsReport closed.now.history text.items) }
 {
-    report_of(alloc, &harvested_by(closed))
+    report_of(alloc, closed.parts())
 }

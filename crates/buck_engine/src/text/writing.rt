@@ -82,8 +82,8 @@ fn write_line<W: io::Write>(
     write_text(writer, b"\n")
 }
 
-/// Writes the line of a fault that has a number: what kind it is of, the number of the file where there are several, and
-/// the fault's number and fields. Memory that ran out has a line of its own.
+/// Writes the line of a fault that has a number: what kind it is of, the number of the file where there are several,
+/// and the fault's number and fields. Memory that ran out has a line of its own.
 #[tactic(auto, using(crate::proofs::WrittenLemmas::unnumbered))]
 fn write_numbered<W: io::Write, F: Numbered>(
     writer: &mut W,
@@ -152,7 +152,13 @@ fn write_fault_line<W: io::Write>(writer: &mut W, fault: &EngineFault) -> Result
             write_numbered(writer, b"stm", &[u64::from(*file)], fault)
         }
         EngineFault::Journal(fault) => write_numbered(writer, b"journal", &[], fault),
+        EngineFault::JournalOf { journal, fault } => {
+            write_numbered(writer, b"journal", &[u64::from(*journal)], fault)
+        }
         EngineFault::Replay(fault) => write_numbered(writer, b"replay", &[], fault),
+        EngineFault::ReplayOf { journal, fault } => {
+            write_numbered(writer, b"replay", &[u64::from(*journal)], fault)
+        }
         EngineFault::Check(fault) => write_check_line(writer, fault),
         EngineFault::Seats => write_text(writer, b"seats\n"),
         EngineFault::Full => write_text(writer, b"full\n"),

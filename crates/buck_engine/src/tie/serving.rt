@@ -1,9 +1,7 @@
-//! Whole runs of a check that ties a journal, from their task to the exit status.
-ghost use Rattle.std.specs.Prelude.{◌≡◌, Result, map};
+//! Whole runs of a check that ties a journal.
+ghost use Rattle.std.specs.Prelude.{◌≡◌, map};
 ghost use Rattle.buck_record.specs.Reading.{listed};
-ghost use Rattle.buck_engine.specs.declared.fault.EngineFault.{EngineFault};
 ghost use Rattle.buck_engine.specs.run.Reading.{apt_with};
-ghost use Rattle.buck_engine.specs.run.Serving.{TellsOutcome, status_after};
 ghost use Rattle.buck_engine.specs.text.Written.{WritesText};
 ghost use Rattle.buck_engine.specs.tie.Answers.{AnswersCheckWith};
 ghost use Rattle.buck_engine.specs.tie.Serving.{ChecksFiles, RunsCheck};
@@ -11,7 +9,6 @@ ghost use Rattle.buck_engine.specs.tie.Serving.{ChecksFiles, RunsCheck};
 use crate::fault::EngineFault;
 use crate::run::both::replay_both_in_parts;
 use crate::run::opening::{Open, open_inputs};
-use crate::run::serving::conclude;
 use crate::text::writing::write_text;
 use crate::tie::running::{read_tied_in_parts, text_of_ties};
 use buck_apt::Settings;
@@ -91,8 +88,13 @@ fn check_opened<T: Threads + Sync, R: io::Read, W: io::Write>(
     }
 }
 
-/// Opens all files by their names, in order, and then checks the journal.
-fn check_files<T: Threads + Sync, O: Open, W: io::Write>(
+/// Checks the journal of a task in several threads at once.
+///
+/// The files are opened in the order of the words before one of them is read; one that can't be opened is `Read` with
+/// its number. Each fault and what is written before it are those of [`run_check_with`](crate::run_check_with), whatever
+/// the number of threads, where the instruction is read, and refused, by its own numbers, and then those of the task
+/// take their place. A task without a journal is `Read` with the number of that file.
+pub fn serve_check<T: Threads + Sync, O: Open, W: io::Write>(
     rt: &T,
     alloc: Global,
     task: &CheckTask<'_>,
@@ -111,29 +113,4 @@ fn check_files<T: Threads + Sync, O: Open, W: io::Write>(
         files.as_mut_slice(),
         writer,
     )
-}
-
-/// Checks the journal of a task in several threads at once, and says on `errors` how it ended. The answer is the exit
-/// status.
-///
-/// The files are opened in the order of the words before one of them is read; one that can't be opened is `Read` with
-/// its number. Each fault and what is written before it are those of [`run_check_with`](crate::run_check_with), whatever
-/// the number of threads, where the instruction is read, and refused, by its own numbers, and then those of the task
-/// take their place. A task without a journal is `Read` with the number of that file.
-pub fn serve_check<T: Threads + Sync, O: Open, W: io::Write, E: io::Write>(
-    rt: &T,
-    alloc: Global,
-    task: &CheckTask<'_>,
-    opener: &mut O,
-    output: &mut W,
-    errors: &mut E,
-) -> u8
-    ensures { (outcome : Result (Unit {0}) EngineFault)
-        × RunsCheck O.opens O.File.remaining opener.old opener.new task.now
-        (W.contents output.old) (W.contents output.new) outcome
-        × (result ≡ status_after outcome)
-        × TellsOutcome (E.contents errors.old) (E.contents errors.new) outcome }
-{
-    let outcome = check_files(rt, alloc, task, opener, output);
-    conclude(errors, &outcome)
 }

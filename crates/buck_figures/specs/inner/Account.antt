@@ -19,6 +19,8 @@ pub record IsAccount (i : InstructionParts) (ps us : List Posting) (a : Account)
   pub unsteered_low : AreAtMost (80 * length ps) a.tally.unsteered.items
   pub parts : AreParts i ps a.parts.items
   pub parts_few : AreFew (80 * length ps) a.parts.items
+  pub unsteered_parts : AreParts i us a.unsteered_parts.items
+  pub unsteered_parts_few : AreFew (80 * length ps) a.unsteered_parts.items
   pub longest : IsGreatest (lengths_of ps) a.longest
   pub dearest : IsGreatest (costs_of i ps us) a.dearest
 

@@ -16,6 +16,7 @@ use Rattle.buck_figures.specs.declared.figures.Part.{Part}
 pub record IsNone (p : Part) : Type 0 where
   pub logs : p.logs ≡ 0
   pub volume : p.volume ≡ 0
+  pub logged : p.logged ≡ 0
   pub at_base : p.at_base ≡ 0
 
 -- no log of each assortment
@@ -27,6 +28,7 @@ pub record AreNone (i : InstructionParts) (parts : List Part) : Type 0 where
 pub record IsPartWith (s : SheetParts) (stem : StemParts) (gs : List Log) (a : ℕ) (before after : Part) : Type 0 where
   pub logs : after.logs ≡ before.logs + assortment_logs a gs
   pub volume : after.volume ≡ before.volume + sum_in_part (log_volume stem) a gs
+  pub logged : after.logged ≡ before.logged + sum_in_part (λ x. x.length) a gs
   pub at_base : after.at_base ≡ before.at_base + sum_in_part (worth_of s stem) a gs
 
 -- of each assortment
@@ -37,10 +39,10 @@ pub record ArePartsWith (s : SheetParts) (stem : StemParts) (gs : List Log) (bef
       → slice_get after a ≡ Some q
       → IsPartWith s stem gs a p q
 
--- with the logs of a posting
-abbrev pub ArePartsOn : SheetParts → Posting → List Part → List Part → Type 0
-ArePartsOn s (Cut e) before after = ArePartsWith s e.stem e.logs before after
-ArePartsOn s (Demand d) before after = after ≡ before
+-- with a posting more that is cut into some logs; a demand cuts nothing
+abbrev pub ArePartsOn : SheetParts → Posting → List Log → List Part → List Part → Type 0
+ArePartsOn s (Cut e) logs before after = ArePartsWith s e.stem logs before after
+ArePartsOn s (Demand d) logs before after = after ≡ before
 
 -- no assortment has more logs than this
 abbrev pub AreFew : ℕ → List Part → Type 0

@@ -10,7 +10,8 @@ use Rattle.buck_book.specs.declared.posting.Posting.TheVariants.{Cut, Demand}
 use Rattle.buck_book.specs.Counts.{class_logs}
 
 -- the counts with some logs of a stem more: each class has as many more as there are logs of it
-pub record AreCountsWith (i : InstructionParts) (stem : StemParts) (logs : List Log) (before after : List ℕ) : Type 0 where
+pub record AreCountsWith (i : InstructionParts) (stem : StemParts) (logs : List Log) (before after : List ℕ)
+    : Type 0 where
   pub same_number : length after ≡ length before
   pub each : (c : Class) → IsClass i c
       → slice_index after (index_of i c) ≡ slice_index before (index_of i c) + class_logs i c stem logs

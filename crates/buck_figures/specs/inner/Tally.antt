@@ -1,9 +1,11 @@
 -- What all postings come to.
-use Rattle.std.specs.Prelude.{ℕ, ◌<◌, ◌≤◌, List, [], ◌∷◌, ◌++◌, slice_index}
+use Rattle.std.specs.Prelude.{◌≡◌, ℕ, ◌<◌, ◌≤◌, List, [], ◌∷◌, ◌++◌, slice_index}
 use Rattle.buck_apt.specs.Instruction.{InstructionParts}
 use Rattle.buck_book.specs.declared.posting.Posting.{Posting}
 use Rattle.buck_book.specs.Counts.{AreClassCounts}
+use Rattle.buck_value.specs.declared.log.Log.{Log}
 use Rattle.buck_figures.specs.Figures.{IsUnsteered}
+use Rattle.buck_figures.specs.inner.Adding.{logs_of}
 use Rattle.buck_figures.specs.Sums.{AreSums}
 use Rattle.buck_figures.specs.Owns.{AreOwns}
 use Rattle.buck_figures.specs.declared.sums.Sums.{Sums}
@@ -17,10 +19,12 @@ pub record IsTally (i : InstructionParts) (ps us : List Posting) (t : Tally) : T
   pub counts : AreClassCounts i ps t.counts.items
   pub unsteered : AreClassCounts i us t.unsteered.items
 
--- with one posting more, and what that one comes to
-pub record IsTallyWith (i : InstructionParts) (ps us : List Posting) (x : Posting) (s : Sums) (t : Tally) : Type 0 where
+-- with one posting more, what that one comes to, and the logs of its stem cut best at base prices
+pub record IsTallyWith (i : InstructionParts) (ps us : List Posting) (x : Posting) (s : Sums) (logs : List Log)
+    (t : Tally) : Type 0 where
   pub unsteered : Posting
   pub is_unsteered : IsUnsteered i x unsteered
+  pub logs_are : logs ≡ logs_of unsteered
   pub sums : AreSums i (x ∷ []) (unsteered ∷ []) s
   pub tally : IsTally i (ps ++ x ∷ []) (us ++ unsteered ∷ []) t
 

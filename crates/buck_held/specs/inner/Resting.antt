@@ -1,9 +1,6 @@
 -- A book that rests, without its rule.
-use Rattle.std.specs.Prelude.{◌≡◌, ◌<◌, ℕ, [], ◌∷◌, length, Option, Some, None}
-use Rattle.buck_apt.specs.Instruction.{InstructionParts}
-use Rattle.buck_value.specs.Sheet.{SheetParts, base_prices}
+use Rattle.std.specs.Prelude.{[], Option, Some, None}
 use Rattle.buck_book.specs.Book.{BookParts}
-use Rattle.buck_book.specs.History.{HistoryParts, sheet_at}
 use Rattle.buck_rule.specs.declared.named.NamedRule.{NamedRule}
 use Rattle.buck_held.specs.Kept.{KeptParts}
 
@@ -27,14 +24,3 @@ book_in None = record {
 
 abbrev pub kept_of : NamedRule → Resting → KeptParts
 kept_of rule b = record { rule = rule; history = b.history; capacity = b.capacity }
-
--- it has no posting and the base sheet
-pub record IsOpened (instruction : InstructionParts) (capacity : ℕ) (b : Resting) : Type 0 where
-  pub history_is : b.history
-      ≡ record { instruction = instruction; sheets = base_prices instruction ∷ []; postings = [] }
-  pub capacity_is : b.capacity ≡ capacity
-
--- a sheet is that of its version in a history
-pub record IsSheetOf (h : HistoryParts) (s : SheetParts) : Type 0 where
-  pub there : s.version < length h.sheets
-  pub is : s ≡ sheet_at h.instruction h.sheets s.version

@@ -4,7 +4,8 @@ ghost use Rattle.buck_book.specs.Posting.{harvester_of, number_of, planned_versi
 ghost use Rattle.buck_book.specs.Walk.{passed};
 ghost use Rattle.buck_journal.specs.judging.Replay.{Begins, IsSheetFault, IsSheetRight, IsContentFault, IsNumbered, IsOfVersion, IsCallFault, IsPostingFault, IsNumberFault, IsFaultAtEnd};
 ghost use Rattle.buck_journal.specs.declared.judging.fault.ReplayFault.TheVariants.{Memory};
-ghost use Rattle.buck_journal.specs.inner.Replay.{along, sheet_then, HoldsUnder, IsRightUnder, IsEndRight};
+ghost use Rattle.buck_journal.specs.judging.Order.{HoldsUnder, IsRightUnder, IsEndRight};
+ghost use Rattle.buck_journal.specs.inner.Replay.{along, sheet_then};
 ghost use Rattle.buck_book.specs.declared.posting.TheConstants.{MOST_POSTINGS};
 
 use crate::judging::case::Case;
@@ -158,16 +159,15 @@ fn check_number(case: &Case<'_, '_>, last: u32) -> Result<(), ReplayFault>
     Ok(())
 }
 
-/// The place after the last posting, where what stands there is right.
-pub(crate) fn check_end<'w>(case: &Case<'_, '_>, walk: Walk<'w>) -> Result<Walk<'w>, ReplayFault>
-    requires { walk.instruction ≡ case.now.instruction }
-    ensures right { OnOk result (IsEndRight (along walk.entry case.now.sheets) walk.entry.at) }
-    ensures same { IfOk result (λ w. w ≡ walk.entry) }
-    ensures refused { IfErr result (IsFaultAtEnd (along walk.entry case.now.sheets) walk.entry.at) }
+/// Checks what stands behind the last posting.
+pub(crate) fn check_end(case: &Case<'_, '_>, walk: &Walk<'_>) -> Result<(), ReplayFault>
+    requires { walk.now.instruction ≡ case.now.instruction }
+    ensures right { OnOk result (IsEndRight (along walk.now case.now.sheets) walk.now.at) }
+    ensures refused { IfErr result (IsFaultAtEnd (along walk.now case.now.sheets) walk.now.at) }
 {
     check_number(case, walk.version())?;
     if walk.begins_period() {
-        check_prices(case, &walk)?;
+        check_prices(case, walk)?;
     }
-    Ok(walk)
+    Ok(())
 }

@@ -1,12 +1,13 @@
 //! Whether a journal is lawful.
-ghost use Rattle.std.specs.Prelude.{◌≡◌, ◌≢◌, ◌+◌, ◌<◌, ◌≤◌, OnOk, IfOk, IfErr, IfNone, IfSome, length, map, slice_get, Some, Ok};
+ghost use Rattle.std.specs.Prelude.{◌≡◌, ◌≢◌, ◌+◌, ◌<◌, ◌≤◌, OnOk, IfOk, IfErr, IfNone, IfSome, length, map, Err};
 ghost use Rattle.std.specs.Thread.{IsSync};
 ghost use Rattle.buck_book.specs.History.{IsLawful};
 ghost use Rattle.buck_book.specs.Walk.{walk_of};
 ghost use Rattle.buck_journal.specs.judging.Replay.{history_of, Begins, IsFaultAt, IsFirstFault};
 ghost use Rattle.buck_journal.specs.declared.judging.fault.ReplayFault.TheVariants.{Memory};
 ghost use Rattle.buck_journal.specs.inner.Sheets.{AreMade};
-ghost use Rattle.buck_journal.specs.inner.Replay.{along, sheet_then, IsPassed, IsOrdered, IsFound};
+ghost use Rattle.buck_journal.specs.judging.Order.{IsOrdered};
+ghost use Rattle.buck_journal.specs.inner.Replay.{along, sheet_then, IsPassed, IsFound};
 ghost use Rattle.buck_book.specs.declared.posting.TheConstants.{MOST_POSTINGS};
 
 use crate::judging::case::Case;
@@ -23,98 +24,121 @@ use std::sync::Arc;
 use std::thread;
 use std::thread::Threads;
 
-/// Passes the posting that is next; and the sheet that it was passed under.
-fn pass_next<'w>(
+/// The sheet that the posting which is next may be passed under.
+fn check_next(
     alloc: Global,
     case: &Case<'_, '_>,
-    walk: Walk<'w>,
+    walk: &Walk<'_>,
     kept: Option<Arc<Sheet>>,
     posting: &Posting,
-) -> Result<(Walk<'w>, Arc<Sheet>), ReplayFault>
-    requires instruction { walk.instruction ≡ case.now.instruction }
-    requires next { slice_get walk.postings walk.at ≡ Some posting.now }
-    requires none { IfNone kept (Begins (along walk case.now.sheets) walk.at) }
-    requires kept { IfSome kept (λ s. (Begins (along walk case.now.sheets) walk.at → ⊥)
-        → s.value ≡ sheet_then (along walk case.now.sheets) walk.at) }
-    ensures right { OnOk result (IsPassed (along walk.entry case.now.sheets) walk.entry.at posting.now) }
-    ensures further { IfOk result (λ w.
-        w.0 ≡ walk_of walk.entry.instruction walk.entry.postings (walk.entry.at + 1)) }
-    ensures sheet { IfOk result (λ w. w.1.value ≡ sheet_then (along walk.entry case.now.sheets) walk.entry.at) }
+) -> Result<Arc<Sheet>, ReplayFault>
+    requires instruction { walk.now.instruction ≡ case.now.instruction }
+    requires none { IfNone kept (Begins (along walk.now case.now.sheets) walk.now.at) }
+    requires kept { IfSome kept (λ s. (Begins (along walk.now case.now.sheets) walk.now.at → ⊥)
+        → s.value ≡ sheet_then (along walk.now case.now.sheets) walk.now.at) }
+    ensures right { OnOk result (IsPassed (along walk.now case.now.sheets) walk.now.at posting.now) }
+    ensures sheet { IfOk result (λ s. s.value ≡ sheet_then (along walk.now case.now.sheets) walk.now.at) }
     ensures refused { IfErr result (λ fault. fault ≢ Memory
-        → IsFaultAt (along walk.entry case.now.sheets) walk.entry.at posting.now fault) }
+        → IsFaultAt (along walk.now case.now.sheets) walk.now.at posting.now fault) }
 {
-    let sheet = sheet_in_force(alloc, case, &walk, kept)?;
-    check_posting(&sheet, &walk, posting)?;
-    let walk = walk.pass(&sheet, posting)?;
-    Ok((walk, sheet))
+    let sheet = sheet_in_force(alloc, case, walk, kept)?;
+    check_posting(&sheet, walk, posting)?;
+    Ok(sheet)
 }
 
-/// How far a journal is in order, and what comes of it there where no cut before is outvalued.
+/// A place of a journal that is in order up to there: all is right before it, but that other logs may be worth more
+/// than those of a cut.
 #[derive(Drop)]
-struct Ordered<W> {
-    until: usize,
-    end: Result<W, ReplayFault>,
+pub struct Stop<'w> {
+    /// The place, with all that the postings before it add up to.
+    pub walk: Walk<'w>,
+    /// What is wrong there; Ok where that is the end, and right.
+    pub outcome: Result<(), ReplayFault>,
+}
+
+/// The place where a walk is stopped by a fault; none where memory ran out.
+fn stopped(walk: Walk<'_>, fault: ReplayFault) -> Result<Stop<'_>, buck_record::Memory>
+    ensures { IfOk result (λ stop. (stop.walk ≡ walk.entry) × (stop.outcome ≡ Err fault) × (fault ≢ Memory)) }
+{
+    match fault {
+        ReplayFault::Memory => Err(buck_record::Memory),
+        _ => Ok(Stop {
+            walk,
+            outcome: Err(fault),
+        }),
+    }
 }
 
 /// Goes through a journal for all that hangs on its order, and leaves out what takes time: whether a cut is outvalued.
-fn walk_in_order<'w>(
-    alloc: Global,
-    case: &Case<'w, '_>,
-) -> Result<Ordered<Walk<'w>>, buck_record::Memory>
+fn walk_in_order<'w>(alloc: Global, case: &Case<'w, '_>) -> Result<Stop<'w>, buck_record::Memory>
     requires { length case.now.postings ≤ MOST_POSTINGS }
-    ensures ordered { IfOk result (λ o. IsOrdered case.now o.until o.end) }
-    ensures end { IfOk result (λ o. IfOk o.end (λ w. w
-        ≡ walk_of case.now.instruction case.now.postings (length case.now.postings))) }
+    ensures walk { IfOk result (λ stop.
+        stop.walk ≡ walk_of case.now.instruction case.now.postings stop.walk.at) }
+    ensures ordered { IfOk result (λ stop. IsOrdered case.now stop.walk.at stop.outcome) }
 {
     let mut walk = Walk::opening(alloc, case.instruction(), case.postings())?;
     let mut kept = None;
     loop {
-        let until = walk.at();
         let Some(posting) = walk.next() else {
-            return Ok(Ordered {
-                until,
-                end: check_end(case, walk),
-            });
+            let outcome = check_end(case, &walk);
+            return Ok(Stop { walk, outcome });
         };
-        match pass_next(alloc, case, walk, kept, posting) {
-            Ok((further, sheet)) => {
-                walk = further;
+        match check_next(alloc, case, &walk, kept, posting) {
+            Ok(sheet) => {
+                walk = walk.pass(&sheet, posting)?;
                 kept = Some(sheet);
             }
-            Err(fault) => return Ok(Ordered {
-                until,
-                end: Err(fault),
-            }),
+            Err(fault) => return stopped(walk, fault),
         }
     }
 }
 
+/// How far a journal is in order, and what is wrong there.
+#[derive(Clone, Copy)]
+struct Ordered {
+    until: usize,
+    outcome: Result<(), ReplayFault>,
+}
+
 /// What comes of a journal, by the first doubtful posting as far as it is in order.
 #[tactic(auto, using(crate::proofs::Judged::answer_of_walk, crate::proofs::Judged::first_is_met))]
-fn judged<W: Drop>(
-    case: &Case<'_, '_>,
-    ordered: Ordered<W>,
-    doubtful: Option<usize>,
-) -> Result<W, ReplayFault>
-    requires ordered { IsOrdered case.now ordered.until ordered.end }
+fn judged(case: &Case<'_, '_>, ordered: Ordered, doubtful: Option<usize>) -> Result<(), ReplayFault>
+    requires ordered { IsOrdered case.now ordered.until ordered.outcome }
     requires found { IsFound case.now 0 ordered.until doubtful }
-    ensures end { IfOk result (λ w. ordered.end ≡ Ok w) }
+    ensures end { OnOk result (ordered.until ≡ length case.now.postings) }
     ensures lawful { OnOk result (IsLawful case.now) }
-    ensures refused { IfErr result (λ e. e ≢ Memory → IsFirstFault case.now e) }
+    ensures refused { IfErr result (IsFirstFault case.now) }
 {
-    let Ordered { until, end } = ordered;
+    let _valid = case.instruction().limit();
     let Some(at) = doubtful else {
-        return end;
+        return ordered.outcome;
     };
-    if at >= until {
-        return end;
+    if at >= ordered.until {
+        return ordered.outcome;
     }
     Err(ReplayFault::Outvalued { at })
 }
 
+/// Goes through a journal of at most 1,000,000 postings as [`replay`] does, but doesn't look for cuts that are
+/// outvalued, which takes most of its time: up to the first place where something else is wrong, or to the end. Refused
+/// as `Memory` alone.
+pub fn replay_in_order<'w>(
+    alloc: Global,
+    instruction: &'w Arc<Instruction>,
+    journal: &'w Journal,
+) -> Result<Stop<'w>, buck_record::Memory>
+    requires { length journal.now.entries ≤ MOST_POSTINGS }
+    ensures walk { IfOk result (λ stop.
+        stop.walk ≡ walk_of instruction.now.value journal.now.entries stop.walk.at) }
+    ensures ordered { IfOk result (λ stop.
+        IsOrdered (history_of instruction.now.value journal.now) stop.walk.at stop.outcome) }
+{
+    let made = first_sheets(alloc, instruction, journal.sheets.as_slice())?;
+    walk_in_order(alloc, &Case::of(instruction, journal, made.as_slice()))
+}
+
 /// The place after the last posting of a journal of at most 1,000,000, where it is lawful for an instruction: what all
 /// of it adds up to. Refused as [`replay`] refuses.
-#[tactic(auto, using(crate::proofs::Judged::told_end))]
 pub fn replay_to_end<'w>(
     alloc: Global,
     instruction: &'w Arc<Instruction>,
@@ -129,9 +153,11 @@ pub fn replay_to_end<'w>(
 {
     let made = first_sheets(alloc, instruction, journal.sheets.as_slice())?;
     let case = Case::of(instruction, journal, made.as_slice());
-    let ordered = walk_in_order(alloc, &case)?;
-    let doubtful = first_doubtful(alloc, &case, 0, ordered.until)?;
-    judged(&case, ordered, doubtful)
+    let Stop { walk, outcome } = walk_in_order(alloc, &case)?;
+    let until = walk.at();
+    let doubtful = first_doubtful(alloc, &case, 0, until)?;
+    judged(&case, Ordered { until, outcome }, doubtful)?;
+    Ok(walk)
 }
 
 /// Whether a journal of at most 1,000,000 postings is lawful for an instruction: each cutting is one that none
@@ -157,19 +183,16 @@ fn walk_and_search(
     alloc: Global,
     case: &Case<'_, '_>,
     to: usize,
-) -> Result<(Ordered<()>, Option<usize>), buck_record::Memory>
+) -> Result<(Ordered, Option<usize>), buck_record::Memory>
     requires few { length case.now.postings ≤ MOST_POSTINGS }
     requires within { to ≤ length case.now.postings }
     ensures { IfOk result (λ both.
-        IsOrdered case.now both.0.until both.0.end × IsFound case.now 0 to both.1) }
+        IsOrdered case.now both.0.until both.0.outcome × IsFound case.now 0 to both.1) }
 {
-    let Ordered { until, end } = walk_in_order(alloc, case)?;
+    let Stop { walk, outcome } = walk_in_order(alloc, case)?;
+    let until = walk.at();
     let doubtful = first_doubtful(alloc, case, 0, to)?;
-    let end = match end {
-        Ok(_) => Ok(()),
-        Err(fault) => Err(fault),
-    };
-    Ok((Ordered { until, end }, doubtful))
+    Ok((Ordered { until, outcome }, doubtful))
 }
 
 /// The fewest postings that are worth a thread of their own.
@@ -195,12 +218,12 @@ fn walk_beside_search<T: Threads + Sync>(
     instruction: &Arc<Instruction>,
     journal: &Journal,
     made: &[Arc<Sheet>],
-) -> Result<(Ordered<()>, Option<usize>), buck_record::Memory>
+) -> Result<(Ordered, Option<usize>), buck_record::Memory>
     requires threads { 0 < threads }
     requires few { length journal.now.entries ≤ MOST_POSTINGS }
     requires made { AreMade instruction.now.value journal.now.sheets (map (λ a. a.value) made.now) }
     ensures { IfOk result (λ both.
-        IsOrdered (history_of instruction.now.value journal.now) both.0.until both.0.end
+        IsOrdered (history_of instruction.now.value journal.now) both.0.until both.0.outcome
         × IsFound (history_of instruction.now.value journal.now) 0 both.0.until both.1) }
 {
     let count = journal.entries.len();
@@ -208,11 +231,11 @@ fn walk_beside_search<T: Threads + Sync>(
     let front = count.saturating_sub(size.saturating_mul(threads - 1));
     let (first, later) = thread::join(
         rt,
-        || -> Result<(Ordered<()>, Option<usize>), buck_record::Memory>
+        || -> Result<(Ordered, Option<usize>), buck_record::Memory>
             requires { (length journal.now.entries ≤ MOST_POSTINGS) × (front ≤ length journal.now.entries)
                 × AreMade instruction.now.value journal.now.sheets (map (λ a. a.value) made.now) }
             ensures { IfOk result (λ both.
-                IsOrdered (history_of instruction.entry.now.value journal.entry.now) both.0.until both.0.end
+                IsOrdered (history_of instruction.entry.now.value journal.entry.now) both.0.until both.0.outcome
                 × IsFound (history_of instruction.entry.now.value journal.entry.now) 0 front both.1) }
         { walk_and_search(alloc, &Case::of(instruction, journal, made), front) },
         || -> Result<Option<usize>, buck_record::Memory>

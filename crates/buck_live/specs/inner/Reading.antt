@@ -1,5 +1,5 @@
 -- A line that is read, byte by byte.
-use Rattle.std.specs.Prelude.{◌≡◌, ℕ, Bool, false, ◌&&◌, ◌++◌, List, [], ◌∷◌, All, length, take, nat_le, nat_lt, Option, Some, None, IfSome, if◌then◌else◌}
+use Rattle.std.specs.Prelude.{◌≡◌, ◌<◌, ◌≤◌, ℕ, Bool, true, false, ◌&&◌, ◌++◌, List, [], ◌∷◌, All, length, Option, Some, None, IfSome, if◌then◌else◌}
 use Rattle.std.specs.Io.KnownBytes.{Consumes, IsAtEnd}
 use Rattle.buck_live.specs.Lines.{is_feed, is_finished, longest_line, lines_of}
 use Rattle.buck_live.specs.declared.lines.End.{End}
@@ -10,27 +10,30 @@ abbrev pub ReadsByte : Option (List ℕ) → Option (List ℕ) → Option ℕ �
 ReadsByte old new None = Consumes old new [] × IsAtEnd new
 ReadsByte old new (Some b) = Consumes old new (b ∷ [])
 
--- so many bytes of a line were read, of which those that a line may have are held
+-- what is held of some bytes: all of them, where a line may have so many
+abbrev pub Holds : Bool → List ℕ → List ℕ → Type 0
+Holds true held bytes = (held ≡ bytes) × (length bytes ≤ longest_line)
+Holds false held bytes = (longest_line ≤ length held) × (longest_line < length bytes)
+
+-- so many bytes of a line were read, of which those are held that a line may have
 pub record HasRead (old new : Option (List ℕ)) (held : List ℕ) (fits : Bool) : Type 0 where
   pub bytes : List ℕ
   pub no_feed : All (λ b. is_feed b ≡ false) bytes
   pub taken : Consumes old new bytes
-  pub held_are : held ≡ take longest_line bytes
-  pub fits_is : fits ≡ nat_le (length bytes) longest_line
+  pub holds : Holds fits held bytes
 
--- what is held with a further byte, where a line may have so many
-abbrev pub held_with : ℕ → List ℕ → List ℕ
-held_with byte held = if nat_lt (length held) longest_line then held ++ byte ∷ [] else held
+-- a further byte is held, or a line may have no more
+abbrev pub HoldsMore : ℕ → List ℕ → List ℕ → Bool → Type 0
+HoldsMore byte old new true = (new ≡ old ++ byte ∷ []) × (length old < longest_line)
+HoldsMore byte old new false = (new ≡ old) × (longest_line ≤ length old)
 
--- a line is next, and then come the others of an input
-abbrev pub IsNext : Option (List ℕ) → Option (List ℕ) → Option (List ℕ) → Type 0
-IsNext None line new = Unit {0}
-IsNext (Some old) line None = ⊥
-IsNext (Some old) line (Some new) = lines_of old ≡ line ∷ lines_of new
+-- these are the lines of an input, as far as it is known
+abbrev pub HasLines : Option (List ℕ) → List (Option (List ℕ)) → Type 0
+HasLines input lines = IfSome input (λ bytes. lines_of bytes ≡ lines)
 
--- a line is the last of an input
-abbrev pub IsLast : Option (List ℕ) → Option (List ℕ) → Type 0
-IsLast input line = IfSome input (λ bytes. lines_of bytes ≡ line ∷ [])
+-- lines of an input were taken: before whatever lines are left
+abbrev pub AreTaken : Option (List ℕ) → List (Option (List ℕ)) → Option (List ℕ) → Type 0
+AreTaken input lines left = (more : List (Option (List ℕ))) → HasLines left more → HasLines input (lines ++ more)
 
 -- the line that is held, by what ended it
 abbrev pub line_of : List ℕ → Bool → End → Option (List ℕ)
@@ -39,5 +42,5 @@ line_of held fits Input = if fits && is_finished held then Some held else None
 
 -- the next line was read
 abbrev pub IsRead : Option (List ℕ) → Option (List ℕ) → Option (List ℕ) → End → Type 0
-IsRead old new line Feed = IsNext old line new
-IsRead old new line Input = IsLast old line
+IsRead old new line Feed = AreTaken old (line ∷ []) new
+IsRead old new line Input = HasLines old (line ∷ [])

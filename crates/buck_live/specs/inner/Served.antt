@@ -1,22 +1,12 @@
 -- What the journal of a run of requests goes into.
-use Rattle.std.specs.Prelude.{◌≡◌, ◌⊎◌, ℕ, List, Option, Some, None, Result, Ok, Err}
+use Rattle.std.specs.Prelude.{◌≡◌, ◌⊎◌, ℕ, List, Option, Some, None, Result, Err}
 use Rattle.std.specs.Io.KnownBytes.{Keeps}
 use Rattle.buck_apt.specs.Instruction.{InstructionParts}
 use Rattle.buck_book.specs.History.{HistoryParts}
 use Rattle.buck_engine.specs.declared.fault.EngineFault.{EngineFault}
-use Rattle.buck_engine.specs.declared.fault.EngineFault.TheVariants.{Write, Memory}
+use Rattle.buck_engine.specs.declared.fault.EngineFault.TheVariants.{Memory}
 use Rattle.buck_engine.specs.fleet.Lent.{OfWriter, no_writer, of_writer}
 use Rattle.buck_live.specs.Serving.{KeepsJournal, IsLive}
-
--- where a journal is wanted, its file is made by its name; where that can't be, it is a write fault
-abbrev pub MakesJournal : {O M : Type 0} → (O → List ℕ → Option M → O → Type 0) → O → O → Option (List ℕ)
-    → Result (Option M) EngineFault → Type 0
-MakesJournal makes old new None (Ok None) = new ≡ old
-MakesJournal makes old new None (Ok (Some made)) = ⊥
-MakesJournal makes old new None (Err fault) = ⊥
-MakesJournal makes old new (Some name) (Ok None) = ⊥
-MakesJournal makes old new (Some name) (Ok (Some made)) = makes old name (Some made) new
-MakesJournal makes old new (Some name) (Err fault) = (fault ≡ Write) × makes old name None new
 
 -- the journal of a history was written, where there is a file for it
 abbrev pub KeepsMade : {M : Type 0} → (M → Option (List ℕ)) → HistoryParts → Option M

@@ -6,7 +6,6 @@ ghost use Rattle.buck_record.specs.pass.Cursor.{HasItems, Leads, item_in};
 
 use crate::bytes::reading::read_piece;
 use crate::bytes::white::trim;
-use crate::pass::short_heads::rest_of;
 use crate::slot::Slot;
 use bstr::ByteSlice;
 
@@ -45,15 +44,10 @@ pub(crate) fn cut_piece(text: &[u8]) -> Option<(&[u8], &[u8])>
     None
 }
 
-/// The rest of a piece whose head stands in this slot. A head as it is usually written is read straight on, any other
-/// word by word.
+/// The rest of a piece whose head stands in this slot.
 fn rest_in(slot: Slot, piece: &[u8]) -> Option<&[u8]>
     ensures { IfSome result (λ rest. item_of piece.now ≡ Some (item_in slot rest.now)) }
 {
-    match rest_of(slot, piece) {
-        Some(rest) => return Some(rest),
-        None => {}
-    }
     let Some(item) = read_piece(piece) else {
         return None;
     };

@@ -50,10 +50,10 @@ fn put_four(out: &mut Vec<u8>, number: u32) -> Result<(), Memory>
     Ok(())
 }
 
-/// Puts a number of any digits, after a blank.
+/// Puts a number in decimal, after a byte. Refused as `Memory` with the buffer as it was.
 #[inline(never)]
-fn put_any(out: &mut Vec<u8>, number: u128) -> Result<(), Memory>
-    ensures put { OnOk result (out.new.items ≡ out.old.items ++ (32 ∷ decimal number)) }
+pub fn put_after(out: &mut Vec<u8>, byte: u8, number: u128) -> Result<(), Memory>
+    ensures put { OnOk result (out.new.items ≡ out.old.items ++ (byte ∷ decimal number)) }
     ensures kept { OnErr result (out.new.items ≡ out.old.items) }
 {
     let mut buffer = Buffer::new();
@@ -63,7 +63,7 @@ fn put_any(out: &mut Vec<u8>, number: u128) -> Result<(), Memory>
         buffer.format(number)
     };
     out.reserve(digits.len() + 1)?;
-    out.push_reserved(b' ');
+    out.push_reserved(byte);
     out.extend_from_slice(digits.as_bytes())?;
     Ok(())
 }
@@ -79,7 +79,7 @@ fn put_small(out: &mut Vec<u8>, number: u32) -> Result<(), Memory>
         return put_one(out, number);
     }
     if number < 100 {
-        return put_any(out, u128::from(number));
+        return put_after(out, b' ', u128::from(number));
     }
     if number < 1000 {
         return put_three(out, number);
@@ -96,7 +96,7 @@ pub fn put_number(out: &mut Vec<u8>, number: u128) -> Result<(), Memory>
     if number < 10_000 {
         return put_small(out, number as u32);
     }
-    put_any(out, number)
+    put_after(out, b' ', number)
 }
 
 /// Puts numbers in decimal, each after a blank. Refused as `Memory`, where some of them may have been put.

@@ -5,7 +5,7 @@ ghost use Rattle.buck_stem.specs.points.Profile.{profile_of, points_of, IsMaskBe
 ghost use Rattle.buck_stem.specs.inner.ProfileTables.{AreDiameters, AreTables};
 
 use crate::grades::Grades;
-use crate::points::runs::{Runs, put_between, put_runs};
+use crate::points::runs::{Runs, put_runs};
 use crate::stem::Stem;
 use buck_record::Memory;
 use std::alloc::{AllocError, Global};
@@ -43,8 +43,6 @@ enum Tables<'a> {
 pub struct ProfileLists {
     diameters: Vec<u32>,
     runs: Runs,
-    /// The grades of the steps of one run up to those of another.
-    between: Vec<Grades>,
 }
 
 impl ProfileLists {
@@ -53,7 +51,6 @@ impl ProfileLists {
         ProfileLists {
             diameters: Vec::new(alloc),
             runs: Runs::new(alloc),
-            between: Vec::new(alloc),
         }
     }
 }
@@ -77,8 +74,7 @@ fn put_tables(lists: &mut ProfileLists, stem: &Stem, step: u32) -> Result<(), Al
     ensures { OnOk result (AreTables (profile_of stem.now step) lists.new) }
 {
     put_diameters(&mut lists.diameters, stem, step)?;
-    put_runs(&mut lists.runs, stem, step)?;
-    put_between(&mut lists.between, lists.runs.masks.as_slice())
+    put_runs(&mut lists.runs, stem, step)
 }
 
 impl<'a> Profile<'a> {
@@ -147,18 +143,30 @@ impl<'a> Profile<'a> {
         self.lists().diameters[i]
     }
 
-    /// The grades from point `i` up to point `j`: bit g - 1 for grade g. They are found in constant time.
+    /// The grades from point `i` on, where those from the next point on, up to whichever point, are `grades`: bit g - 1
+    /// for grade g.
+    pub fn grades_from(&self, i: usize, grades: u8) -> u8
+        requires { i + 1 < points_of self.now }
+        ensures { (j : ℕ) → i < j → j < points_of self.now → IsMaskBetween self.now (i + 1) j grades
+            → IsMaskBetween self.now i j result }
+    {
+        let runs = &self.lists().runs;
+        let step = runs.masks[runs.run_of[i] as usize];
+        step.union(Grades::of(grades)).mask()
+    }
+
+    /// The grades from point `i` up to point `j`: bit g - 1 for grade g. They are found run by run.
     pub fn grades(&self, i: usize, j: usize) -> u8
         requires { (i ≤ j) × (j < points_of self.now) }
         ensures { IsMaskBetween self.now i j result }
     {
-        if i == j {
-            return 0;
+        let mut grades = 0;
+        let mut from = j;
+        while from > i {
+            grades = self.grades_from(from - 1, grades);
+            from = self.run_start(from - 1).max(i);
         }
-        let lists = self.lists();
-        let first = lists.runs.run_of[i] as usize;
-        let last = lists.runs.run_of[j - 1] as usize;
-        lists.between[lists.runs.masks.len() * last + first].mask()
+        grades
     }
 
     /// A point from which on each step up to step `i` has the grades of step `i`: the first of its run.

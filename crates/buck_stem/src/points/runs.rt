@@ -1,7 +1,7 @@
 //! The steps of a stem in runs of the same grades.
-ghost use Rattle.std.specs.Prelude.{◌≡◌, ℕ, ◌+◌, ◌-◌, ◌*◌, ◌<◌, ◌≤◌, IfOk, OnOk, List, length, slice_index};
+ghost use Rattle.std.specs.Prelude.{◌≡◌, ℕ, ◌+◌, ◌<◌, ◌≤◌, OnOk, List, length};
 ghost use Rattle.buck_stem.specs.points.Profile.{profile_of, points_of};
-ghost use Rattle.buck_stem.specs.inner.Runs.{HoldRuns, ShowMask, IsUnion, AreUnions, AreRows};
+ghost use Rattle.buck_stem.specs.inner.Runs.{HoldRuns, ShowMask};
 
 use crate::grades::Grades;
 use crate::stem::Stem;
@@ -83,44 +83,6 @@ pub(crate) fn put_runs(runs: &mut Runs, stem: &Stem, step: u32) -> Result<(), Al
     runs.run_of.reserve(count)?;
     while runs.run_of.len() < count {
         push_next(runs, stem, step)?;
-    }
-    Ok(())
-}
-
-/// The grades of the runs from `first` to `last`, at the end of a square that holds the places before.
-fn union_at(between: &[Grades], masks: &[Grades], first: usize, last: usize) -> Grades
-    requires last { last < length masks.now }
-    requires number { length between.now ≡ length masks.now * last + first }
-    requires rows { AreUnions masks.now last between.now }
-    ensures { first ≤ last → IsUnion masks.now first last result }
-{
-    if first >= last {
-        return masks[last];
-    }
-    between[between.len() - masks.len()].union(masks[last])
-}
-
-/// Adds the row of a last run to the square of the grades between runs.
-fn push_row(between: &mut Vec<Grades>, masks: &[Grades], last: usize) -> Result<(), AllocError>
-    requires last { last < length masks.now }
-    requires rows { AreRows masks.now last between.old.items }
-    ensures { OnOk result (AreRows masks.now (last + 1) between.new.items) }
-{
-    for first in 0..masks.len() {
-        let mask = union_at(between.as_slice(), masks, first, last);
-        between.push(mask)?;
-    }
-    Ok(())
-}
-
-/// Puts the square of the grades between runs in the place of another: those of runs `p` to `q` at place `p` of row `q`.
-pub(crate) fn put_between(between: &mut Vec<Grades>, masks: &[Grades]) -> Result<(), AllocError>
-    requires { length masks.now ≤ 4000 }
-    ensures { OnOk result (AreRows masks.now (length masks.now) between.new.items) }
-{
-    between.clear();
-    for last in 0..masks.len() {
-        push_row(between, masks, last)?;
     }
     Ok(())
 }

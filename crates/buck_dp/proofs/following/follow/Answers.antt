@@ -1,4 +1,5 @@
-use Rattle.buck_dp.proofs.Values.{rules, arith, ap, ◌∙◌, ◌∷◌, append_assoc, get_or_default, get_or, none, BidParts, best_skipped, best_begun, best_first}
+use Rattle.buck_dp.proofs.Words.{rules, arith, ap, ◌∙◌, ◌∷◌, append_assoc, get_or_default, get_or, none, BidParts}
+use Rattle.buck_dp.proofs.Values.{best_skipped, best_begun, best_first}
 use Rattle.buck_dp.proofs.following.follow.Goals as goal
 
 pub loop-i-preserved-then-rank-eq0 : goal.loop-i-preserved-then-rank-eq0

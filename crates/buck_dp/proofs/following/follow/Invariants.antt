@@ -1,4 +1,5 @@
-use Rattle.buck_dp.proofs.Values.{◌-◌, length, List, ◌++◌, Log, IsBestAt}
+use Rattle.buck_dp.proofs.Words.{◌-◌, length, List, ◌++◌, Log}
+use Rattle.buck_dp.proofs.Values.{IsBestAt}
 use Rattle.buck_dp.proofs.following.follow.Given as goal
 
 abbrev pub ghost-log_at : goal.ghost-log_at

@@ -1,4 +1,5 @@
-use Rattle.buck_dp.proofs.OfferLemmas.{arith, refl, slice_get_read, cell_fits, offered_more, offered_part, offered_behind, can_behind}
+use Rattle.buck_dp.proofs.Words.{arith, refl, slice_get_read}
+use Rattle.buck_dp.proofs.OfferLemmas.{cell_fits, offered_more, offered_part, offered_behind, can_behind}
 use Rattle.buck_dp.proofs.offering.offer_back.Goals as goal
 
 pub offer_bid-requires : goal.offer_bid-requires

@@ -1,4 +1,5 @@
-use Rattle.buck_dp.proofs.OfferLemmas.{arith, refl, slice_get_read, cell_fits, offered_less, offered_more, offered_part}
+use Rattle.buck_dp.proofs.Words.{arith, refl, slice_get_read}
+use Rattle.buck_dp.proofs.OfferLemmas.{cell_fits, offered_less, offered_more, offered_part}
 use Rattle.buck_dp.proofs.offering.offer_short.Goals.{then-steps-most, else-steps-most}
 use Rattle.buck_dp.proofs.offering.offer_short.Goals as goal
 

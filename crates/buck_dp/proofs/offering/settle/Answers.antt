@@ -1,4 +1,5 @@
-use Rattle.buck_dp.proofs.TopLemmas.{rules, settled_more}
+use Rattle.buck_dp.proofs.Words.{rules}
+use Rattle.buck_dp.proofs.TopLemmas.{settled_more}
 use Rattle.buck_dp.proofs.offering.settle.Goals as goal
 
 pub returns : goal.returns

@@ -1,4 +1,5 @@
-use Rattle.buck_dp.proofs.PricingLemmas.{rules, get_or, arith, ap, length, stands, more_offers, offers_sorted}
+use Rattle.buck_dp.proofs.Words.{rules, get_or, arith, ap, length, stands}
+use Rattle.buck_dp.proofs.PricingLemmas.{more_offers, offers_sorted}
 use Rattle.buck_dp.proofs.offers.offers_of.Goals as goal
 
 pub loop-length-preserved : goal.loop-length-preserved

@@ -1,4 +1,5 @@
-use Rattle.buck_dp.proofs.Lists.{rules, cut_bounded}
+use Rattle.buck_dp.proofs.Words.{rules}
+use Rattle.buck_dp.proofs.Lists.{cut_bounded}
 use Rattle.buck_dp.proofs.planner.cut.Goals as goal
 
 pub search-requires : goal.search-requires

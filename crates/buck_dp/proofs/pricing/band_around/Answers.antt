@@ -1,4 +1,5 @@
-use Rattle.buck_dp.proofs.ListLemmas.{stands, arith, slice_get_within, IsBand, more_at}
+use Rattle.buck_dp.proofs.Words.{stands, arith, slice_get_within, IsBand}
+use Rattle.buck_dp.proofs.ListLemmas.{more_at}
 use Rattle.buck_dp.proofs.pricing.band_around.Goals as goal
 
 pub loop-assortment-preserved : goal.loop-assortment-preserved

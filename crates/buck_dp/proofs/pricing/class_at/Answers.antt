@@ -1,4 +1,5 @@
-use Rattle.buck_dp.proofs.PricingLemmas.{sym, ◌∙◌, column_some, column_is, row_still, bought_still}
+use Rattle.buck_dp.proofs.Words.{sym, ◌∙◌, column_some, column_is}
+use Rattle.buck_dp.proofs.PricingLemmas.{row_still, bought_still}
 use Rattle.buck_dp.proofs.pricing.class_at.Goals as goal
 
 pub returns-in_err-row-clause-none : goal.returns-in_err-row-clause-none

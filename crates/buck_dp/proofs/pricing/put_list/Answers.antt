@@ -1,5 +1,6 @@
-use Rattle.buck_dp.proofs.QuoteLemmas.{arith, rules, pruned_on, list_right}
-use Rattle.buck_dp.proofs.pricing.put_list.Goals.{then-quote-eq1+in_ok-put_quote, else-quote-eq1+in_ok-put_quote-2}
+use Rattle.buck_dp.proofs.Words.{arith, rules}
+use Rattle.buck_dp.proofs.QuoteLemmas.{pruned_on, list_right}
+use Rattle.buck_dp.proofs.pricing.put_list.Goals.{then-term-eq1+in_ok-put_quote, else-term-eq1+in_ok-put_quote-2}
 use Rattle.buck_dp.proofs.pricing.put_list.Goals as goal
 
 pub loop-term-init : goal.loop-term-init
@@ -8,15 +9,15 @@ loop-term-init c = search rules
 pub loop-term-preserved : goal.loop-term-preserved
 loop-term-preserved c =
     let was = c.loop-term.invariant in
-    elim c.if-quote-eq1.branch [
-      | then-quote-eq1+in_ok-put_quote w ↦
+    elim c.if-term-eq1.branch [
+      | then-term-eq1+in_ok-put_quote w ↦
           let done = w.in_ok-put_quote.ensures in
           rw (w.quotes-is, w.cubic-is, w.piece-is) (record {
             pruned = pruned_on _ c.loop-term-test.true done.next was.pruned;
             cubic = done.leads;
             piece = λ x led. done.next.met x (was.piece x led);
           })
-      | else-quote-eq1+in_ok-put_quote-2 w ↦
+      | else-term-eq1+in_ok-put_quote-2 w ↦
           let done = w.in_ok-put_quote-2.ensures in
           rw (w.quotes-is, w.cubic-is, w.piece-is) (record {
             pruned = pruned_on _ c.loop-term-test.true done.next was.pruned;

@@ -1,4 +1,5 @@
-use Rattle.buck_dp.proofs.QuoteLemmas.{Contains-push, inl, rules, put_behind}
+use Rattle.buck_dp.proofs.Words.{Contains-push, inl, rules}
+use Rattle.buck_dp.proofs.QuoteLemmas.{put_behind}
 use Rattle.buck_dp.proofs.pricing.put_quote.Goals.{then-quote-leader+then-ask-ge36, else-quote-leader}
 use Rattle.buck_dp.proofs.pricing.put_quote.Goals as goal
 

@@ -44,4 +44,4 @@ loop-log-preserved c =
     c.args.parts.now.items now c.index.result.now c.with.result
     c.loop-log-test.true (get_or_default c.args.logs.now c.loop-log.log-index none g c.loop-log-test.true)
     refl there c.wood_in-wood.ensures.wood
-    c.with.ensures.logs c.with.ensures.volume c.with.ensures.at_base c.loop-log.invariant
+    c.with.ensures.logs c.with.ensures.volume c.with.ensures.logged c.with.ensures.at_base c.loop-log.invariant

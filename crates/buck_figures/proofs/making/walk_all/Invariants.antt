@@ -5,5 +5,5 @@ use Rattle.buck_figures.proofs.making.walk_all.Given as goal
 abbrev pub invariant-loop-number : goal.invariant-loop-number
 invariant-loop-number l = record {
   same : l.planner ≡ l.fn.planner;
-  curves : AreCurves l.fn.instruction l.fn.postings l.number l.course l.points.items;
+  curves : AreCurves l.fn.instruction l.fn.journals l.number l.course l.points.items;
 }

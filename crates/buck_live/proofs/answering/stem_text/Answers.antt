@@ -1,6 +1,7 @@
 use Rattle.std.proofs.Common.{rules, ◌≡◌, ◌∙◌}
 use Rattle.buck_value.specs.Allowed.{end_of}
-use Rattle.buck_live.proofs.AnswerLemmas.{all_allowed, lines_put}
+use Rattle.buck_engine.proofs.TextLemmas.{all_allowed}
+use Rattle.buck_live.proofs.AnswerLemmas.{lines_put}
 use Rattle.buck_live.proofs.answering.stem_text.Goals as goal
 
 pub put_logs-requires : goal.put_logs-requires

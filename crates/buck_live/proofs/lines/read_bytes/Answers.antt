@@ -1,5 +1,4 @@
-use Rattle.std.proofs.Common.{rules, ℕ, Bool, List, Some, sym, subst}
-use Rattle.buck_live.specs.inner.Reading.{HasRead, ReadsByte, held_with}
+use Rattle.std.proofs.Common.{rules}
 use Rattle.buck_live.proofs.LineLemmas.{feed_comes, input_ends, one_more}
 use Rattle.buck_live.proofs.lines.read_bytes.Goals as goal
 
@@ -12,15 +11,8 @@ returns-in-Ok-Some-eq10-clause-read g c =
     feed_comes _ _ (g.R.Read.remaining c.next_byte.new.input) _ _ c.bytes.invariant.read (search rules)
 
 pub bytes-preserved : goal.bytes-preserved
-bytes-preserved g c =
-    let old = g.R.Read.remaining c.args.input.now in
-    let new = g.R.Read.remaining c.next_byte.new.input in
-    let byte = c.in-Ok-Some.byte in
-    let next : ReadsByte (g.R.Read.remaining c.bytes.input) new (Some byte) = search rules in
-    let more = one_more old _ new _ c.bytes.fits byte c.in-Ok-Some.byte-test.1 c.bytes.invariant.read next in
-    record {
-      capacity = search rules;
-      read = subst (λ (held : List ℕ). HasRead old new held c.hold-fits.result) (sym c.hold-fits.ensures.held)
-          (subst (λ (fits : Bool). HasRead old new (held_with byte c.bytes.line.items) fits)
-          (sym c.hold-fits.ensures.fits) more);
-    }
+bytes-preserved g c = record {
+  capacity = search rules;
+  read = one_more (g.R.Read.remaining c.args.input.now) _ (g.R.Read.remaining c.next_byte.new.input) _ _ c.bytes.fits _
+      c.in-Ok-Some.byte c.in-Ok-Some.byte-test.1 c.bytes.invariant.read (search rules) c.hold-fits.ensures.held;
+}

@@ -1,6 +1,6 @@
 use Rattle.std.proofs.Common.{rules, refl, inl}
 use Rattle.std.proofs.KnownBytes.{Keeps-refl}
-use Rattle.buck_live.proofs.GivenLemmas.{both_stay}
+use Rattle.buck_cutter.proofs.Adding.{both_stay}
 use Rattle.buck_live.proofs.RunLemmas.{ended, stepped, stopped, unread}
 use Rattle.buck_live.proofs.live.answer_all.Goals as goal
 
@@ -11,15 +11,15 @@ returns-in-Err-clause-run g c =
 
 pub returns-in-Err-clause-given : goal.returns-in-Err-clause-given
 returns-in-Err-clause-given g c =
-    both_stay g.F.Fn c.args.book.now c.requests.book c.answer_next.new.book c.requests.invariant.given c.in-Err.ensures.given
+    both_stay g.F.Fn c.args.cutter.now c.requests.cutter c.answer_next.new.cutter c.requests.invariant.given c.in-Err.ensures.given
 
 pub returns-in-Ok-Input-clause-given : goal.returns-in-Ok-Input-clause-given
 returns-in-Ok-Input-clause-given g c =
-    both_stay g.F.Fn c.args.book.now c.requests.book c.answer_next.new.book c.requests.invariant.given (search rules)
+    both_stay g.F.Fn c.args.cutter.now c.requests.cutter c.answer_next.new.cutter c.requests.invariant.given (search rules)
 
 pub returns-in-Ok-Input-clause-run : goal.returns-in-Ok-Input-clause-run
 returns-in-Ok-Input-clause-run g c =
-    ended _ _ c.answer_next.new.book.history _ (g.R.Read.remaining c.requests.input)
+    ended _ _ c.answer_next.new.cutter.history _ (g.R.Read.remaining c.requests.input)
     (g.R.Read.remaining c.answer_next.new.input)
     _ (g.W.Write.contents c.requests.out) (g.W.Write.contents c.answer_next.new.out) c.requests.invariant.at
     (search rules)
@@ -29,8 +29,8 @@ requests-preserved g c = record {
   rule = search rules;
   capacity = search rules;
   room = search rules;
-  given = both_stay g.F.Fn c.args.book.now c.requests.book c.answer_next.new.book c.requests.invariant.given (search rules);
-  at = stepped _ _ c.answer_next.new.book.history _ (g.R.Read.remaining c.requests.input)
+  given = both_stay g.F.Fn c.args.cutter.now c.requests.cutter c.answer_next.new.cutter c.requests.invariant.given (search rules);
+  at = stepped _ _ c.answer_next.new.cutter.history _ (g.R.Read.remaining c.requests.input)
       (g.R.Read.remaining c.answer_next.new.input)
       _ (g.W.Write.contents c.requests.out) (g.W.Write.contents c.answer_next.new.out) c.requests.invariant.at
       (search rules);

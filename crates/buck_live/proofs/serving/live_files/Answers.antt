@@ -1,5 +1,5 @@
 use Rattle.std.proofs.Common.{rules, Ok, refl}
-use Rattle.buck_turn.specs.Turn.{AreSheetsBy}
+use Rattle.buck_book.specs.Pricing.{AreSheetsBy}
 use Rattle.buck_engine.proofs.Ruled.{follows_rule}
 use Rattle.buck_live.proofs.ServedLemmas.{apt_refused, files_answered}
 use Rattle.buck_live.proofs.serving.live_files.Goals as goal

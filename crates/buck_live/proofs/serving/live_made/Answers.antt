@@ -1,7 +1,7 @@
 use Rattle.std.proofs.Common.{◌≡◌, [], refl, ap, subst, ◌∙◌}
 use Rattle.buck_book.specs.History.{HistoryParts}
-use Rattle.buck_turn.specs.Turn.{AreSheetsBy}
-use Rattle.buck_turn.proofs.Given.{none_given}
+use Rattle.buck_book.specs.Pricing.{AreSheetsBy}
+use Rattle.buck_book.proofs.Given.{none_given}
 use Rattle.buck_live.proofs.ServedLemmas.{not_opened, was_live}
 use Rattle.buck_live.proofs.serving.live_made.Goals as goal
 

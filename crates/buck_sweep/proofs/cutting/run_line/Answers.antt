@@ -1,6 +1,6 @@
 use Rattle.std.proofs.Common.{rules, subst}
 use Rattle.buck_journal.specs.judging.Replay.{history_of}
-use Rattle.buck_sweep.specs.inner.Lines.{HasCut}
+use Rattle.buck_sweep.specs.Runs.{HasCut}
 use Rattle.buck_sweep.proofs.cutting.run_line.Goals as goal
 
 pub returns-clause-ok : goal.returns-clause-ok

@@ -1,8 +1,10 @@
-use Rattle.std.proofs.Common.{◌≡◌, ◌++◌, take}
+use Rattle.std.proofs.Common.{◌≡◌, ◌++◌, drop}
 use Rattle.buck_sweep.specs.Table.{degree_heads}
 use Rattle.buck_sweep.proofs.table.put_degree_heads.Given as goal
 
 abbrev pub invariant-loop-at : goal.invariant-loop-at
-invariant-loop-at l =
-    (l.out.items ≡ l.initial.out.items ++ degree_heads 0 (take l.at l.instruction.assortments))
-    × (l.assortments ≡ l.instruction.assortments)
+invariant-loop-at l = record {
+  same : l.assortments ≡ l.instruction.assortments;
+  put : l.out.items ++ degree_heads l.at (drop l.at l.assortments)
+      ≡ l.initial.out.items ++ degree_heads 0 l.assortments;
+}

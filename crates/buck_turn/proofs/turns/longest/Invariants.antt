@@ -1,5 +1,5 @@
 use Rattle.std.proofs.Common.{◌<◌, ◌≤◌, ℕ, length}
-use Rattle.buck_fleet.specs.Run.{stems_at}
+use Rattle.buck_book.specs.Replies.{stems_at}
 use Rattle.buck_turn.proofs.turns.longest.Given as goal
 
 abbrev pub invariant-loop-k : goal.invariant-loop-k

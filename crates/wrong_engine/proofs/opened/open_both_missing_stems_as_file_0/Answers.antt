@@ -6,9 +6,9 @@ use Rattle.wrong_engine.proofs.opened.open_both_missing_stems_as_file_0.Goals as
 
 pub prove-unreachable-requires : goal.prove-unreachable-requires
 prove-unreachable-requires c =
-    let runs = c.serve.ensures.1 in
+    let runs = c.serve-outcome.ensures in
     let is = second_missing _ _ _ _ _ _ _ _ _ runs.opened (λ x o. o.2 refl refl) (λ x y f g o p. absurd (search rules))
     runs.answers runs.runs in
-    let told = rw (is, c.new-errors.ensures.items) at c.serve.ensures.3 in
-    let same : c.serve.new.errors.items ≡ c.as_slice-wrong.result.now = search rules in
+    let told = rw (is, c.new-errors.ensures.items) at c.conclude.ensures.told in
+    let same : c.conclude.new.errors.items ≡ c.as_slice-wrong.result.now = search rules in
     not_of_file_0 _ told (same ∙ c.as_slice-wrong.ensures)

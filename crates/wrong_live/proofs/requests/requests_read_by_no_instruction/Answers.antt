@@ -4,7 +4,7 @@ use Rattle.wrong_live.proofs.requests.requests_read_by_no_instruction.Goals as g
 
 pub prove-unreachable-requires : goal.prove-unreachable-requires
 prove-unreachable-requires g c =
-    let runs = c.serve_live-status.ensures.1 in
-    let same : c.serve_live-status.new.input ≡ c.args.requests =
-    unread _ _ _ _ _ _ _ _ _ _ _ _ runs (sym c.serve_live-status.ensures.2 ∙ c.if-status-refused.true) in
+    let same : c.serve_live-outcome.new.input ≡ c.args.requests =
+    unread _ _ _ _ _ _ _ _ _ _ _ _ c.serve_live-outcome.ensures
+    (sym c.conclude-status.ensures.status ∙ c.if-status-refused.true) in
     c.if-prove.true (rw same refl)

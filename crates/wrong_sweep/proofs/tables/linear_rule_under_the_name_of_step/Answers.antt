@@ -7,4 +7,4 @@ pub prove-unreachable-requires : goal.prove-unreachable-requires
 prove-unreachable-requires c =
     let same : c.run_sweep-outcome.new.out.items ≡ c.args.wrong.now = search rules in
     without_line Step _ _ _ _ _ _ _ _ c.run_sweep-outcome.ensures.run c.new-right.ensures.items c.in-Ok.is
-    c.requires.other same (search rules)
+    (λ line one. c.requires.other one.history line one.by_rule one.is_line) same (search rules)

@@ -1,8 +1,9 @@
-use Rattle.std.proofs.Common.{◌≡◌, get_or, [], ◌∷◌, None, refl, sym, ap, ◌∙◌}
+use Rattle.std.proofs.Common.{◌≡◌, List, get_or, [], ◌∷◌, None, refl, sym, ap, ◌∙◌}
 use Rattle.std.specs.Option.{is_some}
 use Rattle.buck_book.specs.declared.posting.Posting.TheVariants.{Cut, Demand}
 use Rattle.buck_book.proofs.Ends.{true_false}
-use Rattle.wrong_view.proofs.Postings.{no_degree, none_first, told, told_false, point_is, found_there}
+use Rattle.buck_figures.specs.declared.degrees.Degrees.{Degrees}
+use Rattle.wrong_view.proofs.Postings.{whole_of, no_degree, none_first, told, told_false, point_is, found_there}
 use Rattle.wrong_view.proofs.curves.degree_of_the_wrong_point.Goals as goal
 
 pub prove-unreachable-requires : goal.prove-unreachable-requires
@@ -16,12 +17,13 @@ prove-unreachable-requires c =
     let j = c.args.journal.now in
     let d = c.requires.after_a_demand.0 in
     let ps = Demand d ∷ Cut c.args.entry.now ∷ [] in
-    let is = point_is i j ps f 0 0 1 p (told i j ps f c.requires.after_a_demand.1 c.in-Ok.ensures.figures)
+    let is = point_is i j ps f 0 0 1 p (told i j c.from_ref.result.now ps f c.from_ref.ensures.value c.requires.after_a_demand.1 c.in-Ok.ensures.figures)
     there refl refl in
-    let none : get_or p.degrees.items 0 None ≡ None =
-    none_first p.degrees.items
+    let nothing : Degrees = record { whole = None; diameter = None; length = None } in
+    let none : c.degrees_in.result.whole ≡ None =
+    ap (λ (d : Degrees). d.whole) c.degrees_in.ensures
+    ∙ ap (λ (gs : List Degrees). whole_of (get_or gs 0 nothing)) c.as_slice.ensures.value
+    ∙ none_first p.degrees.items
     (λ g at. no_degree i d _ is.degrees.counts 0 g is.degrees.are_counts (is.degrees.each 0 g at)) in
-    let right : c.degree_in.result ≡ None = c.degree_in.ensures ∙ ap (λ gs. get_or gs 0 None) c.as_slice.ensures.value
-    ∙ none in
-    told_false c.is_some-right.result (λ so. true_false (sym so ∙ c.is_some-right.ensures ∙ ap is_some right))
+    told_false c.is_some-right.result (λ so. true_false (sym so ∙ c.is_some-right.ensures ∙ ap is_some none))
     c.if-prove.true

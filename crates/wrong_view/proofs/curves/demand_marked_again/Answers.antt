@@ -15,7 +15,7 @@ prove-unreachable-requires c =
     let j = c.args.journal.now in
     let d = c.requires.after_a_demand.0 in
     let ps = Demand d ∷ Cut c.args.entry.now ∷ [] in
-    let is = point_is i j ps f 1 1 2 p (told i j ps f c.requires.after_a_demand.1 c.in-Ok.ensures.figures)
+    let is = point_is i j ps f 1 1 2 p (told i j c.from_ref.result.now ps f c.from_ref.ensures.value c.requires.after_a_demand.1 c.in-Ok.ensures.figures)
     there refl refl in
     let first = one demands_in (Demand d) in
     let both = two demands_in (Demand d) (Cut c.args.entry.now) in

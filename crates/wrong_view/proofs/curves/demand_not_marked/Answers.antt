@@ -14,5 +14,5 @@ prove-unreachable-requires c =
     let i = c.args.instruction.now in
     let j = c.args.journal.now in
     let ps = Demand c.args.demand.now ∷ [] in
-    let is = point_is i j ps f 0 0 1 p (told i j ps f c.requires.only c.in-Ok.ensures.figures) there refl refl in
+    let is = point_is i j ps f 0 0 1 p (told i j c.from_ref.result.now ps f c.from_ref.ensures.value c.requires.only c.in-Ok.ensures.figures) there refl refl in
     told_true p.demand (is.demand.1 (omega (arith, one demands_in (Demand c.args.demand.now)))) c.if-prove.true

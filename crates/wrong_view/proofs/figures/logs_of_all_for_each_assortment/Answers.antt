@@ -15,7 +15,7 @@ prove-unreachable-requires c =
     let there =
     found_there f.assortments.items c.deref.result.now 0 p c.deref.ensures.value c.in-Some.ensures.lookup.0
     c.in-Some.ensures.lookup.1 in
-    let is = told i j (Cut e ∷ []) f c.requires.only c.in-Ok.ensures.figures in
+    let is = told i j c.from_ref.result.now (Cut e ∷ []) f c.from_ref.ensures.value c.requires.only c.in-Ok.ensures.figures in
     omega (
       arith,
       (is.assortments.each 0 p there).logs,

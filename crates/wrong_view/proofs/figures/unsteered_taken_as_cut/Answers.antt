@@ -10,5 +10,5 @@ prove-unreachable-requires c =
     let e = c.args.entry.now in
     let f = c.in-Ok.figures in
     let less =
-    outvalued i j d e f c.requires.outvalued (told i j _ f c.requires.after_a_demand.1 c.in-Ok.ensures.figures) in
+    outvalued i j d e f c.requires.outvalued (told i j c.from_ref.result.now _ f c.from_ref.ensures.value c.requires.after_a_demand.1 c.in-Ok.ensures.figures) in
     omega (arith, less, c.if-prove.true)

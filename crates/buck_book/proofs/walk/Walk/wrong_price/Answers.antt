@@ -7,11 +7,11 @@ returns-clause-found c =
     let t = c.self.invariant.tells in
     rw (sym c.self.view_is)
     (IfSome_then c.first_wrong.result c.first_wrong.ensures.found
-    (is_wrong (standings_of c.self.inside.instruction.now c.self.inside.running) _ _ t.targets_are t.counts_are))
+    (is_wrong (standings_of c.self.inside.instruction.now c.self.inside.running) _ t.targets_are t.counts_are _))
 
 pub returns-clause-none : goal.returns-clause-none
 returns-clause-none c =
     let t = c.self.invariant.tells in
     rw (sym c.self.view_is)
-    (none_wrong (standings_of c.self.inside.instruction.now c.self.inside.running) _ _ t.targets_are t.counts_are
+    (none_wrong (standings_of c.self.inside.instruction.now c.self.inside.running) _ t.targets_are t.counts_are _
     c.first_wrong.result (rw (sym c.self.view_is) at c.requires) c.first_wrong.ensures.none)

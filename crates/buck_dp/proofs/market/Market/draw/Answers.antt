@@ -1,4 +1,5 @@
-use Rattle.buck_dp.proofs.MarketLemmas.{length-map, rules, refl, length, AllAre, IsAt, row_found, row_put}
+use Rattle.buck_dp.proofs.Words.{length-map, rules, refl, length, AllAre, IsAt}
+use Rattle.buck_dp.proofs.MarketLemmas.{row_found, row_put}
 use Rattle.buck_dp.proofs.market.Market.draw.Goals as goal
 
 -- the row is put behind the others

@@ -1,4 +1,5 @@
-use Rattle.buck_dp.proofs.MarketLemmas.{rules, AllAre, HasTerms, HasQuotes, IsListAt, list_put, list_found}
+use Rattle.buck_dp.proofs.Words.{rules, AllAre, HasTerms, HasQuotes, IsListAt}
+use Rattle.buck_dp.proofs.MarketLemmas.{list_put, list_found}
 use Rattle.buck_dp.proofs.market.Market.quotes_at.Goals as goal
 
 -- the quotes of the terms that are found are put behind the others

@@ -1,4 +1,5 @@
-use Rattle.buck_dp.proofs.MarketLemmas.{rules, AllAre, HasTerms, IsListAt, list_put}
+use Rattle.buck_dp.proofs.Words.{rules, AllAre, HasTerms, IsListAt}
+use Rattle.buck_dp.proofs.MarketLemmas.{list_put}
 use Rattle.buck_dp.proofs.market.Market.terms_at.Goals as goal
 
 -- the terms that are found are put behind the others
@@ -7,7 +8,7 @@ put : (c : goal.In_ok-push)
     × IsListAt c.push.new.self.items c.args.takers c.args.diameter c.len-place.result
 put c =
     list_put (HasTerms c.self.inside.sheet.value c.self.inside.menu) _ c.self.invariant.terms c.len-place.result
-    c.in_ok-push.ensures.items (search rules) (search (rules, c.in_ok-quotes.ensures)) c.band_around-band.ensures.within
+    c.in_ok-push.ensures.items (search rules) (search (rules, c.in_ok-list.ensures)) c.band_around-band.ensures.within
 
 pub invariant_of-self : goal.invariant_of-self
 invariant_of-self c = rw c.in_err-push.ensures.items c.self.invariant

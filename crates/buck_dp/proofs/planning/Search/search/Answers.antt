@@ -1,4 +1,5 @@
-use Rattle.buck_dp.proofs.SiteLemmas.{rules, common_steps, ◌≡◌, ◌+◌, sym, arith, cases_lt, get_or_past, points_of, begun, at_top}
+use Rattle.buck_dp.proofs.Words.{rules, common_steps, ◌≡◌, ◌+◌, sym, arith, cases_lt, get_or_past, points_of}
+use Rattle.buck_dp.proofs.SiteLemmas.{begun, at_top}
 use Rattle.buck_dp.proofs.planning.Search.search.Goals as goal
 
 pub loop-top-init : goal.loop-top-init

@@ -1,5 +1,6 @@
+use Rattle.buck_dp.proofs.Words.{◌-◌, ◌+◌, get_or, drop, drop-cons, drop_all, add-one, arith, rules, with_items_is, AreParts, IsPartTo, Part, points_of}
 use Rattle.buck_dp.proofs.OfferLemmas.{closed, searched_to}
-use Rattle.buck_dp.proofs.SiteLemmas.{◌-◌, ◌+◌, get_or, drop, drop-cons, drop_all, add-one, arith, rules, with_items_is, AreParts, IsPartTo, Part, points_of, at_top, part_open, none_near, point_reached, row_under}
+use Rattle.buck_dp.proofs.SiteLemmas.{at_top, part_open, none_near, point_reached, row_under}
 use Rattle.buck_dp.proofs.planning.Search.settle_parts.Goals.{In-loop-part, then-top-part+in_ok-row, else-top-part}
 use Rattle.buck_dp.proofs.planning.Search.settle_parts.Goals as goal
 

@@ -1,27 +1,28 @@
-use Rattle.buck_dp.proofs.SiteLemmas.{◌≡◌, ◌-◌, ◌∙◌, ap, arith, rules, Menu, short_run, near_run}
+use Rattle.buck_dp.proofs.Words.{◌≡◌, ◌-◌, ◌∙◌, ap, arith, rules, Menu}
+use Rattle.buck_dp.proofs.SiteLemmas.{short_run, near_run}
 use Rattle.buck_dp.proofs.planning.Search.settle_run.Goals as goal
 
 pub settle_near-requires : goal.settle_near-requires
 settle_near-requires g c =
-    let menu = c.menu-menu.ensures ∙ c.in_ok-find_parts.ensures.market.1 in (
+    let menu = c.menu-menu.ensures ∙ c.in_ok-first.ensures.market.1 in (
       c.in_ok-settle_parts-2.ensures.plan,
       (
         omega arith,
         λ t low high. near_run c.requires.0.site t _ _
-            (c.in_ok-find_parts.ensures.parts t (omega arith) (omega arith)) c.index-near.ensures (omega arith)
+            (c.in_ok-first.ensures.parts t (omega arith) (omega arith)) c.index-near.ensures (omega arith)
             (omega arith) (search (rules, menu)),
       ),
     )
 
 pub settle_parts-requires-4 : goal.settle_parts-requires-4
 settle_parts-requires-4 g c =
-    let menu = c.menu-menu.ensures ∙ c.in_ok-find_parts.ensures.market.1 in
+    let menu = c.menu-menu.ensures ∙ c.in_ok-first.ensures.market.1 in
     let least : c.menu-menu.result.now.least_steps ≡ g.p.menu.least_steps = ap (λ (m : Menu). m.least_steps) menu in (
       search rules,
       (
         omega arith,
         rw c.clear.ensures.items (λ t low high. short_run c.requires.0.site t (c.len-number.result - 1) _ _
-            (c.in_ok-find_parts.ensures.parts t low (omega (arith, c.run_start-first.ensures.low)))
+            (c.in_ok-first.ensures.parts t low (omega (arith, c.in_ok-first.ensures.first)))
             c.index.ensures (omega arith) (omega (arith, least))),
       ),
     )

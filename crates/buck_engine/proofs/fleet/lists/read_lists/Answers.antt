@@ -1,7 +1,7 @@
 use Rattle.std.proofs.Common.{rules, ◌<◌, ◌∙◌, ℕ, List, Option, Ok, length, arith, subst, length-set}
 use Rattle.std.proofs.lemmas.List.{length-map}
 use Rattle.buck_stem.specs.file.Stm.{stm_of}
-use Rattle.buck_fleet.specs.Run.{stems_of}
+use Rattle.buck_book.specs.Replies.{stems_of}
 use Rattle.buck_engine.specs.run.Reading.{Says}
 use Rattle.buck_engine.proofs.Lists.{lists_more, memory_at, refused_at, same_place, same_rest}
 use Rattle.buck_engine.proofs.fleet.lists.read_lists.Goals as goal

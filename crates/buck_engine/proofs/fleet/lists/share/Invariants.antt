@@ -1,6 +1,6 @@
 use Rattle.std.proofs.Common.{◌≡◌, ◌++◌}
 use Rattle.std.specs.Vec.Iter.{into_iter_items}
-use Rattle.buck_fleet.specs.Run.{stems_of}
+use Rattle.buck_book.specs.Replies.{stems_of}
 use Rattle.buck_engine.proofs.fleet.lists.share.Given as goal
 
 abbrev pub invariant-loop-stem : goal.invariant-loop-stem

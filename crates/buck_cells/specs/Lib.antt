@@ -1,0 +1,3 @@
+pub mod Spread
+pub mod Cells
+pub mod inner

@@ -1,0 +1,14 @@
+//! Cells of a table: numbers, what a number changed by, and the least, the mean and the greatest of several changes.
+//!
+//! A cell is a comma and what stands behind it, nothing where there is no number. [`put_number`] puts a number,
+//! [`put_change`] what one changed by, and [`put_spread`] the three cells of a [`Spread`], which [`spread_of`] has.
+#![tactic(auto)]
+
+mod cells;
+mod change;
+mod changing;
+mod spread;
+
+pub use cells::{put_change, put_difference, put_number, put_numbers, put_spread};
+pub use change::Change;
+pub use spread::{Spread, spread_of};

@@ -1,0 +1,7 @@
+pub mod Bought
+pub mod Logs
+pub mod Cuts
+pub mod Passed
+pub mod Stopped
+pub mod Both
+pub mod Answered

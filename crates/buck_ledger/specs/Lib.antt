@@ -1,0 +1,5 @@
+pub mod Paid
+pub mod Appraisal
+pub mod Comparison
+pub mod Serving
+pub mod inner

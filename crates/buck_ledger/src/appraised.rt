@@ -1,0 +1,81 @@
+//! `run_appraise`: from the bytes of an instruction, journals and an owner's instruction to an appraisal.
+ghost use Rattle.std.specs.Prelude.{◌≡◌, ◌≤◌, OnOk, length, map};
+ghost use Rattle.buck_record.specs.Reading.{listed};
+ghost use Rattle.buck_book.specs.declared.posting.TheConstants.{MOST_POSTINGS};
+ghost use Rattle.buck_figures.specs.Journals.{postings_of};
+ghost use Rattle.buck_engine.specs.run.Several.{AreLawful};
+ghost use Rattle.buck_terms.specs.Own.{HasShapeOf};
+ghost use Rattle.buck_terms.specs.Telling.{WritesTerms};
+ghost use Rattle.buck_ledger.specs.declared.appraisal.Appraisal.{Appraisal};
+ghost use Rattle.buck_ledger.specs.Appraisal.{IsAppraisal};
+ghost use Rattle.buck_ledger.specs.Serving.{AnswersAppraise};
+
+use crate::appraisal::appraise;
+use crate::lines::appraisal_text;
+use crate::opened::Opened;
+use crate::replayed::check_lawful;
+use crate::task::AppraiseTask;
+use buck_apt::Instruction;
+use buck_engine::{Journals, number_of_threads, read_several, write_text};
+use buck_record::Memory;
+use buck_terms::{TermsFault, read_own};
+use std::alloc::Global;
+use std::io;
+use std::thread::Threads;
+
+/// The text of an appraisal of lawful journals.
+fn text_of(alloc: Global, several: &Journals, own: Instruction) -> Result<Vec<u8>, Memory>
+    requires few { length (postings_of several.now.journals.items) ≤ MOST_POSTINGS }
+    requires shape { HasShapeOf several.now.instruction.value own }
+    requires lawful { AreLawful several.now.instruction.value several.now.journals.items }
+    ensures { OnOk result ((p : Appraisal) × IsAppraisal own (postings_of several.now.journals.items) p) }
+{
+    let appraisal = appraise(alloc, own, several.journals.as_slice())?;
+    let text = appraisal_text(alloc, &several.instruction, &appraisal)?;
+    Ok(text)
+}
+
+/// The text of an appraisal over files, or why there is none.
+#[tactic(auto, using(crate::proofs::Answered::appraised))]
+fn answer_of<T: Threads + Sync, R: io::Read + Drop>(
+    rt: &T,
+    alloc: Global,
+    task: &AppraiseTask<'_>,
+    files: Opened<R>,
+) -> Result<Vec<u8>, TermsFault>
+    ensures { AnswersAppraise task.now (R.remaining files.apt) (map R.remaining files.journals.items)
+        (R.remaining files.own.0, files.own.1) (listed result) }
+{
+    let Opened {
+        mut apt,
+        mut journals,
+        own,
+    } = files;
+    let (mut reader, file) = own;
+    let threads = number_of_threads(rt, task.threads);
+    let journals = journals.as_mut_slice();
+    let several = read_several(rt, alloc, threads, &mut apt, journals, &task.settings)?;
+    let own = read_own(alloc, &mut reader, file, &several.instruction)?;
+    check_lawful(rt, alloc, threads, &several)?;
+    Ok(text_of(alloc, &several, own)?)
+}
+
+/// Reads an instruction file, journals and an owner's instruction, and writes what the cuts of the journals bring under
+/// that: a line of columns, and then a line for each harvester, for each assortment and for all. The instruction file
+/// is read first, then the journals, and then the owner's instruction, each refused where it must be before the next is
+/// read; then each journal is replayed, and the first that isn't lawful is the fault. Nothing is written before the
+/// whole text is there.
+#[tactic(auto, using(crate::proofs::Stopped::terms))]
+pub fn run_appraise<T: Threads + Sync, R: io::Read + Drop, W: io::Write>(
+    rt: &T,
+    alloc: Global,
+    task: &AppraiseTask<'_>,
+    files: Opened<R>,
+    out: &mut W,
+) -> Result<(), TermsFault>
+    ensures { WritesTerms (AnswersAppraise task.now (R.remaining files.apt) (map R.remaining files.journals.items)
+        (R.remaining files.own.0, files.own.1)) (W.contents out.old) (W.contents out.new) result }
+{
+    let text = answer_of(rt, alloc, task, files)?;
+    Ok(write_text(out, text.as_slice())?)
+}

@@ -1,0 +1,107 @@
+//! The lines of an appraisal.
+ghost use Rattle.std.specs.Prelude.{◌≡◌, length};
+
+use crate::appraisal::Appraisal;
+use crate::paid::{Account, Paid};
+use buck_apt::Instruction;
+use buck_cells::{Change, put_change, put_number, put_numbers};
+use buck_record::Memory;
+use buck_words::{half_up, put_quoted};
+use std::alloc::Global;
+
+/// The names of the columns.
+const HEAD: &[u8] =
+    b"line,number,stems,logs,best_logs,unbought_logs,volume_cm3,best_volume_cm3,worth_millionths,best_worth_millionths,\
+loss_millionths,loss_ten_thousandths,name\n";
+
+/// What is lost of the best, in ten-thousandths, to the nearest; 0 where that is nothing.
+fn loss_rate(account: &Account) -> u128 {
+    let best = account.best.worth;
+    if best == 0 {
+        return 0;
+    }
+    half_up(10_000 * (best - account.cut.worth), best)
+}
+
+/// Puts what logs come to as cut and of the best cuttings, up to the loss.
+fn put_paid(out: &mut Vec<u8>, cut: &Paid, best: &Paid) -> Result<(), Memory> {
+    put_numbers(
+        out,
+        &[
+            u128::from(cut.logs),
+            u128::from(best.logs),
+            u128::from(cut.unbought),
+            cut.volume,
+            best.volume,
+            cut.worth,
+            best.worth,
+        ],
+    )?;
+    put_change(
+        out,
+        Some(Change {
+            from: cut.worth,
+            to: best.worth,
+        }),
+    )
+}
+
+/// Puts the line of a harvester or of all.
+fn put_whole(
+    out: &mut Vec<u8>,
+    what: &[u8],
+    number: Option<u128>,
+    account: &Account,
+) -> Result<(), Memory> {
+    out.extend_from_slice(what)?;
+    put_number(out, number)?;
+    put_number(out, Some(u128::from(account.stems)))?;
+    put_paid(out, &account.cut, &account.best)?;
+    put_number(out, Some(loss_rate(account)))?;
+    out.extend_from_slice(b",\n")?;
+    Ok(())
+}
+
+/// Puts the line of an assortment.
+fn put_assortment(
+    out: &mut Vec<u8>,
+    at: usize,
+    cut: &Paid,
+    best: &Paid,
+    name: &[u8],
+) -> Result<(), Memory> {
+    out.extend_from_slice(b"assortment")?;
+    put_number(out, Some(at as u128))?;
+    put_number(out, None)?;
+    put_paid(out, cut, best)?;
+    out.extend_from_slice(b",,")?;
+    put_quoted(out, name)?;
+    out.push(b'\n')?;
+    Ok(())
+}
+
+/// The text of an appraisal: a line of columns, then one for each harvester, by number, for each assortment, and for
+/// all. The names are those of the instruction of the journals.
+pub(crate) fn appraisal_text(
+    alloc: Global,
+    instruction: &Instruction,
+    appraisal: &Appraisal,
+) -> Result<Vec<u8>, Memory>
+    requires cut { length appraisal.now.assortments.items ≡ length instruction.now.assortments }
+    requires best { length appraisal.now.best_assortments.items ≡ length instruction.now.assortments }
+{
+    let mut out = Vec::new(alloc);
+    out.extend_from_slice(HEAD)?;
+    for (harvester, account) in &appraisal.harvesters {
+        let number = Some(u128::from(*harvester));
+        put_whole(&mut out, b"harvester", number, account)?;
+    }
+    let assortments = instruction.assortments();
+    for at in 0..assortments.len() {
+        let cut = &appraisal.assortments[at];
+        let best = &appraisal.best_assortments[at];
+        put_assortment(&mut out, at, cut, best, assortments[at].name())?;
+    }
+    put_whole(&mut out, b"total", None, &appraisal.total)?;
+    Ok(out)
+}

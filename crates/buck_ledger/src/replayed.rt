@@ -1,0 +1,51 @@
+//! Journals that are replayed before anything is said of them.
+ghost use Rattle.std.specs.Prelude.{◌≡◌, ◌⊎◌, ◌≢◌, ◌+◌, ◌<◌, ◌≤◌, ℕ, OnOk, IfErr, length};
+ghost use Rattle.buck_book.specs.declared.posting.TheConstants.{MOST_POSTINGS};
+ghost use Rattle.buck_journal.specs.declared.judging.fault.ReplayFault.{ReplayFault};
+ghost use Rattle.buck_figures.specs.Journals.{postings_of};
+ghost use Rattle.buck_engine.specs.declared.fault.EngineFault.TheVariants.{Memory};
+ghost use Rattle.buck_engine.specs.run.Several.{AreLawful, IsFirstUnlawful, replay_fault};
+
+use buck_engine::{EngineFault, FirstUnlawful, Journals, replay_several};
+use buck_journal::ReplayFault;
+use std::alloc::Global;
+use std::thread::Threads;
+
+/// The fault of the first of so many journals that isn't lawful: it has the journal's number, where there are several.
+fn unlawful_of(number: usize, place: usize, fault: ReplayFault) -> EngineFault
+    requires { (place < number) × (number ≤ 64) }
+    ensures { result ≡ replay_fault number place fault }
+{
+    if number == 1 {
+        EngineFault::Replay(fault)
+    } else {
+        EngineFault::ReplayOf {
+            journal: place as u32 + 1,
+            fault,
+        }
+    }
+}
+
+/// That each journal is lawful, found in at most so many threads at once; else the first fault of the first that isn't.
+pub(crate) fn check_lawful<T: Threads + Sync>(
+    rt: &T,
+    alloc: Global,
+    threads: usize,
+    several: &Journals,
+) -> Result<(), EngineFault>
+    requires threads { 0 < threads }
+    requires number { length several.now.journals.items ≤ 64 }
+    requires few { length (postings_of several.now.journals.items) ≤ MOST_POSTINGS }
+    ensures lawful { OnOk result (AreLawful several.now.instruction.value several.now.journals.items) }
+    ensures refused { IfErr result (λ e. (e ≡ Memory)
+        ⊎ ((place : ℕ) × (why : ReplayFault) × (e ≡ replay_fault (length several.now.journals.items) place why)
+        × IsFirstUnlawful several.now.instruction.value several.now.journals.items place why)) }
+{
+    match replay_several(rt, alloc, threads, several) {
+        Ok(()) => Ok(()),
+        Err(FirstUnlawful { place, fault }) => match fault {
+            ReplayFault::Memory => Err(EngineFault::Memory),
+            _ => Err(unlawful_of(several.journals.len(), place, fault)),
+        },
+    }
+}

@@ -1,0 +1,4 @@
+pub mod Told
+pub mod Standing
+pub mod Listed
+pub mod Alone

@@ -1,0 +1,131 @@
+-- Numbers with white bytes before them, and names, as what items say.
+use Rattle.std.proofs.Common.{◌≡◌, ℕ, ◌+◌, ◌-◌, ◌<◌, ◌≤◌, ◌^◌, List, [], ◌∷◌, ◌++◌, All, Ok, get_or, length, take, drop, map, refl, sym, ap, ◌∙◌, subst, arith, append_assoc, inl, inr, drop-cons, add-one}
+use Rattle.std.specs.List.{AllByRecursion, suffix_len, prefix_len}
+use Rattle.std.specs.Fmt.{decimal}
+use Rattle.std.proofs.lemmas.Bool.{cases_Bool}
+use Rattle.std.proofs.lemmas.List.{append-nil, drop_all, take_all, length-drop, length-take-le}
+use Rattle.std.proofs.lemmas.List.Elements.{All-append, All-cons, All-nil}
+use Rattle.std.proofs.lemmas.List.Sums.{suffix_len-take_yes, suffix_len-le-length}
+use Rattle.buck_record.specs.bytes.White.{is_white, trim}
+unfoldable use Rattle.buck_record.specs.bytes.White.{trim_start, trim_end, words}
+use Rattle.buck_record.specs.Reading.{each_from}
+use Rattle.buck_record.specs.bytes.Record.{number_at_most}
+unfoldable use Rattle.buck_record.specs.bytes.Record.{numbers_of}
+use Rattle.buck_record.specs.writing.Written.{spelled}
+use Rattle.buck_record.proofs.RoundLemmas.{AreWhite, smaller, split-spaced, numbers_again, words-spelled}
+unfoldable use Rattle.buck_record.specs.writing.Written.{spaced}
+use Rattle.buck_record.proofs.LineLemmas.{IsPlain, StartsDark, EndsDark, IsSaid, ends_decimal, starts_decimal, plain_decimal, ends_append, starts_append, start_dark, white_plain}
+
+-- what an item of numbers says, without the white byte after the head
+abbrev pub said : (ℕ → ℕ) → List ℕ → List ℕ
+said white numbers = drop 1 (spaced white 0 numbers)
+
+abbrev pub AreSmall : List ℕ → Type 0
+AreSmall ns = AllByRecursion (λ n. n ≤ 4294967295) ns
+
+module _ (white : ℕ → ℕ) (w : AreWhite white) where
+  said_words : (n : ℕ) (ns : List ℕ) → AllByRecursion (λ n. n < 2 ^ 64) (n ∷ ns)
+      → words (said white (n ∷ ns)) ≡ map decimal (n ∷ ns)
+  unfolding words spaced
+  said_words n ns h = split-spaced white w n 1 ns h.0 h.1
+
+  numbers_by_words : (xs ys : List ℕ) → words xs ≡ words ys → numbers_of xs ≡ numbers_of ys
+  unfolding numbers_of
+  numbers_by_words xs ys e = ap (λ ws. each_from (number_at_most 4294967295) 1 ws) e
+
+  -- numbers after a head are read again
+  pub numbers_said : (n : ℕ) (ns : List ℕ) → AreSmall (n ∷ ns) → numbers_of (said white (n ∷ ns)) ≡ Ok (n ∷ ns)
+  numbers_said n ns h =
+      let lt = smaller (n ∷ ns) h in
+      numbers_by_words (said white (n ∷ ns)) (spelled (n ∷ ns))
+      (said_words n ns lt ∙ sym (words-spelled (n ∷ ns) lt)) ∙ numbers_again (n ∷ ns) h
+
+  ends_spaced : (xs : List ℕ) (k : ℕ) (ns : List ℕ) → AllByRecursion (λ n. n < 2 ^ 64) ns → EndsDark xs
+      → EndsDark (xs ++ spaced white k ns)
+  unfolding spaced
+  ends_spaced xs k [] h e = subst EndsDark (sym (append-nil xs)) e
+  ends_spaced xs k (n ∷ ns) h e =
+      subst EndsDark (append_assoc xs (white k ∷ decimal n) (spaced white (k + 1) ns))
+      (ends_spaced (xs ++ white k ∷ decimal n) (k + 1) ns h.1
+      (ends_append xs (white k ∷ decimal n) (ends_append (white k ∷ []) (decimal n) (ends_decimal n h.0))))
+
+  plain_spaced : (k : ℕ) (ns : List ℕ) → AllByRecursion (λ n. n < 2 ^ 64) ns → All IsPlain (spaced white k ns)
+  unfolding spaced
+  plain_spaced k [] h = All-nil IsPlain
+  plain_spaced k (n ∷ ns) h =
+      All-cons IsPlain (white k) (decimal n ++ spaced white (k + 1) ns) (white_plain (white k) (w k))
+      (All-append IsPlain (decimal n) (spaced white (k + 1) ns) (plain_decimal n h.0) (plain_spaced (k + 1) ns h.1))
+
+  pub numbers_are_said : (n : ℕ) (ns : List ℕ) → AreSmall (n ∷ ns) → IsSaid (said white (n ∷ ns))
+  unfolding spaced
+  numbers_are_said n ns h =
+      let lt = smaller (n ∷ ns) h in
+      record {
+        starts = starts_append (decimal n) (spaced white 1 ns) (starts_decimal n lt.0);
+        ends = ends_spaced (decimal n) 1 ns lt.1 (ends_decimal n lt.0);
+        plain = All-append IsPlain (decimal n) (spaced white 1 ns) (plain_decimal n lt.0) (plain_spaced 1 ns lt.1);
+      }
+
+  pub spaced_said : (n : ℕ) (ns : List ℕ) → spaced white 0 (n ∷ ns) ≡ white 0 ∷ said white (n ∷ ns)
+  unfolding spaced
+  spaced_said n ns = refl
+
+-- a text that trimming leaves as it is
+trim_end_shorter : (xs : List ℕ) → length (trim_end xs) ≤ length xs
+unfolding trim_end
+trim_end_shorter xs = omega (arith, length-take-le (length xs - suffix_len is_white xs) xs (omega arith))
+
+trimmed_starts : (xs : List ℕ) → 0 < length xs → trim xs ≡ xs → StartsDark xs
+unfolding trim_start
+trimmed_starts [] some h = absurd (omega arith)
+trimmed_starts (x ∷ xs) some h =
+    elim (cases_Bool (is_white x)) [
+      | inl white ↦
+          let more : length (trim_start (x ∷ xs)) ≤ length xs =
+          rw white (omega (arith, length-drop (1 + prefix_len is_white xs) (x ∷ xs))) in
+          absurd (omega (arith, more, trim_end_shorter (trim_start (x ∷ xs)), ap length h))
+      | inr dark ↦ (some, dark)
+    ]
+
+trimmed_ends : (xs : List ℕ) → 0 < length xs → trim_end xs ≡ xs → EndsDark xs
+unfolding trim_end
+trimmed_ends xs some h =
+    elim (cases_Bool (is_white (get_or xs (length xs - 1) 0))) [
+      | inl white ↦
+          let last : suffix_len is_white (take (length xs) xs)
+          ≡ 1 + suffix_len is_white (take (length xs - 1) xs) =
+          suffix_len-take_yes is_white xs (length xs) 0 some (omega arith) white in
+          let all : take (length xs) xs ≡ xs = take_all (length xs) xs (omega arith) in
+          let one : suffix_len is_white xs ≡ 1 + suffix_len is_white (take (length xs - 1) xs) = rw all at last in
+          let n : ℕ = length xs - suffix_len is_white xs in
+          absurd (omega (arith, one, some, suffix_len-le-length is_white xs, length-take-le n xs (omega arith), ap length h))
+      | inr dark ↦ (some, dark)
+    ]
+
+pub trimmed_is_dark : (xs : List ℕ) → 0 < length xs → trim xs ≡ xs → StartsDark xs × EndsDark xs
+trimmed_is_dark xs some h =
+    let s = trimmed_starts xs some h in
+    (s, trimmed_ends xs some (ap trim_end (sym (start_dark xs s)) ∙ h))
+
+-- numbers of an item are read again
+pub said_again : (white : ℕ → ℕ) → AreWhite white → (ns : List ℕ) → 0 < length ns → AreSmall ns
+    → numbers_of (said white ns) ≡ Ok ns
+said_again white w [] some small = absurd (omega arith)
+said_again white w (n ∷ ns) some small = numbers_said white w n ns small
+
+-- one number more was put
+pub spaced_goes_on : (white : ℕ → ℕ) (ns out whole : List ℕ) (i d : ℕ) → i < length ns
+    → out ++ spaced white i (drop i ns) ≡ whole
+    → (out ++ (white i ∷ decimal (get_or ns i d))) ++ spaced white (i + 1) (drop (i + 1) ns) ≡ whole
+unfolding spaced
+spaced_goes_on white ns out whole i d lt e =
+    let here : drop i ns ≡ get_or ns i d ∷ drop (i + 1) ns = rw add-one (drop-cons ns i d lt) in
+    append_assoc out (white i ∷ decimal (get_or ns i d)) (spaced white (i + 1) (drop (i + 1) ns))
+    ∙ sym (ap (λ xs. out ++ spaced white i xs) here) ∙ e
+
+-- no number is left
+pub spaced_ends : (white : ℕ → ℕ) (ns out whole : List ℕ) (i : ℕ) → length ns ≤ i
+    → out ++ spaced white i (drop i ns) ≡ whole → out ≡ whole
+unfolding spaced
+spaced_ends white ns out whole i le e =
+    sym (append-nil out) ∙ sym (ap (λ xs. out ++ spaced white i xs) (drop_all i ns le)) ∙ e

@@ -1,0 +1,7 @@
+use Rattle.std.proofs.Common.{◌≡◌, ◌++◌, drop}
+use Rattle.buck_sweep.specs.Table.{cells, wholes_of}
+use Rattle.buck_sweep.proofs.figures.put_wholes.Given as goal
+
+abbrev pub invariant-loop-degree : goal.invariant-loop-degree
+invariant-loop-degree l =
+    l.out.items ++ cells (wholes_of (drop l.degree-index l.degrees)) ≡ l.initial.out.items ++ cells (wholes_of l.degrees)

@@ -1,0 +1,5 @@
+pub mod Light
+pub mod Inputs
+pub mod Trial
+pub mod Serving
+pub mod inner

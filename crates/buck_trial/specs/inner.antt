@@ -1,0 +1,5 @@
+-- What the crate's own functions show one another.
+pub mod Parts
+pub mod Running
+pub mod Worth
+pub mod Lines

@@ -1,0 +1,20 @@
+//! What is asked of trials.
+use buck_draws::Draws;
+use buck_sweep::Combination;
+
+/// What the words of the command line ask of a sweep with other targets, or with draws.
+#[derive(Drop)]
+pub struct TrialTask<'a> {
+    /// The runs, in the order of their lines.
+    pub combinations: Vec<Combination>,
+    /// The name of the instruction file.
+    pub apt: &'a str,
+    /// The names of the stem files, one for each harvester.
+    pub stms: Vec<&'a str>,
+    /// The name of the file of targets, where there is one.
+    pub targets: Option<&'a str>,
+    /// The orders that are drawn, where there are some.
+    pub draws: Option<Draws>,
+    /// How many runs may be done at once, in threads of their own; where nothing is said, as many as the machine has.
+    pub threads: Option<u8>,
+}

@@ -1,0 +1,72 @@
+//! Wrong bodies of cells of a table.
+use buck_cells::{Change, put_change, put_number, put_spread, spread_of};
+use std::alloc::Global;
+
+/// The mean of 1 and 2, 1.5, is rounded down.
+pub fn spread_mean_rounded_down() {
+    if let Some(right) = spread_of(&[Some(Change::to(1)), Some(Change::to(2))]) {
+        let wrong = 1;
+        prove!(right.mean.size != wrong);
+    }
+}
+
+/// The mean of -1 and -2, -1.5, is rounded to -2: a half goes away from 0, and not upwards.
+pub fn spread_half_away_from_zero() {
+    let one = Change { from: 1, to: 0 };
+    let two = Change { from: 2, to: 0 };
+    if let Some(right) = spread_of(&[Some(one), Some(two)]) {
+        let wrong = 2;
+        prove!(right.mean.size != wrong);
+    }
+}
+
+/// A change that isn't there counts as 0.
+pub fn spread_with_absent_as_zero() {
+    if let Some(right) = spread_of(&[None, Some(Change::to(5))]) {
+        let wrong = 0;
+        prove!(right.least.size != wrong);
+    }
+}
+
+/// The least and the greatest are those of the sizes, and not of the changes: -3 is greater than 2.
+pub fn spread_by_size_alone() {
+    let down = Change { from: 3, to: 0 };
+    if let Some(right) = spread_of(&[Some(down), Some(Change::to(2))]) {
+        let wrong = 3;
+        prove!(right.greatest.size != wrong);
+    }
+}
+
+/// Where no change is there, there is a spread, as of zeros.
+pub fn spread_of_nothing() {
+    let right = spread_of(&[None, None]);
+    prove!(right.is_none());
+}
+
+/// A number that isn't there is put as 0.
+pub fn absent_number_as_zero(alloc: Global) {
+    let mut right = Vec::new(alloc);
+    if let Ok(()) = put_number(&mut right, None) {
+        let wrong = b",0";
+        prove!(right.as_slice() != wrong.as_slice());
+    }
+}
+
+/// A number that shrinks is put without its sign.
+pub fn change_without_sign(alloc: Global) {
+    let mut right = Vec::new(alloc);
+    let change = Change { from: 7, to: 2 };
+    if let Ok(()) = put_change(&mut right, Some(change)) {
+        let wrong = b",5";
+        prove!(right.as_slice() != wrong.as_slice());
+    }
+}
+
+/// Where there is no spread, one cell is left empty, and not three.
+pub fn absent_spread_as_one_cell(alloc: Global) {
+    let mut right = Vec::new(alloc);
+    if let Ok(()) = put_spread(&mut right, None) {
+        let wrong = b",";
+        prove!(right.as_slice() != wrong.as_slice());
+    }
+}

@@ -1,0 +1,121 @@
+"""The calls over files: what they return, as paths and as bytes, and what they raise."""
+import os
+import pathlib
+import tempfile
+import threading
+import unittest
+
+from here import example, needs_library, read
+import buckfleet
+from buckfleet import _library
+
+APT, JOURNAL = example("morning.apt"), example("morning.jrn")
+STMS = [example(f"morning_{number}.stm") for number in (1, 2, 3)]
+
+
+class Rows(unittest.TestCase):
+    """How a table is read. No library is needed."""
+
+    def test_cells(self):
+        rows = buckfleet.Table(b'name,kind,degree,"degree_0 a ""b"", c"\n"x, ""y""",cut,-12,\n"12",,0,7\n')
+        self.assertEqual(rows.columns, ("name", "kind", "degree", 'degree_0 a "b", c'))
+        first = {"name": 'x, "y"', "kind": "cut", "degree": -12, 'degree_0 a "b", c': None}
+        second = {"name": "12", "kind": None, "degree": 0, 'degree_0 a "b", c': 7}
+        self.assertEqual(rows, [first, second])
+
+    def test_no_rows(self):
+        rows = buckfleet.Table(b"assortment,name\n")
+        self.assertEqual((rows.columns, rows), (("assortment", "name"), []))
+
+    def test_bytes_of_names(self):
+        text = b'assortment,name\n0,"\xff\xc2\x85 \xc3\xa4"\n'
+        self.assertEqual(buckfleet.Table(text)[0]["name"], "\udcff\x85 \xe4")
+
+
+class Numbers(unittest.TestCase):
+    """What is tested before a call. No library is needed."""
+
+    def test_numbers(self):
+        kind = _library.c_uint8
+        self.assertEqual([_library.number(kind, value, "species") for value in (0, 255, True)], [0, 255, 1])
+        for error, values in ((ValueError, (256, -1)), (TypeError, (1.5, "1", None))):
+            for value in values:
+                self.assertRaises(error, _library.number, kind, value, "species")
+
+
+@needs_library
+class Files(unittest.TestCase):
+    def test_texts(self):
+        self.assertEqual(buckfleet.buck(example("pine.apt"), example("pine.stm")), read(example("pine.out")))
+        self.assertEqual(buckfleet.check(APT, JOURNAL), b"LAWFUL 90\n")
+        self.assertEqual(buckfleet.report(APT, JOURNAL), read(example("morning.out")))
+
+    def test_paths_and_bytes(self):
+        wanted = buckfleet.check(APT, JOURNAL)
+        for kind in (pathlib.Path, read, lambda path: bytearray(read(path)), lambda path: memoryview(read(path))):
+            self.assertEqual(buckfleet.check(kind(APT), kind(JOURNAL)), wanted)
+        with self.assertRaises(FileNotFoundError):
+            buckfleet.check(APT, example("no.jrn"))
+
+    def test_refused(self):
+        for call, files, status, line in (
+            (buckfleet.buck, (example("pine.stm"), b""), buckfleet.REFUSED, "apt fault 2"),
+            (buckfleet.buck, (APT, b"1 2 STM~951 1 1~952 1 1~"), buckfleet.REFUSED, "stm 1 fault 3 953 1"),
+            (buckfleet.check, (APT, b"1 2 JRN~"), buckfleet.UNLAWFUL, "replay fault 1 0"),
+            (buckfleet.report, (APT, b""), buckfleet.REFUSED, "journal fault 2"),
+            (buckfleet.table, (APT, b"1 2 JRN~", "logs"), buckfleet.UNLAWFUL, "replay fault 1 0"),
+            (buckfleet.view, (APT, b"1 2 APT~"), buckfleet.REFUSED, "journal fault 2"),
+            (buckfleet.in_turn, (APT, []), buckfleet.SEATS, "seats"),
+            (buckfleet.in_turn, (APT, [b"1 2 STM~", b"1 2 APT~"]), buckfleet.REFUSED, "stm 2 fault 2"),
+        ):
+            with self.subTest(line), self.assertRaises(buckfleet.Refused) as caught:
+                call(*files)
+            found = caught.exception
+            self.assertEqual((found.status, found.line, str(found)), (status, line, line))
+
+    def test_words(self):
+        with self.assertRaises(ValueError):
+            buckfleet.table(APT, JOURNAL, "none")
+        with self.assertRaises(ValueError):
+            buckfleet.in_turn(APT, STMS, "none")
+        with self.assertRaises(TypeError):
+            buckfleet.in_turn(APT, STMS[0])
+
+    def test_tables(self):
+        for what in buckfleet.TABLES:
+            text, rows = buckfleet.table_text(APT, JOURNAL, what), buckfleet.table(APT, JOURNAL, what)
+            self.assertEqual(",".join(rows.columns).encode(), text.split(b"\n")[0])
+            self.assertEqual(len(rows), text.count(b"\n") - 1)
+            self.assertTrue(all(tuple(row) == rows.columns for row in rows))
+        saw = buckfleet.table(APT, JOURNAL, "assortments")[0]
+        self.assertEqual((saw["name"], saw["degree"], saw["unsteered_degree"]), ("pine saw log", 9118, 6984))
+
+    def test_pages(self):
+        page = read(example("morning.html"))
+        self.assertEqual(buckfleet.view(APT, JOURNAL, ("morning.apt", "morning.jrn")), page)
+        self.assertIn(b"instruction", buckfleet.view(read(APT), read(JOURNAL)))
+        self.assertIn(b"replay fault 1 0", buckfleet.view(APT, b"1 2 JRN~"))
+        with tempfile.TemporaryDirectory() as folder:
+            path = os.path.join(os.fsencode(folder), b"\xff.jrn")
+            with open(path, "wb") as file:
+                file.write(b"1 2 JRN~")
+            self.assertIn(b"&#255;.jrn", buckfleet.view(APT, os.fsdecode(path)))
+
+    def test_turns(self):
+        turns = buckfleet.in_turn(APT, STMS)
+        self.assertEqual(turns.report, read(example("morning-in-turn.report")))
+        self.assertEqual(buckfleet.report(APT, turns.journal), turns.report)
+        self.assertNotEqual(buckfleet.in_turn(APT, STMS, "step").journal, turns.journal)
+
+    def test_threads(self):
+        found = []
+        asked = [threading.Thread(target=lambda: found.append(buckfleet.check(APT, JOURNAL))) for _ in range(8)]
+        for thread in asked:
+            thread.start()
+        for thread in asked:
+            thread.join()
+        self.assertEqual(found, [b"LAWFUL 90\n"] * 8)
+
+
+if __name__ == "__main__":
+    unittest.main()
