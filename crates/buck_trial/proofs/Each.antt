@@ -13,6 +13,11 @@ use Rattle.std.proofs.Math.Seq.{take-suc}
 use Rattle.std.proofs.lemmas.List.{drop-drop, length-drop, map_more, take-append-drop}
 use Rattle.buck_trial.specs.inner.Parts.{AreJoined}
 
+-- one more is taken
+pub one_taken : {X : Type 0} (xs : List X) (n : ℕ) (x : X) → n < length xs → x ≡ get_or xs n x
+    → take (n + 1) xs ≡ take n xs ++ x ∷ []
+one_taken xs n x lt is = rw add-one (take-suc xs n x lt) ∙ ap (λ y. take n xs ++ y ∷ []) (sym is)
+
 -- one more
 pub zip_more : {A B : Type 0} (R : A → B → Type 0) (xs : List A) (ys : List B) (x : A) (y : B)
     → AllZip R xs ys → R x y → AllZip R (xs ++ x ∷ []) (ys ++ y ∷ [])
@@ -73,10 +78,8 @@ pub zip_taken : {A B : Type 0} (R : A → B → Type 0) (xs : List A) (k : ℕ) 
     → k < length xs → x ≡ get_or xs k x → AllZip R (take k xs) ys → R x y → new ≡ ys ++ y ∷ []
     → AllZip R (take (k + 1) xs) new
 zip_taken R xs k x ys new y lt is so_far one e =
-    let next : take (k + 1) xs ≡ take k xs ++ x ∷ [] =
-    rw add-one (take-suc xs k x lt) ∙ ap (λ z. take k xs ++ z ∷ []) (sym is) in
     subst (λ (l : List _). AllZip R (take (k + 1) xs) l) (sym e)
-    (subst (λ (l : List _). AllZip R l (ys ++ y ∷ [])) (sym next) (zip_more R (take k xs) ys x y so_far one))
+    (subst (λ (l : List _). AllZip R l (ys ++ y ∷ [])) (sym (one_taken xs k x lt is)) (zip_more R (take k xs) ys x y so_far one))
 
 -- of one made of one item more that is taken
 pub zip_made_taken : {A B C : Type 0} (R : B → C → Type 0) (f : A → B) (xs : List A) (k : ℕ) (d : A) (ys new : List C)

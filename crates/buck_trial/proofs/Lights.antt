@@ -23,11 +23,10 @@ use Rattle.buck_turn.specs.Turn.{HasCutInTurn}
 use Rattle.buck_engine.proofs.Ruled.{follows_rule}
 use Rattle.buck_sweep.specs.Runs.{HasCut}
 use Rattle.buck_sweep.specs.Table.{IsLeast}
-use Rattle.buck_sweep.proofs.Heads.{one_taken}
 use Rattle.buck_sweep.proofs.Lesser.{least_more}
 use Rattle.buck_trial.specs.Light.{IsBestWorth, lesser}
 use Rattle.buck_trial.specs.inner.Worth.{IsCutUnder}
-use Rattle.buck_trial.proofs.Each.{zip_taken}
+use Rattle.buck_trial.proofs.Each.{one_taken, zip_taken}
 
 -- what a book has is what was cut
 pub cut_is : {F : Type 0} (g : Calls F) (f : F) (rule : NamedRule) (lists : List (Vec (Arc Stem Global) Global))

@@ -1,5 +1,5 @@
 -- The lines of a trial, one after the other.
-use Rattle.std.proofs.Common.{◌≡◌, ℕ, zero, suc, ◌+◌, ◌<◌, List, [], ◌∷◌, ◌++◌, length, take, drop, get_or, refl, sym, ap, subst, ◌∙◌, arith, append_assoc, length-append, ◌≤◌}
+use Rattle.std.proofs.Common.{◌≡◌, ℕ, zero, suc, ◌+◌, ◌<◌, List, [], ◌∷◌, ◌++◌, length, take, drop, get_or, refl, sym, ap, subst, ◌∙◌, arith, append_assoc, append-nil, length-append, ◌≤◌}
 use Rattle.std.specs.Prelude.{◌==◌, Bool, codes, false, not}
 use Rattle.std.proofs.lemmas.Bool.Decides.{nat_tests}
 use Rattle.std.specs.List.{AllZip}
@@ -18,7 +18,7 @@ use Rattle.buck_sweep.specs.Sweep.{AreLines}
 use Rattle.buck_sweep.specs.Table.{IsLine, apart_of, back_of, cells, degree_heads, front_of, head_line, line_of, pair_heads, volumes_of, wholes_of}
 use Rattle.buck_figures.specs.Figures.{worth_in}
 use Rattle.std.specs.Prelude.{sum_by}
-use Rattle.buck_sweep.proofs.Tables.{lines_more}
+use Rattle.buck_sweep.proofs.Tables.{lines_both}
 use Rattle.buck_trial.specs.declared.trial.Drawn.{Drawn}
 use Rattle.buck_trial.specs.Trial.{IsBestFor, IsDrawn, IsTrialLine, IsTrialOver, drawn_head}
 use Rattle.buck_trial.specs.inner.Lines.{AreDrawnFor, AreLinesFor, IsPut, all_draws, columns_of, draws_of}
@@ -148,7 +148,8 @@ module _ (i : InstructionParts) (lists : List (Vec (Arc Stem Global) Global)) (c
         are_lines =
             subst (λ (l : List Combination). AreLines (IsTrialLine i lists starts best) l (put.lines ++ text))
             (sym at.front)
-            (lines_more (IsTrialLine i lists starts best) (take k cs) at.one put.lines text put.are_lines one);
+            (lines_both (IsTrialLine i lists starts best) (take k cs) (at.one ∷ []) put.lines text put.are_lines
+            (text, [], sym (append-nil text), one, refl));
       }
 
   -- the whole table
