@@ -4,8 +4,8 @@
     python3 bench/trials.py --bin PATH/buckfleet [--stems 2000] [--times 5]
 
 First 20 draws of three rules over the morning of examples/. Then, over a made harvest, tables of 10 and of 100 runs in one
-thread and in as many as the machine has processors. A line for each says the least seconds that passed, the least of the
-processors together, and the peak memory.
+thread and in as many as the machine has processors, and the wishes of its instruction. A line for each says the least
+seconds that passed, the least of the processors together, and the peak memory.
 """
 import argparse
 import os
@@ -57,6 +57,9 @@ def main():
                 asked = [program, "sweep", "--rule", "linear", "--draws", draws, "--threads", threads, *files]
                 runs = int(draws) + 1
                 took[threads, draws] = told(f"{runs} runs, {threads} threads", words.times, asked)
+        for threads in ("1", str(os.cpu_count())):
+            asked = [program, "wishes", "--rule", "linear", "--threads", threads, *files]
+            told(f"wishes, {threads} threads", 1, asked)
         print(f"{took['1', '99'] / took[str(os.cpu_count()), '99']:.2f} times as fast in {os.cpu_count()} threads")
 
 

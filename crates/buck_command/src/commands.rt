@@ -1,8 +1,8 @@
 //! The commands with their options and files, as `clap` reads them and tells of them.
 use crate::commands::Word::{
     AnyStms, Apt, Draws, Explain, First, InTurn, Journal, Journals, Limit, LimitEach, Limits, Line,
-    Out, Own, Period, PeriodEach, Periods, Quiet, Rule, RuleOfPrices, Rules, Second, Seed, Stm,
-    Stms, Table, Targets, Threads,
+    Out, Own, Period, PeriodEach, Periods, Quiet, Rule, RuleOfPrices, RuleOfWishes, Rules, Second,
+    Seed, Stm, Stms, Table, Targets, Threads,
 };
 use crate::help;
 use buck_rule::NamedRule;
@@ -20,6 +20,8 @@ enum Word {
     Rule,
     /// The rule that a journal is held against.
     RuleOfPrices,
+    /// The rule that wishes are granted under.
+    RuleOfWishes,
     Rules,
     Period,
     Limit,
@@ -60,7 +62,7 @@ struct Named {
 }
 
 /// The commands in the order of the help.
-static COMMANDS: [Named; 11] = [
+static COMMANDS: [Named; 12] = [
     Named {
         name: "buck",
         about: "Cuts each stem of a stem file into logs of the greatest worth",
@@ -79,6 +81,24 @@ static COMMANDS: [Named; 11] = [
         help: help::SWEEP,
         words: &[
             Rules, Periods, Limits, Targets, Draws, Seed, Threads, Quiet, Apt, Stms, Explain,
+        ],
+    },
+    Named {
+        name: "wishes",
+        about: "Finds what each target of a mill costs",
+        help: help::WISHES,
+        words: &[
+            RuleOfWishes,
+            Period,
+            Limit,
+            Targets,
+            Draws,
+            Seed,
+            Threads,
+            Quiet,
+            Apt,
+            Stms,
+            Explain,
         ],
     },
     Named {
@@ -192,6 +212,7 @@ fn arg<'a>(alloc: Global, word: Word) -> Arg<'a> {
             .default_value(NamedRule::Steady.name())
             .long_help(help::RULES),
         RuleOfPrices => rule(alloc, help::CHECKED_RULE),
+        RuleOfWishes => rule(alloc, help::RULE).required(true),
         Rules => rule(alloc, help::SWEPT_RULES).action(ArgAction::Append),
         Period => option(alloc, "period", "N", help::PERIOD),
         Limit => option(alloc, "limit", "N", help::LIMIT),

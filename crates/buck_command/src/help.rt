@@ -147,6 +147,30 @@ Exit statuses:
 After 1, 3 and 5, and after too many stem files, one line on standard error says
 what went wrong; explain says it in words.";
 
+/// What comes of wishes, and how it ends.
+pub(crate) const WISHES: &str =
+    "Prints CSV: a first line of the columns, a line of the run with all targets, and
+then one for each class whose target is not the share of logs that the class has
+unsteered: what a run by the same rule comes to with that target moved half way
+to this share. A gain is what was cut is worth at base prices above the run with
+all targets. The greatest gain comes first; with draws it is by their sum, and
+six columns more have the least, the mean and the greatest of the gain and of
+the change of the degree. FILE, N and S are those of sweep. See \"The table of
+wishes\" in docs/FORMATS.md.
+
+Examples:
+  buckfleet wishes --rule linear morning.apt morning_1.stm morning_2.stm
+  buckfleet wishes --rule step --draws 5 morning.apt morning_1.stm
+
+Exit statuses:
+  0  the table was printed
+  1  a file is refused
+  2  the words of the command line are wrong, or not 1 to 64 stem files
+  3  memory ran out, or there are more than 1000000 stems
+  5  a file can't be read, or the output can't be written
+After 1, 3 and 5, and after too many stem files, one line on standard error says
+what went wrong; explain says it in words.";
+
 /// What comes of an appraisal, and how it ends.
 pub(crate) const APPRAISE: &str =
     "Prints CSV: what the cuts of the journals bring under a contract, and what the

@@ -12,7 +12,7 @@ use buck_live::LiveTask;
 use buck_record::Memory;
 use buck_rule::NamedRule;
 use buck_sweep::{Combination, SweepTask, combinations};
-use buck_trial::{Draws, TrialTask};
+use buck_trial::{Draws, TrialTask, WishesTask};
 use clap::{ArgMatches, Error};
 use std::alloc::{AllocError, Global};
 
@@ -334,6 +334,22 @@ fn sweep_work<'a>(alloc: Global, words: &ArgMatches<'a>) -> Result<Work<'a>, Una
     }))
 }
 
+/// What the words after `wishes` ask for.
+fn wishes_task<'a>(alloc: Global, words: &ArgMatches<'a>) -> Result<WishesTask<'a>, Unasked> {
+    let Some(rule) = NamedRule::of_name(word(words, "rule")?) else {
+        return Err(Unasked::Wrong(LOST));
+    };
+    Ok(WishesTask {
+        rule,
+        settings: settings(words)?,
+        apt: word(words, "APT")?,
+        stms: asked_stems(alloc, words)?,
+        targets: words.get_str("targets"),
+        draws: asked_draws(words)?,
+        threads: asked_threads(words)?,
+    })
+}
+
 /// What the words after `live` ask for.
 fn live_task<'a>(words: &ArgMatches<'a>) -> Result<LiveTask<'a>, Unasked> {
     let Some(rule) = NamedRule::of_name(word(words, "rule")?) else {
@@ -485,6 +501,7 @@ fn work_of<'a>(alloc: Global, name: &str, words: &ArgMatches<'a>) -> Result<Work
         })),
         "fleet" => Ok(Work::Fleet(fleet_task(alloc, words)?)),
         "sweep" => sweep_work(alloc, words),
+        "wishes" => Ok(Work::Wishes(wishes_task(alloc, words)?)),
         "live" => Ok(Work::Live(live_task(words)?)),
         "view" => Ok(Work::View(view_task(alloc, words, Shown::Page)?)),
         "table" => {

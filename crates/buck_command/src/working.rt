@@ -10,7 +10,7 @@ use buck_ledger::{AppraiseTask, CompareTask, serve_appraise, serve_compare};
 use buck_live::{LiveTask, Replies, serve_live};
 use buck_sweep::{SweepTask, serve_sweep};
 use buck_terms::TermsFault;
-use buck_trial::{TrialTask, serve_trial};
+use buck_trial::{TrialTask, WishesTask, serve_trial, serve_wishes};
 use std::alloc::Global;
 use std::io;
 use std::sync::Wait;
@@ -35,6 +35,8 @@ pub enum Work<'a> {
     Sweep(SweepTask<'a>),
     /// The same with other targets, or with orders that are drawn.
     Trial(TrialTask<'a>),
+    /// It is to be found what each target costs.
+    Wishes(WishesTask<'a>),
     /// Journals are to be appraised under an owner's instruction.
     Appraise(AppraiseTask<'a>),
     /// Two journals are to be set side by side.
@@ -60,7 +62,7 @@ pub struct Streams<R, W, E> {
 }
 
 /// Does the work. Each fault and what is written before it are those of [`serve`], [`serve_buck`], [`serve_fleet`],
-/// [`serve_check`], [`serve_view`], [`serve_live`], [`serve_sweep`], [`serve_trial`],
+/// [`serve_check`], [`serve_view`], [`serve_live`], [`serve_sweep`], [`serve_trial`], [`serve_wishes`],
 /// [`serve_appraise`] and [`serve_compare`].
 pub fn serve_work<
     T: Threads + Wait + Sync,
@@ -90,6 +92,7 @@ pub fn serve_work<
         Work::Live(task) => Ok(serve_live(alloc, task, input, files, output)?),
         Work::Sweep(task) => Ok(serve_sweep(rt, alloc, task, files, output)?),
         Work::Trial(task) => serve_trial(rt, alloc, task, files, output),
+        Work::Wishes(task) => serve_wishes(rt, alloc, task, files, output),
         Work::Appraise(task) => serve_appraise(rt, alloc, task, files, output),
         Work::Compare(task) => Ok(serve_compare(rt, alloc, task, files, output)?),
     }

@@ -1,8 +1,12 @@
 pub mod Each
+pub mod Pieces
+pub mod MovedLemmas
+pub mod Targets
 pub mod Orders
 pub mod Lights
 pub mod Lined
 pub mod Ended
+pub mod Wished
 pub mod ReadLemmas
 pub mod RunLemmas
 pub mod Spreads

@@ -1,5 +1,6 @@
 pub mod Light
 pub mod Inputs
 pub mod Trial
+pub mod Wishes
 pub mod Serving
 pub mod inner

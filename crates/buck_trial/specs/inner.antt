@@ -3,3 +3,4 @@ pub mod Parts
 pub mod Running
 pub mod Worth
 pub mod Lines
+pub mod Asking

@@ -1,21 +1,28 @@
 //! What a harvest would come to, found by trial before a tree is cut.
 //!
 //! [`serve_trial`] compares rules, periods and limits as a sweep does, with other targets than the instruction's, and
-//! over orders of the stems that are drawn by chance. [`run_trial`] is the same over open files, [`TrialTask`] what it
-//! is asked.
+//! over orders of the stems that are drawn by chance. [`serve_wishes`] finds what each target costs: a run with each in
+//! its turn moved half way to what the class has unsteered. [`run_trial`] and [`run_wishes`] are the same over open
+//! files, [`TrialTask`] and [`WishesTask`] what they are asked.
 #![tactic(auto)]
 
 mod light;
+mod moved;
+mod outcome;
 mod parts;
 mod reading;
 mod serving;
 mod table;
 mod task;
 mod trial;
+mod wish;
+mod wishes;
 
 pub use buck_draws::Draws;
 pub use buck_terms::TermsFault;
+pub use moved::moved_targets;
 pub use reading::Opened;
-pub use serving::serve_trial;
-pub use task::TrialTask;
+pub use serving::{serve_trial, serve_wishes};
+pub use task::{TrialTask, WishesTask};
 pub use trial::run_trial;
+pub use wishes::run_wishes;

@@ -1,8 +1,10 @@
 //! The run of lists that are cut in turn, without a journal: what was cut, and what that is worth at base prices.
 ghost use Rattle.std.specs.Prelude.{◌≡◌, ◌<◌, ◌≤◌, ◌*◌, ◌^◌, IfErr, IfOk, length, sum_by};
 ghost use Rattle.buck_apt.specs.Instruction.{classes};
+ghost use Rattle.buck_apt.specs.Wanted.{MayBeWanted};
 ghost use Rattle.buck_rule.specs.GivenBy.{GivesBy};
 ghost use Rattle.buck_book.specs.declared.posting.TheConstants.{MOST_POSTINGS};
+ghost use Rattle.buck_book.specs.Posting.{opening_targets};
 ghost use Rattle.buck_figures.specs.Figures.{at_base_in, base_sheet};
 ghost use Rattle.buck_turn.specs.Turn.{stems_in_all};
 ghost use Rattle.buck_sweep.specs.Runs.{HasCut, IsStop};
@@ -82,6 +84,18 @@ pub(crate) fn base_worth(alloc: Global, parts: &Parts) -> Result<u128, Memory>
         all += u128::from(posting_worth(&base, posting));
     }
     Ok(all)
+}
+
+/// The targets of an instruction, class by class.
+pub(crate) fn targets_of(alloc: Global, instruction: &Instruction) -> Result<Vec<u32>, Memory>
+    ensures targets { IfOk result (λ targets. targets.items ≡ opening_targets instruction.now) }
+    ensures valid { MayBeWanted instruction.now (opening_targets instruction.now) }
+{
+    let mut targets = Vec::new(alloc);
+    for assortment in instruction.assortments() {
+        targets.extend_from_slice(assortment.targets())?;
+    }
+    Ok(targets)
 }
 
 /// The degree of each assortment, given what is wanted and what was cut of each class.

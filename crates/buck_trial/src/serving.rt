@@ -1,9 +1,10 @@
 //! Whole runs of trials: the files of a task, and its table.
-ghost use Rattle.buck_trial.specs.Serving.{RunsTrial};
+ghost use Rattle.buck_trial.specs.Serving.{RunsTrial, RunsWishes};
 
-use crate::reading::open_files;
-use crate::task::TrialTask;
+use crate::reading::{of_run, open_files};
+use crate::task::{TrialTask, WishesTask};
 use crate::trial::run_trial;
+use crate::wishes::run_wishes;
 use buck_engine::Open;
 use buck_terms::TermsFault;
 use std::alloc::Global;
@@ -24,6 +25,23 @@ pub fn serve_trial<T: Threads + Sync, O: Open, W: io::Write>(
         (W.contents out.old) (W.contents out.new) result }
 {
     let stms = task.stms.as_slice();
-    let files = open_files(alloc, opener, task.apt, stms, task.targets)?;
+    let files = of_run(open_files(alloc, opener, task.apt, stms, task.targets))?;
     run_trial(rt, alloc, task, files, out)
+}
+
+/// Finds what each wish costs over the files of a task's names. The files are opened as by [`serve_trial`]; else the
+/// faults are those of [`run_wishes`].
+pub fn serve_wishes<T: Threads + Sync, O: Open, W: io::Write>(
+    rt: &T,
+    alloc: Global,
+    task: &WishesTask<'_>,
+    opener: &mut O,
+    out: &mut W,
+) -> Result<(), TermsFault>
+    ensures { RunsWishes O.opens O.File.remaining opener.old opener.new task.now
+        (W.contents out.old) (W.contents out.new) result }
+{
+    let stms = task.stms.as_slice();
+    let files = of_run(open_files(alloc, opener, task.apt, stms, task.targets))?;
+    run_wishes(rt, alloc, task, files, out)
 }

@@ -1,5 +1,7 @@
 //! What is asked of trials.
+use buck_apt::Settings;
 use buck_draws::Draws;
+use buck_rule::NamedRule;
 use buck_sweep::Combination;
 
 /// What the words of the command line ask of a sweep with other targets, or with draws.
@@ -7,6 +9,25 @@ use buck_sweep::Combination;
 pub struct TrialTask<'a> {
     /// The runs, in the order of their lines.
     pub combinations: Vec<Combination>,
+    /// The name of the instruction file.
+    pub apt: &'a str,
+    /// The names of the stem files, one for each harvester.
+    pub stms: Vec<&'a str>,
+    /// The name of the file of targets, where there is one.
+    pub targets: Option<&'a str>,
+    /// The orders that are drawn, where there are some.
+    pub draws: Option<Draws>,
+    /// How many runs may be done at once, in threads of their own; where nothing is said, as many as the machine has.
+    pub threads: Option<u8>,
+}
+
+/// What the words of the command line ask of wishes.
+#[derive(Drop)]
+pub struct WishesTask<'a> {
+    /// How prices follow what was cut.
+    pub rule: NamedRule,
+    /// The numbers that are put in the place of the instruction's own.
+    pub settings: Settings,
     /// The name of the instruction file.
     pub apt: &'a str,
     /// The names of the stem files, one for each harvester.

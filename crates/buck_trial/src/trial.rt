@@ -178,7 +178,11 @@ fn drawn_in_parts<T: Threads + Sync>(
 }
 
 /// The states at which the draws begin, if there are draws.
-fn all_starts(alloc: Global, draws: &Option<Draws>, input: &Input) -> Result<Vec<u64>, Memory>
+pub(crate) fn all_starts(
+    alloc: Global,
+    draws: &Option<Draws>,
+    input: &Input,
+) -> Result<Vec<u64>, Memory>
     ensures starts { IfOk result (λ starts. starts.items ≡ starts_of draws.now input.now.lists.items) }
     ensures few { IfOk result (λ starts. length starts.items ≤ 65535) }
 {

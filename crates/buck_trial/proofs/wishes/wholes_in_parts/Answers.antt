@@ -1,0 +1,19 @@
+use Rattle.std.proofs.Common.{inl, inr, refl}
+use Rattle.buck_engine.specs.declared.fault.EngineFault.TheVariants.{Memory}
+use Rattle.buck_sweep.specs.Runs.{IsStop}
+use Rattle.buck_book.specs.Posting.{opening_targets}
+use Rattle.buck_trial.specs.Wishes.{IsRunOf}
+use Rattle.buck_trial.proofs.Each.{all_given, one_stopped}
+use Rattle.buck_trial.proofs.wishes.wholes_in_parts.Goals as goal
+
+pub returns-clause-ok : goal.returns-clause-ok
+returns-clause-ok g c =
+    all_given _ _ (λ order run. IsRunOf c.args.asking.now.rule c.args.asking.now.instruction.value c.args.asking.now.input.lists.items (opening_targets c.args.asking.now.instruction.value) order run.at_base run.degrees.items)
+    (IsStop c.args.asking.now.input.lists.items) c.size_of-size.result c.as_slice-orders.result.now c.in_ok-parts.parts c.joined.result c.size_of-size.ensures
+    c.in_ok-parts.ensures.len c.in_ok-parts.ensures.each (λ start p r call. call) c.joined.ensures.all
+
+pub returns-clause-stop : goal.returns-clause-stop
+returns-clause-stop g c =
+    one_stopped _ _ (λ order run. IsRunOf c.args.asking.now.rule c.args.asking.now.instruction.value c.args.asking.now.input.lists.items (opening_targets c.args.asking.now.instruction.value) order run.at_base run.degrees.items)
+    (IsStop c.args.asking.now.input.lists.items) c.size_of-size.result c.as_slice-orders.result.now c.in_ok-parts.parts c.joined.result Memory
+    (inr (inl refl), λ e. absurd (cc e)) c.in_ok-parts.ensures.each (λ start p r call. call) c.joined.ensures.fault
