@@ -24,6 +24,7 @@ RUNS = [
     ("reference", ["cases"]),
     ("reference", ["compare", "{}", "--count", "300", "--seed", "1"]),
     ("package", []),
+    ("books", ["--bin", "{}"]),
 ]
 
 

@@ -17,7 +17,8 @@ scripts/c_library proves and builds the library. Then
   - a stem is looked at first, in C: it is cut as its preview showed, and two own cuttings are priced;
   - the shared library shows the calls of the header alone, and its name has their version; names that aren't UTF-8 go
     through;
-  - checks/package.py holds: the Python package's own tests, its installation, and the week of examples/python;
+  - checks/package.py holds: the Python package's own tests, its installation, and two programs of examples/python; so
+    does checks/books.py, where the program is built;
  - each worked case of crates/run_cases that an instruction file and a stem file or a journal make up is asked of the
    library too, by Python;
  - where a folder of more cases is named, each case of its own folder there, whose file `args` has the words of the
@@ -243,10 +244,11 @@ def shared_names():
     tell("the shared library has a version", os.path.basename(os.path.realpath(shared)) == f"libbuckfleet.so.{buckfleet.VERSION}")
 
 
-def package():
+def package(program):
     """The tests of the Python package hold."""
-    done = run(python("checks", "package.py"))
-    tell("checks/package.py", done.returncode == 0, done.stdout.decode(errors="replace"))
+    for name, words in (("package.py", []), *([("books.py", ["--bin", program])] if program else [])):
+        done = run([*python("checks", name), *words])
+        tell(f"checks/{name}", done.returncode == 0, (done.stdout + done.stderr).decode(errors="replace"))
 
 
 def names_in_any_bytes(scratch):
@@ -411,7 +413,7 @@ def main():
         examples(compiler, scratch, program if os.path.exists(program) else None)
         names_in_any_bytes(scratch)
     shared_names()
-    package()
+    package(program if os.path.exists(program) else None)
     cases()
     if asked_for.cases and os.path.exists(program):
         more_cases(asked_for.cases, program)

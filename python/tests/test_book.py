@@ -1,6 +1,4 @@
 """A book: what it cuts, what it refuses, and that its journals are those of harvesters that take turns."""
-import itertools
-import random
 import threading
 import unittest
 
@@ -8,63 +6,16 @@ from here import example, needs_library, read
 import buckfleet
 
 APT = read(example("morning.apt"))
-BOOKS = 1000
-
-
-def stem_text(stem):
-    """The items of a stem, as in a stem file."""
-    zones = "".join(f" {start} {grade}" for start, grade in stem.zones)
-    samples = " ".join(map(str, stem.samples))
-    return f"951 1 {stem.number}~952 1 {stem.species}~953 1 {samples}~954 1{zones}~\n"
 
 
 def file_of(stems):
-    return ("1 2 STM~\n" + "".join(map(stem_text, stems))).encode()
-
-
-def some_stem(dice, number):
-    """A stem that grows thinner towards its top, here and there thicker."""
-    length, butt = dice.randrange(1, 80), dice.randrange(80, 400)
-    samples = [max(0, butt - place * butt // 90 + dice.randrange(-3, 4)) for place in range(length)]
-    starts = sorted(dice.sample(range(0, 8000), dice.randrange(3)))
-    return buckfleet.Stem(number, dice.randrange(1, 3), samples, [(start, dice.randrange(1, 4)) for start in starts])
-
-
-def some_stems(dice):
-    """What a harvester fells."""
-    return [some_stem(dice, dice.randrange(9)) for _ in range(dice.randrange(5))]
-
-
-def some_assortment(dice, module):
-    """The items of an assortment."""
-    lengths = sorted(dice.sample(range(-(-500 // module), 6000 // module), dice.randrange(1, 4)))
-    rows = sorted(dice.sample(range(40, 300), dice.randrange(1, 4)))
-    grades = sorted(dice.sample(range(1, 4), dice.randrange(1, 4)))
-    number = len(lengths) * len(rows)
-    numbers = {
-        "912": [dice.randrange(1, 3)],
-        "913": grades,
-        "914": [dice.choice((1, 1, 2))],
-        "915": rows,
-        "916": [length * module for length in lengths],
-        "917": [dice.choice((0, dice.randrange(1, 800), dice.randrange(1, 800))) for _ in range(number)],
-        "918": [dice.randrange(30) for _ in range(number)],
-        "919": [dice.choice((0, 0, 30))],
-    }
-    items = "".join(f"{item} 1 {' '.join(map(str, given))}~" for item, given in numbers.items())
-    return f"911 1 a~{items}915 2 {dice.randrange(300, 500)}~\n"
-
-
-def some_instruction(dice):
-    module, number = dice.choice((50, 100, 300)), dice.randrange(1, 4)
-    head = f"1 2 APT~901 1 {module}~902 1 {dice.randrange(1, 5)}~903 1 {dice.randrange(1001)}~910 1 {number}~\n"
-    return (head + "".join(some_assortment(dice, module) for _ in range(number))).encode()
-
-
-def turns_of(stems):
-    """Harvesters with their stems, in turn: a harvester with no stems left is skipped."""
-    for row in itertools.zip_longest(*stems):
-        yield from ((seat, stem) for seat, stem in enumerate(row, start=1) if stem is not None)
+    """The bytes of a stem file."""
+    text = "1 2 STM~\n"
+    for stem in stems:
+        zones = "".join(f" {start} {grade}" for start, grade in stem.zones)
+        samples = " ".join(map(str, stem.samples))
+        text += f"951 1 {stem.number}~952 1 {stem.species}~953 1 {samples}~954 1{zones}~\n"
+    return text.encode()
 
 
 @needs_library
@@ -185,24 +136,18 @@ class Books(unittest.TestCase):
             self.assertEqual(book.counts(), [0] * 2048)
 
     def test_in_turn(self):
-        """Books that are cut stem by stem have the journals and the reports of harvesters that take turns."""
-        for seed in range(BOOKS):
-            dice = random.Random(seed)
-            apt, rule = some_instruction(dice), dice.choice(buckfleet.RULES)
-            stems = [some_stems(dice) for _ in range(dice.randrange(1, 4))]
-            turns = buckfleet.in_turn(apt, list(map(file_of, stems)), rule)
-            entries = []
-            with buckfleet.Book(apt, rule) as book:
-                for harvester, stem in turns_of(stems):
-                    logs, worth, *where = book.cut(harvester, stem)
-                    self.assertEqual(worth, sum(log.worth for log in logs))
-                    words = "ENTRY", where[0], harvester, *where[1:], stem.number, len(logs), worth
-                    entries.append(" ".join(map(str, words)))
+        """A book that is cut in turn has the journal and the report of harvesters that take turns."""
+        stems = [
+            buckfleet.Stem(number, 1 + number % 2, range(200 + 9 * number, 60, -2), [(500 * number, 2)])
+            for number in range(20)
+        ]
+        for rule in buckfleet.RULES:
+            with buckfleet.Book(APT, rule) as book:
+                for place, stem in enumerate(stems):
+                    book.cut(1 + place % 2, stem)
                 journal = book.journal()
-            report = buckfleet.report(apt, journal)
-            with self.subTest(seed):
-                self.assertEqual((journal, report), turns)
-                self.assertEqual(report.decode().split("\n")[: len(entries)], entries)
+            turns = buckfleet.in_turn(APT, [file_of(stems[::2]), file_of(stems[1::2])], rule)
+            self.assertEqual((journal, buckfleet.report(APT, journal)), turns, rule)
 
 
 if __name__ == "__main__":
