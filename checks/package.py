@@ -1,12 +1,12 @@
 #!/usr/bin/env python3
-"""Tests the Python package of python/, and the week of examples/python.
+"""Tests the Python package of python/, and two programs of examples/python.
 
     python3 checks/package.py
 
  - The unit tests of python/tests hold.
  - pip installs the package into a folder without a network; there it carries the library, and cuts a pine by it. If
    there is no library, the installation fails, and says how to make one.
- - examples/python/week.py prints examples/python/week.out.
+ - examples/python/week.py prints week.out there, and look_first.py, to the lines of look_first.in, look_first.out.
 
 The library is the one that BUCKFLEET_LIBRARY names, else out/c/libbuckfleet.so. If there is none, what needs it is left
 out, and the last line says so. The status is 0 if all that was run holds.
@@ -19,7 +19,6 @@ import tempfile
 TOP = os.path.dirname(os.path.dirname(os.path.abspath(__file__)))
 PACKAGE = os.path.join(TOP, "python")
 LIBRARY = os.environ.get("BUCKFLEET_LIBRARY") or os.path.join(TOP, "out", "c", "libbuckfleet.so")
-WEEK = os.path.join(TOP, "examples", "python", "week.py")
 INSTALL = ("-m", "pip", "install", "--quiet", "--no-index", "--no-build-isolation", "--no-deps", "--target")
 PINE = "import buckfleet, sys; sys.stdout.buffer.write(buckfleet.buck(*sys.argv[1:]))"
 
@@ -28,11 +27,16 @@ def example(name):
     return os.path.join(TOP, "examples", name)
 
 
-def python(*words, at=TOP, **more):
+def read(path):
+    with open(path, "rb") as file:
+        return file.read()
+
+
+def python(*words, at=TOP, lines=b"", **more):
     """Runs Python, with the package of the repository and no other library, unless more variables say so."""
     own = [os.path.join(PACKAGE, "src"), *filter(None, [os.environ.get("PYTHONPATH")])]
     named = {**os.environ, "PYTHONPATH": os.pathsep.join(own), "PYTHONDONTWRITEBYTECODE": "1", **more}
-    return subprocess.run([sys.executable, *words], cwd=at, env=named, capture_output=True)
+    return subprocess.run([sys.executable, *words], cwd=at, env=named, input=lines, capture_output=True)
 
 
 def unit_tests():
@@ -48,8 +52,7 @@ def installed():
             own = os.pathsep.join([folder, *filter(None, [os.environ.get("PYTHONPATH")])])
             files = example("pine.apt"), example("pine.stm")
             done = python("-c", PINE, *files, at=folder, PYTHONPATH=own, BUCKFLEET_LIBRARY="")
-        with open(example("pine.out"), "rb") as wanted:
-            return done.stdout == wanted.read(), done.stdout + done.stderr
+        return done.stdout == read(example("pine.out")), done.stdout + done.stderr
 
 
 def not_installed():
@@ -59,16 +62,25 @@ def not_installed():
         return done.returncode != 0 and b"scripts/c_library" in done.stderr, done.stdout + done.stderr
 
 
+def prints(name, *words, lines=b""):
+    """A program of examples/python prints its stored text."""
+    done = python(example(f"python/{name}.py"), *words, lines=lines)
+    return done.returncode == 0 and done.stdout == read(example(f"python/{name}.out")), done.stdout + done.stderr
+
+
 def week():
-    done = python(WEEK)
-    with open(os.path.join(os.path.dirname(WEEK), "week.out"), "rb") as wanted:
-        return done.returncode == 0 and done.stdout == wanted.read(), done.stdout + done.stderr
+    return prints("week")
+
+
+def look_first():
+    files = example("morning.apt"), example("morning_1.stm")
+    return prints("look_first", *files, lines=read(example("python/look_first.in")))
 
 
 def main():
     is_there = os.path.isfile(LIBRARY)
     has_pip = python("-m", "pip", "--version").returncode == 0
-    checks = [unit_tests, *([not_installed] if has_pip else []), *([week] if is_there else [])]
+    checks = [unit_tests, *([not_installed] if has_pip else []), *([week, look_first] if is_there else [])]
     if is_there and has_pip:
         checks.append(installed)
     failed = 0
