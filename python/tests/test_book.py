@@ -18,6 +18,13 @@ def file_of(stems):
     return text.encode()
 
 
+def in_thread(call, *given):
+    """Makes a call in a thread of its own, and waits for it."""
+    thread = threading.Thread(target=call, args=given)
+    thread.start()
+    thread.join()
+
+
 @needs_library
 class Books(unittest.TestCase):
     def setUp(self):
@@ -43,7 +50,7 @@ class Books(unittest.TestCase):
             wanted = [target + 1 for target in book.targets()]
             book.retarget(64, wanted)
             self.assertEqual((book.targets(), book.standing().version), (wanted, 1))
-            self.refused(buckfleet.REFUSED, book.retarget, 1, wanted[1:])
+            self.assertIn("one for each class", self.refused(buckfleet.REFUSED, book.retarget, 1, wanted[1:]))
             self.refused(buckfleet.REFUSED, book.retarget, 1, [1_000_001, *wanted[1:]])
             self.assertIn(b"DEMAND 0 64 1 0\n", buckfleet.report(APT, book.journal()))
 
@@ -55,7 +62,7 @@ class Books(unittest.TestCase):
             for harvester in (0, 65):
                 self.refused(buckfleet.MISUSED, book.cut, harvester, self.stem)
             for wrong in (buckfleet.Stem(1, 0, [300]), buckfleet.Stem(1, 1, []), buckfleet.Stem(1, 1, [1501])):
-                self.refused(buckfleet.REFUSED, book.cut, 1, wrong)
+                self.assertIn("the stem", self.refused(buckfleet.REFUSED, book.cut, 1, wrong))
             self.refused(buckfleet.MISUSED, book.degree, 4)
             self.assertEqual(book.standing().postings, 0)
             book.cut(1, self.stem)
@@ -120,11 +127,14 @@ class Books(unittest.TestCase):
         with buckfleet.Book(APT) as book:
             calls = [book.standing, book.prices, book.journal, book.close, lambda: book.cut(1, self.stem)]
             for call in calls:
-                thread = threading.Thread(target=ask, args=(call,))
-                thread.start()
-                thread.join()
+                in_thread(ask, call)
             self.assertEqual(elsewhere, calls)
             self.assertEqual(book.standing().postings, 0)
+        # The next thread may have the number of the one that has ended.
+        ended = []
+        in_thread(lambda: ended.append(buckfleet.Book(APT)))
+        in_thread(ask, ended[0].standing)
+        self.assertEqual(elsewhere[-1], ended[0].standing)
 
     def test_many_classes(self):
         """The room for prices grows."""

@@ -56,6 +56,8 @@ class Files(unittest.TestCase):
             self.assertEqual(buckfleet.check(kind(APT), kind(JOURNAL)), wanted)
         with self.assertRaises(FileNotFoundError):
             buckfleet.check(APT, example("no.jrn"))
+        with self.assertRaises(TypeError):
+            buckfleet.check(0, JOURNAL)
 
     def test_refused(self):
         for call, files, status, line in (
@@ -95,6 +97,9 @@ class Files(unittest.TestCase):
         self.assertEqual(buckfleet.view(APT, JOURNAL, ("morning.apt", "morning.jrn")), page)
         self.assertIn(b"instruction", buckfleet.view(read(APT), read(JOURNAL)))
         self.assertIn(b"replay fault 1 0", buckfleet.view(APT, b"1 2 JRN~"))
+        self.assertIn(b"<bdi>b\nc</bdi>", buckfleet.view(APT, JOURNAL, ("a", "b\nc")))
+        for names in (("a\nb", "c"), ("a",)):
+            self.assertRaises(ValueError, buckfleet.view, APT, JOURNAL, names)
         with tempfile.TemporaryDirectory() as folder:
             path = os.path.join(os.fsencode(folder), b"\xff.jrn")
             with open(path, "wb") as file:
@@ -102,10 +107,11 @@ class Files(unittest.TestCase):
             self.assertIn(b"&#255;.jrn", buckfleet.view(APT, os.fsdecode(path)))
 
     def test_turns(self):
-        turns = buckfleet.in_turn(APT, STMS)
+        turns = buckfleet.in_turn(APT, STMS, "linear")
         self.assertEqual(turns.report, read(example("morning-in-turn.report")))
         self.assertEqual(buckfleet.report(APT, turns.journal), turns.report)
         self.assertNotEqual(buckfleet.in_turn(APT, STMS, "step").journal, turns.journal)
+        self.assertEqual(buckfleet.in_turn(APT, STMS), buckfleet.in_turn(APT, STMS, "steady"))
 
     def test_threads(self):
         found = []

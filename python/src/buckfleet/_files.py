@@ -19,21 +19,21 @@ Cell = Union[None, int, str]
 
 
 def bytes_of(file: File) -> bytes:
-    """The bytes of a file, which are read if it is named by its path."""
+    """Returns the bytes of a file, which are read if it is named by its path."""
     if isinstance(file, (bytes, bytearray, memoryview)):
         return bytes(file)
-    with open(file, "rb") as opened:
+    with open(os.fspath(file), "rb") as opened:  # `open` alone takes a number, as that of an open file
         return opened.read()
 
 
 def _pair(apt: File, other: File) -> tuple[Any, ...]:
-    """Two files for a call."""
+    """Makes two files ready for a call."""
     first, second = bytes_of(apt), bytes_of(other)
     return first, len(first), second, len(second)
 
 
 def _text(call: Any, *given: Any) -> bytes:
-    """The text of a call that isn't refused."""
+    """Returns the text of a call, or raises `Refused` with its fault line."""
     status, text = _library.text_of(call, *given)
     if status != OK:
         raise Refused(status, _library.line_of(text))
@@ -41,30 +41,35 @@ def _text(call: Any, *given: Any) -> bytes:
 
 
 def buck(apt: File, stm: File) -> bytes:
-    """The text of the stems of a stem file, cut by an instruction file under its base prices: as `buckfleet buck`."""
+    """Cuts the stems of a stem file by an instruction under its base prices, and returns the text that `buckfleet buck`
+    prints."""
     return _text(_library.library().buckfleet_buck, *_pair(apt, stm))
 
 
 def check(apt: File, journal: File) -> bytes:
-    """The line `LAWFUL` of a journal that is lawful for an instruction: as `buckfleet check`."""
+    """Checks a journal by its instruction, and returns the line `LAWFUL` that `buckfleet check` prints. Raises
+    `Refused` with the status `UNLAWFUL` and the first fault if the journal isn't lawful."""
     return _text(_library.library().buckfleet_check, *_pair(apt, journal))
 
 
 def report(apt: File, journal: File) -> bytes:
-    """The report of a journal that is lawful for an instruction: as `buckfleet report`."""
+    """Checks a journal as `check` does, and returns its report, the text that `buckfleet report` prints."""
     return _text(_library.library().buckfleet_report, *_pair(apt, journal))
 
 
 def _name(file: File, other: str) -> bytes:
-    """The name of a file as it stands on a page: its path, or another word if its bytes were given."""
+    """Returns the name of a file as it stands on a page: its path, or another word if its bytes were given."""
     return os.fsencode(other if isinstance(file, (bytes, bytearray, memoryview)) else file)
 
 
 def view(apt: File, journal: File, names: tuple[str | bytes, str | bytes] | None = None) -> bytes:
-    """The HTML page of a journal, or of the first fault of one that isn't lawful: as `buckfleet view`. `names` are the
-    names of the two files on the page; if they aren't given, the paths, or `instruction` and `journal`."""
-    shown = (_name(apt, "instruction"), _name(journal, "journal")) if names is None else map(os.fsencode, names)
-    name = b"\n".join(shown)
+    """Returns the HTML page of a journal, or of the first fault of one that isn't lawful: as `buckfleet view`. `names`
+    are the names of the two files on the page; if they aren't given, the paths, or `instruction` and `journal`. Raises
+    `ValueError` if the instruction's name has a line feed: the library takes the first one as the name's end."""
+    first, second = (_name(apt, "instruction"), _name(journal, "journal")) if names is None else map(os.fsencode, names)
+    if b"\n" in first:
+        raise ValueError(f"the instruction's name {first!r} has a line feed")
+    name = first + b"\n" + second
     status, page = _library.text_of(_library.library().buckfleet_view, *_pair(apt, journal), name, len(name))
     if status not in (OK, UNLAWFUL):
         raise Refused(status, _library.line_of(page))
@@ -76,7 +81,7 @@ _FIELD = re.compile(r'(?:^|,)(?:"((?:[^"]|"")*)"|([^,]*))')
 
 
 def _cells(line: str) -> list[Cell]:
-    """The fields of a line: a plain one of digits is a number, an empty one nothing."""
+    """Returns the fields of a line: a plain one of digits is a number, an empty one nothing."""
     cells: list[Cell] = []
     for field in _FIELD.finditer(line):
         quoted, plain = field.groups()
@@ -103,28 +108,29 @@ class Table(list[dict[str, Cell]]):
 
 
 def table_text(apt: File, journal: File, what: str) -> bytes:
-    """A table of a lawful journal as CSV, by its name, one of `TABLES`: as `buckfleet table`."""
+    """Checks a journal as `check` does, and returns one of its tables as the CSV that `buckfleet table` prints. `what`
+    is one of `TABLES`."""
     place = _library.word(what, TABLES, "table")
     return _text(_library.library().buckfleet_table, *_pair(apt, journal), place)
 
 
 def table(apt: File, journal: File, what: str) -> Table:
-    """The rows of a table of a lawful journal, by its name, one of `TABLES`."""
+    """Checks a journal as `check` does, and returns the rows of one of its tables. `what` is one of `TABLES`."""
     return Table(table_text(apt, journal, what))
 
 
 class Turns(NamedTuple):
-    """What harvesters did that took turns."""
+    """The journal and the report of harvesters that took turns."""
 
     journal: bytes
     report: bytes
 
 
-def in_turn(apt: File, stms: Sequence[File], rule: str = "linear") -> Turns:
-    """The journal and the report of harvesters that take turns, one for each stem file, by a rule: as
-    `buckfleet fleet --in-turn`."""
+def in_turn(apt: File, stms: Sequence[File], rule: str = "steady") -> Turns:
+    """Cuts the stems of 1 to 64 stem files by harvesters that take turns, one for each file, and returns what
+    `buckfleet fleet --in-turn` writes. `rule` is one of `RULES`."""
     if isinstance(stms, (str, bytes, bytearray, memoryview, os.PathLike)):
-        raise TypeError("one stem file was given, a list of them is wanted")
+        raise TypeError("one stem file was given, expected a list of them")
     parts = [bytes_of(file) for file in (apt, *stms)]
     files = b"".join(parts)
     lengths, count = _library.numbers(c_size_t, map(len, parts), "length")

@@ -21,7 +21,7 @@ OK, REFUSED, SEATS, MEMORY, UNLAWFUL, READ, TOO_SMALL, CLOSED, MISUSED, FULL = r
 RULES = ("steady", "linear", "step", "root")
 TABLES = ("classes", "postings", "logs", "degrees", "assortments", "lacking")
 
-# Why a log can't be cut, in the order in which they are told; 0 is that all logs can be cut.
+# Why a log can't be cut: of those that apply to it, the first is told. The library counts them from 1.
 REASONS = ("order", "assortment", "species", "start", "length", "end", "grade", "diameter", "price")
 
 MOST_LOGS = 80
@@ -32,7 +32,8 @@ NONE = "there is no libbuckfleet.so: scripts/c_library of the repository builds 
 
 
 class Refused(Exception):
-    """A call that was refused. `status` is the library's status, `line` what the program says of it."""
+    """A call that was refused. `status` is the library's status, as `UNLAWFUL`; `line` is the fault line that the
+    program prints, or of a call of a book, which has none, what was wrong."""
 
     def __init__(self, status: int, line: str):
         super().__init__(status, line)
@@ -127,28 +128,30 @@ CALLS: dict[str, tuple[Any, ...]] = {
 
 
 def place() -> str | None:
-    """The path of the shared library: the one that $BUCKFLEET_LIBRARY names, else the one that the package carries,
-    else the one that scripts/c_library left in the repository around it."""
+    """Returns the path of the shared library: the one that $BUCKFLEET_LIBRARY names, else the one that the package
+    carries, else the one that scripts/c_library left in the repository around it."""
     named = os.environ.get("BUCKFLEET_LIBRARY")
     if named:
         return named
     carried = os.path.join(HERE, "libbuckfleet.so")
     built = os.path.join(HERE, "..", "..", "..", "out", "c", "libbuckfleet.so")
-    return next(filter(os.path.exists, (carried, built)), None)
+    return next((path for path in (carried, built) if os.path.exists(path)), None)
 
 
 @functools.lru_cache(maxsize=None)
 def library() -> Any:
-    """The shared library, loaded and declared. Raises `OSError` if it isn't there or has calls of another version."""
+    """Loads and declares the shared library. Raises `OSError` if there is none or it has calls of another version."""
     path = place()
     if path is None:
         raise OSError(NONE)
     loaded = ctypes.CDLL(path)
+    if not hasattr(loaded, "buckfleet_version"):
+        raise OSError(f"{path} isn't libbuckfleet.so")
     loaded.buckfleet_version.argtypes = ()
     loaded.buckfleet_version.restype = c_uint32
     version = loaded.buckfleet_version()
     if version != VERSION:
-        raise OSError(f"{path} has calls of version {version}, {VERSION} wanted: run scripts/c_library anew")
+        raise OSError(f"{path} has calls of version {version}, expected {VERSION}: run scripts/c_library again")
     for name, types in CALLS.items():
         call = getattr(loaded, "buckfleet_" + name)
         call.argtypes = types
@@ -157,35 +160,36 @@ def library() -> Any:
 
 
 def number(kind: Any, value: Any, name: str) -> int:
-    """A whole number that a type of the library holds; `ValueError` if it can't."""
+    """Returns a whole number that a type of the library holds. Raises `ValueError` if it can't, `TypeError` if the
+    number isn't whole."""
     value = operator.index(value)
     most: int = 256 ** ctypes.sizeof(kind) - 1
     if not 0 <= value <= most:
-        raise ValueError(f"{name} is {value}, 0 to {most} wanted")
+        raise ValueError(f"{name} is {value}, expected 0 to {most}")
     return int(value)
 
 
 def word(given: str, words: Sequence[str], name: str) -> int:
-    """The place of a word among those that there are; `ValueError` if it isn't one."""
+    """Returns the index of a word among those that there are. Raises `ValueError` if it isn't one."""
     if given not in words:
-        raise ValueError(f"{name} is {given!r}, one of {', '.join(words)} wanted")
+        raise ValueError(f"{name} is {given!r}, expected one of {', '.join(words)}")
     return words.index(given)
 
 
 def structure(kind: Any, **fields: Any) -> Any:
-    """A structure of numbers, by their names."""
+    """Makes a structure of numbers, by their names."""
     kinds = dict(kind._fields_)
     return kind(**{name: number(kinds[name], value, name) for name, value in fields.items()})
 
 
 def numbers(kind: Any, values: Iterable[Any], name: str) -> tuple[Any, int]:
-    """An array of numbers for a call, and how many there are."""
+    """Makes an array of numbers for a call, and says how many there are."""
     tested = [number(kind, value, name) for value in values]
     return (kind * len(tested))(*tested), len(tested)
 
 
 def text_of(call: Any, *given: Any) -> tuple[int, bytes]:
-    """The status and the text of a call that puts a text into the caller's room. The room grows to what it asks for."""
+    """Returns the status and the text of a call that writes into a buffer, which grows to what the call asks for."""
     room = (c_uint8 * 1_048_576)()
     while True:
         written = c_size_t(0)
@@ -196,5 +200,5 @@ def text_of(call: Any, *given: Any) -> tuple[int, bytes]:
 
 
 def line_of(text: bytes) -> str:
-    """The line of a fault, without its end."""
+    """Returns the line of a fault, without its end."""
     return text.decode("utf-8", "replace").rstrip("\n")
