@@ -1,12 +1,14 @@
 #!/usr/bin/env python3
 """Checks that the house is in order: pages, copies, links, names, citations, and lines that are too wide.
 
-    python3 checks/house.py
+    python3 checks/house.py [--write]
 
 - Each product crate has a page, crates/NAME/README.md, of at most 80 lines, which names every module of its src/: in
   backticks, a module below another one by its path, as `run/bucking`. What it lists under "Modules" is a module or a room
   of the crate, and names there and under "Public calls" stand in the crate.
 - Each crate's name begins with its kind: buck_ or buckfleet is the product, and KINDS the rest.
+- The code map of docs/ARCHITECTURE.md has each crate of the product with the first sentence of its page and the crates
+  that it is built on (--write writes it).
 - The files of crates/*/data that stand in examples/ too are equal to these: those of the same name, those of COPIES.
 - Links in documents lead to a file, and to a heading where they name one; a file of a crate that stands in backticks is
   there: `src/..`, `specs/..` and `proofs/..` behind the crate's name, or on its own page.
@@ -33,6 +35,10 @@ COPIES = {"crates/run_view/data/saw.apt": "two_stems.apt", "crates/bench_calls/d
 
 # Callers that prove wrong bodies wrong, tests, what they share, whole runs, what is timed, uses of the libraries.
 KINDS = ("wrong_", "test_", "fixture_", "run_", "bench_", "example_")
+
+# The page with the code map, and the head of that.
+ARCHITECTURE = "docs/ARCHITECTURE.md"
+MAP = "| Crate | Does | Built on |"
 
 MOST_LINES = 80
 MOST_COLUMNS = 120
@@ -142,6 +148,35 @@ def strangers(crate, text):
     for word in ticked(parts.get("Modules", "") + parts.get("Public calls", "")):
         if re.fullmatch(r"[A-Za-z]\w*(::\w+)*", word) and not words_of(word) <= known:
             yield word
+
+
+def built_on():
+    """For each crate of the product the crates of the product that it is built on, those left out that another one is."""
+    own, named, below = product(), {}, {}
+    for line in read("crates.txt").split("\n"):
+        crate, _, on = line.partition("#")[0].partition(":")
+        named[crate.split(" ")[0]] = [other for other in on.split() if other in own]
+    for crate in own:
+        below[crate] = set(named[crate]).union(*(below[other] for other in named[crate]))
+    return {crate: [it for it in named[crate] if not any(it in below[on] for on in named[crate])] for crate in own}
+
+
+def mapped():
+    """docs/ARCHITECTURE.md with its code map as it must be."""
+    rows = [MAP, "|---|---|---|"]
+    for crate, others in built_on().items():
+        page = os.path.join("crates", crate, "README.md")
+        text = read(page) if os.path.isfile(os.path.join(TOP, page)) else ""
+        sentence = re.search(r"(?ms)\A# [^\n]*\n+(.*?)\.(?=\s)", text)
+        does = sentence[1].replace("\n", " ") if sentence else ""
+        rows.append(f"| `{crate}` | {does} | {', '.join(f'`{other}`' for other in others)} |")
+    return re.sub(rf"(?m)^{re.escape(MAP)}\n(\|.*\n)*", lambda _: "\n".join(rows) + "\n", read(ARCHITECTURE))
+
+
+def wrong_map():
+    """A code map that isn't as it would be written."""
+    if mapped() != read(ARCHITECTURE):
+        yield f"{ARCHITECTURE} has not the code map that it would have (checks/house.py --write)"
 
 
 def wrong_copies():
@@ -270,7 +305,12 @@ def wrong_widths():
 
 
 def main():
-    looks = (wrong_names, wrong_pages, wrong_copies, wrong_links, wrong_files, wrong_words, wrong_citations, wrong_widths)
+    if "--write" in sys.argv:
+        text = mapped()
+        with open(os.path.join(TOP, ARCHITECTURE), "w") as page:
+            page.write(text)
+    looks = (wrong_names, wrong_pages, wrong_map, wrong_copies, wrong_links, wrong_files, wrong_words, wrong_citations)
+    looks += (wrong_widths,)
     wrong = [line for look in looks for line in look()] + wrong_bodies.looked_at()[1]
     for line in wrong:
         print(line)
