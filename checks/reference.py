@@ -339,7 +339,7 @@ class History(NamedTuple):
 
 
 class Standing(NamedTuple):
-    """RULES, Standing, price relation, ready answers: the six numbers."""
+    """RULES, Standing, price relation, built-in rules: the six numbers."""
     base: int
     limit: int
     target: int
@@ -393,7 +393,7 @@ def in_relation(standing: Standing, price: int) -> bool:
 
 
 def ready_answer(rule: str, standing: Standing) -> int:
-    """RULES, Standing: the ready answers, each by its part of the span, rounded down."""
+    """RULES, Standing: the built-in rules, each by its part of the span, rounded down."""
     cut, wanted = standing.shares()
     off = abs(wanted - cut)
     if rule == "steady" or off == 0:
