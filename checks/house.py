@@ -3,9 +3,9 @@
 
     python3 checks/house.py [--write]
 
-- Each product crate has a page, crates/NAME/README.md, of at most 80 lines, which names every module of its src/: in
-  backticks, a module below another one by its path, as `run/bucking`. What it lists under "Modules" is a module or a room
-  of the crate, and names there and under "Public calls" stand in the crate.
+- Each product crate has a page, crates/NAME/README.md, of at most 80 lines and 2,500 bytes, which names every module of
+  its src/: in backticks, a module below another one by its path, as `run/bucking`. What it lists under "Modules" is a
+  module or a submodule of the crate, and names there and under "Use it" stand in the crate.
 - Each crate's name begins with its kind: buck_ or buckfleet is the product, and KINDS the rest.
 - The code map of docs/ARCHITECTURE.md has each crate of the product with the first sentence of its page and the crates
   that it is built on (--write writes it).
@@ -41,6 +41,7 @@ ARCHITECTURE = "docs/ARCHITECTURE.md"
 MAP = "| Crate | Does | Built on |"
 
 MOST_LINES = 80
+MOST_BYTES = 2500
 MOST_COLUMNS = 120
 
 # So many lines are wider today: texts and styles that stand as they are printed, and long clauses. None may be added; a
@@ -133,19 +134,21 @@ def wrong_pages():
         lines = len(text.splitlines())
         if lines > MOST_LINES:
             yield f"{page} has {lines} lines, {MOST_LINES} at most"
+        if len(text.encode()) > MOST_BYTES:
+            yield f"{page} has {len(text.encode())} bytes, {MOST_BYTES} at most"
         named = set(ticked(text))
         yield from (f"{page} doesn't name the module `{name}`" for name in modules(crate) if name not in named)
         yield from (f"{page} names `{word}`, which {crate} hasn't" for word in strangers(crate, text))
 
 
 def strangers(crate, text):
-    """What a crate's page lists under "Modules" and is no module or room, and names there and of calls that it hasn't."""
+    """Modules that a crate's page lists and that it hasn't, and names there and under "Use it" that it hasn't."""
     parts = dict(re.findall(r"(?ms)^## ([^\n]*)\n(.*?)(?=^## |\Z)", text))
-    listed = re.findall(r"(?m)(?:^- |\. |^Room )((?:`[^`]+`(?:, | and )?)+):", parts.get("Modules", ""))
-    rooms = {os.path.dirname(name) for name in modules(crate)}
-    yield from (word for words in listed for word in ticked(words) if word not in rooms.union(modules(crate)))
+    listed = re.findall(r"(?m)(?:^- |\. |^Submodule )((?:`[^`]+`(?:, | and )?)+):", parts.get("Modules", ""))
+    folders = {os.path.dirname(name) for name in modules(crate)}
+    yield from (word for words in listed for word in ticked(words) if word not in folders.union(modules(crate)))
     known = names(path for path in files() if path.startswith(f"crates/{crate}/")) | set(crates())
-    for word in ticked(parts.get("Modules", "") + parts.get("Public calls", "")):
+    for word in ticked(parts.get("Modules", "") + re.sub(r"(?ms)^```.*?^```", "", parts.get("Use it", ""))):
         if re.fullmatch(r"[A-Za-z]\w*(::\w+)*", word) and not words_of(word) <= known:
             yield word
 
