@@ -16,6 +16,8 @@
   `pricing::put_list`, one of a file that has these too. A path, as `file/plain`, is the end of one that is there.
 - No source names a page in specs/inner/ of another crate.
 - Each caller and each edit says what its wrong body does; docs/WRONG_BODIES.md is as checks/wrong_bodies.py writes it.
+- Documents have no more of the habits of HABITS than stand there, and hardly any has more than MOST_WHAT times *what* in
+  1,000 words.
 - No line of src/ and specs/ of a product crate is wider than 120 columns, imports aside, but for as many as WIDE allows
   each crate.
 
@@ -65,6 +67,21 @@ WIDE = {
     "buck_command": 1,
     "buckfleet": 4,
 }
+
+# Documents that scripts write, and the pages of forms, commands and faults.
+WRITTEN = {"docs/HEADLINE.md", "docs/WRONG_BODIES.md"}
+FORMS = {"docs/FORMATS.md", "docs/COMMANDS.md", "docs/FAULTS.md"}
+
+# Habits that documents drop, and how many may still stand in FORMS, and in all others together. The numbers only fall.
+HABITS = {
+    r"anew": (7, 0),
+    r"by turns": (3, 0),
+    r"h(angs?|ung) on": (0, 0),
+    r"(is|are|was|were|be|been) told": (6, 0),
+    r"look(s|ed|ing)? whether": (16, 0),
+    r"where": (73, 16),
+}
+MOST_WHAT = 5
 
 # What says that a name or a path stands for several, or for a file that isn't committed.
 NO_PATH = r"NAME|MODULE|_X\b|[*{<]|\.\.|\bout\b"
@@ -201,7 +218,7 @@ def wrong_copies():
 def documents():
     """The documents of the repository, by their paths: those at its top and in some folders, and the pages of crates."""
     crates_there = sorted(os.listdir(os.path.join(TOP, "crates")))
-    for folder in ("", "docs", "python", "checks/live_own", *(f"crates/{crate}" for crate in crates_there)):
+    for folder in ("", "docs", "bench", "python", "checks/live_own", *(f"crates/{crate}" for crate in crates_there)):
         for name in sorted(os.listdir(os.path.join(TOP, folder))):
             if name.endswith(".md"):
                 yield os.path.join(folder, name)
@@ -288,6 +305,25 @@ def wrong_citations():
                 yield f"{path} names a page in specs/inner/ of {crate}"
 
 
+def wrong_habits():
+    """Habits that documents have too often; the pages of crates count as one document."""
+    said = {}
+    for path in documents():
+        if path not in WRITTEN:
+            page = "crates" if path.startswith("crates/") else path
+            said[page] = said.get(page, "") + re.sub(r"(?ms)^```.*?^```", "", read(path))
+    for habit, allowed in HABITS.items():
+        for pages, most in zip((FORMS & said.keys(), said.keys() - FORMS), allowed):
+            found = {page: len(re.findall(rf"(?i)\b{habit}\b", said[page])) for page in sorted(pages)}
+            if sum(found.values()) > most:
+                told = ", ".join(f"{page} {number}" for page, number in found.items() if number)
+                yield f"documents have '{habit}' {sum(found.values())} times, {most} may stand: {told}"
+    for page in sorted(said.keys() - FORMS):
+        number, words = len(re.findall(r"(?i)\bwhat\b", said[page])), len(said[page].split())
+        if number * 1000 > MOST_WHAT * words:
+            yield f"{page} has 'what' {number} times in {words} words, {MOST_WHAT} in 1,000 may stand"
+
+
 def wide_lines(crate):
     """The files of a crate with lines that are too wide, and how many there are in each."""
     for part, ending in (("src", ".rt"), ("specs", ".antt")):
@@ -313,7 +349,7 @@ def main():
         with open(os.path.join(TOP, ARCHITECTURE), "w") as page:
             page.write(text)
     looks = (wrong_names, wrong_pages, wrong_map, wrong_copies, wrong_links, wrong_files, wrong_words, wrong_citations)
-    looks += (wrong_widths,)
+    looks += (wrong_habits, wrong_widths)
     wrong = [line for look in looks for line in look()] + wrong_bodies.looked_at()[1]
     for line in wrong:
         print(line)
