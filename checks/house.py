@@ -16,8 +16,8 @@
   `pricing::put_list`, one of a file that has these too. A path, as `file/plain`, is the end of one that is there.
 - No source names a page in specs/inner/ of another crate.
 - Each caller and each edit says what its wrong body does; docs/WRONG_BODIES.md is as checks/wrong_bodies.py writes it.
-- Documents have no more of the habits of HABITS than stand there, and hardly any has more than MOST_WHAT times *what* in
-  1,000 words.
+- Documents have each habit of HABITS no more often than stands there, and *what* at most MOST_WHAT times in 1,000 words,
+  the pages of FORMS apart.
 - No line of src/ and specs/ of a product crate is wider than 120 columns, imports aside, but for as many as WIDE allows
   each crate.
 
@@ -171,7 +171,7 @@ def strangers(crate, text):
 
 
 def built_on():
-    """For each crate of the product the crates of the product that it is built on, those left out that another one is."""
+    """For each crate of the product those that it is built on, without those that another one of these is built on."""
     own, named, below = product(), {}, {}
     for line in read("crates.txt").split("\n"):
         crate, _, on = line.partition("#")[0].partition(":")
