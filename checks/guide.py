@@ -1,10 +1,10 @@
 #!/usr/bin/env python3
-"""Checks that README.md and docs/GUIDE.md say what the program does: their runs, tables and sentences with figures.
+"""Checks that documents say what the program does: runs, and of README.md and docs/GUIDE.md tables and sentences too.
 
     python3 checks/guide.py [PROGRAM]      # the program that is built, or another
 
-- Each block that begins with `$ ` is run in a copy of examples/, and must print what the page shows.
-- The morning's figures, and the bucking of the pine, must be on the pages as the program makes them.
+- Each block that begins with `$ ` of a page of SESSIONS is run in a copy of examples/, and must print what it shows.
+- The morning's figures, and the bucking of the pine, must be in README.md and the guide as the program makes them.
 - Four stands are made from seeds, with four mixes of logs wanted, and swept. From the figures the lines of the guide's
   tables and its sentences with figures are made, which must be in the guide; what a sentence concludes is tested too.
   The sections of GROUNDED must have no other figure.
@@ -26,6 +26,9 @@ import tempfile
 
 TOP = os.path.dirname(os.path.dirname(os.path.abspath(__file__)))
 PROGRAM = os.path.join(TOP, "crates", "buckfleet", "out", "buckfleet")
+
+# The pages with runs; the first two have the morning's figures.
+SESSIONS = ("README.md", "docs/GUIDE.md", "docs/COMMANDS.md", "docs/FORMATS.md", "docs/FAULTS.md")
 
 # The sections of the guide in which each figure in percent, and each line of a table of figures, is measured here.
 GROUNDED = ("Choose rule, limit and period", "What a stand can't give")
@@ -461,7 +464,7 @@ def section(text, name):
 def main():
     program = os.path.abspath(sys.argv[1] if len(sys.argv) > 1 else PROGRAM)
     pages, wrong = {}, []
-    for name in ("README.md", os.path.join("docs", "GUIDE.md")):
+    for name in SESSIONS:
         with open(os.path.join(TOP, name)) as file:
             pages[name] = file.read()
         with tempfile.TemporaryDirectory() as folder:

@@ -4,8 +4,8 @@
     checks/live_mock.py live [--rule RULE] [--period N] [--limit N] [--journal OUT] APT
     checks/live_mock.py [--write]
 
-The first form answers the requests of standard input, one a line, as docs/FORMATS.md has them under "Requests, one a
-line" and checks/live_own/README.md goes on. It takes APT for an instruction file that isn't refused, and has no
+The first form answers the requests of standard input, one a line, as docs/COMMANDS.md has them under "live" and
+checks/live_own/README.md goes on. It takes APT for an instruction file that isn't refused, and has no
 `--explain`.
 
 The second form asks the mock each case of `live` in crates/run_cases/data/commands and in checks/live_own. The last

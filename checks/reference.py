@@ -5,7 +5,7 @@
     checks/reference.py compare PROGRAM [--count N] [--seed S]   runs a program beside it on random files
     checks/reference.py buck APT STM                      one run; so fleet --in-turn, check, report, no words
 
-It follows docs/FORMATS.md and docs/RULES.md, and each function names the section that it follows. It uses nothing of
+It follows docs/FORMATS.md, COMMANDS.md and RULES.md, and each function names the section that it follows. It uses nothing of
 the program, and was written by somebody who hadn't read it; only the grammar of the words (`parsed`) was written down
 by what the program does. It counts all that the documents define from the start each time, so it is slow. Of `table` it
 has the refusals alone. It needs Python 3.11 and nothing else.
@@ -33,7 +33,7 @@ class Refused(Exception):
 
 
 class Fault(Exception):
-    """The line that a run says on standard error, and its status (FORMATS, Fault lines and exit statuses).
+    """The line that a run says on standard error, and its status (FAULTS, Every line).
 
     Of a mistake in the words no document has the text; the line then begins with `error: `.
     """
@@ -50,7 +50,7 @@ def number(word: bytes, greatest: int) -> int | None:
 
 
 def items(data: bytes) -> list[tuple[Key, bytes]]:
-    """FORMATS, The form of a file, Pieces and Items: each item's number and kind, and its rest."""
+    """FORMATS, The form of a file: each item's number and kind, and its rest."""
     found: list[tuple[Key, bytes]] = []
     for piece in data.split(b"~"):
         piece = piece.strip(BLANKS)
@@ -65,7 +65,7 @@ def items(data: bytes) -> list[tuple[Key, bytes]]:
 
 
 def numbers(rest: bytes, greatest: int = 2 ** 32 - 1) -> tuple[list[int], int | None]:
-    """FORMATS, The form of a file, Numbers: those of a rest, and the place of the first word that is none."""
+    """FORMATS, The form of a file: those of a rest, and the place of the first word that is none."""
     found = [number(word, greatest) for word in re.split(rb"[ \t\n\r]+", rest) if word]
     return found, found.index(None) + 1 if None in found else None
 
@@ -117,7 +117,7 @@ def in_order(key: Key, values: list[int], group: Group, *_: object) -> bool:
 
 
 def in_number(key: Key, values: list[int], group: Group, groups: int = 0) -> bool:
-    """FORMATS, the column How many numbers."""
+    """FORMATS, the column Count."""
     if key == (910, 1):
         return values == [groups]
     if key in ((917, 1), (918, 1)):
@@ -416,7 +416,7 @@ def degree(its_standings: list[Standing]) -> int | None:
 
 
 def in_turn(instruction: Instruction, rule: str, files: list[list[Stem]]) -> History:
-    """FORMATS, The command fleet, In turn: each harvester cuts one stem in each round."""
+    """COMMANDS, fleet, --in-turn: each harvester cuts one stem in each round."""
     history = History(instruction, [instruction.base_prices()], [])
     for place in range(max(map(len, files), default=0)):
         for harvester, stems in enumerate(files, 1):
@@ -485,7 +485,7 @@ def journal_text(history: History) -> bytes:
 
 
 def replay(history: History, who: str = "replay") -> None:
-    """FORMATS, The check of a journal, faults 1 to 9: raises the first, if the history isn't lawful."""
+    """COMMANDS, check, faults 1 to 9: raises the first, if the history isn't lawful."""
     instruction, sheets = history.instruction, history.sheets
     before: list[Posting] = []
 
@@ -540,7 +540,7 @@ def are_valid(instruction: Instruction, targets: list[int]) -> bool:
 
 
 def tie(history: History, files: list[list[Stem]], rule: str | None) -> None:
-    """FORMATS, With stem files, and by a rule, faults 1 to 4: raises the first, if there is one."""
+    """COMMANDS, check, with stem files and a rule, faults 1 to 4: raises the first, if there is one."""
     for harvester in range(1, 65 if files else 1):
         cuts = [posting.stem for posting in history.postings if posting.harvester == harvester and posting.stem]
         stems = files[harvester - 1] if harvester <= len(files) else []
@@ -602,7 +602,7 @@ TABLES = "classes postings logs degrees assortments lacking".split()
 
 
 def parsed(words: list[str]) -> tuple[dict[str, str], list[str]]:
-    """FORMATS, The words of the command line: the options of a run, and its other words."""
+    """COMMANDS, Command line: the options of a run, and its other words."""
     options: dict[str, str] = {}
     others: list[str] = []
     list_ends: int | None = None
@@ -633,7 +633,7 @@ def parsed(words: list[str]) -> tuple[dict[str, str], list[str]]:
 
 
 def judge_words(command: str, options: dict[str, str], files: list[str]) -> None:
-    """FORMATS, the synopsis of each command, and The words of the command line: which options and how many files."""
+    """COMMANDS, the synopsis of each command, and Command line: which options and how many files."""
     takes, least, most, _ = COMMANDS[command]
     if not set(options) <= {"quiet", "explain", *takes.split()} or not least <= len(files) <= most:
         raise Fault("error: an option or a number of files that the command hasn't", 2)
@@ -648,7 +648,7 @@ def judge_words(command: str, options: dict[str, str], files: list[str]) -> None
 
 
 def opened(files: list[str], out: str, standard_input: int) -> list[int]:
-    """FORMATS, Fault lines and exit statuses: all files are opened in their order, then OUT, if it is none of them."""
+    """COMMANDS, Files: all files are opened in their order, then OUT, if it is none of them."""
     found: list[int] = []
     for place, name in enumerate(files):
         try:
@@ -663,7 +663,7 @@ def opened(files: list[str], out: str, standard_input: int) -> list[int]:
 
 
 def written(out: str, text: bytes) -> None:
-    """FORMATS, The command fleet: OUT, which is made if it isn't there."""
+    """COMMANDS, fleet, OUT: which is made if it isn't there."""
     try:
         with open(out, "ab" if not text else "wb") as file:
             file.write(text)
@@ -672,7 +672,7 @@ def written(out: str, text: bytes) -> None:
 
 
 def contents(descriptor: int, place: int) -> bytes:
-    """FORMATS, Fault lines and exit statuses: a file, which may be too long or not be read."""
+    """COMMANDS, Files: a file, which may be too long or not be read."""
     try:
         with open(descriptor, "rb") as stream:
             data = stream.read(LONGEST_FILE + 1)
@@ -684,7 +684,7 @@ def contents(descriptor: int, place: int) -> bytes:
 
 
 def refusing(who: str, read: Callable, data: bytes):
-    """FORMATS, Fault lines and exit statuses: a file that is refused."""
+    """COMMANDS, Files: a file that is refused."""
     try:
         return read(data)
     except Refused as refused:
@@ -692,7 +692,7 @@ def refusing(who: str, read: Callable, data: bytes):
 
 
 def text_of(words: list[str], standard_input: int) -> bytes | None:
-    """FORMATS, each command: what a run prints, none if the reference doesn't have its text."""
+    """COMMANDS, each command: what a run prints, none if the reference doesn't have its text."""
     if not words:
         instruction_bytes, _, stems_bytes = contents(os.dup(standard_input), 0).partition(b"|")
         instruction = refusing("apt", read_instruction, instruction_bytes)
@@ -734,7 +734,7 @@ def text_of(words: list[str], standard_input: int) -> bytes | None:
 
 
 def run(words: list[str], standard_input: int = 0) -> tuple[bytes | None, bytes, int]:
-    """FORMATS, Fault lines and exit statuses: the standard output, standard error and status of a run."""
+    """COMMANDS, Exit statuses: the standard output, standard error and status of a run."""
     try:
         return text_of(words, standard_input), b"", 0
     except Fault as fault:

@@ -1,5 +1,5 @@
 #!/usr/bin/env python3
-"""Holds the cases of sentences (crates/run_cases/data/sentences) to the tables of docs/FORMATS.md.
+"""Holds the cases of sentences (crates/run_cases/data/sentences) to the tables of docs/FAULTS.md.
 
     python3 checks/sentences.py [--write]
 
@@ -13,7 +13,7 @@ import re
 import sys
 
 TOP = pathlib.Path(__file__).resolve().parent.parent
-PAGE = TOP / "docs" / "FORMATS.md"
+PAGE = TOP / "docs" / "FAULTS.md"
 CASES = TOP / "crates" / "run_cases" / "data" / "sentences"
 PLACES = {"apt": "in the instruction file", "stm": "in file 3 after the instruction (with live: in the request)"}
 JOURNALS = ("journal", "replay")
@@ -27,10 +27,9 @@ def cells(line):
 
 
 def tables():
-    """The rows of sentences, and those of items."""
-    text = PAGE.read_text().split("## A fault line in words")[1].split("\n## ")[0]
-    rows = [cells(line) for line in text.split("\n") if line.startswith("| ")]
-    return [row for row in rows if len(row) == 2][1:], [row for row in rows if len(row) == 6][1:]
+    """The rows of sentences, each the lines with their sentence, and those of items."""
+    rows = [cells(line) for line in PAGE.read_text().split("\n") if line.startswith("| ")]
+    return [(row[0], row[3]) for row in rows if len(row) == 4][1:], [row for row in rows if len(row) == 6][1:]
 
 
 def lines_of(row, items):
@@ -75,11 +74,11 @@ def case(line, text):
 
 
 def main():
-    head = "# Fault lines and their sentences, from the tables of docs/FORMATS.md (checks/sentences.py --write).\n\n"
+    head = "# Fault lines and their sentences, from the tables of docs/FAULTS.md (checks/sentences.py --write).\n\n"
     right = [case(line, text) for line, text in wanted().items()]
     if "--write" in sys.argv[1:]:
         CASES.write_text(head + "\n".join(right))
-    found = CASES.read_text().removeprefix(head).split("\n\n")
+    found = CASES.read_text().split("\n\n")[1:]
     wrong = [it for it in right if it.rstrip("\n") not in {one.rstrip("\n") for one in found}]
     for it in wrong:
         print(it)

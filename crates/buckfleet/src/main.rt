@@ -6,8 +6,8 @@
 //! writes its journal. `buckfleet check APT JOURNAL` says whether a journal is lawful for an instruction, and `buckfleet
 //! report APT JOURNAL` prints its report; `buckfleet view APT JOURNAL` shows it as a page, and `buckfleet table APT JOURNAL
 //! TABLE` as a table. `buckfleet live APT` cuts stems as they are felled, by requests on standard input. `buckfleet
-//! explain LINE..` says a fault line in words. See docs/FORMATS.md for the files, the texts, the fault lines and the exit
-//! statuses.
+//! explain LINE..` says a fault line in words. See docs/COMMANDS.md for the commands and the exit statuses,
+//! docs/FORMATS.md for the files and the texts, docs/FAULTS.md for the fault lines.
 #![tactic(auto)]
 
 use buck_command::{KnownFiles, Place, Screen, Streams, run, say_help};
