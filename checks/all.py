@@ -19,6 +19,7 @@ RUNS = [
     ("edges", ["{}"]),
     ("live", ["--bin", "{}"]),
     ("guide", ["{}"]),
+    ("manual", ["{}"]),
     ("cut_off", ["{}"]),
     ("valgrind", ["--bin", "{}"]),
     ("reference", ["cases"]),
