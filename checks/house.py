@@ -74,12 +74,12 @@ FORMS = {"docs/FORMATS.md", "docs/COMMANDS.md", "docs/FAULTS.md"}
 
 # Habits that documents drop, and how many may still stand in FORMS, and in all others together. The numbers only fall.
 HABITS = {
-    r"anew": (7, 0),
-    r"by turns": (3, 0),
+    r"anew": (6, 0),
+    r"by turns": (2, 0),
     r"h(angs?|ung) on": (0, 0),
-    r"(is|are|was|were|be|been) told": (6, 0),
+    r"(is|are|was|were|be|been) told": (0, 0),
     r"look(s|ed|ing)? whether": (16, 0),
-    r"where": (73, 16),
+    r"where": (12, 16),
 }
 MOST_WHAT = 5
 
