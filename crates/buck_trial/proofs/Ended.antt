@@ -1,5 +1,5 @@
 -- How a run over files ends.
-use Rattle.std.proofs.Common.{◌≡◌, ℕ, ◌≤◌, ◌⊎◌, inl, inr, List, length, Option, Some, None, Result, Ok, Err, refl, sym, ap, subst, ◌∙◌, arith}
+use Rattle.std.proofs.Common.{◌≡◌, ℕ, inl, inr, List, length, Option, Some, None, Result, Ok, Err, map, refl, sym, ap, subst}
 use Rattle.std.specs.Result.{IsErrAnd}
 use Rattle.std.specs.declared.sync.Arc.{Arc}
 use Rattle.std.specs.declared.vec.Vec.{Vec}
@@ -18,7 +18,14 @@ use Rattle.buck_sweep.specs.Runs.{IsStop}
 use Rattle.buck_terms.specs.declared.fault.TermsFault.{TermsFault}
 use Rattle.buck_terms.specs.declared.fault.TermsFault.TheVariants.{Run}
 use Rattle.buck_terms.specs.Telling.{WritesTerms}
-use Rattle.buck_trial.specs.Inputs.{IsInputFault, IsTargetsStop, SaysInput}
+use Rattle.std.specs.Option.{option_map}
+use Rattle.buck_trial.specs.declared.reading.Opened.{Opened}
+use Rattle.buck_trial.specs.declared.task.TrialTask.{TrialTask}
+use Rattle.buck_trial.specs.Inputs.{AnswersFiles, IsInputFault, SaysInput, held_with}
+use Rattle.buck_trial.specs.Serving.{RunsTrial}
+use Rattle.buck_sweep.specs.declared.combination.Combination.{Combination}
+use Rattle.buck_draws.specs.declared.orders.Draws.{Draws}
+use Rattle.buck_trial.specs.Trial.{AnswersTrial, IsTrialOver, IsTrialRun, starts_of}
 use Rattle.buck_trial.specs.inner.Running.{AnswersOver, in_terms}
 
 no_write : (fault : EngineFault) → IsCuttingFault fault → IsNoWrite fault
@@ -85,16 +92,63 @@ no_write_terms apt stms (Some file) fault (inr stop) = elim stop.is_fault [
   | inr (why, is, said) ↦ subst IsNoWriteTerms (sym is) tt
 ]
 
-pub not_read : (Answers : Result (List ℕ) TermsFault → Type 0) (apt : Option (List ℕ))
-    (stms : List (Option (List ℕ))) (targets : Option (Option (List ℕ) × ℕ)) (old : Option (List ℕ))
-    (fault : TermsFault) → IsInputFault apt stms targets fault → Answers (Err fault)
-    → WritesTerms Answers old old (Err fault)
-not_read Answers apt stms targets old fault is a =
-    no_terms Answers old fault (no_write_terms apt stms targets fault is) a
-
 pub nothing_made : (lists : List (Vec (Arc Stem Global) Global)) (IsText : List ℕ → Type 0) (old : Option (List ℕ))
     (fault : EngineFault) (r : Result (Unit {0}) EngineFault) → IsErrAnd r (λ x. x ≡ fault) → IsStop lists fault
     → WritesText (AnswersOver lists IsText) old old r
 nothing_made lists IsText old fault (Ok u) err stop = absurd err
 nothing_made lists IsText old fault (Err e) err stop =
     nothing_over lists IsText old e (subst (λ (x : EngineFault). IsStop lists x) (sym err) stop)
+
+-- a trial over files that come to nothing
+pub trial_not_read : (cs : List Combination) (draws : Option Draws) (apt : Option (List ℕ))
+    (stms : List (Option (List ℕ))) (targets : Option (Option (List ℕ) × ℕ)) (old : Option (List ℕ))
+    (fault : TermsFault) (r : Result (Unit {0}) TermsFault) → IsErrAnd r (λ x. x ≡ fault)
+    → IsInputFault apt stms targets fault → IsTrialRun cs draws apt stms targets old old r
+trial_not_read cs draws apt stms targets old fault (Ok u) err is = absurd err
+trial_not_read cs draws apt stms targets old fault (Err e) err is =
+    let here : IsInputFault apt stms targets e =
+    subst (λ (x : TermsFault). IsInputFault apt stms targets x) (sym err) is in
+    no_terms (AnswersTrial cs draws apt stms targets) old e (no_write_terms apt stms targets e here) here
+
+-- a trial over files that were read
+pub trial_run : (cs : List Combination) (draws : Option Draws) (apt : Option (List ℕ)) (stms : List (Option (List ℕ)))
+    (targets : Option (Option (List ℕ) × ℕ)) (i : InstructionParts) (lists : List (Vec (Arc Stem Global) Global))
+    (old new : Option (List ℕ)) (made : Result (Unit {0}) EngineFault) (r : Result (Unit {0}) TermsFault)
+    → r ≡ in_terms made → SaysInput apt stms targets i lists
+    → WritesText (AnswersOver lists (IsTrialOver i lists cs (starts_of draws lists))) old new made
+    → IsTrialRun cs draws apt stms targets old new r
+trial_run cs draws apt stms targets i lists old new made r is says written =
+    subst (λ (x : Result (Unit {0}) TermsFault). IsTrialRun cs draws apt stms targets old new x) (sym is)
+    (terms_run lists (IsTrialOver i lists cs (starts_of draws lists)) (AnswersTrial cs draws apt stms targets) old new
+    made (λ text over. record { instruction = i; lists = lists; says = says; is_trial = over })
+    (λ fault stop. stop_is_fault apt stms targets i lists fault says stop) written)
+
+-- a whole run whose files can't all be opened
+pub not_served : {O F : Type 0} (opens : O → List ℕ → Option F → O → Type 0) (held : F → Option (List ℕ))
+    (start end : O) (task : TrialTask) (old : Option (List ℕ)) (names : List (List ℕ)) (why : EngineFault)
+    (r : Result (Unit {0}) TermsFault) → IsErrAnd r (λ x. x ≡ Run why) → names ≡ map (λ s. s.now) task.stms.items
+    → AnswersFiles opens start end task.apt.now names (option_map (λ s. s.now) task.targets) (Err why)
+    → RunsTrial opens held start end task old old r
+not_served opens held start end task old names why (Ok u) err same is = absurd err
+not_served {O} {F} opens held start end task old names why (Err e) err same is = record {
+  opened = Err why;
+  answers =
+      subst (λ (l : List (List ℕ)). AnswersFiles opens start end task.apt.now l
+      (option_map (λ s. s.now) task.targets) (Err why)) same is;
+  runs = (ap Err err, Keeps-refl old);
+}
+
+-- and one whose files were opened
+pub served : {O F : Type 0} (opens : O → List ℕ → Option F → O → Type 0) (held : F → Option (List ℕ))
+    (start end : O) (task : TrialTask) (old new : Option (List ℕ)) (names : List (List ℕ)) (files : Opened F)
+    (r : Result (Unit {0}) TermsFault) → names ≡ map (λ s. s.now) task.stms.items
+    → AnswersFiles opens start end task.apt.now names (option_map (λ s. s.now) task.targets) (Ok files)
+    → IsTrialRun task.combinations.items task.draws (held files.apt) (map held files.stms.items)
+    (held_with held files.targets) old new r → RunsTrial opens held start end task old new r
+served {O} {F} opens held start end task old new names files r same is run = record {
+  opened = Ok files;
+  answers =
+      subst (λ (l : List (List ℕ)). AnswersFiles opens start end task.apt.now l
+      (option_map (λ s. s.now) task.targets) (Ok files)) same is;
+  runs = run;
+}

@@ -6,7 +6,6 @@ use Rattle.std.specs.declared.sync.Arc.{Arc}
 use Rattle.std.specs.declared.vec.Vec.{Vec}
 use Rattle.std.specs.declared.alloc.Global.{Global}
 use Rattle.std.proofs.lemmas.List.Sums.{sum_by_more, sum_by_push}
-use Rattle.buck_apt.specs.Instruction.{InstructionParts}
 use Rattle.buck_stem.specs.declared.stem.Stem.{Stem}
 use Rattle.buck_stem.specs.Stem.{StemParts}
 use Rattle.buck_value.specs.declared.log.Log.{Log}
@@ -19,14 +18,14 @@ use Rattle.buck_book.specs.declared.posting.Posting.TheVariants.{Cut, Demand}
 use Rattle.buck_book.specs.Book.{BookParts, IsBook}
 use Rattle.buck_book.specs.History.{HistoryParts, IsLawful}
 use Rattle.buck_book.specs.Pricing.{AreSheetsBy, Calls}
-use Rattle.buck_figures.specs.Figures.{at_base_in, base_sheet}
+use Rattle.buck_figures.specs.Figures.{base_sheet}
 use Rattle.buck_turn.specs.Turn.{HasCutInTurn}
 use Rattle.buck_engine.proofs.Ruled.{follows_rule}
 use Rattle.buck_sweep.specs.Runs.{HasCut}
 use Rattle.buck_sweep.specs.Table.{IsLeast}
 use Rattle.buck_sweep.proofs.Lesser.{least_more}
 use Rattle.buck_trial.specs.Light.{IsBestWorth, lesser}
-use Rattle.buck_trial.specs.inner.Worth.{IsCutUnder, worth_under}
+use Rattle.buck_trial.specs.inner.Worth.{IsCutUnder}
 use Rattle.buck_trial.proofs.Each.{one_taken, zip_taken}
 
 -- what a book has is what was cut
@@ -47,13 +46,9 @@ cut_is g f rule lists b h same book cut gives by =
 pub lawful_under : (h : HistoryParts) (base : SheetParts) (k : ℕ) (x : Posting) → IsLawful h
     → base ≡ base_sheet h.instruction → slice_get h.postings k ≡ Some x → IsCutUnder base x
 lawful_under h base k (Cut e) lawful same there =
-    subst (λ (s : SheetParts). IsCutUnder s (Cut e)) (sym same) (lawful.postings_follow k (Cut e) there).holds.0.admissible
+    subst (λ (s : SheetParts). IsCutUnder s (Cut e)) (sym same)
+    (lawful.postings_follow k (Cut e) there).holds.0.admissible
 lawful_under h base k (Demand d) lawful same there = tt
-
-pub worth_at_base : (i : InstructionParts) (base : SheetParts) (x : Posting) → base ≡ base_sheet i
-    → worth_under base x ≡ at_base_in i x
-worth_at_base i base (Cut e) same = ap (λ (s : SheetParts). worth_under s (Cut e)) same
-worth_at_base i base (Demand d) same = refl
 
 -- the least of one more
 pub least_taken : (ds : List (Option ℕ)) (k : ℕ) (d least r : Option ℕ) → k < length ds → d ≡ get_or ds k d

@@ -1,5 +1,5 @@
 -- The lines of a trial, one after the other.
-use Rattle.std.proofs.Common.{◌≡◌, ℕ, zero, suc, ◌+◌, ◌<◌, List, [], ◌∷◌, ◌++◌, length, take, drop, get_or, map, refl, sym, ap, subst, ◌∙◌, arith, append_assoc, append-nil, length-append, ◌≤◌}
+use Rattle.std.proofs.Common.{◌≡◌, ℕ, zero, suc, ◌+◌, ◌<◌, List, [], ◌∷◌, ◌++◌, length, take, drop, get_or, refl, sym, ap, subst, ◌∙◌, arith, append_assoc, append-nil, length-append, ◌≤◌}
 use Rattle.std.specs.Prelude.{◌==◌, Bool, codes, false, not}
 use Rattle.std.proofs.lemmas.Bool.Decides.{nat_tests}
 use Rattle.std.specs.List.{AllZip}
@@ -38,9 +38,11 @@ line_ends rule h line is =
       rule_name rule
           ++ (cells (front_of h)
           ++ (cells (wholes_of a.degrees)
-          ++ (cells (a.least ∷ back_of h best) ++ (cells (volumes_of a.cut a.unsteered) ++ cells (apart_of a.degrees))))),
+          ++ (cells (a.least ∷ back_of h best)
+          ++ (cells (volumes_of a.cut a.unsteered) ++ cells (apart_of a.degrees))))),
       is.line_is
-          ∙ regroup (rule_name rule) (cells (front_of h)) (cells (wholes_of a.degrees)) (cells (a.least ∷ back_of h best))
+          ∙ regroup (rule_name rule) (cells (front_of h)) (cells (wholes_of a.degrees))
+          (cells (a.least ∷ back_of h best))
           (cells (volumes_of a.cut a.unsteered)) (cells (apart_of a.degrees)) (codes "\n"),
     )
 
@@ -81,9 +83,6 @@ module _ (i : InstructionParts) (lists : List (Vec (Arc Stem Global) Global)) (c
     pub lines : List ℕ
     pub text_is : text ≡ first ++ lines
     pub are_lines : AreLines (IsTrialLine i lists starts best) (take k cs) lines
-
-  pub none_put : (first : List ℕ) → ArePut first 0 first
-  none_put first = record { lines = []; text_is = sym (append-nil first); are_lines = refl }
 
   -- what is left after the draws of a combination
   pub rest_more : (k : ℕ) (rest : List Drawn) → k < length cs → AreDrawnFor i lists (drop k cs) starts rest

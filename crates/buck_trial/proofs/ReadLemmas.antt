@@ -1,23 +1,28 @@
 -- What files say, and why they come to nothing.
-use Rattle.std.proofs.Common.{◌≡◌, ℕ, ◌+◌, ◌<◌, ◌≤◌, min, inl, inr, List, length, Option, Some, None, Result, Ok, Err, IfErr, IfOk, refl, sym, ap, subst, ◌∙◌, arith}
+use Rattle.std.proofs.Common.{◌≡◌, ℕ, ◌+◌, ◌<◌, min, inl, inr, List, length, Option, Some, None, Result, Ok, Err, IfErr, IfOk, map, refl, sym, subst, ◌∙◌, arith}
 use Rattle.std.specs.Result.{IsErrAnd}
 use Rattle.std.specs.declared.sync.Arc.{Arc}
 use Rattle.std.specs.declared.vec.Vec.{Vec}
 use Rattle.std.specs.declared.alloc.Global.{Global}
 use Rattle.buck_apt.specs.Apt.{apt_of}
+use Rattle.std.proofs.lemmas.List.{get_or_default}
 use Rattle.buck_apt.specs.Instruction.{InstructionParts}
+use Rattle.buck_apt.specs.Wanted.{MayBeWanted}
+use Rattle.buck_book.specs.Targets.{AreTargets}
 use Rattle.buck_stem.specs.declared.stem.Stem.{Stem}
 use Rattle.buck_turn.specs.Turn.{stems_in_all}
 use Rattle.buck_engine.specs.declared.fault.EngineFault.{EngineFault}
 use Rattle.buck_engine.specs.declared.fault.EngineFault.TheVariants.{Full}
+use Rattle.buck_engine.specs.declared.fleet.lists.Input.{Input}
 use Rattle.buck_engine.specs.fleet.Running.{AreListsOf, HaveTooMany, IsFleetFault}
 use Rattle.buck_engine.specs.run.Reading.{Says}
 use Rattle.buck_engine.proofs.Lists.{accepted, too_many}
 use Rattle.buck_terms.specs.declared.fault.TermsFault.{TermsFault}
+use Rattle.buck_terms.specs.declared.fault.TermsFault.TheVariants.{Run}
 use Rattle.buck_terms.specs.Reading.{AnswersMore, IsTargetsFileFault}
 use Rattle.buck_engine.specs.run.Opening.{AnswersInputs}
 use Rattle.buck_trial.specs.declared.reading.Opened.{Opened}
-use Rattle.buck_trial.specs.Inputs.{AnswersFiles, HasWanted, IsInputFault, SaysInput}
+use Rattle.buck_trial.specs.Inputs.{AnswersFiles, IsInputFault, SaysInput, held_with}
 use Rattle.buck_trial.specs.inner.Running.{in_terms}
 
 -- an instruction and stems
@@ -45,27 +50,36 @@ pub room_full : (apt : Option (List ℕ)) (stms : List (Option (List ℕ))) (i :
 room_full apt stms i lists fault says many =
     too_many {X = Unit {0}} stms lists (length stms) (Err fault) says.one_each refl says.stms_say (λ _e. many)
 
--- with other targets
-pub more_says : (apt : Option (List ℕ)) (stms : List (Option (List ℕ))) (targets : Option (Option (List ℕ) × ℕ))
-    (i now : InstructionParts) (lists after : List (Vec (Arc Stem Global) Global)) → SaysInput apt stms None i lists
-    → HasWanted i targets now → after ≡ lists → SaysInput apt stms targets now after
-more_says apt stms targets i now lists after says wanted same =
-    subst (λ (l : List (Vec (Arc Stem Global) Global)). SaysInput apt stms targets now l) (sym same)
-    (record {
-      own = says.own;
-      apt_says = says.apt_says;
-      one_each = says.one_each;
-      stms_say = says.stms_say;
-      wanted = subst (λ (x : InstructionParts). HasWanted x targets now) says.wanted wanted;
-    })
+-- targets that are valid may be wanted
+pub valid_wanted : (i : InstructionParts) (ts slice : List ℕ) → slice ≡ ts → AreTargets i ts → MayBeWanted i slice
+valid_wanted i ts slice same h = subst (λ (l : List ℕ). MayBeWanted i l) (sym same) (record {
+  one_each = h.one_each;
+  low = λ k d lt. omega (arith, h.low k lt, get_or_default ts k d 0 lt);
+  low_sums = h.low_sums;
+})
 
 -- the stems come to nothing
-pub stems_fault : {X : Type 0} (apt : Option (List ℕ)) (stms : List (Option (List ℕ)))
+pub stems_fault : {X Y F : Type 0} (held : F → Option (List ℕ)) (apt : Option (List ℕ)) (shown items : List F)
     (targets : Option (Option (List ℕ) × ℕ)) (made : Result X EngineFault) (fault : TermsFault)
-    → in_terms made ≡ Err fault → IfErr made (IsFleetFault apt stms)
-    → IfErr made (λ why. why ≡ Full → HaveTooMany stms) → IsInputFault apt stms targets fault
-stems_fault apt stms targets (Ok x) fault is refused full = absurd (cc is)
-stems_fault apt stms targets (Err why) fault is refused full = inl (why, cc is, refused, full)
+    (r : Result Y TermsFault) → shown ≡ items → Err fault ≡ in_terms made
+    → IfErr made (IsFleetFault apt (map held shown))
+    → IfErr made (λ why. why ≡ Full → HaveTooMany (map held shown)) → IsErrAnd r (λ x. x ≡ fault)
+    → IfErr r (IsInputFault apt (map held items) targets)
+stems_fault held apt shown items targets made fault (Ok y) same is refused full err = tt
+stems_fault held apt shown items targets (Ok x) fault (Err e) same is refused full err = absurd (cc is)
+stems_fault {X} {Y} {F} held apt shown items targets (Err why) fault (Err e) same is refused full err =
+    let why_is : fault ≡ Run why = cc is in
+    subst (λ (l : List F). IsInputFault apt (map held l) targets e) same (inl (why, err ∙ why_is, refused, full))
+
+-- what was read, where a fault would be one of a run
+pub read_says : (apt : Option (List ℕ)) (stms : List (Option (List ℕ))) (made : Result Input EngineFault)
+    (input : Input) → Ok input ≡ in_terms made
+    → IfOk made (λ x. SaysInput apt stms None x.instruction x.lists.items)
+    → SaysInput apt stms None input.instruction input.lists.items
+read_says apt stms (Ok x) input is says =
+    let same : x ≡ input = cc is in
+    subst (λ (y : Input). SaysInput apt stms None y.instruction y.lists.items) same says
+read_says apt stms (Err why) input is says = absurd (cc is)
 
 -- the file of targets does
 pub targets_fault : (apt : Option (List ℕ)) (stms : List (Option (List ℕ))) (file : Option (List ℕ)) (number : ℕ)
@@ -79,7 +93,19 @@ targets_fault apt stms file number i lists fault says is = inr (record {
   is_fault = subst (λ (x : InstructionParts). IsTargetsFileFault number x file fault) says.wanted is;
 })
 
--- the same of an answer
+pub targets_refused : {Y F : Type 0} (held : F → Option (List ℕ)) (apt : Option (List ℕ)) (shown items : List F)
+    (targets : Option (F × ℕ)) (reader : F) (file : ℕ) (i : InstructionParts)
+    (lists : List (Vec (Arc Stem Global) Global)) (r : Result Y TermsFault) → targets ≡ Some (reader, file)
+    → shown ≡ items → SaysInput apt (map held shown) None i lists
+    → IfErr r (IsTargetsFileFault file i (held reader))
+    → IfErr r (IsInputFault apt (map held items) (held_with held targets))
+targets_refused held apt shown items targets reader file i lists (Ok y) there same says is = tt
+targets_refused {Y} {F} held apt shown items targets reader file i lists (Err e) there same says is =
+    subst (λ (t : Option (F × ℕ)). IsInputFault apt (map held items) (held_with held t) e) (sym there)
+    (subst (λ (l : List F). IsInputFault apt (map held l) (Some (held reader, file)) e) same
+    (targets_fault apt (map held shown) (held reader) file i lists e says is))
+
+-- there is no room, of an answer
 pub room_refused : {X : Type 0} (apt : Option (List ℕ)) (stms : List (Option (List ℕ))) (i : InstructionParts)
     (lists : List (Vec (Arc Stem Global) Global)) (fault : EngineFault) (r : Result X EngineFault)
     → SaysInput apt stms None i lists → fault ≡ Full → IsErrAnd r (λ x. x ≡ fault) → IfErr r (IsFleetFault apt stms)
@@ -99,7 +125,8 @@ pub not_opened : {O F : Type 0} (opens : O → List ℕ → Option F → O → T
     (stms : List (List ℕ)) (targets : Option (List ℕ)) (n : ℕ) (opened : F × List F) (fault : EngineFault)
     (r : Result (Opened F) EngineFault) → IsErrAnd r (λ x. x ≡ fault) → n ≡ length stms + 1
     → AnswersInputs opens old between apt stms (Ok opened)
-    → AnswersMore opens between new targets (min n 4294967295) (Err fault) → AnswersFiles opens old new apt stms targets r
+    → AnswersMore opens between new targets (min n 4294967295) (Err fault)
+    → AnswersFiles opens old new apt stms targets r
 not_opened opens old between new apt stms targets n opened fault (Ok files) err number inputs more = absurd err
 not_opened opens old between new apt stms targets n opened fault (Err e) err number inputs more = inr (record {
   between = between;

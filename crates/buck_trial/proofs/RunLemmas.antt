@@ -1,6 +1,6 @@
 -- The run of a draw, and the runs that are planned.
-use Rattle.std.proofs.Common.{◌≡◌, ◌∙◌, ℕ, List, length, Option, Some, ap, subst, sym}
-use Rattle.std.specs.Prelude.{slice_get, sum_by}
+use Rattle.std.proofs.Common.{◌≡◌, ◌∙◌, ℕ, List, length, Option, ap, subst, sym}
+use Rattle.std.specs.Prelude.{sum_by}
 use Rattle.std.specs.declared.sync.Arc.{Arc}
 use Rattle.std.specs.declared.vec.Vec.{Vec}
 use Rattle.std.specs.declared.alloc.Global.{Global}
@@ -29,7 +29,7 @@ pub drawn_is : (i own : InstructionParts) (lists order : List (Vec (Arc Stem Glo
     → targets ≡ targets_of h.instruction h.postings → AreClassCounts h.instruction h.postings counts
     → AreDegrees own targets counts degrees → d.at_base ≡ sum_by (at_base_in h.instruction) h.postings
     → IsLeast degrees d.least → IsDrawn i lists c start d
-drawn_is i own lists order c start d h targets counts degrees drawn same is cut wanted counted are worth least = record {
+drawn_is i own lists order c start d h targets counts degrees drawn same is cut wanted count are worth least = record {
   order = order;
   history = h;
   are_drawn = drawn;
@@ -40,7 +40,7 @@ drawn_is i own lists order c start d h targets counts degrees drawn same is cut 
   one_each = are.one_each ∙ ap (λ (x : InstructionParts). length x.assortments) is;
   are_degrees = λ at degree there. record {
     counts = counts;
-    are_counts = counted;
+    are_counts = count;
     degree_is =
         subst (λ (ts : List ℕ). IsDegreeBy h.instruction ts counts at degree) wanted
         (subst (λ (x : InstructionParts). IsDegreeBy x targets counts at degree) (sym same)

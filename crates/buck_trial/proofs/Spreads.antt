@@ -1,5 +1,5 @@
 -- The cells of what draws came to.
-use Rattle.std.proofs.Common.{◌≡◌, ℕ, ◌<◌, ◌≤◌, List, [], ◌∷◌, ◌++◌, length, Option, Result, Ok, Err, refl, sym, ap, subst, ◌∙◌, arith, append_assoc}
+use Rattle.std.proofs.Common.{◌≡◌, ℕ, ◌<◌, List, [], ◌∷◌, ◌++◌, length, Option, Result, Ok, Err, refl, ap, subst, ◌∙◌, arith, append_assoc}
 use Rattle.std.specs.Result.{OnOk}
 use Rattle.std.specs.List.{AllZip}
 use Rattle.buck_cells.specs.declared.change.Change.{Change}

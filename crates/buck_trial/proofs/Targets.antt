@@ -21,14 +21,6 @@ some_at [] k lt = absurd (omega (arith, lt))
 some_at (x ∷ xs) zero lt = (x, refl)
 some_at (x ∷ xs) (suc k) lt = some_at xs k (omega (arith, lt))
 
--- targets that are valid may be wanted
-pub valid_wanted : (i : InstructionParts) (ts : List ℕ) → AreTargets i ts → MayBeWanted i ts
-valid_wanted i ts h = record {
-  one_each = h.one_each;
-  low = λ k d lt. omega (arith, h.low k lt, get_or_default ts k d 0 lt);
-  low_sums = h.low_sums;
-}
-
 -- as many classes with other targets
 wanting_classes : (ts : List ℕ) (xs : List AssortmentParts)
     → sum_by classes_of (all_wanting ts xs) ≡ sum_by classes_of xs

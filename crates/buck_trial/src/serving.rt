@@ -1,7 +1,7 @@
 //! Whole runs of trials: the files of a task, and its table.
 ghost use Rattle.buck_trial.specs.Serving.{RunsTrial, RunsWishes};
 
-use crate::reading::{of_run, open_files};
+use crate::reading::open_files;
 use crate::task::{TrialTask, WishesTask};
 use crate::trial::run_trial;
 use crate::wishes::run_wishes;
@@ -25,7 +25,7 @@ pub fn serve_trial<T: Threads + Sync, O: Open, W: io::Write>(
         (W.contents out.old) (W.contents out.new) result }
 {
     let stms = task.stms.as_slice();
-    let files = of_run(open_files(alloc, opener, task.apt, stms, task.targets))?;
+    let files = open_files(alloc, opener, task.apt, stms, task.targets)?;
     run_trial(rt, alloc, task, files, out)
 }
 
@@ -42,6 +42,6 @@ pub fn serve_wishes<T: Threads + Sync, O: Open, W: io::Write>(
         (W.contents out.old) (W.contents out.new) result }
 {
     let stms = task.stms.as_slice();
-    let files = of_run(open_files(alloc, opener, task.apt, stms, task.targets))?;
+    let files = open_files(alloc, opener, task.apt, stms, task.targets)?;
     run_wishes(rt, alloc, task, files, out)
 }

@@ -1,4 +1,4 @@
-use Rattle.std.proofs.Common.{List, refl, subst, sym, ◌∙◌}
+use Rattle.std.proofs.Common.{refl, subst, ◌∙◌}
 use Rattle.buck_value.specs.Sheet.{SheetParts}
 use Rattle.buck_figures.specs.Figures.{base_sheet}
 use Rattle.buck_trial.specs.Light.{AreBestOf}

@@ -1,5 +1,4 @@
 use Rattle.std.proofs.Common.{◌≡◌, ◌*◌, ◌≤◌, take}
-use Rattle.std.specs.Arc.{arc_value}
 use Rattle.buck_trial.specs.Light.{AreBestOf}
 use Rattle.buck_trial.proofs.light.list_best.Given as goal
 

@@ -1,4 +1,4 @@
-use Rattle.std.proofs.Common.{List, Ok, [], ◌∷◌, ◌++◌, sym, subst}
+use Rattle.std.proofs.Common.{Ok, [], ◌∷◌, ◌++◌, sym, subst}
 use Rattle.buck_trial.specs.inner.Parts.{AreJoined}
 use Rattle.buck_trial.proofs.Each.{joined_more}
 use Rattle.buck_trial.proofs.parts.joined.Goals as goal

@@ -1,4 +1,4 @@
-use Rattle.std.proofs.Common.{◌<◌, ◌≤◌, ◌≡◌, Some, length, arith, rules}
+use Rattle.std.proofs.Common.{◌<◌, Some, length, arith}
 use Rattle.std.proofs.lemmas.Grind.{common_steps}
 use Rattle.std.proofs.lemmas.List.{length-map}
 use Rattle.buck_sweep.specs.Table.{rate_of}

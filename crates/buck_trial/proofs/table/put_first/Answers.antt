@@ -4,8 +4,8 @@ use Rattle.buck_trial.specs.inner.Lines.{columns_of}
 use Rattle.buck_trial.proofs.table.put_first.Goals as goal
 use Rattle.buck_trial.proofs.table.put_first.Goals.{then-has_draws+in_ok-extend_from_slice-2, else-has_draws}
 
-first_line : (own old opened one columns two end new : List ℕ) → opened ≡ own → one ≡ old ++ opened → two ≡ one ++ columns
-    → new ≡ two ++ end → new ≡ old ++ (own ++ (columns ++ end))
+first_line : (own old opened one columns two end new : List ℕ) → opened ≡ own → one ≡ old ++ opened
+    → two ≡ one ++ columns → new ≡ two ++ end → new ≡ old ++ (own ++ (columns ++ end))
 first_line own old opened one columns two end new same a b c =
     c ∙ ap (λ l. l ++ end) (b ∙ ap (λ l. l ++ columns) (a ∙ ap (λ l. old ++ l) same)) ∙ simp append_assoc
 

@@ -1,4 +1,4 @@
-use Rattle.std.proofs.Common.{◌<◌, map, arith}
+use Rattle.std.proofs.Common.{map, arith}
 use Rattle.buck_trial.proofs.Orders.{few_starts}
 use Rattle.buck_trial.proofs.trial.all_starts.Goals as goal
 

@@ -1,4 +1,4 @@
-use Rattle.std.proofs.Common.{◌≡◌, ◌∙◌, length, ap, arith, rules, subst}
+use Rattle.std.proofs.Common.{◌≡◌, length, ap, arith, rules, subst}
 use Rattle.buck_apt.specs.Settings.{with_settings}
 use Rattle.buck_sweep.specs.Runs.{HasCut}
 use Rattle.buck_sweep.specs.Table.{IsLeast}
@@ -22,7 +22,8 @@ returns-in_err-parts-clause-stop c =
 
 pub returns-clause-ok : goal.returns-clause-ok
 returns-clause-ok c =
-    let own : c.in_ok-instruction.instruction.value ≡ with_settings c.args.combination.now.settings c.args.input.now.instruction =
+    let own : c.in_ok-instruction.instruction.value
+    ≡ with_settings c.args.combination.now.settings c.args.input.now.instruction =
     search rules in
     drawn_is c.args.input.now.instruction c.in_ok-instruction.instruction.value c.args.input.now.lists.items
     c.in_ok-order.order.items c.args.combination.now c.args.start _ c.in_ok-parts.parts c.targets.result.now
