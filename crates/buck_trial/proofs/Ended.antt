@@ -1,5 +1,5 @@
 -- How a run over files ends.
-use Rattle.std.proofs.Common.{◌≡◌, ℕ, inl, inr, List, length, Option, Some, None, Result, Ok, Err, map, refl, sym, ap, subst}
+use Rattle.std.proofs.Common.{◌≡◌, ℕ, inl, inr, List, length, Option, Some, None, Result, Ok, Err, refl, sym, ap, subst}
 use Rattle.std.specs.Result.{IsErrAnd}
 use Rattle.std.specs.declared.sync.Arc.{Arc}
 use Rattle.std.specs.declared.vec.Vec.{Vec}
@@ -18,14 +18,9 @@ use Rattle.buck_sweep.specs.Runs.{IsStop}
 use Rattle.buck_terms.specs.declared.fault.TermsFault.{TermsFault}
 use Rattle.buck_terms.specs.declared.fault.TermsFault.TheVariants.{Run}
 use Rattle.buck_terms.specs.Telling.{WritesTerms}
-use Rattle.std.specs.Option.{option_map}
 use Rattle.buck_trial.specs.declared.reading.Opened.{Opened}
-use Rattle.buck_trial.specs.declared.task.TrialTask.{TrialTask}
-use Rattle.buck_trial.specs.Inputs.{AnswersFiles, IsInputFault, SaysInput, held_with}
-use Rattle.buck_trial.specs.Serving.{RunsTrial}
-use Rattle.buck_sweep.specs.declared.combination.Combination.{Combination}
-use Rattle.buck_draws.specs.declared.orders.Draws.{Draws}
-use Rattle.buck_trial.specs.Trial.{AnswersTrial, IsTrialOver, IsTrialRun, starts_of}
+use Rattle.buck_trial.specs.Inputs.{AnswersFiles, IsInputFault, SaysInput}
+use Rattle.buck_trial.specs.Serving.{RunsFiles}
 use Rattle.buck_trial.specs.inner.Running.{AnswersOver, in_terms}
 
 no_write : (fault : EngineFault) → IsCuttingFault fault → IsNoWrite fault
@@ -99,56 +94,51 @@ nothing_made lists IsText old fault (Ok u) err stop = absurd err
 nothing_made lists IsText old fault (Err e) err stop =
     nothing_over lists IsText old e (subst (λ (x : EngineFault). IsStop lists x) (sym err) stop)
 
--- a trial over files that come to nothing
-pub trial_not_read : (cs : List Combination) (draws : Option Draws) (apt : Option (List ℕ))
-    (stms : List (Option (List ℕ))) (targets : Option (Option (List ℕ) × ℕ)) (old : Option (List ℕ))
-    (fault : TermsFault) (r : Result (Unit {0}) TermsFault) → IsErrAnd r (λ x. x ≡ fault)
-    → IsInputFault apt stms targets fault → IsTrialRun cs draws apt stms targets old old r
-trial_not_read cs draws apt stms targets old fault (Ok u) err is = absurd err
-trial_not_read cs draws apt stms targets old fault (Err e) err is =
+-- a run over files that come to nothing
+pub not_read : (Answers : Result (List ℕ) TermsFault → Type 0) (apt : Option (List ℕ)) (stms : List (Option (List ℕ)))
+    (targets : Option (Option (List ℕ) × ℕ)) (old : Option (List ℕ)) (fault : TermsFault)
+    (r : Result (Unit {0}) TermsFault) → IsErrAnd r (λ x. x ≡ fault) → IsInputFault apt stms targets fault
+    → ((e : TermsFault) → IsInputFault apt stms targets e → Answers (Err e)) → WritesTerms Answers old old r
+not_read Answers apt stms targets old fault (Ok u) err is refused = absurd err
+not_read Answers apt stms targets old fault (Err e) err is refused =
     let here : IsInputFault apt stms targets e =
     subst (λ (x : TermsFault). IsInputFault apt stms targets x) (sym err) is in
-    no_terms (AnswersTrial cs draws apt stms targets) old e (no_write_terms apt stms targets e here) here
+    no_terms Answers old e (no_write_terms apt stms targets e here) (refused e here)
 
--- a trial over files that were read
-pub trial_run : (cs : List Combination) (draws : Option Draws) (apt : Option (List ℕ)) (stms : List (Option (List ℕ)))
-    (targets : Option (Option (List ℕ) × ℕ)) (i : InstructionParts) (lists : List (Vec (Arc Stem Global) Global))
-    (old new : Option (List ℕ)) (made : Result (Unit {0}) EngineFault) (r : Result (Unit {0}) TermsFault)
-    → r ≡ in_terms made → SaysInput apt stms targets i lists
-    → WritesText (AnswersOver lists (IsTrialOver i lists cs (starts_of draws lists))) old new made
-    → IsTrialRun cs draws apt stms targets old new r
-trial_run cs draws apt stms targets i lists old new made r is says written =
-    subst (λ (x : Result (Unit {0}) TermsFault). IsTrialRun cs draws apt stms targets old new x) (sym is)
-    (terms_run lists (IsTrialOver i lists cs (starts_of draws lists)) (AnswersTrial cs draws apt stms targets) old new
-    made (λ text over. record { instruction = i; lists = lists; says = says; is_trial = over })
-    (λ fault stop. stop_is_fault apt stms targets i lists fault says stop) written)
+-- and one over files that were read
+pub files_run : (Answers : Result (List ℕ) TermsFault → Type 0) (IsText : List ℕ → Type 0) (apt : Option (List ℕ))
+    (stms : List (Option (List ℕ))) (targets : Option (Option (List ℕ) × ℕ)) (i : InstructionParts)
+    (lists : List (Vec (Arc Stem Global) Global)) (old new : Option (List ℕ)) (made : Result (Unit {0}) EngineFault)
+    (r : Result (Unit {0}) TermsFault) → r ≡ in_terms made → SaysInput apt stms targets i lists
+    → ((text : List ℕ) → IsText text → Answers (Ok text))
+    → ((e : TermsFault) → IsInputFault apt stms targets e → Answers (Err e))
+    → WritesText (AnswersOver lists IsText) old new made → WritesTerms Answers old new r
+files_run Answers IsText apt stms targets i lists old new made r is says text refused written =
+    subst (λ (x : Result (Unit {0}) TermsFault). WritesTerms Answers old new x) (sym is)
+    (terms_run lists IsText Answers old new made text
+    (λ fault stop. refused (Run fault) (stop_is_fault apt stms targets i lists fault says stop)) written)
 
 -- a whole run whose files can't all be opened
-pub not_served : {O F : Type 0} (opens : O → List ℕ → Option F → O → Type 0) (held : F → Option (List ℕ))
-    (start end : O) (task : TrialTask) (old : Option (List ℕ)) (names : List (List ℕ)) (why : EngineFault)
-    (r : Result (Unit {0}) TermsFault) → IsErrAnd r (λ x. x ≡ Run why) → names ≡ map (λ s. s.now) task.stms.items
-    → AnswersFiles opens start end task.apt.now names (option_map (λ s. s.now) task.targets) (Err why)
-    → RunsTrial opens held start end task old old r
-not_served opens held start end task old names why (Ok u) err same is = absurd err
-not_served {O} {F} opens held start end task old names why (Err e) err same is = record {
+pub not_served : {O F : Type 0} (opens : O → List ℕ → Option F → O → Type 0)
+    (Answers : Opened F → Result (List ℕ) TermsFault → Type 0) (start end : O) (apt : List ℕ)
+    (names stms : List (List ℕ)) (targets : Option (List ℕ)) (old : Option (List ℕ)) (why : EngineFault)
+    (r : Result (Unit {0}) TermsFault) → IsErrAnd r (λ x. x ≡ Run why) → names ≡ stms
+    → AnswersFiles opens start end apt names targets (Err why) → RunsFiles opens Answers start end apt stms targets old old r
+not_served opens Answers start end apt names stms targets old why (Ok u) err same is = absurd err
+not_served opens Answers start end apt names stms targets old why (Err e) err same is = record {
   opened = Err why;
-  answers =
-      subst (λ (l : List (List ℕ)). AnswersFiles opens start end task.apt.now l
-      (option_map (λ s. s.now) task.targets) (Err why)) same is;
+  answers = subst (λ (l : List (List ℕ)). AnswersFiles opens start end apt l targets (Err why)) same is;
   runs = (ap Err err, Keeps-refl old);
 }
 
 -- and one whose files were opened
-pub served : {O F : Type 0} (opens : O → List ℕ → Option F → O → Type 0) (held : F → Option (List ℕ))
-    (start end : O) (task : TrialTask) (old new : Option (List ℕ)) (names : List (List ℕ)) (files : Opened F)
-    (r : Result (Unit {0}) TermsFault) → names ≡ map (λ s. s.now) task.stms.items
-    → AnswersFiles opens start end task.apt.now names (option_map (λ s. s.now) task.targets) (Ok files)
-    → IsTrialRun task.combinations.items task.draws (held files.apt) (map held files.stms.items)
-    (held_with held files.targets) old new r → RunsTrial opens held start end task old new r
-served {O} {F} opens held start end task old new names files r same is run = record {
+pub served : {O F : Type 0} (opens : O → List ℕ → Option F → O → Type 0)
+    (Answers : Opened F → Result (List ℕ) TermsFault → Type 0) (start end : O) (apt : List ℕ)
+    (names stms : List (List ℕ)) (targets : Option (List ℕ)) (old new : Option (List ℕ)) (files : Opened F)
+    (r : Result (Unit {0}) TermsFault) → names ≡ stms → AnswersFiles opens start end apt names targets (Ok files)
+    → WritesTerms (Answers files) old new r → RunsFiles opens Answers start end apt stms targets old new r
+served opens Answers start end apt names stms targets old new files r same is run = record {
   opened = Ok files;
-  answers =
-      subst (λ (l : List (List ℕ)). AnswersFiles opens start end task.apt.now l
-      (option_map (λ s. s.now) task.targets) (Ok files)) same is;
+  answers = subst (λ (l : List (List ℕ)). AnswersFiles opens start end apt l targets (Ok files)) same is;
   runs = run;
 }

@@ -7,6 +7,8 @@ pub mod Lights
 pub mod Lined
 pub mod Ended
 pub mod Wished
+pub mod Ranked
+pub mod Gains
 pub mod ReadLemmas
 pub mod RunLemmas
 pub mod Spreads

@@ -83,3 +83,10 @@ drawn_stop start lists slice order other fault (Err e) same are is stop err =
     ap stems_in_all is ∙ drawn_stems start slice order are ∙ ap stems_in_all same in
     subst (λ (x : EngineFault). IsStop lists x) (sym err)
     (stop.0, λ full. subst (λ (n : ℕ). 1000000 < n) equal (stop.1 full))
+
+pub drawn_stops : {X : Type 0} (start : ℕ) (lists slice order other : List (Vec (Arc Stem Global) Global))
+    (r : Result X EngineFault) → slice ≡ lists → AreDrawn start slice order → other ≡ order
+    → IfErr r (IsStop other) → IfErr r (IsStop lists)
+drawn_stops start lists slice order other (Ok x) same are is stop = tt
+drawn_stops {X} start lists slice order other (Err e) same are is stop =
+    drawn_stop {X = X} start lists slice order other e (Err e) same are is stop refl

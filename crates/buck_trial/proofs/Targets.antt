@@ -1,16 +1,14 @@
 -- Targets of which one is moved, assortment by assortment.
-use Rattle.std.proofs.Common.{◌≡◌, ◌≢◌, ℕ, zero, suc, ◌+◌, ◌<◌, ◌≤◌, inl, inr, List, [], ◌∷◌, ◌++◌, All, length, take, drop, get_or, sum, sum_by, Some, refl, sym, ap, subst, ◌∙◌, arith, length-append}
-use Rattle.std.specs.Prelude.{slice_get, slice_index}
-use Rattle.std.specs.List.{flat_map}
+use Rattle.std.proofs.Common.{◌≡◌, ◌≢◌, ℕ, zero, suc, ◌+◌, ◌<◌, ◌≤◌, inl, inr, List, [], ◌∷◌, ◌++◌, All, length, take, drop, sum, sum_by, Some, refl, sym, ap, subst, ◌∙◌, arith, length-append}
+use Rattle.std.specs.Prelude.{slice_get}
 use Rattle.std.proofs.lemmas.Bool.{cases_eq, cases_lt}
-use Rattle.std.proofs.lemmas.List.{get_or_default, take_all}
-use Rattle.std.proofs.lemmas.List.Elements.{All-append, All-drop, All-same, All-take}
+use Rattle.std.proofs.lemmas.List.{take_all}
+use Rattle.std.proofs.lemmas.List.Elements.{All-append, All-drop, All-take}
 use Rattle.std.proofs.lemmas.List.Sums.{sum_by-cons}
 use Rattle.std.proofs.lemmas.Option.{same_Some, slice_get_within}
 use Rattle.buck_apt.specs.Instruction.{AssortmentParts, InstructionParts, classes, classes_before, classes_of}
 use Rattle.buck_apt.specs.Wanted.{MayBeWanted, all_wanting, wanting, with_targets}
 use Rattle.buck_book.specs.Degree.{part_of}
-use Rattle.buck_book.specs.Targets.{AreTargets}
 use Rattle.buck_trial.specs.Wishes.{IsMoved, moved_part}
 use Rattle.buck_trial.proofs.MovedLemmas.{moved_length, moved_low, moved_sum}
 use Rattle.buck_trial.proofs.Pieces.{before_next, piece_kept, piece_length, piece_next}

@@ -1,14 +1,16 @@
--- Runs of wishes, and which classes are wishes.
-use Rattle.std.proofs.Common.{◌≡◌, ℕ, suc, ◌+◌, ◌<◌, ◌≤◌, ⊥, inl, inr, List, [], ◌∷◌, ◌++◌, All, length, take, drop, get_or, Option, Some, None, refl, sym, ap, subst, ◌∙◌, arith, append_assoc, append-nil}
+-- Runs of wishes, which classes are wishes, and what is told of them.
+use Rattle.std.proofs.Common.{◌≡◌, mul-le-mul, ℕ, ◌+◌, ◌*◌, ◌<◌, ◌≤◌, inl, inr, List, [], ◌∷◌, ◌++◌, All, length, map, Option, Some, Result, Ok, Err, IfOk, refl, sym, ap, subst, ◌∙◌, arith}
 use Rattle.std.specs.Prelude.{slice_get, sum_by}
-use Rattle.std.specs.List.{AllZip, Contains}
+use Rattle.std.specs.List.{AllByRecursion, Contains, flat_map}
+use Rattle.std.specs.List.Sorted.{IsPermutation, IsSortedBy, IsStableBy}
 use Rattle.std.specs.declared.sync.Arc.{Arc}
 use Rattle.std.specs.declared.vec.Vec.{Vec}
 use Rattle.std.specs.declared.alloc.Global.{Global}
 use Rattle.std.proofs.lemmas.Bool.{cases_lt}
-use Rattle.std.proofs.lemmas.List.Elements.{All-append, All-cons, All-nil, All-push, Contains-append_left, Contains-append_right}
-use Rattle.std.proofs.lemmas.Option.{slice_get_within}
-use Rattle.buck_apt.specs.Instruction.{AssortmentParts, InstructionParts, classes, classes_of}
+use Rattle.std.proofs.lemmas.List.Elements.{All-cons, All-nil, All-push, All-weaker, Contains-append_left, Contains-append_right, recursion_from_All}
+use Rattle.std.proofs.lemmas.List.Sorted.{All-permutation, Contains-permutation, IsPermutation-map}
+use Rattle.std.proofs.lemmas.Option.{get_or_from_slice_get, slice_get_within}
+use Rattle.buck_apt.specs.Instruction.{AssortmentParts, InstructionParts, IsAssortment, IsInstruction, classes_of}
 use Rattle.buck_apt.specs.Wanted.{MayBeWanted, with_targets}
 use Rattle.buck_stem.specs.declared.stem.Stem.{Stem}
 use Rattle.buck_rule.specs.declared.named.NamedRule.{NamedRule}
@@ -17,23 +19,29 @@ use Rattle.buck_book.specs.Degree.{part_of}
 use Rattle.buck_book.specs.History.{HistoryParts}
 use Rattle.buck_book.specs.Posting.{opening_targets}
 use Rattle.buck_figures.specs.Figures.{at_base_in}
-use Rattle.buck_trial.specs.declared.wish.Asking.{Asking}
+use Rattle.buck_engine.specs.declared.fault.EngineFault.{EngineFault}
+use Rattle.buck_sweep.specs.Runs.{HasCut}
+use Rattle.buck_sweep.specs.Table.{IsLeast}
+use Rattle.buck_trial.specs.declared.asking.Asking.{Asking}
 use Rattle.buck_trial.specs.declared.outcome.Outcome.{Outcome}
+use Rattle.buck_trial.specs.declared.outcome.Runs.{Runs}
 use Rattle.buck_trial.specs.declared.wish.Told.{Told}
 use Rattle.buck_trial.specs.declared.wish.Wish.{Wish}
-use Rattle.buck_trial.specs.Light.{AreDegrees}
-use Rattle.buck_trial.specs.Wishes.{AreUnsteered, AreWishes, IsMoved, IsRunOf, IsWish, IsWishAt, IsWished}
-use Rattle.buck_trial.specs.inner.Asking.{AreAdded, AreRuns, AreTold, HasCutOf, IsAsking}
+use Rattle.buck_trial.specs.Light.{AreDegrees, AreDrawn}
+use Rattle.buck_trial.specs.Wishes.{AreOrdered, AreRunsOf, AreWishes, IsMoved, IsRunOf, IsTold, IsWish, IsWishAt, place_of, worth_in}
+use Rattle.buck_trial.specs.WishLine.{IsWishLine, whole_line, wishes_head}
+use Rattle.buck_trial.specs.inner.Asking.{AreBelow, AreRunsBy, AreTold, HasCutOf, IsAsking, IsToldOf, Rises}
+use Rattle.buck_trial.proofs.Ranked.{above, ranked, rises_of}
 use Rattle.buck_trial.proofs.Pieces.{piece_length}
 use Rattle.buck_trial.proofs.Targets.{some_at}
 
 -- what a run came to
 pub is_run : (rule : NamedRule) (i : InstructionParts) (lists : List (Vec (Arc Stem Global) Global)) (targets : List ℕ)
-    (order : Option ℕ) (at_base : ℕ) (degrees : List (Option ℕ)) (h : HistoryParts) (counts : List ℕ)
-    → HasCutOf rule i lists order h → at_base ≡ sum_by (at_base_in h.instruction) h.postings
-    → AreClassCounts h.instruction h.postings counts → AreDegrees i targets counts degrees
-    → IsRunOf rule i lists targets order at_base degrees
-is_run rule i lists targets order at_base degrees h counts cut worth counted are = record {
+    (order : Option ℕ) (run : Outcome) (h : HistoryParts) (counts : List ℕ)
+    → HasCutOf rule i lists order h → run.at_base ≡ sum_by (at_base_in h.instruction) h.postings
+    → AreClassCounts h.instruction h.postings counts → AreDegrees i targets counts run.degrees.items
+    → IsLeast run.degrees.items run.least → IsRunOf rule i lists targets order run
+is_run rule i lists targets order run h counts cut worth counted are least = record {
   ordered = cut.ordered;
   history = h;
   counts = counts;
@@ -43,98 +51,77 @@ is_run rule i lists targets order at_base degrees h counts cut worth counted are
   at_base_is = worth ∙ ap (λ (x : InstructionParts). sum_by (at_base_in x) h.postings) cut.instruction;
   are_counts = subst (λ (x : InstructionParts). AreClassCounts x h.postings counts) cut.instruction counted;
   are_degrees = are;
+  is_least = least;
 }
 
--- the first of what there is one each of
-pub first_of : {A B : Type 0} (R : A → B → Type 0) (x : A) (xs : List A) (ys : List B) → AllZip R (x ∷ xs) ys
-    → (y : B) × R x y
-first_of R x xs [] all = absurd all
-first_of R x xs (y ∷ ys) all = (y, all.0)
+-- what is cut in the order of a draw
+pub cut_drawn : (rule : NamedRule) (i : InstructionParts) (lists slice ordered other : List (Vec (Arc Stem Global) Global))
+    (start : ℕ) (order : Option ℕ) (r : Result HistoryParts EngineFault) → order ≡ Some start → slice ≡ lists
+    → AreDrawn start slice ordered → other ≡ ordered → IfOk r (λ h. h.instruction ≡ i) → IfOk r (HasCut rule other)
+    → IfOk r (HasCutOf rule i lists order)
+cut_drawn rule i lists slice ordered other start order (Err e) is same drawn shown own cut = tt
+cut_drawn rule i lists slice ordered other start order (Ok h) is same drawn shown own cut = record {
+  ordered = ordered;
+  are_ordered =
+      subst (λ (o : Option ℕ). AreOrdered o lists ordered) (sym is)
+      (subst (λ (l : List (Vec (Arc Stem Global) Global)). AreDrawn start l ordered) same drawn);
+  instruction = own;
+  has_cut = subst (λ (l : List (Vec (Arc Stem Global) Global)). HasCut rule l h) shown cut;
+}
 
--- the run in the files' own order
-pub own_run : (a : Asking) (i : InstructionParts) (runs : List Outcome) → IsAsking a → AreRuns a i a.orders.items runs
-    → (run : Outcome) × IsRunOf a.rule i a.input.lists.items (opening_targets a.instruction.value) None run.at_base
-    run.degrees.items
-own_run a i runs asking all =
-    let R = λ (order : Option ℕ) (run : Outcome). IsRunOf a.rule i a.input.lists.items
-    (opening_targets a.instruction.value) order run.at_base run.degrees.items in
-    first_of R None asking.drawn runs (subst (λ (l : List (Option ℕ)). AllZip R l runs) asking.orders all)
+-- an assortment has few classes
+few_classes : (i : InstructionParts) (at : ℕ) (a : AssortmentParts) → IsInstruction i
+    → slice_get i.assortments at ≡ Some a → classes_of a ≤ 1024
+few_classes i at a valid there =
+    let is = subst IsAssortment (get_or_from_slice_get i.assortments at a a there)
+    (valid.assortments_valid at a (slice_get_within i.assortments at a there)) in
+    mul-le-mul is.rows.1 is.columns.1
 
--- a wish and its run
-pub wished : (a : Asking) (i : InstructionParts) (runs : List Outcome) (w : Wish) (moved : List ℕ) → IsAsking a
-    → IsWishAt a.instruction.value a.unsteered.items w.assortment w.class
-    → IsMoved a.instruction.value (opening_targets a.instruction.value) a.unsteered.items w.assortment w.class moved
-    → i ≡ with_targets moved a.instruction.value → AreRuns a i a.orders.items runs
-    → IsWished a.rule a.instruction.value a.input.lists.items a.unsteered.items w
-wished a i runs w moved asking is_wish is_moved same all =
-    let run = own_run a i runs asking all in
-    record {
-      is_wish = is_wish;
-      moved = moved;
-      is_moved = is_moved;
-      at_base = run.0.at_base;
-      degrees = run.0.degrees.items;
-      is_run =
-          subst (λ (x : InstructionParts). IsRunOf a.rule x a.input.lists.items (opening_targets a.instruction.value)
-          None run.0.at_base run.0.degrees.items) same run.1;
-    }
+-- one more behind those that rise
+below_push : {X : Type 0} (P : X → Type 0) (xs : List X) (y : X) → P y → AllByRecursion P xs
+    → AllByRecursion P (xs ++ y ∷ [])
+below_push P [] y one all = (one, tt)
+below_push P (x ∷ xs) y one all = (all.0, below_push P xs y one all.1)
 
--- what holds of each that is told
-all_told : {A B : Type 0} (P : A → Type 0) (xs : List A) (ys : List B) → AllZip (λ x y. P x) xs ys → All P xs
-all_told P [] [] all = All-nil P
-all_told P [] (y ∷ ys) all = absurd all
-all_told P (x ∷ xs) [] all = absurd all
-all_told P (x ∷ xs) (y ∷ ys) all = All-cons P x xs all.0 (all_told P xs ys all.1)
+rises_push : {X : Type 0} (n : X → ℕ) (xs : List X) (y : X) → Rises n xs → AllByRecursion (λ x. n x < n y) xs
+    → Rises n (xs ++ y ∷ [])
+rises_push n [] y up low = (tt, tt)
+rises_push n (x ∷ xs) y up low = (below_push (λ z. n x < n z) xs y low.0 up.0, rises_push n xs y up.1 low.1)
 
-pub are_wishes : (a : Asking) (wholes : List Outcome) (wishes : List Wish) (told : List Told) → IsAsking a
-    → AreRuns a a.instruction.value a.orders.items wholes
-    → ((at : ℕ) (class : ℕ) → IsWishAt a.instruction.value a.unsteered.items at class
-    → Contains wishes (record { assortment = at; class = class }))
-    → AreTold a wishes told → AreWishes a.rule a.instruction.value a.input.lists.items
-are_wishes a wholes wishes told asking runs all each =
-    let whole = own_run a a.instruction.value wholes asking runs in
-    record {
-      at_base = whole.0.at_base;
-      degrees = whole.0.degrees.items;
-      whole = whole.1;
-      unsteered = a.unsteered.items;
-      are_unsteered = asking.unsteered;
-      wishes = wishes;
-      all = all;
-      each = all_told (IsWished a.rule a.instruction.value a.input.lists.items a.unsteered.items) wishes told each;
-    }
-
--- the wishes of the classes before one were added
-pub record AddedTo (i : InstructionParts) (us : List ℕ) (at class : ℕ) (old new : List Wish) : Type 0 where
-  pub added : List Wish
-  pub new_is : new ≡ old ++ added
-  pub each : All (λ w. IsWishAt i us w.assortment w.class) added
-  pub all : (c : ℕ) → c < class → IsWishAt i us at c → Contains added (record { assortment = at; class = c })
-
-pub none_added : (i : InstructionParts) (us : List ℕ) (at : ℕ) (old : List Wish) → AddedTo i us at 0 old old
-none_added i us at old = record {
-  added = [];
-  new_is = sym (append-nil old);
+pub none_below : (i : InstructionParts) (us : List ℕ) → AreBelow i us 0 []
+none_below i us = record {
   each = All-nil (λ w. IsWishAt i us w.assortment w.class);
-  all = λ c lt. absurd (omega (arith, lt));
+  below = All-nil (λ w. place_of w < 0);
+  rises = tt;
+  all = λ at class lt w. absurd (omega (arith, lt));
 }
 
 module _ (i : InstructionParts) (us : List ℕ) (at : ℕ) (targets unsteered : List ℕ)
     (are_targets : (a : AssortmentParts) → slice_get i.assortments at ≡ Some a
     → targets ≡ part_of i a at (opening_targets i))
-    (are_unsteered : (a : AssortmentParts) → slice_get i.assortments at ≡ Some a → unsteered ≡ part_of i a at us) where
+    (are_unsteered : (a : AssortmentParts) → slice_get i.assortments at ≡ Some a → unsteered ≡ part_of i a at us)
+    (valid : IsInstruction i) (wanted : MayBeWanted i (opening_targets i)) (exists : at < length i.assortments) where
+  -- as many targets as classes
+  long_at : (a : AssortmentParts) → slice_get i.assortments at ≡ Some a → length targets ≡ classes_of a
+  long_at a there =
+      ap (λ (l : List ℕ). length l) (are_targets a there)
+      ∙ piece_length classes_of i.assortments at a (opening_targets i) there wanted.one_each
+
+  few_at : length targets ≤ 1024
+  few_at =
+      let found = some_at i.assortments at exists in
+      omega (arith, long_at found.0 found.1, few_classes i at found.0 valid found.1)
+
   -- a class is a wish
-  pub wish_at : (class : ℕ) → MayBeWanted i (opening_targets i) → at < length i.assortments → class < length targets
-      → IsWish targets unsteered class → IsWishAt i us at class
-  wish_at class wanted lt within is =
-      let found = some_at i.assortments at lt in
+  wish_at : (class : ℕ) → class < length targets → IsWish targets unsteered class → IsWishAt i us at class
+  wish_at class within is =
+      let found = some_at i.assortments at exists in
       let a = found.0 in
       let there = found.1 in
-      let long = piece_length classes_of i.assortments at a (opening_targets i) there wanted.one_each in
       record {
         assortment = a;
         exists = there;
-        within = omega (arith, within, ap (λ (l : List ℕ). length l) (are_targets a there), long);
+        within = omega (arith, within, long_at a there);
         is_wish =
             subst (λ (l : List ℕ). IsWish l (part_of i a at us) class) (are_targets a there)
             (subst (λ (l : List ℕ). IsWish targets l class) (are_unsteered a there) is);
@@ -146,78 +133,148 @@ module _ (i : InstructionParts) (us : List ℕ) (at : ℕ) (targets unsteered : 
       (subst (λ (l : List ℕ). IsWish l (part_of i w.assortment at us) class)
       (sym (are_targets w.assortment w.exists)) w.is_wish)
 
-  pub one_added : (class : ℕ) (old mid new : List Wish) → MayBeWanted i (opening_targets i)
-      → at < length i.assortments → class < length targets → IsWish targets unsteered class
-      → new ≡ mid ++ (record { assortment = at; class = class }) ∷ [] → AddedTo i us at class old mid
-      → AddedTo i us at (class + 1) old new
-  one_added class old mid new wanted lt within is put so_far =
+  -- the next one is
+  pub one_below : (class : ℕ) (old new : List Wish) → class < length targets → IsWish targets unsteered class
+      → new ≡ old ++ (record { assortment = at; class = class }) ∷ [] → AreBelow i us (at * 1024 + class) old
+      → AreBelow i us (at * 1024 + (class + 1)) new
+  one_below class old new within is put so_far =
       let wish : Wish = record { assortment = at; class = class } in
-      record {
-        added = so_far.added ++ wish ∷ [];
-        new_is = put ∙ ap (λ (l : List Wish). l ++ wish ∷ []) so_far.new_is ∙ append_assoc old so_far.added (wish ∷ []);
-        each = All-push (λ w. IsWishAt i us w.assortment w.class) so_far.added wish so_far.each
-            (wish_at class wanted lt within is);
-        all = λ c below w. elim (cases_lt c class) [
+      subst (λ (l : List Wish). AreBelow i us (at * 1024 + (class + 1)) l) (sym put)
+      (record {
+        each = All-push (λ w. IsWishAt i us w.assortment w.class) old wish so_far.each (wish_at class within is);
+        below = All-push (λ w. place_of w < at * 1024 + (class + 1)) old wish
+            (All-weaker (λ w. place_of w < at * 1024 + class) (λ w. place_of w < at * 1024 + (class + 1))
+            (λ w lt. omega (arith, lt)) old so_far.below) (omega arith);
+        rises = rises_push place_of old wish so_far.rises
+            (recursion_from_All (λ w. place_of w < at * 1024 + class) old so_far.below);
+        all = λ k c lt w. elim (cases_lt (k * 1024 + c) (at * 1024 + class)) [
           | inl before ↦
-              Contains-append_left so_far.added (wish ∷ []) (record { assortment = at; class = c }) (so_far.all c before w)
+              Contains-append_left old (wish ∷ []) (record { assortment = k; class = c }) (so_far.all k c before w)
           | inr past ↦ (
-              let same : class ≡ c = omega (arith, below, past) in
-              subst (λ n. Contains (so_far.added ++ wish ∷ []) (record { assortment = at; class = n })) same
-              (Contains-append_right so_far.added (wish ∷ []) wish (0, omega arith, refl)))
+              let small = few_classes i k w.assortment valid w.exists in
+              let same_at : at ≡ k = omega (arith, lt, past, small, w.within, within, few_at) in
+              let same_class : class ≡ c = omega (arith, lt, past, small, w.within, within, few_at) in
+              subst (λ n. Contains (old ++ wish ∷ []) (record { assortment = n; class = c })) same_at
+              (subst (λ n. Contains (old ++ wish ∷ []) (record { assortment = at; class = n })) same_class
+              (Contains-append_right old (wish ∷ []) wish (0, omega arith, refl))))
         ];
-      }
+      })
 
-  pub none_more : (class : ℕ) (old new : List Wish) → (IsWish targets unsteered class → ⊥) → AddedTo i us at class old new
-      → AddedTo i us at (class + 1) old new
-  none_more class old new not_one so_far = record {
-    added = so_far.added;
-    new_is = so_far.new_is;
+  -- or isn't
+  pub none_more : (class : ℕ) (old : List Wish) → class < length targets → (IsWish targets unsteered class → ⊥)
+      → AreBelow i us (at * 1024 + class) old → AreBelow i us (at * 1024 + (class + 1)) old
+  none_more class old within not_one so_far = record {
     each = so_far.each;
-    all = λ c below w. elim (cases_lt c class) [
-      | inl before ↦ so_far.all c before w
+    below = All-weaker (λ w. place_of w < at * 1024 + class) (λ w. place_of w < at * 1024 + (class + 1))
+        (λ w lt. omega (arith, lt)) old so_far.below;
+    rises = so_far.rises;
+    all = λ k c lt w. elim (cases_lt (k * 1024 + c) (at * 1024 + class)) [
+      | inl before ↦ so_far.all k c before w
       | inr past ↦ (
-          let same : c ≡ class = omega (arith, below, past) in
-          absurd (not_one (subst (λ n. IsWish targets unsteered n) same (wish_of c w))))
+          let small = few_classes i k w.assortment valid w.exists in
+          let same_at : k ≡ at = omega (arith, lt, past, small, w.within, within, few_at) in
+          let same_class : c ≡ class = omega (arith, lt, past, small, w.within, within, few_at) in
+          absurd (not_one (wish_of class (subst (λ n. IsWishAt i us n class) same_at
+          (subst (λ n. IsWishAt i us k n) same_class w)))))
     ];
   }
 
-  pub all_added : (class : ℕ) (old new : List Wish) → MayBeWanted i (opening_targets i) → length targets ≤ class
-      → AddedTo i us at class old new → AreAdded i us at old new
-  all_added class old new wanted le so_far = record {
-    added = so_far.added;
-    new_is = so_far.new_is;
+  -- and there are no more of the assortment
+  pub all_below : (class : ℕ) (old : List Wish) → class ≡ length targets → AreBelow i us (at * 1024 + class) old
+      → AreBelow i us ((at + 1) * 1024) old
+  all_below class old is so_far = record {
     each = so_far.each;
-    all = λ c w. (
-        let long = piece_length classes_of i.assortments at w.assortment (opening_targets i) w.exists wanted.one_each in
-        so_far.all c
-        (omega (arith, le, w.within, long, ap (λ (l : List ℕ). length l) (are_targets w.assortment w.exists))) w);
+    below = All-weaker (λ w. place_of w < at * 1024 + class) (λ w. place_of w < (at + 1) * 1024)
+        (λ w lt. omega (arith, lt, is, few_at)) old so_far.below;
+    rises = so_far.rises;
+    all = λ k c lt w. elim (cases_lt (k * 1024 + c) (at * 1024 + class)) [
+      | inl before ↦ so_far.all k c before w
+      | inr past ↦ (
+          let small = few_classes i k w.assortment valid w.exists in
+          let same_at : k ≡ at = omega (arith, lt, past, small, w.within) in
+          let there : slice_get i.assortments at ≡ Some w.assortment =
+          ap (λ n. slice_get i.assortments n) (sym same_at) ∙ w.exists in
+          absurd (omega (arith, past, same_at, w.within, is, long_at w.assortment there)))
+    ];
   }
 
--- the wishes of the assortments before one
-pub record AllAdded (i : InstructionParts) (us : List ℕ) (at : ℕ) (wishes : List Wish) : Type 0 where
-  pub each : All (λ w. IsWishAt i us w.assortment w.class) wishes
-  pub all : (k : ℕ) (class : ℕ) → k < at → IsWishAt i us k class
-      → Contains wishes (record { assortment = k; class = class })
+-- what is told of a wish whose runs were made with its target moved
+pub told_is : (a : Asking) (i : InstructionParts) (whole runs : Runs) (wish : Wish) (moved : List ℕ) (told : Told)
+    → IsWishAt a.instruction.value a.unsteered.items wish.assortment wish.class
+    → IsMoved a.instruction.value (opening_targets a.instruction.value) a.unsteered.items wish.assortment wish.class moved
+    → i ≡ with_targets moved a.instruction.value → AreRunsBy a i runs → told.wish ≡ wish
+    → told.worth ≡ worth_in runs.own runs.drawn.items
+    → IsWishLine a.instruction.value a.unsteered.items moved whole runs wish told.line.items → IsToldOf a whole wish told
+told_is a i whole runs wish moved told is_wish is_moved same are is worth line =
+    let there : (P : Wish → Type 0) → P wish → P told.wish = λ P p. subst P (sym is) p in
+    record {
+      wish_is = is;
+      is_told = record {
+        is_wish = there (λ w. IsWishAt a.instruction.value a.unsteered.items w.assortment w.class) is_wish;
+        moved = moved;
+        is_moved = there (λ w. IsMoved a.instruction.value (opening_targets a.instruction.value) a.unsteered.items
+            w.assortment w.class moved) is_moved;
+        runs = runs;
+        are_runs =
+            subst (λ (x : InstructionParts). AreRunsOf a.rule x a.input.lists.items (opening_targets a.instruction.value)
+            a.starts.items runs) same are;
+        worth_is = worth;
+        is_line =
+            there (λ w. IsWishLine a.instruction.value a.unsteered.items moved whole runs w told.line.items) line;
+      };
+    }
 
-pub more_added : (i : InstructionParts) (us : List ℕ) (at : ℕ) (old new : List Wish) → AreAdded i us at old new
-    → AllAdded i us at old → AllAdded i us (at + 1) new
-more_added i us at old new more so_far =
-    subst (λ (l : List Wish). AllAdded i us (at + 1) l) (sym more.new_is)
-    (record {
-      each = All-append (λ w. IsWishAt i us w.assortment w.class) old more.added so_far.each more.each;
-      all = λ k class below w. elim (cases_lt k at) [
-        | inl before ↦
-            Contains-append_left old more.added (record { assortment = k; class = class }) (so_far.all k class before w)
-        | inr past ↦ (
-            let same : at ≡ k = omega (arith, below, past) in
-            Contains-append_right old more.added (record { assortment = k; class = class })
-            (subst (λ n. Contains more.added (record { assortment = n; class = class })) same
-            (more.all class (subst (λ n. IsWishAt i us n class) (sym same) w))))
-      ];
-    })
+-- what is told of wishes is about these, in their order
+pub told_wishes : (a : Asking) (whole : Runs) (wishes : List Wish) (told : List Told) → AreTold a whole wishes told
+    → map (λ t. t.wish) told ≡ wishes
+told_wishes a whole [] [] all = refl
+told_wishes a whole [] (t ∷ more) all = absurd all
+told_wishes a whole (w ∷ wishes) [] all = absurd all
+told_wishes a whole (w ∷ wishes) (t ∷ more) all =
+    ap (λ (x : Wish). x ∷ map (λ t. t.wish) more) all.0.wish_is
+    ∙ ap (λ (l : List Wish). w ∷ l) (told_wishes a whole wishes more all.1)
 
-pub all_wishes : (i : InstructionParts) (us : List ℕ) (at : ℕ) (wishes : List Wish) → length i.assortments ≤ at
-    → AllAdded i us at wishes → (k : ℕ) (class : ℕ) → IsWishAt i us k class
-    → Contains wishes (record { assortment = k; class = class })
-all_wishes i us at wishes le added k class w =
-    added.all k class (omega (arith, le, slice_get_within i.assortments k w.assortment w.exists)) w
+pub all_told : (a : Asking) (whole : Runs) (wishes : List Wish) (told : List Told) → AreTold a whole wishes told
+    → All (IsTold a.rule a.instruction.value a.input.lists.items a.starts.items a.unsteered.items whole) told
+all_told a whole wishes [] all =
+    All-nil (IsTold a.rule a.instruction.value a.input.lists.items a.starts.items a.unsteered.items whole)
+all_told a whole [] (t ∷ more) all = absurd all
+all_told a whole (w ∷ wishes) (t ∷ more) all =
+    All-cons (IsTold a.rule a.instruction.value a.input.lists.items a.starts.items a.unsteered.items whole) t more
+    all.0.is_told (all_told a whole wishes more all.1)
+
+-- the table, given the runs, all wishes, and what is told of these in its order
+pub are_wishes : (a : Asking) (whole : Runs) (wishes : List Wish) (told sorted : List Told) (text : List ℕ) → IsAsking a
+    → IsInstruction a.instruction.value → AreRunsBy a a.instruction.value whole
+    → AreBelow a.instruction.value a.unsteered.items (length a.instruction.value.assortments * 1024) wishes
+    → AreTold a whole wishes told → IsPermutation told sorted → IsSortedBy (above (λ t. t.worth)) sorted
+    → IsStableBy (above (λ t. t.worth)) told sorted
+    → text ≡ wishes_head a.starts.items
+    ++ (whole_line a.starts.items whole.own ++ flat_map (λ t. t.line.items) sorted)
+    → AreWishes a.rule a.instruction.value a.input.lists.items a.starts.items text
+are_wishes a whole wishes told sorted text asking valid runs below are moved order stable is =
+    let i = a.instruction.value in
+    let us = a.unsteered.items in
+    let same = told_wishes a whole wishes told are in
+    record {
+      unsteered = us;
+      are_unsteered = asking.unsteered;
+      whole = whole;
+      are_whole = runs;
+      told = sorted;
+      each =
+          All-permutation (IsTold a.rule i a.input.lists.items a.starts.items us whole) told sorted moved
+          (all_told a whole wishes told are);
+      all = λ at class w. (
+          let few = few_classes i at w.assortment valid w.exists in
+          let lt = slice_get_within i.assortments at w.assortment w.exists in
+          let wish : Wish = record { assortment = at; class = class } in
+          Contains-permutation (map (λ t. t.wish) told) (map (λ t. t.wish) sorted) wish
+          (IsPermutation-map (λ t. t.wish) told sorted moved)
+          (subst (λ (l : List Wish). Contains l wish) (sym same)
+          (below.all at class (omega (arith, w.within, few, lt)) w)));
+      in_order =
+          ranked (λ t. t.worth) (λ t. place_of t.wish) told sorted
+          (rises_of place_of (λ t. t.wish) told (subst (Rises place_of) (sym same) below.rises)) order stable;
+      text_is = is;
+    }

@@ -1,6 +1,7 @@
 pub mod Light
 pub mod Inputs
 pub mod Trial
+pub mod WishLine
 pub mod Wishes
 pub mod Serving
 pub mod inner

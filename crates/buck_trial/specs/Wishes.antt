@@ -1,6 +1,6 @@
 -- What each wish costs: a wish is a class whose target isn't the share of logs that the class has unsteered.
-use Rattle.std.specs.Prelude.{◌≡◌, ◌≢◌, ◌+◌, ◌-◌, ◌*◌, ◌/◌, ◌%◌, ◌<◌, ℕ, List, [], ◌∷◌, length, map, max, min, sum, sum_by, slice_get, slice_index, slice_set, All, Option, Some, None, Result, Ok, Err}
-use Rattle.std.specs.List.{Contains}
+use Rattle.std.specs.Prelude.{◌≡◌, ◌≢◌, ◌+◌, ◌-◌, ◌*◌, ◌/◌, ◌%◌, ◌<◌, ◌⊎◌, ℕ, List, [], ◌∷◌, ◌++◌, length, map, max, min, sum, sum_by, slice_get, slice_index, slice_index_or, slice_set, All, Option, Some, None, Result, Ok, Err}
+use Rattle.std.specs.List.{AllZip, Contains, flat_map}
 use Rattle.std.specs.declared.sync.Arc.{Arc}
 use Rattle.std.specs.declared.vec.Vec.{Vec}
 use Rattle.std.specs.declared.alloc.Global.{Global}
@@ -18,9 +18,16 @@ use Rattle.buck_rule.specs.declared.named.NamedRule.TheVariants.{Steady}
 use Rattle.buck_sweep.specs.Runs.{HasCut}
 use Rattle.buck_words.specs.Words.{half_up}
 use Rattle.buck_terms.specs.declared.fault.TermsFault.{TermsFault}
+use Rattle.buck_draws.specs.declared.orders.Draws.{Draws}
+use Rattle.buck_sweep.specs.Table.{IsLeast}
+use Rattle.buck_trial.specs.declared.outcome.Outcome.{Outcome}
+use Rattle.buck_trial.specs.declared.outcome.Runs.{Runs}
+use Rattle.buck_trial.specs.declared.wish.Told.{Told}
 use Rattle.buck_trial.specs.declared.wish.Wish.{Wish}
 use Rattle.buck_trial.specs.Inputs.{IsInputFault, SaysInput}
 use Rattle.buck_trial.specs.Light.{AreDegrees, AreDrawn}
+use Rattle.buck_trial.specs.Trial.{starts_of}
+use Rattle.buck_trial.specs.WishLine.{IsWishLine, whole_line, wishes_head}
 
 -- the most that a target may be, and all targets of an assortment together
 abbrev pub most_target : ℕ
@@ -79,19 +86,26 @@ abbrev pub AreOrdered : Option ℕ → List (Vec (Arc Stem Global) Global) → L
 AreOrdered None lists order = order ≡ lists
 AreOrdered (Some start) lists order = AreDrawn start lists order
 
--- what a run of an instruction by a rule in an order came to: what was cut is worth at base prices, and the degree of
--- each assortment by these targets
+-- what a run of an instruction by a rule in an order came to: what was cut is worth at base prices, the degree of each
+-- assortment by these targets, and the least of these
 pub record IsRunOf (rule : NamedRule) (i : InstructionParts) (lists : List (Vec (Arc Stem Global) Global))
-    (targets : List ℕ) (order : Option ℕ) (at_base : ℕ) (degrees : List (Option ℕ)) : Type 0 where
+    (targets : List ℕ) (order : Option ℕ) (run : Outcome) : Type 0 where
   pub ordered : List (Vec (Arc Stem Global) Global)
   pub history : HistoryParts
   pub counts : List ℕ
   pub are_ordered : AreOrdered order lists ordered
   pub instruction : history.instruction ≡ i
   pub has_cut : HasCut rule ordered history
-  pub at_base_is : at_base ≡ sum_by (at_base_in i) history.postings
+  pub at_base_is : run.at_base ≡ sum_by (at_base_in i) history.postings
   pub are_counts : AreClassCounts i history.postings counts
-  pub are_degrees : AreDegrees i targets counts degrees
+  pub are_degrees : AreDegrees i targets counts run.degrees.items
+  pub is_least : IsLeast run.degrees.items run.least
+
+-- the runs of an instruction: in the files' own order, and in that of the draw that begins at each state
+pub record AreRunsOf (rule : NamedRule) (i : InstructionParts) (lists : List (Vec (Arc Stem Global) Global))
+    (targets starts : List ℕ) (runs : Runs) : Type 0 where
+  pub own : IsRunOf rule i lists targets None runs.own
+  pub drawn : AllZip (λ start run. IsRunOf rule i lists targets (Some start) run) starts runs.drawn.items
 
 -- how many logs the best cuttings have of each class: those of a run by steady prices
 pub record AreUnsteered (i : InstructionParts) (lists : List (Vec (Arc Stem Global) Global)) (unsteered : List ℕ)
@@ -112,38 +126,57 @@ pub record IsWishIn (i : InstructionParts) (targets unsteered : List ℕ) (at cl
 abbrev pub IsWishAt : InstructionParts → List ℕ → ℕ → ℕ → Type 0
 IsWishAt i unsteered at class = IsWishIn i (opening_targets i) unsteered at class
 
--- what a wish is told by: the run with its target moved, in the files' own order
-pub record IsWished (rule : NamedRule) (i : InstructionParts) (lists : List (Vec (Arc Stem Global) Global))
-    (unsteered : List ℕ) (w : Wish) : Type 0 where
-  pub is_wish : IsWishAt i unsteered w.assortment w.class
-  pub moved : List ℕ
-  pub is_moved : IsMoved i (opening_targets i) unsteered w.assortment w.class moved
-  pub at_base : ℕ
-  pub degrees : List (Option ℕ)
-  pub is_run : IsRunOf rule (with_targets moved i) lists (opening_targets i) None at_base degrees
+-- what the runs of a wish are put in order by: what was cut in the draws, or, where there are none, in the files' order.
+-- The runs with all wishes are the same for each, so that what cuts more gains more
+abbrev pub worth_in : Outcome → List Outcome → ℕ
+worth_in own [] = own.at_base
+worth_in own (run ∷ more) = sum_by (λ r. r.at_base) (run ∷ more)
 
--- the table of wishes over an instruction and stems: a run with all wishes, and one for each wish
+-- what a wish is told by: its runs, with its target moved, beside those with all wishes
+pub record IsTold (rule : NamedRule) (i : InstructionParts) (lists : List (Vec (Arc Stem Global) Global))
+    (starts unsteered : List ℕ) (whole : Runs) (told : Told) : Type 0 where
+  pub is_wish : IsWishAt i unsteered told.wish.assortment told.wish.class
+  pub moved : List ℕ
+  pub is_moved : IsMoved i (opening_targets i) unsteered told.wish.assortment told.wish.class moved
+  pub runs : Runs
+  pub are_runs : AreRunsOf rule (with_targets moved i) lists (opening_targets i) starts runs
+  pub worth_is : told.worth ≡ worth_in runs.own runs.drawn.items
+  pub is_line : IsWishLine i unsteered moved whole runs told.wish told.line.items
+
+-- the lower class first: an assortment has at most 1024
+abbrev pub place_of : Wish → ℕ
+place_of wish = wish.assortment * 1024 + wish.class
+
+-- what gains more comes first, and of equals the lower class
+abbrev pub IsBefore : Told → Told → Type 0
+IsBefore one next = (next.worth < one.worth) ⊎ ((next.worth ≡ one.worth) × (place_of one.wish < place_of next.wish))
+
+-- the table of wishes over an instruction and stems, with the draws that begin at these states: the names of the
+-- columns, the line of the runs with all wishes, and one for each wish
 pub record AreWishes (rule : NamedRule) (i : InstructionParts) (lists : List (Vec (Arc Stem Global) Global))
-    : Type 0 where
-  pub at_base : ℕ
-  pub degrees : List (Option ℕ)
-  pub whole : IsRunOf rule i lists (opening_targets i) None at_base degrees
+    (starts text : List ℕ) : Type 0 where
   pub unsteered : List ℕ
   pub are_unsteered : AreUnsteered i lists unsteered
-  pub wishes : List Wish
-  pub all : (at class : ℕ) → IsWishAt i unsteered at class → Contains wishes (record { assortment = at; class = class })
-  pub each : All (IsWished rule i lists unsteered) wishes
+  pub whole : Runs
+  pub are_whole : AreRunsOf rule i lists (opening_targets i) starts whole
+  pub told : List Told
+  pub each : All (IsTold rule i lists starts unsteered whole) told
+  pub all : (at class : ℕ) → IsWishAt i unsteered at class
+      → Contains (map (λ t. t.wish) told) (record { assortment = at; class = class })
+  pub in_order : (k : ℕ) (d : Told) → k + 1 < length told
+      → IsBefore (slice_index_or told k d) (slice_index_or told (k + 1) d)
+  pub text_is : text ≡ wishes_head starts ++ (whole_line starts whole.own ++ flat_map (λ t. t.line.items) told)
 
 -- over the files of a trial
-pub record IsWishesTable (rule : NamedRule) (settings : SettingsParts) (apt : Option (List ℕ))
-    (stms : List (Option (List ℕ))) (targets : Option (Option (List ℕ) × ℕ)) : Type 0 where
+pub record IsWishesTable (rule : NamedRule) (settings : SettingsParts) (draws : Option Draws) (apt : Option (List ℕ))
+    (stms : List (Option (List ℕ))) (targets : Option (Option (List ℕ) × ℕ)) (text : List ℕ) : Type 0 where
   pub own : InstructionParts
   pub lists : List (Vec (Arc Stem Global) Global)
   pub says : SaysInput apt stms targets own lists
-  pub are_wishes : AreWishes rule (with_settings settings own) lists
+  pub are_wishes : AreWishes rule (with_settings settings own) lists (starts_of draws lists) text
 
 -- the table, or why there is none
-abbrev pub AnswersWishes : NamedRule → SettingsParts → Option (List ℕ) → List (Option (List ℕ))
+abbrev pub AnswersWishes : NamedRule → SettingsParts → Option Draws → Option (List ℕ) → List (Option (List ℕ))
     → Option (Option (List ℕ) × ℕ) → Result (List ℕ) TermsFault → Type 0
-AnswersWishes rule settings apt stms targets (Ok text) = IsWishesTable rule settings apt stms targets
-AnswersWishes rule settings apt stms targets (Err fault) = IsInputFault apt stms targets fault
+AnswersWishes rule settings draws apt stms targets (Ok text) = IsWishesTable rule settings draws apt stms targets text
+AnswersWishes rule settings draws apt stms targets (Err fault) = IsInputFault apt stms targets fault

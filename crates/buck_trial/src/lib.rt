@@ -6,6 +6,7 @@
 //! files, [`TrialTask`] and [`WishesTask`] what they are asked.
 #![tactic(auto)]
 
+mod asking;
 mod light;
 mod moved;
 mod outcome;

@@ -1,25 +1,28 @@
 //! All wishes, greatest gain first.
-ghost use Rattle.std.specs.Prelude.{◌≡◌, ◌<◌, ◌≤◌, ◌∷◌, ℕ, IfErr, IfOk, List, None, OnOk, Option, length, map};
-ghost use Rattle.std.specs.List.{Contains};
+ghost use Rattle.std.specs.Prelude.{◌≡◌, ◌<◌, ◌≤◌, ◌*◌, ◌+◌, ◌++◌, IfErr, IfOk, OnOk, length, map};
+ghost use Rattle.std.specs.List.{flat_map};
+ghost use Rattle.std.specs.Ordering.{nat_cmp};
+ghost use Rattle.buck_apt.specs.Instruction.{IsInstruction};
 ghost use Rattle.buck_apt.specs.Settings.{with_settings};
 ghost use Rattle.buck_sweep.specs.Runs.{IsStop};
 ghost use Rattle.buck_terms.specs.Telling.{WritesTerms};
 ghost use Rattle.buck_trial.specs.Inputs.{held_with};
+ghost use Rattle.buck_trial.specs.Trial.{starts_of};
 ghost use Rattle.buck_trial.specs.Wishes.{AnswersWishes, AreUnsteered, AreWishes, IsWishAt};
+ghost use Rattle.buck_trial.specs.WishLine.{empty_end, gains_head, whole_line, wishes_head};
 ghost use Rattle.buck_engine.specs.text.Written.{WritesText};
 ghost use Rattle.buck_trial.specs.inner.Running.{AnswersOver};
-ghost use Rattle.buck_trial.specs.inner.Asking.{AreAdded, AreAsked, AreRuns, AreTold, IsAsking, IsRunsPart, IsToldPart};
+ghost use Rattle.buck_trial.specs.inner.Asking.{AreAsked, AreBelow, AreDrawnBy, AreRunsBy, AreTold, IsAsking, IsDrawnPartBy, IsToldPart};
 
-use crate::light::{cut_by_name, least_of, targets_of};
-use crate::outcome::Outcome;
+use crate::asking::Asking;
+use crate::light::{cut_by_name, targets_of};
+use crate::outcome::{Outcome, Runs};
 use crate::parts::{joined, size_of};
 use crate::reading::{Opened, of_run, read_files};
 use crate::task::WishesTask;
 use crate::trial::all_starts;
-use crate::wish::{Asking, Told, Wish, tell_wish};
+use crate::wish::{Told, Wish, put_degree, put_worth, tell_wish};
 use buck_apt::Instruction;
-use buck_cells::put_number;
-use buck_draws::Draws;
 use buck_engine::{EngineFault, Input, number_of_threads, write_text};
 use buck_record::Memory;
 use buck_rule::NamedRule;
@@ -31,32 +34,19 @@ use std::sync::Arc;
 use std::thread::Threads;
 use std::{io, thread};
 
-/// The names of the columns.
-const HEAD: &[u8] =
-    b"assortment,row,column,from_mm,below_mm,length_mm,target,targets,unsteered_count,unsteered_logs,moved_target,\
-moved_targets,base_worth_millionths,gain_millionths,degree,degree_change,least_degree,least_degree_change,name";
+/// The names of the columns: of a class and what is wanted of it, of its target as it was moved and what its run came
+/// to, and of the least degree.
+const CLASS: &[u8] =
+    b"assortment,row,column,from_mm,below_mm,length_mm,target,targets,unsteered_count,unsteered_logs";
+
+const MOVED: &[u8] =
+    b",moved_target,moved_targets,base_worth_millionths,gain_millionths,degree,degree_change";
+
+const LEAST: &[u8] = b",least_degree,least_degree_change,name";
 
 /// The names of those of draws.
-const DRAWN: &[u8] =
+const GAINS: &[u8] =
     b",gain_min,gain_mean,gain_max,degree_change_min,degree_change_mean,degree_change_max";
-
-/// All orders: the files' own, and then those of the draws.
-fn orders_of(
-    alloc: Global,
-    draws: &Option<Draws>,
-    input: &Input,
-) -> Result<Vec<Option<u64>>, Memory>
-    ensures { IfOk result (λ orders. (drawn : List (Option ℕ)) × (orders.items ≡ None ∷ drawn)
-        × (length drawn ≤ 65535)) }
-{
-    let starts = all_starts(alloc, draws, input)?;
-    let mut orders = Vec::new(alloc);
-    orders.push(None)?;
-    for start in starts.as_slice() {
-        orders.push(Some(*start))?;
-    }
-    Ok(orders)
-}
 
 /// How many logs the best cuttings at base prices have of each class.
 fn unsteered_of(
@@ -80,6 +70,7 @@ fn asking_of(alloc: Global, input: Input, task: &WishesTask<'_>) -> Result<Askin
     ensures instruction { IfOk result (λ asking.
         asking.instruction.value ≡ with_settings task.now.settings input.instruction) }
     ensures lists { IfOk result (λ asking. asking.input.lists.items ≡ input.lists.items) }
+    ensures starts { IfOk result (λ asking. asking.starts.items ≡ starts_of task.now.draws input.lists.items) }
     ensures stop { IfErr result (IsStop input.lists.items) }
 {
     let own = input.instruction.copy(alloc)?;
@@ -89,14 +80,14 @@ fn asking_of(alloc: Global, input: Input, task: &WishesTask<'_>) -> Result<Askin
         rule: task.rule,
         targets: targets_of(alloc, &instruction)?,
         unsteered,
-        orders: orders_of(alloc, &task.draws, &input)?,
+        starts: all_starts(alloc, &task.draws, &input)?,
         instruction,
         input,
     })
 }
 
-/// The runs with all wishes in all orders, done in at most so many threads at once.
-fn wholes_in_parts<T: Threads + Sync>(
+/// The runs with all wishes in the orders of the draws, done in at most so many threads at once.
+fn drawn_in_parts<T: Threads + Sync>(
     rt: &T,
     alloc: Global,
     threads: usize,
@@ -104,26 +95,46 @@ fn wholes_in_parts<T: Threads + Sync>(
 ) -> Result<Vec<Outcome>, EngineFault>
     requires threads { 0 < threads }
     requires asking { IsAsking asking.now }
-    ensures ok { IfOk result (λ wholes.
-        AreRuns asking.now asking.now.instruction.value asking.now.orders.items wholes.items) }
+    ensures ok { IfOk result (λ drawn.
+        AreDrawnBy asking.now asking.now.instruction.value asking.now.starts.items drawn.items) }
     ensures stop { IfErr result (IsStop asking.now.input.lists.items) }
 {
-    let make = |_: usize, part: &[Option<u64>]| -> Result<Vec<Outcome>, EngineFault>
+    let make = |_: usize, part: &[u64]| -> Result<Vec<Outcome>, EngineFault>
         requires { IsAsking asking.now }
-        ensures { IsRunsPart asking.entry.now part.now result }
-    { asking.runs(alloc, &asking.instruction, part) };
-    let orders = asking.orders.as_slice();
-    let size = size_of(orders.len(), threads);
-    let parts = thread::map_chunks(rt, alloc, orders, size, &make)?;
+        ensures { IsDrawnPartBy asking.entry.now part.now result }
+    { asking.drawn(alloc, &asking.instruction, part) };
+    let starts = asking.starts.as_slice();
+    let size = size_of(starts.len(), threads);
+    let parts = thread::map_chunks(rt, alloc, starts, size, &make)?;
     joined(alloc, parts)
+}
+
+/// All runs with all wishes: that in the files' own order first.
+fn whole_in_parts<T: Threads + Sync>(
+    rt: &T,
+    alloc: Global,
+    threads: usize,
+    asking: &Asking,
+) -> Result<Runs, EngineFault>
+    requires threads { 0 < threads }
+    requires asking { IsAsking asking.now }
+    ensures ok { IfOk result (AreRunsBy asking.now asking.now.instruction.value) }
+    ensures stop { IfErr result (IsStop asking.now.input.lists.items) }
+{
+    Ok(Runs {
+        own: asking.run(alloc, &asking.instruction, None)?,
+        drawn: drawn_in_parts(rt, alloc, threads, asking)?,
+    })
 }
 
 /// Adds the wishes of the assortment at a place.
 fn add_wishes(wishes: &mut Vec<Wish>, asking: &Asking, at: usize) -> Result<(), Memory>
     requires asking { IsAsking asking.now }
+    requires valid { IsInstruction asking.now.instruction.value }
     requires exists { at < length asking.now.instruction.value.assortments }
-    ensures { OnOk result (AreAdded asking.now.instruction.value asking.now.unsteered.items at
-        wishes.old.items wishes.new.items) }
+    requires below { AreBelow asking.now.instruction.value asking.now.unsteered.items (at * 1024) wishes.old.items }
+    ensures { OnOk result (AreBelow asking.now.instruction.value asking.now.unsteered.items ((at + 1) * 1024)
+        wishes.new.items) }
 {
     let asked = asking.asked(at);
     for class in 0..asked.targets.len() {
@@ -137,13 +148,13 @@ fn add_wishes(wishes: &mut Vec<Wish>, asking: &Asking, at: usize) -> Result<(), 
     Ok(())
 }
 
-/// All wishes, class by class.
+/// All wishes, the lower class first.
+#[tactic(auto, using(crate::proofs::Wished::none_below))]
 fn wishes_of(alloc: Global, asking: &Asking) -> Result<Vec<Wish>, Memory>
     requires asking { IsAsking asking.now }
-    ensures each { IfOk result (λ wishes. AreAsked asking.now wishes.items) }
-    ensures all { IfOk result (λ wishes. (at : ℕ) → (class : ℕ)
-        → IsWishAt asking.now.instruction.value asking.now.unsteered.items at class
-        → Contains wishes.items (record { assortment = at; class = class })) }
+    ensures all { IfOk result (λ wishes. AreBelow asking.now.instruction.value asking.now.unsteered.items
+        (length asking.now.instruction.value.assortments * 1024) wishes.items) }
+    ensures valid { IsInstruction asking.now.instruction.value }
 {
     let mut wishes = Vec::new(alloc);
     for at in 0..asking.instruction.assortments().len() {
@@ -156,18 +167,18 @@ fn wishes_of(alloc: Global, asking: &Asking) -> Result<Vec<Wish>, Memory>
 fn told_of(
     alloc: Global,
     asking: &Asking,
-    wholes: &[Outcome],
+    whole: &Runs,
     wishes: &[Wish],
 ) -> Result<Vec<Told>, EngineFault>
     requires asking { IsAsking asking.now }
-    requires wholes { length wholes.now ≡ length asking.now.orders.items }
+    requires whole { length whole.now.drawn.items ≡ length asking.now.starts.items }
     requires wishes { AreAsked asking.now wishes.now }
-    ensures ok { IfOk result (λ told. AreTold asking.now wishes.now told.items) }
+    ensures ok { IfOk result (λ told. AreTold asking.now whole.now wishes.now told.items) }
     ensures stop { IfErr result (IsStop asking.now.input.lists.items) }
 {
     let mut told = Vec::new(alloc);
     for wish in wishes {
-        let one = tell_wish(alloc, asking, wholes, *wish)?;
+        let one = tell_wish(alloc, asking, whole, *wish)?;
         told.push(one)?;
     }
     Ok(told)
@@ -179,73 +190,73 @@ fn told_in_parts<T: Threads + Sync>(
     alloc: Global,
     threads: usize,
     asking: &Asking,
-    wholes: &[Outcome],
+    whole: &Runs,
     wishes: &[Wish],
 ) -> Result<Vec<Told>, EngineFault>
     requires threads { 0 < threads }
     requires asking { IsAsking asking.now }
-    requires wholes { length wholes.now ≡ length asking.now.orders.items }
+    requires whole { length whole.now.drawn.items ≡ length asking.now.starts.items }
     requires wishes { AreAsked asking.now wishes.now }
-    ensures ok { IfOk result (λ told. AreTold asking.now wishes.now told.items) }
+    ensures ok { IfOk result (λ told. AreTold asking.now whole.now wishes.now told.items) }
     ensures stop { IfErr result (IsStop asking.now.input.lists.items) }
 {
     let make = |_: usize, part: &[Wish]| -> Result<Vec<Told>, EngineFault>
-        requires { IsAsking asking.now × (length wholes.now ≡ length asking.now.orders.items)
+        requires { IsAsking asking.now × (length whole.now.drawn.items ≡ length asking.now.starts.items)
             × AreAsked asking.now part.now }
-        ensures { IsToldPart asking.entry.now part.now result }
-    { told_of(alloc, asking, wholes, part) };
+        ensures { IsToldPart asking.entry.now whole.entry.now part.now result }
+    { told_of(alloc, asking, whole, part) };
     let size = size_of(wishes.len(), threads);
     let parts = thread::map_chunks(rt, alloc, wishes, size, &make)?;
     joined(alloc, parts)
 }
 
-/// The greater gain first.
-fn by_gain(one: &Told, other: &Told) -> Ordering {
-    let mine = one.gain.to + other.gain.from;
-    let theirs = other.gain.to + one.gain.from;
-    theirs.cmp(&mine)
+/// What cuts more first.
+fn by_worth(one: &Told, other: &Told) -> Ordering
+    ensures { result ≡ nat_cmp other.now.worth one.now.worth }
+{
+    other.worth.cmp(&one.worth)
 }
 
-/// Puts cells with nothing in them.
-fn put_empty(out: &mut Vec<u8>, number: usize) -> Result<(), Memory> {
-    for _ in 0..number {
-        put_number(out, None)?;
+/// Puts the names of the columns.
+fn put_head(out: &mut Vec<u8>, starts: &[u64]) -> Result<(), Memory>
+    ensures { OnOk result (out.new.items ≡ out.old.items ++ wishes_head starts.now) }
+{
+    out.extend_from_slice(CLASS)?;
+    out.extend_from_slice(MOVED)?;
+    out.extend_from_slice(LEAST)?;
+    if starts.is_empty() {
+        out.push(b'\n')?;
+        return Ok(());
     }
-    Ok(())
-}
-
-/// Puts the line of the run with all wishes.
-fn put_whole(out: &mut Vec<u8>, whole: &Outcome, has_draws: bool) -> Result<(), Memory> {
-    put_empty(out, 11)?;
-    put_number(out, Some(whole.at_base))?;
-    put_number(out, Some(0))?;
-    put_empty(out, 2)?;
-    match least_of(whole.degrees.as_slice()) {
-        Some(least) => {
-            put_number(out, Some(u128::from(least)))?;
-            put_number(out, Some(0))?;
-        }
-        None => put_empty(out, 2)?,
-    }
-    put_empty(out, if has_draws { 7 } else { 1 })?;
+    out.extend_from_slice(GAINS)?;
     out.push(b'\n')?;
     Ok(())
 }
 
-/// The table, given the run with all wishes and the lines of the wishes in their order.
-fn text_of(
-    alloc: Global,
-    whole: &Outcome,
-    told: &[Told],
-    has_draws: bool,
-) -> Result<Vec<u8>, Memory> {
-    let mut out = Vec::new(alloc);
-    out.extend_from_slice(HEAD)?;
-    if has_draws {
-        out.extend_from_slice(DRAWN)?;
+/// Puts the line of the run with all wishes in the files' own order.
+fn put_whole(out: &mut Vec<u8>, starts: &[u64], whole: &Outcome) -> Result<(), Memory>
+    ensures { OnOk result (out.new.items ≡ out.old.items ++ whole_line starts.now whole.now) }
+{
+    out.extend_from_slice(b",,,,,,,,,,,")?;
+    put_worth(out, whole, whole)?;
+    out.extend_from_slice(b",,")?;
+    put_degree(out, whole.least, whole.least)?;
+    if starts.is_empty() {
+        out.extend_from_slice(b",\n")?;
+        return Ok(());
     }
-    out.extend_from_slice(b"\n")?;
-    put_whole(&mut out, whole, has_draws)?;
+    out.extend_from_slice(b",,,,,,,\n")?;
+    Ok(())
+}
+
+/// The table, given the run with all wishes and the lines of the wishes in their order.
+fn text_of(alloc: Global, starts: &[u64], whole: &Outcome, told: &[Told]) -> Result<Vec<u8>, Memory>
+    ensures { IfOk result (λ text. text.items ≡ wishes_head starts.now
+        ++ (whole_line starts.now whole.now ++ flat_map (λ t. t.line.items) told.now)) }
+{
+    let mut out = Vec::new(alloc);
+    put_head(&mut out, starts)?;
+    put_whole(&mut out, starts, whole)?;
     for one in told {
         out.extend_from_slice(one.line.as_slice())?;
     }
@@ -261,16 +272,15 @@ fn table_of<T: Threads + Sync>(
 ) -> Result<Vec<u8>, EngineFault>
     requires threads { 0 < threads }
     requires asking { IsAsking asking.now }
-    ensures ok { IfOk result (λ _.
-        AreWishes asking.now.rule asking.now.instruction.value asking.now.input.lists.items) }
+    ensures ok { IfOk result (λ text. AreWishes asking.now.rule asking.now.instruction.value
+        asking.now.input.lists.items asking.now.starts.items text.items) }
     ensures stop { IfErr result (IsStop asking.now.input.lists.items) }
 {
-    let wholes = wholes_in_parts(rt, alloc, threads, asking)?;
-    let wholes = wholes.as_slice();
+    let whole = whole_in_parts(rt, alloc, threads, asking)?;
     let wishes = wishes_of(alloc, asking)?;
-    let mut told = told_in_parts(rt, alloc, threads, asking, wholes, wishes.as_slice())?;
-    told.sort_by(by_gain)?;
-    Ok(text_of(alloc, &wholes[0], told.as_slice(), wholes.len() > 1)?)
+    let mut told = told_in_parts(rt, alloc, threads, asking, &whole, wishes.as_slice())?;
+    told.sort_by(by_worth)?;
+    Ok(text_of(alloc, asking.starts.as_slice(), &whole.own, told.as_slice())?)
 }
 
 /// Finds what each wish costs over what files say, and writes it.
@@ -282,8 +292,9 @@ fn write_wishes<T: Threads + Sync, W: io::Write>(
     out: &mut W,
 ) -> Result<(), EngineFault>
     requires few { length input.lists.items ≤ 64 }
-    ensures { WritesText (AnswersOver input.lists.items (λ _. AreWishes task.now.rule
-        (with_settings task.now.settings input.instruction) input.lists.items))
+    ensures { WritesText (AnswersOver input.lists.items (AreWishes task.now.rule
+        (with_settings task.now.settings input.instruction) input.lists.items
+        (starts_of task.now.draws input.lists.items)))
         (W.contents out.old) (W.contents out.new) result }
 {
     let threads = number_of_threads(rt, task.threads);
@@ -304,10 +315,11 @@ pub fn run_wishes<T: Threads + Sync, R: io::Read + Drop, W: io::Write>(
     files: Opened<R>,
     out: &mut W,
 ) -> Result<(), TermsFault>
-    // There are the run with all wishes, and one for each wish, of the instruction and the stems that the files have. A
-    // fault is that of the first file that has one, or comes after all of them, and nothing is written; a write fault
-    // leaves a prefix of the table.
-    ensures { WritesTerms (AnswersWishes task.now.rule task.now.settings (R.remaining files.apt)
+    // What is written is the table of the wishes of the instruction and the stems that the files have, with the targets
+    // of the file of targets: each line that of runs with its target moved, beside those with all wishes. A fault is
+    // that of the first file that has one, or comes after all of them, and nothing is written; a write fault leaves a
+    // prefix of the table.
+    ensures { WritesTerms (AnswersWishes task.now.rule task.now.settings task.now.draws (R.remaining files.apt)
         (map R.remaining files.stms.items) (held_with R.remaining files.targets))
         (W.contents out.old) (W.contents out.new) result }
 {

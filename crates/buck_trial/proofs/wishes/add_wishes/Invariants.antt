@@ -1,6 +1,7 @@
-use Rattle.buck_trial.proofs.Wished.{AddedTo}
+use Rattle.std.proofs.Common.{◌+◌, ◌*◌}
+use Rattle.buck_trial.specs.inner.Asking.{AreBelow}
 use Rattle.buck_trial.proofs.wishes.add_wishes.Given as goal
 
 abbrev pub invariant-loop-class : goal.invariant-loop-class
 invariant-loop-class l =
-    AddedTo l.asking.instruction.value l.asking.unsteered.items l.at l.class l.initial.wishes.items l.wishes.items
+    AreBelow l.asking.instruction.value l.asking.unsteered.items (l.at * 1024 + l.class) l.wishes.items

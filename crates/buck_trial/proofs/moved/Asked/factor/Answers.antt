@@ -1,5 +1,5 @@
 use Rattle.std.proofs.Common.{arith}
-use Rattle.buck_trial.proofs.MovedLemmas.{factor_small, greatest_some}
+use Rattle.buck_trial.proofs.MovedLemmas.{greatest_some}
 use Rattle.buck_trial.proofs.moved.Asked.factor.Goals as goal
 
 pub nonzero_div-of_one : goal.nonzero_div-of_one

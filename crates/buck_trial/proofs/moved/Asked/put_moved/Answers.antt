@@ -1,5 +1,5 @@
 use Rattle.std.proofs.Common.{◌≡◌, ◌≢◌, ◌*◌, ◌<◌, ℕ, List, length, get_or, sym, ◌∙◌, arith}
-use Rattle.buck_trial.specs.Wishes.{factor, moved_part, moved_target}
+use Rattle.buck_trial.specs.Wishes.{factor, moved_part}
 use Rattle.buck_trial.proofs.MovedLemmas.{moved_elsewhere, moved_here, moved_length, moved_low, moved_next}
 use Rattle.buck_trial.proofs.moved.Asked.put_moved.Goals as goal
 use Rattle.buck_trial.proofs.moved.Asked.put_moved.Goals.{then-at-class, else-at-class}
