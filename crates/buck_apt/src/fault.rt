@@ -9,52 +9,54 @@ use std::alloc::{AllocError, AllocFailed};
 use std::error::Error;
 use std::fmt;
 
-/// What is wrong with an instruction file: the first refusal that applies, in this order. Items and places count
-/// from 1; an item of the file's table is named by its number and kind.
+/// What is wrong with an instruction file: the first refusal that applies, in this order, and within it the first item
+/// in the order of the file's table. `number` and `kind` are those of the item's head, 0 to 65,535.
 #[derive(Clone, Copy, Debug, PartialEq, Eq)]
 pub enum AptFault {
-    /// An item has no head of two numbers below 65,536.
+    /// The first item without a head of two numbers below 65,536: `item` counts from 1 in file order.
     Head {
         item: usize,
     },
     /// The file doesn't say that it is an instruction.
     NotApt,
-    /// An item that must be there isn't; of an item before the first name of an assortment, that name.
+    /// The item of this number and kind must be there and isn't. If an item of an assortment stands before the first
+    /// name, it is the name that is missing.
     Missing {
         number: u16,
         kind: u16,
     },
-    /// An item stands twice in the file or in its assortment.
+    /// The item of this number and kind stands twice, in the file or in its assortment.
     Twice {
         number: u16,
         kind: u16,
     },
-    /// A word of an item isn't a number below 4,294,967,296.
+    /// A word of the item of this number and kind isn't a number below 4,294,967,296. `place` is the first such word,
+    /// from 1.
     Digits {
         number: u16,
         kind: u16,
         place: usize,
     },
-    /// A number is outside its range, or a name outside its rule.
+    /// The item of this number and kind has a number outside its range, or is a name outside its rule.
     Range {
         number: u16,
         kind: u16,
     },
-    /// A list is against its order.
+    /// The item of this number and kind is a list against its order.
     Order {
         number: u16,
         kind: u16,
     },
-    /// An item has not as many numbers as it should have.
+    /// The item of this number and kind has not as many numbers as it should have.
     Count {
         number: u16,
         kind: u16,
     },
-    /// A length isn't a multiple of the module.
+    /// This length, in mm, isn't a multiple of the module: the least such one of the first assortment that has one.
     Module {
         length: u32,
     },
-    /// The targets of an assortment, counted from 0, are above 1,000,000,000 together.
+    /// The targets of the assortment at this index, from 0, are above 1,000,000,000 together.
     Targets {
         assortment: usize,
     },

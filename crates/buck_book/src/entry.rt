@@ -17,11 +17,11 @@ pub struct Entry {
     pub number: u32,
     /// The stem that was cut.
     pub stem: Arc<Stem>,
-    /// The version of the sheet that it was planned under.
+    /// Version of the sheet that it was planned under, from 0.
     pub version: u32,
     /// The logs that were cut, from the butt on.
     pub cutting: Arc<Cutting>,
-    /// What the logs are worth under that sheet, in millionths of the price unit.
+    /// Worth of the logs under that sheet, in millionths of the price unit.
     pub worth: u64,
 }
 

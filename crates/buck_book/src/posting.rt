@@ -18,9 +18,10 @@ pub struct Demand {
     pub harvester: u32,
     /// Which of its harvester's calls it is, from 1.
     pub number: u32,
-    /// The version in force before it. The next one begins after it.
+    /// Version in force before it, from 0; the next one begins after it.
     pub version: u32,
-    /// What is wanted of each class from here on, in logs: assortment by assortment, row by row.
+    /// Number of logs wanted of each class from here on: assortment by assortment, row by row. Each is 0 to 1,000,000
+    /// if the demand is valid.
     pub targets: Arc<Vec<u32>>,
 }
 
@@ -49,7 +50,7 @@ pub enum Posting {
 /// A posting with its position in the history, as it is kept for the harvester who was answered it.
 #[derive(Drop)]
 pub struct Kept {
-    /// How many postings stand before it.
+    /// Index of the posting in the history, from 0.
     pub position: u32,
     /// The entry or the demand.
     pub entry: Posting,

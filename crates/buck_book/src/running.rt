@@ -25,10 +25,15 @@ use std::sync::Arc;
 /// What some postings add up to, from the opening on.
 #[derive(Drop)]
 pub struct Running {
+    /// Targets in force, in logs: assortment by assortment, row by row.
     pub targets: Arc<Vec<u32>>,
+    /// Number of cuts since the last period end; it stays below the period.
     pub cuts: u32,
+    /// Number of period ends: the version in force, from 0.
     pub version: u32,
+    /// Number of logs cut of each class: assortment by assortment, row by row.
     pub by_class: Vec<u32>,
+    /// Number of logs cut of each assortment.
     pub by_assortment: Vec<u32>,
 }
 

@@ -34,7 +34,7 @@ pub(crate) const FULL: u8 = 9;
 pub struct Terms {
     /// How many postings it may have, 1 to 1,000,000.
     pub capacity: u32,
-    /// The rule that makes its prices: 0 steady, 1 linear, 2 step, 3 root.
+    /// Number of the rule that makes its prices: 0 steady, 1 linear, 2 step, 3 root.
     pub rule: u8,
 }
 

@@ -14,9 +14,9 @@ use std::alloc::Global;
 #[repr(C)]
 #[derive(Clone, Copy, Drop)]
 pub struct Appraised {
-    /// What its logs are worth together, in millionths of the price unit; 0 if one can't be cut.
+    /// Worth of its logs together, in millionths of the price unit; 0 if one can't be cut.
     pub worth: u64,
-    /// What the logs of the best cutting are worth together, in millionths of the price unit.
+    /// Worth of the best cutting's logs together, in millionths of the price unit.
     pub best: u64,
     /// Index of the first log that can't be cut, from 0; the number of logs if all can be.
     pub log: usize,

@@ -18,21 +18,21 @@ const MOST_LOGS: usize = 80;
 #[repr(C)]
 #[derive(Clone, Copy, Drop)]
 pub struct CutLog {
-    /// What it is worth, in millionths of the price unit.
+    /// Its worth, in millionths of the price unit.
     pub worth: u64,
     /// Where it starts, in mm from the butt.
     pub start: u32,
-    /// How long it is, in mm.
+    /// How long it is, in mm, trim excluded.
     pub length: u32,
     /// The diameter where its length ends, in mm.
     pub top: u32,
-    /// The price in force of its class.
+    /// Price in force of its class, in price units per m³ or per piece; 0 to 20,000,000.
     pub price: u32,
-    /// The place of its assortment in the instruction, from 0.
+    /// Index of its assortment in the instruction, from 0.
     pub assortment: u8,
-    /// The row of its class, from 0.
+    /// Index of its class's row, from 0.
     pub row: u8,
-    /// The column of its class, from 0.
+    /// Index of its class's column, from 0.
     pub column: u8,
 }
 
@@ -40,15 +40,15 @@ pub struct CutLog {
 #[repr(C)]
 #[derive(Drop)]
 pub struct Cut {
-    /// What its logs are worth together, in millionths of the price unit.
+    /// Worth of its logs together, in millionths of the price unit.
     pub worth: u64,
-    /// Its place among the postings, from 0.
+    /// Index of its posting in the history, from 0.
     pub position: u32,
     /// Which of its harvester's calls it is, from 1.
     pub number: u32,
-    /// The version of the sheet that it was planned under.
+    /// Version of the sheet that it was planned under, from 0.
     pub version: u32,
-    /// How many logs it has.
+    /// Number of its logs, 0 to 80.
     pub logs_number: u32,
     /// Its logs, from the butt on; what stands behind them is as it was.
     pub logs: [CutLog; MOST_LOGS],

@@ -16,15 +16,15 @@ const NO_DEGREE: u32 = u32::MAX;
 #[repr(C)]
 #[derive(Clone, Copy, Drop)]
 pub struct State {
-    /// How many postings it has.
+    /// Number of its postings, 0 to `capacity`.
     pub postings: u32,
-    /// How many it may have.
+    /// Greatest number of its postings, 1 to 1,000,000.
     pub capacity: u32,
-    /// The version of the sheet in force.
+    /// Version of the sheet in force, from 0.
     pub version: u32,
-    /// How many assortments its instruction has.
+    /// Number of its instruction's assortments, 1 to 16.
     pub assortments: u32,
-    /// How many classes they have together.
+    /// Number of classes of these together, 1 to 16,384.
     pub classes: u32,
 }
 

@@ -17,9 +17,9 @@ use std::alloc::{AllocError, Global};
 #[repr(C)]
 #[derive(Clone, Copy, Drop)]
 pub struct Texts {
-    /// The length of the journal, which stands first.
+    /// Length in bytes of the journal, which stands first.
     pub journal: usize,
-    /// The length of the report, or of the line of a fault.
+    /// Length in bytes of the report, or of the line of a fault.
     pub report: usize,
 }
 

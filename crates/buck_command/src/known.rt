@@ -23,7 +23,7 @@ pub enum Trouble {
     Long,
     /// There is no space left for it.
     Full,
-    /// It is the input file at this place.
+    /// It is the input file at this index, from 0.
     Input(usize),
     /// It is the file behind a standard stream.
     Standard,

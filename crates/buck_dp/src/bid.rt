@@ -5,7 +5,7 @@ ghost use Rattle.buck_dp.specs.inner.Bid.{bid_of, none, most_worth, IsGreater};
 
 use std::marker::Model;
 
-/// The highest rank.
+/// The highest rank: that of the first in the tie order. Ranks are 0 to 1,023; 0 is that of no log.
 pub const HIGHEST_RANK: u32 = 1023;
 
 /// So many ranks there are. A rank stands in the last digits of a bid's number, which hold so many values.

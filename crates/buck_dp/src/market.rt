@@ -28,15 +28,18 @@ const ROWS: usize = 16_384;
 /// Once so many kinds of wood were met, all that was found is dropped before the next stem.
 const KINDS: usize = 64;
 
-/// So many diameters there are, from 0 to 1,500 mm.
+/// Number of top diameters, 0 to 1,500 mm in whole mm.
 const DIAMETERS: usize = 1_501;
 
-/// Where the row of some takers at a diameter stands: from where on in the list of all cells, and how many it has.
+/// Where the row of some takers at a diameter stands in the list of all cells.
 #[derive(Clone, Copy, Debug)]
 pub struct Head {
     pub takers: Takers,
+    /// The top diameter in mm, 0 to 1,500.
     pub diameter: u32,
+    /// Index of the row's first cell in the list, from 0.
     pub from: usize,
+    /// Number of the row's cells.
     pub number: usize,
 }
 

@@ -12,15 +12,20 @@ use crate::pricing::Quote;
 use std::alloc::AllocError;
 use std::ops::Range;
 
-/// What a log brings that is so many steps long and has so much trim in mm, and how many points after its top the next
-/// log can start. Of the points that its row reaches it starts at `back`, and the next one can start at `next`.
+/// What a log of one length and trim brings at one top diameter. A row reaches from a top down to the start of the
+/// longest log: `back` and `next` are indices in it, so that the search of most tops computes neither.
 #[derive(Clone, Copy, Debug)]
 pub struct Cell {
     pub bid: Bid,
+    /// Length in steps of the module.
     pub steps: u32,
+    /// Trim in mm, 0 to 200.
     pub trim: u32,
+    /// Number of points from the top to the first at which the next log can start.
     pub rise: u32,
+    /// Index of the point where the log starts, from 0 at the farthest that the row reaches.
     pub back: usize,
+    /// Index of the point where the next log can start, from 0 at the farthest that the row reaches.
     pub next: usize,
 }
 

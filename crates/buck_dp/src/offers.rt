@@ -5,11 +5,13 @@ ghost use Rattle.buck_dp.specs.inner.Offers.{AreOffers, IsRank, offer_at, IsMenu
 use buck_apt::Instruction;
 use std::alloc::{AllocError, Global};
 
-/// A kind of logs that an instruction offers: their length in mm and the place of their assortment. The shorter comes
-/// before the longer, then the lower assortment before the higher.
+/// A kind of logs that an instruction offers. The shorter comes before the longer, then the lower assortment before the
+/// higher: the tie order, which the derived order takes from that of the fields.
 #[derive(Clone, Copy, Debug, PartialEq, Eq, PartialOrd, Ord)]
 pub struct Offer {
+    /// Length in mm, trim excluded.
     pub length: u32,
+    /// Index of the assortment in the instruction, from 0.
     pub assortment: u8,
 }
 
@@ -31,11 +33,13 @@ pub fn offers_of(alloc: Global, instruction: &Instruction) -> Result<Vec<Offer>,
     Ok(offers)
 }
 
-/// What an instruction offers: its logs, and the lengths of its shortest and its longest in steps of the module.
+/// What an instruction offers: its logs, in the tie order, and how far they reach.
 #[derive(Drop)]
 pub struct Menu {
     pub offers: Vec<Offer>,
+    /// Length of the shortest offer in steps of the module, rounded down.
     pub least_steps: usize,
+    /// Length of the longest offer in steps of the module, rounded up.
     pub most_steps: usize,
 }
 

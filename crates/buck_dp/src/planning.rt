@@ -17,28 +17,32 @@ use std::alloc::Global;
 /// No trim is longer than so many mm.
 const MOST_TRIM: u32 = 200;
 
-/// A stem at its points. Each trim fits behind the tops before point `fit`.
+/// A stem at its points, the multiples of the module.
 #[derive(Clone, Copy)]
 pub struct Site<'a> {
     pub stem: &'a Stem,
     pub profile: &'a Profile<'a>,
+    /// Index of a point, from 0: every trim fits behind each top before it.
     pub fit: usize,
 }
 
-/// The starts from point `first` on and before another: the same assortments take the wood from these to a top.
+/// A stretch of starts from which the same assortments take the wood up to a top.
 #[derive(Clone, Copy)]
 pub struct Part {
+    /// Index of the first point of the stretch, from 0. It ends where the part before it in a list begins.
     pub first: usize,
     pub group: Group,
 }
 
-/// The search of one stem after another in a market, with its lists: the parts of the starts that the next tops have,
-/// and for each point the worth of the best from there on, and the rank of the first log of that, 0 where none starts.
+/// The search of one stem after another in a market, with its lists.
 #[derive(Drop)]
 pub struct Search {
     pub market: Market,
+    /// The parts of the starts that the next tops have, the nearest first.
     pub parts: Vec<Part>,
+    /// For each point the worth of the best from there on.
     pub values: Vec<Bid>,
+    /// For each point the rank of the log that starts there in the best from there on, 0 to 1,023; 0 if none does.
     pub choices: Vec<u32>,
 }
 

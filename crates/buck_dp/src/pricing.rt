@@ -17,15 +17,19 @@ use std::alloc::{AllocError, Global};
 /// the class in a sheet: per cubic metre or per piece, by the kind.
 #[derive(Clone, Copy, Debug, Default)]
 pub struct Term {
+    /// The price kind: 1 per m³, 2 per piece.
     pub kind: u8,
-    /// The place of its price's class among all.
+    /// Index of its price's class among all, from 0.
     pub class: u16,
+    /// The rank among the logs that start where it does, 0 to 1,023: the higher comes first.
     pub rank: u32,
-    /// The length in mm and in steps of the module.
+    /// Length in mm, trim excluded.
     pub length: u32,
+    /// Length in steps of the module.
     pub steps: u32,
-    /// The trim in mm, and how many points after the top the next log can start.
+    /// Trim in mm, 0 to 200.
     pub trim: u32,
+    /// Number of points from the top to the first at which the next log can start.
     pub rise: u32,
 }
 
@@ -33,6 +37,7 @@ pub struct Term {
 #[derive(Clone, Copy, Debug, Default)]
 pub struct Quote {
     pub term: Term,
+    /// The price in price units per m³ or per piece, by the term's kind; 0 to 20,000,000.
     pub price: u32,
 }
 
@@ -220,10 +225,12 @@ pub fn put_list(
 /// A limit above all diameters of a stem.
 const ABOVE_ALL: u32 = 1_504;
 
-/// Diameters in mm from `thinnest` on and below `past`, within which no assortment changes its row.
+/// A range of top diameters within which no assortment changes its row.
 #[derive(Clone, Copy, Debug)]
 pub struct Band {
+    /// Least diameter of the band, in mm.
     pub thinnest: u32,
+    /// Diameter in mm at which the band ends: it is no part of it.
     pub past: u32,
 }
 

@@ -50,16 +50,18 @@ pub fn takers_of(instruction: &Instruction, species: u8, grades: Grades) -> Take
     Takers { marks }
 }
 
-/// A set of takers, and its number: the place of the first kind that has it.
+/// A set of takers with its number.
 #[derive(Clone, Copy, Debug)]
 pub struct Group {
     pub takers: Takers,
+    /// Index of the first kind of wood that has this set, from 0.
     pub number: u16,
 }
 
 /// The species and the grades of some wood, and who takes it.
 #[derive(Clone, Copy, Debug)]
 pub struct Known {
+    /// The species, from 1 to 255.
     pub species: u8,
     pub grades: Grades,
     pub group: Group,

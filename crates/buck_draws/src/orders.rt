@@ -11,10 +11,12 @@ use rand_xoshiro::SplitMix64;
 use std::alloc::Global;
 use std::sync::Arc;
 
-/// How many orders are drawn, 1 to 1,000, and from which seed.
+/// How many orders are drawn, and from which seed.
 #[derive(Clone, Copy, Debug, PartialEq, Eq)]
 pub struct Draws {
+    /// Number of orders, 1 to 1,000 as the command line takes it.
     pub number: u16,
+    /// State of the generator before the first draw; any number.
     pub seed: u64,
 }
 

@@ -15,7 +15,7 @@ use thiserror::Error;
 /// Why a run gave no answer. File 0 is the instruction file, file k the k-th after it.
 #[derive(Clone, Copy, Debug, PartialEq, Eq, Error)]
 pub enum EngineFault {
-    /// A file can't be opened or read, or is longer than 67,108,864 bytes.
+    /// A file, by its number from 0, can't be opened or read, or is longer than 67,108,864 bytes.
     #[error("file {file} can't be read")]
     Read { file: u32 },
     /// The output can't be written; a prefix of the text may have been.
@@ -24,19 +24,19 @@ pub enum EngineFault {
     /// The bytes of the instruction file are refused.
     #[error("the instruction is refused: {0}")]
     Apt(AptFault),
-    /// The bytes of a stem file are refused.
+    /// The bytes of a stem file, by its number from 1, are refused.
     #[error("the stems of file {file} are refused: {fault}")]
     Stm { file: u32, fault: StmFault },
     /// The bytes of the journal are refused.
     #[error("the journal is refused: {0}")]
     Journal(JournalFault),
-    /// The same of one of several journals, by its number, from 1.
+    /// The bytes of one of several journals, by its number from 1, are refused.
     #[error("journal {journal} is refused: {fault}")]
     JournalOf { journal: u32, fault: JournalFault },
     /// The journal isn't lawful for the instruction.
     #[error("the journal is not lawful: {0}")]
     Replay(ReplayFault),
-    /// The same of one of several journals, by its number, from 1.
+    /// One of several journals, by its number from 1, isn't lawful for the instruction.
     #[error("journal {journal} is not lawful: {fault}")]
     ReplayOf { journal: u32, fault: ReplayFault },
     /// The journal is lawful, but not that of the stem files or of the rule.

@@ -10,10 +10,12 @@ use buck_apt::Instruction;
 /// The degrees of apportionment of an assortment, in ten-thousandths; none where nothing is wanted or nothing was cut.
 #[derive(Clone, Copy, Debug, PartialEq, Eq)]
 pub struct Degrees {
+    /// Degree over its classes, 0 to 10,000 ten-thousandths.
     pub whole: Option<u32>,
-    /// That of the diameter rows, each a class of its own.
+    /// Degree over its diameter rows, each a class of its own, in ten-thousandths.
     pub diameter: Option<u32>,
-    /// The mean of the rows' own degrees, each row an assortment of its own, weighted by the logs cut in it.
+    /// Mean of the rows' own degrees, each row an assortment of its own, weighted by the logs cut in it, in
+    /// ten-thousandths.
     pub length: Option<u32>,
 }
 

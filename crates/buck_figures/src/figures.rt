@@ -20,26 +20,28 @@ use std::sync::Arc;
 pub struct Piece {
     pub log: Log,
     pub class: Class,
-    /// The place of its class among all.
+    /// Index of its class among all, from 0.
     pub index: usize,
     /// The diameter in mm where its length ends.
     pub top: u32,
-    /// In cm³.
+    /// Volume in cm³.
     pub volume: u64,
-    /// The price of its class that was in force when it was planned, and what it is worth by that.
+    /// Price of its class in force when it was planned, in price units per m³ or per piece.
     pub price: u32,
+    /// Worth at that price, in millionths of the price unit.
     pub worth: u64,
-    /// The base price of its class, and what it is worth by that.
+    /// Base price of its class, in price units per m³ or per piece.
     pub base_price: u32,
+    /// Worth at the base price, in millionths of the price unit.
     pub base_worth: u64,
 }
 
 /// A place among the postings of several journals.
 #[derive(Clone, Copy, Debug, PartialEq, Eq)]
 pub struct Place {
-    /// The journal, from 0.
+    /// Index of the journal, from 0.
     pub journal: usize,
-    /// The place of the posting in it, from 0.
+    /// Index of the posting in it, from 0.
     pub at: usize,
 }
 
@@ -50,10 +52,11 @@ pub struct Cut<'a> {
     pub entry: &'a Entry,
     /// Its logs, from the butt on.
     pub pieces: Vec<Piece>,
-    /// What they are worth at base prices.
+    /// Their worth at base prices, in millionths of the price unit.
     pub at_base: u64,
-    /// The best cutting of its stem at base prices, and what that is worth.
+    /// The best cutting of its stem at base prices.
     pub unsteered: Cutting,
+    /// Worth of that one, in millionths of the price unit.
     pub best: u64,
     ghost no_better_than_best: { at_base ≤ best },
 }
@@ -61,16 +64,17 @@ pub struct Cut<'a> {
 /// How all stands after some postings: a point of the curves.
 #[derive(Drop)]
 pub struct Point<'a> {
-    /// How many postings came before it, through all journals.
+    /// Number of postings before it, through all journals.
     pub after: usize,
-    /// The journal in which the last of them stands, from 0.
+    /// Index of the journal in which the last of them stands, from 0.
     pub journal: usize,
-    /// The version in force: how many ends there were in that journal. Its prices.
+    /// Version in force: the number of period ends in that journal.
     pub version: u32,
+    /// Prices of that version, in price units: assortment by assortment, row by row.
     pub prices: &'a [u32],
-    /// The degrees of apportionment of each assortment by the targets in force, as cut, and of the best cuttings at
-    /// base prices.
+    /// Degrees of apportionment of each assortment by the targets in force, as cut.
     pub degrees: Vec<Degrees>,
+    /// The degrees that the best cuttings at base prices have.
     pub unsteered: Vec<Degrees>,
     /// A demand came since the point before.
     pub demand: bool,
@@ -79,12 +83,13 @@ pub struct Point<'a> {
 /// What the logs of an assortment come to.
 #[derive(Clone, Copy)]
 pub struct Part {
+    /// Number of logs.
     pub logs: u64,
-    /// In cm³.
+    /// Volume in cm³.
     pub volume: u128,
-    /// The length of the logs, in mm.
+    /// Length of the logs together, in mm, trim excluded.
     pub logged: u128,
-    /// In millionths of the price unit, at base prices.
+    /// Worth at base prices, in millionths of the price unit.
     pub at_base: u128,
     ghost small: { (logs < 2 ^ 32) × (volume ≤ logs * 2 ^ 64) × (logged ≤ logs * 2 ^ 64) × (at_base ≤ logs * 2 ^ 64) },
 }
@@ -95,24 +100,27 @@ pub struct Figures<'a> {
     pub instruction: &'a Instruction,
     /// The journals, in their order. There is one at least.
     pub journals: &'a [Journal],
-    /// How many postings they have together.
+    /// Number of postings that they have together.
     pub postings: usize,
-    /// How many logs were cut in each class, and how many the best cuttings at base prices have.
+    /// Number of logs cut of each class: assortment by assortment, row by row.
     pub counts: Vec<u32>,
+    /// Number of logs of each class in the best cuttings at base prices.
     pub unsteered: Vec<u32>,
-    /// The targets in force at the end of the last journal, and the prices.
+    /// Targets in force at the end of the last journal, in logs of each class.
     pub targets: Arc<Vec<u32>>,
+    /// Prices in force there, in price units, for each class.
     pub prices: &'a [u32],
     pub total: Sums,
-    /// By number, those that have a posting.
+    /// By the harvester's number, from 1: those that have a posting.
     pub harvesters: BTreeMap<u32, Own>,
-    /// One for each assortment: of the logs cut, and of those of the best cuttings at base prices.
+    /// The logs cut, for each assortment.
     pub assortments: Vec<Part>,
+    /// The logs of the best cuttings at base prices, for each assortment.
     pub unsteered_assortments: Vec<Part>,
     pub points: Vec<Point<'a>>,
-    /// The places, through all journals, of the longest stem, and of the stem where steering cost most: of equals the
-    /// first. There is none of these where steering cost nothing.
+    /// Index, from 0 through all journals, of the first posting of the longest stem; none if every length is 0 mm.
     pub longest: Option<usize>,
+    /// Index, from 0 through all journals, of the first posting where steering cost most; none if it cost nothing.
     pub dearest: Option<usize>,
     ghost some_journal: { 0 < length journals.now },
     ghost few: { length (postings_of journals.now) ≤ MOST_POSTINGS },

@@ -2,9 +2,10 @@
 ghost use Rattle.std.specs.Prelude.{◌≡◌, ℕ, [], ◌∷◌, ◌++◌, List, length};
 ghost use Rattle.buck_figures.specs.inner.Greatest.{IsGreatest};
 
-/// The place of the first of the greatest of some numbers, and how great it is; no place where all are 0.
+/// The first of the greatest of some numbers.
 #[derive(Clone, Copy)]
 pub struct Greatest {
+    /// Its index among the numbers, from 0; none if all are 0.
     pub at: Option<usize>,
     size: u128,
 }

@@ -20,7 +20,7 @@ use buck_journal::Journal;
 use buck_record::Memory;
 use std::alloc::Global;
 
-/// The curves have at most so many points.
+/// Greatest number of points of the curves.
 pub const MOST_POINTS: usize = 200;
 
 /// How many of some postings come before the point of a number, from 1.

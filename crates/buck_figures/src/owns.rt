@@ -13,9 +13,10 @@ use std::collections::BTreeMap;
 /// What the postings of a harvester come to.
 #[derive(Clone, Copy)]
 pub struct Own {
+    /// Number of the harvester, from 1.
     pub harvester: u32,
     pub sums: Sums,
-    /// The place of its first cut, if there is one.
+    /// Index of its first cut, from 0 through all journals, if there is one.
     pub first: Option<usize>,
 }
 

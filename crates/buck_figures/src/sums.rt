@@ -2,25 +2,28 @@
 ghost use Rattle.std.specs.Prelude.{◌≡◌, ◌+◌, ◌*◌, ◌≤◌, ◌^◌};
 ghost use Rattle.buck_book.specs.declared.posting.TheConstants.{MOST_POSTINGS};
 
-/// What some postings come to. Worths are in millionths of the price unit.
+/// What some postings come to.
 #[derive(Clone, Copy)]
 pub struct Sums {
+    /// Number of stems cut.
     pub stems: u64,
+    /// Number of demands.
     pub demands: u64,
+    /// Number of logs.
     pub logs: u128,
-    /// Of the logs, in cm³.
+    /// Volume of the logs, in cm³.
     pub volume: u128,
-    /// Of the stems, in mm.
+    /// Length of the stems, in mm.
     pub length: u128,
-    /// Of the logs, in mm.
+    /// Length of the logs, in mm, trim excluded.
     pub logged: u128,
-    /// Of what was cut with the logs, in mm.
+    /// Trim cut with the logs, in mm.
     pub trim: u128,
-    /// Of the cuttings, under the prices in force when each was planned.
+    /// Worth of the cuttings under the prices in force when each was planned, in millionths of the price unit.
     pub worth: u128,
-    /// Of the same cuttings, at base prices.
+    /// Worth of the same cuttings at base prices, in millionths of the price unit.
     pub at_base: u128,
-    /// Of the best cuttings at base prices.
+    /// Worth of the best cuttings at base prices, in millionths of the price unit.
     pub best: u128,
     ghost few: { (stems ≤ MOST_POSTINGS) × (demands ≤ MOST_POSTINGS) },
     ghost small_wood: { (logs ≤ stems * 2 ^ 64) × (volume ≤ stems * 2 ^ 64) × (length ≤ stems * 2 ^ 64) },

@@ -16,10 +16,10 @@ use std::marker::Model;
 use std::sync::Arc;
 use std::sync::ledger::{Ledger, Share};
 
-/// How many seats a fleet may have.
+/// Greatest number of seats of a fleet.
 pub const MOST_SEATS: u32 = 64;
 
-/// How many plans a cut makes without the lock, before it makes one under it.
+/// Number of plans that a cut makes without the lock before it makes one under it.
 pub const MOST_ATTEMPTS: u8 = 3;
 
 /// How an entry came to be.
@@ -36,7 +36,7 @@ pub enum Path {
 pub struct Reply {
     /// What was cut, as it stands in the history.
     pub entry: Entry,
-    /// How many postings stand before it.
+    /// Index of the posting in the history, from 0.
     pub position: u32,
     /// How many plans made without the lock were brought to the book: 1 to 3 on the path `Optimistic`, 0 to 3 on
     /// `Locked`.
@@ -50,7 +50,7 @@ pub struct Reply {
 pub struct DemandReply {
     /// The demand, as it stands in the history.
     pub demand: Demand,
-    /// How many postings stand before it.
+    /// Index of the posting in the history, from 0.
     pub position: u32,
 }
 

@@ -18,7 +18,7 @@ use thiserror::Error;
 pub struct Felled {
     /// Who cuts it, 1 to 64.
     pub harvester: u32,
-    /// The stem's number.
+    /// The stem's number, 0 to 4,294,967,295.
     pub number: u32,
     /// Its species, 1 to 255.
     pub species: u8,

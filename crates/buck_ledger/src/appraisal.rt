@@ -91,10 +91,11 @@ fn account_of(
 /// What journals bring under an owner's instruction.
 #[derive(Drop)]
 pub struct Appraisal {
-    /// By number, those that have a posting.
+    /// By the harvester's number, from 1: those that have a posting.
     pub harvesters: BTreeMap<u32, Account>,
-    /// One for each assortment: of the logs as cut, and of those of the best cuttings.
+    /// The logs as cut, for each assortment.
     pub assortments: Vec<Paid>,
+    /// The logs of the best cuttings, for each assortment.
     pub best_assortments: Vec<Paid>,
     pub total: Account,
 }

@@ -8,7 +8,7 @@ pub struct Opened<F> {
     pub apt: F,
     /// The journals, 1 to 64.
     pub journals: Vec<F>,
-    /// The owner's instruction with its number: it is the last.
+    /// The owner's instruction with its number, from 0 for the instruction file: it is the last.
     pub own: (F, u32),
     ghost number: { (0 < length journals.items) × (length journals.items ≤ 64) },
 }

@@ -5,12 +5,13 @@ ghost use Rattle.buck_book.specs.declared.posting.TheConstants.{MOST_POSTINGS};
 /// What some logs come to under an owner's instruction, at its base prices.
 #[derive(Clone, Copy)]
 pub struct Paid {
+    /// Number of logs.
     pub logs: u64,
-    /// How many of them it doesn't buy: no row has their diameter, or their class has no price.
+    /// Number of them that the owner's instruction doesn't buy: no row has their diameter, or their class has no price.
     pub unbought: u64,
-    /// In cm³.
+    /// Volume in cm³.
     pub volume: u128,
-    /// In millionths of the price unit.
+    /// Worth in millionths of the price unit.
     pub worth: u128,
     ghost small: { (logs < 2 ^ 32) × (unbought ≤ logs) × (volume ≤ logs * 2 ^ 64) × (worth ≤ logs * 2 ^ 64) },
 }
@@ -28,6 +29,7 @@ impl Paid {
 /// What the logs of some stems come to, as cut, and of the best cuttings under an owner's instruction.
 #[derive(Clone, Copy)]
 pub struct Account {
+    /// Number of stems.
     pub stems: u64,
     pub cut: Paid,
     pub best: Paid,

@@ -38,7 +38,7 @@ use std::alloc::Global;
 pub enum Asked {
     /// A stem is to be cut.
     Stem(Stem),
-    /// New targets are to come into force, class by class, in logs.
+    /// New targets are to come into force: the number of logs wanted of each class, each 0 to 4,294,967,295.
     Targets(Listed<u32>),
 }
 

@@ -7,10 +7,12 @@ use buck_record::Memory;
 use buck_stem::Stem;
 use std::alloc::Global;
 
-/// The numbers and the species of stems, in their order.
+/// What notes want to know of stems, in their order.
 #[derive(Drop)]
 pub struct Marks {
+    /// The number of each stem, 0 to 4,294,967,295.
     pub numbers: Vec<u32>,
+    /// The species of each stem, 1 to 255.
     pub species: Vec<u8>,
 }
 

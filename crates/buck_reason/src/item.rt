@@ -7,7 +7,9 @@ use buck_record::{Slot, number};
 /// The number and the kind of an item.
 #[derive(Clone, Copy, Debug, PartialEq, Eq)]
 pub struct Key {
+    /// The first word of the head, 0 to 65,535.
     pub number: u16,
+    /// The second word of the head, 0 to 65,535.
     pub kind: u16,
 }
 
@@ -34,6 +36,7 @@ fn is_white(byte: u8) -> bool {
 #[derive(Clone, Copy)]
 pub struct Word<'a> {
     pub text: &'a [u8],
+    /// Number of bytes before it in its file.
     pub at: usize,
 }
 
@@ -120,10 +123,11 @@ fn cut_piece(bytes: &[u8]) -> Option<Cut<'_>>
     })
 }
 
-/// An item of a file, or a piece without a head: its bytes, and where the first of them stands.
+/// An item of a file, or a piece without a head.
 #[derive(Clone, Copy)]
 pub struct Item<'a> {
     pub text: &'a [u8],
+    /// Number of bytes before it in its file.
     pub at: usize,
 }
 

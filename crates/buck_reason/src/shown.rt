@@ -81,7 +81,7 @@ impl fmt::Display for Quoted<'_> {
     }
 }
 
-/// A number of things: `1 row`, `2 rows`.
+/// A number of things with their name in the singular: `1 row`, `2 rows`.
 #[derive(Clone, Copy)]
 pub struct Several(pub usize, pub &'static str);
 

@@ -19,7 +19,7 @@ pub enum Kind {
 #[derive(Clone, Copy)]
 pub struct Group<'a> {
     pub kind: Kind,
-    /// How many stand before it.
+    /// Index among those of its file, from 0.
     pub place: usize,
     /// The item that it begins with.
     pub opener: Item<'a>,
@@ -38,6 +38,7 @@ fn first_bytes(number: &[u8]) -> &[u8] {
 pub enum Whose<'a> {
     Nobody,
     Of(Group<'a>),
+    /// Of the posting at this index, from 0.
     Posting(usize),
 }
 

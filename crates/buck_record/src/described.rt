@@ -17,20 +17,20 @@ pub enum Level {
 pub enum Count {
     /// Any, as far as its table says.
     Any,
-    /// None: it is a text of one byte to so many.
+    /// None: it is a text of 1 to this many bytes.
     Text(usize),
     One,
     /// One, as great as there are names.
     Names,
     /// As many as its slots.
     Slots,
-    /// At least one, and at most so many.
+    /// 1 to this many.
     UpTo(usize),
-    /// At most so many, of which none need be there.
+    /// 0 to this many.
     AtMost(usize),
-    /// At most so many times two.
+    /// 0 to this many pairs.
     Pairs(usize),
-    /// At most so many times three.
+    /// 0 to this many triples.
     Triples(usize),
     /// One for each row and column of its assortment.
     Classes,
@@ -40,7 +40,7 @@ pub enum Count {
 #[derive(Clone, Copy, Debug, PartialEq, Eq)]
 pub enum Order {
     Free,
-    /// Each is above the one that stands so many before it, from the first on.
+    /// Each is above an earlier one, if there is one: how many places before it that stands.
     Rising(usize),
     /// Each is above all lower diameters of its assortment.
     AboveLower,

@@ -6,18 +6,16 @@ use std::alloc::{AllocError, AllocFailed};
 use thiserror::Error;
 
 /// What is wrong with a file or a text of numbers.
-///
-/// - `Head`: the item, counted from 1 in file order, is the first that does not begin with two numbers of at most
-///   65,535.
-/// - `Digits`: the word, counted from 1, is the first that is no number, or one past the limit. Where one number is
-///   asked for, place 1 stands also for a text of no words, and place 2 for a second word.
-/// - `Memory`: a growth was refused. It comes in place of any other answer of a call that takes memory.
 #[derive(Clone, Copy, Debug, PartialEq, Eq, Error)]
 pub enum RecordFault {
+    /// The item, from 1 in file order, is the first that does not begin with two numbers of at most 65,535.
     #[error("item {item} has no head")]
     Head { item: usize },
+    /// The word, from 1, is the first that is no number, or one past the limit. If one number is asked for, place 1
+    /// stands also for a text of no words, and place 2 for a second word.
     #[error("word {place} is not a number")]
     Digits { place: usize },
+    /// A growth was refused. It comes in place of any other answer of a call that takes memory.
     #[error("out of memory")]
     Memory,
 }

@@ -4,13 +4,13 @@
 /// stands in the slot that its head names.
 #[derive(Clone, Copy, Debug, PartialEq, Eq)]
 pub struct Slot {
-    /// From 0 to 65,535.
+    /// The first word of the head, 0 to 65,535.
     pub number: u16,
-    /// From 0 to 65,535.
+    /// The second word of the head, 0 to 65,535.
     pub kind: u16,
-    /// The least that each of its numbers may be.
+    /// The least that each of its numbers may be, in the item's unit.
     pub low: u32,
-    /// The greatest that each of its numbers may be.
+    /// The greatest that each of its numbers may be, in the item's unit.
     pub high: u32,
 }
 

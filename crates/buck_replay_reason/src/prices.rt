@@ -116,11 +116,13 @@ pub(crate) fn sheet_reason(
 /// A price of a journal that isn't what a rule gives.
 #[derive(Clone, Copy)]
 pub struct Mispriced {
+    /// Version of the sheet, from 0.
     pub version: u32,
-    /// The place of the class among all.
+    /// Index of the class among all, from 0.
     pub class: usize,
+    /// Price in the journal, in price units.
     pub price: u32,
-    /// What the rule gives.
+    /// Price that the rule gives, in price units.
     pub wanted: u64,
 }
 

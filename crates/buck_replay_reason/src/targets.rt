@@ -9,6 +9,7 @@ use std::fmt;
 #[derive(Clone, Copy)]
 pub struct WrongTargets<'a> {
     pub instruction: &'a Instruction,
+    /// The targets, in logs of each class: assortment by assortment, row by row.
     pub targets: &'a [u32],
 }
 

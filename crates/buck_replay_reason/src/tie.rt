@@ -13,11 +13,11 @@ use std::alloc::Global;
 pub struct Tied<'a> {
     pub source: Source<'a>,
     pub journal: &'a Journal,
-    /// The harvester, from 1.
+    /// Number of the harvester, from 1.
     pub harvester: u32,
     /// Its file, where it has one.
     pub file: Option<Source<'a>>,
-    /// How many stem files there are.
+    /// Number of stem files.
     pub files: usize,
 }
 

@@ -74,13 +74,13 @@ pub enum OwnFault {
     /// Its bytes are refused.
     #[error("the owner's instruction is refused: {0}")]
     Refused(AptFault),
-    /// This item of the whole isn't that of the other instruction.
+    /// The item of this number and kind, each 0 to 65,535, isn't that of the other instruction.
     #[error("item {number} {kind} is another")]
     Whole {
         number: u16,
         kind: u16,
     },
-    /// This item of an assortment, counted from 0, isn't that of the other instruction.
+    /// The item of this number and kind of the assortment at this index, from 0, isn't that of the other instruction.
     #[error("item {number} {kind} of assortment {assortment} is another")]
     Part {
         number: u16,

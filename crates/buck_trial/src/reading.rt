@@ -24,7 +24,7 @@ pub struct Opened<F> {
     pub apt: F,
     /// The stem files, one for each harvester.
     pub stms: Vec<F>,
-    /// The file of targets with its number, where there is one: it is the last.
+    /// The file of targets, if there is one, with its number, from 0 for the instruction file: it is the last.
     pub targets: Option<(F, u32)>,
 }
 

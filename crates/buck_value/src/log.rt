@@ -1,11 +1,13 @@
 //! Logs.
 
-/// A log of a stem: where it starts, in mm from the butt, how long it is, in mm, and the place of its assortment in
-/// the instruction, counted from 0. Any numbers may stand in it; what is allowed of a stem is said at
+/// A log of a stem. Any numbers may stand in it; what is allowed of a stem is said at
 /// [`class_of`](crate::class_of).
 #[derive(Clone, Copy, Debug, PartialEq, Eq)]
 pub struct Log {
+    /// Where it starts, in mm from the butt.
     pub start: u32,
+    /// How long it is, in mm, trim excluded.
     pub length: u32,
+    /// Index of its assortment in the instruction, from 0.
     pub assortment: u8,
 }

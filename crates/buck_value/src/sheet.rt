@@ -12,7 +12,7 @@ use std::alloc::{AllocError, Global};
 use std::marker::Model;
 use std::sync::Arc;
 
-/// No price in force is above it: twice the highest base price.
+/// Highest price in force, in price units per m³ or per piece: twice the highest base price.
 pub const HIGHEST_PRICE: u32 = 20_000_000;
 
 /// The prices in force from a version on: one for each class of the instruction, each within its span. The span of a

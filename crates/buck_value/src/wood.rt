@@ -5,11 +5,14 @@ ghost use Rattle.buck_value.specs.Wood.{AllIn, TakesWood};
 use buck_apt::Assortment;
 use buck_stem::Grades;
 
-/// The wood of logs: their species, their grades, and the trim in mm that is cut with them.
+/// The wood of logs.
 #[derive(Clone, Copy, Debug, PartialEq, Eq)]
 pub struct Wood {
+    /// The species, 1 to 255.
     pub species: u8,
+    /// The grades that the logs have.
     pub grades: Grades,
+    /// Trim that is cut with each log, in mm.
     pub trim: u32,
 }
 

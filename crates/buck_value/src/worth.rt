@@ -271,13 +271,13 @@ fn worth_in_class(sheet: &Sheet, class: Class, top: u32, length: u32) -> u64
     worth_of_piece(kind, sheet.price(class), volume_of(top, length))
 }
 
-/// What a log that is allowed measures, and what it is worth.
+/// The class, the top diameter and the worth of a log that is allowed.
 #[derive(Clone, Copy, Debug, PartialEq, Eq)]
 pub struct Valuation {
     pub class: Class,
     /// The diameter in mm where its length ends.
     pub top: u32,
-    /// In millionths of the price unit.
+    /// Worth in millionths of the price unit.
     pub worth: u64,
 }
 

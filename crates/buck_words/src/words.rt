@@ -43,7 +43,7 @@ const UNITS: [u128; 13] = [
     1,
 ];
 
-/// A number in groups of three digits, set apart by a narrow blank that no line breaks at.
+/// Any number, in groups of three digits, separated by a narrow blank that no line breaks at.
 #[derive(Clone, Copy)]
 pub struct Grouped(pub u128);
 
@@ -63,11 +63,12 @@ impl fmt::Display for Grouped {
     }
 }
 
-/// A number of tenths, hundredths or thousandths, as many digits behind the point as `places` says; with none, the
-/// number alone.
+/// A number with digits behind the point.
 #[derive(Clone, Copy)]
 pub struct Fixed {
+    /// The number in units, tenths, hundredths or thousandths, by `places`.
     pub n: u128,
+    /// Number of digits behind the point, 0 to 3; a greater one counts as 3.
     pub places: u8,
 }
 
@@ -169,6 +170,7 @@ impl fmt::Display for Metres {
 #[derive(Clone, Copy)]
 pub struct Difference {
     pub below: bool,
+    /// How far, in the unit of both numbers.
     pub size: u128,
 }
 
@@ -208,6 +210,7 @@ pub fn change_of(price: u32, base: u32) -> Difference
 #[derive(Clone, Copy)]
 pub struct Signed {
     pub difference: Difference,
+    /// Number of digits behind the point, 0 to 3.
     pub places: u8,
 }
 
@@ -232,10 +235,12 @@ impl fmt::Display for Signed {
     }
 }
 
-/// How many there are of what a word says.
+/// A number of things with their name: `1 log`, `2 logs`.
 #[derive(Clone, Copy)]
 pub struct Several {
+    /// Number of things.
     pub n: u128,
+    /// Their name in the singular.
     pub word: &'static str,
 }
 
@@ -283,7 +288,7 @@ pub fn letter(at: usize) -> char
     char::from(b'A' + (at % 16) as u8)
 }
 
-/// The colour and the letter of the assortment at a place: the key of all drawings.
+/// The colour and the letter of the assortment at an index, from 0: the key of all drawings.
 #[derive(Clone, Copy)]
 pub struct Chip(pub usize);
 
@@ -330,10 +335,12 @@ impl fmt::Display for Length {
     }
 }
 
-/// The top diameters of a row, in mm: from the lower limit up to the last before that of the next row.
+/// The top diameters of a row.
 #[derive(Clone, Copy)]
 pub struct Row {
+    /// Lower limit in mm, which belongs to the row.
     pub from: u32,
+    /// Diameter in mm at which the row ends: the next row's lower limit, or the upper diameter.
     pub below: u32,
 }
 

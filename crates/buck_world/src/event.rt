@@ -5,10 +5,10 @@ ghost use Rattle.buck_world.specs.Run.{harvester_of_event};
 use buck_stem::Stem;
 use std::sync::Arc;
 
-/// One atomic step of one harvester. Harvesters count from 1.
+/// One atomic step of one harvester. In each, `harvester` is its number, from 1.
 #[derive(Drop)]
 pub enum Event {
-    /// One load of the front, which showed this version.
+    /// One load of the front, which showed this version, from 0.
     Read {
         harvester: u32,
         version: u32,
@@ -27,8 +27,8 @@ pub enum Event {
         harvester: u32,
         stem: Arc<Stem>,
     },
-    /// One critical section up to and with the commit of new targets: one for each class, assortment by assortment and
-    /// row by row.
+    /// One critical section up to and with the commit of new targets: the number of logs wanted of each class,
+    /// assortment by assortment and row by row.
     Retarget {
         harvester: u32,
         targets: Arc<Vec<u32>>,

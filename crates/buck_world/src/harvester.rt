@@ -1,11 +1,12 @@
 //! What each harvester is at.
 use crate::stage::Stage;
 
-/// What a harvester is at: its stage, the newest version that it has seen, and how many stale attempts it made in its
-/// call.
+/// The state of a harvester.
 #[derive(Drop)]
 pub struct Harvester {
     pub stage: Stage,
+    /// Newest version that it has seen, from 0.
     pub seen: u32,
+    /// Number of stale attempts in its call, 0 to 3.
     pub stale: u32,
 }

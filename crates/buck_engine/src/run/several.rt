@@ -63,6 +63,7 @@ pub struct Several {
 /// The first journal that isn't lawful, and its first fault.
 #[derive(Drop)]
 pub struct Unlawful {
+    /// Index of the journal among those of the run, from 0.
     pub place: usize,
     pub fault: ReplayFault,
 }

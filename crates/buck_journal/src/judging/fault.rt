@@ -14,31 +14,32 @@ use thiserror::Error;
 /// posting was planned under.
 #[derive(Clone, Copy, Debug, PartialEq, Eq, Error)]
 pub enum ReplayFault {
-    /// The sheet of this version isn't there, doesn't have one price for each class, or is the first too many.
+    /// The sheet of this version, from 0, isn't there, doesn't have one price for each class, or is the first too many.
     #[error("sheet {version} is not there, not complete, or one too many")]
     Sheet { version: u32 },
-    /// The price of this class in this sheet doesn't keep the price relation; those of the classes before it do.
+    /// The price of this class, from 0, in the sheet of this version doesn't keep the price relation; those of the
+    /// classes before it do.
     #[error("the price of class {class} in sheet {version} is against the price relation")]
     Price { version: u32, class: usize },
-    /// The posting's number isn't its harvester's next one.
+    /// The number of the posting at this index, from 0, isn't its harvester's next one.
     #[error("posting {at} does not have its harvester's next number")]
     Numbering { at: usize },
-    /// The posting's version isn't the one in force.
+    /// The version of the posting at this index, from 0, isn't the one in force.
     #[error("posting {at} does not have the version in force")]
     Version { at: usize },
-    /// The logs of the cut aren't an admissible cutting.
+    /// The logs of the cut at this index, from 0, aren't an admissible cutting.
     #[error("the cutting of posting {at} is not admissible")]
     Cutting { at: usize },
-    /// The worth of the cut isn't what its logs are worth.
+    /// The worth of the cut at this index, from 0, isn't that of its logs.
     #[error("the worth of posting {at} is not that of its logs")]
     Worth { at: usize },
-    /// Some admissible list of logs is worth more than those of the cut.
+    /// Some admissible list of logs is worth more than those of the cut at this index, from 0.
     #[error("the cutting of posting {at} is outvalued")]
     Outvalued { at: usize },
     /// A growth was refused.
     #[error("out of memory")]
     Memory,
-    /// The targets of the demand aren't valid.
+    /// The targets of the demand at this index, from 0, aren't valid.
     #[error("the targets of posting {at} are not valid")]
     Targets { at: usize },
 }

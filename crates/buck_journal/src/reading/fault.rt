@@ -12,23 +12,23 @@ use thiserror::Error;
 /// the first of these.
 #[derive(Clone, Copy, Debug, PartialEq, Eq, Error)]
 pub enum JournalFault {
-    /// The least item without a number and a kind.
+    /// The least item, from 1, without a number and a kind.
     #[error("item {item} has no head")]
     Head { item: usize },
     /// The first item isn't `1 2` with `JRN`.
     #[error("the file is not a journal")]
     NotJournal,
-    /// It isn't the item that the sequence wants there. An end in the middle of a posting is at the item after the
-    /// last.
+    /// The item, from 1, isn't the one that the sequence wants there. An end in the middle of a posting is at the item
+    /// after the last.
     #[error("item {item} is not the one that is wanted there")]
     Shape { item: usize },
-    /// A word of the item isn't a number.
+    /// A word of the item, from 1, isn't a number.
     #[error("a word of item {item} is not a number")]
     Digits { item: usize },
-    /// There are not as many numbers as there should be, or the item begins a 1,000,001st posting.
+    /// The item, from 1, has not as many numbers as it should have, or begins a 1,000,001st posting.
     #[error("item {item} has another count of numbers, or begins one posting too many")]
     Count { item: usize },
-    /// A number is out of range, or zones are against their order.
+    /// The item, from 1, has a number out of range, or zones against their order.
     #[error("a number of item {item} is out of range or of order")]
     Range { item: usize },
     /// A growth was refused.

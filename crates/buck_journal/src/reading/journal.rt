@@ -19,7 +19,7 @@ use std::marker::Model;
 /// The journal of a history, as it was written: whether it is lawful is another question.
 #[derive(Drop)]
 pub struct Journal {
-    /// The prices of each sheet, by version.
+    /// Prices of each sheet, by version from 0, in price units per m³ or per piece: class by class.
     pub sheets: Vec<Vec<u32>>,
     /// The postings, in the order of their commits.
     pub entries: Vec<Posting>,

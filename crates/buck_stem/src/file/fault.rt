@@ -9,43 +9,45 @@ use std::alloc::{AllocError, AllocFailed};
 use std::error::Error;
 use std::fmt;
 
-/// What is wrong with a stem file: the first refusal that applies to its bytes, and within it the first item in the
-/// order of the table. Items of the file and words of an item count from 1.
+/// What is wrong with a stem file: the first refusal that applies to its bytes, in this order, and within it the first
+/// item in the order of the file's table. `number` and `kind` are those of the item's head, 0 to 65,535.
 #[derive(Clone, Copy, Debug, PartialEq, Eq)]
 pub enum StmFault {
-    /// The least item without a number and a kind.
+    /// The first item without a head of two numbers below 65,536: `item` counts from 1 in file order.
     Head {
         item: usize,
     },
     /// There is no item `1 2`, or the first one doesn't say `STM`.
     NotStm,
-    /// An item that must be there isn't. An item of a stem before the first stem number wants the number, `951 1`.
+    /// The item of this number and kind must be there and isn't. If an item of a stem stands before the first stem
+    /// number, it is that number, `951 1`, that is missing.
     Missing {
         number: u16,
         kind: u16,
     },
-    /// An item stands twice, in the file or in its stem.
+    /// The item of this number and kind stands twice, in the file or in its stem.
     Twice {
         number: u16,
         kind: u16,
     },
-    /// The first word of an item that isn't a number below 2^32.
+    /// A word of the item of this number and kind isn't a number below 4,294,967,296. `place` is the first such word,
+    /// from 1.
     Digits {
         number: u16,
         kind: u16,
         place: usize,
     },
-    /// A number is outside its range.
+    /// The item of this number and kind has a number outside its range.
     Range {
         number: u16,
         kind: u16,
     },
-    /// A list is against its order.
+    /// The item of this number and kind is a list against its order.
     Order {
         number: u16,
         kind: u16,
     },
-    /// There are not as many numbers as there should be.
+    /// The item of this number and kind has not as many numbers as it should have.
     Count {
         number: u16,
         kind: u16,
