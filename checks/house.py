@@ -18,6 +18,8 @@
 - Each caller and each edit says what its wrong body does; docs/WRONG_BODIES.md is as checks/wrong_bodies.py writes it.
 - Documents have each habit of HABITS no more often than stands there, and *what* at most MOST_WHAT times in 1,000 words,
   the pages of FORMS apart.
+- Each public number of a product crate, a constant, a field or one in a variant, has a doc comment that says its unit,
+  its range, from where it counts, or what it counts, in one of the words of UNITS.
 - No line of src/ and specs/ of a product crate is wider than 120 columns, imports aside, but for as many as WIDE allows
   each crate.
 
@@ -85,6 +87,12 @@ MOST_WHAT = 5
 
 # What says that a name or a path stands for several, or for a file that isn't committed.
 NO_PATH = r"NAME|MODULE|_X\b|[*{<]|\.\.|\bout\b"
+
+# A type of numbers, and what the doc comment of one says. Lists of bytes are texts.
+NUMBERS = r"\b[ui](8|16|32|64|128|size)\b"
+TEXTS = r"\[u8\]|Vec<u8>"
+UNITS = r"mm|c?m³|metres|price units?|millionths|ten-thousandths|tenths|per mille|percent|bytes|bit|steps|in logs|unit"
+UNITS = rf"(?i)(?<!\w)({UNITS}|from [01]|[01] to|how many|number of|any number)(?!\w)"
 
 # How the names of sources end.
 SOURCES = (".rt", ".antt", ".py", ".c", ".h")
@@ -343,13 +351,53 @@ def wrong_widths():
             yield f"{crate} has {wide} lines over {MOST_COLUMNS} columns, {allowed} may stand: {told}"
 
 
+def public_numbers(lines):
+    """The public numbers of a source's lines: the line of each, from 1, its name, its type, and what is said of it: its
+    doc comment, that of its variant or of its struct without names, and that of a type that names it in backticks."""
+    kind, name, whole, variant, doc = "", "", "", "", ""
+    for number, line in enumerate(lines, 1):
+        text = line.strip()
+        if text.startswith("///"):
+            doc += text[3:]
+            continue
+        if text.startswith("#["):
+            continue
+        opened = re.match(r"pub (struct|enum) (\w+)", line)
+        fixed = re.match(r"\s*pub const (\w+): (.*?) =", line)
+        field = re.match(r"    pub (\w+): (.*),$" if kind == "struct" else r"        (\w+): (.*),$", line)
+        held = re.match(r"    (\w+)(?:\((.*)\)| \{ (.*) \}| \{),?$", line)
+        if opened:
+            kind, name, whole = opened[1] if line.endswith("{") else "", opened[2], doc
+            yield number, name, "" if kind else line.partition("(")[2], doc
+        elif fixed:
+            yield number, fixed[1], fixed[2], doc
+        elif line.startswith("}"):
+            kind = ""
+        elif kind and field:
+            named = whole if f"`{field[1]}`" in whole else ""
+            yield number, f"{name}::{field[1]}", field[2], f"{doc} {variant if kind == 'enum' else ''} {named}"
+        elif kind == "enum" and held:
+            variant = doc
+            yield number, f"{name}::{held[1]}", held[2] or held[3] or "", doc
+        doc = ""
+
+
+def wrong_units():
+    """Public numbers of product crates of which no doc comment says the unit, the range or what they count."""
+    for crate in product():
+        for words, lines in files_in(crate, "src", ".rt"):
+            for number, name, of, doc in public_numbers(lines):
+                if re.search(NUMBERS, re.sub(TEXTS, "", of)) and not re.search(UNITS, doc):
+                    yield f"crates/{crate}/src/{'/'.join(words)}.rt, line {number}: no doc comment has the unit of {name}"
+
+
 def main():
     if "--write" in sys.argv:
         text = mapped()
         with open(os.path.join(TOP, ARCHITECTURE), "w") as page:
             page.write(text)
     looks = (wrong_names, wrong_pages, wrong_map, wrong_copies, wrong_links, wrong_files, wrong_words, wrong_citations)
-    looks += (wrong_habits, wrong_widths)
+    looks += (wrong_habits, wrong_units, wrong_widths)
     wrong = [line for look in looks for line in look()] + wrong_bodies.looked_at()[1]
     for line in wrong:
         print(line)
