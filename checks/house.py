@@ -64,8 +64,7 @@ WIDE = {
     "buck_drawn": 1,
     "buck_unlawful": 10,
     "buck_view": 8,
-    "buck_engine": 13,
-    "buck_calls": 1,
+    "buck_engine": 10,
     "buck_command": 1,
     "buckfleet": 4,
 }

@@ -40,7 +40,8 @@ impl Settings {
         }
     }
 
-    /// These numbers, and the instruction's own where there is none; or nothing, where one is out of its range.
+    /// This period in stems and this limit in per mille, or the instruction's own for a `None`. It is `None` if the
+    /// period isn't from 1 to 1,000 or the limit is above 1,000.
     pub fn of(period: Option<u32>, limit: Option<u32>) -> Option<Settings>
         ensures some { IfSome result (λ s. s ≡ record { period = period; limit = limit }) }
         ensures none { IfNone result (IsSettings (record { period = period; limit = limit }) → ⊥) }

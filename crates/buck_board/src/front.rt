@@ -16,7 +16,7 @@ pub struct Front {
 impl Front {
     ghost use Rattle.buck_board.specs.Board.{IsSeatAt};
 
-    /// The word 0, with a first seat that has seen 0.
+    /// The word 0, with a first seat that has seen 0. Refused only where a growth was.
     pub fn open(alloc: Global) -> Result<(Front, BoardSeat), AllocError>
         ensures place { IfOk result (λ f. IsSeatAt f.0 f.1) }
         ensures seen { IfOk result (λ f. f.1.seen ≡ 0) }
@@ -68,7 +68,7 @@ impl Front {
         seat.seen = found.max(u64::from(version)) as u32;
     }
 
-    /// As many seats as asked for, the first of them and further ones.
+    /// As many seats as asked for, the first of them and further ones. Refused only where a growth was.
     pub fn seats(
         &self,
         alloc: Global,

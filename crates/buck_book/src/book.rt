@@ -106,7 +106,7 @@ impl<F: Drop> Book<F> {
         self.running.version
     }
 
-    /// The targets in force, class by class: those of the last demand, else the instruction's.
+    /// The targets in force, in logs of each class: those of the last demand, else the instruction's.
     pub fn targets(&self) -> &[u32]
         ensures targets { result.now ≡ targets_of self.now.history.instruction self.now.history.postings }
         ensures valid { AreTargets self.now.history.instruction result.now }
@@ -145,7 +145,7 @@ impl<F: Drop> Book<F> {
         self.running.by_class.as_slice()
     }
 
-    /// How many postings are a harvester's, 1 to 64.
+    /// How many postings are those of a harvester, who is from 1 to 64.
     pub fn calls(&self, harvester: u32) -> u32
         requires { (0 < harvester) × (harvester ≤ 64) }
         ensures { result ≡ calls_of harvester self.now.history.postings }
@@ -161,7 +161,7 @@ impl<F: Drop> Book<F> {
         self.postings.as_slice()
     }
 
-    /// The sheets, by version.
+    /// The sheets, by version from 0.
     pub fn sheets(&self) -> &[Arc<Sheet>]
         ensures sheets { map (λ a. a.value) result.now
             ≡ sheets_from 0 self.now.history.instruction self.now.history.sheets }

@@ -45,7 +45,7 @@ impl Parts {
         &self.instruction
     }
 
-    /// The sheets, by version.
+    /// The sheets, by version from 0.
     pub fn sheets(&self) -> &[Arc<Sheet>]
         ensures sheets { map (λ a. a.value) result.now ≡ sheets_from 0 self.now.instruction self.now.sheets }
         ensures lawful { IsLawful self.now }
@@ -69,7 +69,7 @@ impl Parts {
         self.entries.as_slice()
     }
 
-    /// The targets in force at the end, class by class: those of the last demand, else the instruction's.
+    /// The targets in force at the end, in logs of each class: those of the last demand, else the instruction's.
     pub fn targets(&self) -> &[u32]
         ensures targets { result.now ≡ targets_of self.now.instruction self.now.postings }
         ensures valid { AreTargets self.now.instruction result.now }
@@ -77,7 +77,7 @@ impl Parts {
         self.targets.as_slice()
     }
 
-    /// How many logs were cut in each class, in the same order.
+    /// How many logs were cut in each class, assortment by assortment and row by row.
     pub fn counts(&self) -> &[u32]
         ensures { AreClassCounts self.now.instruction self.now.postings result.now }
     {

@@ -30,7 +30,7 @@ impl Model for Plan {
 }
 
 impl Plan {
-    /// Plans a stem under a sheet. It asks nobody else and waits for nobody.
+    /// Plans a stem under a sheet. It asks nobody else and waits for nobody. Refused as `Memory` alone.
     pub fn make(alloc: Global, sheet: Arc<Sheet>, stem: Arc<Stem>) -> Result<Plan, Memory>
         ensures sheet { IfOk result (λ p. p.sheet ≡ sheet.value) }
         ensures stem { IfOk result (λ p. p.stem ≡ stem.value) }
@@ -40,7 +40,8 @@ impl Plan {
         Plan::make_with(alloc, &mut planner, stem)
     }
 
-    /// The same under the sheet of a planner, which may have planned other stems before: that is faster.
+    /// Plans a stem under the sheet of a planner, which may have planned other stems before: that is faster. Refused as
+    /// `Memory` alone.
     pub fn make_with(alloc: Global, planner: &mut Planner, stem: Arc<Stem>) -> Result<Plan, Memory>
         ensures same { planner.new ≡ planner.old }
         ensures sheet { IfOk result (λ p. p.sheet ≡ planner.old) }

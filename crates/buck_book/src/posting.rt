@@ -89,7 +89,7 @@ impl Demand {
 }
 
 impl Posting {
-    /// Whose it is.
+    /// The harvester whose it is, from 1.
     pub fn harvester(&self) -> u32
         ensures { result ≡ harvester_of self.now }
     {

@@ -78,7 +78,7 @@ impl Running {
     }
 }
 
-/// The prices of all classes: the rule's answers to how the classes stand.
+/// The prices of all classes: the rule's answers to how the classes stand. Refused as `Memory` alone.
 #[tactic(auto, using(crate::proofs::Standings::one_price_more))]
 pub fn prices_by<F: Fn(&Standing) -> u64>(
     alloc: Global,

@@ -86,7 +86,7 @@ fn add_logs(
 }
 
 impl Running {
-    /// What no posting adds up to.
+    /// What no posting adds up to: the instruction's targets, and counts of 0. Refused as `Memory` alone.
     pub fn opening(alloc: Global, instruction: &Instruction) -> Result<Running, Memory>
         ensures { IfOk result (λ n. Tells instruction.now [] n) }
     {
@@ -106,7 +106,7 @@ impl Running {
         })
     }
 
-    /// A second one of the same value.
+    /// A second one of the same value. Refused only where a growth was.
     pub fn clone(&self) -> Result<Running, AllocError>
         ensures { IfOk result (λ n. IsCopy self.now n) }
     {

@@ -106,7 +106,7 @@ impl<'a> Walk<'a> {
         self.running.cuts == 0
     }
 
-    /// The targets in force, class by class: those of the last demand that was passed, else the instruction's.
+    /// The targets in force, in logs of each class: those of the last demand that was passed, else the instruction's.
     pub fn targets(&self) -> &[u32]
         ensures targets { result.now ≡ targets_of self.now.instruction (passed self.now) }
         ensures valid { AreTargets self.now.instruction result.now }

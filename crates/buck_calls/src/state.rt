@@ -43,7 +43,7 @@ fn state_of(kept: &KeptBook) -> State
     }
 }
 
-/// How far a book is. The answer is 0, or 7 where the block holds none.
+/// How far a book is, in `state`. The answer is 0, or 7 where the block holds none: then `state` is left as it was.
 pub fn buckfleet_state(alloc: Global, book: &mut Block, state: &mut State) -> u8
     ensures same { book.new.handle.held ≡ book.old.handle.held }
     ensures state { AnswersState book.old.handle.held state.old state.new result }
@@ -56,8 +56,10 @@ pub fn buckfleet_state(alloc: Global, book: &mut Block, state: &mut State) -> u8
     DONE
 }
 
-/// The prices in force, one for each class, assortment by assortment and row by row. The answer is 0, 6 where there is
-/// too little room, or 7 where the block holds no book.
+/// The prices in force, in price units per m³ or per piece: one for each class, assortment by assortment and row by
+/// row. They go to the start of `out`, and their number to `written`. The answer is 0, 6 where there is too little
+/// room: then
+/// `out` is left as it was, or 7 where the block holds no book: then the number is 0.
 pub fn buckfleet_prices(alloc: Global, book: &mut Block, out: &mut [u32], written: &mut usize) -> u8
     ensures same { book.new.handle.held ≡ book.old.handle.held }
     ensures put { IsPut (IsShownBy HasPrices book.old.handle.held) out.old out.new written.new result }
@@ -70,7 +72,7 @@ pub fn buckfleet_prices(alloc: Global, book: &mut Block, out: &mut [u32], writte
     status
 }
 
-/// The targets in force, in the same order, and in the same way.
+/// The targets in force, in logs: one for each class, as [`buckfleet_prices`] gives the prices.
 pub fn buckfleet_targets(
     alloc: Global,
     book: &mut Block,
@@ -88,7 +90,7 @@ pub fn buckfleet_targets(
     status
 }
 
-/// How many logs were cut in each class, in the same order, and in the same way.
+/// How many logs were cut in each class, as [`buckfleet_prices`] gives the prices.
 pub fn buckfleet_counts(alloc: Global, book: &mut Block, out: &mut [u32], written: &mut usize) -> u8
     ensures same { book.new.handle.held ≡ book.old.handle.held }
     ensures put { IsPut (IsShownBy HasCounts book.old.handle.held) out.old out.new written.new result }

@@ -124,11 +124,11 @@ fn take_turns<'x>(
 }
 
 /// Cuts the stems of each stem file by a harvester of its own, in turn, as the program's `fleet --in-turn` does by a
-/// rule: 0 steady, 1 linear, 2 step, 3 root. `files` has the bytes of the instruction file and of the stem files, one after the
-/// other, and `lengths` the length of each. The journal goes to the start of `out`, and the report behind it; of a
-/// fault the line alone. Their lengths go to `texts`. The answer is the program's exit status, 6 where `out` is too
-/// small: then nothing else is written, or 8 where there is no such rule, no instruction file, or the lengths aren't
-/// those of the bytes: then no text is put.
+/// rule: 0 steady, 1 linear, 2 step, 3 root. `files` has the bytes of the instruction file and of the stem files, one
+/// after the other, and `lengths` the length of each in bytes. The journal goes to the start of `out`, and the report
+/// behind it; of a fault the line alone. Their lengths go to `texts`. The answer is the program's exit status, 6 where
+/// `out` is too small: then nothing else is written, or 8 where there is no such rule, no instruction file, or the
+/// lengths aren't those of the bytes: then no text is put.
 pub fn buckfleet_in_turn(
     alloc: Global,
     files: &[u8],

@@ -9,7 +9,7 @@ use buck_record::Memory;
 use buck_words::Difference;
 use itoa::Buffer;
 
-/// Puts a number, if there is one.
+/// Puts a comma, and a number behind it if there is one. Refused as `Memory`, where a part may have been put.
 pub fn put_number(out: &mut Vec<u8>, number: Option<u128>) -> Result<(), Memory>
     ensures { OnOk result (out.new.items ≡ out.old.items ++ number_cell number) }
 {
@@ -21,7 +21,7 @@ pub fn put_number(out: &mut Vec<u8>, number: Option<u128>) -> Result<(), Memory>
     Ok(())
 }
 
-/// Puts each of some numbers.
+/// Puts each of some numbers behind a comma. Refused as `Memory`, where some may have been put.
 pub fn put_numbers(out: &mut Vec<u8>, numbers: &[u128]) -> Result<(), Memory>
     ensures { OnOk result (out.new.items ≡ out.old.items ++ flat_map (λ n. number_cell (Some n)) numbers.now) }
 {
@@ -31,7 +31,8 @@ pub fn put_numbers(out: &mut Vec<u8>, numbers: &[u128]) -> Result<(), Memory>
     Ok(())
 }
 
-/// Puts a difference, if there is one: a minus sign before one that is below 0.
+/// Puts a comma, and a difference behind it if there is one: with a minus sign if it is below 0. Refused as `Memory`,
+/// where a part may have been put.
 pub fn put_difference(out: &mut Vec<u8>, difference: Option<Difference>) -> Result<(), Memory>
     ensures { OnOk result (out.new.items ≡ out.old.items ++ difference_cell difference) }
 {
@@ -47,7 +48,8 @@ pub fn put_difference(out: &mut Vec<u8>, difference: Option<Difference>) -> Resu
     Ok(())
 }
 
-/// Puts how far a number changes, if it does.
+/// Puts a comma, and behind it how far a number changes, if there is a change. Refused as `Memory`, where a part may
+/// have been put.
 pub fn put_change(out: &mut Vec<u8>, change: Option<Change>) -> Result<(), Memory>
     ensures { OnOk result (out.new.items ≡ out.old.items ++ change_cell change) }
 {
@@ -57,7 +59,8 @@ pub fn put_change(out: &mut Vec<u8>, change: Option<Change>) -> Result<(), Memor
     }
 }
 
-/// Puts the three numbers of a spread, if there is one.
+/// Puts three commas, with the least, the mean and the greatest of a spread behind them if there is one. Refused as
+/// `Memory`, where a part may have been put.
 pub fn put_spread(out: &mut Vec<u8>, spread: Option<Spread>) -> Result<(), Memory>
     ensures { OnOk result (out.new.items ≡ out.old.items ++ spread_cells spread) }
 {

@@ -331,7 +331,8 @@ fn write_degree_curves(
     )?)
 }
 
-/// Writes how the degree of the assortment at a place came about, as cut and unsteered.
+/// Writes how the degree of the assortment at an index, from 0, came about, as cut and unsteered. Refused as `Memory`
+/// alone.
 pub fn write_degree_chart(
     alloc: Global,
     out: &mut String,

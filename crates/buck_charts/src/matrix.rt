@@ -571,8 +571,8 @@ fn write_prices(out: &mut String, matrix: &Matrix<'_>) -> Result<(), Memory> {
     Ok(write!(out, "</figure>")?)
 }
 
-/// Writes the matrices of the assortment at a place, where it has a target: side by side where they are narrow, else
-/// one under the other.
+/// Writes the matrices of the assortment at an index, from 0, if it has a target: side by side if they are narrow, else
+/// one under the other. Refused as `Memory` alone.
 pub fn write_matrices(out: &mut String, figures: &Figures<'_>, at: usize) -> Result<(), Memory>
     requires exists { at < length figures.now.instruction.now.assortments }
 {

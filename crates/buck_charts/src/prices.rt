@@ -303,7 +303,8 @@ fn write_no_prices(out: &mut String, figures: &Figures<'_>, drawn: &Drawn) -> Re
     Ok(write!(out, "<p class=\"none\">{why}</p>")?)
 }
 
-/// Writes how the prices of the assortment at a place went, of the classes whose logs are furthest from what is wanted.
+/// Writes how the prices of the assortment at an index, from 0, went, of the classes whose logs are furthest from those
+/// wanted. Refused as `Memory` alone.
 pub fn write_price_chart(out: &mut String, figures: &Figures<'_>, at: usize) -> Result<(), Memory>
     requires some { 0 < figures.now.postings }
     requires exists { at < length figures.now.instruction.now.assortments }

@@ -98,6 +98,7 @@ pub struct KnownFiles<'a, R> {
 }
 
 impl<'a, R> KnownFiles<'a, R> {
+    /// The files of a runtime, with the desk that keeps why the last of them was refused.
     pub fn of(rt: &'a R, desk: &'a Desk) -> KnownFiles<'a, R> {
         KnownFiles { rt, desk }
     }

@@ -93,7 +93,7 @@ fn find_list<T>(lists: &[PriceList<T>], takers: Takers, diameter: u32) -> Option
 }
 
 impl Market {
-    /// The market of a sheet, before anything is asked for.
+    /// The market of a sheet, before anything is asked for. Refused as `Memory` alone.
     pub fn of(alloc: Global, sheet: Arc<Sheet>) -> Result<Market, Memory>
         ensures { IfOk result (λ m. m.sheet ≡ sheet.value) }
     {
@@ -164,7 +164,7 @@ impl Market {
         }
     }
 
-    /// Who takes wood of a species and of some grades.
+    /// The assortments that take wood of a species and of some grades. Refused only where a growth was.
     pub fn group(&mut self, species: u8, grades: Grades) -> Result<Group, AllocError>
         ensures same { HasSame self.old self.new }
         ensures takers { IfOk result (λ g. AreTakersOf self.old.sheet.instruction species grades g.takers) }
@@ -257,7 +257,7 @@ impl Market {
         Some(head)
     }
 
-    /// The head of the row of a group at a diameter. It is drawn where it isn't there.
+    /// The head of the row of a group at a diameter in mm. It is drawn if it isn't there. Refused as `Memory` alone.
     #[inline(always)]
     pub fn row(&mut self, alloc: Global, group: Group, diameter: u32) -> Result<Head, Memory>
         requires { diameter ≤ 1500 }

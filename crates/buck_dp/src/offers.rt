@@ -15,7 +15,7 @@ pub struct Offer {
     pub assortment: u8,
 }
 
-/// What an instruction offers: each length of each assortment, in order.
+/// The logs that an instruction offers: each length of each assortment, in order. Refused only where a growth was.
 pub fn offers_of(alloc: Global, instruction: &Instruction) -> Result<Vec<Offer>, AllocError>
     ensures { IfOk result (λ offers. AreOffers instruction.now offers.items) }
 {
@@ -62,7 +62,7 @@ fn steps_of(instruction: &Instruction, offers: &[Offer]) -> (usize, usize)
 }
 
 impl Menu {
-    /// What an instruction offers.
+    /// The menu of an instruction. Refused only where a growth was.
     pub fn of(alloc: Global, instruction: &Instruction) -> Result<Menu, AllocError>
         ensures { IfOk result (IsMenu instruction.now) }
     {

@@ -227,7 +227,8 @@ impl Search {
         Ok(last)
     }
 
-    /// Searches a stem from the top end, behind its last point, down to the butt, whatever the lists hold.
+    /// Searches a stem from the top end, behind its last point, down to the butt, whatever the lists hold. Refused as
+    /// `Memory` alone.
     pub fn search(&mut self, alloc: Global, site: Site<'_>) -> Result<(), Memory>
         ghost p: { GroundParts }
         requires site { IsSite p site }

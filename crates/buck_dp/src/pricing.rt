@@ -100,7 +100,7 @@ fn class_at(
     }))
 }
 
-/// The terms of some takers in a band, in the order of the offers.
+/// The terms of some takers in a band, in the order of the offers. Refused only where a growth was.
 #[tactic(auto, using(crate::proofs::PricingLemmas::offer_real, crate::proofs::PricingLemmas::classes_few))]
 pub fn terms_of(
     alloc: Global,
@@ -189,7 +189,7 @@ fn put_quote(
 }
 
 /// Puts a price list in the place of another: the quotes of some terms, without those that one of their price kind
-/// outbids in the whole band whose log is no longer.
+/// outbids in the whole band whose log is no longer. Refused only where a growth was.
 #[inline(never)]
 pub fn put_list(
     quotes: &mut Vec<Quote>,

@@ -78,7 +78,8 @@ fn number_of(kinds: &[Known], takers: Takers) -> u16 {
     u16::try_from(kinds.len()).unwrap_or(u16::MAX)
 }
 
-/// Who takes wood of a species and of some grades.
+/// The assortments that take wood of a species and of some grades, which are known from then on. Refused only where a
+/// growth was.
 pub fn group_of(
     kinds: &mut Vec<Known>,
     sheet: &Sheet,

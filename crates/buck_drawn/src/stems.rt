@@ -568,7 +568,7 @@ fn write_lead(out: &mut String, figures: &Figures<'_>, drawn: usize) -> Result<(
     Ok(write!(out, "</p>")?)
 }
 
-/// Writes the section of the stems, where one was cut.
+/// Writes the section of the stems, if one was cut. Refused as `Memory` alone.
 pub fn write_stems(
     alloc: Global,
     out: &mut String,

@@ -157,7 +157,8 @@ pub fn sums_of_demand() -> Sums
     }
 }
 
-/// What a posting comes to, with the best cutting of its stem at base prices, if it is a cut.
+/// What a posting comes to, with the best cutting of its stem at base prices, if it is a cut. Refused as `Memory`
+/// alone.
 pub fn sums_of(
     alloc: Global,
     planner: &mut Planner,

@@ -23,7 +23,7 @@ fn place_of(base: &Sheet, stem: &Stem, log: &Log) -> usize
     base.instruction().index(class)
 }
 
-/// A count of 0 for each class.
+/// A count of 0 for each class. Refused as `Memory` alone.
 pub fn no_counts(alloc: Global, base: &Sheet) -> Result<Vec<u32>, Memory>
     ensures { IfOk result (λ counts. counts.items ≡ replicate (classes base.now.instruction) 0) }
 {

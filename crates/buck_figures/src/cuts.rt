@@ -127,7 +127,8 @@ pub fn cut_of<'a>(
     cut_under(alloc, planner, prices, place, entry)
 }
 
-/// The logs of the best cutting at base prices of a cut's stem, at base prices. The planner is that of the cut.
+/// The logs of the best cutting at base prices of a cut's stem, at base prices. The planner is that of the cut. Refused
+/// as `Memory` alone.
 pub fn unsteered_pieces(
     alloc: Global,
     planner: &Planner,

@@ -22,7 +22,7 @@ use std::alloc::Global;
 use std::collections::BTreeMap;
 use std::sync::Arc;
 
-/// A planner at base prices for which every assortment takes every grade.
+/// A planner at base prices for which every assortment takes every grade. Refused as `Memory` alone.
 pub fn grade_free_planner(alloc: Global, instruction: &Instruction) -> Result<Planner, Memory>
     ensures { IfOk result (λ planner. planner ≡ base_sheet (grade_free instruction.now)) }
 {

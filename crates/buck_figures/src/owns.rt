@@ -47,7 +47,7 @@ pub fn no_owns(alloc: Global) -> BTreeMap<u32, Own>
     BTreeMap::new(alloc)
 }
 
-/// Adds what a posting of a harvester comes to.
+/// Adds what a posting of a harvester comes to. Refused as `Memory` alone.
 pub fn add_own(
     owns: &mut BTreeMap<u32, Own>,
     harvester: u32,

@@ -10,7 +10,7 @@ use buck_dp::Planner;
 use buck_record::Memory;
 use std::alloc::Global;
 
-/// The cut at a place log by log, if there is one. The planner plans at base prices.
+/// The cut at a place log by log, if there is one. The planner plans at base prices. Refused as `Memory` alone.
 pub fn cut_at<'a>(
     alloc: Global,
     figures: &Figures<'a>,

@@ -33,7 +33,8 @@ pub struct Sums {
 }
 
 impl Sums {
-    /// What steering cost: what the best cuttings at base prices are worth above those made, both at base prices.
+    /// What steering cost, in millionths of the price unit: the worth of the best cuttings at base prices less that of
+    /// the cuttings made, also at base prices.
     pub fn cost(&self) -> u128
         ensures { result + self.now.at_base ≡ self.now.best }
     {

@@ -156,7 +156,7 @@ impl Closed {
         self.parts.instruction()
     }
 
-    /// The sheets, by version.
+    /// The sheets, by version from 0.
     pub fn sheets(&self) -> &[Arc<Sheet>]
         ensures sheets { map (λ a. a.value) result.now
             ≡ sheets_from 0 self.now.history.instruction self.now.history.sheets }
@@ -181,7 +181,7 @@ impl Closed {
         self.parts.entries()
     }
 
-    /// The targets in force at the end, class by class: those of the last demand, else the instruction's.
+    /// The targets in force at the end, in logs of each class: those of the last demand, else the instruction's.
     pub fn targets(&self) -> &[u32]
         ensures targets { result.now ≡ targets_of self.now.history.instruction self.now.history.postings }
         ensures valid { AreTargets self.now.history.instruction result.now }
@@ -189,14 +189,14 @@ impl Closed {
         self.parts.targets()
     }
 
-    /// How many logs were cut in each class, in the same order.
+    /// How many logs were cut in each class, assortment by assortment and row by row.
     pub fn counts(&self) -> &[u32]
         ensures { AreClassCounts self.now.history.instruction self.now.history.postings result.now }
     {
         self.parts.counts()
     }
 
-    /// What each seat kept, by harvester.
+    /// What each seat kept: at index k, from 0, that of harvester k + 1.
     pub fn kept(&self) -> &[Vec<Kept>]
         ensures { lists_of result.now ≡ self.now.kept }
     {

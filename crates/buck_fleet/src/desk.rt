@@ -130,7 +130,9 @@ impl<F: Fn(&Standing) -> u64 + Drop, L: Ledger> Desk<F, L> {
         Ok((reply, shown))
     }
 
-    /// Commits a plan for a seat, if its sheet is in force, as a plan that was made without the lock.
+    /// Commits a plan for a seat, if its sheet is in force, as a plan that was made without the lock. Refused as
+    /// `Full`,
+    /// `Stale` or `Memory`; the plan is then given back, and history and kept list are as before.
     pub fn commit<R: Wait>(
         &mut self,
         rt: &R,
@@ -161,6 +163,7 @@ impl<F: Fn(&Standing) -> u64 + Drop, L: Ledger> Desk<F, L> {
     }
 
     /// Commits a plan for a seat that was made under the lock, which has been held since: no sheets are compared.
+    /// Refused as `Full` or `Memory`; history and kept list are then as before.
     pub fn commit_locked<R: Wait>(
         &mut self,
         rt: &R,
@@ -189,6 +192,7 @@ impl<F: Fn(&Standing) -> u64 + Drop, L: Ledger> Desk<F, L> {
 
     /// Puts new targets in force for a seat: puts the next sheet up, adds the demand to the history and to the seat's
     /// kept list, and raises the front to the version in force. Answers also what shows that the sheet was put up.
+    /// Refused as `Full`, `Targets` or `Memory`; history and kept list are then as before.
     pub fn retarget<R: Wait>(
         &mut self,
         rt: &R,

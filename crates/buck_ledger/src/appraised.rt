@@ -61,10 +61,14 @@ fn answer_of<T: Threads + Sync, R: io::Read + Drop>(
 }
 
 /// Reads an instruction file, journals and an owner's instruction, and writes what the cuts of the journals bring under
-/// that: a line of columns, and then a line for each harvester, for each assortment and for all. The instruction file
-/// is read first, then the journals, and then the owner's instruction, each refused where it must be before the next is
-/// read; then each journal is replayed, and the first that isn't lawful is the fault. Nothing is written before the
-/// whole text is there.
+/// that: a line of columns, and then a line for each harvester, for each assortment and for all. Nothing is written
+/// before the whole text is there.
+///
+/// The instruction file is read first, then the journals, and then the owner's instruction, each refused where it must
+/// be before the next is read, as by [`read_several`](buck_engine::read_several) and
+/// [`read_own`](buck_terms::read_own). Then each journal is replayed, and the first that isn't lawful is the fault,
+/// `Replay` or `ReplayOf`. `Write` where the writer fails, which leaves a prefix of the text, and `Memory` where a
+/// growth was refused.
 #[tactic(auto, using(crate::proofs::Stopped::terms))]
 pub fn run_appraise<T: Threads + Sync, R: io::Read + Drop, W: io::Write>(
     rt: &T,

@@ -121,9 +121,12 @@ fn answer_of<T: Threads + Sync, R: io::Read>(
     Ok(text_of(alloc, &first, one, &second, other)?)
 }
 
-/// Reads an instruction file and two journals, and writes their figures side by side: a line for each figure. The files
-/// are read, and refused, as by an appraisal, and each journal is replayed with numbers of its own in the place of the
-/// instruction's. Nothing is written before the whole text is there.
+/// Reads an instruction file and two journals, and writes their figures side by side: a line for each figure. Nothing
+/// is written before the whole text is there.
+///
+/// The files are read, and refused, as by [`read_several`](buck_engine::read_several). Then each journal is replayed
+/// with numbers of its own in the place of the instruction's; the first that isn't lawful is `ReplayOf`. `Write` where
+/// the writer fails, which leaves a prefix of the text, and `Memory` where a growth was refused.
 #[tactic(auto, using(crate::proofs::Stopped::texts))]
 pub fn run_compare<T: Threads + Sync, R: io::Read, W: io::Write>(
     rt: &T,

@@ -143,7 +143,8 @@ pub(crate) fn stems_reason(
     of_items(alloc, form, source, key, wrong)
 }
 
-/// The same of a stem file.
+/// Why a stem file is refused, in lines of text, given its fault. None where nothing in the file is as the fault says.
+/// Refused where a growth was.
 pub fn stm_reason(
     alloc: Global,
     source: &Source<'_>,

@@ -201,6 +201,7 @@ pub struct Items<'a> {
 }
 
 impl<'a> Items<'a> {
+    /// Those of all bytes of a file.
     pub fn of(bytes: &'a [u8]) -> Items<'a> {
         Items { rest: bytes, at: 0 }
     }

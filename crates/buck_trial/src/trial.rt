@@ -300,6 +300,12 @@ fn write_trial<T: Threads + Sync, W: io::Write>(
 /// behind each what its draws came to. The runs are done in several threads at once: in as many as are told, from 1 to
 /// 64, or, where nothing is said, in as many as the machine has; what is written doesn't depend on it. Nothing is
 /// written before the whole table is there.
+///
+/// `Seats` comes where there are not 1 to 64 stem files, before anything is read. The instruction file is file 0, the
+/// k-th stem file is file k, and the file of targets is the last; each is read, and refused where it must be, before
+/// the next: as `Read`, `Apt`, `Stm` or `Targets`. `Full` comes where there are more stems than 1,000,000, before the
+/// file of targets is read, `Write` where the writer fails, which leaves a prefix of the table, and `Memory` where a
+/// growth was refused.
 pub fn run_trial<T: Threads + Sync, R: io::Read + Drop, W: io::Write>(
     rt: &T,
     alloc: Global,

@@ -307,7 +307,8 @@ fn write_wishes<T: Threads + Sync, W: io::Write>(
 /// line of columns, a line for the run with all wishes, and then a line for each class whose target isn't the share
 /// that it has unsteered: the run with that target moved half way to that share, by the same rule. The greatest gain
 /// comes first, and of equals the lower class; with draws by the sum of their gains. The runs are done in several
-/// threads at once, as those of [`run_trial`](crate::run_trial). Nothing is written before the whole table is there.
+/// threads at once, and the faults are those of [`run_trial`](crate::run_trial). Nothing is written before the whole
+/// table is there.
 pub fn run_wishes<T: Threads + Sync, R: io::Read + Drop, W: io::Write>(
     rt: &T,
     alloc: Global,

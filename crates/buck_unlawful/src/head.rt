@@ -27,7 +27,8 @@ impl fmt::Display for Files<'_> {
     }
 }
 
-/// Writes the head of a page up to its title. Its policy lets nothing be loaded, whatever a name says.
+/// Writes the head of a page up to its title. Its policy lets nothing be loaded, whatever a name says. Refused as
+/// `Memory` alone.
 pub fn open_head(out: &mut String) -> Result<(), Memory> {
     Ok(write!(
         out,
@@ -38,7 +39,7 @@ pub fn open_head(out: &mut String) -> Result<(), Memory> {
     )?)
 }
 
-/// Writes the head of a page from its title on.
+/// Writes the head of a page from its title on. Refused as `Memory` alone.
 pub fn close_head(out: &mut String) -> Result<(), Memory> {
     Ok(write!(
         out,

@@ -124,7 +124,7 @@ impl Sheet {
         &self.instruction
     }
 
-    /// The price in force of each class, assortment by assortment and row by row.
+    /// The price in force of each class, in price units per m³ or per piece: assortment by assortment and row by row.
     pub fn prices(&self) -> &[u32]
         ensures prices { result.now ≡ self.now.prices }
         ensures valid { IsSheet self.now }
@@ -132,8 +132,8 @@ impl Sheet {
         self.prices.as_slice()
     }
 
-    /// The price in force of a class of the instruction, at most 20,000,000, per cubic metre or per piece by its
-    /// assortment's price kind.
+    /// The price in force of a class of the instruction, in price units per m³ or per piece by its assortment's price
+    /// kind: at most 20,000,000.
     pub fn price(&self, class: Class) -> u32
         requires { IsClass self.now.instruction class }
         ensures price { result ≡ price_of self.now class }

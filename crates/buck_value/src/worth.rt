@@ -45,7 +45,7 @@ pub fn worth_of_piece(kind: u8, price: u32, cubic: u64) -> u64
     }
 }
 
-/// The row of a top diameter: the limits rise, so it is how many are at most it, less one.
+/// The row, from 0, of a top diameter in mm: the limits rise, so it is how many are at most it, less one.
 #[tactic(auto, using(crate::proofs::Rows::row_counted))]
 pub fn row_of(assortment: &Assortment, diameter: u32) -> usize
     ensures row { result ≡ row_at assortment.now diameter }
@@ -59,8 +59,8 @@ pub fn row_of(assortment: &Assortment, diameter: u32) -> usize
         .saturating_sub(1)
 }
 
-/// The row in which an assortment buys logs of a column with this top diameter in mm, or `None` where that is below its
-/// first lower limit or not below its upper diameter, or where the base price of their class is 0.
+/// The row, from 0, in which an assortment buys logs of a column with this top diameter in mm, or `None` if it is below
+/// its first lower limit or not below its upper diameter, or where the base price of their class is 0.
 pub fn bought_row(assortment: &Assortment, column: usize, diameter: u32) -> Option<usize>
     requires { column < length assortment.now.lengths }
     ensures row { IfSome result (λ row. row ≡ row_at assortment.now diameter) }
@@ -79,7 +79,7 @@ pub fn bought_row(assortment: &Assortment, column: usize, diameter: u32) -> Opti
     Some(row)
 }
 
-/// The column of a length, if the assortment has it.
+/// The column, from 0, of a length in mm, if the assortment has it.
 pub fn column_of(assortment: &Assortment, length: u32) -> Option<usize>
     ensures { result ≡ position (λ x. x == length) assortment.now.lengths }
 {

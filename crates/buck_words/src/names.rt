@@ -103,7 +103,7 @@ fn put_in_quotes(out: &mut Vec<u8>, byte: u8) -> Result<(), Memory>
     Ok(())
 }
 
-/// Puts a name as a field of a table: in quotes, each quote of it twice.
+/// Puts a name as a field of a table: in quotes, each quote of it twice. Refused as `Memory` alone.
 pub fn put_quoted(out: &mut Vec<u8>, name: &[u8]) -> Result<(), Memory>
     ensures { OnOk result (out.new.items ≡ out.old.items ++ quoted name.now) }
 {

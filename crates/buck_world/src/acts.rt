@@ -35,7 +35,8 @@ fn plan_under<F: Drop>(
     Plan::make(alloc, sheet.clone()?, stem)
 }
 
-/// What an allowed event does.
+/// Does what an allowed event does. Refused as `Full`, `Targets` or `Memory`; book, front and harvesters are then as
+/// before.
 pub fn act<F: Fn(&Standing) -> u64 + Drop>(
     alloc: Global,
     book: &mut Book<F>,

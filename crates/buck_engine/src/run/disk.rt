@@ -84,6 +84,7 @@ pub struct Disk<'a, R> {
 }
 
 impl<'a, R> Disk<'a, R> {
+    /// The files of a runtime, none opened yet. The desk keeps why the last of them was refused.
     pub fn of(rt: &'a R, alloc: Global, desk: &'a Desk) -> Disk<'a, R> {
         Disk {
             rt,

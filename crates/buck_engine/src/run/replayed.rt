@@ -36,9 +36,9 @@ fn text_in_parts<T: Threads + Sync, R: io::Read>(
     text_of_both(alloc, &both, replayed)
 }
 
-/// [`run_check`](crate::run_check), whose journal is read, and searched for an outvalued cut, in several threads at once: in as
-/// many as are told, from 1 to 64, or, where nothing is said, in as many as the machine has. What is written, and each
-/// fault, are those of [`run_check`](crate::run_check), whatever the number.
+/// [`run_check`](crate::run_check), whose journal is read, and searched for an outvalued cut, in several threads at
+/// once: in as many as are told, from 1 to 64, or, where nothing is said, in as many as the machine has. What is
+/// written, and each fault, are those of [`run_check`](crate::run_check), whatever the number.
 pub fn run_check_in_parts<T: Threads + Sync, R: io::Read, W: io::Write>(
     rt: &T,
     alloc: Global,

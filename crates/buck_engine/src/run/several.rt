@@ -127,8 +127,12 @@ fn are_few(journals: &[Journal]) -> bool
 }
 
 /// The instruction and the journals that some files have, with a run's numbers in the place of the instruction's own.
-/// The instruction file is refused where it must be before a journal is read. The postings of each journal are read in
-/// at most so many threads at once. `Full` where there are more than 1,000,000 together.
+/// The postings of each journal are read in at most so many threads at once.
+///
+/// The instruction file is file 0, the k-th journal is file k; each is read, and refused where it must be, before the
+/// next. `Read` where a reader fails or a file is longer than 67,108,864 bytes, `Apt`, and `Journal` or `JournalOf`,
+/// where the bytes of a file are refused, `Full` where there are more than 1,000,000 postings together, and `Memory`
+/// where a growth was refused.
 pub fn read_several<T: Threads + Sync, R: io::Read>(
     rt: &T,
     alloc: Global,

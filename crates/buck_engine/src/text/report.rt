@@ -290,8 +290,8 @@ pub(crate) fn report_of(alloc: Global, parts: &Parts) -> Result<Vec<u8>, TextFau
 /// ```
 ///
 /// an `ENTRY` or a `DEMAND` line for each posting in the order of their commits, then for each assortment a `CLASS`
-/// line for each of its classes, row by row, and its `DEGREE`, and the `TOTAL` once. Worths and prices are in
-/// millionths of the price unit, the degree in ten-thousandths. `Memory` where a growth was refused.
+/// line for each of its classes, row by row, and its `DEGREE`, and the `TOTAL` once. Worths are in millionths of the
+/// price unit, prices in price units, the degree in ten-thousandths. `Memory` where a growth was refused.
 pub fn report_text(alloc: Global, closed: &Closed) -> Result<Vec<u8>, TextFault>
     ensures { IfOk result (λ text. IsReport closed.now.history text.items) }
 {

@@ -14,7 +14,7 @@ use buck_record::Numbered;
 use itoa::Buffer;
 use std::io;
 
-/// Writes a text, or a prefix of it where the writer fails or takes nothing.
+/// Writes a text. `Write` where the writer fails or takes nothing: then a prefix of the text is written.
 pub fn write_text<W: io::Write>(writer: &mut W, text: &[u8]) -> Result<(), EngineFault>
     ensures { IsWritten (W.contents writer.old) (W.contents writer.new) text.now result }
 {

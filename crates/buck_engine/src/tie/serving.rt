@@ -28,7 +28,8 @@ pub struct CheckTask<'a> {
     pub apt: &'a str,
     /// The name of the journal, and then those of the stem files, one for each harvester.
     pub files: Vec<&'a str>,
-    /// How many threads may read the journal, or look for outvalued cuts, at once; where nothing is said, as many as the machine has.
+    /// How many threads may read the journal, or look for outvalued cuts, at once; where nothing is said, as many as
+    /// the machine has.
     pub threads: Option<u8>,
 }
 
@@ -91,9 +92,9 @@ fn check_opened<T: Threads + Sync, R: io::Read, W: io::Write>(
 /// Checks the journal of a task in several threads at once.
 ///
 /// The files are opened in the order of the words before one of them is read; one that can't be opened is `Read` with
-/// its number. Each fault and what is written before it are those of [`run_check_with`](crate::run_check_with), whatever
-/// the number of threads, where the instruction is read, and refused, by its own numbers, and then those of the task
-/// take their place. A task without a journal is `Read` with the number of that file.
+/// its number. Each fault and what is written before it are those of [`run_check_with`](crate::run_check_with),
+/// whatever the number of threads, where the instruction is read, and refused, by its own numbers, and then those of
+/// the task take their place. A task without a journal is `Read` with the number of that file.
 pub fn serve_check<T: Threads + Sync, O: Open, W: io::Write>(
     rt: &T,
     alloc: Global,
