@@ -53,6 +53,7 @@ pub(crate) fn follow(
         } else {
             let log = log_at(&search.market, rank, i);
             logs.push(log)?;
+            // A trim need not be a multiple of the module, so the next log starts at the first point after the end.
             i = point_after(search.market.sheet(), site.stem, &log);
         }
     }

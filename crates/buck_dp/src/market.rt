@@ -229,7 +229,9 @@ impl Market {
         if slot >= notes.len() {
             notes.resize(slot + 1, 0)?;
         }
+        // Where memory runs out below, the note names no head or another row's: `find` looks at whose row it is.
         notes[slot] = self.heads.len();
+        // Room for the head first, so that no cells are left without one.
         self.heads.reserve(1)?;
         let quotes = self.quotes[at].list.as_slice();
         let head = Head {

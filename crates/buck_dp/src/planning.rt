@@ -92,8 +92,10 @@ impl Search {
         let mut grades = site.profile.grades(top - 1, top);
         let mut part = run_before(site, market, top, grades)?;
         let first = part.first;
+        // The lowest top is `first + 1`: no log of these tops starts before `low`.
         let low = (first + 1).saturating_sub(market.menu().most_steps);
         while part.first > low {
+            // More grades give wood no taker: no log starts here or before, and the part isn't listed.
             if part.group.takers.is_empty() {
                 return Ok(first);
             }
@@ -132,6 +134,7 @@ impl Search {
         let diameters = site.profile.diameters();
         let market = &mut self.market;
         let far = market.menu().most_steps;
+        // Tops of one diameter share a row. The loop over them holds slices alone, which stay in registers.
         let values = self.values.as_mut_slice();
         let choices = self.choices.as_mut_slice();
         let mut top = past;
@@ -219,6 +222,8 @@ impl Search {
         let fitting = past.min(site.fit).max(last);
         let nearest = fitting.min(full).max(last);
         let some = nearest.min(least).max(last);
+        // From the top down: tops behind which a trim may not fit, tops whose logs all start in the nearest part, tops
+        // whose logs start in several, and tops without logs, which want no parts.
         self.settle_parts(alloc, site, past, fitting)?;
         self.settle_near(alloc, site, near, fitting, nearest)?;
         self.settle_parts(alloc, site, nearest, some)?;

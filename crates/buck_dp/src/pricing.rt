@@ -180,6 +180,7 @@ fn put_quote(
     if is_led(*leader, quote) {
         return Ok(());
     }
+    // Below 36 mm a millimetre of a log may be less than its volume is rounded by, so no quote per cubic metre leads.
     if quote.term.trim <= leader.term.trim && (quote.term.kind != 1 || ask.band.thinnest >= 36) {
         *leader = quote;
         drop_led(list, &quote);
@@ -203,6 +204,7 @@ pub fn put_list(
         → AreQuotes sheet.now offers ask quotes.new.items) }
 {
     quotes.clear();
+    // Leaders of no quote: at price 0 they outbid nobody, and no trim is above theirs.
     let mut piece = Quote::default();
     piece.term.trim = u32::MAX;
     let mut cubic = piece;

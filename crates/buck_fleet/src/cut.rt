@@ -71,6 +71,7 @@ impl<F: Fn(&Standing) -> u64 + Drop, L: Ledger> Fleet<F, L> {
                 break
             };
             let version = shown.version();
+            // A plan under a sheet that isn't newer would be stale again: the lock is next.
             if 1 < attempt && version <= before {
                 break;
             }

@@ -109,6 +109,7 @@ impl<F: Fn(&Standing) -> u64 + Drop, L: Ledger> Desk<F, L> {
     {
         let Seat { harvester, own, .. } = seat;
         let Desk { book, calls, .. } = self;
+        // All that can be refused comes first: the commit and what follows take no memory.
         let (stem, cutting, shown) = match prepare_rest(rt, board, &mut own.kept, &plan, &ready) {
             Ok(made) => made,
             Err(_) => return Err(plan),
@@ -212,6 +213,7 @@ impl<F: Fn(&Standing) -> u64 + Drop, L: Ledger> Desk<F, L> {
     {
         let Seat { harvester, own, .. } = seat;
         let Desk { book, calls, .. } = self;
+        // All that can be refused comes first: the commit and what follows take no memory.
         own.kept.reserve(1)?;
         let copy = targets.clone()?;
         let ready = book.prepare_demand(alloc, targets)?;

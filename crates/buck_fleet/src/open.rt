@@ -71,6 +71,7 @@ fn seat_all<L: Ledger>(
     let mut kept = Vec::with_capacity(alloc, count as usize)?;
     let mut share = share;
     let mut places = places;
+    // Together the seats have all 64 parts, which the audit of `close` wants.
     let mut parts = u64::from(MOST_SEATS - count) + 1;
     while let Some(place) = places.pop() {
         let harvester = seats.len() as u32 + 1;

@@ -54,6 +54,7 @@ fn first_stop<L: Ledger>(seats: &[Seat<L>]) -> Option<RunFault>
 {
     let first = seats.iter().min_by_key(|seat| match seat.stopped {
         Some(_) => seat.harvester,
+        // Behind every harvester: such a seat is the first only where none was stopped.
         None => MOST_SEATS + 1,
     })?;
     first.stopped

@@ -229,6 +229,7 @@ impl<'a, R: Files> Renewed<'a, R> {
             file: mut made,
             name,
         } = part;
+        // Up to the rename the old text stands, so a write that fails here costs nothing.
         if let Err(error) = write_synced(&mut made, text) {
             let _ = self.rt.remove_file(name.as_str());
             return Err(error);
@@ -253,6 +254,7 @@ impl<'a, R: Files> Renewed<'a, R> {
     fn put(&mut self, text: &[u8]) -> io::Result<usize>
         ensures { WritesAtMost result text.now }
     {
+        // Only the first write replaces the old text; each further one goes behind it.
         let way = mem::replace(&mut self.way, Way::Further);
         match way {
             Way::Beside(file) => self.write_beside(file.as_str(), text),
@@ -288,6 +290,7 @@ impl<'a, R: Files> Disk<'a, R> {
         if !found.is_file() {
             return Way::Further;
         }
+        // A new file would take one name of several, and leave the others with the old text.
         if found.nlink() > 1 {
             return Way::Emptied;
         }

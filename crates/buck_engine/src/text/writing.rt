@@ -144,6 +144,7 @@ fn write_check_line<W: io::Write>(writer: &mut W, fault: &CheckFault) -> Result<
 fn write_fault_line<W: io::Write>(writer: &mut W, fault: &EngineFault) -> Result<(), EngineFault>
     ensures { IsWritten (W.contents writer.old) (W.contents writer.new) (fault_line fault.now) result }
 {
+    // Word by word: a text made first would take memory, which may be what ran out.
     match fault {
         EngineFault::Read { file } => write_line(writer, b"read fault", &[u64::from(*file)]),
         EngineFault::Write => write_text(writer, b"write fault\n"),

@@ -110,6 +110,7 @@ pub(crate) fn first_by_size<T: Threads + Sync>(
             (IsFound case.entry.now (from + start) (from + start + length part.now)) }
     { first_doubtful(alloc, case, from + start, from + start + part.len()) };
     let found = thread::map_chunks(rt, alloc, &case.postings()[from..], size, &find)?;
+    // In the journal's order: the first find is the least, and what is behind it doesn't count.
     for k in 0..found.len() {
         let Ok(first) = &found[k] else {
             return Err(Memory);

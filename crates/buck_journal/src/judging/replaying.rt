@@ -113,6 +113,7 @@ fn judged(case: &Case<'_, '_>, ordered: Ordered, doubtful: Option<usize>) -> Res
     let Some(at) = doubtful else {
         return ordered.outcome;
     };
+    // Of one posting all other faults come before this one.
     if at >= ordered.until {
         return ordered.outcome;
     }
@@ -204,6 +205,7 @@ fn size_of_part(count: usize, threads: usize) -> usize
     requires few { count ≤ MOST_POSTINGS }
     ensures { 0 < result }
 {
+    // A tenth more than its share: the thread that walks in order searches so much less.
     count * 11 / 10 / threads + FEWEST
 }
 
@@ -253,6 +255,7 @@ fn walk_beside_search<T: Threads + Sync>(
             )
         },
     );
+    // An earlier find decides, even where a later part was refused memory.
     let (ordered, first) = first?;
     if first.is_some() {
         return Ok((ordered, first));

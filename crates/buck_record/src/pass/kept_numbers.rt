@@ -83,6 +83,7 @@ fn append_each(text: &[u8], out: &mut Vec<u32>) -> bool
                     rest = &rest[16..];
                 }
                 None => {
+                    // Eight steps of one word or white byte, so that a text of other words isn't tried in vain at each.
                     single = 8;
                 }
             }
@@ -106,6 +107,7 @@ pub fn numbers_into(text: &[u8], held: &mut Vec<u32>) -> Result<bool, AllocError
     ensures emptied { OnErr result (held.new.items ≡ []) }
 {
     held.clear();
+    // A number takes a digit and a white byte at least: with this room none of the pushes below grows the list.
     held.reserve(text.len() / 2 + 1)?;
     Ok(append_each(text, held))
 }

@@ -68,6 +68,7 @@ fn four_threes(groups: u32x4) -> Option<[u32; 4]>
     let a = low_byte(digits);
     let rest = byte_up(digits);
     let b = low_byte(rest);
+    // It holds the last byte too, so it is a digit only where that is a blank.
     let c = byte_up(rest);
     if !are_digits(greater(greater(a, b), c)) {
         return None;

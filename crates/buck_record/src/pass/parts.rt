@@ -31,6 +31,7 @@ fn cut_before(slot: Slot, text: &[u8], near: usize) -> Option<(&[u8], &[u8])>
     ensures { IfSome result (λ w. Joins text.now w.0.now w.1.now) }
 {
     let mut from = near;
+    // A text with no such item near is left to one thread, rather than searched to its end.
     for _ in 0..TRIES {
         let Some(end) = next_tilde(text, from) else {
             return None;
@@ -59,5 +60,6 @@ pub fn two_parts(slot: Slot, text: &[u8], threads: usize) -> Option<(&[u8], &[u8
     if text.len() < FEWEST {
         return None;
     }
+    // Divided first: so no product is above the length.
     cut_before(slot, text, text.len() / threads * (threads / 2))
 }

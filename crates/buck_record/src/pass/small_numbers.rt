@@ -83,6 +83,7 @@ pub fn append_numbers(most: u16, text: &[u8], out: &mut Vec<u16>) -> bool
                     rest = &rest[16..];
                 }
                 None => {
+                    // Eight steps of one word or white byte, so that a text of other words isn't tried in vain at each.
                     single = 8;
                 }
             }

@@ -51,6 +51,8 @@ fn stems_in_parts<T: Threads + Sync>(
             ensures { IfOk result (λ o. IfSome o (λ stems. HasStems back.entry.now stems.items)) }
         { stems_in_parts(rt, alloc, back, threads - threads / 2) },
     );
+    // Where a part isn't in the plain order, the whole file is read by its items: which of its refusals comes first
+    // depends on all parts.
     let Some(mut stems) = first? else {
         return Ok(None);
     };

@@ -54,6 +54,7 @@ fn next_samples<'a>(room: &mut Vec<u16>, text: &'a [u8]) -> Result<Option<&'a [u
         return Ok(None);
     };
     room.clear();
+    // A list for the whole file, from which each stem copies: one of its own would keep room for twice its samples.
     room.reserve(rest.len() / 2 + 1)?;
     if !append_numbers(SAMPLES.high as u16, rest, room) {
         return Ok(None);
@@ -139,6 +140,7 @@ pub(crate) fn stems_of(alloc: Global, body: &[u8]) -> Result<Option<Vec<Stem>>, 
     let mut room = Vec::new(alloc);
     let mut stems = Vec::new(alloc);
     let mut rest = body;
+    // Each stem takes bytes off the text, so there is a turn for each.
     for _ in 0..body.len() {
         if is_done(rest) {
             return Ok(Some(stems));

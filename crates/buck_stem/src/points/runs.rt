@@ -52,6 +52,7 @@ fn push_next(runs: &mut Runs, stem: &Stem, step: u32) -> Result<(), AllocError>
         let mask = Grades::none().with(stem.grade_at(at * step));
         return push_run(runs, mask, end as usize);
     }
+    // A step in which the grade changes has several, and is a run by itself.
     push_run(
         runs,
         Grades::of(stem.grades_between(at * step, (at + 1) * step)),
