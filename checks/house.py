@@ -18,8 +18,8 @@
 - Each caller and each edit says what its wrong body does; docs/WRONG_BODIES.md is as checks/wrong_bodies.py writes it.
 - Documents have each habit of HABITS no more often than stands there, and *what* at most MOST_WHAT times in 1,000 words,
   the pages of FORMS apart.
-- Each public number of a product crate, a constant, a field or one in a variant, has a doc comment that says its unit,
-  its range, from where it counts, or what it counts, in one of the words of UNITS.
+- Each public item of a product crate has a doc comment. That of each public number, a constant, a field or one in a
+  variant, says its unit, its range, from where it counts, or what it counts, in one of the words of UNITS.
 - No line of src/ and specs/ of a product crate is wider than 120 columns, imports aside, but for as many as WIDE allows
   each crate.
 
@@ -381,6 +381,18 @@ def public_numbers(lines):
         doc = ""
 
 
+def wrong_docs():
+    """Public items of product crates without a doc comment."""
+    for crate in product():
+        for words, lines in files_in(crate, "src", ".rt"):
+            is_said = False
+            for number, line in enumerate(lines, 1):
+                item = re.match(r"\s*pub (?:const fn|fn|struct|enum|trait|const|type) (\w+)", line)
+                if item and not is_said:
+                    yield f"crates/{crate}/src/{'/'.join(words)}.rt, line {number}: {item[1]} has no doc comment"
+                is_said = line.strip().startswith("///") or is_said and line.strip().startswith("#[")
+
+
 def wrong_units():
     """Public numbers of product crates of which no doc comment says the unit, the range or what they count."""
     for crate in product():
@@ -396,7 +408,7 @@ def main():
         with open(os.path.join(TOP, ARCHITECTURE), "w") as page:
             page.write(text)
     looks = (wrong_names, wrong_pages, wrong_map, wrong_copies, wrong_links, wrong_files, wrong_words, wrong_citations)
-    looks += (wrong_habits, wrong_units, wrong_widths)
+    looks += (wrong_habits, wrong_docs, wrong_units, wrong_widths)
     wrong = [line for look in looks for line in look()] + wrong_bodies.looked_at()[1]
     for line in wrong:
         print(line)

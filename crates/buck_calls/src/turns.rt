@@ -89,7 +89,7 @@ fn texts_by<'x, F: Fn(&Standing) -> u64 + Drop>(
     }
 }
 
-/// The same by a named rule.
+/// The texts of harvesters that take turns by a named rule.
 fn texts_of<'x>(
     alloc: Global,
     apt: &mut &'x [u8],

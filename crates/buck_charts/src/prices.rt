@@ -20,7 +20,7 @@ struct Off {
     price: u32,
     /// How far its logs lie off, times the sum of the targets; below where they are too many.
     gap: Difference,
-    /// The same in tenths of a log.
+    /// How far its logs lie off, in tenths of a log.
     tenths: u128,
     ghost bought: { 0 < base },
 }

@@ -9,7 +9,7 @@ standard input.";
 /// The version, and the logic by which the toolchain proved it.
 const VERSION: &str = "0.1.0 (logic dac8208d650f15bf)";
 
-/// The same with the commit, which `git archive` writes between the dollars and in their place.
+/// The version with the commit, which `git archive` writes between the dollars and in their place.
 const VERSION_OF_COMMIT: &str = "0.1.0 (commit $Format:%h$, logic dac8208d650f15bf)";
 
 /// What is said of the version: of a program that was built from an archive of a commit, that commit too.
@@ -59,7 +59,7 @@ Exit statuses:
 After 1, 3 and 5 one line on standard error says what went wrong; explain says
 it in words.";
 
-/// The same of a check.
+/// What comes out of a check, and how it ends.
 pub(crate) const CHECK: &str =
     "Prints LAWFUL and the number of postings where each cutting is one that none
 outvalues under the prices in force, and each price keeps the price relation
@@ -242,7 +242,7 @@ Exit statuses:
 After 1, 3 and 5 one line on standard error says what went wrong; explain says
 it in words.";
 
-/// The same of a report.
+/// What comes out of a report, and how it ends.
 pub(crate) const REPORT: &str =
     "Reads and checks the journal as check does. Where it is lawful, prints the
 report that the fleet printed which wrote it, byte for byte: an ENTRY or a
@@ -287,7 +287,7 @@ Exit statuses:
 After 1, 3, 4 and 5 one line on standard error says what went wrong; explain
 says it in words.";
 
-/// The same of a table.
+/// What comes out of a table, and how it ends.
 pub(crate) const TABLE: &str =
     "Prints CSV: a first line of the columns, and then a line for each class, posting
 or log, for each assortment at each point of its degree (degrees) or in all
@@ -328,7 +328,7 @@ Exit statuses:
 pub(crate) const RULE: &str = "The price rule: steady, linear, step or
 root";
 
-/// The same at length.
+/// What a rule does, at length.
 pub(crate) const RULES: &str =
     "How prices follow what was cut: steady not at all, linear by how far a
 class is off its target, step by the whole span, root by the part
@@ -342,7 +342,7 @@ or root";
 /// What stands in the place of an instruction's period.
 pub(crate) const PERIOD: &str = "Stems in a period, 1 to 1000; else the instruction's own";
 
-/// The same of its limit.
+/// What stands in the place of an instruction's limit.
 pub(crate) const LIMIT: &str = "How far prices may move, per mille, 0 to 1000; else the
 instruction's own";
 
@@ -374,14 +374,14 @@ as the machine has, or 4 where it doesn't say";
 /// What turns are.
 pub(crate) const IN_TURN: &str = "One stem each, round by round, in one thread";
 
-/// The same at length.
+/// What turns are, at length.
 pub(crate) const IN_TURNS: &str = "One stem each, round by round, in the order of the files; who has
 none left is passed over. One thread, and the same history each time";
-/// The same of two journals.
+/// What stands in the place of the period, where two journals are compared.
 pub(crate) const COMPARED_PERIODS: &str = "Stems in a period, 1 to 1000, or one number for each
 journal; else the instruction's own";
 
-/// The same.
+/// What stands in the place of the limit, where two journals are compared.
 pub(crate) const COMPARED_LIMITS: &str =
     "How far prices may move, per mille, 0 to 1000, or one number
 for each journal; else the instruction's own";

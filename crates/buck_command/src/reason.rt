@@ -389,7 +389,7 @@ impl<'a, A: Known> Inquest<'a, A> {
         }
     }
 
-    /// The same of a fault that any run may have.
+    /// Why a run failed by a fault that any run may have.
     fn run_reason(&self, alloc: Global, fault: &EngineFault) -> Result<Option<String>, Memory> {
         match fault {
             EngineFault::Read { file } => self.read_reason(alloc, *file as usize),

@@ -24,7 +24,7 @@ pub(crate) struct Subject<'a> {
     pub(crate) rule: Option<NamedRule>,
     /// The numbers that are put in the place of the instruction's own, where there are such.
     pub(crate) settings: Option<&'a Settings>,
-    /// The same for a second journal, where it has numbers of its own.
+    /// The numbers that are put in the place of the instruction's own for a second journal, where it has such.
     pub(crate) second: Option<&'a Settings>,
 }
 
@@ -81,7 +81,7 @@ impl<'a> Subject<'a> {
         })
     }
 
-    /// The same with the contract of an owner behind them.
+    /// What an appraisal is about: journals, and behind them the instruction of an owner.
     fn of_appraisal(alloc: Global, task: &'a AppraiseTask<'a>) -> Result<Subject<'a>, AllocError> {
         let journals = task.journals.as_slice();
         let mut subject = Subject::of_journals(alloc, task.apt, journals, &task.settings)?;

@@ -33,7 +33,7 @@ pub enum Work<'a> {
     Live(LiveTask<'a>),
     /// Rules, periods and limits are to be compared, in several threads at once.
     Sweep(SweepTask<'a>),
-    /// The same with other targets, or with orders that are drawn.
+    /// Rules, periods and limits are to be compared with other targets, or with orders that are drawn.
     Trial(TrialTask<'a>),
     /// It is to be found what each target costs.
     Wishes(WishesTask<'a>),

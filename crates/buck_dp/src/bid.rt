@@ -8,7 +8,7 @@ use std::marker::Model;
 /// The highest rank: that of the first in the tie order. Ranks are 0 to 1,023; 0 is that of no log.
 pub const HIGHEST_RANK: u32 = 1023;
 
-/// So many ranks there are. A rank stands in the last digits of a bid's number, which hold so many values.
+/// Number of ranks. A rank is the last digit of a bid's number, to this base.
 const RANKS: u64 = HIGHEST_RANK as u64 + 1;
 
 /// What a log brings: its worth in millionths of the price unit, and its rank among the logs that start where it does,
@@ -64,7 +64,7 @@ impl Bid {
         (self.key % RANKS) as u32
     }
 
-    /// The same worth without the rank.
+    /// The bid of this worth without its rank.
     pub fn without_rank(self) -> Bid
         ensures { result ≡ bid_of self.worth 0 }
     {

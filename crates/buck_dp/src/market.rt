@@ -16,16 +16,16 @@ use std::alloc::{AllocError, Global};
 use std::marker::Model;
 use std::sync::Arc;
 
-/// Once there are more terms in all price lists, these are dropped: 0.9 MB with their quotes.
+/// Number of terms in all price lists above which these are dropped: 0.9 MB with their quotes.
 const TERMS: usize = 16_384;
 
-/// Once there are more cells, all rows are dropped: 1.5 MB.
+/// Number of cells above which all rows are dropped: 1.5 MB.
 const CELLS: usize = 36_352;
 
-/// So are they once there are more of them: 0.4 MB.
+/// Number of rows above which all rows are dropped: 0.4 MB.
 const ROWS: usize = 16_384;
 
-/// Once so many kinds of wood were met, all that was found is dropped before the next stem.
+/// Number of kinds of wood from which on all that was found is dropped before the next stem.
 const KINDS: usize = 64;
 
 /// Number of top diameters, 0 to 1,500 mm in whole mm.

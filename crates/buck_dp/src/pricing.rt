@@ -251,7 +251,7 @@ impl Band {
         }
     }
 
-    /// The same with each limit of an assortment: no row of that starts or ends in what is left.
+    /// Cuts off what lies beyond each limit of an assortment: no row of that starts or ends in what is left.
     fn cut_by(&mut self, assortment: &Assortment, diameter: u32)
         requires inside { (self.old.thinnest ≤ diameter) × (diameter < self.old.past) }
         ensures inside { (self.new.thinnest ≤ diameter) × (diameter < self.new.past) }

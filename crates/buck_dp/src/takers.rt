@@ -14,7 +14,7 @@ pub struct Takers {
 }
 
 impl Takers {
-    /// Whether nobody is among them.
+    /// Whether the set is empty.
     pub fn is_empty(self) -> bool
         ensures { IsTrue result → (a : ℕ) → IsTaker self a → ⊥ }
     {

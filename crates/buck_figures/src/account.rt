@@ -18,9 +18,9 @@ use std::alloc::Global;
 #[derive(Drop)]
 pub(crate) struct Account {
     pub tally: Tally,
-    /// One for each assortment.
+    /// The logs cut, for each assortment.
     pub parts: Vec<Part>,
-    /// The same of the best cuttings at base prices.
+    /// The logs of the best cuttings at base prices, for each assortment.
     pub unsteered_parts: Vec<Part>,
     pub longest: Greatest,
     pub dearest: Greatest,

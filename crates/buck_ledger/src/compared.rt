@@ -42,7 +42,7 @@ const OF_ALL: [&[u8]; 11] = [
     b"least_degree",
 ];
 
-/// Those of an assortment.
+/// The names of the figures of an assortment.
 const OF_ASSORTMENT: [&[u8]; 9] = [
     b"logs",
     b"unsteered_logs",
@@ -55,7 +55,7 @@ const OF_ASSORTMENT: [&[u8]; 9] = [
     b"length_degree",
 ];
 
-/// Those of a harvester.
+/// The names of the figures of a harvester.
 const OF_HARVESTER: [&[u8]; 7] = [
     b"stems",
     b"logs",

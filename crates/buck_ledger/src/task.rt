@@ -22,8 +22,9 @@ pub struct AppraiseTask<'a> {
 /// What the words of the command line ask of a comparison.
 #[derive(Drop)]
 pub struct CompareTask<'a> {
-    /// The numbers that are put in the place of the instruction's own for the first journal, and for the second.
+    /// The numbers that are put in the place of the instruction's own for the first journal.
     pub first: Settings,
+    /// The numbers that are put in the place of the instruction's own for the second journal.
     pub second: Settings,
     /// The name of the instruction file.
     pub apt: &'a str,

@@ -17,7 +17,7 @@ pub struct Marks {
 }
 
 impl Marks {
-    /// Those of no stem.
+    /// The marks of no stem.
     pub fn none(alloc: Global) -> Marks {
         Marks {
             numbers: Vec::new(alloc),
@@ -25,7 +25,7 @@ impl Marks {
         }
     }
 
-    /// Adds those of further stems. Refused as `Memory` alone; what was added before then stays.
+    /// Adds the marks of further stems. Refused as `Memory` alone; what was added before then stays.
     pub fn add(&mut self, stems: &[Stem]) -> Result<(), Memory>
         ensures numbers { OnOk result (self.new.numbers.items
             ≡ self.old.numbers.items ++ map (λ (s : StemParts). s.number) stems.now) }

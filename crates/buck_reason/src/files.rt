@@ -122,7 +122,7 @@ pub fn apt_reason(
     of_items(alloc, &form, source, key, wrong)
 }
 
-/// The same of stems, in a file or in a request.
+/// Why stems are refused, in a file or in a request, in lines of text, given the fault.
 pub(crate) fn stems_reason(
     alloc: Global,
     form: &Form,

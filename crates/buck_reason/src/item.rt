@@ -201,12 +201,12 @@ pub struct Items<'a> {
 }
 
 impl<'a> Items<'a> {
-    /// Those of all bytes of a file.
+    /// The items of all bytes of a file.
     pub fn of(bytes: &'a [u8]) -> Items<'a> {
         Items { rest: bytes, at: 0 }
     }
 
-    /// Those from a byte on.
+    /// The items from a byte on, by its index from 0.
     pub fn from(bytes: &'a [u8], at: usize) -> Items<'a> {
         match bytes.split_at_checked(at) {
             Some((_, rest)) => Items { rest, at },

@@ -22,7 +22,7 @@ pub enum Count {
     One,
     /// One, as great as there are names.
     Names,
-    /// As many as its slots.
+    /// One for each of its slots.
     Slots,
     /// 1 to this many.
     UpTo(usize),

@@ -33,7 +33,7 @@ fn samples_apart(found: &[u16], wanted: &[u16]) -> Option<Apart> {
     None
 }
 
-/// The same of zones, each of which is two numbers of its item.
+/// Where two lists of zones first differ, each of which is two numbers of its item.
 fn zones_apart(found: &[(u32, u8)], wanted: &[(u32, u8)]) -> Option<Apart> {
     let mut place = 1usize;
     for (one, other) in found.iter().zip(wanted) {

@@ -31,7 +31,7 @@ impl Grades {
         Grades { bits: 0 }
     }
 
-    /// Those of a mask.
+    /// The grades of a mask: bit g - 1 for grade g.
     #[inline(always)]
     pub fn of(mask: u8) -> Grades
         ensures { result ≡ mask }
@@ -39,7 +39,7 @@ impl Grades {
         Grades { bits: mask }
     }
 
-    /// The mask.
+    /// The mask: bit g - 1 for grade g.
     #[inline(always)]
     pub fn mask(self) -> u8
         ensures { result ≡ self }

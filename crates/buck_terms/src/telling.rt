@@ -55,7 +55,7 @@ fn write_line<W: io::Write, F: Numbered>(
     write_text(writer, b"\n")
 }
 
-/// The same. False where the writer failed, after a prefix of the line.
+/// Writes the line of a fault. False where the writer failed, after a prefix of the line.
 fn write_numbered<W: io::Write, F: Numbered>(writer: &mut W, kind: &[u8], fault: &F) -> bool
     ensures { TellsWritten (W.contents writer.old) (W.contents writer.new)
         (numbered_line kind.now [] (F.numbers fault.now)) result }

@@ -8,7 +8,7 @@ use std::alloc::{AllocError, Global};
 /// The items of the whole in which an owner's instruction may not differ: the module and the number of assortments.
 const WHOLE: [u16; 2] = [901, 910];
 
-/// Those of an assortment: species, grades, lengths and trim.
+/// The items of an assortment in which it may not differ: species, grades, lengths and trim.
 const PART: [u16; 4] = [912, 913, 916, 919];
 
 /// A fault line, and the words of the row that it fits.

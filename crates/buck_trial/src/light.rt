@@ -45,7 +45,7 @@ fn cut_by_rule<F: Fn(&Standing) -> u64 + Drop>(
     }
 }
 
-/// The same by the rule of a name.
+/// Cuts lists of stems in turn by a named rule.
 pub(crate) fn cut_by_name(
     alloc: Global,
     instruction: &Arc<Instruction>,

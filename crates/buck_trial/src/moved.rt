@@ -29,7 +29,7 @@ pub(crate) struct Asked<'a> {
 }
 
 impl<'a> Asked<'a> {
-    /// Those of the assortment at a place, out of all classes.
+    /// The numbers of the assortment at an index, from 0, out of those of all classes.
     pub(crate) fn of(
         instruction: &Instruction,
         targets: &'a [u32],

@@ -104,7 +104,7 @@ fn top_of(stem: &Stem, log: &Log) -> u32
     stem.diameter_at(end_within(stem, log))
 }
 
-/// The same, from the stem's tables for a module where there are any.
+/// The diameter where the length of a log ends, from the stem's tables for a module where there are any.
 fn top_in(step: u32, stem: &Stem, tables: Option<&Profile<'_>>, log: &Log) -> u32
     requires step { 0 < step }
     requires tables { IfSome tables (λ q. q.now ≡ profile_of stem.now step) }

@@ -169,6 +169,7 @@ impl fmt::Display for Metres {
 /// How far a number lies above another one, or below it.
 #[derive(Clone, Copy)]
 pub struct Difference {
+    /// Whether the number lies below the other one.
     pub below: bool,
     /// How far, in the unit of both numbers.
     pub size: u128,
@@ -245,7 +246,7 @@ pub struct Several {
 }
 
 impl Several {
-    /// So many of what a word says.
+    /// This number of things of this name.
     pub fn of(n: u128, word: &'static str) -> Several {
         Several { n, word }
     }

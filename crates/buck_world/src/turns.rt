@@ -62,7 +62,7 @@ pub fn is_answered(stage: &Stage) -> bool
     matches!(stage, Stage::Answered)
 }
 
-/// Whether nobody is answered.
+/// Whether no harvester is answered.
 pub fn is_nobody_answered(harvesters: &[Harvester]) -> bool
     ensures { IsTrue result
         ↔ ((h : ℕ) → (1 ≤ h) × (h ≤ length harvesters.now)

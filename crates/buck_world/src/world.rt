@@ -45,7 +45,7 @@ impl<F> Model for World<F> {
     ghost invariant = { λ w. Keeps (ruled w.book w.front w.harvesters.items) };
 }
 
-/// So many harvesters that begin: idle, with version 0 seen and no stale attempt.
+/// As many harvesters as asked for, who begin: idle, with version 0 seen and no stale attempt.
 fn newcomers(alloc: Global, harvesters: u32) -> Result<Vec<Harvester>, Memory>
     ensures { IfOk result (λ all. all.items ≡ replicate harvesters newcomer) }
 {

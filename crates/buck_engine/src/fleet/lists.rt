@@ -110,7 +110,7 @@ pub fn read_input<R: io::Read>(
     Ok(Input { instruction, lists })
 }
 
-/// The same with a run's numbers in the place of the instruction's own, by which it is read and refused.
+/// [`read_input`], with a run's numbers in the place of the instruction's own, by which it is read and refused.
 #[tactic(auto, using(crate::proofs::Numbers::says_with))]
 pub(crate) fn read_input_with<R: io::Read>(
     alloc: Global,

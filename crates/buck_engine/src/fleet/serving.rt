@@ -63,7 +63,8 @@ pub fn serve_fleet<T: Threads + Wait + Sync, L: Onlooker + Sync, O: Open + Make,
     let named = task.rule;
     let rule = Rule::new(move |s: &Standing| named.price(s));
     let (mut apt, mut stems) = open_inputs(alloc, opener, task.apt, task.stms.as_slice())?;
-    // OUT after the inputs, since it may be none of them, and before they are read: a run that cannot write ends at once.
+    // OUT after the inputs, since it may be none of them, and before they are read: else a run that can't write would
+    // work in vain.
     let journal = make_journal(opener, task.journal)?;
     let stems = stems.as_mut_slice();
     match task.order {

@@ -36,7 +36,7 @@ fn journal_in(alloc: Global, bytes: &[u8]) -> Result<Journal, EngineFault>
     }
 }
 
-/// The same, its postings read in at most so many threads at once.
+/// [`journal_in`], its postings read in at most so many threads at once.
 fn journal_in_parts<T: Threads + Sync>(
     rt: &T,
     alloc: Global,
@@ -67,7 +67,7 @@ pub(crate) fn read_postings<R: io::Read>(
     journal_in(alloc, bytes.as_slice())
 }
 
-/// The same, its postings read in several threads at once: in as many as are told, or as the machine has.
+/// [`read_postings`], in several threads at once: in as many as are told, or as the machine has.
 pub(crate) fn read_postings_in_parts<T: Threads + Sync, R: io::Read>(
     rt: &T,
     alloc: Global,
@@ -110,7 +110,7 @@ pub(crate) fn read_own<R: io::Read>(
     })
 }
 
-/// The same, the postings read in several threads at once: in as many as are told, or as the machine has.
+/// [`read_own`], the postings read in several threads at once: in as many as are told, or as the machine has.
 pub(crate) fn read_own_in_parts<T: Threads + Sync, R: io::Read>(
     rt: &T,
     alloc: Global,
@@ -142,7 +142,7 @@ pub(crate) fn replay_both(alloc: Global, both: &Both) -> Result<(), ReplayFault>
     replay(alloc, &both.instruction, &both.journal)
 }
 
-/// The same, found in several threads at once: in as many as are told, or as the machine has.
+/// [`replay_both`], in several threads at once: in as many as are told, or as the machine has.
 pub(crate) fn replay_both_in_parts<T: Threads + Sync>(
     rt: &T,
     alloc: Global,

@@ -30,7 +30,7 @@ impl Node {
 /// The name by which the system has the file behind standard input.
 const INPUT: &str = "/proc/self/fd/0";
 
-/// The same of standard input, output and error.
+/// The names by which the system has the files behind standard input, output and error.
 const STANDARD: [&str; 3] = [INPUT, "/proc/self/fd/1", "/proc/self/fd/2"];
 
 /// Whether a folder stands behind standard input, of which nothing can be read.

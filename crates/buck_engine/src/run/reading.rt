@@ -68,7 +68,7 @@ pub(crate) fn stems_in(alloc: Global, bytes: &[u8], file: u32) -> Result<Vec<Ste
     }
 }
 
-/// The same, read in at most so many threads at once.
+/// [`stems_in`], read in at most so many threads at once.
 fn stems_in_parts<T: Threads + Sync>(
     rt: &T,
     alloc: Global,
@@ -96,7 +96,7 @@ pub fn read_instruction<R: io::Read>(alloc: Global, apt: &mut R) -> Result<Instr
     instruction_in(alloc, bytes.as_slice())
 }
 
-/// The same with a run's numbers in the place of the instruction's own, by which it is read and refused.
+/// [`read_instruction`], with a run's numbers in the place of the instruction's own, by which it is read and refused.
 #[tactic(auto, using(crate::proofs::Numbers::says_with))]
 pub(crate) fn read_instruction_with<R: io::Read>(
     alloc: Global,
@@ -124,7 +124,7 @@ pub(crate) fn read_stems<R: io::Read>(
     stems_in(alloc, bytes.as_slice(), file)
 }
 
-/// The same, read in at most so many threads at once.
+/// [`read_stems`], in at most so many threads at once.
 pub(crate) fn read_stems_in_parts<T: Threads + Sync, R: io::Read>(
     rt: &T,
     alloc: Global,

@@ -32,7 +32,7 @@ fn prices_in<'j>(instruction: &Instruction, journal: &'j Journal, walk: &Walk<'_
     journal.sheets[walk.version() as usize].as_slice()
 }
 
-/// The same, of which there is one for each class.
+/// The prices of the last sheet of a lawful journal, one for each class.
 fn last_prices<'j>(instruction: &Instruction, journal: &'j Journal, walk: &Walk<'_>) -> &'j [u32]
     requires passed { walk.now ≡ walk_of instruction.now journal.now.entries (length journal.now.entries) }
     requires lawful { IsLawful (history_of instruction.now journal.now) }
@@ -96,7 +96,7 @@ fn text_of_report<R: io::Read>(
     text_of_replay(alloc, &instruction, &postings)
 }
 
-/// The same with the instruction's own numbers.
+/// [`text_of_report`] by the instruction's own numbers.
 fn text_of_own_report<R: io::Read>(
     alloc: Global,
     apt: &mut R,
@@ -130,7 +130,7 @@ pub fn run_report<R: io::Read, W: io::Write>(
     write_text(writer, text.as_slice())
 }
 
-/// The same with a run's numbers in the place of the instruction's own.
+/// [`run_report`] with a run's numbers in the place of the instruction's own.
 pub(crate) fn run_report_with<R: io::Read, W: io::Write>(
     alloc: Global,
     apt: &mut R,

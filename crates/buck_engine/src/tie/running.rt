@@ -139,7 +139,7 @@ pub(crate) fn read_tied<R: io::Read>(
     Ok(Tied { both, files })
 }
 
-/// The same, with the postings read in several threads at once: in as many as are told, or as the machine has.
+/// [`read_tied`], with the postings read in several threads at once: in as many as are told, or as the machine has.
 pub(crate) fn read_tied_in_parts<T: Threads + Sync, R: io::Read>(
     rt: &T,
     alloc: Global,

@@ -62,7 +62,7 @@ fn read_plain_in_parts<T: Threads + Sync>(
     Ok(Journal { sheets, entries })
 }
 
-/// The same as [`read_journal`](crate::read_journal), where the postings of a journal that isn't short are read in at
+/// [`read_journal`](crate::read_journal), where the postings of a journal that isn't short are read in at
 /// most so many threads at once: each takes a part that begins with a cut. The answer is that of
 /// [`read_journal`](crate::read_journal), whatever the number, or `Memory` where a growth was refused.
 pub fn read_journal_in_parts<T: Threads + Sync>(

@@ -57,7 +57,7 @@ fn front_short(text: &[u8]) -> Option<(u16, &[u8])>
     ended(text, 4, four)
 }
 
-/// The same, where the number is at most `most`.
+/// [`front_short`], where the number is at most `most`.
 #[inline(always)]
 pub(crate) fn front_quick(most: u16, text: &[u8]) -> Option<(u16, &[u8])>
     ensures front { IfSome result (λ w. IsFront text.now w.0 w.1.now) }

@@ -63,7 +63,7 @@ fn stems_in_parts<T: Threads + Sync>(
     Ok(Some(stems))
 }
 
-/// The same as `read_plain`, in at most so many threads at once.
+/// `read_plain`, in at most so many threads at once.
 fn read_plain_in_parts<T: Threads + Sync>(
     rt: &T,
     alloc: Global,
@@ -78,7 +78,7 @@ fn read_plain_in_parts<T: Threads + Sync>(
     stems_in_parts(rt, alloc, body, threads)
 }
 
-/// The same as [`read_stm`](crate::read_stm), where a file whose items stand in the order of the table, and that isn't
+/// [`read_stm`](crate::read_stm), where a file whose items stand in the order of the table, and that isn't
 /// short, is read in at most so many threads at once: each takes a part that begins with a stem. The answer is that of
 /// [`read_stm`](crate::read_stm), whatever the number, or `Memory` where a growth was refused.
 pub fn read_stm_in_parts<T: Threads + Sync>(

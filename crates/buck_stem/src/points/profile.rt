@@ -90,8 +90,8 @@ impl<'a> Profile<'a> {
         Ok(Profile { stem, step, tables })
     }
 
-    /// The same in lists of the caller's, which it borrows too. What they hold before is of no account, be it of
-    /// another stem or of a call that was refused.
+    /// [`make`](Profile::make) in lists of the caller's, which it borrows too. What they hold before is of no account,
+    /// be it of another stem or of a call that was refused.
     pub fn make_in(
         lists: &'a mut ProfileLists,
         stem: &'a Stem,
