@@ -58,8 +58,7 @@ pub fn buckfleet_state(alloc: Global, book: &mut Block, state: &mut State) -> u8
 
 /// The prices in force, in price units per m³ or per piece: one for each class, assortment by assortment and row by
 /// row. They go to the start of `out`, and their number to `written`. The answer is 0, 6 where there is too little
-/// room: then
-/// `out` is left as it was, or 7 where the block holds no book: then the number is 0.
+/// room: then `out` is left as it was, or 7 where the block holds no book: then the number is 0.
 pub fn buckfleet_prices(alloc: Global, book: &mut Block, out: &mut [u32], written: &mut usize) -> u8
     ensures same { book.new.handle.held ≡ book.old.handle.held }
     ensures put { IsPut (IsShownBy HasPrices book.old.handle.held) out.old out.new written.new result }

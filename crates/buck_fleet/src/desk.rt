@@ -132,8 +132,7 @@ impl<F: Fn(&Standing) -> u64 + Drop, L: Ledger> Desk<F, L> {
     }
 
     /// Commits a plan for a seat, if its sheet is in force, as a plan that was made without the lock. Refused as
-    /// `Full`,
-    /// `Stale` or `Memory`; the plan is then given back, and history and kept list are as before.
+    /// `Full`, `Stale` or `Memory`; the plan is then given back, and history and kept list are as before.
     pub fn commit<R: Wait>(
         &mut self,
         rt: &R,
