@@ -8,6 +8,7 @@
 - Four stands are made from seeds, with four mixes of logs wanted, and swept. From the figures the lines of the guide's
   tables and its sentences with figures are made, which must be in the guide; what a sentence concludes is tested too.
   The sections of GROUNDED must have no other figure.
+- bank.stm and stand.stm of examples/ must hold stems of the mixed one of these stands.
 
 The status is 0 if all of this holds.
 """
@@ -52,6 +53,9 @@ STANDS = {
     "thinning": (0.5, (17, 4, 20), (16, 4, 19)),
 }
 STEMS = (100, 300, 1000, 3000)
+
+# The stems of a stand that are its bank, and those that are cut by what is tuned on a bank.
+BANK, FIELD = slice(300), slice(300, 400)
 
 # Saw logs by lower limit of the top diameter and by length, in mm; a price is that of its row, times a factor.
 ROWS = (150, 170, 190, 220, 250, 290, 330)
@@ -439,6 +443,14 @@ def morning(lab):
     return both, both + told
 
 
+def wrong_stems():
+    """The stem files of examples/ that don't hold stems of the mixed stand."""
+    for name, part in (("bank.stm", BANK), ("stand.stm", FIELD)):
+        with open(os.path.join(TOP, "examples", name)) as file:
+            if not file.read().endswith("~\n" + "".join(text for _, text in stand("mixed")[part])):
+                yield f"examples/{name} doesn't hold its stems of the mixed stand"
+
+
 def sessions(program, folder, text):
     """How the blocks of a page that begin with `$ ` differ from their run in a copy of examples/."""
     shutil.copytree(os.path.join(TOP, "examples"), os.path.join(folder, "examples"))
@@ -470,6 +482,7 @@ def main():
         with tempfile.TemporaryDirectory() as folder:
             wrong += [f"{name}: {line}" for line in sessions(program, folder, pages[name])]
     guide = pages["docs/GUIDE.md"]
+    wrong += wrong_stems()
     with tempfile.TemporaryDirectory() as folder:
         lab = Lab(program, folder)
         for name, figures in zip(pages, morning(lab)):
